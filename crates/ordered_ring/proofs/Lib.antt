@@ -1,0 +1,6 @@
+pub mod Normaliser
+pub mod Integers
+pub mod Squares
+pub mod Surd
+pub mod SurdSign
+pub mod Ordered

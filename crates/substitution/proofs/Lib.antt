@@ -1,0 +1,4 @@
+pub mod Lists
+pub mod Motions
+pub mod Placement
+pub mod Addresses

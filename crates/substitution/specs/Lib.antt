@@ -1,0 +1,6 @@
+pub mod Points
+pub mod Motion
+pub mod Address
+pub mod Rule
+pub mod Supertile
+pub mod Placement
