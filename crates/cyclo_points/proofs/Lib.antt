@@ -1,0 +1,16 @@
+pub mod Identities
+pub mod QuadLaws
+pub mod FourLaws
+pub mod EightLaws
+pub mod TenLaws
+pub mod OrderLaws
+pub mod Readings
+pub mod Sizes
+pub mod FourTurns
+pub mod EightTurns
+pub mod TenTurns
+pub mod Turns
+pub mod Refusal
+pub mod Dots
+pub mod ProductSizes
+pub mod ProductReadings

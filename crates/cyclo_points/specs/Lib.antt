@@ -1,0 +1,10 @@
+pub mod Quad
+pub mod Four
+pub mod Eight
+pub mod Ten
+pub mod Order
+pub mod Point
+pub mod Motion
+pub mod Product
+pub mod Text
+pub mod Placement

@@ -1,0 +1,36 @@
+//! Points of the plane as cyclotomic integers: whole combinations of the powers of
+//! ζ = e^(2πi/n), for the orders n = 4, 8 and 10.
+//!
+//! De Bruijn's work on Penrose tilings and Beenker's on the tilings with eightfold symmetry put
+//! every vertex into such a ring Z[ζ], in which a turn is a product by a power of ζ and no number
+//! is ever rounded. Sums, turns and products here are exact in the ring of each order, and their
+//! bounds are proved, so that nothing overflows. The three rings, with their coordinates X and Y,
+//! meet the laws of points on which the theory of substitutions rests.
+#![tactic(auto)]
+
+ghost use Rattle.cyclo_points.specs.Order.{PointsLaw};
+ghost use Rattle.cyclo_points.specs.Placement.{PlacementLaw};
+
+pub mod arithmetic;
+pub mod motion;
+pub mod order;
+pub mod point;
+pub mod product;
+pub mod real;
+pub mod rotation;
+
+use order::Order;
+
+/// The law that the points of each order meet the laws of points.
+pub fn points_law(order: Order)
+    ensures { PointsLaw order }
+{}
+
+/// The law that the motion beside an address, in the list of its supertile's tiles, is the one that
+/// Horner's scheme computes from the digits, for the points of each order and every rule.
+pub fn placement_law(order: Order)
+    ensures { PlacementLaw order }
+{}
+
+#[cfg(test)]
+mod tests;
