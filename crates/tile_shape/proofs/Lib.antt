@@ -1,0 +1,13 @@
+mod Lists
+mod Levels
+mod Misfits
+mod Onward
+mod NumberLaws
+mod DigitLaws
+mod SmallTables
+mod Begun
+mod Fronts
+mod FrontDigits
+mod Longest
+mod Answered
+mod Bare

@@ -1,0 +1,9 @@
+pub mod Views
+pub mod Coarser
+pub mod Misfit
+pub mod Text
+pub mod Accepted
+pub mod Refused
+pub mod Parse
+pub mod Kept
+pub mod Usable
