@@ -1,0 +1,5 @@
+pub mod Causes
+pub mod Edge
+pub mod Held
+pub mod Left
+pub mod Taken

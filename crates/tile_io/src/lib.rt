@@ -1,0 +1,21 @@
+//! Bytes in and bytes out, with faults that are counted.
+//!
+//! A `Source` gives bytes and a `Sink` takes them. Each tells, where it can, which bytes it still
+//! has or has taken, and each counts its faults, so that a call answers `Failed` only where a fault
+//! of the object that was handed in stands behind it. `SteadySource` and `SteadySink` lie in memory
+//! and never fail; `StdSource` and `StdSink` are the edge to readers and writers of std, whose bytes
+//! nothing tells. `write_all` promises that all bytes were taken, or else a proper prefix and a
+//! fault.
+#![tactic(auto)]
+
+pub mod failed;
+pub mod laws;
+pub mod sink;
+pub mod source;
+pub mod std_sink;
+pub mod std_source;
+pub mod steady_sink;
+pub mod steady_source;
+#[cfg(test)]
+mod tests;
+pub mod writing;

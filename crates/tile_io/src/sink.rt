@@ -1,0 +1,25 @@
+//! What takes bytes.
+ghost use Rattle.std.specs.Prelude.{ℕ, List};
+ghost use Rattle.std.specs.declared.option.Option.{Option};
+ghost use Rattle.std.specs.Io.{WritesAtMost};
+ghost use Rattle.tile_io.specs.Causes.{HasCause};
+ghost use Rattle.tile_io.specs.Taken.{WriteTakes, Advances};
+
+use crate::failed::Failed;
+
+/// What takes bytes, one call after the other.
+pub trait Sink {
+    // The bytes taken so far, where they are told.
+    ghost taken: { Self → Option (List ℕ) };
+
+    // How many of its calls failed so far, a count that stays at 2 ^ 64 - 1 once it is there.
+    ghost faults: { Self → ℕ };
+
+    /// Takes the first bytes of `buf` and answers how many they are, at least one where `buf` isn't
+    /// empty. `Failed` comes only where the count of faults rose, and takes nothing.
+    fn write(&mut self, buf: &[u8]) -> Result<usize, Failed>
+        ensures within { WritesAtMost result buf.now }
+        ensures advances { Advances result buf.now }
+        ensures takes { WriteTakes (taken self.old) (taken self.new) result buf.now }
+        ensures cause { HasCause (faults self.old) (faults self.new) result };
+}
