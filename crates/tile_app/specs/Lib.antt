@@ -1,0 +1,5 @@
+pub mod Words
+pub mod Tilings
+pub mod Text
+pub mod Asked
+pub mod Status

@@ -1,0 +1,18 @@
+-- What the commands print. Every line ends with one newline.
+use Rattle.std.specs.Prelude.{ℕ, List, [], ◌∷◌, ◌++◌}
+use Rattle.std.specs.Fmt.{decimal}
+use Rattle.substitution.specs.Motion.{Motion}
+use Rattle.cyclo_points.specs.declared.order.Order.{Order}
+use Rattle.cyclo_points.specs.Order.{NumberOf}
+use Rattle.cyclo_points.specs.Text.{number_text}
+
+-- a blank, and the end of a line
+abbrev pub blank : ℕ
+blank = 32
+
+abbrev pub newline : ℕ
+newline = 10
+
+-- a tile placed, as `kind turn shift`
+abbrev pub place_line : (o : Order) → ℕ → Motion (NumberOf o) → List ℕ
+place_line o kind m = decimal kind ++ blank ∷ decimal m.turn ++ blank ∷ number_text o m.shift ++ newline ∷ []

@@ -1,0 +1,71 @@
+-- The words of a command line: a command, and behind it `key=value` words, in any order, each key of the command at most once.
+use Rattle.std.specs.Prelude.{◌≡◌, ℕ, Bool, true, false, not, ◌&&◌, List, [], ◌∷◌, ◌++◌, map, length, codes, string_bytes, Some, None, Ok, Err, is_some, nat_lt, nat_eq, if◌then◌else◌}
+use Rattle.std.specs.declared.option.Option.{Option}
+use Rattle.std.specs.declared.result.Result.{Result}
+use Rattle.std.specs.declared.string.String.{String}
+use Rattle.std.specs.List.{list_all, list_any, before_first, after_first, position_or_len}
+use Rattle.std.specs.Option.{option_map_or}
+use Rattle.std.specs.Str.{bytes_eq}
+use Rattle.tile_app.specs.declared.words.Command.{Command}
+use Rattle.tile_app.specs.declared.words.Command.TheVariants.{Place}
+use Rattle.tile_app.specs.declared.words.Key.{Key}
+use Rattle.tile_app.specs.declared.words.Key.TheVariants.{Rule, Addr}
+
+-- the words as their bytes
+abbrev pub texts : {A : Type 0} → List (String A) → List (List ℕ)
+texts words = map string_bytes words
+
+-- the name of a key
+abbrev pub key_text : Key → List ℕ
+key_text Rule = codes "rule"
+key_text Addr = codes "addr"
+
+-- the command that a word names
+abbrev pub command_named : List ℕ → Option Command
+command_named word = if bytes_eq word (codes "place") then Some Place else None
+
+-- the keys of a command, and those that it can't do without
+abbrev pub keys_of : Command → List Key
+keys_of Place = Rule ∷ Addr ∷ []
+
+abbrev pub required_keys : Command → List Key
+required_keys Place = Rule ∷ Addr ∷ []
+
+-- whether a value has the form of its key: a rule is one of the names known, and an address any text
+abbrev pub has_form : Key → List ℕ → Bool
+has_form Rule value = bytes_eq value (codes "chair")
+has_form Addr value = true
+
+-- `=`
+abbrev pub is_equals : ℕ → Bool
+is_equals c = nat_eq c 61
+
+-- the value that a word gives the key: what stands behind its first `=`, where the key's name stands before it
+abbrev pub value_in : Key → List ℕ → Option (List ℕ)
+value_in key word =
+    if nat_lt (position_or_len is_equals word) (length word) && bytes_eq (before_first is_equals word) (key_text key)
+    then Some (after_first is_equals word) else None
+
+-- the value that the first such word gives the key
+abbrev pub value_given : Key → List (List ℕ) → Option (List ℕ)
+value_given key [] = None
+value_given key (word ∷ words) = option_map_or Some (value_in key word) (value_given key words)
+
+-- whether a word is right behind the words before it: it gives a key of the command, that none of them gives, a value of the key's form
+abbrev pub is_right : Command → List (List ℕ) → List ℕ → Bool
+is_right command before word =
+    list_any (λ key. option_map_or (λ value. not (is_some (value_given key before)) && has_form key value) (value_in key word) false) (keys_of command)
+
+-- the number of the first word behind `before` that isn't right; where all are, that of the end if a required key is missing
+abbrev pub wrong_place : Command → List (List ℕ) → List (List ℕ) → Option ℕ
+wrong_place command before [] = if list_all (λ key. is_some (value_given key before)) (required_keys command) then None else Some (length before)
+wrong_place command before (word ∷ words) = if is_right command before word then wrong_place command (before ++ word ∷ []) words else Some (length before)
+
+-- the command of right words, or the number of the first wrong one, from 0: the first of all where it names no command, or is missing
+abbrev pub command_of : List (List ℕ) → Result Command ℕ
+command_of [] = Err 0
+command_of (name ∷ words) =
+    option_map_or (λ command. option_map_or Err (wrong_place command (name ∷ []) words) (Ok command)) (command_named name) (Err 0)
+
+abbrev pub AreRight : List (List ℕ) → Type 0
+AreRight words = (command : Command) × (command_of words ≡ Ok command)

@@ -1,0 +1,14 @@
+//! The top call of the engine, `run`: from the words of a command line to the bytes that a sink
+//! takes. Its clauses carry what the program promises: what is printed when it succeeds, and the
+//! cause of every refusal, over the definitions of supertiles and not over the code.
+#![tactic(auto)]
+
+mod chair;
+mod note;
+mod place;
+pub mod run;
+pub mod status;
+#[cfg(test)]
+mod tests;
+mod text;
+pub mod words;

@@ -1,0 +1,98 @@
+//! How a call of the engine ended.
+ghost use Rattle.std.specs.Prelude.{◌≡◌};
+ghost use Rattle.tile_app.specs.Status.{code_of};
+
+use crate::place::CoordLimit;
+use cyclo_points::point::Point;
+use std::alloc::AllocError;
+use std::fmt;
+use tile_shape::address_fault::AddressFault;
+use tile_shape::no_memory::NoMemory;
+
+/// How a call of `run` ended.
+#[derive(Clone, Copy, Debug, PartialEq, Eq)]
+pub enum Status {
+    /// The whole text was taken by the sink.
+    Done,
+    /// The words aren't right: the number, from 0, of the first wrong word, or the number of words
+    /// where a required key is missing.
+    BadWords { place: usize },
+    /// The text of the address is refused.
+    BadAddress { fault: AddressFault },
+    /// A coefficient passes 2^24 in absolute value: the first value, from coarse to fine, of which
+    /// one does.
+    CoordLimit { value: Point },
+    /// The sink failed: it took a proper prefix of the text.
+    WriteFault,
+    /// No memory was left.
+    NoMemory,
+}
+
+impl Status {
+    /// The exit code of the program.
+    pub fn code(&self) -> u8
+        ensures { result ≡ code_of self.now }
+    {
+        match self {
+            Status::Done => 0,
+            Status::BadWords { .. } => 2,
+            Status::BadAddress { .. } => 4,
+            Status::CoordLimit { .. } => 6,
+            Status::WriteFault => 10,
+            Status::NoMemory => 11,
+        }
+    }
+}
+
+impl fmt::Display for Status {
+    fn fmt<W: fmt::Write>(&self, f: &mut fmt::Formatter<W>) -> fmt::Result {
+        match self {
+            Status::Done => write!(f, "Done"),
+            Status::BadWords { place } => write!(f, "BadWords {place}"),
+            Status::BadAddress { fault } => write!(f, "BadAddress {fault}"),
+            Status::CoordLimit { value } => write!(f, "CoordLimit {value}"),
+            Status::WriteFault => write!(f, "WriteFault"),
+            Status::NoMemory => write!(f, "NoMemory"),
+        }
+    }
+}
+
+impl From<AllocError> for Status {
+    ghost use Rattle.tile_app.specs.declared.status.Status.TheVariants.{NoMemory};
+
+    ghost from_gives = { λ _ status. status ≡ NoMemory };
+
+    fn from(_error: AllocError) -> Status {
+        Status::NoMemory
+    }
+}
+
+impl From<NoMemory> for Status {
+    ghost use Rattle.tile_app.specs.declared.status.Status.TheVariants.{NoMemory};
+
+    ghost from_gives = { λ _ status. status ≡ NoMemory };
+
+    fn from(_error: NoMemory) -> Status {
+        Status::NoMemory
+    }
+}
+
+impl From<AddressFault> for Status {
+    ghost use Rattle.tile_app.specs.declared.status.Status.TheVariants.{BadAddress};
+
+    ghost from_gives = { λ fault status. status ≡ BadAddress fault };
+
+    fn from(fault: AddressFault) -> Status {
+        Status::BadAddress { fault }
+    }
+}
+
+impl From<CoordLimit> for Status {
+    ghost use Rattle.tile_app.specs.declared.status.Status.TheVariants.{CoordLimit};
+
+    ghost from_gives = { λ limit status. status ≡ CoordLimit limit.value };
+
+    fn from(limit: CoordLimit) -> Status {
+        Status::CoordLimit { value: limit.value }
+    }
+}

@@ -1,0 +1,212 @@
+//! What the program prints and notes, on values from outside, and a sink that fails in mid-stream.
+ghost use Rattle.std.specs.Prelude.{Some};
+
+use crate::run::run;
+use crate::status::Status;
+use std::alloc::{AllocError, Global};
+use std::process::Abort;
+use std::test::Fail;
+use tile_io::failed::Failed;
+use tile_io::sink::Sink;
+use tile_io::steady_sink::SteadySink;
+use tile_io::steady_source::SteadySource;
+
+// Words, the exit code that is wanted, the text printed, and the line noted.
+const ROWS: [(&str, u8, &str, &str); 18] = [
+    ("place rule=chair addr=0:", 0, "0 0 0,0,0,0\n", ""),
+    ("place rule=chair addr=0:1/0,2/0", 0, "0 1 7,1,0,0\n", ""),
+    ("place addr=0:1/0,2/0 rule=chair", 0, "0 1 7,1,0,0\n", ""),
+    (
+        "place rule=chair addr=0:4/0",
+        4,
+        "",
+        "4 BadAddress WrongChild 0\n",
+    ),
+    ("place rule=chair addr=3", 4, "", "4 BadAddress BadText 1\n"),
+    ("place rule=chair addr=", 4, "", "4 BadAddress BadText 0\n"),
+    (
+        "place rule=chair addr=1:",
+        4,
+        "",
+        "4 BadAddress UnknownKind 0\n",
+    ),
+    (
+        "place rule=chair addr=0:0/1",
+        4,
+        "",
+        "4 BadAddress UnknownKind 1\n",
+    ),
+    (
+        "place rule=chair addr=0:0=0",
+        4,
+        "",
+        "4 BadAddress BadText 3\n",
+    ),
+    ("", 2, "", "2 BadWords 0\n"),
+    (
+        "neighbour rule=chair addr=0: edge=0",
+        2,
+        "",
+        "2 BadWords 0\n",
+    ),
+    ("place rule=chair", 2, "", "2 BadWords 2\n"),
+    ("place rule=chair addr=0: addr=0:", 2, "", "2 BadWords 3\n"),
+    ("place addr=0: rule=hat", 2, "", "2 BadWords 2\n"),
+    ("place rule=p3 addr=0:", 2, "", "2 BadWords 1\n"),
+    ("place rule=chair edge=0", 2, "", "2 BadWords 2\n"),
+    ("place addr rule=chair", 2, "", "2 BadWords 1\n"),
+    ("place", 2, "", "2 BadWords 1\n"),
+];
+
+// The words of a line, parted by blanks; an empty line has none.
+fn words_of(alloc: Global, line: &str) -> Result<Vec<String>, AllocError> {
+    let mut words = Vec::new(alloc);
+    if !line.is_empty() {
+        for word in line.split(' ') {
+            words.push(word.to_string(alloc)?)?;
+        }
+    }
+    Ok(words)
+}
+
+// An address of kind 0 with a digit over and over.
+fn repeated(alloc: Global, digit: &str, times: usize) -> Result<String, AllocError> {
+    let mut line = "place rule=chair addr=0:".to_string(alloc)?;
+    for i in 0..times {
+        if i > 0 {
+            line.push(',')?;
+        }
+        line.push_str(digit)?;
+    }
+    Ok(line)
+}
+
+// Runs a line of words, and compares what comes of it.
+fn check_line<R: Abort + AllocGlobal>(
+    rt: &R,
+    line: &str,
+    code: u8,
+    text: &str,
+    note: &str,
+) -> Result<(), Fail> {
+    let alloc = rt.alloc();
+    let words = words_of(alloc, line)?;
+    let mut source = SteadySource::new(Vec::new(alloc));
+    let mut sink = SteadySink::new(alloc, 100)?;
+    let mut notes = SteadySink::new(alloc, 700)?;
+    let status = run(alloc, &words, &mut source, &mut sink, &mut notes);
+    assert_eq!(rt; status.code(), code, "{line}");
+    assert_eq!(rt; sink.taken(), text.as_bytes(), "{line}");
+    assert_eq!(rt; notes.taken(), note.as_bytes(), "{line}");
+    Ok(())
+}
+
+#[test]
+fn rows(rt: HostRuntime) -> Result<(), Fail> {
+    for (words, code, text, note) in ROWS.iter() {
+        check_line(&rt, words, *code, text, note)?;
+    }
+    Ok(())
+}
+
+#[test]
+fn long_addresses(rt: HostRuntime) -> Result<(), Fail> {
+    let alloc = rt.alloc();
+    let too_deep = repeated(alloc, "0/0", 65)?;
+    check_line(&rt, too_deep.as_str(), 4, "", "4 BadAddress TooDeep\n")?;
+    let deepest = repeated(alloc, "0/0", 64)?;
+    check_line(&rt, deepest.as_str(), 0, "0 0 0,0,0,0\n", "")?;
+    let within = repeated(alloc, "2/0", 23)?;
+    check_line(&rt, within.as_str(), 0, "0 3 13421772,6710888,0,0\n", "")?;
+    let beyond = repeated(alloc, "2/0", 40)?;
+    check_line(
+        &rt,
+        beyond.as_str(),
+        6,
+        "",
+        "6 CoordLimit 26843544,13421772,0,0\n",
+    )
+}
+
+// Takes at most so many bytes a call, and fails once its good calls are used up.
+#[derive(Drop)]
+struct Trickle {
+    bytes: Vec<u8>,
+    most: usize,
+    good_calls: usize,
+    faults: u64,
+}
+
+impl Sink for Trickle {
+    ghost taken = { λ sink. Some sink.bytes.items };
+
+    ghost faults = { λ sink. sink.faults };
+
+    fn write(&mut self, buf: &[u8]) -> Result<usize, Failed> {
+        let count = buf.len().min(self.most.max(1));
+        if self.good_calls == 0 || self.bytes.extend_from_slice(&buf[..count]).is_err() {
+            self.faults = self.faults.saturating_add(1);
+            return Err(Failed);
+        }
+        self.good_calls -= 1;
+        Ok(count)
+    }
+}
+
+// Places a tile into a sink that fails once `good_calls` calls took `most` bytes each.
+fn trickled<R: Abort + AllocGlobal>(
+    rt: &R,
+    most: usize,
+    good_calls: usize,
+    want: &[u8],
+) -> Result<Status, Fail> {
+    let alloc = rt.alloc();
+    let words = words_of(alloc, "place rule=chair addr=0:1/0,2/0")?;
+    let mut source = SteadySource::new(Vec::new(alloc));
+    let mut sink = Trickle {
+        bytes: Vec::new(alloc),
+        most,
+        good_calls,
+        faults: 0,
+    };
+    let mut notes = SteadySink::new(alloc, 700)?;
+    let status = run(alloc, &words, &mut source, &mut sink, &mut notes);
+    assert_eq!(rt; sink.bytes.as_slice(), want, "{good_calls}");
+    let note = if status == Status::Done {
+        ""
+    } else {
+        "10 WriteFault\n"
+    };
+    assert_eq!(rt; notes.taken(), note.as_bytes(), "{good_calls}");
+    Ok(status)
+}
+
+#[test]
+fn a_sink_that_fails(rt: HostRuntime) -> Result<(), Fail> {
+    let line = b"0 1 7,1,0,0\n".as_slice();
+    for good_calls in 0..line.len() {
+        let status = trickled(&rt, 1, good_calls, &line[..good_calls])?;
+        assert!(&rt; status == Status::WriteFault, "{good_calls}");
+    }
+    assert!(&rt; trickled(&rt, 1, line.len(), line)? == Status::Done);
+    assert!(&rt; trickled(&rt, 4, 1, b"0 1 ")? == Status::WriteFault);
+    Ok(())
+}
+
+#[test]
+fn notes_that_fail(rt: HostRuntime) -> Result<(), Fail> {
+    let alloc = rt.alloc();
+    let words = words_of(alloc, "place")?;
+    let mut source = SteadySource::new(Vec::new(alloc));
+    let mut sink = SteadySink::new(alloc, 100)?;
+    let mut notes = Trickle {
+        bytes: Vec::new(alloc),
+        most: 1,
+        good_calls: 3,
+        faults: 0,
+    };
+    let status = run(alloc, &words, &mut source, &mut sink, &mut notes);
+    assert!(&rt; status == Status::BadWords { place: 1 });
+    assert_eq!(rt; notes.bytes.as_slice(), b"2 B".as_slice());
+    Ok(())
+}

@@ -1,0 +1,20 @@
+//! The lines that the commands print.
+ghost use Rattle.std.specs.Prelude.{◌≡◌, IfOk, string_bytes};
+ghost use Rattle.cyclo_points.specs.declared.order.Order.{Order};
+ghost use Rattle.cyclo_points.specs.Point.{IsOf};
+ghost use Rattle.cyclo_points.specs.Motion.{motion_in};
+ghost use Rattle.tile_app.specs.Text.{place_line};
+
+use cyclo_points::motion::Motion;
+use std::alloc::{AllocError, Global};
+
+/// The line of a tile placed: its kind, and the turn and the shift of its motion. It is the same in
+/// every order that the shift is a point of.
+pub fn place_line(alloc: Global, kind: u8, motion: &Motion) -> Result<String, AllocError>
+    ensures { IfOk result (λ text. (order : Order) → IsOf order motion.now.shift
+        → string_bytes text ≡ place_line order kind (motion_in order motion.now)) }
+{
+    let turn = motion.turn;
+    let shift = motion.shift;
+    format!(in alloc; "{kind} {turn} {shift}\n")
+}

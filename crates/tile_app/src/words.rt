@@ -1,0 +1,145 @@
+//! The words of a command line: a command, and behind it `key=value` words in any order.
+ghost use Rattle.std.specs.Prelude.{◌≡◌, is_some};
+ghost use Rattle.std.specs.Option.{option_map};
+ghost use Rattle.std.specs.List.{list_all};
+ghost use Rattle.tile_app.specs.Words.{texts, key_text, command_named, keys_of, required_keys, has_form, value_in, value_given, is_right, command_of};
+
+/// A command of the program.
+#[derive(Clone, Copy, Debug, PartialEq, Eq)]
+pub enum Command {
+    /// Prints where a tile lies in its supertile.
+    Place,
+}
+
+/// A key of a word `key=value`.
+#[derive(Clone, Copy, Debug, PartialEq, Eq)]
+pub enum Key {
+    /// The rule's name.
+    Rule,
+    /// A tile's address.
+    Addr,
+}
+
+impl Command {
+    /// The command that a word names.
+    fn named(word: &str) -> Option<Command>
+        ensures { result ≡ command_named word.now }
+    {
+        if word == "place" {
+            Some(Command::Place)
+        } else {
+            None
+        }
+    }
+
+    /// Its keys.
+    fn keys(self) -> &'static [Key]
+        ensures { result.now ≡ keys_of self }
+    {
+        match self {
+            Command::Place => &[Key::Rule, Key::Addr],
+        }
+    }
+
+    /// The keys that it can't do without.
+    fn required_keys(self) -> &'static [Key]
+        ensures { result.now ≡ required_keys self }
+    {
+        match self {
+            Command::Place => &[Key::Rule, Key::Addr],
+        }
+    }
+}
+
+impl Key {
+    /// Its name.
+    fn text(self) -> &'static str
+        ensures { result.now ≡ key_text self }
+    {
+        match self {
+            Key::Rule => "rule",
+            Key::Addr => "addr",
+        }
+    }
+
+    /// Whether a value has the key's form.
+    fn has_form(self, value: &str) -> bool
+        ensures { result ≡ has_form self value.now }
+    {
+        match self {
+            Key::Rule => value == "chair",
+            Key::Addr => true,
+        }
+    }
+
+    /// The value that a word gives this key.
+    fn value_in(self, word: &str) -> Option<&str>
+        ensures { option_map (λ v. v.now) result ≡ value_in self word.now }
+    {
+        let (name, value) = word.split_once('=')?;
+        if name == self.text() {
+            Some(value)
+        } else {
+            None
+        }
+    }
+
+    /// The value that the first such word gives this key.
+    pub fn value_given(self, words: &[String]) -> Option<&str>
+        ensures { option_map (λ v. v.now) result ≡ value_given self (texts words.now) }
+    {
+        for word in words {
+            if let Some(value) = self.value_in(word.as_str()) {
+                return Some(value);
+            }
+        }
+        None
+    }
+}
+
+/// Whether a word is right for the command behind the words before it.
+fn is_right(command: Command, before: &[String], word: &str) -> bool
+    ensures { result ≡ is_right command (texts before.now) word.now }
+{
+    for key in command.keys() {
+        if let Some(value) = key.value_in(word) {
+            return key.value_given(before).is_none() && key.has_form(value);
+        }
+    }
+    false
+}
+
+/// Whether the words give each key that the command can't do without.
+fn has_required(command: Command, words: &[String]) -> bool
+    ensures { result ≡ list_all (λ key. is_some (value_given key (texts words.now))) (required_keys command) }
+{
+    for key in command.required_keys() {
+        if key.value_given(words).is_none() {
+            return false;
+        }
+    }
+    true
+}
+
+/// The command of the words, or the number, from 0, of the first wrong word; where a required key
+/// is missing it is the number of words.
+pub fn command_of(words: &[String]) -> Result<Command, usize>
+    ensures { result ≡ command_of (texts words.now) }
+{
+    let Some(name) = words.first() else {
+        return Err(0);
+    };
+    let Some(command) = Command::named(name.as_str()) else {
+        return Err(0);
+    };
+    for place in 1..words.len() {
+        if !is_right(command, &words[..place], words[place].as_str()) {
+            return Err(place);
+        }
+    }
+    if has_required(command, words) {
+        Ok(command)
+    } else {
+        Err(words.len())
+    }
+}
