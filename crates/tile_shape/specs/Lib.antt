@@ -7,3 +7,4 @@ pub mod Refused
 pub mod Parse
 pub mod Kept
 pub mod Usable
+pub mod FaultText
