@@ -2,3 +2,10 @@ pub mod Lists
 pub mod Motions
 pub mod Placement
 pub mod Addresses
+pub mod TableBounds
+pub mod Chains
+pub mod Mated
+pub mod Lying
+pub mod Meeting
+pub mod Touching
+pub mod CoherenceTests

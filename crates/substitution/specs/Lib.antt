@@ -4,3 +4,11 @@ pub mod Address
 pub mod Rule
 pub mod Supertile
 pub mod Placement
+pub mod Contact
+pub mod Tables
+pub mod Coherent
+pub mod SameTests
+pub mod CoherenceTest
+pub mod Trace
+pub mod Touch
+pub mod Chair
