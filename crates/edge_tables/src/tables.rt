@@ -1,0 +1,156 @@
+//! Coherent contact tables, and the look-ups in them.
+ghost use Rattle.std.specs.Prelude.{◌≡◌, ◌↔◌, ◌+◌, ◌<◌, ◌≤◌, ℕ, length, Some, IsSome, IfOk};
+ghost use Rattle.substitution.specs.Coherent.{IsCoherent};
+ghost use Rattle.substitution.specs.Tables.{kind_tables, type_of, child_kind_of, contact_of, part_of, part_count, mate_of};
+ghost use Rattle.edge_tables.specs.Views.{as_contact, as_child_edge, as_kind, as_tables};
+
+use crate::child_edge::ChildEdge;
+use crate::contact::Contact;
+use crate::kind_rows::KindRows;
+use crate::lists::{copied, copied_lists};
+use crate::steps::Steps;
+use std::alloc::Global;
+use std::marker::Model;
+use std::sync::ledger::Ledger;
+use tile_shape::no_memory::NoMemory;
+
+/// Contact tables that fit together: the mate of each edge type, the types into which each is cut, and the tables of each kind.
+#[derive(Drop)]
+pub struct Tables {
+    mates: Vec<u8>,
+    subs: Vec<Vec<u8>>,
+    rows: Vec<KindRows>,
+}
+
+impl Model for Tables {
+    ghost use Rattle.substitution.specs.Tables.{Tables as TheTables};
+    ghost use Rattle.substitution.specs.Coherent.{IsCoherent};
+    ghost use Rattle.edge_tables.specs.Views.{as_tables};
+
+    ghost Value = { TheTables };
+
+    ghost view = { λ t. as_tables t.mates t.subs t.rows };
+
+    ghost invariant = { λ t. IsCoherent (as_tables t.mates t.subs t.rows) };
+}
+
+impl Tables {
+    /// The tables of these lists. It takes no memory.
+    pub fn new(mates: Vec<u8>, subs: Vec<Vec<u8>>, rows: Vec<KindRows>) -> Tables
+        requires coherent { IsCoherent (as_tables mates subs rows) }
+        ensures value { result ≡ as_tables mates subs rows }
+    {
+        Tables { mates, subs, rows }
+    }
+
+    /// Equal tables.
+    pub fn copy(&self, alloc: Global) -> Result<Tables, NoMemory>
+        ensures { IfOk result (λ tables. tables ≡ self.now) }
+    {
+        let mut rows = Vec::new(alloc);
+        for row in &self.rows {
+            rows.push(row.copy(alloc)?)?;
+        }
+        Ok(Tables {
+            mates: copied(alloc, &self.mates)?,
+            subs: copied_lists(alloc, &self.subs)?,
+            rows,
+        })
+    }
+
+    /// How many kinds there are.
+    pub fn kinds(&self) -> u8
+        ensures count { result ≡ length self.now.kinds }
+        ensures coherent { IsCoherent self.now }
+    {
+        self.rows.len() as u8
+    }
+
+    /// The lists of a kind.
+    fn row(&self, kind: u8) -> &KindRows
+        requires { kind < length self.now.kinds }
+        ensures lists { as_kind result.now ≡ kind_tables self.now kind }
+        ensures coherent { IsCoherent self.now }
+    {
+        &self.rows[kind as usize]
+    }
+
+    /// How many edges a kind has.
+    pub fn edges(&self, kind: u8) -> u8
+        requires exists { kind < length self.now.kinds }
+        ensures count { result ≡ length (kind_tables self.now kind).types }
+        ensures exist { (edge : ℕ) → IsSome (type_of self.now kind edge) ↔ (edge < result) }
+    {
+        self.row(kind).types.len() as u8
+    }
+
+    /// How many children a kind has.
+    pub fn children(&self, kind: u8) -> u8
+        requires exists { kind < length self.now.kinds }
+        ensures count { result ≡ length (kind_tables self.now kind).children }
+        ensures exist { (child : ℕ) → IsSome (child_kind_of self.now kind child) ↔ (child < result) }
+    {
+        self.row(kind).children.len() as u8
+    }
+
+    /// The kind of a child.
+    pub fn child_kind(&self, kind: u8, child: u8) -> u8
+        requires exists { IsSome (child_kind_of self.now kind child) }
+        ensures { child_kind_of self.now kind child ≡ Some result }
+    {
+        let row = self.row(kind);
+        row.children[child as usize]
+    }
+
+    /// The type of an edge.
+    pub fn edge_type(&self, kind: u8, edge: u8) -> u8
+        requires exists { IsSome (type_of self.now kind edge) }
+        ensures { type_of self.now kind edge ≡ Some result }
+    {
+        let row = self.row(kind);
+        row.types[edge as usize]
+    }
+
+    /// The mate of a type: the type of the same edge in the opposite direction.
+    pub fn mate(&self, ty: u8) -> u8
+        requires exists { IsSome (mate_of self.now ty) }
+        ensures { mate_of self.now ty ≡ Some result }
+    {
+        self.mates[ty as usize]
+    }
+
+    /// Into how many parts an edge is cut, which are at least one.
+    pub fn parts(&self, kind: u8, edge: u8) -> u8
+        requires exists { IsSome (type_of self.now kind edge) }
+        ensures count { result ≡ part_count self.now kind edge }
+        ensures some { 0 < result }
+        ensures at_most_8 { result ≤ 8 }
+    {
+        let row = self.row(kind);
+        row.parts[edge as usize].len() as u8
+    }
+
+    /// What an edge of a child is. It takes one step.
+    pub fn contact<L: Ledger>(&self, kind: u8, child: u8, edge: u8, steps: &mut Steps<L>) -> Contact
+        requires exists { IsSome (contact_of self.now kind child edge) }
+        ensures value { contact_of self.now kind child edge ≡ Some (as_contact result) }
+        ensures one_step { steps.new ≡ steps.old + 1 }
+    {
+        steps.tick();
+        let row = self.row(kind);
+        let contacts = &row.contacts[child as usize];
+        contacts[edge as usize]
+    }
+
+    /// The child edge that is a part of an edge. It takes one step.
+    pub fn part<L: Ledger>(&self, kind: u8, edge: u8, part: u8, steps: &mut Steps<L>) -> ChildEdge
+        requires exists { IsSome (part_of self.now kind edge part) }
+        ensures value { part_of self.now kind edge part ≡ Some (as_child_edge result) }
+        ensures one_step { steps.new ≡ steps.old + 1 }
+    {
+        steps.tick();
+        let row = self.row(kind);
+        let parts = &row.parts[edge as usize];
+        parts[part as usize]
+    }
+}
