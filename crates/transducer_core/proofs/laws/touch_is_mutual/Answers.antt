@@ -1,0 +1,5 @@
+use Rattle.substitution.proofs.Touching.{Touches-sym}
+use Rattle.transducer_core.proofs.laws.touch_is_mutual.Goals as goal
+
+pub returns : goal.returns
+returns c = λ t a b e f coherent fits fits' edge touches. Touches-sym a b coherent fits fits' edge touches

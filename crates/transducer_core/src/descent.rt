@@ -1,0 +1,76 @@
+//! The way down on the other side of an edge.
+ghost use Rattle.std.specs.Prelude.{◌≡◌, ◌+◌, ◌<◌, ℕ, length, map, Some, IsSome, slice_set};
+ghost use Rattle.substitution.specs.Address.{Fits};
+ghost use Rattle.substitution.specs.Coherent.{IsCoherent};
+ghost use Rattle.substitution.specs.Tables.{child_kinds, child_kind_of, type_of};
+ghost use Rattle.substitution.specs.Touch.{Touches};
+ghost use Rattle.tile_shape.specs.Views.{address_of, step_of};
+ghost use Rattle.transducer_core.specs.Climbing.{MeetsAt};
+
+use crate::climb::Meeting;
+use arrayvec::ArrayVec;
+use edge_tables::steps::Steps;
+use edge_tables::tables::Tables;
+use std::sync::ledger::Ledger;
+use tile_shape::address::Address;
+use tile_shape::step::Step;
+
+/// The number, counted from the other side, of a part of an edge.
+fn mirror(count: u8, part: u8) -> u8
+    requires { part < count }
+    ensures { result + (part + 1) ≡ count }
+{
+    count - 1 - part
+}
+
+/// Writes the digit at a level.
+fn set_digit(digits: &mut ArrayVec<Step, 64>, level: usize, step: Step)
+    requires { level < length digits.old.items }
+    ensures { digits.new.items ≡ slice_set digits.old.items level step }
+{
+    digits.as_mut_slice()[level] = step;
+}
+
+/// Writes the digit at a level, so that the address names the child there, as far as the digits from that level up say.
+fn write_digit(tables: &Tables, addr: &mut Address, level: usize, step: Step)
+    requires level { level < length addr.old.digits.items }
+    requires child { IsSome (child_kind_of tables.now step.parent step.child) }
+    ensures kind { child_kind_of tables.now step.parent step.child ≡ Some addr.new.kind }
+    ensures digits { map step_of addr.new.digits.items ≡ slice_set (map step_of addr.old.digits.items) level (step_of step) }
+{
+    addr.kind = tables.child_kind(step.parent, step.child);
+    set_digit(&mut addr.digits, level, step);
+}
+
+/// Descends from a meeting along the mirrored parts. The address becomes that of the tile across, and the answer is its edge.
+pub(crate) fn descend<L: Ledger>(
+    tables: &Tables,
+    addr: &mut Address,
+    meeting: Meeting,
+    parts: &[u8],
+    steps: &mut Steps<L>,
+) -> u8
+    requires coherent { IsCoherent tables.now }
+    requires fits { Fits (child_kinds tables.now) (address_of addr.old) }
+    requires met { (e : ℕ) × IsSome (type_of tables.now addr.old.kind e) × MeetsAt tables.now (address_of addr.old) e meeting parts.now }
+    ensures touches { (e : ℕ) → IsSome (type_of tables.now addr.old.kind e) → MeetsAt tables.now (address_of addr.old) e meeting parts.now → Touches tables.now (address_of addr.old) e (address_of addr.new) result }
+    ensures fits { Fits (child_kinds tables.now) (address_of addr.new) }
+    ensures edge_exists { IsSome (type_of tables.now addr.new.kind result) }
+    ensures a_step_a_level { steps.new ≡ steps.old + meeting.level }
+{
+    let parent = addr.digits.as_slice()[meeting.level].parent;
+    let child = meeting.child;
+    write_digit(tables, addr, meeting.level, Step { child, parent });
+    let mut edge = meeting.edge;
+    let mut level = meeting.level;
+    while level > 0 {
+        level -= 1;
+        let parent = addr.kind;
+        let part = mirror(tables.parts(parent, edge), parts[level]);
+        let below = tables.part(parent, edge, part, steps);
+        let child = below.child;
+        write_digit(tables, addr, level, Step { child, parent });
+        edge = below.edge;
+    }
+    edge
+}

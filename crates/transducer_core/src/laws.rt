@@ -1,0 +1,52 @@
+//! Laws of traces, of touch, and of crossings.
+ghost use Rattle.std.specs.Prelude.{◌≡◌, ℕ, List, IsSome, IsNone, IfSome};
+ghost use Rattle.substitution.specs.Address.{Address as TheAddress, Fits};
+ghost use Rattle.substitution.specs.Coherent.{IsCoherent};
+ghost use Rattle.substitution.specs.Tables.{Tables, child_kinds, type_of};
+ghost use Rattle.substitution.specs.Touch.{Touches};
+ghost use Rattle.substitution.specs.Trace.{Cut, HasTrace};
+ghost use Rattle.tile_shape.specs.Views.{address_of};
+
+use crate::crossing::Crossing;
+use crate::transducer::Transducer;
+use edge_tables::steps::Steps;
+use std::sync::ledger::Ledger;
+use tile_shape::address::Address;
+
+/// Across an edge and back again. None exactly where the edge lies on the supertile's own edge.
+pub fn across_and_back<L: Ledger>(
+    transducer: &Transducer,
+    addr: &Address,
+    edge: u8,
+    steps: &mut Steps<L>,
+) -> Option<Crossing>
+    requires fits { Fits (child_kinds transducer.now) (address_of addr.now) }
+    requires edge_exists { IsSome (type_of transducer.now addr.now.kind edge) }
+    ensures same_tile { IfSome result (λ x. address_of x.addr ≡ address_of addr.now) }
+    ensures same_edge { IfSome result (λ x. x.edge ≡ edge) }
+    ensures trace_is_none { (top : ℕ) (cuts : List Cut) → HasTrace transducer.now (address_of addr.now) edge top cuts → IsNone result }
+    ensures none_is_outside { IsNone result → (top : ℕ) × (cuts : List Cut) × HasTrace transducer.now (address_of addr.now) edge top cuts }
+{
+    match transducer.step_across(addr, edge, steps) {
+        Ok(there) => match transducer.step_across(&there.addr, there.edge, steps) {
+            Ok(home) => Some(home),
+            Err(_) => None,
+        },
+        Err(_) => None,
+    }
+}
+
+/// The law that what is touched touches back.
+pub fn touch_is_mutual()
+    ensures { (t : Tables) (a b : TheAddress) (e f : ℕ) → IsCoherent t → Fits (child_kinds t) a → Fits (child_kinds t) b → IsSome (type_of t a.kind e) → Touches t a e b f → Touches t b f a e }
+{}
+
+/// The law that an edge has one trace.
+pub fn trace_is_one()
+    ensures { (t : Tables) (a : TheAddress) (e top other : ℕ) (cuts others : List Cut) → HasTrace t a e top cuts → HasTrace t a e other others → (top ≡ other) × (cuts ≡ others) }
+{}
+
+/// The law that an edge with a trace touches none.
+pub fn trace_excludes_touch()
+    ensures { (t : Tables) (a b : TheAddress) (e f top : ℕ) (cuts : List Cut) → IsCoherent t → Fits (child_kinds t) a → Fits (child_kinds t) b → IsSome (type_of t a.kind e) → HasTrace t a e top cuts → Touches t a e b f → ⊥ }
+{}

@@ -1,0 +1,102 @@
+//! The machine that finds the tile across an edge.
+ghost use Rattle.std.specs.Prelude.{◌≡◌, ◌+◌, ◌*◌, ◌≤◌, ◌-◌, ℕ, List, length, slice_index, IsSome, IsOk, IfOk, IfErr, Err};
+ghost use Rattle.substitution.specs.Address.{Address as TheAddress, depth, Fits};
+ghost use Rattle.substitution.specs.Coherent.{IsCoherent};
+ghost use Rattle.substitution.specs.Tables.{child_kinds, type_of};
+ghost use Rattle.substitution.specs.Touch.{Touches, IsOnlyTouched};
+ghost use Rattle.substitution.specs.Trace.{Cut, HasTrace, first_part};
+ghost use Rattle.tile_shape.specs.Views.{address_of};
+
+use crate::climb::{Ending, climb};
+use crate::crossing::Crossing;
+use crate::descent::descend;
+use crate::outside::Outside;
+use arrayvec::ArrayVec;
+use edge_tables::steps::Steps;
+use edge_tables::tables::Tables;
+use std::alloc::Global;
+use std::marker::Model;
+use std::sync::ledger::Ledger;
+use tile_shape::address::Address;
+use tile_shape::no_memory::NoMemory;
+
+/// Finds the tile across an edge by its own copy of contact tables, which contracts see as those tables.
+#[derive(Drop)]
+pub struct Transducer {
+    tables: Tables,
+}
+
+impl Model for Transducer {
+    ghost use Rattle.substitution.specs.Tables.{Tables as TheTables};
+    ghost use Rattle.substitution.specs.Coherent.{IsCoherent};
+
+    ghost Value = { TheTables };
+
+    ghost view = { λ machine. machine.tables };
+
+    ghost invariant = { λ machine. IsCoherent machine.tables };
+}
+
+impl Transducer {
+    /// The machine of these tables, of which it keeps a copy.
+    pub fn compile(alloc: Global, tables: &Tables) -> Result<Transducer, NoMemory>
+        ensures tables { IfOk result (λ machine. machine ≡ tables.now) }
+        ensures coherent { IsCoherent tables.now }
+    {
+        let _coherent = tables.kinds();
+        Ok(Transducer {
+            tables: tables.copy(alloc)?,
+        })
+    }
+
+    /// The tile across an edge with the edge that leads back, or the supertile's own edge on which the edge lies.
+    pub fn step_across<L: Ledger>(
+        &self,
+        addr: &Address,
+        edge: u8,
+        steps: &mut Steps<L>,
+    ) -> Result<Crossing, Outside>
+        requires fits { Fits (child_kinds self.now) (address_of addr.now) }
+        requires edge_exists { IsSome (type_of self.now addr.now.kind edge) }
+
+        // The one pair that is touched, at the same depth, and it leads back.
+        ensures only_pair_touching { IfOk result (λ x. IsOnlyTouched self.now (address_of addr.now) edge (address_of x.addr) x.edge) }
+        ensures same_depth { IfOk result (λ x. depth (address_of x.addr) ≡ depth (address_of addr.now)) }
+        ensures answer_edge_exists { IfOk result (λ x. IsSome (type_of self.now x.addr.kind x.edge)) }
+        ensures leads_back { IfOk result (λ x. IsOnlyTouched self.now (address_of x.addr) x.edge (address_of addr.now) edge) }
+
+        // Outside exactly where there is a trace to the top, and across exactly where a pair is touched.
+        ensures outside_has_trace { IfErr result (λ o. (cuts : List Cut) × HasTrace self.now (address_of addr.now) edge o.edge cuts × (o.part ≡ first_part cuts)) }
+        ensures trace_is_outside { (top : ℕ) (cuts : List Cut) → HasTrace self.now (address_of addr.now) edge top cuts → result ≡ Err (record { edge = top; part = first_part cuts }) }
+        ensures touching_is_across { (b : TheAddress) (f : ℕ) → Fits (child_kinds self.now) b → Touches self.now (address_of addr.now) edge b f → IsOk result }
+
+        ensures steps_within_bound { steps.new ≤ steps.old + (2 * depth (address_of addr.now) + 2) }
+    {
+        let mut parts = ArrayVec::new();
+        match climb(&self.tables, addr, edge, &mut parts, steps) {
+            Ending::Met(meeting) => {
+                let mut across = addr.copy();
+                let back = descend(&self.tables, &mut across, meeting, parts.as_slice(), steps);
+                Ok(Crossing {
+                    addr: across,
+                    edge: back,
+                })
+            }
+            Ending::Top(edge) => {
+                let part = top_part(parts.as_slice());
+                Err(Outside { edge, part })
+            }
+        }
+    }
+}
+
+/// The last part, the one on the top's own edge; 0 where there is none.
+fn top_part(parts: &[u8]) -> u8
+    ensures { result ≡ slice_index parts.now (length parts.now - 1) }
+{
+    if parts.is_empty() {
+        0
+    } else {
+        parts[parts.len() - 1]
+    }
+}
