@@ -3,34 +3,31 @@ use Rattle.std.proofs.Common.{◌≡◌, ℕ, true, cond, List, [], ◌∷◌, �
 use Rattle.std.specs.declared.option.Option.{Option}
 use Rattle.std.specs.Option.{option_and_then}
 use Rattle.std.specs.Str.{bytes_eq}
-use Rattle.substitution.specs.Motion.{Motion}
 use Rattle.substitution.specs.Address.{Address}
 use Rattle.substitution.specs.Rule.{child_kinds}
-use Rattle.substitution.specs.Supertile.{StandsBeside}
 use Rattle.cyclo_points.specs.declared.order.Order.{Order}
 use Rattle.cyclo_points.specs.declared.order.Order.TheVariants.{Four, Eight, Ten}
 use Rattle.cyclo_points.specs.declared.point.Point.{Point}
-use Rattle.cyclo_points.specs.Order.{NumberOf, points_of}
 use Rattle.cyclo_points.specs.Point.{point_in, coefficient, IsOf}
 use Rattle.cyclo_points.specs.Text.{coefficients_text, number_text, point_text}
-use Rattle.tile_app.specs.declared.words.Command.TheVariants.{Place}
+use Rattle.tile_app.specs.declared.words.Command.{Command}
 use Rattle.tile_app.specs.declared.words.Key.TheVariants.{Rule, Addr}
-use Rattle.tile_app.specs.Words.{command_of, value_given}
+use Rattle.tile_app.specs.Words.{command_of, value_given, AreRight}
 use Rattle.tile_shape.specs.declared.address_fault.AddressFault.{AddressFault}
 use Rattle.tile_shape.specs.Accepted.{IsAccepted}
 use Rattle.tile_shape.specs.Refused.{IsFaultOf}
 use Rattle.tile_shape.specs.Text.{address_text}
 use Rattle.tile_app.specs.Tilings.{chair, chair_rule, tiling_named}
-use Rattle.tile_app.specs.Text.{blank, newline, place_line}
-use Rattle.tile_app.specs.Asked.{AsksToPlace, AsksForTile, GivesNoAddress, GivesFault, PassesLimit, Prints, first_refused}
+use Rattle.tile_app.specs.Text.{blank, newline}
+use Rattle.tile_app.specs.Asked.{Asks, AsksForTile, GivesNoAddress, GivesFault}
 use Rattle.tile_app.proofs.Given.{GivesBoth-right}
 
 named_chair : (rule : List ℕ) (o : Option (List ℕ)) → o ≡ Some rule → bytes_eq rule (codes "chair") ≡ true → option_and_then tiling_named o ≡ Some chair
 named_chair rule o e h = ap (option_and_then tiling_named) e ∙ ap (λ b. cond b (Some chair) None) h
 
-pub asks : (words : List (List ℕ)) (text : List ℕ) → command_of words ≡ Ok Place → value_given Addr words ≡ Some text → AsksToPlace words chair text
-asks words text right given =
-    let h = GivesBoth-right words right in
+pub asks : (words : List (List ℕ)) (command : Command) (text : List ℕ) → command_of words ≡ Ok command → value_given Addr words ≡ Some text → Asks words command chair text
+asks words command text right given =
+    let h = GivesBoth-right command words right in
     record { right = right; named = named_chair h.rule (value_given Rule words) h.is_rule h.has_form; given = given }
 
 -- a point of an order is printed as its number is; in order four the last two coefficients are 0
@@ -39,38 +36,32 @@ point_text-number Four p h = ap₂ (λ c d. coefficients_text (coefficient p 0 �
 point_text-number Eight p h = refl
 point_text-number Ten p h = refl
 
-module _ (words : List (List ℕ)) (right : command_of words ≡ Ok Place) (text : List ℕ) (given : value_given Addr words ≡ Some text) where
+module _ (words : List (List ℕ)) (text : List ℕ) (given : value_given Addr words ≡ Some text) (children : List (List ℕ)) (are : children ≡ child_kinds chair_rule) where
   -- no accepted address has the text
-  pub gives_no_address : (children : List (List ℕ)) → children ≡ child_kinds chair_rule → ((a : Address) → IsAccepted children a → text ≡ address_text a → ⊥) → GivesNoAddress words
-  gives_no_address children e h = record {
+  pub gives_no_address : AreRight words → ((a : Address) → IsAccepted children a → text ≡ address_text a → ⊥) → GivesNoAddress words
+  gives_no_address right h = record {
+    command = right.0;
     tiling = chair;
     text = text;
-    asked = asks words text right given;
-    none = λ a k. h a (subst (λ rows. IsAccepted rows a) (sym e) k);
+    asked = asks words right.0 text right.1 given;
+    none = λ a k. h a (subst (λ rows. IsAccepted rows a) (sym are) k);
   }
 
   -- and the text has this fault
-  pub gives_fault : (children : List (List ℕ)) (fault : AddressFault) → children ≡ child_kinds chair_rule → IsFaultOf children text fault → GivesFault words fault
-  gives_fault children fault e h = record { tiling = chair; text = text; asked = asks words text right given; is_fault = subst (λ rows. IsFaultOf rows text fault) e h }
-
-  -- one does
-  asks_for_tile : (children : List (List ℕ)) (a : Address) → children ≡ child_kinds chair_rule → IsAccepted children a → text ≡ address_text a → AsksForTile words chair a
-  asks_for_tile children a e h f = record {
-    asked = asks words (address_text a) right (given ∙ ap (λ t. Some t) f);
-    accepted = subst (λ rows. IsAccepted rows a) e h;
+  pub gives_fault : AreRight words → (fault : AddressFault) → IsFaultOf children text fault → GivesFault words fault
+  gives_fault right fault h = record {
+    command = right.0;
+    tiling = chair;
+    text = text;
+    asked = asks words right.0 text right.1 given;
+    is_fault = subst (λ rows. IsFaultOf rows text fault) are h;
   }
 
-  pub passes_limit : (children : List (List ℕ)) (a : Address) (value : Point) → children ≡ child_kinds chair_rule → IsAccepted children a → text ≡ address_text a
-      → first_refused chair a.digits ≡ Some (point_in Four value) → IsOf Four value → PassesLimit words value
-  passes_limit children a value e h f g k = record { tiling = chair; address = a; asked = asks_for_tile children a e h f; first = g; of_order = k }
-
-  pub prints : (children : List (List ℕ)) (a : Address) (m : Motion (NumberOf Four)) (line : List ℕ) → children ≡ child_kinds chair_rule → IsAccepted children a → text ≡ address_text a
-      → first_refused chair a.digits ≡ None → StandsBeside (points_of Four) chair_rule a m → line ≡ place_line Four a.kind m → Prints words line
-  prints children a m line e h f g k l = record {
-    tiling = chair;
-    address = a;
-    asked = asks_for_tile children a e h f;
-    placed = record { within = g; motion = m; beside = k; line = l };
+  -- one does
+  pub asks_for_tile : (command : Command) (a : Address) → command_of words ≡ Ok command → IsAccepted children a → text ≡ address_text a → AsksForTile words command chair a
+  asks_for_tile command a right h f = record {
+    asked = asks words command (address_text a) right (given ∙ ap (λ t. Some t) f);
+    accepted = subst (λ rows. IsAccepted rows a) are h;
   }
 
 -- the pieces of a line, joined from the right, are the line

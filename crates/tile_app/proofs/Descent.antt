@@ -9,7 +9,7 @@ use Rattle.cyclo_points.specs.Order.{NumberOf, points_of, is_refused}
 use Rattle.tile_shape.specs.declared.step.Step as program
 use Rattle.tile_shape.specs.Views.{step_of}
 use Rattle.tile_app.specs.Tilings.{Tiling}
-use Rattle.tile_app.specs.Asked.{first_refused}
+use Rattle.tile_app.specs.Placing.{first_refused}
 use Rattle.tile_app.proofs.Values.{find-append, find-append_found}
 
 drop-get_or : {A : Type 0} (xs : List A) (i : ℕ) (d : A) → i < length xs → drop i xs ≡ get_or xs i d ∷ drop (i + 1) xs

@@ -1,14 +1,16 @@
 -- Right words give each key that their command can't do without, and values of the keys' forms.
-use Rattle.std.proofs.Common.{◌≡◌, ℕ, Bool, true, false, cond, not, ◌&&◌, ◌||◌, List, [], ◌∷◌, ◌++◌, length, codes, Some, None, Ok, Err, is_some, nat_lt, refl, sym, ap, ◌∙◌, subst, append_assoc}
+use Rattle.std.proofs.Common.{◌≡◌, ℕ, Bool, true, false, cond, not, ◌&&◌, ◌||◌, List, [], ◌∷◌, ◌++◌, length, codes, Some, None, Ok, Err, is_some, nat_lt, refl, sym, ap, ap₂, ◌∙◌, subst, append_assoc}
 use Rattle.std.specs.declared.option.Option.{Option}
-use Rattle.std.specs.List.{list_all, before_first, after_first, position_or_len}
+use Rattle.std.specs.List.{list_all, list_any, before_first, after_first, position_or_len}
 use Rattle.std.specs.Option.{option_map_or}
 use Rattle.std.specs.Str.{bytes_eq}
 use Rattle.std.proofs.lemmas.Slice.Eq.{bytes_eq-Decides}
-use Rattle.tile_app.specs.declared.words.Command.TheVariants.{Place}
+use Rattle.tile_app.specs.declared.words.Command.{Command}
+use Rattle.tile_app.specs.declared.words.Command.TheVariants.{Place, Neighbour}
 use Rattle.tile_app.specs.declared.words.Key.{Key}
-use Rattle.tile_app.specs.declared.words.Key.TheVariants.{Rule, Addr}
-use Rattle.tile_app.specs.Words.{key_text, required_keys, has_form, is_equals, value_in, value_given, is_right, wrong_place, command_of}
+use Rattle.tile_app.specs.declared.words.Key.TheVariants.{Rule, Addr, Edge}
+use Rattle.tile_app.specs.Numbers.{number_up_to}
+use Rattle.tile_app.specs.Words.{key_text, command_named, keys_of, required_keys, has_form, is_equals, value_in, value_given, is_right, wrong_place, command_of}
 
 -- ---- what is given among more words
 append_nil : {A : Type 0} (xs : List A) → xs ++ [] ≡ xs
@@ -37,10 +39,6 @@ both_true : (a b : Bool) → a && b ≡ true → (a ≡ true) × (b ≡ true)
 both_true true b e = (refl, e)
 both_true false b e = absurd (cc e)
 
-one_true : (a b : Bool) → a || b ≡ true → b ≡ false → a ≡ true
-one_true true b e f = refl
-one_true false b e f = absurd (cc (e, f))
-
 value_name : (key : Key) (word value : List ℕ) → value_in key word ≡ Some value → before_first is_equals word ≡ key_text key
 value_name key word value e = at_test (nat_lt (position_or_len is_equals word) (length word) && bytes_eq (before_first is_equals word) (key_text key)) refl e
   where
@@ -49,71 +47,103 @@ value_name key word value e = at_test (nat_lt (position_or_len is_equals word) (
     at_test true f g = (bytes_eq-Decides _ _).0 (both_true _ _ f).1
     at_test false f g = absurd (cc g)
 
--- a word gives one key alone
-no_other : (word value : List ℕ) → value_in Rule word ≡ Some value → value_in Addr word ≡ None
-no_other word value e = at_value (value_in Addr word) refl
+-- ---- the name of a key tells the key
+key_of_text : List ℕ → Option Key
+key_of_text text =
+    cond (bytes_eq text (codes "rule")) (Some Rule) (cond (bytes_eq text (codes "addr")) (Some Addr) (cond (bytes_eq text (codes "edge")) (Some Edge) None))
+
+key_text-tells : (j k : Key) → key_text j ≡ key_text k → j ≡ k
+unfolding key_of_text
+key_text-tells j k e = some_is j k (sym (named j) ∙ ap key_of_text e ∙ named k)
   where
-    at_value : (o : Option (List ℕ)) → value_in Addr word ≡ o → o ≡ None
-    at_value None f = refl
-    at_value (Some v) f = absurd (names_differ (sym (value_name Rule word value e) ∙ value_name Addr word v f))
-      where
-        names_differ : codes "rule" ≡ codes "addr" → ⊥
-        names_differ g = absurd (cc (tested ((bytes_eq-Decides (codes "rule") (codes "addr")).1 g)))
-          where
-            tested : bytes_eq (codes "rule") (codes "addr") ≡ true → false ≡ true
-            tested k = k
+    named : (k : Key) → key_of_text (key_text k) ≡ Some k
+    named Rule = refl
+    named Addr = refl
+    named Edge = refl
 
--- ---- the rule that is given
-abbrev pub RuleHasForm : List (List ℕ) → Type 0
-RuleHasForm words = (value : List ℕ) → value_given Rule words ≡ Some value → has_form Rule value ≡ true
+    some_is : (j k : Key) → Some j ≡ Some k → j ≡ k
+    some_is j k e = cc
 
-rule_has_form : (before : List (List ℕ)) (word : List ℕ) → RuleHasForm before → is_right Place before word ≡ true → RuleHasForm (before ++ word ∷ [])
-rule_has_form before word h r value e = at_value (value_given Rule before) refl (sym (value_given-append Rule before word) ∙ e)
+-- ---- the values that are given have the forms of their keys
+abbrev pub HaveForms : List (List ℕ) → Type 0
+HaveForms words = (key : Key) (value : List ℕ) → value_given key words ≡ Some value → has_form key value ≡ true
+
+some_key : (test : Key → Bool) (keys : List Key) → list_any test keys ≡ true → (k : Key) × (test k ≡ true)
+some_key test [] e = absurd (cc e)
+some_key test (k ∷ ks) e = at_test (test k) refl e (some_key test ks)
   where
-    at_value : (o : Option (List ℕ)) → value_given Rule before ≡ o → option_map_or Some o (value_in Rule word) ≡ Some value → has_form Rule value ≡ true
-    at_value (Some v) f g = h value (f ∙ g)
-    at_value None f g = (both_true _ _ here).1
-      where
-        form_of : Option (List ℕ) → Bool
-        form_of o = option_map_or (λ v. not (is_some (value_given Rule before)) && has_form Rule v) o false
+    at_test : (b : Bool) → test k ≡ b → b || list_any test ks ≡ true → (list_any test ks ≡ true → (j : Key) × (test j ≡ true)) → (j : Key) × (test j ≡ true)
+    at_test true f g rest = (k, f)
+    at_test false f g rest = rest g
 
-        other_of : Option (List ℕ) → Bool
-        other_of o = option_map_or (λ v. not (is_some (value_given Addr before)) && has_form Addr v) o false || false
+-- the word that makes the test true gives the key a value of its form
+form_of_value : (given : Bool) (key : Key) (o : Option (List ℕ)) → option_map_or (λ v. not given && has_form key v) o false ≡ true → (v : List ℕ) × (o ≡ Some v) × (has_form key v ≡ true)
+form_of_value given key None e = absurd (cc e)
+form_of_value given key (Some v) e = (v, refl, (both_true _ _ e).1)
 
-        here : not (is_some (value_given Rule before)) && has_form Rule value ≡ true
-        here = sym (ap form_of g) ∙ one_true (form_of (value_in Rule word)) (other_of (value_in Addr word)) r (ap other_of (no_other word value g))
+have_forms : (command : Command) (before : List (List ℕ)) (word : List ℕ) → HaveForms before → is_right command before word ≡ true → HaveForms (before ++ word ∷ [])
+have_forms command before word h r key value e = at_value (value_given key before) refl (sym (value_given-append key before word) ∙ e)
+  where
+    some_value_is : (u v : List ℕ) → Some u ≡ Some v → u ≡ v
+    some_value_is u v f = cc
+
+    from_word : (k : Key) (v : List ℕ) → value_in k word ≡ Some v → has_form k v ≡ true → value_in key word ≡ Some value → has_form key value ≡ true
+    from_word k v f g i =
+        let same : k ≡ key = key_text-tells k key (sym (value_name k word v f) ∙ value_name key word value i) in
+        let at_key : value_in key word ≡ Some v = subst (λ j. value_in j word ≡ Some v) same f in
+        ap₂ has_form (sym same) (some_value_is value v (sym i ∙ at_key)) ∙ g
+
+    at_value : (o : Option (List ℕ)) → value_given key before ≡ o → option_map_or Some o (value_in key word) ≡ Some value → has_form key value ≡ true
+    at_value (Some v) f g = h key value (f ∙ g)
+    at_value None f g =
+        let k = some_key (λ j. option_map_or (λ v. not (is_some (value_given j before)) && has_form j v) (value_in j word) false) (keys_of command) r in
+        let v = form_of_value (is_some (value_given k.0 before)) k.0 (value_in k.0 word) k.1 in
+        from_word k.0 v.0 v.1 v.2 g
 
 -- ---- right words to their end
-pub record Gives (words : List (List ℕ)) : Type 0 where
-  pub required : list_all (λ key. is_some (value_given key words)) (required_keys Place) ≡ true
-  pub rule : RuleHasForm words
+pub record Gives (command : Command) (words : List (List ℕ)) : Type 0 where
+  pub required : list_all (λ key. is_some (value_given key words)) (required_keys command) ≡ true
+  pub forms : HaveForms words
 
-gives : (before after : List (List ℕ)) → RuleHasForm before → wrong_place Place before after ≡ None → Gives (before ++ after)
-gives before [] h e = subst Gives (sym (append_nil before)) (record { required = (test_of_none _ _ _ e).0; rule = h })
-gives before (word ∷ after) h e =
-    subst Gives (append_assoc before (word ∷ []) after)
-    (gives (before ++ word ∷ []) after (rule_has_form before word h (test_of_none _ _ _ e).0) (test_of_none _ _ _ e).1)
+gives : (command : Command) (before after : List (List ℕ)) → HaveForms before → wrong_place command before after ≡ None → Gives command (before ++ after)
+gives command before [] h e = subst (Gives command) (sym (append_nil before)) (record { required = (test_of_none _ _ _ e).0; forms = h })
+gives command before (word ∷ after) h e =
+    subst (Gives command) (append_assoc before (word ∷ []) after)
+    (gives command (before ++ word ∷ []) after (have_forms command before word h (test_of_none _ _ _ e).0) (test_of_none _ _ _ e).1)
 
-pub Gives-right : (words : List (List ℕ)) → command_of words ≡ Ok Place → Gives words
-Gives-right [] e = absurd (cc e)
-Gives-right (name ∷ words) e = at_test (bytes_eq name (codes "place")) refl e
+-- a command's name gives nothing
+name_gives_nothing : (name : List ℕ) (command : Command) → command_named name ≡ Some command → HaveForms (name ∷ [])
+name_gives_nothing name command e key value g = at_place (bytes_eq name (codes "place")) refl e
   where
-    no_rule : name ≡ codes "place" → RuleHasForm (name ∷ [])
-    no_rule f value g = absurd (nothing (subst (λ w. value_given Rule (w ∷ []) ≡ Some value) f g))
-      where
-        nothing : value_given Rule (codes "place" ∷ []) ≡ Some value → ⊥
-        nothing k = cc k
+    nothing_in : (w : List ℕ) → name ≡ w → value_given key (w ∷ []) ≡ None → has_form key value ≡ true
+    nothing_in w f h = absurd (cc (sym (subst (λ v. value_given key (v ∷ []) ≡ Some value) f g) ∙ h))
 
-    at_place : (o : Option ℕ) → wrong_place Place (name ∷ []) words ≡ o → option_map_or Err o (Ok Place) ≡ Ok Place → name ≡ codes "place" → Gives (name ∷ words)
-    at_place None f g k = gives (name ∷ []) words (no_rule k) f
-    at_place (Some i) f g k = absurd (cc g)
+    at_neighbour : (b : Bool) → bytes_eq name (codes "neighbour") ≡ b → cond b (Some Neighbour) None ≡ Some command → has_form key value ≡ true
+    at_neighbour true f h = nothing_in (codes "neighbour") ((bytes_eq-Decides _ _).0 f) refl
+    at_neighbour false f h = absurd (cc h)
 
-    at_test : (b : Bool) → bytes_eq name (codes "place") ≡ b
-        → option_map_or (λ command. option_map_or Err (wrong_place command (name ∷ []) words) (Ok command)) (cond b (Some Place) None) (Err 0) ≡ Ok Place → Gives (name ∷ words)
-    at_test true f g = at_place (wrong_place Place (name ∷ []) words) refl g ((bytes_eq-Decides _ _).0 f)
-    at_test false f g = absurd (cc g)
+    at_place : (b : Bool) → bytes_eq name (codes "place") ≡ b → cond b (Some Place) (cond (bytes_eq name (codes "neighbour")) (Some Neighbour) None) ≡ Some command → has_form key value ≡ true
+    at_place true f h = nothing_in (codes "place") ((bytes_eq-Decides _ _).0 f) refl
+    at_place false f h = at_neighbour (bytes_eq name (codes "neighbour")) refl h
 
--- what right words of `place` give: a rule known by name, and an address's text
+pub Gives-right : (command : Command) (words : List (List ℕ)) → command_of words ≡ Ok command → Gives command words
+Gives-right command [] e = absurd (cc e)
+Gives-right command (name ∷ words) e = at_name (command_named name) refl e
+  where
+    at_end : (c : Command) (o : Option ℕ) → wrong_place c (name ∷ []) words ≡ o → command_named name ≡ Some c → option_map_or Err o (Ok c) ≡ Ok command → Gives command (name ∷ words)
+    at_end c None f g h = let same : c ≡ command = cc in subst (λ d. Gives d (name ∷ words)) same (gives c (name ∷ []) words (name_gives_nothing name c g) f)
+    at_end c (Some i) f g h = absurd (cc h)
+
+    at_name : (o : Option Command) → command_named name ≡ o
+        → option_map_or (λ c. option_map_or Err (wrong_place c (name ∷ []) words) (Ok c)) o (Err 0) ≡ Ok command → Gives command (name ∷ words)
+    at_name None f g = absurd (cc g)
+    at_name (Some c) f g = at_end c (wrong_place c (name ∷ []) words) refl f g
+
+some_value : (o : Option (List ℕ)) → is_some o ≡ true → (v : List ℕ) × (o ≡ Some v)
+some_value None e = absurd (cc e)
+some_value (Some v) e = (v, refl)
+
+-- what right words give: a rule known by name, and an address's text
 pub record GivesBoth (words : List (List ℕ)) : Type 0 where
   pub rule : List ℕ
   pub is_rule : value_given Rule words ≡ Some rule
@@ -121,14 +151,37 @@ pub record GivesBoth (words : List (List ℕ)) : Type 0 where
   pub text : List ℕ
   pub is_text : value_given Addr words ≡ Some text
 
-some_value : (o : Option (List ℕ)) → is_some o ≡ true → (v : List ℕ) × (o ≡ Some v)
-some_value None e = absurd (cc e)
-some_value (Some v) e = (v, refl)
+both_given : (words : List (List ℕ)) → HaveForms words → is_some (value_given Rule words) ≡ true → is_some (value_given Addr words) ≡ true → GivesBoth words
+both_given words h e f =
+    let rule = some_value (value_given Rule words) e in
+    let text = some_value (value_given Addr words) f in
+    record { rule = rule.0; is_rule = rule.1; has_form = h Rule rule.0 rule.1; text = text.0; is_text = text.1 }
 
-pub GivesBoth-right : (words : List (List ℕ)) → command_of words ≡ Ok Place → GivesBoth words
-GivesBoth-right words e =
-    let h = Gives-right words e in
+pub GivesBoth-right : (command : Command) (words : List (List ℕ)) → command_of words ≡ Ok command → GivesBoth words
+GivesBoth-right Place words e =
+    let h = Gives-right Place words e in
     let r = both_true _ _ h.required in
-    let rule = some_value (value_given Rule words) r.0 in
-    let text = some_value (value_given Addr words) (both_true _ _ r.1).0 in
-    record { rule = rule.0; is_rule = rule.1; has_form = h.rule rule.0 rule.1; text = text.0; is_text = text.1 }
+    both_given words h.forms r.0 (both_true _ _ r.1).0
+GivesBoth-right Neighbour words e =
+    let h = Gives-right Neighbour words e in
+    let r = both_true _ _ h.required in
+    both_given words h.forms r.0 (both_true _ _ r.1).0
+
+-- and for `neighbour` the number of an edge
+pub record GivesEdge (words : List (List ℕ)) : Type 0 where
+  pub text : List ℕ
+  pub is_text : value_given Edge words ≡ Some text
+  pub is_number : is_some (number_up_to 255 text) ≡ true
+
+pub GivesEdge-right : (words : List (List ℕ)) → command_of words ≡ Ok Neighbour → GivesEdge words
+GivesEdge-right words e =
+    let h = Gives-right Neighbour words e in
+    let r = both_true _ _ (both_true _ _ h.required).1 in
+    let edge = some_value (value_given Edge words) (both_true _ _ r.1).0 in
+    record { text = edge.0; is_text = edge.1; is_number = h.forms Edge edge.0 edge.1 }
+
+pub edge_is_number : (words : List (List ℕ)) (text : List ℕ) → GivesEdge words → value_given Edge words ≡ Some text → is_some (number_up_to 255 text) ≡ true
+edge_is_number words text h e = let same : h.text ≡ text = some_is h.text text (sym h.is_text ∙ e) in subst (λ t. is_some (number_up_to 255 t) ≡ true) same h.is_number
+  where
+    some_is : (x y : List ℕ) → Some x ≡ Some y → x ≡ y
+    some_is x y f = cc

@@ -6,3 +6,5 @@ pub mod Sizes
 pub mod Finer
 pub mod Given
 pub mod Asking
+pub mod Counting
+pub mod Edges

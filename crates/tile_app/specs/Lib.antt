@@ -1,5 +1,9 @@
+pub mod Numbers
 pub mod Words
 pub mod Tilings
 pub mod Text
 pub mod Asked
+pub mod Placing
+pub mod Crossing
+pub mod Answers
 pub mod Status

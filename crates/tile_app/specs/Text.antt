@@ -1,7 +1,9 @@
 -- What the commands print. Every line ends with one newline.
 use Rattle.std.specs.Prelude.{ℕ, List, [], ◌∷◌, ◌++◌}
 use Rattle.std.specs.Fmt.{decimal}
+use Rattle.substitution.specs.Address.{Address}
 use Rattle.substitution.specs.Motion.{Motion}
+use Rattle.tile_shape.specs.Text.{address_text}
 use Rattle.cyclo_points.specs.declared.order.Order.{Order}
 use Rattle.cyclo_points.specs.Order.{NumberOf}
 use Rattle.cyclo_points.specs.Text.{number_text}
@@ -12,6 +14,10 @@ blank = 32
 
 abbrev pub newline : ℕ
 newline = 10
+
+-- the tile across an edge and the edge there that leads back, as `address edge`
+abbrev pub neighbour_line : Address → ℕ → List ℕ
+neighbour_line across edge = address_text across ++ blank ∷ decimal edge ++ newline ∷ []
 
 -- a tile placed, as `kind turn shift`
 abbrev pub place_line : (o : Order) → ℕ → Motion (NumberOf o) → List ℕ

@@ -3,14 +3,17 @@ use Rattle.std.specs.Prelude.{ℕ, ℤ, pos, List, [], ◌∷◌, codes, Some, N
 use Rattle.std.specs.declared.option.Option.{Option}
 use Rattle.std.specs.Str.{bytes_eq}
 use Rattle.substitution.specs.Rule.{Child, Rule}
+use Rattle.substitution.specs.Tables.{Tables}
+use Rattle.substitution.specs.Chair.{chair_tables}
 use Rattle.cyclo_points.specs.declared.order.Order.{Order}
 use Rattle.cyclo_points.specs.declared.order.Order.TheVariants.{Four}
 use Rattle.cyclo_points.specs.Order.{NumberOf}
 
--- an order, and a substitution rule over its points
+-- an order, a substitution rule over its points, and the contacts of its children's edges
 pub record Tiling : Type 0 where
   pub order : Order
   pub rule : Rule (NumberOf order)
+  pub tables : Tables
 
 -- a + bζ in order four, where ζ is a quarter turn
 abbrev pub square_point : ℤ → ℤ → NumberOf Four
@@ -37,7 +40,7 @@ chair_rule = record {
 }
 
 abbrev pub chair : Tiling
-chair = record { order = Four; rule = chair_rule }
+chair = record { order = Four; rule = chair_rule; tables = chair_tables }
 
 -- the tiling of a name
 abbrev pub tiling_named : List ℕ → Option Tiling

@@ -7,9 +7,10 @@ use Rattle.std.specs.List.{list_all, list_any, before_first, after_first, positi
 use Rattle.std.specs.Option.{option_map_or}
 use Rattle.std.specs.Str.{bytes_eq}
 use Rattle.tile_app.specs.declared.words.Command.{Command}
-use Rattle.tile_app.specs.declared.words.Command.TheVariants.{Place}
+use Rattle.tile_app.specs.declared.words.Command.TheVariants.{Place, Neighbour}
 use Rattle.tile_app.specs.declared.words.Key.{Key}
-use Rattle.tile_app.specs.declared.words.Key.TheVariants.{Rule, Addr}
+use Rattle.tile_app.specs.declared.words.Key.TheVariants.{Rule, Addr, Edge}
+use Rattle.tile_app.specs.Numbers.{number_up_to}
 
 -- the words as their bytes
 abbrev pub texts : {A : Type 0} → List (String A) → List (List ℕ)
@@ -19,22 +20,28 @@ texts words = map string_bytes words
 abbrev pub key_text : Key → List ℕ
 key_text Rule = codes "rule"
 key_text Addr = codes "addr"
+key_text Edge = codes "edge"
 
 -- the command that a word names
 abbrev pub command_named : List ℕ → Option Command
-command_named word = if bytes_eq word (codes "place") then Some Place else None
+command_named word =
+    if bytes_eq word (codes "place") then Some Place else
+    if bytes_eq word (codes "neighbour") then Some Neighbour else None
 
 -- the keys of a command, and those that it can't do without
 abbrev pub keys_of : Command → List Key
 keys_of Place = Rule ∷ Addr ∷ []
+keys_of Neighbour = Rule ∷ Addr ∷ Edge ∷ []
 
 abbrev pub required_keys : Command → List Key
 required_keys Place = Rule ∷ Addr ∷ []
+required_keys Neighbour = Rule ∷ Addr ∷ Edge ∷ []
 
--- whether a value has the form of its key: a rule is one of the names known, and an address any text
+-- whether a value has the form of its key: a rule is one of the names known, an address any text, and an edge a number from 0 to 255
 abbrev pub has_form : Key → List ℕ → Bool
 has_form Rule value = bytes_eq value (codes "chair")
 has_form Addr value = true
+has_form Edge value = is_some (number_up_to 255 value)
 
 -- `=`
 abbrev pub is_equals : ℕ → Bool

@@ -3,8 +3,12 @@
 //! cause of every refusal, over the definitions of supertiles and not over the code.
 #![tactic(auto)]
 
+mod answers;
 mod chair;
+mod contacts;
+mod neighbour;
 mod note;
+mod number;
 mod place;
 pub mod run;
 pub mod status;

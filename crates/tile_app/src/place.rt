@@ -9,7 +9,7 @@ ghost use Rattle.cyclo_points.specs.Point.{point_in, IsOf, IsWithin};
 ghost use Rattle.cyclo_points.specs.Motion.{motion_in};
 ghost use Rattle.tile_shape.specs.Views.{step_of, address_of};
 ghost use Rattle.tile_app.specs.Tilings.{chair, chair_rule};
-ghost use Rattle.tile_app.specs.Asked.{first_refused};
+ghost use Rattle.tile_app.specs.Placing.{first_refused};
 
 use crate::chair;
 use cyclo_points::arithmetic::{add, refused};

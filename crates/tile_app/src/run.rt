@@ -4,48 +4,23 @@ ghost use Rattle.cyclo_points.specs.declared.point.Point.{Point};
 ghost use Rattle.tile_shape.specs.declared.address_fault.AddressFault.{AddressFault};
 ghost use Rattle.tile_io.specs.Causes.{Rose};
 ghost use Rattle.tile_io.specs.Taken.{Takes, TakesProperPrefix};
-ghost use Rattle.tile_app.specs.declared.words.Command.TheVariants.{Place};
 ghost use Rattle.tile_app.specs.Words.{texts, command_of, AreRight};
-ghost use Rattle.tile_app.specs.Asked.{Prints, GivesNoAddress, GivesFault, PassesLimit, CanBePlaced};
+ghost use Rattle.tile_app.specs.Answers.{Prints, CanBeAnswered};
+ghost use Rattle.tile_app.specs.Asked.{GivesNoAddress, GivesFault};
+ghost use Rattle.tile_app.specs.Crossing.{HasNoEdge, LiesOutside};
+ghost use Rattle.tile_app.specs.Placing.{PassesLimit};
 ghost use Rattle.tile_app.specs.Status.{IsBadAddress, IsCoordLimit, IsRefusal, IsRefused};
 
-use crate::chair;
+use crate::answers::text_of;
 use crate::note::write_note;
-use crate::place::place;
 use crate::status::Status;
-use crate::text::place_line;
-use crate::words::{Command, Key, command_of};
 use std::alloc::Global;
 use tile_io::failed::Failed;
 use tile_io::sink::Sink;
 use tile_io::source::Source;
 use tile_io::writing::write_all;
 use tile_shape::laws::{fits_are_short, one_text};
-use tile_shape::reading::read_address;
-
-/// The line that `place` prints, or why it prints none.
-fn place_text(alloc: Global, words: &[String]) -> Result<String, Status>
-    requires { command_of (texts words.now) ≡ Ok Place }
-    ensures printed { IfOk result (λ text. Prints (texts words.now) (string_bytes text)) }
-    ensures refused { IfErr result (IsRefused (texts words.now)) }
-{
-    let text = Key::Addr.value_given(words).unwrap();
-    let uses = chair::uses(alloc)?;
-    let address = read_address(&uses, text.as_bytes())?;
-    let motion = place(&address)?;
-    Ok(place_line(alloc, address.kind, &motion)?)
-}
-
-/// The whole text that the words ask for, or why there is none.
-fn text_of(alloc: Global, words: &[String]) -> Result<String, Status>
-    ensures printed { IfOk result (λ text. Prints (texts words.now) (string_bytes text)) }
-    ensures refused { IfErr result (IsRefused (texts words.now)) }
-{
-    match command_of(words) {
-        Ok(Command::Place) => place_text(alloc, words),
-        Err(place) => Err(Status::BadWords { place }),
-    }
-}
+use transducer_core::laws::trace_is_one;
 
 /// Writes the text that the words ask for, built whole before the first byte is written.
 fn answer<W: Sink>(alloc: Global, words: &[String], sink: &mut W) -> Status
@@ -94,6 +69,14 @@ pub fn run<R: Source, W: Sink, N: Sink>(
         → PassesLimit (texts words.now.items) value }
     ensures coord_limit_when { (value : Point) → PassesLimit (texts words.now.items) value
         → IsCoordLimit result ⊎ (result ≡ Status.NoMemory) }
+    ensures no_edge { (edge edges : ℕ) → result ≡ Status.NoEdge edge edges
+        → HasNoEdge (texts words.now.items) edge edges }
+    ensures no_edge_when { (edge edges : ℕ) → HasNoEdge (texts words.now.items) edge edges
+        → (result ≡ Status.NoEdge edge edges) ⊎ (result ≡ Status.NoMemory) }
+    ensures outside { (edge part : ℕ) → result ≡ Status.Outside edge part
+        → LiesOutside (texts words.now.items) edge part }
+    ensures outside_when { (edge part : ℕ) → LiesOutside (texts words.now.items) edge part
+        → (result ≡ Status.Outside edge part) ⊎ (result ≡ Status.NoMemory) }
     ensures write_fault { result ≡ Status.WriteFault → Rose (W.faults sink.old) (W.faults sink.new) }
     ensures part { result ≡ Status.WriteFault → (text : List ℕ) × Prints (texts words.now.items) text
         × TakesProperPrefix (W.taken sink.old) (W.taken sink.new) text }
@@ -103,12 +86,13 @@ pub fn run<R: Source, W: Sink, N: Sink>(
     // What stays untouched, and when the call succeeds.
     ensures nothing_written { IsRefusal result → sink.new ≡ sink.old }
     ensures source_untouched { source.new ≡ source.old }
-    ensures complete { CanBePlaced (texts words.now.items)
+    ensures complete { CanBeAnswered (texts words.now.items)
         → ¬ Rose (W.faults sink.old) (W.faults sink.new)
         → (result ≡ Status.Done) ⊎ (result ≡ Status.NoMemory) }
 {
     one_text();
     fits_are_short();
+    trace_is_one();
     let status = answer(alloc, words.as_slice(), sink);
     write_note(notes, &status);
     status

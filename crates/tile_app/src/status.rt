@@ -8,6 +8,7 @@ use std::alloc::AllocError;
 use std::fmt;
 use tile_shape::address_fault::AddressFault;
 use tile_shape::no_memory::NoMemory;
+use transducer_core::outside::Outside;
 
 /// How a call of `run` ended.
 #[derive(Clone, Copy, Debug, PartialEq, Eq)]
@@ -19,6 +20,10 @@ pub enum Status {
     BadWords { place: usize },
     /// The text of the address is refused.
     BadAddress { fault: AddressFault },
+    /// The tile has only so many edges, and not this one.
+    NoEdge { edge: u8, edges: u8 },
+    /// The edge lies on this edge of the supertile, in this part of it.
+    Outside { edge: u8, part: u8 },
     /// A coefficient passes 2^24 in absolute value: the first value, from coarse to fine, of which
     /// one does.
     CoordLimit { value: Point },
@@ -38,18 +43,27 @@ impl Status {
             Status::BadWords { .. } => 2,
             Status::BadAddress { .. } => 4,
             Status::CoordLimit { .. } => 6,
+            Status::Outside { .. } => 8,
             Status::WriteFault => 10,
             Status::NoMemory => 11,
+            Status::NoEdge { .. } => 12,
         }
     }
 }
 
 impl fmt::Display for Status {
+    ghost use Rattle.std.specs.Prelude.{Some};
+    ghost use Rattle.tile_app.specs.Status.{status_text};
+
+    ghost output = { λ status. Some (status_text status) };
+
     fn fmt<W: fmt::Write>(&self, f: &mut fmt::Formatter<W>) -> fmt::Result {
         match self {
             Status::Done => write!(f, "Done"),
             Status::BadWords { place } => write!(f, "BadWords {place}"),
             Status::BadAddress { fault } => write!(f, "BadAddress {fault}"),
+            Status::NoEdge { edge, edges } => write!(f, "NoEdge {edge} {edges}"),
+            Status::Outside { edge, part } => write!(f, "Outside {edge} {part}"),
             Status::CoordLimit { value } => write!(f, "CoordLimit {value}"),
             Status::WriteFault => write!(f, "WriteFault"),
             Status::NoMemory => write!(f, "NoMemory"),
@@ -94,5 +108,18 @@ impl From<CoordLimit> for Status {
 
     fn from(limit: CoordLimit) -> Status {
         Status::CoordLimit { value: limit.value }
+    }
+}
+
+impl From<Outside> for Status {
+    ghost use Rattle.tile_app.specs.declared.status.Status.TheVariants.{Outside as OutsideStatus};
+
+    ghost from_gives = { λ outside status. status ≡ OutsideStatus outside.edge outside.part };
+
+    fn from(outside: Outside) -> Status {
+        Status::Outside {
+            edge: outside.edge,
+            part: outside.part,
+        }
     }
 }

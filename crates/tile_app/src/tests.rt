@@ -11,51 +11,123 @@ use tile_io::sink::Sink;
 use tile_io::steady_sink::SteadySink;
 use tile_io::steady_source::SteadySource;
 
-// Words, the exit code that is wanted, the text printed, and the line noted.
-const ROWS: [(&str, u8, &str, &str); 18] = [
-    ("place rule=chair addr=0:", 0, "0 0 0,0,0,0\n", ""),
-    ("place rule=chair addr=0:1/0,2/0", 0, "0 1 7,1,0,0\n", ""),
-    ("place addr=0:1/0,2/0 rule=chair", 0, "0 1 7,1,0,0\n", ""),
+// Words, the exit code that is wanted, the line printed, and the line noted.
+const ROWS: [(&str, u8, &str, &str); 35] = [
+    ("place rule=chair addr=0:", 0, "0 0 0,0,0,0", ""),
+    ("place rule=chair addr=0:1/0,2/0", 0, "0 1 7,1,0,0", ""),
+    ("place addr=0:1/0,2/0 rule=chair", 0, "0 1 7,1,0,0", ""),
+    ("neighbour rule=chair addr=0:0/0 edge=0", 0, "0:1/0 3", ""),
+    ("neighbour rule=chair addr=0:1/0 edge=3", 0, "0:0/0 0", ""),
+    (
+        "neighbour rule=chair addr=0:0/0,1/0 edge=4",
+        0,
+        "0:1/0,0/0 7",
+        "",
+    ),
+    (
+        "neighbour edge=4 rule=chair addr=0:0/0",
+        8,
+        "",
+        "8 Outside 4 0",
+    ),
+    (
+        "neighbour rule=chair addr=0: edge=3",
+        8,
+        "",
+        "8 Outside 3 0",
+    ),
+    (
+        "neighbour rule=chair addr=0:0/0 edge=8",
+        12,
+        "",
+        "12 NoEdge 8 8",
+    ),
+    (
+        "neighbour rule=chair addr=0:0/0 edge=255",
+        12,
+        "",
+        "12 NoEdge 255 8",
+    ),
     (
         "place rule=chair addr=0:4/0",
         4,
         "",
-        "4 BadAddress WrongChild 0\n",
-    ),
-    ("place rule=chair addr=3", 4, "", "4 BadAddress BadText 1\n"),
-    ("place rule=chair addr=", 4, "", "4 BadAddress BadText 0\n"),
-    (
-        "place rule=chair addr=1:",
-        4,
-        "",
-        "4 BadAddress UnknownKind 0\n",
+        "4 BadAddress WrongChild 0",
     ),
     (
-        "place rule=chair addr=0:0/1",
+        "place rule=chair addr=0:300/0",
         4,
         "",
-        "4 BadAddress UnknownKind 1\n",
+        "4 BadAddress WrongChild 0",
+    ),
+    ("place rule=chair addr=3", 4, "", "4 BadAddress BadText 1"),
+    ("place rule=chair addr=", 4, "", "4 BadAddress BadText 0"),
+    ("place rule=chair addr=00:", 4, "", "4 BadAddress BadText 1"),
+    (
+        "place rule=chair addr=1000:",
+        4,
+        "",
+        "4 BadAddress BadText 3",
     ),
     (
         "place rule=chair addr=0:0=0",
         4,
         "",
-        "4 BadAddress BadText 3\n",
+        "4 BadAddress BadText 3",
     ),
-    ("", 2, "", "2 BadWords 0\n"),
     (
-        "neighbour rule=chair addr=0: edge=0",
+        "place rule=chair addr=0:0/0,",
+        4,
+        "",
+        "4 BadAddress BadText 6",
+    ),
+    (
+        "place rule=chair addr=1:",
+        4,
+        "",
+        "4 BadAddress UnknownKind 0",
+    ),
+    (
+        "place rule=chair addr=999:",
+        4,
+        "",
+        "4 BadAddress UnknownKind 0",
+    ),
+    (
+        "neighbour rule=chair addr=0:0/1 edge=9",
+        4,
+        "",
+        "4 BadAddress UnknownKind 1",
+    ),
+    ("", 2, "", "2 BadWords 0"),
+    ("walk rule=chair addr=0:", 2, "", "2 BadWords 0"),
+    ("place", 2, "", "2 BadWords 1"),
+    ("place rule=chair", 2, "", "2 BadWords 2"),
+    ("place rule=chair addr=0: addr=0:", 2, "", "2 BadWords 3"),
+    ("place addr=0: rule=hat", 2, "", "2 BadWords 2"),
+    ("place rule=p3 addr=0:", 2, "", "2 BadWords 1"),
+    ("place rule=chair edge=0", 2, "", "2 BadWords 2"),
+    ("place addr rule=chair", 2, "", "2 BadWords 1"),
+    ("neighbour rule=chair addr=0:", 2, "", "2 BadWords 3"),
+    (
+        "neighbour rule=chair addr=0: edge=256",
         2,
         "",
-        "2 BadWords 0\n",
+        "2 BadWords 3",
     ),
-    ("place rule=chair", 2, "", "2 BadWords 2\n"),
-    ("place rule=chair addr=0: addr=0:", 2, "", "2 BadWords 3\n"),
-    ("place addr=0: rule=hat", 2, "", "2 BadWords 2\n"),
-    ("place rule=p3 addr=0:", 2, "", "2 BadWords 1\n"),
-    ("place rule=chair edge=0", 2, "", "2 BadWords 2\n"),
-    ("place addr rule=chair", 2, "", "2 BadWords 1\n"),
-    ("place", 2, "", "2 BadWords 1\n"),
+    (
+        "neighbour rule=chair addr=0: edge=00",
+        2,
+        "",
+        "2 BadWords 3",
+    ),
+    (
+        "neighbour rule=chair addr=0: edge=-1",
+        2,
+        "",
+        "2 BadWords 3",
+    ),
+    ("neighbour rule=chair edge= addr=0:", 2, "", "2 BadWords 2"),
 ];
 
 // The words of a line, parted by blanks; an empty line has none.
@@ -69,19 +141,28 @@ fn words_of(alloc: Global, line: &str) -> Result<Vec<String>, AllocError> {
     Ok(words)
 }
 
-// An address of kind 0 with a digit over and over.
-fn repeated(alloc: Global, digit: &str, times: usize) -> Result<String, AllocError> {
-    let mut line = "place rule=chair addr=0:".to_string(alloc)?;
-    for i in 0..times {
-        if i > 0 {
-            line.push(',')?;
+// What stands before an address of kind 0, and then its digits, each so many times.
+fn with_digits(
+    alloc: Global,
+    front: &str,
+    digits: &[(&str, usize)],
+    back: &str,
+) -> Result<String, AllocError> {
+    let mut line = front.to_string(alloc)?;
+    let mut comma = "";
+    for (digit, times) in digits {
+        for _ in 0..*times {
+            line.push_str(comma)?;
+            line.push_str(digit)?;
+            comma = ",";
         }
-        line.push_str(digit)?;
     }
+    line.push_str(back)?;
     Ok(line)
 }
 
-// Runs a line of words, and compares what comes of it.
+// Runs a line of words, and compares what comes of it: the lines printed and noted, without their
+// newlines.
 fn check_line<R: Abort + AllocGlobal>(
     rt: &R,
     line: &str,
@@ -92,13 +173,22 @@ fn check_line<R: Abort + AllocGlobal>(
     let alloc = rt.alloc();
     let words = words_of(alloc, line)?;
     let mut source = SteadySource::new(Vec::new(alloc));
-    let mut sink = SteadySink::new(alloc, 100)?;
+    let mut sink = SteadySink::new(alloc, 600)?;
     let mut notes = SteadySink::new(alloc, 700)?;
     let status = run(alloc, &words, &mut source, &mut sink, &mut notes);
     assert_eq!(rt; status.code(), code, "{line}");
-    assert_eq!(rt; sink.taken(), text.as_bytes(), "{line}");
-    assert_eq!(rt; notes.taken(), note.as_bytes(), "{line}");
+    assert_eq!(rt; sink.taken(), line_of(alloc, text)?.as_bytes(), "{line}");
+    assert_eq!(rt; notes.taken(), line_of(alloc, note)?.as_bytes(), "{line}");
     Ok(())
+}
+
+// The text with a newline, or nothing where it is empty.
+fn line_of(alloc: Global, text: &str) -> Result<String, AllocError> {
+    if text.is_empty() {
+        Ok(String::new(alloc))
+    } else {
+        format!(in alloc; "{text}\n")
+    }
 }
 
 #[test]
@@ -112,20 +202,30 @@ fn rows(rt: HostRuntime) -> Result<(), Fail> {
 #[test]
 fn long_addresses(rt: HostRuntime) -> Result<(), Fail> {
     let alloc = rt.alloc();
-    let too_deep = repeated(alloc, "0/0", 65)?;
-    check_line(&rt, too_deep.as_str(), 4, "", "4 BadAddress TooDeep\n")?;
-    let deepest = repeated(alloc, "0/0", 64)?;
-    check_line(&rt, deepest.as_str(), 0, "0 0 0,0,0,0\n", "")?;
-    let within = repeated(alloc, "2/0", 23)?;
-    check_line(&rt, within.as_str(), 0, "0 3 13421772,6710888,0,0\n", "")?;
-    let beyond = repeated(alloc, "2/0", 40)?;
-    check_line(
-        &rt,
-        beyond.as_str(),
-        6,
-        "",
-        "6 CoordLimit 26843544,13421772,0,0\n",
-    )
+    let front = "place rule=chair addr=0:";
+    let too_deep = with_digits(alloc, front, &[("0/0", 65)], "")?;
+    check_line(&rt, too_deep.as_str(), 4, "", "4 BadAddress TooDeep")?;
+    let deepest = with_digits(alloc, front, &[("0/0", 64)], "")?;
+    check_line(&rt, deepest.as_str(), 0, "0 0 0,0,0,0", "")?;
+    let within = with_digits(alloc, front, &[("2/0", 23)], "")?;
+    check_line(&rt, within.as_str(), 0, "0 3 13421772,6710888,0,0", "")?;
+    let beyond = with_digits(alloc, front, &[("2/0", 40)], "")?;
+    let note = "6 CoordLimit 26843544,13421772,0,0";
+    check_line(&rt, beyond.as_str(), 6, "", note)
+}
+
+#[test]
+fn neighbours_at_depth_64(rt: HostRuntime) -> Result<(), Fail> {
+    let alloc = rt.alloc();
+    let front = "neighbour rule=chair addr=0:";
+    let at_once = with_digits(alloc, front, &[("0/0", 64)], " edge=0")?;
+    let across = with_digits(alloc, "0:", &[("1/0", 1), ("0/0", 63)], " 3")?;
+    check_line(&rt, at_once.as_str(), 0, across.as_str(), "")?;
+    let all_the_way = with_digits(alloc, front, &[("0/0", 63), ("1/0", 1)], " edge=4")?;
+    let across = with_digits(alloc, "0:", &[("1/0", 63), ("0/0", 1)], " 7")?;
+    check_line(&rt, all_the_way.as_str(), 0, across.as_str(), "")?;
+    let outside = with_digits(alloc, front, &[("0/0", 64)], " edge=4")?;
+    check_line(&rt, outside.as_str(), 8, "", "8 Outside 4 0")
 }
 
 // Takes at most so many bytes a call, and fails once its good calls are used up.

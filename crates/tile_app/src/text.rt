@@ -3,10 +3,12 @@ ghost use Rattle.std.specs.Prelude.{◌≡◌, IfOk, string_bytes};
 ghost use Rattle.cyclo_points.specs.declared.order.Order.{Order};
 ghost use Rattle.cyclo_points.specs.Point.{IsOf};
 ghost use Rattle.cyclo_points.specs.Motion.{motion_in};
-ghost use Rattle.tile_app.specs.Text.{place_line};
+ghost use Rattle.tile_shape.specs.Views.{address_of};
+ghost use Rattle.tile_app.specs.Text.{place_line, neighbour_line};
 
 use cyclo_points::motion::Motion;
 use std::alloc::{AllocError, Global};
+use tile_shape::address::Address;
 
 /// The line of a tile placed: its kind, and the turn and the shift of its motion. It is the same in
 /// every order that the shift is a point of.
@@ -17,4 +19,11 @@ pub fn place_line(alloc: Global, kind: u8, motion: &Motion) -> Result<String, Al
     let turn = motion.turn;
     let shift = motion.shift;
     format!(in alloc; "{kind} {turn} {shift}\n")
+}
+
+/// The line of the tile across an edge: its address, and the number of its edge that leads back.
+pub fn neighbour_line(alloc: Global, across: &Address, edge: u8) -> Result<String, AllocError>
+    ensures { IfOk result (λ text. string_bytes text ≡ neighbour_line (address_of across.now) edge) }
+{
+    format!(in alloc; "{across} {edge}\n")
 }

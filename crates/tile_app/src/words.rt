@@ -4,11 +4,15 @@ ghost use Rattle.std.specs.Option.{option_map};
 ghost use Rattle.std.specs.List.{list_all};
 ghost use Rattle.tile_app.specs.Words.{texts, key_text, command_named, keys_of, required_keys, has_form, value_in, value_given, is_right, command_of};
 
+use crate::number::number_up_to_255;
+
 /// A command of the program.
 #[derive(Clone, Copy, Debug, PartialEq, Eq)]
 pub enum Command {
     /// Prints where a tile lies in its supertile.
     Place,
+    /// Prints the tile across an edge.
+    Neighbour,
 }
 
 /// A key of a word `key=value`.
@@ -18,6 +22,8 @@ pub enum Key {
     Rule,
     /// A tile's address.
     Addr,
+    /// The number of an edge.
+    Edge,
 }
 
 impl Command {
@@ -27,6 +33,8 @@ impl Command {
     {
         if word == "place" {
             Some(Command::Place)
+        } else if word == "neighbour" {
+            Some(Command::Neighbour)
         } else {
             None
         }
@@ -38,6 +46,7 @@ impl Command {
     {
         match self {
             Command::Place => &[Key::Rule, Key::Addr],
+            Command::Neighbour => &[Key::Rule, Key::Addr, Key::Edge],
         }
     }
 
@@ -47,6 +56,7 @@ impl Command {
     {
         match self {
             Command::Place => &[Key::Rule, Key::Addr],
+            Command::Neighbour => &[Key::Rule, Key::Addr, Key::Edge],
         }
     }
 }
@@ -59,6 +69,7 @@ impl Key {
         match self {
             Key::Rule => "rule",
             Key::Addr => "addr",
+            Key::Edge => "edge",
         }
     }
 
@@ -69,6 +80,7 @@ impl Key {
         match self {
             Key::Rule => value == "chair",
             Key::Addr => true,
+            Key::Edge => number_up_to_255(value).is_some(),
         }
     }
 

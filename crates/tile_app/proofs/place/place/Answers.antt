@@ -8,7 +8,7 @@ use Rattle.cyclo_points.specs.Order.{points_of}
 use Rattle.cyclo_points.specs.Motion.{motion_in}
 use Rattle.tile_shape.specs.Views.{step_of, address_of}
 use Rattle.tile_app.specs.Tilings.{chair, chair_rule}
-use Rattle.tile_app.specs.Asked.{first_refused}
+use Rattle.tile_app.specs.Placing.{first_refused}
 use Rattle.tile_app.proofs.Children.{chair_digit}
 use Rattle.tile_app.proofs.Descent.{Goes, Goes-finer}
 use Rattle.tile_app.proofs.place.place.Goals as goal

@@ -1,0 +1,29 @@
+-- Figures that follow make a number no smaller.
+use Rattle.std.proofs.Common.{◌≡◌, ℕ, ◌+◌, ◌-◌, ◌*◌, ◌<◌, ◌≤◌, Bool, true, false, cond, List, [], ◌∷◌, Some, None, nat_le, refl, ap, arith}
+use Rattle.std.proofs.lemmas.Bool.Decides.{nat_tests}
+use Rattle.std.specs.declared.option.Option.{Option}
+use Rattle.std.specs.Option.{option_and_then}
+use Rattle.tile_app.specs.Numbers.{is_figure, continued}
+
+no_smaller : (n m : ℕ) (cs : List ℕ) → continued n cs ≡ Some m → n ≤ m
+no_smaller n m [] e = let f : n ≡ m = cc in omega arith
+no_smaller n m (c ∷ cs) e = at_test (is_figure c) e (no_smaller (10 * n + (c - 48)) m cs)
+  where
+    at_test : (b : Bool) → cond b (continued (10 * n + (c - 48)) cs) None ≡ Some m → (continued (10 * n + (c - 48)) cs ≡ Some m → 10 * n + (c - 48) ≤ m) → n ≤ m
+    at_test true f rest = let g = rest f in omega arith
+    at_test false f rest = absurd (cc f)
+
+above_limit : (most n m : ℕ) → most < n → n ≤ m → nat_le m most ≡ false
+above_limit most n m l h = grind (arith, nat_tests)
+
+-- past the limit it stays past it
+pub past_limit : (most n : ℕ) (cs : List ℕ) → most < n → option_and_then (λ k. cond (nat_le k most) (Some k) None) (continued n cs) ≡ None
+past_limit most n cs l = at_value (continued n cs) refl
+  where
+    at_value : (o : Option ℕ) → continued n cs ≡ o → option_and_then (λ k. cond (nat_le k most) (Some k) None) o ≡ None
+    at_value None e = refl
+    at_value (Some m) e = ap (λ b. cond b (Some m) None) (above_limit most n m l (no_smaller n m cs e))
+
+-- where a figure is none, there is no number
+pub no_figure : (n : ℕ) (c : ℕ) (cs : List ℕ) → is_figure c ≡ false → continued n (c ∷ cs) ≡ None
+no_figure n c cs e = ap (λ b. cond b (continued (10 * n + (c - 48)) cs) None) e

@@ -1,0 +1,84 @@
+//! The text that the words ask for, or why there is none.
+ghost use Rattle.std.specs.Prelude.{◌≡◌, ◌≤◌, Some, Ok, IfOk, IfErr, string_bytes};
+ghost use Rattle.tile_shape.specs.Views.{address_of};
+ghost use Rattle.tile_app.specs.declared.words.Command.{Command};
+ghost use Rattle.tile_app.specs.declared.words.Command.TheVariants.{Place, Neighbour};
+ghost use Rattle.tile_app.specs.Answers.{Prints};
+ghost use Rattle.tile_app.specs.Asked.{AsksForTile, edge_given};
+ghost use Rattle.tile_app.specs.Status.{IsRefused};
+ghost use Rattle.tile_app.specs.Tilings.{chair};
+ghost use Rattle.tile_app.specs.Words.{texts, command_of, AreRight};
+
+use crate::neighbour::neighbour;
+use crate::number::number_up_to_255;
+use crate::place::place;
+use crate::status::Status;
+use crate::text::{neighbour_line, place_line};
+use crate::words::{Command, Key, command_of};
+use crate::{chair, contacts};
+use std::alloc::Global;
+use tile_shape::address::Address;
+use tile_shape::reading::read_address;
+use transducer_core::transducer::Transducer;
+
+/// The address that right words give.
+fn address_given(alloc: Global, words: &[String]) -> Result<Address, Status>
+    requires { AreRight (texts words.now) }
+    ensures asked { IfOk result (λ a. (command : Command) → command_of (texts words.now) ≡ Ok command
+        → AsksForTile (texts words.now) command chair (address_of a)) }
+    ensures refused { IfErr result (IsRefused (texts words.now)) }
+{
+    let text = Key::Addr.value_given(words).unwrap();
+    let uses = chair::uses(alloc)?;
+    Ok(read_address(&uses, text.as_bytes())?)
+}
+
+/// The number of the edge that right words of `neighbour` give.
+fn edge_given(words: &[String]) -> u8
+    requires { command_of (texts words.now) ≡ Ok Neighbour }
+    ensures { edge_given (texts words.now) ≡ Some result }
+{
+    let text = Key::Edge.value_given(words).unwrap();
+    number_up_to_255(text).unwrap()
+}
+
+/// The line that `place` prints.
+fn place_text(alloc: Global, words: &[String]) -> Result<String, Status>
+    requires { command_of (texts words.now) ≡ Ok Place }
+    ensures printed { IfOk result (λ text. Prints (texts words.now) (string_bytes text)) }
+    ensures refused { IfErr result (IsRefused (texts words.now)) }
+{
+    let address = address_given(alloc, words)?;
+    let motion = place(&address)?;
+    Ok(place_line(alloc, address.kind, &motion)?)
+}
+
+/// The line that `neighbour` prints.
+fn neighbour_text(alloc: Global, words: &[String]) -> Result<String, Status>
+    requires { command_of (texts words.now) ≡ Ok Neighbour }
+    ensures printed { IfOk result (λ text. Prints (texts words.now) (string_bytes text)) }
+    ensures refused { IfErr result (IsRefused (texts words.now)) }
+{
+    let address = address_given(alloc, words)?;
+    let edge = edge_given(words);
+    let tables = contacts::tables(alloc)?;
+    let edges = tables.edges(address.kind);
+    if edge >= edges {
+        return Err(Status::NoEdge { edge, edges });
+    }
+    let transducer = Transducer::compile(alloc, &tables)?;
+    let crossing = neighbour(&transducer, &address, edge)?;
+    Ok(neighbour_line(alloc, &crossing.addr, crossing.edge)?)
+}
+
+/// The whole text that the words ask for.
+pub fn text_of(alloc: Global, words: &[String]) -> Result<String, Status>
+    ensures printed { IfOk result (λ text. Prints (texts words.now) (string_bytes text)) }
+    ensures refused { IfErr result (IsRefused (texts words.now)) }
+{
+    match command_of(words) {
+        Ok(Command::Place) => place_text(alloc, words),
+        Ok(Command::Neighbour) => neighbour_text(alloc, words),
+        Err(place) => Err(Status::BadWords { place }),
+    }
+}
