@@ -3,4 +3,6 @@ pub mod Integers
 pub mod Squares
 pub mod Surd
 pub mod SurdSign
+pub mod Archimedes
 pub mod Ordered
+pub mod Divisor

@@ -1,3 +1,5 @@
 pub mod Ring
 pub mod Surd
+pub mod Squares
 pub mod Sign
+pub mod Divisor
