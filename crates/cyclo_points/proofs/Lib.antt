@@ -14,3 +14,10 @@ pub mod Refusal
 pub mod Dots
 pub mod ProductSizes
 pub mod ProductReadings
+pub mod Reals
+pub mod SignReadings
+pub mod Divisors
+pub mod RealProducts
+pub mod CoordinateReadings
+pub mod Undoing
+pub mod Floors

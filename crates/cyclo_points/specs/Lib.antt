@@ -4,6 +4,9 @@ pub mod Eight
 pub mod Ten
 pub mod Order
 pub mod Point
+pub mod Real
+pub mod Reduced
+pub mod Thousandths
 pub mod Motion
 pub mod Product
 pub mod Text

@@ -8,16 +8,23 @@
 //! meet the laws of points on which the theory of substitutions rests.
 #![tactic(auto)]
 
-ghost use Rattle.cyclo_points.specs.Order.{PointsLaw};
+ghost use Rattle.ordered_ring.specs.Divisor.{DividesWhole};
+ghost use Rattle.cyclo_points.specs.Order.{PointsLaw, points_of};
 ghost use Rattle.cyclo_points.specs.Placement.{PlacementLaw};
 
 pub mod arithmetic;
+pub mod coordinates;
 pub mod motion;
+pub mod movement;
 pub mod order;
 pub mod point;
 pub mod product;
 pub mod real;
+pub mod real_product;
+pub mod real_sum;
 pub mod rotation;
+pub mod sign;
+pub mod thousandths;
 
 use order::Order;
 
@@ -32,5 +39,16 @@ pub fn placement_law(order: Order)
     ensures { PlacementLaw order }
 {}
 
+/// The law that a positive number of the ring of coordinates divides a whole number, at least 1, for
+/// the points of each order: so each point of the plane with fractions for coordinates is a test
+/// point.
+pub fn divisors_law(order: Order)
+    ensures { DividesWhole (points_of order).real }
+{}
+
+#[cfg(test)]
+mod motion_tests;
+#[cfg(test)]
+mod number_tests;
 #[cfg(test)]
 mod tests;

@@ -1,7 +1,20 @@
+ghost use Rattle.std.specs.Prelude.{◌≡◌};
+
 /// The number a + bθ, in which the coordinates of points lie: θ is √2 in order eight and the golden
 /// ratio in order ten. In order four b is 0.
 #[derive(Clone, Copy, Debug, Default, PartialEq, Eq, PartialOrd, Ord)]
 pub struct Real {
     pub a: i128,
     pub b: i128,
+}
+
+/// The number of two parts.
+pub(crate) fn from_parts(a: i64, b: i64) -> Real
+    ensures of_a { result.a ≡ a }
+    ensures of_b { result.b ≡ b }
+{
+    Real {
+        a: a as i128,
+        b: b as i128,
+    }
 }

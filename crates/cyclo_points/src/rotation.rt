@@ -27,7 +27,7 @@ pub fn turn(order: Order, k: u8, p: &Point) -> Point
 }
 
 /// The point -p, which is p turned by half a turn.
-fn opposite(p: &Point) -> Point
+pub(crate) fn opposite(p: &Point) -> Point
     requires { IsWithin (2 ^ 41) p.now }
     ensures negative { (order : Order) → point_in order result
         ≡ (points_of order).ring.neg (point_in order p.now) }

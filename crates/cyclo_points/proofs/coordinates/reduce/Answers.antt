@@ -1,0 +1,19 @@
+use Rattle.std.proofs.Common.{pos, ◌∙◌, subst, sym}
+use Rattle.cyclo_points.specs.Point.{coefficient, quad_of}
+use Rattle.cyclo_points.proofs.Identities.{pair_path}
+use Rattle.cyclo_points.proofs.Readings.{point_of, machine_difference, machine_difference-is}
+use Rattle.cyclo_points.proofs.CoordinateReadings.{IsReduced, reduced_four, reduced_eight, reduced_ten}
+use Rattle.cyclo_points.proofs.coordinates.reduce.Goals as goal
+
+pub returns-in-Four-clause-same_number : goal.returns-in-Four-clause-same_number
+returns-in-Four-clause-same_number c =
+    let p = c.args.p.now in
+    let h = c.requires.p_within in
+    subst (λ o. IsReduced o p (point_of (machine_difference (coefficient p 0) (coefficient p 2)) (machine_difference (coefficient p 1) (coefficient p 3)) (pos 0) (pos 0))) (sym c.in-Four.is)
+    (pair_path _ _ (machine_difference-is _ _ h.at_0 h.at_2) (machine_difference-is _ _ h.at_1 h.at_3) ∙ reduced_four (quad_of p))
+
+pub returns-in-Eight-clause-same_number : goal.returns-in-Eight-clause-same_number
+returns-in-Eight-clause-same_number c = subst (λ o. IsReduced o c.args.p.now c.args.p.now) (sym c.in-Eight.is) (reduced_eight (quad_of c.args.p.now))
+
+pub returns-in-Ten-clause-same_number : goal.returns-in-Ten-clause-same_number
+returns-in-Ten-clause-same_number c = subst (λ o. IsReduced o c.args.p.now c.args.p.now) (sym c.in-Ten.is) (reduced_ten (quad_of c.args.p.now))
