@@ -1,0 +1,16 @@
+-- What is at most one number in absolute value is at most each greater one.
+use Rattle.std.proofs.Common.{ℕ, ◌≤◌, ℤ, arith}
+use Rattle.std.proofs.lemmas.Int.{ints}
+use Rattle.cyclo_points.specs.declared.point.Point.{Point}
+use Rattle.cyclo_points.specs.declared.real.Real.{Real}
+use Rattle.cyclo_points.specs.Point.{Within, IsWithin}
+use Rattle.cyclo_points.specs.Real.{IsRealWithin}
+
+wider : (m n : ℕ) (x : ℤ) → m ≤ n → Within m x → Within n x
+wider m n x h w = let a = w.low in let b = w.high in record { low = omega (arith, ints); high = omega (arith, ints) }
+
+pub real_wider : (m n : ℕ) (r : Real) → m ≤ n → IsRealWithin m r → IsRealWithin n r
+real_wider m n r h w = record { at_a = wider m n r.a h w.at_a; at_b = wider m n r.b h w.at_b }
+
+pub point_wider : (m n : ℕ) (p : Point) → m ≤ n → IsWithin m p → IsWithin n p
+point_wider m n p h w = record { at_0 = wider m n _ h w.at_0; at_1 = wider m n _ h w.at_1; at_2 = wider m n _ h w.at_2; at_3 = wider m n _ h w.at_3 }

@@ -1,0 +1,69 @@
+-- The laws of the plane, for the points of each order.
+use Rattle.std.specs.Prelude.{◌≡◌, ◌↔◌, ◌⊎◌, ℕ, pos, neg_ℤ, ◌+ℤ◌, List, IsTrue}
+use Rattle.ordered_ring.specs.Ring.{difference, power}
+use Rattle.ordered_ring.specs.Sign.{Signed}
+use Rattle.substitution.specs.Motion.{Motion, moved}
+use Rattle.cyclo_points.specs.declared.order.Order.{Order}
+use Rattle.cyclo_points.specs.Order.{NumberOf, points_of}
+use Rattle.plane_geom.specs.Plane.{PlanePoint, TestPoint, IsTestPoint}
+use Rattle.plane_geom.specs.Crossing.{crossing, count, member}
+use Rattle.plane_geom.specs.Triangle.{Triangle, corners, fan, counts, turns_left, separated}
+use Rattle.plane_geom.specs.Segment.{on_segment, Between}
+use Rattle.plane_geom.specs.Points.{twice_squared_length, Keeps, IsGrowthFactor}
+
+-- the ordered ring of an order's coordinates
+abbrev pub reals_of : Order → Signed
+reals_of o = (points_of o).real
+
+abbrev pub PlanePointOf : Order → Type 0
+PlanePointOf o = PlanePoint (reals_of o).ops.carrier
+
+abbrev pub TestPointOf : Order → Type 0
+TestPointOf o = TestPoint (reals_of o).ops.carrier
+
+-- an edge turned round crosses the other way
+abbrev pub AntisymmetryLaw : Order → Type 0
+AntisymmetryLaw o = (a b : PlanePointOf o) (p : TestPointOf o) → crossing (reals_of o) b a p ≡ neg_ℤ (crossing (reals_of o) a b p)
+
+-- an edge that is cut at a point of it crosses as its two parts together
+abbrev pub AdditivityLaw : Order → Type 0
+AdditivityLaw o =
+    (a b c : PlanePointOf o) (p : TestPointOf o) → IsTrue (on_segment (reals_of o) a b c) → crossing (reals_of o) a b p ≡ crossing (reals_of o) a c p +ℤ crossing (reals_of o) c b p
+
+-- a polygon's count is the sum over its fan
+abbrev pub FanLaw : Order → Type 0
+FanLaw o = (vs : List (PlanePointOf o)) (p : TestPointOf o) → count (reals_of o) vs p ≡ counts (reals_of o) (fan vs) p
+
+-- a triangle that turns left counts 0 or 1 at each test point
+abbrev pub TriangleLaw : Order → Type 0
+TriangleLaw o =
+    (t : Triangle (PlanePointOf o)) (p : TestPointOf o) → IsTestPoint (reals_of o) p → IsTrue (turns_left (reals_of o) t)
+    → (count (reals_of o) (corners t) p ≡ pos 0) ⊎ (count (reals_of o) (corners t) p ≡ pos 1)
+
+-- no test point belongs to both of two separated triangles that turn left
+abbrev pub SeparationLaw : Order → Type 0
+SeparationLaw o =
+    (t u : Triangle (PlanePointOf o)) (p : TestPointOf o) → IsTestPoint (reals_of o) p → IsTrue (turns_left (reals_of o) t) → IsTrue (turns_left (reals_of o) u)
+    → IsTrue (separated (reals_of o) t u) → IsTrue (member (reals_of o) (corners t) p) → ¬ IsTrue (member (reals_of o) (corners u) p)
+
+-- a point is on a closed segment exactly where it is a mean of the ends
+abbrev pub SegmentLaw : Order → Type 0
+SegmentLaw o = (a b p : PlanePointOf o) → IsTrue (on_segment (reals_of o) a b p) ↔ Between (reals_of o) a b p
+
+-- motions keep left turns, segments and equal lengths
+abbrev pub MotionLaw : Order → Type 0
+MotionLaw o = (m : Motion (NumberOf o)) → Keeps (points_of o) (moved (points_of o) m)
+
+-- motions keep each length
+abbrev pub IsometryLaw : Order → Type 0
+IsometryLaw o = (m : Motion (NumberOf o)) (a b : NumberOf o)
+    → twice_squared_length (points_of o) (difference (points_of o).ring (moved (points_of o) m b) (moved (points_of o) m a))
+    ≡ twice_squared_length (points_of o) (difference (points_of o).ring b a)
+
+-- so does a real factor greater than 1
+abbrev pub FactorLaw : Order → Type 0
+FactorLaw o = (l : NumberOf o) → IsGrowthFactor (points_of o) l → Keeps (points_of o) ((points_of o).ring.mul l)
+
+-- and each power of it
+abbrev pub FactorPowersLaw : Order → Type 0
+FactorPowersLaw o = (l : NumberOf o) → IsGrowthFactor (points_of o) l → (n : ℕ) → Keeps (points_of o) ((points_of o).ring.mul (power (points_of o).ring l n))

@@ -1,0 +1,32 @@
+-- The points of an order in the plane: their coordinates, squared lengths, and the maps that keep left turns, segments and equal lengths.
+use Rattle.std.specs.Prelude.{◌≡◌, pos, Bool}
+use Rattle.std.specs.Ordering.{is_eq}
+use Rattle.ordered_ring.specs.Ring.{difference}
+use Rattle.substitution.specs.Points.{Points}
+use Rattle.plane_geom.specs.Plane.{IsPositive, PlanePoint, orientation}
+use Rattle.plane_geom.specs.Segment.{on_segment}
+
+abbrev pub plane_point : (P : Points) → P.ring.carrier → PlanePoint P.real.ops.carrier
+plane_point P z = record { x = P.x z; y = P.y z }
+
+-- X of z times its conjugate, which is twice the squared length |z|²
+abbrev pub twice_squared_length : (P : Points) → P.ring.carrier → P.real.ops.carrier
+twice_squared_length P z = P.x (P.ring.mul z (P.conj z))
+
+-- whether two differences of points have equal squared lengths
+abbrev pub same_length : (P : Points) → P.ring.carrier → P.ring.carrier → Bool
+same_length P d e = is_eq (P.real.sign (difference P.real.ops (twice_squared_length P d) (twice_squared_length P e)))
+
+-- f keeps the sign of each orientation, so left turns too, what lies on a segment, and which segments are equally long
+pub record Keeps (P : Points) (f : P.ring.carrier → P.ring.carrier) : Type 0 where
+  pub turns : (a b c : P.ring.carrier) → P.real.sign (orientation P.real.ops (plane_point P (f a)) (plane_point P (f b)) (plane_point P (f c)))
+      ≡ P.real.sign (orientation P.real.ops (plane_point P a) (plane_point P b) (plane_point P c))
+  pub segments : (a b p : P.ring.carrier) → on_segment P.real (plane_point P (f a)) (plane_point P (f b)) (plane_point P (f p))
+      ≡ on_segment P.real (plane_point P a) (plane_point P b) (plane_point P p)
+  pub equal_lengths : (a b c d : P.ring.carrier) → same_length P (difference P.ring (f b) (f a)) (difference P.ring (f d) (f c))
+      ≡ same_length P (difference P.ring b a) (difference P.ring d c)
+
+-- l is real, being its own conjugate, and greater than 1, X(l) being 2 l
+pub record IsGrowthFactor (P : Points) (l : P.ring.carrier) : Type 0 where
+  pub is_real : P.conj l ≡ l
+  pub above_one : IsPositive P.real (difference P.real.ops (P.x l) (P.real.ops.int (pos 2)))

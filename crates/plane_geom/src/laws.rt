@@ -1,0 +1,57 @@
+//! The laws of the plane, for the points of each order.
+
+ghost use Rattle.plane_geom.specs.Laws.{AntisymmetryLaw, AdditivityLaw, FanLaw, TriangleLaw};
+ghost use Rattle.plane_geom.specs.Laws.{SeparationLaw, SegmentLaw, MotionLaw, IsometryLaw};
+ghost use Rattle.plane_geom.specs.Laws.{FactorLaw, FactorPowersLaw};
+
+use cyclo_points::order::Order;
+use cyclo_points::points_law;
+
+/// The law of crossings: that of an edge turned round is the negative, and that of an edge is the
+/// sum over the two parts into which a point of it cuts it.
+pub fn crossing_law(order: Order)
+    ensures antisymmetric { AntisymmetryLaw order }
+    ensures additive { AdditivityLaw order }
+{
+    points_law(order);
+}
+
+/// The law that a polygon's count is the sum over its fan.
+pub fn fan_law(order: Order)
+    ensures { FanLaw order }
+{
+    points_law(order);
+}
+
+/// The law of triangles that turn left: each counts 0 or 1 at every test point, and no test point
+/// belongs to both of two that are separated.
+pub fn triangle_law(order: Order)
+    ensures zero_or_one { TriangleLaw order }
+    ensures nothing_shared { SeparationLaw order }
+{
+    points_law(order);
+}
+
+/// The law that a point is on a closed segment exactly where it is a mean of the ends.
+pub fn segment_law(order: Order)
+    ensures { SegmentLaw order }
+{
+    points_law(order);
+}
+
+/// The law that motions keep left turns, segments and lengths.
+pub fn motion_law(order: Order)
+    ensures keeps { MotionLaw order }
+    ensures isometry { IsometryLaw order }
+{
+    points_law(order);
+}
+
+/// The law that a real factor greater than 1, and each power of it, keeps left turns, segments and
+/// equal lengths.
+pub fn factor_law(order: Order)
+    ensures keeps { FactorLaw order }
+    ensures powers_keep { FactorPowersLaw order }
+{
+    points_law(order);
+}

@@ -1,0 +1,22 @@
+//! Exact geometry of the plane, over the ordered rings in which the coordinates X and Y lie.
+//!
+//! A point belongs to a polygon when the polygon's winding number about it is 1; the winding number
+//! is counted by signed crossings of directed edges, by a rule half open, so that of tiles that
+//! share an edge just one has each point of it. Sides, crossings, counts, membership, segments and
+//! lengths are exact here, each by one definition over an ordered ring, and the laws on which
+//! dissections rest are proved for every order at once.
+#![tactic(auto)]
+
+pub mod box_edges;
+#[cfg(test)]
+mod box_tests;
+mod half_plane;
+pub mod laws;
+pub mod polygons;
+pub mod right_side;
+pub mod segments;
+pub mod sides;
+#[cfg(test)]
+mod tests;
+pub mod triangles;
+pub mod window;

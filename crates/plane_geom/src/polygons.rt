@@ -1,0 +1,46 @@
+//! The winding number of a polygon about a point, and membership.
+
+ghost use Rattle.std.specs.Prelude.{◌≡◌, ◌≤◌, ◌^◌, length, All};
+ghost use Rattle.cyclo_points.specs.Point.{IsWithin};
+ghost use Rattle.plane_geom.specs.Crossing.{count, member};
+ghost use Rattle.plane_geom.specs.Laws.{reals_of};
+ghost use Rattle.plane_geom.specs.Views.{places_of, test_of};
+
+use crate::sides::crossing;
+use cyclo_points::order::Order;
+use cyclo_points::point::Point;
+
+/// The winding number of a polygon about p: the sum of the crossings of its edges, which run from
+/// each vertex to the next, and from the last to the first. There are 3 to 24 vertices, and
+/// coefficients may be up to 2^25.
+pub fn count(order: Order, poly: &[Point], p: &Point) -> i32
+    requires at_least_three { 3 ≤ length poly.now }
+    requires at_most_24 { length poly.now ≤ 24 }
+    requires vertices_within { All (IsWithin (2 ^ 25)) poly.now }
+    requires p_within { IsWithin (2 ^ 25) p.now }
+    ensures { result ≡ count (reals_of order) (places_of order poly.now) (test_of order p.now) }
+{
+    let first = poly[0];
+    let mut from = first;
+    let mut total = 0;
+    for i in 1..poly.len() {
+        let to = poly[i];
+        let crossed = crossing(order, &from, &to, p);
+        total += crossed as i32;
+        from = to;
+    }
+    let crossed = crossing(order, &from, &first, p);
+    total + crossed as i32
+}
+
+/// Whether p belongs to a polygon: its winding number is 1. There are 3 to 24 vertices, and
+/// coefficients may be up to 2^25.
+pub fn member(order: Order, poly: &[Point], p: &Point) -> bool
+    requires at_least_three { 3 ≤ length poly.now }
+    requires at_most_24 { length poly.now ≤ 24 }
+    requires vertices_within { All (IsWithin (2 ^ 25)) poly.now }
+    requires p_within { IsWithin (2 ^ 25) p.now }
+    ensures { result ≡ member (reals_of order) (places_of order poly.now) (test_of order p.now) }
+{
+    count(order, poly, p) == 1
+}

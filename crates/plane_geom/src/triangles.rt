@@ -1,0 +1,59 @@
+//! Triangles that a line along an edge separates.
+
+ghost use Rattle.std.specs.Prelude.{◌≡◌, ◌^◌, All};
+ghost use Rattle.cyclo_points.specs.Point.{IsWithin};
+ghost use Rattle.plane_geom.specs.Triangle.{right_of, beyond, beyond_an_edge, separated};
+ghost use Rattle.plane_geom.specs.Laws.{reals_of};
+ghost use Rattle.plane_geom.specs.Views.{place_of, triangle_of};
+
+use crate::sides::side;
+use cyclo_points::order::Order;
+use cyclo_points::point::Point;
+use std::cmp::Ordering;
+
+/// Whether v is on the line along a→b or to its right.
+fn is_right_of(order: Order, a: &Point, b: &Point, v: &Point) -> bool
+    requires a_within { IsWithin (2 ^ 25) a.now }
+    requires b_within { IsWithin (2 ^ 25) b.now }
+    requires v_within { IsWithin (2 ^ 25) v.now }
+    ensures { result ≡ right_of (reals_of order) (place_of order a.now) (place_of order b.now)
+        (place_of order v.now) }
+{
+    side(order, a, b, v) != Ordering::Greater
+}
+
+/// Whether the whole triangle t is on the line along a→b or to its right.
+fn is_beyond(order: Order, a: &Point, b: &Point, t: &[Point; 3]) -> bool
+    requires a_within { IsWithin (2 ^ 25) a.now }
+    requires b_within { IsWithin (2 ^ 25) b.now }
+    requires t_within { All (IsWithin (2 ^ 25)) t.now }
+    ensures { result ≡ beyond (reals_of order) (place_of order a.now) (place_of order b.now)
+        (triangle_of order t.now) }
+{
+    is_right_of(order, a, b, &t[0])
+        && is_right_of(order, a, b, &t[1])
+        && is_right_of(order, a, b, &t[2])
+}
+
+/// Whether the whole triangle t is on the line along an edge of s or to its right.
+fn is_beyond_an_edge(order: Order, s: &[Point; 3], t: &[Point; 3]) -> bool
+    requires s_within { All (IsWithin (2 ^ 25)) s.now }
+    requires t_within { All (IsWithin (2 ^ 25)) t.now }
+    ensures { result ≡ beyond_an_edge (reals_of order) (triangle_of order s.now)
+        (triangle_of order t.now) }
+{
+    is_beyond(order, &s[0], &s[1], t)
+        || is_beyond(order, &s[1], &s[2], t)
+        || is_beyond(order, &s[2], &s[0], t)
+}
+
+/// Whether an edge of one of two triangles that turn left has the whole other one on it or to its
+/// right. Coefficients may be up to 2^25.
+pub fn separated(order: Order, s: &[Point; 3], t: &[Point; 3]) -> bool
+    requires s_within { All (IsWithin (2 ^ 25)) s.now }
+    requires t_within { All (IsWithin (2 ^ 25)) t.now }
+    ensures { result ≡ separated (reals_of order) (triangle_of order s.now)
+        (triangle_of order t.now) }
+{
+    is_beyond_an_edge(order, s, t) || is_beyond_an_edge(order, t, s)
+}
