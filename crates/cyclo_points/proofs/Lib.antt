@@ -21,3 +21,5 @@ pub mod RealProducts
 pub mod CoordinateReadings
 pub mod Undoing
 pub mod Floors
+pub mod Widths
+pub mod Places

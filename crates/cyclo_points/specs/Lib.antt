@@ -11,3 +11,4 @@ pub mod Motion
 pub mod Product
 pub mod Text
 pub mod Placement
+pub mod Places

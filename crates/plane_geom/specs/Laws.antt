@@ -1,25 +1,15 @@
 -- The laws of the plane, for the points of each order.
 use Rattle.std.specs.Prelude.{◌≡◌, ◌↔◌, ◌⊎◌, ℕ, pos, neg_ℤ, ◌+ℤ◌, List, IsTrue}
 use Rattle.ordered_ring.specs.Ring.{difference, power}
-use Rattle.ordered_ring.specs.Sign.{Signed}
 use Rattle.substitution.specs.Motion.{Motion, moved}
 use Rattle.cyclo_points.specs.declared.order.Order.{Order}
 use Rattle.cyclo_points.specs.Order.{NumberOf, points_of}
-use Rattle.plane_geom.specs.Plane.{PlanePoint, TestPoint, IsTestPoint}
-use Rattle.plane_geom.specs.Crossing.{crossing, count, member}
-use Rattle.plane_geom.specs.Triangle.{Triangle, corners, fan, counts, turns_left, separated}
-use Rattle.plane_geom.specs.Segment.{on_segment, Between}
-use Rattle.plane_geom.specs.Points.{twice_squared_length, Keeps, IsGrowthFactor}
-
--- the ordered ring of an order's coordinates
-abbrev pub reals_of : Order → Signed
-reals_of o = (points_of o).real
-
-abbrev pub PlanePointOf : Order → Type 0
-PlanePointOf o = PlanePoint (reals_of o).ops.carrier
-
-abbrev pub TestPointOf : Order → Type 0
-TestPointOf o = TestPoint (reals_of o).ops.carrier
+use Rattle.cyclo_points.specs.Places.{reals_of, PlanePointOf, TestPointOf}
+use Rattle.ordered_ring.specs.Plane.{IsTestPoint}
+use Rattle.ordered_ring.specs.Crossing.{crossing, count, member}
+use Rattle.ordered_ring.specs.Triangle.{Triangle, corners, fan, counts, turns_left, separated}
+use Rattle.ordered_ring.specs.Segment.{on_segment, Between}
+use Rattle.substitution.specs.Plane.{twice_squared_length, Keeps, IsGrowthFactor}
 
 -- an edge turned round crosses the other way
 abbrev pub AntisymmetryLaw : Order → Type 0

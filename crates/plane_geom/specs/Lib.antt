@@ -1,11 +1,2 @@
-pub mod Plane
-pub mod Crossing
-pub mod Triangle
-pub mod Segment
-pub mod Box
-pub mod BoxTest
-pub mod Close
-pub mod Points
 pub mod Laws
 pub mod Measured
-pub mod Views

@@ -2,9 +2,9 @@
 
 ghost use Rattle.std.specs.Prelude.{◌≡◌, ◌≤◌, ◌^◌, length, All};
 ghost use Rattle.cyclo_points.specs.Point.{IsWithin};
-ghost use Rattle.plane_geom.specs.Crossing.{count, member};
-ghost use Rattle.plane_geom.specs.Laws.{reals_of};
-ghost use Rattle.plane_geom.specs.Views.{places_of, test_of};
+ghost use Rattle.ordered_ring.specs.Crossing.{count, member};
+ghost use Rattle.cyclo_points.specs.Places.{reals_of};
+ghost use Rattle.cyclo_points.specs.Places.{places_of, test_of};
 
 use crate::sides::crossing;
 use cyclo_points::order::Order;

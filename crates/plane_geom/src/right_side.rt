@@ -1,7 +1,8 @@
 //! The law of test points close to an edge, for the points of each order.
 
 ghost use Rattle.cyclo_points.specs.Order.{points_of};
-ghost use Rattle.plane_geom.specs.Close.{PointsRight, PointsRightOfEdges};
+ghost use Rattle.ordered_ring.specs.Close.{PointsRight};
+ghost use Rattle.substitution.specs.Plane.{PointsRightOfEdges};
 
 use cyclo_points::order::Order;
 use cyclo_points::points_law;

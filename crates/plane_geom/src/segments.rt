@@ -4,11 +4,11 @@ ghost use Rattle.std.specs.Prelude.{◌≡◌, ◌^◌};
 ghost use Rattle.cyclo_points.specs.Order.{points_of};
 ghost use Rattle.cyclo_points.specs.Point.{point_in, IsWithin};
 ghost use Rattle.cyclo_points.specs.Real.{real_in, IsRealWithin};
-ghost use Rattle.plane_geom.specs.Plane.{at_most};
-ghost use Rattle.plane_geom.specs.Segment.{between, on_segment, same_place, along};
-ghost use Rattle.plane_geom.specs.Points.{twice_squared_length, same_length};
-ghost use Rattle.plane_geom.specs.Laws.{reals_of};
-ghost use Rattle.plane_geom.specs.Views.{place_of};
+ghost use Rattle.ordered_ring.specs.Plane.{at_most};
+ghost use Rattle.ordered_ring.specs.Segment.{between, on_segment, same_place, along};
+ghost use Rattle.substitution.specs.Plane.{twice_squared_length, same_length};
+ghost use Rattle.cyclo_points.specs.Places.{reals_of};
+ghost use Rattle.cyclo_points.specs.Places.{place_of};
 
 use crate::sides::{side, x_gap, y_gap};
 use cyclo_points::coordinates::{conj, x, y};

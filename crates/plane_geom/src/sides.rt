@@ -4,10 +4,10 @@ ghost use Rattle.std.specs.Prelude.{◌≡◌, ◌^◌, not};
 ghost use Rattle.ordered_ring.specs.Ring.{difference};
 ghost use Rattle.cyclo_points.specs.Point.{Within, IsWithin};
 ghost use Rattle.cyclo_points.specs.Real.{real_in, IsRealWithin};
-ghost use Rattle.plane_geom.specs.Plane.{orientation, less};
-ghost use Rattle.plane_geom.specs.Crossing.{crossing, crossing_of};
-ghost use Rattle.plane_geom.specs.Laws.{reals_of};
-ghost use Rattle.plane_geom.specs.Views.{place_of, test_of};
+ghost use Rattle.ordered_ring.specs.Plane.{orientation, less};
+ghost use Rattle.ordered_ring.specs.Crossing.{crossing, crossing_of};
+ghost use Rattle.cyclo_points.specs.Places.{reals_of};
+ghost use Rattle.cyclo_points.specs.Places.{place_of, test_of};
 
 use cyclo_points::coordinates::{x, y};
 use cyclo_points::order::Order;

@@ -2,9 +2,9 @@
 
 ghost use Rattle.std.specs.Prelude.{◌≡◌, ◌^◌, All};
 ghost use Rattle.cyclo_points.specs.Point.{IsWithin};
-ghost use Rattle.plane_geom.specs.Triangle.{right_of, beyond, beyond_an_edge, separated};
-ghost use Rattle.plane_geom.specs.Laws.{reals_of};
-ghost use Rattle.plane_geom.specs.Views.{place_of, triangle_of};
+ghost use Rattle.ordered_ring.specs.Triangle.{right_of, beyond, beyond_an_edge, separated};
+ghost use Rattle.cyclo_points.specs.Places.{reals_of};
+ghost use Rattle.cyclo_points.specs.Places.{place_of, triangle_of};
 
 use crate::sides::side;
 use cyclo_points::order::Order;

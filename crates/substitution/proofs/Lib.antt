@@ -9,3 +9,6 @@ pub mod Lying
 pub mod Meeting
 pub mod Touching
 pub mod CoherenceTests
+pub mod Lengths
+pub mod Keeping
+pub mod RightSide

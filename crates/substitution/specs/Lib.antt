@@ -1,4 +1,5 @@
 pub mod Points
+pub mod Plane
 pub mod Motion
 pub mod Address
 pub mod Rule

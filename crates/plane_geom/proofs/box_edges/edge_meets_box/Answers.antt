@@ -1,5 +1,5 @@
 use Rattle.cyclo_points.specs.Order.{points_of}
-use Rattle.plane_geom.proofs.BoxMeets.{exact-by_offsets}
+use Rattle.ordered_ring.proofs.BoxMeets.{exact-by_offsets}
 use Rattle.plane_geom.proofs.box_edges.edge_meets_box.Goals as goal
 
 pub returns : goal.returns
@@ -8,7 +8,7 @@ returns c =
     let w = c.points_law.ensures in
     record {
       exact = exact-by_offsets (points_of o).real w.of_real w.of_order c.divisors_law.ensures _ _ _ _ _ _ _
-          c.offset_x-start_x.ensures.offset c.offset_x-end_x.ensures.offset c.offset_y-start_y.ensures.offset c.offset_y-end_y.ensures.offset
+          c.x_gap-start_x.ensures.value c.x_gap-end_x.ensures.value c.y_gap-start_y.ensures.value c.y_gap-end_y.ensures.value
           _ _ _ _ c.below-below_x.ensures.depths c.above-above_x.ensures.depths c.below-below_y.ensures.depths c.above-above_y.ensures.depths
           c.meets_four.result c.meets_four.ensures;
     }

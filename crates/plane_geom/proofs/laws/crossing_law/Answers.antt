@@ -1,6 +1,6 @@
-use Rattle.plane_geom.specs.Laws.{reals_of}
-use Rattle.plane_geom.proofs.Crossing.{crossing-turned, crossing-parts}
-use Rattle.plane_geom.proofs.OnSegment.{between-on_segment}
+use Rattle.cyclo_points.specs.Places.{reals_of}
+use Rattle.ordered_ring.proofs.Crossing.{crossing-turned, crossing-parts}
+use Rattle.ordered_ring.proofs.OnSegment.{between-on_segment}
 use Rattle.plane_geom.proofs.laws.crossing_law.Goals as goal
 
 pub returns-clause-antisymmetric : goal.returns-clause-antisymmetric

@@ -1,5 +1,5 @@
 use Rattle.cyclo_points.specs.Order.{points_of}
-use Rattle.plane_geom.proofs.Keeping.{factor-keeps, powers-keep}
+use Rattle.substitution.proofs.Keeping.{factor-keeps, powers-keep}
 use Rattle.plane_geom.proofs.laws.factor_law.Goals as goal
 
 pub returns-clause-keeps : goal.returns-clause-keeps

@@ -1,5 +1,5 @@
-use Rattle.plane_geom.specs.Laws.{reals_of}
-use Rattle.plane_geom.proofs.Fan.{count-fan}
+use Rattle.cyclo_points.specs.Places.{reals_of}
+use Rattle.ordered_ring.proofs.Fan.{count-fan}
 use Rattle.plane_geom.proofs.laws.fan_law.Goals as goal
 
 pub returns : goal.returns

@@ -1,15 +1,12 @@
-use Rattle.std.proofs.Common.{◌≡◌, ◌^◌, ℤ, ◌+ℤ◌, [], arith, slice_index_or, w8, w32, to_z, of_z}
+use Rattle.std.proofs.Common.{◌≡◌, ◌^◌, ℤ, ◌+ℤ◌, arith, slice_index_or, w8, w32, to_z, of_z}
 use Rattle.std.proofs.lemmas.Int.{ints}
 use Rattle.std.proofs.lemmas.List.Elements.{All-get_or}
-use Rattle.cyclo_points.specs.declared.point.Point.{Point}
 use Rattle.cyclo_points.specs.Point.{IsWithin}
-use Rattle.plane_geom.specs.Laws.{reals_of}
-use Rattle.plane_geom.specs.Views.{place_of, test_of}
-use Rattle.plane_geom.proofs.Rounds.{count-begun, count-next, count-ended}
+use Rattle.cyclo_points.specs.Places.{reals_of}
+use Rattle.cyclo_points.specs.Places.{place_of, test_of}
+use Rattle.cyclo_points.proofs.Places.{nowhere}
+use Rattle.ordered_ring.proofs.Rounds.{count-begun, count-next, count-ended}
 use Rattle.plane_geom.proofs.polygons.count.Goals as goal
-
-nowhere : Point
-nowhere = record { c = [] }
 
 pub bounds-poly-0 : goal.bounds-poly-0
 bounds-poly-0 c = let n = c.requires.at_least_three in omega arith

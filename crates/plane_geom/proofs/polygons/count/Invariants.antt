@@ -1,8 +1,8 @@
 use Rattle.std.proofs.Common.{◌≡◌, ◌^◌, ◌+ℤ◌, drop}
 use Rattle.cyclo_points.specs.Point.{Within, IsWithin}
-use Rattle.plane_geom.specs.Crossing.{count_from, count}
-use Rattle.plane_geom.specs.Laws.{reals_of}
-use Rattle.plane_geom.specs.Views.{place_of, places_of, test_of}
+use Rattle.ordered_ring.specs.Crossing.{count_from, count}
+use Rattle.cyclo_points.specs.Places.{reals_of}
+use Rattle.cyclo_points.specs.Places.{place_of, places_of, test_of}
 use Rattle.plane_geom.proofs.polygons.count.Given as goal
 
 -- what is counted, and the count of what is left, make up the whole

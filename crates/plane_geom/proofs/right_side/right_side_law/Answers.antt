@@ -1,5 +1,6 @@
 use Rattle.cyclo_points.specs.Order.{points_of}
-use Rattle.plane_geom.proofs.Close.{points_right, points_right-edges}
+use Rattle.ordered_ring.proofs.Close.{points_right}
+use Rattle.substitution.proofs.RightSide.{points_right-edges}
 use Rattle.plane_geom.proofs.right_side.right_side_law.Goals as goal
 
 pub returns-clause-in_the_plane : goal.returns-clause-in_the_plane

@@ -2,12 +2,12 @@ use Rattle.std.proofs.Common.{◌≡◌, sym, ap, ap₂, ◌∙◌, not, arith}
 use Rattle.std.proofs.lemmas.Int.{ints}
 use mir.Val.{to_z, of_z}
 use Rattle.std.specs.Int.{w8}
-use Rattle.plane_geom.specs.Crossing.{crossing_of}
-use Rattle.plane_geom.specs.Laws.{reals_of}
-use Rattle.plane_geom.specs.Views.{place_of}
+use Rattle.ordered_ring.specs.Crossing.{crossing_of}
+use Rattle.cyclo_points.specs.Places.{reals_of}
+use Rattle.cyclo_points.specs.Places.{place_of}
 use Rattle.plane_geom.proofs.OrderLaws.{reals_ring}
-use Rattle.plane_geom.proofs.Booleans.{same_tests, other_tests}
-use Rattle.plane_geom.proofs.Heights.{crossing-level, crossing-directed}
+use Rattle.ordered_ring.proofs.Booleans.{same_tests, other_tests}
+use Rattle.ordered_ring.proofs.Heights.{crossing-level, crossing-directed}
 use Rattle.plane_geom.proofs.sides.crossing.Goals as goal
 
 pub returns-then-starts_above-ends_above-clause-value : goal.returns-then-starts_above-ends_above-clause-value

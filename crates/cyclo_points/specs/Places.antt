@@ -1,13 +1,23 @@
--- What the program's points stand for in the plane.
+-- Where the program's points lie in the plane.
 use Rattle.std.specs.Prelude.{List, map}
+use Rattle.ordered_ring.specs.Sign.{Signed}
+use Rattle.ordered_ring.specs.Plane.{PlanePoint, TestPoint, test_point}
+use Rattle.ordered_ring.specs.Triangle.{Triangle, triangle_at}
+use Rattle.substitution.specs.Plane.{plane_point}
 use Rattle.cyclo_points.specs.declared.order.Order.{Order}
 use Rattle.cyclo_points.specs.declared.point.Point.{Point}
 use Rattle.cyclo_points.specs.Order.{points_of}
 use Rattle.cyclo_points.specs.Point.{point_in}
-use Rattle.plane_geom.specs.Plane.{test_point}
-use Rattle.plane_geom.specs.Triangle.{Triangle, triangle_at}
-use Rattle.plane_geom.specs.Points.{plane_point}
-use Rattle.plane_geom.specs.Laws.{reals_of, PlanePointOf, TestPointOf}
+
+-- the ordered ring of an order's coordinates
+abbrev pub reals_of : Order → Signed
+reals_of o = (points_of o).real
+
+abbrev pub PlanePointOf : Order → Type 0
+PlanePointOf o = PlanePoint (reals_of o).ops.carrier
+
+abbrev pub TestPointOf : Order → Type 0
+TestPointOf o = TestPoint (reals_of o).ops.carrier
 
 -- where a point lies
 abbrev pub place_of : (o : Order) → Point → PlanePointOf o

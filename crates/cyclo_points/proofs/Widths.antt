@@ -1,10 +1,13 @@
--- What is at most one number in absolute value is at most each greater one.
-use Rattle.std.proofs.Common.{ℕ, ◌≤◌, ℤ, arith}
+-- What is at most one number in absolute value is at most each greater one; and whole numbers among the reals.
+use Rattle.std.proofs.Common.{◌≡◌, ℕ, ◌≤◌, ℤ, pos, arith}
 use Rattle.std.proofs.lemmas.Int.{ints}
 use Rattle.cyclo_points.specs.declared.point.Point.{Point}
 use Rattle.cyclo_points.specs.declared.real.Real.{Real}
+use Rattle.cyclo_points.specs.declared.order.Order.{Order}
+use Rattle.cyclo_points.specs.declared.order.Order.TheVariants.{Four, Eight, Ten}
+use Rattle.cyclo_points.specs.Order.{points_of}
 use Rattle.cyclo_points.specs.Point.{Within, IsWithin}
-use Rattle.cyclo_points.specs.Real.{IsRealWithin}
+use Rattle.cyclo_points.specs.Real.{real_in, IsRealWithin}
 
 wider : (m n : ℕ) (x : ℤ) → m ≤ n → Within m x → Within n x
 wider m n x h w = let a = w.low in let b = w.high in record { low = omega (arith, ints); high = omega (arith, ints) }
@@ -14,3 +17,9 @@ real_wider m n r h w = record { at_a = wider m n r.a h w.at_a; at_b = wider m n 
 
 pub point_wider : (m n : ℕ) (p : Point) → m ≤ n → IsWithin m p → IsWithin n p
 point_wider m n p h w = record { at_0 = wider m n _ h w.at_0; at_1 = wider m n _ h w.at_1; at_2 = wider m n _ h w.at_2; at_3 = wider m n _ h w.at_3 }
+
+-- a whole number of the program is one of the ring
+pub whole_is : (o : Order) (a : ℤ) (n : ℕ) → a ≡ pos n → real_in o (record { a = a; b = pos 0 }) ≡ (points_of o).real.ops.int (pos n)
+whole_is Four a n e = e
+whole_is Eight a n e = λ i. record { a = e i; b = pos 0 }
+whole_is Ten a n e = λ i. record { a = e i; b = pos 0 }

@@ -1,13 +1,20 @@
--- The points of an order in the plane: their coordinates, squared lengths, and the maps that keep left turns, segments and equal lengths.
-use Rattle.std.specs.Prelude.{◌≡◌, pos, Bool}
+-- The points of an order in the plane: where they lie, boxes round them, squared lengths, test points right of an edge, and the maps that keep left
+-- turns, segments and equal lengths.
+use Rattle.std.specs.Prelude.{◌≡◌, ℕ, pos, ◌<◌, Bool}
 use Rattle.std.specs.Ordering.{is_eq}
 use Rattle.ordered_ring.specs.Ring.{difference}
 use Rattle.substitution.specs.Points.{Points}
-use Rattle.plane_geom.specs.Plane.{IsPositive, PlanePoint, orientation}
-use Rattle.plane_geom.specs.Segment.{on_segment}
+use Rattle.ordered_ring.specs.Plane.{IsPositive, PlanePoint, orientation}
+use Rattle.ordered_ring.specs.Segment.{on_segment}
+use Rattle.ordered_ring.specs.Box.{OpenBox}
+use Rattle.ordered_ring.specs.Close.{HasPointRight}
 
 abbrev pub plane_point : (P : Points) → P.ring.carrier → PlanePoint P.real.ops.carrier
 plane_point P z = record { x = P.x z; y = P.y z }
+
+-- the box round a point of an order
+abbrev pub box_at : (P : Points) → P.ring.carrier → ℕ → ℕ → OpenBox P.real.ops.carrier
+box_at P centre w h = record { centre = plane_point P centre; w = w; h = h }
 
 -- X of z times its conjugate, which is twice the squared length |z|²
 abbrev pub twice_squared_length : (P : Points) → P.ring.carrier → P.real.ops.carrier
@@ -30,3 +37,7 @@ pub record Keeps (P : Points) (f : P.ring.carrier → P.ring.carrier) : Type 0 w
 pub record IsGrowthFactor (P : Points) (l : P.ring.carrier) : Type 0 where
   pub is_real : P.conj l ≡ l
   pub above_one : IsPositive P.real (difference P.real.ops (P.x l) (P.real.ops.int (pos 2)))
+
+-- every edge between two different points has test points strictly right of it, as close to its middle as one likes
+abbrev pub PointsRightOfEdges : Points → Type 0
+PointsRightOfEdges P = (a b : P.ring.carrier) → (¬ a ≡ b) → (n : ℕ) → 0 < n → HasPointRight P.real (plane_point P a) (plane_point P b) n
