@@ -12,4 +12,17 @@ pub mod SameTests
 pub mod CoherenceTest
 pub mod Trace
 pub mod Touch
+pub mod Search
+pub mod RuleParts
+pub mod Limits
+pub mod Limited
+pub mod Star
+pub mod Factor
+pub mod EdgeTypes
+pub mod Edges
+pub mod Lying
+pub mod Boundary
+pub mod Uses
+pub mod Contacts
+pub mod Dissection
 pub mod Chair
