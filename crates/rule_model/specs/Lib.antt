@@ -1,0 +1,4 @@
+pub mod Views
+pub mod Small
+pub mod Accepted
+pub mod Usable
