@@ -11,7 +11,7 @@ vertex-requires-clause-kind_in c = subst (λ n. c.args.kind < n) (kind_count-in 
 pub vertex-requires-clause-i_in : goal.vertex-requires-clause-i_in
 vertex-requires-clause-i_in c =
     let r = c.args.self.now in
-    let each = c.requires.usable.vertex_each c.args.kind c.requires.kind_in in
+    let each = c.requires.usable.numbered.vertex_each c.args.kind c.requires.kind_in in
     let listed = vertex_count-in r.order r c.args.kind in
     subst (λ n. c.args.i < n) (sym each ∙ listed) c.requires.i_in
 

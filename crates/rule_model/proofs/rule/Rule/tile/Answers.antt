@@ -22,10 +22,10 @@ pub returns-clause-turn_below : goal.returns-clause-turn_below
 returns-clause-turn_below c =
     let o = c.args.self.now.order in
     subst (λ n. n < (points_of o).order) (sym (ap (λ (x : TheChild (NumberOf o)). x.motion.turn) (c.child.ensures.numbers o)))
-    (c.requires.usable.turn_below c.args.kind c.args.i c.requires.kind_in c.requires.i_in)
+    (c.requires.usable.numbered.turn_below c.args.kind c.args.i c.requires.kind_in c.requires.i_in)
 
 pub returns-clause-kind_exists : goal.returns-clause-kind_exists
 returns-clause-kind_exists c =
     let o = c.args.self.now.order in
     subst (λ n. n < length (rule_of c.args.self.now).kinds) (sym (ap (λ (x : TheChild (NumberOf o)). x.kind) (c.child.ensures.numbers o)))
-    (c.requires.usable.child_exists c.args.kind c.args.i c.requires.kind_in c.requires.i_in)
+    (c.requires.usable.numbered.child_exists c.args.kind c.args.i c.requires.kind_in c.requires.i_in)
