@@ -1,0 +1,3 @@
+pub mod FirstFault
+pub mod Agrees
+pub mod Views

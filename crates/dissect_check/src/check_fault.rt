@@ -1,0 +1,63 @@
+use crate::what::What;
+use std::alloc::{AllocError, AllocFailed};
+use tile_shape::no_memory::NoMemory;
+
+/// Why a rule is refused: the first clause that fails, at its first place.
+#[derive(Clone, Copy, Debug, PartialEq, Eq)]
+pub enum CheckFault {
+    /// A count or a number passes a limit.
+    TooMany { what: What },
+    /// The prototile isn't star-shaped from its vertex 0.
+    NotStar { kind: u8 },
+    /// The inflation factor isn't real and greater than 1, or it grows too slowly.
+    WrongFactor,
+    /// The mate's mate isn't the type.
+    BadMate { ty: u8 },
+    /// The edge isn't as long as the first edge of its type or its mate.
+    BadLength { kind: u8, edge: u8 },
+    /// The mate's subdivision isn't the type's mirrored.
+    BadSubdivision { ty: u8 },
+    /// The child edge neither meets another one of the mate type nor lies on the boundary.
+    ChildEdgeLoose { kind: u8, child: u8, edge: u8 },
+    /// The boundary child edges of the inflated edge aren't its parts, from this part on.
+    BoundaryWrong { kind: u8, edge: u8, part: u8 },
+    /// No child is of the kind.
+    Unused { kind: u8 },
+    /// The glue type doesn't glue two halves.
+    GlueWrong { ty: u8 },
+    /// There was no memory for the check.
+    NoMemory,
+}
+
+impl From<AllocError> for CheckFault {
+    ghost use Rattle.std.specs.Prelude.{◌≡◌};
+    ghost use Rattle.dissect_check.specs.declared.check_fault.CheckFault.TheVariants.{NoMemory};
+
+    ghost from_gives = { λ _ fault. fault ≡ NoMemory };
+
+    fn from(_error: AllocError) -> CheckFault {
+        CheckFault::NoMemory
+    }
+}
+
+impl From<NoMemory> for CheckFault {
+    ghost use Rattle.std.specs.Prelude.{◌≡◌};
+    ghost use Rattle.dissect_check.specs.declared.check_fault.CheckFault.TheVariants.{NoMemory};
+
+    ghost from_gives = { λ _ fault. fault ≡ NoMemory };
+
+    fn from(_error: NoMemory) -> CheckFault {
+        CheckFault::NoMemory
+    }
+}
+
+impl<T: Drop> From<AllocFailed<T>> for CheckFault {
+    ghost use Rattle.std.specs.Prelude.{◌≡◌};
+    ghost use Rattle.dissect_check.specs.declared.check_fault.CheckFault.TheVariants.{NoMemory};
+
+    ghost from_gives = { λ _ fault. fault ≡ NoMemory };
+
+    fn from(_error: AllocFailed<T>) -> CheckFault {
+        CheckFault::NoMemory
+    }
+}

@@ -1,0 +1,15 @@
+//! The check of a substitution rule: that its children dissect its inflated prototiles edge to edge.
+//!
+//! A rule is accepted exactly where ten clauses hold, on its limits, its prototiles, its factor, its
+//! edge types, its child edges, its boundaries, its uses and its glue types (Grünbaum and Shephard,
+//! Tilings and Patterns, chapter 10). None of them names an area, an overlap or a depth beyond one.
+//! `check` answers the accepted rule with its contact tables, or the fault of the first clause that
+//! fails, at its first place.
+#![tactic(auto)]
+
+pub mod check_fault;
+mod inflated;
+mod lie;
+mod line;
+mod placed_edge;
+pub mod what;

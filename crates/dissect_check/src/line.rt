@@ -1,0 +1,8 @@
+use cyclo_points::point::Point;
+
+/// A directed edge, from one point to another.
+#[derive(Clone, Copy, Debug)]
+pub(crate) struct Line {
+    pub from: Point,
+    pub to: Point,
+}
