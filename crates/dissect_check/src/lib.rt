@@ -11,5 +11,8 @@ pub mod check_fault;
 mod inflated;
 mod lie;
 mod line;
+mod mates;
 mod placed_edge;
+mod subdivisions;
+mod uses;
 pub mod what;
