@@ -8,8 +8,10 @@
 #![tactic(auto)]
 
 pub mod check_fault;
+mod fits;
 mod inflated;
 mod lie;
+mod limits;
 mod line;
 mod mates;
 mod placed_edge;
