@@ -1,3 +1,4 @@
 pub mod Search
 pub mod Mirrored
 pub mod Tests
+pub mod SamePoint

@@ -17,4 +17,5 @@ mod mates;
 mod placed_edge;
 mod subdivisions;
 mod uses;
+mod same_point;
 pub mod what;
