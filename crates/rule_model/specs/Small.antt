@@ -1,5 +1,5 @@
 -- Which points a rule may have.
-use Rattle.std.specs.Prelude.{ℕ, pos, ℤ, Bool, true, not, ◌&&◌, ◌||◌, nat_lt, nat_abs}
+use Rattle.std.specs.Prelude.{ℕ, pos, Bool, true, not, ◌&&◌, ◌||◌, nat_lt, nat_abs}
 use Rattle.std.specs.Ordering.{int_eq}
 use Rattle.cyclo_points.specs.declared.order.Order.{Order}
 use Rattle.cyclo_points.specs.declared.order.Order.TheVariants.{Four, Eight, Ten}

@@ -1,4 +1,3 @@
-use Rattle.std.proofs.Common.{◌≡◌}
 use Rattle.rule_model.specs.Usable.{no_child}
 use Rattle.rule_model.proofs.Views.{child-in}
 use Rattle.rule_model.proofs.rule.Rule.child.Goals as goal

@@ -1,7 +1,5 @@
-use Rattle.std.proofs.Common.{◌≡◌, ◌<◌, length, sym, ◌∙◌, subst, arith}
-use Rattle.substitution.specs.RuleParts.{vertices_of, edge_count}
+use Rattle.std.proofs.Common.{◌<◌, sym, ◌∙◌, subst}
 use Rattle.rule_model.specs.Usable.{IsSmall, origin}
-use Rattle.rule_model.specs.Views.{as_rule}
 use Rattle.rule_model.proofs.Views.{kind_count-in, vertex_count-in}
 use Rattle.rule_model.proofs.rule.Rule.corner.Goals as goal
 

@@ -1,4 +1,4 @@
-use Rattle.std.proofs.Common.{◌≡◌, sym, ap, ◌∙◌}
+use Rattle.std.proofs.Common.{sym, ap, ◌∙◌}
 use Rattle.substitution.specs.RuleParts.{map_kind}
 use Rattle.cyclo_points.specs.Point.{point_in}
 use Rattle.rule_model.specs.Views.{as_rule}

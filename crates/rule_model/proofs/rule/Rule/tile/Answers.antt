@@ -1,9 +1,9 @@
-use Rattle.std.proofs.Common.{◌≡◌, ◌<◌, length, sym, ap, ◌∙◌, subst, arith}
-use Rattle.substitution.specs.Rule.{children_of, Child as TheChild}
+use Rattle.std.proofs.Common.{◌<◌, length, sym, ap, subst}
+use Rattle.substitution.specs.Rule.{Child as TheChild}
 use Rattle.cyclo_points.specs.declared.point.Point.{Point}
 use Rattle.cyclo_points.specs.Order.{points_of, NumberOf}
 use Rattle.rule_model.specs.Usable.{IsSmall, no_child}
-use Rattle.rule_model.specs.Views.{as_rule, rule_of}
+use Rattle.rule_model.specs.Views.{rule_of}
 use Rattle.rule_model.proofs.Views.{kind_count-in, child_count-in}
 use Rattle.rule_model.proofs.rule.Rule.tile.Goals as goal
 
