@@ -1,10 +1,11 @@
 -- What the limits of a rule say, as facts.
-use Rattle.std.proofs.Common.{◌≡◌, ℕ, zero, suc, ℤ, pos, neg_ℤ, ◌≤ℤ◌, ◌<◌, ◌≤◌, Bool, true, false, not, ◌&&◌, ◌||◌, List, [], ◌∷◌, length, get_or, nat_abs, sym, ap, ◌∙◌, subst, arith}
+use Rattle.std.proofs.Common.{◌≡◌, ℕ, zero, suc, ℤ, pos, neg_ℤ, ◌≤ℤ◌, ◌<◌, ◌≤◌, Bool, true, false, not, ◌&&◌, ◌||◌, List, [], ◌∷◌, length, get_or, All, nat_abs, sym, ap, ◌∙◌, subst, arith}
 use Rattle.std.specs.Prelude.{nat_lt, nat_le, nat_eq}
 use Rattle.std.specs.Ordering.{int_eq}
 use Rattle.std.specs.List.{list_all}
 use Rattle.std.proofs.lemmas.Int.{ints}
 use Rattle.std.proofs.lemmas.List as lists
+use Rattle.std.proofs.lemmas.List.{get_or_default}
 use Rattle.std.proofs.lemmas.Bool.Decides.{Decides-int_eq}
 use Rattle.std.proofs.lemmas.Bool.{and_parts, or_parts, not-true, ltb-true, ltb-false, leb-true, eqb-true}
 use Rattle.substitution.specs.Rule.{Kind, Child as TheChild, children_of}
@@ -165,3 +166,10 @@ module _ (r : Rule) (limits : WithinLimits (points_of r.order).order (is_small r
         (passes_at (is_small r.order) (vertices_of (as_rule r) k) i origin (limits.vertices k (kind_in k l)) (vertex_in k i l m));
     shift_small = λ k c l m. small r.order (listed_child r k c).motion.shift (fits k c l m).shift;
   }
+
+-- the vertices of a kind are small
+pub vertices_small : (r : Rule) (k : ℕ) (vs : List Point) → IsUsable r → k < length (rule_of r).kinds → vs ≡ vertices_of (as_rule r) k → All (IsSmall r.order) vs
+vertices_small r k vs is_usable l same i d m =
+    let listed : length vs ≡ edge_count (rule_of r) k = ap length same ∙ sym (vertex_count-in r.order r k) ∙ is_usable.numbered.vertex_each k l in
+    subst (IsSmall r.order) (ap (λ (ps : List Point). get_or ps i origin) (sym same) ∙ get_or_default vs i origin d m)
+    (is_usable.vertex_small k i l (omega (arith, m, listed)))

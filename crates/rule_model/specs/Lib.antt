@@ -2,3 +2,5 @@ pub mod Views
 pub mod Small
 pub mod Accepted
 pub mod Usable
+pub mod Glue
+pub mod Checked

@@ -1,5 +1,5 @@
 //! The numbers of a rule by their places, as lists have them and over the numbers of each order.
-ghost use Rattle.std.specs.Prelude.{◌≡◌, ◌<◌, length, get_or};
+ghost use Rattle.std.specs.Prelude.{◌≡◌, ◌<◌, length, map, get_or};
 ghost use Rattle.substitution.specs.Rule.{Child as TheChild, kind_of, children_of};
 ghost use Rattle.substitution.specs.RuleParts.{map_kind, mate, parts, vertices_of, edge_types, edge_count, edge_type, vertex, child_of};
 ghost use Rattle.substitution.specs.Uses.{glue_type};
@@ -120,6 +120,15 @@ impl Rule {
         ensures numbers { (o : Order) → result ≡ length (vertices_of (rule_in o self.now) kind) }
     {
         self.row(kind).vertices.len()
+    }
+
+    /// The vertices of a kind.
+    pub fn vertices(&self, kind: usize) -> &[Point]
+        requires { kind < length (as_rule self.now).kinds }
+        ensures lists { result.now ≡ vertices_of (as_rule self.now) kind }
+        ensures numbers { (o : Order) → map (point_in o) result.now ≡ vertices_of (rule_in o self.now) kind }
+    {
+        self.row(kind).vertices.as_slice()
     }
 
     /// A vertex of a kind.

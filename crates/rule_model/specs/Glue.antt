@@ -1,0 +1,20 @@
+-- The edge along which a half of a tile is glued to the other half.
+use Rattle.std.specs.Prelude.{◌≡◌, ℕ, ◌<◌, Bool, true, ◌||◌, length, nat_eq}
+use Rattle.substitution.specs.Rule.{Rule}
+use Rattle.substitution.specs.RuleParts.{mate, edge_count, edge_type}
+use Rattle.substitution.specs.Search.{some_below}
+use Rattle.substitution.specs.Uses.{glue_type}
+
+-- the type is a glue type or the mate of one
+abbrev pub is_glued : {A : Type 0} → Rule A → ℕ → Bool
+is_glued r ty = some_below (length r.glue) (λ i. nat_eq ty (glue_type r i) || nat_eq ty (mate r (glue_type r i)))
+
+-- edge number e of kind k has such a type
+pub record IsGlueEdge {A : Type 0} (r : Rule A) (k e : ℕ) : Type 0 where
+  pub exists : e < edge_count r k
+  pub glued : is_glued r (edge_type r k e) ≡ true
+
+-- and no other edge of the kind has
+pub record IsOnlyGlueEdge {A : Type 0} (r : Rule A) (k e : ℕ) : Type 0 where
+  pub glue_edge : IsGlueEdge r k e
+  pub only : (f : ℕ) → IsGlueEdge r k f → f ≡ e

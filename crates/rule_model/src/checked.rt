@@ -1,0 +1,124 @@
+//! Rules that are known to be dissections.
+ghost use Rattle.std.specs.Prelude.{◌≡◌, ◌↔◌, ℕ, ◌<◌, length, map, All, None, IfSome};
+ghost use Rattle.substitution.specs.Rule.{children_of};
+ghost use Rattle.substitution.specs.RuleParts.{vertices_of, edge_count, child_of};
+ghost use Rattle.cyclo_points.specs.Order.{points_of};
+ghost use Rattle.cyclo_points.specs.Point.{point_in};
+ghost use Rattle.rule_model.specs.Accepted.{IsAccepted};
+ghost use Rattle.rule_model.specs.Checked.{contacts_of, uses_of};
+ghost use Rattle.rule_model.specs.Glue.{IsGlueEdge, IsOnlyGlueEdge};
+ghost use Rattle.rule_model.specs.Usable.{IsSmall, IsUsable};
+ghost use Rattle.rule_model.specs.Views.{as_rule, rule_of, child_in};
+
+use crate::child::Child;
+use crate::rule::Rule;
+use cyclo_points::order::Order;
+use cyclo_points::point::Point;
+use edge_tables::tables::Tables;
+use std::marker::Model;
+use tile_shape::uses::Uses;
+
+/// A rule for which the ten clauses hold, with its contact tables and its uses. Contracts see it as the
+/// rule, which determines both.
+#[derive(Drop)]
+pub struct Checked {
+    rule: Rule,
+    tables: Tables,
+    uses: Uses,
+}
+
+impl Model for Checked {
+    ghost use Rattle.rule_model.specs.declared.rule.Rule.{Rule};
+    ghost use Rattle.rule_model.specs.Checked.{IsChecked};
+
+    ghost Value = { Rule };
+
+    ghost view = { λ c. c.rule };
+
+    ghost invariant = { λ c. IsChecked c.rule c.tables c.uses };
+}
+
+impl Checked {
+    /// The rule, which is accepted, with the contact tables that its geometry gives and with its uses.
+    pub fn admit(rule: Rule, tables: Tables, uses: Uses) -> Checked
+        requires accepted { IsAccepted rule }
+        requires its_tables { tables ≡ contacts_of rule }
+        requires its_uses { uses ≡ uses_of rule }
+        ensures { result ≡ rule }
+    {
+        Checked { rule, tables, uses }
+    }
+
+    /// The rule. All ten clauses hold, so its numbers may be read.
+    pub fn rule(&self) -> &Rule
+        ensures rule { result.now ≡ self.now }
+        ensures accepted { IsAccepted self.now }
+        ensures usable { IsUsable self.now }
+    {
+        &self.rule
+    }
+
+    /// Its order.
+    pub fn order(&self) -> Order
+        ensures order { result ≡ self.now.order }
+        ensures accepted { IsAccepted self.now }
+    {
+        self.rule.order
+    }
+
+    /// Its inflation factor.
+    pub fn factor(&self) -> Point
+        ensures factor { result ≡ self.now.factor }
+        ensures small { IsSmall self.now.order result }
+    {
+        self.rule().factor
+    }
+
+    /// Its contact tables.
+    pub fn tables(&self) -> &Tables
+        ensures { result.now ≡ contacts_of self.now }
+    {
+        &self.tables
+    }
+
+    /// Its uses.
+    pub fn uses(&self) -> &Uses
+        ensures { result.now ≡ uses_of self.now }
+    {
+        &self.uses
+    }
+
+    /// The vertices of a kind's prototile, as many as edges.
+    pub fn vertices(&self, kind: u8) -> &[Point]
+        requires exists { kind < length (rule_of self.now).kinds }
+        ensures lists { result.now ≡ vertices_of (as_rule self.now) kind }
+        ensures numbers { map (point_in self.now.order) result.now ≡ vertices_of (rule_of self.now) kind }
+        ensures each_edge { length result.now ≡ edge_count (rule_of self.now) kind }
+        ensures small { All (IsSmall self.now.order) result.now }
+    {
+        self.rule().vertices(usize::from(kind))
+    }
+
+    /// A child of a kind.
+    pub fn child(&self, kind: u8, child: u8) -> Child
+        requires exists { kind < length (rule_of self.now).kinds }
+        requires child_exists { child < length (children_of (rule_of self.now) kind) }
+        ensures number { child_in self.now.order result
+            ≡ child_of (points_of self.now.order) (rule_of self.now) kind child }
+        ensures small { IsSmall self.now.order result.shift }
+        ensures turn_below { result.turn < (points_of self.now.order).order }
+        ensures kind_exists { result.kind < length (rule_of self.now).kinds }
+    {
+        self.rule().tile(usize::from(kind), usize::from(child))
+    }
+
+    /// The number of the edge along which a kind is glued to another: its only edge of a glue type or of
+    /// the mate of one.
+    pub fn glue_edge(&self, kind: u8) -> Option<u8>
+        requires exists { kind < length (rule_of self.now).kinds }
+        ensures none { (result ≡ None) ↔ ((e : ℕ) → ¬ IsGlueEdge (rule_of self.now) kind e) }
+        ensures only { IfSome result (λ e. IsOnlyGlueEdge (rule_of self.now) kind e) }
+    {
+        self.rule().first_glue_edge(usize::from(kind))
+    }
+}
