@@ -12,3 +12,6 @@ pub mod CoherenceTests
 pub mod Lengths
 pub mod Keeping
 pub mod RightSide
+pub mod Betweenness
+pub mod Filters
+pub mod CutParts
