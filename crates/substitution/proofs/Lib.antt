@@ -15,3 +15,9 @@ pub mod RightSide
 pub mod Betweenness
 pub mod Filters
 pub mod CutParts
+pub mod Ranges
+pub mod ChildEdges
+pub mod LieCases
+pub mod CutEdges
+pub mod TablesOf
+pub mod ContactCases
