@@ -4,6 +4,7 @@ use Rattle.std.specs.List.{list_any, list_all}
 use Rattle.std.proofs.lemmas.List.{take_all}
 use Rattle.std.proofs.lemmas.List.Folds.{list_any_more, list_all_more}
 use Rattle.substitution.specs.Search.{some_below}
+use Rattle.substitution.specs.SameTests.{all_below}
 use Rattle.dissect_check.proofs.Search.{below_or_at}
 
 or_true : (b : Bool) → b || true ≡ true
@@ -22,6 +23,23 @@ some_below-found p i (suc n) h l =
 -- one number more
 pub some_below-more : (p : ℕ → Bool) (n : ℕ) → some_below n p ≡ false → p n ≡ false → some_below (n + 1) p ≡ false
 some_below-more p n h k = ap (λ m. some_below m p) (add-one n) ∙ ap (λ b. b || p n) h ∙ k
+
+and_false : (b : Bool) → b && false ≡ false
+and_false true = refl
+and_false false = refl
+
+-- one number that fails
+pub all_below-stop : (p : ℕ → Bool) (i n : ℕ) → p i ≡ false → i < n → false ≡ all_below n p
+all_below-stop p i zero h l = absurd (omega arith)
+all_below-stop p i (suc n) h l =
+    elim (below_or_at i n l) [
+      | inl q ↦ sym (ap (λ b. p n && b) (sym (all_below-stop p i n h q)) ∙ and_false (p n))
+      | inr q ↦ sym (ap (λ b. b && all_below n p) (subst (λ j. p j ≡ false) q h))
+    ]
+
+-- one number more
+pub all_below-more : (p : ℕ → Bool) (n : ℕ) → all_below n p ≡ true → p n ≡ true → all_below (n + 1) p ≡ true
+all_below-more p n h k = ap (λ m. all_below m p) (add-one n) ∙ ap₂ ◌&&◌ k h
 
 module _ {X : Type 0} (p : X → Bool) (xs : List X) (i : ℕ) where
   -- none of the first i elements passes, nor does the next one; none of all

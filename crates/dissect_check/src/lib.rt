@@ -15,6 +15,7 @@ mod limits;
 mod line;
 mod mates;
 mod placed_edge;
+mod stars;
 mod subdivisions;
 mod uses;
 mod same_point;

@@ -1,0 +1,12 @@
+use Rattle.std.proofs.Common.{◌≡◌, true}
+use Rattle.ordered_ring.specs.Triangle.{turns_left}
+use Rattle.substitution.specs.RuleParts.{vertices_of}
+use Rattle.substitution.specs.SameTests.{all_below}
+use Rattle.substitution.specs.Star.{fan_triangle}
+use Rattle.cyclo_points.specs.Order.{points_of}
+use Rattle.cyclo_points.specs.Places.{reals_of}
+use Rattle.rule_model.specs.Views.{rule_of}
+use Rattle.dissect_check.proofs.stars.fan_turns_left.Given as goal
+
+abbrev pub invariant-loop-i : goal.invariant-loop-i
+invariant-loop-i l = all_below l.i (λ i. turns_left (reals_of l.rule.order) (fan_triangle (points_of l.rule.order) (vertices_of (rule_of l.rule) l.kind) i)) ≡ true
