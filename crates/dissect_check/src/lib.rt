@@ -9,6 +9,7 @@
 
 pub mod check_fault;
 mod fits;
+mod child_edges;
 mod inflated;
 mod lie;
 mod limits;
@@ -20,3 +21,4 @@ mod subdivisions;
 mod uses;
 mod same_point;
 pub mod what;
+mod wholes;
