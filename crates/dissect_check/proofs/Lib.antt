@@ -5,3 +5,5 @@ pub mod SamePoint
 pub mod FirstSome
 pub mod LimitsHold
 pub mod Accepted
+pub mod LieAmong
+pub mod WholeCount

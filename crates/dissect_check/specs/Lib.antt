@@ -1,3 +1,4 @@
 pub mod FirstFault
 pub mod Agrees
 pub mod Views
+pub mod Few

@@ -28,9 +28,9 @@ fn child_vertex(rule: &Rule, kind: usize, child: usize, i: usize) -> Point
     requires child_in { child < length (children_of (rule_of rule.now) kind) }
     requires i_in { i < edge_count (rule_of rule.now)
         (child_of (points_of rule.now.order) (rule_of rule.now) kind child).kind }
-    ensures value { let the_child = child_of (points_of rule.now.order) (rule_of rule.now) kind child in
-        point_in rule.now.order result ≡ moved (points_of rule.now.order) the_child.motion
-        (vertex (points_of rule.now.order) (rule_of rule.now) the_child.kind i) }
+    ensures value { let tile = child_of (points_of rule.now.order) (rule_of rule.now) kind child in
+        point_in rule.now.order result ≡ moved (points_of rule.now.order) tile.motion
+        (vertex (points_of rule.now.order) (rule_of rule.now) tile.kind i) }
     ensures within { IsWithin (2 ^ 16) result }
     ensures in_order { IsOf rule.now.order result }
 {

@@ -10,11 +10,14 @@
 pub mod check_fault;
 mod fits;
 mod child_edges;
+mod few;
 mod inflated;
+mod inflation;
 mod lie;
 mod limits;
 mod line;
 mod mates;
+mod lying;
 mod placed_edge;
 mod stars;
 mod subdivisions;

@@ -36,7 +36,8 @@ fn inflated_vertex(rule: &Rule, kind: usize, i: usize) -> Point
     requires usable { IsUsable rule.now }
     requires kind_in { kind < length (rule_of rule.now).kinds }
     requires i_in { i < edge_count (rule_of rule.now) kind }
-    ensures value { point_in rule.now.order result ≡ (points_of rule.now.order).ring.mul (vertex (points_of rule.now.order) (rule_of rule.now) kind i) (rule_of rule.now).factor }
+    ensures value { point_in rule.now.order result ≡ (points_of rule.now.order).ring.mul
+        (vertex (points_of rule.now.order) (rule_of rule.now) kind i) (rule_of rule.now).factor }
     ensures within { IsWithin (2 ^ 16) result }
     ensures in_order { IsOf rule.now.order result }
 {
@@ -48,7 +49,8 @@ fn inflated_edge(rule: &Rule, kind: usize, edge: usize) -> Line
     requires usable { IsUsable rule.now }
     requires kind_in { kind < length (rule_of rule.now).kinds }
     requires edge_in { edge < edge_count (rule_of rule.now) kind }
-    ensures value { line_in rule.now.order result ≡ inflated_edge (points_of rule.now.order) (rule_of rule.now) kind edge }
+    ensures value { line_in rule.now.order result
+        ≡ inflated_edge (points_of rule.now.order) (rule_of rule.now) kind edge }
     ensures small { IsSmallLine rule.now.order result }
 {
     Line {
