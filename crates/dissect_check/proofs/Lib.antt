@@ -7,3 +7,5 @@ pub mod LimitsHold
 pub mod Accepted
 pub mod LieAmong
 pub mod WholeCount
+pub mod Agreeing
+pub mod FirstLoose

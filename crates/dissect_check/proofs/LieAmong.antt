@@ -58,7 +58,7 @@ module _ (P : Points) (e : Edge P.ring.carrier) where
         ∙ ap (λ vs. few_of (numbers_along P 0 vs e)) (sym (map_more view ws i d l))
 
 -- ---- by the edges that run back, and the wholes
-filter_of_map : {A B : Type 0} (view : B → A) (test : A → Bool) (ts : List B) → filter test (map view ts) ≡ map view (filter (λ t. test (view t)) ts)
+pub filter_of_map : {A B : Type 0} (view : B → A) (test : A → Bool) (ts : List B) → filter test (map view ts) ≡ map view (filter (λ t. test (view t)) ts)
 filter_of_map view test [] = refl
 filter_of_map view test (t ∷ ts) = by_test (test (view t)) (filter_of_map view test ts)
   where

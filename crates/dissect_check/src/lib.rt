@@ -17,6 +17,7 @@ mod lie;
 mod limits;
 mod line;
 mod mates;
+mod loose;
 mod lying;
 mod placed_edge;
 mod stars;

@@ -1,0 +1,7 @@
+use Rattle.std.proofs.Common.{◌≡◌, None}
+use Rattle.substitution.specs.Search.{first_below}
+use Rattle.dissect_check.specs.FirstFault.{loose_of_kind}
+use Rattle.dissect_check.proofs.loose.loose_edges.Given as goal
+
+abbrev pub invariant-loop-kind : goal.invariant-loop-kind
+invariant-loop-kind l = first_below (loose_of_kind l.rule) l.kind ≡ None
