@@ -1,8 +1,8 @@
 -- Tests of each number below a bound and of each element of a list, as loops find them.
 use Rattle.std.proofs.Common.{◌≡◌, ℕ, zero, suc, ◌+◌, ◌<◌, ◌≤◌, Bool, true, false, ◌&&◌, ◌||◌, List, length, get_or, take, refl, sym, ap, ap₂, ◌∙◌, subst, arith, add-one, inl, inr}
-use Rattle.std.specs.List.{list_any, list_all}
+use Rattle.std.specs.List.{list_any}
 use Rattle.std.proofs.lemmas.List.{take_all}
-use Rattle.std.proofs.lemmas.List.Folds.{list_any_more, list_all_more}
+use Rattle.std.proofs.lemmas.List.Folds.{list_any_more}
 use Rattle.substitution.specs.Search.{some_below}
 use Rattle.substitution.specs.SameTests.{all_below}
 use Rattle.dissect_check.proofs.Search.{below_or_at}
@@ -48,10 +48,3 @@ module _ {X : Type 0} (p : X → Bool) (xs : List X) (i : ℕ) where
 
   pub list_any-end : length xs ≤ i → list_any p (take i xs) ≡ false → list_any p xs ≡ false
   list_any-end l h = sym (ap (list_any p) (take_all i xs l)) ∙ h
-
-  -- each of the first i elements passes, and so does the next one; each of all
-  pub list_all-step : (d : X) → i < length xs → list_all p (take i xs) ≡ true → p (get_or xs i d) ≡ true → list_all p (take (i + 1) xs) ≡ true
-  list_all-step d l h k = list_all_more p xs i d l ∙ ap₂ ◌&&◌ h k
-
-  pub list_all-end : length xs ≤ i → list_all p (take i xs) ≡ true → list_all p xs ≡ true
-  list_all-end l h = sym (ap (list_all p) (take_all i xs l)) ∙ h

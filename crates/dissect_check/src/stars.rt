@@ -1,4 +1,4 @@
-//! Prototiles that are star-shaped from vertex 0: the triangles of their fans lie side by side round it.
+//! Prototiles that are star-shaped from vertex 0: the triangles of their fans lie side by side.
 ghost use Rattle.std.specs.Prelude.{◌≡◌, ◌+◌, ◌^◌, ◌<◌, ◌≤◌, All, length};
 ghost use Rattle.ordered_ring.specs.Triangle.{turns_left};
 ghost use Rattle.substitution.specs.RuleParts.{vertices_of};
