@@ -9,3 +9,4 @@ pub mod LieAmong
 pub mod WholeCount
 pub mod Agreeing
 pub mod FirstLoose
+pub mod Powers

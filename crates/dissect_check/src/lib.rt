@@ -11,6 +11,7 @@ pub mod check_fault;
 mod fits;
 mod child_edges;
 mod few;
+mod factor;
 mod inflated;
 mod inflation;
 mod lie;
