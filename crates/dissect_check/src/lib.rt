@@ -14,6 +14,7 @@ mod few;
 mod factor;
 mod inflated;
 mod inflation;
+mod lengths;
 mod lie;
 mod limits;
 mod line;
