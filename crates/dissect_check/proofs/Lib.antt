@@ -10,3 +10,4 @@ pub mod WholeCount
 pub mod Agreeing
 pub mod FirstLoose
 pub mod Powers
+pub mod Holders

@@ -12,6 +12,7 @@ mod fits;
 mod child_edges;
 mod few;
 mod factor;
+mod glue;
 mod inflated;
 mod inflation;
 mod lengths;
