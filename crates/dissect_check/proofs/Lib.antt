@@ -11,3 +11,5 @@ pub mod Agreeing
 pub mod FirstLoose
 pub mod Powers
 pub mod Holders
+pub mod EachUse
+pub mod ChildKinds

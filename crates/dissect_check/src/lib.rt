@@ -10,6 +10,8 @@
 pub mod check_fault;
 mod fits;
 mod child_edges;
+mod child_kinds;
+mod clauses;
 mod few;
 mod factor;
 mod glue;
