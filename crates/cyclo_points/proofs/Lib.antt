@@ -15,6 +15,7 @@ pub mod Dots
 pub mod ProductSizes
 pub mod ProductReadings
 pub mod Reals
+pub mod Shorts
 pub mod SignReadings
 pub mod Divisors
 pub mod RealProducts

@@ -2,7 +2,7 @@
 use mir.Syntax.{Width}
 use Rattle.std.specs.Int.{w64, w128}
 use Rattle.std.specs.declared.cmp.Ordering.TheVariants.{Greater}
-use Rattle.std.proofs.Common.{◌≡◌, ℕ, ℤ, pos, ◌*◌, ◌^◌, ◌+ℤ◌, ◌*ℤ◌, neg_ℤ, int_lt, Bool, true, ◌&&◌, FitsSigned, subst, sym, ap, ap₂, ◌∙◌, arith}
+use Rattle.std.proofs.Common.{◌≡◌, ℕ, ℤ, pos, ◌*◌, ◌^◌, ◌+ℤ◌, ◌*ℤ◌, FitsSigned, subst, sym, ap, ap₂, ◌∙◌, arith}
 use Rattle.std.proofs.lemmas.Int.{ints, to_z-of_z, fits_signed_mul}
 use Rattle.cyclo_points.specs.declared.order.Order.{Order}
 use Rattle.cyclo_points.specs.declared.order.Order.TheVariants.{Four, Eight, Ten}
@@ -11,7 +11,6 @@ use Rattle.cyclo_points.specs.Order.{points_of}
 use Rattle.cyclo_points.specs.Point.{Within}
 use Rattle.cyclo_points.specs.Product.{product_of}
 use Rattle.cyclo_points.specs.Real.{RealOf, number, real_in, IsRealOf, IsRealWithin}
-use Rattle.cyclo_points.proofs.Identities.{both}
 use Rattle.cyclo_points.proofs.OrderLaws.{laws_of}
 use Rattle.cyclo_points.proofs.Sizes.{within_abs, within_product}
 use Rattle.cyclo_points.proofs.Reals.{reading, sign_at}
@@ -67,21 +66,6 @@ wide_sum x y f g = omega (arith, ints)
 pub wide_three : (x y z : ℤ) → Within (2 ^ 120) x → Within (2 ^ 120) y → Within (2 ^ 120) z
     → reading w128 (reading w128 (reading w128 x +ℤ reading w128 y) +ℤ reading w128 z) ≡ x +ℤ y +ℤ z
 wide_three x y z f g h = omega (arith, ints)
-
--- ---- parts cast to 64 bits
-abbrev pub cast : ℤ → ℤ
-cast x = reading w64 (reading w128 x)
-
-pub cast-is : (x : ℤ) → Within (2 ^ 60) x → cast x ≡ x
-cast-is x h = omega (arith, ints)
-
-pub short_within : (x : ℤ) (b : Bool) → b ≡ int_lt (neg_ℤ (pos (2 ^ 25))) x && int_lt x (pos (2 ^ 25)) → b ≡ true → Within (2 ^ 25) x
-short_within x b e f =
-    let g : int_lt (neg_ℤ (pos (2 ^ 25))) x && int_lt x (pos (2 ^ 25)) ≡ true = sym e ∙ f in
-    let h = both (int_lt (neg_ℤ (pos (2 ^ 25))) x) (int_lt x (pos (2 ^ 25))) g in
-    let l : int_lt (neg_ℤ (pos (2 ^ 25))) x ≡ true = h.0 in
-    let k : int_lt x (pos (2 ^ 25)) ≡ true = h.1 in
-    record { low = grind (arith, ints, l); high = grind (arith, ints, k) }
 
 -- ---- the product of a + bθ and c + dθ
 abbrev pub multiplied : (o : Order) → ℤ → ℤ → ℤ → ℤ → RealOf o

@@ -23,6 +23,7 @@ pub mod real;
 pub mod real_product;
 pub mod real_sum;
 pub mod rotation;
+mod short;
 pub mod sign;
 pub mod thousandths;
 

@@ -1,5 +1,4 @@
-//! Products of the numbers in which coordinates lie. Most numbers of the engine are small, so those
-//! with parts below 2^25 are multiplied in 64 bits.
+//! Products of the numbers in which coordinates lie. Short numbers are multiplied in 64 bits.
 
 ghost use Rattle.std.specs.Prelude.{◌≡◌, ℕ, ◌*◌, ◌^◌};
 ghost use Rattle.cyclo_points.specs.Order.{points_of};
@@ -9,7 +8,7 @@ ghost use Rattle.cyclo_points.specs.Real.{number, real_in, IsRealOf, IsRealWithi
 
 use crate::order::Order;
 use crate::real::{Real, from_parts};
-use crate::sign::is_short;
+use crate::short::are_short;
 use std::cmp::Ordering;
 
 /// The product r s in the ring of the order; of positive numbers it is positive. Parts may be up to
@@ -26,14 +25,14 @@ pub fn rmul(order: Order, r: &Real, s: &Real) -> Real
         → IsRealWithin (3 * m * k) result }
     ensures in_order { IsRealOf order result }
 {
-    let a = r.a as i64;
-    let b = r.b as i64;
-    let c = s.a as i64;
-    let d = s.b as i64;
-    if is_short(a) && is_short(b) && is_short(c) && is_short(d) {
-        short_product(order, a, b, c, d)
+    if are_short(r, s) {
+        short_product(order, r.a as i64, r.b as i64, s.a as i64, s.b as i64)
     } else {
-        wide_product(order, r, s)
+        let product = wide_product(order, r, s);
+        Real {
+            a: product.a,
+            b: product.b,
+        }
     }
 }
 
@@ -77,6 +76,8 @@ fn short_times(x: i64, y: i64) -> i64
 }
 
 /// The product r s in 128 bits.
+#[cold]
+#[inline(never)]
 fn wide_product(order: Order, r: &Real, s: &Real) -> Real
     requires r_within { IsRealWithin (2 ^ 60) r.now }
     requires s_within { IsRealWithin (2 ^ 60) s.now }

@@ -1,116 +1,73 @@
-//! The sign of a number a + bθ, decided by squares of whole numbers. Most numbers of the engine are
-//! small, so those with parts below 2^25 are decided in 64 bits.
+//! The sign of a number a + bθ, decided by a whole number that has it: of a short number qa + pb,
+//! where p/q is a convergent of θ with a denominator above the short parts, and of the others
+//! u|u| + m v|v|, where u + v√m is the number or twice the number.
 
-ghost use Rattle.std.specs.Prelude.{◌≡◌, ◌^◌, ◌*◌, ◌&&◌, pos, neg_ℤ, ◌≤ℤ◌, int_lt, int_le};
-ghost use Rattle.ordered_ring.specs.Sign.{surd_sign};
+ghost use Rattle.std.specs.Prelude.{◌≡◌, ℕ, ◌^◌, ◌*◌, pos, unsigned_abs};
+ghost use Rattle.std.specs.Ordering.{int_cmp};
 ghost use Rattle.cyclo_points.specs.Order.{points_of};
 ghost use Rattle.cyclo_points.specs.Point.{Within};
+ghost use Rattle.cyclo_points.specs.Product.{product_of};
 ghost use Rattle.cyclo_points.specs.Real.{number, real_in, IsRealWithin};
 
 use crate::order::Order;
 use crate::real::Real;
+use crate::short::is_short;
 use std::cmp::Ordering;
 
-/// Parts below this in absolute value are short.
-const SHORT: i64 = 1 << 25;
+/// The convergent 54608393/38613965 of √2, by Pell's numbers.
+const PELL: i64 = 38613965;
+
+const HALF_COMPANION: i64 = 54608393;
+
+/// The convergent 165580141/102334155 of the golden ratio.
+const FIBONACCI: i64 = 102334155;
+
+const NEXT_FIBONACCI: i64 = 165580141;
 
 /// The order of r and 0. Parts may be up to 2^61.
 pub fn sign(order: Order, r: &Real) -> Ordering
     requires r_within { IsRealWithin (2 ^ 61) r.now }
     ensures { result ≡ (points_of order).real.sign (real_in order r.now) }
 {
-    let a = r.a as i64;
-    let b = r.b as i64;
-    if is_short(a) && is_short(b) {
-        short_sign(order, a, b)
+    if is_short(r) {
+        short_witness(order, r.a as i64, r.b as i64).cmp(&0)
     } else {
-        wide_sign(order, r.a, r.b)
+        wide_witness(order, r).cmp(&0)
     }
 }
 
-/// Whether a part is below 2^25 in absolute value.
-pub(crate) fn is_short(x: i64) -> bool
-    ensures { result ≡ int_lt (neg_ℤ (pos (2 ^ 25))) x && int_lt x (pos (2 ^ 25)) }
-{
-    -SHORT < x && x < SHORT
-}
-
-/// The sign of a + bθ for short parts.
-fn short_sign(order: Order, a: i64, b: i64) -> Ordering
+/// A whole number with the sign of a + bθ, for short parts.
+fn short_witness(order: Order, a: i64, b: i64) -> i64
     requires a_within { Within (2 ^ 25) a }
     requires b_within { Within (2 ^ 25) b }
-    ensures { result ≡ (points_of order).real.sign (number order a b) }
+    ensures { (points_of order).real.sign (number order a b) ≡ int_cmp result (pos 0) }
 {
     match order {
-        Order::Four => a.cmp(&0),
-        Order::Eight => short_surd_sign(2, a, b),
-        Order::Ten => short_surd_sign(5, 2 * a + b, b),
+        Order::Four => a,
+        Order::Eight => PELL * a + HALF_COMPANION * b,
+        Order::Ten => FIBONACCI * a + NEXT_FIBONACCI * b,
     }
 }
 
-/// The sign of u + v√m: where u and v have two signs, the one with the greater square decides.
-fn short_surd_sign(m: i64, u: i64, v: i64) -> Ordering
-    requires m_at_least { pos 0 ≤ℤ m }
-    requires m_at_most { m ≤ℤ pos 5 }
-    requires u_within { Within (3 * 2 ^ 25) u }
-    requires v_within { Within (2 ^ 25) v }
-    ensures { result ≡ surd_sign m u v }
-{
-    if u >= 0 && v >= 0 {
-        if u == 0 && v == 0 {
-            Ordering::Equal
-        } else {
-            Ordering::Greater
-        }
-    } else if u <= 0 && v <= 0 {
-        Ordering::Less
-    } else {
-        let square = u * u;
-        let multiple = m * (v * v);
-        if u > 0 {
-            square.cmp(&multiple)
-        } else {
-            multiple.cmp(&square)
-        }
-    }
-}
-
-/// The sign of a + bθ.
-fn wide_sign(order: Order, a: i128, b: i128) -> Ordering
-    requires a_within { Within (2 ^ 61) a }
-    requires b_within { Within (2 ^ 61) b }
-    ensures { result ≡ (points_of order).real.sign (number order a b) }
+/// A whole number with the sign of a + bθ.
+#[cold]
+#[inline(never)]
+fn wide_witness(order: Order, r: &Real) -> i128
+    requires r_within { IsRealWithin (2 ^ 61) r.now }
+    ensures { (points_of order).real.sign (real_in order r.now) ≡ int_cmp result (pos 0) }
 {
     match order {
-        Order::Four => a.cmp(&0),
-        Order::Eight => wide_surd_sign(2, a, b),
-        Order::Ten => wide_surd_sign(5, 2 * a + b, b),
+        Order::Four => r.a,
+        Order::Eight => signed_square(r.a) + 2 * signed_square(r.b),
+        Order::Ten => signed_square(2 * r.a + r.b) + 5 * signed_square(r.b),
     }
 }
 
-/// The sign of u + v√m: where u and v have two signs, the one with the greater square decides.
-fn wide_surd_sign(m: i128, u: i128, v: i128) -> Ordering
-    requires m_at_least { pos 0 ≤ℤ m }
-    requires m_at_most { m ≤ℤ pos 5 }
+/// The square u|u|, which has the sign of u.
+fn signed_square(u: i128) -> i128
     requires u_within { Within (3 * 2 ^ 61) u }
-    requires v_within { Within (2 ^ 61) v }
-    ensures { result ≡ surd_sign m u v }
+    ensures value { result ≡ product_of u (pos (unsigned_abs u)) }
+    ensures bounded { (n : ℕ) → Within n u → Within (n * n) result }
 {
-    if u >= 0 && v >= 0 {
-        if u == 0 && v == 0 {
-            Ordering::Equal
-        } else {
-            Ordering::Greater
-        }
-    } else if u <= 0 && v <= 0 {
-        Ordering::Less
-    } else {
-        let left = u * u;
-        let right = m * (v * v);
-        if u > 0 {
-            left.cmp(&right)
-        } else {
-            right.cmp(&left)
-        }
-    }
+    u * u.abs()
 }
