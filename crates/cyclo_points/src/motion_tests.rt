@@ -102,6 +102,18 @@ fn products_at_the_bounds(rt: HostRuntime) {
             c: [1 << 49, 0, 0, 0]
         }
     );
+    // 1 + ζ + ζ² + ζ³ has the square 1 + 2ζ + 3ζ² + 4ζ³ + 3ζ⁴ + 2ζ⁵ + ζ⁶.
+    let p = Point { c: [1 << 32; 4] };
+    let q = Point { c: [1 << 16; 4] };
+    let unit = 1 << 48;
+    let of_eight = Point {
+        c: [-2 * unit, 0, 2 * unit, 4 * unit],
+    };
+    assert_eq!(rt; mul(Order::Eight, &p, &q), of_eight);
+    let of_ten = Point {
+        c: [-4 * unit, 4 * unit, 0, 7 * unit],
+    };
+    assert_eq!(rt; mul(Order::Ten, &p, &q), of_ten);
 }
 
 #[test]

@@ -1,9 +1,9 @@
 use crate::arithmetic::{add, refused, sub};
 use crate::order::Order;
 use crate::point::Point;
-use crate::points_law;
 use crate::product::mul;
 use crate::rotation::turn;
+use crate::{divisors_law, placement_law, points_law};
 
 #[test]
 fn sums_and_differences(rt: HostRuntime) {
@@ -49,6 +49,32 @@ fn powers_of_zeta(rt: HostRuntime) {
 }
 
 #[test]
+fn turns_at_the_bounds(rt: HostRuntime) {
+    let most = 1 << 40;
+    let p = Point {
+        c: [most, -most, 0, 0],
+    };
+    // i³ is -i.
+    let turned = Point {
+        c: [-most, -most, 0, 0],
+    };
+    assert_eq!(rt; turn(Order::Four, 3, &p), turned);
+    let p = Point {
+        c: [most, -most, most, most],
+    };
+    // ζ⁵ is -ζ, and ζ⁴ is -1.
+    let turned = Point {
+        c: [most, -most, most, -most],
+    };
+    assert_eq!(rt; turn(Order::Eight, 5, &p), turned);
+    // ζ⁴ is ζ³ - ζ² + ζ - 1.
+    let turned = Point {
+        c: [-most, 2 * most, -2 * most, 2 * most],
+    };
+    assert_eq!(rt; turn(Order::Ten, 1, &p), turned);
+}
+
+#[test]
 fn n_steps_are_a_full_turn(rt: HostRuntime) {
     let p = Point { c: [3, -5, 0, 0] };
     for order in [Order::Four, Order::Eight, Order::Ten] {
@@ -81,4 +107,6 @@ fn orders(rt: HostRuntime) {
     assert_eq!(rt; Order::Eight.n(), 8);
     assert_eq!(rt; Order::Ten.n(), 10);
     points_law(Order::Ten);
+    placement_law(Order::Eight);
+    divisors_law(Order::Four);
 }

@@ -1,19 +1,24 @@
 //! Numbers rounded down to whole thousandths, for printing.
 
-ghost use Rattle.std.specs.Prelude.{◌≡◌, ℤ, pos, ◌-ℤ◌, ◌<ℤ◌, ◌^◌, ◌↔◌, IsTrue};
-ghost use Rattle.ordered_ring.specs.Sign.{IsBelow};
+ghost use Rattle.std.specs.Prelude.{◌≡◌, ℤ, pos, neg_ℤ, ◌+ℤ◌, ◌*◌, ◌^◌};
 ghost use Rattle.cyclo_points.specs.Order.{points_of};
 ghost use Rattle.cyclo_points.specs.Point.{Within};
-ghost use Rattle.cyclo_points.specs.Real.{real_in, IsRealWithin};
-ghost use Rattle.cyclo_points.specs.Thousandths.{thousandfold, IsFloorThousandths};
+ghost use Rattle.cyclo_points.specs.Real.{number, real_in, IsRealWithin};
+ghost use Rattle.cyclo_points.specs.Thousandths.{IsFloorThousandths};
 
 use crate::order::Order;
 use crate::real::Real;
-use crate::sign::sign;
 use std::cmp::Ordering;
 
-/// Greater than 1000 r in absolute value, for parts up to 2^30.
-const BEYOND: i128 = 1 << 42;
+/// The convergent 2140758220993/1513744654945 of √2, by Pell's numbers.
+const PELL: i128 = 1513744654945;
+
+const HALF_COMPANION: i128 = 2140758220993;
+
+/// The convergent 4052739537881/2504730781961 of the golden ratio.
+const FIBONACCI: i128 = 2504730781961;
+
+const NEXT_FIBONACCI: i128 = 4052739537881;
 
 /// The greatest whole number not above 1000 r: the one f with f ≤ 1000 r < f + 1. Parts may be up to
 /// 2^30.
@@ -22,41 +27,22 @@ pub fn floor_thousandths(order: Order, r: &Real) -> i128
     ensures floor { IsFloorThousandths order (real_in order r.now) result }
     ensures only { (f : ℤ) → IsFloorThousandths order (real_in order r.now) f → f ≡ result }
 {
-    let mut low = -BEYOND;
-    let mut high = BEYOND;
-    // low ≤ 1000 r < high
-    while high - low > 1 {
-        let middle = between(low, high);
-        if is_above(order, middle, r) {
-            high = middle;
-        } else {
-            low = middle;
-        }
+    1000 * r.a + floor_multiple(order, 1000 * r.b)
+}
+
+/// The greatest whole number not above bθ, and 0 in order four. It is that of bp/q, where p/q is a
+/// convergent of θ with a denominator above b.
+fn floor_multiple(order: Order, b: i128) -> i128
+    requires b_within { Within (1000 * 2 ^ 30) b }
+    ensures at_most { ¬ ((points_of order).real.sign (number order result (neg_ℤ b))
+        ≡ Ordering.Greater) }
+    ensures below_next { (points_of order).real.sign (number order (result +ℤ pos 1) (neg_ℤ b))
+        ≡ Ordering.Greater }
+    ensures bounded { Within (2 ^ 42) result }
+{
+    match order {
+        Order::Four => 0,
+        Order::Eight => (HALF_COMPANION * b).div_euclid(PELL),
+        Order::Ten => (NEXT_FIBONACCI * b).div_euclid(FIBONACCI),
     }
-    low
-}
-
-/// A whole number between two that aren't neighbours, in their middle.
-fn between(low: i128, high: i128) -> i128
-    requires low_within { Within (2 ^ 42) low }
-    requires high_within { Within (2 ^ 42) high }
-    requires apart { pos 1 <ℤ (high -ℤ low) }
-    ensures above_low { low <ℤ result }
-    ensures below_high { result <ℤ high }
-{
-    low + (high - low) / 2
-}
-
-/// Whether a whole number is above 1000 r.
-fn is_above(order: Order, f: i128, r: &Real) -> bool
-    requires f_within { Within (2 ^ 42) f }
-    requires r_within { IsRealWithin (2 ^ 30) r.now }
-    ensures { IsTrue result ↔ IsBelow (points_of order).real (thousandfold order (real_in order r.now))
-        ((points_of order).real.ops.int f) }
-{
-    let rest = Real {
-        a: f - 1000 * r.a,
-        b: -(1000 * r.b),
-    };
-    sign(order, &rest) == Ordering::Greater
 }

@@ -1,75 +1,41 @@
 use Rattle.std.specs.Int.{w128}
-use Rattle.std.proofs.Common.{◌≡◌, to_z, subst, arith}
+use Rattle.std.specs.declared.cmp.Ordering.TheVariants.{Greater}
+use Rattle.std.proofs.Common.{◌≡◌, ℤ, pos, ◌^◌, ◌+ℤ◌, ◌*ℤ◌, neg_ℤ, sym, ◌∙◌, ap₂, arith}
 use Rattle.std.proofs.lemmas.Int.{ints}
-use Rattle.cyclo_points.specs.Real.{real_in}
-use Rattle.cyclo_points.proofs.Reals.{reading}
-use Rattle.cyclo_points.proofs.Floors.{IsAbove, above_all, above_none, one_floor, kept, nearer_high, nearer_low, not_true, neighbours}
+use Rattle.cyclo_points.specs.declared.order.Order.{Order}
+use Rattle.cyclo_points.specs.Point.{Within}
+use Rattle.cyclo_points.specs.Real.{number, real_in}
+use Rattle.cyclo_points.specs.Thousandths.{IsFloorThousandths}
+use Rattle.cyclo_points.proofs.Reals.{reading, sign_at}
+use Rattle.cyclo_points.proofs.Floors.{above-by_parts, by_parts-above, one_floor}
 use Rattle.cyclo_points.proofs.thousandths.floor_thousandths.Goals as goal
 
-pub loop-high-init : goal.loop-high-init
-loop-high-init c =
-    let h = c.requires.r_within in
-    record {
-      lowest = omega (arith, ints);
-      apart = omega (arith, ints);
-      highest = omega (arith, ints);
-      low = above_none c.args.order c.args.r.now.a c.args.r.now.b h.at_a h.at_b;
-      high = above_all c.args.order c.args.r.now.a c.args.r.now.b h.at_a h.at_b;
-    }
+-- x is the floor of s θ, where s is 1000 b, and y is 1000 a more
+floor-by_parts : (o : Order) (a b s x y : ℤ) → s ≡ pos 1000 *ℤ b → y ≡ pos 1000 *ℤ a +ℤ x
+    → (sign_at o x (neg_ℤ s) ≡ Greater → ⊥) → sign_at o (x +ℤ pos 1) (neg_ℤ s) ≡ Greater → IsFloorThousandths o (number o a b) y
+floor-by_parts o a b s x y e f at_most below_next = record {
+  at_most = λ h. at_most (ap₂ (λ u v. sign_at o u (neg_ℤ v)) (rest a x y f) e ∙ by_parts-above o y a b h);
+  below_next = above-by_parts o (y +ℤ pos 1) a b (ap₂ (λ u v. sign_at o u (neg_ℤ v)) (next a x y f) (sym e) ∙ below_next);
+}
+  where
+    rest : (a x y : ℤ) → y ≡ pos 1000 *ℤ a +ℤ x → x ≡ y +ℤ neg_ℤ (pos 1000 *ℤ a)
+    rest a x y f = omega (arith, ints)
 
-pub loop-high-smaller-then-is_above : goal.loop-high-smaller-then-is_above
-loop-high-smaller-then-is_above c =
-    let i = c.loop-high.invariant in
-    let b = c.between-middle.ensures in
-    let m = c.between-middle.result in
-    let e : reading w128 m ≡ m = kept m (omega (arith, ints)) (omega (arith, ints)) in
-    nearer_high (to_z w128 c.loop-high.low-bits) (reading w128 m) (to_z w128 c.loop-high.high-bits) (omega (arith, ints)) (omega (arith, ints))
+    next : (a x y : ℤ) → y ≡ pos 1000 *ℤ a +ℤ x → (y +ℤ pos 1) +ℤ neg_ℤ (pos 1000 *ℤ a) ≡ x +ℤ pos 1
+    next a x y f = omega (arith, ints)
 
-pub loop-high-preserved-then-is_above : goal.loop-high-preserved-then-is_above
-loop-high-preserved-then-is_above c =
-    let i = c.loop-high.invariant in
-    let b = c.between-middle.ensures in
-    let m = c.between-middle.result in
-    let e : reading w128 m ≡ m = kept m (omega (arith, ints)) (omega (arith, ints)) in
-    record {
-      lowest = i.lowest;
-      apart = omega (arith, ints);
-      highest = omega (arith, ints);
-      low = i.low;
-      high = c.is_above.ensures.0 c.if-is_above.true;
-    }
+read_thousand : (b : ℤ) → Within (2 ^ 30) b → reading w128 (pos 1000 *ℤ reading w128 b) ≡ pos 1000 *ℤ b
+read_thousand b h = omega (arith, ints)
 
-pub loop-high-smaller : goal.loop-high-smaller
-loop-high-smaller c =
-    let i = c.loop-high.invariant in
-    let b = c.between-middle.ensures in
-    let m = c.between-middle.result in
-    let e : reading w128 m ≡ m = kept m (omega (arith, ints)) (omega (arith, ints)) in
-    nearer_low (to_z w128 c.loop-high.low-bits) (reading w128 m) (to_z w128 c.loop-high.high-bits) (omega (arith, ints)) (omega (arith, ints))
-
-pub loop-high-preserved : goal.loop-high-preserved
-loop-high-preserved c =
-    let i = c.loop-high.invariant in
-    let b = c.between-middle.ensures in
-    let m = c.between-middle.result in
-    let e : reading w128 m ≡ m = kept m (omega (arith, ints)) (omega (arith, ints)) in
-    record {
-      lowest = omega (arith, ints);
-      apart = omega (arith, ints);
-      highest = i.highest;
-      low = λ a. not_true c.is_above.result c.if-is_above.false (c.is_above.ensures.1 a);
-      high = i.high;
-    }
+read_sum : (a x : ℤ) → Within (2 ^ 30) a → Within (2 ^ 42) x → reading w128 (reading w128 (pos 1000 *ℤ reading w128 a) +ℤ reading w128 x) ≡ pos 1000 *ℤ a +ℤ x
+read_sum a x h k = omega (arith, ints)
 
 pub returns-clause-floor : goal.returns-clause-floor
 returns-clause-floor c =
-    let i = c.loop-high.invariant in
-    let low = to_z w128 c.loop-high.low-bits in
-    let high = to_z w128 c.loop-high.high-bits in
-    record {
-      at_most = i.low;
-      below_next = subst (IsAbove c.args.order (real_in c.args.order c.args.r.now)) (neighbours low high i.lowest i.highest i.apart c.loop-high-test.false) i.high;
-    }
+    let r = c.args.r.now in
+    let i = c.requires.r_within in
+    let x = c.floor_multiple in
+    floor-by_parts c.args.order r.a r.b _ x.result _ (read_thousand r.b i.at_b) (read_sum r.a x.result i.at_a x.ensures.bounded) x.ensures.at_most x.ensures.below_next
 
 pub returns-clause-only : goal.returns-clause-only
 returns-clause-only c = λ f h. one_floor c.args.order (real_in c.args.order c.args.r.now) f _ h (returns-clause-floor c)
