@@ -1,0 +1,81 @@
+-- A rule is accepted where the tests of the ten clauses, which compute, pass.
+use Rattle.std.proofs.Common.{◌≡◌, ℕ, zero, suc, ◌<◌, inl, inr, Bool, true, false, not, List, [], ◌∷◌, length, subst, arith}
+use Rattle.std.specs.Prelude.{is_ok}
+use Rattle.std.specs.List.{list_all, AllByRecursion}
+use Rattle.std.proofs.lemmas.Bool.{cases_lt, and_parts, not-true}
+use Rattle.substitution.specs.Points.{Points}
+use Rattle.substitution.specs.Rule.{Rule}
+use Rattle.substitution.specs.RuleParts.{mate, vertices_of, edge_count}
+use Rattle.substitution.specs.SameTests.{all_below}
+use Rattle.substitution.specs.Limits.{is_type, kinds_fit, types_fit, glue_fits, parts_fit, edges_fit, vertices_fit, children_fit}
+use Rattle.substitution.specs.Limited.{WithinLimits}
+use Rattle.substitution.specs.Star.{is_star}
+use Rattle.substitution.specs.Factor.{is_inflation_factor}
+use Rattle.substitution.specs.EdgeTypes.{mates_back, is_mirrored, has_length_of_type}
+use Rattle.substitution.specs.Edges.{PlacedEdge, child_edges}
+use Rattle.substitution.specs.Lying.{lie_of, is_loose}
+use Rattle.substitution.specs.Boundary.{parts_of_edge}
+use Rattle.substitution.specs.Uses.{is_used, glues_halves}
+use Rattle.substitution.specs.Dissection.{IsDissection}
+
+each : (n : ℕ) (p : ℕ → Bool) → all_below n p ≡ true → (k : ℕ) → k < n → p k ≡ true
+each zero p h k l = absurd (omega arith)
+each (suc n) p h k l =
+    let both = and_parts (p n) (all_below n p) h in
+    elim (cases_lt k n) [ inl lt ↦ each n p both.1 k lt | inr ge ↦ let same : n ≡ k = omega arith in subst (λ j. p j ≡ true) same both.0 ]
+
+none : {A : Type 0} (bad : A → Bool) (xs : List A) → list_all (λ x. not (bad x)) xs ≡ true → AllByRecursion (λ x. bad x ≡ false) xs
+none bad [] h = tt
+none bad (x ∷ xs) h = let both = and_parts (not (bad x)) (list_all (λ x. not (bad x)) xs) h in (not-true (bad x) both.0, none bad xs both.1)
+
+-- the limits, as tests
+pub record FitsLimits {A : Type 0} (n : ℕ) (small : A → Bool) (r : Rule A) : Type 0 where
+  pub kinds : kinds_fit r ≡ true
+  pub types : types_fit r ≡ true
+  pub factor : small r.factor ≡ true
+  pub glue : glue_fits r ≡ true
+  pub mates : all_below (length r.types) (λ ty. is_type r (mate r ty)) ≡ true
+  pub parts : all_below (length r.types) (parts_fit r) ≡ true
+  pub edges : all_below (length r.kinds) (edges_fit r) ≡ true
+  pub vertices : all_below (length r.kinds) (vertices_fit small r) ≡ true
+  pub children : all_below (length r.kinds) (children_fit n small r) ≡ true
+
+pub within_limits : {A : Type 0} (n : ℕ) (small : A → Bool) (r : Rule A) → FitsLimits n small r → WithinLimits n small r
+within_limits n small r t = record {
+  kinds = t.kinds;
+  types = t.types;
+  factor = t.factor;
+  glue = t.glue;
+  mates = each (length r.types) (λ ty. is_type r (mate r ty)) t.mates;
+  parts = each (length r.types) (parts_fit r) t.parts;
+  edges = each (length r.kinds) (edges_fit r) t.edges;
+  vertices = each (length r.kinds) (vertices_fit small r) t.vertices;
+  children = each (length r.kinds) (children_fit n small r) t.children;
+}
+
+-- the nine clauses beyond the limits, as tests
+pub record PassesTests (P : Points) (refused : P.ring.carrier → Bool) (r : Rule P.ring.carrier) : Type 0 where
+  pub star_shaped : all_below (length r.kinds) (λ k. is_star P (vertices_of r k)) ≡ true
+  pub inflation_factor : is_inflation_factor P refused r.factor ≡ true
+  pub mates_back : all_below (length r.types) (mates_back r) ≡ true
+  pub equal_lengths : all_below (length r.kinds) (λ k. all_below (edge_count r k) (has_length_of_type P r k)) ≡ true
+  pub mirrored : all_below (length r.types) (is_mirrored r) ≡ true
+  pub none_loose : all_below (length r.kinds) (λ k. list_all (λ (s : PlacedEdge P.ring.carrier). not (is_loose (lie_of P r k s))) (child_edges P r k)) ≡ true
+  pub boundary_cut : all_below (length r.kinds) (λ k. all_below (edge_count r k) (λ e. is_ok (parts_of_edge P r k e))) ≡ true
+  pub each_used : all_below (length r.kinds) (is_used r) ≡ true
+  pub glue_right : all_below (length r.glue) (glues_halves r) ≡ true
+
+pub is_dissection : (P : Points) (refused : P.ring.carrier → Bool) (r : Rule P.ring.carrier) → PassesTests P refused r → IsDissection P refused r
+is_dissection P refused r t = record {
+  star_shaped = each (length r.kinds) (λ k. is_star P (vertices_of r k)) t.star_shaped;
+  inflation_factor = t.inflation_factor;
+  mates_back = each (length r.types) (mates_back r) t.mates_back;
+  equal_lengths = λ k e l m. each (edge_count r k) (has_length_of_type P r k) (each (length r.kinds) (λ k. all_below (edge_count r k) (has_length_of_type P r k)) t.equal_lengths k l) e m;
+  mirrored = each (length r.types) (is_mirrored r) t.mirrored;
+  none_loose = λ k l. none (λ (s : PlacedEdge P.ring.carrier). is_loose (lie_of P r k s)) (child_edges P r k)
+      (each (length r.kinds) (λ k. list_all (λ (s : PlacedEdge P.ring.carrier). not (is_loose (lie_of P r k s))) (child_edges P r k)) t.none_loose k l);
+  boundary_cut = λ k e l m. each (edge_count r k) (λ e. is_ok (parts_of_edge P r k e))
+      (each (length r.kinds) (λ k. all_below (edge_count r k) (λ e. is_ok (parts_of_edge P r k e))) t.boundary_cut k l) e m;
+  each_used = each (length r.kinds) (is_used r) t.each_used;
+  glue_right = each (length r.glue) (glues_halves r) t.glue_right;
+}

@@ -1,0 +1,3 @@
+pub mod Acceptance
+pub mod Chairs
+pub mod Admitted

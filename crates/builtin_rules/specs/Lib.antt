@@ -1,0 +1,3 @@
+pub mod Written
+pub mod Chair
+pub mod Named
