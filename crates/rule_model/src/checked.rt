@@ -2,6 +2,7 @@
 ghost use Rattle.std.specs.Prelude.{◌≡◌, ◌↔◌, ℕ, ◌<◌, length, map, All, None, IfSome};
 ghost use Rattle.substitution.specs.Rule.{children_of};
 ghost use Rattle.substitution.specs.RuleParts.{vertices_of, edge_count, child_of};
+ghost use Rattle.substitution.specs.Tables.{child_kinds};
 ghost use Rattle.cyclo_points.specs.Order.{points_of};
 ghost use Rattle.cyclo_points.specs.Point.{point_in};
 ghost use Rattle.rule_model.specs.Accepted.{IsAccepted};
@@ -74,9 +75,10 @@ impl Checked {
         self.rule().factor
     }
 
-    /// Its contact tables.
+    /// Its contact tables, which have its child kinds.
     pub fn tables(&self) -> &Tables
-        ensures { result.now ≡ contacts_of self.now }
+        ensures contacts { result.now ≡ contacts_of self.now }
+        ensures same_uses { child_kinds (contacts_of self.now) ≡ uses_of self.now }
     {
         &self.tables
     }
