@@ -13,3 +13,8 @@ pub mod Powers
 pub mod Holders
 pub mod EachUse
 pub mod ChildKinds
+pub mod Kept
+pub mod Lies
+pub mod Walk
+pub mod Below
+pub mod EdgeParts

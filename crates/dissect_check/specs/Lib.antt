@@ -2,3 +2,4 @@ pub mod FirstFault
 pub mod Agrees
 pub mod Views
 pub mod Few
+pub mod Boundary

@@ -7,6 +7,7 @@
 //! fails, at its first place.
 #![tactic(auto)]
 
+mod boundary;
 pub mod check_fault;
 mod fits;
 mod child_edges;

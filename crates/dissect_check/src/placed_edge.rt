@@ -1,4 +1,5 @@
 use crate::line::Line;
+use edge_tables::child_edge::ChildEdge;
 
 /// An edge of a child in its parent's inflated prototile: the child's number, the edge's, its type,
 /// and where it lies.
@@ -8,4 +9,22 @@ pub(crate) struct PlacedEdge {
     pub edge: u8,
     pub ty: u8,
     pub line: Line,
+}
+
+impl PlacedEdge {
+    ghost use Rattle.std.specs.Prelude.{◌≡◌};
+    ghost use Rattle.substitution.specs.Contacts.{name_of};
+    ghost use Rattle.cyclo_points.specs.declared.order.Order.{Order};
+    ghost use Rattle.edge_tables.specs.Views.{as_child_edge};
+    ghost use Rattle.dissect_check.specs.Views.{edge_in};
+
+    /// The child's number and the edge's.
+    pub(crate) fn name(&self) -> ChildEdge
+        ensures { (o : Order) → as_child_edge result ≡ name_of (edge_in o self.now) }
+    {
+        ChildEdge {
+            child: self.child,
+            edge: self.edge,
+        }
+    }
 }
