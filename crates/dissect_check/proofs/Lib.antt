@@ -18,3 +18,7 @@ pub mod Lies
 pub mod Walk
 pub mod Below
 pub mod EdgeParts
+pub mod Parts
+pub mod OwnEdges
+pub mod LieBounds
+pub mod KindRowsOf

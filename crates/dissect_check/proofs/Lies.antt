@@ -1,5 +1,6 @@
 -- Where the edges of an inflated prototile lie, edge by edge.
-use Rattle.std.proofs.Common.{◌≡◌, ℕ, ◌<◌, List, map, length, get_or, sym, ap, ◌∙◌}
+use Rattle.std.proofs.Common.{◌≡◌, ℕ, ◌<◌, List, map, length, get_or, sym, ap, subst, ◌∙◌}
+use Rattle.std.specs.List.{All}
 use Rattle.std.proofs.lemmas.List.{get_or-map, length-map}
 use Rattle.std.proofs.lemmas.Simd.{map-map}
 use Rattle.substitution.specs.Lying.{lie_of}
@@ -16,6 +17,17 @@ pub same_at : {A B C : Type 0} (f : A → C) (g : B → C) (xs : List A) (ys : L
     → x ≡ get_or xs n x → y ≡ get_or ys n y → f x ≡ g y
 same_at f g xs ys n x y l m e p q =
     ap f p ∙ sym (get_or-map f xs n x (f x) l) ∙ ap (λ zs. get_or zs n (f x)) e ∙ get_or-map g ys n y (f x) m ∙ sym (ap g q)
+
+-- a fact of each element, at one
+pub All-at : {X : Type 0} (P : X → Type 0) (xs : List X) (n : ℕ) (x : X) → n < length xs → x ≡ get_or xs n x → All P xs → P x
+All-at P xs n x l e all = subst P (sym e) (all n x l)
+
+-- edge number n of the list, and where it lies
+pub record IsAt (i : Inflated) (n : ℕ) (s : PlacedEdge) (l : Lie) : Type 0 where
+  pub edge_there : n < length i.edges.items
+  pub lie_there : n < length i.lies.items
+  pub edge : (d : PlacedEdge) → s ≡ get_or i.edges.items n d
+  pub lie : (d : Lie) → l ≡ get_or i.lies.items n d
 
 module _ (r : Rule) (k : ℕ) (i : Inflated) (fact : IsInflated r k i) where
   -- the lies of the listed edges

@@ -3,3 +3,4 @@ pub mod Agrees
 pub mod Views
 pub mod Few
 pub mod Boundary
+pub mod Parts

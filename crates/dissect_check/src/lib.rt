@@ -13,6 +13,7 @@ mod fits;
 mod child_edges;
 mod child_kinds;
 mod clauses;
+mod contacts;
 mod few;
 mod factor;
 mod glue;

@@ -1,5 +1,5 @@
-use Rattle.std.proofs.Common.{◌≡◌, ℕ, ◌+◌, ◌<◌, ◌≤◌, Bool, true, false, List, [], ◌∷◌, ◌++◌, map, length, take, get_or, sym, ap, subst, ◌∙◌, arith}
-use Rattle.std.specs.List.{All, filter}
+use Rattle.std.proofs.Common.{◌≡◌, ℕ, ◌+◌, ◌≤◌, Bool, true, false, List, [], ◌∷◌, ◌++◌, map, length, take, sym, ap, ◌∙◌, arith}
+use Rattle.std.specs.List.{filter}
 use Rattle.std.proofs.lemmas.List.{map_push, length_push, take_all}
 use Rattle.std.proofs.lemmas.List.Elements.{All-push, All-same}
 use Rattle.std.proofs.lemmas.Slice.Zip.{zip_turn, zip_end}
@@ -14,18 +14,8 @@ use Rattle.dissect_check.specs.declared.lie.Lie.{Lie}
 use Rattle.dissect_check.specs.declared.inflated.Inflated.{Inflated}
 use Rattle.dissect_check.specs.Views.{edge_in, as_lie, IsFit, IsInflated}
 use Rattle.dissect_check.proofs.Kept.{kept, left_out}
-use Rattle.dissect_check.proofs.Lies.{lie_at, length-lies}
+use Rattle.dissect_check.proofs.Lies.{IsAt, All-at, lie_at, length-lies}
 use Rattle.dissect_check.proofs.boundary.edges_along.Goals as goal
-
-All-at : {X : Type 0} (P : X → Type 0) (xs : List X) (n : ℕ) (x : X) → n < length xs → x ≡ get_or xs n x → All P xs → P x
-All-at P xs n x l e all = subst P (sym e) (all n x l)
-
--- edge number n of the list, and where it lies
-record IsAt (i : Inflated) (n : ℕ) (s : PlacedEdge) (l : Lie) : Type 0 where
-  edge_there : n < length i.edges.items
-  lie_there : n < length i.lies.items
-  edge : (d : PlacedEdge) → s ≡ get_or i.edges.items n d
-  lie : (d : Lie) → l ≡ get_or i.lies.items n d
 
 module _ (r : Rule) (k : ℕ) (i : Inflated) (fact : IsInflated r k i) (e : ℕ) where
   is_on : theory.PlacedEdge (NumberOf r.order) → Bool

@@ -1,0 +1,28 @@
+-- The parts of the edges of a kind, as the program keeps them.
+use Rattle.std.specs.Prelude.{◌≡◌, ℕ, ◌<◌, ◌≤◌, List, map, length, Vec, All}
+use Rattle.std.specs.Global.{Global}
+use Rattle.substitution.specs.RuleParts.{edge_count}
+use Rattle.substitution.specs.Search.{below}
+use Rattle.substitution.specs.Contacts.{named_parts}
+use Rattle.cyclo_points.specs.Order.{points_of}
+use Rattle.edge_tables.specs.declared.child_edge.ChildEdge.{ChildEdge}
+use Rattle.edge_tables.specs.Views.{as_child_edge}
+use Rattle.rule_model.specs.declared.rule.Rule.{Rule}
+use Rattle.rule_model.specs.Views.{rule_of}
+use Rattle.dissect_check.specs.declared.lie.Lie.{Lie}
+use Rattle.dissect_check.specs.declared.lie.Lie.TheVariants.{Inner, Boundary, Loose}
+
+-- where it is on the boundary, the edge along which it lies is below n
+abbrev pub IsBelow : ℕ → Lie → Type 0
+IsBelow n (Inner c e) = Unit {0}
+IsBelow n (Boundary e) = e < n
+IsBelow n Loose = Unit {0}
+
+-- at most eight names
+abbrev pub AreFew : Vec ChildEdge Global → Type 0
+AreFew v = length v.items ≤ 8
+
+-- these are the names of the parts of each edge of kind k
+pub record AreParts (r : Rule) (k : ℕ) (parts : List (Vec ChildEdge Global)) : Type 0 where
+  pub names : map (λ v. map as_child_edge v.items) parts ≡ below (named_parts (points_of r.order) (rule_of r) k) (edge_count (rule_of r) k)
+  pub few : All AreFew parts

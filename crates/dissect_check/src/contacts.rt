@@ -1,0 +1,137 @@
+//! The contact tables of a kind.
+ghost use Rattle.std.specs.Prelude.{◌≡◌, ◌≤◌, ◌<◌, ℕ, map, length, All, IfOk};
+ghost use Rattle.substitution.specs.Rule.{Child as TheChild, children_of};
+ghost use Rattle.substitution.specs.RuleParts.{edge_types};
+ghost use Rattle.substitution.specs.Search.{below};
+ghost use Rattle.substitution.specs.Contacts.{number_in, contact_by, contacts_of_child, tables_of_kind};
+ghost use Rattle.cyclo_points.specs.Order.{NumberOf, points_of};
+ghost use Rattle.edge_tables.specs.Views.{as_child_edge, as_contact, as_kind};
+ghost use Rattle.rule_model.specs.declared.rule.Rule.{Rule as ProgramRule};
+ghost use Rattle.rule_model.specs.Views.{rule_of};
+ghost use Rattle.dissect_check.specs.Views.{as_lie, IsInflated};
+ghost use Rattle.dissect_check.specs.Parts.{IsBelow, AreFew, AreParts};
+
+use crate::inflated::Inflated;
+use crate::lie::Lie;
+use edge_tables::child_edge::ChildEdge;
+use edge_tables::contact::Contact;
+use edge_tables::kind_rows::KindRows;
+use rule_model::rule::Rule;
+use std::alloc::Global;
+use tile_shape::no_memory::NoMemory;
+
+/// The number of a child edge among the parts of an edge, and how many these are where it is none.
+fn number_among(parts: &[ChildEdge], name: ChildEdge) -> usize
+    ensures number { result ≡ number_in (as_child_edge name) 0 (map as_child_edge parts.now) }
+    ensures at_most_all { result ≤ length parts.now }
+{
+    for (number, part) in parts.iter().enumerate() {
+        if *part == name {
+            return number;
+        }
+    }
+    parts.len()
+}
+
+/// What a child edge is, by where it lies and the parts of each edge of its parent.
+fn contact_at(name: ChildEdge, lie: &Lie, parts: &[Vec<ChildEdge>]) -> Contact
+    requires below { IsBelow (length parts.now) lie.now }
+    requires few { All AreFew parts.now }
+    ensures { (rule : ProgramRule) (kind : ℕ) → AreParts rule kind parts.now
+        → as_contact result ≡ contact_by (points_of rule.order) (rule_of rule) kind (as_child_edge name) (as_lie lie.now) }
+{
+    match lie {
+        Lie::Inner { child, edge } => Contact::Inner {
+            child: *child,
+            edge: *edge,
+        },
+        Lie::Boundary { edge } => Contact::Outer {
+            edge: *edge,
+            part: number_among(&parts[usize::from(*edge)], name) as u8,
+        },
+        Lie::Loose => Contact::Outer { edge: 0, part: 0 },
+    }
+}
+
+/// What each edge of a child is, in order.
+fn contacts_of_child(
+    alloc: Global,
+    inflated: &Inflated,
+    parts: &[Vec<ChildEdge>],
+    child: usize,
+) -> Result<Vec<Contact>, NoMemory>
+    requires below { All (IsBelow (length parts.now)) inflated.now.lies.items }
+    requires few { All AreFew parts.now }
+    ensures { (rule : ProgramRule) (kind : ℕ) → IsInflated rule kind inflated.now → AreParts rule kind parts.now
+        → child < length (children_of (rule_of rule) kind)
+        → IfOk result (λ contacts. map as_contact contacts.items ≡ contacts_of_child (points_of rule.order) (rule_of rule) kind child) }
+{
+    let mut contacts = Vec::new(alloc);
+    for (edge, lie) in inflated.edges.iter().zip(&inflated.lies) {
+        if usize::from(edge.child) == child {
+            contacts.push(contact_at(edge.name(), lie, parts))?;
+        }
+    }
+    Ok(contacts)
+}
+
+/// What each edge of each child of a kind is.
+fn contacts_of_kind(
+    alloc: Global,
+    rule: &Rule,
+    inflated: &Inflated,
+    kind: usize,
+    parts: &[Vec<ChildEdge>],
+) -> Result<Vec<Vec<Contact>>, NoMemory>
+    requires kind_exists { kind < length (rule_of rule.now).kinds }
+    requires inflated { IsInflated rule.now kind inflated.now }
+    requires parts { AreParts rule.now kind parts.now }
+    ensures { IfOk result (λ lists. map (λ list. map as_contact list.items) lists.items
+        ≡ below (contacts_of_child (points_of rule.now.order) (rule_of rule.now) kind) (length (children_of (rule_of rule.now) kind))) }
+{
+    let mut lists = Vec::new(alloc);
+    for child in 0..rule.child_count(kind) {
+        lists.push(contacts_of_child(alloc, inflated, parts, child)?)?;
+    }
+    Ok(lists)
+}
+
+/// The type of each edge of a kind.
+fn types_of_kind(alloc: Global, rule: &Rule, kind: usize) -> Result<Vec<u8>, NoMemory>
+    requires { kind < length (rule_of rule.now).kinds }
+    ensures { IfOk result (λ types. types.items ≡ edge_types (rule_of rule.now) kind) }
+{
+    let mut types = Vec::new(alloc);
+    types.extend_from_slice(&rule.kinds[kind].edges)?;
+    Ok(types)
+}
+
+/// The kind of each child of a kind.
+fn kinds_of_children(alloc: Global, rule: &Rule, kind: usize) -> Result<Vec<u8>, NoMemory>
+    requires { kind < length (rule_of rule.now).kinds }
+    ensures { IfOk result (λ kinds. kinds.items ≡ map (λ (child : TheChild (NumberOf rule.now.order)). child.kind) (children_of (rule_of rule.now) kind)) }
+{
+    let row = &rule.kinds[kind];
+    Ok(row.children.iter().map(|child| child.kind).collect(alloc)?)
+}
+
+/// The contact tables of a kind, from the parts of each of its edges.
+pub(crate) fn rows_of_kind(
+    alloc: Global,
+    rule: &Rule,
+    inflated: &Inflated,
+    kind: usize,
+    parts: Vec<Vec<ChildEdge>>,
+) -> Result<KindRows, NoMemory>
+    requires kind_exists { kind < length (rule_of rule.now).kinds }
+    requires inflated { IsInflated rule.now kind inflated.now }
+    requires parts { AreParts rule.now kind parts.items }
+    ensures { IfOk result (λ rows. as_kind rows ≡ tables_of_kind (points_of rule.now.order) (rule_of rule.now) kind) }
+{
+    Ok(KindRows {
+        types: types_of_kind(alloc, rule, kind)?,
+        children: kinds_of_children(alloc, rule, kind)?,
+        contacts: contacts_of_kind(alloc, rule, inflated, kind, &parts)?,
+        parts,
+    })
+}
