@@ -9,6 +9,8 @@ use Rattle.cyclo_points.specs.Order.{points_of}
 use Rattle.rule_model.specs.declared.rule.Rule.{Rule}
 use Rattle.rule_model.specs.Small.{is_small}
 use Rattle.rule_model.specs.Views.{as_rule}
+use Rattle.rule_model.specs.Usable.{IsUsable}
+use Rattle.rule_model.proofs.Usable.{usable}
 use Rattle.dissect_check.specs.declared.what.What.TheVariants.{Kinds, Types, Factor, Glue, Mate, Parts, Edges, Vertex, Child}
 use Rattle.dissect_check.specs.declared.check_fault.CheckFault.{CheckFault}
 use Rattle.dissect_check.specs.declared.check_fault.CheckFault.TheVariants.{TooMany}
@@ -68,6 +70,11 @@ module _ (r : Rule) where
         children = λ k l. (kind_at k l).2;
       }
 
+  -- then it is usable
+  pub usable-where : IsNone (fault.limits r) → IsUsable r
+  usable-where h = usable r (within-where h)
+
+  -- and none is found of a rule within them
   none-types : WithinLimits (points_of r.order).order (is_small r.order) (as_rule r) → IsNone (fault.types_limits r)
   none-types w =
       first_below-all (fault.type_limits r) (length (as_rule r).types) (λ ty l. two_pass _ _ (TooMany (Mate ty)) (TooMany (Parts ty)) (w.mates ty l) (w.parts ty l))
