@@ -22,3 +22,5 @@ pub mod Parts
 pub mod OwnEdges
 pub mod LieBounds
 pub mod KindRowsOf
+pub mod Chains
+pub mod NoFault

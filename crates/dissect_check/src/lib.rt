@@ -10,6 +10,8 @@
 mod boundary;
 pub mod check_fault;
 mod fits;
+mod boundaries;
+pub mod check;
 mod child_edges;
 mod child_kinds;
 mod clauses;
@@ -29,6 +31,7 @@ mod lying;
 mod placed_edge;
 mod stars;
 mod subdivisions;
+mod tables;
 mod uses;
 mod same_point;
 pub mod what;

@@ -1,0 +1,38 @@
+-- A rule in which no clause finds a fault.
+use Rattle.std.proofs.Common.{◌≡◌, List, [], ◌∷◌, ◌++◌, Option, Some, None, sym, ◌∙◌}
+use Rattle.substitution.specs.Search.{first_some}
+use Rattle.substitution.specs.Contacts.{tables_of}
+use Rattle.substitution.specs.Coherent.{IsCoherent}
+use Rattle.substitution.proofs.CoherentContacts.{contacts-coherent}
+use Rattle.cyclo_points.specs.Order.{points_of, is_refused, PointsLaw}
+use Rattle.rule_model.specs.declared.rule.Rule.{Rule}
+use Rattle.rule_model.specs.Accepted.{IsAccepted}
+use Rattle.rule_model.specs.Usable.{IsUsable}
+use Rattle.rule_model.specs.Views.{rule_of}
+use Rattle.dissect_check.specs.declared.check_fault.CheckFault.{CheckFault}
+use Rattle.dissect_check.specs.FirstFault.{limits, stars, factor, mates, lengths, subdivisions, loose_edges, boundaries, uses, glues, first_fault}
+use Rattle.dissect_check.proofs.FirstSome.{first_some-parts}
+use Rattle.dissect_check.proofs.LimitsHold.{usable-where}
+use Rattle.dissect_check.proofs.Chains.{first_of_rest}
+use Rattle.dissect_check.proofs.Accepted.{accepted-where}
+
+module _ (r : Rule) where
+  -- the clauses before those on children, and those on children with those behind them
+  abbrev pub front : List (Option CheckFault)
+  front = limits r ∷ stars r ∷ factor r ∷ mates r ∷ lengths r ∷ subdivisions r ∷ []
+
+  abbrev pub rest : List (Option CheckFault)
+  rest = loose_edges r ∷ boundaries r ∷ uses r ∷ glues r ∷ []
+
+  pub usable-front : None ≡ first_some front → IsUsable r
+  usable-front h = usable-where r (first_some-parts (limits r) (stars r ∷ factor r ∷ mates r ∷ lengths r ∷ subdivisions r ∷ []) (sym h)).0
+
+  pub no_fault : None ≡ first_some front → first_some rest ≡ None → first_fault r ≡ None
+  no_fault h k = first_of_rest front rest (sym h) ∙ k
+
+  pub accepted-both : None ≡ first_some front → first_some rest ≡ None → IsAccepted r
+  accepted-both h k = accepted-where r (no_fault h k)
+
+  -- so its contacts are coherent
+  pub coherent-both : PointsLaw r.order → None ≡ first_some front → first_some rest ≡ None → IsCoherent (tables_of (points_of r.order) (rule_of r))
+  coherent-both w h k = contacts-coherent (points_of r.order) w (is_refused r.order) (rule_of r) (usable-front h).numbered (accepted-both h k).dissection

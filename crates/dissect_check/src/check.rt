@@ -1,0 +1,70 @@
+//! The check of a rule.
+ghost use Rattle.std.specs.Prelude.{◌≡◌, ◌↔◌, None, [], ◌∷◌, map, length, IfOk};
+ghost use Rattle.substitution.specs.Search.{first_some, below};
+ghost use Rattle.substitution.specs.Contacts.{tables_of_kind};
+ghost use Rattle.cyclo_points.specs.Order.{points_of};
+ghost use Rattle.edge_tables.specs.Views.{as_kind};
+ghost use Rattle.rule_model.specs.Accepted.{IsAccepted};
+ghost use Rattle.rule_model.specs.Usable.{IsUsable};
+ghost use Rattle.rule_model.specs.Views.{rule_of};
+ghost use Rattle.dissect_check.specs.Agrees.{Agrees, IsOkOrMemory};
+ghost use Rattle.dissect_check.specs.FirstFault.{loose_edges as loose_fault, boundaries as boundary_fault, uses as uses_fault, glues as glues_fault, first_fault};
+
+use crate::boundaries::boundaries;
+use crate::check_fault::CheckFault;
+use crate::child_kinds::uses_of_kinds;
+use crate::clauses::{before_children, behind_children};
+use crate::loose::loose_edges;
+use crate::tables::tables_of;
+use cyclo_points::points_law;
+use edge_tables::kind_rows::KindRows;
+use rule_model::checked::Checked;
+use rule_model::rule::Rule;
+use std::alloc::Global;
+
+/// The clauses on children and those behind them, and the contact tables of each kind.
+fn children(alloc: Global, rule: &Rule) -> Result<Vec<KindRows>, CheckFault>
+    requires usable { IsUsable rule.now }
+    ensures fault { Agrees result (first_some (loose_fault rule.now ∷ boundary_fault rule.now
+        ∷ uses_fault rule.now ∷ glues_fault rule.now ∷ [])) }
+    ensures tables { IfOk result (λ rows. map as_kind rows.items
+        ≡ below (tables_of_kind (points_of rule.now.order) (rule_of rule.now)) (length (rule_of rule.now).kinds)) }
+{
+    loose_edges(alloc, rule)?;
+    let rows = boundaries(alloc, rule)?;
+    behind_children(rule)?;
+    Ok(rows)
+}
+
+/// The checked rule, or the first fault.
+fn checked(alloc: Global, rule: Rule) -> Result<Checked, CheckFault>
+    ensures rule_given { IfOk result (λ checked. checked ≡ rule) }
+    ensures fault { Agrees result (first_fault rule) }
+{
+    points_law(rule.order);
+    before_children(&rule)?;
+    let rows = children(alloc, &rule)?;
+    let tables = tables_of(alloc, &rule, rows)?;
+    let uses = uses_of_kinds(alloc, &rule)?;
+    Ok(Checked::admit(rule, tables, uses))
+}
+
+/// The law that a rule is accepted exactly where its check finds no fault.
+pub fn acceptance_law(rule: &Rule)
+    ensures { (first_fault rule.now ≡ None) ↔ IsAccepted rule.now }
+{}
+
+/// Checks a rule, which has any numbers: it is accepted exactly where the ten clauses hold, and is then
+/// answered with its contact tables and its uses. Otherwise the answer is the fault of the first
+/// clause that fails, at its first place: the limits in the order of their list, and else the least
+/// kind, child, edge, part or type. The rule is dropped on a refusal. Want of memory may come at any
+/// point.
+pub fn check(alloc: Global, rule: Rule) -> Result<Checked, CheckFault>
+    ensures rule_given { IfOk result (λ checked. checked ≡ rule) }
+    ensures accepted { IfOk result (λ _. IsAccepted rule) }
+    ensures complete { IsAccepted rule → IsOkOrMemory result }
+    ensures fault { Agrees result (first_fault rule) }
+{
+    acceptance_law(&rule);
+    checked(alloc, rule)
+}
