@@ -1,6 +1,6 @@
 pub mod Search
 pub mod Mirrored
-pub mod Tests
+pub mod BoolLoops
 pub mod SamePoint
 pub mod FirstSome
 pub mod LimitsHold
@@ -21,6 +21,6 @@ pub mod EdgeParts
 pub mod Parts
 pub mod OwnEdges
 pub mod LieBounds
-pub mod KindRowsOf
 pub mod Chains
 pub mod NoFault
+pub mod RowOfKind

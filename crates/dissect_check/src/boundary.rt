@@ -45,7 +45,8 @@ fn is_on_edge(lie: &Lie, edge: usize) -> bool
 fn edges_along(alloc: Global, inflated: &Inflated, edge: usize) -> Result<Vec<PlacedEdge>, NoMemory>
     ensures edges { (rule : ProgramRule) (kind : ℕ) → IsInflated rule kind inflated.now
         → IfOk result (λ found. map (edge_in rule.order) found.items
-        ≡ boundary_among (points_of rule.order) (rule_of rule) (child_edges (points_of rule.order) (rule_of rule) kind)
+        ≡ boundary_among (points_of rule.order) (rule_of rule)
+        (child_edges (points_of rule.order) (rule_of rule) kind)
         (inflated_edges (points_of rule.order) (rule_of rule) kind) edge) }
     ensures fit { (rule : ProgramRule) (kind : ℕ) → IsInflated rule kind inflated.now
         → IfOk result (λ found. All (IsFit rule) found.items) }
@@ -62,7 +63,8 @@ fn edges_along(alloc: Global, inflated: &Inflated, edge: usize) -> Result<Vec<Pl
 /// Those of these edges that begin at a point.
 fn edges_from(edges: &[PlacedEdge], p: &Point) -> Few<PlacedEdge>
     ensures { (rule : ProgramRule) → All (IsFit rule) edges.now → IsOf rule.order p.now
-        → result ≡ few_of (filter (λ s. (points_of rule.order).same (point_in rule.order s.line.from) (point_in rule.order p.now)) edges.now) }
+        → result ≡ few_of (filter (λ s. (points_of rule.order).same
+        (point_in rule.order s.line.from) (point_in rule.order p.now)) edges.now) }
 {
     let mut found = Few::None;
     for edge in edges {
@@ -110,7 +112,8 @@ fn parts_among(
     }
 }
 
-/// The names of the child edges that are the parts, in order, of an edge of the inflated prototile.
+/// The names of the child edges that are the parts, in order, of an edge of the inflated prototile;
+/// or the fault of the first part that fails.
 pub(crate) fn parts_of_edge(
     alloc: Global,
     rule: &Rule,
@@ -122,8 +125,10 @@ pub(crate) fn parts_of_edge(
     requires kind_exists { kind < length (rule_of rule.now).kinds }
     requires edge_exists { edge < edge_count (rule_of rule.now) kind }
     requires inflated { IsInflated rule.now kind inflated.now }
-    ensures fault { Agrees result (part_fault kind edge (the_parts (points_of rule.now.order) (rule_of rule.now) kind edge)) }
-    ensures parts { IfOk result (λ names. map as_child_edge names.items ≡ named_parts (points_of rule.now.order) (rule_of rule.now) kind edge) }
+    ensures fault { Agrees result (part_fault kind edge
+        (the_parts (points_of rule.now.order) (rule_of rule.now) kind edge)) }
+    ensures parts { IfOk result (λ names. map as_child_edge names.items
+        ≡ named_parts (points_of rule.now.order) (rule_of rule.now) kind edge) }
     ensures few { IfOk result (λ names. length names.items ≤ 8) }
 {
     let along = edges_along(alloc, inflated, edge)?;

@@ -38,7 +38,8 @@ fn contact_at(name: ChildEdge, lie: &Lie, parts: &[Vec<ChildEdge>]) -> Contact
     requires below { IsBelow (length parts.now) lie.now }
     requires few { All AreFew parts.now }
     ensures { (rule : ProgramRule) (kind : ℕ) → AreParts rule kind parts.now
-        → as_contact result ≡ contact_by (points_of rule.order) (rule_of rule) kind (as_child_edge name) (as_lie lie.now) }
+        → as_contact result ≡ contact_by (points_of rule.order) (rule_of rule) kind
+        (as_child_edge name) (as_lie lie.now) }
 {
     match lie {
         Lie::Inner { child, edge } => Contact::Inner {
@@ -62,9 +63,10 @@ fn contacts_of_child(
 ) -> Result<Vec<Contact>, NoMemory>
     requires below { All (IsBelow (length parts.now)) inflated.now.lies.items }
     requires few { All AreFew parts.now }
-    ensures { (rule : ProgramRule) (kind : ℕ) → IsInflated rule kind inflated.now → AreParts rule kind parts.now
-        → child < length (children_of (rule_of rule) kind)
-        → IfOk result (λ contacts. map as_contact contacts.items ≡ contacts_of_child (points_of rule.order) (rule_of rule) kind child) }
+    ensures { (rule : ProgramRule) (kind : ℕ) → IsInflated rule kind inflated.now
+        → AreParts rule kind parts.now → child < length (children_of (rule_of rule) kind)
+        → IfOk result (λ contacts. map as_contact contacts.items
+        ≡ contacts_of_child (points_of rule.order) (rule_of rule) kind child) }
 {
     let mut contacts = Vec::new(alloc);
     for (edge, lie) in inflated.edges.iter().zip(&inflated.lies) {
@@ -87,7 +89,8 @@ fn contacts_of_kind(
     requires inflated { IsInflated rule.now kind inflated.now }
     requires parts { AreParts rule.now kind parts.now }
     ensures { IfOk result (λ lists. map (λ list. map as_contact list.items) lists.items
-        ≡ below (contacts_of_child (points_of rule.now.order) (rule_of rule.now) kind) (length (children_of (rule_of rule.now) kind))) }
+        ≡ below (contacts_of_child (points_of rule.now.order) (rule_of rule.now) kind)
+        (length (children_of (rule_of rule.now) kind))) }
 {
     let mut lists = Vec::new(alloc);
     for child in 0..rule.child_count(kind) {
@@ -109,7 +112,9 @@ fn types_of_kind(alloc: Global, rule: &Rule, kind: usize) -> Result<Vec<u8>, NoM
 /// The kind of each child of a kind.
 fn kinds_of_children(alloc: Global, rule: &Rule, kind: usize) -> Result<Vec<u8>, NoMemory>
     requires { kind < length (rule_of rule.now).kinds }
-    ensures { IfOk result (λ kinds. kinds.items ≡ map (λ (child : TheChild (NumberOf rule.now.order)). child.kind) (children_of (rule_of rule.now) kind)) }
+    ensures { IfOk result (λ kinds. kinds.items
+        ≡ map (λ (child : TheChild (NumberOf rule.now.order)). child.kind)
+        (children_of (rule_of rule.now) kind)) }
 {
     let row = &rule.kinds[kind];
     Ok(row.children.iter().map(|child| child.kind).collect(alloc)?)
@@ -126,7 +131,8 @@ pub(crate) fn rows_of_kind(
     requires kind_exists { kind < length (rule_of rule.now).kinds }
     requires inflated { IsInflated rule.now kind inflated.now }
     requires parts { AreParts rule.now kind parts.items }
-    ensures { IfOk result (λ rows. as_kind rows ≡ tables_of_kind (points_of rule.now.order) (rule_of rule.now) kind) }
+    ensures { IfOk result (λ rows. as_kind rows
+        ≡ tables_of_kind (points_of rule.now.order) (rule_of rule.now) kind) }
 {
     Ok(KindRows {
         types: types_of_kind(alloc, rule, kind)?,

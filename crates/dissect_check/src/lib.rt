@@ -7,17 +7,17 @@
 //! fails, at its first place.
 #![tactic(auto)]
 
-mod boundary;
-pub mod check_fault;
-mod fits;
 mod boundaries;
+mod boundary;
 pub mod check;
+pub mod check_fault;
 mod child_edges;
 mod child_kinds;
 mod clauses;
 mod contacts;
-mod few;
 mod factor;
+mod few;
+mod fits;
 mod glue;
 mod inflated;
 mod inflation;
@@ -25,14 +25,18 @@ mod lengths;
 mod lie;
 mod limits;
 mod line;
-mod mates;
 mod loose;
 mod lying;
+mod mates;
 mod placed_edge;
+#[cfg(test)]
+mod rules;
+mod same_point;
 mod stars;
 mod subdivisions;
 mod tables;
+#[cfg(test)]
+mod tests;
 mod uses;
-mod same_point;
 pub mod what;
 mod wholes;

@@ -1,5 +1,8 @@
-use Rattle.std.proofs.Common.{sym}
+use Rattle.std.specs.Global.{Global}
+use Rattle.std.proofs.Common.{Vec, sym}
 use Rattle.std.proofs.lemmas.Result.{err_from_is_err_and}
+use Rattle.edge_tables.specs.declared.kind_rows.KindRows.{KindRows}
+use Rattle.rule_model.specs.declared.rule.Rule.{Rule}
 use Rattle.dissect_check.proofs.Chains.{agrees_front, agrees_behind}
 use Rattle.dissect_check.proofs.NoFault.{front, rest, usable-front, no_fault, accepted-both, coherent-both}
 use Rattle.dissect_check.proofs.check.checked.Goals as goal
@@ -8,7 +11,7 @@ pub returns-in_err-before_children-clause-fault : goal.returns-in_err-before_chi
 returns-in_err-before_children-clause-fault c =
     let r = c.args.rule in
     let p = err_from_is_err_and c.from_residual.result c.from_residual.ensures.1 in
-    rw (p.1, p.2) (agrees_front _ c.in_err-before_children.field-0.0 (front r) (rest r) c.in_err-before_children.ensures)
+    rw (p.1, p.2) (agrees_front Rule c.in_err-before_children.field-0.0 (front r) (rest r) c.in_err-before_children.ensures)
 
 pub children-requires : goal.children-requires
 children-requires c = record { usable = usable-front c.args.rule c.in_ok-before_children.ensures }
@@ -17,7 +20,7 @@ pub returns-in_err-rows-clause-fault : goal.returns-in_err-rows-clause-fault
 returns-in_err-rows-clause-fault c =
     let r = c.args.rule in
     let p = err_from_is_err_and c.from_residual-in_err-rows.result c.from_residual-in_err-rows.ensures.1 in
-    rw (p.1, p.2) (agrees_behind _ _ c.in_err-rows.field-0.0 (front r) (rest r) (sym c.in_ok-before_children.ensures) c.in_err-rows.ensures.fault)
+    rw (p.1, p.2) (agrees_behind (Vec KindRows Global) Rule c.in_err-rows.field-0.0 (front r) (rest r) (sym c.in_ok-before_children.ensures) c.in_err-rows.ensures.fault)
 
 pub tables_of-requires-clause-coherent : goal.tables_of-requires-clause-coherent
 tables_of-requires-clause-coherent c = coherent-both c.args.rule c.points_law.ensures c.in_ok-before_children.ensures c.in_ok-rows.ensures.fault

@@ -1,5 +1,7 @@
-use Rattle.std.proofs.Common.{[], ◌∷◌, sym}
+use Rattle.std.specs.Global.{Global}
+use Rattle.std.proofs.Common.{Vec, [], ◌∷◌, sym}
 use Rattle.std.proofs.lemmas.Result.{err_from_is_err_and}
+use Rattle.edge_tables.specs.declared.kind_rows.KindRows.{KindRows}
 use Rattle.dissect_check.specs.FirstFault.{loose_edges, boundaries, uses, glues}
 use Rattle.dissect_check.proofs.Chains.{agrees_front, agrees_first, agrees_behind}
 use Rattle.dissect_check.proofs.check.children.Goals as goal
@@ -8,4 +10,4 @@ pub returns-in_err-loose_edges-clause-fault : goal.returns-in_err-loose_edges-cl
 returns-in_err-loose_edges-clause-fault c =
     let r = c.args.rule.now in
     let p = err_from_is_err_and c.from_residual.result c.from_residual.ensures.1 in
-    rw (p.1, p.2) (agrees_first _ _ c.in_err-loose_edges.field-0.0 (loose_edges r) (boundaries r ∷ uses r ∷ glues r ∷ []) c.in_err-loose_edges.ensures)
+    rw (p.1, p.2) (agrees_first (Unit {0}) (Vec KindRows Global) c.in_err-loose_edges.field-0.0 (loose_edges r) (boundaries r ∷ uses r ∷ glues r ∷ []) c.in_err-loose_edges.ensures)

@@ -1,6 +1,6 @@
 use Rattle.std.proofs.Common.{◌≡◌, map, ◌∙◌, rules}
 use Rattle.rule_model.specs.declared.child.Child.{Child}
-use Rattle.dissect_check.proofs.KindRowsOf.{row_there, kinds_are}
+use Rattle.dissect_check.proofs.RowOfKind.{row_there, kinds_are}
 use Rattle.dissect_check.proofs.contacts.kinds_of_children.Goals as goal
 
 pub returns : goal.returns

@@ -1,5 +1,5 @@
 use Rattle.std.proofs.Common.{◌++◌, ap₂, ◌∙◌}
-use Rattle.dissect_check.proofs.KindRowsOf.{row_there, types_are}
+use Rattle.dissect_check.proofs.RowOfKind.{row_there, types_are}
 use Rattle.dissect_check.proofs.contacts.types_of_kind.Goals as goal
 
 pub returns : goal.returns

@@ -4,7 +4,7 @@ use Rattle.std.proofs.Common.{ℕ, ◌||◌, arith, sym, ap, ◌∙◌}
 use Rattle.substitution.specs.RuleParts.{mate, edge_types}
 use Rattle.substitution.specs.Uses.{glue_type}
 use Rattle.rule_model.specs.Views.{rule_of}
-use Rattle.dissect_check.proofs.Tests.{some_below-found}
+use Rattle.dissect_check.proofs.BoolLoops.{some_below-found}
 use Rattle.dissect_check.proofs.glue.is_glued_before.Goals as goal
 
 pub returns-then-has_edge_along : goal.returns-then-has_edge_along

@@ -5,7 +5,7 @@ use Rattle.substitution.specs.Star.{fan_triangle}
 use Rattle.cyclo_points.specs.Order.{points_of}
 use Rattle.cyclo_points.specs.Places.{reals_of}
 use Rattle.rule_model.specs.Views.{rule_of}
-use Rattle.dissect_check.proofs.Tests.{all_below-stop, all_below-more}
+use Rattle.dissect_check.proofs.BoolLoops.{all_below-stop, all_below-more}
 use Rattle.dissect_check.proofs.stars.fan_turns_left.Goals as goal
 
 pub returns-then-not-turns_left : goal.returns-then-not-turns_left

@@ -1,0 +1,71 @@
+//! The clause that the boundary child edges along each inflated edge are its parts, and the contact
+//! tables that they give.
+ghost use Rattle.std.specs.Prelude.{◌≡◌, ◌<◌, map, length, IfOk};
+ghost use Rattle.substitution.specs.Search.{below};
+ghost use Rattle.substitution.specs.Contacts.{tables_of_kind};
+ghost use Rattle.cyclo_points.specs.Order.{points_of};
+ghost use Rattle.edge_tables.specs.Views.{as_kind};
+ghost use Rattle.rule_model.specs.Usable.{IsUsable};
+ghost use Rattle.rule_model.specs.Views.{rule_of};
+ghost use Rattle.dissect_check.specs.Agrees.{Agrees};
+ghost use Rattle.dissect_check.specs.FirstFault.{boundary_of_kind, boundaries};
+ghost use Rattle.dissect_check.specs.Views.{IsInflated};
+ghost use Rattle.dissect_check.specs.Parts.{AreParts};
+
+use crate::boundary::parts_of_edge;
+use crate::check_fault::CheckFault;
+use crate::contacts::rows_of_kind;
+use crate::inflated::Inflated;
+use crate::inflation::inflated;
+use edge_tables::child_edge::ChildEdge;
+use edge_tables::kind_rows::KindRows;
+use rule_model::rule::Rule;
+use std::alloc::Global;
+
+/// The parts of each edge of a kind, or the first that fails.
+fn parts_of_kind(
+    alloc: Global,
+    rule: &Rule,
+    parent: &Inflated,
+    kind: usize,
+) -> Result<Vec<Vec<ChildEdge>>, CheckFault>
+    requires usable { IsUsable rule.now }
+    requires kind_exists { kind < length (rule_of rule.now).kinds }
+    requires inflated { IsInflated rule.now kind parent.now }
+    ensures fault { Agrees result (boundary_of_kind rule.now kind) }
+    ensures parts { IfOk result (λ parts. AreParts rule.now kind parts.items) }
+{
+    let mut parts = Vec::new(alloc);
+    for edge in 0..rule.edge_count(kind) {
+        parts.push(parts_of_edge(alloc, rule, parent, kind, edge)?)?;
+    }
+    Ok(parts)
+}
+
+/// The contact tables of a kind, or its first part that fails.
+fn tables_of_kind(alloc: Global, rule: &Rule, kind: usize) -> Result<KindRows, CheckFault>
+    requires usable { IsUsable rule.now }
+    requires kind_exists { kind < length (rule_of rule.now).kinds }
+    ensures fault { Agrees result (boundary_of_kind rule.now kind) }
+    ensures tables { IfOk result (λ rows. as_kind rows
+        ≡ tables_of_kind (points_of rule.now.order) (rule_of rule.now) kind) }
+{
+    let parent = inflated(alloc, rule, kind)?;
+    let parts = parts_of_kind(alloc, rule, &parent, kind)?;
+    Ok(rows_of_kind(alloc, rule, &parent, kind, parts)?)
+}
+
+/// The contact tables of each kind, or the first part that fails, kind by kind.
+pub(crate) fn boundaries(alloc: Global, rule: &Rule) -> Result<Vec<KindRows>, CheckFault>
+    requires usable { IsUsable rule.now }
+    ensures fault { Agrees result (boundaries rule.now) }
+    ensures tables { IfOk result (λ rows. map as_kind rows.items
+        ≡ below (tables_of_kind (points_of rule.now.order) (rule_of rule.now))
+        (length (rule_of rule.now).kinds)) }
+{
+    let mut rows = Vec::new(alloc);
+    for kind in 0..rule.kind_count() {
+        rows.push(tables_of_kind(alloc, rule, kind)?)?;
+    }
+    Ok(rows)
+}
