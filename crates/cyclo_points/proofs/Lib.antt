@@ -16,6 +16,7 @@ pub mod ProductSizes
 pub mod ProductReadings
 pub mod Reals
 pub mod Shorts
+pub mod Witnesses
 pub mod SignReadings
 pub mod Divisors
 pub mod RealProducts

@@ -14,14 +14,16 @@ use crate::real::Real;
 use crate::short::is_short;
 use std::cmp::Ordering;
 
-/// The convergent 54608393/38613965 of √2, by Pell's numbers.
+/// The denominator of the convergent 54608393/38613965 of √2, a Pell number.
 const PELL: i64 = 38613965;
 
+/// Its numerator.
 const HALF_COMPANION: i64 = 54608393;
 
-/// The convergent 165580141/102334155 of the golden ratio.
+/// The denominator of the convergent 165580141/102334155 of the golden ratio, a Fibonacci number.
 const FIBONACCI: i64 = 102334155;
 
+/// Its numerator, the next one.
 const NEXT_FIBONACCI: i64 = 165580141;
 
 /// The order of r and 0. Parts may be up to 2^61.

@@ -10,14 +10,17 @@ use crate::order::Order;
 use crate::real::Real;
 use std::cmp::Ordering;
 
-/// The convergent 2140758220993/1513744654945 of √2, by Pell's numbers.
+/// The denominator of the convergent 2140758220993/1513744654945 of √2, a Pell number.
 const PELL: i128 = 1513744654945;
 
+/// Its numerator.
 const HALF_COMPANION: i128 = 2140758220993;
 
-/// The convergent 4052739537881/2504730781961 of the golden ratio.
+/// The denominator of the convergent 4052739537881/2504730781961 of the golden ratio, a Fibonacci
+/// number.
 const FIBONACCI: i128 = 2504730781961;
 
+/// Its numerator, the next one.
 const NEXT_FIBONACCI: i128 = 4052739537881;
 
 /// The greatest whole number not above 1000 r: the one f with f ≤ 1000 r < f + 1. Parts may be up to

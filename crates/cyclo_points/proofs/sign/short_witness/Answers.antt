@@ -6,7 +6,7 @@ use Rattle.ordered_ring.proofs.Squares.{no_root_two, no_root_five}
 use Rattle.cyclo_points.specs.Point.{Within}
 use Rattle.cyclo_points.proofs.Sizes.{within_product}
 use Rattle.cyclo_points.proofs.Reals.{reading, sign_at}
-use Rattle.cyclo_points.proofs.SignReadings.{IsNear, sign-by_near}
+use Rattle.cyclo_points.proofs.Witnesses.{IsNear, sign-by_near}
 use Rattle.cyclo_points.proofs.sign.short_witness.Goals as goal
 
 -- 54608393² is 2 * 38613965² - 1

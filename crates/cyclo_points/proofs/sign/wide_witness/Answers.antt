@@ -5,7 +5,8 @@ use Rattle.ordered_ring.proofs.Ordered.{two_above, five_above}
 use Rattle.ordered_ring.proofs.Squares.{no_root_two, no_root_five}
 use Rattle.cyclo_points.specs.Point.{Within}
 use Rattle.cyclo_points.proofs.Reals.{reading, sign_at}
-use Rattle.cyclo_points.proofs.SignReadings.{product-is_square, squared_within, sign-by_squares, two_squares, five_squares}
+use Rattle.cyclo_points.proofs.SignReadings.{product-is_square, squared_within, two_squares, five_squares}
+use Rattle.cyclo_points.proofs.Witnesses.{sign-by_squares}
 use Rattle.cyclo_points.proofs.sign.wide_witness.Goals as goal
 
 -- ---- the two numbers that are squared, as the code reads them

@@ -8,7 +8,7 @@ use Rattle.cyclo_points.specs.declared.order.Order.TheVariants.{Eight, Ten}
 use Rattle.cyclo_points.specs.Point.{Within}
 use Rattle.cyclo_points.proofs.Sizes.{within_product}
 use Rattle.cyclo_points.proofs.Reals.{reading, sign_at}
-use Rattle.cyclo_points.proofs.SignReadings.{IsNear, sign-by_near}
+use Rattle.cyclo_points.proofs.Witnesses.{IsNear, sign-by_near}
 use Rattle.cyclo_points.proofs.Floors.{div-at_most, div-below_next}
 use Rattle.cyclo_points.proofs.thousandths.floor_multiple.Goals as goal
 
