@@ -1,8 +1,7 @@
 -- What the words ask has one answer: the cause of one status is no cause of another.
-use Rattle.std.proofs.Common.{◌≡◌, ◌⊎◌, ◌↔◌, inl, inr, ℕ, ◌<◌, Bool, true, false, cond, List, codes, Some, None, Ok, Err, refl, sym, ap, ap₂, ◌∙◌, subst, lit≤, arith}
+use Rattle.std.proofs.Common.{◌≡◌, ◌⊎◌, ◌↔◌, inl, inr, ℕ, ◌<◌, List, Some, None, Ok, Err, refl, sym, ap, ap₂, ◌∙◌, subst, lit≤, arith}
 use Rattle.std.specs.declared.option.Option.{Option}
-use Rattle.std.specs.Option.{option_and_then}
-use Rattle.std.specs.Str.{bytes_eq}
+use Rattle.std.specs.Option.{option_and_then, option_map}
 use Rattle.substitution.specs.Address.{Address, Fits}
 use Rattle.substitution.specs.Rule.{child_kinds}
 use Rattle.substitution.specs.Tables.{Tables}
@@ -21,7 +20,9 @@ use Rattle.tile_app.specs.Asked.{Asks, AsksForTile, GivesNoAddress}
 use Rattle.tile_app.specs.Crossing.{AsksAcross, HasNoEdge, LiesOutside, CanBeCrossed, edges_of}
 use Rattle.tile_app.specs.Placing.{PassesLimit, CanBePlaced, first_refused}
 use Rattle.tile_app.specs.Status.{IsBadAddress, IsCoordLimit, IsRefusal, IsRefused}
-use Rattle.tile_app.specs.Tilings.{Tiling, chair, chair_rule, tiling_named}
+use Rattle.builtin_rules.specs.declared.name.Name.TheVariants.{Chair}
+use Rattle.builtin_rules.specs.declared.name.Name.{Name}
+use Rattle.tile_app.specs.Tilings.{Tiling, builtin_tiling, contacts, name_in, tiling_named}
 use Rattle.tile_app.specs.Words.{command_of, value_given, AreRight}
 
 some_is : {A : Type 0} (x y : A) → Some x ≡ Some y → x ≡ y
@@ -66,16 +67,17 @@ pub record Laws : Type 0 where
   pub short : FitsAreShort
   pub one_trace : OneTrace
 
-is_chair : (name : Option (List ℕ)) (t : Tiling) → option_and_then tiling_named name ≡ Some t → t ≡ chair
-is_chair None t e = absurd (cc e)
-is_chair (Some v) t e = at_test (bytes_eq v (codes "chair")) e
+-- a tiling that is named is that of a built-in rule, whose child kinds are usable
+is_builtin : (text : Option (List ℕ)) (t : Tiling) → option_and_then tiling_named text ≡ Some t → (name : Name) × (t ≡ builtin_tiling name)
+is_builtin None t e = absurd (cc e)
+is_builtin (Some v) t e = at_name (name_in v) e
   where
-    at_test : (b : Bool) → cond b (Some chair) None ≡ Some t → t ≡ chair
-    at_test true f = sym (some_is chair t f)
-    at_test false f = absurd (cc f)
+    at_name : (o : Option Name) → option_map builtin_tiling o ≡ Some t → (name : Name) × (t ≡ builtin_tiling name)
+    at_name None f = absurd (cc f)
+    at_name (Some name) f = (name, sym (some_is (builtin_tiling name) t f))
 
-chair_is_usable : IsUsable (child_kinds chair_rule)
-chair_is_usable = record {
+builtin_is_usable : (name : Name) → IsUsable (child_kinds (builtin_tiling name).rule)
+builtin_is_usable Chair = record {
   some_kind = lit≤ tt;
   at_most_16_kinds = lit≤ tt;
   some_child = refl;
@@ -87,8 +89,11 @@ chair_is_usable = record {
 module _ (laws : Laws) (words : List (List ℕ)) where
   tells : (c : Command) (t : Tiling) (text : List ℕ) → Asks words c t text → TextsTell (child_kinds t.rule)
   tells c t text p =
-      subst (λ (s : Tiling). TextsTell (child_kinds s.rule)) (sym (is_chair (value_given Rule words) t p.named))
-      (λ a b g h e. laws.one_text a b (laws.short (child_kinds chair_rule) a chair_is_usable g.fits) (laws.short (child_kinds chair_rule) b chair_is_usable h.fits) e)
+      let rule = is_builtin (value_given Rule words) t p.named in
+      let children = child_kinds (builtin_tiling rule.0).rule in
+      let is_usable = builtin_is_usable rule.0 in
+      subst (λ (s : Tiling). TextsTell (child_kinds s.rule)) (sym rule.1)
+      (λ a b g h e. laws.one_text a b (laws.short children a is_usable g.fits) (laws.short children b is_usable h.fits) e)
 
   -- one address is asked for
   same_address : (c d : Command) (s t : Tiling) (a b : Address) → AsksForTile words c s a → AsksForTile words d t b → a ≡ b
@@ -114,7 +119,7 @@ module _ (laws : Laws) (words : List (List ℕ)) where
   Exists t a e = e < edges_of t a.kind
 
   abbrev HasNoTrace : Tiling → Address → ℕ → Type 0
-  HasNoTrace t a e = (top : ℕ) (cuts : List Cut) → HasTrace t.tables a e top cuts → ⊥
+  HasNoTrace t a e = (top : ℕ) (cuts : List Cut) → HasTrace (contacts t) a e top cuts → ⊥
 
   -- an edge exists or doesn't
   edge_or_none : (s : Tiling) (a : Address) (own edge edges : ℕ) → AsksAcross words s a own → own < edges_of s a.kind → HasNoEdge words edge edges → ⊥
@@ -134,8 +139,8 @@ module _ (laws : Laws) (words : List (List ℕ)) where
 
   same_outside : (e i f j : ℕ) → LiesOutside words e i → LiesOutside words f j → Outside e i ≡ Outside f j
   same_outside e i f j p q =
-      let trace : HasTrace q.tiling.tables q.address q.own e p.cuts = of_asked (λ t a g. HasTrace t.tables a g e p.cuts) p.tiling q.tiling p.address q.address p.own q.own p.asked q.asked p.trace in
-      let one = laws.one_trace q.tiling.tables q.address q.own e f p.cuts q.cuts trace q.trace in
+      let trace : HasTrace (contacts q.tiling) q.address q.own e p.cuts = of_asked (λ t a g. HasTrace (contacts t) a g e p.cuts) p.tiling q.tiling p.address q.address p.own q.own p.asked q.asked p.trace in
+      let one = laws.one_trace (contacts q.tiling) q.address q.own e f p.cuts q.cuts trace q.trace in
       ap₂ Outside one.0 (p.is_part ∙ ap first_part one.1 ∙ sym q.is_part)
 
 -- ---- statuses and their causes

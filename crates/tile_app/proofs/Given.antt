@@ -10,6 +10,7 @@ use Rattle.tile_app.specs.declared.words.Command.TheVariants.{Place, Neighbour}
 use Rattle.tile_app.specs.declared.words.Key.{Key}
 use Rattle.tile_app.specs.declared.words.Key.TheVariants.{Rule, Addr, Edge}
 use Rattle.tile_app.specs.Numbers.{number_up_to}
+use Rattle.tile_app.specs.Tilings.{name_in}
 use Rattle.tile_app.specs.Words.{key_text, command_named, keys_of, required_keys, has_form, is_equals, value_in, value_given, is_right, wrong_place, command_of}
 
 -- ---- what is given among more words
@@ -166,6 +167,12 @@ GivesBoth-right Neighbour words e =
     let h = Gives-right Neighbour words e in
     let r = both_true _ _ h.required in
     both_given words h.forms r.0 (both_true _ _ r.1).0
+
+pub rule_is_name : (words : List (List ℕ)) (text : List ℕ) → GivesBoth words → value_given Rule words ≡ Some text → is_some (name_in text) ≡ true
+rule_is_name words text h e = let same : h.rule ≡ text = some_is h.rule text (sym h.is_rule ∙ e) in subst (λ t. is_some (name_in t) ≡ true) same h.has_form
+  where
+    some_is : (x y : List ℕ) → Some x ≡ Some y → x ≡ y
+    some_is x y f = cc
 
 -- and for `neighbour` the number of an edge
 pub record GivesEdge (words : List (List ℕ)) : Type 0 where

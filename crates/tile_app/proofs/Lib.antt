@@ -1,4 +1,5 @@
 pub mod Children
+pub mod Tilings
 pub mod Values
 pub mod Causes
 pub mod Descent
@@ -8,3 +9,4 @@ pub mod Given
 pub mod Asking
 pub mod Counting
 pub mod Edges
+pub mod Beginning

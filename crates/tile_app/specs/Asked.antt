@@ -14,10 +14,14 @@ use Rattle.tile_app.specs.Numbers.{number_up_to}
 use Rattle.tile_app.specs.Tilings.{Tiling, tiling_named}
 use Rattle.tile_app.specs.Words.{command_of, value_given}
 
+-- the words name this tiling
+abbrev pub NamesTiling : List (List ℕ) → Tiling → Type 0
+NamesTiling words t = option_and_then tiling_named (value_given Rule words) ≡ Some t
+
 -- the words are right and have this command; this is the tiling that they name, and the text that they give for an address
 pub record Asks (words : List (List ℕ)) (command : Command) (t : Tiling) (text : List ℕ) : Type 0 where
   pub right : command_of words ≡ Ok command
-  pub named : option_and_then tiling_named (value_given Rule words) ≡ Some t
+  pub named : NamesTiling words t
   pub given : value_given Addr words ≡ Some text
 
 -- the text is that of this address, which is accepted

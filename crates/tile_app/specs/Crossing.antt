@@ -7,11 +7,11 @@ use Rattle.substitution.specs.Trace.{Cut, HasTrace, first_part}
 use Rattle.tile_app.specs.declared.words.Command.TheVariants.{Neighbour}
 use Rattle.tile_app.specs.Asked.{AsksForTile, edge_given}
 use Rattle.tile_app.specs.Text.{neighbour_line}
-use Rattle.tile_app.specs.Tilings.{Tiling}
+use Rattle.tile_app.specs.Tilings.{Tiling, contacts}
 
 -- how many edges a kind has
 abbrev pub edges_of : Tiling → ℕ → ℕ
-edges_of t kind = length (kind_tables t.tables kind).types
+edges_of t kind = length (kind_tables (contacts t) kind).types
 
 -- the words ask for the tile across this edge of a tile
 pub record AsksAcross (words : List (List ℕ)) (t : Tiling) (a : Address) (edge : ℕ) : Type 0 where
@@ -21,7 +21,7 @@ pub record AsksAcross (words : List (List ℕ)) (t : Tiling) (a : Address) (edge
 -- the tile has the edge, and it has no trace to an edge of the supertile
 pub record IsInside (t : Tiling) (a : Address) (edge : ℕ) : Type 0 where
   pub exists : edge < edges_of t a.kind
-  pub no_trace : (top : ℕ) (cuts : List Cut) → HasTrace t.tables a edge top cuts → ⊥
+  pub no_trace : (top : ℕ) (cuts : List Cut) → HasTrace (contacts t) a edge top cuts → ⊥
 
 -- the words ask for the tile across an edge, and this text has the one tile, with its edge, that the edge touches
 pub record PrintsNeighbour (words : List (List ℕ)) (text : List ℕ) : Type 0 where
@@ -32,7 +32,7 @@ pub record PrintsNeighbour (words : List (List ℕ)) (text : List ℕ) : Type 0 
   pub inside : IsInside tiling address edge
   pub across : Address
   pub back : ℕ
-  pub touched : IsOnlyTouched tiling.tables address edge across back
+  pub touched : IsOnlyTouched (contacts tiling) address edge across back
   pub line : text ≡ neighbour_line across back
 
 -- they do, but the tile has only so many edges, and not this one
@@ -51,7 +51,7 @@ pub record LiesOutside (words : List (List ℕ)) (edge part : ℕ) : Type 0 wher
   pub asked : AsksAcross words tiling address own
   pub exists : own < edges_of tiling address.kind
   pub cuts : List Cut
-  pub trace : HasTrace tiling.tables address own edge cuts
+  pub trace : HasTrace (contacts tiling) address own edge cuts
   pub is_part : part ≡ first_part cuts
 
 -- they do, and the edge is inside

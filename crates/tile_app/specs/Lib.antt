@@ -1,6 +1,6 @@
 pub mod Numbers
-pub mod Words
 pub mod Tilings
+pub mod Words
 pub mod Text
 pub mod Asked
 pub mod Placing

@@ -11,6 +11,7 @@ use Rattle.tile_app.specs.declared.words.Command.TheVariants.{Place, Neighbour}
 use Rattle.tile_app.specs.declared.words.Key.{Key}
 use Rattle.tile_app.specs.declared.words.Key.TheVariants.{Rule, Addr, Edge}
 use Rattle.tile_app.specs.Numbers.{number_up_to}
+use Rattle.tile_app.specs.Tilings.{name_in}
 
 -- the words as their bytes
 abbrev pub texts : {A : Type 0} → List (String A) → List (List ℕ)
@@ -39,7 +40,7 @@ required_keys Neighbour = Rule ∷ Addr ∷ Edge ∷ []
 
 -- whether a value has the form of its key: a rule is one of the names known, an address any text, and an edge a number from 0 to 255
 abbrev pub has_form : Key → List ℕ → Bool
-has_form Rule value = bytes_eq value (codes "chair")
+has_form Rule value = is_some (name_in value)
 has_form Addr value = true
 has_form Edge value = is_some (number_up_to 255 value)
 

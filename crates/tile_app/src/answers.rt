@@ -4,33 +4,46 @@ ghost use Rattle.tile_shape.specs.Views.{address_of};
 ghost use Rattle.tile_app.specs.declared.words.Command.{Command};
 ghost use Rattle.tile_app.specs.declared.words.Command.TheVariants.{Place, Neighbour};
 ghost use Rattle.tile_app.specs.Answers.{Prints};
-ghost use Rattle.tile_app.specs.Asked.{AsksForTile, edge_given};
+ghost use Rattle.tile_app.specs.Asked.{NamesTiling, AsksForTile, edge_given};
 ghost use Rattle.tile_app.specs.Status.{IsRefused};
-ghost use Rattle.tile_app.specs.Tilings.{chair};
+ghost use Rattle.tile_app.specs.Tilings.{tiling_of};
 ghost use Rattle.tile_app.specs.Words.{texts, command_of, AreRight};
 
 use crate::neighbour::neighbour;
 use crate::number::number_up_to_255;
 use crate::place::place;
+use crate::rule_name::name_in;
 use crate::status::Status;
 use crate::text::{neighbour_line, place_line};
 use crate::words::{Command, Key, command_of};
-use crate::{chair, contacts};
+use builtin_rules::builtin::builtin;
+use rule_model::checked::Checked;
 use std::alloc::Global;
 use tile_shape::address::Address;
+use tile_shape::no_memory::NoMemory;
 use tile_shape::reading::read_address;
 use transducer_core::transducer::Transducer;
 
-/// The address that right words give.
-fn address_given(alloc: Global, words: &[String]) -> Result<Address, Status>
+/// The built-in rule that right words name.
+fn rule_given(alloc: Global, words: &[String]) -> Result<Checked, NoMemory>
     requires { AreRight (texts words.now) }
+    ensures { IfOk result (λ checked. NamesTiling (texts words.now) (tiling_of checked)) }
+{
+    let text = Key::Rule.value_given(words).unwrap();
+    let name = name_in(text).unwrap();
+    builtin(alloc, name)
+}
+
+/// The address that right words give, of a tile of the tiling that they name.
+fn address_given(checked: &Checked, words: &[String]) -> Result<Address, Status>
+    requires right { AreRight (texts words.now) }
+    requires named { NamesTiling (texts words.now) (tiling_of checked.now) }
     ensures asked { IfOk result (λ a. (command : Command) → command_of (texts words.now) ≡ Ok command
-        → AsksForTile (texts words.now) command chair (address_of a)) }
+        → AsksForTile (texts words.now) command (tiling_of checked.now) (address_of a)) }
     ensures refused { IfErr result (IsRefused (texts words.now)) }
 {
     let text = Key::Addr.value_given(words).unwrap();
-    let uses = chair::uses(alloc)?;
-    Ok(read_address(&uses, text.as_bytes())?)
+    Ok(read_address(checked.uses(), text.as_bytes())?)
 }
 
 /// The number of the edge that right words of `neighbour` give.
@@ -43,30 +56,32 @@ fn edge_given(words: &[String]) -> u8
 }
 
 /// The line that `place` prints.
-fn place_text(alloc: Global, words: &[String]) -> Result<String, Status>
-    requires { command_of (texts words.now) ≡ Ok Place }
+fn place_text(alloc: Global, checked: &Checked, words: &[String]) -> Result<String, Status>
+    requires right { command_of (texts words.now) ≡ Ok Place }
+    requires named { NamesTiling (texts words.now) (tiling_of checked.now) }
     ensures printed { IfOk result (λ text. Prints (texts words.now) (string_bytes text)) }
     ensures refused { IfErr result (IsRefused (texts words.now)) }
 {
-    let address = address_given(alloc, words)?;
-    let motion = place(&address)?;
+    let address = address_given(checked, words)?;
+    let motion = place(checked, &address)?;
     Ok(place_line(alloc, address.kind, &motion)?)
 }
 
 /// The line that `neighbour` prints.
-fn neighbour_text(alloc: Global, words: &[String]) -> Result<String, Status>
-    requires { command_of (texts words.now) ≡ Ok Neighbour }
+fn neighbour_text(alloc: Global, checked: &Checked, words: &[String]) -> Result<String, Status>
+    requires right { command_of (texts words.now) ≡ Ok Neighbour }
+    requires named { NamesTiling (texts words.now) (tiling_of checked.now) }
     ensures printed { IfOk result (λ text. Prints (texts words.now) (string_bytes text)) }
     ensures refused { IfErr result (IsRefused (texts words.now)) }
 {
-    let address = address_given(alloc, words)?;
+    let address = address_given(checked, words)?;
     let edge = edge_given(words);
-    let tables = contacts::tables(alloc)?;
+    let tables = checked.tables();
     let edges = tables.edges(address.kind);
     if edge >= edges {
         return Err(Status::NoEdge { edge, edges });
     }
-    let transducer = Transducer::compile(alloc, &tables)?;
+    let transducer = Transducer::compile(alloc, tables)?;
     let crossing = neighbour(&transducer, &address, edge)?;
     Ok(neighbour_line(alloc, &crossing.addr, crossing.edge)?)
 }
@@ -76,9 +91,13 @@ pub fn text_of(alloc: Global, words: &[String]) -> Result<String, Status>
     ensures printed { IfOk result (λ text. Prints (texts words.now) (string_bytes text)) }
     ensures refused { IfErr result (IsRefused (texts words.now)) }
 {
-    match command_of(words) {
-        Ok(Command::Place) => place_text(alloc, words),
-        Ok(Command::Neighbour) => neighbour_text(alloc, words),
-        Err(place) => Err(Status::BadWords { place }),
+    let command = match command_of(words) {
+        Ok(command) => command,
+        Err(place) => return Err(Status::BadWords { place }),
+    };
+    let checked = rule_given(alloc, words)?;
+    match command {
+        Command::Place => place_text(alloc, &checked, words),
+        Command::Neighbour => neighbour_text(alloc, &checked, words),
     }
 }

@@ -4,12 +4,11 @@
 #![tactic(auto)]
 
 mod answers;
-mod chair;
-mod contacts;
 mod neighbour;
 mod note;
 mod number;
 mod place;
+mod rule_name;
 pub mod run;
 pub mod status;
 #[cfg(test)]

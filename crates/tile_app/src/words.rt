@@ -5,6 +5,7 @@ ghost use Rattle.std.specs.List.{list_all};
 ghost use Rattle.tile_app.specs.Words.{texts, key_text, command_named, keys_of, required_keys, has_form, value_in, value_given, is_right, command_of};
 
 use crate::number::number_up_to_255;
+use crate::rule_name::name_in;
 
 /// A command of the program.
 #[derive(Clone, Copy, Debug, PartialEq, Eq)]
@@ -78,7 +79,7 @@ impl Key {
         ensures { result ≡ has_form self value.now }
     {
         match self {
-            Key::Rule => value == "chair",
+            Key::Rule => name_in(value).is_some(),
             Key::Addr => true,
             Key::Edge => number_up_to_255(value).is_some(),
         }
