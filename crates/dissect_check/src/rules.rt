@@ -55,6 +55,53 @@ pub fn kind(
     Ok(row)
 }
 
+/// Replaces the mate of a type.
+pub fn set_mate(rule: &mut Rule, ty: usize, mate: u8) {
+    if let Some(row) = rule.types.get_mut(ty) {
+        row.mate = mate;
+    }
+}
+
+/// Replaces the parts of a type.
+pub fn set_parts(rule: &mut Rule, ty: usize, parts: &[u8]) -> Result<(), NoMemory> {
+    if let Some(row) = rule.types.get_mut(ty) {
+        row.parts.clear();
+        row.parts.extend_from_slice(parts)?;
+    }
+    Ok(())
+}
+
+/// Replaces the vertices of kind 0.
+pub fn set_vertices(rule: &mut Rule, vertices: &[[i64; 4]]) -> Result<(), NoMemory> {
+    if let Some(row) = rule.kinds.get_mut(0) {
+        row.vertices.clear();
+        for vertex in vertices {
+            row.vertices.push(point(*vertex))?;
+        }
+    }
+    Ok(())
+}
+
+/// Replaces the types of the edges of kind 0.
+pub fn set_edges(rule: &mut Rule, edges: &[u8]) -> Result<(), NoMemory> {
+    if let Some(row) = rule.kinds.get_mut(0) {
+        row.edges.clear();
+        row.edges.extend_from_slice(edges)?;
+    }
+    Ok(())
+}
+
+/// Replaces the children of kind 0.
+pub fn set_children(rule: &mut Rule, children: &[Placed]) -> Result<(), NoMemory> {
+    if let Some(row) = rule.kinds.get_mut(0) {
+        row.children.clear();
+        for placed in children {
+            row.children.push(child(*placed))?;
+        }
+    }
+    Ok(())
+}
+
 /// The four children of the chair.
 pub const CHAIR_CHILDREN: [Placed; 4] = [
     (0, 0, [0, 0, 0, 0]),
@@ -90,8 +137,10 @@ pub fn doubled(
         kinds: Vec::new(alloc),
     };
     rule.types.push(edge_type(alloc, 0, &[0, 0])?)?;
-    let edges = [0; 24];
-    let row = kind(alloc, vertices, &edges[..vertices.len()], children)?;
+    let mut row = kind(alloc, vertices, &[], children)?;
+    for _vertex in vertices {
+        row.edges.push(0)?;
+    }
     rule.kinds.push(row)?;
     Ok(rule)
 }

@@ -2,8 +2,8 @@
 use crate::check::check;
 use crate::check_fault::CheckFault;
 use crate::rules::{
-    CHAIR, CHAIR_CHILDREN, Placed, chair, child, doubled, edge_type, half_rhombs, kind, point,
-    right_triangle, square, table,
+    CHAIR, CHAIR_CHILDREN, Placed, chair, doubled, edge_type, half_rhombs, kind, point,
+    right_triangle, set_children, set_edges, set_mate, set_parts, set_vertices, square, table,
 };
 use crate::what::What;
 use rule_model::rule::Rule;
@@ -63,11 +63,11 @@ fn numbers_beyond_the_limits(rt: HostRuntime) -> Result<(), NoMemory> {
     let what = What::Glue;
     assert_eq!(rt; fault(alloc, rule), Some(CheckFault::TooMany { what }));
     let mut rule = chair(alloc)?;
-    rule.types[0].mate = 1;
+    set_mate(&mut rule, 0, 1);
     let what = What::Mate { ty: 0 };
     assert_eq!(rt; fault(alloc, rule), Some(CheckFault::TooMany { what }));
     let mut rule = chair(alloc)?;
-    rule.types[0].parts.clear();
+    set_parts(&mut rule, 0, &[])?;
     let what = What::Parts { ty: 0 };
     assert_eq!(rt; fault(alloc, rule), Some(CheckFault::TooMany { what }));
     Ok(())
@@ -77,23 +77,25 @@ fn numbers_beyond_the_limits(rt: HostRuntime) -> Result<(), NoMemory> {
 fn numbers_of_a_kind_beyond_the_limits(rt: HostRuntime) -> Result<(), NoMemory> {
     let alloc = rt.alloc();
     let mut rule = chair(alloc)?;
-    rule.kinds[0].edges.push(0)?;
+    set_edges(&mut rule, &[0, 0, 0, 0, 0, 0, 0, 0, 0])?;
     let what = What::Edges { kind: 0 };
     assert_eq!(rt; fault(alloc, rule), Some(CheckFault::TooMany { what }));
     // in order four a point has no third coefficient
     let mut rule = chair(alloc)?;
-    rule.kinds[0].vertices[0] = point([1, 1, 1, 0]);
+    let mut vertices = CHAIR;
+    vertices[0] = [1, 1, 1, 0];
+    set_vertices(&mut rule, &vertices)?;
     let what = What::Vertex { kind: 0 };
     assert_eq!(rt; fault(alloc, rule), Some(CheckFault::TooMany { what }));
     // a turn of order four is below 4
     let mut rule = chair(alloc)?;
-    rule.kinds[0].children[3].turn = 4;
+    let mut children = CHAIR_CHILDREN;
+    children[3].1 = 4;
+    set_children(&mut rule, &children)?;
     let what = What::Child { kind: 0 };
     assert_eq!(rt; fault(alloc, rule), Some(CheckFault::TooMany { what }));
     let mut rule = chair(alloc)?;
-    for _ in 0..13 {
-        rule.kinds[0].children.push(child(CHAIR_CHILDREN[0]))?;
-    }
+    set_children(&mut rule, &[CHAIR_CHILDREN[0]; 17])?;
     assert_eq!(rt; fault(alloc, rule), Some(CheckFault::TooMany { what }));
     Ok(())
 }
@@ -103,8 +105,10 @@ fn prototiles_that_are_no_stars(rt: HostRuntime) -> Result<(), NoMemory> {
     let alloc = rt.alloc();
     let not_star = Some(CheckFault::NotStar { kind: 0 });
     // clockwise
+    let mut vertices = CHAIR;
+    vertices.reverse();
     let mut rule = chair(alloc)?;
-    rule.kinds[0].vertices.reverse();
+    set_vertices(&mut rule, &vertices)?;
     assert_eq!(rt; fault(alloc, rule), not_star);
     // from the corner of a domino, the first edge and the second are seen as one
     let from_the_corner = [
@@ -148,12 +152,8 @@ fn prototiles_that_are_no_stars(rt: HostRuntime) -> Result<(), NoMemory> {
         [0, -1, 0, 0],
     ];
     let mut rule = half_rhombs(alloc)?;
-    rule.kinds[0].vertices.clear();
-    rule.kinds[0].edges.clear();
-    for vertex in pentagram {
-        rule.kinds[0].vertices.push(point(vertex))?;
-        rule.kinds[0].edges.push(0)?;
-    }
+    set_vertices(&mut rule, &pentagram)?;
+    set_edges(&mut rule, &[0, 0, 0, 0, 0])?;
     assert_eq!(rt; fault(alloc, rule), not_star);
     Ok(())
 }
@@ -178,23 +178,21 @@ fn edge_types(rt: HostRuntime) -> Result<(), NoMemory> {
     let alloc = rt.alloc();
     // type 1 is the mate of both types
     let mut rule = chair(alloc)?;
-    rule.types[0].mate = 1;
+    set_mate(&mut rule, 0, 1);
     rule.types.push(edge_type(alloc, 1, &[0, 0])?)?;
     assert_eq!(rt; fault(alloc, rule), Some(CheckFault::BadMate { ty: 0 }));
     // the hypotenuse of the right triangle is called a leg
     let mut rule = right_triangle(alloc)?;
-    rule.kinds[0].edges[1] = 0;
+    set_edges(&mut rule, &[0, 0, 0])?;
     let bad_length = CheckFault::BadLength { kind: 0, edge: 1 };
     assert_eq!(rt; fault(alloc, rule), Some(bad_length));
     // the diagonal of a thin rhomb is called a side
     let mut rule = half_rhombs(alloc)?;
-    rule.kinds[0].edges[1] = 0;
+    set_edges(&mut rule, &[0, 0, 3])?;
     assert_eq!(rt; fault(alloc, rule), Some(bad_length));
     // x is cut in the other order, and its mate as before
     let mut rule = half_rhombs(alloc)?;
-    rule.types[6].parts.clear();
-    rule.types[6].parts.push(1)?;
-    rule.types[6].parts.push(7)?;
+    set_parts(&mut rule, 6, &[1, 7])?;
     let bad_subdivision = CheckFault::BadSubdivision { ty: 6 };
     assert_eq!(rt; fault(alloc, rule), Some(bad_subdivision));
     Ok(())
@@ -205,17 +203,22 @@ fn loose_child_edges(rt: HostRuntime) -> Result<(), NoMemory> {
     let alloc = rt.alloc();
     // a hole: child 1 of the chair is missing
     let mut rule = chair(alloc)?;
-    rule.kinds[0].children.remove(1);
+    set_children(
+        &mut rule,
+        &[CHAIR_CHILDREN[0], CHAIR_CHILDREN[2], CHAIR_CHILDREN[3]],
+    )?;
     assert_eq!(rt; fault(alloc, rule), loose(0, 0));
     // an overlap of equal area: child 1 lies on child 0
     let mut rule = chair(alloc)?;
-    rule.kinds[0].children[1] = child(CHAIR_CHILDREN[0]);
+    let mut children = CHAIR_CHILDREN;
+    children[1] = children[0];
+    set_children(&mut rule, &children)?;
     assert_eq!(rt; fault(alloc, rule), loose(0, 0));
     // wound twice: each child is given twice
     let mut rule = chair(alloc)?;
-    for placed in CHAIR_CHILDREN {
-        rule.kinds[0].children.push(child(placed))?;
-    }
+    let [first, second, third, fourth] = CHAIR_CHILDREN;
+    let twice = [first, second, third, fourth, first, second, third, fourth];
+    set_children(&mut rule, &twice)?;
     assert_eq!(rt; fault(alloc, rule), loose(0, 0));
     // a square of side 3 isn't filled by four: the right side of child 1 is free
     let mut rule = square(alloc)?;
@@ -223,7 +226,7 @@ fn loose_child_edges(rt: HostRuntime) -> Result<(), NoMemory> {
     assert_eq!(rt; fault(alloc, rule), loose(1, 1));
     // the right triangle's second half turned about its height
     let mut rule = right_triangle(alloc)?;
-    rule.kinds[0].children[1].turn = 4;
+    set_children(&mut rule, &[(0, 3, [0, 1, 0, 0]), (0, 4, [0, 1, 0, 0])])?;
     assert_eq!(rt; fault(alloc, rule), loose(0, 2));
     Ok(())
 }
@@ -233,22 +236,19 @@ fn boundaries_cut_otherwise(rt: HostRuntime) -> Result<(), NoMemory> {
     let alloc = rt.alloc();
     // a leg of the right triangle grows to a hypotenuse and isn't one leg
     let mut rule = right_triangle(alloc)?;
-    rule.types[0].parts[0] = 0;
+    set_parts(&mut rule, 0, &[0])?;
     assert_eq!(rt; fault(alloc, rule), boundary_wrong(0, 0, 0));
     // an edge of the chair has two parts, and not one; nor three
     let mut rule = chair(alloc)?;
-    rule.types[0].parts.clear();
-    rule.types[0].parts.push(0)?;
+    set_parts(&mut rule, 0, &[0])?;
     assert_eq!(rt; fault(alloc, rule), boundary_wrong(0, 0, 1));
     let mut rule = chair(alloc)?;
-    rule.types[0].parts.push(0)?;
+    set_parts(&mut rule, 0, &[0, 0, 0])?;
     assert_eq!(rt; fault(alloc, rule), boundary_wrong(0, 0, 2));
     // the two parts of the long edge of a thick rhomb's half stand in the other order
     let mut rule = half_rhombs(alloc)?;
-    rule.types[6].parts[0] = 1;
-    rule.types[6].parts[1] = 7;
-    rule.types[7].parts[0] = 6;
-    rule.types[7].parts[1] = 0;
+    set_parts(&mut rule, 6, &[1, 7])?;
+    set_parts(&mut rule, 7, &[6, 0])?;
     assert_eq!(rt; fault(alloc, rule), boundary_wrong(2, 1, 0));
     Ok(())
 }
