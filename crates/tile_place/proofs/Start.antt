@@ -1,0 +1,39 @@
+-- The motion that Horner's scheme begins with moves nothing, in each order.
+use Rattle.std.proofs.Common.{◌≡◌, ℕ, ℤ, pos, ◌<◌, refl, arith}
+use Rattle.std.proofs.lemmas.Int.{ints}
+use Rattle.substitution.specs.Motion.{still}
+use Rattle.cyclo_points.specs.declared.order.Order.{Order}
+use Rattle.cyclo_points.specs.declared.order.Order.TheVariants.{Four, Eight, Ten}
+use Rattle.cyclo_points.specs.declared.motion.Motion.{Motion}
+use Rattle.cyclo_points.specs.declared.point.Point.{Point}
+use Rattle.cyclo_points.specs.Order.{points_of}
+use Rattle.cyclo_points.specs.Point.{coefficient, IsOf, Within, IsWithin}
+use Rattle.cyclo_points.specs.Motion.{motion_in}
+
+-- each coefficient is 0
+pub record IsOrigin (p : Point) : Type 0 where
+  pub at_0 : coefficient p 0 ≡ pos 0
+  pub at_1 : coefficient p 1 ≡ pos 0
+  pub at_2 : coefficient p 2 ≡ pos 0
+  pub at_3 : coefficient p 3 ≡ pos 0
+
+pub start-still : (o : Order) (m : Motion) → m.turn ≡ 0 → IsOrigin m.shift → motion_in o m ≡ still (points_of o)
+start-still Four m t h = rw (t, h.at_0, h.at_1) refl
+start-still Eight m t h = rw (t, h.at_0, h.at_1, h.at_2, h.at_3) refl
+start-still Ten m t h = rw (t, h.at_0, h.at_1, h.at_2, h.at_3) refl
+
+pub start-turn : (o : Order) (m : Motion) → m.turn ≡ 0 → m.turn < (points_of o).order
+start-turn Four m t = omega arith
+start-turn Eight m t = omega arith
+start-turn Ten m t = omega arith
+
+pub start-in_order : (o : Order) (p : Point) → IsOrigin p → IsOf o p
+start-in_order Four p h = (h.at_2, h.at_3)
+start-in_order Eight p h = tt
+start-in_order Ten p h = tt
+
+within-zero : (n : ℕ) (x : ℤ) → x ≡ pos 0 → Within n x
+within-zero n x h = record { low = omega (arith, ints); high = omega (arith, ints) }
+
+pub start-within : (n : ℕ) (p : Point) → IsOrigin p → IsWithin n p
+start-within n p h = record { at_0 = within-zero n _ h.at_0; at_1 = within-zero n _ h.at_1; at_2 = within-zero n _ h.at_2; at_3 = within-zero n _ h.at_3 }
