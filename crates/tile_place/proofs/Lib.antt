@@ -5,3 +5,4 @@ pub mod Sizes
 pub mod Start
 pub mod Finer
 pub mod Descent
+pub mod Example

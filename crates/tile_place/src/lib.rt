@@ -11,3 +11,7 @@ pub mod coord_limit;
 pub mod machine;
 mod place;
 pub mod placed_tile;
+#[cfg(test)]
+mod tests;
+#[cfg(test)]
+mod triangle;

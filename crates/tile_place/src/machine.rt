@@ -2,7 +2,7 @@
 ghost use Rattle.std.specs.Prelude.{◌≡◌, ◌+◌, ◌*◌, ◌≤◌, ◌<◌, ◌^◌, ℕ, List, None, Some, IsSome, IsOk, IfOk, IfErr, Err};
 ghost use Rattle.substitution.specs.Address.{Address as TheAddress, depth, Fits};
 ghost use Rattle.substitution.specs.Supertile.{StandsBeside};
-ghost use Rattle.substitution.specs.Tables.{type_of};
+ghost use Rattle.substitution.specs.Tables.{child_kinds, type_of};
 ghost use Rattle.substitution.specs.Touch.{Touches, IsOnlyTouched};
 ghost use Rattle.substitution.specs.Trace.{Cut, HasTrace, first_part};
 ghost use Rattle.cyclo_points.specs.Order.{points_of};
@@ -61,11 +61,12 @@ impl Machine {
         })
     }
 
-    /// The checked rule.
+    /// The checked rule. It is accepted, and its tables and its uses speak of the same children.
     pub fn checked(&self) -> &Checked
         ensures rule { result.now ≡ self.now }
         ensures accepted { IsAccepted self.now }
         ensures usable { IsUsable self.now }
+        ensures same_child_kinds { child_kinds (contacts_of self.now) ≡ uses_of self.now }
     {
         let _accepted = self.checked.rule();
         &self.checked

@@ -1,0 +1,99 @@
+-- The example's rule is accepted, with its contact tables, by evaluation.
+use Rattle.std.proofs.Common.{◌≡◌, ℕ, zero, suc, ◌<◌, Bool, true, false, not, List, [], ◌∷◌, refl, sym, ◌∙◌, subst, arith}
+use Rattle.std.specs.Prelude.{is_ok}
+use Rattle.std.specs.List.{list_all, AllByRecursion}
+use Rattle.std.proofs.lemmas.Bool.{and_parts, not-true}
+use Rattle.substitution.specs.Rule as theory
+use Rattle.substitution.specs.Rule.{child_kinds}
+use Rattle.substitution.specs.RuleParts.{edge_count, map_rule}
+use Rattle.substitution.specs.Contacts.{tables_of}
+use Rattle.substitution.specs.Limited.{WithinLimits}
+use Rattle.substitution.specs.Dissection.{IsDissection}
+use Rattle.substitution.specs.EdgeTypes.{has_length_of_type}
+use Rattle.substitution.specs.Edges.{PlacedEdge, child_edges}
+use Rattle.substitution.specs.Lying.{lie_of, is_loose}
+use Rattle.substitution.specs.Boundary.{parts_of_edge}
+use Rattle.substitution.specs.Tables.{Tables, child_kinds as tables_child_kinds}
+use Rattle.cyclo_points.specs.declared.order.Order.{Order}
+use Rattle.cyclo_points.specs.declared.order.Order.TheVariants.{Four}
+use Rattle.cyclo_points.specs.declared.point.Point.{Point}
+use Rattle.cyclo_points.specs.Order.{NumberOf, points_of, is_refused}
+use Rattle.cyclo_points.specs.Point.{point_in}
+use Rattle.rule_model.specs.declared.rule.Rule.{Rule}
+use Rattle.rule_model.specs.Accepted.{IsAccepted}
+use Rattle.rule_model.specs.Checked.{contacts_of, uses_of}
+use Rattle.rule_model.specs.Small.{is_small}
+use Rattle.rule_model.specs.Views.{as_rule}
+use Rattle.tile_place.specs.Triangle.{triangle, triangle_tables, IsTriangle}
+
+abbrev numbers : theory.Rule (NumberOf Four)
+numbers = map_rule (point_in Four) triangle
+
+-- ---- tests of the one kind, the two types and the three edges
+one : (Q : ℕ → Type 0) → Q 0 → (k : ℕ) → k < 1 → Q k
+one Q a zero l = a
+one Q a (suc k) l = absurd (omega arith)
+
+two : (Q : ℕ → Type 0) → Q 0 → Q 1 → (k : ℕ) → k < 2 → Q k
+two Q a b zero l = a
+two Q a b (suc zero) l = b
+two Q a b (suc (suc k)) l = absurd (omega arith)
+
+three : (Q : ℕ → Type 0) → Q 0 → Q 1 → Q 2 → (k : ℕ) → k < 3 → Q k
+three Q a b c zero l = a
+three Q a b c (suc zero) l = b
+three Q a b c (suc (suc zero)) l = c
+three Q a b c (suc (suc (suc k))) l = absurd (omega arith)
+
+none : {A : Type 0} (bad : A → Bool) (xs : List A) → list_all (λ x. not (bad x)) xs ≡ true → AllByRecursion (λ x. bad x ≡ false) xs
+none bad [] h = tt
+none bad (x ∷ xs) h = let both = and_parts (not (bad x)) (list_all (λ x. not (bad x)) xs) h in (not-true (bad x) both.0, none bad xs both.1)
+
+limits : WithinLimits 4 (is_small Four) triangle
+limits = record {
+  kinds = refl;
+  types = refl;
+  factor = refl;
+  glue = refl;
+  mates = two _ refl refl;
+  parts = two _ refl refl;
+  edges = one _ refl;
+  vertices = one _ refl;
+  children = one _ refl;
+}
+
+not_loose : list_all (λ (s : PlacedEdge (NumberOf Four)). not (is_loose (lie_of (points_of Four) numbers 0 s))) (child_edges (points_of Four) numbers 0) ≡ true
+not_loose = refl
+
+dissection : IsDissection (points_of Four) (is_refused Four) numbers
+dissection = record {
+  star_shaped = one _ refl;
+  inflation_factor = refl;
+  mates_back = two _ refl refl;
+  equal_lengths = λ k e l. one (λ k. (e : ℕ) → e < edge_count numbers k → has_length_of_type (points_of Four) numbers k e ≡ true) (three (λ e. has_length_of_type (points_of Four) numbers 0 e ≡ true) refl refl refl) k l e;
+  mirrored = two _ refl refl;
+  none_loose = one (λ k. AllByRecursion (λ (s : PlacedEdge (NumberOf Four)). is_loose (lie_of (points_of Four) numbers k s) ≡ false) (child_edges (points_of Four) numbers k))
+      (none (λ (s : PlacedEdge (NumberOf Four)). is_loose (lie_of (points_of Four) numbers 0 s)) (child_edges (points_of Four) numbers 0) not_loose);
+  boundary_cut = λ k e l. one (λ k. (e : ℕ) → e < edge_count numbers k → is_ok (parts_of_edge (points_of Four) numbers k e) ≡ true) (three (λ e. is_ok (parts_of_edge (points_of Four) numbers 0 e) ≡ true) refl refl refl) k l e;
+  each_used = one _ refl;
+  glue_right = λ i l. absurd (omega arith);
+}
+
+contacts : tables_of (points_of Four) numbers ≡ triangle_tables
+contacts = refl
+
+-- ---- the rule of the program
+moved : (Q : Order → theory.Rule Point → Type 0) (r : Rule) → IsTriangle r → Q Four triangle → Q r.order (as_rule r)
+moved Q r is h = subst (λ o. Q o (as_rule r)) (sym is.order) (subst (Q Four) (sym is.lists) h)
+
+pub accepted : (r : Rule) → IsTriangle r → IsAccepted r
+accepted r is = record {
+  limits = moved (λ o l. WithinLimits (points_of o).order (is_small o) l) r is limits;
+  dissection = moved (λ o l. IsDissection (points_of o) (is_refused o) (map_rule (point_in o) l)) r is dissection;
+}
+
+pub its_tables : (r : Rule) (t : Tables) → IsTriangle r → t ≡ triangle_tables → t ≡ contacts_of r
+its_tables r t is h = moved (λ o l. t ≡ tables_of (points_of o) (map_rule (point_in o) l)) r is (h ∙ sym contacts)
+
+pub its_uses : (r : Rule) (u : List (List ℕ)) → IsTriangle r → u ≡ tables_child_kinds triangle_tables → u ≡ uses_of r
+its_uses r u is h = moved (λ o l. u ≡ child_kinds (map_rule (point_in o) l)) r is h
