@@ -1,23 +1,14 @@
 //! The machine of a checked rule.
-ghost use Rattle.std.specs.Prelude.{◌≡◌, ◌+◌, ◌*◌, ◌≤◌, ◌<◌, ◌^◌, ℕ, List, None, Some, IsSome, IsOk, IfOk, IfErr, Err};
+ghost use Rattle.std.specs.Prelude.{◌≡◌, ◌+◌, ◌*◌, ◌≤◌, ℕ, List, IsSome, IsOk, IfOk, IfErr, Err};
 ghost use Rattle.substitution.specs.Address.{Address as TheAddress, depth, Fits};
-ghost use Rattle.substitution.specs.Supertile.{StandsBeside};
 ghost use Rattle.substitution.specs.Tables.{child_kinds, type_of};
 ghost use Rattle.substitution.specs.Touch.{Touches, IsOnlyTouched};
 ghost use Rattle.substitution.specs.Trace.{Cut, HasTrace, first_part};
-ghost use Rattle.cyclo_points.specs.Order.{points_of};
-ghost use Rattle.cyclo_points.specs.Point.{point_in, IsOf, IsWithin};
-ghost use Rattle.cyclo_points.specs.Motion.{motion_in};
 ghost use Rattle.rule_model.specs.Accepted.{IsAccepted};
 ghost use Rattle.rule_model.specs.Checked.{contacts_of, uses_of};
 ghost use Rattle.rule_model.specs.Usable.{IsUsable};
-ghost use Rattle.rule_model.specs.Views.{rule_of};
 ghost use Rattle.tile_shape.specs.Views.{address_of};
-ghost use Rattle.tile_place.specs.Placing.{first_refused};
 
-use crate::coord_limit::CoordLimit;
-use crate::place::place;
-use cyclo_points::motion::Motion;
 use edge_tables::steps::Steps;
 use rule_model::checked::Checked;
 use std::alloc::Global;
@@ -70,24 +61,6 @@ impl Machine {
     {
         let _accepted = self.checked.rule();
         &self.checked
-    }
-
-    /// The motion that stands beside the address of a tile in the list of its supertile's tiles. A Horner
-    /// value that has a coefficient above 2^24 in absolute value is refused; the answer is then the first,
-    /// from coarse to fine.
-    pub fn place(&self, addr: &Address) -> Result<Motion, CoordLimit>
-        requires fits { Fits (uses_of self.now) (address_of addr.now) }
-        ensures beside { IfOk result (λ motion. StandsBeside (points_of self.now.order) (rule_of self.now)
-            (address_of addr.now) (motion_in self.now.order motion)) }
-        ensures within { IfOk result (λ _. first_refused self.now.order (rule_of self.now) (address_of addr.now).digits ≡ None) }
-        ensures turn_below { IfOk result (λ motion. motion.turn < (points_of self.now.order).order) }
-        ensures shift_within { IfOk result (λ motion. IsWithin (2 ^ 24) motion.shift) }
-        ensures in_order { IfOk result (λ motion. IsOf self.now.order motion.shift) }
-        ensures limit { IfErr result (λ limit. first_refused self.now.order (rule_of self.now) (address_of addr.now).digits
-            ≡ Some (point_in self.now.order limit.value)) }
-        ensures limit_in_order { IfErr result (λ limit. IsOf self.now.order limit.value) }
-    {
-        place(&self.checked, addr)
     }
 
     /// The tile across an edge with the edge that leads back, or the supertile's own edge on which the
