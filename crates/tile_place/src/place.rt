@@ -53,6 +53,7 @@ impl Machine {
         }
         Ok(motion)
     }
+
     /// One digit finer: from the motion of a tile's ancestor to that of the ancestor's child.
     fn finer(&self, motion: &Motion, step: Step) -> Motion
         requires parent { step.parent < length (rule_of self.now).kinds }
