@@ -7,6 +7,8 @@
 //! and the laws on which dissections rest are proved for every order at once.
 #![tactic(auto)]
 
+#[cfg(test)]
+mod bound_tests;
 pub mod box_edges;
 #[cfg(test)]
 mod box_tests;
