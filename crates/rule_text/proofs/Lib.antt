@@ -1,0 +1,4 @@
+pub mod Walks
+pub mod Items
+pub mod Points
+pub mod KeyLaws

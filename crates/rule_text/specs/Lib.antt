@@ -1,0 +1,6 @@
+pub mod Forms
+pub mod Ranges
+pub mod Steps
+pub mod Document
+pub mod File
+pub mod Agrees

@@ -1,0 +1,34 @@
+-- The ranges of numbers, and what numbers in range stand for.
+use Rattle.std.specs.Prelude.{ℕ, ℤ, pos, List, drop, get_or, Option, Some, None, nat_abs, int_le, int_lt, ◌&&◌, if◌then◌else◌}
+use Rattle.std.specs.Ordering.{int_eq}
+use Rattle.substitution.specs.Rule.{Child}
+use Rattle.cyclo_points.specs.declared.order.Order.{Order}
+use Rattle.cyclo_points.specs.declared.order.Order.TheVariants.{Four, Eight, Ten}
+use Rattle.cyclo_points.specs.declared.point.Point.{Point}
+use Rattle.cyclo_points.specs.Order.{points_of}
+use Rattle.rule_model.specs.Small.{is_small}
+use Rattle.rule_text.specs.Forms.{◌>>=◌}
+
+-- a number from 0 to below n
+abbrev pub below : ℕ → ℤ → Option ℕ
+below n z = if int_le (pos 0) z && int_lt z (pos n) then Some (nat_abs z) else None
+
+-- the one format
+abbrev pub format_of : ℤ → Option ℕ
+format_of z = if int_eq z (pos 1) then Some 1 else None
+
+-- an order: 4, 8 or 10
+abbrev pub order_of : ℤ → Option Order
+order_of z = if int_eq z (pos 4) then Some Four else if int_eq z (pos 8) then Some Eight else if int_eq z (pos 10) then Some Ten else None
+
+-- a point of the order with these four coefficients, each from -64 to 64
+abbrev pub point_of : Order → List ℤ → Option Point
+point_of o zs = if is_small o (record { c = zs }) then Some (record { c = zs }) else None
+
+-- a child: a kind below 16, a turn below the order, and four coefficients of the shift
+abbrev pub child_of : Order → List ℤ → Option (Child Point)
+child_of o zs = do
+  kind ← below 16 (get_or zs 0 (pos 0))
+  turn ← below (points_of o).order (get_or zs 1 (pos 0))
+  shift ← point_of o (drop 2 zs)
+  Some (record { kind = kind; motion = record { turn = turn; shift = shift } })

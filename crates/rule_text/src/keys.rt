@@ -1,0 +1,162 @@
+//! The value of each key: missing, of another form, out of range, or read.
+ghost use Rattle.std.specs.Prelude.{◌≡◌, codes, map, option_map, Some};
+ghost use Rattle.toml.specs.Data.{as_integer, get_member};
+ghost use Rattle.toml.specs.View.{view, table_view};
+ghost use Rattle.rule_model.specs.Views.{as_child};
+ghost use Rattle.rule_text.specs.Agrees.{Gives};
+ghost use Rattle.rule_text.specs.Forms.{each, integers, row, rows, tables};
+ghost use Rattle.rule_text.specs.Ranges.{below, format_of, order_of, point_of, child_of};
+ghost use Rattle.rule_text.specs.Steps.{value_at};
+
+use crate::key::Key;
+use crate::text_fault::TextFault;
+use crate::{forms, ranges};
+use cyclo_points::order::Order;
+use cyclo_points::point::Point;
+use rule_model::child::Child;
+use std::alloc::Global;
+use toml::{Table, Value};
+
+/// How many edge types a file may name.
+const TYPE_LIMIT: u8 = 32;
+
+/// The value at a name.
+fn value_named<'a>(table: &'a Table, name: &str) -> Option<&'a Value>
+    ensures { option_map (λ v. view v.now) result ≡ get_member name.now (table_view table.now) }
+{
+    table.get(name)
+}
+
+/// The format.
+#[tactic(auto, unfolding(crate::specs::Steps::value_at))]
+pub(crate) fn format(table: &Table) -> Result<u8, TextFault>
+    ensures { Gives (λ n. n) result (value_at Key.Format (codes "format") as_integer format_of (table_view table.now)) }
+{
+    let key = Key::Format;
+    let Some(value) = value_named(table, "format") else {
+        return Err(TextFault::Missing { key });
+    };
+    let Some(number) = value.as_integer() else {
+        return Err(TextFault::WrongType { key });
+    };
+    ranges::format_of(number).ok_or(TextFault::OutOfRange { key })
+}
+
+/// The order.
+#[tactic(auto, unfolding(crate::specs::Steps::value_at))]
+pub(crate) fn order(table: &Table) -> Result<Order, TextFault>
+    ensures { Gives (λ o. o) result (value_at Key.Order (codes "order") as_integer order_of (table_view table.now)) }
+{
+    let key = Key::Order;
+    let Some(value) = value_named(table, "order") else {
+        return Err(TextFault::Missing { key });
+    };
+    let Some(number) = value.as_integer() else {
+        return Err(TextFault::WrongType { key });
+    };
+    ranges::order_of(number).ok_or(TextFault::OutOfRange { key })
+}
+
+/// The inflation factor.
+#[tactic(auto, unfolding(crate::specs::Steps::value_at))]
+pub(crate) fn lambda(alloc: Global, table: &Table, order: Order) -> Result<Point, TextFault>
+    ensures { Gives (λ p. p) result (value_at Key.Lambda (codes "lambda") (row 4) (point_of order) (table_view table.now)) }
+{
+    let key = Key::Lambda;
+    let Some(value) = value_named(table, "lambda") else {
+        return Err(TextFault::Missing { key });
+    };
+    let Some(numbers) = forms::row(alloc, value, 4)? else {
+        return Err(TextFault::WrongType { key });
+    };
+    ranges::point_of(order, numbers.as_slice()).ok_or(TextFault::OutOfRange { key })
+}
+
+/// An edge type.
+#[tactic(auto, unfolding(crate::specs::Steps::value_at))]
+pub(crate) fn type_number(table: &Table, name: &str, key: Key) -> Result<u8, TextFault>
+    ensures { Gives (λ n. n) result (value_at key name.now as_integer (below 32) (table_view table.now)) }
+{
+    let Some(value) = value_named(table, name) else {
+        return Err(TextFault::Missing { key });
+    };
+    let Some(number) = value.as_integer() else {
+        return Err(TextFault::WrongType { key });
+    };
+    ranges::number_below(number, TYPE_LIMIT).ok_or(TextFault::OutOfRange { key })
+}
+
+/// A list of edge types.
+#[tactic(auto, unfolding(crate::specs::Steps::value_at))]
+pub(crate) fn type_numbers(
+    alloc: Global,
+    table: &Table,
+    name: &str,
+    key: Key,
+) -> Result<Vec<u8>, TextFault>
+    ensures { Gives (λ v. v.items) result (value_at key name.now integers (each (below 32)) (table_view table.now)) }
+{
+    let Some(value) = value_named(table, name) else {
+        return Err(TextFault::Missing { key });
+    };
+    let Some(numbers) = forms::integers(alloc, value)? else {
+        return Err(TextFault::WrongType { key });
+    };
+    ranges::numbers_below(alloc, numbers.as_slice(), TYPE_LIMIT)?.ok_or(TextFault::OutOfRange {
+        key,
+    })
+}
+
+/// The vertices of a kind.
+#[tactic(auto, unfolding(crate::specs::Steps::value_at))]
+pub(crate) fn vertices(
+    alloc: Global,
+    table: &Table,
+    order: Order,
+    key: Key,
+) -> Result<Vec<Point>, TextFault>
+    ensures { Gives (λ v. v.items) result (value_at key (codes "vertices") (rows 4) (each (point_of order)) (table_view table.now)) }
+{
+    let Some(value) = value_named(table, "vertices") else {
+        return Err(TextFault::Missing { key });
+    };
+    let Some(rows) = forms::rows(alloc, value, 4)? else {
+        return Err(TextFault::WrongType { key });
+    };
+    ranges::points_of(alloc, order, rows.as_slice())?.ok_or(TextFault::OutOfRange { key })
+}
+
+/// The children of a kind.
+#[tactic(auto, unfolding(crate::specs::Steps::value_at))]
+pub(crate) fn children(
+    alloc: Global,
+    table: &Table,
+    order: Order,
+    key: Key,
+) -> Result<Vec<Child>, TextFault>
+    ensures { Gives (λ v. map as_child v.items) result (value_at key (codes "children") (rows 6) (each (child_of order)) (table_view table.now)) }
+{
+    let Some(value) = value_named(table, "children") else {
+        return Err(TextFault::Missing { key });
+    };
+    let Some(rows) = forms::rows(alloc, value, 6)? else {
+        return Err(TextFault::WrongType { key });
+    };
+    ranges::children_of(alloc, order, rows.as_slice())?.ok_or(TextFault::OutOfRange { key })
+}
+
+/// The entries of an array of tables.
+#[tactic(auto, unfolding(crate::specs::Steps::value_at))]
+pub(crate) fn entries<'a>(
+    alloc: Global,
+    table: &'a Table,
+    name: &str,
+    key: Key,
+) -> Result<Vec<&'a Table>, TextFault>
+    ensures { Gives (λ v. map (λ t. table_view t.now) v.items) result (value_at key name.now tables Some (table_view table.now)) }
+{
+    let Some(value) = value_named(table, name) else {
+        return Err(TextFault::Missing { key });
+    };
+    forms::tables(alloc, value)?.ok_or(TextFault::WrongType { key })
+}

@@ -1,0 +1,54 @@
+use crate::key::Key;
+use crate::place::Place;
+use std::alloc::{AllocError, AllocFailed};
+use tile_shape::no_memory::NoMemory;
+
+/// Why a text stands for no rule: the first fault in the order of the format.
+#[derive(Clone, Copy, Debug, PartialEq, Eq)]
+pub enum TextFault {
+    /// The bytes are no TOML document.
+    NotToml,
+    /// The key isn't there.
+    Missing { key: Key },
+    /// The value hasn't the form of its key.
+    WrongType { key: Key },
+    /// A number of the value is out of its range.
+    OutOfRange { key: Key },
+    /// The table has a further key.
+    UnknownKey { place: Place },
+    /// There was no memory for the reading.
+    NoMemory,
+}
+
+impl From<AllocError> for TextFault {
+    ghost use Rattle.std.specs.Prelude.{◌≡◌};
+    ghost use Rattle.rule_text.specs.declared.text_fault.TextFault.TheVariants.{NoMemory};
+
+    ghost from_gives = { λ _ fault. fault ≡ NoMemory };
+
+    fn from(_error: AllocError) -> TextFault {
+        TextFault::NoMemory
+    }
+}
+
+impl From<NoMemory> for TextFault {
+    ghost use Rattle.std.specs.Prelude.{◌≡◌};
+    ghost use Rattle.rule_text.specs.declared.text_fault.TextFault.TheVariants.{NoMemory};
+
+    ghost from_gives = { λ _ fault. fault ≡ NoMemory };
+
+    fn from(_error: NoMemory) -> TextFault {
+        TextFault::NoMemory
+    }
+}
+
+impl<T: Drop> From<AllocFailed<T>> for TextFault {
+    ghost use Rattle.std.specs.Prelude.{◌≡◌};
+    ghost use Rattle.rule_text.specs.declared.text_fault.TextFault.TheVariants.{NoMemory};
+
+    ghost from_gives = { λ _ fault. fault ≡ NoMemory };
+
+    fn from(_error: AllocFailed<T>) -> TextFault {
+        TextFault::NoMemory
+    }
+}
