@@ -2,3 +2,8 @@ pub mod Walks
 pub mod Items
 pub mod Points
 pub mod KeyLaws
+pub mod Names
+pub mod Rows
+pub mod Entries
+pub mod Faults
+pub mod Meaning

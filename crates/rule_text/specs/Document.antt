@@ -41,6 +41,14 @@ kind_in order k members = do
   children ← value_at (key.Children k) (codes "children") (rows 6) (each (child_of order)) members
   unless_further kind_keys (InKind k) members (record { vertices = vertices; edges = edges; children = children })
 
+-- the key of the edge types itself, then each of its entries
+unfoldable pub types_in : Members → Result (List EdgeType) TextFault
+types_in members = value_at key.TypeList (codes "type") tables Some members >>= in_order type_in 0
+
+-- the key of the kinds itself, then each of its entries
+unfoldable pub kinds_in : Order → Members → Result (List (Kind Point)) TextFault
+kinds_in order members = value_at key.KindList (codes "kind") tables Some members >>= in_order (kind_in order) 0
+
 -- the rule of the document
 unfoldable pub rule_in : Members → Result ListedRule TextFault
 rule_in members = do
@@ -48,8 +56,6 @@ rule_in members = do
   order ← value_at key.Order (codes "order") as_integer order_of members
   factor ← value_at key.Lambda (codes "lambda") (row 4) (point_of order) members
   glue ← value_at key.Glue (codes "glue") integers (each (below 32)) members
-  type_entries ← value_at key.TypeList (codes "type") tables Some members
-  types ← in_order type_in 0 type_entries
-  kind_entries ← value_at key.KindList (codes "kind") tables Some members
-  kinds ← in_order (kind_in order) 0 kind_entries
+  types ← types_in members
+  kinds ← kinds_in order members
   unless_further top_keys Top members (record { order = order; rule = record { factor = factor; glue = glue; types = types; kinds = kinds } })

@@ -1,7 +1,7 @@
 -- Reading goes on step by step, and the first fault is the answer.
-use Rattle.std.specs.Prelude.{ℕ, suc, Bool, true, List, [], ◌∷◌, Option, Result, Ok, Err, ok_or, ◌&&◌, if◌then◌else◌}
+use Rattle.std.specs.Prelude.{ℕ, suc, Bool, true, List, [], ◌∷◌, Option, Result, Ok, Err, bytes_eq, ok_or, ◌&&◌, if◌then◌else◌}
 use Rattle.std.specs.List.{list_any}
-use Rattle.toml.specs.Data.{Data, Members, no_members, member, get_member, same_key}
+use Rattle.toml.specs.Data.{Data, Members, no_members, member, get_member}
 use Rattle.rule_text.specs.declared.key.Key.{Key}
 use Rattle.rule_text.specs.declared.place.Place.{Place}
 use Rattle.rule_text.specs.declared.text_fault.TextFault.{TextFault}
@@ -19,10 +19,14 @@ value_at key name form range members = do
   x ← ok_or (form d) (WrongType key)
   ok_or (range x) (OutOfRange key)
 
--- each key is one of these
+-- the key is one of these
+abbrev pub is_among : List (List ℕ) → List ℕ → Bool
+is_among names key = list_any (bytes_eq key) names
+
+-- each key is
 abbrev pub has_only : List (List ℕ) → Members → Bool
 has_only names no_members = true
-has_only names (member key d members) = list_any (same_key key) names && has_only names members
+has_only names (member key d members) = is_among names key && has_only names members
 
 -- a value, where the table has no further key
 abbrev pub unless_further : {A : Type 0} → List (List ℕ) → Place → Members → A → Result A TextFault

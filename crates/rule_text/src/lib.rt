@@ -2,8 +2,10 @@
 #![tactic(auto)]
 
 mod forms;
+mod further;
 pub mod key;
 mod keys;
 pub mod place;
 mod ranges;
+mod reading;
 pub mod text_fault;

@@ -1,0 +1,22 @@
+use Rattle.std.proofs.Common.{◌∙◌, List, Result, Bor, BTreeMap, String, Global, subst, sym, ap, map}
+use Rattle.toml.specs.Data.{Members}
+use Rattle.toml.specs.View.{table_view}
+use Rattle.toml.specs.declared.value.Value.{Value}
+use Rattle.substitution.specs.Rule.{EdgeType}
+use Rattle.rule_model.specs.Views.{as_type}
+use Rattle.rule_text.specs.declared.text_fault.TextFault.{TextFault}
+use Rattle.rule_text.specs.Agrees.{Gives}
+use Rattle.rule_text.specs.Document.{type_in}
+use Rattle.rule_text.specs.Steps.{in_order}
+use Rattle.rule_text.proofs.Rows.{in_order-map}
+use Rattle.rule_text.proofs.Entries.{types_in-entries}
+use Rattle.rule_text.proofs.reading.types.Goals as goal
+
+pub returns : goal.returns
+returns c =
+    let seen : Bor (BTreeMap (String Global) Value) → Members = λ t. table_view t.now in
+    let entries = c.in_ok-entries.entries.items in
+    let same = types_in-entries (table_view c.args.table.now) (map seen entries) c.in_ok-entries.ensures
+    ∙ in_order-map type_in seen 0 entries
+    ∙ ap (in_order (λ ty entry. type_in ty (table_view entry.now)) 0) (sym c.as_slice.ensures.value) in
+    subst (λ (r : Result (List EdgeType) TextFault). Gives (λ v. map as_type v.items) c.type_rows.result r) (sym same) c.type_rows.ensures

@@ -1,0 +1,150 @@
+//! From a file to its rule.
+ghost use Rattle.std.specs.Prelude.{◌≡◌, ◌≢◌, ◌≤◌, ◌↔◌, length, map, IfOk, IfErr};
+ghost use Rattle.toml.specs.View.{table_view};
+ghost use Rattle.rule_model.specs.Views.{as_type, as_kind};
+ghost use Rattle.rule_text.specs.Agrees.{Gives};
+ghost use Rattle.rule_text.specs.Document.{type_in, kind_in, types_in, kinds_in, rule_in};
+ghost use Rattle.rule_text.specs.File.{document_in, listed, rule_in_file};
+ghost use Rattle.rule_text.specs.Steps.{in_order};
+
+use crate::further::has_only;
+use crate::key::Key;
+use crate::keys;
+use crate::place::Place;
+use crate::text_fault::TextFault;
+use cyclo_points::order::Order;
+use rule_model::kind_row::KindRow;
+use rule_model::rule::Rule;
+use rule_model::type_row::TypeRow;
+use std::alloc::Global;
+use tile_shape::no_memory::NoMemory;
+use toml::Table;
+
+/// The edge type of an entry.
+#[tactic(auto, unfolding(crate::specs::Document::type_in))]
+fn type_row(alloc: Global, entry: &Table, ty: u32) -> Result<TypeRow, TextFault>
+    ensures { Gives as_type result (type_in ty (table_view entry.now)) }
+{
+    let mate = keys::type_number(entry, "mate", Key::Mate { ty })?;
+    let parts = keys::type_numbers(alloc, entry, "parts", Key::Parts { ty })?;
+    if !has_only(entry, &["mate", "parts"]) {
+        let place = Place::InType { ty };
+        return Err(TextFault::UnknownKey { place });
+    }
+    Ok(TypeRow { mate, parts })
+}
+
+/// The kind of an entry.
+#[tactic(auto, unfolding(crate::specs::Document::kind_in))]
+fn kind_row(alloc: Global, entry: &Table, order: Order, kind: u32) -> Result<KindRow, TextFault>
+    ensures { Gives as_kind result (kind_in order kind (table_view entry.now)) }
+{
+    let vertices = keys::vertices(alloc, entry, order, Key::Vertices { kind })?;
+    let edges = keys::type_numbers(alloc, entry, "edges", Key::Edges { kind })?;
+    let children = keys::children(alloc, entry, order, Key::Children { kind })?;
+    if !has_only(entry, &["vertices", "edges", "children"]) {
+        let place = Place::InKind { kind };
+        return Err(TextFault::UnknownKey { place });
+    }
+    Ok(KindRow {
+        vertices,
+        edges,
+        children,
+    })
+}
+
+/// The number of an entry.
+fn number_of(place: usize) -> Result<u32, NoMemory>
+    ensures { IfOk result (λ number. number ≡ place) }
+{
+    u32::try_from(place).map_err(|_| NoMemory)
+}
+
+/// The edge types of the entries.
+fn type_rows(alloc: Global, entries: &[&Table]) -> Result<Vec<TypeRow>, TextFault>
+    ensures { Gives (λ v. map as_type v.items) result (in_order (λ ty entry. type_in ty (table_view entry.now)) 0 entries.now) }
+{
+    let mut rows = Vec::new(alloc);
+    for (i, entry) in entries.iter().enumerate() {
+        let row = type_row(alloc, entry, number_of(i)?)?;
+        rows.push(row)?;
+    }
+    Ok(rows)
+}
+
+/// The kinds of the entries.
+fn kind_rows(alloc: Global, entries: &[&Table], order: Order) -> Result<Vec<KindRow>, TextFault>
+    ensures { Gives (λ v. map as_kind v.items) result (in_order (λ kind entry. kind_in order kind (table_view entry.now)) 0 entries.now) }
+{
+    let mut rows = Vec::new(alloc);
+    for (i, entry) in entries.iter().enumerate() {
+        let row = kind_row(alloc, entry, order, number_of(i)?)?;
+        rows.push(row)?;
+    }
+    Ok(rows)
+}
+
+/// The edge types of a document.
+#[tactic(auto, unfolding(crate::specs::Document::types_in))]
+fn types(alloc: Global, table: &Table) -> Result<Vec<TypeRow>, TextFault>
+    ensures { Gives (λ v. map as_type v.items) result (types_in (table_view table.now)) }
+{
+    let entries = keys::entries(alloc, table, "type", Key::TypeList)?;
+    type_rows(alloc, entries.as_slice())
+}
+
+/// The kinds of a document.
+#[tactic(auto, unfolding(crate::specs::Document::kinds_in))]
+fn kinds(alloc: Global, table: &Table, order: Order) -> Result<Vec<KindRow>, TextFault>
+    ensures { Gives (λ v. map as_kind v.items) result (kinds_in order (table_view table.now)) }
+{
+    let entries = keys::entries(alloc, table, "kind", Key::KindList)?;
+    kind_rows(alloc, entries.as_slice(), order)
+}
+
+/// The rule of a document.
+#[tactic(auto, unfolding(crate::specs::Document::rule_in))]
+fn rule_of(alloc: Global, table: &Table) -> Result<Rule, TextFault>
+    ensures { Gives listed result (rule_in (table_view table.now)) }
+{
+    let _format = keys::format(table)?;
+    let order = keys::order(table)?;
+    let factor = keys::lambda(alloc, table, order)?;
+    let glue = keys::type_numbers(alloc, table, "glue", Key::Glue)?;
+    let types = types(alloc, table)?;
+    let kinds = kinds(alloc, table, order)?;
+    if !has_only(
+        table,
+        &["format", "order", "lambda", "glue", "type", "kind"],
+    ) {
+        let place = Place::Top;
+        return Err(TextFault::UnknownKey { place });
+    }
+    Ok(Rule {
+        order,
+        factor,
+        glue,
+        types,
+        kinds,
+    })
+}
+
+/// The rule that a file stands for, or the first fault in the order of the format.
+pub fn read_rule(alloc: Global, bytes: &[u8]) -> Result<Rule, TextFault>
+    requires at_most_a_mebibyte { length bytes.now ≤ 1_048_576 }
+
+    // What is read is the rule that the bytes stand for.
+    ensures read { IfOk result (λ rule. rule_in_file bytes.now ≡ Ok (listed rule)) }
+
+    // What is refused has that fault first, unless memory is wanted.
+    ensures fault { IfErr result (λ e. e ≢ TextFault.NoMemory → rule_in_file bytes.now ≡ Err e) }
+
+    // The bytes are no document exactly where toml refuses them for another cause than memory.
+    ensures not_toml { result ≢ Err TextFault.NoMemory → (result ≡ Err TextFault.NotToml) ↔ (document_in bytes.now ≡ None) }
+{
+    match toml::table_from_slice(alloc, bytes) {
+        Ok(table) => rule_of(alloc, &table),
+        Err(error) if error.is_memory() => Err(TextFault::NoMemory),
+        Err(_) => Err(TextFault::NotToml),
+    }
+}
