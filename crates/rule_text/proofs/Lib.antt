@@ -7,3 +7,10 @@ pub mod Rows
 pub mod Entries
 pub mod Faults
 pub mod Meaning
+pub mod Puts
+pub mod Pushes
+pub mod ReadForms
+pub mod ReadRanges
+pub mod ReadBack
+pub mod Depths
+pub mod Limits

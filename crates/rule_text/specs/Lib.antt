@@ -4,3 +4,4 @@ pub mod Steps
 pub mod Document
 pub mod File
 pub mod Agrees
+pub mod Written

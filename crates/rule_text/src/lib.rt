@@ -9,3 +9,5 @@ pub mod place;
 mod ranges;
 mod reading;
 pub mod text_fault;
+mod values;
+mod writing;

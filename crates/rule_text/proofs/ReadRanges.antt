@@ -1,0 +1,30 @@
+-- The numbers of a rule within its limits are in range, and are read back.
+use Rattle.std.proofs.Common.{◌≡◌, ℕ, suc, ◌<◌, pos, true, List, ◌∷◌, All, map, Some, refl, arith}
+use Rattle.std.proofs.lemmas.Bool.{le-leb}
+use Rattle.substitution.specs.Rule.{Child}
+use Rattle.cyclo_points.specs.declared.order.Order.{Order}
+use Rattle.cyclo_points.specs.declared.order.Order.TheVariants.{Four, Eight, Ten}
+use Rattle.cyclo_points.specs.declared.point.Point.{Point}
+use Rattle.cyclo_points.specs.Order.{points_of}
+use Rattle.rule_model.specs.Small.{is_small}
+use Rattle.rule_text.specs.Forms.{each}
+use Rattle.rule_text.specs.Ranges.{below, order_of, point_of, child_of}
+use Rattle.rule_text.proofs.ReadForms.{each-same}
+
+pub below-read : (n k : ℕ) → k < n → below n (pos k) ≡ Some k
+below-read n k lt = rw (le-leb 0 k (omega arith), le-leb (suc k) n (omega arith)) refl
+
+pub numbers-below : (n : ℕ) (ks : List ℕ) → All (λ k. k < n) ks → each (below n) (map pos ks) ≡ Some ks
+numbers-below n ks all = each-same (below n) pos ks (λ k d lt. below-read n _ (all k d lt))
+
+pub order-read : (o : Order) → order_of (pos (points_of o).order) ≡ Some o
+order-read Four = refl
+order-read Eight = refl
+order-read Ten = refl
+
+pub point-read : (o : Order) (p : Point) → is_small o p ≡ true → point_of o p.c ≡ Some p
+point-read o p h = rw h refl
+
+pub child-read : (o : Order) (c : Child Point) → c.kind < 16 → c.motion.turn < (points_of o).order → is_small o c.motion.shift ≡ true
+    → child_of o (pos c.kind ∷ pos c.motion.turn ∷ c.motion.shift.c) ≡ Some c
+child-read o c k t h = rw (below-read 16 c.kind k, below-read (points_of o).order c.motion.turn t, point-read o c.motion.shift h) refl
