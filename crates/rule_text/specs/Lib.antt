@@ -5,3 +5,4 @@ pub mod Document
 pub mod File
 pub mod Agrees
 pub mod Written
+pub mod FaultText

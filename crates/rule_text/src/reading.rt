@@ -20,6 +20,9 @@ use std::alloc::Global;
 use tile_shape::no_memory::NoMemory;
 use toml::Table;
 
+/// How many bytes a rule file may have: a mebibyte.
+pub const LONGEST_FILE: usize = 1_048_576;
+
 /// The edge type of an entry.
 #[tactic(auto, unfolding(crate::specs::Document::type_in))]
 fn type_row(alloc: Global, entry: &Table, ty: u32) -> Result<TypeRow, TextFault>
@@ -129,9 +132,11 @@ fn rule_of(alloc: Global, table: &Table) -> Result<Rule, TextFault>
     })
 }
 
-/// The rule that a file stands for, or the first fault in the order of the format.
+/// The rule that a file stands for, or the first fault in the order of its keys: that it is no TOML
+/// document; then `format`, `order`, `lambda` and `glue`; then `type` and each of its entries; then
+/// `kind` and each of its entries; then a further key.
 pub fn read_rule(alloc: Global, bytes: &[u8]) -> Result<Rule, TextFault>
-    requires at_most_a_mebibyte { length bytes.now ≤ 1_048_576 }
+    requires at_most_a_mebibyte { length bytes.now ≤ LONGEST_FILE }
 
     // What is read is the rule that the bytes stand for.
     ensures read { IfOk result (λ rule. rule_in_file bytes.now ≡ Ok (listed rule)) }
