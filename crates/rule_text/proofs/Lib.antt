@@ -14,3 +14,4 @@ pub mod ReadRanges
 pub mod ReadBack
 pub mod Depths
 pub mod Limits
+pub mod Chair

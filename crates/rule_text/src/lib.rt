@@ -13,6 +13,8 @@ mod keys;
 pub mod place;
 mod ranges;
 pub mod reading;
+#[cfg(test)]
+mod tests;
 pub mod text_fault;
 mod values;
 pub mod writing;
