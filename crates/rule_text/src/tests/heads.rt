@@ -1,0 +1,112 @@
+//! Faults of the keys before the types.
+use super::assert_faults;
+use crate::key::Key;
+use crate::text_fault::TextFault;
+use std::test::Fail;
+
+const FORMAT: Key = Key::Format;
+
+const FORMAT_ROWS: [(&str, TextFault); 9] = [
+    ("", TextFault::Missing { key: FORMAT }),
+    ("order = 5", TextFault::Missing { key: FORMAT }),
+    ("format = \"1\"", TextFault::WrongType { key: FORMAT }),
+    ("format = 1.0", TextFault::WrongType { key: FORMAT }),
+    ("format = true", TextFault::WrongType { key: FORMAT }),
+    ("format = 0", TextFault::OutOfRange { key: FORMAT }),
+    ("format = 2", TextFault::OutOfRange { key: FORMAT }),
+    ("format = -1", TextFault::OutOfRange { key: FORMAT }),
+    (
+        "format = 9223372036854775807",
+        TextFault::OutOfRange { key: FORMAT },
+    ),
+];
+
+const ORDER: Key = Key::Order;
+
+const LAMBDA: Key = Key::Lambda;
+
+const ORDER_ROWS: [(&str, TextFault); 10] = [
+    ("", TextFault::Missing { key: ORDER }),
+    ("lambda = 2", TextFault::Missing { key: ORDER }),
+    ("order = \"4\"", TextFault::WrongType { key: ORDER }),
+    ("order = [4]", TextFault::WrongType { key: ORDER }),
+    ("order = 10.0", TextFault::WrongType { key: ORDER }),
+    ("order = 6", TextFault::OutOfRange { key: ORDER }),
+    ("order = -4", TextFault::OutOfRange { key: ORDER }),
+    ("order = +10", TextFault::Missing { key: LAMBDA }),
+    ("order = 0x0A", TextFault::Missing { key: LAMBDA }),
+    ("order = 1_0", TextFault::Missing { key: LAMBDA }),
+];
+
+const GLUE: Key = Key::Glue;
+
+const LAMBDA_ROWS: [(&str, TextFault); 11] = [
+    ("", TextFault::Missing { key: LAMBDA }),
+    ("lambda = 2", TextFault::WrongType { key: LAMBDA }),
+    ("lambda = [2, 0, 0]", TextFault::WrongType { key: LAMBDA }),
+    (
+        "lambda = [2, 0, 0, 0, 0]",
+        TextFault::WrongType { key: LAMBDA },
+    ),
+    (
+        "lambda = [2, 0, 0, [0]]",
+        TextFault::WrongType { key: LAMBDA },
+    ),
+    (
+        "lambda = [65, 0, 0, \"0\"]",
+        TextFault::WrongType { key: LAMBDA },
+    ),
+    (
+        "lambda = [65, 0, 0, 0]",
+        TextFault::OutOfRange { key: LAMBDA },
+    ),
+    (
+        "lambda = [0, -65, 0, 0]",
+        TextFault::OutOfRange { key: LAMBDA },
+    ),
+    (
+        "lambda = [2, 0, 1, 0]",
+        TextFault::OutOfRange { key: LAMBDA },
+    ),
+    (
+        "lambda = [2, 0, 0, 1]",
+        TextFault::OutOfRange { key: LAMBDA },
+    ),
+    ("lambda = [64, -64, 0, 0]", TextFault::Missing { key: GLUE }),
+];
+
+/// In order eight all four coefficients are free.
+const EIGHT_ROWS: [(&str, TextFault); 3] = [
+    ("lambda = [64, 0, 1, -64]", TextFault::Missing { key: GLUE }),
+    (
+        "lambda = [1, 1, 65, -1]",
+        TextFault::OutOfRange { key: LAMBDA },
+    ),
+    (
+        "lambda = [1, 1, 0, -65]",
+        TextFault::OutOfRange { key: LAMBDA },
+    ),
+];
+
+const TYPES: Key = Key::TypeList;
+
+const GLUE_ROWS: [(&str, TextFault); 7] = [
+    ("", TextFault::Missing { key: GLUE }),
+    ("glue = 1", TextFault::WrongType { key: GLUE }),
+    ("glue = [[]]", TextFault::WrongType { key: GLUE }),
+    ("glue = [32, true]", TextFault::WrongType { key: GLUE }),
+    ("glue = [0, 32]", TextFault::OutOfRange { key: GLUE }),
+    ("glue = [-1]", TextFault::OutOfRange { key: GLUE }),
+    ("glue = [0, 31]", TextFault::Missing { key: TYPES }),
+];
+
+#[test]
+fn tells_faults_of_the_head(rt: HostRuntime) -> Result<(), Fail> {
+    let alloc = rt.alloc();
+    assert_faults(&rt, alloc, "", &FORMAT_ROWS)?;
+    assert_faults(&rt, alloc, "format = 1\n", &ORDER_ROWS)?;
+    assert_faults(&rt, alloc, "format = 1\norder = 4\n", &LAMBDA_ROWS)?;
+    assert_faults(&rt, alloc, "format = 1\norder = 8\n", &EIGHT_ROWS)?;
+    let head = "format = 1\norder = 4\nlambda = [2, 0, 0, 0]\n";
+    assert_faults(&rt, alloc, head, &GLUE_ROWS)
+}

@@ -1,0 +1,90 @@
+//! Faults of the types.
+use super::{HEAD, TYPES, assert_faults};
+use crate::key::Key;
+use crate::place::Place;
+use crate::text_fault::TextFault;
+use std::test::Fail;
+
+const LIST: Key = Key::TypeList;
+
+const KINDS: Key = Key::KindList;
+
+const MATE: Key = Key::Mate { ty: 0 };
+
+const PARTS: Key = Key::Parts { ty: 0 };
+
+const PLACE: Place = Place::InType { ty: 0 };
+
+const LIST_ROWS: [(&str, TextFault); 8] = [
+    ("", TextFault::Missing { key: LIST }),
+    ("name = 1\nkind = 2", TextFault::Missing { key: LIST }),
+    ("type = {}", TextFault::WrongType { key: LIST }),
+    (
+        "[type]\nmate = 0\nparts = [0, 0]",
+        TextFault::WrongType { key: LIST },
+    ),
+    ("type = [3]", TextFault::WrongType { key: LIST }),
+    ("type = [{}, 3]", TextFault::WrongType { key: LIST }),
+    ("type = []", TextFault::Missing { key: KINDS }),
+    (
+        "type = [{mate = 0, parts = []}]",
+        TextFault::Missing { key: KINDS },
+    ),
+];
+
+/// Behind the header of the first type.
+const ENTRY_ROWS: [(&str, TextFault); 12] = [
+    ("", TextFault::Missing { key: MATE }),
+    ("name = 1\nparts = 0", TextFault::Missing { key: MATE }),
+    ("mate = true", TextFault::WrongType { key: MATE }),
+    ("mate = 32", TextFault::OutOfRange { key: MATE }),
+    ("mate = -1\nparts = 0", TextFault::OutOfRange { key: MATE }),
+    ("mate = 31", TextFault::Missing { key: PARTS }),
+    ("mate = 0\nname = 1", TextFault::Missing { key: PARTS }),
+    ("mate = 0\nparts = 0", TextFault::WrongType { key: PARTS }),
+    (
+        "mate = 0\nparts = [32, 1.5]",
+        TextFault::WrongType { key: PARTS },
+    ),
+    (
+        "mate = 0\nparts = [32]\nname = 1",
+        TextFault::OutOfRange { key: PARTS },
+    ),
+    (
+        "mate = 0\nparts = []\nname = 1\n[[type]]",
+        TextFault::UnknownKey { place: PLACE },
+    ),
+    (
+        "mate = 0\nparts = []\nname = 1\n[kind]",
+        TextFault::UnknownKey { place: PLACE },
+    ),
+];
+
+const NEXT_MATE: Key = Key::Mate { ty: 1 };
+
+const NEXT_PLACE: Place = Place::InType { ty: 1 };
+
+/// Behind the first type.
+const NEXT_ROWS: [(&str, TextFault); 3] = [
+    ("", TextFault::Missing { key: KINDS }),
+    (
+        "[[type]]\nparts = []",
+        TextFault::Missing { key: NEXT_MATE },
+    ),
+    (
+        "[[type]]\nmate = 0\nparts = [31]\nmates = 0",
+        TextFault::UnknownKey { place: NEXT_PLACE },
+    ),
+];
+
+#[test]
+fn tells_faults_of_types(rt: HostRuntime) -> Result<(), Fail> {
+    let alloc = rt.alloc();
+    assert_faults(&rt, alloc, HEAD, &LIST_ROWS)?;
+    let mut head = String::from_str(alloc, HEAD)?;
+    head.push_str("[[type]]\n")?;
+    assert_faults(&rt, alloc, head.as_str(), &ENTRY_ROWS)?;
+    let mut head = String::from_str(alloc, HEAD)?;
+    head.push_str(TYPES)?;
+    assert_faults(&rt, alloc, head.as_str(), &NEXT_ROWS)
+}
