@@ -1,7 +1,5 @@
 -- What the words ask has one answer: the cause of one status is no cause of another.
-use Rattle.std.proofs.Common.{◌≡◌, ◌⊎◌, ◌↔◌, inl, inr, ℕ, ◌<◌, List, Some, None, Ok, Err, refl, sym, ap, ap₂, ◌∙◌, subst, lit≤, arith}
-use Rattle.std.specs.declared.option.Option.{Option}
-use Rattle.std.specs.Option.{option_and_then, option_map}
+use Rattle.std.proofs.Common.{◌≡◌, ◌⊎◌, ◌↔◌, inl, inr, ℕ, ◌<◌, List, Some, None, Ok, Err, refl, sym, ap, ap₂, ◌∙◌, subst, arith}
 use Rattle.substitution.specs.Address.{Address, Fits}
 use Rattle.substitution.specs.Rule.{child_kinds}
 use Rattle.substitution.specs.Tables.{Tables}
@@ -18,12 +16,12 @@ use Rattle.tile_app.specs.declared.status.Status.TheVariants.{Done, BadWords, Ba
 use Rattle.tile_app.specs.Answers.{Prints, CanBeAnswered}
 use Rattle.tile_app.specs.Asked.{Asks, AsksForTile, GivesNoAddress}
 use Rattle.tile_app.specs.Crossing.{AsksAcross, HasNoEdge, LiesOutside, CanBeCrossed, edges_of}
-use Rattle.tile_app.specs.Placing.{PassesLimit, CanBePlaced, first_refused}
+use Rattle.tile_place.specs.Placing.{first_refused}
+use Rattle.tile_app.specs.Placing.{PassesLimit, CanBePlaced}
 use Rattle.tile_app.specs.Status.{IsBadAddress, IsCoordLimit, IsRefusal, IsRefused}
-use Rattle.builtin_rules.specs.declared.name.Name.TheVariants.{Chair}
-use Rattle.builtin_rules.specs.declared.name.Name.{Name}
-use Rattle.tile_app.specs.Tilings.{Tiling, builtin_tiling, contacts, name_in, tiling_named}
+use Rattle.tile_app.specs.Tilings.{Tiling, builtin_tiling, contacts}
 use Rattle.tile_app.specs.Words.{command_of, value_given, AreRight}
+use Rattle.tile_app.proofs.Tilings.{is_builtin, builtin_is_usable}
 
 some_is : {A : Type 0} (x y : A) → Some x ≡ Some y → x ≡ y
 some_is x y e = cc
@@ -67,25 +65,6 @@ pub record Laws : Type 0 where
   pub short : FitsAreShort
   pub one_trace : OneTrace
 
--- a tiling that is named is that of a built-in rule, whose child kinds are usable
-is_builtin : (text : Option (List ℕ)) (t : Tiling) → option_and_then tiling_named text ≡ Some t → (name : Name) × (t ≡ builtin_tiling name)
-is_builtin None t e = absurd (cc e)
-is_builtin (Some v) t e = at_name (name_in v) e
-  where
-    at_name : (o : Option Name) → option_map builtin_tiling o ≡ Some t → (name : Name) × (t ≡ builtin_tiling name)
-    at_name None f = absurd (cc f)
-    at_name (Some name) f = (name, sym (some_is (builtin_tiling name) t f))
-
-builtin_is_usable : (name : Name) → IsUsable (child_kinds (builtin_tiling name).rule)
-builtin_is_usable Chair = record {
-  some_kind = lit≤ tt;
-  at_most_16_kinds = lit≤ tt;
-  some_child = refl;
-  at_most_16_children = refl;
-  each_exists = refl;
-  each_used = refl;
-}
-
 module _ (laws : Laws) (words : List (List ℕ)) where
   tells : (c : Command) (t : Tiling) (text : List ℕ) → Asks words c t text → TextsTell (child_kinds t.rule)
   tells c t text p =
@@ -102,10 +81,10 @@ module _ (laws : Laws) (words : List (List ℕ)) where
       (same_text words c d s t _ _ p.asked q.asked)
 
   -- a tile is within the limit or passes it
-  within_or_beyond : (s : Tiling) (a : Address) (value : Point) → AsksForTile words Place s a → first_refused s a.digits ≡ None → PassesLimit words value → ⊥
+  within_or_beyond : (s : Tiling) (a : Address) (value : Point) → AsksForTile words Place s a → first_refused s.order s.rule a.digits ≡ None → PassesLimit words value → ⊥
   within_or_beyond s a value p e q =
-      let f : first_refused q.tiling a.digits ≡ None = subst (λ (t : Tiling). first_refused t a.digits ≡ None) (same_tiling words Place Place s q.tiling _ _ p.asked q.asked.asked) e in
-      let g : first_refused q.tiling q.address.digits ≡ None = subst (λ (b : Address). first_refused q.tiling b.digits ≡ None) (same_address Place Place s q.tiling a q.address p q.asked) f in
+      let f : first_refused q.tiling.order q.tiling.rule a.digits ≡ None = subst (λ (t : Tiling). first_refused t.order t.rule a.digits ≡ None) (same_tiling words Place Place s q.tiling _ _ p.asked q.asked.asked) e in
+      let g : first_refused q.tiling.order q.tiling.rule q.address.digits ≡ None = subst (λ (b : Address). first_refused q.tiling.order q.tiling.rule b.digits ≡ None) (same_address Place Place s q.tiling a q.address p q.asked) f in
       absurd (cc (g, q.first))
 
   -- what holds of the tile and the edge asked for holds of those asked for

@@ -1,12 +1,7 @@
 pub mod Children
 pub mod Tilings
-pub mod Values
 pub mod Causes
-pub mod Descent
-pub mod Sizes
-pub mod Finer
 pub mod Given
 pub mod Asking
 pub mod Counting
 pub mod Edges
-pub mod Beginning

@@ -1,25 +1,20 @@
 -- What `place` prints and refuses.
-use Rattle.std.specs.Prelude.{◌≡◌, ℕ, List, Some, None, find}
-use Rattle.std.specs.declared.option.Option.{Option}
-use Rattle.substitution.specs.Address.{Step, Address}
+use Rattle.std.specs.Prelude.{◌≡◌, ℕ, List, Some, None}
+use Rattle.substitution.specs.Address.{Address}
 use Rattle.substitution.specs.Motion.{Motion}
-use Rattle.substitution.specs.Placement.{horner_values}
 use Rattle.substitution.specs.Supertile.{StandsBeside}
 use Rattle.cyclo_points.specs.declared.point.Point.{Point}
-use Rattle.cyclo_points.specs.Order.{NumberOf, points_of, is_refused}
+use Rattle.cyclo_points.specs.Order.{NumberOf, points_of}
 use Rattle.cyclo_points.specs.Point.{point_in, IsOf}
+use Rattle.tile_place.specs.Placing.{first_refused}
 use Rattle.tile_app.specs.declared.words.Command.TheVariants.{Place}
 use Rattle.tile_app.specs.Asked.{AsksForTile}
 use Rattle.tile_app.specs.Text.{place_line}
 use Rattle.tile_app.specs.Tilings.{Tiling}
 
--- the first Horner value, from coarse to fine, that is refused
-abbrev pub first_refused : (t : Tiling) → List Step → Option (NumberOf t.order)
-first_refused t digits = find (is_refused t.order) (horner_values (points_of t.order) t.rule digits)
-
 -- no Horner value of the address is refused, and the text is the line of its kind and of the motion that stands beside it in the list of its supertile's tiles
 pub record PlacesTile (t : Tiling) (a : Address) (text : List ℕ) : Type 0 where
-  pub within : first_refused t a.digits ≡ None
+  pub within : first_refused t.order t.rule a.digits ≡ None
   pub motion : Motion (NumberOf t.order)
   pub beside : StandsBeside (points_of t.order) t.rule a motion
   pub line : text ≡ place_line t.order a.kind motion
@@ -36,7 +31,7 @@ pub record PassesLimit (words : List (List ℕ)) (value : Point) : Type 0 where
   pub tiling : Tiling
   pub address : Address
   pub asked : AsksForTile words Place tiling address
-  pub first : first_refused tiling address.digits ≡ Some (point_in tiling.order value)
+  pub first : first_refused tiling.order tiling.rule address.digits ≡ Some (point_in tiling.order value)
   pub of_order : IsOf tiling.order value
 
 -- they do, and none is
@@ -44,4 +39,4 @@ pub record CanBePlaced (words : List (List ℕ)) : Type 0 where
   pub tiling : Tiling
   pub address : Address
   pub asked : AsksForTile words Place tiling address
-  pub within : first_refused tiling address.digits ≡ None
+  pub within : first_refused tiling.order tiling.rule address.digits ≡ None

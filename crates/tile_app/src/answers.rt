@@ -11,39 +11,37 @@ ghost use Rattle.tile_app.specs.Words.{texts, command_of, AreRight};
 
 use crate::neighbour::neighbour;
 use crate::number::number_up_to_255;
-use crate::place::place;
 use crate::rule_name::name_in;
 use crate::status::Status;
 use crate::text::{neighbour_line, place_line};
 use crate::words::{Command, Key, command_of};
 use builtin_rules::builtin::builtin;
-use rule_model::checked::Checked;
 use std::alloc::Global;
+use tile_place::machine::Machine;
 use tile_shape::address::Address;
 use tile_shape::no_memory::NoMemory;
 use tile_shape::reading::read_address;
-use transducer_core::transducer::Transducer;
 
-/// The built-in rule that right words name.
-fn rule_given(alloc: Global, words: &[String]) -> Result<Checked, NoMemory>
+/// The machine of the built-in rule that right words name.
+fn machine_given(alloc: Global, words: &[String]) -> Result<Machine, NoMemory>
     requires { AreRight (texts words.now) }
-    ensures { IfOk result (λ checked. NamesTiling (texts words.now) (tiling_of checked)) }
+    ensures { IfOk result (λ machine. NamesTiling (texts words.now) (tiling_of machine)) }
 {
     let text = Key::Rule.value_given(words).unwrap();
     let name = name_in(text).unwrap();
-    builtin(alloc, name)
+    Machine::new(alloc, builtin(alloc, name)?)
 }
 
 /// The address that right words give, of a tile of the tiling that they name.
-fn address_given(checked: &Checked, words: &[String]) -> Result<Address, Status>
+fn address_given(machine: &Machine, words: &[String]) -> Result<Address, Status>
     requires right { AreRight (texts words.now) }
-    requires named { NamesTiling (texts words.now) (tiling_of checked.now) }
+    requires named { NamesTiling (texts words.now) (tiling_of machine.now) }
     ensures asked { IfOk result (λ a. (command : Command) → command_of (texts words.now) ≡ Ok command
-        → AsksForTile (texts words.now) command (tiling_of checked.now) (address_of a)) }
+        → AsksForTile (texts words.now) command (tiling_of machine.now) (address_of a)) }
     ensures refused { IfErr result (IsRefused (texts words.now)) }
 {
     let text = Key::Addr.value_given(words).unwrap();
-    Ok(read_address(checked.uses(), text.as_bytes())?)
+    Ok(read_address(machine.checked().uses(), text.as_bytes())?)
 }
 
 /// The number of the edge that right words of `neighbour` give.
@@ -56,33 +54,31 @@ fn edge_given(words: &[String]) -> u8
 }
 
 /// The line that `place` prints.
-fn place_text(alloc: Global, checked: &Checked, words: &[String]) -> Result<String, Status>
+fn place_text(alloc: Global, machine: &Machine, words: &[String]) -> Result<String, Status>
     requires right { command_of (texts words.now) ≡ Ok Place }
-    requires named { NamesTiling (texts words.now) (tiling_of checked.now) }
+    requires named { NamesTiling (texts words.now) (tiling_of machine.now) }
     ensures printed { IfOk result (λ text. Prints (texts words.now) (string_bytes text)) }
     ensures refused { IfErr result (IsRefused (texts words.now)) }
 {
-    let address = address_given(checked, words)?;
-    let motion = place(checked, &address)?;
+    let address = address_given(machine, words)?;
+    let motion = machine.place(&address)?;
     Ok(place_line(alloc, address.kind, &motion)?)
 }
 
 /// The line that `neighbour` prints.
-fn neighbour_text(alloc: Global, checked: &Checked, words: &[String]) -> Result<String, Status>
+fn neighbour_text(alloc: Global, machine: &Machine, words: &[String]) -> Result<String, Status>
     requires right { command_of (texts words.now) ≡ Ok Neighbour }
-    requires named { NamesTiling (texts words.now) (tiling_of checked.now) }
+    requires named { NamesTiling (texts words.now) (tiling_of machine.now) }
     ensures printed { IfOk result (λ text. Prints (texts words.now) (string_bytes text)) }
     ensures refused { IfErr result (IsRefused (texts words.now)) }
 {
-    let address = address_given(checked, words)?;
+    let address = address_given(machine, words)?;
     let edge = edge_given(words);
-    let tables = checked.tables();
-    let edges = tables.edges(address.kind);
+    let edges = machine.checked().tables().edges(address.kind);
     if edge >= edges {
         return Err(Status::NoEdge { edge, edges });
     }
-    let transducer = Transducer::compile(alloc, tables)?;
-    let crossing = neighbour(&transducer, &address, edge)?;
+    let crossing = neighbour(machine, &address, edge)?;
     Ok(neighbour_line(alloc, &crossing.addr, crossing.edge)?)
 }
 
@@ -95,9 +91,9 @@ pub fn text_of(alloc: Global, words: &[String]) -> Result<String, Status>
         Ok(command) => command,
         Err(place) => return Err(Status::BadWords { place }),
     };
-    let checked = rule_given(alloc, words)?;
+    let machine = machine_given(alloc, words)?;
     match command {
-        Command::Place => place_text(alloc, &checked, words),
-        Command::Neighbour => neighbour_text(alloc, &checked, words),
+        Command::Place => place_text(alloc, &machine, words),
+        Command::Neighbour => neighbour_text(alloc, &machine, words),
     }
 }

@@ -7,7 +7,6 @@ mod answers;
 mod neighbour;
 mod note;
 mod number;
-mod place;
 mod rule_name;
 pub mod run;
 pub mod status;

@@ -8,9 +8,8 @@ use builtin_rules::name::Name;
 pub fn name_in(text: &str) -> Option<Name>
     ensures { result ≡ name_in text.now }
 {
-    if text == "chair" {
-        Some(Name::Chair)
-    } else {
-        None
+    match text {
+        "chair" => Some(Name::Chair),
+        _ => None,
     }
 }

@@ -2,10 +2,10 @@
 ghost use Rattle.std.specs.Prelude.{◌≡◌};
 ghost use Rattle.tile_app.specs.Status.{code_of};
 
-use crate::place::CoordLimit;
 use cyclo_points::point::Point;
 use std::alloc::AllocError;
 use std::fmt;
+use tile_place::coord_limit::CoordLimit;
 use tile_shape::address_fault::AddressFault;
 use tile_shape::no_memory::NoMemory;
 use transducer_core::outside::Outside;

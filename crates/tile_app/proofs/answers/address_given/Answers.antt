@@ -1,5 +1,6 @@
 use Rattle.std.proofs.Common.{rules, Some, sym, ap, ◌∙◌, option_map}
 use Rattle.std.proofs.lemmas.Result.{err_from_is_err_and}
+use Rattle.rule_model.specs.Checked.{uses_of}
 use Rattle.tile_shape.specs.Views.{address_of}
 use Rattle.tile_app.specs.Tilings.{tiling_of}
 use Rattle.tile_app.specs.Words.{texts}
@@ -18,13 +19,13 @@ returns-in_err-read_address-clause-refused c =
     let p = err_from_is_err_and c.from_residual.result c.from_residual.ensures.1 in
     let given = sym c.value_given.ensures ∙ ap (option_map (λ v. v.now)) c.unwrap-text.ensures ∙ ap (λ t. Some t) (sym c.as_bytes.ensures.value) in
     let words = texts c.args.words.now in
-    let t = tiling_of c.args.checked.now in
+    let t = tiling_of c.args.machine.now in
     rw (p.1, p.2) (
-      gives_no_address words t c.requires.named c.as_bytes.result.now given c.uses.result.now c.uses.ensures c.requires.right c.in_err-read_address.ensures.refused,
-      gives_fault words t c.requires.named c.as_bytes.result.now given c.uses.result.now c.uses.ensures c.requires.right c.in_err-read_address.field-0.0 c.in_err-read_address.ensures.fault,
+      gives_no_address words t c.requires.named c.as_bytes.result.now given c.uses.result.now (c.uses.ensures ∙ ap uses_of c.checked.ensures.rule) c.requires.right c.in_err-read_address.ensures.refused,
+      gives_fault words t c.requires.named c.as_bytes.result.now given c.uses.result.now (c.uses.ensures ∙ ap uses_of c.checked.ensures.rule) c.requires.right c.in_err-read_address.field-0.0 c.in_err-read_address.ensures.fault,
     )
 
 pub returns-clause-asked : goal.returns-clause-asked
-returns-clause-asked c = λ command right. asks_for_tile (texts c.args.words.now) (tiling_of c.args.checked.now) c.requires.named c.as_bytes.result.now
+returns-clause-asked c = λ command right. asks_for_tile (texts c.args.words.now) (tiling_of c.args.machine.now) c.requires.named c.as_bytes.result.now
     (sym c.value_given.ensures ∙ ap (option_map (λ v. v.now)) c.unwrap-text.ensures ∙ ap (λ t. Some t) (sym c.as_bytes.ensures.value))
-    c.uses.result.now c.uses.ensures command (address_of c.in_ok-read_address.field-0) right c.in_ok-read_address.ensures.read.0 c.in_ok-read_address.ensures.read.1
+    c.uses.result.now (c.uses.ensures ∙ ap uses_of c.checked.ensures.rule) command (address_of c.in_ok-read_address.field-0) right c.in_ok-read_address.ensures.read.0 c.in_ok-read_address.ensures.read.1

@@ -7,13 +7,13 @@ use Rattle.tile_app.specs.Tilings.{tiling_of}
 use Rattle.tile_app.proofs.answers.place_text.Goals as goal
 
 pub place-requires : goal.place-requires
-place-requires c = (c.in_ok-address.ensures.asked Place c.requires.right).accepted.fits
+place-requires c = record { fits = (c.in_ok-address.ensures.asked Place c.requires.right).accepted.fits }
 
 pub returns-in_err-motion-clause-refused : goal.returns-in_err-motion-clause-refused
 returns-in_err-motion-clause-refused c =
     let p = err_from_is_err_and c.from_residual-in_err-motion.result c.from_residual-in_err-motion.ensures.1 in
     rw (p.1, p.2) (record {
-      tiling = tiling_of c.args.checked.now;
+      tiling = tiling_of c.args.machine.now;
       address = address_of c.in_ok-address.address;
       asked = c.in_ok-address.ensures.asked Place c.requires.right;
       first = c.in_err-motion.ensures.limit;
@@ -22,13 +22,13 @@ returns-in_err-motion-clause-refused c =
 
 pub returns-clause-printed : goal.returns-clause-printed
 returns-clause-printed c = inl (record {
-  tiling = tiling_of c.args.checked.now;
+  tiling = tiling_of c.args.machine.now;
   address = address_of c.in_ok-address.address;
   asked = c.in_ok-address.ensures.asked Place c.requires.right;
   placed = record {
     within = c.in_ok-motion.ensures.within;
-    motion = motion_in c.args.checked.now.order c.in_ok-motion.motion;
+    motion = motion_in c.args.machine.now.order c.in_ok-motion.motion;
     beside = c.in_ok-motion.ensures.beside;
-    line = c.in_ok-place_line.ensures c.args.checked.now.order c.in_ok-motion.ensures.in_order;
+    line = c.in_ok-place_line.ensures c.args.machine.now.order c.in_ok-motion.ensures.in_order;
   };
 })

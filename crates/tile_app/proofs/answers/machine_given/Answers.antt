@@ -2,7 +2,7 @@ use Rattle.std.proofs.Common.{rules, sym, ap, ◌∙◌, option_map}
 use Rattle.tile_app.specs.Words.{texts}
 use Rattle.tile_app.proofs.Given.{GivesBoth-right, rule_is_name}
 use Rattle.tile_app.proofs.Tilings.{names_answered}
-use Rattle.tile_app.proofs.answers.rule_given.Goals as goal
+use Rattle.tile_app.proofs.answers.machine_given.Goals as goal
 
 pub unwrap-text-requires : goal.unwrap-text-requires
 unwrap-text-requires c = let k = GivesBoth-right c.requires.0 (texts c.args.words.now) c.requires.1 in let h = c.value_given.ensures ∙ k.is_rule in search (rules, h)
@@ -17,4 +17,5 @@ unwrap-name-requires c =
 pub returns : goal.returns
 returns c =
     let given = sym c.value_given.ensures ∙ ap (option_map (λ v. v.now)) c.unwrap-text.ensures in
-    names_answered (texts c.args.words.now) c.unwrap-text.result.now c.unwrap-name.result c.builtin.result given (sym c.name_in.ensures ∙ c.unwrap-name.ensures) c.builtin.ensures
+    names_answered (texts c.args.words.now) c.unwrap-text.result.now c.unwrap-name.result c.in_ok-builtin.field-0 c.new.result given (sym c.name_in.ensures ∙ c.unwrap-name.ensures)
+    c.in_ok-builtin.ensures c.new.ensures.its_rule
