@@ -4,6 +4,8 @@
 #![tactic(auto)]
 
 mod answers;
+#[cfg(test)]
+mod crossing_tests;
 mod neighbour;
 mod note;
 mod number;
