@@ -2,7 +2,7 @@
 use Rattle.std.specs.Prelude.{ℕ, ◌+◌, ◌-◌, ◌^◌, ◌≤◌, min, Ok, Err, OnErr}
 use Rattle.std.specs.declared.result.Result.{Result}
 
--- the count after one more fault, which stays at its last value once it is there
+-- the count after one more, which stays at its last value once it is there
 abbrev pub next_count : ℕ → ℕ
 next_count count = min (count + 1) (2 ^ 64 - 1)
 

@@ -2,4 +2,6 @@ pub mod Causes
 pub mod Edge
 pub mod Held
 pub mod Left
+pub mod Mem
+pub mod Plan
 pub mod Taken

@@ -9,7 +9,10 @@
 #![tactic(auto)]
 
 pub mod failed;
+mod fault_plan;
 pub mod laws;
+pub mod mem_sink;
+pub mod mem_source;
 pub mod sink;
 pub mod source;
 pub mod std_sink;
