@@ -1,2 +1,3 @@
 mod LeftLemmas
+mod ReadingLemmas
 mod TakenLemmas

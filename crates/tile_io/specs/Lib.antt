@@ -4,4 +4,5 @@ pub mod Held
 pub mod Left
 pub mod Mem
 pub mod Plan
+pub mod ReadingAll
 pub mod Taken

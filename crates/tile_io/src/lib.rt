@@ -13,6 +13,8 @@ mod fault_plan;
 pub mod laws;
 pub mod mem_sink;
 pub mod mem_source;
+pub mod read_all_fault;
+pub mod reading;
 pub mod sink;
 pub mod source;
 pub mod std_sink;
