@@ -1,5 +1,5 @@
 -- The chair's numbers are within the limits.
-use Rattle.std.proofs.Common.{◌≡◌, ℕ, zero, suc, ◌<◌, true, ℤ, pos, List, [], ◌∷◌, refl, arith}
+use Rattle.std.proofs.Common.{◌≡◌, ℕ, zero, suc, ◌<◌, pos, List, [], ◌∷◌, refl, arith}
 use Rattle.substitution.specs.Rule.{Child, EdgeType, Kind, Rule}
 use Rattle.substitution.specs.Limited.{WithinLimits}
 use Rattle.cyclo_points.specs.declared.order.Order.TheVariants.{Four}

@@ -15,3 +15,5 @@ pub mod ReadBack
 pub mod Depths
 pub mod Limits
 pub mod Chair
+pub mod Shortening
+pub mod NarrowDocuments

@@ -6,3 +6,4 @@ pub mod File
 pub mod Agrees
 pub mod Written
 pub mod FaultText
+pub mod Narrow

@@ -1,10 +1,11 @@
 //! From a file to its rule.
-ghost use Rattle.std.specs.Prelude.{◌≡◌, ◌≢◌, ◌≤◌, ◌↔◌, length, map, IfOk, IfErr};
+ghost use Rattle.std.specs.Prelude.{◌≡◌, ◌≢◌, ◌+◌, ◌<◌, ◌≤◌, ◌^◌, ◌↔◌, length, map, IfOk, IfErr};
 ghost use Rattle.toml.specs.View.{table_view};
 ghost use Rattle.rule_model.specs.Views.{as_type, as_kind};
 ghost use Rattle.rule_text.specs.Agrees.{Gives};
 ghost use Rattle.rule_text.specs.Document.{type_in, kind_in, types_in, kinds_in, rule_in};
 ghost use Rattle.rule_text.specs.File.{document_in, listed, rule_in_file};
+ghost use Rattle.rule_text.specs.Narrow.{AreNarrow};
 ghost use Rattle.rule_text.specs.Steps.{in_order};
 
 use crate::further::has_only;
@@ -17,7 +18,6 @@ use rule_model::kind_row::KindRow;
 use rule_model::rule::Rule;
 use rule_model::type_row::TypeRow;
 use std::alloc::Global;
-use tile_shape::no_memory::NoMemory;
 use toml::Table;
 
 /// How many bytes a rule file may have: a mebibyte.
@@ -56,20 +56,14 @@ fn kind_row(alloc: Global, entry: &Table, order: Order, kind: u32) -> Result<Kin
     })
 }
 
-/// The number of an entry.
-fn number_of(place: usize) -> Result<u32, NoMemory>
-    ensures { IfOk result (λ number. number ≡ place) }
-{
-    u32::try_from(place).map_err(|_| NoMemory)
-}
-
 /// The edge types of the entries.
 fn type_rows(alloc: Global, entries: &[&Table]) -> Result<Vec<TypeRow>, TextFault>
+    requires numbered { length entries.now < 2 ^ 32 }
     ensures { Gives (λ v. map as_type v.items) result (in_order (λ ty entry. type_in ty (table_view entry.now)) 0 entries.now) }
 {
     let mut rows = Vec::new(alloc);
     for (i, entry) in entries.iter().enumerate() {
-        let row = type_row(alloc, entry, number_of(i)?)?;
+        let row = type_row(alloc, entry, i as u32)?;
         rows.push(row)?;
     }
     Ok(rows)
@@ -77,11 +71,12 @@ fn type_rows(alloc: Global, entries: &[&Table]) -> Result<Vec<TypeRow>, TextFaul
 
 /// The kinds of the entries.
 fn kind_rows(alloc: Global, entries: &[&Table], order: Order) -> Result<Vec<KindRow>, TextFault>
+    requires numbered { length entries.now < 2 ^ 32 }
     ensures { Gives (λ v. map as_kind v.items) result (in_order (λ kind entry. kind_in order kind (table_view entry.now)) 0 entries.now) }
 {
     let mut rows = Vec::new(alloc);
     for (i, entry) in entries.iter().enumerate() {
-        let row = kind_row(alloc, entry, order, number_of(i)?)?;
+        let row = kind_row(alloc, entry, order, i as u32)?;
         rows.push(row)?;
     }
     Ok(rows)
@@ -90,6 +85,7 @@ fn kind_rows(alloc: Global, entries: &[&Table], order: Order) -> Result<Vec<Kind
 /// The edge types of a document.
 #[tactic(auto, unfolding(crate::specs::Document::types_in))]
 fn types(alloc: Global, table: &Table) -> Result<Vec<TypeRow>, TextFault>
+    requires few { AreNarrow (LONGEST_FILE + 2) (table_view table.now) }
     ensures { Gives (λ v. map as_type v.items) result (types_in (table_view table.now)) }
 {
     let entries = keys::entries(alloc, table, "type", Key::TypeList)?;
@@ -99,6 +95,7 @@ fn types(alloc: Global, table: &Table) -> Result<Vec<TypeRow>, TextFault>
 /// The kinds of a document.
 #[tactic(auto, unfolding(crate::specs::Document::kinds_in))]
 fn kinds(alloc: Global, table: &Table, order: Order) -> Result<Vec<KindRow>, TextFault>
+    requires few { AreNarrow (LONGEST_FILE + 2) (table_view table.now) }
     ensures { Gives (λ v. map as_kind v.items) result (kinds_in order (table_view table.now)) }
 {
     let entries = keys::entries(alloc, table, "kind", Key::KindList)?;
@@ -108,6 +105,7 @@ fn kinds(alloc: Global, table: &Table, order: Order) -> Result<Vec<KindRow>, Tex
 /// The rule of a document.
 #[tactic(auto, unfolding(crate::specs::Document::rule_in))]
 fn rule_of(alloc: Global, table: &Table) -> Result<Rule, TextFault>
+    requires few { AreNarrow (LONGEST_FILE + 2) (table_view table.now) }
     ensures { Gives listed result (rule_in (table_view table.now)) }
 {
     let _format = keys::format(table)?;

@@ -1,4 +1,4 @@
-use Rattle.std.proofs.Common.{◌≡◌, ◌∙◌, ◌++◌, ◌∷◌, [], ℕ, Bor, BTreeMap, String, Global, Result, Ok, ap, map, sym}
+use Rattle.std.proofs.Common.{◌≡◌, ◌∙◌, ◌++◌, ◌∷◌, [], ℕ, Bor, BTreeMap, String, Global, Result, Ok, ap, map}
 use Rattle.std.proofs.lemmas.List.{map_push}
 use Rattle.toml.specs.declared.value.Value.{Value}
 use Rattle.toml.specs.View.{table_view}
@@ -15,7 +15,7 @@ loop-i-preserved c =
     let o = c.args.order in
     let read : ℕ → Bor (BTreeMap (String Global) Value) → Result (Kind Point) TextFault = λ kind entry. kind_in o kind (table_view entry.now) in
     let x = c.index-entries-i.result in
-    let here : read c.loop-i.i x ≡ Ok (as_kind c.in_ok-row.row) = ap (λ (k : ℕ). read k x) (sym c.in_ok-number_of.ensures) ∙ c.in_ok-row.ensures in
+    let here : read c.loop-i.i x ≡ Ok (as_kind c.in_ok-row.row) = c.in_ok-row.ensures in
     let done : map as_kind c.push.new.self.items ≡ map as_kind c.loop-i.rows.items ++ as_kind c.in_ok-row.row ∷ [] =
     ap (map as_kind) c.in_ok-push.ensures.items ∙ map_push as_kind c.loop-i.rows.items c.in_ok-row.row in
     rw done (in_order-more read c.args.entries.now c.loop-i.i x (as_kind c.in_ok-row.row) (map as_kind c.loop-i.rows.items) _ c.loop-i-test.true c.index-entries-i.is here c.loop-i.invariant)

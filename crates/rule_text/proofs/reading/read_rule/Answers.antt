@@ -4,8 +4,12 @@ use Rattle.toml.specs.View.{table_view}
 use Rattle.rule_text.specs.Agrees.{Gives}
 use Rattle.rule_text.specs.File.{document_in, rule_of_document, rule_in_file, listed}
 use Rattle.rule_text.proofs.Meaning.{document-some, document-none, meant-read, meant-fault, toml-document}
+use Rattle.rule_text.proofs.NarrowDocuments.{document-few}
 use Rattle.rule_text.proofs.reading.read_rule.Goals as goal
 use Rattle.rule_text.proofs.reading.read_rule.Goals.{After-drop-table}
+
+pub rule_of-requires : goal.rule_of-requires
+rule_of-requires c = record { few = document-few 1048576 c.args.bytes.now (table_view c.in-Ok.table) c.requires.at_most_a_mebibyte c.in-Ok.ensures.ok.1 }
 
 document : (c : After-drop-table) → document_in c.args.bytes.now ≡ Some (table_view c.in-Ok.table)
 document c = document-some c.args.bytes.now (table_view c.in-Ok.table) c.in-Ok.ensures.ok.0 c.in-Ok.ensures.ok.1

@@ -1,0 +1,27 @@
+-- How many items the arrays of a document have.
+use Rattle.std.specs.Prelude.{ℕ, suc, ◌≤◌, List, Option, Some, None}
+use Rattle.toml.specs.Data.{Data, string, integer, float, boolean, datetime, array, table, Items, no_items, item, Members, get_member}
+
+-- how many items there are
+abbrev pub count : Items → ℕ
+count no_items = 0
+count (item d ds) = suc (count ds)
+
+-- an array has at most n items
+abbrev pub IsNarrow : ℕ → Data → Type 0
+IsNarrow n (array ds) = count ds ≤ n
+IsNarrow n (string s) = Unit {0}
+IsNarrow n (integer z) = Unit {0}
+IsNarrow n (float x) = Unit {0}
+IsNarrow n (boolean b) = Unit {0}
+IsNarrow n (datetime dt) = Unit {0}
+IsNarrow n (table ms) = Unit {0}
+
+-- the value, if there is one, is such
+abbrev pub MayNarrow : ℕ → Option Data → Type 0
+MayNarrow n None = Unit {0}
+MayNarrow n (Some d) = IsNarrow n d
+
+-- the value at each key is
+abbrev pub AreNarrow : ℕ → Members → Type 0
+AreNarrow n ms = (name : List ℕ) → MayNarrow n (get_member name ms)
