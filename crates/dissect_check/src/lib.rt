@@ -34,6 +34,8 @@ mod rules;
 mod same_point;
 mod stars;
 mod subdivisions;
+#[cfg(test)]
+mod table_tests;
 mod tables;
 #[cfg(test)]
 mod tests;
