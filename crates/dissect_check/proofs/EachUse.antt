@@ -1,7 +1,7 @@
 -- The child kinds of a rule within its limits, each kind of which has a use, are a table of uses.
 use Rattle.std.specs.Prelude.{nat_eq, nat_lt, nat_le, ◌==◌}
 use Rattle.std.specs.List.{list_all, list_any, range_with_len}
-use Rattle.std.proofs.Common.{◌≡◌, ℕ, zero, suc, ◌+◌, ◌<◌, ◌≤◌, Bool, true, false, ◌||◌, List, [], ◌∷◌, map, length, get_or, pos, refl, sym, ap, ◌∙◌, subst, arith, zero-add}
+use Rattle.std.proofs.Common.{◌≡◌, ℕ, zero, suc, ◌<◌, ◌≤◌, Bool, true, false, ◌||◌, List, [], ◌∷◌, map, length, get_or, pos, refl, sym, ap, ◌∙◌, subst, arith, zero-add}
 use Rattle.std.proofs.lemmas.Bool.{and_from}
 use Rattle.std.proofs.lemmas.Bool.Decides.{nat_tests}
 use Rattle.std.proofs.lemmas.List.{length-map, get_or-map}
@@ -9,9 +9,7 @@ use Rattle.std.proofs.lemmas.List.Folds.{list_any_at}
 use Rattle.std.proofs.lemmas.List.FromFn.{length-range_with_len, get_or-range_with_len}
 use Rattle.substitution.specs.Points.{Points}
 use Rattle.substitution.specs.Rule.{Child, Kind, Rule, children_of, child_kinds}
-use Rattle.substitution.specs.RuleParts.{child_of}
 use Rattle.substitution.specs.Search.{some_below}
-use Rattle.substitution.specs.Uses.{is_used}
 use Rattle.substitution.specs.Numbered.{IsNumbered}
 use Rattle.substitution.specs.Dissection.{EachUsed}
 use Rattle.tile_shape.specs.Usable.{IsUsable}

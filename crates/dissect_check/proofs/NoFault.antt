@@ -1,5 +1,5 @@
 -- A rule in which no clause finds a fault.
-use Rattle.std.proofs.Common.{◌≡◌, List, [], ◌∷◌, ◌++◌, Option, Some, None, sym, ◌∙◌}
+use Rattle.std.proofs.Common.{◌≡◌, List, [], ◌∷◌, Option, None, sym, ◌∙◌}
 use Rattle.substitution.specs.Search.{first_some}
 use Rattle.substitution.specs.Contacts.{tables_of}
 use Rattle.substitution.specs.Coherent.{IsCoherent}

@@ -1,7 +1,7 @@
 -- Laws of searches: no fault at any place, and the first fault as a loop finds it.
-use Rattle.std.proofs.Common.{◌≡◌, ℕ, zero, suc, ◌+◌, ◌<◌, ◌≤◌, Bool, true, false, List, [], ◌∷◌, ◌++◌, Option, Some, None, refl, sym, ap, ◌∙◌, subst, arith, ◌⊎◌, inl, inr, add-one}
+use Rattle.std.proofs.Common.{◌≡◌, ℕ, zero, suc, ◌+◌, ◌<◌, Bool, true, false, [], ◌∷◌, ◌++◌, Option, Some, None, refl, sym, ap, ◌∙◌, subst, arith, ◌⊎◌, inl, inr, add-one}
 use Rattle.std.proofs.lemmas.Bool.{cases_lt}
-use Rattle.substitution.specs.Search.{unless, first_some, or_else, first_below, below}
+use Rattle.substitution.specs.Search.{unless, or_else, first_below, below}
 
 pub below_or_at : (i n : ℕ) → i < suc n → (i < n) ⊎ (i ≡ n)
 below_or_at i n l = elim (cases_lt i n) [ inl q ↦ inl q | inr q ↦ inr (omega arith) ]

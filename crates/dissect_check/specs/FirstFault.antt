@@ -1,5 +1,5 @@
 -- The fault of the first clause that fails, at its first place.
-use Rattle.std.specs.Prelude.{ℕ, not, List, [], ◌∷◌, map, length, Option, Some, None, Result, Ok, Err}
+use Rattle.std.specs.Prelude.{ℕ, not, [], ◌∷◌, map, length, Option, Some, None, Result, Ok, Err}
 use Rattle.substitution.specs.Search.{unless, first_some, first_below}
 use Rattle.substitution.specs.RuleParts.{mate, vertices_of, edge_count}
 use Rattle.substitution.specs.Limits.{is_type, kinds_fit, types_fit, glue_fits, parts_fit, edges_fit, vertices_fit, children_fit}

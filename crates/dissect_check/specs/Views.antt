@@ -1,5 +1,5 @@
 -- What the program keeps of an inflated prototile stands for that of the theory.
-use Rattle.std.specs.Prelude.{◌≡◌, ℕ, ◌^◌, ◌<◌, ◌≤◌, List, map, length, All}
+use Rattle.std.specs.Prelude.{◌≡◌, ℕ, ◌^◌, ◌<◌, map, length, All}
 use Rattle.substitution.specs.Edges as theory
 use Rattle.substitution.specs.Edges.{child_edges, inflated_edges}
 use Rattle.substitution.specs.Lying as theory_lying

@@ -1,9 +1,9 @@
 use Rattle.std.specs.Global.{Global}
-use Rattle.std.proofs.Common.{Vec, [], ◌∷◌, sym}
+use Rattle.std.proofs.Common.{Vec, [], ◌∷◌}
 use Rattle.std.proofs.lemmas.Result.{err_from_is_err_and}
 use Rattle.edge_tables.specs.declared.kind_rows.KindRows.{KindRows}
 use Rattle.dissect_check.specs.FirstFault.{loose_edges, boundaries, uses, glues}
-use Rattle.dissect_check.proofs.Chains.{agrees_front, agrees_first, agrees_behind}
+use Rattle.dissect_check.proofs.Chains.{agrees_first}
 use Rattle.dissect_check.proofs.check.children.Goals as goal
 
 pub returns-in_err-loose_edges-clause-fault : goal.returns-in_err-loose_edges-clause-fault
