@@ -16,4 +16,7 @@ pub mod Depths
 pub mod Limits
 pub mod Chair
 pub mod Shortening
+pub mod NarrowValues
+pub mod NarrowLines
+pub mod NarrowTables
 pub mod NarrowDocuments
