@@ -6,7 +6,7 @@ ghost use Rattle.substitution.specs.Contacts.{tables_of_kind};
 ghost use Rattle.cyclo_points.specs.Order.{points_of};
 ghost use Rattle.edge_tables.specs.Views.{as_kind};
 ghost use Rattle.rule_model.specs.Usable.{IsUsable};
-ghost use Rattle.rule_model.specs.Views.{rule_of};
+ghost use Rattle.rule_model.specs.Views.{as_rule, rule_of};
 ghost use Rattle.dissect_check.specs.Agrees.{Agrees};
 ghost use Rattle.dissect_check.specs.FirstFault.{boundary_of_kind, boundaries};
 ghost use Rattle.dissect_check.specs.Views.{IsInflated};
@@ -32,7 +32,7 @@ fn parts_of_kind(
     requires usable { IsUsable rule.now }
     requires kind_exists { kind < length (rule_of rule.now).kinds }
     requires inflated { IsInflated rule.now kind parent.now }
-    ensures fault { Agrees result (boundary_of_kind rule.now kind) }
+    ensures fault { Agrees result (boundary_of_kind rule.now.order (as_rule rule.now) kind) }
     ensures parts { IfOk result (λ parts. AreParts rule.now kind parts.items) }
 {
     let mut parts = Vec::new(alloc);
@@ -46,7 +46,7 @@ fn parts_of_kind(
 fn tables_of_kind(alloc: Global, rule: &Rule, kind: usize) -> Result<KindRows, CheckFault>
     requires usable { IsUsable rule.now }
     requires kind_exists { kind < length (rule_of rule.now).kinds }
-    ensures fault { Agrees result (boundary_of_kind rule.now kind) }
+    ensures fault { Agrees result (boundary_of_kind rule.now.order (as_rule rule.now) kind) }
     ensures tables { IfOk result (λ rows. as_kind rows
         ≡ tables_of_kind (points_of rule.now.order) (rule_of rule.now) kind) }
 {
@@ -58,7 +58,7 @@ fn tables_of_kind(alloc: Global, rule: &Rule, kind: usize) -> Result<KindRows, C
 /// The contact tables of each kind, or the first part that fails, kind by kind.
 pub(crate) fn boundaries(alloc: Global, rule: &Rule) -> Result<Vec<KindRows>, CheckFault>
     requires usable { IsUsable rule.now }
-    ensures fault { Agrees result (boundaries rule.now) }
+    ensures fault { Agrees result (boundaries rule.now.order (as_rule rule.now)) }
     ensures tables { IfOk result (λ rows. map as_kind rows.items
         ≡ below (tables_of_kind (points_of rule.now.order) (rule_of rule.now))
         (length (rule_of rule.now).kinds)) }

@@ -6,7 +6,7 @@ ghost use Rattle.cyclo_points.specs.Order.{points_of};
 ghost use Rattle.edge_tables.specs.Views.{as_kind};
 ghost use Rattle.rule_model.specs.Accepted.{IsAccepted};
 ghost use Rattle.rule_model.specs.Usable.{IsUsable};
-ghost use Rattle.rule_model.specs.Views.{rule_of};
+ghost use Rattle.rule_model.specs.Views.{as_rule, rule_of};
 ghost use Rattle.dissect_check.specs.Agrees.{Agrees, IsOkOrMemory};
 ghost use Rattle.dissect_check.specs.FirstFault.{loose_edges as loose_fault, boundaries as boundary_fault, uses as uses_fault, glues as glues_fault, first_fault};
 
@@ -25,8 +25,8 @@ use std::alloc::Global;
 /// The clauses on children and those behind them, and the contact tables of each kind.
 fn children(alloc: Global, rule: &Rule) -> Result<Vec<KindRows>, CheckFault>
     requires usable { IsUsable rule.now }
-    ensures fault { Agrees result (first_some (loose_fault rule.now ∷ boundary_fault rule.now
-        ∷ uses_fault rule.now ∷ glues_fault rule.now ∷ [])) }
+    ensures fault { let o = rule.now.order in let l = as_rule rule.now in
+        Agrees result (first_some (loose_fault o l ∷ boundary_fault o l ∷ uses_fault o l ∷ glues_fault o l ∷ [])) }
     ensures tables { IfOk result (λ rows. map as_kind rows.items
         ≡ below (tables_of_kind (points_of rule.now.order) (rule_of rule.now)) (length (rule_of rule.now).kinds)) }
 {

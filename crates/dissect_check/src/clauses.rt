@@ -3,6 +3,7 @@
 ghost use Rattle.std.specs.Prelude.{◌≡◌, [], ◌∷◌};
 ghost use Rattle.substitution.specs.Search.{first_some};
 ghost use Rattle.rule_model.specs.Usable.{IsUsable};
+ghost use Rattle.rule_model.specs.Views.{as_rule};
 ghost use Rattle.dissect_check.specs.Agrees.{fault_in};
 ghost use Rattle.dissect_check.specs.FirstFault.{limits as limits_fault, stars as stars_fault, factor as factor_fault};
 ghost use Rattle.dissect_check.specs.FirstFault.{mates as mates_fault, lengths as lengths_fault, subdivisions as subdivisions_fault};
@@ -22,8 +23,9 @@ use rule_model::rule::Rule;
 /// The clauses before those on children: the limits, and then prototiles, the factor and the edge
 /// types.
 pub(crate) fn before_children(rule: &Rule) -> Result<(), CheckFault>
-    ensures { fault_in result ≡ first_some (limits_fault rule.now ∷ stars_fault rule.now ∷ factor_fault rule.now
-        ∷ mates_fault rule.now ∷ lengths_fault rule.now ∷ subdivisions_fault rule.now ∷ []) }
+    ensures { let o = rule.now.order in let l = as_rule rule.now in
+        fault_in result ≡ first_some (limits_fault o l ∷ stars_fault o l ∷ factor_fault o l
+        ∷ mates_fault o l ∷ lengths_fault o l ∷ subdivisions_fault o l ∷ []) }
 {
     limits(rule)?;
     shapes_and_types(rule)
@@ -32,8 +34,9 @@ pub(crate) fn before_children(rule: &Rule) -> Result<(), CheckFault>
 /// The clauses on prototiles, on the factor and on edge types.
 fn shapes_and_types(rule: &Rule) -> Result<(), CheckFault>
     requires usable { IsUsable rule.now }
-    ensures { fault_in result ≡ first_some (stars_fault rule.now ∷ factor_fault rule.now
-        ∷ mates_fault rule.now ∷ lengths_fault rule.now ∷ subdivisions_fault rule.now ∷ []) }
+    ensures { let o = rule.now.order in let l = as_rule rule.now in
+        fault_in result ≡ first_some (stars_fault o l ∷ factor_fault o l
+        ∷ mates_fault o l ∷ lengths_fault o l ∷ subdivisions_fault o l ∷ []) }
 {
     stars(rule)?;
     factor(rule)?;
@@ -45,7 +48,8 @@ fn shapes_and_types(rule: &Rule) -> Result<(), CheckFault>
 /// The clauses behind those on children: uses and glue types.
 pub(crate) fn behind_children(rule: &Rule) -> Result<(), CheckFault>
     requires usable { IsUsable rule.now }
-    ensures { fault_in result ≡ first_some (uses_fault rule.now ∷ glues_fault rule.now ∷ []) }
+    ensures { let o = rule.now.order in let l = as_rule rule.now in
+        fault_in result ≡ first_some (uses_fault o l ∷ glues_fault o l ∷ []) }
 {
     uses(rule)?;
     glues(rule)

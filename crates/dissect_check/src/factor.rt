@@ -8,6 +8,7 @@ ghost use Rattle.substitution.specs.Factor.{is_real_above_one};
 ghost use Rattle.cyclo_points.specs.Order.{points_of, is_refused};
 ghost use Rattle.cyclo_points.specs.Point.{point_in};
 ghost use Rattle.rule_model.specs.Usable.{IsSmall, IsUsable};
+ghost use Rattle.rule_model.specs.Views.{as_rule};
 ghost use Rattle.dissect_check.specs.Agrees.{fault_in};
 ghost use Rattle.dissect_check.specs.FirstFault.{factor as factor_fault};
 
@@ -31,7 +32,7 @@ const POWERS: usize = 65;
 /// The factor is real, greater than 1, and one of its powers is beyond the limit of coordinates.
 pub(crate) fn factor(rule: &Rule) -> Result<(), CheckFault>
     requires usable { IsUsable rule.now }
-    ensures { fault_in result ≡ factor_fault rule.now }
+    ensures { fault_in result ≡ factor_fault rule.now.order (as_rule rule.now) }
 {
     let is_growing = is_real_above_one(rule.order, &rule.factor)
         && is_refused_by(rule.order, &rule.factor, POWERS);

@@ -5,7 +5,7 @@ ghost use Rattle.std.specs.List.{list_any};
 ghost use Rattle.substitution.specs.RuleParts.{mate, edge_types};
 ghost use Rattle.substitution.specs.Uses.{holders, is_glued_before, glues_halves};
 ghost use Rattle.rule_model.specs.Usable.{IsUsable};
-ghost use Rattle.rule_model.specs.Views.{rule_of};
+ghost use Rattle.rule_model.specs.Views.{as_rule, rule_of};
 ghost use Rattle.dissect_check.specs.declared.few.Few.TheVariants.{One};
 ghost use Rattle.dissect_check.specs.Agrees.{fault_in};
 ghost use Rattle.dissect_check.specs.Few.{few_of};
@@ -87,7 +87,7 @@ fn glues_halves(rule: &Rule, i: usize) -> bool
 /// Each glue type glues two halves.
 pub(crate) fn glues(rule: &Rule) -> Result<(), CheckFault>
     requires usable { IsUsable rule.now }
-    ensures { fault_in result ≡ glues_fault rule.now }
+    ensures { fault_in result ≡ glues_fault rule.now.order (as_rule rule.now) }
 {
     for i in 0..rule.glue_count() {
         if !glues_halves(rule, i) {

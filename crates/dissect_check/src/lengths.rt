@@ -7,7 +7,7 @@ ghost use Rattle.substitution.specs.EdgeTypes.{edge_vector, first_vector, has_le
 ghost use Rattle.cyclo_points.specs.Order.{points_of};
 ghost use Rattle.cyclo_points.specs.Point.{point_in, IsWithin};
 ghost use Rattle.rule_model.specs.Usable.{IsUsable};
-ghost use Rattle.rule_model.specs.Views.{rule_of};
+ghost use Rattle.rule_model.specs.Views.{as_rule, rule_of};
 ghost use Rattle.dissect_check.specs.Agrees.{fault_in};
 ghost use Rattle.dissect_check.specs.FirstFault.{lengths as lengths_fault};
 
@@ -69,7 +69,7 @@ fn has_length_of_type(rule: &Rule, kind: usize, edge: usize) -> bool
 /// Each edge is as long as the first edge of its type or its mate.
 pub(crate) fn lengths(rule: &Rule) -> Result<(), CheckFault>
     requires usable { IsUsable rule.now }
-    ensures { fault_in result ≡ lengths_fault rule.now }
+    ensures { fault_in result ≡ lengths_fault rule.now.order (as_rule rule.now) }
 {
     for kind in 0..rule.kind_count() {
         for edge in 0..rule.edge_count(kind) {

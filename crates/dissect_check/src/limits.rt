@@ -28,7 +28,7 @@ fn require(fits: bool, what: What) -> Result<(), CheckFault>
 fn type_limits(rule: &Rule, ty: usize) -> Result<(), CheckFault>
     requires ty_in { ty < length (as_rule rule.now).types }
     requires few { ty < 32 }
-    ensures { fault_in result ≡ type_limits rule.now ty }
+    ensures { fault_in result ≡ type_limits rule.now.order (as_rule rule.now) ty }
 {
     let mate_exists = rule.mate(ty) < rule.type_count();
     require(mate_exists, What::Mate { ty: ty as u8 })?;
@@ -38,7 +38,7 @@ fn type_limits(rule: &Rule, ty: usize) -> Result<(), CheckFault>
 /// No number of any type passes a limit.
 fn types_limits(rule: &Rule) -> Result<(), CheckFault>
     requires { length (as_rule rule.now).types ≤ 32 }
-    ensures { fault_in result ≡ types_limits rule.now }
+    ensures { fault_in result ≡ types_limits rule.now.order (as_rule rule.now) }
 {
     for ty in 0..rule.type_count() {
         type_limits(rule, ty)?;
@@ -50,7 +50,7 @@ fn types_limits(rule: &Rule) -> Result<(), CheckFault>
 fn kind_limits(rule: &Rule, kind: usize) -> Result<(), CheckFault>
     requires kind_in { kind < length (as_rule rule.now).kinds }
     requires few { kind < 16 }
-    ensures { fault_in result ≡ kind_limits rule.now kind }
+    ensures { fault_in result ≡ kind_limits rule.now.order (as_rule rule.now) kind }
 {
     require(edges_fit(rule, kind), What::Edges { kind: kind as u8 })?;
     require(vertices_fit(rule, kind), What::Vertex { kind: kind as u8 })?;
@@ -60,7 +60,7 @@ fn kind_limits(rule: &Rule, kind: usize) -> Result<(), CheckFault>
 /// No number of any kind passes a limit.
 fn kinds_limits(rule: &Rule) -> Result<(), CheckFault>
     requires { length (as_rule rule.now).kinds ≤ 16 }
-    ensures { fault_in result ≡ kinds_limits rule.now }
+    ensures { fault_in result ≡ kinds_limits rule.now.order (as_rule rule.now) }
 {
     for kind in 0..rule.kind_count() {
         kind_limits(rule, kind)?;
@@ -70,7 +70,7 @@ fn kinds_limits(rule: &Rule) -> Result<(), CheckFault>
 
 /// No count and no number passes a limit.
 pub(crate) fn limits(rule: &Rule) -> Result<(), CheckFault>
-    ensures { fault_in result ≡ limits_fault rule.now }
+    ensures { fault_in result ≡ limits_fault rule.now.order (as_rule rule.now) }
 {
     require(kinds_fit(rule), What::Kinds)?;
     require(types_fit(rule), What::Types)?;

@@ -2,7 +2,7 @@
 
 ghost use Rattle.std.specs.Prelude.{◌≡◌, ◌<◌, length};
 ghost use Rattle.rule_model.specs.Usable.{IsUsable};
-ghost use Rattle.rule_model.specs.Views.{rule_of};
+ghost use Rattle.rule_model.specs.Views.{as_rule, rule_of};
 ghost use Rattle.dissect_check.specs.FirstFault.{loose_of_kind, loose_edges};
 ghost use Rattle.dissect_check.specs.Agrees.{Agrees};
 
@@ -16,7 +16,7 @@ use std::alloc::Global;
 fn loose_of_kind(alloc: Global, rule: &Rule, kind: usize) -> Result<(), CheckFault>
     requires usable { IsUsable rule.now }
     requires kind_in { kind < length (rule_of rule.now).kinds }
-    ensures { Agrees result (loose_of_kind rule.now kind) }
+    ensures { Agrees result (loose_of_kind rule.now.order (as_rule rule.now) kind) }
 {
     let parent = inflated(alloc, rule, kind)?;
     for i in 0..parent.edges.len() {
@@ -35,7 +35,7 @@ fn loose_of_kind(alloc: Global, rule: &Rule, kind: usize) -> Result<(), CheckFau
 /// Refuses the first loose child edge, kind by kind.
 pub(crate) fn loose_edges(alloc: Global, rule: &Rule) -> Result<(), CheckFault>
     requires usable { IsUsable rule.now }
-    ensures { Agrees result (loose_edges rule.now) }
+    ensures { Agrees result (loose_edges rule.now.order (as_rule rule.now)) }
 {
     for kind in 0..rule.kind_count() {
         loose_of_kind(alloc, rule, kind)?;

@@ -7,7 +7,7 @@ ghost use Rattle.cyclo_points.specs.Order.{points_of};
 ghost use Rattle.cyclo_points.specs.Places.{reals_of, place_of, triangle_of};
 ghost use Rattle.cyclo_points.specs.Point.{IsWithin};
 ghost use Rattle.rule_model.specs.Usable.{IsUsable};
-ghost use Rattle.rule_model.specs.Views.{rule_of};
+ghost use Rattle.rule_model.specs.Views.{as_rule, rule_of};
 ghost use Rattle.dissect_check.specs.Agrees.{fault_in};
 ghost use Rattle.dissect_check.specs.FirstFault.{stars as stars_fault};
 
@@ -125,7 +125,7 @@ fn is_star(rule: &Rule, kind: usize) -> bool
 /// Each prototile is star-shaped from its vertex 0.
 pub(crate) fn stars(rule: &Rule) -> Result<(), CheckFault>
     requires usable { IsUsable rule.now }
-    ensures { fault_in result ≡ stars_fault rule.now }
+    ensures { fault_in result ≡ stars_fault rule.now.order (as_rule rule.now) }
 {
     for kind in 0..rule.kind_count() {
         if !is_star(rule, kind) {

@@ -2,7 +2,7 @@
 ghost use Rattle.std.specs.Prelude.{◌≡◌, ◌<◌, length};
 ghost use Rattle.substitution.specs.EdgeTypes.{is_mirrored};
 ghost use Rattle.rule_model.specs.Usable.{IsUsable};
-ghost use Rattle.rule_model.specs.Views.{rule_of};
+ghost use Rattle.rule_model.specs.Views.{as_rule, rule_of};
 ghost use Rattle.dissect_check.specs.Agrees.{fault_in};
 ghost use Rattle.dissect_check.specs.FirstFault.{subdivisions as subdivisions_fault};
 
@@ -31,7 +31,7 @@ fn is_mirrored(rule: &Rule, ty: usize) -> bool
 /// The mate's subdivision is each type's, mirrored.
 pub(crate) fn subdivisions(rule: &Rule) -> Result<(), CheckFault>
     requires usable { IsUsable rule.now }
-    ensures { fault_in result ≡ subdivisions_fault rule.now }
+    ensures { fault_in result ≡ subdivisions_fault rule.now.order (as_rule rule.now) }
 {
     for ty in 0..rule.type_count() {
         if !is_mirrored(rule, ty) {

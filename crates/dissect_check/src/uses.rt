@@ -2,7 +2,7 @@
 ghost use Rattle.std.specs.Prelude.{◌≡◌};
 ghost use Rattle.substitution.specs.Uses.{is_used};
 ghost use Rattle.rule_model.specs.Usable.{IsUsable};
-ghost use Rattle.rule_model.specs.Views.{rule_of};
+ghost use Rattle.rule_model.specs.Views.{as_rule, rule_of};
 ghost use Rattle.dissect_check.specs.Agrees.{fault_in};
 ghost use Rattle.dissect_check.specs.FirstFault.{uses as uses_fault};
 
@@ -26,7 +26,7 @@ fn is_used(rule: &Rule, kind: usize) -> bool
 /// Each kind has a use.
 pub(crate) fn uses(rule: &Rule) -> Result<(), CheckFault>
     requires usable { IsUsable rule.now }
-    ensures { fault_in result ≡ uses_fault rule.now }
+    ensures { fault_in result ≡ uses_fault rule.now.order (as_rule rule.now) }
 {
     for kind in 0..rule.kind_count() {
         if !is_used(rule, kind) {

@@ -3,7 +3,7 @@ use Rattle.std.specs.Global.{Global}
 use Rattle.std.proofs.Common.{length, arith}
 use Rattle.std.proofs.lemmas.Result.{err_from_is_err_and}
 use Rattle.edge_tables.specs.declared.kind_rows.KindRows.{KindRows}
-use Rattle.rule_model.specs.Views.{rule_of}
+use Rattle.rule_model.specs.Views.{as_rule, rule_of}
 use Rattle.dissect_check.specs.FirstFault.{boundary_of_kind}
 use Rattle.dissect_check.proofs.Agreeing.{agrees_below}
 use Rattle.dissect_check.proofs.boundaries.boundaries.Goals as goal
@@ -13,4 +13,4 @@ returns-in_err-tables_of_kind-clause-fault c =
     let r = c.args.rule.now in
     let p = err_from_is_err_and c.from_residual.result c.from_residual.ensures.1 in
     rw (p.1, p.2)
-    (agrees_below (Vec KindRows Global) c.in_err-tables_of_kind.field-0.0 (boundary_of_kind r) c.loop-kind.kind (length (rule_of r).kinds) c.loop-kind.invariant.no_fault (omega arith) c.in_err-tables_of_kind.ensures.fault)
+    (agrees_below (Vec KindRows Global) c.in_err-tables_of_kind.field-0.0 (boundary_of_kind r.order (as_rule r)) c.loop-kind.kind (length (rule_of r).kinds) c.loop-kind.invariant.no_fault (omega arith) c.in_err-tables_of_kind.ensures.fault)

@@ -3,7 +3,7 @@ use Rattle.substitution.specs.Search.{unless}
 use Rattle.substitution.specs.RuleParts.{edge_count}
 use Rattle.substitution.specs.EdgeTypes.{has_length_of_type}
 use Rattle.cyclo_points.specs.Order.{points_of}
-use Rattle.rule_model.specs.Views.{rule_of}
+use Rattle.rule_model.specs.Views.{as_rule, rule_of}
 use Rattle.dissect_check.specs.declared.check_fault.CheckFault.TheVariants.{BadLength}
 use Rattle.dissect_check.specs.FirstFault.{lengths_of_kind}
 use Rattle.dissect_check.proofs.Search.{first_below-stop}
@@ -17,4 +17,4 @@ returns-then-not-has_length_of_type c =
     let e = c.loop-edge.edge in
     let in_kind = first_below-stop (λ n. unless (has_length_of_type (points_of o) r k n) (BadLength k n)) e (edge_count r k) (BadLength k e) c.loop-edge.invariant
     (grind arith) (omega (arith, c.edge_count-edge-end.ensures.numbers o)) in
-    first_below-stop (lengths_of_kind c.args.rule.now) k (length r.kinds) (BadLength k e) c.loop-kind.invariant (sym in_kind) (omega (arith, c.kind_count-kind-end.ensures.numbers o))
+    first_below-stop (lengths_of_kind o (as_rule c.args.rule.now)) k (length r.kinds) (BadLength k e) c.loop-kind.invariant (sym in_kind) (omega (arith, c.kind_count-kind-end.ensures.numbers o))

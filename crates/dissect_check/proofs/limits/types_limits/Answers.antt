@@ -9,4 +9,4 @@ pub returns-in_err-type_limits : goal.returns-in_err-type_limits
 returns-in_err-type_limits c =
     let r = c.args.rule.now in
     let p = err_from_is_err_and c.from_residual.result c.from_residual.ensures.1 in
-    rw (p.1, p.2) (first_below-stop (type_limits r) c.loop-ty.ty (length (as_rule r).types) c.in_err-type_limits.field-0.0 c.loop-ty.invariant (sym c.in_err-type_limits.ensures) (omega arith))
+    rw (p.1, p.2) (first_below-stop (type_limits r.order (as_rule r)) c.loop-ty.ty (length (as_rule r).types) c.in_err-type_limits.field-0.0 c.loop-ty.invariant (sym c.in_err-type_limits.ensures) (omega arith))

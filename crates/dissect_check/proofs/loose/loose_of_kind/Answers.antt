@@ -3,7 +3,7 @@ use Rattle.substitution.specs.Search.{unless}
 use Rattle.substitution.specs.Lying.{loose, lie_of, is_loose}
 use Rattle.cyclo_points.specs.Order.{points_of}
 use Rattle.rule_model.specs.declared.rule.Rule.{Rule}
-use Rattle.rule_model.specs.Views.{rule_of}
+use Rattle.rule_model.specs.Views.{as_rule, rule_of}
 use Rattle.dissect_check.specs.declared.check_fault.CheckFault.TheVariants.{ChildEdgeLoose}
 use Rattle.dissect_check.specs.declared.inflated.Inflated.{Inflated}
 use Rattle.dissect_check.specs.declared.lie.Lie.{Lie}
@@ -31,9 +31,9 @@ returns-in-Loose c =
     let below : i < length p.edges.items = omega arith in
     let at : loose ≡ lie x
     = ap as_lie (sym c.in-Loose.is ∙ c.index.ensures) ∙ lie_at r k p c.in_ok-parent.ensures i below c.index.result.now x ∙ ap lie (sym c.index-edge.ensures) in
-    let fault : loose_fault r k (edge_in r.order (get_or p.edges.items i x)) ≡ Some (ChildEdgeLoose k x.child x.edge)
-    = ap (λ s. loose_fault r k (edge_in r.order s)) (sym c.index-edge.ensures) ∙ ap (λ l. unless (not (is_loose l)) (ChildEdgeLoose k x.child x.edge)) (sym at) in
-    sym c.loop-i.invariant ∙ first_some-here (loose_fault r k) (edge_in r.order) p.edges.items i x (ChildEdgeLoose k x.child x.edge) below fault
+    let fault : loose_fault r.order (as_rule r) k (edge_in r.order (get_or p.edges.items i x)) ≡ Some (ChildEdgeLoose k x.child x.edge)
+    = ap (λ s. loose_fault r.order (as_rule r) k (edge_in r.order s)) (sym c.index-edge.ensures) ∙ ap (λ l. unless (not (is_loose l)) (ChildEdgeLoose k x.child x.edge)) (sym at) in
+    sym c.loop-i.invariant ∙ first_some-here (loose_fault r.order (as_rule r) k) (edge_in r.order) p.edges.items i x (ChildEdgeLoose k x.child x.edge) below fault
 
 pub loop-i-preserved : goal.loop-i-preserved
 loop-i-preserved c =
@@ -43,8 +43,8 @@ loop-i-preserved c =
     let i = c.loop-i.i in
     let lie = c.index.result.now in
     let below : i < length p.edges.items = omega arith in
-    let none : (d : PlacedEdge) → loose_fault r k (edge_in r.order (get_or p.edges.items i d)) ≡ None
+    let none : (d : PlacedEdge) → loose_fault r.order (as_rule r) k (edge_in r.order (get_or p.edges.items i d)) ≡ None
     = λ d. let e = get_or p.edges.items i d in
     ap (λ l. unless (not (is_loose l)) (ChildEdgeLoose k e.child e.edge)) (sym (lie_at r k p c.in_ok-parent.ensures i below lie d) ∙ ap as_lie (sym c.index.ensures))
     ∙ ap (λ b. unless (not b) (ChildEdgeLoose k e.child e.edge)) (not_loose lie c.in_default.not-Loose) in
-    sym (first_some-later (loose_fault r k) (edge_in r.order) p.edges.items i below none) ∙ c.loop-i.invariant
+    sym (first_some-later (loose_fault r.order (as_rule r) k) (edge_in r.order) p.edges.items i below none) ∙ c.loop-i.invariant
