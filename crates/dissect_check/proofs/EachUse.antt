@@ -1,7 +1,7 @@
 -- The child kinds of a rule within its limits, each kind of which has a use, are a table of uses.
 use Rattle.std.specs.Prelude.{nat_eq, nat_lt, nat_le, ◌==◌}
 use Rattle.std.specs.List.{list_all, list_any, range_with_len}
-use Rattle.std.proofs.Common.{◌≡◌, ℕ, zero, suc, ◌<◌, ◌≤◌, Bool, true, false, ◌||◌, List, [], ◌∷◌, map, length, get_or, pos, refl, sym, ap, ◌∙◌, subst, arith, zero-add}
+use Rattle.std.proofs.Common.{◌≡◌, ℕ, zero, suc, ◌<◌, ◌≤◌, Bool, true, false, ◌&&◌, ◌||◌, List, [], ◌∷◌, map, length, get_or, pos, refl, sym, ap, ◌∙◌, subst, arith, zero-add}
 use Rattle.std.proofs.lemmas.Bool.{and_from}
 use Rattle.std.proofs.lemmas.Bool.Decides.{nat_tests}
 use Rattle.std.proofs.lemmas.List.{length-map, get_or-map}
@@ -38,15 +38,39 @@ any-kinds : {A : Type 0} (k : ℕ) (cs : List (Child A)) → list_any (λ (c : C
 any-kinds k [] = refl
 any-kinds k (c ∷ cs) = ap (λ b. nat_eq c.kind k || b) (any-kinds k cs)
 
-module _ (P : Points) (r : Rule P.ring.carrier) (N : IsNumbered P r) (U : EachUsed r) where
-  -- the kinds of a kind's children
-  abbrev kinds_in : Kind P.ring.carrier → List ℕ
-  kinds_in k = map (λ (c : Child P.ring.carrier). c.kind) k.children
+-- and all of them are below n where the children's are
+all-kinds : {A : Type 0} (n : ℕ) (cs : List (Child A)) → list_all (λ (c : Child A). nat_lt c.kind n) cs ≡ list_all (λ kind. nat_lt kind n) (map (λ (c : Child A). c.kind) cs)
+all-kinds n [] = refl
+all-kinds n (c ∷ cs) = ap (λ b. nat_lt c.kind n && b) (all-kinds n cs)
 
-  abbrev empty : Kind P.ring.carrier
+-- 1 to 16 kinds, each with 1 to 16 children, each of a kind that there is
+pub record HasChildren {A : Type 0} (r : Rule A) : Type 0 where
+  pub some_kind : 1 ≤ length r.kinds
+  pub at_most_16_kinds : length r.kinds ≤ 16
+  pub some_child : (k : ℕ) → k < length r.kinds → 1 ≤ length (children_of r k)
+  pub at_most_16_children : (k : ℕ) → k < length r.kinds → length (children_of r k) ≤ 16
+  pub each_exists : (k : ℕ) → k < length r.kinds → list_all (λ (c : Child A). nat_lt c.kind (length r.kinds)) (children_of r k) ≡ true
+
+-- a rule within its limits has
+pub has-children : (P : Points) (r : Rule P.ring.carrier) → IsNumbered P r → HasChildren r
+has-children P r N = record {
+  some_kind = N.some_kind;
+  at_most_16_kinds = N.at_most_16_kinds;
+  some_child = N.some_child;
+  at_most_16_children = N.at_most_16_children;
+  each_exists = λ k l. each_place (λ (c : Child P.ring.carrier). nat_lt c.kind (length r.kinds)) (children_of r k) (record { kind = 0; motion = record { turn = 0; shift = P.ring.int (pos 0) } })
+      (λ c m. let b = N.child_exists k c l m in grind (arith, nat_tests, b));
+}
+
+module _ {A : Type 0} (r : Rule A) (N : HasChildren r) (U : EachUsed r) where
+  -- the kinds of a kind's children
+  abbrev kinds_in : Kind A → List ℕ
+  kinds_in k = map (λ (c : Child A). c.kind) k.children
+
+  abbrev empty : Kind A
   empty = record { vertices = []; edges = []; children = [] }
 
-  row-is : (k : ℕ) → k < length r.kinds → get_or (child_kinds r) k [] ≡ map (λ (c : Child P.ring.carrier). c.kind) (children_of r k)
+  row-is : (k : ℕ) → k < length r.kinds → get_or (child_kinds r) k [] ≡ map (λ (c : Child A). c.kind) (children_of r k)
   row-is k l = get_or-map kinds_in r.kinds k empty [] l
 
   as_many : length (child_kinds r) ≡ length r.kinds
@@ -54,21 +78,14 @@ module _ (P : Points) (r : Rule P.ring.carrier) (N : IsNumbered P r) (U : EachUs
 
   -- how many children a row has
   row-long : (k : ℕ) → k < length r.kinds → length (get_or (child_kinds r) k []) ≡ length (children_of r k)
-  row-long k l = ap length (row-is k l) ∙ length-map (children_of r k) (λ (c : Child P.ring.carrier). c.kind)
+  row-long k l = ap length (row-is k l) ∙ length-map (children_of r k) (λ (c : Child A). c.kind)
 
   -- each child's kind exists
   exists : (k : ℕ) → k < length r.kinds → list_all (λ kind. nat_lt kind (length (child_kinds r))) (get_or (child_kinds r) k []) ≡ true
   exists k l =
       subst (λ row. list_all (λ kind. nat_lt kind (length (child_kinds r))) row ≡ true) (sym (row-is k l))
-      (each_place (λ kind. nat_lt kind (length (child_kinds r))) (map (λ (c : Child P.ring.carrier). c.kind) (children_of r k)) 0 (λ c m. at c m))
-    where
-      at : (c : ℕ) → c < length (map (λ (c : Child P.ring.carrier). c.kind) (children_of r k)) → nat_lt (get_or (map (λ (c : Child P.ring.carrier). c.kind) (children_of r k)) c 0) (length (child_kinds r)) ≡ true
-      at c m =
-          let n = length-map (children_of r k) (λ (c : Child P.ring.carrier). c.kind) in
-          let inside = subst (λ x. c < x) n m in
-          let e = get_or-map (λ (c : Child P.ring.carrier). c.kind) (children_of r k) c (record { kind = 0; motion = record { turn = 0; shift = P.ring.int (pos 0) } }) 0 inside in
-          let b = N.child_exists k c l inside in
-          grind (arith, nat_tests, e, b, as_many)
+      (subst (λ n. list_all (λ kind. nat_lt kind n) (map (λ (c : Child A). c.kind) (children_of r k)) ≡ true) (sym as_many)
+      (sym (all-kinds (length r.kinds) (children_of r k)) ∙ N.each_exists k l))
 
   -- each kind is used
   used : (k : ℕ) → k < length r.kinds → list_any (λ row. list_any (λ child. child == k) row) (child_kinds r) ≡ true

@@ -23,4 +23,5 @@ pub mod OwnEdges
 pub mod LieBounds
 pub mod Chains
 pub mod NoFault
+pub mod ListedChildren
 pub mod RowOfKind

@@ -21,6 +21,7 @@ mod fits;
 mod glue;
 mod inflated;
 mod inflation;
+pub mod laws;
 mod lengths;
 mod lie;
 mod limits;
