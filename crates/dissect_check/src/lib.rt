@@ -40,6 +40,8 @@ mod table_tests;
 mod tables;
 #[cfg(test)]
 mod tests;
+#[cfg(test)]
+mod text_tests;
 mod uses;
 pub mod what;
 mod wholes;
