@@ -6,12 +6,12 @@ use Rattle.std.specs.Option.{option_map_or}
 use Rattle.std.specs.Str.{bytes_eq}
 use Rattle.std.proofs.lemmas.Slice.Eq.{bytes_eq-Decides}
 use Rattle.tile_app.specs.declared.words.Command.{Command}
-use Rattle.tile_app.specs.declared.words.Command.TheVariants.{Place, Neighbour}
+use Rattle.tile_app.specs.declared.words.Command.TheVariants.{Place, Neighbour, Check}
 use Rattle.tile_app.specs.declared.words.Key.{Key}
 use Rattle.tile_app.specs.declared.words.Key.TheVariants.{Rule, Addr, Edge}
 use Rattle.tile_app.specs.Numbers.{number_up_to}
-use Rattle.tile_app.specs.Tilings.{name_in}
-use Rattle.tile_app.specs.Words.{key_text, command_named, keys_of, required_keys, has_form, is_equals, value_in, value_given, is_right, wrong_place, command_of}
+use Rattle.tile_app.specs.Choices.{choice_in}
+use Rattle.tile_app.specs.Words.{key_text, command_named, keys_of, required_keys, has_form, IsAboutTile, is_equals, value_in, value_given, is_right, wrong_place, command_of}
 
 -- ---- what is given among more words
 append_nil : {A : Type 0} (xs : List A) → xs ++ [] ≡ xs
@@ -36,7 +36,7 @@ test_of_none : {A : Type 0} (b : Bool) (rest : Option A) (x : A) → cond b rest
 test_of_none true rest x e = (refl, e)
 test_of_none false rest x e = absurd (cc e)
 
-both_true : (a b : Bool) → a && b ≡ true → (a ≡ true) × (b ≡ true)
+pub both_true : (a b : Bool) → a && b ≡ true → (a ≡ true) × (b ≡ true)
 both_true true b e = (refl, e)
 both_true false b e = absurd (cc e)
 
@@ -119,11 +119,16 @@ name_gives_nothing name command e key value g = at_place (bytes_eq name (codes "
     nothing_in : (w : List ℕ) → name ≡ w → value_given key (w ∷ []) ≡ None → has_form key value ≡ true
     nothing_in w f h = absurd (cc (sym (subst (λ v. value_given key (v ∷ []) ≡ Some value) f g) ∙ h))
 
-    at_neighbour : (b : Bool) → bytes_eq name (codes "neighbour") ≡ b → cond b (Some Neighbour) None ≡ Some command → has_form key value ≡ true
-    at_neighbour true f h = nothing_in (codes "neighbour") ((bytes_eq-Decides _ _).0 f) refl
-    at_neighbour false f h = absurd (cc h)
+    at_check : (b : Bool) → bytes_eq name (codes "check") ≡ b → cond b (Some Check) None ≡ Some command → has_form key value ≡ true
+    at_check true f h = nothing_in (codes "check") ((bytes_eq-Decides _ _).0 f) refl
+    at_check false f h = absurd (cc h)
 
-    at_place : (b : Bool) → bytes_eq name (codes "place") ≡ b → cond b (Some Place) (cond (bytes_eq name (codes "neighbour")) (Some Neighbour) None) ≡ Some command → has_form key value ≡ true
+    at_neighbour : (b : Bool) → bytes_eq name (codes "neighbour") ≡ b → cond b (Some Neighbour) (cond (bytes_eq name (codes "check")) (Some Check) None) ≡ Some command → has_form key value ≡ true
+    at_neighbour true f h = nothing_in (codes "neighbour") ((bytes_eq-Decides _ _).0 f) refl
+    at_neighbour false f h = at_check (bytes_eq name (codes "check")) refl h
+
+    at_place : (b : Bool) → bytes_eq name (codes "place") ≡ b
+        → cond b (Some Place) (cond (bytes_eq name (codes "neighbour")) (Some Neighbour) (cond (bytes_eq name (codes "check")) (Some Check) None)) ≡ Some command → has_form key value ≡ true
     at_place true f h = nothing_in (codes "place") ((bytes_eq-Decides _ _).0 f) refl
     at_place false f h = at_neighbour (bytes_eq name (codes "neighbour")) refl h
 
@@ -144,35 +149,35 @@ some_value : (o : Option (List ℕ)) → is_some o ≡ true → (v : List ℕ) �
 some_value None e = absurd (cc e)
 some_value (Some v) e = (v, refl)
 
--- what right words give: a rule known by name, and an address's text
-pub record GivesBoth (words : List (List ℕ)) : Type 0 where
+-- what right words give: a rule
+pub record GivesRule (words : List (List ℕ)) : Type 0 where
   pub rule : List ℕ
   pub is_rule : value_given Rule words ≡ Some rule
   pub has_form : has_form Rule rule ≡ true
-  pub text : List ℕ
-  pub is_text : value_given Addr words ≡ Some text
 
-both_given : (words : List (List ℕ)) → HaveForms words → is_some (value_given Rule words) ≡ true → is_some (value_given Addr words) ≡ true → GivesBoth words
-both_given words h e f =
-    let rule = some_value (value_given Rule words) e in
-    let text = some_value (value_given Addr words) f in
-    record { rule = rule.0; is_rule = rule.1; has_form = h Rule rule.0 rule.1; text = text.0; is_text = text.1 }
+rule_given : (words : List (List ℕ)) → HaveForms words → is_some (value_given Rule words) ≡ true → GivesRule words
+rule_given words h e = let rule = some_value (value_given Rule words) e in record { rule = rule.0; is_rule = rule.1; has_form = h Rule rule.0 rule.1 }
 
-pub GivesBoth-right : (command : Command) (words : List (List ℕ)) → command_of words ≡ Ok command → GivesBoth words
-GivesBoth-right Place words e =
-    let h = Gives-right Place words e in
-    let r = both_true _ _ h.required in
-    both_given words h.forms r.0 (both_true _ _ r.1).0
-GivesBoth-right Neighbour words e =
-    let h = Gives-right Neighbour words e in
-    let r = both_true _ _ h.required in
-    both_given words h.forms r.0 (both_true _ _ r.1).0
+pub GivesRule-right : (command : Command) (words : List (List ℕ)) → command_of words ≡ Ok command → GivesRule words
+GivesRule-right Place words e = let h = Gives-right Place words e in rule_given words h.forms (both_true _ _ h.required).0
+GivesRule-right Neighbour words e = let h = Gives-right Neighbour words e in rule_given words h.forms (both_true _ _ h.required).0
+GivesRule-right Check words e = let h = Gives-right Check words e in rule_given words h.forms (both_true _ _ h.required).0
 
-pub rule_is_name : (words : List (List ℕ)) (text : List ℕ) → GivesBoth words → value_given Rule words ≡ Some text → is_some (name_in text) ≡ true
-rule_is_name words text h e = let same : h.rule ≡ text = some_is h.rule text (sym h.is_rule ∙ e) in subst (λ t. is_some (name_in t) ≡ true) same h.has_form
+pub rule_is_choice : (words : List (List ℕ)) (text : List ℕ) → GivesRule words → value_given Rule words ≡ Some text → is_some (choice_in text) ≡ true
+rule_is_choice words text h e = let same : h.rule ≡ text = some_is h.rule text (sym h.is_rule ∙ e) in subst (λ t. is_some (choice_in t) ≡ true) same h.has_form
   where
     some_is : (x y : List ℕ) → Some x ≡ Some y → x ≡ y
     some_is x y f = cc
+
+-- where they ask about a tile, an address's text
+pub GivesText-right : (command : Command) (words : List (List ℕ)) → command_of words ≡ Ok command → IsAboutTile command → (text : List ℕ) × (value_given Addr words ≡ Some text)
+GivesText-right Place words e about =
+    let h = Gives-right Place words e in
+    some_value (value_given Addr words) (both_true _ _ (both_true _ _ h.required).1).0
+GivesText-right Neighbour words e about =
+    let h = Gives-right Neighbour words e in
+    some_value (value_given Addr words) (both_true _ _ (both_true _ _ h.required).1).0
+GivesText-right Check words e about = absurd about
 
 -- and for `neighbour` the number of an edge
 pub record GivesEdge (words : List (List ℕ)) : Type 0 where

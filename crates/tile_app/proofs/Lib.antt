@@ -1,7 +1,11 @@
 pub mod Children
+pub mod Requested
+pub mod Read
 pub mod Tilings
 pub mod Causes
+pub mod Answered
 pub mod Given
 pub mod Asking
 pub mod Counting
 pub mod Edges
+pub mod Lines

@@ -1,12 +1,14 @@
--- What the words are answered by.
+-- What a request is answered by.
 use Rattle.std.specs.Prelude.{◌⊎◌, ℕ, List}
+use Rattle.tile_app.specs.Checking.{PrintsCheck, CanBeChecked}
 use Rattle.tile_app.specs.Crossing.{PrintsNeighbour, CanBeCrossed}
 use Rattle.tile_app.specs.Placing.{PrintsPlace, CanBePlaced}
+use Rattle.tile_app.specs.Requests.{Request}
 
--- this text is what their command prints
-abbrev pub Prints : List (List ℕ) → List ℕ → Type 0
-Prints words text = PrintsPlace words text ⊎ PrintsNeighbour words text
+-- this text is what its command prints
+abbrev pub Prints : Request → List ℕ → Type 0
+Prints r text = PrintsPlace r text ⊎ (PrintsNeighbour r text ⊎ PrintsCheck r text)
 
--- their command has something to print
-abbrev pub CanBeAnswered : List (List ℕ) → Type 0
-CanBeAnswered words = CanBePlaced words ⊎ CanBeCrossed words
+-- its command has something to print
+abbrev pub CanBeAnswered : Request → Type 0
+CanBeAnswered r = CanBePlaced r ⊎ (CanBeCrossed r ⊎ CanBeChecked r)

@@ -1,4 +1,4 @@
--- What the words ask for: a command, a tiling, and the address of a tile.
+-- What is asked for: a command, a tiling, and the address of a tile.
 use Rattle.std.specs.Prelude.{◌≡◌, ℕ, List, Some, Ok}
 use Rattle.std.specs.declared.option.Option.{Option}
 use Rattle.std.specs.Option.{option_and_then}
@@ -9,24 +9,26 @@ use Rattle.tile_shape.specs.declared.address_fault.AddressFault.{AddressFault}
 use Rattle.tile_shape.specs.Refused.{IsFaultOf}
 use Rattle.tile_shape.specs.Text.{address_text}
 use Rattle.tile_app.specs.declared.words.Command.{Command}
-use Rattle.tile_app.specs.declared.words.Key.TheVariants.{Rule, Addr, Edge}
+use Rattle.tile_app.specs.declared.words.Key.TheVariants.{Addr, Edge}
 use Rattle.tile_app.specs.Numbers.{number_up_to}
-use Rattle.tile_app.specs.Tilings.{Tiling, tiling_named}
-use Rattle.tile_app.specs.Words.{command_of, value_given}
+use Rattle.tile_app.specs.Requests.{Request, NamesTiling}
+use Rattle.tile_app.specs.Tilings.{Tiling}
+use Rattle.tile_app.specs.Words.{command_of, value_given, IsAboutTile}
 
--- the words name this tiling
-abbrev pub NamesTiling : List (List ℕ) → Tiling → Type 0
-NamesTiling words t = option_and_then tiling_named (value_given Rule words) ≡ Some t
+-- the words are right and have this command, and this is the tiling that is named
+pub record AsksOf (r : Request) (command : Command) (t : Tiling) : Type 0 where
+  pub right : command_of r.words ≡ Ok command
+  pub named : NamesTiling r t
 
--- the words are right and have this command; this is the tiling that they name, and the text that they give for an address
-pub record Asks (words : List (List ℕ)) (command : Command) (t : Tiling) (text : List ℕ) : Type 0 where
-  pub right : command_of words ≡ Ok command
-  pub named : NamesTiling words t
-  pub given : value_given Addr words ≡ Some text
+-- this is the text that they give for an address
+pub record Asks (r : Request) (command : Command) (t : Tiling) (text : List ℕ) : Type 0 where
+  pub right : command_of r.words ≡ Ok command
+  pub named : NamesTiling r t
+  pub given : value_given Addr r.words ≡ Some text
 
 -- the text is that of this address, which is accepted
-pub record AsksForTile (words : List (List ℕ)) (command : Command) (t : Tiling) (a : Address) : Type 0 where
-  pub asked : Asks words command t (address_text a)
+pub record AsksForTile (r : Request) (command : Command) (t : Tiling) (a : Address) : Type 0 where
+  pub asked : Asks r command t (address_text a)
   pub accepted : IsAccepted (child_kinds t.rule) a
 
 -- the number of the edge that the words give
@@ -37,18 +39,20 @@ edge_given words = option_and_then (number_up_to 255) (value_given Edge words)
 abbrev pub IsNoAddress : Tiling → List ℕ → Type 0
 IsNoAddress t text = (a : Address) → IsAccepted (child_kinds t.rule) a → text ≡ address_text a → ⊥
 
--- the words ask for a tile, but what they give for its address is none
-pub record GivesNoAddress (words : List (List ℕ)) : Type 0 where
+-- a tile is asked for, but what the words give for its address is none
+pub record GivesNoAddress (r : Request) : Type 0 where
   pub command : Command
+  pub about_tile : IsAboutTile command
   pub tiling : Tiling
   pub text : List ℕ
-  pub asked : Asks words command tiling text
+  pub asked : Asks r command tiling text
   pub none : IsNoAddress tiling text
 
 -- and this is the fault of that text: the first in the order of its faults
-pub record GivesFault (words : List (List ℕ)) (fault : AddressFault) : Type 0 where
+pub record GivesFault (r : Request) (fault : AddressFault) : Type 0 where
   pub command : Command
+  pub about_tile : IsAboutTile command
   pub tiling : Tiling
   pub text : List ℕ
-  pub asked : Asks words command tiling text
+  pub asked : Asks r command tiling text
   pub is_fault : IsFaultOf (child_kinds tiling.rule) text fault

@@ -1,9 +1,16 @@
 pub mod Numbers
 pub mod Tilings
+pub mod RuleFiles
+pub mod Choices
 pub mod Words
+pub mod Requests
 pub mod Text
 pub mod Asked
 pub mod Placing
 pub mod Crossing
+pub mod Checking
 pub mod Answers
+pub mod RuleFaultText
 pub mod Status
+pub mod Turned
+pub mod Reading

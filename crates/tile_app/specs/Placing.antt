@@ -9,6 +9,7 @@ use Rattle.cyclo_points.specs.Point.{point_in, IsOf}
 use Rattle.tile_place.specs.Placing.{first_refused}
 use Rattle.tile_app.specs.declared.words.Command.TheVariants.{Place}
 use Rattle.tile_app.specs.Asked.{AsksForTile}
+use Rattle.tile_app.specs.Requests.{Request}
 use Rattle.tile_app.specs.Text.{place_line}
 use Rattle.tile_app.specs.Tilings.{Tiling}
 
@@ -19,24 +20,24 @@ pub record PlacesTile (t : Tiling) (a : Address) (text : List ℕ) : Type 0 wher
   pub beside : StandsBeside (points_of t.order) t.rule a motion
   pub line : text ≡ place_line t.order a.kind motion
 
--- the words ask where a tile lies, and this text says it
-pub record PrintsPlace (words : List (List ℕ)) (text : List ℕ) : Type 0 where
+-- it is asked where a tile lies, and this text says it
+pub record PrintsPlace (r : Request) (text : List ℕ) : Type 0 where
   pub tiling : Tiling
   pub address : Address
-  pub asked : AsksForTile words Place tiling address
+  pub asked : AsksForTile r Place tiling address
   pub placed : PlacesTile tiling address text
 
--- they do, and this is the first of the tile's Horner values that is refused
-pub record PassesLimit (words : List (List ℕ)) (value : Point) : Type 0 where
+-- it is, and this is the first of the tile's Horner values that is refused
+pub record PassesLimit (r : Request) (value : Point) : Type 0 where
   pub tiling : Tiling
   pub address : Address
-  pub asked : AsksForTile words Place tiling address
+  pub asked : AsksForTile r Place tiling address
   pub first : first_refused tiling.order tiling.rule address.digits ≡ Some (point_in tiling.order value)
   pub of_order : IsOf tiling.order value
 
--- they do, and none is
-pub record CanBePlaced (words : List (List ℕ)) : Type 0 where
+-- it is, and none is
+pub record CanBePlaced (r : Request) : Type 0 where
   pub tiling : Tiling
   pub address : Address
-  pub asked : AsksForTile words Place tiling address
+  pub asked : AsksForTile r Place tiling address
   pub within : first_refused tiling.order tiling.rule address.digits ≡ None

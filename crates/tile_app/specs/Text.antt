@@ -1,12 +1,13 @@
 -- What the commands print. Every line ends with one newline.
-use Rattle.std.specs.Prelude.{ℕ, List, [], ◌∷◌, ◌++◌}
+use Rattle.std.specs.Prelude.{ℕ, List, [], ◌∷◌, ◌++◌, codes, length}
 use Rattle.std.specs.Fmt.{decimal}
 use Rattle.substitution.specs.Address.{Address}
 use Rattle.substitution.specs.Motion.{Motion}
 use Rattle.tile_shape.specs.Text.{address_text}
 use Rattle.cyclo_points.specs.declared.order.Order.{Order}
-use Rattle.cyclo_points.specs.Order.{NumberOf}
+use Rattle.cyclo_points.specs.Order.{NumberOf, points_of}
 use Rattle.cyclo_points.specs.Text.{number_text}
+use Rattle.tile_app.specs.Tilings.{Tiling}
 
 -- a blank, and the end of a line
 abbrev pub blank : ℕ
@@ -22,3 +23,9 @@ neighbour_line across edge = address_text across ++ blank ∷ decimal edge ++ ne
 -- a tile placed, as `kind turn shift`
 abbrev pub place_line : (o : Order) → ℕ → Motion (NumberOf o) → List ℕ
 place_line o kind m = decimal kind ++ blank ∷ decimal m.turn ++ blank ∷ number_text o m.shift ++ newline ∷ []
+
+-- a rule accepted, as `accepted order N kinds K types T`
+abbrev pub check_line : Tiling → List ℕ
+check_line t =
+    codes "accepted order " ++ decimal (points_of t.order).order ++ codes " kinds " ++ decimal (length t.rule.kinds)
+    ++ codes " types " ++ decimal (length t.rule.types) ++ newline ∷ []

@@ -1,7 +1,6 @@
 -- The tilings that have a name: those of the built-in rules.
 use Rattle.std.specs.Prelude.{ℕ, List, codes, Some, None, if◌then◌else◌}
 use Rattle.std.specs.declared.option.Option.{Option}
-use Rattle.std.specs.Option.{option_map}
 use Rattle.std.specs.Str.{bytes_eq}
 use Rattle.substitution.specs.Rule.{Rule}
 use Rattle.substitution.specs.Tables.{Tables}
@@ -36,7 +35,3 @@ builtin_tiling name = record { order = (named name).order; rule = numbers_of (na
 -- the built-in rule that a text names
 abbrev pub name_in : List ℕ → Option Name
 name_in text = if bytes_eq text (codes "chair") then Some Chair else None
-
--- its tiling
-abbrev pub tiling_named : List ℕ → Option Tiling
-tiling_named text = option_map builtin_tiling (name_in text)

@@ -1,44 +1,38 @@
 //! The text that the words ask for, or why there is none.
-ghost use Rattle.std.specs.Prelude.{◌≡◌, ◌≤◌, Some, Ok, IfOk, IfErr, string_bytes};
+ghost use Rattle.std.specs.Prelude.{◌≡◌, ◌≤◌, ℕ, List, false, Some, Ok, IfOk, IfErr, IsErrOf, string_bytes};
+ghost use Rattle.tile_io.specs.Causes.{Rose};
+ghost use Rattle.rule_model.specs.Checked.{uses_of};
+ghost use Rattle.tile_shape.specs.Accepted.{IsAccepted};
 ghost use Rattle.tile_shape.specs.Views.{address_of};
 ghost use Rattle.tile_app.specs.declared.words.Command.{Command};
 ghost use Rattle.tile_app.specs.declared.words.Command.TheVariants.{Place, Neighbour};
 ghost use Rattle.tile_app.specs.Answers.{Prints};
-ghost use Rattle.tile_app.specs.Asked.{NamesTiling, AsksForTile, edge_given};
-ghost use Rattle.tile_app.specs.Status.{IsRefused};
+ghost use Rattle.tile_app.specs.Asked.{AsksForTile, edge_given};
+ghost use Rattle.tile_app.specs.Requests.{Request, Chooses, WasAsked};
+ghost use Rattle.tile_app.specs.Status.{Causes, IsRefused};
 ghost use Rattle.tile_app.specs.Tilings.{tiling_of};
-ghost use Rattle.tile_app.specs.Words.{texts, command_of, AreRight};
+ghost use Rattle.tile_app.specs.Words.{texts, command_of, reads_file, AskAboutTile};
 
 use crate::neighbour::neighbour;
 use crate::number::number_up_to_255;
-use crate::rule_name::name_in;
+use crate::rule_given::rule_given;
 use crate::status::Status;
-use crate::text::{neighbour_line, place_line};
+use crate::text::{check_line, neighbour_line, place_line};
 use crate::words::{Command, Key, command_of};
-use builtin_rules::builtin::builtin;
+use rule_model::checked::Checked;
 use std::alloc::Global;
+use tile_io::source::Source;
 use tile_place::machine::Machine;
 use tile_shape::address::Address;
-use tile_shape::no_memory::NoMemory;
 use tile_shape::reading::read_address;
 
-/// The machine of the built-in rule that right words name.
-fn machine_given(alloc: Global, words: &[String]) -> Result<Machine, NoMemory>
-    requires { AreRight (texts words.now) }
-    ensures { IfOk result (λ machine. NamesTiling (texts words.now) (tiling_of machine)) }
-{
-    let text = Key::Rule.value_given(words).unwrap();
-    let name = name_in(text).unwrap();
-    Machine::new(alloc, builtin(alloc, name)?)
-}
-
-/// The address that right words give, of a tile of the tiling that they name.
+/// The address that right words give, of a tile of the machine's tiling.
 fn address_given(machine: &Machine, words: &[String]) -> Result<Address, Status>
-    requires right { AreRight (texts words.now) }
-    requires named { NamesTiling (texts words.now) (tiling_of machine.now) }
-    ensures asked { IfOk result (λ a. (command : Command) → command_of (texts words.now) ≡ Ok command
-        → AsksForTile (texts words.now) command (tiling_of machine.now) (address_of a)) }
-    ensures refused { IfErr result (IsRefused (texts words.now)) }
+    requires right { AskAboutTile (texts words.now) }
+    ensures accepted { IfOk result (λ a. IsAccepted (uses_of machine.now) (address_of a)) }
+    ensures asked { IfOk result (λ a. (r : Request) (command : Command) → Chooses (texts words.now) (tiling_of machine.now) r
+        → command_of (texts words.now) ≡ Ok command → AsksForTile r command (tiling_of machine.now) (address_of a)) }
+    ensures refused { IfErr result (λ status. (r : Request) → Chooses (texts words.now) (tiling_of machine.now) r → Causes r status) }
 {
     let text = Key::Addr.value_given(words).unwrap();
     Ok(read_address(machine.checked().uses(), text.as_bytes())?)
@@ -56,9 +50,8 @@ fn edge_given(words: &[String]) -> u8
 /// The line that `place` prints.
 fn place_text(alloc: Global, machine: &Machine, words: &[String]) -> Result<String, Status>
     requires right { command_of (texts words.now) ≡ Ok Place }
-    requires named { NamesTiling (texts words.now) (tiling_of machine.now) }
-    ensures printed { IfOk result (λ text. Prints (texts words.now) (string_bytes text)) }
-    ensures refused { IfErr result (IsRefused (texts words.now)) }
+    ensures printed { IfOk result (λ text. (r : Request) → Chooses (texts words.now) (tiling_of machine.now) r → Prints r (string_bytes text)) }
+    ensures refused { IfErr result (λ status. (r : Request) → Chooses (texts words.now) (tiling_of machine.now) r → Causes r status) }
 {
     let address = address_given(machine, words)?;
     let motion = machine.place(&address)?;
@@ -68,9 +61,8 @@ fn place_text(alloc: Global, machine: &Machine, words: &[String]) -> Result<Stri
 /// The line that `neighbour` prints.
 fn neighbour_text(alloc: Global, machine: &Machine, words: &[String]) -> Result<String, Status>
     requires right { command_of (texts words.now) ≡ Ok Neighbour }
-    requires named { NamesTiling (texts words.now) (tiling_of machine.now) }
-    ensures printed { IfOk result (λ text. Prints (texts words.now) (string_bytes text)) }
-    ensures refused { IfErr result (IsRefused (texts words.now)) }
+    ensures printed { IfOk result (λ text. (r : Request) → Chooses (texts words.now) (tiling_of machine.now) r → Prints r (string_bytes text)) }
+    ensures refused { IfErr result (λ status. (r : Request) → Chooses (texts words.now) (tiling_of machine.now) r → Causes r status) }
 {
     let address = address_given(machine, words)?;
     let edge = edge_given(words);
@@ -82,18 +74,42 @@ fn neighbour_text(alloc: Global, machine: &Machine, words: &[String]) -> Result<
     Ok(neighbour_line(alloc, &crossing.addr, crossing.edge)?)
 }
 
-/// The whole text that the words ask for.
-pub fn text_of(alloc: Global, words: &[String]) -> Result<String, Status>
-    ensures printed { IfOk result (λ text. Prints (texts words.now) (string_bytes text)) }
-    ensures refused { IfErr result (IsRefused (texts words.now)) }
+/// The line that a command prints of a checked rule.
+fn line_of(
+    alloc: Global,
+    command: Command,
+    checked: Checked,
+    words: &[String],
+) -> Result<String, Status>
+    requires right { command_of (texts words.now) ≡ Ok command }
+    ensures printed { IfOk result (λ text. (r : Request) → Chooses (texts words.now) (tiling_of checked) r → Prints r (string_bytes text)) }
+    ensures refused { IfErr result (λ status. (r : Request) → Chooses (texts words.now) (tiling_of checked) r → Causes r status) }
+{
+    match command {
+        Command::Check => Ok(check_line(alloc, &checked)?),
+        Command::Place => {
+            let machine = Machine::new(alloc, checked)?;
+            place_text(alloc, &machine, words)
+        }
+        Command::Neighbour => {
+            let machine = Machine::new(alloc, checked)?;
+            neighbour_text(alloc, &machine, words)
+        }
+    }
+}
+
+/// The whole text that the words ask for. The source is read where they choose the rule of a file.
+pub fn text_of<R: Source>(alloc: Global, words: &[String], source: &mut R) -> Result<String, Status>
+    ensures printed { IfOk result (λ text. (r : Request) × WasAsked (texts words.now) (R.left source.old) (R.left source.new) r
+        × Prints r (string_bytes text)) }
+    ensures refused { IfErr result (IsRefused (texts words.now) (R.left source.old) (R.left source.new)) }
+    ensures read_fault { IsErrOf result Status.ReadFault → Rose (R.faults source.old) (R.faults source.new) }
+    ensures untouched { reads_file (texts words.now) ≡ false → source.new ≡ source.old }
 {
     let command = match command_of(words) {
         Ok(command) => command,
         Err(place) => return Err(Status::BadWords { place }),
     };
-    let machine = machine_given(alloc, words)?;
-    match command {
-        Command::Place => place_text(alloc, &machine, words),
-        Command::Neighbour => neighbour_text(alloc, &machine, words),
-    }
+    let checked = rule_given(alloc, words, source)?;
+    line_of(alloc, command, checked, words)
 }

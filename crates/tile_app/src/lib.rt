@@ -9,7 +9,11 @@ mod crossing_tests;
 mod neighbour;
 mod note;
 mod number;
-mod rule_name;
+pub mod rule_choice;
+pub mod rule_fault;
+#[cfg(test)]
+mod rule_file_tests;
+mod rule_given;
 pub mod run;
 pub mod status;
 #[cfg(test)]

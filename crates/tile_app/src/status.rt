@@ -2,9 +2,13 @@
 ghost use Rattle.std.specs.Prelude.{◌≡◌};
 ghost use Rattle.tile_app.specs.Status.{code_of};
 
+use crate::rule_fault::RuleFault;
 use cyclo_points::point::Point;
+use dissect_check::check_fault::CheckFault;
+use rule_text::text_fault::TextFault;
 use std::alloc::AllocError;
 use std::fmt;
+use tile_io::read_all_fault::ReadAllFault;
 use tile_place::coord_limit::CoordLimit;
 use tile_shape::address_fault::AddressFault;
 use tile_shape::no_memory::NoMemory;
@@ -18,6 +22,12 @@ pub enum Status {
     /// The words aren't right: the number, from 0, of the first wrong word, or the number of words
     /// where a required key is missing.
     BadWords { place: usize },
+    /// A call of the source failed.
+    ReadFault,
+    /// The source holds more than 1,048,576 bytes, the most that a rule file may have.
+    RuleTooLong,
+    /// The rule file stands for no rule, or for one that isn't accepted: its first fault.
+    RuleRefused { fault: RuleFault },
     /// The text of the address is refused.
     BadAddress { fault: AddressFault },
     /// The tile has only so many edges, and not this one.
@@ -41,9 +51,11 @@ impl Status {
         match self {
             Status::Done => 0,
             Status::BadWords { .. } => 2,
+            Status::RuleTooLong | Status::RuleRefused { .. } => 3,
             Status::BadAddress { .. } => 4,
             Status::CoordLimit { .. } => 6,
             Status::Outside { .. } => 8,
+            Status::ReadFault => 9,
             Status::WriteFault => 10,
             Status::NoMemory => 11,
             Status::NoEdge { .. } => 12,
@@ -61,6 +73,9 @@ impl fmt::Display for Status {
         match self {
             Status::Done => write!(f, "Done"),
             Status::BadWords { place } => write!(f, "BadWords {place}"),
+            Status::ReadFault => write!(f, "ReadFault"),
+            Status::RuleTooLong => write!(f, "RuleTooLong"),
+            Status::RuleRefused { fault } => write!(f, "RuleRefused {fault}"),
             Status::BadAddress { fault } => write!(f, "BadAddress {fault}"),
             Status::NoEdge { edge, edges } => write!(f, "NoEdge {edge} {edges}"),
             Status::Outside { edge, part } => write!(f, "Outside {edge} {part}"),
@@ -88,6 +103,50 @@ impl From<NoMemory> for Status {
 
     fn from(_error: NoMemory) -> Status {
         Status::NoMemory
+    }
+}
+
+impl From<ReadAllFault> for Status {
+    ghost use Rattle.tile_app.specs.Turned.{status_of_reading};
+
+    ghost from_gives = { λ fault status. status ≡ status_of_reading fault };
+
+    fn from(fault: ReadAllFault) -> Status {
+        match fault {
+            ReadAllFault::TooLong => Status::RuleTooLong,
+            ReadAllFault::Fault => Status::ReadFault,
+            ReadAllFault::NoMemory => Status::NoMemory,
+        }
+    }
+}
+
+impl From<TextFault> for Status {
+    ghost use Rattle.tile_app.specs.Turned.{status_of_text};
+
+    ghost from_gives = { λ fault status. status ≡ status_of_text fault };
+
+    fn from(fault: TextFault) -> Status {
+        match fault {
+            TextFault::NoMemory => Status::NoMemory,
+            _ => Status::RuleRefused {
+                fault: RuleFault::Text(fault),
+            },
+        }
+    }
+}
+
+impl From<CheckFault> for Status {
+    ghost use Rattle.tile_app.specs.Turned.{status_of_check};
+
+    ghost from_gives = { λ fault status. status ≡ status_of_check fault };
+
+    fn from(fault: CheckFault) -> Status {
+        match fault {
+            CheckFault::NoMemory => Status::NoMemory,
+            _ => Status::RuleRefused {
+                fault: RuleFault::Check(fault),
+            },
+        }
     }
 }
 

@@ -131,7 +131,7 @@ const ROWS: [(&str, u8, &str, &str); 35] = [
 ];
 
 // The words of a line, parted by blanks; an empty line has none.
-fn words_of(alloc: Global, line: &str) -> Result<Vec<String>, AllocError> {
+pub fn words_of(alloc: Global, line: &str) -> Result<Vec<String>, AllocError> {
     let mut words = Vec::new(alloc);
     if !line.is_empty() {
         for word in line.split(' ') {
@@ -183,7 +183,7 @@ fn check_line<R: Abort + AllocGlobal>(
 }
 
 // The text with a newline, or nothing where it is empty.
-fn line_of(alloc: Global, text: &str) -> Result<String, AllocError> {
+pub fn line_of(alloc: Global, text: &str) -> Result<String, AllocError> {
     if text.is_empty() {
         Ok(String::new(alloc))
     } else {

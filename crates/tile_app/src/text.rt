@@ -4,9 +4,11 @@ ghost use Rattle.cyclo_points.specs.declared.order.Order.{Order};
 ghost use Rattle.cyclo_points.specs.Point.{IsOf};
 ghost use Rattle.cyclo_points.specs.Motion.{motion_in};
 ghost use Rattle.tile_shape.specs.Views.{address_of};
-ghost use Rattle.tile_app.specs.Text.{place_line, neighbour_line};
+ghost use Rattle.tile_app.specs.Text.{place_line, neighbour_line, check_line};
+ghost use Rattle.tile_app.specs.Tilings.{tiling_of};
 
 use cyclo_points::motion::Motion;
+use rule_model::checked::Checked;
 use std::alloc::{AllocError, Global};
 use tile_shape::address::Address;
 
@@ -26,4 +28,15 @@ pub fn neighbour_line(alloc: Global, across: &Address, edge: u8) -> Result<Strin
     ensures { IfOk result (λ text. string_bytes text ≡ neighbour_line (address_of across.now) edge) }
 {
     format!(in alloc; "{across} {edge}\n")
+}
+
+/// The line of a rule accepted: its order, and how many kinds and edge types it has.
+pub fn check_line(alloc: Global, checked: &Checked) -> Result<String, AllocError>
+    ensures { IfOk result (λ text. string_bytes text ≡ check_line (tiling_of checked.now)) }
+{
+    let rule = checked.rule();
+    let order = rule.order.n();
+    let kinds = rule.kind_count();
+    let types = rule.type_count();
+    format!(in alloc; "accepted order {order} kinds {kinds} types {types}\n")
 }

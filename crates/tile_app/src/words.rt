@@ -5,7 +5,7 @@ ghost use Rattle.std.specs.List.{list_all};
 ghost use Rattle.tile_app.specs.Words.{texts, key_text, command_named, keys_of, required_keys, has_form, value_in, value_given, is_right, command_of};
 
 use crate::number::number_up_to_255;
-use crate::rule_name::name_in;
+use crate::rule_choice::choice_in;
 
 /// A command of the program.
 #[derive(Clone, Copy, Debug, PartialEq, Eq)]
@@ -14,12 +14,14 @@ pub enum Command {
     Place,
     /// Prints the tile across an edge.
     Neighbour,
+    /// Prints that a rule is accepted.
+    Check,
 }
 
 /// A key of a word `key=value`.
 #[derive(Clone, Copy, Debug, PartialEq, Eq)]
 pub enum Key {
-    /// The rule's name.
+    /// The rule's name, or `-` for the rule file that is read.
     Rule,
     /// A tile's address.
     Addr,
@@ -36,6 +38,8 @@ impl Command {
             Some(Command::Place)
         } else if word == "neighbour" {
             Some(Command::Neighbour)
+        } else if word == "check" {
+            Some(Command::Check)
         } else {
             None
         }
@@ -48,6 +52,7 @@ impl Command {
         match self {
             Command::Place => &[Key::Rule, Key::Addr],
             Command::Neighbour => &[Key::Rule, Key::Addr, Key::Edge],
+            Command::Check => &[Key::Rule],
         }
     }
 
@@ -58,6 +63,7 @@ impl Command {
         match self {
             Command::Place => &[Key::Rule, Key::Addr],
             Command::Neighbour => &[Key::Rule, Key::Addr, Key::Edge],
+            Command::Check => &[Key::Rule],
         }
     }
 }
@@ -79,7 +85,7 @@ impl Key {
         ensures { result ≡ has_form self value.now }
     {
         match self {
-            Key::Rule => name_in(value).is_some(),
+            Key::Rule => choice_in(value).is_some(),
             Key::Addr => true,
             Key::Edge => number_up_to_255(value).is_some(),
         }

@@ -1,10 +1,11 @@
-use Rattle.std.proofs.Common.{inr, ◌≡◌, ◌<◌, ℕ, length, ap, ◌∙◌, subst}
+use Rattle.std.proofs.Common.{inl, inr, ◌≡◌, ◌<◌, ℕ, length, Some, sym, ap, ◌∙◌, subst}
 use Rattle.std.proofs.lemmas.Result.{err_from_is_err_and}
 use Rattle.substitution.specs.Tables.{Tables, child_kinds, kind_tables}
 use Rattle.rule_model.specs.declared.rule.Rule.{Rule}
 use Rattle.rule_model.specs.Checked.{contacts_of, uses_of}
 use Rattle.tile_shape.specs.Views.{address_of}
 use Rattle.tile_app.specs.declared.words.Command.TheVariants.{Neighbour}
+use Rattle.tile_app.specs.Asked.{edge_given}
 use Rattle.tile_app.specs.Crossing.{edges_of}
 use Rattle.tile_app.specs.Tilings.{tiling_of}
 use Rattle.tile_app.proofs.Children.{kind_in_tables}
@@ -15,24 +16,27 @@ use Rattle.tile_app.proofs.answers.neighbour_text.Goals as goal
 edges-counted : (t : Tables) (inside now : Rule) (kind edges : ℕ) → t ≡ contacts_of inside → inside ≡ now → edges ≡ length (kind_tables t kind).types → edges ≡ edges_of (tiling_of now) kind
 edges-counted t inside now kind edges is same h = h ∙ ap (λ t. length (kind_tables t kind).types) (is ∙ ap contacts_of same)
 
+pub address_given-requires : goal.address_given-requires
+address_given-requires c = record { right = (Neighbour, c.requires.right, tt) }
+
 pub edges-edges-requires : goal.edges-edges-requires
 edges-edges-requires c = record {
   exists = kind_in_tables c.tables.result.now (uses_of c.args.machine.now) c.in_ok-address.address.kind
       (ap child_kinds (c.tables.ensures.contacts ∙ ap contacts_of c.checked.ensures.rule) ∙ c.checked.ensures.same_child_kinds)
-      (c.in_ok-address.ensures.asked Neighbour c.requires.right).accepted.fits.kind_exists;
+      c.in_ok-address.ensures.accepted.fits.kind_exists;
 }
 
 pub returns-then-edge-edges-clause-refused : goal.returns-then-edge-edges-clause-refused
-returns-then-edge-edges-clause-refused c = record {
+returns-then-edge-edges-clause-refused c = λ r h. record {
   tiling = tiling_of c.args.machine.now;
   address = address_of c.in_ok-address.address;
-  asked = record { tile = c.in_ok-address.ensures.asked Neighbour c.requires.right; given = c.edge_given-edge.ensures };
+  asked = record { tile = c.in_ok-address.ensures.asked r Neighbour h c.requires.right; given = subst (λ ws. edge_given ws ≡ Some c.edge_given-edge.result) (sym h.by_words) c.edge_given-edge.ensures };
   count = edges-counted c.tables.result.now c.checked.result.now c.args.machine.now c.in_ok-address.address.kind c.edges-edges.result c.tables.ensures.contacts c.checked.ensures.rule c.edges-edges.ensures.count;
   beyond = c.if-edge-edges.true;
 }
 
 pub neighbour-requires-clause-fits : goal.neighbour-requires-clause-fits
-neighbour-requires-clause-fits c = (c.in_ok-address.ensures.asked Neighbour c.requires.right).accepted.fits
+neighbour-requires-clause-fits c = c.in_ok-address.ensures.accepted.fits
 
 pub neighbour-requires-clause-exists : goal.neighbour-requires-clause-exists
 neighbour-requires-clause-exists c =
@@ -44,28 +48,28 @@ neighbour-requires-clause-exists c =
 pub returns-in_err-crossing-clause-refused : goal.returns-in_err-crossing-clause-refused
 returns-in_err-crossing-clause-refused c =
     let p = err_from_is_err_and c.from_residual-in_err-crossing.result c.from_residual-in_err-crossing.ensures.1 in
-    let h = c.in_err-crossing.ensures.outside in
+    let outside = c.in_err-crossing.ensures.outside in
     let edge = c.edge_given-edge.result in
-    rw (p.1, p.2) (record {
+    rw (p.1, p.2) (λ r h. record {
       tiling = tiling_of c.args.machine.now;
       address = address_of c.in_ok-address.address;
       own = edge;
-      asked = record { tile = c.in_ok-address.ensures.asked Neighbour c.requires.right; given = c.edge_given-edge.ensures };
+      asked = record { tile = c.in_ok-address.ensures.asked r Neighbour h c.requires.right; given = subst (λ ws. edge_given ws ≡ Some c.edge_given-edge.result) (sym h.by_words) c.edge_given-edge.ensures };
       exists = subst (λ n. edge < n)
           (edges-counted c.tables.result.now c.checked.result.now c.args.machine.now c.in_ok-address.address.kind c.edges-edges.result c.tables.ensures.contacts c.checked.ensures.rule c.edges-edges.ensures.count) c.if-edge-edges.false;
-      cuts = h.0;
-      trace = h.1;
-      is_part = h.2;
+      cuts = outside.0;
+      trace = outside.1;
+      is_part = outside.2;
     })
 
 pub returns-clause-printed : goal.returns-clause-printed
 returns-clause-printed c =
     let edge = c.edge_given-edge.result in
-    inr (record {
+    λ r h. inr (inl (record {
       tiling = tiling_of c.args.machine.now;
       address = address_of c.in_ok-address.address;
       edge = edge;
-      asked = record { tile = c.in_ok-address.ensures.asked Neighbour c.requires.right; given = c.edge_given-edge.ensures };
+      asked = record { tile = c.in_ok-address.ensures.asked r Neighbour h c.requires.right; given = subst (λ ws. edge_given ws ≡ Some c.edge_given-edge.result) (sym h.by_words) c.edge_given-edge.ensures };
       inside = record {
         exists = subst (λ n. edge < n)
             (edges-counted c.tables.result.now c.checked.result.now c.args.machine.now c.in_ok-address.address.kind c.edges-edges.result c.tables.ensures.contacts c.checked.ensures.rule c.edges-edges.ensures.count) c.if-edge-edges.false;
@@ -75,4 +79,4 @@ returns-clause-printed c =
       back = c.in_ok-crossing.crossing.edge;
       touched = c.in_ok-crossing.ensures.touched;
       line = c.in_ok-neighbour_line.ensures;
-    })
+    }))

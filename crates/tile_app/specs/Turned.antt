@@ -1,0 +1,26 @@
+-- The statuses that the faults of calls below turn into.
+use Rattle.tile_io.specs.declared.read_all_fault.ReadAllFault.{ReadAllFault}
+use Rattle.tile_io.specs.declared.read_all_fault.ReadAllFault.TheVariants as reading
+use Rattle.rule_text.specs.declared.text_fault.TextFault.{TextFault}
+use Rattle.rule_text.specs.declared.text_fault.TextFault.TheVariants as text
+use Rattle.dissect_check.specs.declared.check_fault.CheckFault.{CheckFault}
+use Rattle.dissect_check.specs.declared.check_fault.CheckFault.TheVariants as check
+use Rattle.tile_app.specs.declared.rule_fault.RuleFault.TheVariants.{Text, Check}
+use Rattle.tile_app.specs.declared.status.Status.{Status}
+use Rattle.tile_app.specs.declared.status.Status.TheVariants.{ReadFault, RuleTooLong, RuleRefused, NoMemory}
+
+-- of a reading to the end
+abbrev pub status_of_reading : ReadAllFault → Status
+status_of_reading reading.TooLong = RuleTooLong
+status_of_reading reading.Fault = ReadFault
+status_of_reading reading.NoMemory = NoMemory
+
+-- of the text of a rule file
+abbrev pub status_of_text : TextFault → Status
+status_of_text text.NoMemory = NoMemory
+status_of_text e = RuleRefused (Text e)
+
+-- of a rule
+abbrev pub status_of_check : CheckFault → Status
+status_of_check check.NoMemory = NoMemory
+status_of_check e = RuleRefused (Check e)

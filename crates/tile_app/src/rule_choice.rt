@@ -1,0 +1,36 @@
+//! What the value of the key `rule` chooses.
+ghost use Rattle.std.specs.Prelude.{◌≡◌};
+ghost use Rattle.tile_app.specs.Choices.{choice_in};
+ghost use Rattle.tile_app.specs.Tilings.{name_in};
+
+use builtin_rules::name::Name;
+
+/// A built-in rule, or the rule of a file.
+#[derive(Clone, Copy, Debug, PartialEq, Eq)]
+pub enum RuleChoice {
+    /// The built-in rule of a name.
+    Builtin { name: Name },
+    /// The rule of the file that is read from the source.
+    File,
+}
+
+/// The built-in rule that a text names.
+fn name_in(text: &str) -> Option<Name>
+    ensures { result ≡ name_in text.now }
+{
+    match text {
+        "chair" => Some(Name::Chair),
+        _ => None,
+    }
+}
+
+/// What a text chooses: a built-in rule by its name, or by `-` the rule of a file.
+pub fn choice_in(text: &str) -> Option<RuleChoice>
+    ensures { result ≡ choice_in text.now }
+{
+    if text == "-" {
+        return Some(RuleChoice::File);
+    }
+    let name = name_in(text)?;
+    Some(RuleChoice::Builtin { name })
+}

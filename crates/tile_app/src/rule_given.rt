@@ -1,0 +1,62 @@
+//! The rule that the words choose, checked.
+ghost use Rattle.std.specs.Prelude.{◌≡◌, ◌≤◌, ℕ, List, true, false, length, Ok, IfOk, IfErr, IsErrOf};
+ghost use Rattle.rule_text.specs.declared.reading.TheConstants.{LONGEST_FILE};
+ghost use Rattle.tile_io.specs.Causes.{Rose};
+ghost use Rattle.tile_app.specs.Reading.{IsFileRefused, IsReadingRefused};
+ghost use Rattle.tile_app.specs.Requests.{Request, NamesTiling, WasAsked, WasFileIn};
+ghost use Rattle.tile_app.specs.RuleFiles.{tiling_in_file};
+ghost use Rattle.tile_app.specs.Status.{IsRefused};
+ghost use Rattle.tile_app.specs.Tilings.{tiling_of};
+ghost use Rattle.tile_app.specs.Words.{texts, reads_file, AreRight};
+
+use crate::rule_choice::{RuleChoice, choice_in};
+use crate::status::Status;
+use crate::words::Key;
+use builtin_rules::builtin::builtin;
+use dissect_check::check::check;
+use rule_model::checked::Checked;
+use rule_text::reading::{LONGEST_FILE, read_rule};
+use std::alloc::Global;
+use tile_io::reading::read_all;
+use tile_io::source::Source;
+
+/// The accepted rule that the bytes of a file stand for.
+fn rule_in(alloc: Global, bytes: &[u8]) -> Result<Checked, Status>
+    requires at_most_a_mebibyte { length bytes.now ≤ LONGEST_FILE }
+    ensures accepted { IfOk result (λ checked. tiling_in_file bytes.now ≡ Ok (tiling_of checked)) }
+    ensures refused { IfErr result (IsFileRefused bytes.now) }
+{
+    let rule = read_rule(alloc, bytes)?;
+    Ok(check(alloc, rule)?)
+}
+
+/// The accepted rule of the file that the source gives to its end.
+fn rule_read<R: Source>(alloc: Global, source: &mut R) -> Result<Checked, Status>
+    ensures accepted { IfOk result (λ checked. (file : List ℕ) × WasFileIn true (R.left source.old) (R.left source.new) file
+        × (tiling_in_file file ≡ Ok (tiling_of checked))) }
+    ensures refused { IfErr result (IsReadingRefused (R.left source.old) (R.left source.new)) }
+    ensures read_fault { IsErrOf result Status.ReadFault → Rose (R.faults source.old) (R.faults source.new) }
+{
+    let bytes = read_all(alloc, source, LONGEST_FILE)?;
+    rule_in(alloc, bytes.as_slice())
+}
+
+/// The rule that right words choose: a built-in one, or that of the file which the source gives.
+pub fn rule_given<R: Source>(
+    alloc: Global,
+    words: &[String],
+    source: &mut R,
+) -> Result<Checked, Status>
+    requires { AreRight (texts words.now) }
+    ensures asked { IfOk result (λ checked. (r : Request) × WasAsked (texts words.now) (R.left source.old) (R.left source.new) r
+        × NamesTiling r (tiling_of checked)) }
+    ensures refused { IfErr result (IsRefused (texts words.now) (R.left source.old) (R.left source.new)) }
+    ensures read_fault { IsErrOf result Status.ReadFault → Rose (R.faults source.old) (R.faults source.new) }
+    ensures untouched { reads_file (texts words.now) ≡ false → source.new ≡ source.old }
+{
+    let text = Key::Rule.value_given(words).unwrap();
+    match choice_in(text).unwrap() {
+        RuleChoice::Builtin { name } => Ok(builtin(alloc, name)?),
+        RuleChoice::File => rule_read(alloc, source),
+    }
+}
