@@ -15,10 +15,16 @@ mod child_edges;
 mod child_kinds;
 mod clauses;
 mod contacts;
+#[cfg(test)]
+mod eightfold;
 mod factor;
 mod few;
 mod fits;
 mod glue;
+#[cfg(test)]
+mod glued_rules;
+#[cfg(test)]
+mod hand_tables;
 mod inflated;
 mod inflation;
 pub mod laws;
@@ -33,6 +39,8 @@ mod placed_edge;
 #[cfg(test)]
 mod rules;
 mod same_point;
+#[cfg(test)]
+mod star_tests;
 mod stars;
 mod subdivisions;
 #[cfg(test)]

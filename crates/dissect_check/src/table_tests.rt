@@ -3,68 +3,19 @@ ghost use Rattle.std.specs.Prelude.{◌≡◌, ◌<◌};
 
 use crate::check::{acceptance_law, check};
 use crate::check_fault::CheckFault;
-use crate::rules::{chair, half_rhombs};
+use crate::eightfold::half_squares;
+use crate::glued_rules::{half_kites, half_rhombs};
+use crate::hand_tables::{
+    CHAIR_CUTS, CHAIR_MEETINGS, Cut, EIGHTFOLD_CUTS, EIGHTFOLD_MEETINGS, KITE_CUTS, KITE_MEETINGS,
+    Meeting, RHOMB_CUTS, RHOMB_MEETINGS,
+};
+use crate::laws::{accepted_children_law, clauses_law};
+use crate::rules::chair;
 use edge_tables::contact::Contact;
 use edge_tables::steps::Steps;
 use edge_tables::tables::Tables;
 use std::marker::Brand;
 use std::sync::ledger::{Blank, Ledger};
-
-/// In a kind, an edge of a child and the edge of another that meets it: child and edge, twice.
-type Meeting = (u8, [u8; 4]);
-
-/// In a kind, an edge of it and its parts in order, each a child and its edge.
-type Cut = (u8, u8, &'static [[u8; 2]]);
-
-/// The child edges of the chair that meet.
-const CHAIR_MEETINGS: [Meeting; 8] = [
-    (0, [0, 0, 1, 3]),
-    (0, [0, 1, 3, 6]),
-    (0, [0, 6, 2, 1]),
-    (0, [0, 7, 1, 4]),
-    (0, [1, 1, 3, 0]),
-    (0, [1, 2, 3, 7]),
-    (0, [1, 5, 2, 0]),
-    (0, [1, 6, 2, 7]),
-];
-
-/// The parts of the chair's edges.
-const CHAIR_CUTS: [Cut; 8] = [
-    (0, 0, &[[1, 0], [3, 1]]),
-    (0, 1, &[[3, 2], [3, 3]]),
-    (0, 2, &[[3, 4], [3, 5]]),
-    (0, 3, &[[0, 2], [0, 3]]),
-    (0, 4, &[[0, 4], [0, 5]]),
-    (0, 5, &[[2, 2], [2, 3]]),
-    (0, 6, &[[2, 4], [2, 5]]),
-    (0, 7, &[[2, 6], [1, 7]]),
-];
-
-/// The child edges of half rhombs that meet.
-const RHOMB_MEETINGS: [Meeting; 6] = [
-    (0, [0, 0, 1, 0]),
-    (1, [0, 2, 1, 2]),
-    (2, [0, 2, 2, 0]),
-    (2, [1, 2, 2, 2]),
-    (3, [0, 0, 2, 2]),
-    (3, [1, 0, 2, 0]),
-];
-
-/// The parts of the edges of half rhombs.
-const RHOMB_CUTS: [Cut; 12] = [
-    (0, 0, &[[1, 2], [0, 1]]),
-    (0, 1, &[[0, 2]]),
-    (0, 2, &[[1, 1]]),
-    (1, 0, &[[1, 1]]),
-    (1, 1, &[[0, 0]]),
-    (1, 2, &[[0, 1], [1, 0]]),
-    (2, 0, &[[2, 1], [1, 0]]),
-    (2, 1, &[[1, 1], [0, 0]]),
-    (2, 2, &[[0, 1]]),
-    (3, 0, &[[0, 1]]),
-    (3, 1, &[[0, 2], [1, 1]]),
-    (3, 2, &[[1, 2], [2, 1]]),
-];
 
 /// What an edge of a child meets by this list, if anything.
 fn met(meetings: &[Meeting], kind: u8, name: [u8; 2]) -> Option<Contact> {
@@ -203,5 +154,23 @@ fn tables_of_the_half_rhombs(rt: HostRuntime) -> Result<(), CheckFault> {
     let checked = check(rt.alloc(), half_rhombs(rt.alloc())?)?;
     let tables = checked.tables();
     assert_eq!(rt; wrong(tables, &RHOMB_MEETINGS, &RHOMB_CUTS), None);
+    Ok(())
+}
+
+#[test]
+fn tables_of_the_half_kites(rt: HostRuntime) -> Result<(), CheckFault> {
+    clauses_law();
+    accepted_children_law();
+    let checked = check(rt.alloc(), half_kites(rt.alloc())?)?;
+    let tables = checked.tables();
+    assert_eq!(rt; wrong(tables, &KITE_MEETINGS, &KITE_CUTS), None);
+    Ok(())
+}
+
+#[test]
+fn tables_of_the_half_squares(rt: HostRuntime) -> Result<(), CheckFault> {
+    let checked = check(rt.alloc(), half_squares(rt.alloc())?)?;
+    let tables = checked.tables();
+    assert_eq!(rt; wrong(tables, &EIGHTFOLD_MEETINGS, &EIGHTFOLD_CUTS), None);
     Ok(())
 }

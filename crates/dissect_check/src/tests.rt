@@ -1,9 +1,11 @@
 //! Rules that are accepted, and rules that are refused, each for the cause named.
 use crate::check::check;
 use crate::check_fault::CheckFault;
+use crate::eightfold::half_squares;
+use crate::glued_rules::{half_kites, half_rhombs};
 use crate::rules::{
-    CHAIR, CHAIR_CHILDREN, Placed, chair, doubled, edge_type, half_rhombs, kind, point,
-    right_triangle, set_children, set_edges, set_mate, set_parts, set_vertices, square, table,
+    CHAIR, CHAIR_CHILDREN, Placed, chair, edge_type, kind, point, right_triangle, set_children,
+    set_edges, set_mate, set_parts, set_vertices, square, table,
 };
 use crate::what::What;
 use rule_model::rule::Rule;
@@ -11,7 +13,7 @@ use std::alloc::Global;
 use tile_shape::no_memory::NoMemory;
 
 /// The fault for which a rule is refused, if it is.
-fn fault(alloc: Global, rule: Rule) -> Option<CheckFault> {
+pub fn fault(alloc: Global, rule: Rule) -> Option<CheckFault> {
     match check(alloc, rule) {
         Ok(_) => None,
         Err(fault) => Some(fault),
@@ -40,6 +42,8 @@ fn rules_of_the_literature(rt: HostRuntime) -> Result<(), NoMemory> {
     assert_eq!(rt; fault(alloc, table(alloc)?), None);
     assert_eq!(rt; fault(alloc, right_triangle(alloc)?), None);
     assert_eq!(rt; fault(alloc, half_rhombs(alloc)?), None);
+    assert_eq!(rt; fault(alloc, half_kites(alloc)?), None);
+    assert_eq!(rt; fault(alloc, half_squares(alloc)?), None);
     Ok(())
 }
 
@@ -97,64 +101,6 @@ fn numbers_of_a_kind_beyond_the_limits(rt: HostRuntime) -> Result<(), NoMemory> 
     let mut rule = chair(alloc)?;
     set_children(&mut rule, &[CHAIR_CHILDREN[0]; 17])?;
     assert_eq!(rt; fault(alloc, rule), Some(CheckFault::TooMany { what }));
-    Ok(())
-}
-
-#[test]
-fn prototiles_that_are_no_stars(rt: HostRuntime) -> Result<(), NoMemory> {
-    let alloc = rt.alloc();
-    let not_star = Some(CheckFault::NotStar { kind: 0 });
-    // clockwise
-    let mut vertices = CHAIR;
-    vertices.reverse();
-    let mut rule = chair(alloc)?;
-    set_vertices(&mut rule, &vertices)?;
-    assert_eq!(rt; fault(alloc, rule), not_star);
-    // from the corner of a domino, the first edge and the second are seen as one
-    let from_the_corner = [
-        [0, 0, 0, 0],
-        [1, 0, 0, 0],
-        [2, 0, 0, 0],
-        [2, 1, 0, 0],
-        [1, 1, 0, 0],
-        [0, 1, 0, 0],
-    ];
-    let rule = doubled(alloc, &from_the_corner, &CHAIR_CHILDREN)?;
-    assert_eq!(rt; fault(alloc, rule), not_star);
-    // a square slit from its middle to a corner: the last edge runs back along the first
-    let slit = [
-        [0, 0, 0, 0],
-        [1, 0, 0, 0],
-        [0, 1, 0, 0],
-        [-1, 0, 0, 0],
-        [0, -1, 0, 0],
-        [1, 0, 0, 0],
-    ];
-    let rule = doubled(alloc, &slit, &CHAIR_CHILDREN)?;
-    assert_eq!(rt; fault(alloc, rule), not_star);
-    // round vertex 0 by more than a full turn: the last triangle lies on the first
-    let spiral = [
-        [0, 0, 0, 0],
-        [1, 0, 0, 0],
-        [0, 1, 0, 0],
-        [-1, 0, 0, 0],
-        [0, -1, 0, 0],
-        [2, 1, 0, 0],
-    ];
-    let rule = doubled(alloc, &spiral, &CHAIR_CHILDREN)?;
-    assert_eq!(rt; fault(alloc, rule), not_star);
-    // a pentagram, whose five points are powers of a fifth of a turn, two fifths apart
-    let pentagram = [
-        [1, 0, 0, 0],
-        [-1, 1, -1, 1],
-        [0, 0, 0, -1],
-        [0, 0, 1, 0],
-        [0, -1, 0, 0],
-    ];
-    let mut rule = half_rhombs(alloc)?;
-    set_vertices(&mut rule, &pentagram)?;
-    set_edges(&mut rule, &[0, 0, 0, 0, 0])?;
-    assert_eq!(rt; fault(alloc, rule), not_star);
     Ok(())
 }
 
