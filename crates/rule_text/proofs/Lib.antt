@@ -20,3 +20,6 @@ pub mod NarrowValues
 pub mod NarrowLines
 pub mod NarrowTables
 pub mod NarrowDocuments
+pub mod PrintedValues
+pub mod PrintedLines
+pub mod PrintedDocuments

@@ -16,22 +16,22 @@ use Rattle.rule_text.specs.Written.{IsFour, HasFours}
 use Rattle.rule_text.proofs.ReadBack.{IsFit, IsFitType, IsFitKind, IsFitChild}
 
 -- what holds at each number holds of each item
-All-at : {A : Type 0} (P : A → Type 0) (xs : List A) (none : A) → ((k : ℕ) → k < length xs → P (get_or xs k none)) → All P xs
+pub All-at : {A : Type 0} (P : A → Type 0) (xs : List A) (none : A) → ((k : ℕ) → k < length xs → P (get_or xs k none)) → All P xs
 All-at P xs none h = λ k d lt. subst P (get_or_default xs k none d lt) (h k lt)
 
-high : (low most n : ℕ) → is_from_to low most n ≡ true → n ≤ most
+pub high : (low most n : ℕ) → is_from_to low most n ≡ true → n ≤ most
 high low most n e = leb-true n most (and_parts (nat_le low n) (nat_le n most) e).1
 
 types_below : {A : Type 0} (r : Rule A) (tys : List ℕ) → length r.types ≤ 32 → list_all (is_type r) tys ≡ true → All (λ ty. ty < 32) tys
 types_below r tys le e = λ k d lt. omega (arith, le, leb-true (suc (get_or tys k d)) (length r.types) (AllPass-from_list_all (is_type r) tys e k d lt))
 
-abbrev AreLimits : ListedRule → Type 0
+abbrev pub AreLimits : ListedRule → Type 0
 AreLimits x = WithinLimits (points_of x.order).order (is_small x.order) x.rule
 
-few_types : (x : ListedRule) → AreLimits x → length x.rule.types ≤ 32
+pub few_types : (x : ListedRule) → AreLimits x → length x.rule.types ≤ 32
 few_types x h = high 1 32 (length x.rule.types) h.types
 
-few_kinds : (x : ListedRule) → AreLimits x → length x.rule.kinds ≤ 16
+pub few_kinds : (x : ListedRule) → AreLimits x → length x.rule.kinds ≤ 16
 few_kinds x h = high 1 16 (length x.rule.kinds) h.kinds
 
 type-fits : (x : ListedRule) → AreLimits x → (ty : ℕ) → ty < length x.rule.types → IsFitType (edge_type_of x.rule ty)

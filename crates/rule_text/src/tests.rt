@@ -1,6 +1,8 @@
 //! Rows of files: each key with each fault, faults whose order matters, hostile files, and the chair
 //! both ways.
+mod files;
 mod heads;
+mod hostile;
 mod kinds;
 mod types;
 
@@ -119,6 +121,14 @@ fn chair(alloc: Global) -> Result<Rule, AllocError>
     })
 }
 
+/// Whether the text is read to the chair.
+fn is_read_to_chair(alloc: Global, text: &str) -> Result<bool, Fail> {
+    if text.len() > LONGEST_FILE {
+        return Ok(false);
+    }
+    Ok(is_chair(&read_rule(alloc, text.as_bytes())?))
+}
+
 /// Whether the rule is the chair.
 fn is_chair(rule: &Rule) -> bool {
     if rule.types.len() != 1 || rule.kinds.len() != 1 {
@@ -150,59 +160,15 @@ fn assert_faults(
 }
 
 #[test]
-fn reads_hostile_files(rt: HostRuntime) -> Result<(), Fail> {
-    let alloc = rt.alloc();
-    assert_eq!(rt; read_rule(alloc, b"\xff").err(), Some(TextFault::NotToml));
-    let rows = [
-        ("format 1", TextFault::NotToml),
-        ("format = 9223372036854775808", TextFault::NotToml),
-        ("format = 1\nformat = 1", TextFault::NotToml),
-        ("format = 1\rorder = 4", TextFault::NotToml),
-        ("[[type]]\n[type]", TextFault::NotToml),
-        ("format = 1\n\u{0}", TextFault::NotToml),
-        ("format = 1\r\n", TextFault::Missing { key: Key::Order }),
-    ];
-    assert_faults(&rt, rt.alloc(), "", &rows)?;
-    let mut nested = String::from_str(alloc, "format = ")?;
-    for _ in 0..10_000 {
-        nested.push_str("[")?;
-    }
-    assert_eq!(rt;
-        fault_of(alloc, nested.as_str(), "")?,
-        Some(TextFault::NotToml)
-    );
-    let inline =
-        "kind = [{vertices = [], edges = [], children = []}]\ntype = [{mate = 0, parts = []}]\n";
-    assert_eq!(rt; fault_of(alloc, HEAD, inline)?, None);
-    let named = "name = \"x\"\nkind = []\ntype = []\n";
-    let place = Place::Top;
-    assert_eq!(rt;
-        fault_of(alloc, HEAD, named)?,
-        Some(TextFault::UnknownKey { place })
-    );
-    assert_eq!(rt;
-        fault_of(
-            alloc,
-            HEAD,
-            "kind = []\n[[type]]\nmate = 0\nparts = [0, 0]\n"
-        )?,
-        None
-    );
-    Ok(())
-}
-
-#[test]
 fn reads_and_writes_the_chair(rt: HostRuntime) -> Result<(), Fail> {
     let alloc = rt.alloc();
-    assert_eq!(rt; fault_of(alloc, CHAIR, "")?, None);
-    assert!(rt; is_chair(&read_rule(alloc, CHAIR.as_bytes())?));
+    assert!(rt; is_read_to_chair(alloc, CHAIR)?);
     let rule = chair(alloc)?;
     assert!(rt; is_chair(&rule));
     let text = write_rule(alloc, &rule)?;
     assert!(rt; text.len() < 1_000);
-    assert!(rt; is_chair(&read_rule(alloc, text.as_bytes())?));
-    let back = written_and_read(alloc, &rule)?;
-    assert!(rt; back.is_some_and(|rule| is_chair(&rule)));
+    assert!(rt; is_read_to_chair(alloc, text.as_str())?);
+    assert!(rt; is_chair(&written_and_read(alloc, &rule)?));
     Ok(())
 }
 

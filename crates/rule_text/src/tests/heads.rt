@@ -6,17 +6,25 @@ use std::test::Fail;
 
 const FORMAT: Key = Key::Format;
 
-const FORMAT_ROWS: [(&str, TextFault); 9] = [
+const FORMAT_ROWS: [(&str, TextFault); 14] = [
     ("", TextFault::Missing { key: FORMAT }),
     ("order = 5", TextFault::Missing { key: FORMAT }),
     ("format = \"1\"", TextFault::WrongType { key: FORMAT }),
     ("format = 1.0", TextFault::WrongType { key: FORMAT }),
     ("format = true", TextFault::WrongType { key: FORMAT }),
+    ("format = [1]", TextFault::WrongType { key: FORMAT }),
+    ("format.name = 1", TextFault::WrongType { key: FORMAT }),
     ("format = 0", TextFault::OutOfRange { key: FORMAT }),
     ("format = 2", TextFault::OutOfRange { key: FORMAT }),
     ("format = -1", TextFault::OutOfRange { key: FORMAT }),
     (
         "format = 9223372036854775807",
+        TextFault::OutOfRange { key: FORMAT },
+    ),
+    ("format = 257", TextFault::OutOfRange { key: FORMAT }),
+    ("format = 4294967297", TextFault::OutOfRange { key: FORMAT }),
+    (
+        "format = -9223372036854775808",
         TextFault::OutOfRange { key: FORMAT },
     ),
 ];
@@ -25,22 +33,30 @@ const ORDER: Key = Key::Order;
 
 const LAMBDA: Key = Key::Lambda;
 
-const ORDER_ROWS: [(&str, TextFault); 10] = [
+const ORDER_ROWS: [(&str, TextFault); 18] = [
     ("", TextFault::Missing { key: ORDER }),
     ("lambda = 2", TextFault::Missing { key: ORDER }),
     ("order = \"4\"", TextFault::WrongType { key: ORDER }),
     ("order = [4]", TextFault::WrongType { key: ORDER }),
     ("order = 10.0", TextFault::WrongType { key: ORDER }),
+    ("order = true", TextFault::WrongType { key: ORDER }),
+    ("order = 1979-05-27", TextFault::WrongType { key: ORDER }),
+    ("order.name = 4", TextFault::WrongType { key: ORDER }),
+    ("[order]", TextFault::WrongType { key: ORDER }),
     ("order = 6", TextFault::OutOfRange { key: ORDER }),
     ("order = -4", TextFault::OutOfRange { key: ORDER }),
+    ("order = 260", TextFault::OutOfRange { key: ORDER }),
+    ("order = 4294967300", TextFault::OutOfRange { key: ORDER }),
     ("order = +10", TextFault::Missing { key: LAMBDA }),
     ("order = 0x0A", TextFault::Missing { key: LAMBDA }),
     ("order = 1_0", TextFault::Missing { key: LAMBDA }),
+    ("\"order\" = 4", TextFault::Missing { key: LAMBDA }),
+    ("'order' = 4", TextFault::Missing { key: LAMBDA }),
 ];
 
 const GLUE: Key = Key::Glue;
 
-const LAMBDA_ROWS: [(&str, TextFault); 11] = [
+const LAMBDA_ROWS: [(&str, TextFault); 18] = [
     ("", TextFault::Missing { key: LAMBDA }),
     ("lambda = 2", TextFault::WrongType { key: LAMBDA }),
     ("lambda = [2, 0, 0]", TextFault::WrongType { key: LAMBDA }),
@@ -54,6 +70,17 @@ const LAMBDA_ROWS: [(&str, TextFault); 11] = [
     ),
     (
         "lambda = [65, 0, 0, \"0\"]",
+        TextFault::WrongType { key: LAMBDA },
+    ),
+    ("lambda = []", TextFault::WrongType { key: LAMBDA }),
+    ("lambda = {}", TextFault::WrongType { key: LAMBDA }),
+    ("lambda = [65, 0, 0]", TextFault::WrongType { key: LAMBDA }),
+    (
+        "lambda = [2.0, 0, 0, 0]",
+        TextFault::WrongType { key: LAMBDA },
+    ),
+    (
+        "lambda = [[2, 0, 0, 0]]",
         TextFault::WrongType { key: LAMBDA },
     ),
     (
@@ -70,6 +97,14 @@ const LAMBDA_ROWS: [(&str, TextFault); 11] = [
     ),
     (
         "lambda = [2, 0, 0, 1]",
+        TextFault::OutOfRange { key: LAMBDA },
+    ),
+    (
+        "lambda = [9223372036854775807, 0, 0, 0]",
+        TextFault::OutOfRange { key: LAMBDA },
+    ),
+    (
+        "lambda = [0, -9223372036854775808, 0, 0]",
         TextFault::OutOfRange { key: LAMBDA },
     ),
     ("lambda = [64, -64, 0, 0]", TextFault::Missing { key: GLUE }),
@@ -90,13 +125,18 @@ const EIGHT_ROWS: [(&str, TextFault); 3] = [
 
 const TYPES: Key = Key::TypeList;
 
-const GLUE_ROWS: [(&str, TextFault); 7] = [
+const GLUE_ROWS: [(&str, TextFault); 12] = [
     ("", TextFault::Missing { key: GLUE }),
     ("glue = 1", TextFault::WrongType { key: GLUE }),
     ("glue = [[]]", TextFault::WrongType { key: GLUE }),
     ("glue = [32, true]", TextFault::WrongType { key: GLUE }),
+    ("glue = {}", TextFault::WrongType { key: GLUE }),
+    ("glue = [0.0]", TextFault::WrongType { key: GLUE }),
+    ("glue = ['0']", TextFault::WrongType { key: GLUE }),
     ("glue = [0, 32]", TextFault::OutOfRange { key: GLUE }),
     ("glue = [-1]", TextFault::OutOfRange { key: GLUE }),
+    ("glue = [256]", TextFault::OutOfRange { key: GLUE }),
+    ("glue = [4294967296]", TextFault::OutOfRange { key: GLUE }),
     ("glue = [0, 31]", TextFault::Missing { key: TYPES }),
 ];
 

@@ -15,7 +15,7 @@ const PARTS: Key = Key::Parts { ty: 0 };
 
 const PLACE: Place = Place::InType { ty: 0 };
 
-const LIST_ROWS: [(&str, TextFault); 8] = [
+const LIST_ROWS: [(&str, TextFault); 15] = [
     ("", TextFault::Missing { key: LIST }),
     ("name = 1\nkind = 2", TextFault::Missing { key: LIST }),
     ("type = {}", TextFault::WrongType { key: LIST }),
@@ -25,31 +25,66 @@ const LIST_ROWS: [(&str, TextFault); 8] = [
     ),
     ("type = [3]", TextFault::WrongType { key: LIST }),
     ("type = [{}, 3]", TextFault::WrongType { key: LIST }),
+    ("type = 3", TextFault::WrongType { key: LIST }),
+    ("type = 'x'", TextFault::WrongType { key: LIST }),
+    ("type = [[]]", TextFault::WrongType { key: LIST }),
+    ("type = [3, {}]", TextFault::WrongType { key: LIST }),
+    ("type.mate = 0", TextFault::WrongType { key: LIST }),
     ("type = []", TextFault::Missing { key: KINDS }),
     (
         "type = [{mate = 0, parts = []}]",
         TextFault::Missing { key: KINDS },
     ),
+    ("type = [{}]", TextFault::Missing { key: MATE }),
+    (
+        "type = [{mate = 0, parts = [0, 0]}]",
+        TextFault::Missing { key: KINDS },
+    ),
 ];
 
 /// Behind the header of the first type.
-const ENTRY_ROWS: [(&str, TextFault); 12] = [
+const ENTRY_ROWS: [(&str, TextFault); 22] = [
     ("", TextFault::Missing { key: MATE }),
     ("name = 1\nparts = 0", TextFault::Missing { key: MATE }),
     ("mate = true", TextFault::WrongType { key: MATE }),
-    ("mate = 32", TextFault::OutOfRange { key: MATE }),
-    ("mate = -1\nparts = 0", TextFault::OutOfRange { key: MATE }),
-    ("mate = 31", TextFault::Missing { key: PARTS }),
-    ("mate = 0\nname = 1", TextFault::Missing { key: PARTS }),
     ("mate = 0\nparts = 0", TextFault::WrongType { key: PARTS }),
     (
         "mate = 0\nparts = [32, 1.5]",
         TextFault::WrongType { key: PARTS },
     ),
+    ("mate = [0]", TextFault::WrongType { key: MATE }),
+    ("mate = 0.0", TextFault::WrongType { key: MATE }),
+    ("mate.name = 0", TextFault::WrongType { key: MATE }),
+    ("mate = 0\nparts = {}", TextFault::WrongType { key: PARTS }),
+    (
+        "mate = 0\nparts = [[0]]",
+        TextFault::WrongType { key: PARTS },
+    ),
+    (
+        "mate = 0\nparts = [0, '0']",
+        TextFault::WrongType { key: PARTS },
+    ),
+    ("mate = 32", TextFault::OutOfRange { key: MATE }),
+    ("mate = -1\nparts = 0", TextFault::OutOfRange { key: MATE }),
     (
         "mate = 0\nparts = [32]\nname = 1",
         TextFault::OutOfRange { key: PARTS },
     ),
+    ("mate = 256", TextFault::OutOfRange { key: MATE }),
+    (
+        "mate = 9223372036854775807",
+        TextFault::OutOfRange { key: MATE },
+    ),
+    (
+        "mate = 0\nparts = [-1]",
+        TextFault::OutOfRange { key: PARTS },
+    ),
+    (
+        "mate = 0\nparts = [0, 4294967296]",
+        TextFault::OutOfRange { key: PARTS },
+    ),
+    ("mate = 31", TextFault::Missing { key: PARTS }),
+    ("mate = 0\nname = 1", TextFault::Missing { key: PARTS }),
     (
         "mate = 0\nparts = []\nname = 1\n[[type]]",
         TextFault::UnknownKey { place: PLACE },
