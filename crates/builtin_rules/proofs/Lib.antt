@@ -1,3 +1,4 @@
 pub mod Acceptance
-pub mod Chairs
+pub mod Evaluated
 pub mod Admitted
+pub mod Lists

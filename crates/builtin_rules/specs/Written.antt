@@ -1,27 +1,30 @@
 -- Rules as they are written down: an order, and lists of numbers, each point by its coefficients.
-use Rattle.std.specs.Prelude.{ℕ, ℤ, List, [], ◌∷◌}
-use Rattle.substitution.specs.Rule.{Rule, EdgeType, Child}
+use Rattle.std.specs.Prelude.{map}
+use Rattle.substitution.specs.Rule.{Rule, EdgeType, Kind}
 use Rattle.substitution.specs.RuleParts.{map_rule}
 use Rattle.cyclo_points.specs.declared.order.Order.{Order}
 use Rattle.cyclo_points.specs.declared.point.Point.{Point}
 use Rattle.cyclo_points.specs.Order.{NumberOf}
 use Rattle.cyclo_points.specs.Point.{point_in}
+use Rattle.rule_model.specs.Views.{as_child}
+use Rattle.builtin_rules.specs.Numbers.{TypeBy, KindBy, RuleBy, Fixed}
 
 pub record Written : Type 0 where
   pub order : Order
   pub rule : Rule Point
 
--- a0 + a1 ζ + a2 ζ² + a3 ζ³
-abbrev pub point : ℤ → ℤ → ℤ → ℤ → Point
-point a0 a1 a2 a3 = record { c = a0 ∷ a1 ∷ a2 ∷ a3 ∷ [] }
+-- an edge type, a kind and a rule, from constants
+abbrev pub written_type : TypeBy Fixed → EdgeType
+written_type t = record { mate = t.mate; parts = t.parts.now }
 
--- a type: its mate, and the types of its parts
-abbrev pub type : ℕ → List ℕ → EdgeType
-type mate parts = record { mate = mate; parts = parts }
+abbrev pub written_kind : KindBy Fixed → Kind Point
+written_kind k = record { vertices = k.vertices.now; edges = k.edges.now; children = map as_child k.children.now }
 
--- a child: its kind, its turn and its shift
-abbrev pub child : ℕ → ℕ → Point → Child Point
-child kind turn shift = record { kind = kind; motion = record { turn = turn; shift = shift } }
+abbrev pub written : RuleBy Fixed → Written
+written r = record {
+  order = r.order;
+  rule = record { factor = r.factor; glue = r.glue.now; types = map written_type r.types.now; kinds = map written_kind r.kinds.now };
+}
 
 -- the rule over the numbers of its order
 abbrev pub numbers_of : (w : Written) → Rule (NumberOf w.order)

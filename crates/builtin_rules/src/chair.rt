@@ -1,73 +1,87 @@
-//! The chair's rule: one kind, the L of three squares, cut into four of itself.
-ghost use Rattle.std.specs.Prelude.{IfOk};
-ghost use Rattle.builtin_rules.specs.Chair.{chair};
-ghost use Rattle.builtin_rules.specs.Named.{IsWritten};
-
+//! The chair: an L of three unit squares, each leg two long, cut into four of itself.
+use crate::kind_numbers::KindNumbers;
+use crate::notation::{child, edge_type, inner, outer, part, point};
+use crate::rule_numbers::RuleNumbers;
 use cyclo_points::order::Order;
-use cyclo_points::point::Point;
-use rule_model::child::Child;
-use rule_model::kind_row::KindRow;
-use rule_model::rule::Rule;
-use rule_model::type_row::TypeRow;
-use std::alloc::Global;
-use tile_shape::no_memory::NoMemory;
 
-/// The vertices of the L, counterclockwise from its inner corner.
-const VERTICES: [Point; 8] = [
-    Point { c: [1, 1, 0, 0] },
-    Point { c: [1, 2, 0, 0] },
-    Point { c: [0, 2, 0, 0] },
-    Point { c: [0, 1, 0, 0] },
-    Point { c: [0, 0, 0, 0] },
-    Point { c: [1, 0, 0, 0] },
-    Point { c: [2, 0, 0, 0] },
-    Point { c: [2, 1, 0, 0] },
-];
-
-/// Its children: in the corner, in the middle, and at the ends of the right and the upper leg.
-const CHILDREN: [Child; 4] = [
-    Child {
-        kind: 0,
-        turn: 0,
-        shift: Point { c: [0, 0, 0, 0] },
-    },
-    Child {
-        kind: 0,
-        turn: 0,
-        shift: Point { c: [1, 1, 0, 0] },
-    },
-    Child {
-        kind: 0,
-        turn: 1,
-        shift: Point { c: [4, 0, 0, 0] },
-    },
-    Child {
-        kind: 0,
-        turn: 3,
-        shift: Point { c: [0, 4, 0, 0] },
-    },
-];
-
-/// The chair.
-pub fn rule(alloc: Global) -> Result<Rule, NoMemory>
-    ensures { IfOk result (IsWritten chair) }
-{
-    let mut types = Vec::new(alloc);
-    types.push(TypeRow {
-        mate: 0,
-        parts: [0, 0].to_vec(alloc)?,
-    })?;
-    let mut kinds = Vec::new(alloc);
-    kinds.push(KindRow {
-        vertices: VERTICES.to_vec(alloc)?,
-        edges: [0; 8].to_vec(alloc)?,
-        children: CHILDREN.to_vec(alloc)?,
-    })?;
-    Ok(Rule {
-        order: Order::Four,
-        factor: Point { c: [2, 0, 0, 0] },
-        glue: Vec::new(alloc),
-        types,
-        kinds,
-    })
-}
+/// ζ is a quarter turn. The one edge type has length 1 and is its own mate. No halves are glued.
+pub(crate) const NUMBERS: RuleNumbers = RuleNumbers {
+    order: Order::Four,
+    factor: point!(2, 0, 0, 0),
+    glue: &[],
+    types: &[edge_type!(0, [0, 0])],
+    kinds: &[
+        // The L, from its inner corner on.
+        KindNumbers {
+            vertices: &[
+                point!(1, 1, 0, 0),
+                point!(1, 2, 0, 0),
+                point!(0, 2, 0, 0),
+                point!(0, 1, 0, 0),
+                point!(0, 0, 0, 0),
+                point!(1, 0, 0, 0),
+                point!(2, 0, 0, 0),
+                point!(2, 1, 0, 0),
+            ],
+            edges: &[0, 0, 0, 0, 0, 0, 0, 0],
+            children: &[
+                child!(0, 0, [0, 0, 0, 0]), // an L in the corner
+                child!(0, 0, [1, 1, 0, 0]), // an L in the middle
+                child!(0, 1, [4, 0, 0, 0]), // an L at the end of the right leg
+                child!(0, 3, [0, 4, 0, 0]), // an L at the end of the upper leg
+            ],
+            contacts: &[
+                &[
+                    inner!(1, 3),
+                    inner!(3, 6),
+                    outer!(3, 0),
+                    outer!(3, 1),
+                    outer!(4, 0),
+                    outer!(4, 1),
+                    inner!(2, 1),
+                    inner!(1, 4),
+                ],
+                &[
+                    outer!(0, 0),
+                    inner!(3, 0),
+                    inner!(3, 7),
+                    inner!(0, 0),
+                    inner!(0, 7),
+                    inner!(2, 0),
+                    inner!(2, 7),
+                    outer!(7, 1),
+                ],
+                &[
+                    inner!(1, 5),
+                    inner!(0, 6),
+                    outer!(5, 0),
+                    outer!(5, 1),
+                    outer!(6, 0),
+                    outer!(6, 1),
+                    outer!(7, 0),
+                    inner!(1, 6),
+                ],
+                &[
+                    inner!(1, 1),
+                    outer!(0, 1),
+                    outer!(1, 0),
+                    outer!(1, 1),
+                    outer!(2, 0),
+                    outer!(2, 1),
+                    inner!(0, 1),
+                    inner!(1, 2),
+                ],
+            ],
+            parts: &[
+                &[part!(1, 0), part!(3, 1)],
+                &[part!(3, 2), part!(3, 3)],
+                &[part!(3, 4), part!(3, 5)],
+                &[part!(0, 2), part!(0, 3)],
+                &[part!(0, 4), part!(0, 5)],
+                &[part!(2, 2), part!(2, 3)],
+                &[part!(2, 4), part!(2, 5)],
+                &[part!(2, 6), part!(1, 7)],
+            ],
+        },
+    ],
+};

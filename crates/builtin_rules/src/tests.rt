@@ -1,31 +1,96 @@
-//! The built-in rules, each number typed from their description.
+//! The built-in rules against their description. The numbers of each kind and its contacts are printed, and
+//! what must be printed is typed from the description.
 use crate::builtin::{builtin, rule_of};
 use crate::name::Name;
+use crate::printed::{contacts_text, kind_text, types_text};
 use cyclo_points::order::Order;
-use cyclo_points::point::Point;
 use rule_model::checked::Checked;
-use rule_model::child::Child;
+use std::alloc::{AllocError, Global};
 use std::test::Fail;
 
-/// A vertex of a kind, where there is one, and how many there are.
-fn vertex_there(checked: &Checked, kind: u8, i: usize) -> (Option<Point>, usize) {
-    if usize::from(kind) >= checked.rule().kind_count() {
-        return (None, 0);
-    }
-    let vertices = checked.vertices(kind);
-    (vertices.get(i).copied(), vertices.len())
+/// For each kind: its numbers, its contacts, and the edge along which it is glued.
+type Row = (&'static str, &'static str, Option<u8>);
+
+/// The chair.
+fn chair() -> [Row; 1] {
+    [(
+        "1,1,0,0 1,2,0,0 0,2,0,0 0,1,0,0 0,0,0,0 1,0,0,0 2,0,0,0 2,1,0,0 | 0 0 0 0 0 0 0 0 | (0 0 0,0,0,0) (0 0 1,1,0,0) (0 1 4,0,0,0) (0 3 0,4,0,0)",
+        "00-13 01-36 06-21 07-14 11-30 12-37 15-20 16-27 | 0: 10 31; 1: 32 33; 2: 34 35; 3: 02 03; 4: 04 05; 5: 22 23; 6: 24 25; 7: 26 17;",
+        None,
+    )]
 }
 
-/// A child of a kind, where there is one.
-fn child_there(checked: &Checked, kind: u8, child: u8) -> Option<Child> {
-    let rule = checked.rule();
-    if usize::from(kind) >= rule.kind_count() {
-        return None;
-    }
-    if usize::from(child) >= rule.child_count(usize::from(kind)) {
-        return None;
-    }
-    Some(checked.child(kind, child))
+/// The halves of the thin rhomb, and those of the thick one.
+fn rhombs() -> [Row; 4] {
+    [
+        (
+            "0,0,0,0 1,0,0,0 0,1,0,0 | 0 4 3 | (0 7 1,0,1,0) (2 2 1,0,0,0)",
+            "00-10 | 0: 12 01; 1: 02; 2: 11;",
+            Some(1),
+        ),
+        (
+            "0,0,0,0 1,0,0,0 0,1,0,0 | 2 5 1 | (1 3 1,0,1,-1) (3 6 0,1,0,0)",
+            "02-12 | 0: 11; 1: 00; 2: 01 10;",
+            Some(1),
+        ),
+        (
+            "0,0,0,0 1,0,0,0 0,0,0,1 | 1 6 3 | (2 4 0,0,1,0) (3 0 0,0,1,-1) (1 7 0,0,1,0)",
+            "02-20 12-22 | 0: 21 10; 1: 11 00; 2: 01;",
+            Some(1),
+        ),
+        (
+            "0,0,0,0 1,0,0,0 0,0,0,1 | 2 7 0 | (3 6 0,1,0,0) (2 0 -1,1,0,0) (0 5 0,1,0,0)",
+            "00-22 10-20 | 0: 01; 1: 02 11; 2: 12 21;",
+            Some(1),
+        ),
+    ]
+}
+
+/// The halves of the kite, and those of the dart.
+fn kites_and_darts() -> [Row; 4] {
+    [
+        (
+            "0,0,0,0 1,0,1,-1 1,0,1,0 | 0 2 5 | (2 2 1,0,0,0) (1 4 2,0,1,-1) (0 3 2,0,1,-1)",
+            "00-11 10-22 | 0: 02 12; 1: 20; 2: 21 01;",
+            Some(2),
+        ),
+        (
+            "0,0,0,0 1,0,1,-1 1,0,1,0 | 4 3 1 | (3 6 0,1,0,0) (0 6 1,1,1,0) (1 7 1,1,1,0)",
+            "02-11 12-20 | 0: 01 21; 1: 22; 2: 10 00;",
+            Some(0),
+        ),
+        (
+            "0,0,0,0 1,0,0,0 0,0,0,1 | 2 0 7 | (2 6 0,1,0,0) (1 8 -1,1,0,1)",
+            "00-11 | 0: 01; 1: 02 12; 2: 10;",
+            Some(2),
+        ),
+        (
+            "0,0,0,0 1,0,0,0 0,0,0,1 | 6 1 3 | (3 4 0,0,1,0) (0 4 1,0,1,-1)",
+            "02-11 | 0: 12; 1: 10 00; 2: 01;",
+            Some(0),
+        ),
+    ]
+}
+
+/// The rhomb, and the halves of the square.
+fn rhombs_and_squares() -> [Row; 3] {
+    [
+        (
+            "0,0,0,0 1,0,0,0 1,1,0,0 0,1,0,0 | 0 1 0 1 | (0 0 0,0,0,0) (1 0 1,0,0,0) (2 5 2,1,1,-1) (0 4 2,2,1,-1) (1 4 1,2,1,-1) (2 1 0,1,0,0) (0 2 1,1,0,-1)",
+            "01-12 02-50 11-63 20-32 21-60 31-42 41-61 51-62 | 0: 00 10; 1: 22 33; 2: 30 40; 3: 52 03;",
+            None,
+        ),
+        (
+            "0,0,0,0 0,1,0,-1 0,1,0,0 | 2 0 0 | (1 3 2,1,0,0) (1 5 1,0,1,0) (2 4 1,1,0,-1) (0 3 2,1,0,-1) (0 1 1,0,0,0)",
+            "01-41 02-31 12-43 20-32 21-40 | 0: 11 22 33; 1: 30 00; 2: 42 10;",
+            Some(0),
+        ),
+        (
+            "0,0,0,0 0,0,0,-1 0,1,0,-1 | 1 1 3 | (2 5 2,0,0,-1) (2 3 1,0,-1,0) (1 4 1,1,0,-1) (0 4 2,1,0,-1) (0 6 1,0,0,0)",
+            "00-32 01-42 10-40 21-43 22-31 | 0: 12 41; 1: 02 33; 2: 30 20 11;",
+            Some(2),
+        ),
+    ]
 }
 
 /// The edge along which a kind is glued, where there is such a kind and such an edge.
@@ -36,56 +101,97 @@ fn glue_edge_there(checked: &Checked, kind: u8) -> Option<u8> {
     checked.glue_edge(kind)
 }
 
-/// How many edges a kind has by the contact tables, where there is such a kind.
-fn edges_there(checked: &Checked, kind: u8) -> Option<u8> {
-    let tables = checked.tables();
-    if kind >= tables.kinds() {
-        return None;
+/// The first kind that isn't as its row says.
+fn first_wrong(alloc: Global, checked: &Checked, rows: &[Row]) -> Result<Option<u8>, AllocError> {
+    let mut kind: u8 = 0;
+    for row in rows {
+        let numbers = kind_text(alloc, checked.rule(), usize::from(kind))?;
+        let contacts = contacts_text(alloc, checked.tables(), kind)?;
+        let glue_edge = glue_edge_there(checked, kind);
+        if numbers.as_str() != row.0 || contacts.as_str() != row.1 || glue_edge != row.2 {
+            return Ok(Some(kind));
+        }
+        kind = kind.saturating_add(1);
     }
-    Some(tables.edges(kind))
+    Ok(None)
+}
+
+/// The kind of the last child of a kind, and whether there is a further one.
+fn last_use(checked: &Checked, kind: u8, children: u8) -> (Option<u8>, bool) {
+    let uses = checked.uses();
+    let further = uses.child_kind(kind, children).is_some();
+    (uses.child_kind(kind, children.saturating_sub(1)), further)
 }
 
 #[test]
 fn the_chair(rt: HostRuntime) -> Result<(), Fail> {
-    let checked = builtin(rt.alloc(), Name::Chair)?;
+    let alloc = rt.alloc();
+    let checked = builtin(alloc, Name::Chair)?;
     assert_eq!(rt; checked.order(), Order::Four);
     assert_eq!(rt; checked.factor().c, [2, 0, 0, 0]);
-    let outline = [
-        (1, 1),
-        (1, 2),
-        (0, 2),
-        (0, 1),
-        (0, 0),
-        (1, 0),
-        (2, 0),
-        (2, 1),
-    ];
-    for i in 0..outline.len() {
-        let vertex = Point {
-            c: [outline[i].0, outline[i].1, 0, 0],
-        };
-        assert_eq!(rt; vertex_there(&checked, 0, i), (Some(vertex), 8));
-    }
-    assert_eq!(rt; vertex_there(&checked, 0, 8), (None, 8));
-    assert_eq!(rt; vertex_there(&checked, 1, 0), (None, 0));
-    let children = [(0, 0, 0), (0, 1, 1), (1, 4, 0), (3, 0, 4)];
-    for i in 0..children.len() {
-        let (turn, a0, a1) = children[i];
-        let shift = Point { c: [a0, a1, 0, 0] };
-        let child = Child {
-            kind: 0,
-            turn,
-            shift,
-        };
-        assert_eq!(rt; child_there(&checked, 0, i as u8), Some(child));
-    }
-    assert_eq!(rt; child_there(&checked, 0, 4), None);
-    assert_eq!(rt; glue_edge_there(&checked, 0), None);
-    assert_eq!(rt; edges_there(&checked, 0), Some(8));
-    assert_eq!(rt; edges_there(&checked, 1), None);
+    let types = types_text(alloc, checked.rule())?;
+    assert_eq!(rt; types.as_str(), "types 0: 0 0;");
+    assert_eq!(rt; first_wrong(alloc, &checked, &chair())?, None);
+    assert_eq!(rt; glue_edge_there(&checked, 1), None);
     assert_eq!(rt; checked.uses().kinds(), 1);
-    assert_eq!(rt; checked.uses().child_kind(0, 3), Some(0));
-    assert_eq!(rt; checked.uses().child_kind(0, 4), None);
-    assert_eq!(rt; rule_of(rt.alloc(), Name::Chair)?.type_count(), 1);
+    assert_eq!(rt; last_use(&checked, 0, 4), (Some(0), false));
+    assert_eq!(rt; rule_of(alloc, Name::Chair)?.kinds.len(), 1);
+    Ok(())
+}
+
+#[test]
+fn the_rhombs(rt: HostRuntime) -> Result<(), Fail> {
+    let alloc = rt.alloc();
+    let checked = builtin(alloc, Name::P3)?;
+    assert_eq!(rt; checked.order(), Order::Ten);
+    assert_eq!(rt; checked.factor().c, [1, 0, 1, -1]);
+    let types = types_text(alloc, checked.rule())?;
+    assert_eq!(rt;
+        types.as_str(),
+        "types 1: 3 4; 0: 5 2; 3: 7; 2: 6; 5: 3; 4: 2; 7: 7 1; 6: 0 6;"
+    );
+    assert_eq!(rt; first_wrong(alloc, &checked, &rhombs())?, None);
+    assert_eq!(rt; glue_edge_there(&checked, 4), None);
+    assert_eq!(rt; checked.uses().kinds(), 4);
+    assert_eq!(rt; last_use(&checked, 0, 2), (Some(2), false));
+    assert_eq!(rt; last_use(&checked, 3, 3), (Some(0), false));
+    assert_eq!(rt; rule_of(alloc, Name::P3)?.kinds.len(), 4);
+    Ok(())
+}
+
+#[test]
+fn the_kites_and_darts(rt: HostRuntime) -> Result<(), Fail> {
+    let alloc = rt.alloc();
+    let checked = builtin(alloc, Name::P2)?;
+    assert_eq!(rt; checked.order(), Order::Ten);
+    assert_eq!(rt; checked.factor().c, [1, 0, 1, -1]);
+    let types = types_text(alloc, checked.rule())?;
+    assert_eq!(rt;
+        types.as_str(),
+        "types 1: 7 1; 0: 0 6; 3: 0; 2: 1; 5: 1 3; 4: 2 0; 7: 5; 6: 4;"
+    );
+    assert_eq!(rt; first_wrong(alloc, &checked, &kites_and_darts())?, None);
+    assert_eq!(rt; glue_edge_there(&checked, 4), None);
+    assert_eq!(rt; checked.uses().kinds(), 4);
+    assert_eq!(rt; last_use(&checked, 0, 3), (Some(0), false));
+    assert_eq!(rt; last_use(&checked, 3, 2), (Some(0), false));
+    assert_eq!(rt; rule_of(alloc, Name::P2)?.kinds.len(), 4);
+    Ok(())
+}
+
+#[test]
+fn the_rhombs_and_squares(rt: HostRuntime) -> Result<(), Fail> {
+    let alloc = rt.alloc();
+    let checked = builtin(alloc, Name::AmmannBeenker)?;
+    assert_eq!(rt; checked.order(), Order::Eight);
+    assert_eq!(rt; checked.factor().c, [1, 1, 0, -1]);
+    let types = types_text(alloc, checked.rule())?;
+    assert_eq!(rt; types.as_str(), "types 1: 0 2; 0: 3 1; 3: 0 3 1; 2: 0 2 1;");
+    assert_eq!(rt; first_wrong(alloc, &checked, &rhombs_and_squares())?, None);
+    assert_eq!(rt; glue_edge_there(&checked, 3), None);
+    assert_eq!(rt; checked.uses().kinds(), 3);
+    assert_eq!(rt; last_use(&checked, 0, 7), (Some(0), false));
+    assert_eq!(rt; last_use(&checked, 2, 5), (Some(0), false));
+    assert_eq!(rt; rule_of(alloc, Name::AmmannBeenker)?.kinds.len(), 3);
     Ok(())
 }

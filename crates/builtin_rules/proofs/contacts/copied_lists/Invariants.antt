@@ -1,0 +1,5 @@
+use Rattle.std.proofs.Common.{◌≡◌, map, take}
+use Rattle.builtin_rules.proofs.contacts.copied_lists.Given as goal
+
+abbrev pub invariant-loop-list : goal.invariant-loop-list
+invariant-loop-list g l = map (λ copy. copy.items) l.copies.items ≡ map (λ list. list.now) (take l.list-index l.lists)
