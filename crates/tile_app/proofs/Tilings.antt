@@ -16,7 +16,7 @@ use Rattle.rule_text.specs.Document.{ListedRule}
 use Rattle.rule_text.specs.File.{rule_in_file}
 use Rattle.tile_shape.specs.Usable.{IsUsable, is_used}
 use Rattle.builtin_rules.specs.declared.name.Name.{Name}
-use Rattle.builtin_rules.specs.declared.name.Name.TheVariants.{Chair}
+use Rattle.builtin_rules.specs.declared.name.Name.TheVariants.{Chair, P2, P3, AmmannBeenker}
 use Rattle.builtin_rules.specs.Named.{named, IsWritten}
 use Rattle.tile_app.specs.declared.rule_choice.RuleChoice.{RuleChoice}
 use Rattle.tile_app.specs.declared.rule_choice.RuleChoice.TheVariants.{Builtin, File}
@@ -42,6 +42,9 @@ seen children a b c d e f = record { some_kind = a; at_most_16_kinds = b; some_c
 
 builtin_is_usable : (name : Name) → IsUsable (child_kinds (builtin_tiling name).rule)
 builtin_is_usable Chair = seen _ (lit≤ tt) (lit≤ tt) refl refl refl refl
+builtin_is_usable P2 = seen _ (lit≤ tt) (lit≤ tt) refl refl refl refl
+builtin_is_usable P3 = seen _ (lit≤ tt) (lit≤ tt) refl refl refl refl
+builtin_is_usable AmmannBeenker = seen _ (lit≤ tt) (lit≤ tt) refl refl refl refl
 
 -- and those of a rule that no clause refuses, by a law
 abbrev pub AcceptedAreUsable : Type 0

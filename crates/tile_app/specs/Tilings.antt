@@ -10,7 +10,7 @@ use Rattle.cyclo_points.specs.Order.{NumberOf, points_of}
 use Rattle.rule_model.specs.declared.rule.Rule as program
 use Rattle.rule_model.specs.Views.{rule_of}
 use Rattle.builtin_rules.specs.declared.name.Name.{Name}
-use Rattle.builtin_rules.specs.declared.name.Name.TheVariants.{Chair}
+use Rattle.builtin_rules.specs.declared.name.Name.TheVariants.{Chair, P2, P3, AmmannBeenker}
 use Rattle.builtin_rules.specs.Named.{named}
 use Rattle.builtin_rules.specs.Written.{numbers_of}
 
@@ -34,4 +34,8 @@ builtin_tiling name = record { order = (named name).order; rule = numbers_of (na
 
 -- the built-in rule that a text names
 abbrev pub name_in : List ℕ → Option Name
-name_in text = if bytes_eq text (codes "chair") then Some Chair else None
+name_in text =
+    if bytes_eq text (codes "chair") then Some Chair else
+    if bytes_eq text (codes "p2") then Some P2 else
+    if bytes_eq text (codes "p3") then Some P3 else
+    if bytes_eq text (codes "ab") then Some AmmannBeenker else None

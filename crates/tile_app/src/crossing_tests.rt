@@ -92,7 +92,7 @@ fn cross_each_edge<R: Abort>(rt: &R, machine: &Machine, addr: &Address) -> bool 
 
 #[test]
 fn across_and_back(rt: HostRuntime) -> Result<(), Fail> {
-    for name in [Name::Chair] {
+    for name in [Name::Chair, Name::P2, Name::P3, Name::AmmannBeenker] {
         let machine = Machine::new(rt.alloc(), builtin(rt.alloc(), name)?)?;
         let mut draws = Draws { state: 42 };
         let mut most: u8 = 0;

@@ -20,6 +20,9 @@ fn name_in(text: &str) -> Option<Name>
 {
     match text {
         "chair" => Some(Name::Chair),
+        "p2" => Some(Name::P2),
+        "p3" => Some(Name::P3),
+        "ab" => Some(Name::AmmannBeenker),
         _ => None,
     }
 }

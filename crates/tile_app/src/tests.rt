@@ -12,7 +12,7 @@ use tile_io::steady_sink::SteadySink;
 use tile_io::steady_source::SteadySource;
 
 // Words, the exit code that is wanted, the line printed, and the line noted.
-const ROWS: [(&str, u8, &str, &str); 35] = [
+const ROWS: [(&str, u8, &str, &str); 48] = [
     ("place rule=chair addr=0:", 0, "0 0 0,0,0,0", ""),
     ("place rule=chair addr=0:1/0,2/0", 0, "0 1 7,1,0,0", ""),
     ("place addr=0:1/0,2/0 rule=chair", 0, "0 1 7,1,0,0", ""),
@@ -105,7 +105,40 @@ const ROWS: [(&str, u8, &str, &str); 35] = [
     ("place rule=chair", 2, "", "2 BadWords 2"),
     ("place rule=chair addr=0: addr=0:", 2, "", "2 BadWords 3"),
     ("place addr=0: rule=hat", 2, "", "2 BadWords 2"),
-    ("place rule=p3 addr=0:", 2, "", "2 BadWords 1"),
+    ("place rule=p4 addr=0:", 2, "", "2 BadWords 1"),
+    ("check rule=p3", 0, "accepted order 10 kinds 4 types 8", ""),
+    ("check rule=p2", 0, "accepted order 10 kinds 4 types 8", ""),
+    ("check rule=ab", 0, "accepted order 8 kinds 3 types 4", ""),
+    ("place rule=p3 addr=0:0/0,0/0", 0, "0 4 2,0,1,-1", ""),
+    ("place rule=p2 addr=1:1/0", 0, "1 4 2,0,1,-1", ""),
+    ("place rule=ab addr=0:3/0", 0, "0 4 2,2,1,-1", ""),
+    ("neighbour rule=p3 addr=0:0/0 edge=0", 0, "2:1/0 0", ""),
+    (
+        "neighbour rule=p3 addr=2:1/0,0/0 edge=2",
+        0,
+        "3:1/2,1/0 0",
+        "",
+    ),
+    ("neighbour rule=p2 addr=1:1/0 edge=0", 0, "0:2/0 2", ""),
+    ("neighbour rule=ab addr=0:0/0 edge=1", 0, "1:1/0 2", ""),
+    (
+        "neighbour rule=ab addr=1:1/0,6/0 edge=0",
+        0,
+        "2:0/2,2/0 2",
+        "",
+    ),
+    (
+        "neighbour rule=p3 addr=0:0/0,0/0 edge=2",
+        8,
+        "",
+        "8 Outside 0 1",
+    ),
+    (
+        "neighbour rule=p3 addr=0:0/0 edge=3",
+        12,
+        "",
+        "12 NoEdge 3 3",
+    ),
     ("place rule=chair edge=0", 2, "", "2 BadWords 2"),
     ("place addr rule=chair", 2, "", "2 BadWords 1"),
     ("neighbour rule=chair addr=0:", 2, "", "2 BadWords 3"),

@@ -1,0 +1,90 @@
+//! The program `rule_library`: what comes of each rule file of the library, and of each file of the
+//! tutorial that a clause refuses.
+//!
+//! A file is read and checked; an accepted rule is printed, read back and checked again, and the two
+//! printed texts are compared. The files lie in the folder that it is run in, and what it prints is
+//! compared with what is wanted when the gate runs it. It claims nothing of its own.
+#![tactic(auto)]
+
+mod outcome;
+
+use crate::outcome::{is_printed, outcome};
+use builtin_rules::name::Name;
+use std::{fs, io};
+use tile_shape::no_memory::NoMemory;
+
+/// The rule files of the library, and then those that are refused.
+const FILES: [&str; 34] = [
+    "ammann_beenker.toml",
+    "ammann_beenker_mirrored.toml",
+    "chair.toml",
+    "domino_table.toml",
+    "half_chair.toml",
+    "half_square_four.toml",
+    "half_square_two.toml",
+    "l_tetromino_four.toml",
+    "p_pentomino_four.toml",
+    "paper_rectangle_two.toml",
+    "penrose_p2.toml",
+    "penrose_p3.toml",
+    "rectangle_four.toml",
+    "rhomb_eight_four.toml",
+    "rhomb_ten_four.toml",
+    "right_triangle_four.toml",
+    "robinson_kite_halves.toml",
+    "robinson_rhomb_halves.toml",
+    "silver_mean_squares.toml",
+    "square_four.toml",
+    "square_nine.toml",
+    "thue_morse_squares.toml",
+    "tromino_nine.toml",
+    "tuebingen_triangles.toml",
+    "01_too_many.toml",
+    "02_not_star.toml",
+    "03_wrong_factor.toml",
+    "04_bad_mate.toml",
+    "05_bad_length.toml",
+    "06_bad_subdivision.toml",
+    "07_loose_child_edge.toml",
+    "08_wrong_boundary.toml",
+    "09_unused.toml",
+    "10_wrong_glue.toml",
+];
+
+/// The rule files of the built-in rules.
+const BUILT_IN: [(&str, Name); 4] = [
+    ("chair.toml", Name::Chair),
+    ("penrose_p2.toml", Name::P2),
+    ("penrose_p3.toml", Name::P3),
+    ("ammann_beenker.toml", Name::AmmannBeenker),
+];
+
+/// A line for each file.
+fn describe_files(rt: &HostRuntime) -> io::Result<()> {
+    for name in FILES {
+        let bytes = fs::read(rt, name)?;
+        match outcome(rt.alloc(), bytes.as_slice()) {
+            Ok(line) => println!(rt; "{name} {line}")?,
+            Err(NoMemory) => return Err(io::ErrorKind::OutOfMemory.into()),
+        }
+    }
+    Ok(())
+}
+
+/// A line for each built-in rule.
+fn compare_files(rt: &HostRuntime) -> io::Result<()> {
+    for (file, name) in BUILT_IN {
+        let bytes = fs::read(rt, file)?;
+        match is_printed(rt.alloc(), name, bytes.as_slice()) {
+            Ok(true) => println!(rt; "{file} is what the built-in rule is printed as")?,
+            Ok(false) => println!(rt; "{file} is ANOTHER text than the built-in rule's")?,
+            Err(NoMemory) => return Err(io::ErrorKind::OutOfMemory.into()),
+        }
+    }
+    Ok(())
+}
+
+fn main(rt: HostRuntime) -> io::Result<()> {
+    describe_files(&rt)?;
+    compare_files(&rt)
+}

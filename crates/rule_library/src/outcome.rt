@@ -1,0 +1,74 @@
+//! What comes of a rule file.
+use builtin_rules::builtin::builtin;
+use builtin_rules::name::Name;
+use dissect_check::check::check;
+use dissect_check::check_fault::CheckFault;
+use rule_model::checked::Checked;
+use rule_text::reading::{LONGEST_FILE, read_rule};
+use rule_text::text_fault::TextFault;
+use rule_text::writing::{write_rule, written_and_read};
+use std::alloc::{AllocError, Global};
+use tile_shape::no_memory::NoMemory;
+
+/// Why there is no accepted rule.
+#[derive(Clone, Copy, Debug, PartialEq, Eq)]
+enum Refused {
+    TooLong,
+    Text(TextFault),
+    Check(CheckFault),
+}
+
+/// The accepted rule of a file.
+fn checked(alloc: Global, bytes: &[u8]) -> Result<Checked, Refused> {
+    if bytes.len() > LONGEST_FILE {
+        return Err(Refused::TooLong);
+    }
+    let rule = read_rule(alloc, bytes).map_err(Refused::Text)?;
+    check(alloc, rule).map_err(Refused::Check)
+}
+
+/// The printed text of the rule that is read back from a rule's own text.
+fn printed_again(alloc: Global, rule: &Checked) -> Result<Option<String>, NoMemory> {
+    match written_and_read(alloc, rule.rule()) {
+        Err(_) => Err(NoMemory),
+        Ok(back) => match check(alloc, back) {
+            Ok(back) => Ok(Some(write_rule(alloc, back.rule())?)),
+            Err(_) => Ok(None),
+        },
+    }
+}
+
+/// The line of an accepted rule.
+fn accepted(alloc: Global, rule: &Checked, bytes: &[u8]) -> Result<String, NoMemory> {
+    let text = write_rule(alloc, rule.rule())?;
+    let back = match printed_again(alloc, rule)? {
+        Some(again) if again == text => "the same when it is read back",
+        _ => "ANOTHER when it is read back",
+    };
+    let order = rule.rule().order.n();
+    let kinds = rule.rule().kind_count();
+    let types = rule.rule().type_count();
+    let layout = if text.as_bytes() == bytes {
+        ", as it is printed"
+    } else {
+        ""
+    };
+    Ok(format!(in alloc; "accepted order {order} kinds {kinds} types {types}, {back}{layout}")?)
+}
+
+/// The line of a file.
+pub fn outcome(alloc: Global, bytes: &[u8]) -> Result<String, NoMemory> {
+    match checked(alloc, bytes) {
+        Ok(rule) => accepted(alloc, &rule, bytes),
+        Err(Refused::TooLong) => Ok(format!(in alloc; "refused TooLong")?),
+        Err(Refused::Text(fault)) => Ok(format!(in alloc; "refused {fault}")?),
+        Err(Refused::Check(fault)) => Ok(format!(in alloc; "refused {fault}")?),
+    }
+}
+
+/// Whether the file is what a built-in rule is printed as.
+pub fn is_printed(alloc: Global, name: Name, bytes: &[u8]) -> Result<bool, NoMemory> {
+    let rule = builtin(alloc, name)?;
+    let text = write_rule(alloc, rule.rule())?;
+    Ok(text.as_bytes() == bytes)
+}
