@@ -1,5 +1,5 @@
 -- A rule of the program with the numbers of a built-in rule is accepted, and has its tables and its uses.
-use Rattle.std.proofs.Common.{◌≡◌, ℕ, List, sym, subst, ap, ◌∙◌}
+use Rattle.std.proofs.Common.{◌≡◌, ℕ, List, sym, subst, ◌∙◌}
 use Rattle.substitution.specs.Contacts.{tables_of}
 use Rattle.substitution.specs.Dissection.{IsDissection}
 use Rattle.substitution.specs.Limited.{WithinLimits}

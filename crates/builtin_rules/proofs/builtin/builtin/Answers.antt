@@ -1,4 +1,4 @@
-use Rattle.std.proofs.Common.{◌≡◌, sym, subst, ap, ◌∙◌}
+use Rattle.std.proofs.Common.{sym, subst, ap, ◌∙◌}
 use Rattle.substitution.specs.Coherent.{IsCoherent}
 use Rattle.substitution.specs.Tables.{child_kinds}
 use Rattle.tile_shape.specs.Usable.{IsUsable}

@@ -1,6 +1,5 @@
-use Rattle.std.proofs.Common.{rules, ◌≡◌, map}
+use Rattle.std.proofs.Common.{rules, map}
 use Rattle.edge_tables.specs.Views.{as_contact, as_child_edge}
-use Rattle.builtin_rules.specs.Numbers.{fixed}
 use Rattle.builtin_rules.proofs.Lists.{same_through}
 use Rattle.builtin_rules.proofs.contacts.kind_contacts.Goals as goal
 
