@@ -27,23 +27,27 @@ fn checked(alloc: Global, bytes: &[u8]) -> Result<Checked, Refused> {
     check(alloc, rule).map_err(Refused::Check)
 }
 
-/// The printed text of the rule that is read back from a rule's own text.
-fn printed_again(alloc: Global, rule: &Checked) -> Result<Option<String>, NoMemory> {
-    match written_and_read(alloc, rule.rule()) {
-        Err(_) => Err(NoMemory),
-        Ok(back) => match check(alloc, back) {
-            Ok(back) => Ok(Some(write_rule(alloc, back.rule())?)),
-            Err(_) => Ok(None),
-        },
-    }
+/// Whether a rule's own text is read back to a rule with the same text.
+fn is_read_back(alloc: Global, rule: &Checked, text: &str) -> Result<bool, NoMemory> {
+    let back = match written_and_read(alloc, rule.rule()) {
+        Ok(back) => back,
+        Err(_) => return Err(NoMemory),
+    };
+    let again = match check(alloc, back) {
+        Ok(again) => again,
+        Err(_) => return Ok(false),
+    };
+    let printed = write_rule(alloc, again.rule())?;
+    Ok(printed.as_str() == text)
 }
 
 /// The line of an accepted rule.
 fn accepted(alloc: Global, rule: &Checked, bytes: &[u8]) -> Result<String, NoMemory> {
     let text = write_rule(alloc, rule.rule())?;
-    let back = match printed_again(alloc, rule)? {
-        Some(again) if again == text => "the same when it is read back",
-        _ => "ANOTHER when it is read back",
+    let back = if is_read_back(alloc, rule, text.as_str())? {
+        "the same when it is read back"
+    } else {
+        "ANOTHER when it is read back"
     };
     let order = rule.rule().order.n();
     let kinds = rule.rule().kind_count();
