@@ -7,7 +7,7 @@ use Rattle.tile_app.specs.declared.status.Status.{Status}
 use Rattle.tile_app.specs.declared.status.Status.TheVariants.{Done, BadWords, ReadFault, RuleTooLong, RuleRefused, BadAddress, NoEdge, Outside, CoordLimit, WriteFault, NoMemory}
 use Rattle.tile_app.specs.Answers.{Prints}
 use Rattle.tile_app.specs.Asked.{GivesNoAddress}
-use Rattle.tile_app.specs.Requests.{Request, IsAsked, WasAsked, HoldsTooMuch}
+use Rattle.tile_app.specs.Requests.{Request, OfRequest, IsAsked, WasAsked, HoldsTooMuch}
 use Rattle.tile_app.specs.Status.{IsBadAddress, IsCutShort, IsRefusal, IsRefused, Causes}
 use Rattle.tile_app.specs.Words.{command_of, reads_file}
 use Rattle.tile_app.proofs.Causes.{IsFor, right_of_prints}
@@ -22,12 +22,12 @@ pub record Answered (words : List (List ℕ)) (left rest : Option (List ℕ)) (s
 
 -- from what it says of words that are these
 pub answered : (words seen : List (List ℕ)) (left rest : Option (List ℕ)) (s : Status) (Q R : List ℕ → Type 0) → seen ≡ words
-    → (s ≡ Done → (r : Request) × WasAsked seen left rest r × (text : List ℕ) × Prints r text × Q text)
-    → (s ≡ WriteFault → (r : Request) × WasAsked seen left rest r × (text : List ℕ) × Prints r text × R text)
+    → (s ≡ Done → OfRequest seen left rest (λ r. (text : List ℕ) × Prints r text × Q text))
+    → (s ≡ WriteFault → OfRequest seen left rest (λ r. (text : List ℕ) × Prints r text × R text))
     → (IsRefusal s → IsRefused seen left rest s) → Answered words left rest s
 answered words seen left rest s Q R e f g h = subst (λ ws. Answered ws left rest s) e (record {
-  done = λ k. (let p = f k in (p.0, p.1, p.2, p.3));
-  part = λ k. (let p = g k in (p.0, p.1, p.2, p.3));
+  done = λ k. (let p = f k in (p.0, p.1, p.2.0, p.2.1));
+  part = λ k. (let p = g k in (p.0, p.1, p.2.0, p.2.1));
   refused = h;
 })
 

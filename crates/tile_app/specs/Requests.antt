@@ -50,6 +50,10 @@ pub record WasAsked (words : List (List ℕ)) (left rest : Option (List ℕ)) (r
   pub by_words : r.words ≡ words
   pub from_source : WasFileIn (reads_file words) left rest r.file
 
+-- what the words asked of such a source has this property
+abbrev pub OfRequest : List (List ℕ) → Option (List ℕ) → Option (List ℕ) → (Request → Type 0) → Type 0
+OfRequest words left rest P = (r : Request) × WasAsked words left rest r × P r
+
 -- a mebibyte and one byte more were read
 pub record GaveTooMuch (left rest : Option (List ℕ)) : Type 0 where
   pub piece : List ℕ

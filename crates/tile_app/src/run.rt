@@ -9,7 +9,7 @@ ghost use Rattle.tile_app.specs.Answers.{Prints, CanBeAnswered};
 ghost use Rattle.tile_app.specs.Asked.{GivesNoAddress, GivesFault};
 ghost use Rattle.tile_app.specs.Crossing.{HasNoEdge, LiesOutside};
 ghost use Rattle.tile_app.specs.Placing.{PassesLimit};
-ghost use Rattle.tile_app.specs.Requests.{Request, HasRuleFault, IsAsked, WasAsked, GaveTooMuch, HoldsTooMuch};
+ghost use Rattle.tile_app.specs.Requests.{Request, OfRequest, HasRuleFault, IsAsked, GaveTooMuch, HoldsTooMuch};
 ghost use Rattle.tile_app.specs.Status.{IsBadAddress, IsCoordLimit, IsCutShort, IsRefusal, IsRefused, IsTrueFault};
 ghost use Rattle.tile_app.specs.Words.{texts, command_of, reads_file, AreRight};
 
@@ -32,11 +32,11 @@ fn answer<R: Source, W: Sink>(
     source: &mut R,
     sink: &mut W,
 ) -> Status
-    ensures done { result ≡ Status.Done → (r : Request) × WasAsked (texts words.now) (R.left source.old) (R.left source.new) r
-        × (text : List ℕ) × Prints r text × Takes (W.taken sink.old) (W.taken sink.new) text }
+    ensures done { result ≡ Status.Done → OfRequest (texts words.now) (R.left source.old) (R.left source.new)
+        (λ r. (text : List ℕ) × Prints r text × Takes (W.taken sink.old) (W.taken sink.new) text) }
     ensures write_fault { result ≡ Status.WriteFault → Rose (W.faults sink.old) (W.faults sink.new) }
-    ensures part { result ≡ Status.WriteFault → (r : Request) × WasAsked (texts words.now) (R.left source.old) (R.left source.new) r
-        × (text : List ℕ) × Prints r text × TakesProperPrefix (W.taken sink.old) (W.taken sink.new) text }
+    ensures part { result ≡ Status.WriteFault → OfRequest (texts words.now) (R.left source.old) (R.left source.new)
+        (λ r. (text : List ℕ) × Prints r text × TakesProperPrefix (W.taken sink.old) (W.taken sink.new) text) }
     ensures refused { IsRefusal result → IsRefused (texts words.now) (R.left source.old) (R.left source.new) result }
     ensures read_fault { result ≡ Status.ReadFault → Rose (R.faults source.old) (R.faults source.new) }
     ensures nothing_written { IsRefusal result → sink.new ≡ sink.old }
@@ -69,8 +69,8 @@ pub fn run<R: Source, W: Sink, N: Sink>(
     // list of its supertile's tiles; for `neighbour` the one tile and edge that the edge touches; for
     // `check` that the rule is accepted. The rule file, where one is read, was read to its end.
     ensures done { result ≡ Status.Done
-        → (r : Request) × WasAsked (texts words.now.items) (R.left source.old) (R.left source.new) r
-        × (text : List ℕ) × Prints r text × Takes (W.taken sink.old) (W.taken sink.new) text }
+        → OfRequest (texts words.now.items) (R.left source.old) (R.left source.new)
+        (λ r. (text : List ℕ) × Prints r text × Takes (W.taken sink.old) (W.taken sink.new) text) }
 
     // Each refusal comes exactly for its cause, but that the source may fail, and memory be wanted.
     ensures bad_words { (place : ℕ) → (result ≡ Status.BadWords place)
@@ -82,32 +82,32 @@ pub fn run<R: Source, W: Sink, N: Sink>(
     ensures too_long_when { IsTrue (reads_file (texts words.now.items)) → HoldsTooMuch (R.left source.old)
         → (result ≡ Status.RuleTooLong) ⊎ IsCutShort result }
     ensures rule_refused { (fault : RuleFault) → result ≡ Status.RuleRefused fault
-        → IsTrue (reads_file (texts words.now.items)) × (r : Request) × WasAsked (texts words.now.items) (R.left source.old) (R.left source.new) r
-        × HasRuleFault r fault × IsTrueFault fault }
+        → IsTrue (reads_file (texts words.now.items)) × OfRequest (texts words.now.items) (R.left source.old) (R.left source.new)
+        (λ r. HasRuleFault r fault × IsTrueFault fault) }
     ensures rule_refused_when { (r : Request) (fault : RuleFault) → IsAsked (texts words.now.items) (R.left source.old) r
         → AreRight (texts words.now.items) → HasRuleFault r fault → (result ≡ Status.RuleRefused fault) ⊎ IsCutShort result }
     ensures bad_address { IsBadAddress result
-        → (r : Request) × WasAsked (texts words.now.items) (R.left source.old) (R.left source.new) r × GivesNoAddress r }
+        → OfRequest (texts words.now.items) (R.left source.old) (R.left source.new) (λ r. GivesNoAddress r) }
     ensures fault { (fault : AddressFault) → result ≡ Status.BadAddress fault
-        → (r : Request) × WasAsked (texts words.now.items) (R.left source.old) (R.left source.new) r × GivesFault r fault }
+        → OfRequest (texts words.now.items) (R.left source.old) (R.left source.new) (λ r. GivesFault r fault) }
     ensures bad_address_when { (r : Request) → IsAsked (texts words.now.items) (R.left source.old) r
         → GivesNoAddress r → IsBadAddress result ⊎ IsCutShort result }
     ensures coord_limit { (value : Point) → result ≡ Status.CoordLimit value
-        → (r : Request) × WasAsked (texts words.now.items) (R.left source.old) (R.left source.new) r × PassesLimit r value }
+        → OfRequest (texts words.now.items) (R.left source.old) (R.left source.new) (λ r. PassesLimit r value) }
     ensures coord_limit_when { (r : Request) (value : Point) → IsAsked (texts words.now.items) (R.left source.old) r
         → PassesLimit r value → IsCoordLimit result ⊎ IsCutShort result }
     ensures no_edge { (edge edges : ℕ) → result ≡ Status.NoEdge edge edges
-        → (r : Request) × WasAsked (texts words.now.items) (R.left source.old) (R.left source.new) r × HasNoEdge r edge edges }
+        → OfRequest (texts words.now.items) (R.left source.old) (R.left source.new) (λ r. HasNoEdge r edge edges) }
     ensures no_edge_when { (r : Request) (edge edges : ℕ) → IsAsked (texts words.now.items) (R.left source.old) r
         → HasNoEdge r edge edges → (result ≡ Status.NoEdge edge edges) ⊎ IsCutShort result }
     ensures outside { (edge part : ℕ) → result ≡ Status.Outside edge part
-        → (r : Request) × WasAsked (texts words.now.items) (R.left source.old) (R.left source.new) r × LiesOutside r edge part }
+        → OfRequest (texts words.now.items) (R.left source.old) (R.left source.new) (λ r. LiesOutside r edge part) }
     ensures outside_when { (r : Request) (edge part : ℕ) → IsAsked (texts words.now.items) (R.left source.old) r
         → LiesOutside r edge part → (result ≡ Status.Outside edge part) ⊎ IsCutShort result }
     ensures write_fault { result ≡ Status.WriteFault → Rose (W.faults sink.old) (W.faults sink.new) }
     ensures part { result ≡ Status.WriteFault
-        → (r : Request) × WasAsked (texts words.now.items) (R.left source.old) (R.left source.new) r
-        × (text : List ℕ) × Prints r text × TakesProperPrefix (W.taken sink.old) (W.taken sink.new) text }
+        → OfRequest (texts words.now.items) (R.left source.old) (R.left source.new)
+        (λ r. (text : List ℕ) × Prints r text × TakesProperPrefix (W.taken sink.old) (W.taken sink.new) text) }
 
     ensures memory_for_right_words { result ≡ Status.NoMemory → AreRight (texts words.now.items) }
 
