@@ -27,7 +27,7 @@ point_text-number Ten p h = refl
 
 module _ (words : List (List ℕ)) (t : Tiling) (text : List ℕ) (given : value_given Addr words ≡ Some text) (children : List (List ℕ)) (are : children ≡ child_kinds t.rule) where
   asks : (r : Request) (command : Command) → Chooses words t r → command_of words ≡ Ok command → Asks r command t text
-  asks r command h right = record { right = subst (λ ws. command_of ws ≡ Ok command) (sym h.by_words) right; named = h.named; given = subst (λ ws. value_given Addr ws ≡ Some text) (sym h.by_words) given }
+  asks r command h right = record { of = record { right = subst (λ ws. command_of ws ≡ Ok command) (sym h.by_words) right; named = h.named }; given = subst (λ ws. value_given Addr ws ≡ Some text) (sym h.by_words) given }
 
   -- no accepted address has the text
   pub gives_no_address : (r : Request) → Chooses words t r → AskAboutTile words → ((a : Address) → IsAccepted children a → text ≡ address_text a → ⊥) → GivesNoAddress r

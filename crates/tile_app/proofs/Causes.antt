@@ -39,7 +39,7 @@ right_or_wrong : (r : Request) (c : Command) (place : ℕ) → command_of r.word
 right_or_wrong r c place e f = absurd (cc (e, f))
 
 same_tiling : (r : Request) (c d : Command) (s t : Tiling) (x y : List ℕ) → Asks r c s x → Asks r d t y → s ≡ t
-same_tiling r c d s t x y p q = named_once r s t p.named q.named
+same_tiling r c d s t x y p q = named_once r s t p.of.named q.of.named
 
 same_text : (r : Request) (c d : Command) (s t : Tiling) (x y : List ℕ) → Asks r c s x → Asks r d t y → x ≡ y
 same_text r c d s t x y p q = some_is x y (sym p.given ∙ q.given)
@@ -52,7 +52,7 @@ tile_or_none r c t a p q =
     (sym (same_text r c q.command t q.tiling _ _ p.asked q.asked))
 
 tile_or_fault : (r : Request) (c : Command) (t : Tiling) (a : Address) (x : RuleFault) → AsksForTile r c t a → HasRuleFault r x → ⊥
-tile_or_fault r c t a x p f = named_or_refused r t x p.asked.named f
+tile_or_fault r c t a x p f = named_or_refused r t x p.asked.of.named f
 
 -- ---- the text of an accepted address tells the address
 abbrev pub TextsTell : List (List ℕ) → Type 0
@@ -77,7 +77,7 @@ pub record Laws : Type 0 where
 module _ (laws : Laws) (r : Request) where
   tells : (c : Command) (t : Tiling) (text : List ℕ) → Asks r c t text → TextsTell (child_kinds t.rule)
   tells c t text p a b g h e =
-      let is_usable = named_is_usable laws.usable r t p.named in
+      let is_usable = named_is_usable laws.usable r t p.of.named in
       laws.one_text a b (laws.short (child_kinds t.rule) a is_usable g.fits) (laws.short (child_kinds t.rule) b is_usable h.fits) e
 
   -- one address is asked for
@@ -140,22 +140,22 @@ IsFor r s = Causes r s
 -- ---- no printing with another cause
 module _ (r : Request) where
   pub right_of_prints : (text : List ℕ) → Prints r text → (c : Command) × (command_of r.words ≡ Ok c)
-  right_of_prints text (inl p) = (Place, p.asked.asked.right)
-  right_of_prints text (inr (inl p)) = (Neighbour, p.asked.tile.asked.right)
+  right_of_prints text (inl p) = (Place, p.asked.asked.of.right)
+  right_of_prints text (inr (inl p)) = (Neighbour, p.asked.tile.asked.of.right)
   right_of_prints text (inr (inr p)) = (Check, p.asked.right)
 
   wrong_or_prints : (text : List ℕ) (place : ℕ) → Prints r text → command_of r.words ≡ Err place → ⊥
   wrong_or_prints text place p e = let q = right_of_prints text p in right_or_wrong r q.0 place q.1 e
 
   prints_or_fault : (text : List ℕ) (x : RuleFault) → Prints r text → HasRuleFault r x → ⊥
-  prints_or_fault text x (inl p) f = named_or_refused r p.tiling x p.asked.asked.named f
-  prints_or_fault text x (inr (inl p)) f = named_or_refused r p.tiling x p.asked.tile.asked.named f
+  prints_or_fault text x (inl p) f = named_or_refused r p.tiling x p.asked.asked.of.named f
+  prints_or_fault text x (inr (inl p)) f = named_or_refused r p.tiling x p.asked.tile.asked.of.named f
   prints_or_fault text x (inr (inr p)) f = named_or_refused r p.tiling x p.asked.named f
 
   prints_or_none : (text : List ℕ) → Prints r text → GivesNoAddress r → ⊥
   prints_or_none text (inl p) q = tile_or_none r Place p.tiling p.address p.asked q
   prints_or_none text (inr (inl p)) q = tile_or_none r Neighbour p.tiling p.address p.asked.tile q
-  prints_or_none text (inr (inr p)) q = tile_or_check r q.command q.asked.right q.about_tile p.asked.right
+  prints_or_none text (inr (inr p)) q = tile_or_check r q.command q.asked.of.right q.about_tile p.asked.right
 
   -- a rule file with a fault is refused for it
   pub rule_refused_when : (s : Status) (x : RuleFault) (c : Command) → IsFor r s → command_of r.words ≡ Ok c → HasRuleFault r x → (s ≡ RuleRefused x) ⊎ IsCutShort s
@@ -164,7 +164,7 @@ module _ (r : Request) where
   rule_refused_when ReadFault x c h e f = inr tt
   rule_refused_when RuleTooLong x c h e f = absurd h
   rule_refused_when (RuleRefused y) x c h e f = inl (ap (λ z. RuleRefused z) (fault_once r y x h.0 f))
-  rule_refused_when (BadAddress fault) x c h e f = absurd (named_or_refused r h.0.tiling x h.0.asked.named f)
+  rule_refused_when (BadAddress fault) x c h e f = absurd (named_or_refused r h.0.tiling x h.0.asked.of.named f)
   rule_refused_when (NoEdge edge edges) x c h e f = absurd (tile_or_fault r Neighbour h.tiling h.address x h.asked.tile f)
   rule_refused_when (Outside edge part) x c h e f = absurd (tile_or_fault r Neighbour h.tiling h.address x h.asked.tile f)
   rule_refused_when (CoordLimit value) x c h e f = absurd (tile_or_fault r Place h.tiling h.address x h.asked f)
@@ -174,10 +174,10 @@ module _ (r : Request) where
   -- what is no address is refused
   pub bad_address_when : (s : Status) → IsFor r s → GivesNoAddress r → IsBadAddress s ⊎ IsCutShort s
   bad_address_when Done h q = absurd (prints_or_none h.0 h.1 q)
-  bad_address_when (BadWords place) h q = absurd (right_or_wrong r q.command place q.asked.right h)
+  bad_address_when (BadWords place) h q = absurd (right_or_wrong r q.command place q.asked.of.right h)
   bad_address_when ReadFault h q = inr tt
   bad_address_when RuleTooLong h q = absurd h
-  bad_address_when (RuleRefused x) h q = absurd (named_or_refused r q.tiling x q.asked.named h.0)
+  bad_address_when (RuleRefused x) h q = absurd (named_or_refused r q.tiling x q.asked.of.named h.0)
   bad_address_when (BadAddress fault) h q = inl tt
   bad_address_when (NoEdge edge edges) h q = absurd (tile_or_none r Neighbour h.tiling h.address h.asked.tile q)
   bad_address_when (Outside edge part) h q = absurd (tile_or_none r Neighbour h.tiling h.address h.asked.tile q)
@@ -189,83 +189,83 @@ module _ (r : Request) where
     -- ---- `place`
     prints_within : (text : List ℕ) (value : Point) → Prints r text → PassesLimit r value → ⊥
     prints_within text value (inl p) q = within_or_beyond laws r p.tiling p.address value p.asked p.placed.within q
-    prints_within text value (inr (inl p)) q = place_or_neighbour r q.asked.asked.right p.asked.tile.asked.right
-    prints_within text value (inr (inr p)) q = tile_or_check r Place q.asked.asked.right tt p.asked.right
+    prints_within text value (inr (inl p)) q = place_or_neighbour r q.asked.asked.of.right p.asked.tile.asked.of.right
+    prints_within text value (inr (inr p)) q = tile_or_check r Place q.asked.asked.of.right tt p.asked.right
 
     pub coord_limit_when : (s : Status) (value : Point) → IsFor r s → PassesLimit r value → IsCoordLimit s ⊎ IsCutShort s
     coord_limit_when Done value h q = absurd (prints_within h.0 value h.1 q)
-    coord_limit_when (BadWords place) value h q = absurd (right_or_wrong r Place place q.asked.asked.right h)
+    coord_limit_when (BadWords place) value h q = absurd (right_or_wrong r Place place q.asked.asked.of.right h)
     coord_limit_when ReadFault value h q = inr tt
     coord_limit_when RuleTooLong value h q = absurd h
     coord_limit_when (RuleRefused x) value h q = absurd (tile_or_fault r Place q.tiling q.address x q.asked h.0)
     coord_limit_when (BadAddress fault) value h q = absurd (tile_or_none r Place q.tiling q.address q.asked h.0)
-    coord_limit_when (NoEdge edge edges) value h q = absurd (place_or_neighbour r q.asked.asked.right h.asked.tile.asked.right)
-    coord_limit_when (Outside edge part) value h q = absurd (place_or_neighbour r q.asked.asked.right h.asked.tile.asked.right)
+    coord_limit_when (NoEdge edge edges) value h q = absurd (place_or_neighbour r q.asked.asked.of.right h.asked.tile.asked.of.right)
+    coord_limit_when (Outside edge part) value h q = absurd (place_or_neighbour r q.asked.asked.of.right h.asked.tile.asked.of.right)
     coord_limit_when (CoordLimit v) value h q = inl tt
     coord_limit_when WriteFault value h q = absurd (prints_within h.0 value h.1 q)
     coord_limit_when NoMemory value h q = inr tt
 
     -- ---- `neighbour`
     prints_edge : (text : List ℕ) (edge edges : ℕ) → Prints r text → HasNoEdge r edge edges → ⊥
-    prints_edge text edge edges (inl p) q = place_or_neighbour r p.asked.asked.right q.asked.tile.asked.right
+    prints_edge text edge edges (inl p) q = place_or_neighbour r p.asked.asked.of.right q.asked.tile.asked.of.right
     prints_edge text edge edges (inr (inl p)) q = edge_or_none laws r p.tiling p.address p.edge edge edges p.asked p.inside.exists q
-    prints_edge text edge edges (inr (inr p)) q = tile_or_check r Neighbour q.asked.tile.asked.right tt p.asked.right
+    prints_edge text edge edges (inr (inr p)) q = tile_or_check r Neighbour q.asked.tile.asked.of.right tt p.asked.right
 
     pub no_edge_when : (s : Status) (edge edges : ℕ) → IsFor r s → HasNoEdge r edge edges → (s ≡ NoEdge edge edges) ⊎ IsCutShort s
     no_edge_when Done edge edges h q = absurd (prints_edge h.0 edge edges h.1 q)
-    no_edge_when (BadWords place) edge edges h q = absurd (right_or_wrong r Neighbour place q.asked.tile.asked.right h)
+    no_edge_when (BadWords place) edge edges h q = absurd (right_or_wrong r Neighbour place q.asked.tile.asked.of.right h)
     no_edge_when ReadFault edge edges h q = inr tt
     no_edge_when RuleTooLong edge edges h q = absurd h
     no_edge_when (RuleRefused x) edge edges h q = absurd (tile_or_fault r Neighbour q.tiling q.address x q.asked.tile h.0)
     no_edge_when (BadAddress fault) edge edges h q = absurd (tile_or_none r Neighbour q.tiling q.address q.asked.tile h.0)
     no_edge_when (NoEdge e es) edge edges h q = inl (same_no_edge laws r e es edge edges h q)
     no_edge_when (Outside e i) edge edges h q = absurd (edge_or_none laws r h.tiling h.address h.own edge edges h.asked h.exists q)
-    no_edge_when (CoordLimit value) edge edges h q = absurd (place_or_neighbour r h.asked.asked.right q.asked.tile.asked.right)
+    no_edge_when (CoordLimit value) edge edges h q = absurd (place_or_neighbour r h.asked.asked.of.right q.asked.tile.asked.of.right)
     no_edge_when WriteFault edge edges h q = absurd (prints_edge h.0 edge edges h.1 q)
     no_edge_when NoMemory edge edges h q = inr tt
 
     prints_inside : (text : List ℕ) (edge part : ℕ) → Prints r text → LiesOutside r edge part → ⊥
-    prints_inside text edge part (inl p) q = place_or_neighbour r p.asked.asked.right q.asked.tile.asked.right
+    prints_inside text edge part (inl p) q = place_or_neighbour r p.asked.asked.of.right q.asked.tile.asked.of.right
     prints_inside text edge part (inr (inl p)) q = inside_or_outside laws r p.tiling p.address p.edge edge part p.asked p.inside.no_trace q
-    prints_inside text edge part (inr (inr p)) q = tile_or_check r Neighbour q.asked.tile.asked.right tt p.asked.right
+    prints_inside text edge part (inr (inr p)) q = tile_or_check r Neighbour q.asked.tile.asked.of.right tt p.asked.right
 
     pub outside_when : (s : Status) (edge part : ℕ) → IsFor r s → LiesOutside r edge part → (s ≡ Outside edge part) ⊎ IsCutShort s
     outside_when Done edge part h q = absurd (prints_inside h.0 edge part h.1 q)
-    outside_when (BadWords place) edge part h q = absurd (right_or_wrong r Neighbour place q.asked.tile.asked.right h)
+    outside_when (BadWords place) edge part h q = absurd (right_or_wrong r Neighbour place q.asked.tile.asked.of.right h)
     outside_when ReadFault edge part h q = inr tt
     outside_when RuleTooLong edge part h q = absurd h
     outside_when (RuleRefused x) edge part h q = absurd (tile_or_fault r Neighbour q.tiling q.address x q.asked.tile h.0)
     outside_when (BadAddress fault) edge part h q = absurd (tile_or_none r Neighbour q.tiling q.address q.asked.tile h.0)
     outside_when (NoEdge e es) edge part h q = absurd (edge_or_none laws r q.tiling q.address q.own e es q.asked q.exists h)
     outside_when (Outside e i) edge part h q = inl (same_outside laws r e i edge part h q)
-    outside_when (CoordLimit value) edge part h q = absurd (place_or_neighbour r h.asked.asked.right q.asked.tile.asked.right)
+    outside_when (CoordLimit value) edge part h q = absurd (place_or_neighbour r h.asked.asked.of.right q.asked.tile.asked.of.right)
     outside_when WriteFault edge part h q = absurd (prints_inside h.0 edge part h.1 q)
     outside_when NoMemory edge part h q = inr tt
 
     -- ---- what has something to print is printed, unless a source or the sink failed or memory was wanted
     placed_unless : (s : Status) → IsFor r s → CanBePlaced r → (s ≡ WriteFault → ⊥) → (s ≡ ReadFault → ⊥) → (s ≡ Done) ⊎ (s ≡ NoMemory)
     placed_unless Done h q k m = inl refl
-    placed_unless (BadWords place) h q k m = absurd (right_or_wrong r Place place q.asked.asked.right h)
+    placed_unless (BadWords place) h q k m = absurd (right_or_wrong r Place place q.asked.asked.of.right h)
     placed_unless ReadFault h q k m = absurd (m refl)
     placed_unless RuleTooLong h q k m = absurd h
     placed_unless (RuleRefused x) h q k m = absurd (tile_or_fault r Place q.tiling q.address x q.asked h.0)
     placed_unless (BadAddress fault) h q k m = absurd (tile_or_none r Place q.tiling q.address q.asked h.0)
-    placed_unless (NoEdge edge edges) h q k m = absurd (place_or_neighbour r q.asked.asked.right h.asked.tile.asked.right)
-    placed_unless (Outside edge part) h q k m = absurd (place_or_neighbour r q.asked.asked.right h.asked.tile.asked.right)
+    placed_unless (NoEdge edge edges) h q k m = absurd (place_or_neighbour r q.asked.asked.of.right h.asked.tile.asked.of.right)
+    placed_unless (Outside edge part) h q k m = absurd (place_or_neighbour r q.asked.asked.of.right h.asked.tile.asked.of.right)
     placed_unless (CoordLimit value) h q k m = absurd (within_or_beyond laws r q.tiling q.address value q.asked q.within h)
     placed_unless WriteFault h q k m = absurd (k refl)
     placed_unless NoMemory h q k m = inr refl
 
     crossed_unless : (s : Status) → IsFor r s → CanBeCrossed r → (s ≡ WriteFault → ⊥) → (s ≡ ReadFault → ⊥) → (s ≡ Done) ⊎ (s ≡ NoMemory)
     crossed_unless Done h q k m = inl refl
-    crossed_unless (BadWords place) h q k m = absurd (right_or_wrong r Neighbour place q.asked.tile.asked.right h)
+    crossed_unless (BadWords place) h q k m = absurd (right_or_wrong r Neighbour place q.asked.tile.asked.of.right h)
     crossed_unless ReadFault h q k m = absurd (m refl)
     crossed_unless RuleTooLong h q k m = absurd h
     crossed_unless (RuleRefused x) h q k m = absurd (tile_or_fault r Neighbour q.tiling q.address x q.asked.tile h.0)
     crossed_unless (BadAddress fault) h q k m = absurd (tile_or_none r Neighbour q.tiling q.address q.asked.tile h.0)
     crossed_unless (NoEdge edge edges) h q k m = absurd (edge_or_none laws r q.tiling q.address q.edge edge edges q.asked q.inside.exists h)
     crossed_unless (Outside edge part) h q k m = absurd (inside_or_outside laws r q.tiling q.address q.edge edge part q.asked q.inside.no_trace h)
-    crossed_unless (CoordLimit value) h q k m = absurd (place_or_neighbour r h.asked.asked.right q.asked.tile.asked.right)
+    crossed_unless (CoordLimit value) h q k m = absurd (place_or_neighbour r h.asked.asked.of.right q.asked.tile.asked.of.right)
     crossed_unless WriteFault h q k m = absurd (k refl)
     crossed_unless NoMemory h q k m = inr refl
 
@@ -275,10 +275,10 @@ module _ (r : Request) where
     checked_unless ReadFault h q k m = absurd (m refl)
     checked_unless RuleTooLong h q k m = absurd h
     checked_unless (RuleRefused x) h q k m = absurd (named_or_refused r q.tiling x q.asked.named h.0)
-    checked_unless (BadAddress fault) h q k m = absurd (tile_or_check r h.0.command h.0.asked.right h.0.about_tile q.asked.right)
-    checked_unless (NoEdge edge edges) h q k m = absurd (tile_or_check r Neighbour h.asked.tile.asked.right tt q.asked.right)
-    checked_unless (Outside edge part) h q k m = absurd (tile_or_check r Neighbour h.asked.tile.asked.right tt q.asked.right)
-    checked_unless (CoordLimit value) h q k m = absurd (tile_or_check r Place h.asked.asked.right tt q.asked.right)
+    checked_unless (BadAddress fault) h q k m = absurd (tile_or_check r h.0.command h.0.asked.of.right h.0.about_tile q.asked.right)
+    checked_unless (NoEdge edge edges) h q k m = absurd (tile_or_check r Neighbour h.asked.tile.asked.of.right tt q.asked.right)
+    checked_unless (Outside edge part) h q k m = absurd (tile_or_check r Neighbour h.asked.tile.asked.of.right tt q.asked.right)
+    checked_unless (CoordLimit value) h q k m = absurd (tile_or_check r Place h.asked.asked.of.right tt q.asked.right)
     checked_unless WriteFault h q k m = absurd (k refl)
     checked_unless NoMemory h q k m = inr refl
 

@@ -20,10 +20,9 @@ pub record AsksOf (r : Request) (command : Command) (t : Tiling) : Type 0 where
   pub right : command_of r.words ≡ Ok command
   pub named : NamesTiling r t
 
--- this is the text that they give for an address
+-- and this is the text that they give for an address
 pub record Asks (r : Request) (command : Command) (t : Tiling) (text : List ℕ) : Type 0 where
-  pub right : command_of r.words ≡ Ok command
-  pub named : NamesTiling r t
+  pub of : AsksOf r command t
   pub given : value_given Addr r.words ≡ Some text
 
 -- the text is that of this address, which is accepted
