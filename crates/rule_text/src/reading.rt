@@ -23,19 +23,19 @@ use toml::Table;
 /// How many bytes a rule file may have: a mebibyte.
 pub const LONGEST_FILE: usize = 1_048_576;
 
-/// How many bytes of a text may be `.`, `[` or `{`. Each of them may begin a table of its own, which takes
-/// more than a kilobyte, and a rule file within the limits of a rule needs a thousand at the most.
-const MOST_OPENINGS: usize = 300_000;
+/// How many dots a text may have. A dot in a key begins a table of its own, which takes more than a
+/// kilobyte, and is its cheapest beginning; a rule file needs no dots.
+const MOST_DOTS: usize = 200_000;
 
 /// Whether the tables of a text might take some hundred megabytes.
 fn wants_much_memory(bytes: &[u8]) -> bool {
-    let mut openings: usize = 0;
+    let mut dots: usize = 0;
     for byte in bytes {
-        if matches!(byte, b'.' | b'[' | b'{') {
-            openings = openings.saturating_add(1);
+        if *byte == b'.' {
+            dots = dots.saturating_add(1);
         }
     }
-    openings > MOST_OPENINGS
+    dots > MOST_DOTS
 }
 
 /// The edge type of an entry.
@@ -148,7 +148,7 @@ fn rule_of(alloc: Global, table: &Table) -> Result<Rule, TextFault>
 /// The rule that a file stands for, or the first fault in the order of its keys: that it is no TOML
 /// document; then `format`, `order`, `lambda` and `glue`; then `type` and each of its entries; then
 /// `kind` and each of its entries; then a further key. Want of memory is answered, without a reading, of a
-/// text with more than 300,000 bytes that may each begin a table (`.`, `[`, `{`).
+/// text with more than 200,000 dots, each of which may begin a table.
 pub fn read_rule(alloc: Global, bytes: &[u8]) -> Result<Rule, TextFault>
     requires at_most_a_mebibyte { length bytes.now ≤ LONGEST_FILE }
 

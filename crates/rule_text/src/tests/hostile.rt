@@ -91,9 +91,9 @@ fn refuses_deep_nests(rt: HostRuntime) -> Result<(), Fail> {
 fn reads_no_text_that_may_take_much_memory(rt: HostRuntime) -> Result<(), Fail> {
     let alloc = rt.alloc();
     let missing = Some(TextFault::Missing { key: Key::Format });
-    let most = ".".repeat(alloc, 300_000)?;
+    let most = ".".repeat(alloc, 200_000)?;
     assert_eq!(rt; fault_of(alloc, "#", most.as_str())?, missing);
-    let more = ".".repeat(alloc, 300_001)?;
+    let more = ".".repeat(alloc, 200_001)?;
     assert_eq!(rt;
         fault_of(alloc, "#", more.as_str())?,
         Some(TextFault::NoMemory)
