@@ -6,17 +6,18 @@ use Rattle.std.proofs.lemmas.Bool.{cases_lt, and_parts, not-true}
 use Rattle.substitution.specs.Points.{Points}
 use Rattle.substitution.specs.Rule.{Rule}
 use Rattle.substitution.specs.RuleParts.{mate, vertices_of, edge_count}
-use Rattle.substitution.specs.SameTests.{all_below}
-use Rattle.substitution.specs.Limits.{is_type, kinds_fit, types_fit, glue_fits, parts_fit, edges_fit, vertices_fit, children_fit}
-use Rattle.substitution.specs.Limited.{WithinLimits}
-use Rattle.substitution.specs.Star.{is_star}
-use Rattle.substitution.specs.Factor.{is_inflation_factor}
-use Rattle.substitution.specs.EdgeTypes.{mates_back, is_mirrored, has_length_of_type}
-use Rattle.substitution.specs.Edges.{PlacedEdge, child_edges}
-use Rattle.substitution.specs.Lying.{lie_of, is_loose}
-use Rattle.substitution.specs.Boundary.{parts_of_edge}
-use Rattle.substitution.specs.Uses.{is_used, glues_halves}
-use Rattle.substitution.specs.Dissection.{IsDissection}
+use Rattle.addressing.specs.Search.{all_below}
+use Rattle.edge_to_edge.specs.Limits.{is_type, kinds_fit, types_fit, glue_fits, parts_fit, edges_fit, vertices_fit, children_fit}
+use Rattle.edge_to_edge.specs.Limited.{WithinLimits}
+use Rattle.edge_to_edge.specs.Star.{is_star}
+use Rattle.edge_to_edge.specs.Factor.{is_inflation_factor}
+use Rattle.edge_to_edge.specs.EdgeTypes.{mates_back, is_mirrored, has_length_of_type}
+use Rattle.edge_to_edge.specs.Edges.{PlacedEdge, child_edges}
+use Rattle.edge_to_edge.specs.Lying.{lie_of, is_loose}
+use Rattle.edge_to_edge.specs.Boundary.{parts_of_edge}
+use Rattle.edge_to_edge.specs.Uses.{is_used}
+use Rattle.edge_to_edge.specs.Glue.{glues_halves}
+use Rattle.edge_to_edge.specs.EdgeToEdge.{IsEdgeToEdge}
 
 each : (n : ℕ) (p : ℕ → Bool) → all_below n p ≡ true → (k : ℕ) → k < n → p k ≡ true
 each zero p h k l = absurd (omega arith)
@@ -65,8 +66,8 @@ pub record PassesTests (P : Points) (refused : P.ring.carrier → Bool) (r : Rul
   pub each_used : all_below (length r.kinds) (is_used r) ≡ true
   pub glue_right : all_below (length r.glue) (glues_halves r) ≡ true
 
-pub is_dissection : (P : Points) (refused : P.ring.carrier → Bool) (r : Rule P.ring.carrier) → PassesTests P refused r → IsDissection P refused r
-is_dissection P refused r t = record {
+pub is_edge_to_edge : (P : Points) (refused : P.ring.carrier → Bool) (r : Rule P.ring.carrier) → PassesTests P refused r → IsEdgeToEdge P refused r
+is_edge_to_edge P refused r t = record {
   star_shaped = each (length r.kinds) (λ k. is_star P (vertices_of r k)) t.star_shaped;
   inflation_factor = t.inflation_factor;
   mates_back = each (length r.types) (mates_back r) t.mates_back;

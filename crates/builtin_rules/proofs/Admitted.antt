@@ -1,40 +1,40 @@
 -- A rule of the program with the numbers of a built-in rule is accepted, and has its tables and its uses.
 use Rattle.std.proofs.Common.{◌≡◌, ℕ, List, sym, subst, ◌∙◌}
-use Rattle.substitution.specs.Contacts.{tables_of}
-use Rattle.substitution.specs.Dissection.{IsDissection}
-use Rattle.substitution.specs.Limited.{WithinLimits}
+use Rattle.edge_to_edge.specs.Contacts.{tables_of}
+use Rattle.edge_to_edge.specs.EdgeToEdge.{IsEdgeToEdge}
+use Rattle.edge_to_edge.specs.Limited.{WithinLimits}
 use Rattle.substitution.specs.Rule as theory
 use Rattle.substitution.specs.Rule.{child_kinds}
 use Rattle.substitution.specs.RuleParts.{map_rule}
-use Rattle.substitution.specs.Tables as tables
-use Rattle.substitution.specs.Tables.{Tables}
+use Rattle.addressing.specs.Tables as tables
+use Rattle.addressing.specs.Tables.{Tables}
 use Rattle.cyclo_points.specs.declared.order.Order.{Order}
 use Rattle.cyclo_points.specs.declared.point.Point.{Point}
 use Rattle.cyclo_points.specs.Order.{points_of, is_refused}
 use Rattle.cyclo_points.specs.Point.{point_in}
 use Rattle.rule_model.specs.declared.rule.Rule.{Rule}
 use Rattle.rule_model.specs.Accepted.{IsAccepted}
-use Rattle.rule_model.specs.Checked.{contacts_of, uses_of}
+use Rattle.rule_model.specs.Checked.{contacts_of, child_kinds_of}
 use Rattle.rule_model.specs.Small.{is_small}
 use Rattle.rule_model.specs.Views.{as_rule}
 use Rattle.builtin_rules.specs.declared.name.Name.{Name}
-use Rattle.builtin_rules.specs.Written.{Written}
+use Rattle.rule_model.specs.Tiling.{ListedRule}
 use Rattle.builtin_rules.specs.Named.{named, tables_named, IsWritten}
-use Rattle.builtin_rules.proofs.Acceptance.{within_limits, is_dissection}
+use Rattle.builtin_rules.proofs.Acceptance.{within_limits, is_edge_to_edge}
 use Rattle.builtin_rules.proofs.Evaluated.{fits, passes, its_contacts, its_kinds}
 
 -- what holds of the numbers that are written down holds of the rule
-moved : (Q : Order → theory.Rule Point → Type 0) (w : Written) (r : Rule) → IsWritten w r → Q w.order w.rule → Q r.order (as_rule r)
+moved : (Q : Order → theory.Rule Point → Type 0) (w : ListedRule) (r : Rule) → IsWritten w r → Q w.order w.rule → Q r.order (as_rule r)
 moved Q w r is h = subst (λ o. Q o (as_rule r)) (sym is.order) (subst (Q w.order) (sym is.lists) h)
 
 pub accepted : (name : Name) (r : Rule) → IsWritten (named name) r → IsAccepted r
 accepted name r is = record {
   limits = moved (λ o l. WithinLimits (points_of o).order (is_small o) l) (named name) r is (within_limits _ _ _ (fits name));
-  dissection = moved (λ o l. IsDissection (points_of o) (is_refused o) (map_rule (point_in o) l)) (named name) r is (is_dissection _ _ _ (passes name));
+  edge_to_edge = moved (λ o l. IsEdgeToEdge (points_of o) (is_refused o) (map_rule (point_in o) l)) (named name) r is (is_edge_to_edge _ _ _ (passes name));
 }
 
 pub its_tables : (name : Name) (r : Rule) (t : Tables) → IsWritten (named name) r → t ≡ tables_named name → t ≡ contacts_of r
 its_tables name r t is h = moved (λ o l. t ≡ tables_of (points_of o) (map_rule (point_in o) l)) (named name) r is (h ∙ its_contacts name)
 
-pub its_uses : (name : Name) (r : Rule) (u : List (List ℕ)) → IsWritten (named name) r → u ≡ tables.child_kinds (tables_named name) → u ≡ uses_of r
+pub its_uses : (name : Name) (r : Rule) (u : List (List ℕ)) → IsWritten (named name) r → u ≡ tables.child_kinds (tables_named name) → u ≡ child_kinds_of r
 its_uses name r u is h = moved (λ o l. u ≡ child_kinds (map_rule (point_in o) l)) (named name) r is (h ∙ its_kinds name)

@@ -1,16 +1,16 @@
 -- The built-in rules are accepted, and their contact tables are those that are written down, by evaluation.
 use Rattle.std.proofs.Common.{◌≡◌, ◌≤◌, true, ℕ, List, length, nat_le, nat_lt, IsTrue, refl, lit≤}
 use Rattle.std.specs.List.{list_all, range_with_len}
-use Rattle.substitution.specs.CoherenceTest.{coherence_test}
-use Rattle.substitution.specs.Contacts.{tables_of}
+use Rattle.addressing.specs.CoherenceTest.{coherence_test}
+use Rattle.edge_to_edge.specs.Contacts.{tables_of}
 use Rattle.substitution.specs.Rule.{child_kinds}
-use Rattle.substitution.specs.Tables as tables
+use Rattle.addressing.specs.Tables as tables
 use Rattle.cyclo_points.specs.Order.{points_of, is_refused}
 use Rattle.rule_model.specs.Small.{is_small}
 use Rattle.tile_shape.specs.Usable.{IsUsable, is_used}
 use Rattle.builtin_rules.specs.declared.name.Name.{Name}
 use Rattle.builtin_rules.specs.declared.name.Name.TheVariants.{Chair, P2, P3, AmmannBeenker}
-use Rattle.builtin_rules.specs.Written.{numbers_of}
+use Rattle.rule_model.specs.Tiling.{tiling_listed}
 use Rattle.builtin_rules.specs.Named.{named, tables_named}
 use Rattle.builtin_rules.proofs.Acceptance.{FitsLimits, PassesTests}
 
@@ -20,14 +20,14 @@ fits P2 = record { kinds = refl; types = refl; factor = refl; glue = refl; mates
 fits P3 = record { kinds = refl; types = refl; factor = refl; glue = refl; mates = refl; parts = refl; edges = refl; vertices = refl; children = refl }
 fits AmmannBeenker = record { kinds = refl; types = refl; factor = refl; glue = refl; mates = refl; parts = refl; edges = refl; vertices = refl; children = refl }
 
-pub passes : (name : Name) → PassesTests (points_of (named name).order) (is_refused (named name).order) (numbers_of (named name))
+pub passes : (name : Name) → PassesTests (points_of (named name).order) (is_refused (named name).order) (tiling_listed (named name)).rule
 passes Chair = record { star_shaped = refl; inflation_factor = refl; mates_back = refl; equal_lengths = refl; mirrored = refl; none_loose = refl; boundary_cut = refl; each_used = refl; glue_right = refl }
 passes P2 = record { star_shaped = refl; inflation_factor = refl; mates_back = refl; equal_lengths = refl; mirrored = refl; none_loose = refl; boundary_cut = refl; each_used = refl; glue_right = refl }
 passes P3 = record { star_shaped = refl; inflation_factor = refl; mates_back = refl; equal_lengths = refl; mirrored = refl; none_loose = refl; boundary_cut = refl; each_used = refl; glue_right = refl }
 passes AmmannBeenker = record { star_shaped = refl; inflation_factor = refl; mates_back = refl; equal_lengths = refl; mirrored = refl; none_loose = refl; boundary_cut = refl; each_used = refl; glue_right = refl }
 
 -- the contact tables of the geometry
-pub its_contacts : (name : Name) → tables_named name ≡ tables_of (points_of (named name).order) (numbers_of (named name))
+pub its_contacts : (name : Name) → tables_named name ≡ tables_of (points_of (named name).order) (tiling_listed (named name)).rule
 its_contacts Chair = refl
 its_contacts P2 = refl
 its_contacts P3 = refl
@@ -41,7 +41,7 @@ coherent P3 = refl
 coherent AmmannBeenker = refl
 
 -- the child kinds of the rule
-pub its_kinds : (name : Name) → tables.child_kinds (tables_named name) ≡ child_kinds (numbers_of (named name))
+pub its_kinds : (name : Name) → tables.child_kinds (tables_named name) ≡ child_kinds (tiling_listed (named name)).rule
 its_kinds Chair = refl
 its_kinds P2 = refl
 its_kinds P3 = refl

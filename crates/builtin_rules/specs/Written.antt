@@ -1,17 +1,10 @@
 -- Rules as they are written down: an order, and lists of numbers, each point by its coefficients.
 use Rattle.std.specs.Prelude.{map}
-use Rattle.substitution.specs.Rule.{Rule, EdgeType, Kind}
-use Rattle.substitution.specs.RuleParts.{map_rule}
-use Rattle.cyclo_points.specs.declared.order.Order.{Order}
+use Rattle.substitution.specs.Rule.{EdgeType, Kind}
 use Rattle.cyclo_points.specs.declared.point.Point.{Point}
-use Rattle.cyclo_points.specs.Order.{NumberOf}
-use Rattle.cyclo_points.specs.Point.{point_in}
 use Rattle.rule_model.specs.Views.{as_child}
+use Rattle.rule_model.specs.Tiling.{ListedRule}
 use Rattle.builtin_rules.specs.Numbers.{TypeBy, KindBy, RuleBy, Fixed}
-
-pub record Written : Type 0 where
-  pub order : Order
-  pub rule : Rule Point
 
 -- an edge type, a kind and a rule, from constants
 abbrev pub written_type : TypeBy Fixed → EdgeType
@@ -20,12 +13,8 @@ written_type t = record { mate = t.mate; parts = t.parts.now }
 abbrev pub written_kind : KindBy Fixed → Kind Point
 written_kind k = record { vertices = k.vertices.now; edges = k.edges.now; children = map as_child k.children.now }
 
-abbrev pub written : RuleBy Fixed → Written
+abbrev pub written : RuleBy Fixed → ListedRule
 written r = record {
   order = r.order;
   rule = record { factor = r.factor; glue = r.glue.now; types = map written_type r.types.now; kinds = map written_kind r.kinds.now };
 }
-
--- the rule over the numbers of its order
-abbrev pub numbers_of : (w : Written) → Rule (NumberOf w.order)
-numbers_of w = map_rule (point_in w.order) w.rule

@@ -1,8 +1,8 @@
 //! Contact tables and uses, from the numbers of a rule.
 ghost use Rattle.std.specs.Prelude.{◌≡◌, map, IfOk};
 ghost use Rattle.edge_tables.specs.Views.{as_kind};
-ghost use Rattle.substitution.specs.Coherent.{IsCoherent};
-ghost use Rattle.substitution.specs.Tables.{child_kinds};
+ghost use Rattle.addressing.specs.Coherent.{IsCoherent};
+ghost use Rattle.addressing.specs.Tables.{child_kinds};
 ghost use Rattle.tile_shape.specs.Usable.{IsUsable};
 ghost use Rattle.builtin_rules.specs.Numbers.{fixed_kind, fixed_rule};
 ghost use Rattle.builtin_rules.specs.WrittenTables.{written_tables, written_tables_of_kind};

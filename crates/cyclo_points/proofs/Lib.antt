@@ -24,4 +24,3 @@ pub mod CoordinateReadings
 pub mod Undoing
 pub mod Floors
 pub mod Widths
-pub mod Places

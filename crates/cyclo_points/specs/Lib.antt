@@ -11,4 +11,3 @@ pub mod Motion
 pub mod Product
 pub mod Text
 pub mod Placement
-pub mod Places

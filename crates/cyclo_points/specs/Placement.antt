@@ -1,5 +1,5 @@
 -- The theorem on supertiles, for the points of each order.
-use Rattle.substitution.specs.Address.{Address, Fits}
+use Rattle.addressing.specs.Address.{Address, Fits}
 use Rattle.substitution.specs.Rule.{Rule, child_kinds}
 use Rattle.substitution.specs.Supertile.{StandsBeside}
 use Rattle.substitution.specs.Placement.{placement}

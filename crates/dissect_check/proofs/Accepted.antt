@@ -6,16 +6,17 @@ use Rattle.std.proofs.lemmas.Bool.{not-true}
 use Rattle.substitution.specs.Points.{Points}
 use Rattle.substitution.specs.Rule.{Rule as TheRule}
 use Rattle.substitution.specs.RuleParts.{map_rule, vertices_of, edge_count}
-use Rattle.substitution.specs.Star.{is_star}
-use Rattle.substitution.specs.Factor.{is_inflation_factor}
-use Rattle.substitution.specs.EdgeTypes.{mates_back, is_mirrored, has_length_of_type}
-use Rattle.substitution.specs.Edges.{PlacedEdge, child_edges}
-use Rattle.substitution.specs.Lying.{lie_of, is_loose}
-use Rattle.substitution.specs.Boundary.{parts_of_edge}
-use Rattle.substitution.specs.Uses.{is_used, glue_type, glues_halves}
-use Rattle.substitution.specs.Limited.{WithinLimits}
-use Rattle.substitution.specs.Dissection.{IsDissection, StarShaped, InflationFactor, MatesBack, EqualLengths, MirroredSubdivisions, NoneLoose, BoundaryCut, EachUsed, GlueRight}
-use Rattle.substitution.proofs.Lists.{AllByRecursion-each}
+use Rattle.edge_to_edge.specs.Star.{is_star}
+use Rattle.edge_to_edge.specs.Factor.{is_inflation_factor}
+use Rattle.edge_to_edge.specs.EdgeTypes.{mates_back, is_mirrored, has_length_of_type}
+use Rattle.edge_to_edge.specs.Edges.{PlacedEdge, child_edges}
+use Rattle.edge_to_edge.specs.Lying.{lie_of, is_loose}
+use Rattle.edge_to_edge.specs.Boundary.{parts_of_edge}
+use Rattle.edge_to_edge.specs.Uses.{is_used}
+use Rattle.edge_to_edge.specs.Glue.{glue_type, glues_halves}
+use Rattle.edge_to_edge.specs.Limited.{WithinLimits}
+use Rattle.edge_to_edge.specs.EdgeToEdge.{IsEdgeToEdge, IsStarShaped, HasInflationFactor, MatesBack, HasEqualLengths, HasMirroredSubdivisions, HasNoneLoose, HasBoundaryCut, HasEachUsed, HasRightGlue}
+use Rattle.addressing.proofs.Lists.{AllByRecursion-each}
 use Rattle.cyclo_points.specs.declared.order.Order.{Order}
 use Rattle.cyclo_points.specs.declared.point.Point.{Point}
 use Rattle.cyclo_points.specs.Order.{NumberOf, points_of, is_refused}
@@ -28,9 +29,9 @@ use Rattle.dissect_check.specs.declared.check_fault.CheckFault.{CheckFault}
 use Rattle.dissect_check.specs.declared.check_fault.CheckFault.TheVariants.{NotStar, WrongFactor, BadMate, BadLength, BadSubdivision, ChildEdgeLoose, Unused, GlueWrong}
 use Rattle.dissect_check.specs.FirstFault as fault
 use Rattle.dissect_check.specs.FirstFault.{first_fault}
-use Rattle.dissect_check.proofs.Search.{unless-none, first_below-each, first_below-all}
+use Rattle.addressing.proofs.Searches.{unless-none, first_below-each, first_below-all}
 use Rattle.dissect_check.proofs.LimitsHold.{within-where, none-within}
-use Rattle.dissect_check.proofs.FirstSome.{IsNone, first_some-each, first_some-all, first_some-map-each, first_some-map-all, unless-true, tests-each, tests-all}
+use Rattle.addressing.proofs.FirstSome.{IsNone, first_some-each, first_some-all, first_some-map-each, first_some-map-all, unless-true, tests-each, tests-all}
 
 -- the parts of an edge are there exactly where none fails
 part_fault-each : {A : Type 0} (k e : ℕ) (x : Result A ℕ) → IsNone (fault.part_fault k e x) → is_ok x ≡ true
@@ -50,17 +51,17 @@ module _ (o : Order) (lists : TheRule Point) where
   R = map_rule (point_in o) lists
 
   -- each prototile is star-shaped
-  pub stars-where : IsNone (fault.stars o lists) → StarShaped P R
+  pub stars-where : IsNone (fault.stars o lists) → IsStarShaped P R
   stars-where = tests-each (λ k. is_star P (vertices_of R k)) (λ k. NotStar k) (length R.kinds)
 
-  pub none-stars : StarShaped P R → IsNone (fault.stars o lists)
+  pub none-stars : IsStarShaped P R → IsNone (fault.stars o lists)
   none-stars = tests-all (λ k. is_star P (vertices_of R k)) (λ k. NotStar k) (length R.kinds)
 
   -- the inflation factor
-  pub factor-where : IsNone (fault.factor o lists) → InflationFactor P (is_refused o) R
+  pub factor-where : IsNone (fault.factor o lists) → HasInflationFactor P (is_refused o) R
   factor-where = unless-none (is_inflation_factor P (is_refused o) R.factor) WrongFactor
 
-  pub none-factor : InflationFactor P (is_refused o) R → IsNone (fault.factor o lists)
+  pub none-factor : HasInflationFactor P (is_refused o) R → IsNone (fault.factor o lists)
   none-factor = unless-true (is_inflation_factor P (is_refused o) R.factor) WrongFactor
 
   -- mates
@@ -71,20 +72,20 @@ module _ (o : Order) (lists : TheRule Point) where
   none-mates = tests-all (mates_back R) (λ ty. BadMate ty) (length R.types)
 
   -- lengths
-  pub lengths-where : IsNone (fault.lengths o lists) → EqualLengths P R
+  pub lengths-where : IsNone (fault.lengths o lists) → HasEqualLengths P R
   lengths-where h = λ k e l m.
       tests-each (has_length_of_type P R k) (λ e. BadLength k e) (edge_count R k) (first_below-each (fault.lengths_of_kind o lists) (length R.kinds) h k l) e m
 
-  pub none-lengths : EqualLengths P R → IsNone (fault.lengths o lists)
+  pub none-lengths : HasEqualLengths P R → IsNone (fault.lengths o lists)
   none-lengths w =
       first_below-all (fault.lengths_of_kind o lists) (length R.kinds)
       (λ k l. tests-all (has_length_of_type P R k) (λ e. BadLength k e) (edge_count R k) (λ e m. w k e l m))
 
   -- subdivisions
-  pub subdivisions-where : IsNone (fault.subdivisions o lists) → MirroredSubdivisions R
+  pub subdivisions-where : IsNone (fault.subdivisions o lists) → HasMirroredSubdivisions R
   subdivisions-where = tests-each (is_mirrored R) (λ ty. BadSubdivision ty) (length R.types)
 
-  pub none-subdivisions : MirroredSubdivisions R → IsNone (fault.subdivisions o lists)
+  pub none-subdivisions : HasMirroredSubdivisions R → IsNone (fault.subdivisions o lists)
   none-subdivisions = tests-all (is_mirrored R) (λ ty. BadSubdivision ty) (length R.types)
 
   -- a child edge
@@ -95,40 +96,40 @@ module _ (o : Order) (lists : TheRule Point) where
   none-tight k s h = unless-true (not (is_loose (lie_of P R k s))) (ChildEdgeLoose k s.child s.edge) (ap not h)
 
   -- child edges
-  pub loose-where : IsNone (fault.loose_edges o lists) → NoneLoose P R
+  pub loose-where : IsNone (fault.loose_edges o lists) → HasNoneLoose P R
   loose-where h = λ k l.
       AllByRecursion-each _ _ (child_edges P R k) (tight-where k)
       (first_some-map-each (fault.loose_fault o lists k) (child_edges P R k) (first_below-each (fault.loose_of_kind o lists) (length R.kinds) h k l))
 
-  pub none-loose : NoneLoose P R → IsNone (fault.loose_edges o lists)
+  pub none-loose : HasNoneLoose P R → IsNone (fault.loose_edges o lists)
   none-loose w =
       first_below-all (fault.loose_of_kind o lists) (length R.kinds)
       (λ k l. first_some-map-all (fault.loose_fault o lists k) (child_edges P R k) (AllByRecursion-each _ _ (child_edges P R k) (none-tight k) (w k l)))
 
   -- boundaries
-  pub boundaries-where : IsNone (fault.boundaries o lists) → BoundaryCut P R
+  pub boundaries-where : IsNone (fault.boundaries o lists) → HasBoundaryCut P R
   boundaries-where h = λ k e l m.
       part_fault-each k e (parts_of_edge P R k e)
       (first_below-each (λ e. fault.part_fault k e (parts_of_edge P R k e)) (edge_count R k) (first_below-each (fault.boundary_of_kind o lists) (length R.kinds) h k l) e m)
 
-  pub none-boundaries : BoundaryCut P R → IsNone (fault.boundaries o lists)
+  pub none-boundaries : HasBoundaryCut P R → IsNone (fault.boundaries o lists)
   none-boundaries w =
       first_below-all (fault.boundary_of_kind o lists) (length R.kinds)
       (λ k l. first_below-all (λ e. fault.part_fault k e (parts_of_edge P R k e)) (edge_count R k)
       (λ e m. part_fault-all k e (parts_of_edge P R k e) (w k e l m)))
 
   -- uses
-  pub uses-where : IsNone (fault.uses o lists) → EachUsed R
+  pub uses-where : IsNone (fault.uses o lists) → HasEachUsed R
   uses-where = tests-each (is_used R) (λ k. Unused k) (length R.kinds)
 
-  pub none-uses : EachUsed R → IsNone (fault.uses o lists)
+  pub none-uses : HasEachUsed R → IsNone (fault.uses o lists)
   none-uses = tests-all (is_used R) (λ k. Unused k) (length R.kinds)
 
   -- glue types
-  pub glues-where : IsNone (fault.glues o lists) → GlueRight R
+  pub glues-where : IsNone (fault.glues o lists) → HasRightGlue R
   glues-where = tests-each (glues_halves R) (λ i. GlueWrong (glue_type R i)) (length R.glue)
 
-  pub none-glues : GlueRight R → IsNone (fault.glues o lists)
+  pub none-glues : HasRightGlue R → IsNone (fault.glues o lists)
   none-glues = tests-all (glues_halves R) (λ i. GlueWrong (glue_type R i)) (length R.glue)
 
   -- the ten clauses, in order
@@ -142,8 +143,8 @@ module _ (o : Order) (lists : TheRule Point) where
   pub limits-where : IsNone (fault.fault_of_lists o lists) → WithinLimits P.order (is_small o) lists
   limits-where h = within-where o lists (first_some-each faults h).0
 
-  pub dissection-where : IsNone (fault.fault_of_lists o lists) → IsDissection P (is_refused o) R
-  dissection-where h =
+  pub edge_to_edge-where : IsNone (fault.fault_of_lists o lists) → IsEdgeToEdge P (is_refused o) R
+  edge_to_edge-where h =
       let p : AllByRecursion IsNone faults = first_some-each faults h in
       record {
         star_shaped = stars-where p.1.0;
@@ -157,7 +158,7 @@ module _ (o : Order) (lists : TheRule Point) where
         glue_right = glues-where p.1.1.1.1.1.1.1.1.1.0;
       }
 
-  pub none-clauses : WithinLimits P.order (is_small o) lists → IsDissection P (is_refused o) R → IsNone (fault.fault_of_lists o lists)
+  pub none-clauses : WithinLimits P.order (is_small o) lists → IsEdgeToEdge P (is_refused o) R → IsNone (fault.fault_of_lists o lists)
   none-clauses w d =
       let later : AllByRecursion IsNone later_faults =
       (none-subdivisions d.mirrored, (none-loose d.none_loose, (none-boundaries d.boundary_cut, (none-uses d.each_used, (none-glues d.glue_right, tt))))) in
@@ -165,7 +166,7 @@ module _ (o : Order) (lists : TheRule Point) where
 
 -- so of a rule
 pub accepted-where : (r : Rule) → first_fault r ≡ None → IsAccepted r
-accepted-where r h = record { limits = limits-where r.order (as_rule r) h; dissection = dissection-where r.order (as_rule r) h }
+accepted-where r h = record { limits = limits-where r.order (as_rule r) h; edge_to_edge = edge_to_edge-where r.order (as_rule r) h }
 
 pub none-where : (r : Rule) → IsAccepted r → first_fault r ≡ None
-none-where r a = none-clauses r.order (as_rule r) a.limits a.dissection
+none-where r a = none-clauses r.order (as_rule r) a.limits a.edge_to_edge

@@ -1,6 +1,6 @@
 -- Clauses one after another: the first fault of a list is that of its front, or of its rest where the front has none.
 use Rattle.std.proofs.Common.{◌≡◌, List, [], ◌∷◌, ◌++◌, Option, Some, None, Result, Ok, Err, refl, sym, subst}
-use Rattle.substitution.specs.Search.{first_some}
+use Rattle.addressing.specs.Search.{first_some}
 use Rattle.dissect_check.specs.declared.check_fault.CheckFault.{CheckFault}
 use Rattle.dissect_check.specs.declared.check_fault.CheckFault.TheVariants.{TooMany, NotStar, WrongFactor, BadMate, BadLength, BadSubdivision, ChildEdgeLoose, BoundaryWrong, Unused, GlueWrong, NoMemory}
 use Rattle.dissect_check.specs.Agrees.{Agrees, IsOkOrMemory}

@@ -9,9 +9,9 @@ use Rattle.std.proofs.lemmas.List.Folds.{list_any_at}
 use Rattle.std.proofs.lemmas.List.FromFn.{length-range_with_len, get_or-range_with_len}
 use Rattle.substitution.specs.Points.{Points}
 use Rattle.substitution.specs.Rule.{Child, Kind, Rule, children_of, child_kinds}
-use Rattle.substitution.specs.Search.{some_below}
-use Rattle.substitution.specs.Numbered.{IsNumbered}
-use Rattle.substitution.specs.Dissection.{EachUsed}
+use Rattle.addressing.specs.Search.{some_below}
+use Rattle.edge_to_edge.specs.Numbered.{IsNumbered}
+use Rattle.edge_to_edge.specs.EdgeToEdge.{HasEachUsed}
 use Rattle.tile_shape.specs.Usable.{IsUsable}
 
 -- what each place passes, the list passes
@@ -62,7 +62,7 @@ has-children P r N = record {
       (λ c m. let b = N.child_exists k c l m in grind (arith, nat_tests, b));
 }
 
-module _ {A : Type 0} (r : Rule A) (N : HasChildren r) (U : EachUsed r) where
+module _ {A : Type 0} (r : Rule A) (N : HasChildren r) (U : HasEachUsed r) where
   -- the kinds of a kind's children
   abbrev kinds_in : Kind A → List ℕ
   kinds_in k = map (λ (c : Child A). c.kind) k.children

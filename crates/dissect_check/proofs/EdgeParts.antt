@@ -4,10 +4,10 @@ use Rattle.std.specs.Prelude.{Vec}
 use Rattle.std.specs.Global.{Global}
 use Rattle.std.proofs.lemmas.List.{get_or-map}
 use Rattle.substitution.specs.RuleParts.{parts, edge_count, edge_type}
-use Rattle.substitution.specs.Edges as theory
-use Rattle.substitution.specs.Edges.{child_edges, inflated_edge, inflated_edges}
-use Rattle.substitution.specs.Boundary.{boundary_among, parts_along, parts_of_edge}
-use Rattle.substitution.specs.Contacts.{name_of, parts_or_none}
+use Rattle.edge_to_edge.specs.Edges as theory
+use Rattle.edge_to_edge.specs.Edges.{child_edges, inflated_edge, inflated_edges}
+use Rattle.edge_to_edge.specs.Boundary.{boundary_among, parts_along, parts_of_edge}
+use Rattle.edge_to_edge.specs.Contacts.{name_of, parts_or_none}
 use Rattle.cyclo_points.specs.Order.{points_of}
 use Rattle.edge_tables.specs.declared.child_edge.ChildEdge.{ChildEdge}
 use Rattle.edge_tables.specs.Views.{as_child_edge}
@@ -20,7 +20,7 @@ use Rattle.dissect_check.specs.declared.check_fault.CheckFault.TheVariants.{Boun
 use Rattle.dissect_check.specs.FirstFault.{part_fault}
 use Rattle.dissect_check.specs.Views.{line_in, edge_in, IsSmallLine, IsInflated}
 use Rattle.dissect_check.specs.Boundary.{names_of, as_parts}
-use Rattle.dissect_check.proofs.Below.{get_or-below}
+use Rattle.addressing.proofs.Ranges.{get_or-below}
 use Rattle.dissect_check.proofs.WholeCount.{whole_count}
 
 -- names are found: no fault, and they are those of the parts

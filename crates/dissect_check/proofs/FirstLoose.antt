@@ -2,8 +2,8 @@
 use Rattle.std.proofs.Common.{◌≡◌, ℕ, ◌+◌, ◌<◌, false, List, [], ◌∷◌, map, length, drop, get_or, Option, Some, None, refl, sym, ap, ◌∙◌, arith}
 use Rattle.std.proofs.lemmas.List.{length-map, at_drop_more}
 use Rattle.std.proofs.lemmas.List as lists
-use Rattle.substitution.specs.Search.{first_some}
-use Rattle.substitution.specs.Lying.{is_loose}
+use Rattle.addressing.specs.Search.{first_some}
+use Rattle.edge_to_edge.specs.Lying.{is_loose}
 use Rattle.dissect_check.specs.declared.lie.Lie.{Lie}
 use Rattle.dissect_check.specs.declared.lie.Lie.TheVariants.{Inner, Boundary, Loose}
 use Rattle.dissect_check.specs.Views.{as_lie}

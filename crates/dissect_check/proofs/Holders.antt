@@ -6,9 +6,9 @@ use Rattle.std.proofs.lemmas.List.{take_more, append-nil}
 use Rattle.std.proofs.lemmas.Bool.{eq-eqb, ne_eqb}
 use Rattle.substitution.specs.Rule.{Rule}
 use Rattle.substitution.specs.RuleParts.{edge_types}
-use Rattle.substitution.specs.Search.{below}
-use Rattle.substitution.specs.Uses.{once_each}
-use Rattle.substitution.proofs.Lists.{AllByRecursion-each, AllByRecursion-append, AllByRecursion-flat_map}
+use Rattle.addressing.specs.Search.{below}
+use Rattle.edge_to_edge.specs.Glue.{once_each}
+use Rattle.addressing.proofs.Lists.{AllByRecursion-each, AllByRecursion-append, AllByRecursion-flat_map}
 use Rattle.dissect_check.specs.declared.few.Few.TheVariants.{One}
 use Rattle.dissect_check.specs.Few.{few_of, one_more}
 

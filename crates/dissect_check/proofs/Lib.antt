@@ -1,8 +1,5 @@
-pub mod Search
 pub mod Mirrored
-pub mod BoolLoops
 pub mod SamePoint
-pub mod FirstSome
 pub mod LimitsHold
 pub mod Accepted
 pub mod LieAmong
@@ -13,10 +10,8 @@ pub mod Powers
 pub mod Holders
 pub mod EachUse
 pub mod ChildKinds
-pub mod Kept
 pub mod Lies
 pub mod Walk
-pub mod Below
 pub mod EdgeParts
 pub mod Parts
 pub mod OwnEdges

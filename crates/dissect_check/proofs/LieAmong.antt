@@ -6,8 +6,8 @@ use Rattle.std.proofs.lemmas.List.{map_more, length-map, length-take, append_ass
 use Rattle.substitution.specs.Points.{Points}
 use Rattle.substitution.specs.Rule.{Rule}
 use Rattle.substitution.specs.RuleParts.{mate}
-use Rattle.substitution.specs.Edges.{Edge, PlacedEdge, lies_along}
-use Rattle.substitution.specs.Lying.{Lie, boundary, loose, numbers_along, met_by, lie_by}
+use Rattle.edge_to_edge.specs.Edges.{Edge, PlacedEdge, lies_along}
+use Rattle.edge_to_edge.specs.Lying.{Lie, boundary, loose, numbers_along, met_by, lie_by}
 use Rattle.dissect_check.specs.declared.few.Few.{Few}
 use Rattle.dissect_check.specs.declared.few.Few.TheVariants.{None, One, Many}
 use Rattle.dissect_check.specs.Few.{few_of, one_more}

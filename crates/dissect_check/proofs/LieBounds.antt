@@ -6,9 +6,9 @@ use Rattle.std.proofs.lemmas.List.Elements.{All-map, All-same}
 use Rattle.substitution.specs.Points.{Points}
 use Rattle.substitution.specs.Rule.{Rule}
 use Rattle.substitution.specs.RuleParts.{edge_count, mate}
-use Rattle.substitution.specs.Edges.{Edge, PlacedEdge, inflated_edge, inflated_edges, child_edges, meets, lies_along}
-use Rattle.substitution.specs.Lying.{numbers_along, lie_by, lie_of, met_by}
-use Rattle.substitution.specs.Lying as theory
+use Rattle.edge_to_edge.specs.Edges.{Edge, PlacedEdge, inflated_edge, inflated_edges, child_edges, is_opposite, lies_along}
+use Rattle.edge_to_edge.specs.Lying.{numbers_along, lie_by, lie_of, met_by}
+use Rattle.edge_to_edge.specs.Lying as theory
 use Rattle.cyclo_points.specs.Order.{points_of}
 use Rattle.rule_model.specs.declared.rule.Rule.{Rule as ProgramRule}
 use Rattle.rule_model.specs.Views.{rule_of}
@@ -17,7 +17,7 @@ use Rattle.dissect_check.specs.declared.lie.Lie.TheVariants.{Inner, Boundary, Lo
 use Rattle.dissect_check.specs.declared.inflated.Inflated.{Inflated}
 use Rattle.dissect_check.specs.Views.{as_lie, IsInflated}
 use Rattle.dissect_check.specs.Parts.{IsBelow}
-use Rattle.dissect_check.proofs.WholeCount.{length-below}
+use Rattle.addressing.proofs.Ranges.{length-below}
 
 -- the same of a lie of the theory
 abbrev IsLieBelow : ℕ → theory.Lie → Type 0
@@ -46,7 +46,7 @@ lie_by-below r s n (t ∷ (u ∷ ts)) numbers h = tt
 
 lie_of-below : (P : Points) (r : Rule P.ring.carrier) (k : ℕ) (s : PlacedEdge P.ring.carrier) → IsLieBelow (edge_count r k) (lie_of P r k s)
 lie_of-below P r k s =
-    lie_by-below r s (edge_count r k) (filter (meets P s) (child_edges P r k)) (numbers_along P 0 (inflated_edges P r k) s.line)
+    lie_by-below r s (edge_count r k) (filter (is_opposite P s) (child_edges P r k)) (numbers_along P 0 (inflated_edges P r k) s.line)
     (λ x xs h. let l = first_below P 0 (inflated_edges P r k) s.line x xs h in omega (arith, length-below (inflated_edge P r k) (edge_count r k)))
 
 as_lie-below : (n : ℕ) (l : Lie) → IsLieBelow n (as_lie l) → IsBelow n l

@@ -3,7 +3,7 @@ use Rattle.std.proofs.Common.{◌≡◌, ℕ, ◌<◌, List, map, length, get_or
 use Rattle.std.specs.List.{All}
 use Rattle.std.proofs.lemmas.List.{get_or-map, length-map}
 use Rattle.std.proofs.lemmas.Simd.{map-map}
-use Rattle.substitution.specs.Lying.{lie_of}
+use Rattle.edge_to_edge.specs.Lying.{lie_of}
 use Rattle.cyclo_points.specs.Order.{points_of}
 use Rattle.rule_model.specs.declared.rule.Rule.{Rule}
 use Rattle.rule_model.specs.Views.{rule_of}

@@ -2,10 +2,10 @@
 use Rattle.std.specs.List.{AllByRecursion}
 use Rattle.std.proofs.Common.{◌≡◌, ℕ, ◌<◌, Bool, true, List, [], ◌∷◌, length, Option}
 use Rattle.substitution.specs.Rule.{Rule as TheRule}
-use Rattle.substitution.specs.Search.{unless, first_some}
-use Rattle.substitution.specs.Limited.{WithinLimits}
+use Rattle.addressing.specs.Search.{unless, first_some}
+use Rattle.edge_to_edge.specs.Limited.{WithinLimits}
 use Rattle.substitution.specs.RuleParts.{mate}
-use Rattle.substitution.specs.Limits.{is_type, parts_fit, edges_fit, vertices_fit, children_fit, kinds_fit, types_fit, glue_fits}
+use Rattle.edge_to_edge.specs.Limits.{is_type, parts_fit, edges_fit, vertices_fit, children_fit, kinds_fit, types_fit, glue_fits}
 use Rattle.cyclo_points.specs.declared.order.Order.{Order}
 use Rattle.cyclo_points.specs.declared.point.Point.{Point}
 use Rattle.cyclo_points.specs.Order.{points_of}
@@ -18,8 +18,8 @@ use Rattle.dissect_check.specs.declared.what.What.TheVariants.{Kinds, Types, Fac
 use Rattle.dissect_check.specs.declared.check_fault.CheckFault.{CheckFault}
 use Rattle.dissect_check.specs.declared.check_fault.CheckFault.TheVariants.{TooMany}
 use Rattle.dissect_check.specs.FirstFault as fault
-use Rattle.dissect_check.proofs.Search.{unless-none, first_below-each, first_below-all}
-use Rattle.dissect_check.proofs.FirstSome.{IsNone, first_some-each, first_some-all, unless-true}
+use Rattle.addressing.proofs.Searches.{unless-none, first_below-each, first_below-all}
+use Rattle.addressing.proofs.FirstSome.{IsNone, first_some-each, first_some-all, unless-true}
 
 -- two tests in a row, and three
 two_tests : {F : Type 0} (a b : Bool) (e f : F) → IsNone (first_some (unless a e ∷ (unless b f ∷ []))) → (a ≡ true) × (b ≡ true)

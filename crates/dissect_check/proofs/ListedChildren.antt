@@ -6,8 +6,8 @@ use Rattle.std.proofs.lemmas.Bool.{and_parts, and_from, leb-true}
 use Rattle.std.proofs.lemmas.List.{length-map}
 use Rattle.substitution.specs.Rule.{Child, Kind, Rule, children_of, child_kinds}
 use Rattle.substitution.specs.RuleParts.{map_rule, map_kind, map_child}
-use Rattle.substitution.specs.Limits.{is_from_to, is_child}
-use Rattle.substitution.specs.Limited.{WithinLimits}
+use Rattle.edge_to_edge.specs.Limits.{is_from_to, is_child}
+use Rattle.edge_to_edge.specs.Limited.{WithinLimits}
 use Rattle.cyclo_points.specs.declared.order.Order.{Order}
 use Rattle.cyclo_points.specs.declared.point.Point.{Point}
 use Rattle.cyclo_points.specs.Order.{points_of}
@@ -16,7 +16,7 @@ use Rattle.tile_shape.specs.Usable.{IsUsable}
 use Rattle.rule_model.specs.Small.{is_small}
 use Rattle.rule_model.proofs.Views.{kind_of-map}
 use Rattle.dissect_check.specs.FirstFault.{fault_of_lists}
-use Rattle.dissect_check.proofs.Accepted.{limits-where, dissection-where}
+use Rattle.dissect_check.proofs.Accepted.{limits-where, edge_to_edge-where}
 use Rattle.dissect_check.proofs.EachUse.{HasChildren, uses-usable}
 
 from_to : (low high n : ℕ) → is_from_to low high n ≡ true → (low ≤ n) × (n ≤ high)
@@ -70,4 +70,4 @@ module _ {A B : Type 0} (f : A → B) (n : ℕ) (small : A → Bool) (r : Rule A
 
 pub children-usable : (o : Order) (lists : Rule Point) → fault_of_lists o lists ≡ None → IsUsable (child_kinds (map_rule (point_in o) lists))
 children-usable o lists h =
-    uses-usable (map_rule (point_in o) lists) (listed-children (point_in o) (points_of o).order (is_small o) lists (limits-where o lists h)) (dissection-where o lists h).each_used
+    uses-usable (map_rule (point_in o) lists) (listed-children (point_in o) (points_of o).order (is_small o) lists (limits-where o lists h)) (edge_to_edge-where o lists h).each_used

@@ -7,9 +7,9 @@ use Rattle.std.proofs.lemmas.List.Elements.{filter-append}
 use Rattle.substitution.specs.Points.{Points}
 use Rattle.substitution.specs.Rule.{Rule, children_of}
 use Rattle.substitution.specs.RuleParts.{edge_count, child_of}
-use Rattle.substitution.specs.Search.{below}
-use Rattle.substitution.specs.Edges.{PlacedEdge, child_edge, edges_of_child, child_edges}
-use Rattle.dissect_check.proofs.Search.{below_or_at}
+use Rattle.addressing.specs.Search.{below}
+use Rattle.edge_to_edge.specs.Edges.{PlacedEdge, child_edge, edges_of_child, child_edges}
+use Rattle.addressing.proofs.Searches.{below_or_at}
 
 module _ {A : Type 0} (p : A → Bool) (f : ℕ → A) where
   all_pass : (n : ℕ) → ((i : ℕ) → p (f i) ≡ true) → filter p (below f n) ≡ below f n

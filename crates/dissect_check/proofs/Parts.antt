@@ -4,15 +4,14 @@ use Rattle.std.specs.Global.{Global}
 use Rattle.std.proofs.Common.{◌≡◌, ℕ, ◌<◌, List, [], map, length, get_or, sym, ap, subst, ◌∙◌}
 use Rattle.std.proofs.lemmas.List.{get_or-map, length-map}
 use Rattle.substitution.specs.RuleParts.{edge_count}
-use Rattle.substitution.specs.Contacts.{named_parts}
+use Rattle.edge_to_edge.specs.Contacts.{named_parts}
 use Rattle.cyclo_points.specs.Order.{points_of}
 use Rattle.edge_tables.specs.declared.child_edge.ChildEdge.{ChildEdge}
 use Rattle.edge_tables.specs.Views.{as_child_edge}
 use Rattle.rule_model.specs.declared.rule.Rule.{Rule}
 use Rattle.rule_model.specs.Views.{rule_of}
 use Rattle.dissect_check.specs.Parts.{AreParts}
-use Rattle.dissect_check.proofs.Below.{get_or-below}
-use Rattle.dissect_check.proofs.WholeCount.{length-below}
+use Rattle.addressing.proofs.Ranges.{get_or-below, length-below}
 
 module _ (r : Rule) (k : ℕ) (parts : List (Vec ChildEdge Global)) (fact : AreParts r k parts) where
   -- one list for each edge

@@ -3,10 +3,10 @@ use Rattle.std.proofs.Common.{◌≡◌, ℕ, suc, ◌+◌, ◌<◌, ◌≤◌, 
 use Rattle.std.specs.List.{All, filter}
 use Rattle.std.proofs.lemmas.List.{append_assoc, append-nil, drop_more, at_drop_all}
 use Rattle.substitution.specs.Points.{Points}
-use Rattle.substitution.specs.Edges.{Edge, PlacedEdge}
-use Rattle.substitution.specs.Boundary.{in_front, parts_from, parts_along}
-use Rattle.substitution.specs.Contact.{ChildEdge}
-use Rattle.substitution.specs.Contacts.{name_of}
+use Rattle.edge_to_edge.specs.Edges.{Edge, PlacedEdge}
+use Rattle.edge_to_edge.specs.Boundary.{in_front, parts_from, parts_along}
+use Rattle.addressing.specs.Contact.{ChildEdge}
+use Rattle.edge_to_edge.specs.Contacts.{name_of}
 use Rattle.dissect_check.specs.declared.few.Few.{Few}
 use Rattle.dissect_check.specs.declared.few.Few.TheVariants.{None, One, Many}
 use Rattle.dissect_check.specs.Few.{few_of}

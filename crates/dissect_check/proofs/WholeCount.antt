@@ -1,19 +1,16 @@
 -- An inflated prototile has as many edges as the prototile: at most twelve.
+use Rattle.addressing.proofs.Ranges.{length-below}
 use Rattle.std.proofs.Common.{◌≡◌, ℕ, zero, suc, ◌<◌, ◌≤◌, List, map, length, refl, sym, ap, ◌∙◌, arith}
 use Rattle.std.proofs.lemmas.List.{length-map, length_push}
 use Rattle.substitution.specs.RuleParts.{edge_count}
-use Rattle.substitution.specs.Search.{below}
-use Rattle.substitution.specs.Edges.{inflated_edge, inflated_edges}
+use Rattle.addressing.specs.Search.{below}
+use Rattle.edge_to_edge.specs.Edges.{inflated_edge, inflated_edges}
 use Rattle.cyclo_points.specs.Order.{points_of}
 use Rattle.rule_model.specs.declared.rule.Rule.{Rule}
 use Rattle.rule_model.specs.Usable.{IsUsable}
 use Rattle.rule_model.specs.Views.{rule_of}
 use Rattle.dissect_check.specs.declared.line.Line.{Line}
 use Rattle.dissect_check.specs.Views.{line_in}
-
-pub length-below : {A : Type 0} (f : ℕ → A) (n : ℕ) → length (below f n) ≡ n
-length-below f zero = refl
-length-below f (suc n) = let h = length-below f n in omega (arith, length_push (below f n) (f n))
 
 module _ (r : Rule) (k : ℕ) (wholes : List Line) (e : map (line_in r.order) wholes ≡ inflated_edges (points_of r.order) (rule_of r) k) where
   pub whole_count : length wholes ≡ edge_count (rule_of r) k

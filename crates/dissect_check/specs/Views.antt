@@ -1,9 +1,9 @@
 -- What the program keeps of an inflated prototile stands for that of the theory.
 use Rattle.std.specs.Prelude.{◌≡◌, ℕ, ◌^◌, ◌<◌, map, length, All}
-use Rattle.substitution.specs.Edges as theory
-use Rattle.substitution.specs.Edges.{child_edges, inflated_edges}
-use Rattle.substitution.specs.Lying as theory_lying
-use Rattle.substitution.specs.Lying.{lie_of}
+use Rattle.edge_to_edge.specs.Edges as theory
+use Rattle.edge_to_edge.specs.Edges.{child_edges, inflated_edges}
+use Rattle.edge_to_edge.specs.Lying as theory_lying
+use Rattle.edge_to_edge.specs.Lying.{lie_of}
 use Rattle.cyclo_points.specs.declared.order.Order.{Order}
 use Rattle.cyclo_points.specs.Order.{NumberOf, points_of}
 use Rattle.cyclo_points.specs.Point.{point_in, IsOf, IsWithin}

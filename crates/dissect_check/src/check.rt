@@ -1,7 +1,7 @@
 //! The check of a rule.
 ghost use Rattle.std.specs.Prelude.{◌≡◌, ◌↔◌, None, [], ◌∷◌, map, length, IfOk};
-ghost use Rattle.substitution.specs.Search.{first_some, below};
-ghost use Rattle.substitution.specs.Contacts.{tables_of_kind};
+ghost use Rattle.addressing.specs.Search.{first_some, below};
+ghost use Rattle.edge_to_edge.specs.Contacts.{tables_of_kind};
 ghost use Rattle.cyclo_points.specs.Order.{points_of};
 ghost use Rattle.edge_tables.specs.Views.{as_kind};
 ghost use Rattle.rule_model.specs.Accepted.{IsAccepted};

@@ -1,7 +1,7 @@
 //! The uses of a rule's kinds.
 ghost use Rattle.std.specs.Prelude.{◌≡◌, map, IfOk};
-ghost use Rattle.substitution.specs.Dissection.{EachUsed};
-ghost use Rattle.rule_model.specs.Checked.{uses_of};
+ghost use Rattle.edge_to_edge.specs.EdgeToEdge.{HasEachUsed};
+ghost use Rattle.rule_model.specs.Checked.{child_kinds_of};
 ghost use Rattle.rule_model.specs.Usable.{IsUsable};
 ghost use Rattle.rule_model.specs.Views.{rule_of};
 
@@ -12,7 +12,7 @@ use tile_shape::uses::Uses;
 
 /// The kinds of each kind's children.
 fn child_kinds(alloc: Global, rule: &Rule) -> Result<Vec<Vec<u8>>, NoMemory>
-    ensures { IfOk result (λ lists. map (λ list. list.items) lists.items ≡ uses_of rule.now) }
+    ensures { IfOk result (λ lists. map (λ list. list.items) lists.items ≡ child_kinds_of rule.now) }
 {
     let mut lists = Vec::new(alloc);
     for row in &rule.kinds {
@@ -24,8 +24,8 @@ fn child_kinds(alloc: Global, rule: &Rule) -> Result<Vec<Vec<u8>>, NoMemory>
 /// The uses of a rule's kinds, each of which has one.
 pub(crate) fn uses_of_kinds(alloc: Global, rule: &Rule) -> Result<Uses, NoMemory>
     requires usable { IsUsable rule.now }
-    requires each_used { EachUsed (rule_of rule.now) }
-    ensures { IfOk result (λ uses. uses ≡ uses_of rule.now) }
+    requires each_used { HasEachUsed (rule_of rule.now) }
+    ensures { IfOk result (λ uses. uses ≡ child_kinds_of rule.now) }
 {
     let kinds = child_kinds(alloc, rule)?;
     Uses::new(alloc, &kinds)

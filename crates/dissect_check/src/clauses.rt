@@ -1,7 +1,7 @@
 //! The clauses that take no memory, in order: those on single prototiles and edge types, which come
 //! before the children, and those on uses and glue types, which come behind them.
 ghost use Rattle.std.specs.Prelude.{◌≡◌, [], ◌∷◌};
-ghost use Rattle.substitution.specs.Search.{first_some};
+ghost use Rattle.addressing.specs.Search.{first_some};
 ghost use Rattle.rule_model.specs.Usable.{IsUsable};
 ghost use Rattle.rule_model.specs.Views.{as_rule};
 ghost use Rattle.dissect_check.specs.Agrees.{fault_in};

@@ -2,9 +2,9 @@
 
 ghost use Rattle.std.specs.Prelude.{◌≡◌, pos};
 ghost use Rattle.ordered_ring.specs.Ring.{power};
-ghost use Rattle.ordered_ring.specs.Plane.{less};
-ghost use Rattle.substitution.specs.Search.{some_below};
-ghost use Rattle.substitution.specs.Factor.{is_real_above_one};
+ghost use Rattle.ordered_ring.specs.Sign.{less};
+ghost use Rattle.addressing.specs.Search.{some_below};
+ghost use Rattle.edge_to_edge.specs.Factor.{is_real_above_one};
 ghost use Rattle.cyclo_points.specs.Order.{points_of, is_refused};
 ghost use Rattle.cyclo_points.specs.Point.{point_in};
 ghost use Rattle.rule_model.specs.Usable.{IsSmall, IsUsable};

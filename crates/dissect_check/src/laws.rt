@@ -2,8 +2,8 @@
 ghost use Rattle.std.specs.Prelude.{◌≡◌, ◌↔◌, None};
 ghost use Rattle.substitution.specs.Rule.{Rule, child_kinds};
 ghost use Rattle.substitution.specs.RuleParts.{map_rule};
-ghost use Rattle.substitution.specs.Limited.{WithinLimits};
-ghost use Rattle.substitution.specs.Dissection.{IsDissection};
+ghost use Rattle.edge_to_edge.specs.Limited.{WithinLimits};
+ghost use Rattle.edge_to_edge.specs.EdgeToEdge.{IsEdgeToEdge};
 ghost use Rattle.cyclo_points.specs.declared.order.Order.{Order};
 ghost use Rattle.cyclo_points.specs.declared.point.Point.{Point};
 ghost use Rattle.cyclo_points.specs.Order.{points_of, is_refused};
@@ -13,11 +13,11 @@ ghost use Rattle.rule_model.specs.Small.{is_small};
 ghost use Rattle.dissect_check.specs.FirstFault.{fault_of_lists};
 
 /// The law that the check finds no fault of an order and lists exactly where all ten clauses hold of
-/// them: the limits of counts and numbers, and the nine of a dissection.
+/// them: the limits of counts and numbers, and the nine that make its children fit edge to edge.
 pub fn clauses_law()
     ensures { (o : Order) (l : Rule Point) → (fault_of_lists o l ≡ None)
         ↔ (WithinLimits (points_of o).order (is_small o) l
-        × IsDissection (points_of o) (is_refused o) (map_rule (point_in o) l)) }
+        × IsEdgeToEdge (points_of o) (is_refused o) (map_rule (point_in o) l)) }
 {}
 
 /// The law that the child kinds of lists that no clause refuses are usable for addresses.

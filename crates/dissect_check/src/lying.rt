@@ -3,8 +3,8 @@
 
 ghost use Rattle.std.specs.Prelude.{◌≡◌, ◌≤◌, length, map, IfOk, All};
 ghost use Rattle.std.specs.List.{filter};
-ghost use Rattle.substitution.specs.Edges.{meets, runs_back, lies_along};
-ghost use Rattle.substitution.specs.Lying.{numbers_along, lie_among};
+ghost use Rattle.edge_to_edge.specs.Edges.{is_opposite, runs_back, lies_along};
+ghost use Rattle.edge_to_edge.specs.Lying.{numbers_along, lie_among};
 ghost use Rattle.cyclo_points.specs.declared.order.Order.{Order};
 ghost use Rattle.cyclo_points.specs.Order.{points_of};
 ghost use Rattle.rule_model.specs.declared.rule.Rule.{Rule};
@@ -33,9 +33,9 @@ fn runs_back(e: &Line, f: &Line) -> bool
 }
 
 /// Whether t is another child edge than s, and runs from its end to its start.
-fn meets(s: &PlacedEdge, t: &PlacedEdge) -> bool
+fn is_opposite(s: &PlacedEdge, t: &PlacedEdge) -> bool
     ensures { (o : Order) → IsSmallLine o s.now.line → IsSmallLine o t.now.line
-        → result ≡ meets (points_of o) (edge_in o s.now) (edge_in o t.now) }
+        → result ≡ is_opposite (points_of o) (edge_in o s.now) (edge_in o t.now) }
 {
     !(s.child == t.child && s.edge == t.edge) && runs_back(&s.line, &t.line)
 }
@@ -43,11 +43,11 @@ fn meets(s: &PlacedEdge, t: &PlacedEdge) -> bool
 /// The other child edges that run back along s.
 fn edges_back(edges: &[PlacedEdge], s: &PlacedEdge) -> Few<PlacedEdge>
     ensures { (r : Rule) → All (IsFit r) edges.now → IsFit r s.now → result ≡ few_of (filter
-        (λ t. meets (points_of r.order) (edge_in r.order s.now) (edge_in r.order t)) edges.now) }
+        (λ t. is_opposite (points_of r.order) (edge_in r.order s.now) (edge_in r.order t)) edges.now) }
 {
     let mut found = Few::None;
     for t in edges {
-        if meets(s, t) {
+        if is_opposite(s, t) {
             found = found.more(*t);
         }
     }

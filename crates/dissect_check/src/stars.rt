@@ -1,10 +1,10 @@
 //! Prototiles that are star-shaped from vertex 0: the triangles of their fans lie side by side.
 ghost use Rattle.std.specs.Prelude.{◌≡◌, ◌+◌, ◌^◌, ◌<◌, ◌≤◌, All, length};
-ghost use Rattle.ordered_ring.specs.Triangle.{turns_left};
+ghost use Rattle.ordered_plane.specs.Triangle.{turns_left};
 ghost use Rattle.substitution.specs.RuleParts.{vertices_of};
-ghost use Rattle.substitution.specs.Star.{corner, fan_triangle, fan_turns_left, fan_is_apart, fan_is_open, is_star};
+ghost use Rattle.edge_to_edge.specs.Star.{corner, fan_triangle, fan_turns_left, fan_is_apart, fan_is_open, is_star};
 ghost use Rattle.cyclo_points.specs.Order.{points_of};
-ghost use Rattle.cyclo_points.specs.Places.{reals_of, place_of, triangle_of};
+ghost use Rattle.plane_geom.specs.Spots.{reals_of, spot_of, triangle_of};
 ghost use Rattle.cyclo_points.specs.Point.{IsWithin};
 ghost use Rattle.rule_model.specs.Usable.{IsUsable};
 ghost use Rattle.rule_model.specs.Views.{as_rule, rule_of};
@@ -35,7 +35,7 @@ fn corner(rule: &Rule, kind: usize, i: usize) -> Point
     requires usable { IsUsable rule.now }
     requires kind_in { kind < length (rule_of rule.now).kinds }
     requires i_in { i < length (vertices_of (rule_of rule.now) kind) }
-    ensures place { place_of rule.now.order result
+    ensures place { spot_of rule.now.order result
         ≡ corner (points_of rule.now.order) (vertices_of (rule_of rule.now) kind) i }
     ensures within { IsWithin (2 ^ 25) result }
 {

@@ -6,10 +6,10 @@ use Rattle.edge_tables.specs.declared.contact.Contact.{Contact}
 use Rattle.edge_tables.specs.declared.child_edge.ChildEdge.{ChildEdge}
 use Rattle.edge_tables.specs.declared.kind_rows.KindRows.{KindRows}
 use Rattle.edge_tables.specs.Views.{as_contact, as_child_edge, as_kind}
-use Rattle.substitution.specs.Contact as theory
-use Rattle.substitution.specs.Tables.{Tables, KindTables, kind_tables, type_of, child_kind_of, contacts_of, parts_of, contact_of, part_of, part_count}
-use Rattle.substitution.specs.Coherent.{IsCoherent}
-use Rattle.substitution.proofs.TableBounds.{child_bounds, type_bounds, contact_bounds, part_bounds, some_within}
+use Rattle.addressing.specs.Contact as theory
+use Rattle.addressing.specs.Tables.{Tables, KindTables, kind_tables, type_of, child_kind_of, contacts_of, parts_of, contact_of, part_of, part_count}
+use Rattle.addressing.specs.Coherent.{IsCoherent}
+use Rattle.addressing.proofs.TableBounds.{child_bounds, type_bounds, contact_bounds, part_bounds, some_within}
 
 -- the tables of a kind, in the list of those of all kinds
 pub kind_tables-read : (t : Tables) (rows : List KindRows) (k : ℕ) (r : KindRows) → map as_kind rows ≡ t.kinds → k < length rows → r ≡ get_or rows k r → as_kind r ≡ kind_tables t k

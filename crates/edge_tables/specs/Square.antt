@@ -1,7 +1,7 @@
 -- The contact tables of a square that is cut into four squares of half the side, none of them turned: an example.
 use Rattle.std.specs.Prelude.{ℕ, List, [], ◌∷◌}
-use Rattle.substitution.specs.Contact.{ChildEdge, inner, outer}
-use Rattle.substitution.specs.Tables.{Tables, KindTables}
+use Rattle.addressing.specs.Contact.{ChildEdge, inner, outer}
+use Rattle.addressing.specs.Tables.{Tables, KindTables}
 
 -- the two halves of an edge
 abbrev pub halves : ℕ → ℕ → ℕ → ℕ → List ChildEdge

@@ -1,9 +1,9 @@
 //! Laws of contact tables.
 ghost use Rattle.std.specs.Prelude.{◌≡◌, true};
-ghost use Rattle.substitution.specs.Coherent.{IsCoherent};
-ghost use Rattle.substitution.specs.CoherenceTest.{coherence_test};
-ghost use Rattle.substitution.specs.Tables.{Tables};
-ghost use Rattle.substitution.specs.Chair.{chair_tables};
+ghost use Rattle.addressing.specs.Coherent.{IsCoherent};
+ghost use Rattle.addressing.specs.CoherenceTest.{coherence_test};
+ghost use Rattle.addressing.specs.Tables.{Tables};
+ghost use Rattle.addressing.specs.Chair.{chair_tables};
 
 /// The law that tables which pass the test are coherent.
 pub fn tested_tables_are_coherent()

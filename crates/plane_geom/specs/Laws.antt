@@ -4,11 +4,11 @@ use Rattle.ordered_ring.specs.Ring.{difference, power}
 use Rattle.substitution.specs.Motion.{Motion, moved}
 use Rattle.cyclo_points.specs.declared.order.Order.{Order}
 use Rattle.cyclo_points.specs.Order.{NumberOf, points_of}
-use Rattle.cyclo_points.specs.Places.{reals_of, PlanePointOf, TestPointOf}
-use Rattle.ordered_ring.specs.Plane.{IsTestPoint}
-use Rattle.ordered_ring.specs.Crossing.{crossing, count, member}
-use Rattle.ordered_ring.specs.Triangle.{Triangle, corners, fan, counts, turns_left, separated}
-use Rattle.ordered_ring.specs.Segment.{on_segment, Between}
+use Rattle.plane_geom.specs.Spots.{reals_of, PlanePointOf, TestPointOf}
+use Rattle.ordered_plane.specs.Plane.{IsTestPoint}
+use Rattle.ordered_plane.specs.Crossing.{crossing, count, member}
+use Rattle.ordered_plane.specs.Triangle.{Triangle, corners, fan, counts, turns_left, separated}
+use Rattle.ordered_plane.specs.Segment.{on_segment, Between}
 use Rattle.substitution.specs.Plane.{twice_squared_length, Keeps, IsGrowthFactor}
 
 -- an edge turned round crosses the other way

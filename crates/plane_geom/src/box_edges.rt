@@ -4,7 +4,7 @@ ghost use Rattle.std.specs.Prelude.{◌≡◌, ◌↔◌, ◌^◌, IsTrue};
 ghost use Rattle.cyclo_points.specs.Order.{points_of};
 ghost use Rattle.cyclo_points.specs.Point.{point_in, IsWithin};
 ghost use Rattle.substitution.specs.Plane.{plane_point};
-ghost use Rattle.ordered_ring.specs.Box.{EdgeMeetsBox};
+ghost use Rattle.ordered_plane.specs.Box.{EdgeMeetsBox};
 ghost use Rattle.substitution.specs.Plane.{box_at};
 
 use crate::half_plane::{above, below, meets_four};

@@ -5,7 +5,7 @@ ghost use Rattle.std.specs.Ordering.{is_gt};
 ghost use Rattle.cyclo_points.specs.declared.order.Order.{Order};
 ghost use Rattle.cyclo_points.specs.Order.{points_of};
 ghost use Rattle.cyclo_points.specs.Real.{real_in, IsRealWithin};
-ghost use Rattle.ordered_ring.specs.BoxTest.{inside_below, inside_above, overlap, passes_both, meets_both, meets_each_two};
+ghost use Rattle.ordered_plane.specs.BoxTest.{inside_below, inside_above, overlap, passes_both, meets_both, meets_each_two};
 ghost use Rattle.plane_geom.specs.Measured.{depths_in, IsMeasured};
 
 use cyclo_points::order::Order;

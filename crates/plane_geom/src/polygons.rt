@@ -2,9 +2,9 @@
 
 ghost use Rattle.std.specs.Prelude.{◌≡◌, ◌≤◌, ◌^◌, length, All};
 ghost use Rattle.cyclo_points.specs.Point.{IsWithin};
-ghost use Rattle.ordered_ring.specs.Crossing.{count, member};
-ghost use Rattle.cyclo_points.specs.Places.{reals_of};
-ghost use Rattle.cyclo_points.specs.Places.{places_of, test_of};
+ghost use Rattle.ordered_plane.specs.Crossing.{count, member};
+ghost use Rattle.plane_geom.specs.Spots.{reals_of};
+ghost use Rattle.plane_geom.specs.Spots.{spots_of, test_of};
 
 use crate::sides::crossing;
 use cyclo_points::order::Order;
@@ -18,7 +18,7 @@ pub fn count(order: Order, poly: &[Point], p: &Point) -> i32
     requires at_most_24 { length poly.now ≤ 24 }
     requires vertices_within { All (IsWithin (2 ^ 25)) poly.now }
     requires p_within { IsWithin (2 ^ 25) p.now }
-    ensures { result ≡ count (reals_of order) (places_of order poly.now) (test_of order p.now) }
+    ensures { result ≡ count (reals_of order) (spots_of order poly.now) (test_of order p.now) }
 {
     let first = poly[0];
     let mut from = first;
@@ -40,7 +40,7 @@ pub fn member(order: Order, poly: &[Point], p: &Point) -> bool
     requires at_most_24 { length poly.now ≤ 24 }
     requires vertices_within { All (IsWithin (2 ^ 25)) poly.now }
     requires p_within { IsWithin (2 ^ 25) p.now }
-    ensures { result ≡ member (reals_of order) (places_of order poly.now) (test_of order p.now) }
+    ensures { result ≡ member (reals_of order) (spots_of order poly.now) (test_of order p.now) }
 {
     count(order, poly, p) == 1
 }

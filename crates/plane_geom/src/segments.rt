@@ -4,11 +4,11 @@ ghost use Rattle.std.specs.Prelude.{◌≡◌, ◌^◌};
 ghost use Rattle.cyclo_points.specs.Order.{points_of};
 ghost use Rattle.cyclo_points.specs.Point.{point_in, IsWithin};
 ghost use Rattle.cyclo_points.specs.Real.{real_in, IsRealWithin};
-ghost use Rattle.ordered_ring.specs.Plane.{at_most};
-ghost use Rattle.ordered_ring.specs.Segment.{between, on_segment, same_place, along};
+ghost use Rattle.ordered_ring.specs.Sign.{at_most};
+ghost use Rattle.ordered_plane.specs.Segment.{between, on_segment, same_place, along};
 ghost use Rattle.substitution.specs.Plane.{twice_squared_length, same_length};
-ghost use Rattle.cyclo_points.specs.Places.{reals_of};
-ghost use Rattle.cyclo_points.specs.Places.{place_of};
+ghost use Rattle.plane_geom.specs.Spots.{reals_of};
+ghost use Rattle.plane_geom.specs.Spots.{spot_of};
 
 use crate::sides::{side, x_gap, y_gap};
 use cyclo_points::coordinates::{conj, x, y};
@@ -46,8 +46,8 @@ fn is_between_in_x(order: Order, a: &Point, p: &Point, b: &Point) -> bool
     requires a_within { IsWithin (2 ^ 25) a.now }
     requires p_within { IsWithin (2 ^ 25) p.now }
     requires b_within { IsWithin (2 ^ 25) b.now }
-    ensures { result ≡ between (reals_of order) (place_of order a.now).x (place_of order p.now).x
-        (place_of order b.now).x }
+    ensures { result ≡ between (reals_of order) (spot_of order a.now).x (spot_of order p.now).x
+        (spot_of order b.now).x }
 {
     is_between(order, &x(order, a), &x(order, p), &x(order, b))
 }
@@ -57,8 +57,8 @@ fn is_between_in_y(order: Order, a: &Point, p: &Point, b: &Point) -> bool
     requires a_within { IsWithin (2 ^ 25) a.now }
     requires p_within { IsWithin (2 ^ 25) p.now }
     requires b_within { IsWithin (2 ^ 25) b.now }
-    ensures { result ≡ between (reals_of order) (place_of order a.now).y (place_of order p.now).y
-        (place_of order b.now).y }
+    ensures { result ≡ between (reals_of order) (spot_of order a.now).y (spot_of order p.now).y
+        (spot_of order b.now).y }
 {
     is_between(order, &y(order, a), &y(order, p), &y(order, b))
 }
@@ -68,8 +68,8 @@ pub fn on_segment(order: Order, a: &Point, b: &Point, p: &Point) -> bool
     requires a_within { IsWithin (2 ^ 25) a.now }
     requires b_within { IsWithin (2 ^ 25) b.now }
     requires p_within { IsWithin (2 ^ 25) p.now }
-    ensures { result ≡ on_segment (reals_of order) (place_of order a.now) (place_of order b.now)
-        (place_of order p.now) }
+    ensures { result ≡ on_segment (reals_of order) (spot_of order a.now) (spot_of order b.now)
+        (spot_of order p.now) }
 {
     side(order, a, b, p) == Ordering::Equal
         && is_between_in_x(order, a, p, b)
@@ -80,7 +80,7 @@ pub fn on_segment(order: Order, a: &Point, b: &Point, p: &Point) -> bool
 fn is_same_place(order: Order, a: &Point, b: &Point) -> bool
     requires a_within { IsWithin (2 ^ 25) a.now }
     requires b_within { IsWithin (2 ^ 25) b.now }
-    ensures { result ≡ same_place (reals_of order) (place_of order a.now) (place_of order b.now) }
+    ensures { result ≡ same_place (reals_of order) (spot_of order a.now) (spot_of order b.now) }
 {
     sign(order, &x_gap(order, a, b)) == Ordering::Equal
         && sign(order, &y_gap(order, a, b)) == Ordering::Equal
@@ -93,8 +93,8 @@ pub fn along(order: Order, a: &Point, b: &Point, c: &Point, d: &Point) -> bool
     requires b_within { IsWithin (2 ^ 25) b.now }
     requires c_within { IsWithin (2 ^ 25) c.now }
     requires d_within { IsWithin (2 ^ 25) d.now }
-    ensures { result ≡ along (reals_of order) (place_of order a.now) (place_of order b.now)
-        (place_of order c.now) (place_of order d.now) }
+    ensures { result ≡ along (reals_of order) (spot_of order a.now) (spot_of order b.now)
+        (spot_of order c.now) (spot_of order d.now) }
 {
     !is_same_place(order, c, d) && on_segment(order, a, b, d) && on_segment(order, a, d, c)
 }

@@ -4,10 +4,11 @@ ghost use Rattle.std.specs.Prelude.{◌≡◌, ◌^◌, not};
 ghost use Rattle.ordered_ring.specs.Ring.{difference};
 ghost use Rattle.cyclo_points.specs.Point.{Within, IsWithin};
 ghost use Rattle.cyclo_points.specs.Real.{real_in, IsRealWithin};
-ghost use Rattle.ordered_ring.specs.Plane.{orientation, less};
-ghost use Rattle.ordered_ring.specs.Crossing.{crossing, crossing_of};
-ghost use Rattle.cyclo_points.specs.Places.{reals_of};
-ghost use Rattle.cyclo_points.specs.Places.{place_of, test_of};
+ghost use Rattle.ordered_ring.specs.Sign.{less};
+ghost use Rattle.ordered_plane.specs.Plane.{orientation};
+ghost use Rattle.ordered_plane.specs.Crossing.{crossing, crossing_of};
+ghost use Rattle.plane_geom.specs.Spots.{reals_of};
+ghost use Rattle.plane_geom.specs.Spots.{spot_of, test_of};
 
 use cyclo_points::coordinates::{x, y};
 use cyclo_points::order::Order;
@@ -25,7 +26,7 @@ pub fn side(order: Order, a: &Point, b: &Point, p: &Point) -> Ordering
     requires b_within { IsWithin (2 ^ 25) b.now }
     requires p_within { IsWithin (2 ^ 25) p.now }
     ensures { result ≡ (reals_of order).sign (orientation (reals_of order).ops
-        (place_of order a.now) (place_of order b.now) (place_of order p.now)) }
+        (spot_of order a.now) (spot_of order b.now) (spot_of order p.now)) }
 {
     let left = rmul(order, &x_gap(order, a, b), &y_gap(order, a, p));
     let right = rmul(order, &y_gap(order, a, b), &x_gap(order, a, p));
@@ -37,7 +38,7 @@ pub(crate) fn x_gap(order: Order, a: &Point, b: &Point) -> Real
     requires a_within { IsWithin (2 ^ 25) a.now }
     requires b_within { IsWithin (2 ^ 25) b.now }
     ensures value { real_in order result ≡ difference (reals_of order).ops
-        (place_of order b.now).x (place_of order a.now).x }
+        (spot_of order b.now).x (spot_of order a.now).x }
     ensures bounded { IsRealWithin (2 ^ 28) result }
 {
     rsub(&x(order, b), &x(order, a))
@@ -48,7 +49,7 @@ pub(crate) fn y_gap(order: Order, a: &Point, b: &Point) -> Real
     requires a_within { IsWithin (2 ^ 25) a.now }
     requires b_within { IsWithin (2 ^ 25) b.now }
     ensures value { real_in order result ≡ difference (reals_of order).ops
-        (place_of order b.now).y (place_of order a.now).y }
+        (spot_of order b.now).y (spot_of order a.now).y }
     ensures bounded { IsRealWithin (2 ^ 28) result }
 {
     rsub(&y(order, b), &y(order, a))
@@ -58,7 +59,7 @@ pub(crate) fn y_gap(order: Order, a: &Point, b: &Point) -> Real
 fn is_above(order: Order, vertex: &Point, p: &Point) -> bool
     requires vertex_within { IsWithin (2 ^ 25) vertex.now }
     requires p_within { IsWithin (2 ^ 25) p.now }
-    ensures { result ≡ less (reals_of order) (place_of order p.now).y (place_of order vertex.now).y }
+    ensures { result ≡ less (reals_of order) (spot_of order p.now).y (spot_of order vertex.now).y }
 {
     sign(order, &y_gap(order, p, vertex)) == Ordering::Greater
 }
@@ -70,7 +71,7 @@ pub fn crossing(order: Order, a: &Point, b: &Point, p: &Point) -> i8
     requires a_within { IsWithin (2 ^ 25) a.now }
     requires b_within { IsWithin (2 ^ 25) b.now }
     requires p_within { IsWithin (2 ^ 25) p.now }
-    ensures value { result ≡ crossing (reals_of order) (place_of order a.now) (place_of order b.now)
+    ensures value { result ≡ crossing (reals_of order) (spot_of order a.now) (spot_of order b.now)
         (test_of order p.now) }
     ensures at_most_one { Within 1 result }
 {

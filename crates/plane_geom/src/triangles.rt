@@ -2,9 +2,9 @@
 
 ghost use Rattle.std.specs.Prelude.{◌≡◌, ◌^◌, All};
 ghost use Rattle.cyclo_points.specs.Point.{IsWithin};
-ghost use Rattle.ordered_ring.specs.Triangle.{right_of, beyond, beyond_an_edge, separated};
-ghost use Rattle.cyclo_points.specs.Places.{reals_of};
-ghost use Rattle.cyclo_points.specs.Places.{place_of, triangle_of};
+ghost use Rattle.ordered_plane.specs.Triangle.{right_of, beyond, beyond_an_edge, separated};
+ghost use Rattle.plane_geom.specs.Spots.{reals_of};
+ghost use Rattle.plane_geom.specs.Spots.{spot_of, triangle_of};
 
 use crate::sides::side;
 use cyclo_points::order::Order;
@@ -16,8 +16,8 @@ fn is_right_of(order: Order, a: &Point, b: &Point, v: &Point) -> bool
     requires a_within { IsWithin (2 ^ 25) a.now }
     requires b_within { IsWithin (2 ^ 25) b.now }
     requires v_within { IsWithin (2 ^ 25) v.now }
-    ensures { result ≡ right_of (reals_of order) (place_of order a.now) (place_of order b.now)
-        (place_of order v.now) }
+    ensures { result ≡ right_of (reals_of order) (spot_of order a.now) (spot_of order b.now)
+        (spot_of order v.now) }
 {
     side(order, a, b, v) != Ordering::Greater
 }
@@ -27,7 +27,7 @@ fn is_beyond(order: Order, a: &Point, b: &Point, t: &[Point; 3]) -> bool
     requires a_within { IsWithin (2 ^ 25) a.now }
     requires b_within { IsWithin (2 ^ 25) b.now }
     requires t_within { All (IsWithin (2 ^ 25)) t.now }
-    ensures { result ≡ beyond (reals_of order) (place_of order a.now) (place_of order b.now)
+    ensures { result ≡ beyond (reals_of order) (spot_of order a.now) (spot_of order b.now)
         (triangle_of order t.now) }
 {
     is_right_of(order, a, b, &t[0])

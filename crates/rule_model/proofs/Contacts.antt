@@ -7,10 +7,10 @@ use mathlib.Core.List.{map-append}
 use Rattle.substitution.specs.Points.{Points}
 use Rattle.substitution.specs.Rule.{Rule, Kind, Child}
 use Rattle.substitution.specs.Rule as rules
-use Rattle.substitution.specs.Tables as tables
-use Rattle.substitution.specs.Tables.{KindTables}
-use Rattle.substitution.specs.Contacts.{tables_of, tables_of_kind}
-use Rattle.substitution.specs.Search.{below}
+use Rattle.addressing.specs.Tables as tables
+use Rattle.addressing.specs.Tables.{KindTables}
+use Rattle.edge_to_edge.specs.Contacts.{tables_of, tables_of_kind}
+use Rattle.addressing.specs.Search.{below}
 
 map-below : {A B : Type 0} (f : A → B) (g : ℕ → A) (n : ℕ) → map f (below g n) ≡ below (λ i. f (g i)) n
 map-below f g zero = refl

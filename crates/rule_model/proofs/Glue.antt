@@ -7,11 +7,10 @@ use Rattle.std.proofs.lemmas.Bool.Decides.{Decides-eqb}
 use Rattle.std.proofs.lemmas.List.{length-append}
 use Rattle.substitution.specs.Rule.{Rule}
 use Rattle.substitution.specs.RuleParts.{mate, edge_types, edge_count, edge_type}
-use Rattle.substitution.specs.Search.{below}
-use Rattle.substitution.specs.Supertile.{IsAmong}
-use Rattle.substitution.specs.Uses.{glue_type, once_each, holders, is_glued_before, are_halves}
-use Rattle.substitution.specs.Dissection.{GlueRight}
-use Rattle.substitution.proofs.Lists.{IsAmong-flat_map, IsAmong-append_left, IsAmong-append_right}
+use Rattle.addressing.specs.Search.{below, IsAmong}
+use Rattle.edge_to_edge.specs.Glue.{glue_type, once_each, holders, is_glued_before, are_halves}
+use Rattle.edge_to_edge.specs.EdgeToEdge.{HasRightGlue}
+use Rattle.addressing.proofs.Lists.{IsAmong-flat_map, IsAmong-append_left, IsAmong-append_right}
 use Rattle.rule_model.specs.Glue.{IsGlueEdge, IsOnlyGlueEdge}
 use Rattle.rule_model.proofs.Searches.{some_below-found, found, list_any-found, or_right}
 
@@ -87,7 +86,7 @@ halves r n (a ∷ []) (b ∷ []) h =
 halves r n (a ∷ []) (b ∷ (c ∷ ls)) h = absurd (cc)
 halves r n (a ∷ (c ∷ ks)) ls h = absurd (cc)
 
-module _ {A : Type 0} (r : Rule A) (right : GlueRight r) (k : ℕ) (exists : k < length r.kinds) where
+module _ {A : Type 0} (r : Rule A) (right : HasRightGlue r) (k : ℕ) (exists : k < length r.kinds) where
   -- edge e of kind k has glue type number i, or its mate
   record Has (e i : ℕ) : Type 0 where
     edge_in : e < edge_count r k

@@ -10,9 +10,9 @@ use Rattle.std.proofs.lemmas.Bool.Decides.{Decides-int_eq}
 use Rattle.std.proofs.lemmas.Bool.{and_parts, or_parts, not-true, ltb-true, ltb-false, leb-true, eqb-true}
 use Rattle.substitution.specs.Rule.{Kind, Child as TheChild, children_of}
 use Rattle.substitution.specs.RuleParts.{parts, map_child, vertices_of, edge_types, edge_count, child_of}
-use Rattle.substitution.specs.Limits.{is_from_to, is_type, is_child}
-use Rattle.substitution.specs.Limited.{WithinLimits}
-use Rattle.substitution.specs.Numbered.{IsNumbered}
+use Rattle.edge_to_edge.specs.Limits.{is_from_to, is_type, is_child}
+use Rattle.edge_to_edge.specs.Limited.{WithinLimits}
+use Rattle.edge_to_edge.specs.Numbered.{IsNumbered}
 use Rattle.cyclo_points.specs.declared.order.Order.{Order}
 use Rattle.cyclo_points.specs.declared.order.Order.TheVariants.{Four, Eight, Ten}
 use Rattle.cyclo_points.specs.declared.point.Point.{Point}

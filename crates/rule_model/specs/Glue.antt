@@ -2,8 +2,8 @@
 use Rattle.std.specs.Prelude.{◌≡◌, ℕ, ◌<◌, Bool, true, ◌||◌, length, nat_eq}
 use Rattle.substitution.specs.Rule.{Rule}
 use Rattle.substitution.specs.RuleParts.{mate, edge_count, edge_type}
-use Rattle.substitution.specs.Search.{some_below}
-use Rattle.substitution.specs.Uses.{glue_type}
+use Rattle.addressing.specs.Search.{some_below}
+use Rattle.edge_to_edge.specs.Glue.{glue_type}
 
 -- the type is a glue type or the mate of one
 abbrev pub is_glued : {A : Type 0} → Rule A → ℕ → Bool

@@ -1,4 +1,5 @@
 pub mod Views
+pub mod Tiling
 pub mod Small
 pub mod Accepted
 pub mod Usable

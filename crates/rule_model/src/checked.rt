@@ -1,12 +1,12 @@
-//! Rules that are known to be dissections.
+//! Accepted rules.
 ghost use Rattle.std.specs.Prelude.{◌≡◌, ◌↔◌, ℕ, ◌<◌, length, map, All, None, IfSome};
 ghost use Rattle.substitution.specs.Rule.{children_of};
 ghost use Rattle.substitution.specs.RuleParts.{vertices_of, edge_count, child_of};
-ghost use Rattle.substitution.specs.Tables.{child_kinds};
+ghost use Rattle.addressing.specs.Tables.{child_kinds};
 ghost use Rattle.cyclo_points.specs.Order.{points_of};
 ghost use Rattle.cyclo_points.specs.Point.{point_in};
 ghost use Rattle.rule_model.specs.Accepted.{IsAccepted};
-ghost use Rattle.rule_model.specs.Checked.{contacts_of, uses_of};
+ghost use Rattle.rule_model.specs.Checked.{contacts_of, child_kinds_of};
 ghost use Rattle.rule_model.specs.Glue.{IsGlueEdge, IsOnlyGlueEdge};
 ghost use Rattle.rule_model.specs.Usable.{IsSmall, IsUsable};
 ghost use Rattle.rule_model.specs.Views.{as_rule, rule_of, child_in};
@@ -44,7 +44,7 @@ impl Checked {
     pub fn admit(rule: Rule, tables: Tables, uses: Uses) -> Checked
         requires accepted { IsAccepted rule }
         requires its_tables { tables ≡ contacts_of rule }
-        requires its_uses { uses ≡ uses_of rule }
+        requires its_uses { uses ≡ child_kinds_of rule }
         ensures { result ≡ rule }
     {
         Checked { rule, tables, uses }
@@ -78,14 +78,14 @@ impl Checked {
     /// Its contact tables, which have its child kinds.
     pub fn tables(&self) -> &Tables
         ensures contacts { result.now ≡ contacts_of self.now }
-        ensures same_uses { child_kinds (contacts_of self.now) ≡ uses_of self.now }
+        ensures same_uses { child_kinds (contacts_of self.now) ≡ child_kinds_of self.now }
     {
         &self.tables
     }
 
     /// Its uses.
     pub fn uses(&self) -> &Uses
-        ensures { result.now ≡ uses_of self.now }
+        ensures { result.now ≡ child_kinds_of self.now }
     {
         &self.uses
     }

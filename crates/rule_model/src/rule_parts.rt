@@ -2,7 +2,7 @@
 ghost use Rattle.std.specs.Prelude.{◌≡◌, ◌<◌, length, map, get_or};
 ghost use Rattle.substitution.specs.Rule.{Child as TheChild, kind_of, children_of};
 ghost use Rattle.substitution.specs.RuleParts.{map_kind, mate, parts, vertices_of, edge_types, edge_count, edge_type, vertex, child_of};
-ghost use Rattle.substitution.specs.Uses.{glue_type};
+ghost use Rattle.edge_to_edge.specs.Glue.{glue_type};
 ghost use Rattle.cyclo_points.specs.declared.order.Order.{Order};
 ghost use Rattle.cyclo_points.specs.declared.point.Point.{Point};
 ghost use Rattle.cyclo_points.specs.Order.{points_of};

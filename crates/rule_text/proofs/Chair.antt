@@ -1,7 +1,7 @@
 -- The chair's numbers are within the limits.
 use Rattle.std.proofs.Common.{◌≡◌, ℕ, zero, suc, ◌<◌, pos, List, [], ◌∷◌, refl, arith}
 use Rattle.substitution.specs.Rule.{Child, EdgeType, Kind, Rule}
-use Rattle.substitution.specs.Limited.{WithinLimits}
+use Rattle.edge_to_edge.specs.Limited.{WithinLimits}
 use Rattle.cyclo_points.specs.declared.order.Order.TheVariants.{Four}
 use Rattle.cyclo_points.specs.declared.point.Point.{Point}
 use Rattle.rule_model.specs.Small.{is_small}

@@ -4,7 +4,7 @@ use Rattle.toml.specs.Data.{Data, integer, depth, items_depth, members_depth}
 use Rattle.toml.specs.View.{items_of}
 use Rattle.substitution.specs.Rule.{Child, EdgeType, Kind}
 use Rattle.cyclo_points.specs.declared.point.Point.{Point}
-use Rattle.rule_text.specs.Document.{ListedRule}
+use Rattle.rule_model.specs.Tiling.{ListedRule}
 use Rattle.rule_text.specs.Written.{number_data, list_data, point_data, child_data, type_data, kind_data, rule_members}
 
 items-shallow : {A : Type 0} (n : ℕ) (f : A → Data) → ((x : A) → depth (f x) ≤ n) → (xs : List A) → items_depth (items_of (map f xs)) ≤ n

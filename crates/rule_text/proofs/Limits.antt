@@ -6,12 +6,12 @@ use Rattle.std.proofs.lemmas.List.{get_or_default}
 use Rattle.std.proofs.lemmas.List.Sums.{AllPass-from_list_all}
 use Rattle.substitution.specs.Rule.{Child, Rule, kind_of, children_of}
 use Rattle.substitution.specs.RuleParts.{edge_type_of, mate, parts, vertices_of, edge_types, edge_count}
-use Rattle.substitution.specs.Limits.{is_from_to, is_type, is_child}
-use Rattle.substitution.specs.Limited.{WithinLimits}
+use Rattle.edge_to_edge.specs.Limits.{is_from_to, is_type, is_child}
+use Rattle.edge_to_edge.specs.Limited.{WithinLimits}
 use Rattle.cyclo_points.specs.declared.point.Point.{Point}
 use Rattle.cyclo_points.specs.Order.{points_of}
 use Rattle.rule_model.specs.Small.{is_small}
-use Rattle.rule_text.specs.Document.{ListedRule}
+use Rattle.rule_model.specs.Tiling.{ListedRule}
 use Rattle.rule_text.specs.Written.{IsFour, HasFours}
 use Rattle.rule_text.proofs.ReadBack.{IsFit, IsFitType, IsFitKind, IsFitChild}
 

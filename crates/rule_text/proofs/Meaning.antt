@@ -9,8 +9,9 @@ use Rattle.rule_model.specs.declared.rule.Rule.{Rule}
 use Rattle.rule_text.specs.declared.text_fault.TextFault.{TextFault}
 use Rattle.rule_text.specs.declared.text_fault.TextFault.TheVariants.{NotToml, NoMemory}
 use Rattle.rule_text.specs.Agrees.{Gives}
-use Rattle.rule_text.specs.Document.{ListedRule, rule_in}
-use Rattle.rule_text.specs.File.{document_in, listed}
+use Rattle.rule_text.specs.Document.{rule_in}
+use Rattle.rule_model.specs.Tiling.{ListedRule, listed}
+use Rattle.rule_text.specs.File.{document_in}
 use Rattle.rule_text.proofs.Faults.{rule_in-toml}
 
 pub document-some : (bytes : List ℕ) (ms : Members) → IsUtf8 bytes → parse_document bytes ≡ Some ms → document_in bytes ≡ Some ms

@@ -10,11 +10,11 @@ use Rattle.toml.specs.Text.{IsLinesText, IsDocumentText, is_section, are_tables,
 use Rattle.toml.specs.View.{items_of}
 use Rattle.substitution.specs.Rule.{EdgeType, Kind, kind_of, children_of}
 use Rattle.substitution.specs.RuleParts.{edge_type_of, parts, vertices_of, edge_types, edge_count}
-use Rattle.substitution.specs.Limits.{is_from_to, is_type, is_child}
+use Rattle.edge_to_edge.specs.Limits.{is_from_to, is_type, is_child}
 use Rattle.cyclo_points.specs.declared.point.Point.{Point}
 use Rattle.cyclo_points.specs.Order.{points_of}
 use Rattle.rule_model.specs.Small.{is_small}
-use Rattle.rule_text.specs.Document.{ListedRule}
+use Rattle.rule_model.specs.Tiling.{ListedRule}
 use Rattle.rule_text.specs.Written.{IsFour, HasFours, number_data, list_data, point_data, child_data, type_members, type_data, kind_members, kind_data, rule_members}
 use Rattle.rule_text.proofs.Limits.{AreLimits, All-at, high, few_types, few_kinds}
 use Rattle.rule_text.proofs.PrintedValues.{integer-short, numbers-short, point-short, points-short, children-short}

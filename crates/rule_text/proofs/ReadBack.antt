@@ -12,7 +12,8 @@ use Rattle.rule_text.specs.declared.text_fault.TextFault.{TextFault}
 use Rattle.rule_text.specs.Forms.{each, integers, row, rows, tables}
 use Rattle.rule_text.specs.Ranges.{below, format_of, order_of, point_of, child_of}
 use Rattle.rule_text.specs.Steps.{value_at, in_order}
-use Rattle.rule_text.specs.Document.{ListedRule, type_in, kind_in, types_in, kinds_in, rule_in}
+use Rattle.rule_text.specs.Document.{type_in, kind_in, types_in, kinds_in, rule_in}
+use Rattle.rule_model.specs.Tiling.{ListedRule}
 use Rattle.rule_text.specs.Written.{IsFour, number_data, list_data, point_data, child_data, type_members, type_data, kind_members, kind_data, rule_members}
 use Rattle.rule_text.proofs.KeyLaws.{value_at-formed}
 use Rattle.rule_text.proofs.ReadForms.{each-same, numbers-read, row-read, rows-read, tables-read}

@@ -1,8 +1,9 @@
 -- The rule that a document stands for, or its first fault.
 use Rattle.std.specs.Prelude.{ℕ, List, [], ◌∷◌, Some, Result, codes}
-use Rattle.substitution.specs.Rule.{EdgeType, Kind, Rule}
+use Rattle.substitution.specs.Rule.{EdgeType, Kind}
 use Rattle.cyclo_points.specs.declared.order.Order.{Order}
 use Rattle.cyclo_points.specs.declared.point.Point.{Point}
+use Rattle.rule_model.specs.Tiling.{ListedRule}
 use Rattle.toml.specs.Data.{Members, as_integer}
 use Rattle.rule_text.specs.declared.key.Key.TheVariants as key
 use Rattle.rule_text.specs.declared.place.Place.TheVariants.{Top, InType, InKind}
@@ -10,11 +11,6 @@ use Rattle.rule_text.specs.declared.text_fault.TextFault.{TextFault}
 use Rattle.rule_text.specs.Forms.{each, integers, row, rows, tables}
 use Rattle.rule_text.specs.Ranges.{below, format_of, order_of, point_of, child_of}
 use Rattle.rule_text.specs.Steps.{◌>>=◌, value_at, unless_further, in_order}
-
--- a rule as lists, with its order
-pub record ListedRule : Type 0 where
-  pub order : Order
-  pub rule : Rule Point
 
 -- the keys of a type, of a kind, and of the document
 abbrev pub type_keys : List (List ℕ)

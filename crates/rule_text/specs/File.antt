@@ -3,11 +3,10 @@ use Rattle.std.specs.Prelude.{ℕ, List, Option, Some, None, Result, Err, if◌t
 use Rattle.std.specs.Str.{is_utf8}
 use Rattle.toml.specs.Data.{Members}
 use Rattle.toml.specs.Parse.{parse_document}
-use Rattle.rule_model.specs.declared.rule.Rule.{Rule}
-use Rattle.rule_model.specs.Views.{as_rule}
 use Rattle.rule_text.specs.declared.text_fault.TextFault.{TextFault}
 use Rattle.rule_text.specs.declared.text_fault.TextFault.TheVariants.{NotToml}
-use Rattle.rule_text.specs.Document.{ListedRule, rule_in}
+use Rattle.rule_text.specs.Document.{rule_in}
+use Rattle.rule_model.specs.Tiling.{ListedRule}
 
 -- the document that the bytes are the text of
 abbrev pub document_in : List ℕ → Option Members
@@ -20,7 +19,3 @@ rule_of_document (Some members) = rule_in members
 -- the rule that the bytes of a file stand for, or the first fault
 abbrev pub rule_in_file : List ℕ → Result ListedRule TextFault
 rule_in_file bytes = rule_of_document (document_in bytes)
-
--- the lists of a rule of the program
-abbrev pub listed : Rule → ListedRule
-listed r = record { order = r.order; rule = as_rule r }

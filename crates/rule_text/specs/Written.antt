@@ -7,7 +7,7 @@ use Rattle.cyclo_points.specs.declared.point.Point.{Point}
 use Rattle.cyclo_points.specs.Order.{points_of}
 use Rattle.toml.specs.Data.{Data, integer, array, table, Members, no_members, member}
 use Rattle.toml.specs.View.{items_of}
-use Rattle.rule_text.specs.Document.{ListedRule}
+use Rattle.rule_model.specs.Tiling.{ListedRule}
 
 -- the members with a value at a key, in the order of the keys
 abbrev pub put_member : List ℕ → Data → Members → Members

@@ -4,7 +4,8 @@ ghost use Rattle.toml.specs.View.{table_view};
 ghost use Rattle.rule_model.specs.Views.{as_type, as_kind};
 ghost use Rattle.rule_text.specs.Agrees.{Gives};
 ghost use Rattle.rule_text.specs.Document.{type_in, kind_in, types_in, kinds_in, rule_in};
-ghost use Rattle.rule_text.specs.File.{document_in, listed, rule_in_file};
+ghost use Rattle.rule_text.specs.File.{document_in, rule_in_file};
+ghost use Rattle.rule_model.specs.Tiling.{listed};
 ghost use Rattle.rule_text.specs.Narrow.{AreNarrow};
 ghost use Rattle.rule_text.specs.Steps.{in_order};
 

@@ -7,7 +7,7 @@ mod kinds;
 mod types;
 
 ghost use Rattle.std.specs.Prelude.{◌≡◌, IfOk};
-ghost use Rattle.substitution.specs.Limited.{WithinLimits};
+ghost use Rattle.edge_to_edge.specs.Limited.{WithinLimits};
 ghost use Rattle.cyclo_points.specs.Order.{points_of};
 ghost use Rattle.rule_model.specs.Small.{is_small};
 ghost use Rattle.rule_model.specs.Views.{as_rule};

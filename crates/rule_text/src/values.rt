@@ -3,7 +3,7 @@ ghost use Rattle.std.specs.Prelude.{◌≡◌, All, map, pos, IfOk, OnOk};
 ghost use Rattle.toml.specs.Data.{integer};
 ghost use Rattle.toml.specs.View.{view, table_view};
 ghost use Rattle.rule_model.specs.Views.{as_child, as_type, as_kind, as_rule};
-ghost use Rattle.rule_text.specs.File.{listed};
+ghost use Rattle.rule_model.specs.Tiling.{listed};
 ghost use Rattle.rule_text.specs.Written.{put_member, number_data, list_data, point_data, child_data, type_data, kind_data, rule_members, IsFour, HasFours};
 
 use cyclo_points::point::Point;

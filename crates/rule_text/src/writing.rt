@@ -1,11 +1,12 @@
 //! From a rule to its file.
 ghost use Rattle.std.specs.Prelude.{◌≡◌, ◌≤◌, false, Ok, length, string_bytes, IfOk, IfErr};
 ghost use Rattle.toml.specs.Text.{IsDocumentText};
-ghost use Rattle.substitution.specs.Limited.{WithinLimits};
+ghost use Rattle.edge_to_edge.specs.Limited.{WithinLimits};
 ghost use Rattle.cyclo_points.specs.Order.{points_of};
 ghost use Rattle.rule_model.specs.Small.{is_small};
 ghost use Rattle.rule_model.specs.Views.{as_rule};
-ghost use Rattle.rule_text.specs.File.{listed, rule_in_file};
+ghost use Rattle.rule_text.specs.File.{rule_in_file};
+ghost use Rattle.rule_model.specs.Tiling.{listed};
 ghost use Rattle.rule_text.specs.Written.{rule_members};
 
 use crate::reading::{LONGEST_FILE, read_rule};

@@ -5,11 +5,12 @@ use Rattle.ordered_ring.specs.Ring.{Ops, difference, power}
 use Rattle.ordered_ring.proofs.Normaliser.{var, con, neg, ring, ring_from, ◌⊕◌, ◌⊖◌, ◌⊗◌}
 use Rattle.substitution.specs.Points.{Points, PointLaws}
 use Rattle.substitution.specs.Motion.{Motion, moved}
-use Rattle.ordered_ring.specs.Plane.{IsPositive, orientation}
-use Rattle.ordered_ring.specs.Segment.{on_segment, Between}
+use Rattle.ordered_ring.specs.Sign.{IsPositive}
+use Rattle.ordered_plane.specs.Plane.{orientation}
+use Rattle.ordered_plane.specs.Segment.{on_segment, Between}
 use Rattle.substitution.specs.Plane.{plane_point, same_length, Keeps, IsGrowthFactor}
-use Rattle.ordered_ring.proofs.OnSegment.{between-on_segment, on_segment-between}
-use Rattle.ordered_ring.proofs.Linear.{Linear, Shifted, Scaled, two_pos, cancel, between-linear, between-scaled_back, between-shifted, shifted-back, turns-linear, turns-shifted}
+use Rattle.ordered_plane.proofs.OnSegment.{between-on_segment, on_segment-between}
+use Rattle.ordered_plane.proofs.Linear.{Linear, Shifted, Scaled, two_pos, cancel, between-linear, between-scaled_back, between-shifted, shifted-back, turns-linear, turns-shifted}
 use Rattle.substitution.proofs.Lengths.{motion-length, factor-same_length}
 
 same_truth : (x y : Bool) → (x ≡ true → y ≡ true) → (y ≡ true → x ≡ true) → x ≡ y

@@ -5,10 +5,10 @@ use Rattle.ordered_ring.specs.Ring.{Ops, Laws, difference, power}
 use Rattle.ordered_ring.proofs.Normaliser.{Expr, var, con, ring, ring_from, ◌⊕◌, ◌⊖◌, ◌⊗◌}
 use Rattle.substitution.specs.Points.{Points, PointLaws}
 use Rattle.substitution.specs.Motion.{Motion, moved}
-use Rattle.ordered_ring.specs.Plane.{IsPositive}
+use Rattle.ordered_ring.specs.Sign.{IsPositive}
 use Rattle.substitution.specs.Plane.{twice_squared_length, same_length}
 use Rattle.ordered_ring.proofs.Signs.{sign-scale}
-use Rattle.ordered_ring.proofs.Linear.{two_pos, cancel}
+use Rattle.ordered_plane.proofs.Linear.{two_pos, cancel}
 
 -- x² + (4 - t²) y², with t, x and y the variables 0, 1 and 2 and more
 abbrev square_of : Expr → Expr → Expr

@@ -4,10 +4,11 @@ use Rattle.std.specs.Prelude.{◌≡◌, ℕ, pos, ◌<◌, Bool}
 use Rattle.std.specs.Ordering.{is_eq}
 use Rattle.ordered_ring.specs.Ring.{difference}
 use Rattle.substitution.specs.Points.{Points}
-use Rattle.ordered_ring.specs.Plane.{IsPositive, PlanePoint, orientation}
-use Rattle.ordered_ring.specs.Segment.{on_segment}
-use Rattle.ordered_ring.specs.Box.{OpenBox}
-use Rattle.ordered_ring.specs.Close.{HasPointRight}
+use Rattle.ordered_ring.specs.Sign.{IsPositive}
+use Rattle.ordered_plane.specs.Plane.{PlanePoint, orientation}
+use Rattle.ordered_plane.specs.Segment.{on_segment}
+use Rattle.ordered_plane.specs.Box.{OpenBox}
+use Rattle.ordered_plane.specs.Close.{HasPointRight}
 
 abbrev pub plane_point : (P : Points) → P.ring.carrier → PlanePoint P.real.ops.carrier
 plane_point P z = record { x = P.x z; y = P.y z }

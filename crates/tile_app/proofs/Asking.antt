@@ -1,6 +1,6 @@
 -- What is asked for by right words, and what is printed.
 use Rattle.std.proofs.Common.{◌≡◌, ℕ, List, [], ◌∷◌, ◌++◌, Some, Ok, refl, sym, ap, ap₂, ◌∙◌, subst, append_assoc}
-use Rattle.substitution.specs.Address.{Address}
+use Rattle.addressing.specs.Address.{Address}
 use Rattle.substitution.specs.Rule.{child_kinds}
 use Rattle.cyclo_points.specs.declared.order.Order.{Order}
 use Rattle.cyclo_points.specs.declared.order.Order.TheVariants.{Four, Eight, Ten}
@@ -14,7 +14,7 @@ use Rattle.tile_shape.specs.declared.address_fault.AddressFault.{AddressFault}
 use Rattle.tile_shape.specs.Accepted.{IsAccepted}
 use Rattle.tile_shape.specs.Refused.{IsFaultOf}
 use Rattle.tile_shape.specs.Text.{address_text}
-use Rattle.tile_app.specs.Tilings.{Tiling}
+use Rattle.rule_model.specs.Tiling.{Tiling}
 use Rattle.tile_app.specs.Text.{blank, newline}
 use Rattle.tile_app.specs.Asked.{Asks, AsksForTile, GivesNoAddress, GivesFault}
 use Rattle.tile_app.specs.Requests.{Request, Chooses}

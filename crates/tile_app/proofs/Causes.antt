@@ -1,9 +1,9 @@
 -- What is asked has one answer: the cause of one status is no cause of another.
 use Rattle.std.proofs.Common.{◌≡◌, ◌⊎◌, inl, inr, ℕ, ◌<◌, List, None, Ok, Err, refl, sym, ap, ap₂, ◌∙◌, subst, arith}
-use Rattle.substitution.specs.Address.{Address, Fits}
+use Rattle.addressing.specs.Address.{Address, Fits}
 use Rattle.substitution.specs.Rule.{child_kinds}
-use Rattle.substitution.specs.Tables.{Tables}
-use Rattle.substitution.specs.Trace.{Cut, HasTrace, first_part}
+use Rattle.addressing.specs.Tables.{Tables}
+use Rattle.addressing.specs.Trace.{Cut, HasTrace, first_part}
 use Rattle.cyclo_points.specs.declared.point.Point.{Point}
 use Rattle.tile_shape.specs.Accepted.{IsAccepted}
 use Rattle.tile_shape.specs.Text.{HasShortNumbers, address_text}
@@ -21,7 +21,7 @@ use Rattle.tile_place.specs.Placing.{first_refused}
 use Rattle.tile_app.specs.Placing.{PassesLimit, CanBePlaced}
 use Rattle.tile_app.specs.Requests.{Request, HasRuleFault}
 use Rattle.tile_app.specs.Status.{IsBadAddress, IsCoordLimit, IsCutShort, Causes}
-use Rattle.tile_app.specs.Tilings.{Tiling, contacts}
+use Rattle.rule_model.specs.Tiling.{Tiling, contacts}
 use Rattle.tile_app.specs.Words.{command_of, IsAboutTile}
 use Rattle.tile_app.proofs.Requested.{some_is, named_once, fault_once, named_or_refused}
 use Rattle.tile_app.proofs.Tilings.{AcceptedAreUsable, named_is_usable}

@@ -1,6 +1,6 @@
 -- The edges of a kind.
 use Rattle.std.proofs.Common.{ℕ, zero, suc, ◌<◌, List, [], ◌∷◌, length, slice_get, IsSome, refl, arith}
-use Rattle.substitution.specs.Tables.{Tables, kind_tables, type_of}
+use Rattle.addressing.specs.Tables.{Tables, kind_tables, type_of}
 
 some_at : (xs : List ℕ) (i : ℕ) → i < length xs → IsSome (slice_get xs i)
 some_at [] i l = absurd (omega arith)

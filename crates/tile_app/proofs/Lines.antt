@@ -5,7 +5,7 @@ use Rattle.cyclo_points.specs.Order.{points_of}
 use Rattle.rule_model.specs.declared.rule.Rule.{Rule}
 use Rattle.rule_model.specs.Views.{rule_of}
 use Rattle.tile_app.specs.Text.{newline, check_line}
-use Rattle.tile_app.specs.Tilings.{tiling_of}
+use Rattle.rule_model.specs.Tiling.{tiling_of}
 
 -- pieces joined from the right are the line joined from the left
 joined : (a b c d e f g : List ℕ) → a ++ (b ++ (c ++ (d ++ (e ++ (f ++ g))))) ≡ a ++ b ++ c ++ d ++ e ++ f ++ g

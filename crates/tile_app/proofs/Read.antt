@@ -16,7 +16,7 @@ use Rattle.tile_app.specs.Reading.{IsReadingRefused}
 use Rattle.tile_app.specs.Requests.{Request, NamesTiling, HasRuleFault, WasFileIn, WasAsked}
 use Rattle.tile_app.specs.RuleFiles.{tiling_in_file}
 use Rattle.tile_app.specs.Status.{IsRefused}
-use Rattle.tile_app.specs.Tilings.{Tiling, tiling_of}
+use Rattle.rule_model.specs.Tiling.{Tiling, tiling_of}
 use Rattle.tile_app.specs.Words.{command_of, choice_given, reads_file, AreRight}
 use Rattle.tile_app.proofs.Tilings.{tiling_is}
 

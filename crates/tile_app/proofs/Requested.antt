@@ -6,7 +6,7 @@ use Rattle.rule_text.specs.declared.reading.TheConstants.{LONGEST_FILE}
 use Rattle.tile_io.specs.Left.{Gives}
 use Rattle.tile_app.specs.declared.rule_fault.RuleFault.{RuleFault}
 use Rattle.tile_app.specs.Requests.{Request, NamesTiling, HasRuleFault, IsFileIn, WasFileIn, IsAsked, WasAsked, GaveTooMuch, HoldsTooMuch, tiling_asked}
-use Rattle.tile_app.specs.Tilings.{Tiling}
+use Rattle.rule_model.specs.Tiling.{Tiling}
 use Rattle.tile_app.specs.Words.{reads_file}
 
 pub some_is : {A : Type 0} (x y : A) → Some x ≡ Some y → x ≡ y

@@ -12,7 +12,7 @@ use Rattle.dissect_check.specs.declared.check_fault.CheckFault.{CheckFault}
 use Rattle.dissect_check.specs.FirstFault.{fault_of_lists}
 use Rattle.rule_model.specs.declared.rule.Rule.{Rule}
 use Rattle.rule_text.specs.declared.text_fault.TextFault.{TextFault}
-use Rattle.rule_text.specs.Document.{ListedRule}
+use Rattle.rule_model.specs.Tiling.{ListedRule, Tiling, tiling_of, tiling_listed}
 use Rattle.rule_text.specs.File.{rule_in_file}
 use Rattle.tile_shape.specs.Usable.{IsUsable, is_used}
 use Rattle.builtin_rules.specs.declared.name.Name.{Name}
@@ -23,8 +23,8 @@ use Rattle.tile_app.specs.declared.rule_choice.RuleChoice.TheVariants.{Builtin, 
 use Rattle.tile_app.specs.declared.rule_fault.RuleFault.{RuleFault}
 use Rattle.tile_app.specs.Choices.{tiling_chosen}
 use Rattle.tile_app.specs.Requests.{Request, NamesTiling}
-use Rattle.tile_app.specs.RuleFiles.{tiling_listed, tiling_unless, tiling_of_text}
-use Rattle.tile_app.specs.Tilings.{Tiling, tiling_of, builtin_tiling}
+use Rattle.tile_app.specs.RuleFiles.{tiling_unless, tiling_of_text}
+use Rattle.tile_app.specs.Tilings.{builtin_tiling}
 use Rattle.tile_app.specs.Words.{choice_given}
 
 pub tiling_is : (name : Name) (r : Rule) → IsWritten (named name) r → tiling_of r ≡ builtin_tiling name

@@ -2,7 +2,7 @@
 use Rattle.std.specs.Prelude.{◌≡◌, ℕ, List, Some, Ok}
 use Rattle.std.specs.declared.option.Option.{Option}
 use Rattle.std.specs.Option.{option_and_then}
-use Rattle.substitution.specs.Address.{Address}
+use Rattle.addressing.specs.Address.{Address}
 use Rattle.substitution.specs.Rule.{child_kinds}
 use Rattle.tile_shape.specs.Accepted.{IsAccepted}
 use Rattle.tile_shape.specs.declared.address_fault.AddressFault.{AddressFault}
@@ -12,7 +12,7 @@ use Rattle.tile_app.specs.declared.words.Command.{Command}
 use Rattle.tile_app.specs.declared.words.Key.TheVariants.{Addr, Edge}
 use Rattle.tile_app.specs.Numbers.{number_up_to}
 use Rattle.tile_app.specs.Requests.{Request, NamesTiling}
-use Rattle.tile_app.specs.Tilings.{Tiling}
+use Rattle.rule_model.specs.Tiling.{Tiling}
 use Rattle.tile_app.specs.Words.{command_of, value_given, IsAboutTile}
 
 -- the words are right and have this command, and this is the tiling that is named

@@ -4,7 +4,7 @@ use Rattle.tile_app.specs.declared.words.Command.TheVariants.{Check}
 use Rattle.tile_app.specs.Asked.{AsksOf}
 use Rattle.tile_app.specs.Requests.{Request}
 use Rattle.tile_app.specs.Text.{check_line}
-use Rattle.tile_app.specs.Tilings.{Tiling}
+use Rattle.rule_model.specs.Tiling.{Tiling}
 
 -- the rule that is named is asked to be checked, and is accepted
 pub record CanBeChecked (r : Request) : Type 0 where

@@ -7,7 +7,8 @@ use Rattle.tile_app.specs.declared.rule_choice.RuleChoice.{RuleChoice}
 use Rattle.tile_app.specs.declared.rule_choice.RuleChoice.TheVariants.{Builtin, File}
 use Rattle.tile_app.specs.declared.rule_fault.RuleFault.{RuleFault}
 use Rattle.tile_app.specs.RuleFiles.{tiling_in_file}
-use Rattle.tile_app.specs.Tilings.{Tiling, builtin_tiling, name_in}
+use Rattle.tile_app.specs.Tilings.{builtin_tiling, name_in}
+use Rattle.rule_model.specs.Tiling.{Tiling}
 
 -- what a text chooses
 abbrev pub choice_in : List ℕ → Option RuleChoice

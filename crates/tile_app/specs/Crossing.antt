@@ -1,14 +1,14 @@
 -- What `neighbour` prints and refuses.
 use Rattle.std.specs.Prelude.{◌≡◌, ℕ, ◌<◌, ◌≤◌, List, Some, length}
-use Rattle.substitution.specs.Address.{Address}
-use Rattle.substitution.specs.Tables.{kind_tables}
-use Rattle.substitution.specs.Touch.{IsOnlyTouched}
-use Rattle.substitution.specs.Trace.{Cut, HasTrace, first_part}
+use Rattle.addressing.specs.Address.{Address}
+use Rattle.addressing.specs.Tables.{kind_tables}
+use Rattle.addressing.specs.Touch.{IsOnlyTouched}
+use Rattle.addressing.specs.Trace.{Cut, HasTrace, first_part}
 use Rattle.tile_app.specs.declared.words.Command.TheVariants.{Neighbour}
 use Rattle.tile_app.specs.Asked.{AsksForTile, edge_given}
 use Rattle.tile_app.specs.Requests.{Request}
 use Rattle.tile_app.specs.Text.{neighbour_line}
-use Rattle.tile_app.specs.Tilings.{Tiling, contacts}
+use Rattle.rule_model.specs.Tiling.{Tiling, contacts}
 
 -- how many edges a kind has
 abbrev pub edges_of : Tiling → ℕ → ℕ

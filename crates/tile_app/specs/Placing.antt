@@ -1,6 +1,6 @@
 -- What `place` prints and refuses.
 use Rattle.std.specs.Prelude.{◌≡◌, ℕ, List, Some, None}
-use Rattle.substitution.specs.Address.{Address}
+use Rattle.addressing.specs.Address.{Address}
 use Rattle.substitution.specs.Motion.{Motion}
 use Rattle.substitution.specs.Supertile.{StandsBeside}
 use Rattle.cyclo_points.specs.declared.point.Point.{Point}
@@ -11,7 +11,7 @@ use Rattle.tile_app.specs.declared.words.Command.TheVariants.{Place}
 use Rattle.tile_app.specs.Asked.{AsksForTile}
 use Rattle.tile_app.specs.Requests.{Request}
 use Rattle.tile_app.specs.Text.{place_line}
-use Rattle.tile_app.specs.Tilings.{Tiling}
+use Rattle.rule_model.specs.Tiling.{Tiling}
 
 -- no Horner value of the address is refused, and the text is the line of its kind and of the motion that stands beside it in the list of its supertile's tiles
 pub record PlacesTile (t : Tiling) (a : Address) (text : List ℕ) : Type 0 where

@@ -6,7 +6,7 @@ use Rattle.rule_text.specs.declared.reading.TheConstants.{LONGEST_FILE}
 use Rattle.tile_io.specs.Left.{Gives}
 use Rattle.tile_app.specs.declared.rule_fault.RuleFault.{RuleFault}
 use Rattle.tile_app.specs.Choices.{tiling_chosen}
-use Rattle.tile_app.specs.Tilings.{Tiling}
+use Rattle.rule_model.specs.Tiling.{Tiling}
 use Rattle.tile_app.specs.Words.{choice_given, reads_file}
 
 -- the words, and the bytes of the file; there are none where the words have no file read

@@ -1,20 +1,13 @@
 -- The tiling of a rule file.
 use Rattle.std.specs.Prelude.{ℕ, List, Some, None, Result, Ok, Err}
 use Rattle.std.specs.declared.option.Option.{Option}
-use Rattle.substitution.specs.RuleParts.{map_rule}
-use Rattle.cyclo_points.specs.Point.{point_in}
+use Rattle.rule_model.specs.Tiling.{Tiling, ListedRule, tiling_listed}
 use Rattle.dissect_check.specs.declared.check_fault.CheckFault.{CheckFault}
 use Rattle.dissect_check.specs.FirstFault.{fault_of_lists}
 use Rattle.rule_text.specs.declared.text_fault.TextFault.{TextFault}
-use Rattle.rule_text.specs.Document.{ListedRule}
 use Rattle.rule_text.specs.File.{rule_in_file}
 use Rattle.tile_app.specs.declared.rule_fault.RuleFault.{RuleFault}
 use Rattle.tile_app.specs.declared.rule_fault.RuleFault.TheVariants.{Text, Check}
-use Rattle.tile_app.specs.Tilings.{Tiling}
-
--- the tiling of a rule as lists
-abbrev pub tiling_listed : ListedRule → Tiling
-tiling_listed x = record { order = x.order; rule = map_rule (point_in x.order) x.rule }
 
 -- the same, unless a clause of the check refuses the rule
 abbrev pub tiling_unless : Option CheckFault → ListedRule → Result Tiling RuleFault

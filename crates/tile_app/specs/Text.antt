@@ -1,13 +1,13 @@
 -- What the commands print. Every line ends with one newline.
 use Rattle.std.specs.Prelude.{ℕ, List, [], ◌∷◌, ◌++◌, codes, length}
 use Rattle.std.specs.Fmt.{decimal}
-use Rattle.substitution.specs.Address.{Address}
+use Rattle.addressing.specs.Address.{Address}
 use Rattle.substitution.specs.Motion.{Motion}
 use Rattle.tile_shape.specs.Text.{address_text}
 use Rattle.cyclo_points.specs.declared.order.Order.{Order}
 use Rattle.cyclo_points.specs.Order.{NumberOf, points_of}
 use Rattle.cyclo_points.specs.Text.{number_text}
-use Rattle.tile_app.specs.Tilings.{Tiling}
+use Rattle.rule_model.specs.Tiling.{Tiling}
 
 -- a blank, and the end of a line
 abbrev pub blank : ℕ

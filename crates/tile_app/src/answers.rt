@@ -1,7 +1,7 @@
 //! The text that the words ask for, or why there is none.
 ghost use Rattle.std.specs.Prelude.{◌≡◌, ◌≤◌, ℕ, List, false, Some, Ok, IfOk, IfErr, IsErrOf, string_bytes};
 ghost use Rattle.tile_io.specs.Causes.{Rose};
-ghost use Rattle.rule_model.specs.Checked.{uses_of};
+ghost use Rattle.rule_model.specs.Checked.{child_kinds_of};
 ghost use Rattle.tile_shape.specs.Accepted.{IsAccepted};
 ghost use Rattle.tile_shape.specs.Views.{address_of};
 ghost use Rattle.tile_app.specs.declared.words.Command.{Command};
@@ -10,7 +10,7 @@ ghost use Rattle.tile_app.specs.Answers.{Prints};
 ghost use Rattle.tile_app.specs.Asked.{AsksForTile, edge_given};
 ghost use Rattle.tile_app.specs.Requests.{Request, Chooses, WasAsked};
 ghost use Rattle.tile_app.specs.Status.{Causes, IsRefused};
-ghost use Rattle.tile_app.specs.Tilings.{tiling_of};
+ghost use Rattle.rule_model.specs.Tiling.{tiling_of};
 ghost use Rattle.tile_app.specs.Words.{texts, command_of, reads_file, AskAboutTile};
 
 use crate::neighbour::neighbour;
@@ -29,7 +29,7 @@ use tile_shape::reading::read_address;
 /// The address that right words give, of a tile of the machine's tiling.
 fn address_given(machine: &Machine, words: &[String]) -> Result<Address, Status>
     requires right { AskAboutTile (texts words.now) }
-    ensures accepted { IfOk result (λ a. IsAccepted (uses_of machine.now) (address_of a)) }
+    ensures accepted { IfOk result (λ a. IsAccepted (child_kinds_of machine.now) (address_of a)) }
     ensures asked { IfOk result (λ a. (r : Request) (command : Command) → Chooses (texts words.now) (tiling_of machine.now) r
         → command_of (texts words.now) ≡ Ok command → AsksForTile r command (tiling_of machine.now) (address_of a)) }
     ensures refused { IfErr result (λ status. (r : Request) → Chooses (texts words.now) (tiling_of machine.now) r → Causes r status) }

@@ -6,7 +6,7 @@ ghost use Rattle.tile_app.specs.Reading.{IsFileRefused, IsReadingRefused};
 ghost use Rattle.tile_app.specs.Requests.{Request, NamesTiling, WasAsked, WasFileIn};
 ghost use Rattle.tile_app.specs.RuleFiles.{tiling_in_file};
 ghost use Rattle.tile_app.specs.Status.{IsRefused};
-ghost use Rattle.tile_app.specs.Tilings.{tiling_of};
+ghost use Rattle.rule_model.specs.Tiling.{tiling_of};
 ghost use Rattle.tile_app.specs.Words.{texts, reads_file, AreRight};
 
 use crate::rule_choice::{RuleChoice, choice_in};

@@ -5,7 +5,7 @@ ghost use Rattle.cyclo_points.specs.Point.{IsOf};
 ghost use Rattle.cyclo_points.specs.Motion.{motion_in};
 ghost use Rattle.tile_shape.specs.Views.{address_of};
 ghost use Rattle.tile_app.specs.Text.{place_line, neighbour_line, check_line};
-ghost use Rattle.tile_app.specs.Tilings.{tiling_of};
+ghost use Rattle.rule_model.specs.Tiling.{tiling_of};
 
 use cyclo_points::motion::Motion;
 use rule_model::checked::Checked;

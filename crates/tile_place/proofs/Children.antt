@@ -2,7 +2,7 @@
 use Rattle.std.proofs.Common.{◌≡◌, ℕ, zero, suc, ◌<◌, List, [], ◌∷◌, map, length, get_or, Some, arith}
 use Rattle.std.proofs.lemmas.List.{length-map}
 use Rattle.std.proofs.lemmas.Option.{slice_get_within}
-use Rattle.substitution.specs.Address.{child_kind, Climbs}
+use Rattle.addressing.specs.Address.{child_kind, Climbs}
 use Rattle.substitution.specs.Rule.{Child, Kind, Rule, child_kinds, children_of}
 use Rattle.tile_shape.specs.declared.step.Step as program
 use Rattle.tile_shape.specs.Views.{step_of}

@@ -6,14 +6,14 @@ use Rattle.std.proofs.lemmas.Bool.{and_parts, not-true}
 use Rattle.substitution.specs.Rule as theory
 use Rattle.substitution.specs.Rule.{child_kinds}
 use Rattle.substitution.specs.RuleParts.{edge_count, map_rule}
-use Rattle.substitution.specs.Contacts.{tables_of}
-use Rattle.substitution.specs.Limited.{WithinLimits}
-use Rattle.substitution.specs.Dissection.{IsDissection}
-use Rattle.substitution.specs.EdgeTypes.{has_length_of_type}
-use Rattle.substitution.specs.Edges.{PlacedEdge, child_edges}
-use Rattle.substitution.specs.Lying.{lie_of, is_loose}
-use Rattle.substitution.specs.Boundary.{parts_of_edge}
-use Rattle.substitution.specs.Tables.{Tables, child_kinds as tables_child_kinds}
+use Rattle.edge_to_edge.specs.Contacts.{tables_of}
+use Rattle.edge_to_edge.specs.Limited.{WithinLimits}
+use Rattle.edge_to_edge.specs.EdgeToEdge.{IsEdgeToEdge}
+use Rattle.edge_to_edge.specs.EdgeTypes.{has_length_of_type}
+use Rattle.edge_to_edge.specs.Edges.{PlacedEdge, child_edges}
+use Rattle.edge_to_edge.specs.Lying.{lie_of, is_loose}
+use Rattle.edge_to_edge.specs.Boundary.{parts_of_edge}
+use Rattle.addressing.specs.Tables.{Tables, child_kinds as tables_child_kinds}
 use Rattle.cyclo_points.specs.declared.order.Order.{Order}
 use Rattle.cyclo_points.specs.declared.order.Order.TheVariants.{Four}
 use Rattle.cyclo_points.specs.declared.point.Point.{Point}
@@ -21,7 +21,7 @@ use Rattle.cyclo_points.specs.Order.{NumberOf, points_of, is_refused}
 use Rattle.cyclo_points.specs.Point.{point_in}
 use Rattle.rule_model.specs.declared.rule.Rule.{Rule}
 use Rattle.rule_model.specs.Accepted.{IsAccepted}
-use Rattle.rule_model.specs.Checked.{contacts_of, uses_of}
+use Rattle.rule_model.specs.Checked.{contacts_of, child_kinds_of}
 use Rattle.rule_model.specs.Small.{is_small}
 use Rattle.rule_model.specs.Views.{as_rule}
 use Rattle.tile_place.specs.Triangle.{triangle, triangle_tables, IsTriangle}
@@ -65,8 +65,8 @@ limits = record {
 not_loose : list_all (λ (s : PlacedEdge (NumberOf Four)). not (is_loose (lie_of (points_of Four) numbers 0 s))) (child_edges (points_of Four) numbers 0) ≡ true
 not_loose = refl
 
-dissection : IsDissection (points_of Four) (is_refused Four) numbers
-dissection = record {
+edge_to_edge : IsEdgeToEdge (points_of Four) (is_refused Four) numbers
+edge_to_edge = record {
   star_shaped = one _ refl;
   inflation_factor = refl;
   mates_back = two _ refl refl;
@@ -89,11 +89,11 @@ moved Q r is h = subst (λ o. Q o (as_rule r)) (sym is.order) (subst (Q Four) (s
 pub accepted : (r : Rule) → IsTriangle r → IsAccepted r
 accepted r is = record {
   limits = moved (λ o l. WithinLimits (points_of o).order (is_small o) l) r is limits;
-  dissection = moved (λ o l. IsDissection (points_of o) (is_refused o) (map_rule (point_in o) l)) r is dissection;
+  edge_to_edge = moved (λ o l. IsEdgeToEdge (points_of o) (is_refused o) (map_rule (point_in o) l)) r is edge_to_edge;
 }
 
 pub its_tables : (r : Rule) (t : Tables) → IsTriangle r → t ≡ triangle_tables → t ≡ contacts_of r
 its_tables r t is h = moved (λ o l. t ≡ tables_of (points_of o) (map_rule (point_in o) l)) r is (h ∙ sym contacts)
 
-pub its_uses : (r : Rule) (u : List (List ℕ)) → IsTriangle r → u ≡ tables_child_kinds triangle_tables → u ≡ uses_of r
+pub its_uses : (r : Rule) (u : List (List ℕ)) → IsTriangle r → u ≡ tables_child_kinds triangle_tables → u ≡ child_kinds_of r
 its_uses r u is h = moved (λ o l. u ≡ child_kinds (map_rule (point_in o) l)) r is h

@@ -2,9 +2,9 @@
 use Rattle.std.proofs.Common.{◌≡◌, ℕ, zero, suc, List, [], ◌∷◌, ◌++◌, map, length, get_or, refl, ap, ◌∙◌}
 use Rattle.substitution.specs.Points.{Points}
 use Rattle.substitution.specs.Rule.{Child, Kind, Rule, child_kinds}
-use Rattle.substitution.specs.Contacts.{tables_of_kind, tables_of}
-use Rattle.substitution.specs.Search.{below}
-use Rattle.substitution.specs.Tables as tables
+use Rattle.edge_to_edge.specs.Contacts.{tables_of_kind, tables_of}
+use Rattle.addressing.specs.Search.{below}
+use Rattle.addressing.specs.Tables as tables
 
 map-append : {A B : Type 0} (f : A → B) (xs ys : List A) → map f (xs ++ ys) ≡ map f xs ++ map f ys
 map-append f [] ys = refl

@@ -1,7 +1,7 @@
 -- Which values of Horner's scheme are refused.
 use Rattle.std.specs.Prelude.{List, find}
 use Rattle.std.specs.declared.option.Option.{Option}
-use Rattle.substitution.specs.Address.{Step}
+use Rattle.addressing.specs.Address.{Step}
 use Rattle.substitution.specs.Placement.{horner_values}
 use Rattle.substitution.specs.Rule.{Rule}
 use Rattle.cyclo_points.specs.declared.order.Order.{Order}

@@ -1,8 +1,8 @@
 -- An example: the right triangle with legs of length 1, cut into four of half its size, one at each corner and one in the middle.
 use Rattle.std.specs.Prelude.{◌≡◌, ℕ, ℤ, pos, List, [], ◌∷◌}
 use Rattle.substitution.specs.Rule as theory
-use Rattle.substitution.specs.Contact.{ChildEdge, inner, outer}
-use Rattle.substitution.specs.Tables.{Tables, KindTables}
+use Rattle.addressing.specs.Contact.{ChildEdge, inner, outer}
+use Rattle.addressing.specs.Tables.{Tables, KindTables}
 use Rattle.cyclo_points.specs.declared.order.Order.TheVariants.{Four}
 use Rattle.cyclo_points.specs.declared.point.Point.{Point}
 use Rattle.rule_model.specs.declared.rule.Rule.{Rule}

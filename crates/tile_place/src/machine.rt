@@ -1,11 +1,11 @@
 //! The machine of a checked rule.
 ghost use Rattle.std.specs.Prelude.{◌≡◌, ◌+◌, ◌*◌, ◌≤◌, ℕ, List, IsSome, IsOk, IfOk, IfErr, Err};
-ghost use Rattle.substitution.specs.Address.{Address as TheAddress, depth, Fits};
-ghost use Rattle.substitution.specs.Tables.{child_kinds, type_of};
-ghost use Rattle.substitution.specs.Touch.{Touches, IsOnlyTouched};
-ghost use Rattle.substitution.specs.Trace.{Cut, HasTrace, first_part};
+ghost use Rattle.addressing.specs.Address.{Address as TheAddress, depth, Fits};
+ghost use Rattle.addressing.specs.Tables.{child_kinds, type_of};
+ghost use Rattle.addressing.specs.Touch.{Touches, IsOnlyTouched};
+ghost use Rattle.addressing.specs.Trace.{Cut, HasTrace, first_part};
 ghost use Rattle.rule_model.specs.Accepted.{IsAccepted};
-ghost use Rattle.rule_model.specs.Checked.{contacts_of, uses_of};
+ghost use Rattle.rule_model.specs.Checked.{contacts_of, child_kinds_of};
 ghost use Rattle.rule_model.specs.Usable.{IsUsable};
 ghost use Rattle.tile_shape.specs.Views.{address_of};
 
@@ -57,7 +57,7 @@ impl Machine {
         ensures rule { result.now ≡ self.now }
         ensures accepted { IsAccepted self.now }
         ensures usable { IsUsable self.now }
-        ensures same_child_kinds { child_kinds (contacts_of self.now) ≡ uses_of self.now }
+        ensures same_child_kinds { child_kinds (contacts_of self.now) ≡ child_kinds_of self.now }
     {
         let _accepted = self.checked.rule();
         &self.checked
@@ -71,20 +71,20 @@ impl Machine {
         edge: u8,
         steps: &mut Steps<L>,
     ) -> Result<Crossing, Outside>
-        requires fits { Fits (uses_of self.now) (address_of addr.now) }
+        requires fits { Fits (child_kinds_of self.now) (address_of addr.now) }
         requires edge_exists { IsSome (type_of (contacts_of self.now) addr.now.kind edge) }
 
         // The one pair that is touched, at the same depth, and it leads back.
         ensures only_pair_touching { IfOk result (λ x. IsOnlyTouched (contacts_of self.now) (address_of addr.now) edge (address_of x.addr) x.edge) }
         ensures same_depth { IfOk result (λ x. depth (address_of x.addr) ≡ depth (address_of addr.now)) }
-        ensures answer_fits { IfOk result (λ x. Fits (uses_of self.now) (address_of x.addr)) }
+        ensures answer_fits { IfOk result (λ x. Fits (child_kinds_of self.now) (address_of x.addr)) }
         ensures answer_edge_exists { IfOk result (λ x. IsSome (type_of (contacts_of self.now) x.addr.kind x.edge)) }
         ensures leads_back { IfOk result (λ x. IsOnlyTouched (contacts_of self.now) (address_of x.addr) x.edge (address_of addr.now) edge) }
 
         // Outside exactly where there is a trace to the top, and across exactly where a pair is touched.
         ensures outside_has_trace { IfErr result (λ o. (cuts : List Cut) × HasTrace (contacts_of self.now) (address_of addr.now) edge o.edge cuts × (o.part ≡ first_part cuts)) }
         ensures trace_is_outside { (top : ℕ) (cuts : List Cut) → HasTrace (contacts_of self.now) (address_of addr.now) edge top cuts → result ≡ Err (record { edge = top; part = first_part cuts }) }
-        ensures touching_is_across { (b : TheAddress) (f : ℕ) → Fits (uses_of self.now) b → Touches (contacts_of self.now) (address_of addr.now) edge b f → IsOk result }
+        ensures touching_is_across { (b : TheAddress) (f : ℕ) → Fits (child_kinds_of self.now) b → Touches (contacts_of self.now) (address_of addr.now) edge b f → IsOk result }
 
         ensures steps_within_bound { steps.new ≤ steps.old + (2 * depth (address_of addr.now) + 2) }
     {

@@ -1,15 +1,16 @@
 //! Where a tile lies in its supertile, by Horner's scheme on the digits of its address.
 ghost use Rattle.std.specs.Prelude.{◌≡◌, ◌<◌, ◌^◌, length, None, Some, IfOk, IfErr};
-ghost use Rattle.substitution.specs.Address.{Fits};
+ghost use Rattle.addressing.specs.Address.{Fits};
 ghost use Rattle.substitution.specs.Rule.{children_of};
 ghost use Rattle.substitution.specs.Supertile.{StandsBeside};
-ghost use Rattle.substitution.specs.Placement.{child_at, finer};
+ghost use Rattle.substitution.specs.Placement.{finer};
+ghost use Rattle.substitution.specs.RuleParts.{child_of};
 ghost use Rattle.cyclo_points.specs.Order.{points_of};
 ghost use Rattle.cyclo_points.specs.Point.{point_in, IsOf, IsWithin};
 ghost use Rattle.cyclo_points.specs.Motion.{motion_in};
-ghost use Rattle.rule_model.specs.Checked.{uses_of};
+ghost use Rattle.rule_model.specs.Checked.{child_kinds_of};
 ghost use Rattle.rule_model.specs.Views.{rule_of};
-ghost use Rattle.tile_shape.specs.Views.{step_of, address_of};
+ghost use Rattle.tile_shape.specs.Views.{address_of};
 ghost use Rattle.tile_place.specs.Placing.{first_refused};
 
 use crate::coord_limit::CoordLimit;
@@ -27,7 +28,7 @@ impl Machine {
     /// value that has a coefficient above 2^24 in absolute value is refused; the answer is then the first,
     /// from coarse to fine.
     pub fn place(&self, addr: &Address) -> Result<Motion, CoordLimit>
-        requires fits { Fits (uses_of self.now) (address_of addr.now) }
+        requires fits { Fits (child_kinds_of self.now) (address_of addr.now) }
         ensures beside { IfOk result (λ motion. StandsBeside (points_of self.now.order) (rule_of self.now)
             (address_of addr.now) (motion_in self.now.order motion)) }
         ensures within { IfOk result (λ _. first_refused self.now.order (rule_of self.now) (address_of addr.now).digits ≡ None) }
@@ -62,7 +63,7 @@ impl Machine {
         requires within { IsWithin (2 ^ 24) motion.now.shift }
         ensures moved { motion_in self.now.order result
             ≡ finer (points_of self.now.order) (rule_of self.now) (motion_in self.now.order motion.now)
-            (child_at (points_of self.now.order) (rule_of self.now) (step_of step)).motion }
+            (child_of (points_of self.now.order) (rule_of self.now) step.parent step.child).motion }
         ensures turn_below { result.turn < (points_of self.now.order).order }
         ensures in_order { IsOf self.now.order result.shift }
     {

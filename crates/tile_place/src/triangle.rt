@@ -2,7 +2,7 @@
 //! size.
 ghost use Rattle.std.specs.Prelude.{◌≡◌, [], ◌∷◌, map, IfOk};
 ghost use Rattle.edge_tables.specs.Views.{as_contact, as_child_edge, as_kind};
-ghost use Rattle.substitution.specs.Tables.{child_kinds};
+ghost use Rattle.addressing.specs.Tables.{child_kinds};
 ghost use Rattle.tile_place.specs.Triangle.{triangle_kind, triangle_tables, halves, IsTriangle};
 
 use cyclo_points::order::Order;

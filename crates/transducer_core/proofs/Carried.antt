@@ -1,8 +1,8 @@
 -- What is found from a copy of an address is found from the address.
 use Rattle.std.proofs.Common.{◌≡◌, ℕ, List, IsSome, subst}
-use Rattle.substitution.specs.Address.{Address}
-use Rattle.substitution.specs.Tables.{Tables, type_of}
-use Rattle.substitution.specs.Touch.{Touches}
+use Rattle.addressing.specs.Address.{Address}
+use Rattle.addressing.specs.Tables.{Tables, type_of}
+use Rattle.addressing.specs.Touch.{Touches}
 use Rattle.transducer_core.specs.declared.climb.Meeting.{Meeting}
 use Rattle.transducer_core.specs.Climbing.{MeetsAt}
 

@@ -3,16 +3,16 @@ use Rattle.std.proofs.Common.{◌≡◌, ℕ, suc, zero, ◌+◌, ◌<◌, List,
 use Rattle.std.specs.List.{slice_get}
 use Rattle.std.proofs.lemmas.Option.{get_or_from_slice_get, slice_get_within}
 use Rattle.std.proofs.lemmas.List.{take_more, drop_more, drop-set, map-append, take_all}
-use Rattle.substitution.specs.Address.{Step}
-use Rattle.substitution.specs.Contact.{ChildEdge, inner, outer}
-use Rattle.substitution.specs.Tables.{Tables, type_of, child_kind_of, contact_of, part_of, part_count}
-use Rattle.substitution.specs.Coherent.{IsCoherent}
-use Rattle.substitution.specs.Trace.{Cut}
-use Rattle.substitution.proofs.TableBounds.{some_within}
-use Rattle.substitution.proofs.Chains.{IsChain, IsChain-at, IsChain-drop, level_kind}
-use Rattle.substitution.proofs.Lying.{Lies, itself, on, Lies-unsnoc}
-use Rattle.substitution.proofs.Meeting.{Meets, as_children, as_parts}
-use Rattle.substitution.proofs.Mated.{IsMated, inner_mated, part_inside, same_parts, AcrossPart, across_part}
+use Rattle.addressing.specs.Address.{Step}
+use Rattle.addressing.specs.Contact.{ChildEdge, inner, outer}
+use Rattle.addressing.specs.Tables.{Tables, type_of, child_kind_of, contact_of, part_of, part_count}
+use Rattle.addressing.specs.Coherent.{IsCoherent}
+use Rattle.addressing.specs.Trace.{Cut}
+use Rattle.addressing.proofs.TableBounds.{some_within}
+use Rattle.addressing.proofs.Chains.{IsChain, IsChain-at, IsChain-drop, level_kind}
+use Rattle.addressing.proofs.Traces.{Lies, itself, on, Lies-unsnoc}
+use Rattle.addressing.proofs.FineTouch.{Meets, as_children, as_parts}
+use Rattle.addressing.proofs.Mated.{IsMated, inner_mated, part_inside, same_parts, AcrossPart, across_part}
 use Rattle.transducer_core.proofs.Rising.{Climbed, MetAt}
 
 snoc_inj : {X : Type 0} (xs ys : List X) (x y : X) → xs ++ x ∷ [] ≡ ys ++ y ∷ [] → (xs ≡ ys) × (x ≡ y)

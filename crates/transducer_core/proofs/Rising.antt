@@ -5,14 +5,14 @@ use Rattle.std.proofs.lemmas.Option.{slice_get-get_or, slice_get-map, get_or_fro
 use Rattle.std.proofs.lemmas.List.{take_more, map-append, reverse-reverse, get_or_at}
 use Rattle.tile_shape.specs.declared.step.Step as program
 use Rattle.tile_shape.specs.Views.{step_of}
-use Rattle.substitution.specs.Address.{Step, Address}
-use Rattle.substitution.specs.Contact.{inner, outer}
-use Rattle.substitution.specs.Tables.{Tables, type_of, contact_of, part_count}
-use Rattle.substitution.specs.Coherent.{IsCoherent}
-use Rattle.substitution.specs.Trace.{Cut, first_part}
-use Rattle.substitution.proofs.Chains.{IsChain, IsChain-at, level_kind}
-use Rattle.substitution.proofs.Lying.{Lies, itself, Lies-snoc, lies_of, trace_of, reverse_cons}
-use Rattle.substitution.proofs.Mated.{contact_exists}
+use Rattle.addressing.specs.Address.{Step, Address}
+use Rattle.addressing.specs.Contact.{inner, outer}
+use Rattle.addressing.specs.Tables.{Tables, type_of, contact_of, part_count}
+use Rattle.addressing.specs.Coherent.{IsCoherent}
+use Rattle.addressing.specs.Trace.{Cut, first_part}
+use Rattle.addressing.proofs.Chains.{IsChain, IsChain-at, level_kind}
+use Rattle.addressing.proofs.Traces.{Lies, itself, Lies-snoc, lies_of, trace_of, reverse_cons}
+use Rattle.addressing.proofs.Mated.{contact_exists}
 use Rattle.transducer_core.specs.declared.climb.Meeting.{Meeting}
 use Rattle.transducer_core.specs.Climbing.{Rises, MeetsAt}
 

@@ -1,9 +1,9 @@
 -- The climb from an edge, in the words of traces.
 use Rattle.std.specs.Prelude.{◌≡◌, ℕ, List, Some, length, map, reverse, take, slice_get}
-use Rattle.substitution.specs.Address.{Step, Address, depth}
-use Rattle.substitution.specs.Contact.{inner}
-use Rattle.substitution.specs.Tables.{Tables, contact_of}
-use Rattle.substitution.specs.Trace.{Cut, IsTrace}
+use Rattle.addressing.specs.Address.{Step, Address, depth}
+use Rattle.addressing.specs.Contact.{inner}
+use Rattle.addressing.specs.Tables.{Tables, contact_of}
+use Rattle.addressing.specs.Trace.{Cut, IsTrace}
 use Rattle.transducer_core.specs.declared.climb.Meeting.{Meeting}
 use Rattle.transducer_core.specs.declared.climb.Ending.{Ending}
 use Rattle.transducer_core.specs.declared.climb.Ending.TheVariants.{Met, Top}

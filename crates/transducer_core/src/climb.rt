@@ -1,8 +1,8 @@
 //! The way up from an edge, to where it is another child's edge or to the top.
 ghost use Rattle.std.specs.Prelude.{◌≡◌, ◌+◌, ◌≤◌, [], length, IsSome};
-ghost use Rattle.substitution.specs.Address.{Fits};
-ghost use Rattle.substitution.specs.Coherent.{IsCoherent};
-ghost use Rattle.substitution.specs.Tables.{child_kinds, type_of};
+ghost use Rattle.addressing.specs.Address.{Fits};
+ghost use Rattle.addressing.specs.Coherent.{IsCoherent};
+ghost use Rattle.addressing.specs.Tables.{child_kinds, type_of};
 ghost use Rattle.tile_shape.specs.Views.{address_of};
 ghost use Rattle.transducer_core.specs.Climbing.{EndsClimb};
 

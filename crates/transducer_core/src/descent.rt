@@ -1,9 +1,9 @@
 //! The way down on the other side of an edge.
 ghost use Rattle.std.specs.Prelude.{◌≡◌, ◌+◌, ◌<◌, ℕ, length, map, Some, IsSome, slice_set};
-ghost use Rattle.substitution.specs.Address.{Fits};
-ghost use Rattle.substitution.specs.Coherent.{IsCoherent};
-ghost use Rattle.substitution.specs.Tables.{child_kinds, child_kind_of, type_of};
-ghost use Rattle.substitution.specs.Touch.{Touches};
+ghost use Rattle.addressing.specs.Address.{Fits};
+ghost use Rattle.addressing.specs.Coherent.{IsCoherent};
+ghost use Rattle.addressing.specs.Tables.{child_kinds, child_kind_of, type_of};
+ghost use Rattle.addressing.specs.Touch.{Touches};
 ghost use Rattle.tile_shape.specs.Views.{address_of, step_of};
 ghost use Rattle.transducer_core.specs.Climbing.{MeetsAt};
 

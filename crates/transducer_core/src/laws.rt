@@ -1,10 +1,10 @@
 //! Laws of traces, of touch, and of crossings.
 ghost use Rattle.std.specs.Prelude.{◌≡◌, ℕ, List, IsSome, IsNone, IfSome};
-ghost use Rattle.substitution.specs.Address.{Address as TheAddress, Fits};
-ghost use Rattle.substitution.specs.Coherent.{IsCoherent};
-ghost use Rattle.substitution.specs.Tables.{Tables, child_kinds, type_of};
-ghost use Rattle.substitution.specs.Touch.{Touches};
-ghost use Rattle.substitution.specs.Trace.{Cut, HasTrace};
+ghost use Rattle.addressing.specs.Address.{Address as TheAddress, Fits};
+ghost use Rattle.addressing.specs.Coherent.{IsCoherent};
+ghost use Rattle.addressing.specs.Tables.{Tables, child_kinds, type_of};
+ghost use Rattle.addressing.specs.Touch.{Touches};
+ghost use Rattle.addressing.specs.Trace.{Cut, HasTrace};
 ghost use Rattle.tile_shape.specs.Views.{address_of};
 
 use crate::crossing::Crossing;

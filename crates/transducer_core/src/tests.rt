@@ -1,6 +1,6 @@
 //! Crossings on the chair.
 ghost use Rattle.std.specs.Prelude.{◌≡◌, ◌<◌};
-ghost use Rattle.substitution.specs.Tables.{child_kinds};
+ghost use Rattle.addressing.specs.Tables.{child_kinds};
 
 use crate::chair::{chair, chair_uses};
 use crate::crossing::Crossing;

@@ -1,10 +1,10 @@
 //! The machine that finds the tile across an edge.
 ghost use Rattle.std.specs.Prelude.{◌≡◌, ◌+◌, ◌*◌, ◌≤◌, ◌-◌, ℕ, List, length, slice_index, IsSome, IsOk, IfOk, IfErr, Err};
-ghost use Rattle.substitution.specs.Address.{Address as TheAddress, depth, Fits};
-ghost use Rattle.substitution.specs.Coherent.{IsCoherent};
-ghost use Rattle.substitution.specs.Tables.{child_kinds, type_of};
-ghost use Rattle.substitution.specs.Touch.{Touches, IsOnlyTouched};
-ghost use Rattle.substitution.specs.Trace.{Cut, HasTrace, first_part};
+ghost use Rattle.addressing.specs.Address.{Address as TheAddress, depth, Fits};
+ghost use Rattle.addressing.specs.Coherent.{IsCoherent};
+ghost use Rattle.addressing.specs.Tables.{child_kinds, type_of};
+ghost use Rattle.addressing.specs.Touch.{Touches, IsOnlyTouched};
+ghost use Rattle.addressing.specs.Trace.{Cut, HasTrace, first_part};
 ghost use Rattle.tile_shape.specs.Views.{address_of};
 
 use crate::climb::{Ending, climb};
@@ -27,8 +27,8 @@ pub struct Transducer {
 }
 
 impl Model for Transducer {
-    ghost use Rattle.substitution.specs.Tables.{Tables as TheTables};
-    ghost use Rattle.substitution.specs.Coherent.{IsCoherent};
+    ghost use Rattle.addressing.specs.Tables.{Tables as TheTables};
+    ghost use Rattle.addressing.specs.Coherent.{IsCoherent};
 
     ghost Value = { TheTables };
 

@@ -1,6 +1,6 @@
 use Rattle.std.proofs.Common.{sym, subst, ap, ◌∙◌}
-use Rattle.substitution.specs.Coherent.{IsCoherent}
-use Rattle.substitution.specs.Tables.{child_kinds}
+use Rattle.addressing.specs.Coherent.{IsCoherent}
+use Rattle.addressing.specs.Tables.{child_kinds}
 use Rattle.tile_shape.specs.Usable.{IsUsable}
 use Rattle.builtin_rules.specs.Numbers.{RuleBy, Fixed}
 use Rattle.builtin_rules.specs.Written.{written}

@@ -1,5 +1,5 @@
 use Rattle.std.proofs.Common.{arith}
-use Rattle.substitution.proofs.Mated.{contact_exists}
+use Rattle.addressing.proofs.Mated.{contact_exists}
 use Rattle.builtin_rules.proofs.printed.contact_there.Goals as goal
 
 pub contact-requires : goal.contact-requires

@@ -1,5 +1,5 @@
 use Rattle.std.proofs.Common.{arith}
-use Rattle.substitution.proofs.TableBounds
+use Rattle.addressing.proofs.TableBounds
 use Rattle.builtin_rules.proofs.printed.part_there.Goals as goal
 
 pub part-requires : goal.part-requires

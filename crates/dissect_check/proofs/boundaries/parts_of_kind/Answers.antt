@@ -5,15 +5,15 @@ use Rattle.std.proofs.lemmas.List.{map_push}
 use Rattle.std.proofs.lemmas.List.Elements.{All-push, All-same}
 use Rattle.std.proofs.lemmas.Result.{err_from_is_err_and}
 use Rattle.substitution.specs.RuleParts.{edge_count}
-use Rattle.substitution.specs.Boundary.{parts_of_edge}
-use Rattle.substitution.specs.Contacts.{named_parts}
+use Rattle.edge_to_edge.specs.Boundary.{parts_of_edge}
+use Rattle.edge_to_edge.specs.Contacts.{named_parts}
 use Rattle.cyclo_points.specs.Order.{points_of}
 use Rattle.edge_tables.specs.declared.child_edge.ChildEdge.{ChildEdge}
 use Rattle.edge_tables.specs.Views.{as_child_edge}
 use Rattle.rule_model.specs.Views.{rule_of}
 use Rattle.dissect_check.specs.FirstFault.{part_fault}
 use Rattle.dissect_check.specs.Parts.{AreFew}
-use Rattle.dissect_check.proofs.Search.{first_below-step, below-more}
+use Rattle.addressing.proofs.Searches.{first_below-step, below-more}
 use Rattle.dissect_check.proofs.Agreeing.{agrees_below}
 use Rattle.dissect_check.proofs.boundaries.parts_of_kind.Goals as goal
 

@@ -3,9 +3,9 @@ use Rattle.std.specs.List.{filter}
 use Rattle.std.proofs.lemmas.List.{map_push, length_push, take_all}
 use Rattle.std.proofs.lemmas.List.Elements.{All-push, All-same}
 use Rattle.std.proofs.lemmas.Slice.Zip.{zip_turn, zip_end}
-use Rattle.substitution.specs.Edges as theory
-use Rattle.substitution.specs.Edges.{child_edges, inflated_edges}
-use Rattle.substitution.specs.Lying.{lie_of, is_along}
+use Rattle.edge_to_edge.specs.Edges as theory
+use Rattle.edge_to_edge.specs.Edges.{child_edges, inflated_edges}
+use Rattle.edge_to_edge.specs.Lying.{lie_of, is_along}
 use Rattle.cyclo_points.specs.Order.{NumberOf, points_of}
 use Rattle.rule_model.specs.declared.rule.Rule.{Rule}
 use Rattle.rule_model.specs.Views.{rule_of}
@@ -13,7 +13,7 @@ use Rattle.dissect_check.specs.declared.placed_edge.PlacedEdge.{PlacedEdge}
 use Rattle.dissect_check.specs.declared.lie.Lie.{Lie}
 use Rattle.dissect_check.specs.declared.inflated.Inflated.{Inflated}
 use Rattle.dissect_check.specs.Views.{edge_in, as_lie, IsFit, IsInflated}
-use Rattle.dissect_check.proofs.Kept.{kept, left_out}
+use Rattle.addressing.proofs.Kept.{kept, left_out}
 use Rattle.dissect_check.proofs.Lies.{IsAt, All-at, lie_at, length-lies}
 use Rattle.dissect_check.proofs.boundary.edges_along.Goals as goal
 

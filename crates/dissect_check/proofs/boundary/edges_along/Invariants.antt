@@ -1,6 +1,6 @@
 use Rattle.std.proofs.Common.{◌≡◌, ℕ, map, length, take}
 use Rattle.std.specs.List.{All, filter}
-use Rattle.substitution.specs.Lying.{lie_of, is_along}
+use Rattle.edge_to_edge.specs.Lying.{lie_of, is_along}
 use Rattle.cyclo_points.specs.Order.{points_of}
 use Rattle.rule_model.specs.declared.rule.Rule.{Rule}
 use Rattle.rule_model.specs.Views.{rule_of}

@@ -3,7 +3,7 @@ use Rattle.std.proofs.lemmas.List.{map_push, length_push, length-map}
 use Rattle.std.proofs.lemmas.List.Elements.{All-filter}
 use Rattle.std.proofs.lemmas.Bool.{ne_eqb}
 use Rattle.substitution.specs.RuleParts.{parts}
-use Rattle.substitution.specs.Contacts.{name_of}
+use Rattle.edge_to_edge.specs.Contacts.{name_of}
 use Rattle.cyclo_points.specs.Order.{points_of}
 use Rattle.cyclo_points.specs.Point.{point_in}
 use Rattle.edge_tables.specs.Views.{as_child_edge}

@@ -29,7 +29,7 @@ pub uses_of_kinds-requires-clause-usable : goal.uses_of_kinds-requires-clause-us
 uses_of_kinds-requires-clause-usable c = usable-front c.args.rule c.in_ok-before_children.ensures
 
 pub uses_of_kinds-requires-clause-each_used : goal.uses_of_kinds-requires-clause-each_used
-uses_of_kinds-requires-clause-each_used c = (accepted-both c.args.rule c.in_ok-before_children.ensures c.in_ok-rows.ensures.fault).dissection.each_used
+uses_of_kinds-requires-clause-each_used c = (accepted-both c.args.rule c.in_ok-before_children.ensures c.in_ok-rows.ensures.fault).edge_to_edge.each_used
 
 pub admit-requires-clause-accepted : goal.admit-requires-clause-accepted
 admit-requires-clause-accepted c = accepted-both c.args.rule c.in_ok-before_children.ensures c.in_ok-rows.ensures.fault

@@ -1,7 +1,7 @@
 use Rattle.std.proofs.Common.{◌≡◌, map, All}
 use Rattle.std.specs.List.{flat_map}
-use Rattle.substitution.specs.Search.{below}
-use Rattle.substitution.specs.Edges.{edges_of_child}
+use Rattle.addressing.specs.Search.{below}
+use Rattle.edge_to_edge.specs.Edges.{edges_of_child}
 use Rattle.cyclo_points.specs.Order.{points_of}
 use Rattle.rule_model.specs.Views.{rule_of}
 use Rattle.dissect_check.specs.Views.{edge_in, IsFit}

@@ -3,10 +3,10 @@ use Rattle.std.specs.List.{filter}
 use Rattle.std.proofs.lemmas.Bool.{ne_eqb}
 use Rattle.std.proofs.lemmas.List.{map_push, length_push, take_all}
 use Rattle.std.proofs.lemmas.Slice.Zip.{zip_turn, zip_end}
-use Rattle.substitution.specs.Edges as theory
-use Rattle.substitution.specs.Lying.{lie_of}
-use Rattle.substitution.specs.Contact as theory_contact
-use Rattle.substitution.specs.Contacts.{name_of, contact_by}
+use Rattle.edge_to_edge.specs.Edges as theory
+use Rattle.edge_to_edge.specs.Lying.{lie_of}
+use Rattle.addressing.specs.Contact as theory_contact
+use Rattle.edge_to_edge.specs.Contacts.{name_of, contact_by}
 use Rattle.cyclo_points.specs.Order.{NumberOf, points_of}
 use Rattle.edge_tables.specs.declared.contact.Contact.{Contact}
 use Rattle.edge_tables.specs.Views.{as_contact}
@@ -16,7 +16,7 @@ use Rattle.dissect_check.specs.declared.placed_edge.PlacedEdge.{PlacedEdge}
 use Rattle.dissect_check.specs.declared.lie.Lie.{Lie}
 use Rattle.dissect_check.specs.declared.inflated.Inflated.{Inflated}
 use Rattle.dissect_check.specs.Views.{edge_in, as_lie, IsInflated}
-use Rattle.dissect_check.proofs.Kept.{kept, left_out}
+use Rattle.addressing.proofs.Kept.{kept, left_out}
 use Rattle.dissect_check.proofs.Lies.{IsAt, lie_at, length-lies}
 use Rattle.dissect_check.proofs.OwnEdges.{is_of_child, own_edges}
 use Rattle.dissect_check.proofs.contacts.contacts_of_child.Goals as goal

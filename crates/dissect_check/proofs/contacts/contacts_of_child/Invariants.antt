@@ -1,7 +1,7 @@
 use Rattle.std.proofs.Common.{◌≡◌, ℕ, map, length, take}
 use Rattle.std.specs.List.{filter}
-use Rattle.substitution.specs.Lying.{lie_of}
-use Rattle.substitution.specs.Contacts.{name_of, contact_by}
+use Rattle.edge_to_edge.specs.Lying.{lie_of}
+use Rattle.edge_to_edge.specs.Contacts.{name_of, contact_by}
 use Rattle.cyclo_points.specs.Order.{points_of}
 use Rattle.edge_tables.specs.Views.{as_contact}
 use Rattle.rule_model.specs.declared.rule.Rule.{Rule}

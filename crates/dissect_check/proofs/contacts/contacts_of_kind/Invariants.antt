@@ -1,6 +1,6 @@
 use Rattle.std.proofs.Common.{◌≡◌, map}
-use Rattle.substitution.specs.Search.{below}
-use Rattle.substitution.specs.Contacts.{contacts_of_child}
+use Rattle.addressing.specs.Search.{below}
+use Rattle.edge_to_edge.specs.Contacts.{contacts_of_child}
 use Rattle.cyclo_points.specs.Order.{points_of}
 use Rattle.edge_tables.specs.Views.{as_contact}
 use Rattle.rule_model.specs.Views.{rule_of}

@@ -1,5 +1,5 @@
 use Rattle.std.proofs.Common.{◌≡◌, map, drop}
-use Rattle.substitution.specs.Contacts.{number_in}
+use Rattle.edge_to_edge.specs.Contacts.{number_in}
 use Rattle.edge_tables.specs.Views.{as_child_edge}
 use Rattle.dissect_check.proofs.contacts.number_among.Given as goal
 

@@ -3,7 +3,7 @@ use Rattle.std.specs.Ordering.{is_gt}
 use Rattle.std.proofs.lemmas.Cmp.{is_gt_index}
 use Rattle.std.proofs.lemmas.Int.{ints}
 use Rattle.ordered_ring.specs.Ring.{difference}
-use Rattle.cyclo_points.specs.Places.{reals_of}
+use Rattle.plane_geom.specs.Spots.{reals_of}
 use Rattle.cyclo_points.proofs.Widths.{real_wider, whole_is}
 use Rattle.dissect_check.proofs.factor.is_above_one.Goals as goal
 

@@ -2,7 +2,7 @@ use Rattle.std.proofs.Common.{sym, ◌∙◌, rules, tests}
 use Rattle.std.proofs.lemmas.Iterator.{YieldsList-from_slice}
 use Rattle.std.proofs.lemmas.Iterator.Search.{all_from_yields_List}
 use Rattle.std.proofs.lemmas.List.Folds.{list_all-map}
-use Rattle.substitution.specs.Limits.{is_child}
+use Rattle.edge_to_edge.specs.Limits.{is_child}
 use Rattle.cyclo_points.specs.Order.{points_of}
 use Rattle.rule_model.specs.Small.{is_small}
 use Rattle.rule_model.specs.Views.{as_rule, as_child}

@@ -1,6 +1,6 @@
 use Rattle.std.proofs.Common.{◌≡◌, None}
-use Rattle.substitution.specs.Search.{unless, first_below}
-use Rattle.substitution.specs.Uses.{glue_type, glues_halves}
+use Rattle.addressing.specs.Search.{unless, first_below}
+use Rattle.edge_to_edge.specs.Glue.{glue_type, glues_halves}
 use Rattle.rule_model.specs.Views.{rule_of}
 use Rattle.dissect_check.specs.declared.check_fault.CheckFault.TheVariants.{GlueWrong}
 use Rattle.dissect_check.proofs.glue.glues.Given as goal

@@ -1,6 +1,6 @@
 use Rattle.std.proofs.Common.{◌≡◌, ◌++◌, take}
 use Rattle.substitution.specs.RuleParts.{edge_types}
-use Rattle.substitution.specs.Uses.{once_each}
+use Rattle.edge_to_edge.specs.Glue.{once_each}
 use Rattle.rule_model.specs.Views.{rule_of}
 use Rattle.dissect_check.specs.Few.{few_of}
 use Rattle.dissect_check.proofs.Holders.{holders_below}

@@ -2,9 +2,9 @@ use Rattle.std.specs.Prelude.{nat_eq}
 use Rattle.std.specs.List.{list_any}
 use Rattle.std.proofs.Common.{ℕ, ◌||◌, arith, sym, ap, ◌∙◌}
 use Rattle.substitution.specs.RuleParts.{mate, edge_types}
-use Rattle.substitution.specs.Uses.{glue_type}
+use Rattle.edge_to_edge.specs.Glue.{glue_type}
 use Rattle.rule_model.specs.Views.{rule_of}
-use Rattle.dissect_check.proofs.BoolLoops.{some_below-found}
+use Rattle.addressing.proofs.BoolLoops.{some_below-found}
 use Rattle.dissect_check.proofs.glue.is_glued_before.Goals as goal
 
 pub returns-then-has_edge_along : goal.returns-then-has_edge_along

@@ -2,8 +2,8 @@ use Rattle.std.specs.Prelude.{nat_eq}
 use Rattle.std.specs.List.{list_any}
 use Rattle.std.proofs.Common.{◌≡◌, ◌||◌, false}
 use Rattle.substitution.specs.RuleParts.{mate, edge_types}
-use Rattle.substitution.specs.Search.{some_below}
-use Rattle.substitution.specs.Uses.{glue_type}
+use Rattle.addressing.specs.Search.{some_below}
+use Rattle.edge_to_edge.specs.Glue.{glue_type}
 use Rattle.rule_model.specs.Views.{rule_of}
 use Rattle.dissect_check.proofs.glue.is_glued_before.Given as goal
 

@@ -4,12 +4,12 @@ use Rattle.std.proofs.lemmas.Bool.{or_left, or_right, eq-eqb}
 use Rattle.substitution.specs.Points.{Points}
 use Rattle.substitution.specs.Rule.{Rule}
 use Rattle.substitution.specs.RuleParts.{mate, edge_count, edge_type}
-use Rattle.substitution.specs.Search.{unless, first_below}
-use Rattle.substitution.specs.EdgeTypes.{edge_vector, vector_if}
+use Rattle.addressing.specs.Search.{unless, first_below}
+use Rattle.edge_to_edge.specs.EdgeTypes.{edge_vector, vector_if}
 use Rattle.cyclo_points.specs.Order.{points_of}
 use Rattle.cyclo_points.specs.Point.{point_in}
 use Rattle.rule_model.specs.Views.{rule_of}
-use Rattle.dissect_check.proofs.Search.{first_below-stop}
+use Rattle.addressing.proofs.Searches.{first_below-stop}
 use Rattle.dissect_check.proofs.lengths.first_vector.Goals as goal
 
 -- an edge whose type is the one looked for, or its mate, is found with its vector

@@ -1,7 +1,7 @@
 use Rattle.std.proofs.Common.{◌≡◌, None}
-use Rattle.substitution.specs.Search.{first_below}
+use Rattle.addressing.specs.Search.{first_below}
 use Rattle.substitution.specs.RuleParts.{edge_count}
-use Rattle.substitution.specs.EdgeTypes.{vector_if}
+use Rattle.edge_to_edge.specs.EdgeTypes.{vector_if}
 use Rattle.cyclo_points.specs.Order.{points_of}
 use Rattle.rule_model.specs.Views.{rule_of}
 use Rattle.dissect_check.proofs.lengths.first_vector.Given as goal

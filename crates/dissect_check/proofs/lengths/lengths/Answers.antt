@@ -1,12 +1,12 @@
 use Rattle.std.proofs.Common.{length, arith, sym}
-use Rattle.substitution.specs.Search.{unless}
+use Rattle.addressing.specs.Search.{unless}
 use Rattle.substitution.specs.RuleParts.{edge_count}
-use Rattle.substitution.specs.EdgeTypes.{has_length_of_type}
+use Rattle.edge_to_edge.specs.EdgeTypes.{has_length_of_type}
 use Rattle.cyclo_points.specs.Order.{points_of}
 use Rattle.rule_model.specs.Views.{as_rule, rule_of}
 use Rattle.dissect_check.specs.declared.check_fault.CheckFault.TheVariants.{BadLength}
 use Rattle.dissect_check.specs.FirstFault.{lengths_of_kind}
-use Rattle.dissect_check.proofs.Search.{first_below-stop}
+use Rattle.addressing.proofs.Searches.{first_below-stop}
 use Rattle.dissect_check.proofs.lengths.lengths.Goals as goal
 
 pub returns-then-not-has_length_of_type : goal.returns-then-not-has_length_of_type

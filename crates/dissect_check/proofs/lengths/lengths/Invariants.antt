@@ -1,6 +1,6 @@
 use Rattle.std.proofs.Common.{◌≡◌, None}
-use Rattle.substitution.specs.Search.{unless, first_below}
-use Rattle.substitution.specs.EdgeTypes.{has_length_of_type}
+use Rattle.addressing.specs.Search.{unless, first_below}
+use Rattle.edge_to_edge.specs.EdgeTypes.{has_length_of_type}
 use Rattle.cyclo_points.specs.Order.{points_of}
 use Rattle.rule_model.specs.Views.{as_rule, rule_of}
 use Rattle.dissect_check.specs.declared.check_fault.CheckFault.TheVariants.{BadLength}

@@ -2,7 +2,7 @@ use Rattle.std.proofs.Common.{arith, length, sym}
 use Rattle.std.proofs.lemmas.Result.{err_from_is_err_and}
 use Rattle.rule_model.specs.Views.{as_rule}
 use Rattle.dissect_check.specs.FirstFault.{type_limits}
-use Rattle.dissect_check.proofs.Search.{first_below-stop}
+use Rattle.addressing.proofs.Searches.{first_below-stop}
 use Rattle.dissect_check.proofs.limits.types_limits.Goals as goal
 
 pub returns-in_err-type_limits : goal.returns-in_err-type_limits

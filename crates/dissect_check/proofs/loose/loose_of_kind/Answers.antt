@@ -1,6 +1,6 @@
 use Rattle.std.proofs.Common.{◌≡◌, ℕ, map, not, length, get_or, ◌<◌, ◌∙◌, Some, None, sym, ap, arith}
-use Rattle.substitution.specs.Search.{unless}
-use Rattle.substitution.specs.Lying.{loose, lie_of, is_loose}
+use Rattle.addressing.specs.Search.{unless}
+use Rattle.edge_to_edge.specs.Lying.{loose, lie_of, is_loose}
 use Rattle.cyclo_points.specs.Order.{points_of}
 use Rattle.rule_model.specs.declared.rule.Rule.{Rule}
 use Rattle.rule_model.specs.Views.{as_rule, rule_of}

@@ -1,5 +1,5 @@
 use Rattle.std.proofs.Common.{◌≡◌, map, drop}
-use Rattle.substitution.specs.Search.{first_some}
+use Rattle.addressing.specs.Search.{first_some}
 use Rattle.rule_model.specs.Views.{as_rule}
 use Rattle.dissect_check.specs.FirstFault.{loose_fault, loose_of_kind}
 use Rattle.dissect_check.specs.Views.{edge_in}

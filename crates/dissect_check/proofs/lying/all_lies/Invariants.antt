@@ -1,5 +1,5 @@
 use Rattle.std.proofs.Common.{◌≡◌, map, take}
-use Rattle.substitution.specs.Lying.{lie_among}
+use Rattle.edge_to_edge.specs.Lying.{lie_among}
 use Rattle.cyclo_points.specs.Order.{points_of}
 use Rattle.rule_model.specs.Views.{rule_of}
 use Rattle.dissect_check.specs.Views.{line_in, edge_in, as_lie}

@@ -1,8 +1,8 @@
 use Rattle.std.proofs.Common.{◌≡◌, ℕ, List, map, ◌∙◌, refl, sym, ap}
 use Rattle.std.proofs.lemmas.Bool.{eq-eqb, ne_eqb}
 use Rattle.substitution.specs.RuleParts.{mate}
-use Rattle.substitution.specs.Edges.{meets}
-use Rattle.substitution.specs.Lying.{numbers_along, met_by, lie_among}
+use Rattle.edge_to_edge.specs.Edges.{is_opposite}
+use Rattle.edge_to_edge.specs.Lying.{numbers_along, met_by, lie_among}
 use Rattle.cyclo_points.specs.Order.{points_of}
 use Rattle.rule_model.specs.declared.rule.Rule.{Rule}
 use Rattle.rule_model.specs.Views.{rule_of}
@@ -21,9 +21,9 @@ abbrev numbers : (r : Rule) → List Line → PlacedEdge → List ℕ
 numbers r wholes s = numbers_along (points_of r.order) 0 (map (line_in r.order) wholes) (line_in r.order s.line)
 
 lies : (r : Rule) (edges : List PlacedEdge) (wholes : List Line) (s : PlacedEdge) (f : Few PlacedEdge) (g : Few ℕ)
-    → f ≡ few_of (filter (λ t. meets (points_of r.order) (edge_in r.order s) (edge_in r.order t)) edges) → g ≡ few_of (numbers r wholes s)
+    → f ≡ few_of (filter (λ t. is_opposite (points_of r.order) (edge_in r.order s) (edge_in r.order t)) edges) → g ≡ few_of (numbers r wholes s)
     → lie_few (rule_of r) (edge_in r.order s) (edge_in r.order) f g ≡ lie_among (points_of r.order) (rule_of r) (map (edge_in r.order) edges) (map (line_in r.order) wholes) (edge_in r.order s)
-lies r edges wholes s f g h k = lies_by (rule_of r) (edge_in r.order s) (edge_in r.order) (meets (points_of r.order) (edge_in r.order s)) edges (numbers r wholes s) f g h k
+lies r edges wholes s f g h k = lies_by (rule_of r) (edge_in r.order s) (edge_in r.order) (is_opposite (points_of r.order) (edge_in r.order s)) edges (numbers r wholes s) f g h k
 
 pub returns-then-mate-from : goal.returns-then-mate-from
 returns-then-mate-from c =

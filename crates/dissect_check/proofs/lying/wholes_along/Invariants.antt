@@ -1,5 +1,5 @@
 use Rattle.std.proofs.Common.{◌≡◌, map, take}
-use Rattle.substitution.specs.Lying.{numbers_along}
+use Rattle.edge_to_edge.specs.Lying.{numbers_along}
 use Rattle.cyclo_points.specs.Order.{points_of}
 use Rattle.dissect_check.specs.Few.{few_of}
 use Rattle.dissect_check.specs.Views.{line_in}

@@ -1,10 +1,10 @@
 use Rattle.std.proofs.Common.{arith, length}
 use Rattle.std.proofs.lemmas.Bool.Decides.{nat_tests}
-use Rattle.substitution.specs.Search.{unless}
-use Rattle.substitution.specs.EdgeTypes.{mates_back}
+use Rattle.addressing.specs.Search.{unless}
+use Rattle.edge_to_edge.specs.EdgeTypes.{mates_back}
 use Rattle.rule_model.specs.Views.{rule_of}
 use Rattle.dissect_check.specs.declared.check_fault.CheckFault.TheVariants.{BadMate}
-use Rattle.dissect_check.proofs.Search.{first_below-stop}
+use Rattle.addressing.proofs.Searches.{first_below-stop}
 use Rattle.dissect_check.proofs.mates.mates.Goals as goal
 
 pub returns-then-mate-ty : goal.returns-then-mate-ty

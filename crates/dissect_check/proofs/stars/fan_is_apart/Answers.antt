@@ -1,12 +1,12 @@
 use Rattle.std.proofs.Common.{◌≡◌, arith, ◌-◌, sym, ap₂, ◌∙◌, length, true, subst}
-use Rattle.ordered_ring.specs.Triangle.{separated}
+use Rattle.ordered_plane.specs.Triangle.{separated}
 use Rattle.substitution.specs.RuleParts.{vertices_of}
-use Rattle.substitution.specs.SameTests.{all_below}
-use Rattle.substitution.specs.Star.{fan_triangle}
+use Rattle.addressing.specs.Search.{all_below}
+use Rattle.edge_to_edge.specs.Star.{fan_triangle}
 use Rattle.cyclo_points.specs.Order.{points_of}
-use Rattle.cyclo_points.specs.Places.{reals_of}
+use Rattle.plane_geom.specs.Spots.{reals_of}
 use Rattle.rule_model.specs.Views.{rule_of}
-use Rattle.dissect_check.proofs.BoolLoops.{all_below-stop, all_below-more}
+use Rattle.addressing.proofs.BoolLoops.{all_below-stop, all_below-more}
 use Rattle.dissect_check.proofs.stars.fan_is_apart.Goals as goal
 
 pub returns-then-not-separated : goal.returns-then-not-separated

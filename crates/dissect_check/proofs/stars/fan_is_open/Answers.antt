@@ -1,9 +1,9 @@
 use Rattle.std.proofs.Common.{◌-◌, ◌&&◌, Bool, not, length, sym, ap, ◌∙◌}
-use Rattle.ordered_ring.specs.Segment.{on_segment}
+use Rattle.ordered_plane.specs.Segment.{on_segment}
 use Rattle.substitution.specs.RuleParts.{vertices_of}
-use Rattle.substitution.specs.Star.{corner}
+use Rattle.edge_to_edge.specs.Star.{corner}
 use Rattle.cyclo_points.specs.Order.{points_of}
-use Rattle.cyclo_points.specs.Places.{reals_of}
+use Rattle.plane_geom.specs.Spots.{reals_of}
 use Rattle.rule_model.specs.Views.{rule_of}
 use Rattle.dissect_check.proofs.stars.fan_is_open.Goals as goal
 

@@ -1,11 +1,11 @@
 use Rattle.std.proofs.Common.{arith, ◌-◌, sym, ap, ◌∙◌, length}
-use Rattle.ordered_ring.specs.Triangle.{turns_left}
+use Rattle.ordered_plane.specs.Triangle.{turns_left}
 use Rattle.substitution.specs.RuleParts.{vertices_of}
-use Rattle.substitution.specs.Star.{fan_triangle}
+use Rattle.edge_to_edge.specs.Star.{fan_triangle}
 use Rattle.cyclo_points.specs.Order.{points_of}
-use Rattle.cyclo_points.specs.Places.{reals_of}
+use Rattle.plane_geom.specs.Spots.{reals_of}
 use Rattle.rule_model.specs.Views.{rule_of}
-use Rattle.dissect_check.proofs.BoolLoops.{all_below-stop, all_below-more}
+use Rattle.addressing.proofs.BoolLoops.{all_below-stop, all_below-more}
 use Rattle.dissect_check.proofs.stars.fan_turns_left.Goals as goal
 
 pub returns-then-not-turns_left : goal.returns-then-not-turns_left

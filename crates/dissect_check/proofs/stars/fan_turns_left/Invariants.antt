@@ -1,10 +1,10 @@
 use Rattle.std.proofs.Common.{◌≡◌, true}
-use Rattle.ordered_ring.specs.Triangle.{turns_left}
+use Rattle.ordered_plane.specs.Triangle.{turns_left}
 use Rattle.substitution.specs.RuleParts.{vertices_of}
-use Rattle.substitution.specs.SameTests.{all_below}
-use Rattle.substitution.specs.Star.{fan_triangle}
+use Rattle.addressing.specs.Search.{all_below}
+use Rattle.edge_to_edge.specs.Star.{fan_triangle}
 use Rattle.cyclo_points.specs.Order.{points_of}
-use Rattle.cyclo_points.specs.Places.{reals_of}
+use Rattle.plane_geom.specs.Spots.{reals_of}
 use Rattle.rule_model.specs.Views.{rule_of}
 use Rattle.dissect_check.proofs.stars.fan_turns_left.Given as goal
 

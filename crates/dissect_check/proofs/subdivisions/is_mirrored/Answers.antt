@@ -1,7 +1,7 @@
 use Rattle.std.proofs.Common.{◌≡◌, ◌≢◌, ℕ, ◌<◌, ◌≤◌, ◌-◌, true, false, length, get_or, sym, arith, ap, ◌∙◌}
 use Rattle.substitution.specs.Rule.{Rule}
 use Rattle.substitution.specs.RuleParts.{mate, parts}
-use Rattle.substitution.specs.EdgeTypes.{is_mirrored}
+use Rattle.edge_to_edge.specs.EdgeTypes.{is_mirrored}
 use Rattle.rule_model.specs.Views.{rule_of}
 use Rattle.dissect_check.proofs.Mirrored.{lengths_differ, place_differs, places_agree}
 use Rattle.dissect_check.proofs.subdivisions.is_mirrored.Goals as goal

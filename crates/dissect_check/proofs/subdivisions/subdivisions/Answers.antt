@@ -1,9 +1,9 @@
 use Rattle.std.proofs.Common.{arith, length}
-use Rattle.substitution.specs.Search.{unless}
-use Rattle.substitution.specs.EdgeTypes.{is_mirrored}
+use Rattle.addressing.specs.Search.{unless}
+use Rattle.edge_to_edge.specs.EdgeTypes.{is_mirrored}
 use Rattle.rule_model.specs.Views.{rule_of}
 use Rattle.dissect_check.specs.declared.check_fault.CheckFault.TheVariants.{BadSubdivision}
-use Rattle.dissect_check.proofs.Search.{first_below-stop}
+use Rattle.addressing.proofs.Searches.{first_below-stop}
 use Rattle.dissect_check.proofs.subdivisions.subdivisions.Goals as goal
 
 pub returns-then-not-is_mirrored : goal.returns-then-not-is_mirrored

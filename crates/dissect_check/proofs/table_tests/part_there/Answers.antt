@@ -1,5 +1,5 @@
 use Rattle.std.proofs.Common.{arith}
-use Rattle.substitution.proofs.TableBounds
+use Rattle.addressing.proofs.TableBounds
 use Rattle.dissect_check.proofs.table_tests.part_there.Goals as goal
 
 pub part-name-requires : goal.part-name-requires

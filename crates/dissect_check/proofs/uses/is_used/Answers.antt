@@ -5,10 +5,10 @@ use Rattle.std.proofs.lemmas.Bool.Decides.{nat_tests}
 use Rattle.std.proofs.lemmas.List.Folds.{list_any_at}
 use Rattle.substitution.specs.Motion.{still}
 use Rattle.substitution.specs.Rule.{Rule, Child, children_of}
-use Rattle.substitution.specs.Uses.{is_used}
+use Rattle.edge_to_edge.specs.Uses.{is_used}
 use Rattle.cyclo_points.specs.Order.{NumberOf, points_of}
 use Rattle.rule_model.specs.Views.{rule_of}
-use Rattle.dissect_check.proofs.BoolLoops.{some_below-found, some_below-more, list_any-step, list_any-end}
+use Rattle.addressing.proofs.BoolLoops.{some_below-found, some_below-more, list_any-step, list_any-end}
 use Rattle.dissect_check.proofs.uses.is_used.Goals as goal
 
 equal : (a b : ℕ) → a ≡ b → nat_eq a b ≡ true

@@ -2,7 +2,7 @@ use Rattle.std.proofs.Common.{◌≡◌, false, take}
 use Rattle.std.specs.Prelude.{nat_eq}
 use Rattle.std.specs.List.{list_any}
 use Rattle.substitution.specs.Rule.{Child, children_of}
-use Rattle.substitution.specs.Search.{some_below}
+use Rattle.addressing.specs.Search.{some_below}
 use Rattle.cyclo_points.specs.Order.{NumberOf}
 use Rattle.rule_model.specs.Views.{rule_of}
 use Rattle.dissect_check.proofs.uses.is_used.Given as goal

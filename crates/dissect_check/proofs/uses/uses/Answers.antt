@@ -1,9 +1,9 @@
 use Rattle.std.proofs.Common.{arith, length}
-use Rattle.substitution.specs.Search.{unless}
-use Rattle.substitution.specs.Uses.{is_used}
+use Rattle.addressing.specs.Search.{unless}
+use Rattle.edge_to_edge.specs.Uses.{is_used}
 use Rattle.rule_model.specs.Views.{rule_of}
 use Rattle.dissect_check.specs.declared.check_fault.CheckFault.TheVariants.{Unused}
-use Rattle.dissect_check.proofs.Search.{first_below-stop}
+use Rattle.addressing.proofs.Searches.{first_below-stop}
 use Rattle.dissect_check.proofs.uses.uses.Goals as goal
 
 pub returns-then-not-is_used : goal.returns-then-not-is_used

@@ -1,4 +1,4 @@
-use Rattle.substitution.proofs.CoherenceTests.{IsCoherent-test}
+use Rattle.addressing.proofs.CoherenceTests.{IsCoherent-test}
 use Rattle.edge_tables.proofs.laws.tested_tables_are_coherent.Goals as goal
 
 pub returns : goal.returns

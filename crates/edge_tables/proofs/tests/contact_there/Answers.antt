@@ -1,5 +1,5 @@
 use Rattle.std.proofs.Common.{arith}
-use Rattle.substitution.proofs.Mated.{contact_exists}
+use Rattle.addressing.proofs.Mated.{contact_exists}
 use Rattle.edge_tables.proofs.tests.contact_there.Goals as goal
 
 pub contact-requires : goal.contact-requires

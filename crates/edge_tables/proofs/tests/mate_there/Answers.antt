@@ -1,4 +1,4 @@
-use Rattle.substitution.proofs.TableBounds
+use Rattle.addressing.proofs.TableBounds
 use Rattle.edge_tables.proofs.tests.mate_there.Goals as goal
 
 pub mate-requires : goal.mate-requires

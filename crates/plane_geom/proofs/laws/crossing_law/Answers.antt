@@ -1,6 +1,6 @@
-use Rattle.cyclo_points.specs.Places.{reals_of}
-use Rattle.ordered_ring.proofs.Crossing.{crossing-turned, crossing-parts}
-use Rattle.ordered_ring.proofs.OnSegment.{between-on_segment}
+use Rattle.plane_geom.specs.Spots.{reals_of}
+use Rattle.ordered_plane.proofs.Crossing.{crossing-turned, crossing-parts}
+use Rattle.ordered_plane.proofs.OnSegment.{between-on_segment}
 use Rattle.plane_geom.proofs.laws.crossing_law.Goals as goal
 
 pub returns-clause-antisymmetric : goal.returns-clause-antisymmetric

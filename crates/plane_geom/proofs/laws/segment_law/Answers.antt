@@ -1,5 +1,5 @@
-use Rattle.cyclo_points.specs.Places.{reals_of}
-use Rattle.ordered_ring.proofs.OnSegment.{between-on_segment, on_segment-between}
+use Rattle.plane_geom.specs.Spots.{reals_of}
+use Rattle.ordered_plane.proofs.OnSegment.{between-on_segment, on_segment-between}
 use Rattle.plane_geom.proofs.laws.segment_law.Goals as goal
 
 pub returns : goal.returns

@@ -2,10 +2,10 @@ use Rattle.std.proofs.Common.{◌≡◌, ◌^◌, ℤ, ◌+ℤ◌, arith, slice_
 use Rattle.std.proofs.lemmas.Int.{ints}
 use Rattle.std.proofs.lemmas.List.Elements.{All-get_or}
 use Rattle.cyclo_points.specs.Point.{IsWithin}
-use Rattle.cyclo_points.specs.Places.{reals_of}
-use Rattle.cyclo_points.specs.Places.{place_of, test_of}
-use Rattle.cyclo_points.proofs.Places.{nowhere}
-use Rattle.ordered_ring.proofs.Rounds.{count-begun, count-next, count-ended}
+use Rattle.plane_geom.specs.Spots.{reals_of}
+use Rattle.plane_geom.specs.Spots.{spot_of, test_of}
+use Rattle.plane_geom.proofs.Spots.{nowhere}
+use Rattle.ordered_plane.proofs.Rounds.{count-begun, count-next, count-ended}
 use Rattle.plane_geom.proofs.polygons.count.Goals as goal
 
 pub bounds-poly-0 : goal.bounds-poly-0
@@ -14,7 +14,7 @@ bounds-poly-0 c = let n = c.requires.at_least_three in omega arith
 pub loop-i-init : goal.loop-i-init
 unfolding nowhere
 loop-i-init c = record {
-  counted = count-begun (reals_of c.args.order) (test_of c.args.order c.args.p.now) (place_of c.args.order) nowhere c.args.poly.now c.requires.at_least_three;
+  counted = count-begun (reals_of c.args.order) (test_of c.args.order c.args.p.now) (spot_of c.args.order) nowhere c.args.poly.now c.requires.at_least_three;
   from_within = All-get_or (IsWithin (2 ^ 25)) c.args.poly.now 0 nowhere (let n = c.requires.at_least_three in omega arith) c.requires.vertices_within;
   bounded = record { low = omega (arith, ints); high = omega (arith, ints) };
 }
@@ -63,8 +63,8 @@ loop-i-preserved c =
     let crossed : ℤ = c.crossing-crossed.result in
     let sum : to_z w32 (of_z w32 (total +ℤ to_z w32 (of_z w32 (to_z w8 (of_z w8 crossed))))) ≡ total +ℤ crossed = omega (arith, ints) in
     record {
-      counted = count-next (reals_of c.args.order) (test_of c.args.order c.args.p.now) (place_of c.args.order) nowhere c.args.poly.now c.loop-i.i
-          (place_of c.args.order (slice_index_or c.args.poly.now 0 nowhere)) (place_of c.args.order c.loop-i.from) total _ crossed _ sum c.crossing-crossed.ensures.value h c.loop-i.invariant.counted;
+      counted = count-next (reals_of c.args.order) (test_of c.args.order c.args.p.now) (spot_of c.args.order) nowhere c.args.poly.now c.loop-i.i
+          (spot_of c.args.order (slice_index_or c.args.poly.now 0 nowhere)) (spot_of c.args.order c.loop-i.from) total _ crossed _ sum c.crossing-crossed.ensures.value h c.loop-i.invariant.counted;
       from_within = All-get_or (IsWithin (2 ^ 25)) c.args.poly.now c.loop-i.i nowhere h c.requires.vertices_within;
       bounded = record { low = omega (arith, ints); high = omega (arith, ints) };
     }
@@ -109,5 +109,5 @@ returns c =
     let total : ℤ = to_z w32 c.loop-i.total-bits in
     let crossed : ℤ = c.crossing-crossed-2.result in
     let sum : to_z w32 (of_z w32 (total +ℤ to_z w32 (of_z w32 (to_z w8 (of_z w8 crossed))))) ≡ total +ℤ crossed = omega (arith, ints) in
-    count-ended (reals_of c.args.order) (test_of c.args.order c.args.p.now) (place_of c.args.order) nowhere c.args.poly.now c.loop-i.i
-    (place_of c.args.order (slice_index_or c.args.poly.now 0 nowhere)) (place_of c.args.order c.loop-i.from) total _ crossed _ sum c.crossing-crossed-2.ensures.value c.loop-i-test.false c.loop-i.invariant.counted
+    count-ended (reals_of c.args.order) (test_of c.args.order c.args.p.now) (spot_of c.args.order) nowhere c.args.poly.now c.loop-i.i
+    (spot_of c.args.order (slice_index_or c.args.poly.now 0 nowhere)) (spot_of c.args.order c.loop-i.from) total _ crossed _ sum c.crossing-crossed-2.ensures.value c.loop-i-test.false c.loop-i.invariant.counted

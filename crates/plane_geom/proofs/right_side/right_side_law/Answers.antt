@@ -1,5 +1,5 @@
 use Rattle.cyclo_points.specs.Order.{points_of}
-use Rattle.ordered_ring.proofs.Close.{points_right}
+use Rattle.ordered_plane.proofs.Close.{points_right}
 use Rattle.substitution.proofs.RightSide.{points_right-edges}
 use Rattle.plane_geom.proofs.right_side.right_side_law.Goals as goal
 

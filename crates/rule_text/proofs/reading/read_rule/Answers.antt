@@ -2,7 +2,8 @@ use Rattle.std.proofs.Common.{◌≡◌, ◌∙◌, Some, None, sym, ap, refl}
 use Rattle.std.proofs.lemmas.Bool.{false≢true}
 use Rattle.toml.specs.View.{table_view}
 use Rattle.rule_text.specs.Agrees.{Gives}
-use Rattle.rule_text.specs.File.{document_in, rule_of_document, rule_in_file, listed}
+use Rattle.rule_text.specs.File.{document_in, rule_of_document, rule_in_file}
+use Rattle.rule_model.specs.Tiling.{listed}
 use Rattle.rule_text.proofs.Meaning.{document-some, document-none, meant-read, meant-fault, toml-document}
 use Rattle.rule_text.proofs.NarrowDocuments.{document-few}
 use Rattle.rule_text.proofs.reading.read_rule.Goals as goal

@@ -3,7 +3,8 @@ use Rattle.std.proofs.lemmas.Str.{IsUtf8-string_bytes}
 use Rattle.toml.specs.Data.{Members, members_depth}
 use Rattle.toml.specs.Parse.{parse_document}
 use Rattle.toml.specs.Text.{IsDocumentText}
-use Rattle.rule_text.specs.File.{document_in, rule_of_document, listed}
+use Rattle.rule_text.specs.File.{document_in, rule_of_document}
+use Rattle.rule_model.specs.Tiling.{listed}
 use Rattle.rule_text.specs.Written.{rule_members}
 use Rattle.rule_text.proofs.Meaning.{document-some}
 use Rattle.rule_text.proofs.ReadBack.{IsFit, rule-read}

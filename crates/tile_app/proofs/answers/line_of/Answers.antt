@@ -2,7 +2,7 @@ use Rattle.std.proofs.Common.{inr, ◌≡◌, IfOk, Ok, string_bytes, sym, ap, �
 use Rattle.tile_app.specs.declared.words.Command.TheVariants.{Check}
 use Rattle.tile_app.specs.Answers.{Prints}
 use Rattle.tile_app.specs.Requests.{Request, Chooses}
-use Rattle.tile_app.specs.Tilings.{tiling_of}
+use Rattle.rule_model.specs.Tiling.{tiling_of}
 use Rattle.tile_app.specs.Words.{texts, command_of}
 use Rattle.tile_app.proofs.answers.line_of.Goals as goal
 

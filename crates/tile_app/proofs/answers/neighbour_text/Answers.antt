@@ -1,13 +1,13 @@
 use Rattle.std.proofs.Common.{inl, inr, ◌≡◌, ◌<◌, ℕ, length, Some, sym, ap, ◌∙◌, subst}
 use Rattle.std.proofs.lemmas.Result.{err_from_is_err_and}
-use Rattle.substitution.specs.Tables.{Tables, child_kinds, kind_tables}
+use Rattle.addressing.specs.Tables.{Tables, child_kinds, kind_tables}
 use Rattle.rule_model.specs.declared.rule.Rule.{Rule}
-use Rattle.rule_model.specs.Checked.{contacts_of, uses_of}
+use Rattle.rule_model.specs.Checked.{contacts_of, child_kinds_of}
 use Rattle.tile_shape.specs.Views.{address_of}
 use Rattle.tile_app.specs.declared.words.Command.TheVariants.{Neighbour}
 use Rattle.tile_app.specs.Asked.{edge_given}
 use Rattle.tile_app.specs.Crossing.{edges_of}
-use Rattle.tile_app.specs.Tilings.{tiling_of}
+use Rattle.rule_model.specs.Tiling.{tiling_of}
 use Rattle.tile_app.proofs.Children.{kind_in_tables}
 use Rattle.tile_app.proofs.Edges.{edge_has_type}
 use Rattle.tile_app.proofs.answers.neighbour_text.Goals as goal
@@ -21,7 +21,7 @@ address_given-requires c = record { right = (Neighbour, c.requires.right, tt) }
 
 pub edges-edges-requires : goal.edges-edges-requires
 edges-edges-requires c = record {
-  exists = kind_in_tables c.tables.result.now (uses_of c.args.machine.now) c.in_ok-address.address.kind
+  exists = kind_in_tables c.tables.result.now (child_kinds_of c.args.machine.now) c.in_ok-address.address.kind
       (ap child_kinds (c.tables.ensures.contacts ∙ ap contacts_of c.checked.ensures.rule) ∙ c.checked.ensures.same_child_kinds)
       c.in_ok-address.ensures.accepted.fits.kind_exists;
 }

@@ -3,7 +3,7 @@ use Rattle.std.proofs.lemmas.Result.{err_from_is_err_and}
 use Rattle.cyclo_points.specs.Motion.{motion_in}
 use Rattle.tile_shape.specs.Views.{address_of}
 use Rattle.tile_app.specs.declared.words.Command.TheVariants.{Place}
-use Rattle.tile_app.specs.Tilings.{tiling_of}
+use Rattle.rule_model.specs.Tiling.{tiling_of}
 use Rattle.tile_app.proofs.answers.place_text.Goals as goal
 
 pub address_given-requires : goal.address_given-requires

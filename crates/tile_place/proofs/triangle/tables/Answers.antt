@@ -1,6 +1,6 @@
 use Rattle.std.proofs.Common.{rules, ◌≡◌, ℕ, true, [], ◌∷◌, map, refl, Vec, Global}
-use Rattle.substitution.specs.CoherenceTest.{coherence_test}
-use Rattle.substitution.specs.Tables.{kind_tables, type_of, child_kind_of, contacts_of, parts_of, contact_of, part_of, part_count, mate_of, subs_of, child_type_of}
+use Rattle.addressing.specs.CoherenceTest.{coherence_test}
+use Rattle.addressing.specs.Tables.{kind_tables, type_of, child_kind_of, contacts_of, parts_of, contact_of, part_of, part_count, mate_of, subs_of, child_type_of}
 use Rattle.edge_tables.specs.Views.{as_kind}
 use Rattle.tile_place.specs.Triangle.{triangle_kind, triangle_tables}
 use Rattle.tile_place.proofs.triangle.tables.Goals as goal

@@ -1,6 +1,6 @@
 use Rattle.std.proofs.Common.{rules, ◌≡◌, ℕ, [], ◌∷◌, map, Vec, Global}
 use Rattle.edge_tables.specs.Views.{as_kind}
-use Rattle.substitution.specs.Chair.{chair_kind}
+use Rattle.addressing.specs.Chair.{chair_kind}
 use Rattle.transducer_core.proofs.chair.chair.Goals as goal
 
 pub new-requires : goal.new-requires

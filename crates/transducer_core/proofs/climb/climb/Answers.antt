@@ -1,7 +1,7 @@
 use Rattle.std.proofs.Common.{length, map, arith, ap}
 use Rattle.std.proofs.lemmas.List.{length-map}
 use Rattle.tile_shape.specs.Views.{address_of, step_of}
-use Rattle.substitution.proofs.Chains.{chain_of}
+use Rattle.addressing.proofs.Chains.{chain_of}
 use Rattle.transducer_core.proofs.Rising
 use Rattle.transducer_core.proofs.climb.climb.Goals as goal
 

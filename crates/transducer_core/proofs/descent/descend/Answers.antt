@@ -5,10 +5,10 @@ use Rattle.std.proofs.Math.ListN.{length-set}
 use Rattle.tile_shape.specs.declared.step.Step as program
 use Rattle.tile_shape.specs.Views.{address_of, step_of}
 use Rattle.edge_tables.specs.Views.{as_child_edge}
-use Rattle.substitution.specs.Address.{Step}
-use Rattle.substitution.specs.Tables.{part_count}
-use Rattle.substitution.proofs.Chains.{chain_of, fits_of}
-use Rattle.substitution.proofs.Touching.{Touches-of}
+use Rattle.addressing.specs.Address.{Step}
+use Rattle.addressing.specs.Tables.{part_count}
+use Rattle.addressing.proofs.Chains.{chain_of, fits_of}
+use Rattle.addressing.proofs.Touching.{Touches-of}
 use Rattle.transducer_core.proofs.Rising.{digit_read, met_of}
 use Rattle.transducer_core.proofs.Halfway
 use Rattle.transducer_core.proofs.descent.descend.Goals as goal

@@ -1,7 +1,7 @@
 use Rattle.std.proofs.Common.{length, map, ◌≡◌, ℕ, ◌+◌, ◌≤◌, IsSome, drop}
 use Rattle.tile_shape.specs.Views.{address_of, step_of}
-use Rattle.substitution.specs.Tables.{type_of}
-use Rattle.substitution.proofs.Chains.{IsChain}
+use Rattle.addressing.specs.Tables.{type_of}
+use Rattle.addressing.proofs.Chains.{IsChain}
 use Rattle.transducer_core.specs.Climbing.{MeetsAt}
 use Rattle.transducer_core.proofs.Halfway.{Halfway}
 use Rattle.transducer_core.proofs.descent.descend.Given as goal

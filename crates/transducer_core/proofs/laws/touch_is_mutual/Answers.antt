@@ -1,4 +1,4 @@
-use Rattle.substitution.proofs.Touching.{Touches-sym}
+use Rattle.addressing.proofs.Touching.{Touches-sym}
 use Rattle.transducer_core.proofs.laws.touch_is_mutual.Goals as goal
 
 pub returns : goal.returns

@@ -1,4 +1,4 @@
-use Rattle.substitution.proofs.Touching
+use Rattle.addressing.proofs.Touching
 use Rattle.transducer_core.proofs.laws.trace_excludes_touch.Goals as goal
 
 pub returns : goal.returns

@@ -1,4 +1,4 @@
-use Rattle.substitution.proofs.Lying.{IsTrace-unique}
+use Rattle.addressing.proofs.Traces.{IsTrace-unique}
 use Rattle.transducer_core.proofs.laws.trace_is_one.Goals as goal
 
 pub returns : goal.returns

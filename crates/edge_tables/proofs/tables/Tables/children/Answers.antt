@@ -1,5 +1,5 @@
 use Rattle.std.proofs.Common.{length, ap, arith}
-use Rattle.substitution.specs.Tables.{KindTables}
+use Rattle.addressing.specs.Tables.{KindTables}
 use Rattle.edge_tables.proofs.Looks
 use Rattle.edge_tables.proofs.tables.Tables.children.Goals as goal
 

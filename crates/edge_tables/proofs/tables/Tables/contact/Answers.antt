@@ -1,5 +1,5 @@
 use Rattle.std.proofs.Common.{arith}
-use Rattle.substitution.proofs.TableBounds.{contact_bounds}
+use Rattle.addressing.proofs.TableBounds.{contact_bounds}
 use Rattle.edge_tables.proofs.Looks
 use Rattle.edge_tables.proofs.tables.Tables.contact.Goals as goal
 

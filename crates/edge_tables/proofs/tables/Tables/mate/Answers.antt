@@ -1,7 +1,7 @@
 use Rattle.std.proofs.Common.{◌<◌, length, ap, arith, refl}
 use Rattle.std.proofs.lemmas.Option.{slice_get_read}
-use Rattle.substitution.specs.Tables.{Tables, mate_of}
-use Rattle.substitution.proofs.TableBounds.{within}
+use Rattle.addressing.specs.Tables.{Tables, mate_of}
+use Rattle.addressing.proofs.TableBounds.{within}
 use Rattle.edge_tables.proofs.tables.Tables.mate.Goals as goal
 
 pub index-requires : goal.index-requires

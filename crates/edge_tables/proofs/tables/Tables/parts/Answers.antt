@@ -1,5 +1,5 @@
 use Rattle.std.proofs.Common.{arith}
-use Rattle.substitution.proofs.TableBounds.{type_bounds, part_count-within}
+use Rattle.addressing.proofs.TableBounds.{type_bounds, part_count-within}
 use Rattle.edge_tables.proofs.Looks
 use Rattle.edge_tables.proofs.tables.Tables.parts.Goals as goal
 

@@ -14,6 +14,6 @@ returns-clause-none c =
 pub returns-clause-only : goal.returns-clause-only
 returns-clause-only c =
     let x = c.first_glue_edge.result in
-    only_glue_edge (rule_of c.args.self.now) c.rule.ensures.accepted.dissection.glue_right c.args.kind c.requires.exists x
+    only_glue_edge (rule_of c.args.self.now) c.rule.ensures.accepted.edge_to_edge.glue_right c.args.kind c.requires.exists x
     (subst (λ (r : Rule). IfSome x (λ e. IsGlueEdge (rule_of r) c.args.kind e)) c.rule.ensures.rule
     (subst (λ (k : ℕ). IfSome x (λ e. IsGlueEdge (rule_of c.rule.result.now) k e)) c.from.ensures c.first_glue_edge.ensures.some))

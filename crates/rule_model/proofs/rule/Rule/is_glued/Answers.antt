@@ -1,7 +1,7 @@
 use Rattle.std.proofs.Common.{◌||◌, ◌<◌, inl, inr, length, sym, ap, ◌∙◌, subst}
 use Rattle.std.specs.Prelude.{nat_eq}
 use Rattle.substitution.specs.RuleParts.{mate}
-use Rattle.substitution.specs.Uses.{glue_type}
+use Rattle.edge_to_edge.specs.Glue.{glue_type}
 use Rattle.rule_model.specs.Views.{rule_of}
 use Rattle.rule_model.proofs.Glue.{either}
 use Rattle.rule_model.proofs.Searches.{some_below-found}

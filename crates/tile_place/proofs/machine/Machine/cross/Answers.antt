@@ -1,10 +1,10 @@
 use Rattle.std.proofs.Common.{◌≡◌, ◌∙◌, Result, Ok, Err, IfOk, List, ℕ, sym, ap, subst}
-use Rattle.substitution.specs.Address.{Address as TheAddress, Fits}
-use Rattle.substitution.specs.Tables.{Tables, child_kinds}
-use Rattle.substitution.specs.Touch.{Touches, IsOnlyTouched}
+use Rattle.addressing.specs.Address.{Address as TheAddress, Fits}
+use Rattle.addressing.specs.Tables.{Tables, child_kinds}
+use Rattle.addressing.specs.Touch.{Touches, IsOnlyTouched}
 use Rattle.cyclo_points.specs.Order.{points_of}
 use Rattle.rule_model.specs.declared.rule.Rule.{Rule}
-use Rattle.rule_model.specs.Checked.{contacts_of, uses_of}
+use Rattle.rule_model.specs.Checked.{contacts_of, child_kinds_of}
 use Rattle.rule_model.specs.Views.{rule_of}
 use Rattle.tile_shape.specs.Views.{address_of}
 use Rattle.transducer_core.specs.declared.crossing.Crossing.{Crossing}
@@ -12,7 +12,7 @@ use Rattle.tile_place.proofs.Uses.{child_kinds-tables}
 use Rattle.tile_place.proofs.machine.Machine.cross.Goals as goal
 
 -- the transducer's child kinds are the rule's uses
-same_uses : (t : Tables) (inside now : Rule) → t ≡ contacts_of inside → inside ≡ now → child_kinds t ≡ uses_of now
+same_uses : (t : Tables) (inside now : Rule) → t ≡ contacts_of inside → inside ≡ now → child_kinds t ≡ child_kinds_of now
 same_uses t inside now is same = ap child_kinds (is ∙ ap contacts_of same) ∙ child_kinds-tables (points_of now.order) (rule_of now)
 
 answer-fits : {F : Type 0} (t : Tables) (u : List (List ℕ)) (a : TheAddress) (e : ℕ) (x : Result Crossing F) → child_kinds t ≡ u
@@ -26,7 +26,7 @@ step_across-requires-clause-fits g c =
 
 pub returns-clause-answer_fits : goal.returns-clause-answer_fits
 returns-clause-answer_fits g c =
-    answer-fits c.self.inside.transducer (uses_of c.args.self.now) (address_of c.args.addr.now) c.args.edge c.step_across.result
+    answer-fits c.self.inside.transducer (child_kinds_of c.args.self.now) (address_of c.args.addr.now) c.args.edge c.step_across.result
     (same_uses c.self.inside.transducer c.self.inside.checked c.args.self.now c.self.invariant c.self.view_is) c.step_across.ensures.only_pair_touching
 
 pub returns-clause-touching_is_across : goal.returns-clause-touching_is_across

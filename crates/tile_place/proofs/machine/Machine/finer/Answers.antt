@@ -1,7 +1,8 @@
 use Rattle.std.proofs.Common.{◌≡◌, ◌+◌, ◌%◌, ◌^◌, ◌*◌, ◌∙◌, ap, subst, lit≤}
 use Rattle.ordered_ring.specs.Ring.{power}
 use Rattle.substitution.specs.Rule.{Child}
-use Rattle.substitution.specs.Placement.{child_at, finer}
+use Rattle.substitution.specs.Placement.{finer}
+use Rattle.substitution.specs.RuleParts.{child_of}
 use Rattle.cyclo_points.specs.Order.{NumberOf, PointsLaw, points_of}
 use Rattle.cyclo_points.specs.Point.{point_in, IsOf}
 use Rattle.cyclo_points.specs.Motion.{motion_in}
@@ -34,7 +35,7 @@ returns-clause-moved c =
     let child = c.child-child.result in
     let its_order : c.order-order.result ≡ r.order = c.order-order.ensures.order in
     subst (λ (r : Rule). motion_in r.order (record { turn = (m.turn + child.turn) % c.n.result; shift = c.add.result })
-    ≡ finer (points_of r.order) (rule_of r) (motion_in r.order m) (child_at (points_of r.order) (rule_of r) (step_of c.args.step)).motion) c.checked-checked.ensures.rule
+    ≡ finer (points_of r.order) (rule_of r) (motion_in r.order m) (child_of (points_of r.order) (rule_of r) (step_of c.args.step).parent (step_of c.args.step).child).motion) c.checked-checked.ensures.rule
     (finer_is (points_of r.order) (subst PointsLaw its_order c.points_law.ensures) (rule_of r) (motion_in r.order m) (child_in r.order child).motion c.n.result
     (point_in r.order c.factor.result) (point_in r.order c.mul-inflated.result) (point_in r.order c.turn-turned.result) (point_in r.order c.add.result)
     (subst (λ o. c.n.result ≡ (points_of o).order) its_order c.n.ensures)

@@ -1,13 +1,13 @@
 use Rattle.std.proofs.Common.{◌≡◌, ◌-◌, ◌∙◌, ◌^◌, drop, length, map, pos, sym, ap, subst, arith}
 use Rattle.std.proofs.lemmas.List.{length-map}
-use Rattle.substitution.specs.Address.{Climbs}
+use Rattle.addressing.specs.Address.{Climbs}
 use Rattle.substitution.specs.Supertile.{StandsBeside}
 use Rattle.substitution.specs.Placement.{placement}
 use Rattle.cyclo_points.specs.Order.{points_of}
 use Rattle.cyclo_points.specs.Placement.{PlacementLaw}
 use Rattle.cyclo_points.specs.Motion.{motion_in}
 use Rattle.rule_model.specs.declared.rule.Rule.{Rule}
-use Rattle.rule_model.specs.Checked.{uses_of}
+use Rattle.rule_model.specs.Checked.{child_kinds_of}
 use Rattle.rule_model.specs.Views.{rule_of}
 use Rattle.tile_shape.specs.Views.{step_of, address_of}
 use Rattle.tile_place.specs.Placing.{first_refused}
@@ -35,13 +35,13 @@ pub finer-motion-requires-clause-parent : goal.finer-motion-requires-clause-pare
 finer-motion-requires-clause-parent c =
     let r = c.args.self.now in
     (digit-listed (rule_of r) c.args.addr.now.kind c.as_slice-digits.result.now (c.loop-level.level - 1) _
-    (subst (λ xs. Climbs (uses_of r) c.args.addr.now.kind (map step_of xs)) (sym c.as_slice-digits.ensures.value) c.requires.fits.climbs) (omega arith)).0
+    (subst (λ xs. Climbs (child_kinds_of r) c.args.addr.now.kind (map step_of xs)) (sym c.as_slice-digits.ensures.value) c.requires.fits.climbs) (omega arith)).0
 
 pub finer-motion-requires-clause-child : goal.finer-motion-requires-clause-child
 finer-motion-requires-clause-child c =
     let r = c.args.self.now in
     (digit-listed (rule_of r) c.args.addr.now.kind c.as_slice-digits.result.now (c.loop-level.level - 1) _
-    (subst (λ xs. Climbs (uses_of r) c.args.addr.now.kind (map step_of xs)) (sym c.as_slice-digits.ensures.value) c.requires.fits.climbs) (omega arith)).1
+    (subst (λ xs. Climbs (child_kinds_of r) c.args.addr.now.kind (map step_of xs)) (sym c.as_slice-digits.ensures.value) c.requires.fits.climbs) (omega arith)).1
 
 pub loop-level-preserved : goal.loop-level-preserved
 loop-level-preserved c =

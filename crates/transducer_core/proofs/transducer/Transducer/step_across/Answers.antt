@@ -1,12 +1,12 @@
 use Rattle.std.proofs.Common.{◌≡◌, IsSome, sym, ◌∙◌, refl}
 use Rattle.std.proofs.Math.Seq.{take-length}
 use Rattle.tile_shape.specs.Views.{address_of}
-use Rattle.substitution.specs.Address.{Fits}
-use Rattle.substitution.specs.Coherent.{IsCoherent}
-use Rattle.substitution.specs.Tables.{child_kinds, type_of}
-use Rattle.substitution.specs.Trace.{HasTrace, first_part}
-use Rattle.substitution.proofs.Lying.{IsTrace-unique}
-use Rattle.substitution.proofs.Touching.{only_touching, Touches-sym, trace_excludes_touch}
+use Rattle.addressing.specs.Address.{Fits}
+use Rattle.addressing.specs.Coherent.{IsCoherent}
+use Rattle.addressing.specs.Tables.{child_kinds, type_of}
+use Rattle.addressing.specs.Trace.{HasTrace, first_part}
+use Rattle.addressing.proofs.Traces.{IsTrace-unique}
+use Rattle.addressing.proofs.Touching.{only_touching, Touches-sym, trace_excludes_touch}
 use Rattle.transducer_core.specs.Climbing.{MeetsAt}
 use Rattle.transducer_core.proofs.Carried.{carried}
 use Rattle.transducer_core.proofs.Rising.{last_part}

@@ -1,0 +1,14 @@
+pub mod TableBounds
+pub mod Mated
+pub mod Chains
+pub mod Traces
+pub mod FineTouch
+pub mod Touching
+pub mod CoherenceTests
+pub mod Lists
+pub mod Ranges
+pub mod Filters
+pub mod Searches
+pub mod FirstSome
+pub mod BoolLoops
+pub mod Kept

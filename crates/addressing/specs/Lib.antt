@@ -1,0 +1,11 @@
+pub mod Search
+pub mod Address
+pub mod Contact
+pub mod Tables
+pub mod Coherent
+pub mod SameTests
+pub mod CoherenceTest
+pub mod Trace
+pub mod Touch
+pub mod Across
+pub mod Chair

@@ -1,0 +1,13 @@
+pub mod Limits
+pub mod Limited
+pub mod Star
+pub mod Factor
+pub mod EdgeTypes
+pub mod Edges
+pub mod Lying
+pub mod Boundary
+pub mod Uses
+pub mod Glue
+pub mod Numbered
+pub mod Contacts
+pub mod EdgeToEdge

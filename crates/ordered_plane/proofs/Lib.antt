@@ -1,0 +1,15 @@
+pub mod Crossing
+pub mod Segment
+pub mod OnSegment
+pub mod Linear
+pub mod Triangle
+pub mod Heights
+pub mod Fan
+pub mod Rounds
+pub mod Inside
+pub mod Separated
+pub mod BoxHelly
+pub mod BoxOverlap
+pub mod BoxPoints
+pub mod BoxMeets
+pub mod Close
