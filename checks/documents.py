@@ -1,0 +1,295 @@
+"""What the documents say beside what the program does: see documents.sh. Called with the top and the program."""
+import cmath
+import os
+import re
+import shutil
+import subprocess
+import sys
+import tempfile
+
+try:
+    import tomllib
+except ModuleNotFoundError:  # before Python 3.11
+    tomllib = None
+
+sys.dont_write_bytecode = True
+TOP, PROGRAM = os.path.abspath(sys.argv[1]), os.path.abspath(sys.argv[2])
+BY_SCRIPT = ("--help", "-h", "help", "--version", "--build")
+
+
+class Tally:
+    """How many were run, by what they are, and what differs."""
+
+    def __init__(self):
+        self.run, self.differ, self.skipped = {}, [], []
+
+    def compare(self, what, where, got, wanted):
+        self.run[what] = self.run.get(what, 0) + 1
+        if got != wanted:
+            self.differ.append(f"{where}\n  says: {wanted!r}\n  is:   {got!r}")
+
+    def fault(self, where, why):
+        self.differ.append(f"{where}: {why}")
+
+    def end(self):
+        for line in self.differ:
+            print(f"documents: {line}", file=sys.stderr)
+        for line in self.skipped:
+            print(f"documents: not run: {line}")
+        parts = ", ".join(f"{count} {what}" for what, count in self.run.items())
+        print(f"documents: {sum(self.run.values())} run ({parts}), {len(self.differ)} differ")
+        return 1 if self.differ else 0
+
+
+tally = Tally()
+
+
+def read(name):
+    with open(os.path.join(TOP, name), encoding="utf-8") as file:
+        return file.read()
+
+
+def documents():
+    """The names of all documents."""
+    return ["README.md", "rules/README.md"] + sorted(f"docs/{name}" for name in os.listdir(f"{TOP}/docs") if name.endswith(".md"))
+
+
+def stand_in(folder):
+    """A folder to run commands in: copies of what they name, and a `tiling` that calls the program."""
+    for name in ("docs", "rules", "tools"):
+        shutil.copytree(os.path.join(TOP, name), os.path.join(folder, name))
+    with open(os.path.join(folder, "tiling"), "w", encoding="utf-8") as file:
+        words = "|".join(BY_SCRIPT)
+        file.write(f'#!/bin/sh\ncase "$#:$1" in\n1:{words.replace("|", "|1:")}) exec "{TOP}/tiling" "$@" ;;\nesac\n')
+        file.write(f'exec "{PROGRAM}" "$@"\n')
+    os.chmod(os.path.join(folder, "tiling"), 0o755)
+
+
+def shell(command, folder):
+    """What a command prints, both streams together, as lines."""
+    ran = subprocess.run(["sh", "-c", command], cwd=folder, stdin=subprocess.DEVNULL, stdout=subprocess.PIPE, stderr=subprocess.STDOUT)
+    return ran.stdout.decode("utf-8", "replace").rstrip("\n").split("\n")
+
+
+def call(words, given=b""):
+    """The one line that a call of the program prints, whichever stream it is on, and its status."""
+    ran = subprocess.run([PROGRAM, *words], input=given, stdout=subprocess.PIPE, stderr=subprocess.PIPE)
+    return (ran.stdout + ran.stderr).decode().rstrip("\n"), ran.returncode
+
+
+def is_runnable(name, command):
+    """Whether a command is one of the program or of a script of the repository, and can be run here."""
+    if not re.match(r"(\./tiling|python3 tools/\w+\.py)\b", command):
+        tally.skipped.append(f"{name}: $ {command}")
+        return False
+    if "python3" in command and tomllib is None:
+        tally.skipped.append(f"{name}: $ {command} (Python 3.11 or later)")
+        return False
+    return True
+
+
+def commands(name, text, indent, folder):
+    """Runs each line that is indented so and begins with `$ `, and compares with the indented lines below it."""
+    lines, i = text.split("\n"), 0
+    while i < len(lines):
+        if not lines[i].startswith(f"{indent}$ "):
+            i += 1
+            continue
+        command, wanted, at = lines[i][len(indent) + 2 :], [], i + 1
+        i += 1
+        while i < len(lines) and lines[i].startswith(indent) and lines[i].strip() and not lines[i].startswith(f"{indent}$ "):
+            wanted.append(lines[i][len(indent) :])
+            i += 1
+        if is_runnable(name, command):
+            tally.compare("commands", f"{name}:{at}: $ {command}", shell(command, folder), wanted or [""])
+
+
+def rows(text):
+    """The rows of the tables of a text, as lists of cells."""
+    for line in text.split("\n"):
+        if line.startswith("|") and not re.match(r"\|[-| ]+\|$", line):
+            cells = re.split(r"(?<!\\)\|", line.strip()[1:-1])
+            yield [cell.strip().replace("\\|", "|") for cell in cells]
+
+
+def quoted(cell):
+    return re.findall(r"`([^`]*)`", cell)
+
+
+def section(text, title):
+    """The text below a title, up to the next title of its level."""
+    found = re.search(rf"^## {re.escape(title)}\n(.*?)(?=^## |\Z)", text, re.M | re.S)
+    if not found:
+        tally.fault(title, "there is no such section")
+    return found[1] if found else ""
+
+
+def spread(words, cell):
+    """Words in which `..` stands for so many digits as the cell says, as in `addr=0:2/0,..` (40 times `2/0`)."""
+    times = re.search(r"\((\d+) times `([^`]*)`\)", cell)
+    if not times:
+        return words
+    count, digit = int(times[1]), times[2]
+    short = re.compile(rf"((?:{re.escape(digit)},)*)\.\.")
+    return [short.sub(",".join([digit] * count), word) if "addr=" in word else word for word in words]
+
+
+def refusals(folder):
+    """The tables of `Each refusal by example`."""
+    text = section(read("docs/FORMATS.md"), "Each refusal by example")
+    for cells in rows(text):
+        typed, answers = quoted(cells[0]), quoted(cells[1])
+        if cells[1].startswith("(nothing)"):
+            answers = [""]
+        if not typed or not answers:
+            continue
+        where, wanted = f"docs/FORMATS.md: {cells[0]}", answers[0]
+        if "./tiling" in typed[0]:
+            tally.compare("refusals by example", where, shell(typed[0], folder), [wanted])
+            continue
+        words = spread([*typed[0].split(" "), *[word for word in typed[1:] if "=" in word]], cells[0])
+        got, _ = call(words)
+        shape = ".*".join(re.escape(part) for part in wanted.split(".."))
+        tally.compare("refusals by example", where, wanted if re.fullmatch(shape, got) else got, wanted)
+
+
+def refused_texts():
+    """The table of `Refused texts`: each row is a change of one line of a rule file."""
+    base = read("rules/half_square_two.toml")
+    for cells in rows(section(read("docs/TUTORIAL.md"), "Refused texts")):
+        if len(cells) != 3 or "RuleRefused" not in cells[2]:
+            continue
+        old, wanted = quoted(cells[0])[0], quoted(cells[2])[0]
+        new = "\n".join(quoted(cells[1]))
+        text = base.replace(old, new, 1) + (f"\n{old}\n" if "at the end" in cells[1] else "")
+        if old not in base:
+            tally.fault("docs/TUTORIAL.md", f"{old} isn't in rules/half_square_two.toml")
+        tally.compare("refused texts", f"docs/TUTORIAL.md: {cells[0]}", call(["check", "rule=-"], text.encode()), (wanted, 3))
+
+
+def typed_in_order():
+    """The tutorial's pieces, typed in its own order, are accepted, and have the numbers of the files that it names."""
+    text = read("docs/TUTORIAL.md")
+    for title, name in (
+        ("First example: a triangle cut in two", "rules/half_square_two.toml"),
+        ("Second example: directed edges, mates and glue", "rules/half_chair.toml"),
+    ):
+        fences = re.findall(r"^```toml( whole)?\n(.*?)^```", section(text, title), re.M | re.S)
+        pieces = [(title, "".join(piece for whole, piece in fences if not whole))]
+        pieces += [(f"{title}, whole", piece) for whole, piece in fences if whole]
+        for where, piece in pieces:
+            accepted = call(["check", "rule=-"], read(name).encode())
+            tally.compare("rules typed in order", f"docs/TUTORIAL.md: {where}", call(["check", "rule=-"], piece.encode()), accepted)
+            if tomllib and tomllib.loads(piece) != tomllib.loads(read(name)):
+                tally.fault(f"docs/TUTORIAL.md: {where}", f"has other numbers than {name}")
+    for piece in re.findall(r"^```toml\n(.*?)^```", read("docs/FORMATS.md"), re.M | re.S):
+        tally.compare("rules typed in order", "docs/FORMATS.md", call(["check", "rule=-"], piece.encode())[1], 0)
+
+
+def rule_files():
+    """Each refused file is refused as its first line says, each other one is accepted, as the library's table says."""
+    for name in sorted(os.listdir(f"{TOP}/docs/refused")):
+        text = read(f"docs/refused/{name}")
+        wanted = re.match(r"# Refused: (.*)", text)[1].strip()
+        tally.compare("refused files", f"docs/refused/{name}", call(["check", "rule=-"], text.encode()), (wanted, 3))
+    listed = {}
+    for cells in rows(read("rules/README.md")):
+        link = re.match(r"\[(\w+)\]", cells[0])
+        if link and len(cells) >= 6:
+            listed[link[1]] = cells
+    for name in sorted(os.listdir(f"{TOP}/rules")):
+        if not name.endswith(".toml"):
+            continue
+        text, stem = read(f"rules/{name}"), name[:-5]
+        cells = listed.pop(stem, None)
+        if cells is None:
+            tally.fault("rules/README.md", f"has no row for {name}")
+            continue
+        wanted = f"accepted order {cells[1]} kinds {cells[3]} types {cells[4]}"
+        tally.compare("rule files", f"rules/{name}", call(["check", "rule=-"], text.encode()), (wanted, 0))
+        if tomllib:
+            rule = tomllib.loads(text)
+            glue = ", ".join(str(glue) for glue in rule["glue"]) or "-"
+            tally.compare("rows of the library", f"rules/README.md: {stem}, glue", cells[5], glue)
+            zeta = cmath.exp(2j * cmath.pi / rule["order"])
+            factor = sum(a * zeta**i for i, a in enumerate(rule["lambda"]))
+            tally.compare("rows of the library", f"rules/README.md: {stem}, factor", abs(factor - value(cells[2])) < 1e-9, True)
+        if os.path.exists(f"{TOP}/rules/commented/{name}"):
+            commented = read(f"rules/commented/{name}")
+            tally.compare("rule files", f"rules/commented/{name}", call(["check", "rule=-"], commented.encode()), (wanted, 0))
+            if tomllib and tomllib.loads(commented) != tomllib.loads(text):
+                tally.fault(f"rules/commented/{name}", f"has other numbers than rules/{name}")
+    for stem in listed:
+        tally.fault("rules/README.md", f"has a row for {stem}, which isn't there")
+
+
+def value(text):
+    """The number that a short formula stands for."""
+    root = re.compile(r"√(\d+)")
+    names = {"φ": "((1 + 5**0.5) / 2)", "²": "**2"}
+    plain = root.sub(r"(\1**0.5)", text.replace(" ", ""))
+    for name, meaning in names.items():
+        plain = plain.replace(name, meaning)
+    if not re.fullmatch(r"[-+*/().\d\s]+", plain):
+        raise ValueError(text)
+    return eval(plain)
+
+
+def coefficients():
+    """Each entry of the tables of powers and lengths."""
+    text = section(read("docs/COORDINATES.md"), "The powers of ζ, and the usual lengths")
+    order, lengths = 0, []
+    for line in text.split("\n"):
+        title = re.match(r"\*\*Order (\d+)\*\*", line)
+        if title:
+            order = int(title[1])
+        for cells in rows(line):
+            if cells[0] == "k":
+                lengths = [value(re.sub(r"^$|^\($", "1", cell.replace("ζ^k/φ", "(1/φ)").replace("ζ^k", "").strip() or "1")) for cell in cells[2:]]
+            elif re.fullmatch(r"\d+", cells[0]):
+                zeta, k = cmath.exp(2j * cmath.pi / order), int(cells[0])
+                for length, cell in zip(lengths, cells[2:]):
+                    numbers = [int(a) for a in quoted(cell)[0].strip("[]").split(",")]
+                    found = sum(a * zeta**i for i, a in enumerate(numbers))
+                    tally.compare("coefficients", f"docs/COORDINATES.md: order {order}, {cell}", abs(found - length * zeta**k) < 1e-9, True)
+
+
+def anchor(title):
+    """The anchor that a title gets."""
+    return re.sub(r"[^\w\- ]", "", title.lower()).replace(" ", "-")
+
+
+def links():
+    """Each link of a document leads to a file, and each anchor to a title."""
+    for name in documents():
+        text = re.sub(r"^```.*?^```", "", read(name), flags=re.M | re.S)
+        for target in re.findall(r"\]\(([^)\s]+)\)", text) + re.findall(r"^\[\w+\]: (\S+)", text, re.M):
+            if re.match(r"[a-z]+:", target):
+                continue
+            path, _, title = target.partition("#")
+            full = os.path.normpath(os.path.join(TOP, os.path.dirname(name), path)) if path else os.path.join(TOP, name)
+            is_there = os.path.exists(full)
+            if is_there and title:
+                with open(full, encoding="utf-8") as file:
+                    is_there = title in [anchor(it) for it in re.findall(r"^#+ (.*)$", file.read(), re.M)]
+            tally.compare("links", f"{name}: {target}", is_there, True)
+
+
+def main():
+    with tempfile.TemporaryDirectory() as folder:
+        stand_in(folder)
+        for name in documents():
+            commands(name, read(name), "    ", folder)
+        commands("docs/HELP.txt", read("docs/HELP.txt"), "  ", folder)
+        manual = read("docs/tiling.1").replace("\\-", "-").replace("\n$ tiling", "\n    $ ./tiling")
+        commands("docs/tiling.1", re.sub(r"^(?![ .])", "    ", manual, flags=re.M), "    ", folder)
+        refusals(folder)
+    refused_texts()
+    typed_in_order()
+    rule_files()
+    coefficients()
+    links()
+    return tally.end()
+
+
+sys.exit(main())
