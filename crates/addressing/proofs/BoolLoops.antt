@@ -6,7 +6,7 @@ use Rattle.std.proofs.lemmas.List.Folds.{list_any_more}
 use Rattle.addressing.specs.Search.{some_below, all_below}
 use Rattle.addressing.proofs.Searches.{below_or_at}
 
-or_true : (b : Bool) → b || true ≡ true
+pub or_true : (b : Bool) → b || true ≡ true
 or_true true = refl
 or_true false = refl
 

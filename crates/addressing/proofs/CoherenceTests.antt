@@ -4,15 +4,14 @@ use Rattle.std.specs.Option.{option_and_then, is_some}
 use Rattle.std.proofs.lemmas.Option.{slice_get_within, slice_get_past}
 use Rattle.std.proofs.lemmas.Bool.{cases_lt, eqb-true, leb-true, ltb-true, and_parts}
 use Rattle.addressing.specs.Contact.{Contact, ChildEdge, inner, outer}
-use Rattle.addressing.specs.Tables.{Tables, kind_tables, type_of, child_kind_of, contacts_of, parts_of, contact_of, part_of, part_count, mate_of, subs_of, child_type_of}
+use Rattle.addressing.specs.Tables.{Tables, kind_tables, type_of, child_kind_of, contacts_of, parts_of, contact_of, part_of, mate_of, subs_of, child_type_of}
 use Rattle.addressing.specs.Coherent.{IsCoherent}
 use Rattle.addressing.specs.SameTests.{is_value, same_option, same_options, is_inner, is_outer, is_child_edge}
 use Rattle.addressing.specs.Search.{all_below}
 use Rattle.addressing.specs.CoherenceTest.{contact_test, part_test, child_test, edge_test, type_test, kind_links_test, kind_lengths_test, lengths_test, coherence_test}
-use Rattle.addressing.specs.Chair.{chair_tables}
 use Rattle.addressing.proofs.TableBounds.{kind_tables-past, contact_bounds, part_bounds, child_bounds, type_bounds}
 
-all_below-at : (n : ℕ) (p : ℕ → Bool) → all_below n p ≡ true → (k : ℕ) → k < n → p k ≡ true
+pub all_below-at : (n : ℕ) (p : ℕ → Bool) → all_below n p ≡ true → (k : ℕ) → k < n → p k ≡ true
 all_below-at zero p h k in_range = absurd (omega arith)
 all_below-at (suc n) p h k in_range =
     let both = and_parts (p n) (all_below n p) h in
@@ -187,11 +186,3 @@ module _ (t : Tables) (whole : coherence_test t ≡ true) where
 -- tables that pass the test are coherent
 pub IsCoherent-test : (t : Tables) → coherence_test t ≡ true → IsCoherent t
 IsCoherent-test t passes = coherent_from t passes
-
-chair_passes : coherence_test chair_tables ≡ true
-unfolding kind_tables type_of child_kind_of contacts_of parts_of contact_of part_of part_count mate_of subs_of child_type_of
-chair_passes = refl
-
--- the chair's tables are coherent, by evaluation
-pub chair_coherent : IsCoherent chair_tables
-chair_coherent = IsCoherent-test chair_tables chair_passes

@@ -65,7 +65,7 @@ inner_mated t k a ka e b f coherent ha edge met =
     )
 
 -- an element of a list turned round
-slice_get-reverse : {X : Type 0} (xs : List X) (i j : ℕ) (x : X) → i + (j + 1) ≡ length xs → slice_get xs j ≡ Some x → slice_get (reverse xs) i ≡ Some x
+pub slice_get-reverse : {X : Type 0} (xs : List X) (i j : ℕ) (x : X) → i + (j + 1) ≡ length xs → slice_get xs j ≡ Some x → slice_get (reverse xs) i ≡ Some x
 slice_get-reverse xs i j x n h =
     let inside : i < length xs = omega arith in
     let at : length xs - 1 - i ≡ j = omega arith in

@@ -2,7 +2,7 @@
 use Rattle.std.proofs.Common.{◌≡◌, ◌⊎◌, inl, inr, ℕ, zero, suc, ◌<◌, ◌≤◌, List, [], ◌∷◌, ◌++◌, length, map, get_or, slice_get, Some, None, refl, sym, ap, subst, ◌∙◌, arith}
 use Rattle.std.specs.List.{flat_map}
 use Rattle.std.proofs.lemmas.Bool.{cases_lt}
-use Rattle.std.proofs.lemmas.List.{length-append, get_or_push, get_or_append_left}
+use Rattle.std.proofs.lemmas.List.{length-append, get_or_push, get_or_append_left, map-append}
 use Rattle.addressing.proofs.Searches.{below_or_at}
 use Rattle.std.proofs.lemmas.Option.{slice_get_within, slice_get_past}
 use Rattle.addressing.specs.Search.{IsAmong, below}
@@ -70,6 +70,10 @@ image-at f y (x ∷ xs) (suc k) e = let r = image-at f y xs k e in record { sour
 pub length-below : {A : Type 0} (f : ℕ → A) (n : ℕ) → length (below f n) ≡ n
 length-below f zero = refl
 length-below f (suc n) = let rest = length-below f n in let both = length-append (below f n) (f n ∷ []) in omega arith
+
+pub map-below : {A B : Type 0} (f : A → B) (g : ℕ → A) (n : ℕ) → map f (below g n) ≡ below (λ i. f (g i)) n
+map-below f g zero = refl
+map-below f g (suc n) = map-append f (below g n) (g n ∷ []) ∙ ap (λ xs. xs ++ f (g n) ∷ []) (map-below f g n)
 
 pub slice_get-below : {A : Type 0} (f : ℕ → A) (n k : ℕ) → k < n → slice_get (below f n) k ≡ Some (f k)
 slice_get-below f zero k h = absurd (omega arith)

@@ -8,4 +8,3 @@ pub mod CoherenceTest
 pub mod Trace
 pub mod Touch
 pub mod Across
-pub mod Chair

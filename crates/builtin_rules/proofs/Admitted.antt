@@ -1,10 +1,8 @@
 -- A rule of the program with the numbers of a built-in rule is accepted, and has its tables and its uses.
 use Rattle.std.proofs.Common.{◌≡◌, ℕ, List, sym, subst, ◌∙◌}
-use Rattle.edge_to_edge.specs.Contacts.{tables_of}
 use Rattle.edge_to_edge.specs.EdgeToEdge.{IsEdgeToEdge}
 use Rattle.edge_to_edge.specs.Limited.{WithinLimits}
 use Rattle.substitution.specs.Rule as theory
-use Rattle.substitution.specs.Rule.{child_kinds}
 use Rattle.substitution.specs.RuleParts.{map_rule}
 use Rattle.addressing.specs.Tables as tables
 use Rattle.addressing.specs.Tables.{Tables}
@@ -14,14 +12,14 @@ use Rattle.cyclo_points.specs.Order.{points_of, is_refused}
 use Rattle.cyclo_points.specs.Point.{point_in}
 use Rattle.rule_model.specs.declared.rule.Rule.{Rule}
 use Rattle.rule_model.specs.Accepted.{IsAccepted}
-use Rattle.rule_model.specs.Checked.{contacts_of, child_kinds_of}
 use Rattle.rule_model.specs.Small.{is_small}
 use Rattle.rule_model.specs.Views.{as_rule}
 use Rattle.builtin_rules.specs.declared.name.Name.{Name}
-use Rattle.rule_model.specs.Tiling.{ListedRule}
-use Rattle.builtin_rules.specs.Named.{named, tables_named, IsWritten}
+use Rattle.rule_model.specs.Tiling.{ListedRule, tiling_listed, tiling_of, contacts, children}
+use Rattle.builtin_rules.specs.Named.{named, contacts_named, IsWritten}
 use Rattle.builtin_rules.proofs.Acceptance.{within_limits, is_edge_to_edge}
-use Rattle.builtin_rules.proofs.Evaluated.{fits, passes, its_contacts, its_kinds}
+use Rattle.builtin_rules.proofs.Evaluated.{fits, passes}
+use Rattle.builtin_rules.proofs.Constants.{its_kinds}
 
 -- what holds of the numbers that are written down holds of the rule
 moved : (Q : Order → theory.Rule Point → Type 0) (w : ListedRule) (r : Rule) → IsWritten w r → Q w.order w.rule → Q r.order (as_rule r)
@@ -33,8 +31,9 @@ accepted name r is = record {
   edge_to_edge = moved (λ o l. IsEdgeToEdge (points_of o) (is_refused o) (map_rule (point_in o) l)) (named name) r is (is_edge_to_edge _ _ _ (passes name));
 }
 
-pub its_tables : (name : Name) (r : Rule) (t : Tables) → IsWritten (named name) r → t ≡ tables_named name → t ≡ contacts_of r
-its_tables name r t is h = moved (λ o l. t ≡ tables_of (points_of o) (map_rule (point_in o) l)) (named name) r is (h ∙ its_contacts name)
+pub its_tables : (name : Name) (r : Rule) (t : Tables) → IsWritten (named name) r → t ≡ contacts_named name → t ≡ contacts (tiling_of r)
+unfolding contacts_named
+its_tables name r t is h = moved (λ o l. t ≡ contacts (tiling_listed (record { order = o; rule = l }))) (named name) r is h
 
-pub its_uses : (name : Name) (r : Rule) (u : List (List ℕ)) → IsWritten (named name) r → u ≡ tables.child_kinds (tables_named name) → u ≡ child_kinds_of r
-its_uses name r u is h = moved (λ o l. u ≡ child_kinds (map_rule (point_in o) l)) (named name) r is (h ∙ its_kinds name)
+pub its_uses : (name : Name) (r : Rule) (u : List (List ℕ)) → IsWritten (named name) r → u ≡ tables.child_kinds (contacts_named name) → u ≡ children (tiling_of r)
+its_uses name r u is h = moved (λ o l. u ≡ children (tiling_listed (record { order = o; rule = l }))) (named name) r is (h ∙ its_kinds name)

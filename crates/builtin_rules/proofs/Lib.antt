@@ -1,4 +1,5 @@
 pub mod Acceptance
 pub mod Evaluated
+pub mod Constants
 pub mod Admitted
 pub mod Lists

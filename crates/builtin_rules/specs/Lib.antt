@@ -1,4 +1,9 @@
+pub mod Notation
+pub mod Chair
+pub mod P2
+pub mod P3
+pub mod AmmannBeenker
+pub mod Named
 pub mod Numbers
 pub mod Written
 pub mod WrittenTables
-pub mod Named

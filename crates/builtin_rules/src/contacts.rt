@@ -1,9 +1,9 @@
 //! Contact tables and uses, from the numbers of a rule.
 ghost use Rattle.std.specs.Prelude.{◌≡◌, map, IfOk};
-ghost use Rattle.edge_tables.specs.Views.{as_kind};
+ghost use Rattle.edge_tables.specs.Views.{as_kind_tables};
 ghost use Rattle.addressing.specs.Coherent.{IsCoherent};
 ghost use Rattle.addressing.specs.Tables.{child_kinds};
-ghost use Rattle.tile_shape.specs.Usable.{IsUsable};
+ghost use Rattle.tile_shape.specs.Usable.{AreUsable};
 ghost use Rattle.builtin_rules.specs.Numbers.{fixed_kind, fixed_rule};
 ghost use Rattle.builtin_rules.specs.WrittenTables.{written_tables, written_tables_of_kind};
 
@@ -42,7 +42,7 @@ fn copied_lists<T: Copy>(alloc: Global, lists: &[&[T]]) -> Result<Vec<Vec<T>>, N
 
 /// The contact table of a kind.
 fn kind_contacts(alloc: Global, numbers: &KindNumbers) -> Result<KindRows, NoMemory>
-    ensures { IfOk result (λ rows. as_kind rows ≡ written_tables_of_kind (fixed_kind numbers.now)) }
+    ensures { IfOk result (λ rows. as_kind_tables rows ≡ written_tables_of_kind (fixed_kind numbers.now)) }
 {
     Ok(KindRows {
         types: numbers.edges.to_vec(alloc)?,
@@ -72,7 +72,7 @@ pub(crate) fn tables_from(alloc: Global, numbers: &RuleNumbers) -> Result<Tables
 
 /// The child kinds, where they are usable.
 pub(crate) fn uses_from(alloc: Global, numbers: &RuleNumbers) -> Result<Uses, NoMemory>
-    requires usable { IsUsable (child_kinds (written_tables (fixed_rule numbers.now))) }
+    requires usable { AreUsable (child_kinds (written_tables (fixed_rule numbers.now))) }
     ensures { IfOk result (λ uses. uses ≡ child_kinds (written_tables (fixed_rule numbers.now))) }
 {
     let mut rows = Vec::new(alloc);

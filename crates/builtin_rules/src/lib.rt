@@ -3,11 +3,12 @@
 //! squares of Ammann and Beenker, the squares by halves (Grünbaum and Shephard, Tilings and Patterns,
 //! chapter 10).
 //!
-//! The numbers of each rule stand once, as a constant in a file of the rule's own, with the contact tables
-//! of its kinds beside them. `rule_of` makes the rule of a name, with exactly these numbers, and `builtin`
-//! answers that rule as an accepted one, with its contact tables and its uses. The ten clauses of
-//! acceptance are proved of the constants, by evaluation, and so it is that the contact tables are those of
-//! the geometry: a built-in rule is never refused, and only memory may be wanting.
+//! Each rule is written down as a definition, by its order and its numbers. `rule_of` makes the rule of a
+//! name, with exactly these numbers, and `builtin` answers that rule as an accepted one, with its contact
+//! tables and its uses. The numbers of the program are constants, one rule a file, with the contact tables
+//! of the kinds beside them; that they are those of the definition, and the tables those of its geometry, is
+//! proved by evaluation, as are the ten clauses of acceptance. So a built-in rule is never refused, and only
+//! memory may be wanting.
 #![tactic(auto)]
 
 mod ammann_beenker;
@@ -19,8 +20,6 @@ pub mod name;
 mod notation;
 mod p2;
 mod p3;
-#[cfg(test)]
-mod printed;
 mod rule_numbers;
 mod rules;
 #[cfg(test)]

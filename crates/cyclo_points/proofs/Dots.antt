@@ -5,13 +5,15 @@ use Rattle.ordered_ring.specs.Surd.{Pair}
 use Rattle.ordered_ring.proofs.Normaliser.{Expr, con, neg, exprs, ring, ◌⊕◌, ◌⊖◌, ◌⊗◌}
 use Rattle.ordered_ring.proofs.Integers.{integers_laws}
 use Rattle.cyclo_points.specs.Quad.{Quad}
-use Rattle.cyclo_points.specs.Four.{ring_four}
+use Rattle.cyclo_points.specs.Four.{mul_four}
+use Rattle.cyclo_points.specs.Six.{mul_six}
 use Rattle.cyclo_points.specs.Eight.{mul_eight}
 use Rattle.cyclo_points.specs.Ten.{mul_ten}
 use Rattle.cyclo_points.specs.Point.{Within}
 use Rattle.cyclo_points.specs.Product.{product_of, dot_of}
 use Rattle.cyclo_points.proofs.QuadLaws.{P, Q, these}
-use Rattle.cyclo_points.proofs.Sizes.{IsWithinQuad, within_product, within_sum, within_wider}
+use Rattle.cyclo_points.proofs.Sizes.{IsWithinQuad, within_product, within_sum}
+use Rattle.cyclo_points.proofs.Within.{within_wider}
 
 pub dot_path : (p : Quad ℤ) (u0 u1 u2 u3 v0 v1 v2 v3 : ℤ) → u0 ≡ v0 → u1 ≡ v1 → u2 ≡ v2 → u3 ≡ v3 → dot_of p u0 u1 u2 u3 ≡ dot_of p v0 v1 v2 v3
 dot_path p u0 u1 u2 u3 v0 v1 v2 v3 e f g h = λ i. dot_of p (e i) (f i) (g i) (h i)
@@ -33,10 +35,10 @@ dots v0 v1 v2 v3 = P.a0 ⊗ v0 ⊕ P.a1 ⊗ v1 ⊕ P.a2 ⊗ v2 ⊕ P.a3 ⊗ v3
 module _ (p q : Quad ℤ) where
   -- ---- order four: ζ q is (-q1, q0)
   abbrev product_four : Pair ℤ
-  product_four = (ring_four integers).mul (record { a = p.a0; b = p.a1 }) (record { a = q.a0; b = q.a1 })
+  product_four = mul_four integers (record { a = p.a0; b = p.a1 }) (record { a = q.a0; b = q.a1 })
 
   abbrev poly_four : Pair Expr
-  poly_four = (ring_four exprs).mul (record { a = P.a0; b = P.a1 }) (record { a = Q.a0; b = Q.a1 })
+  poly_four = mul_four exprs (record { a = P.a0; b = P.a1 }) (record { a = Q.a0; b = Q.a1 })
 
   pub four_0 : dot_of p q.a0 (neg_ℤ q.a1) (pos 0) (pos 0) ≡ product_four.a
   unfolding dot_of product_of
@@ -45,6 +47,21 @@ module _ (p q : Quad ℤ) where
   pub four_1 : dot_of p q.a1 q.a0 (pos 0) (pos 0) ≡ product_four.b
   unfolding dot_of product_of
   four_1 = ring integers integers_laws (these p q q) (dots Q.a1 Q.a0 (con (pos 0)) (con (pos 0))) poly_four.b refl
+
+  -- ---- order six: ζ q is (-q1, q0 + q1)
+  abbrev product_six : Pair ℤ
+  product_six = mul_six integers (record { a = p.a0; b = p.a1 }) (record { a = q.a0; b = q.a1 })
+
+  abbrev poly_six : Pair Expr
+  poly_six = mul_six exprs (record { a = P.a0; b = P.a1 }) (record { a = Q.a0; b = Q.a1 })
+
+  pub six_0 : dot_of p q.a0 (neg_ℤ q.a1) (pos 0) (pos 0) ≡ product_six.a
+  unfolding dot_of product_of
+  six_0 = ring integers integers_laws (these p q q) (dots Q.a0 (neg Q.a1) (con (pos 0)) (con (pos 0))) poly_six.a refl
+
+  pub six_1 : dot_of p q.a1 (q.a0 +ℤ q.a1) (pos 0) (pos 0) ≡ product_six.b
+  unfolding dot_of product_of
+  six_1 = ring integers integers_laws (these p q q) (dots Q.a1 (Q.a0 ⊕ Q.a1) (con (pos 0)) (con (pos 0))) poly_six.b refl
 
   -- ---- order eight
   pub eight_0 : dot_of p q.a0 (neg_ℤ q.a3) (neg_ℤ q.a2) (neg_ℤ q.a1) ≡ (mul_eight integers p q).a0

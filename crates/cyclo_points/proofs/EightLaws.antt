@@ -1,15 +1,15 @@
 -- The points of order eight meet the laws of points.
-use Rattle.std.proofs.Common.{◌≡◌, ℤ, pos, ◌+ℤ◌, neg_ℤ, [], ◌∷◌, refl, sym, ap, ◌∙◌, subst, arith}
+use Rattle.std.proofs.Common.{◌≡◌, ℤ, pos, ◌+ℤ◌, neg_ℤ, [], ◌∷◌, refl, ap, arith}
 use Rattle.std.proofs.lemmas.Int.{ints}
 use Rattle.ordered_ring.specs.Ring.{Ops, Laws, difference, integers}
 use Rattle.ordered_ring.specs.Surd.{Pair, root_two}
-use Rattle.ordered_ring.proofs.Normaliser.{Expr, var, con, neg, exprs, ◌⊗◌}
+use Rattle.ordered_ring.proofs.Normaliser.{Expr, var, con, exprs, ◌⊗◌}
 use Rattle.ordered_ring.proofs.Integers.{integers_laws}
 use Rattle.ordered_ring.proofs.Ordered.{root_two_laws, root_two_order}
 use Rattle.substitution.specs.Points.{PointLaws}
-use Rattle.cyclo_points.specs.Quad.{Quad, zeta_quad}
+use Rattle.cyclo_points.specs.Quad.{Quad}
 use Rattle.cyclo_points.specs.Eight.{ring_eight, conj_eight, x_eight, y_eight, points_eight}
-use Rattle.cyclo_points.proofs.Identities.{quad_path, quad_ring, pair_ring, own_negative, same_doubles}
+use Rattle.cyclo_points.proofs.Identities.{quad_path, quad_ring, pair_ring, same_doubles}
 use Rattle.cyclo_points.proofs.QuadLaws.{P, Q, S, these, whole, add_quad_assoc, add_quad_comm, add_quad_zero, add_quad_neg, int_quad-add, int_quad-neg, same_quad-is, same_quad_self}
 
 -- the ring, and that of the coordinates, over polynomials
@@ -51,32 +51,6 @@ X = x_eight exprs P
 abbrev Y : Pair Expr
 Y = y_eight exprs P
 
-abbrev turned : Quad Expr
-turned = K.mul (zeta_quad exprs) P
-
--- a number that is its own conjugate
-abbrev Own : Quad Expr
-Own = record { a0 = var 0; a1 = var 1; a2 = con (pos 0); a3 = neg (var 1) }
-
-own_conj_eight : (l : Quad ℤ) → conj_eight integers l ≡ l → (record { a0 = l.a0; a1 = l.a1; a2 = pos 0; a3 = neg_ℤ l.a1 }) ≡ l
-own_conj_eight l e =
-    quad_path _ l refl refl (sym (own_negative l.a2 (ap (λ (q : Quad ℤ). q.a2) e))) (ap (λ (q : Quad ℤ). neg_ℤ q.a1) (sym e) ∙ twice_negative l.a3)
-  where
-    twice_negative : (x : ℤ) → neg_ℤ (neg_ℤ x) ≡ x
-    twice_negative x = omega (arith, ints)
-
-x_eight-factor : (l z : Quad ℤ) → conj_eight integers l ≡ l
-    → (root_two integers).mul ((root_two integers).int (pos 2)) (x_eight integers ((ring_eight integers).mul l z)) ≡ (root_two integers).mul (x_eight integers l) (x_eight integers z)
-x_eight-factor l z e =
-    subst (λ (m : Quad ℤ). (root_two integers).mul ((root_two integers).int (pos 2)) (x_eight integers ((ring_eight integers).mul m z)) ≡ (root_two integers).mul (x_eight integers m) (x_eight integers z)) (own_conj_eight l e)
-    (pair_ring (these l z z) (twice (x_eight exprs (K.mul Own Q))) (R.mul (x_eight exprs Own) (x_eight exprs Q)) refl)
-
-y_eight-factor : (l z : Quad ℤ) → conj_eight integers l ≡ l
-    → (root_two integers).mul ((root_two integers).int (pos 2)) (y_eight integers ((ring_eight integers).mul l z)) ≡ (root_two integers).mul (x_eight integers l) (y_eight integers z)
-y_eight-factor l z e =
-    subst (λ (m : Quad ℤ). (root_two integers).mul ((root_two integers).int (pos 2)) (y_eight integers ((ring_eight integers).mul m z)) ≡ (root_two integers).mul (x_eight integers m) (y_eight integers z)) (own_conj_eight l e)
-    (pair_ring (these l z z) (twice (y_eight exprs (K.mul Own Q))) (R.mul (x_eight exprs Own) (y_eight exprs Q)) refl)
-
 separate_eight : (a b : Quad ℤ) → x_eight integers a ≡ x_eight integers b → y_eight integers a ≡ y_eight integers b → a ≡ b
 separate_eight a b e f =
     quad_path a b
@@ -99,12 +73,13 @@ points_eight_laws = record {
   cosine = record { a = pos 0; b = pos 1 };
   x-add = λ (p : Quad ℤ) (q : Quad ℤ). pair_ring (these p q q) (x_eight exprs (K.add P Q)) (R.add X (x_eight exprs Q)) refl;
   y-add = λ (p : Quad ℤ) (q : Quad ℤ). pair_ring (these p q q) (y_eight exprs (K.add P Q)) (R.add Y (y_eight exprs Q)) refl;
-  x-zeta = λ (p : Quad ℤ). pair_ring (these p p p) (twice (x_eight exprs turned)) (difference R (R.mul theta X) (R.mul height Y)) refl;
-  y-zeta = λ (p : Quad ℤ). pair_ring (these p p p) (twice (y_eight exprs turned)) (R.add X (R.mul theta Y)) refl;
-  x-factor = x_eight-factor;
-  y-factor = y_eight-factor;
   cosine_below = refl;
-  norm = λ (p : Quad ℤ). pair_ring (these p p p) (twice (x_eight exprs (K.mul P (conj_eight exprs P)))) (R.add (R.mul X X) (R.mul height (R.mul Y Y))) refl;
+  x-mul = λ (p : Quad ℤ) (q : Quad ℤ). pair_ring (these p q q) (twice (x_eight exprs (K.mul P Q))) (difference R (R.mul X (x_eight exprs Q)) (R.mul height (R.mul Y (y_eight exprs Q)))) refl;
+  y-mul = λ (p : Quad ℤ) (q : Quad ℤ). pair_ring (these p q q) (twice (y_eight exprs (K.mul P Q))) (R.add (R.mul X (y_eight exprs Q)) (R.mul Y (x_eight exprs Q))) refl;
+  x-zeta = refl;
+  y-zeta = refl;
+  x-conj = λ (p : Quad ℤ). pair_ring (these p p p) (x_eight exprs (conj_eight exprs P)) X refl;
+  y-conj = λ (p : Quad ℤ). pair_ring (these p p p) (y_eight exprs (conj_eight exprs P)) (R.neg Y) refl;
   round = refl;
   separate = separate_eight;
   same-is = same_quad-is;

@@ -9,7 +9,7 @@ use Rattle.ordered_ring.specs.Sign.{IsBelow}
 use Rattle.ordered_ring.proofs.Normaliser.{var, ring, ◌⊕◌, ◌⊖◌}
 use Rattle.ordered_ring.proofs.Ordered.{whole_greater}
 use Rattle.cyclo_points.specs.declared.order.Order.{Order}
-use Rattle.cyclo_points.specs.declared.order.Order.TheVariants.{Four, Eight, Ten}
+use Rattle.cyclo_points.specs.declared.order.Order.TheVariants.{Four, Six, Eight, Ten}
 use Rattle.cyclo_points.specs.Order.{points_of}
 use Rattle.cyclo_points.specs.Real.{RealOf, number}
 use Rattle.cyclo_points.specs.Thousandths.{thousandfold, IsFloorThousandths}
@@ -25,6 +25,7 @@ IsAbove o r f = IsBelow (points_of o).real (thousandfold o r) ((points_of o).rea
 pub rest-is : (o : Order) (f a b : ℤ) → number o (f +ℤ neg_ℤ (pos 1000 *ℤ a)) (neg_ℤ (pos 1000 *ℤ b))
     ≡ difference (points_of o).real.ops ((points_of o).real.ops.int f) (thousandfold o (number o a b))
 rest-is Four f a b = refl
+rest-is Six f a b = refl
 rest-is Eight f a b = pair_path _ _ (first f a b) (second a b)
   where
     first : (f a b : ℤ) → f +ℤ neg_ℤ (pos 1000 *ℤ a) ≡ f +ℤ neg_ℤ (pos 1000 *ℤ a +ℤ pos 2 *ℤ (pos 0 *ℤ b))
@@ -58,6 +59,7 @@ div-below_next (negsuc n) d h = let e = div-mul-le_self n d in omega (arith, int
 -- ---- what is at least a number above is above
 int_positive : (o : Order) (n : ℤ) → pos 0 <ℤ n → (points_of o).real.sign ((points_of o).real.ops.int n) ≡ Greater
 int_positive Four n h = whole_greater n h
+int_positive Six n h = whole_greater n h
 int_positive Eight n h = grind (arith, ints)
 int_positive Ten n h = grind (arith, ints)
 

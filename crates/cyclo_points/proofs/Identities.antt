@@ -1,5 +1,5 @@
 -- Equations of pairs and of quadruples, coefficient by coefficient: from equations of whole numbers, and from identities of polynomials.
-use Rattle.std.proofs.Common.{◌≡◌, ℤ, pos, Bool, true, false, ◌&&◌, List, refl, neg_ℤ, ◌+ℤ◌, int_eq, arith}
+use Rattle.std.proofs.Common.{◌≡◌, ℤ, Bool, true, false, ◌&&◌, List, refl, ◌+ℤ◌, int_eq, arith}
 use Rattle.std.proofs.lemmas.Int.{ints}
 use Rattle.std.proofs.lemmas.Bool.Decides.{Decides-int_eq}
 use Rattle.ordered_ring.specs.Ring.{integers}
@@ -55,7 +55,3 @@ int_self x = (Decides-int_eq x x).1 refl
 
 pub same_doubles : (x y : ℤ) → x +ℤ x ≡ y +ℤ y → x ≡ y
 same_doubles x y e = omega (arith, ints)
-
--- only 0 is its own negative
-pub own_negative : (x : ℤ) → neg_ℤ x ≡ x → x ≡ pos 0
-own_negative x e = omega (arith, ints)

@@ -1,12 +1,17 @@
 pub mod Identities
 pub mod QuadLaws
+pub mod PairLaws
 pub mod FourLaws
+pub mod SixLaws
 pub mod EightLaws
 pub mod TenLaws
 pub mod OrderLaws
 pub mod Readings
+pub mod Within
 pub mod Sizes
+pub mod PairSizes
 pub mod FourTurns
+pub mod SixTurns
 pub mod EightTurns
 pub mod TenTurns
 pub mod Turns
@@ -23,4 +28,3 @@ pub mod RealProducts
 pub mod CoordinateReadings
 pub mod Undoing
 pub mod Floors
-pub mod Widths

@@ -4,7 +4,7 @@ use Rattle.std.proofs.lemmas.Int.{ints}
 use Rattle.ordered_ring.specs.Ring.{integers}
 use Rattle.ordered_ring.specs.Surd.{Pair}
 use Rattle.cyclo_points.specs.declared.order.Order.{Order}
-use Rattle.cyclo_points.specs.declared.order.Order.TheVariants.{Four, Eight, Ten}
+use Rattle.cyclo_points.specs.declared.order.Order.TheVariants.{Four, Six, Eight, Ten}
 use Rattle.cyclo_points.specs.declared.point.Point.{Point}
 use Rattle.cyclo_points.specs.Quad.{Quad}
 use Rattle.cyclo_points.specs.Eight.{mul_eight}
@@ -12,7 +12,7 @@ use Rattle.cyclo_points.specs.Ten.{mul_ten}
 use Rattle.cyclo_points.specs.Order.{points_of}
 use Rattle.cyclo_points.specs.Point.{quad_of, point_in, IsOf, Within, IsWithin}
 use Rattle.cyclo_points.proofs.Sizes.{IsWithinQuad, quad_within, within_quad, double_kept, double_negative, double_sum, double_negative_sum}
-use Rattle.cyclo_points.proofs.Dots.{dot_within, four_0, four_1, eight_0, eight_1, eight_2, eight_3, ten_0, ten_1, ten_2, ten_3}
+use Rattle.cyclo_points.proofs.Dots.{dot_within, four_0, four_1, six_0, six_1, eight_0, eight_1, eight_2, eight_3, ten_0, ten_1, ten_2, ten_3}
 
 -- r is the product of p and q
 abbrev pub IsProduct : Order → Point → Point → Point → Type 0
@@ -49,6 +49,16 @@ product_within Four m k p q r e h f g =
           (dot_within m k (quad_of p) _ _ _ _ pf (double_kept k _ g.at_0) (double_negative k _ g.at_1) (zero_within (2 * k)) (zero_within (2 * k)));
       at_1 = subst (Within (8 * m * k)) (four_1 (quad_of p) (quad_of q) ∙ sym (ap (λ (z : Pair ℤ). z.b) e))
           (dot_within m k (quad_of p) _ _ _ _ pf (double_kept k _ g.at_1) (double_kept k _ g.at_0) (zero_within (2 * k)) (zero_within (2 * k)));
+      at_2 = subst (Within (8 * m * k)) (sym h.0) (zero_within (8 * m * k));
+      at_3 = subst (Within (8 * m * k)) (sym h.1) (zero_within (8 * m * k));
+    }
+product_within Six m k p q r e h f g =
+    let pf = quad_within m p f in
+    record {
+      at_0 = subst (Within (8 * m * k)) (six_0 (quad_of p) (quad_of q) ∙ sym (ap (λ (z : Pair ℤ). z.a) e))
+          (dot_within m k (quad_of p) _ _ _ _ pf (double_kept k _ g.at_0) (double_negative k _ g.at_1) (zero_within (2 * k)) (zero_within (2 * k)));
+      at_1 = subst (Within (8 * m * k)) (six_1 (quad_of p) (quad_of q) ∙ sym (ap (λ (z : Pair ℤ). z.b) e))
+          (dot_within m k (quad_of p) _ _ _ _ pf (double_kept k _ g.at_1) (double_sum k _ _ g.at_0 g.at_1) (zero_within (2 * k)) (zero_within (2 * k)));
       at_2 = subst (Within (8 * m * k)) (sym h.0) (zero_within (8 * m * k));
       at_3 = subst (Within (8 * m * k)) (sym h.1) (zero_within (8 * m * k));
     }

@@ -1,12 +1,13 @@
--- What the code's sums and differences are, as equations of quadruples.
+-- What the code's sums and differences are, as equations of quadruples and of pairs.
 use Rattle.std.specs.Int.{w64}
 use Rattle.std.proofs.Common.{◌≡◌, ℤ, pos, ◌+ℤ◌, ◌-ℤ◌, neg_ℤ, ◌^◌, [], ◌∷◌, to_z, of_z, arith}
 use Rattle.std.proofs.lemmas.Int.{ints}
 use Rattle.ordered_ring.specs.Ring.{integers}
+use Rattle.ordered_ring.specs.Surd.{Pair}
 use Rattle.cyclo_points.specs.declared.point.Point.{Point}
 use Rattle.cyclo_points.specs.Quad.{add_quad, neg_quad}
-use Rattle.cyclo_points.specs.Point.{coefficient, quad_of, Within, IsWithin}
-use Rattle.cyclo_points.proofs.Identities.{quad_path}
+use Rattle.cyclo_points.specs.Point.{coefficient, quad_of, pair_of, Within, IsWithin}
+use Rattle.cyclo_points.proofs.Identities.{quad_path, pair_path}
 
 -- a number as the code reads it
 abbrev pub machine : ℤ → ℤ
@@ -77,3 +78,10 @@ machine_negative_sum x y = machine (pos 0 -ℤ machine_sum x y)
 
 pub machine_negative_sum-is : (x y : ℤ) → Within (2 ^ 40) x → Within (2 ^ 40) y → machine_negative_sum x y ≡ neg_ℤ (x +ℤ y)
 machine_negative_sum-is x y f g = omega (arith, ints)
+
+-- the first two coefficients
+abbrev pub machine_pair : Point → Pair ℤ
+machine_pair p = record { a = machine (coefficient p 0); b = machine (coefficient p 1) }
+
+pub machine_pair-is : (p : Point) → IsWithin (2 ^ 40) p → machine_pair p ≡ pair_of p
+machine_pair-is p h = pair_path (machine_pair p) (pair_of p) (machine-is _ h.at_0) (machine-is _ h.at_1)

@@ -5,7 +5,7 @@ use Rattle.std.specs.declared.cmp.Ordering.TheVariants.{Greater}
 use Rattle.std.proofs.Common.{◌≡◌, ℕ, ℤ, pos, ◌*◌, ◌^◌, ◌+ℤ◌, ◌*ℤ◌, FitsSigned, subst, sym, ap, ap₂, ◌∙◌, arith}
 use Rattle.std.proofs.lemmas.Int.{ints, to_z-of_z, fits_signed_mul}
 use Rattle.cyclo_points.specs.declared.order.Order.{Order}
-use Rattle.cyclo_points.specs.declared.order.Order.TheVariants.{Four, Eight, Ten}
+use Rattle.cyclo_points.specs.declared.order.Order.TheVariants.{Four, Six, Eight, Ten}
 use Rattle.cyclo_points.specs.declared.real.Real.{Real}
 use Rattle.cyclo_points.specs.Order.{points_of}
 use Rattle.cyclo_points.specs.Point.{Within}
@@ -74,6 +74,9 @@ multiplied o a b c d = (points_of o).real.ops.mul (number o a b) (number o c d)
 pub multiplied_four : (a b c d x : ℤ) → x ≡ a *ℤ c → number Four x (pos 0) ≡ multiplied Four a b c d
 multiplied_four a b c d x e = e
 
+pub multiplied_six : (a b c d x : ℤ) → x ≡ a *ℤ c → number Six x (pos 0) ≡ multiplied Six a b c d
+multiplied_six a b c d x e = e
+
 pub multiplied_eight : (a b c d x y : ℤ) → x ≡ a *ℤ c +ℤ pos 2 *ℤ (b *ℤ d) → y ≡ a *ℤ d +ℤ b *ℤ c → number Eight x y ≡ multiplied Eight a b c d
 multiplied_eight a b c d x y e f = ap₂ (number Eight) e f
 
@@ -123,6 +126,7 @@ multiplied_within o m k r s t e i f g = subst (λ n. IsRealWithin n t) (grouped 
 
     at_order : (o : Order) → IsMultiplied o r s t → IsRealOf o t → IsRealWithin (3 * (m * k)) t
     at_order Four e i = record { at_a = subst (Within (3 * (m * k))) (sym e) (one_only (m * k) _ aa); at_b = subst (Within (3 * (m * k))) (sym i) (zero_within (3 * (m * k))) }
+    at_order Six e i = record { at_a = subst (Within (3 * (m * k))) (sym e) (one_only (m * k) _ aa); at_b = subst (Within (3 * (m * k))) (sym i) (zero_within (3 * (m * k))) }
     at_order Eight e i = record {
       at_a = subst (Within (3 * (m * k))) (sym (ap (λ (x : RealOf Eight). x.a) e)) (double_added (m * k) _ _ aa bb);
       at_b = subst (Within (3 * (m * k))) (sym (ap (λ (x : RealOf Eight). x.b) e)) (two_sum (m * k) _ _ ab ba);

@@ -2,8 +2,9 @@
 use Rattle.std.specs.Bool.{IsTrue}
 use Rattle.std.proofs.Common.{◌≡◌, ◌↔◌, ℤ, pos, Bool, true, false, ◌||◌, nat_abs, nat_lt, ◌^◌, refl, ap₂, ◌∙◌, arith}
 use Rattle.std.proofs.lemmas.Bool.Decides.{nat_tests}
+use Rattle.ordered_ring.proofs.Booleans.{decided}
 use Rattle.cyclo_points.specs.declared.order.Order.{Order}
-use Rattle.cyclo_points.specs.declared.order.Order.TheVariants.{Four, Eight, Ten}
+use Rattle.cyclo_points.specs.declared.order.Order.TheVariants.{Four, Six, Eight, Ten}
 use Rattle.cyclo_points.specs.declared.point.Point.{Point}
 use Rattle.cyclo_points.specs.Order.{is_refused}
 use Rattle.cyclo_points.specs.Point.{coefficient, point_in, IsOf, Within, IsWithin}
@@ -43,10 +44,6 @@ some_beyond-within : (p : Point) → IsWithin (2 ^ 24) p → some_beyond p ≡ f
 some_beyond-within p h =
     ap₂ (λ a b. a || b) (ap₂ (λ a b. a || b) (ap₂ (λ a b. a || b) (not_beyond-within _ h.at_0) (not_beyond-within _ h.at_1)) (not_beyond-within _ h.at_2)) (not_beyond-within _ h.at_3)
 
-decided : (b : Bool) (A : Type 0) → (b ≡ false → A) → (A → b ≡ false) → IsTrue b ↔ (¬ A)
-decided true A f g = (λ t a. absurd (cc (g a)), λ n. refl)
-decided false A f g = (λ t a. absurd (cc t), λ n. absurd (n (f refl)))
-
 pub some_beyond-decides : (p : Point) → IsTrue (some_beyond p) ↔ (¬ IsWithin (2 ^ 24) p)
 some_beyond-decides p = decided (some_beyond p) (IsWithin (2 ^ 24) p) (within-some_beyond p) (some_beyond-within p)
 
@@ -59,6 +56,9 @@ regrouped false false false false = refl
 
 pub some_beyond-refused : (o : Order) (p : Point) → IsOf o p → some_beyond p ≡ is_refused o (point_in o p)
 some_beyond-refused Four p h =
+    ap₂ (λ x y. beyond (coefficient p 0) || beyond (coefficient p 1) || beyond x || beyond y) h.0 h.1
+    ∙ regrouped (beyond (coefficient p 0)) (beyond (coefficient p 1)) (beyond (pos 0)) (beyond (pos 0))
+some_beyond-refused Six p h =
     ap₂ (λ x y. beyond (coefficient p 0) || beyond (coefficient p 1) || beyond x || beyond y) h.0 h.1
     ∙ regrouped (beyond (coefficient p 0)) (beyond (coefficient p 1)) (beyond (pos 0)) (beyond (pos 0))
 some_beyond-refused Eight p h = regrouped (beyond (coefficient p 0)) (beyond (coefficient p 1)) (beyond (coefficient p 2)) (beyond (coefficient p 3))

@@ -1,10 +1,10 @@
--- The size of a sum, a negative and a product; and in order four, the two coefficients that stay 0.
+-- The size of a sum, a negative and a product; and in orders four and six, the two coefficients that stay 0.
 use Rattle.std.proofs.Common.{◌≡◌, ℕ, ℤ, pos, negsuc, ◌+◌, ◌*◌, ◌≤◌, ◌+ℤ◌, ◌*ℤ◌, neg_ℤ, nat_abs, arith, ap, ap₂, ◌∙◌, sym, subst}
 use Rattle.std.proofs.lemmas.Int.{ints, unsigned_abs-mul}
 use Rattle.std.proofs.Math.Nat.{mul-le-mul}
 use Rattle.ordered_ring.specs.Ring.{integers, difference}
 use Rattle.cyclo_points.specs.declared.order.Order.{Order}
-use Rattle.cyclo_points.specs.declared.order.Order.TheVariants.{Four, Eight, Ten}
+use Rattle.cyclo_points.specs.declared.order.Order.TheVariants.{Four, Six, Eight, Ten}
 use Rattle.cyclo_points.specs.declared.point.Point.{Point}
 use Rattle.cyclo_points.specs.Quad.{Quad, add_quad, neg_quad}
 use Rattle.cyclo_points.specs.Order.{points_of}
@@ -30,17 +30,6 @@ within_sum m n x y f g = record { low = omega (arith, ints); high = omega (arith
 
 pub within_negative : (n : ℕ) (x : ℤ) → Within n x → Within n (neg_ℤ x)
 within_negative n x f = record { low = omega (arith, ints); high = omega (arith, ints) }
-
-pub within_wider : (m n : ℕ) (x : ℤ) → m ≤ n → Within m x → Within n x
-within_wider m n x l h = record { low = omega (arith, ints); high = omega (arith, ints) }
-
-pub point_within_wider : (m n : ℕ) (p : Point) → m ≤ n → IsWithin m p → IsWithin n p
-point_within_wider m n p l h = record {
-  at_0 = within_wider m n _ l h.at_0;
-  at_1 = within_wider m n _ l h.at_1;
-  at_2 = within_wider m n _ l h.at_2;
-  at_3 = within_wider m n _ l h.at_3;
-}
 
 pub within_abs : (n : ℕ) (x : ℤ) → Within n x → nat_abs x ≤ n
 within_abs n (pos k) h = let g = h.high in omega (arith, ints)
@@ -89,33 +78,40 @@ quads_within_negative n p f = record {
 pub point_in-add : (o : Order) (r p q : Point) → quad_of r ≡ add_quad integers (quad_of p) (quad_of q)
     → point_in o r ≡ (points_of o).ring.add (point_in o p) (point_in o q)
 point_in-add Four r p q e = pair_path _ _ (ap (λ (z : Quad ℤ). z.a0) e) (ap (λ (z : Quad ℤ). z.a1) e)
+point_in-add Six r p q e = pair_path _ _ (ap (λ (z : Quad ℤ). z.a0) e) (ap (λ (z : Quad ℤ). z.a1) e)
 point_in-add Eight r p q e = e
 point_in-add Ten r p q e = e
 
 pub point_in-difference : (o : Order) (r p q : Point) → quad_of r ≡ add_quad integers (quad_of p) (neg_quad integers (quad_of q))
     → point_in o r ≡ difference (points_of o).ring (point_in o p) (point_in o q)
 point_in-difference Four r p q e = pair_path _ _ (ap (λ (z : Quad ℤ). z.a0) e) (ap (λ (z : Quad ℤ). z.a1) e)
+point_in-difference Six r p q e = pair_path _ _ (ap (λ (z : Quad ℤ). z.a0) e) (ap (λ (z : Quad ℤ). z.a1) e)
 point_in-difference Eight r p q e = e
 point_in-difference Ten r p q e = e
 
 pub point_in-neg : (o : Order) (r p : Point) → quad_of r ≡ neg_quad integers (quad_of p) → point_in o r ≡ (points_of o).ring.neg (point_in o p)
 point_in-neg Four r p e = pair_path _ _ (ap (λ (z : Quad ℤ). z.a0) e) (ap (λ (z : Quad ℤ). z.a1) e)
+point_in-neg Six r p e = pair_path _ _ (ap (λ (z : Quad ℤ). z.a0) e) (ap (λ (z : Quad ℤ). z.a1) e)
 point_in-neg Eight r p e = e
 point_in-neg Ten r p e = e
 
--- ---- the last two coefficients in order four
+-- ---- the last two coefficients in orders four and six
 pub in_order-add : (o : Order) (r p q : Point) → quad_of r ≡ add_quad integers (quad_of p) (quad_of q) → IsOf o p → IsOf o q → IsOf o r
 in_order-add Four r p q e f g = (ap (λ (z : Quad ℤ). z.a2) e ∙ ap₂ ◌+ℤ◌ f.0 g.0, ap (λ (z : Quad ℤ). z.a3) e ∙ ap₂ ◌+ℤ◌ f.1 g.1)
+in_order-add Six r p q e f g = (ap (λ (z : Quad ℤ). z.a2) e ∙ ap₂ ◌+ℤ◌ f.0 g.0, ap (λ (z : Quad ℤ). z.a3) e ∙ ap₂ ◌+ℤ◌ f.1 g.1)
 in_order-add Eight r p q e f g = tt
 in_order-add Ten r p q e f g = tt
 
 pub in_order-difference : (o : Order) (r p q : Point) → quad_of r ≡ add_quad integers (quad_of p) (neg_quad integers (quad_of q)) → IsOf o p → IsOf o q → IsOf o r
 in_order-difference Four r p q e f g =
     (ap (λ (z : Quad ℤ). z.a2) e ∙ ap₂ (λ x y. x +ℤ neg_ℤ y) f.0 g.0, ap (λ (z : Quad ℤ). z.a3) e ∙ ap₂ (λ x y. x +ℤ neg_ℤ y) f.1 g.1)
+in_order-difference Six r p q e f g =
+    (ap (λ (z : Quad ℤ). z.a2) e ∙ ap₂ (λ x y. x +ℤ neg_ℤ y) f.0 g.0, ap (λ (z : Quad ℤ). z.a3) e ∙ ap₂ (λ x y. x +ℤ neg_ℤ y) f.1 g.1)
 in_order-difference Eight r p q e f g = tt
 in_order-difference Ten r p q e f g = tt
 
 pub in_order-neg : (o : Order) (r p : Point) → quad_of r ≡ neg_quad integers (quad_of p) → IsOf o p → IsOf o r
 in_order-neg Four r p e f = (ap (λ (z : Quad ℤ). z.a2) e ∙ ap neg_ℤ f.0, ap (λ (z : Quad ℤ). z.a3) e ∙ ap neg_ℤ f.1)
+in_order-neg Six r p e f = (ap (λ (z : Quad ℤ). z.a2) e ∙ ap neg_ℤ f.0, ap (λ (z : Quad ℤ). z.a3) e ∙ ap neg_ℤ f.1)
 in_order-neg Eight r p e f = tt
 in_order-neg Ten r p e f = tt

@@ -1,15 +1,15 @@
 -- The points of order ten meet the laws of points.
-use Rattle.std.proofs.Common.{◌≡◌, ℤ, pos, ◌+ℤ◌, neg_ℤ, [], ◌∷◌, refl, sym, ap, subst, arith}
+use Rattle.std.proofs.Common.{◌≡◌, ℤ, pos, ◌+ℤ◌, neg_ℤ, [], ◌∷◌, refl, ap, arith}
 use Rattle.std.proofs.lemmas.Int.{ints}
 use Rattle.ordered_ring.specs.Ring.{Ops, Laws, difference, integers}
 use Rattle.ordered_ring.specs.Surd.{Pair, golden}
-use Rattle.ordered_ring.proofs.Normaliser.{Expr, var, con, neg, exprs, ◌⊗◌}
+use Rattle.ordered_ring.proofs.Normaliser.{Expr, var, con, exprs, ◌⊗◌}
 use Rattle.ordered_ring.proofs.Integers.{integers_laws}
 use Rattle.ordered_ring.proofs.Ordered.{golden_laws, golden_order}
 use Rattle.substitution.specs.Points.{PointLaws}
-use Rattle.cyclo_points.specs.Quad.{Quad, zeta_quad}
+use Rattle.cyclo_points.specs.Quad.{Quad}
 use Rattle.cyclo_points.specs.Ten.{ring_ten, conj_ten, x_ten, y_ten, points_ten}
-use Rattle.cyclo_points.proofs.Identities.{quad_path, quad_ring, pair_ring, own_negative}
+use Rattle.cyclo_points.proofs.Identities.{quad_path, quad_ring, pair_ring}
 use Rattle.cyclo_points.proofs.QuadLaws.{P, Q, S, these, whole, add_quad_assoc, add_quad_comm, add_quad_zero, add_quad_neg, int_quad-add, int_quad-neg, same_quad-is, same_quad_self}
 
 -- the ring, and that of the coordinates, over polynomials
@@ -51,34 +51,6 @@ X = x_ten exprs P
 abbrev Y : Pair Expr
 Y = y_ten exprs P
 
-abbrev turned : Quad Expr
-turned = K.mul (zeta_quad exprs) P
-
--- a number that is its own conjugate
-abbrev Own : Quad Expr
-Own = record { a0 = var 0; a1 = con (pos 0); a2 = var 2; a3 = neg (var 2) }
-
-own_conj_ten : (l : Quad ℤ) → conj_ten integers l ≡ l → (record { a0 = l.a0; a1 = pos 0; a2 = l.a2; a3 = neg_ℤ l.a2 }) ≡ l
-own_conj_ten l e = quad_path _ l refl (sym first) refl (third (ap (λ (q : Quad ℤ). q.a2) e) first)
-  where
-    first : l.a1 ≡ pos 0
-    first = own_negative l.a1 (ap (λ (q : Quad ℤ). q.a1) e)
-
-    third : l.a1 +ℤ neg_ℤ l.a3 ≡ l.a2 → l.a1 ≡ pos 0 → neg_ℤ l.a2 ≡ l.a3
-    third f g = omega (arith, ints)
-
-x_ten-factor : (l z : Quad ℤ) → conj_ten integers l ≡ l
-    → (golden integers).mul ((golden integers).int (pos 2)) (x_ten integers ((ring_ten integers).mul l z)) ≡ (golden integers).mul (x_ten integers l) (x_ten integers z)
-x_ten-factor l z e =
-    subst (λ (m : Quad ℤ). (golden integers).mul ((golden integers).int (pos 2)) (x_ten integers ((ring_ten integers).mul m z)) ≡ (golden integers).mul (x_ten integers m) (x_ten integers z)) (own_conj_ten l e)
-    (pair_ring (these l z z) (twice (x_ten exprs (K.mul Own Q))) (R.mul (x_ten exprs Own) (x_ten exprs Q)) refl)
-
-y_ten-factor : (l z : Quad ℤ) → conj_ten integers l ≡ l
-    → (golden integers).mul ((golden integers).int (pos 2)) (y_ten integers ((ring_ten integers).mul l z)) ≡ (golden integers).mul (x_ten integers l) (y_ten integers z)
-y_ten-factor l z e =
-    subst (λ (m : Quad ℤ). (golden integers).mul ((golden integers).int (pos 2)) (y_ten integers ((ring_ten integers).mul m z)) ≡ (golden integers).mul (x_ten integers m) (y_ten integers z)) (own_conj_ten l e)
-    (pair_ring (these l z z) (twice (y_ten exprs (K.mul Own Q))) (R.mul (x_ten exprs Own) (y_ten exprs Q)) refl)
-
 separate_ten : (a b : Quad ℤ) → x_ten integers a ≡ x_ten integers b → y_ten integers a ≡ y_ten integers b → a ≡ b
 separate_ten a b e f =
     let xa = ap (λ (q : Pair ℤ). q.a) e in
@@ -109,12 +81,13 @@ points_ten_laws = record {
   cosine = record { a = pos 0; b = pos 1 };
   x-add = λ (p : Quad ℤ) (q : Quad ℤ). pair_ring (these p q q) (x_ten exprs (K.add P Q)) (R.add X (x_ten exprs Q)) refl;
   y-add = λ (p : Quad ℤ) (q : Quad ℤ). pair_ring (these p q q) (y_ten exprs (K.add P Q)) (R.add Y (y_ten exprs Q)) refl;
-  x-zeta = λ (p : Quad ℤ). pair_ring (these p p p) (twice (x_ten exprs turned)) (difference R (R.mul theta X) (R.mul height Y)) refl;
-  y-zeta = λ (p : Quad ℤ). pair_ring (these p p p) (twice (y_ten exprs turned)) (R.add X (R.mul theta Y)) refl;
-  x-factor = x_ten-factor;
-  y-factor = y_ten-factor;
   cosine_below = refl;
-  norm = λ (p : Quad ℤ). pair_ring (these p p p) (twice (x_ten exprs (K.mul P (conj_ten exprs P)))) (R.add (R.mul X X) (R.mul height (R.mul Y Y))) refl;
+  x-mul = λ (p : Quad ℤ) (q : Quad ℤ). pair_ring (these p q q) (twice (x_ten exprs (K.mul P Q))) (difference R (R.mul X (x_ten exprs Q)) (R.mul height (R.mul Y (y_ten exprs Q)))) refl;
+  y-mul = λ (p : Quad ℤ) (q : Quad ℤ). pair_ring (these p q q) (twice (y_ten exprs (K.mul P Q))) (R.add (R.mul X (y_ten exprs Q)) (R.mul Y (x_ten exprs Q))) refl;
+  x-zeta = refl;
+  y-zeta = refl;
+  x-conj = λ (p : Quad ℤ). pair_ring (these p p p) (x_ten exprs (conj_ten exprs P)) X refl;
+  y-conj = λ (p : Quad ℤ). pair_ring (these p p p) (y_ten exprs (conj_ten exprs P)) (R.neg Y) refl;
   round = refl;
   separate = separate_ten;
   same-is = same_quad-is;

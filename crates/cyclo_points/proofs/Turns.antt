@@ -4,7 +4,7 @@ use Rattle.ordered_ring.specs.Ring.{Ops, Laws, power}
 use Rattle.ordered_ring.proofs.Normaliser.{var, con, neg, ring, ◌⊗◌}
 use Rattle.substitution.proofs.Motions.{power-add}
 use Rattle.cyclo_points.specs.declared.order.Order.{Order}
-use Rattle.cyclo_points.specs.declared.order.Order.TheVariants.{Four, Eight, Ten}
+use Rattle.cyclo_points.specs.declared.order.Order.TheVariants.{Four, Six, Eight, Ten}
 use Rattle.cyclo_points.specs.declared.point.Point.{Point}
 use Rattle.cyclo_points.specs.Order.{points_of}
 use Rattle.cyclo_points.specs.Point.{point_in}
@@ -16,6 +16,7 @@ IsTurned o k p r = point_in o r ≡ (points_of o).ring.mul (power (points_of o).
 
 half_turn : (o : Order) → power (points_of o).ring (points_of o).zeta ((points_of o).order / 2) ≡ (points_of o).ring.neg ((points_of o).ring.int (pos 1))
 half_turn Four = refl
+half_turn Six = refl
 half_turn Eight = refl
 half_turn Ten = refl
 

@@ -6,7 +6,7 @@ use Rattle.substitution.specs.Points.{Points, PointLaws}
 use Rattle.substitution.specs.Motion.{Motion, moved, followed, still}
 use Rattle.substitution.proofs.Motions.{power-add, power-mod, moved-followed}
 use Rattle.cyclo_points.specs.declared.order.Order.{Order}
-use Rattle.cyclo_points.specs.declared.order.Order.TheVariants.{Four, Eight, Ten}
+use Rattle.cyclo_points.specs.declared.order.Order.TheVariants.{Four, Six, Eight, Ten}
 use Rattle.cyclo_points.specs.Order.{points_of}
 
 pub motion_path : {A : Type 0} (m g : Motion A) → m.turn ≡ g.turn → m.shift ≡ g.shift → m ≡ g
@@ -15,6 +15,7 @@ motion_path m g e f = λ i. record { turn = e i; shift = f i }
 -- a turn and the rest of the way round
 pub turns_round : (o : Order) (k : ℕ) → k < (points_of o).order → (((points_of o).order - k) % (points_of o).order + k) % (points_of o).order ≡ 0
 turns_round Four k h = omega arith
+turns_round Six k h = omega arith
 turns_round Eight k h = omega arith
 turns_round Ten k h = omega arith
 

@@ -1,5 +1,7 @@
 pub mod Quad
+pub mod Pairs
 pub mod Four
+pub mod Six
 pub mod Eight
 pub mod Ten
 pub mod Order

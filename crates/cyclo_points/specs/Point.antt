@@ -1,7 +1,8 @@
 -- What a point stands for: its number in the ring of each order, and the size of its coefficients.
 use Rattle.std.specs.Prelude.{◌≡◌, ℕ, ℤ, pos, neg_ℤ, ◌≤ℤ◌, get_or}
+use Rattle.ordered_ring.specs.Surd.{Pair}
 use Rattle.cyclo_points.specs.declared.order.Order.{Order}
-use Rattle.cyclo_points.specs.declared.order.Order.TheVariants.{Four, Eight, Ten}
+use Rattle.cyclo_points.specs.declared.order.Order.TheVariants.{Four, Six, Eight, Ten}
 use Rattle.cyclo_points.specs.declared.point.Point.{Point}
 use Rattle.cyclo_points.specs.Quad.{Quad}
 use Rattle.cyclo_points.specs.Order.{NumberOf}
@@ -13,15 +14,20 @@ coefficient p k = get_or p.c k (pos 0)
 abbrev pub quad_of : Point → Quad ℤ
 quad_of p = record { a0 = coefficient p 0; a1 = coefficient p 1; a2 = coefficient p 2; a3 = coefficient p 3 }
 
--- the number of a point; order four reads the first two coefficients
+abbrev pub pair_of : Point → Pair ℤ
+pair_of p = record { a = coefficient p 0; b = coefficient p 1 }
+
+-- the number of a point; orders four and six read the first two coefficients
 abbrev pub point_in : (o : Order) → Point → NumberOf o
-point_in Four p = record { a = coefficient p 0; b = coefficient p 1 }
+point_in Four p = pair_of p
+point_in Six p = pair_of p
 point_in Eight p = quad_of p
 point_in Ten p = quad_of p
 
--- the point is one of the order: in order four the last two coefficients are 0
+-- the point is one of the order: in orders four and six the last two coefficients are 0
 abbrev pub IsOf : Order → Point → Type 0
 IsOf Four p = (coefficient p 2 ≡ pos 0) × (coefficient p 3 ≡ pos 0)
+IsOf Six p = (coefficient p 2 ≡ pos 0) × (coefficient p 3 ≡ pos 0)
 IsOf Eight p = Unit {0}
 IsOf Ten p = Unit {0}
 

@@ -1,7 +1,7 @@
 -- What a real number of the program stands for: a number of the ordered ring of each order's coordinates, and the size of its parts.
 use Rattle.std.specs.Prelude.{◌≡◌, ℕ, ℤ, pos}
 use Rattle.cyclo_points.specs.declared.order.Order.{Order}
-use Rattle.cyclo_points.specs.declared.order.Order.TheVariants.{Four, Eight, Ten}
+use Rattle.cyclo_points.specs.declared.order.Order.TheVariants.{Four, Six, Eight, Ten}
 use Rattle.cyclo_points.specs.declared.real.Real.{Real}
 use Rattle.cyclo_points.specs.Order.{points_of}
 use Rattle.cyclo_points.specs.Point.{Within}
@@ -10,18 +10,20 @@ use Rattle.cyclo_points.specs.Point.{Within}
 abbrev pub RealOf : Order → Type 0
 RealOf o = (points_of o).real.ops.carrier
 
--- the number a + bθ of an order; order four has no θ, and reads a alone
+-- the number a + bθ of an order; orders four and six have no θ, and read a alone
 abbrev pub number : (o : Order) → ℤ → ℤ → RealOf o
 number Four a b = a
+number Six a b = a
 number Eight a b = record { a = a; b = b }
 number Ten a b = record { a = a; b = b }
 
 abbrev pub real_in : (o : Order) → Real → RealOf o
 real_in o r = number o r.a r.b
 
--- the real is one of the order: in order four b is 0
+-- the real is one of the order: in orders four and six b is 0
 abbrev pub IsRealOf : Order → Real → Type 0
 IsRealOf Four r = r.b ≡ pos 0
+IsRealOf Six r = r.b ≡ pos 0
 IsRealOf Eight r = Unit {0}
 IsRealOf Ten r = Unit {0}
 

@@ -24,6 +24,9 @@ pub fn conj(order: Order, p: &Point) -> Point
     let a3 = p.c[3];
     match order {
         Order::Four => Point { c: [a0, -a1, 0, 0] },
+        Order::Six => Point {
+            c: [a0 + a1, -a1, 0, 0],
+        },
         Order::Eight => Point {
             c: [a0, -a3, -a2, -a1],
         },
@@ -34,16 +37,22 @@ pub fn conj(order: Order, p: &Point) -> Point
 }
 
 /// The number a0 + a1 ζ + a2 ζ² + a3 ζ³ of any four coefficients as a point of the order: in order
-/// four, where ζ² = -1, the last two are reduced. Coefficients may be up to 2^40.
+/// four, where ζ² = -1, and in order six, where ζ² = ζ - 1 and ζ³ = -1, the last two are reduced.
+/// Coefficients may be up to 2^40.
 pub fn reduce(order: Order, p: &Point) -> Point
     requires p_within { IsWithin (2 ^ 40) p.now }
     ensures same_number { point_in order result ≡ combination (points_of order) (quad_of p.now) }
-    ensures at_most_doubled { (m : ℕ) → IsWithin m p.now → IsWithin (2 * m) result }
+    ensures at_most_tripled { (m : ℕ) → IsWithin m p.now → IsWithin (3 * m) result }
+    ensures at_most_doubled { (¬ order ≡ Order.Six) → (m : ℕ) → IsWithin m p.now
+        → IsWithin (2 * m) result }
     ensures in_order { IsOf order result }
 {
     match order {
         Order::Four => Point {
             c: [p.c[0] - p.c[2], p.c[1] - p.c[3], 0, 0],
+        },
+        Order::Six => Point {
+            c: [p.c[0] - p.c[2] - p.c[3], p.c[1] + p.c[2], 0, 0],
         },
         Order::Eight => *p,
         Order::Ten => *p,
@@ -63,6 +72,7 @@ pub fn x(order: Order, p: &Point) -> Real
     let a3 = p.c[3];
     match order {
         Order::Four => from_parts(a0 + a0, 0),
+        Order::Six => from_parts(a0 + a0 + a1, 0),
         Order::Eight => from_parts(a0 + a0, a1 - a3),
         Order::Ten => from_parts(a0 + a0 - a2 + a3, a1 + a2 - a3),
     }
@@ -79,7 +89,7 @@ pub fn y(order: Order, p: &Point) -> Real
     let a2 = p.c[2];
     let a3 = p.c[3];
     match order {
-        Order::Four => from_parts(a1, 0),
+        Order::Four | Order::Six => from_parts(a1, 0),
         Order::Eight => from_parts(a1 + a3, a2),
         Order::Ten => from_parts(a1, a2 + a3),
     }

@@ -1,14 +1,17 @@
 //! Points of the plane as cyclotomic integers: whole combinations of the powers of
-//! ζ = e^(2πi/n), for the orders n = 4, 8 and 10.
+//! ζ = e^(2πi/n), for the orders n = 4, 6, 8 and 10.
 //!
 //! De Bruijn's work on Penrose tilings and Beenker's on the tilings with eightfold symmetry put
 //! every vertex into such a ring Z[ζ], in which a turn is a product by a power of ζ and no number
-//! is ever rounded. Sums, turns and products here are exact in the ring of each order, and their
-//! bounds are proved, so that nothing overflows. The three rings, with their coordinates X and Y,
-//! meet the laws of points on which the theory of substitutions rests.
+//! is ever rounded; order six has the triangular lattice. Sums, turns and products here are exact in
+//! the ring of each order, and their bounds are proved, so that nothing overflows. The four rings,
+//! with their coordinates X and Y, meet the laws of points on which the theory of substitutions
+//! rests.
 #![tactic(auto)]
 
+ghost use Rattle.std.specs.Prelude.{◌≡◌};
 ghost use Rattle.ordered_ring.specs.Divisor.{DividesWhole};
+ghost use Rattle.cyclo_points.specs.Motion.{motion_cmp};
 ghost use Rattle.cyclo_points.specs.Order.{PointsLaw, points_of};
 ghost use Rattle.cyclo_points.specs.Placement.{PlacementLaw};
 
@@ -27,7 +30,9 @@ mod short;
 pub mod sign;
 pub mod thousandths;
 
+use motion::Motion;
 use order::Order;
+use std::cmp::Ordering;
 
 /// The law that the points of each order meet the laws of points.
 pub fn points_law(order: Order)
@@ -47,9 +52,9 @@ pub fn divisors_law(order: Order)
     ensures { DividesWhole (points_of order).real }
 {}
 
-#[cfg(test)]
-mod motion_tests;
-#[cfg(test)]
-mod number_tests;
-#[cfg(test)]
-mod tests;
+/// The law of the order of motions: by turn, and those of one turn by shift.
+pub fn motion_order_law(motion: &Motion, other: &Motion) -> Ordering
+    ensures { result ≡ motion_cmp motion.now other.now }
+{
+    motion.cmp(other)
+}

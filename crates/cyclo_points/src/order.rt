@@ -5,17 +5,19 @@ ghost use Rattle.cyclo_points.specs.Order.{points_of};
 #[derive(Clone, Copy, Debug, PartialEq, Eq, PartialOrd, Ord)]
 pub enum Order {
     Four,
+    Six,
     Eight,
     Ten,
 }
 
 impl Order {
-    /// The number n: 4, 8 or 10. A turn by ζ is an n-th of a full turn.
+    /// The number n: 4, 6, 8 or 10. A turn by ζ is an n-th of a full turn.
     pub fn n(self) -> u8
         ensures { result ≡ (points_of self).order }
     {
         match self {
             Order::Four => 4,
+            Order::Six => 6,
             Order::Eight => 8,
             Order::Ten => 10,
         }

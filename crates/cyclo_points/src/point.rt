@@ -2,8 +2,8 @@
 use std::fmt;
 
 /// The point a0 + a1 ζ + a2 ζ² + a3 ζ³ of the ring Z[ζ] of an order; `c` has the coefficients, a0
-/// first. In order four, where ζ² = -1, the last two are 0. It is printed as its four coefficients,
-/// decimal, joined by commas.
+/// first. In orders four and six, where ζ² is -1 and ζ - 1, the last two are 0. It is printed as its
+/// four coefficients, decimal, joined by commas.
 #[derive(Clone, Copy, Debug, Default, PartialEq, Eq, PartialOrd, Ord)]
 pub struct Point {
     pub c: [i64; 4],

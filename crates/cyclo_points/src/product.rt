@@ -21,6 +21,7 @@ pub fn mul(order: Order, p: &Point, q: &Point) -> Point
 {
     match order {
         Order::Four => mul_four(p, q),
+        Order::Six => mul_six(p, q),
         Order::Eight => mul_eight(p, q),
         Order::Ten => mul_ten(p, q),
     }
@@ -38,6 +39,21 @@ fn mul_four(p: &Point, q: &Point) -> Point
     let q1 = q.c[1];
     let c0 = dot(p, q0, -q1, 0, 0);
     let c1 = dot(p, q1, q0, 0, 0);
+    Point { c: [c0, c1, 0, 0] }
+}
+
+/// The product in order six: p's coefficients times those of q and ζq.
+fn mul_six(p: &Point, q: &Point) -> Point
+    requires p_within { IsWithin (2 ^ 32) p.now }
+    requires q_within { IsWithin (2 ^ 16) q.now }
+    ensures product { point_in Order.Six result ≡ (points_of Order.Six).ring.mul
+        (point_in Order.Six p.now) (point_in Order.Six q.now) }
+    ensures in_order { IsOf Order.Six result }
+{
+    let q0 = q.c[0];
+    let q1 = q.c[1];
+    let c0 = dot(p, q0, -q1, 0, 0);
+    let c1 = dot(p, q1, q0 + q1, 0, 0);
     Point { c: [c0, c1, 0, 0] }
 }
 

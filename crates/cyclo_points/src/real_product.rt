@@ -47,7 +47,7 @@ fn short_product(order: Order, a: i64, b: i64, c: i64, d: i64) -> Real
     ensures in_order { IsRealOf order result }
 {
     match order {
-        Order::Four => from_parts(short_times(a, c), 0),
+        Order::Four | Order::Six => from_parts(short_times(a, c), 0),
         Order::Eight => {
             let first = short_times(a, c);
             let last = short_times(b, d);
@@ -86,7 +86,7 @@ fn wide_product(order: Order, r: &Real, s: &Real) -> Real
     ensures in_order { IsRealOf order result }
 {
     match order {
-        Order::Four => Real {
+        Order::Four | Order::Six => Real {
             a: wide_times(r.a, s.a),
             b: 0,
         },

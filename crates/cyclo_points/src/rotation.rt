@@ -50,6 +50,7 @@ fn turn_below_half(order: Order, k: u8, p: &Point) -> Point
 {
     match order {
         Order::Four => turn_four(k, p),
+        Order::Six => turn_six(k, p),
         Order::Eight => turn_eight(k, p),
         Order::Ten => turn_ten(k, p),
     }
@@ -70,6 +71,29 @@ fn turn_four(k: u8, p: &Point) -> Point
     match k {
         0 => Point { c: [a0, a1, 0, 0] },
         _ => Point { c: [-a1, a0, 0, 0] },
+    }
+}
+
+/// ζ^k p in order six.
+fn turn_six(k: u8, p: &Point) -> Point
+    requires below_half { k < 3 }
+    requires p_within { IsWithin (2 ^ 40) p.now }
+    ensures turned { point_in Order.Six result ≡ (points_of Order.Six).ring.mul
+        (power (points_of Order.Six).ring (points_of Order.Six).zeta k)
+        (point_in Order.Six p.now) }
+    ensures at_most_doubled { (m : ℕ) → IsWithin m p.now → IsWithin (2 * m) result }
+    ensures in_order { IsOf Order.Six result }
+{
+    let a0 = p.c[0];
+    let a1 = p.c[1];
+    match k {
+        0 => Point { c: [a0, a1, 0, 0] },
+        1 => Point {
+            c: [-a1, a0 + a1, 0, 0],
+        },
+        _ => Point {
+            c: [-(a0 + a1), a0, 0, 0],
+        },
     }
 }
 

@@ -45,7 +45,7 @@ fn short_witness(order: Order, a: i64, b: i64) -> i64
     ensures { (points_of order).real.sign (number order a b) ≡ int_cmp result (pos 0) }
 {
     match order {
-        Order::Four => a,
+        Order::Four | Order::Six => a,
         Order::Eight => PELL * a + HALF_COMPANION * b,
         Order::Ten => FIBONACCI * a + NEXT_FIBONACCI * b,
     }
@@ -59,7 +59,7 @@ fn wide_witness(order: Order, r: &Real) -> i128
     ensures { (points_of order).real.sign (real_in order r.now) ≡ int_cmp result (pos 0) }
 {
     match order {
-        Order::Four => r.a,
+        Order::Four | Order::Six => r.a,
         Order::Eight => signed_square(r.a) + 2 * signed_square(r.b),
         Order::Ten => signed_square(2 * r.a + r.b) + 5 * signed_square(r.b),
     }

@@ -33,7 +33,7 @@ pub fn floor_thousandths(order: Order, r: &Real) -> i128
     1000 * r.a + floor_multiple(order, 1000 * r.b)
 }
 
-/// The greatest whole number not above bθ, and 0 in order four. It is that of bp/q, where p/q is a
+/// The greatest whole number not above bθ, and 0 in orders four and six. It is that of bp/q, where p/q is a
 /// convergent of θ with a denominator above b.
 fn floor_multiple(order: Order, b: i128) -> i128
     requires b_within { Within (1000 * 2 ^ 30) b }
@@ -44,7 +44,7 @@ fn floor_multiple(order: Order, b: i128) -> i128
     ensures bounded { Within (2 ^ 42) result }
 {
     match order {
-        Order::Four => 0,
+        Order::Four | Order::Six => 0,
         Order::Eight => (HALF_COMPANION * b).div_euclid(PELL),
         Order::Ten => (NEXT_FIBONACCI * b).div_euclid(FIBONACCI),
     }

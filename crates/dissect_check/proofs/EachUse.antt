@@ -12,7 +12,7 @@ use Rattle.substitution.specs.Rule.{Child, Kind, Rule, children_of, child_kinds}
 use Rattle.addressing.specs.Search.{some_below}
 use Rattle.edge_to_edge.specs.Numbered.{IsNumbered}
 use Rattle.edge_to_edge.specs.EdgeToEdge.{HasEachUsed}
-use Rattle.tile_shape.specs.Usable.{IsUsable}
+use Rattle.tile_shape.specs.Usable.{AreUsable}
 
 -- what each place passes, the list passes
 each_place : {A : Type 0} (p : A → Bool) (xs : List A) (d : A) → ((i : ℕ) → i < length xs → p (get_or xs i d) ≡ true) → list_all p xs ≡ true
@@ -94,7 +94,7 @@ module _ {A : Type 0} (r : Rule A) (N : HasChildren r) (U : HasEachUsed r) where
       list_any_at (λ row. list_any (λ child. child == k) row) (child_kinds r) p.at [] (subst (λ n. p.at < n) (sym as_many) p.within)
       (subst (λ row. list_any (λ child. child == k) row ≡ true) (sym (row-is p.at p.within)) (sym (any-kinds k (children_of r p.at)) ∙ p.passes))
 
-  pub uses-usable : IsUsable (child_kinds r)
+  pub uses-usable : AreUsable (child_kinds r)
   uses-usable = record {
     some_kind = subst (λ n. 1 ≤ n) (sym as_many) N.some_kind;
     at_most_16_kinds = subst (λ n. n ≤ 16) (sym as_many) N.at_most_16_kinds;

@@ -11,11 +11,7 @@ use Rattle.edge_to_edge.specs.Glue.{once_each}
 use Rattle.addressing.proofs.Lists.{AllByRecursion-each, AllByRecursion-append, AllByRecursion-flat_map}
 use Rattle.dissect_check.specs.declared.few.Few.TheVariants.{One}
 use Rattle.dissect_check.specs.Few.{few_of, one_more}
-
-few_of-push : (xs : List ℕ) (y : ℕ) → few_of (xs ++ y ∷ []) ≡ one_more (few_of xs) y
-few_of-push [] y = refl
-few_of-push (x ∷ []) y = refl
-few_of-push (x ∷ (z ∷ zs)) y = refl
+use Rattle.dissect_check.proofs.LieAmong.{few_of-push}
 
 few_of-one : (xs : List ℕ) (k : ℕ) → few_of xs ≡ One k → xs ≡ (k ∷ [])
 few_of-one [] k h = absurd (cc)

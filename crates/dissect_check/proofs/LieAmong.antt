@@ -12,7 +12,7 @@ use Rattle.dissect_check.specs.declared.few.Few.{Few}
 use Rattle.dissect_check.specs.declared.few.Few.TheVariants.{None, One, Many}
 use Rattle.dissect_check.specs.Few.{few_of, one_more}
 
-few_of-push : {A : Type 0} (xs : List A) (y : A) → few_of (xs ++ y ∷ []) ≡ one_more (few_of xs) y
+pub few_of-push : {A : Type 0} (xs : List A) (y : A) → few_of (xs ++ y ∷ []) ≡ one_more (few_of xs) y
 few_of-push [] y = refl
 few_of-push (x ∷ []) y = refl
 few_of-push (x ∷ (z ∷ zs)) y = refl

@@ -16,7 +16,7 @@ use Rattle.dissect_check.specs.declared.lie.Lie.{Lie}
 use Rattle.dissect_check.specs.declared.lie.Lie.TheVariants.{Inner, Boundary, Loose}
 use Rattle.dissect_check.specs.declared.inflated.Inflated.{Inflated}
 use Rattle.dissect_check.specs.Views.{as_lie, IsInflated}
-use Rattle.dissect_check.specs.Parts.{IsBelow}
+use Rattle.dissect_check.specs.Parts.{LiesBelow}
 use Rattle.addressing.proofs.Ranges.{length-below}
 
 -- the same of a lie of the theory
@@ -49,13 +49,13 @@ lie_of-below P r k s =
     lie_by-below r s (edge_count r k) (filter (is_opposite P s) (child_edges P r k)) (numbers_along P 0 (inflated_edges P r k) s.line)
     (λ x xs h. let l = first_below P 0 (inflated_edges P r k) s.line x xs h in omega (arith, length-below (inflated_edge P r k) (edge_count r k)))
 
-as_lie-below : (n : ℕ) (l : Lie) → IsLieBelow n (as_lie l) → IsBelow n l
+as_lie-below : (n : ℕ) (l : Lie) → IsLieBelow n (as_lie l) → LiesBelow n l
 as_lie-below n (Inner c e) h = tt
 as_lie-below n (Boundary e) h = h
 as_lie-below n Loose h = tt
 
 -- each lie of an inflated prototile
-pub lies_below : (r : ProgramRule) (k : ℕ) (i : Inflated) → IsInflated r k i → All (IsBelow (edge_count (rule_of r) k)) i.lies.items
+pub lies_below : (r : ProgramRule) (k : ℕ) (i : Inflated) → IsInflated r k i → All (LiesBelow (edge_count (rule_of r) k)) i.lies.items
 lies_below r k i fact n d l =
     let m = edge_count (rule_of r) k in
     let those = All-map (IsLieBelow m) (lie_of (points_of r.order) (rule_of r) k) (child_edges (points_of r.order) (rule_of r) k) (λ j s q. lie_of-below (points_of r.order) (rule_of r) k (get_or (child_edges (points_of r.order) (rule_of r) k) j s)) in

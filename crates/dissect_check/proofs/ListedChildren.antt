@@ -1,8 +1,8 @@
 -- The child kinds of lists that no clause refuses are usable for addresses.
-use Rattle.std.specs.Prelude.{nat_lt, nat_le}
+use Rattle.std.specs.Prelude.{nat_lt}
 use Rattle.std.specs.List.{list_all}
 use Rattle.std.proofs.Common.{◌≡◌, ℕ, ◌<◌, ◌≤◌, Bool, true, ◌&&◌, List, [], ◌∷◌, map, length, None, refl, sym, ap, ◌∙◌, subst}
-use Rattle.std.proofs.lemmas.Bool.{and_parts, and_from, leb-true}
+use Rattle.std.proofs.lemmas.Bool.{and_parts, and_from}
 use Rattle.std.proofs.lemmas.List.{length-map}
 use Rattle.substitution.specs.Rule.{Child, Kind, Rule, children_of, child_kinds}
 use Rattle.substitution.specs.RuleParts.{map_rule, map_kind, map_child}
@@ -12,15 +12,13 @@ use Rattle.cyclo_points.specs.declared.order.Order.{Order}
 use Rattle.cyclo_points.specs.declared.point.Point.{Point}
 use Rattle.cyclo_points.specs.Order.{points_of}
 use Rattle.cyclo_points.specs.Point.{point_in}
-use Rattle.tile_shape.specs.Usable.{IsUsable}
+use Rattle.tile_shape.specs.Usable.{AreUsable}
 use Rattle.rule_model.specs.Small.{is_small}
+use Rattle.rule_model.proofs.Usable.{from_to}
 use Rattle.rule_model.proofs.Views.{kind_of-map}
 use Rattle.dissect_check.specs.FirstFault.{fault_of_lists}
 use Rattle.dissect_check.proofs.Accepted.{limits-where, edge_to_edge-where}
 use Rattle.dissect_check.proofs.EachUse.{HasChildren, uses-usable}
-
-from_to : (low high n : ℕ) → is_from_to low high n ≡ true → (low ≤ n) × (n ≤ high)
-from_to low high n h = let q = and_parts (nat_le low n) (nat_le n high) h in (leb-true low n q.0, leb-true n high q.1)
 
 module _ {A B : Type 0} (f : A → B) (n : ℕ) (small : A → Bool) (r : Rule A) (limits : WithinLimits n small r) where
   -- as many kinds with each point replaced
@@ -68,6 +66,6 @@ module _ {A B : Type 0} (f : A → B) (n : ℕ) (small : A → Bool) (r : Rule A
             (kinds_exist (children_of r k) (children k (kind_in k l)).fit));
       }
 
-pub children-usable : (o : Order) (lists : Rule Point) → fault_of_lists o lists ≡ None → IsUsable (child_kinds (map_rule (point_in o) lists))
+pub children-usable : (o : Order) (lists : Rule Point) → fault_of_lists o lists ≡ None → AreUsable (child_kinds (map_rule (point_in o) lists))
 children-usable o lists h =
     uses-usable (map_rule (point_in o) lists) (listed-children (point_in o) (points_of o).order (is_small o) lists (limits-where o lists h)) (edge_to_edge-where o lists h).each_used

@@ -2,7 +2,7 @@
 use Rattle.std.proofs.Common.{◌≡◌, ℕ, ◌+◌, pos, Bool, [], ◌∷◌, refl, ap, ◌∙◌, sym, add-one}
 use Rattle.ordered_ring.specs.Ring.{Ops, Laws, power}
 use Rattle.cyclo_points.specs.declared.order.Order.{Order}
-use Rattle.cyclo_points.specs.declared.order.Order.TheVariants.{Four, Eight, Ten}
+use Rattle.cyclo_points.specs.declared.order.Order.TheVariants.{Four, Six, Eight, Ten}
 use Rattle.cyclo_points.specs.declared.point.Point.{Point}
 use Rattle.cyclo_points.specs.Order.{points_of, is_refused}
 use Rattle.cyclo_points.specs.Point.{point_in, IsOf}
@@ -20,11 +20,13 @@ one = record { c = pos 1 ∷ pos 0 ∷ pos 0 ∷ pos 0 ∷ [] }
 
 pub one-in : (o : Order) → point_in o one ≡ (points_of o).ring.int (pos 1)
 one-in Four = refl
+one-in Six = refl
 one-in Eight = refl
 one-in Ten = refl
 
 pub one-of : (o : Order) → IsOf o one
 one-of Four = (refl, refl)
+one-of Six = (refl, refl)
 one-of Eight = tt
 one-of Ten = tt
 

@@ -3,7 +3,7 @@ use Rattle.std.specs.Ordering.{int_eq}
 use Rattle.std.specs.Cmp.Lexicographic.{pointwise}
 use Rattle.std.proofs.Common.{◌≡◌, ℤ, pos, Bool, true, false, ◌&&◌, List, [], ◌∷◌, length, get_or, refl, ap₂, ◌∙◌, arith}
 use Rattle.cyclo_points.specs.declared.order.Order.{Order}
-use Rattle.cyclo_points.specs.declared.order.Order.TheVariants.{Four, Eight, Ten}
+use Rattle.cyclo_points.specs.declared.order.Order.TheVariants.{Four, Six, Eight, Ten}
 use Rattle.cyclo_points.specs.declared.point.Point.{Point}
 use Rattle.cyclo_points.specs.Order.{points_of}
 use Rattle.cyclo_points.specs.Point.{coefficient, point_in, IsOf}
@@ -39,6 +39,12 @@ each_same p q l m =
 -- then they are one point of the order
 pub same-points : (o : Order) (p q : Point) → length p.c ≡ 4 → length q.c ≡ 4 → IsOf o p → IsOf o q → pointwise int_eq p.c q.c ≡ (points_of o).same (point_in o p) (point_in o q)
 same-points Four p q l m f g =
+    let a = int_eq (coefficient p 0) (coefficient q 0) in
+    let b = int_eq (coefficient p 1) (coefficient q 1) in
+    each_same p q l m
+    ∙ ap₂ (λ x y. a && b && x && y) (ap₂ int_eq f.0 g.0) (ap₂ int_eq f.1 g.1)
+    ∙ last_true a b
+same-points Six p q l m f g =
     let a = int_eq (coefficient p 0) (coefficient q 0) in
     let b = int_eq (coefficient p 1) (coefficient q 1) in
     each_same p q l m

@@ -1,9 +1,8 @@
 -- An inflated prototile has as many edges as the prototile: at most twelve.
 use Rattle.addressing.proofs.Ranges.{length-below}
-use Rattle.std.proofs.Common.{◌≡◌, ℕ, zero, suc, ◌<◌, ◌≤◌, List, map, length, refl, sym, ap, ◌∙◌, arith}
-use Rattle.std.proofs.lemmas.List.{length-map, length_push}
+use Rattle.std.proofs.Common.{◌≡◌, ℕ, ◌<◌, ◌≤◌, List, map, length, sym, ap, ◌∙◌, arith}
+use Rattle.std.proofs.lemmas.List.{length-map}
 use Rattle.substitution.specs.RuleParts.{edge_count}
-use Rattle.addressing.specs.Search.{below}
 use Rattle.edge_to_edge.specs.Edges.{inflated_edge, inflated_edges}
 use Rattle.cyclo_points.specs.Order.{points_of}
 use Rattle.rule_model.specs.declared.rule.Rule.{Rule}

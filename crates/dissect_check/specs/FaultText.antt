@@ -18,15 +18,15 @@ what_text (Vertex kind) = codes "vertex " ++ decimal kind
 what_text (Child kind) = codes "child " ++ decimal kind
 
 -- a fault
-abbrev pub fault_text : CheckFault → List ℕ
-fault_text (TooMany what) = codes "TooMany " ++ what_text what
-fault_text (NotStar kind) = codes "NotStar " ++ decimal kind
-fault_text WrongFactor = codes "WrongFactor"
-fault_text (BadMate ty) = codes "BadMate " ++ decimal ty
-fault_text (BadLength kind edge) = codes "BadLength " ++ decimal kind ++ codes " " ++ decimal edge
-fault_text (BadSubdivision ty) = codes "BadSubdivision " ++ decimal ty
-fault_text (ChildEdgeLoose kind child edge) = codes "ChildEdgeLoose " ++ decimal kind ++ codes " " ++ decimal child ++ codes " " ++ decimal edge
-fault_text (BoundaryWrong kind edge part) = codes "BoundaryWrong " ++ decimal kind ++ codes " " ++ decimal edge ++ codes " " ++ decimal part
-fault_text (Unused kind) = codes "Unused " ++ decimal kind
-fault_text (GlueWrong ty) = codes "GlueWrong " ++ decimal ty
-fault_text NoMemory = codes "NoMemory"
+abbrev pub check_fault_text : CheckFault → List ℕ
+check_fault_text (TooMany what) = codes "TooMany " ++ what_text what
+check_fault_text (NotStar kind) = codes "NotStar " ++ decimal kind
+check_fault_text WrongFactor = codes "WrongFactor"
+check_fault_text (BadMate ty) = codes "BadMate " ++ decimal ty
+check_fault_text (BadLength kind edge) = codes "BadLength " ++ decimal kind ++ codes " " ++ decimal edge
+check_fault_text (BadSubdivision ty) = codes "BadSubdivision " ++ decimal ty
+check_fault_text (ChildEdgeLoose kind child edge) = codes "ChildEdgeLoose " ++ decimal kind ++ codes " " ++ decimal child ++ codes " " ++ decimal edge
+check_fault_text (BoundaryWrong kind edge part) = codes "BoundaryWrong " ++ decimal kind ++ codes " " ++ decimal edge ++ codes " " ++ decimal part
+check_fault_text (Unused kind) = codes "Unused " ++ decimal kind
+check_fault_text (GlueWrong ty) = codes "GlueWrong " ++ decimal ty
+check_fault_text NoMemory = codes "NoMemory"

@@ -13,10 +13,10 @@ use Rattle.dissect_check.specs.declared.lie.Lie.{Lie}
 use Rattle.dissect_check.specs.declared.lie.Lie.TheVariants.{Inner, Boundary, Loose}
 
 -- where it is on the boundary, the edge along which it lies is below n
-abbrev pub IsBelow : ℕ → Lie → Type 0
-IsBelow n (Inner c e) = Unit {0}
-IsBelow n (Boundary e) = e < n
-IsBelow n Loose = Unit {0}
+abbrev pub LiesBelow : ℕ → Lie → Type 0
+LiesBelow n (Inner c e) = Unit {0}
+LiesBelow n (Boundary e) = e < n
+LiesBelow n Loose = Unit {0}
 
 -- at most eight names
 abbrev pub AreFew : Vec ChildEdge Global → Type 0

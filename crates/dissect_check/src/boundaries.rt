@@ -4,7 +4,7 @@ ghost use Rattle.std.specs.Prelude.{◌≡◌, ◌<◌, map, length, IfOk};
 ghost use Rattle.addressing.specs.Search.{below};
 ghost use Rattle.edge_to_edge.specs.Contacts.{tables_of_kind};
 ghost use Rattle.cyclo_points.specs.Order.{points_of};
-ghost use Rattle.edge_tables.specs.Views.{as_kind};
+ghost use Rattle.edge_tables.specs.Views.{as_kind_tables};
 ghost use Rattle.rule_model.specs.Usable.{IsUsable};
 ghost use Rattle.rule_model.specs.Views.{as_rule, rule_of};
 ghost use Rattle.dissect_check.specs.Agrees.{Agrees};
@@ -47,7 +47,7 @@ fn tables_of_kind(alloc: Global, rule: &Rule, kind: usize) -> Result<KindRows, C
     requires usable { IsUsable rule.now }
     requires kind_exists { kind < length (rule_of rule.now).kinds }
     ensures fault { Agrees result (boundary_of_kind rule.now.order (as_rule rule.now) kind) }
-    ensures tables { IfOk result (λ rows. as_kind rows
+    ensures tables { IfOk result (λ rows. as_kind_tables rows
         ≡ tables_of_kind (points_of rule.now.order) (rule_of rule.now) kind) }
 {
     let parent = inflated(alloc, rule, kind)?;
@@ -59,7 +59,7 @@ fn tables_of_kind(alloc: Global, rule: &Rule, kind: usize) -> Result<KindRows, C
 pub(crate) fn boundaries(alloc: Global, rule: &Rule) -> Result<Vec<KindRows>, CheckFault>
     requires usable { IsUsable rule.now }
     ensures fault { Agrees result (boundaries rule.now.order (as_rule rule.now)) }
-    ensures tables { IfOk result (λ rows. map as_kind rows.items
+    ensures tables { IfOk result (λ rows. map as_kind_tables rows.items
         ≡ below (tables_of_kind (points_of rule.now.order) (rule_of rule.now))
         (length (rule_of rule.now).kinds)) }
 {

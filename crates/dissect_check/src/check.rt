@@ -3,7 +3,7 @@ ghost use Rattle.std.specs.Prelude.{◌≡◌, ◌↔◌, None, [], ◌∷◌, m
 ghost use Rattle.addressing.specs.Search.{first_some, below};
 ghost use Rattle.edge_to_edge.specs.Contacts.{tables_of_kind};
 ghost use Rattle.cyclo_points.specs.Order.{points_of};
-ghost use Rattle.edge_tables.specs.Views.{as_kind};
+ghost use Rattle.edge_tables.specs.Views.{as_kind_tables};
 ghost use Rattle.rule_model.specs.Accepted.{IsAccepted};
 ghost use Rattle.rule_model.specs.Usable.{IsUsable};
 ghost use Rattle.rule_model.specs.Views.{as_rule, rule_of};
@@ -22,12 +22,13 @@ use rule_model::checked::Checked;
 use rule_model::rule::Rule;
 use std::alloc::Global;
 
-/// The clauses on children and those behind them, and the contact tables of each kind.
-fn children(alloc: Global, rule: &Rule) -> Result<Vec<KindRows>, CheckFault>
+/// The contact tables of each kind, where no clause on children and none behind them fails. An inflated
+/// prototile is made twice, since every loose edge of every kind is a fault before any boundary.
+fn tables_of_kinds(alloc: Global, rule: &Rule) -> Result<Vec<KindRows>, CheckFault>
     requires usable { IsUsable rule.now }
     ensures fault { let o = rule.now.order in let l = as_rule rule.now in
         Agrees result (first_some (loose_fault o l ∷ boundary_fault o l ∷ uses_fault o l ∷ glues_fault o l ∷ [])) }
-    ensures tables { IfOk result (λ rows. map as_kind rows.items
+    ensures tables { IfOk result (λ rows. map as_kind_tables rows.items
         ≡ below (tables_of_kind (points_of rule.now.order) (rule_of rule.now)) (length (rule_of rule.now).kinds)) }
 {
     loose_edges(alloc, rule)?;
@@ -43,7 +44,7 @@ fn checked(alloc: Global, rule: Rule) -> Result<Checked, CheckFault>
 {
     points_law(rule.order);
     before_children(&rule)?;
-    let rows = children(alloc, &rule)?;
+    let rows = tables_of_kinds(alloc, &rule)?;
     let tables = tables_of(alloc, &rule, rows)?;
     let uses = uses_of_kinds(alloc, &rule)?;
     Ok(Checked::admit(rule, tables, uses))

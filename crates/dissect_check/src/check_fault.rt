@@ -32,9 +32,9 @@ pub enum CheckFault {
 
 impl fmt::Display for CheckFault {
     ghost use Rattle.std.specs.Prelude.{Some};
-    ghost use Rattle.dissect_check.specs.FaultText.{fault_text};
+    ghost use Rattle.dissect_check.specs.FaultText.{check_fault_text};
 
-    ghost output = { λ fault. Some (fault_text fault) };
+    ghost output = { λ fault. Some (check_fault_text fault) };
 
     fn fmt<W: fmt::Write>(&self, f: &mut fmt::Formatter<W>) -> fmt::Result {
         match self {

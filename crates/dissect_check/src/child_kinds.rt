@@ -1,7 +1,7 @@
 //! The uses of a rule's kinds.
 ghost use Rattle.std.specs.Prelude.{◌≡◌, map, IfOk};
 ghost use Rattle.edge_to_edge.specs.EdgeToEdge.{HasEachUsed};
-ghost use Rattle.rule_model.specs.Checked.{child_kinds_of};
+ghost use Rattle.rule_model.specs.Tiling.{tiling_of, children};
 ghost use Rattle.rule_model.specs.Usable.{IsUsable};
 ghost use Rattle.rule_model.specs.Views.{rule_of};
 
@@ -12,7 +12,7 @@ use tile_shape::uses::Uses;
 
 /// The kinds of each kind's children.
 fn child_kinds(alloc: Global, rule: &Rule) -> Result<Vec<Vec<u8>>, NoMemory>
-    ensures { IfOk result (λ lists. map (λ list. list.items) lists.items ≡ child_kinds_of rule.now) }
+    ensures { IfOk result (λ lists. map (λ list. list.items) lists.items ≡ children (tiling_of rule.now)) }
 {
     let mut lists = Vec::new(alloc);
     for row in &rule.kinds {
@@ -25,7 +25,7 @@ fn child_kinds(alloc: Global, rule: &Rule) -> Result<Vec<Vec<u8>>, NoMemory>
 pub(crate) fn uses_of_kinds(alloc: Global, rule: &Rule) -> Result<Uses, NoMemory>
     requires usable { IsUsable rule.now }
     requires each_used { HasEachUsed (rule_of rule.now) }
-    ensures { IfOk result (λ uses. uses ≡ child_kinds_of rule.now) }
+    ensures { IfOk result (λ uses. uses ≡ children (tiling_of rule.now)) }
 {
     let kinds = child_kinds(alloc, rule)?;
     Uses::new(alloc, &kinds)

@@ -3,13 +3,13 @@ ghost use Rattle.std.specs.Prelude.{◌≡◌, ◌≤◌, ◌<◌, ℕ, map, len
 ghost use Rattle.substitution.specs.Rule.{Child as TheChild, children_of};
 ghost use Rattle.substitution.specs.RuleParts.{edge_types};
 ghost use Rattle.addressing.specs.Search.{below};
-ghost use Rattle.edge_to_edge.specs.Contacts.{number_in, contact_by, contacts_of_child, tables_of_kind};
+ghost use Rattle.edge_to_edge.specs.Contacts.{index_in, contact_by, contacts_of_child, tables_of_kind};
 ghost use Rattle.cyclo_points.specs.Order.{NumberOf, points_of};
-ghost use Rattle.edge_tables.specs.Views.{as_child_edge, as_contact, as_kind};
+ghost use Rattle.edge_tables.specs.Views.{as_child_edge, as_contact, as_kind_tables};
 ghost use Rattle.rule_model.specs.declared.rule.Rule.{Rule as ProgramRule};
 ghost use Rattle.rule_model.specs.Views.{rule_of};
 ghost use Rattle.dissect_check.specs.Views.{as_lie, IsInflated};
-ghost use Rattle.dissect_check.specs.Parts.{IsBelow, AreFew, AreParts};
+ghost use Rattle.dissect_check.specs.Parts.{LiesBelow, AreFew, AreParts};
 
 use crate::inflated::Inflated;
 use crate::lie::Lie;
@@ -22,7 +22,7 @@ use tile_shape::no_memory::NoMemory;
 
 /// The number of a child edge among the parts of an edge, and how many these are where it is none.
 fn number_among(parts: &[ChildEdge], name: ChildEdge) -> usize
-    ensures number { result ≡ number_in (as_child_edge name) 0 (map as_child_edge parts.now) }
+    ensures number { result ≡ index_in (as_child_edge name) 0 (map as_child_edge parts.now) }
     ensures at_most_all { result ≤ length parts.now }
 {
     for (number, part) in parts.iter().enumerate() {
@@ -35,7 +35,7 @@ fn number_among(parts: &[ChildEdge], name: ChildEdge) -> usize
 
 /// What a child edge is, by where it lies and the parts of each edge of its parent.
 fn contact_at(name: ChildEdge, lie: &Lie, parts: &[Vec<ChildEdge>]) -> Contact
-    requires below { IsBelow (length parts.now) lie.now }
+    requires below { LiesBelow (length parts.now) lie.now }
     requires few { All AreFew parts.now }
     ensures { (rule : ProgramRule) (kind : ℕ) → AreParts rule kind parts.now
         → as_contact result ≡ contact_by (points_of rule.order) (rule_of rule) kind
@@ -61,7 +61,7 @@ fn contacts_of_child(
     parts: &[Vec<ChildEdge>],
     child: usize,
 ) -> Result<Vec<Contact>, NoMemory>
-    requires below { All (IsBelow (length parts.now)) inflated.now.lies.items }
+    requires below { All (LiesBelow (length parts.now)) inflated.now.lies.items }
     requires few { All AreFew parts.now }
     ensures { (rule : ProgramRule) (kind : ℕ) → IsInflated rule kind inflated.now
         → AreParts rule kind parts.now → child < length (children_of (rule_of rule) kind)
@@ -131,7 +131,7 @@ pub(crate) fn rows_of_kind(
     requires kind_exists { kind < length (rule_of rule.now).kinds }
     requires inflated { IsInflated rule.now kind inflated.now }
     requires parts { AreParts rule.now kind parts.items }
-    ensures { IfOk result (λ rows. as_kind rows
+    ensures { IfOk result (λ rows. as_kind_tables rows
         ≡ tables_of_kind (points_of rule.now.order) (rule_of rule.now) kind) }
 {
     Ok(KindRows {

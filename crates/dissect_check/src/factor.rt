@@ -1,4 +1,4 @@
-//! The inflation factor of a rule: real, greater than 1, and fast enough.
+//! The inflation factor of a rule: real, greater than 1, and fast enough, in an order that isn't six.
 
 ghost use Rattle.std.specs.Prelude.{◌≡◌, pos};
 ghost use Rattle.ordered_ring.specs.Ring.{power};
@@ -29,12 +29,14 @@ use std::cmp::Ordering;
 /// The powers 0 to 64: one for each depth that a supertile may have.
 const POWERS: usize = 65;
 
-/// The factor is real, greater than 1, and one of its powers is beyond the limit of coordinates.
+/// The order isn't six, the factor is real and greater than 1, and one of its powers is beyond the
+/// limit of coordinates.
 pub(crate) fn factor(rule: &Rule) -> Result<(), CheckFault>
     requires usable { IsUsable rule.now }
     ensures { fault_in result ≡ factor_fault rule.now.order (as_rule rule.now) }
 {
-    let is_growing = is_real_above_one(rule.order, &rule.factor)
+    let is_growing = rule.order.n() != 6
+        && is_real_above_one(rule.order, &rule.factor)
         && is_refused_by(rule.order, &rule.factor, POWERS);
     if is_growing {
         Ok(())

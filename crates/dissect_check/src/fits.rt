@@ -4,7 +4,7 @@ ghost use Rattle.std.specs.List.{list_all};
 ghost use Rattle.substitution.specs.Rule.{kind_of};
 ghost use Rattle.edge_to_edge.specs.Limits.{is_type, is_child, kinds_fit, types_fit, glue_fits, parts_fit, edges_fit, vertices_fit, children_fit};
 ghost use Rattle.cyclo_points.specs.Order.{points_of};
-ghost use Rattle.rule_model.specs.Small.{is_above, is_of, is_small};
+ghost use Rattle.rule_model.specs.Small.{is_small};
 ghost use Rattle.rule_model.specs.Views.{as_rule, as_kind, as_child};
 
 use cyclo_points::order::Order;
@@ -12,33 +12,7 @@ use cyclo_points::point::Point;
 use rule_model::child::Child;
 use rule_model::kind_row::KindRow;
 use rule_model::rule::Rule;
-
-/// Whether a coefficient is above n in absolute value.
-fn is_above(n: u64, p: &Point) -> bool
-    ensures { result ≡ is_above n p.now }
-{
-    p.c[0].unsigned_abs() > n
-        || p.c[1].unsigned_abs() > n
-        || p.c[2].unsigned_abs() > n
-        || p.c[3].unsigned_abs() > n
-}
-
-/// Whether the point is one of the order: in order four the last two coefficients are 0.
-fn is_of(order: Order, p: &Point) -> bool
-    ensures { result ≡ is_of order p.now }
-{
-    match order {
-        Order::Four => p.c[2] == 0 && p.c[3] == 0,
-        Order::Eight | Order::Ten => true,
-    }
-}
-
-/// Whether it is a point of the order whose coefficients are at most 64 in absolute value.
-pub(crate) fn is_small(order: Order, p: &Point) -> bool
-    ensures { result ≡ is_small order p.now }
-{
-    !is_above(64, p) && is_of(order, p)
-}
+use rule_model::small::is_small;
 
 /// Whether each number is that of an edge type.
 fn are_types(rule: &Rule, numbers: &[u8]) -> bool

@@ -8,7 +8,7 @@ ghost use Rattle.cyclo_points.specs.declared.order.Order.{Order};
 ghost use Rattle.cyclo_points.specs.declared.point.Point.{Point};
 ghost use Rattle.cyclo_points.specs.Order.{points_of, is_refused};
 ghost use Rattle.cyclo_points.specs.Point.{point_in};
-ghost use Rattle.tile_shape.specs.Usable.{IsUsable};
+ghost use Rattle.tile_shape.specs.Usable.{AreUsable};
 ghost use Rattle.rule_model.specs.Small.{is_small};
 ghost use Rattle.dissect_check.specs.FirstFault.{fault_of_lists};
 
@@ -22,5 +22,5 @@ pub fn clauses_law()
 
 /// The law that the child kinds of lists that no clause refuses are usable for addresses.
 pub fn accepted_children_law()
-    ensures { (o : Order) (l : Rule Point) → fault_of_lists o l ≡ None → IsUsable (child_kinds (map_rule (point_in o) l)) }
+    ensures { (o : Order) (l : Rule Point) → fault_of_lists o l ≡ None → AreUsable (child_kinds (map_rule (point_in o) l)) }
 {}

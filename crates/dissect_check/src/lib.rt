@@ -15,16 +15,10 @@ mod child_edges;
 mod child_kinds;
 mod clauses;
 mod contacts;
-#[cfg(test)]
-mod eightfold;
 mod factor;
 mod few;
 mod fits;
 mod glue;
-#[cfg(test)]
-mod glued_rules;
-#[cfg(test)]
-mod hand_tables;
 mod inflated;
 mod inflation;
 pub mod laws;
@@ -36,20 +30,10 @@ mod loose;
 mod lying;
 mod mates;
 mod placed_edge;
-#[cfg(test)]
-mod rules;
 mod same_point;
-#[cfg(test)]
-mod star_tests;
 mod stars;
 mod subdivisions;
-#[cfg(test)]
-mod table_tests;
 mod tables;
-#[cfg(test)]
-mod tests;
-#[cfg(test)]
-mod text_tests;
 mod uses;
 pub mod what;
 mod wholes;

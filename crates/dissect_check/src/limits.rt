@@ -8,10 +8,11 @@ ghost use Rattle.dissect_check.specs.FirstFault.{type_limits, types_limits, kind
 
 use crate::check_fault::CheckFault;
 use crate::fits::{
-    children_fit, edges_fit, glue_fits, is_small, kinds_fit, parts_fit, types_fit, vertices_fit,
+    children_fit, edges_fit, glue_fits, kinds_fit, parts_fit, types_fit, vertices_fit,
 };
 use crate::what::What;
 use rule_model::rule::Rule;
+use rule_model::small::is_small;
 
 /// The fault that this passes its limit, unless it fits.
 fn require(fits: bool, what: What) -> Result<(), CheckFault>

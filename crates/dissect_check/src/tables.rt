@@ -5,7 +5,7 @@ ghost use Rattle.addressing.specs.Search.{below};
 ghost use Rattle.addressing.specs.Coherent.{IsCoherent};
 ghost use Rattle.edge_to_edge.specs.Contacts.{tables_of_kind, tables_of};
 ghost use Rattle.cyclo_points.specs.Order.{points_of};
-ghost use Rattle.edge_tables.specs.Views.{as_kind};
+ghost use Rattle.edge_tables.specs.Views.{as_kind_tables};
 ghost use Rattle.rule_model.specs.Views.{rule_of};
 
 use edge_tables::kind_rows::KindRows;
@@ -43,7 +43,7 @@ fn parts_of_types(alloc: Global, rule: &Rule) -> Result<Vec<Vec<u8>>, NoMemory>
 /// The contact tables of a rule, from those of its kinds.
 pub(crate) fn tables_of(alloc: Global, rule: &Rule, rows: Vec<KindRows>) -> Result<Tables, NoMemory>
     requires coherent { IsCoherent (tables_of (points_of rule.now.order) (rule_of rule.now)) }
-    requires kinds { map as_kind rows.items
+    requires kinds { map as_kind_tables rows.items
         ≡ below (tables_of_kind (points_of rule.now.order) (rule_of rule.now))
         (length (rule_of rule.now).kinds) }
     ensures { IfOk result (λ tables. tables

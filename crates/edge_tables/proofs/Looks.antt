@@ -5,18 +5,18 @@ use Rattle.std.proofs.lemmas.List.{length-map}
 use Rattle.edge_tables.specs.declared.contact.Contact.{Contact}
 use Rattle.edge_tables.specs.declared.child_edge.ChildEdge.{ChildEdge}
 use Rattle.edge_tables.specs.declared.kind_rows.KindRows.{KindRows}
-use Rattle.edge_tables.specs.Views.{as_contact, as_child_edge, as_kind}
+use Rattle.edge_tables.specs.Views.{as_contact, as_child_edge, as_kind_tables}
 use Rattle.addressing.specs.Contact as theory
 use Rattle.addressing.specs.Tables.{Tables, KindTables, kind_tables, type_of, child_kind_of, contacts_of, parts_of, contact_of, part_of, part_count}
 use Rattle.addressing.specs.Coherent.{IsCoherent}
 use Rattle.addressing.proofs.TableBounds.{child_bounds, type_bounds, contact_bounds, part_bounds, some_within}
 
 -- the tables of a kind, in the list of those of all kinds
-pub kind_tables-read : (t : Tables) (rows : List KindRows) (k : ℕ) (r : KindRows) → map as_kind rows ≡ t.kinds → k < length rows → r ≡ get_or rows k r → as_kind r ≡ kind_tables t k
+pub kind_tables-read : (t : Tables) (rows : List KindRows) (k : ℕ) (r : KindRows) → map as_kind_tables rows ≡ t.kinds → k < length rows → r ≡ get_or rows k r → as_kind_tables r ≡ kind_tables t k
 unfolding kind_tables
-kind_tables-read t rows k r e h is = rw (← e, slice_get-map as_kind rows k, slice_get_read rows (length rows) k r refl h is) refl
+kind_tables-read t rows k r e h is = rw (← e, slice_get-map as_kind_tables rows k, slice_get_read rows (length rows) k r refl h is) refl
 
-module _ (t : Tables) (k : ℕ) (r : KindRows) (row : as_kind r ≡ kind_tables t k) where
+module _ (t : Tables) (k : ℕ) (r : KindRows) (row : as_kind_tables r ≡ kind_tables t k) where
   -- ---- children
   child_count : length r.children.items ≡ length (kind_tables t k).children
   child_count = ap (λ (m : KindTables). length m.children) row

@@ -17,8 +17,8 @@ abbrev pub as_child_edge : ChildEdge → theory.ChildEdge
 as_child_edge ce = record { child = ce.child; edge = ce.edge }
 
 -- the lists that the vectors hold
-abbrev pub as_kind : KindRows → KindTables
-as_kind r = record {
+abbrev pub as_kind_tables : KindRows → KindTables
+as_kind_tables r = record {
   types = r.types.items;
   children = r.children.items;
   contacts = map (λ v. map as_contact v.items) r.contacts.items;
@@ -26,4 +26,4 @@ as_kind r = record {
 }
 
 abbrev pub as_tables : Vec ℕ Global → Vec (Vec ℕ Global) Global → Vec KindRows Global → Tables
-as_tables mates subs rows = record { mates = mates.items; subs = map (λ v. v.items) subs.items; kinds = map as_kind rows.items }
+as_tables mates subs rows = record { mates = mates.items; subs = map (λ v. v.items) subs.items; kinds = map as_kind_tables rows.items }

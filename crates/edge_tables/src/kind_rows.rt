@@ -21,11 +21,11 @@ pub struct KindRows {
 }
 
 impl KindRows {
-    ghost use Rattle.edge_tables.specs.Views.{as_kind};
+    ghost use Rattle.edge_tables.specs.Views.{as_kind_tables};
 
     /// Equal tables.
     pub fn copy(&self, alloc: Global) -> Result<KindRows, NoMemory>
-        ensures { IfOk result (λ rows. as_kind rows ≡ as_kind self.now) }
+        ensures { IfOk result (λ rows. as_kind_tables rows ≡ as_kind_tables self.now) }
     {
         Ok(KindRows {
             types: copied(alloc, &self.types)?,

@@ -11,5 +11,3 @@ pub mod laws;
 mod lists;
 pub mod steps;
 pub mod tables;
-#[cfg(test)]
-mod tests;

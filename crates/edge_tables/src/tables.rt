@@ -2,7 +2,7 @@
 ghost use Rattle.std.specs.Prelude.{◌≡◌, ◌↔◌, ◌+◌, ◌<◌, ◌≤◌, ℕ, length, Some, IsSome, IfOk};
 ghost use Rattle.addressing.specs.Coherent.{IsCoherent};
 ghost use Rattle.addressing.specs.Tables.{kind_tables, type_of, child_kind_of, contact_of, part_of, part_count, mate_of};
-ghost use Rattle.edge_tables.specs.Views.{as_contact, as_child_edge, as_kind, as_tables};
+ghost use Rattle.edge_tables.specs.Views.{as_contact, as_child_edge, as_kind_tables, as_tables};
 
 use crate::child_edge::ChildEdge;
 use crate::contact::Contact;
@@ -69,7 +69,7 @@ impl Tables {
     /// The lists of a kind.
     fn row(&self, kind: u8) -> &KindRows
         requires { kind < length self.now.kinds }
-        ensures lists { as_kind result.now ≡ kind_tables self.now kind }
+        ensures lists { as_kind_tables result.now ≡ kind_tables self.now kind }
         ensures coherent { IsCoherent self.now }
     {
         &self.rows[kind as usize]

@@ -20,23 +20,23 @@ use Rattle.edge_to_edge.proofs.CoherentTypes.{kind_below, type_below, length-chi
 use Rattle.edge_to_edge.proofs.ContactCases.{PointsBack, IsPart, part-is_child_edge, contact-inner, contact-outer, part-contact}
 
 -- s is edge e of child c of kind k
-record Named (P : Points) (r : Rule P.ring.carrier) (k : ℕ) (s : PlacedEdge P.ring.carrier) (c e : ℕ) : Type 0 where
-  has : HasChildEdge P r k c e
-  is : s ≡ child_edge P r k c e
+pub record Named (P : Points) (r : Rule P.ring.carrier) (k : ℕ) (s : PlacedEdge P.ring.carrier) (c e : ℕ) : Type 0 where
+  pub has : HasChildEdge P r k c e
+  pub is : s ≡ child_edge P r k c e
 
-named : (P : Points) (r : Rule P.ring.carrier) (k c e : ℕ) (s : PlacedEdge P.ring.carrier) → IsAmong s (child_edges P r k) → s.child ≡ c → s.edge ≡ e → Named P r k s c e
+pub named : (P : Points) (r : Rule P.ring.carrier) (k c e : ℕ) (s : PlacedEdge P.ring.carrier) → IsAmong s (child_edges P r k) → s.child ≡ c → s.edge ≡ e → Named P r k s c e
 named P r k c e s i hc he =
     let is = among-child_edges P r k s i in
     subst (λ (d : ℕ). Named P r k s d e) hc (subst (λ (f : ℕ). Named P r k s s.child f) he (record { has = is.has; is = is.is }))
 
 -- x is the contact of a child edge
-record Contacted (P : Points) (r : Rule P.ring.carrier) (k c e : ℕ) (x : Contact) : Type 0 where
-  has : HasChildEdge P r k c e
-  among : IsAmong (child_edge P r k c e) (child_edges P r k)
-  is : contact_at P r k (child_edge P r k c e) ≡ x
-  in_range : k < length r.kinds
+pub record Contacted (P : Points) (r : Rule P.ring.carrier) (k c e : ℕ) (x : Contact) : Type 0 where
+  pub has : HasChildEdge P r k c e
+  pub among : IsAmong (child_edge P r k c e) (child_edges P r k)
+  pub is : contact_at P r k (child_edge P r k c e) ≡ x
+  pub in_range : k < length r.kinds
 
-contacted : (P : Points) (r : Rule P.ring.carrier) (k c e : ℕ) (x : Contact) → contact_of (tables_of P r) k c e ≡ Some x → Contacted P r k c e x
+pub contacted : (P : Points) (r : Rule P.ring.carrier) (k c e : ℕ) (x : Contact) → contact_of (tables_of P r) k c e ≡ Some x → Contacted P r k c e x
 contacted P r k c e x h =
     let found = contact_of-found P r k c e x h in
     record { has = found.0; among = child_edge-among P r k c e found.0; is = sym found.1; in_range = kind-with_child P r k c found.0.child_below }
@@ -48,10 +48,10 @@ module _ (P : Points) (W : PointLaws P) (refused : P.ring.carrier → Bool) (r :
   abbrev t : Tables
   t = tables_of P r
 
-  cut_edges : (k e : ℕ) → e < edge_count r k → is_ok (parts_of_edge P r k e) ≡ true
+  pub cut_edges : (k e : ℕ) → e < edge_count r k → is_ok (parts_of_edge P r k e) ≡ true
   cut_edges k e h = D.boundary_cut k e (kind-with_edge P r k e h) h
 
-  inner_other : (k a e b f : ℕ) → contact_of t k a e ≡ Some (inner b f) → PointsBack P r k (child_edge P r k a e) b f
+  pub inner_other : (k a e b f : ℕ) → contact_of t k a e ≡ Some (inner b f) → PointsBack P r k (child_edge P r k a e) b f
   inner_other k a e b f h =
       let c = contacted P r k a e (inner b f) h in
       contact-inner P W r k (D.none_loose k c.in_range) (cut_edges k) (child_edge P r k a e) b f c.among c.is
@@ -73,7 +73,7 @@ module _ (P : Points) (W : PointLaws P) (refused : P.ring.carrier → Bool) (r :
       let small : ty < length r.types = subst (λ (u : ℕ). u < length r.types) own (N.type_exists (child_of P r k a).kind e (N.child_exists k a c.in_range c.has.child_below) c.has.edge_below) in
       child_type_of-at P r k b f other.has ∙ ap (λ (u : PlacedEdge A). Some u.type) (sym other.is) ∙ ap Some (sym back.mates ∙ ap (mate r) own) ∙ sym (mate_of-at P r ty small)
 
-  part-from : (k c e f p : ℕ) → contact_of t k c e ≡ Some (outer f p) → IsPart P r k (child_edge P r k c e) f p
+  pub part-from : (k c e f p : ℕ) → contact_of t k c e ≡ Some (outer f p) → IsPart P r k (child_edge P r k c e) f p
   part-from k c e f p h =
       let at = contacted P r k c e (outer f p) h in
       contact-outer P W r k (D.none_loose k at.in_range) (cut_edges k) (child_edge P r k c e) f p at.among at.is

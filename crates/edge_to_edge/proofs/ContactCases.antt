@@ -6,7 +6,7 @@ use Rattle.addressing.specs.Search.{IsAmong}
 use Rattle.substitution.specs.Rule.{Rule}
 use Rattle.substitution.specs.RuleParts.{mate, edge_count}
 use Rattle.addressing.specs.Contact.{ChildEdge, inner, outer}
-use Rattle.edge_to_edge.specs.Contacts.{name_of, named_parts, number_in, contact_by}
+use Rattle.edge_to_edge.specs.Contacts.{name_of, named_parts, index_in, contact_by}
 use Rattle.edge_to_edge.specs.Edges.{PlacedEdge, inflated_edges, child_edges, is_opposite}
 use Rattle.edge_to_edge.specs.Lying.{Lie, numbers_along, lie_of, is_loose}
 use Rattle.edge_to_edge.specs.Lying as lying
@@ -52,12 +52,12 @@ module _ (P : Points) (W : PointLaws P) (r : Rule P.ring.carrier) (k : ℕ) wher
   contact_by-inner n (lying.boundary e) b f h = absurd cc
   contact_by-inner n lying.loose b f h = absurd cc
 
-  contact_by-outer : (n : ChildEdge) (l : Lie) (f p : ℕ) → is_loose l ≡ false → contact_by P r k n l ≡ outer f p → (l ≡ lying.boundary f) × (number_in n 0 (named_parts P r k f) ≡ p)
+  contact_by-outer : (n : ChildEdge) (l : Lie) (f p : ℕ) → is_loose l ≡ false → contact_by P r k n l ≡ outer f p → (l ≡ lying.boundary f) × (index_in n 0 (named_parts P r k f) ≡ p)
   contact_by-outer n (lying.inner c e) f p firm h = absurd cc
   contact_by-outer n (lying.boundary e) f p firm h =
       let same : e ≡ f = cc in
-      let number : number_in n 0 (named_parts P r k e) ≡ p = cc in
-      (ap lying.boundary same, ap (λ (g : ℕ). number_in n 0 (named_parts P r k g)) (sym same) ∙ number)
+      let number : index_in n 0 (named_parts P r k e) ≡ p = cc in
+      (ap lying.boundary same, ap (λ (g : ℕ). index_in n 0 (named_parts P r k g)) (sym same) ∙ number)
   contact_by-outer n lying.loose f p firm h = absurd cc
 
   module _ (none_loose : AllByRecursion (λ s. is_loose (lie_of P r k s) ≡ false) edges) (cut : (e : ℕ) → e < edge_count r k → is_ok (parts_of_edge P r k e) ≡ true) where
@@ -82,7 +82,7 @@ module _ (P : Points) (W : PointLaws P) (r : Rule P.ring.carrier) (k : ℕ) wher
 
     -- ---- outer child edges
     -- a child edge on the boundary is the part of its number
-    pub boundary-is_part : (s : PlacedEdge A) (e : ℕ) → IsAmong s edges → lie_of P r k s ≡ lying.boundary e → IsPart P r k s e (number_in (name_of s) 0 (named_parts P r k e))
+    pub boundary-is_part : (s : PlacedEdge A) (e : ℕ) → IsAmong s edges → lie_of P r k s ≡ lying.boundary e → IsPart P r k s e (index_in (name_of s) 0 (named_parts P r k e))
     boundary-is_part s e i h =
         let below = (lie_of-boundary P r k s e h).edge_below in
         let place = among-place s (cut_parts P r k e) (on_boundary-part P W r k cut e below s (boundary_edge-among P W r k e s i h)) in
@@ -98,7 +98,7 @@ module _ (P : Points) (W : PointLaws P) (r : Rule P.ring.carrier) (k : ℕ) wher
         let same : e ≡ f = let a = (part-is_child_edge s e p h).1 in let b = (part-is_child_edge s f q g).1 in cc in
         let number = part-number P W r k cut e p s h.edge_below h.at in
         let other = part-number P W r k cut f q s g.edge_below g.at in
-        (same, sym number ∙ ap (λ (x : ℕ). number_in (name_of s) 0 (named_parts P r k x)) same ∙ other)
+        (same, sym number ∙ ap (λ (x : ℕ). index_in (name_of s) 0 (named_parts P r k x)) same ∙ other)
 
     -- ---- each child edge is the one or the other
     pub settled : (s : PlacedEdge A) → IsAmong s edges → Settled P r k s
@@ -106,7 +106,7 @@ module _ (P : Points) (W : PointLaws P) (r : Rule P.ring.carrier) (k : ℕ) wher
       where
         at_lie : (l : Lie) → lie_of P r k s ≡ l → is_loose l ≡ false → Settled P r k s
         at_lie (lying.inner b f) h g = inside b f h (inner-points_back s b f i h)
-        at_lie (lying.boundary e) h g = along e (number_in (name_of s) 0 (named_parts P r k e)) (lie_of-boundary P r k s e h) (boundary-is_part s e i h)
+        at_lie (lying.boundary e) h g = along e (index_in (name_of s) 0 (named_parts P r k e)) (lie_of-boundary P r k s e h) (boundary-is_part s e i h)
         at_lie lying.loose h g = absurd cc
 
     -- ---- contacts

@@ -7,7 +7,7 @@ use Rattle.addressing.specs.Search.{IsAmong}
 use Rattle.substitution.specs.Rule.{Rule}
 use Rattle.substitution.specs.RuleParts.{parts, edge_count, edge_type}
 use Rattle.addressing.specs.Contact.{ChildEdge}
-use Rattle.edge_to_edge.specs.Contacts.{name_of, parts_or_none, named_parts, number_in}
+use Rattle.edge_to_edge.specs.Contacts.{name_of, parts_or_none, named_parts, index_in}
 use Rattle.edge_to_edge.specs.Edges.{PlacedEdge, inflated_edge, inflated_edges, child_edges}
 use Rattle.edge_to_edge.specs.Lying.{boundary, lie_of, is_along}
 use Rattle.edge_to_edge.specs.Boundary.{boundary_among, parts_of_edge}
@@ -30,17 +30,17 @@ same_name s t h =
     go s.child s.edge (eqb-true s.child t.child both.0) (eqb-true s.edge t.edge both.1)
 
 -- a name has the number of the place where it stands
-pub number_in-at : (s : ChildEdge) (n j : ℕ) (ts : List ChildEdge) → slice_get ts j ≡ Some s → WithoutRepeats ts → number_in s n ts ≡ n + j
+pub number_in-at : (s : ChildEdge) (n j : ℕ) (ts : List ChildEdge) → slice_get ts j ≡ Some s → WithoutRepeats ts → index_in s n ts ≡ n + j
 number_in-at s n j [] at alone = absurd cc
 number_in-at s n zero (t ∷ ts) at alone =
     let same : t ≡ s = cc in
     let test : nat_eq s.child t.child && nat_eq s.edge t.edge ≡ true =
     subst (λ (u : ChildEdge). nat_eq s.child u.child && nat_eq s.edge u.edge ≡ true) (sym same) (and_from _ _ (eq-eqb s.child s.child refl) (eq-eqb s.edge s.edge refl)) in
-    ap (λ b. cond b n (number_in s (suc n) ts)) test ∙ omega arith
+    ap (λ b. cond b n (index_in s (suc n) ts)) test ∙ omega arith
 number_in-at s n (suc j) (t ∷ ts) at alone =
     let other : t ≡ s → ⊥ = AllByRecursion-among (λ u. t ≡ u → ⊥) s ts (place-among s ts j at) alone.0 in
     let test : nat_eq s.child t.child && nat_eq s.edge t.edge ≡ false = false_from_ne_true _ (λ h. other (same_name s t h)) in
-    ap (λ b. cond b n (number_in s (suc n) ts)) test ∙ number_in-at s (suc n) j ts at alone.1 ∙ omega arith
+    ap (λ b. cond b n (index_in s (suc n) ts)) test ∙ number_in-at s (suc n) j ts at alone.1 ∙ omega arith
 
 is_ok-parts : {A : Type 0} (o : Result (List A) ℕ) → is_ok o ≡ true → o ≡ Ok (parts_or_none o)
 is_ok-parts (Ok ss) h = refl
@@ -65,7 +65,7 @@ module _ (P : Points) (W : PointLaws P) (r : Rule P.ring.carrier) (k : ℕ) wher
   pub boundary_edge-among : (e : ℕ) (s : PlacedEdge A) → IsAmong s (child_edges P r k) → lie_of P r k s ≡ boundary e → IsAmong s (boundary_edges P r k e)
   boundary_edge-among e s i h = IsAmong-kept (λ u. is_along e (lie_of P r k u)) s (child_edges P r k) i (boundary-is_along e (lie_of P r k s) h)
 
-  leads_away : (e : ℕ) (s : PlacedEdge A) → IsAmong s (boundary_edges P r k e) → LeadsAway P (inflated_edge P r k e).from s
+  pub leads_away : (e : ℕ) (s : PlacedEdge A) → IsAmong s (boundary_edges P r k e) → LeadsAway P (inflated_edge P r k e).from s
   leads_away e s i = along-leads_away P W (inflated_edge P r k e) s (lie_of-boundary P r k s e (boundary_edge e s i).1).along
 
   module _ (cut : (e : ℕ) → e < edge_count r k → is_ok (parts_of_edge P r k e) ≡ true) where
@@ -111,7 +111,7 @@ module _ (P : Points) (W : PointLaws P) (r : Rule P.ring.carrier) (k : ℕ) wher
             both_ways (from_of P u u) not_here (W.same_self u.line.from)
 
     -- a part has the number of its place
-    pub part-number : (e p : ℕ) (s : PlacedEdge A) → e < edge_count r k → slice_get (cut_parts P r k e) p ≡ Some s → number_in (name_of s) 0 (named_parts P r k e) ≡ p
+    pub part-number : (e p : ℕ) (s : PlacedEdge A) → e < edge_count r k → slice_get (cut_parts P r k e) p ≡ Some s → index_in (name_of s) 0 (named_parts P r k e) ≡ p
     part-number e p s h at =
         number_in-at (name_of s) 0 p (map name_of (cut_parts P r k e)) (slice_get-image name_of s (cut_parts P r k e) p at)
         (names-differ (cut_parts P r k e) (λ u i. (boundary_edge e u (part-on_boundary e h u i)).0) (parts-apart e h)) ∙ omega arith

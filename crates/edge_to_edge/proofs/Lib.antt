@@ -1,3 +1,4 @@
+pub mod Factors
 pub mod CutParts
 pub mod ChildEdges
 pub mod LieCases

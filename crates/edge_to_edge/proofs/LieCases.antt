@@ -90,7 +90,7 @@ numbers_along-at P n (whole ∷ wholes) line e i =
     at_case (inr j) rest = let r = rest j in record { place = suc r.place; number = let k = r.number in omega arith; whole = r.whole; at = r.at; along = r.along }
 
 module _ (P : Points) (W : PointLaws P) where
-  same_place-self : (a : P.ring.carrier) → same_place P.real (plane_point P a) (plane_point P a) ≡ true
+  pub same_place-self : (a : P.ring.carrier) → same_place P.real (plane_point P a) (plane_point P a) ≡ true
   same_place-self a = and_from _ _ (at (P.x a)) (at (P.y a))
     where
       at : (x : P.real.ops.carrier) → is_eq (P.real.sign (difference P.real.ops x x)) ≡ true

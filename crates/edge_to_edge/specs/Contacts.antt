@@ -24,14 +24,14 @@ abbrev pub named_parts : (P : Points) → Rule P.ring.carrier → ℕ → ℕ �
 named_parts P r k e = map name_of (parts_or_none (parts_of_edge P r k e))
 
 -- the number, from n, of a child edge in a list
-abbrev pub number_in : ChildEdge → ℕ → List ChildEdge → ℕ
-number_in s n [] = n
-number_in s n (t ∷ ts) = cond (nat_eq s.child t.child && nat_eq s.edge t.edge) n (number_in s (suc n) ts)
+abbrev pub index_in : ChildEdge → ℕ → List ChildEdge → ℕ
+index_in s n [] = n
+index_in s n (t ∷ ts) = cond (nat_eq s.child t.child && nat_eq s.edge t.edge) n (index_in s (suc n) ts)
 
 -- what a child edge is, by where it lies; a loose one, which an accepted rule hasn't, is given no number
 abbrev pub contact_by : (P : Points) → Rule P.ring.carrier → ℕ → ChildEdge → Lie → Contact
 contact_by P r k s (lying.inner c e) = inner c e
-contact_by P r k s (lying.boundary e) = outer e (number_in s 0 (named_parts P r k e))
+contact_by P r k s (lying.boundary e) = outer e (index_in s 0 (named_parts P r k e))
 contact_by P r k s lying.loose = outer 0 0
 
 -- what the edges of child number c of kind k are, in order

@@ -18,7 +18,7 @@ use Rattle.edge_to_edge.specs.Glue.{glues_halves}
 abbrev pub IsStarShaped : (P : Points) → Rule P.ring.carrier → Type 0
 IsStarShaped P r = (k : ℕ) → k < length r.kinds → is_star P (vertices_of r k) ≡ true
 
--- the factor is real and greater than 1, and supertiles outgrow the limit of coordinates
+-- the factor is one of the first edition: the order isn't six, the factor is real and greater than 1, and supertiles outgrow the limit of coordinates
 abbrev pub HasInflationFactor : (P : Points) → (P.ring.carrier → Bool) → Rule P.ring.carrier → Type 0
 HasInflationFactor P refused r = is_inflation_factor P refused r.factor ≡ true
 

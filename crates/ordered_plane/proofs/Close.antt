@@ -8,7 +8,7 @@ use Rattle.ordered_ring.specs.Sign.{Signed, OrderLaws, Passes}
 use Rattle.ordered_ring.proofs.Normaliser.{var, con, neg, ring, equal_of_diff, ◌⊕◌, ◌⊖◌, ◌⊗◌}
 use Rattle.ordered_ring.specs.Sign.{IsPositive, IsNonNegative}
 use Rattle.ordered_plane.specs.Plane.{PlanePoint, TestPoint, side}
-use Rattle.ordered_plane.specs.Close.{is_right, is_near, HasPointRight, PointsRight}
+use Rattle.ordered_plane.specs.Close.{is_right_of_edge, is_near, HasPointRight, PointsRight}
 use Rattle.ordered_ring.proofs.Signs.{zero_nonneg, less_neg, pos_add_nonneg}
 use Rattle.ordered_plane.proofs.BoxPoints.{whole_positive}
 
@@ -126,7 +126,7 @@ module _ (S : Signed) (L : Laws S.ops) (O : OrderLaws S) where
         ⊖ (var 3 ⊖ var 1) ⊗ ((var 4 ⊗ (var 0 ⊕ var 2) ⊕ (var 3 ⊖ var 1)) ⊖ (con (pos 2) ⊗ var 4) ⊗ var 0))
         (neg ((var 2 ⊖ var 0) ⊗ (var 2 ⊖ var 0) ⊕ (var 3 ⊖ var 1) ⊗ (var 3 ⊖ var 1))) refl
 
-    right : (¬ a ≡ b) → is_right S a b point ≡ true
+    right : (¬ a ≡ b) → is_right_of_edge S a b point ≡ true
     right apart = ap is_lt (ap S.sign side_is ∙ O.sign-neg (squares a b) ∙ ap ordering_reverse (squares_positive a b apart))
 
     -- one coordinate, moved by r or by -r

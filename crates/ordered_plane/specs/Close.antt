@@ -7,8 +7,8 @@ use Rattle.ordered_plane.specs.Plane.{PlanePoint, TestPoint, IsTestPoint, side}
 use Rattle.ordered_plane.specs.Box.{is_shorter}
 
 -- p is strictly right of the directed edge a→b
-abbrev pub is_right : (S : Signed) → PlanePoint S.ops.carrier → PlanePoint S.ops.carrier → TestPoint S.ops.carrier → Bool
-is_right S a b p = is_lt (S.sign (side S.ops a b p))
+abbrev pub is_right_of_edge : (S : Signed) → PlanePoint S.ops.carrier → PlanePoint S.ops.carrier → TestPoint S.ops.carrier → Bool
+is_right_of_edge S a b p = is_lt (S.sign (side S.ops a b p))
 
 -- whether the coordinate x/d differs from the middle (r + s)/2 by less than 1/n, without fractions: n |2x - d(r + s)| < 2d
 abbrev pub is_near : (S : Signed) → ℕ → S.ops.carrier → S.ops.carrier → S.ops.carrier → S.ops.carrier → Bool
@@ -23,7 +23,7 @@ is_near_middle S n a b p = is_near S n a.x b.x p.x p.d && is_near S n a.y b.y p.
 
 -- some test point strictly right of a→b is as close to the edge's middle
 abbrev pub HasPointRight : (S : Signed) → PlanePoint S.ops.carrier → PlanePoint S.ops.carrier → ℕ → Type 0
-HasPointRight S a b n = (p : TestPoint S.ops.carrier) × IsTestPoint S p × IsTrue (is_right S a b p) × IsTrue (is_near_middle S n a b p)
+HasPointRight S a b n = (p : TestPoint S.ops.carrier) × IsTestPoint S p × IsTrue (is_right_of_edge S a b p) × IsTrue (is_near_middle S n a b p)
 
 -- every edge with two different ends has such test points, as close as one likes
 abbrev pub PointsRight : Signed → Type 0

@@ -1,15 +1,11 @@
--- The laws of the plane, for the points of each order.
-use Rattle.std.specs.Prelude.{◌≡◌, ◌↔◌, ◌⊎◌, ℕ, pos, neg_ℤ, ◌+ℤ◌, List, IsTrue}
-use Rattle.ordered_ring.specs.Ring.{difference, power}
-use Rattle.substitution.specs.Motion.{Motion, moved}
+-- The laws of crossings, fans, triangles and segments, for the points of each order.
+use Rattle.std.specs.Prelude.{◌≡◌, ◌↔◌, ◌⊎◌, pos, neg_ℤ, ◌+ℤ◌, List, IsTrue}
 use Rattle.cyclo_points.specs.declared.order.Order.{Order}
-use Rattle.cyclo_points.specs.Order.{NumberOf, points_of}
 use Rattle.plane_geom.specs.Spots.{reals_of, PlanePointOf, TestPointOf}
 use Rattle.ordered_plane.specs.Plane.{IsTestPoint}
 use Rattle.ordered_plane.specs.Crossing.{crossing, count, member}
 use Rattle.ordered_plane.specs.Triangle.{Triangle, corners, fan, counts, turns_left, separated}
 use Rattle.ordered_plane.specs.Segment.{on_segment, Between}
-use Rattle.substitution.specs.Plane.{twice_squared_length, Keeps, IsGrowthFactor}
 
 -- an edge turned round crosses the other way
 abbrev pub AntisymmetryLaw : Order → Type 0
@@ -39,21 +35,3 @@ SeparationLaw o =
 -- a point is on a closed segment exactly where it is a mean of the ends
 abbrev pub SegmentLaw : Order → Type 0
 SegmentLaw o = (a b p : PlanePointOf o) → IsTrue (on_segment (reals_of o) a b p) ↔ Between (reals_of o) a b p
-
--- motions keep left turns, segments and equal lengths
-abbrev pub MotionLaw : Order → Type 0
-MotionLaw o = (m : Motion (NumberOf o)) → Keeps (points_of o) (moved (points_of o) m)
-
--- motions keep each length
-abbrev pub IsometryLaw : Order → Type 0
-IsometryLaw o = (m : Motion (NumberOf o)) (a b : NumberOf o)
-    → twice_squared_length (points_of o) (difference (points_of o).ring (moved (points_of o) m b) (moved (points_of o) m a))
-    ≡ twice_squared_length (points_of o) (difference (points_of o).ring b a)
-
--- so does a real factor greater than 1
-abbrev pub FactorLaw : Order → Type 0
-FactorLaw o = (l : NumberOf o) → IsGrowthFactor (points_of o) l → Keeps (points_of o) ((points_of o).ring.mul l)
-
--- and each power of it
-abbrev pub FactorPowersLaw : Order → Type 0
-FactorPowersLaw o = (l : NumberOf o) → IsGrowthFactor (points_of o) l → (n : ℕ) → Keeps (points_of o) ((points_of o).ring.mul (power (points_of o).ring l n))

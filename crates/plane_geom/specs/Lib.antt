@@ -1,3 +1,4 @@
 pub mod Laws
+pub mod Products
 pub mod Measured
 pub mod Spots

@@ -1,8 +1,9 @@
 //! The laws of the plane, for the points of each order.
 
 ghost use Rattle.plane_geom.specs.Laws.{AntisymmetryLaw, AdditivityLaw, FanLaw, TriangleLaw};
-ghost use Rattle.plane_geom.specs.Laws.{SeparationLaw, SegmentLaw, MotionLaw, IsometryLaw};
-ghost use Rattle.plane_geom.specs.Laws.{FactorLaw, FactorPowersLaw};
+ghost use Rattle.plane_geom.specs.Laws.{SeparationLaw, SegmentLaw};
+ghost use Rattle.plane_geom.specs.Products.{MotionLaw, IsometryLaw, OrientationLaw, LengthLaw};
+ghost use Rattle.plane_geom.specs.Products.{ProductLaw, FactorLaw, FactorPowersLaw, RealFactorLaw};
 
 use cyclo_points::order::Order;
 use cyclo_points::points_law;
@@ -47,11 +48,22 @@ pub fn motion_law(order: Order)
     points_law(order);
 }
 
-/// The law that a real factor greater than 1, and each power of it, keeps left turns, segments and
-/// equal lengths.
+/// The law of products: one by any number multiplies orientations and squared lengths by the squared
+/// length of the number; where that is positive, it keeps left turns, segments and equal lengths.
+pub fn product_law(order: Order)
+    ensures orientations { OrientationLaw order }
+    ensures lengths { LengthLaw order }
+    ensures keeps { ProductLaw order }
+{
+    points_law(order);
+}
+
+/// The law that a factor of squared length above 1, and each power of it, keeps left turns, segments
+/// and equal lengths. The factor may turn the plane; a real one greater than 1 is such a factor.
 pub fn factor_law(order: Order)
     ensures keeps { FactorLaw order }
     ensures powers_keep { FactorPowersLaw order }
+    ensures real_factors { RealFactorLaw order }
 {
     points_law(order);
 }

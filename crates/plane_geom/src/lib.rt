@@ -7,18 +7,12 @@
 //! and the laws on which dissections rest are proved for every order at once.
 #![tactic(auto)]
 
-#[cfg(test)]
-mod bound_tests;
 pub mod box_edges;
-#[cfg(test)]
-mod box_tests;
 mod half_plane;
 pub mod laws;
 pub mod polygons;
 pub mod right_side;
 pub mod segments;
 pub mod sides;
-#[cfg(test)]
-mod tests;
 pub mod triangles;
 pub mod window;

@@ -10,9 +10,11 @@ use Rattle.substitution.specs.RuleParts.{mate, edge_types, edge_count, edge_type
 use Rattle.addressing.specs.Search.{below, IsAmong}
 use Rattle.edge_to_edge.specs.Glue.{glue_type, once_each, holders, is_glued_before, are_halves}
 use Rattle.edge_to_edge.specs.EdgeToEdge.{HasRightGlue}
-use Rattle.addressing.proofs.Lists.{IsAmong-flat_map, IsAmong-append_left, IsAmong-append_right}
+use Rattle.addressing.proofs.Lists.{IsAmong-flat_map}
 use Rattle.rule_model.specs.Glue.{IsGlueEdge, IsOnlyGlueEdge}
-use Rattle.rule_model.proofs.Searches.{some_below-found, found, list_any-found, or_right}
+use Rattle.addressing.proofs.BoolLoops.{or_true, some_below-found}
+use Rattle.addressing.proofs.Ranges.{IsAmong-below}
+use Rattle.rule_model.proofs.Searches.{found, list_any-found}
 
 same_number : (a b : ℕ) → a ≡ b → nat_eq a b ≡ true
 same_number a b h = (Decides-eqb a b).1 h
@@ -20,7 +22,7 @@ same_number a b h = (Decides-eqb a b).1 h
 -- the test of either number passes at both
 pub either : (a b ty : ℕ) → (ty ≡ a) ⊎ (ty ≡ b) → nat_eq ty a || nat_eq ty b ≡ true
 either a b ty (inl e) = ap (λ c. c || nat_eq ty b) (same_number ty a e)
-either a b ty (inr e) = ap (λ c. nat_eq ty a || c) (same_number ty b e) ∙ or_right (nat_eq ty a)
+either a b ty (inr e) = ap (λ c. nat_eq ty a || c) (same_number ty b e) ∙ or_true (nat_eq ty a)
 
 -- a kind stands once in the list for each of its edges of a type
 once-longer : (k ty t : ℕ) (ts : List ℕ) → length (once_each k ty ts) ≤ length (once_each k ty (t ∷ ts))
@@ -52,14 +54,6 @@ once-among k ty (t ∷ ts) (suc e) l h = by_case (nat_eq t ty) (once-among k ty 
     by_case : (b : Bool) → IsAmong k (once_each k ty ts) → IsAmong k (cond b (k ∷ once_each k ty ts) (once_each k ty ts))
     by_case true later = inr later
     by_case false later = later
-
--- a number below n is among those below n
-among_below : (k n : ℕ) → k < n → IsAmong k (below (λ i. i) n)
-among_below k zero l = absurd (omega arith)
-among_below k (suc n) l = elim (cases_lt k n) [
-  | inl lt ↦ IsAmong-append_left k (below (λ i. i) n) (n ∷ []) (among_below k n lt)
-  | inr ge ↦ IsAmong-append_right k (below (λ i. i) n) (n ∷ []) (inl (omega arith))
-]
 
 flat_map-longer : (f : ℕ → List ℕ) (k : ℕ) (xs : List ℕ) → IsAmong k xs → length (f k) ≤ length (flat_map f xs)
 flat_map-longer f k [] i = elim i [ ]
@@ -110,7 +104,7 @@ module _ {A : Type 0} (r : Rule A) (right : HasRightGlue r) (k : ℕ) (exists : 
 
   -- kind k is among the holders of the types of its edges
   holds : (e ty : ℕ) → e < edge_count r k → edge_type r k e ≡ ty → IsAmong k (holders r ty)
-  holds e ty l h = IsAmong-flat_map (λ j. once_each j ty (edge_types r j)) k k (below (λ i. i) (length r.kinds)) (among_below k (length r.kinds) exists) (once-among k ty (edge_types r k) e l h)
+  holds e ty l h = IsAmong-flat_map (λ j. once_each j ty (edge_types r j)) k k (below (λ i. i) (length r.kinds)) (IsAmong-below (λ i. i) (length r.kinds) k exists) (once-among k ty (edge_types r k) e l h)
 
   only : (a ty : ℕ) → holders r ty ≡ a ∷ [] → IsAmong k (holders r ty) → k ≡ a
   only a ty h i = one (subst (IsAmong k) h i)
@@ -129,7 +123,7 @@ module _ {A : Type 0} (r : Rule A) (right : HasRightGlue r) (k : ℕ) (exists : 
       twice : (e f : ℕ) → e < f → f < edge_count r k → edge_type r k e ≡ ty → edge_type r k f ≡ ty → ⊥
       twice e f m l te tf =
           let two = once-two k ty (edge_types r k) e f m l te tf in
-          let more = flat_map-longer (λ j. once_each j ty (edge_types r j)) k (below (λ i. i) (length r.kinds)) (among_below k (length r.kinds) exists) in
+          let more = flat_map-longer (λ j. once_each j ty (edge_types r j)) k (below (λ i. i) (length r.kinds)) (IsAmong-below (λ i. i) (length r.kinds) k exists) in
           let one = ap (λ (xs : List ℕ). length xs) h in
           omega (arith, two, more, one)
 
@@ -137,8 +131,8 @@ module _ {A : Type 0} (r : Rule A) (right : HasRightGlue r) (k : ℕ) (exists : 
   none_before : (e f i j : ℕ) → i < j → Has e i → Has f j → ⊥
   none_before e f i j m p q =
       let glue_i : ℕ → Bool = λ ty. nat_eq ty (glue_type r i) || nat_eq ty (mate r (glue_type r i)) in
-      let earlier : is_glued_before r j k ≡ true = some_below-found (λ i. list_any (λ ty. nat_eq ty (glue_type r i) || nat_eq ty (mate r (glue_type r i))) (edge_types r k)) i j m
-      (list_any-found glue_i (edge_types r k) e p.edge_in (either (glue_type r i) (mate r (glue_type r i)) (edge_type r k e) p.type)) in
+      let earlier : is_glued_before r j k ≡ true = some_below-found (λ i. list_any (λ ty. nat_eq ty (glue_type r i) || nat_eq ty (mate r (glue_type r i))) (edge_types r k)) i j
+      (list_any-found glue_i (edge_types r k) e p.edge_in (either (glue_type r i) (mate r (glue_type r i)) (edge_type r k e) p.type)) m in
       let h = halves_of j q.glue_in in
       elim q.type [
         | inl t ↦ false≢true (sym h.first_new ∙ ap (is_glued_before r j) (sym (only h.a (glue_type r j) h.firsts (holds f (glue_type r j) q.edge_in t))) ∙ earlier)

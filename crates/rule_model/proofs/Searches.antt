@@ -1,21 +1,8 @@
 -- Searches for a number that passes a test.
-use Rattle.std.proofs.Common.{◌≡◌, inl, inr, ℕ, zero, suc, ◌<◌, Bool, true, false, ◌||◌, List, [], ◌∷◌, length, get_or, refl, ap, ◌∙◌, subst, arith}
+use Rattle.std.proofs.Common.{◌≡◌, ℕ, zero, suc, ◌<◌, Bool, true, false, ◌||◌, List, [], ◌∷◌, length, get_or, refl, ap, ◌∙◌, arith}
 use Rattle.std.specs.List.{list_any}
-use Rattle.std.proofs.lemmas.Bool.{cases_lt}
 use Rattle.addressing.specs.Search.{some_below}
-
--- a test or true is true
-pub or_right : (b : Bool) → b || true ≡ true
-or_right true = refl
-or_right false = refl
-
--- a number that passes is found
-pub some_below-found : (p : ℕ → Bool) (i n : ℕ) → i < n → p i ≡ true → some_below n p ≡ true
-some_below-found p i zero l h = absurd (omega arith)
-some_below-found p i (suc n) l h = elim (cases_lt i n) [
-  | inl lt ↦ ap (λ b. b || p n) (some_below-found p i n lt h)
-  | inr ge ↦ let same : i ≡ n = omega arith in ap (λ b. some_below n p || b) (subst (λ j. p j ≡ true) same h) ∙ or_right (some_below n p)
-]
+use Rattle.addressing.proofs.BoolLoops.{or_true}
 
 -- a number below n that passes
 pub record Found (p : ℕ → Bool) (n : ℕ) : Type 0 where
@@ -36,4 +23,4 @@ found p (suc n) h = by_case (some_below n p) refl h (found p n)
 pub list_any-found : (p : ℕ → Bool) (xs : List ℕ) (i : ℕ) → i < length xs → p (get_or xs i 0) ≡ true → list_any p xs ≡ true
 list_any-found p [] i l h = absurd (omega arith)
 list_any-found p (x ∷ xs) zero l h = ap (λ b. b || list_any p xs) h
-list_any-found p (x ∷ xs) (suc i) l h = ap (λ b. p x || b) (list_any-found p xs i (omega arith) h) ∙ or_right (p x)
+list_any-found p (x ∷ xs) (suc i) l h = ap (λ b. p x || b) (list_any-found p xs i (omega arith) h) ∙ or_true (p x)

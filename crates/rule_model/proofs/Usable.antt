@@ -14,7 +14,7 @@ use Rattle.edge_to_edge.specs.Limits.{is_from_to, is_type, is_child}
 use Rattle.edge_to_edge.specs.Limited.{WithinLimits}
 use Rattle.edge_to_edge.specs.Numbered.{IsNumbered}
 use Rattle.cyclo_points.specs.declared.order.Order.{Order}
-use Rattle.cyclo_points.specs.declared.order.Order.TheVariants.{Four, Eight, Ten}
+use Rattle.cyclo_points.specs.declared.order.Order.TheVariants.{Four, Six, Eight, Ten}
 use Rattle.cyclo_points.specs.declared.point.Point.{Point}
 use Rattle.cyclo_points.specs.Order.{points_of, NumberOf}
 use Rattle.cyclo_points.specs.Point.{coefficient, point_in, Within, IsOf}
@@ -30,7 +30,7 @@ passes_at p [] i d h l = absurd (omega arith)
 passes_at p (x ∷ xs) zero d h l = (and_parts (p x) (list_all p xs) h).0
 passes_at p (x ∷ xs) (suc i) d h l = passes_at p xs i d (and_parts (p x) (list_all p xs) h).1 (omega arith)
 
-from_to : (low high n : ℕ) → is_from_to low high n ≡ true → (low ≤ n) × (n ≤ high)
+pub from_to : (low high n : ℕ) → is_from_to low high n ≡ true → (low ≤ n) × (n ≤ high)
 from_to low high n h = let q = and_parts (nat_le low n) (nat_le n high) h in (leb-true low n q.0, leb-true n high q.1)
 
 int_eq-true : (x : ℤ) → int_eq x (pos 0) ≡ true → x ≡ pos 0
@@ -47,6 +47,9 @@ within_64 x h = let l : nat_abs x ≤ 64 = ltb-false 64 (nat_abs x) h in record 
 
 of_order : (o : Order) (p : Point) → is_of o p ≡ true → IsOf o p
 of_order Four p h =
+    let q = and_parts (int_eq (coefficient p 2) (pos 0)) (int_eq (coefficient p 3) (pos 0)) h in
+    (int_eq-true (coefficient p 2) q.0, int_eq-true (coefficient p 3) q.1)
+of_order Six p h =
     let q = and_parts (int_eq (coefficient p 2) (pos 0)) (int_eq (coefficient p 3) (pos 0)) h in
     (int_eq-true (coefficient p 2) q.0, int_eq-true (coefficient p 3) q.1)
 of_order Eight p h = tt

@@ -4,8 +4,8 @@ use Rattle.addressing.specs.Address.{Address}
 use Rattle.addressing.specs.Tables.{Tables}
 use Rattle.edge_to_edge.specs.Contacts.{tables_of}
 use Rattle.substitution.specs.Motion.{Motion}
-use Rattle.substitution.specs.Rule.{Rule, child_kinds}
-use Rattle.substitution.specs.RuleParts.{map_rule}
+use Rattle.substitution.specs.Rule.{Rule, Child, child_kinds}
+use Rattle.substitution.specs.RuleParts.{map_rule, child_of}
 use Rattle.substitution.specs.Supertile.{StandsBeside}
 use Rattle.cyclo_points.specs.declared.order.Order.{Order}
 use Rattle.cyclo_points.specs.declared.point.Point.{Point}
@@ -35,19 +35,23 @@ tiling_of r = record { order = r.order; rule = rule_of r }
 abbrev pub listed : program.Rule → ListedRule
 listed r = record { order = r.order; rule = as_rule r }
 
--- Its contact tables. They aren't given beside the rule: which edges of children are opposite, and which are parts of the edges of their parent, is what
--- the geometry of the rule says.
+-- The contact tables of a tiling. They aren't given beside the rule: which edges of children are opposite, and which are parts of the edges of their
+-- parent, is what the geometry of the rule says.
 abbrev pub contacts : Tiling → Tables
 contacts t = tables_of (points_of t.order) t.rule
 
--- the kinds of each kind's children
+-- the kinds of each kind's children in a tiling
 abbrev pub children : Tiling → List (List ℕ)
 children t = child_kinds t.rule
+
+-- child number c of kind k of a tiling
+abbrev pub its_child : (t : Tiling) → ℕ → ℕ → Child (NumberOf t.order)
+its_child t k c = child_of (points_of t.order) t.rule k c
 
 -- a motion of the tiling's order
 abbrev pub MotionOf : Tiling → Type 0
 MotionOf t = Motion (NumberOf t.order)
 
--- the tile of this address lies by this motion in its supertile
+-- the tile of this address lies by this motion in the supertile that the address names
 abbrev pub IsPlaced : (t : Tiling) → Address → MotionOf t → Type 0
 IsPlaced t a m = StandsBeside (points_of t.order) t.rule a m

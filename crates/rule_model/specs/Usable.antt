@@ -15,19 +15,23 @@ pub record IsSmall (o : Order) (p : Point) : Type 0 where
   pub within : IsWithin 64 p
   pub in_order : IsOf o p
 
--- vertex number i of kind k, and the shift of child number c, in the lists of the program; the origin where there is none
+-- the point 0
 abbrev pub origin : Point
 origin = record { c = pos 0 ∷ pos 0 ∷ pos 0 ∷ pos 0 ∷ [] }
 
+-- vertex number i of kind k in the lists of the program, and the point 0 where there is none
 abbrev pub listed_vertex : Rule → ℕ → ℕ → Point
 listed_vertex r k i = get_or (vertices_of (as_rule r) k) i origin
 
+-- a child that stands for none
 abbrev pub no_child : TheChild Point
 no_child = record { kind = 0; motion = record { turn = 0; shift = origin } }
 
+-- child number c of kind k in the lists of the program
 abbrev pub listed_child : Rule → ℕ → ℕ → TheChild Point
 listed_child r k c = get_or (children_of (as_rule r) k) c no_child
 
+-- the numbers of a rule exist, and its factor, vertices and shifts are small
 pub record IsUsable (r : Rule) : Type 0 where
   pub numbered : IsNumbered (points_of r.order) (rule_of r)
   pub factor_small : IsSmall r.order r.factor

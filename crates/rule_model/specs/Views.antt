@@ -11,6 +11,7 @@ use Rattle.rule_model.specs.declared.child.Child.{Child}
 use Rattle.rule_model.specs.declared.kind_row.KindRow.{KindRow}
 use Rattle.rule_model.specs.declared.rule.Rule.{Rule}
 
+-- the lists that the vectors of an edge type, of a kind and of a rule hold, and the numbers of a child
 abbrev pub as_type : TypeRow → theory.EdgeType
 as_type t = record { mate = t.mate; parts = t.parts.items }
 
@@ -20,17 +21,16 @@ as_child c = record { kind = c.kind; motion = record { turn = c.turn; shift = c.
 abbrev pub as_kind : KindRow → theory.Kind Point
 as_kind k = record { vertices = k.vertices.items; edges = k.edges.items; children = map as_child k.children.items }
 
--- the lists that its vectors hold
 abbrev pub as_rule : Rule → theory.Rule Point
 as_rule r = record { factor = r.factor; glue = r.glue.items; types = map as_type r.types.items; kinds = map as_kind r.kinds.items }
 
--- the same over the numbers of an order
+-- a rule and a child of the program over the numbers of an order
 abbrev pub rule_in : (o : Order) → Rule → theory.Rule (NumberOf o)
 rule_in o r = map_rule (point_in o) (as_rule r)
 
 abbrev pub child_in : (o : Order) → Child → theory.Child (NumberOf o)
 child_in o c = record { kind = c.kind; motion = record { turn = c.turn; shift = point_in o c.shift } }
 
--- the rule over the numbers of its own order
+-- a rule of the program over the numbers of its own order
 abbrev pub rule_of : (r : Rule) → theory.Rule (NumberOf r.order)
 rule_of r = rule_in r.order r

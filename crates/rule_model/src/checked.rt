@@ -1,13 +1,13 @@
 //! Accepted rules.
 ghost use Rattle.std.specs.Prelude.{◌≡◌, ◌↔◌, ℕ, ◌<◌, length, map, All, None, IfSome};
 ghost use Rattle.substitution.specs.Rule.{children_of};
-ghost use Rattle.substitution.specs.RuleParts.{vertices_of, edge_count, child_of};
+ghost use Rattle.substitution.specs.RuleParts.{vertices_of, edge_count};
 ghost use Rattle.addressing.specs.Tables.{child_kinds};
 ghost use Rattle.cyclo_points.specs.Order.{points_of};
 ghost use Rattle.cyclo_points.specs.Point.{point_in};
 ghost use Rattle.rule_model.specs.Accepted.{IsAccepted};
-ghost use Rattle.rule_model.specs.Checked.{contacts_of, child_kinds_of};
 ghost use Rattle.rule_model.specs.Glue.{IsGlueEdge, IsOnlyGlueEdge};
+ghost use Rattle.rule_model.specs.Tiling.{tiling_of, contacts, children, its_child};
 ghost use Rattle.rule_model.specs.Usable.{IsSmall, IsUsable};
 ghost use Rattle.rule_model.specs.Views.{as_rule, rule_of, child_in};
 
@@ -43,8 +43,8 @@ impl Checked {
     /// The rule, which is accepted, with the contact tables that its geometry gives and with its uses.
     pub fn admit(rule: Rule, tables: Tables, uses: Uses) -> Checked
         requires accepted { IsAccepted rule }
-        requires its_tables { tables ≡ contacts_of rule }
-        requires its_uses { uses ≡ child_kinds_of rule }
+        requires its_tables { tables ≡ contacts (tiling_of rule) }
+        requires its_uses { uses ≡ children (tiling_of rule) }
         ensures { result ≡ rule }
     {
         Checked { rule, tables, uses }
@@ -55,6 +55,7 @@ impl Checked {
         ensures rule { result.now ≡ self.now }
         ensures accepted { IsAccepted self.now }
         ensures usable { IsUsable self.now }
+        ensures order_not_six { ¬ self.now.order ≡ Order.Six }
     {
         &self.rule
     }
@@ -77,15 +78,15 @@ impl Checked {
 
     /// Its contact tables, which have its child kinds.
     pub fn tables(&self) -> &Tables
-        ensures contacts { result.now ≡ contacts_of self.now }
-        ensures same_uses { child_kinds (contacts_of self.now) ≡ child_kinds_of self.now }
+        ensures contacts { result.now ≡ contacts (tiling_of self.now) }
+        ensures same_uses { child_kinds (contacts (tiling_of self.now)) ≡ children (tiling_of self.now) }
     {
         &self.tables
     }
 
     /// Its uses.
     pub fn uses(&self) -> &Uses
-        ensures { result.now ≡ child_kinds_of self.now }
+        ensures { result.now ≡ children (tiling_of self.now) }
     {
         &self.uses
     }
@@ -105,8 +106,7 @@ impl Checked {
     pub fn child(&self, kind: u8, child: u8) -> Child
         requires exists { kind < length (rule_of self.now).kinds }
         requires child_exists { child < length (children_of (rule_of self.now) kind) }
-        ensures number { child_in self.now.order result
-            ≡ child_of (points_of self.now.order) (rule_of self.now) kind child }
+        ensures number { child_in self.now.order result ≡ its_child (tiling_of self.now) kind child }
         ensures small { IsSmall self.now.order result.shift }
         ensures turn_below { result.turn < (points_of self.now.order).order }
         ensures kind_exists { result.kind < length (rule_of self.now).kinds }

@@ -12,6 +12,5 @@ pub mod glued;
 pub mod kind_row;
 pub mod rule;
 pub mod rule_parts;
-#[cfg(test)]
-mod tests;
+pub mod small;
 pub mod type_row;

@@ -1,7 +1,7 @@
 //! The numbers of a rule by their places, as lists have them and over the numbers of each order.
 ghost use Rattle.std.specs.Prelude.{◌≡◌, ◌<◌, length, map, get_or};
 ghost use Rattle.substitution.specs.Rule.{Child as TheChild, kind_of, children_of};
-ghost use Rattle.substitution.specs.RuleParts.{map_kind, mate, parts, vertices_of, edge_types, edge_count, edge_type, vertex, child_of};
+ghost use Rattle.substitution.specs.RuleParts.{map_kind, mate, parts, vertices_of, edge_count, edge_type, vertex, child_of};
 ghost use Rattle.edge_to_edge.specs.Glue.{glue_type};
 ghost use Rattle.cyclo_points.specs.declared.order.Order.{Order};
 ghost use Rattle.cyclo_points.specs.declared.point.Point.{Point};

@@ -9,7 +9,7 @@ use Rattle.rule_text.specs.declared.key.Key.{Key}
 use Rattle.rule_text.specs.declared.key.Key.TheVariants as key
 use Rattle.rule_text.specs.declared.text_fault.TextFault.TheVariants.{Missing, WrongType, OutOfRange}
 use Rattle.rule_text.specs.Forms.{each, list_of, tables}
-use Rattle.rule_text.specs.Narrow.{count, IsNarrow, MayNarrow, AreNarrow}
+use Rattle.rule_text.specs.Narrow.{item_count, IsNarrow, MayNarrow, AreNarrow}
 use Rattle.rule_text.specs.Steps.{◌>>=◌, value_at, in_order}
 use Rattle.rule_text.specs.Document.{type_in, kind_in, types_in, kinds_in}
 
@@ -33,7 +33,7 @@ each-length : {A B : Type 0} (f : A → Option B) (xs : List A) (ys : List B) �
 each-length f [] ys e = sym (ap length (same_Some _ _ e))
 each-length f (x ∷ xs) ys e = each-step (length xs) (f x) (each f xs) ys (each-length f xs) e
 
-list_of-length : (ds : Items) → length (list_of ds) ≡ count ds
+list_of-length : (ds : Items) → length (list_of ds) ≡ item_count ds
 list_of-length no_items = refl
 list_of-length (item d ds) = ap suc (list_of-length ds)
 

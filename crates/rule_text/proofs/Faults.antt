@@ -9,7 +9,7 @@ use Rattle.rule_text.specs.declared.place.Place.TheVariants.{Top, InType, InKind
 use Rattle.rule_text.specs.declared.text_fault.TextFault.{TextFault}
 use Rattle.rule_text.specs.declared.text_fault.TextFault.TheVariants.{NotToml, Missing, WrongType, OutOfRange, UnknownKey, NoMemory}
 use Rattle.rule_text.specs.Steps.{◌>>=◌, value_at, has_only, unless_further, in_order}
-use Rattle.rule_text.specs.Document.{type_keys, kind_keys, top_keys, type_in, kind_in, types_in, kinds_in, rule_in}
+use Rattle.rule_text.specs.Document.{type_keys, kind_keys, top_keys, type_in, kind_in, types_in, kinds_in, rule_of_members}
 
 -- a fault of a key or of a place
 abbrev IsOfDocument : TextFault → Type 0
@@ -66,13 +66,13 @@ own-kinds : (o : Order) (ms : Members) → IsOwn (kinds_in o ms)
 unfolding kinds_in
 own-kinds o ms = own-then (value_at _ _ _ _ ms) _ (own-value _ _ _ _ ms) (λ entries. own-order (kind_in o) (own-kind o) 0 entries)
 
-own-rule : (ms : Members) → IsOwn (rule_in ms)
-unfolding rule_in
+own-rule : (ms : Members) → IsOwn (rule_of_members ms)
+unfolding rule_of_members
 own-rule ms =
     own-then (value_at _ _ _ _ ms) _ (own-value _ _ _ _ ms) (λ format. own-then (value_at _ _ _ _ ms) _ (own-value _ _ _ _ ms)
     (λ order. own-then (value_at _ _ _ _ ms) _ (own-value _ _ _ _ ms) (λ factor. own-then (value_at _ _ _ _ ms) _ (own-value _ _ _ _ ms)
     (λ glue. own-then (types_in ms) _ (own-types ms) (λ types. own-then (kinds_in order ms) _ (own-kinds order ms) (λ kinds. own-further top_keys Top ms (record { order = order; rule = record { factor = factor; glue = glue; types = types; kinds = kinds } })))))))
 
 -- a document is never one that toml refuses
-pub rule_in-toml : (ms : Members) → rule_in ms ≢ Err NotToml
+pub rule_in-toml : (ms : Members) → rule_of_members ms ≢ Err NotToml
 rule_in-toml ms e = subst IsOwn e (own-rule ms)

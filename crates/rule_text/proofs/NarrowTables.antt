@@ -5,14 +5,14 @@ use Rattle.std.specs.Cmp.Lexicographic.{slice_cmp}
 use Rattle.toml_parser.specs.Strings.{Key}
 use Rattle.toml.specs.Data.{table, Items, same_key}
 use Rattle.toml.specs.Tables.{Node, value, open_table, open_array, Nodes, no_nodes, node, Origin, implicit, dotted, header, Edit, Definition, key_value, std_table, array_table, Expression, Document, get_node, insert, replace, close, header_node, dot_node, by_header, by_dot, along_header, along_dots, new_node, redefine, at_found, at_key, put, define_as, define}
-use Rattle.rule_text.specs.Narrow.{count, IsNarrow}
+use Rattle.rule_text.specs.Narrow.{item_count, IsNarrow}
 use Rattle.rule_text.proofs.NarrowValues.{count-push}
 use Rattle.rule_text.proofs.NarrowLines.{DefinesNarrow}
 
 abbrev pub IsSlim : ℕ → ℕ → Node → Type 0
 IsSlim n j (value d) = IsNarrow n d
 IsSlim n j (open_table origin inner) = Unit {0}
-IsSlim n j (open_array done last) = count done ≤ j
+IsSlim n j (open_array done last) = item_count done ≤ j
 
 abbrev pub AreSlim : ℕ → ℕ → Nodes → Type 0
 AreSlim n j no_nodes = Unit {0}
@@ -73,7 +73,7 @@ table-made : (n j : ℕ) (origin : Origin) (o : Option Nodes) → MayNode n j (o
 table-made n j origin None = tt
 table-made n j origin (Some new) = tt
 
-array-made : (n j : ℕ) (done : Items) (o : Option Nodes) → count done ≤ j → MayNode n j (option_map (open_array done) o)
+array-made : (n j : ℕ) (done : Items) (o : Option Nodes) → item_count done ≤ j → MayNode n j (option_map (open_array done) o)
 array-made n j done None h = tt
 array-made n j done (Some new) h = h
 

@@ -9,10 +9,10 @@ use Rattle.toml_parser.specs.declared.scalar.Scalar.TheVariants.{Boolean, Intege
 use Rattle.toml.specs.Data.{Data, string, array, table, Items, no_items, item, Members, push_item}
 use Rattle.toml.specs.Tables.{Nodes, no_nodes, close, put}
 use Rattle.toml.specs.Parse.{read_map, after_byte, after_element, key_equals, keyval, items, members, scalar_data, atom, val}
-use Rattle.rule_text.specs.Narrow.{count, IsNarrow}
+use Rattle.rule_text.specs.Narrow.{item_count, IsNarrow}
 use Rattle.rule_text.proofs.Shortening.{Leaves, LeavesText, leaves-map, leaves-then, leaves-text-then, leaves-if, drop-short, skip_ws-short, skip_blank-short, quoted-leaves, key-leaves, unquoted-leaves}
 
-pub count-push : (ds : Items) (d : Data) → count (push_item ds d) ≡ suc (count ds)
+pub count-push : (ds : Items) (d : Data) → item_count (push_item ds d) ≡ suc (item_count ds)
 count-push no_items d = refl
 count-push (item e ds) d = omega (arith, count-push ds d)
 
@@ -62,7 +62,7 @@ key_equals-leaves n t h =
 -- items that were read, at most so many
 abbrev ReadsItems : ℕ → ℕ → Read Items → Type 0
 ReadsItems n most None = Unit {0}
-ReadsItems n most (Some p) = (length p.1 ≤ n) × (count p.0 ≤ most)
+ReadsItems n most (Some p) = (length p.1 ≤ n) × (item_count p.0 ≤ most)
 
 items-if : (n most : ℕ) (b : Bool) (x y : Read Items) → ReadsItems n most x → ReadsItems n most y → ReadsItems n most (cond b x y)
 items-if n most true x y h k = h
@@ -76,7 +76,7 @@ items-text-then : (n most : ℕ) (o : Option (List ℕ)) (f : List ℕ → Read 
 items-text-then n most None f h more = tt
 items-text-then n most (Some t) f h more = more t h
 
-items-few : (n : ℕ) (read : List ℕ → Read Data) → ((t : List ℕ) → length t ≤ n → Leaves n (read t)) → (m most : ℕ) (found : Items) (t : List ℕ) → count found + m ≤ most → length t ≤ n
+items-few : (n : ℕ) (read : List ℕ → Read Data) → ((t : List ℕ) → length t ≤ n → Leaves n (read t)) → (m most : ℕ) (found : Items) (t : List ℕ) → item_count found + m ≤ most → length t ≤ n
     → ReadsItems n most (items read m found t)
 unfolding items
 items-few n read all zero most found t few h = tt

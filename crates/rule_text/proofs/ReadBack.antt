@@ -3,16 +3,17 @@ use Rattle.std.proofs.Common.{◌≡◌, ℕ, suc, ◌<◌, ℤ, pos, true, List
 use Rattle.toml.specs.Data.{Data, Members, as_integer, get_member}
 use Rattle.substitution.specs.Rule.{Child, EdgeType, Kind}
 use Rattle.cyclo_points.specs.declared.order.Order.{Order}
+use Rattle.cyclo_points.specs.declared.order.Order.TheVariants.{Six}
 use Rattle.cyclo_points.specs.declared.point.Point.{Point}
 use Rattle.cyclo_points.specs.Order.{points_of}
 use Rattle.rule_model.specs.Small.{is_small}
 use Rattle.rule_text.specs.declared.key.Key.{Key}
 use Rattle.rule_text.specs.declared.key.Key.TheVariants as key
 use Rattle.rule_text.specs.declared.text_fault.TextFault.{TextFault}
-use Rattle.rule_text.specs.Forms.{each, integers, row, rows, tables}
-use Rattle.rule_text.specs.Ranges.{below, format_of, order_of, point_of, child_of}
+use Rattle.rule_text.specs.Forms.{each, integer_list, row, rows, tables}
+use Rattle.rule_text.specs.Ranges.{number_below, format_of, order_of, point_of, child_in_row}
 use Rattle.rule_text.specs.Steps.{value_at, in_order}
-use Rattle.rule_text.specs.Document.{type_in, kind_in, types_in, kinds_in, rule_in}
+use Rattle.rule_text.specs.Document.{type_in, kind_in, types_in, kinds_in, rule_of_members}
 use Rattle.rule_model.specs.Tiling.{ListedRule}
 use Rattle.rule_text.specs.Written.{IsFour, number_data, list_data, point_data, child_data, type_members, type_data, kind_members, kind_data, rule_members}
 use Rattle.rule_text.proofs.KeyLaws.{value_at-formed}
@@ -49,9 +50,9 @@ value-read : {A B : Type 0} (k : Key) (name : List ℕ) (form : Data → Option 
     → get_member name ms ≡ Some d → form d ≡ Some x → range x ≡ Some y → value_at k name form range ms ≡ Ok y
 value-read k name form range ms d x y e1 e2 e3 = value_at-formed k name form range ms d x (Some y) e1 e2 e3
 
-numbers-at : (k : Key) (name ns : List ℕ) (ms : Members) → get_member name ms ≡ Some (list_data number_data ns) → All (λ ty. ty < 32) ns → value_at k name integers (each (below 32)) ms ≡ Ok ns
+numbers-at : (k : Key) (name ns : List ℕ) (ms : Members) → get_member name ms ≡ Some (list_data number_data ns) → All (λ ty. ty < 32) ns → value_at k name integer_list (each (number_below 32)) ms ≡ Ok ns
 numbers-at k name ns ms e all =
-    value-read k name integers (each (below 32)) ms (list_data number_data ns) (map pos ns) ns e (numbers-read ns) (numbers-below 32 ns all)
+    value-read k name integer_list (each (number_below 32)) ms (list_data number_data ns) (map pos ns) ns e (numbers-read ns) (numbers-below 32 ns all)
 
 vertices-at : (o : Order) (k : Key) (ps : List Point) (ms : Members) → get_member (codes "vertices") ms ≡ Some (list_data point_data ps) → All (IsFitPoint o) ps
     → value_at k (codes "vertices") (rows 4) (each (point_of o)) ms ≡ Ok ps
@@ -65,17 +66,17 @@ abbrev six : Child Point → List ℤ
 six c = pos c.kind ∷ pos c.motion.turn ∷ c.motion.shift.c
 
 children-at : (o : Order) (k : Key) (cs : List (Child Point)) (ms : Members) → get_member (codes "children") ms ≡ Some (list_data child_data cs) → All (IsFitChild o) cs
-    → value_at k (codes "children") (rows 6) (each (child_of o)) ms ≡ Ok cs
+    → value_at k (codes "children") (rows 6) (each (child_in_row o)) ms ≡ Ok cs
 children-at o k cs ms e all =
-    value-read k (codes "children") (rows 6) (each (child_of o)) ms (list_data child_data cs) (map six cs) cs e
+    value-read k (codes "children") (rows 6) (each (child_in_row o)) ms (list_data child_data cs) (map six cs) cs e
     (rows-read 6 child_data six cs (λ i d lt. row-read 6 _ (ap (λ n. suc (suc n)) (all i d lt).shift.four)))
-    (each-same (child_of o) six cs (λ i d lt. child-read o _ (all i d lt).kind (all i d lt).turn (all i d lt).shift.small))
+    (each-same (child_in_row o) six cs (λ i d lt. child-read o _ (all i d lt).kind (all i d lt).turn (all i d lt).shift.small))
 
 type-read : (ty : ℕ) (t : EdgeType) → IsFitType t → type_in ty (type_members t) ≡ Ok t
 unfolding type_in
 type-read ty t h =
     rw (
-      value-read (key.Mate ty) (codes "mate") as_integer (below 32) (type_members t) (number_data t.mate) (pos t.mate) t.mate refl refl (below-read 32 t.mate h.mate),
+      value-read (key.Mate ty) (codes "mate") as_integer (number_below 32) (type_members t) (number_data t.mate) (pos t.mate) t.mate refl refl (below-read 32 t.mate h.mate),
       numbers-at (key.Parts ty) (codes "parts") t.parts (type_members t) refl h.parts,
     ) refl
 
@@ -107,15 +108,15 @@ kinds-read x all =
     (in_order-read (kind_in x.order) kind_members 0 ks (λ k d lt. λ i. kind-read x.order i _ (all k d lt)))
 
 -- the whole document
-pub rule-read : (x : ListedRule) → IsFit x → rule_in (rule_members x) ≡ Ok x
-unfolding rule_in
-rule-read x h =
+pub rule-read : (x : ListedRule) → IsFit x → (x.order ≡ Six → ⊥) → rule_of_members (rule_members x) ≡ Ok x
+unfolding rule_of_members
+rule-read x h not_six =
     let ms = rule_members x in
     let r = x.rule in
     let n = (points_of x.order).order in
     rw (
       value-read key.Format (codes "format") as_integer format_of ms (number_data 1) (pos 1) 1 refl refl refl,
-      value-read key.Order (codes "order") as_integer order_of ms (number_data n) (pos n) x.order refl refl (order-read x.order),
+      value-read key.Order (codes "order") as_integer order_of ms (number_data n) (pos n) x.order refl refl (order-read x.order not_six),
       value-read key.Lambda (codes "lambda") (row 4) (point_of x.order) ms (point_data r.factor) r.factor.c r.factor refl (row-read 4 r.factor.c h.factor.four) (point-read x.order r.factor h.factor.small),
       numbers-at key.Glue (codes "glue") r.glue ms refl h.glue,
       types-read x h.types,

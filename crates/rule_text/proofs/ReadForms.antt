@@ -1,7 +1,7 @@
 -- The values that a rule is written as have the forms of their keys.
 use Rattle.std.proofs.Common.{◌≡◌, ◌∙◌, ℕ, suc, ℤ, pos, List, [], ◌∷◌, All, length, map, Option, Some, eq-eqb, refl, ap, arith}
 use Rattle.toml.specs.Data.{Data, integer, Members, as_integer, as_table, table}
-use Rattle.rule_text.specs.Forms.{each, integers, row, rows, tables}
+use Rattle.rule_text.specs.Forms.{each, integer_list, row, rows, tables}
 use Rattle.rule_text.specs.Written.{number_data, list_data}
 use Rattle.rule_text.proofs.Items.{list_of-items_of}
 
@@ -13,10 +13,10 @@ pub each-same : {A B : Type 0} (f : A → Option B) (g : B → A) (xs : List B) 
 each-same f g [] all = refl
 each-same f g (x ∷ xs) all = rw (all 0 x (omega arith), each-same f g xs (λ k d lt. all (suc k) d (omega (arith, lt)))) refl
 
-pub numbers-read : (ns : List ℕ) → integers (list_data number_data ns) ≡ Some (map pos ns)
+pub numbers-read : (ns : List ℕ) → integer_list (list_data number_data ns) ≡ Some (map pos ns)
 numbers-read ns = ap (each as_integer) (list_of-items_of (map number_data ns)) ∙ each-onto as_integer number_data pos ns (λ k d lt. refl)
 
-pub integers-read : (zs : List ℤ) → integers (list_data integer zs) ≡ Some zs
+pub integers-read : (zs : List ℤ) → integer_list (list_data integer zs) ≡ Some zs
 integers-read zs = ap (each as_integer) (list_of-items_of (map integer zs)) ∙ each-same as_integer integer zs (λ k d lt. refl)
 
 pub row-read : (n : ℕ) (zs : List ℤ) → length zs ≡ n → row n (list_data integer zs) ≡ Some zs

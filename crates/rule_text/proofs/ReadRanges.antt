@@ -3,28 +3,29 @@ use Rattle.std.proofs.Common.{◌≡◌, ℕ, suc, ◌<◌, pos, true, List, ◌
 use Rattle.std.proofs.lemmas.Bool.{le-leb}
 use Rattle.substitution.specs.Rule.{Child}
 use Rattle.cyclo_points.specs.declared.order.Order.{Order}
-use Rattle.cyclo_points.specs.declared.order.Order.TheVariants.{Four, Eight, Ten}
+use Rattle.cyclo_points.specs.declared.order.Order.TheVariants.{Four, Six, Eight, Ten}
 use Rattle.cyclo_points.specs.declared.point.Point.{Point}
 use Rattle.cyclo_points.specs.Order.{points_of}
 use Rattle.rule_model.specs.Small.{is_small}
 use Rattle.rule_text.specs.Forms.{each}
-use Rattle.rule_text.specs.Ranges.{below, order_of, point_of, child_of}
+use Rattle.rule_text.specs.Ranges.{number_below, order_of, point_of, child_in_row}
 use Rattle.rule_text.proofs.ReadForms.{each-same}
 
-pub below-read : (n k : ℕ) → k < n → below n (pos k) ≡ Some k
+pub below-read : (n k : ℕ) → k < n → number_below n (pos k) ≡ Some k
 below-read n k lt = rw (le-leb 0 k (omega arith), le-leb (suc k) n (omega arith)) refl
 
-pub numbers-below : (n : ℕ) (ks : List ℕ) → All (λ k. k < n) ks → each (below n) (map pos ks) ≡ Some ks
-numbers-below n ks all = each-same (below n) pos ks (λ k d lt. below-read n _ (all k d lt))
+pub numbers-below : (n : ℕ) (ks : List ℕ) → All (λ k. k < n) ks → each (number_below n) (map pos ks) ≡ Some ks
+numbers-below n ks all = each-same (number_below n) pos ks (λ k d lt. below-read n _ (all k d lt))
 
-pub order-read : (o : Order) → order_of (pos (points_of o).order) ≡ Some o
-order-read Four = refl
-order-read Eight = refl
-order-read Ten = refl
+pub order-read : (o : Order) → (o ≡ Six → ⊥) → order_of (pos (points_of o).order) ≡ Some o
+order-read Four not_six = refl
+order-read Six not_six = absurd (not_six refl)
+order-read Eight not_six = refl
+order-read Ten not_six = refl
 
 pub point-read : (o : Order) (p : Point) → is_small o p ≡ true → point_of o p.c ≡ Some p
 point-read o p h = rw h refl
 
 pub child-read : (o : Order) (c : Child Point) → c.kind < 16 → c.motion.turn < (points_of o).order → is_small o c.motion.shift ≡ true
-    → child_of o (pos c.kind ∷ pos c.motion.turn ∷ c.motion.shift.c) ≡ Some c
+    → child_in_row o (pos c.kind ∷ pos c.motion.turn ∷ c.motion.shift.c) ≡ Some c
 child-read o c k t h = rw (below-read 16 c.kind k, below-read (points_of o).order c.motion.turn t, point-read o c.motion.shift h) refl

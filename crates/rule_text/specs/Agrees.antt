@@ -4,6 +4,6 @@ use Rattle.rule_text.specs.declared.text_fault.TextFault.{TextFault}
 use Rattle.rule_text.specs.declared.text_fault.TextFault.TheVariants.{NoMemory}
 
 -- a value that is seen as the one read, or the fault that was read, unless memory is wanted
-abbrev pub Gives : {X Y : Type 0} → (X → Y) → Result X TextFault → Result Y TextFault → Type 0
-Gives seen (Ok x) read = read ≡ Ok (seen x)
-Gives seen (Err e) read = e ≢ NoMemory → read ≡ Err e
+abbrev pub ReadsAs : {X Y : Type 0} → (X → Y) → Result X TextFault → Result Y TextFault → Type 0
+ReadsAs seen (Ok x) read = read ≡ Ok (seen x)
+ReadsAs seen (Err e) read = e ≢ NoMemory → read ≡ Err e

@@ -28,10 +28,10 @@ place_text (InType ty) = codes "type " ++ decimal ty
 place_text (InKind kind) = codes "kind " ++ decimal kind
 
 -- a fault: its name, and its key or place behind a space
-abbrev pub fault_text : TextFault → List ℕ
-fault_text NotToml = codes "NotToml"
-fault_text (Missing k) = codes "Missing " ++ key_text k
-fault_text (WrongType k) = codes "WrongType " ++ key_text k
-fault_text (OutOfRange k) = codes "OutOfRange " ++ key_text k
-fault_text (UnknownKey place) = codes "UnknownKey " ++ place_text place
-fault_text NoMemory = codes "NoMemory"
+abbrev pub text_fault_text : TextFault → List ℕ
+text_fault_text NotToml = codes "NotToml"
+text_fault_text (Missing k) = codes "Missing " ++ key_text k
+text_fault_text (WrongType k) = codes "WrongType " ++ key_text k
+text_fault_text (OutOfRange k) = codes "OutOfRange " ++ key_text k
+text_fault_text (UnknownKey place) = codes "UnknownKey " ++ place_text place
+text_fault_text NoMemory = codes "NoMemory"

@@ -5,7 +5,7 @@ use Rattle.toml.specs.Data.{Members}
 use Rattle.toml.specs.Parse.{parse_document}
 use Rattle.rule_text.specs.declared.text_fault.TextFault.{TextFault}
 use Rattle.rule_text.specs.declared.text_fault.TextFault.TheVariants.{NotToml}
-use Rattle.rule_text.specs.Document.{rule_in}
+use Rattle.rule_text.specs.Document.{rule_of_members}
 use Rattle.rule_model.specs.Tiling.{ListedRule}
 
 -- the document that the bytes are the text of
@@ -14,7 +14,7 @@ document_in bytes = if is_utf8 bytes then parse_document bytes else None
 
 abbrev pub rule_of_document : Option Members → Result ListedRule TextFault
 rule_of_document None = Err NotToml
-rule_of_document (Some members) = rule_in members
+rule_of_document (Some members) = rule_of_members members
 
 -- the rule that the bytes of a file stand for, or the first fault
 abbrev pub rule_in_file : List ℕ → Result ListedRule TextFault

@@ -24,12 +24,12 @@ abbrev pub array_of : {A : Type 0} → (Data → Option A) → Data → Option (
 array_of form d = as_array d >>= λ ds. each form (list_of ds)
 
 -- an array of integers
-abbrev pub integers : Data → Option (List ℤ)
-integers d = array_of as_integer d
+abbrev pub integer_list : Data → Option (List ℤ)
+integer_list d = array_of as_integer d
 
 -- an array of n integers
 abbrev pub row : ℕ → Data → Option (List ℤ)
-row n d = integers d >>= λ zs. if length zs == n then Some zs else None
+row n d = integer_list d >>= λ zs. if length zs == n then Some zs else None
 
 -- an array of arrays of n integers
 abbrev pub rows : ℕ → Data → Option (List (List ℤ))

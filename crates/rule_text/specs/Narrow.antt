@@ -3,13 +3,13 @@ use Rattle.std.specs.Prelude.{ℕ, suc, ◌≤◌, List, Option, Some, None}
 use Rattle.toml.specs.Data.{Data, string, integer, float, boolean, datetime, array, table, Items, no_items, item, Members, get_member}
 
 -- how many items there are
-abbrev pub count : Items → ℕ
-count no_items = 0
-count (item d ds) = suc (count ds)
+abbrev pub item_count : Items → ℕ
+item_count no_items = 0
+item_count (item d ds) = suc (item_count ds)
 
 -- an array has at most n items
 abbrev pub IsNarrow : ℕ → Data → Type 0
-IsNarrow n (array ds) = count ds ≤ n
+IsNarrow n (array ds) = item_count ds ≤ n
 IsNarrow n (string s) = Unit {0}
 IsNarrow n (integer z) = Unit {0}
 IsNarrow n (float x) = Unit {0}

@@ -10,8 +10,8 @@ use Rattle.rule_model.specs.Small.{is_small}
 use Rattle.rule_text.specs.Forms.{◌>>=◌}
 
 -- a number from 0 to below n
-abbrev pub below : ℕ → ℤ → Option ℕ
-below n z = if int_le (pos 0) z && int_lt z (pos n) then Some (nat_abs z) else None
+abbrev pub number_below : ℕ → ℤ → Option ℕ
+number_below n z = if int_le (pos 0) z && int_lt z (pos n) then Some (nat_abs z) else None
 
 -- the one format
 abbrev pub format_of : ℤ → Option ℕ
@@ -26,9 +26,9 @@ abbrev pub point_of : Order → List ℤ → Option Point
 point_of o zs = if is_small o (record { c = zs }) then Some (record { c = zs }) else None
 
 -- a child: a kind below 16, a turn below the order, and four coefficients of the shift
-abbrev pub child_of : Order → List ℤ → Option (Child Point)
-child_of o zs = do
-  kind ← below 16 (get_or zs 0 (pos 0))
-  turn ← below (points_of o).order (get_or zs 1 (pos 0))
+abbrev pub child_in_row : Order → List ℤ → Option (Child Point)
+child_in_row o zs = do
+  kind ← number_below 16 (get_or zs 0 (pos 0))
+  turn ← number_below (points_of o).order (get_or zs 1 (pos 0))
   shift ← point_of o (drop 2 zs)
   Some (record { kind = kind; motion = record { turn = turn; shift = shift } })

@@ -2,7 +2,7 @@
 ghost use Rattle.std.specs.Prelude.{◌≡◌, All, length, map, option_map, IfOk, IfSome};
 ghost use Rattle.toml.specs.Data.{as_integer, as_table};
 ghost use Rattle.toml.specs.View.{view, table_view};
-ghost use Rattle.rule_text.specs.Forms.{each, integers, row, rows, tables};
+ghost use Rattle.rule_text.specs.Forms.{each, integer_list, row, rows, tables};
 
 use std::alloc::Global;
 use tile_shape::no_memory::NoMemory;
@@ -10,7 +10,7 @@ use toml::{Table, Value};
 
 /// The integers of an array of integers.
 pub(crate) fn integers(alloc: Global, value: &Value) -> Result<Option<Vec<i64>>, NoMemory>
-    ensures { IfOk result (λ found. option_map (λ v. v.items) found ≡ integers (view value.now)) }
+    ensures { IfOk result (λ found. option_map (λ v. v.items) found ≡ integer_list (view value.now)) }
 {
     match value.as_array() {
         Some(values) => integers_of(alloc, values.as_slice()),

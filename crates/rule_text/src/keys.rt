@@ -3,9 +3,9 @@ ghost use Rattle.std.specs.Prelude.{◌≡◌, codes, map, option_map, Some};
 ghost use Rattle.toml.specs.Data.{as_integer, get_member};
 ghost use Rattle.toml.specs.View.{view, table_view};
 ghost use Rattle.rule_model.specs.Views.{as_child};
-ghost use Rattle.rule_text.specs.Agrees.{Gives};
-ghost use Rattle.rule_text.specs.Forms.{each, integers, row, rows, tables};
-ghost use Rattle.rule_text.specs.Ranges.{below, format_of, order_of, point_of, child_of};
+ghost use Rattle.rule_text.specs.Agrees.{ReadsAs};
+ghost use Rattle.rule_text.specs.Forms.{each, integer_list, row, rows, tables};
+ghost use Rattle.rule_text.specs.Ranges.{number_below, format_of, order_of, point_of, child_in_row};
 ghost use Rattle.rule_text.specs.Steps.{value_at};
 
 use crate::key::Key;
@@ -30,7 +30,7 @@ fn value_named<'a>(table: &'a Table, name: &str) -> Option<&'a Value>
 /// The format.
 #[tactic(auto, unfolding(crate::specs::Steps::value_at))]
 pub(crate) fn format(table: &Table) -> Result<u8, TextFault>
-    ensures { Gives (λ n. n) result (value_at Key.Format (codes "format") as_integer format_of (table_view table.now)) }
+    ensures { ReadsAs (λ n. n) result (value_at Key.Format (codes "format") as_integer format_of (table_view table.now)) }
 {
     let key = Key::Format;
     let Some(value) = value_named(table, "format") else {
@@ -45,7 +45,7 @@ pub(crate) fn format(table: &Table) -> Result<u8, TextFault>
 /// The order.
 #[tactic(auto, unfolding(crate::specs::Steps::value_at))]
 pub(crate) fn order(table: &Table) -> Result<Order, TextFault>
-    ensures { Gives (λ o. o) result (value_at Key.Order (codes "order") as_integer order_of (table_view table.now)) }
+    ensures { ReadsAs (λ o. o) result (value_at Key.Order (codes "order") as_integer order_of (table_view table.now)) }
 {
     let key = Key::Order;
     let Some(value) = value_named(table, "order") else {
@@ -60,7 +60,7 @@ pub(crate) fn order(table: &Table) -> Result<Order, TextFault>
 /// The inflation factor.
 #[tactic(auto, unfolding(crate::specs::Steps::value_at))]
 pub(crate) fn lambda(alloc: Global, table: &Table, order: Order) -> Result<Point, TextFault>
-    ensures { Gives (λ p. p) result (value_at Key.Lambda (codes "lambda") (row 4) (point_of order) (table_view table.now)) }
+    ensures { ReadsAs (λ p. p) result (value_at Key.Lambda (codes "lambda") (row 4) (point_of order) (table_view table.now)) }
 {
     let key = Key::Lambda;
     let Some(value) = value_named(table, "lambda") else {
@@ -75,7 +75,7 @@ pub(crate) fn lambda(alloc: Global, table: &Table, order: Order) -> Result<Point
 /// An edge type.
 #[tactic(auto, unfolding(crate::specs::Steps::value_at))]
 pub(crate) fn type_number(table: &Table, name: &str, key: Key) -> Result<u8, TextFault>
-    ensures { Gives (λ n. n) result (value_at key name.now as_integer (below 32) (table_view table.now)) }
+    ensures { ReadsAs (λ n. n) result (value_at key name.now as_integer (number_below 32) (table_view table.now)) }
 {
     let Some(value) = value_named(table, name) else {
         return Err(TextFault::Missing { key });
@@ -94,7 +94,7 @@ pub(crate) fn type_numbers(
     name: &str,
     key: Key,
 ) -> Result<Vec<u8>, TextFault>
-    ensures { Gives (λ v. v.items) result (value_at key name.now integers (each (below 32)) (table_view table.now)) }
+    ensures { ReadsAs (λ v. v.items) result (value_at key name.now integer_list (each (number_below 32)) (table_view table.now)) }
 {
     let Some(value) = value_named(table, name) else {
         return Err(TextFault::Missing { key });
@@ -115,7 +115,7 @@ pub(crate) fn vertices(
     order: Order,
     key: Key,
 ) -> Result<Vec<Point>, TextFault>
-    ensures { Gives (λ v. v.items) result (value_at key (codes "vertices") (rows 4) (each (point_of order)) (table_view table.now)) }
+    ensures { ReadsAs (λ v. v.items) result (value_at key (codes "vertices") (rows 4) (each (point_of order)) (table_view table.now)) }
 {
     let Some(value) = value_named(table, "vertices") else {
         return Err(TextFault::Missing { key });
@@ -134,7 +134,7 @@ pub(crate) fn children(
     order: Order,
     key: Key,
 ) -> Result<Vec<Child>, TextFault>
-    ensures { Gives (λ v. map as_child v.items) result (value_at key (codes "children") (rows 6) (each (child_of order)) (table_view table.now)) }
+    ensures { ReadsAs (λ v. map as_child v.items) result (value_at key (codes "children") (rows 6) (each (child_in_row order)) (table_view table.now)) }
 {
     let Some(value) = value_named(table, "children") else {
         return Err(TextFault::Missing { key });
@@ -153,7 +153,7 @@ pub(crate) fn entries<'a>(
     name: &str,
     key: Key,
 ) -> Result<Vec<&'a Table>, TextFault>
-    ensures { Gives (λ v. map (λ t. table_view t.now) v.items) result (value_at key name.now tables Some (table_view table.now)) }
+    ensures { ReadsAs (λ v. map (λ t. table_view t.now) v.items) result (value_at key name.now tables Some (table_view table.now)) }
 {
     let Some(value) = value_named(table, name) else {
         return Err(TextFault::Missing { key });

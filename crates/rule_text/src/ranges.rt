@@ -1,14 +1,13 @@
 //! The ranges of numbers, and what numbers in range stand for.
-ghost use Rattle.std.specs.Prelude.{◌≡◌, All, length, map, nat_abs, nat_lt, option_map, IfOk};
-ghost use Rattle.cyclo_points.specs.Point.{coefficient};
-ghost use Rattle.rule_model.specs.Small.{is_small, is_above, is_of};
+ghost use Rattle.std.specs.Prelude.{◌≡◌, All, length, map, option_map, IfOk};
 ghost use Rattle.rule_model.specs.Views.{as_child};
 ghost use Rattle.rule_text.specs.Forms.{each};
-ghost use Rattle.rule_text.specs.Ranges.{below, format_of, order_of, point_of, child_of};
+ghost use Rattle.rule_text.specs.Ranges.{number_below, format_of, order_of, point_of, child_in_row};
 
 use cyclo_points::order::Order;
 use cyclo_points::point::Point;
 use rule_model::child::Child;
+use rule_model::small::is_small;
 use std::alloc::Global;
 use tile_shape::no_memory::NoMemory;
 
@@ -36,7 +35,7 @@ pub(crate) fn order_of(number: i64) -> Option<Order>
 
 /// The number, where it is from 0 to below the limit.
 pub(crate) fn number_below(number: i64, limit: u8) -> Option<u8>
-    ensures { result ≡ below limit number }
+    ensures { result ≡ number_below limit number }
 {
     if 0 <= number && number < i64::from(limit) {
         Some(number as u8)
@@ -51,7 +50,7 @@ pub(crate) fn numbers_below(
     numbers: &[i64],
     limit: u8,
 ) -> Result<Option<Vec<u8>>, NoMemory>
-    ensures { IfOk result (λ found. option_map (λ v. v.items) found ≡ each (below limit) numbers.now) }
+    ensures { IfOk result (λ found. option_map (λ v. v.items) found ≡ each (number_below limit) numbers.now) }
 {
     let mut small = Vec::new(alloc);
     for number in numbers {
@@ -61,38 +60,6 @@ pub(crate) fn numbers_below(
         small.push(found)?;
     }
     Ok(Some(small))
-}
-
-/// Whether the coefficient is above 64 in absolute value.
-fn is_beyond(coefficient: i64) -> bool
-    ensures { result ≡ nat_lt 64 (nat_abs coefficient) }
-{
-    coefficient > 64 || coefficient < -64
-}
-
-/// Whether a coefficient is above 64 in absolute value.
-fn is_above(point: &Point) -> bool
-    ensures { result ≡ is_above 64 point.now }
-{
-    is_beyond(point.c[0]) | is_beyond(point.c[1]) | is_beyond(point.c[2]) | is_beyond(point.c[3])
-}
-
-/// Whether the point is one of the order: in order four the last two coefficients are 0.
-fn is_of(order: Order, point: &Point) -> bool
-    ensures { result ≡ is_of order point.now }
-{
-    match order {
-        Order::Four => (point.c[2] == 0) & (point.c[3] == 0),
-        Order::Eight => true,
-        Order::Ten => true,
-    }
-}
-
-/// Whether the point is one of the order, with coefficients from -64 to 64.
-fn is_small(order: Order, point: &Point) -> bool
-    ensures { result ≡ is_small order point.now }
-{
-    !is_above(point) & is_of(order, point)
 }
 
 /// The point of the order with these coefficients, where each is in range.
@@ -132,7 +99,7 @@ pub(crate) fn points_of(
 /// The child with these numbers, where each is in range.
 fn child_of(order: Order, numbers: &[i64]) -> Option<Child>
     requires { length numbers.now ≡ 6 }
-    ensures { option_map as_child result ≡ child_of order numbers.now }
+    ensures { option_map as_child result ≡ child_in_row order numbers.now }
 {
     let kind = number_below(numbers[0], 16)?;
     let turn = number_below(numbers[1], order.n())?;
@@ -147,7 +114,7 @@ pub(crate) fn children_of(
     rows: &[Vec<i64>],
 ) -> Result<Option<Vec<Child>>, NoMemory>
     requires { All (λ row. length row.items ≡ 6) rows.now }
-    ensures { IfOk result (λ found. option_map (λ v. map as_child v.items) found ≡ each (λ row. child_of order row.items) rows.now) }
+    ensures { IfOk result (λ found. option_map (λ v. map as_child v.items) found ≡ each (λ row. child_in_row order row.items) rows.now) }
 {
     let mut children = Vec::new(alloc);
     for row in rows {

@@ -2,13 +2,16 @@
 ghost use Rattle.std.specs.Prelude.{◌≡◌, ◌≢◌, ◌+◌, ◌<◌, ◌≤◌, ◌^◌, ◌↔◌, length, map, IfOk, IfErr};
 ghost use Rattle.toml.specs.View.{table_view};
 ghost use Rattle.rule_model.specs.Views.{as_type, as_kind};
-ghost use Rattle.rule_text.specs.Agrees.{Gives};
-ghost use Rattle.rule_text.specs.Document.{type_in, kind_in, types_in, kinds_in, rule_in};
+ghost use Rattle.rule_text.specs.Agrees.{ReadsAs};
+ghost use Rattle.rule_text.specs.Document.{type_in, kind_in, types_in, kinds_in, rule_of_members};
+ghost use Rattle.rule_text.specs.Dots.{plain_dots};
 ghost use Rattle.rule_text.specs.File.{document_in, rule_in_file};
+ghost use Rattle.rule_text.specs.Limits.{longest_file, most_dots};
 ghost use Rattle.rule_model.specs.Tiling.{listed};
 ghost use Rattle.rule_text.specs.Narrow.{AreNarrow};
 ghost use Rattle.rule_text.specs.Steps.{in_order};
 
+use crate::dots::has_many_dots;
 use crate::further::has_only;
 use crate::key::Key;
 use crate::keys;
@@ -24,25 +27,10 @@ use toml::Table;
 /// How many bytes a rule file may have: a mebibyte.
 pub const LONGEST_FILE: usize = 1_048_576;
 
-/// How many dots a text may have. A dot in a key begins a table of its own, which takes more than a
-/// kilobyte, and is its cheapest beginning; a rule file needs no dots.
-const MOST_DOTS: usize = 200_000;
-
-/// Whether the tables of a text might take some hundred megabytes.
-fn wants_much_memory(bytes: &[u8]) -> bool {
-    let mut dots: usize = 0;
-    for byte in bytes {
-        if *byte == b'.' {
-            dots = dots.saturating_add(1);
-        }
-    }
-    dots > MOST_DOTS
-}
-
 /// The edge type of an entry.
 #[tactic(auto, unfolding(crate::specs::Document::type_in))]
 fn type_row(alloc: Global, entry: &Table, ty: u32) -> Result<TypeRow, TextFault>
-    ensures { Gives as_type result (type_in ty (table_view entry.now)) }
+    ensures { ReadsAs as_type result (type_in ty (table_view entry.now)) }
 {
     let mate = keys::type_number(entry, "mate", Key::Mate { ty })?;
     let parts = keys::type_numbers(alloc, entry, "parts", Key::Parts { ty })?;
@@ -56,7 +44,7 @@ fn type_row(alloc: Global, entry: &Table, ty: u32) -> Result<TypeRow, TextFault>
 /// The kind of an entry.
 #[tactic(auto, unfolding(crate::specs::Document::kind_in))]
 fn kind_row(alloc: Global, entry: &Table, order: Order, kind: u32) -> Result<KindRow, TextFault>
-    ensures { Gives as_kind result (kind_in order kind (table_view entry.now)) }
+    ensures { ReadsAs as_kind result (kind_in order kind (table_view entry.now)) }
 {
     let vertices = keys::vertices(alloc, entry, order, Key::Vertices { kind })?;
     let edges = keys::type_numbers(alloc, entry, "edges", Key::Edges { kind })?;
@@ -75,7 +63,7 @@ fn kind_row(alloc: Global, entry: &Table, order: Order, kind: u32) -> Result<Kin
 /// The edge types of the entries.
 fn type_rows(alloc: Global, entries: &[&Table]) -> Result<Vec<TypeRow>, TextFault>
     requires numbered { length entries.now < 2 ^ 32 }
-    ensures { Gives (λ v. map as_type v.items) result (in_order (λ ty entry. type_in ty (table_view entry.now)) 0 entries.now) }
+    ensures { ReadsAs (λ v. map as_type v.items) result (in_order (λ ty entry. type_in ty (table_view entry.now)) 0 entries.now) }
 {
     let mut rows = Vec::new(alloc);
     for (i, entry) in entries.iter().enumerate() {
@@ -88,7 +76,7 @@ fn type_rows(alloc: Global, entries: &[&Table]) -> Result<Vec<TypeRow>, TextFaul
 /// The kinds of the entries.
 fn kind_rows(alloc: Global, entries: &[&Table], order: Order) -> Result<Vec<KindRow>, TextFault>
     requires numbered { length entries.now < 2 ^ 32 }
-    ensures { Gives (λ v. map as_kind v.items) result (in_order (λ kind entry. kind_in order kind (table_view entry.now)) 0 entries.now) }
+    ensures { ReadsAs (λ v. map as_kind v.items) result (in_order (λ kind entry. kind_in order kind (table_view entry.now)) 0 entries.now) }
 {
     let mut rows = Vec::new(alloc);
     for (i, entry) in entries.iter().enumerate() {
@@ -101,8 +89,8 @@ fn kind_rows(alloc: Global, entries: &[&Table], order: Order) -> Result<Vec<Kind
 /// The edge types of a document.
 #[tactic(auto, unfolding(crate::specs::Document::types_in))]
 fn types(alloc: Global, table: &Table) -> Result<Vec<TypeRow>, TextFault>
-    requires few { AreNarrow (LONGEST_FILE + 2) (table_view table.now) }
-    ensures { Gives (λ v. map as_type v.items) result (types_in (table_view table.now)) }
+    requires few { AreNarrow (longest_file + 2) (table_view table.now) }
+    ensures { ReadsAs (λ v. map as_type v.items) result (types_in (table_view table.now)) }
 {
     let entries = keys::entries(alloc, table, "type", Key::TypeList)?;
     type_rows(alloc, entries.as_slice())
@@ -111,18 +99,18 @@ fn types(alloc: Global, table: &Table) -> Result<Vec<TypeRow>, TextFault>
 /// The kinds of a document.
 #[tactic(auto, unfolding(crate::specs::Document::kinds_in))]
 fn kinds(alloc: Global, table: &Table, order: Order) -> Result<Vec<KindRow>, TextFault>
-    requires few { AreNarrow (LONGEST_FILE + 2) (table_view table.now) }
-    ensures { Gives (λ v. map as_kind v.items) result (kinds_in order (table_view table.now)) }
+    requires few { AreNarrow (longest_file + 2) (table_view table.now) }
+    ensures { ReadsAs (λ v. map as_kind v.items) result (kinds_in order (table_view table.now)) }
 {
     let entries = keys::entries(alloc, table, "kind", Key::KindList)?;
     kind_rows(alloc, entries.as_slice(), order)
 }
 
 /// The rule of a document.
-#[tactic(auto, unfolding(crate::specs::Document::rule_in))]
+#[tactic(auto, unfolding(crate::specs::Document::rule_of_members))]
 fn rule_of(alloc: Global, table: &Table) -> Result<Rule, TextFault>
-    requires few { AreNarrow (LONGEST_FILE + 2) (table_view table.now) }
-    ensures { Gives listed result (rule_in (table_view table.now)) }
+    requires few { AreNarrow (longest_file + 2) (table_view table.now) }
+    ensures { ReadsAs listed result (rule_of_members (table_view table.now)) }
 {
     let _format = keys::format(table)?;
     let order = keys::order(table)?;
@@ -149,9 +137,10 @@ fn rule_of(alloc: Global, table: &Table) -> Result<Rule, TextFault>
 /// The rule that a file stands for, or the first fault in the order of its keys: that it is no TOML
 /// document; then `format`, `order`, `lambda` and `glue`; then `type` and each of its entries; then
 /// `kind` and each of its entries; then a further key. Want of memory is answered, without a reading, of a
-/// text with more than 200,000 dots, each of which may begin a table.
+/// text with more than 200,000 dots outside comments and strings, each of which may begin a table: the
+/// file of a rule has no such dot.
 pub fn read_rule(alloc: Global, bytes: &[u8]) -> Result<Rule, TextFault>
-    requires at_most_a_mebibyte { length bytes.now ≤ LONGEST_FILE }
+    requires at_most_a_mebibyte { length bytes.now ≤ longest_file }
 
     // What is read is the rule that the bytes stand for.
     ensures read { IfOk result (λ rule. rule_in_file bytes.now ≡ Ok (listed rule)) }
@@ -161,8 +150,11 @@ pub fn read_rule(alloc: Global, bytes: &[u8]) -> Result<Rule, TextFault>
 
     // The bytes are no document exactly where toml refuses them for another cause than memory.
     ensures not_toml { result ≢ Err TextFault.NoMemory → (result ≡ Err TextFault.NotToml) ↔ (document_in bytes.now ≡ None) }
+
+    // A text with too many dots is refused as one that wants too much memory.
+    ensures many_dots { most_dots < plain_dots bytes.now → result ≡ Err TextFault.NoMemory }
 {
-    if wants_much_memory(bytes) {
+    if has_many_dots(bytes) {
         return Err(TextFault::NoMemory);
     }
     match toml::table_from_slice(alloc, bytes) {

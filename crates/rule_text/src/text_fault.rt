@@ -17,15 +17,16 @@ pub enum TextFault {
     OutOfRange { key: Key },
     /// The table has a further key.
     UnknownKey { place: Place },
-    /// There was no memory for the reading.
+    /// No memory was left for the reading, or the text has more than 200,000 dots outside comments and
+    /// strings, so that its tables would take more than the engine allows.
     NoMemory,
 }
 
 impl fmt::Display for TextFault {
     ghost use Rattle.std.specs.Prelude.{Some};
-    ghost use Rattle.rule_text.specs.FaultText.{fault_text};
+    ghost use Rattle.rule_text.specs.FaultText.{text_fault_text};
 
-    ghost output = { λ e. Some (fault_text e) };
+    ghost output = { λ e. Some (text_fault_text e) };
 
     fn fmt<W: fmt::Write>(&self, f: &mut fmt::Formatter<W>) -> fmt::Result {
         match self {

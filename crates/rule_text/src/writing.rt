@@ -6,27 +6,30 @@ ghost use Rattle.cyclo_points.specs.Order.{points_of};
 ghost use Rattle.rule_model.specs.Small.{is_small};
 ghost use Rattle.rule_model.specs.Views.{as_rule};
 ghost use Rattle.rule_text.specs.File.{rule_in_file};
+ghost use Rattle.rule_text.specs.Limits.{longest_file};
 ghost use Rattle.rule_model.specs.Tiling.{listed};
 ghost use Rattle.rule_text.specs.Written.{rule_members};
 
-use crate::reading::{LONGEST_FILE, read_rule};
+use crate::reading::read_rule;
 use crate::text_fault::TextFault;
 use crate::values;
+use cyclo_points::order::Order;
 use rule_model::rule::Rule;
 use std::alloc::Global;
 use tile_shape::no_memory::NoMemory;
 
-/// The text of a document that stands for the rule, whose counts and numbers are within the limits.
-/// `read_rule` reads it back to the rule.
+/// The text of a document that stands for the rule, whose counts and numbers are within the limits,
+/// and whose order isn't six, which the format hasn't. `read_rule` reads it back to the rule.
 pub fn write_rule(alloc: Global, rule: &Rule) -> Result<String, NoMemory>
     requires within_limits { WithinLimits (points_of rule.now.order).order (is_small rule.now.order) (as_rule rule.now) }
+    requires order_not_six { ¬ rule.now.order ≡ Order.Six }
 
     // The text is what `toml` prints for the rule's document, each array on one line.
     ensures printed { IfOk result (λ text. IsDocumentText false (rule_members (listed rule.now)) (string_bytes text)) }
     ensures document { IfOk result (λ text. rule_in_file (string_bytes text) ≡ Ok (listed rule.now)) }
 
     // The limits keep every text short enough to be a rule file.
-    ensures short { IfOk result (λ text. length (string_bytes text) ≤ LONGEST_FILE) }
+    ensures short { IfOk result (λ text. length (string_bytes text) ≤ longest_file) }
 {
     let table = values::document(alloc, rule)?;
     match toml::table_to_string(alloc, &table) {
@@ -38,6 +41,7 @@ pub fn write_rule(alloc: Global, rule: &Rule) -> Result<String, NoMemory>
 /// What reading the rule's own text answers: the rule again.
 pub fn written_and_read(alloc: Global, rule: &Rule) -> Result<Rule, TextFault>
     requires within_limits { WithinLimits (points_of rule.now.order).order (is_small rule.now.order) (as_rule rule.now) }
+    requires order_not_six { ¬ rule.now.order ≡ Order.Six }
     ensures same { IfOk result (λ back. listed back ≡ listed rule.now) }
     ensures memory { IfErr result (λ e. e ≡ TextFault.NoMemory) }
 {

@@ -1,4 +1,4 @@
--- Motions and real factors keep orientations and segments.
+-- Motions and growth factors keep orientations and segments.
 use Rattle.std.proofs.Common.{◌≡◌, ℕ, zero, suc, List, [], ◌∷◌, pos, refl, sym, ap, ap₂, ◌∙◌, subst, Bool, true, false}
 use Rattle.std.specs.Ordering.{is_eq}
 use Rattle.ordered_ring.specs.Ring.{Ops, difference, power}
@@ -8,10 +8,10 @@ use Rattle.substitution.specs.Motion.{Motion, moved}
 use Rattle.ordered_ring.specs.Sign.{IsPositive}
 use Rattle.ordered_plane.specs.Plane.{orientation}
 use Rattle.ordered_plane.specs.Segment.{on_segment, Between}
-use Rattle.substitution.specs.Plane.{plane_point, same_length, Keeps, IsGrowthFactor}
+use Rattle.substitution.specs.Plane.{plane_point, twice_squared_length, same_length, Keeps, IsGrowthFactor}
 use Rattle.ordered_plane.proofs.OnSegment.{between-on_segment, on_segment-between}
-use Rattle.ordered_plane.proofs.Linear.{Linear, Shifted, Scaled, two_pos, cancel, between-linear, between-scaled_back, between-shifted, shifted-back, turns-linear, turns-shifted}
-use Rattle.substitution.proofs.Lengths.{motion-length, factor-same_length}
+use Rattle.ordered_plane.proofs.Linear.{Linear, Shifted, Scaled, two_pos, between-linear, between-scaled_back, between-shifted, shifted-back, orientation-linear, turns-linear, turns-shifted}
+use Rattle.substitution.proofs.Lengths.{height_of, square_of, height, cancel_double, norm-is, norm_zeta, growth_positive, motion-length, factor-same_length}
 
 same_truth : (x y : Bool) → (x ≡ true → y ≡ true) → (y ≡ true → x ≡ true) → x ≡ y
 same_truth true y f g = sym (f refl)
@@ -59,46 +59,73 @@ module _ (P : Points) (W : PointLaws P) where
           (subst (λ v. Between P.real (plane_point P a') (plane_point P v) (plane_point P c)) q
           (subst (λ v. Between P.real (plane_point P v) (plane_point P b) (plane_point P c)) p h))
 
-  -- ---- a turn by ζ, and back
-  abbrev height : V.carrier
-  height = difference V (V.int (pos 4)) (V.mul W.cosine W.cosine)
+  -- ---- products by a number whose squared length is positive
+  module _ (l : K.carrier) where
+    by_product : (z : K.carrier) → Linear V (P.x l) (V.neg (V.mul (height P W) (P.y l))) (P.y l) (P.x l) (plane_point P z) (plane_point P (K.mul l z))
+    by_product z = record {
+      at_x = W.x-mul l z ∙ ring V W.of_real all (var 1 ⊗ var 3 ⊖ height_of ⊗ (var 2 ⊗ var 4)) (var 1 ⊗ var 3 ⊕ neg (height_of ⊗ var 2) ⊗ var 4) refl;
+      at_y = W.y-mul l z ∙ ring V W.of_real all (var 1 ⊗ var 4 ⊕ var 2 ⊗ var 3) (var 2 ⊗ var 3 ⊕ var 1 ⊗ var 4) refl;
+    }
+      where
+        all : List V.carrier
+        all = W.cosine ∷ (P.x l ∷ (P.y l ∷ (P.x z ∷ (P.y z ∷ []))))
 
-  by_zeta : (z : K.carrier) → Linear V W.cosine (V.neg height) (V.int (pos 1)) W.cosine (plane_point P z) (plane_point P (K.mul P.zeta z))
-  by_zeta z = record {
-    at_x = W.x-zeta z ∙ ring V W.of_real (W.cosine ∷ (P.x z ∷ (P.y z ∷ []))) (var 0 ⊗ var 1 ⊖ (con (pos 4) ⊖ var 0 ⊗ var 0) ⊗ var 2) (var 0 ⊗ var 1 ⊕ neg (con (pos 4) ⊖ var 0 ⊗ var 0) ⊗ var 2) refl;
-    at_y = W.y-zeta z ∙ ring V W.of_real (W.cosine ∷ (P.x z ∷ (P.y z ∷ []))) (var 1 ⊕ var 0 ⊗ var 2) (con (pos 1) ⊗ var 1 ⊕ var 0 ⊗ var 2) refl;
-  }
+    between-product : (a b c : K.carrier) → Between P.real (plane_point P a) (plane_point P b) (plane_point P c) → Between P.real (plane_point P (K.mul l a)) (plane_point P (K.mul l b)) (plane_point P (K.mul l c))
+    between-product a b c h = between-linear P.real W.of_real W.of_order _ _ _ _ (plane_point P a) (plane_point P b) (plane_point P c) _ _ _ (by_product a) (by_product b) (by_product c) h
 
-  zeta_back : (z : K.carrier) → Linear V W.cosine height (V.neg (V.int (pos 1))) W.cosine (plane_point P (K.mul P.zeta z)) (plane_point P z)
-  zeta_back z = record {
-    at_x = cancel P.real W.of_real W.of_order (V.int (pos 2)) _ _ two_is
-        (ring_from V W.of_real all (con (pos 2) ⊗ (con (pos 2) ⊗ var 1 ⊖ (var 0 ⊗ var 3 ⊕ (con (pos 4) ⊖ var 0 ⊗ var 0) ⊗ var 4))) (con (pos 0))
-        ((neg (var 0), con (pos 2) ⊗ var 3, var 0 ⊗ var 1 ⊖ (con (pos 4) ⊖ var 0 ⊗ var 0) ⊗ var 2) ∷ ((neg (con (pos 4) ⊖ var 0 ⊗ var 0), con (pos 2) ⊗ var 4, var 1 ⊕ var 0 ⊗ var 2) ∷ []))
-        (W.x-zeta z, (W.y-zeta z, tt)) refl);
-    at_y = cancel P.real W.of_real W.of_order (V.int (pos 2)) _ _ two_is
-        (ring_from V W.of_real all (con (pos 2) ⊗ (con (pos 2) ⊗ var 2 ⊖ (neg (con (pos 1)) ⊗ var 3 ⊕ var 0 ⊗ var 4))) (con (pos 0))
-        ((con (pos 1), con (pos 2) ⊗ var 3, var 0 ⊗ var 1 ⊖ (con (pos 4) ⊖ var 0 ⊗ var 0) ⊗ var 2) ∷ ((neg (var 0), con (pos 2) ⊗ var 4, var 1 ⊕ var 0 ⊗ var 2) ∷ []))
-        (W.x-zeta z, (W.y-zeta z, tt)) refl);
+    -- the determinant is |2l|²
+    full : IsPositive P.real (twice_squared_length P l) → IsPositive P.real (difference V (V.mul (P.x l) (P.x l)) (V.mul (V.neg (V.mul (height P W) (P.y l))) (P.y l)))
+    full h =
+        ap P.real.sign (
+        ring V W.of_real (W.cosine ∷ (P.x l ∷ (P.y l ∷ []))) (var 1 ⊗ var 1 ⊖ neg (height_of ⊗ var 2) ⊗ var 2) (square_of (var 1) (var 2)) refl ∙ sym (norm-is P W l))
+        ∙ W.of_order.sign-mul _ _ (two_pos P.real W.of_real W.of_order) h
+
+  -- a product by l multiplies each orientation by |l|²
+  pub product-orientation : (l a b c : K.carrier) → V.mul (V.int (pos 2)) (orientation V (plane_point P (K.mul l a)) (plane_point P (K.mul l b)) (plane_point P (K.mul l c)))
+      ≡ V.mul (twice_squared_length P l) (orientation V (plane_point P a) (plane_point P b) (plane_point P c))
+  product-orientation l a b c =
+      cancel_double P W _ _ (
+      orientation-linear P.real W.of_real W.of_order _ _ _ _ (plane_point P a) (plane_point P b) (plane_point P c) _ _ _ (by_product l a) (by_product l b) (by_product l c)
+      ∙ ap (λ u. V.mul u (orientation V (plane_point P a) (plane_point P b) (plane_point P c)))
+      (ring V W.of_real (W.cosine ∷ (P.x l ∷ (P.y l ∷ []))) (var 1 ⊗ var 1 ⊖ neg (height_of ⊗ var 2) ⊗ var 2) (square_of (var 1) (var 2)) refl ∙ sym (norm-is P W l))
+      ∙ W.of_real.mul_assoc (V.int (pos 2)) (twice_squared_length P l) (orientation V (plane_point P a) (plane_point P b) (plane_point P c)))
+
+  -- l times its conjugate is real
+  real_norm : (l : K.carrier) → P.y (K.mul (P.conj l) l) ≡ V.int (pos 0)
+  real_norm l =
+      cancel_double P W _ _ (
+      W.y-mul (P.conj l) l ∙ ap₂ (λ u v. V.add (V.mul u (P.y l)) (V.mul v (P.x l))) (W.x-conj l) (W.y-conj l)
+      ∙ ring V W.of_real (P.x l ∷ (P.y l ∷ [])) (var 0 ⊗ var 1 ⊕ neg (var 1) ⊗ var 0) (con (pos 2) ⊗ con (pos 0)) refl)
+
+  -- so a product by l, and then by its conjugate, scales the plane
+  by_norm : (l z : K.carrier) → Scaled P.real W.of_real W.of_order (P.x (K.mul (P.conj l) l)) (plane_point P z) (plane_point P (K.mul (P.conj l) (K.mul l z)))
+  by_norm l z = record {
+    at_x = ap (λ u. V.mul (V.int (pos 2)) (P.x u)) assoc ∙ W.x-mul m z
+        ∙ ring_from V W.of_real all (var 1 ⊗ var 3 ⊖ height_of ⊗ (var 2 ⊗ var 4)) (var 1 ⊗ var 3 ⊕ con (pos 0) ⊗ var 4) ((neg (height_of ⊗ var 4), var 2, con (pos 0)) ∷ []) (real_norm l, tt) refl;
+    at_y = ap (λ u. V.mul (V.int (pos 2)) (P.y u)) assoc ∙ W.y-mul m z
+        ∙ ring_from V W.of_real all (var 1 ⊗ var 4 ⊕ var 2 ⊗ var 3) (con (pos 0) ⊗ var 3 ⊕ var 1 ⊗ var 4) ((var 3, var 2, con (pos 0)) ∷ []) (real_norm l, tt) refl;
   }
     where
-      two_is : IsPositive P.real (V.int (pos 2))
-      two_is = two_pos P.real W.of_real W.of_order
+      m : K.carrier
+      m = K.mul (P.conj l) l
+
+      assoc : K.mul (P.conj l) (K.mul l z) ≡ K.mul m z
+      assoc = sym (W.of_ring.mul_assoc (P.conj l) l z)
 
       all : List V.carrier
-      all = W.cosine ∷ (P.x z ∷ (P.y z ∷ (P.x (K.mul P.zeta z) ∷ (P.y (K.mul P.zeta z) ∷ []))))
+      all = W.cosine ∷ (P.x m ∷ (P.y m ∷ (P.x z ∷ (P.y z ∷ []))))
 
-  kept_zeta : Kept P (K.mul P.zeta)
-  kept_zeta = record {
-    between = λ a b c h. between-linear P.real W.of_real W.of_order _ _ _ _ (plane_point P a) (plane_point P b) (plane_point P c) _ _ _ (by_zeta a) (by_zeta b) (by_zeta c) h;
-    between_back = λ a b c h. between-linear P.real W.of_real W.of_order _ _ _ _ (plane_point P (K.mul P.zeta a)) (plane_point P (K.mul P.zeta b)) (plane_point P (K.mul P.zeta c)) _ _ _ (zeta_back a) (zeta_back b) (zeta_back c) h;
-    turns = λ a b c. turns-linear P.real W.of_real W.of_order _ _ _ _ (plane_point P a) (plane_point P b) (plane_point P c) _ _ _ full (by_zeta a) (by_zeta b) (by_zeta c);
+  kept_product : (l : K.carrier) → IsPositive P.real (twice_squared_length P l) → Kept P (K.mul l)
+  kept_product l h = record {
+    between = between-product l;
+    between_back = λ a b c g.
+        between-scaled_back P.real W.of_real W.of_order (P.x (K.mul (P.conj l) l)) (plane_point P a) (plane_point P b) (plane_point P c) _ _ _ positive (by_norm l a) (by_norm l b) (by_norm l c)
+        (between-product (P.conj l) (K.mul l a) (K.mul l b) (K.mul l c) g);
+    turns = λ a b c. turns-linear P.real W.of_real W.of_order _ _ _ _ (plane_point P a) (plane_point P b) (plane_point P c) _ _ _ (full l h) (by_product l a) (by_product l b) (by_product l c);
   }
     where
-      four_is : IsPositive P.real (V.mul (V.int (pos 2)) (V.int (pos 2)))
-      four_is = W.of_order.sign-mul _ _ (two_pos P.real W.of_real W.of_order) (two_pos P.real W.of_real W.of_order)
-
-      full : IsPositive P.real (difference V (V.mul W.cosine W.cosine) (V.mul (V.neg height) (V.int (pos 1))))
-      full = ap P.real.sign (ring V W.of_real (W.cosine ∷ []) (var 0 ⊗ var 0 ⊖ neg (con (pos 4) ⊖ var 0 ⊗ var 0) ⊗ con (pos 1)) (con (pos 2) ⊗ con (pos 2)) refl) ∙ four_is
+      positive : IsPositive P.real (P.x (K.mul (P.conj l) l))
+      positive = ap (λ u. P.real.sign (P.x u)) (W.of_ring.mul_comm (P.conj l) l) ∙ h
 
   -- ---- shifts
   by_shift : (v z : K.carrier) → Shifted V (P.x v) (P.y v) (plane_point P z) (plane_point P (K.add z v))
@@ -114,26 +141,6 @@ module _ (P : Points) (W : PointLaws P) where
     turns = λ a b c. ap P.real.sign (turns-shifted P.real W.of_real W.of_order _ _ (plane_point P a) (plane_point P b) (plane_point P c) _ _ _ (by_shift v a) (by_shift v b) (by_shift v c));
   }
 
-  -- ---- real factors
-  module _ (l : K.carrier) (own : P.conj l ≡ l) (x_pos : IsPositive P.real (P.x l)) where
-    by_factor : (z : K.carrier) → Scaled P.real W.of_real W.of_order (P.x l) (plane_point P z) (plane_point P (K.mul l z))
-    by_factor z = record {
-      at_x = W.x-factor l z own ∙ ring V W.of_real (P.x l ∷ (P.x z ∷ (P.y z ∷ []))) (var 0 ⊗ var 1) (var 0 ⊗ var 1 ⊕ con (pos 0) ⊗ var 2) refl;
-      at_y = W.y-factor l z own ∙ ring V W.of_real (P.x l ∷ (P.x z ∷ (P.y z ∷ []))) (var 0 ⊗ var 2) (con (pos 0) ⊗ var 1 ⊕ var 0 ⊗ var 2) refl;
-    }
-
-    full : IsPositive P.real (difference V (V.mul (P.x l) (P.x l)) (V.mul (V.int (pos 0)) (V.int (pos 0))))
-    full =
-        ap P.real.sign (ring V W.of_real (P.x l ∷ []) (var 0 ⊗ var 0 ⊖ con (pos 0) ⊗ con (pos 0)) (var 0 ⊗ var 0) refl)
-        ∙ W.of_order.sign-mul (P.x l) (P.x l) x_pos x_pos
-
-    pub kept_factor : Kept P (K.mul l)
-    kept_factor = record {
-      between = λ a b c h. between-linear P.real W.of_real W.of_order _ _ _ _ (plane_point P a) (plane_point P b) (plane_point P c) _ _ _ (by_factor a) (by_factor b) (by_factor c) h;
-      between_back = λ a b c h. between-scaled_back P.real W.of_real W.of_order (P.x l) (plane_point P a) (plane_point P b) (plane_point P c) _ _ _ x_pos (by_factor a) (by_factor b) (by_factor c) h;
-      turns = λ a b c. turns-linear P.real W.of_real W.of_order _ _ _ _ (plane_point P a) (plane_point P b) (plane_point P c) _ _ _ full (by_factor a) (by_factor b) (by_factor c);
-    }
-
   -- ---- powers, and motions
   kept-power : (l : K.carrier) → Kept P (K.mul l) → (n : ℕ) → Kept P (K.mul (power K l n))
   kept-power l h zero = kept-by (λ z. z) _ (λ z. ring K W.of_ring (z ∷ []) (var 0) (con (pos 1) ⊗ var 0) refl) kept_same
@@ -141,8 +148,11 @@ module _ (P : Points) (W : PointLaws P) where
       kept-by (λ z. K.mul l (K.mul (power K l n) z)) _ (λ z. sym (W.of_ring.mul_assoc l (power K l n) z))
       (kept-then (K.mul l) (K.mul (power K l n)) h (kept-power l h n))
 
+  zeta_positive : IsPositive P.real (twice_squared_length P P.zeta)
+  zeta_positive = ap P.real.sign (norm_zeta P W) ∙ two_pos P.real W.of_real W.of_order
+
   kept_motion : (m : Motion K.carrier) → Kept P (moved P m)
-  kept_motion m = kept-then (λ z. K.add z m.shift) (K.mul (power K P.zeta m.turn)) (kept_shift m.shift) (kept-power P.zeta kept_zeta m.turn)
+  kept_motion m = kept-then (λ z. K.add z m.shift) (K.mul (power K P.zeta m.turn)) (kept_shift m.shift) (kept-power P.zeta (kept_product P.zeta zeta_positive) m.turn)
 
   segments-kept : (f : K.carrier → K.carrier) → Kept P f → (a b c : K.carrier)
       → on_segment P.real (plane_point P (f a)) (plane_point P (f b)) (plane_point P (f c)) ≡ on_segment P.real (plane_point P a) (plane_point P b) (plane_point P c)
@@ -158,26 +168,25 @@ module _ (P : Points) (W : PointLaws P) where
     equal_lengths = λ a b c d. ap₂ (λ u v. is_eq (P.real.sign (difference V u v))) (motion-length P W m a b) (motion-length P W m c d);
   }
 
-  pub factor-keeps : (l : K.carrier) → IsGrowthFactor P l → Keeps P (K.mul l)
-  factor-keeps l h = record {
-    turns = (kept_factor l h.is_real x_pos).turns;
-    segments = segments-kept (K.mul l) (kept_factor l h.is_real x_pos);
-    equal_lengths = λ a b c d. factor-same_length P W l a b c d h.is_real x_pos;
+  -- any number whose squared length is positive
+  pub product-keeps : (l : K.carrier) → IsPositive P.real (twice_squared_length P l) → Keeps P (K.mul l)
+  product-keeps l h = record {
+    turns = (kept_product l h).turns;
+    segments = segments-kept (K.mul l) (kept_product l h);
+    equal_lengths = λ a b c d. factor-same_length P W l a b c d h;
   }
-    where
-      x_pos : IsPositive P.real (P.x l)
-      x_pos =
-          ap P.real.sign (ring V W.of_real (P.x l ∷ []) (var 0) ((var 0 ⊖ con (pos 2)) ⊕ con (pos 2)) refl)
-          ∙ W.of_order.sign-add _ _ h.above_one (two_pos P.real W.of_real W.of_order)
 
-  keeps-by : (f g : K.carrier → K.carrier) → ((z : K.carrier) → f z ≡ g z) → Keeps P f → Keeps P g
+  pub factor-keeps : (l : K.carrier) → IsGrowthFactor P l → Keeps P (K.mul l)
+  factor-keeps l h = product-keeps l (growth_positive P W l h)
+
+  pub keeps-by : (f g : K.carrier → K.carrier) → ((z : K.carrier) → f z ≡ g z) → Keeps P f → Keeps P g
   keeps-by f g e h = record {
     turns = λ a b c. sym (λ i. P.real.sign (orientation V (plane_point P (e a i)) (plane_point P (e b i)) (plane_point P (e c i)))) ∙ h.turns a b c;
     segments = λ a b c. sym (λ i. on_segment P.real (plane_point P (e a i)) (plane_point P (e b i)) (plane_point P (e c i))) ∙ h.segments a b c;
     equal_lengths = λ a b c d. sym (λ i. same_length P (difference K (e b i) (e a i)) (difference K (e d i) (e c i))) ∙ h.equal_lengths a b c d;
   }
 
-  keeps-then : (f g : K.carrier → K.carrier) → Keeps P f → Keeps P g → Keeps P (λ z. f (g z))
+  pub keeps-then : (f g : K.carrier → K.carrier) → Keeps P f → Keeps P g → Keeps P (λ z. f (g z))
   keeps-then f g p q = record {
     turns = λ a b c. p.turns (g a) (g b) (g c) ∙ q.turns a b c;
     segments = λ a b c. p.segments (g a) (g b) (g c) ∙ q.segments a b c;

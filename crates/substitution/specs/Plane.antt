@@ -34,10 +34,9 @@ pub record Keeps (P : Points) (f : P.ring.carrier → P.ring.carrier) : Type 0 w
   pub equal_lengths : (a b c d : P.ring.carrier) → same_length P (difference P.ring (f b) (f a)) (difference P.ring (f d) (f c))
       ≡ same_length P (difference P.ring b a) (difference P.ring d c)
 
--- l is real, being its own conjugate, and greater than 1, X(l) being 2 l
-pub record IsGrowthFactor (P : Points) (l : P.ring.carrier) : Type 0 where
-  pub is_real : P.conj l ≡ l
-  pub above_one : IsPositive P.real (difference P.real.ops (P.x l) (P.real.ops.int (pos 2)))
+-- the squared length |l|² is above 1; l may be real or turn the plane
+abbrev pub IsGrowthFactor : (P : Points) → P.ring.carrier → Type 0
+IsGrowthFactor P l = IsPositive P.real (difference P.real.ops (twice_squared_length P l) (P.real.ops.int (pos 2)))
 
 -- every edge between two different points has test points strictly right of it, as close to its middle as one likes
 abbrev pub PointsRightOfEdges : Points → Type 0

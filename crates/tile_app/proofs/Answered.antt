@@ -1,110 +1,148 @@
 -- From what a call answers to its clauses.
-use Rattle.std.proofs.Common.{◌≡◌, ◌⊎◌, ◌↔◌, inl, inr, ℕ, true, List, Ok, Err, is_ok, refl, sym, subst}
+use Rattle.std.proofs.Common.{◌≡◌, ◌⊎◌, inl, inr, ℕ, Bool, true, false, List, [], Result, Ok, Err, IfErr, IsErrOf, refl, sym, subst, ◌∙◌}
 use Rattle.std.specs.declared.option.Option.{Option}
-use Rattle.tile_app.specs.declared.words.Command.{Command}
-use Rattle.tile_app.specs.declared.words.Command.TheVariants.{Place, Neighbour}
+use Rattle.rule_model.specs.Tiling.{Tiling}
 use Rattle.tile_app.specs.declared.status.Status.{Status}
 use Rattle.tile_app.specs.declared.status.Status.TheVariants.{Done, BadWords, ReadFault, RuleTooLong, RuleRefused, BadAddress, NoEdge, Outside, CoordLimit, WriteFault, NoMemory}
-use Rattle.tile_app.specs.Answers.{Prints}
-use Rattle.tile_app.specs.Asked.{GivesNoAddress}
-use Rattle.tile_app.specs.Requests.{Request, OfRequest, IsAsked, WasAsked, HoldsTooMuch}
-use Rattle.tile_app.specs.Status.{IsBadAddress, IsCutShort, IsRefusal, IsRefused, Causes}
+use Rattle.tile_app.specs.declared.words.Command.{Command}
+use Rattle.tile_app.specs.declared.words.Command.TheVariants.{Place, Neighbour, Check}
+use Rattle.tile_app.specs.Answer.{OfCommand, IsPrinted, HasAnswer, Refuses, Prints, CanBeAnswered}
+use Rattle.tile_app.specs.Asked.{OfRequest, IsAsked, WasFileIn}
+use Rattle.tile_app.specs.Causes.{Causes, IsRefused}
+use Rattle.tile_app.specs.Request.{Request, Names, HasRuleFault}
+use Rattle.tile_app.specs.Status.{IsCutShort, IsRefusal, OrNoMemory}
 use Rattle.tile_app.specs.Words.{command_of, reads_file}
-use Rattle.tile_app.proofs.Causes.{IsFor, right_of_prints}
-use Rattle.tile_app.proofs.Given.{both_true}
-use Rattle.tile_app.proofs.Requested.{same_request, asked_or_too_long, too_much_or_asked}
+use Rattle.tile_app.proofs.OneAnswer.{Laws, reading_or_wrong, outcome_of, refused_at_done, one_answer}
+use Rattle.tile_app.proofs.Requested.{same_request, same_too_long}
 
--- a status, with what a call says of it
-pub record Answered (words : List (List ℕ)) (left rest : Option (List ℕ)) (s : Status) : Type 0 where
-  pub done : s ≡ Done → (r : Request) × WasAsked words left rest r × (text : List ℕ) × Prints r text
-  pub part : s ≡ WriteFault → (r : Request) × WasAsked words left rest r × (text : List ℕ) × Prints r text
-  pub refused : IsRefusal s → IsRefused words left rest s
+-- what is printed is an answer
+can : (c : Command) (words : List (List ℕ)) (t : Tiling) (text : List ℕ) → IsPrinted c words t text → HasAnswer c words t
+can Place words t text p = record { address = p.address; tile = p.tile; within = p.within }
+can Neighbour words t text p = record { address = p.address; edge = p.edge; gives = p.gives; inside = p.inside }
+can Check words t text p = tt
 
--- from what it says of words that are these
-pub answered : (words seen : List (List ℕ)) (left rest : Option (List ℕ)) (s : Status) (Q R : List ℕ → Type 0) → seen ≡ words
-    → (s ≡ Done → OfRequest seen left rest (λ r. (text : List ℕ) × Prints r text × Q text))
-    → (s ≡ WriteFault → OfRequest seen left rest (λ r. (text : List ℕ) × Prints r text × R text))
-    → (IsRefusal s → IsRefused seen left rest s) → Answered words left rest s
-answered words seen left rest s Q R e f g h = subst (λ ws. Answered ws left rest s) e (record {
-  done = λ k. (let p = f k in (p.0, p.1, p.2.0, p.2.1));
-  part = λ k. (let p = g k in (p.0, p.1, p.2.0, p.2.1));
-  refused = h;
-})
+can_be_answered : (r : Request) (text : List ℕ) → Prints r text → CanBeAnswered r
+can_be_answered r text p = record { command = p.command; tiling = p.tiling; asks = p.asks; holds = can p.command r.words p.tiling text p.holds }
+
+err_is : {T : Type 0} (s u : Status) → (let o : Result T Status = Err s in o) ≡ Err u → s ≡ u
+err_is s u e = cc
 
 module _ (words : List (List ℕ)) (left rest : Option (List ℕ)) where
-  -- ---- of a request that is asked
-  asked_right : (r : Request) (c : Command) → WasAsked words left rest r → command_of r.words ≡ Ok c → command_of words ≡ Ok c
-  asked_right r c k e = subst (λ ws. command_of ws ≡ Ok c) k.by_words e
+  -- ---- from a command to its request
+  module _ (command : Command) (t : Tiling) (right : command_of words ≡ Ok command) (asked : OfRequest words left rest (λ r. Names r t)) where
+    of_command : (P : Command → List (List ℕ) → Tiling → Type 0) → P command words t → OfRequest words left rest (OfCommand P)
+    of_command P h = (
+      asked.0,
+      asked.1,
+      record {
+        command = command;
+        tiling = t;
+        asks = record { right = subst (λ ws. command_of ws ≡ Ok command) (sym asked.1.by_words) right; names = asked.2 };
+        holds = subst (λ ws. P command ws t) (sym asked.1.by_words) h;
+      },
+    )
 
-  of_request : (s : Status) (r : Request) → IsAsked words left r → (q : Request) × WasAsked words left rest q × Causes q s → Causes r s
-  of_request s r h k = subst (λ q. Causes q s) (same_request words left rest r k.0 h k.1) k.2
+    pub prints_asked : (text : List ℕ) → IsPrinted command words t text → OfRequest words left rest (λ r. Prints r text)
+    prints_asked text h = of_command (λ c ws s. IsPrinted c ws s text) h
 
-  prints_for : (r : Request) → IsAsked words left r → (q : Request) × WasAsked words left rest q × (text : List ℕ) × Prints q text → (text : List ℕ) × Prints r text
-  prints_for r h k = (k.2, subst (λ q. Prints q k.2) (same_request words left rest r k.0 h k.1) k.3)
+    -- and the source isn't read any more
+    pub no_read_fault : OrNoMemory (Refuses command words t) ReadFault → ⊥
+    no_read_fault h = none command h
+      where
+        none : (c : Command) → Refuses c words t ReadFault → ⊥
+        none Place k = k
+        none Neighbour k = k
+        none Check k = k
 
-  pub is_for : (r : Request) (s : Status) → IsAsked words left r → Answered words left rest s → IsFor r s
-  is_for r Done h a = prints_for r h (a.done refl)
-  is_for r (BadWords place) h a = subst (λ ws. command_of ws ≡ Err place) (sym h.by_words) (a.refused tt)
-  is_for r ReadFault h a = tt
-  is_for r RuleTooLong h a = let k = a.refused tt in absurd (asked_or_too_long words left rest r k.0 h k.1)
-  is_for r (RuleRefused fault) h a = let k = a.refused tt in of_request (RuleRefused fault) r h (k.1, k.2, (k.3, k.4))
-  is_for r (BadAddress fault) h a = of_request (BadAddress fault) r h (a.refused tt)
-  is_for r (NoEdge edge edges) h a = of_request (NoEdge edge edges) r h (a.refused tt)
-  is_for r (Outside edge part) h a = of_request (Outside edge part) r h (a.refused tt)
-  is_for r (CoordLimit value) h a = of_request (CoordLimit value) r h (a.refused tt)
-  is_for r WriteFault h a = prints_for r h (a.part refl)
-  is_for r NoMemory h a = tt
+    pub refused_asked : (s : Status) → OrNoMemory (Refuses command words t) s → IsRefused words left rest s
+    refused_asked Done h = of_command (λ c ws u. Refuses c ws u Done) h
+    refused_asked (BadWords place) h = absurd (no_words command h)
+      where
+        no_words : (c : Command) → Refuses c words t (BadWords place) → ⊥
+        no_words Place k = k
+        no_words Neighbour k = k
+        no_words Check k = k
+    refused_asked ReadFault h = absurd (no_read_fault h)
+    refused_asked RuleTooLong h = absurd (no_file command h)
+      where
+        no_file : (c : Command) → Refuses c words t RuleTooLong → ⊥
+        no_file Place k = k
+        no_file Neighbour k = k
+        no_file Check k = k
+    refused_asked (RuleRefused fault) h = absurd (no_rule command h)
+      where
+        no_rule : (c : Command) → Refuses c words t (RuleRefused fault) → ⊥
+        no_rule Place k = k
+        no_rule Neighbour k = k
+        no_rule Check k = k
+    refused_asked NoMemory h = (command, right)
+    refused_asked s h = of_command (λ c ws u. Refuses c ws u s) h
 
-  -- ---- wrong words are refused, and no others are
-  wrong : (place : ℕ) (c : Command) → command_of words ≡ Err place → command_of words ≡ Ok c → ⊥
-  wrong place c e f = absurd (cc (e, f))
+    pub refused_if_asked : {T : Type 0} (answer : Result T Status) → IfErr answer (OrNoMemory (Refuses command words t)) → IfErr answer (IsRefused words left rest)
+    refused_if_asked (Ok x) h = h
+    refused_if_asked (Err s) h = refused_asked s h
 
-  reading_or_wrong : (place : ℕ) → command_of words ≡ Err place → reads_file words ≡ true → ⊥
-  reading_or_wrong place e f = let g = (both_true (is_ok (command_of words)) _ f).0 in absurd (cc (subst (λ o. is_ok o ≡ true) e g))
+    pub no_read_fault_if_asked : {T : Type 0} (answer : Result T Status) → IfErr answer (OrNoMemory (Refuses command words t)) → IsErrOf answer ReadFault → ⊥
+    no_read_fault_if_asked (Ok x) h e = absurd (cc e)
+    no_read_fault_if_asked (Err s) h e = no_read_fault (subst (OrNoMemory (Refuses command words t)) (err_is s ReadFault e) h)
 
-  prints_or_wrong : (place : ℕ) → command_of words ≡ Err place → (r : Request) × WasAsked words left rest r × (text : List ℕ) × Prints r text → ⊥
-  prints_or_wrong place e k = let p = right_of_prints k.0 k.2 k.3 in wrong place p.0 e (asked_right k.0 p.0 k.1 p.1)
+  -- ---- from a request that was asked to the one that is asked
+  module _ (r : Request) (h : IsAsked words left r) where
+    -- of a command
+    of_asked : (P : Command → List (List ℕ) → Tiling → Type 0) → OfRequest words left rest (OfCommand P) → OfCommand P r
+    of_asked P k = subst (OfCommand P) (same_request words left rest r k.0 h k.1 k.2.asks.names.not_too_long) k.2
 
-  bad_words : (s : Status) (place : ℕ) → Answered words left rest s → command_of words ≡ Err place → s ≡ BadWords place
-  bad_words Done place a e = absurd (prints_or_wrong place e (a.done refl))
-  bad_words (BadWords q) place a e = let f = a.refused tt in cc
-  bad_words ReadFault place a e = absurd (reading_or_wrong place e (a.refused tt))
-  bad_words RuleTooLong place a e = absurd (reading_or_wrong place e (a.refused tt).0)
-  bad_words (RuleRefused fault) place a e = absurd (reading_or_wrong place e (a.refused tt).0)
-  bad_words (BadAddress fault) place a e = let k = a.refused tt in absurd (wrong place k.2.0.command e (asked_right k.0 k.2.0.command k.1 k.2.0.asked.of.right))
-  bad_words (NoEdge edge edges) place a e = let k = a.refused tt in absurd (wrong place Neighbour e (asked_right k.0 Neighbour k.1 k.2.asked.tile.asked.of.right))
-  bad_words (Outside edge part) place a e = let k = a.refused tt in absurd (wrong place Neighbour e (asked_right k.0 Neighbour k.1 k.2.asked.tile.asked.of.right))
-  bad_words (CoordLimit value) place a e = let k = a.refused tt in absurd (wrong place Place e (asked_right k.0 Place k.1 k.2.asked.asked.of.right))
-  bad_words WriteFault place a e = absurd (prints_or_wrong place e (a.part refl))
-  bad_words NoMemory place a e = let k = a.refused tt in absurd (wrong place k.0 e k.1)
+    caused : (s : Status) → IsRefusal s → IsRefused words left rest s → IsCutShort s ⊎ Causes r s
+    caused Done i k = absurd i
+    caused (BadWords place) i k = inr (subst (λ ws. command_of ws ≡ Err place) (k.1.by_words ∙ sym h.by_words) k.2)
+    caused ReadFault i k = inl tt
+    caused RuleTooLong i k = inr (same_too_long words left rest r k.0 h k.1 k.2)
+    caused (RuleRefused fault) i k = inr (subst (λ q. HasRuleFault q fault) (same_request words left rest r k.1.0 h k.1.1 k.1.2.not_too_long) k.1.2)
+    caused (BadAddress fault) i k = inr (of_asked (λ c ws t. Refuses c ws t (BadAddress fault)) k)
+    caused (NoEdge edge edges) i k = inr (of_asked (λ c ws t. Refuses c ws t (NoEdge edge edges)) k)
+    caused (Outside edge part) i k = inr (of_asked (λ c ws t. Refuses c ws t (Outside edge part)) k)
+    caused (CoordLimit value) i k = inr (of_asked (λ c ws t. Refuses c ws t (CoordLimit value)) k)
+    caused WriteFault i k = absurd i
+    caused NoMemory i k = inl tt
 
-  pub bad_words_exactly : (s : Status) (place : ℕ) → Answered words left rest s → (s ≡ BadWords place) ↔ (command_of words ≡ Err place)
-  bad_words_exactly s place a = (λ e. subst (IsRefused words left rest) e (a.refused (subst IsRefusal (sym e) tt)), bad_words s place a)
+    printed : {Q : List ℕ → Type 0} → OfRequest words left rest (λ q. (text : List ℕ) × Prints q text × Q text) → CanBeAnswered r
+    printed k = of_asked HasAnswer (k.0, k.1, can_be_answered k.0 k.2.0 k.2.1)
 
-  -- ---- a source that holds too much
-  pub too_long_when : (s : Status) → Answered words left rest s → reads_file words ≡ true → HoldsTooMuch left → (s ≡ RuleTooLong) ⊎ IsCutShort s
-  too_long_when Done a e h = let k = a.done refl in absurd (too_much_or_asked words left rest k.0 e h k.1)
-  too_long_when (BadWords place) a e h = absurd (reading_or_wrong place (a.refused tt) e)
-  too_long_when ReadFault a e h = inr tt
-  too_long_when RuleTooLong a e h = inl refl
-  too_long_when (RuleRefused fault) a e h = let k = a.refused tt in absurd (too_much_or_asked words left rest k.1 e h k.2)
-  too_long_when (BadAddress fault) a e h = let k = a.refused tt in absurd (too_much_or_asked words left rest k.0 e h k.1)
-  too_long_when (NoEdge edge edges) a e h = let k = a.refused tt in absurd (too_much_or_asked words left rest k.0 e h k.1)
-  too_long_when (Outside edge part) a e h = let k = a.refused tt in absurd (too_much_or_asked words left rest k.0 e h k.1)
-  too_long_when (CoordLimit value) a e h = let k = a.refused tt in absurd (too_much_or_asked words left rest k.0 e h k.1)
-  too_long_when WriteFault a e h = let k = a.part refl in absurd (too_much_or_asked words left rest k.0 e h k.1)
-  too_long_when NoMemory a e h = inr tt
+    -- ---- a status, with what a call says of it
+    module _ (laws : Laws) where
+      by_refusal : (s u : Status) → IsRefusal s → IsRefused words left rest s → Causes r u → (s ≡ u) ⊎ IsCutShort s
+      by_refusal s u i k q = elim (caused s i k) [
+        | inl c ↦ inr c
+        | inr c ↦ inl (one_answer r laws s u (outcome_of r s c) (outcome_of r u q))
+      ]
 
-  -- ---- what is no address
-  pub bad_address : (s : Status) → Answered words left rest s → IsBadAddress s → (r : Request) × WasAsked words left rest r × GivesNoAddress r
-  bad_address Done a b = absurd b
-  bad_address (BadWords place) a b = absurd b
-  bad_address ReadFault a b = absurd b
-  bad_address RuleTooLong a b = absurd b
-  bad_address (RuleRefused fault) a b = absurd b
-  bad_address (BadAddress fault) a b = let k = a.refused tt in (k.0, k.1, k.2.0)
-  bad_address (NoEdge edge edges) a b = absurd b
-  bad_address (Outside edge part) a b = absurd b
-  bad_address (CoordLimit value) a b = absurd b
-  bad_address WriteFault a b = absurd b
-  bad_address NoMemory a b = absurd b
+      -- where there is a cause it is found
+      pub refused_when : {Q R : List ℕ → Type 0} (s u : Status) → (s ≡ Done → OfRequest words left rest (λ q. (text : List ℕ) × Prints q text × Q text))
+          → (s ≡ WriteFault → OfRequest words left rest (λ q. (text : List ℕ) × Prints q text × R text)) → (IsRefusal s → IsRefused words left rest s)
+          → Causes r u → (s ≡ u) ⊎ IsCutShort s
+      refused_when Done u done part refused q = inl (one_answer r laws Done u (printed (done refl)) (outcome_of r u q))
+      refused_when WriteFault u done part refused q = absurd (refused_at_done r u q (one_answer r laws Done u (printed (part refl)) (outcome_of r u q)))
+      refused_when s u done part refused q = by_refusal s u tt (refused tt) q
+
+      -- where there is an answer it is printed, unless a source or the sink failed or memory was wanted
+      pub complete : (s : Status) → (IsRefusal s → IsRefused words left rest s) → CanBeAnswered r → (s ≡ WriteFault → ⊥) → (s ≡ ReadFault → ⊥) → (s ≡ Done) ⊎ (s ≡ NoMemory)
+      complete Done refused p sink source = inl refl
+      complete WriteFault refused p sink source = absurd (sink refl)
+      complete ReadFault refused p sink source = absurd (source refl)
+      complete NoMemory refused p sink source = inr refl
+      complete s refused p sink source = elim (caused s tt (refused tt)) [
+        | inl c ↦ absurd c
+        | inr c ↦ inl (one_answer r laws s Done (outcome_of r s c) p)
+      ]
+
+-- ---- words that aren't right ask this of any source, which isn't read
+pub wrong_words : (words : List (List ℕ)) (left : Option (List ℕ)) (place : ℕ) → command_of words ≡ Err place → OfRequest words left left (λ r. command_of r.words ≡ Err place)
+wrong_words words left place e = (
+  record { words = words; file = [] },
+  record { by_words = refl; from_source = subst (λ b. WasFileIn b left left []) (sym (reads_none (reads_file words) (λ f. reading_or_wrong words place f e))) refl },
+  e,
+)
+  where
+    reads_none : (b : Bool) → (b ≡ true → ⊥) → b ≡ false
+    reads_none true f = absurd (f refl)
+    reads_none false f = refl

@@ -9,9 +9,10 @@ use Rattle.tile_app.specs.declared.words.Command.{Command}
 use Rattle.tile_app.specs.declared.words.Command.TheVariants.{Place, Neighbour, Check}
 use Rattle.tile_app.specs.declared.words.Key.{Key}
 use Rattle.tile_app.specs.declared.words.Key.TheVariants.{Rule, Addr, Edge}
-use Rattle.tile_app.specs.Numbers.{number_up_to}
+use Rattle.tile_shape.specs.Decimal.{number_up_to}
 use Rattle.tile_app.specs.Choices.{choice_in}
-use Rattle.tile_app.specs.Words.{key_text, command_named, keys_of, required_keys, has_form, IsAboutTile, is_equals, value_in, value_given, is_right, wrong_place, command_of}
+use Rattle.tile_app.specs.Commands.{key_text, command_named, keys_of, required_keys, has_form, IsAboutTile}
+use Rattle.tile_app.specs.Words.{is_equals, value_in, value_given, is_right, wrong_place, command_of}
 
 -- ---- what is given among more words
 append_nil : {A : Type 0} (xs : List A) → xs ++ [] ≡ xs

@@ -2,10 +2,10 @@ pub mod Children
 pub mod Requested
 pub mod Read
 pub mod Tilings
-pub mod Causes
+pub mod Faults
+pub mod OneAnswer
 pub mod Answered
 pub mod Given
 pub mod Asking
-pub mod Counting
 pub mod Edges
 pub mod Lines

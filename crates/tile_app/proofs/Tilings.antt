@@ -14,7 +14,7 @@ use Rattle.rule_model.specs.declared.rule.Rule.{Rule}
 use Rattle.rule_text.specs.declared.text_fault.TextFault.{TextFault}
 use Rattle.rule_model.specs.Tiling.{ListedRule, Tiling, tiling_of, tiling_listed}
 use Rattle.rule_text.specs.File.{rule_in_file}
-use Rattle.tile_shape.specs.Usable.{IsUsable, is_used}
+use Rattle.tile_shape.specs.Usable.{AreUsable, is_child_kind}
 use Rattle.builtin_rules.specs.declared.name.Name.{Name}
 use Rattle.builtin_rules.specs.declared.name.Name.TheVariants.{Chair, P2, P3, AmmannBeenker}
 use Rattle.builtin_rules.specs.Named.{named, IsWritten}
@@ -22,7 +22,7 @@ use Rattle.tile_app.specs.declared.rule_choice.RuleChoice.{RuleChoice}
 use Rattle.tile_app.specs.declared.rule_choice.RuleChoice.TheVariants.{Builtin, File}
 use Rattle.tile_app.specs.declared.rule_fault.RuleFault.{RuleFault}
 use Rattle.tile_app.specs.Choices.{tiling_chosen}
-use Rattle.tile_app.specs.Requests.{Request, NamesTiling}
+use Rattle.tile_app.specs.Request.{Request, tiling_asked}
 use Rattle.tile_app.specs.RuleFiles.{tiling_unless, tiling_of_text}
 use Rattle.tile_app.specs.Tilings.{builtin_tiling}
 use Rattle.tile_app.specs.Words.{choice_given}
@@ -37,10 +37,10 @@ tiling_is name r is =
 -- ---- the child kinds of a tiling that is named are usable: those of a built-in rule, as is seen of the numbers written down
 seen : (children : List (List ℕ)) → 1 ≤ length children → length children ≤ 16 → IsTrue (list_all (λ row. nat_le 1 (length row)) children)
     → IsTrue (list_all (λ row. nat_le (length row) 16) children) → IsTrue (list_all (λ row. list_all (λ kind. nat_lt kind (length children)) row) children)
-    → IsTrue (list_all (λ kind. is_used children kind) (range_with_len 0 (length children))) → IsUsable children
+    → IsTrue (list_all (λ kind. is_child_kind children kind) (range_with_len 0 (length children))) → AreUsable children
 seen children a b c d e f = record { some_kind = a; at_most_16_kinds = b; some_child = c; at_most_16_children = d; each_exists = e; each_used = f }
 
-builtin_is_usable : (name : Name) → IsUsable (child_kinds (builtin_tiling name).rule)
+builtin_is_usable : (name : Name) → AreUsable (child_kinds (builtin_tiling name).rule)
 builtin_is_usable Chair = seen _ (lit≤ tt) (lit≤ tt) refl refl refl refl
 builtin_is_usable P2 = seen _ (lit≤ tt) (lit≤ tt) refl refl refl refl
 builtin_is_usable P3 = seen _ (lit≤ tt) (lit≤ tt) refl refl refl refl
@@ -48,30 +48,30 @@ builtin_is_usable AmmannBeenker = seen _ (lit≤ tt) (lit≤ tt) refl refl refl 
 
 -- and those of a rule that no clause refuses, by a law
 abbrev pub AcceptedAreUsable : Type 0
-AcceptedAreUsable = (o : Order) (l : TheRule Point) → fault_of_lists o l ≡ None → IsUsable (child_kinds (map_rule (point_in o) l))
+AcceptedAreUsable = (o : Order) (l : TheRule Point) → fault_of_lists o l ≡ None → AreUsable (child_kinds (map_rule (point_in o) l))
 
 ok_is : (s t : Tiling) (o : Result Tiling RuleFault) → o ≡ Ok s → o ≡ Ok t → s ≡ t
 ok_is s t o e f = cc
 
-file_is_usable : AcceptedAreUsable → (t : Tiling) (read : Result ListedRule TextFault) → tiling_of_text read ≡ Ok t → IsUsable (child_kinds t.rule)
+file_is_usable : AcceptedAreUsable → (t : Tiling) (read : Result ListedRule TextFault) → tiling_of_text read ≡ Ok t → AreUsable (child_kinds t.rule)
 file_is_usable law t (Err e) h = absurd (cc h)
 file_is_usable law t (Ok x) h = at_fault (fault_of_lists x.order x.rule) refl h
   where
-    at_fault : (o : Option CheckFault) → fault_of_lists x.order x.rule ≡ o → tiling_unless o x ≡ Ok t → IsUsable (child_kinds t.rule)
-    at_fault None f g = subst (λ (s : Tiling). IsUsable (child_kinds s.rule)) (ok_is (tiling_listed x) t (Ok (tiling_listed x)) refl g) (law x.order x.rule f)
+    at_fault : (o : Option CheckFault) → fault_of_lists x.order x.rule ≡ o → tiling_unless o x ≡ Ok t → AreUsable (child_kinds t.rule)
+    at_fault None f g = subst (λ (s : Tiling). AreUsable (child_kinds s.rule)) (ok_is (tiling_listed x) t (Ok (tiling_listed x)) refl g) (law x.order x.rule f)
     at_fault (Some e) f g = absurd (cc g)
 
-chosen_is_usable : AcceptedAreUsable → (file : List ℕ) (t : Tiling) (choice : RuleChoice) → tiling_chosen file choice ≡ Ok t → IsUsable (child_kinds t.rule)
+chosen_is_usable : AcceptedAreUsable → (file : List ℕ) (t : Tiling) (choice : RuleChoice) → tiling_chosen file choice ≡ Ok t → AreUsable (child_kinds t.rule)
 chosen_is_usable law file t File h = file_is_usable law t (rule_in_file file) h
 chosen_is_usable law file t (Builtin name) h =
-    subst (λ (s : Tiling). IsUsable (child_kinds s.rule)) (ok_is (builtin_tiling name) t (Ok (builtin_tiling name)) refl h) (builtin_is_usable name)
+    subst (λ (s : Tiling). AreUsable (child_kinds s.rule)) (ok_is (builtin_tiling name) t (Ok (builtin_tiling name)) refl h) (builtin_is_usable name)
 
-pub named_is_usable : AcceptedAreUsable → (r : Request) (t : Tiling) → NamesTiling r t → IsUsable (child_kinds t.rule)
+pub named_is_usable : AcceptedAreUsable → (r : Request) (t : Tiling) → tiling_asked r ≡ Some (Ok t) → AreUsable (child_kinds t.rule)
 named_is_usable law r t h = at_choice (choice_given r.words) h
   where
     some_is : (x y : Result Tiling RuleFault) → Some x ≡ Some y → x ≡ y
     some_is x y e = cc
 
-    at_choice : (o : Option RuleChoice) → option_map (tiling_chosen r.file) o ≡ Some (Ok t) → IsUsable (child_kinds t.rule)
+    at_choice : (o : Option RuleChoice) → option_map (tiling_chosen r.file) o ≡ Some (Ok t) → AreUsable (child_kinds t.rule)
     at_choice None e = absurd (cc e)
     at_choice (Some choice) e = chosen_is_usable law r.file t choice (some_is (tiling_chosen r.file choice) (Ok t) e)

@@ -1,57 +1,38 @@
--- What is asked for: a command, a tiling, and the address of a tile.
-use Rattle.std.specs.Prelude.{◌≡◌, ℕ, List, Some, Ok}
+-- The request of a call: its words, and what its source has left, or had and gave.
+use Rattle.std.specs.Prelude.{◌≡◌, ℕ, ◌+◌, ◌≤◌, Bool, true, false, List, [], length, Some, IfSome}
 use Rattle.std.specs.declared.option.Option.{Option}
-use Rattle.std.specs.Option.{option_and_then}
-use Rattle.addressing.specs.Address.{Address}
-use Rattle.substitution.specs.Rule.{child_kinds}
-use Rattle.tile_shape.specs.Accepted.{IsAccepted}
-use Rattle.tile_shape.specs.declared.address_fault.AddressFault.{AddressFault}
-use Rattle.tile_shape.specs.Refused.{IsFaultOf}
-use Rattle.tile_shape.specs.Text.{address_text}
-use Rattle.tile_app.specs.declared.words.Command.{Command}
-use Rattle.tile_app.specs.declared.words.Key.TheVariants.{Addr, Edge}
-use Rattle.tile_app.specs.Numbers.{number_up_to}
-use Rattle.tile_app.specs.Requests.{Request, NamesTiling}
-use Rattle.rule_model.specs.Tiling.{Tiling}
-use Rattle.tile_app.specs.Words.{command_of, value_given, IsAboutTile}
+use Rattle.rule_text.specs.Limits.{longest_file}
+use Rattle.tile_io.specs.Left.{Gives}
+use Rattle.tile_app.specs.Request.{Request}
+use Rattle.tile_app.specs.Words.{reads_file}
 
--- the words are right and have this command, and this is the tiling that is named
-pub record AsksOf (r : Request) (command : Command) (t : Tiling) : Type 0 where
-  pub right : command_of r.words ≡ Ok command
-  pub named : NamesTiling r t
+-- the file in a source that has these bytes left: all of them, where a file is read
+abbrev pub IsFileIn : Bool → Option (List ℕ) → List ℕ → Type 0
+IsFileIn true left file = left ≡ Some file
+IsFileIn false left file = file ≡ []
 
--- and this is the text that they give for an address
-pub record Asks (r : Request) (command : Command) (t : Tiling) (text : List ℕ) : Type 0 where
-  pub of : AsksOf r command t
-  pub given : value_given Addr r.words ≡ Some text
+-- the file that was read of a source that had some bytes left and now has the rest: to the end where the bytes are told, or, of a file that is too long for a
+-- rule file, the longest such file and one byte more
+pub record WasRead (left rest : Option (List ℕ)) (file : List ℕ) : Type 0 where
+  pub given : Gives left rest file
+  pub to_the_end : length file ≤ longest_file → IfSome rest (λ bytes. bytes ≡ [])
+  pub at_most : length file ≤ longest_file + 1
 
--- the text is that of this address, which is accepted
-pub record AsksForTile (r : Request) (command : Command) (t : Tiling) (a : Address) : Type 0 where
-  pub asked : Asks r command t (address_text a)
-  pub accepted : IsAccepted (child_kinds t.rule) a
+-- the file that was read, where the words have one read; there is none otherwise
+abbrev pub WasFileIn : Bool → Option (List ℕ) → Option (List ℕ) → List ℕ → Type 0
+WasFileIn true left rest file = WasRead left rest file
+WasFileIn false left rest file = file ≡ []
 
--- the number of the edge that the words give
-abbrev pub edge_given : List (List ℕ) → Option ℕ
-edge_given words = option_and_then (number_up_to 255) (value_given Edge words)
+-- the words ask this of a source that has these bytes left
+pub record IsAsked (words : List (List ℕ)) (left : Option (List ℕ)) (r : Request) : Type 0 where
+  pub by_words : r.words ≡ words
+  pub in_source : IsFileIn (reads_file words) left r.file
 
--- no accepted address of the tiling has this text
-abbrev pub IsNoAddress : Tiling → List ℕ → Type 0
-IsNoAddress t text = (a : Address) → IsAccepted (child_kinds t.rule) a → text ≡ address_text a → ⊥
+-- the words asked this of a source that had some bytes left and now has the rest
+pub record WasAsked (words : List (List ℕ)) (left rest : Option (List ℕ)) (r : Request) : Type 0 where
+  pub by_words : r.words ≡ words
+  pub from_source : WasFileIn (reads_file words) left rest r.file
 
--- a tile is asked for, but what the words give for its address is none
-pub record GivesNoAddress (r : Request) : Type 0 where
-  pub command : Command
-  pub about_tile : IsAboutTile command
-  pub tiling : Tiling
-  pub text : List ℕ
-  pub asked : Asks r command tiling text
-  pub none : IsNoAddress tiling text
-
--- and this is the fault of that text: the first in the order of its faults
-pub record GivesFault (r : Request) (fault : AddressFault) : Type 0 where
-  pub command : Command
-  pub about_tile : IsAboutTile command
-  pub tiling : Tiling
-  pub text : List ℕ
-  pub asked : Asks r command tiling text
-  pub is_fault : IsFaultOf (child_kinds tiling.rule) text fault
+-- what the words asked of such a source has this property
+abbrev pub OfRequest : List (List ℕ) → Option (List ℕ) → Option (List ℕ) → (Request → Type 0) → Type 0
+OfRequest words left rest P = (r : Request) × WasAsked words left rest r × P r

@@ -1,52 +1,21 @@
 -- The words of a command line: a command, and behind it `key=value` words, in any order, each key of the command at most once.
-use Rattle.std.specs.Prelude.{◌≡◌, ℕ, Bool, true, false, not, ◌&&◌, List, [], ◌∷◌, ◌++◌, map, length, codes, string_bytes, Some, None, Ok, Err, is_some, is_ok, nat_lt, nat_eq, if◌then◌else◌}
+use Rattle.std.specs.Prelude.{◌≡◌, ℕ, Bool, false, not, ◌&&◌, List, [], ◌∷◌, ◌++◌, map, length, string_bytes, Some, None, Ok, Err, is_some, is_ok, nat_lt, nat_eq, if◌then◌else◌}
 use Rattle.std.specs.declared.option.Option.{Option}
 use Rattle.std.specs.declared.result.Result.{Result}
 use Rattle.std.specs.declared.string.String.{String}
 use Rattle.std.specs.List.{list_all, list_any, before_first, after_first, position_or_len}
 use Rattle.std.specs.Option.{option_and_then, option_map_or}
 use Rattle.std.specs.Str.{bytes_eq}
-use Rattle.tile_app.specs.declared.words.Command.{Command}
-use Rattle.tile_app.specs.declared.words.Command.TheVariants.{Place, Neighbour, Check}
-use Rattle.tile_app.specs.declared.words.Key.{Key}
-use Rattle.tile_app.specs.declared.words.Key.TheVariants.{Rule, Addr, Edge}
-use Rattle.tile_app.specs.Numbers.{number_up_to}
 use Rattle.tile_app.specs.declared.rule_choice.RuleChoice.{RuleChoice}
+use Rattle.tile_app.specs.declared.words.Command.{Command}
+use Rattle.tile_app.specs.declared.words.Key.{Key}
+use Rattle.tile_app.specs.declared.words.Key.TheVariants.{Rule}
 use Rattle.tile_app.specs.Choices.{choice_in, is_file}
+use Rattle.tile_app.specs.Commands.{key_text, command_named, keys_of, required_keys, has_form, IsAboutTile}
 
 -- the words as their bytes
 abbrev pub texts : {A : Type 0} → List (String A) → List (List ℕ)
 texts words = map string_bytes words
-
--- the name of a key
-abbrev pub key_text : Key → List ℕ
-key_text Rule = codes "rule"
-key_text Addr = codes "addr"
-key_text Edge = codes "edge"
-
--- the command that a word names
-abbrev pub command_named : List ℕ → Option Command
-command_named word =
-    if bytes_eq word (codes "place") then Some Place else
-    if bytes_eq word (codes "neighbour") then Some Neighbour else
-    if bytes_eq word (codes "check") then Some Check else None
-
--- the keys of a command, and those that it can't do without
-abbrev pub keys_of : Command → List Key
-keys_of Place = Rule ∷ Addr ∷ []
-keys_of Neighbour = Rule ∷ Addr ∷ Edge ∷ []
-keys_of Check = Rule ∷ []
-
-abbrev pub required_keys : Command → List Key
-required_keys Place = Rule ∷ Addr ∷ []
-required_keys Neighbour = Rule ∷ Addr ∷ Edge ∷ []
-required_keys Check = Rule ∷ []
-
--- whether a value has the form of its key: a rule is one of the names known or `-`, an address any text, and an edge a number from 0 to 255
-abbrev pub has_form : Key → List ℕ → Bool
-has_form Rule value = is_some (choice_in value)
-has_form Addr value = true
-has_form Edge value = is_some (number_up_to 255 value)
 
 -- `=`
 abbrev pub is_equals : ℕ → Bool
@@ -79,6 +48,7 @@ command_of [] = Err 0
 command_of (name ∷ words) =
     option_map_or (λ command. option_map_or Err (wrong_place command (name ∷ []) words) (Ok command)) (command_named name) (Err 0)
 
+-- there is a command that the words are right for
 abbrev pub AreRight : List (List ℕ) → Type 0
 AreRight words = (command : Command) × (command_of words ≡ Ok command)
 
@@ -90,12 +60,6 @@ choice_given words = option_and_then choice_in (value_given Rule words)
 abbrev pub reads_file : List (List ℕ) → Bool
 reads_file words = is_ok (command_of words) && option_map_or is_file (choice_given words) false
 
--- a command that asks about a tile, by its address
-abbrev pub IsAboutTile : Command → Type 0
-IsAboutTile Place = Unit {0}
-IsAboutTile Neighbour = Unit {0}
-IsAboutTile Check = ⊥
-
--- the words are right and have such a command
+-- the words are right and have a command that asks about a tile
 abbrev pub AskAboutTile : List (List ℕ) → Type 0
 AskAboutTile words = (command : Command) × (command_of words ≡ Ok command) × IsAboutTile command

@@ -1,22 +1,23 @@
 //! The top call of the engine, `run`: from the words of a command line to the bytes that a sink
-//! takes. Its clauses carry what the program promises: what is printed when it succeeds, and the
-//! cause of every refusal, over the definitions of supertiles and not over the code.
+//! takes. Its clauses carry what the program promises: what is printed when it succeeds, the cause of
+//! every refusal but want of memory, and what the notes take. Each command has a file of its own, with
+//! its text and its line, and beside it one of definitions.
 #![tactic(auto)]
 
-mod answers;
-#[cfg(test)]
-mod crossing_tests;
+mod answer;
+mod check;
+mod fault_words;
+mod line;
 mod neighbour;
 mod note;
 mod number;
+mod place;
 pub mod rule_choice;
 pub mod rule_fault;
-#[cfg(test)]
-mod rule_file_tests;
 mod rule_given;
 pub mod run;
 pub mod status;
 #[cfg(test)]
 mod tests;
-mod text;
+mod tile;
 pub mod words;

@@ -1,50 +1,55 @@
-//! The tile across an edge.
-ghost use Rattle.std.specs.Prelude.{◌≡◌, ◌<◌, ℕ, List, IsSome, IfOk, IfErr};
-ghost use Rattle.addressing.specs.Address.{Fits};
-ghost use Rattle.addressing.specs.Tables.{type_of};
-ghost use Rattle.addressing.specs.Touch.{IsOnlyTouched};
-ghost use Rattle.addressing.specs.Trace.{Cut, HasTrace, first_part};
-ghost use Rattle.rule_model.specs.Checked.{contacts_of, child_kinds_of};
+//! The command `neighbour`: the tile across an edge.
+ghost use Rattle.std.specs.Prelude.{◌≡◌, Some, Ok, IfOk, IfErr, string_bytes};
+ghost use Rattle.rule_model.specs.Tiling.{tiling_of};
 ghost use Rattle.tile_shape.specs.Views.{address_of};
+ghost use Rattle.tile_app.specs.declared.words.Command.TheVariants.{Neighbour};
+ghost use Rattle.tile_app.specs.Neighbour.{neighbour_line, edge_given, PrintsNeighbour, NeighbourRefuses};
+ghost use Rattle.tile_app.specs.Status.{OrNoMemory};
+ghost use Rattle.tile_app.specs.Words.{texts, command_of};
 
+use crate::number::number_up_to_255;
+use crate::status::Status;
+use crate::tile::address_given;
+use crate::words::Key;
 use edge_tables::steps::Steps;
-use std::marker::Brand;
-use std::sync::ledger::{Blank, Ledger};
+use std::alloc::{AllocError, Global};
+use std::sync::ledger::Ledger;
 use tile_place::machine::Machine;
 use tile_shape::address::Address;
-use transducer_core::crossing::Crossing;
-use transducer_core::outside::Outside;
 
-/// The one tile that touches the edge of a tile, with its edge, or the supertile's own edge on which
-/// the edge lies. Nobody counts the steps.
-pub fn neighbour(machine: &Machine, addr: &Address, edge: u8) -> Result<Crossing, Outside>
-    requires fits { Fits (child_kinds_of machine.now) (address_of addr.now) }
-    requires exists { IsSome (type_of (contacts_of machine.now) addr.now.kind edge) }
-    ensures touched { IfOk result (λ x. IsOnlyTouched (contacts_of machine.now) (address_of addr.now) edge (address_of x.addr) x.edge) }
-    ensures inside { IfOk result (λ _. (top : ℕ) (cuts : List Cut) → ¬ HasTrace (contacts_of machine.now) (address_of addr.now) edge top cuts) }
-    ensures outside { IfErr result (λ o. (cuts : List Cut) × HasTrace (contacts_of machine.now) (address_of addr.now) edge o.edge cuts
-        × (o.part ≡ first_part cuts)) }
+/// The number of the edge that right words give.
+fn edge_given(words: &[String]) -> u8
+    requires { command_of (texts words.now) ≡ Ok Neighbour }
+    ensures { edge_given (texts words.now) ≡ Some result }
 {
-    crossed::<Brand>(machine, addr, edge, Blank::new(1))
+    let text = Key::Edge.value_given(words).unwrap();
+    number_up_to_255(text).unwrap()
 }
 
-/// The same with a counter of its own.
-fn crossed<L: Ledger>(
-    machine: &Machine,
-    addr: &Address,
-    edge: u8,
-    blank: Blank,
-) -> Result<Crossing, Outside>
-    requires name { blank.name ≡ L.name }
-    requires parts { blank.parts ≡ L.parts }
-    requires some { 0 < blank.parts }
-    requires fits { Fits (child_kinds_of machine.now) (address_of addr.now) }
-    requires exists { IsSome (type_of (contacts_of machine.now) addr.now.kind edge) }
-    ensures touched { IfOk result (λ x. IsOnlyTouched (contacts_of machine.now) (address_of addr.now) edge (address_of x.addr) x.edge) }
-    ensures inside { IfOk result (λ _. (top : ℕ) (cuts : List Cut) → ¬ HasTrace (contacts_of machine.now) (address_of addr.now) edge top cuts) }
-    ensures outside { IfErr result (λ o. (cuts : List Cut) × HasTrace (contacts_of machine.now) (address_of addr.now) edge o.edge cuts
-        × (o.part ≡ first_part cuts)) }
+/// The line of the tile across an edge: its address, and the number of its edge that leads back.
+fn neighbour_line(alloc: Global, across: &Address, edge: u8) -> Result<String, AllocError>
+    ensures { IfOk result (λ text. string_bytes text ≡ neighbour_line (address_of across.now) edge) }
 {
-    let mut steps = Steps::<L>::new(blank);
-    machine.cross(addr, edge, &mut steps)
+    format!(in alloc; "{across} {edge}\n")
+}
+
+/// What `neighbour` prints for right words, or its refusal. The crossing counts its look-ups in `steps`.
+pub fn neighbour_text<L: Ledger>(
+    alloc: Global,
+    machine: &Machine,
+    words: &[String],
+    steps: &mut Steps<L>,
+) -> Result<String, Status>
+    requires right { command_of (texts words.now) ≡ Ok Neighbour }
+    ensures printed { IfOk result (λ text. PrintsNeighbour (texts words.now) (tiling_of machine.now) (string_bytes text)) }
+    ensures refused { IfErr result (OrNoMemory (NeighbourRefuses (texts words.now) (tiling_of machine.now))) }
+{
+    let address = address_given(machine, words)?;
+    let edge = edge_given(words);
+    let edges = machine.checked().tables().edges(address.kind);
+    if edge >= edges {
+        return Err(Status::NoEdge { edge, edges });
+    }
+    let crossing = machine.cross(&address, edge, steps)?;
+    Ok(neighbour_line(alloc, &crossing.addr, crossing.edge)?)
 }

@@ -1,20 +1,74 @@
 //! The line that a refusal writes to the notes.
+ghost use Rattle.std.specs.Prelude.{◌≡◌, ◌+◌, ◌≤◌, ◌∷◌, ◌++◌};
+ghost use Rattle.arrayvec.specs.ArrayString.{array_string_len};
+ghost use Rattle.tile_app.specs.Notes.{status_text, note_of, IsNoted};
+ghost use Rattle.cyclo_points.specs.Text.{blank};
+
+use crate::fault_words::{put_address_fault, put_rule_fault};
+use crate::line::{LINE_ROOM, put_number, put_numbered, put_point, put_word};
 use crate::status::Status;
 use arrayvec::ArrayString;
-use std::fmt::Write;
+use itoa::Buffer;
 use tile_io::sink::Sink;
 use tile_io::writing::write_all;
 
-/// Writes the one line of a refusal, its code, its name and its fields, to the notes; nothing where
-/// all is done. The line is built in fixed storage and takes no memory; a fault of the notes is
-/// passed over.
-pub fn write_note<N: Sink>(notes: &mut N, status: &Status) {
-    let code = status.code();
-    if code == 0 {
-        return;
+/// Puts the name of a status and its fields.
+fn put_status(line: &mut ArrayString<LINE_ROOM>, status: &Status)
+    requires room { array_string_len line.old + 120 ≤ LINE_ROOM }
+    ensures status { line.new.bytes ≡ line.old.bytes ++ blank ∷ status_text status.now }
+    ensures at_most { array_string_len line.new ≤ array_string_len line.old + 120 }
+{
+    match *status {
+        Status::Done => put_word(line, "Done"),
+        Status::BadWords { place } => put_numbered(line, "BadWords", place as u64),
+        Status::ReadFault => put_word(line, "ReadFault"),
+        Status::RuleTooLong => put_word(line, "RuleTooLong"),
+        Status::RuleRefused { fault } => {
+            put_word(line, "RuleRefused");
+            put_rule_fault(line, fault);
+        }
+        Status::BadAddress { fault } => {
+            put_word(line, "BadAddress");
+            put_address_fault(line, fault);
+        }
+        Status::NoEdge { edge, edges } => {
+            put_numbered(line, "NoEdge", u64::from(edge));
+            put_number(line, u64::from(edges));
+        }
+        Status::Outside { edge, part } => {
+            put_numbered(line, "Outside", u64::from(edge));
+            put_number(line, u64::from(part));
+        }
+        Status::CoordLimit { value } => {
+            put_word(line, "CoordLimit");
+            put_point(line, &value);
+        }
+        Status::WriteFault => put_word(line, "WriteFault"),
+        Status::NoMemory => put_word(line, "NoMemory"),
     }
-    let mut line: ArrayString<640> = ArrayString::new();
-    if writeln!(line, "{code} {status}").is_ok() {
-        let _ = write_all(notes, line.as_bytes());
+}
+
+/// The one line of a refusal, its code, its name and its fields; nothing where all is done. It is built
+/// in fixed storage and takes no memory.
+fn note(status: &Status) -> ArrayString<LINE_ROOM>
+    ensures { result.bytes ≡ note_of status.now }
+{
+    let mut line = ArrayString::new();
+    if let Status::Done = status {
+        return line;
     }
+    let mut figures = Buffer::new();
+    line.push_str(figures.format(status.code()));
+    put_status(&mut line, status);
+    line.push_str("\n");
+    line
+}
+
+/// Writes the note of a status. A fault of the notes is passed over.
+pub fn write_note<N: Sink>(notes: &mut N, status: &Status)
+    ensures noted { IsNoted (N.faults notes.old) (N.faults notes.new) (N.taken notes.old) (N.taken notes.new) (note_of status.now) }
+    ensures not_noted { status.now ≡ Status.Done → notes.new ≡ notes.old }
+{
+    let line = note(status);
+    let _ = write_all(notes, line.as_bytes());
 }

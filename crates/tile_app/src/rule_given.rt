@@ -1,11 +1,12 @@
 //! The rule that the words choose, checked.
-ghost use Rattle.std.specs.Prelude.{◌≡◌, ◌≤◌, ℕ, List, true, false, length, Ok, IfOk, IfErr, IsErrOf};
-ghost use Rattle.rule_text.specs.declared.reading.TheConstants.{LONGEST_FILE};
+ghost use Rattle.std.specs.Prelude.{◌≡◌, ◌≤◌, ℕ, List, false, length, Ok, IfOk, IfErr, IsErrOf};
+ghost use Rattle.rule_text.specs.Limits.{longest_file};
 ghost use Rattle.tile_io.specs.Causes.{Rose};
+ghost use Rattle.tile_app.specs.Asked.{OfRequest, WasRead};
+ghost use Rattle.tile_app.specs.Causes.{IsRefused};
 ghost use Rattle.tile_app.specs.Reading.{IsFileRefused, IsReadingRefused};
-ghost use Rattle.tile_app.specs.Requests.{Request, NamesTiling, WasAsked, WasFileIn};
+ghost use Rattle.tile_app.specs.Request.{Names};
 ghost use Rattle.tile_app.specs.RuleFiles.{tiling_in_file};
-ghost use Rattle.tile_app.specs.Status.{IsRefused};
 ghost use Rattle.rule_model.specs.Tiling.{tiling_of};
 ghost use Rattle.tile_app.specs.Words.{texts, reads_file, AreRight};
 
@@ -22,7 +23,7 @@ use tile_io::source::Source;
 
 /// The accepted rule that the bytes of a file stand for.
 fn rule_in(alloc: Global, bytes: &[u8]) -> Result<Checked, Status>
-    requires at_most_a_mebibyte { length bytes.now ≤ LONGEST_FILE }
+    requires at_most_a_mebibyte { length bytes.now ≤ longest_file }
     ensures accepted { IfOk result (λ checked. tiling_in_file bytes.now ≡ Ok (tiling_of checked)) }
     ensures refused { IfErr result (IsFileRefused bytes.now) }
 {
@@ -32,8 +33,8 @@ fn rule_in(alloc: Global, bytes: &[u8]) -> Result<Checked, Status>
 
 /// The accepted rule of the file that the source gives to its end.
 fn rule_read<R: Source>(alloc: Global, source: &mut R) -> Result<Checked, Status>
-    ensures accepted { IfOk result (λ checked. (file : List ℕ) × WasFileIn true (R.left source.old) (R.left source.new) file
-        × (tiling_in_file file ≡ Ok (tiling_of checked))) }
+    ensures accepted { IfOk result (λ checked. (file : List ℕ) × WasRead (R.left source.old) (R.left source.new) file
+        × (length file ≤ longest_file) × (tiling_in_file file ≡ Ok (tiling_of checked))) }
     ensures refused { IfErr result (IsReadingRefused (R.left source.old) (R.left source.new)) }
     ensures read_fault { IsErrOf result Status.ReadFault → Rose (R.faults source.old) (R.faults source.new) }
 {
@@ -48,8 +49,8 @@ pub fn rule_given<R: Source>(
     source: &mut R,
 ) -> Result<Checked, Status>
     requires { AreRight (texts words.now) }
-    ensures asked { IfOk result (λ checked. (r : Request) × WasAsked (texts words.now) (R.left source.old) (R.left source.new) r
-        × NamesTiling r (tiling_of checked)) }
+    ensures asked { IfOk result (λ checked. OfRequest (texts words.now) (R.left source.old) (R.left source.new)
+        (λ r. Names r (tiling_of checked))) }
     ensures refused { IfErr result (IsRefused (texts words.now) (R.left source.old) (R.left source.new)) }
     ensures read_fault { IsErrOf result Status.ReadFault → Rose (R.faults source.old) (R.faults source.new) }
     ensures untouched { reads_file (texts words.now) ≡ false → source.new ≡ source.old }

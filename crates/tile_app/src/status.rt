@@ -7,7 +7,6 @@ use cyclo_points::point::Point;
 use dissect_check::check_fault::CheckFault;
 use rule_text::text_fault::TextFault;
 use std::alloc::AllocError;
-use std::fmt;
 use tile_io::read_all_fault::ReadAllFault;
 use tile_place::coord_limit::CoordLimit;
 use tile_shape::address_fault::AddressFault;
@@ -39,7 +38,7 @@ pub enum Status {
     CoordLimit { value: Point },
     /// The sink failed: it took a proper prefix of the text.
     WriteFault,
-    /// No memory was left.
+    /// No memory was left, or the rule file's tables would take more than the engine allows.
     NoMemory,
 }
 
@@ -59,29 +58,6 @@ impl Status {
             Status::WriteFault => 10,
             Status::NoMemory => 11,
             Status::NoEdge { .. } => 12,
-        }
-    }
-}
-
-impl fmt::Display for Status {
-    ghost use Rattle.std.specs.Prelude.{Some};
-    ghost use Rattle.tile_app.specs.Status.{status_text};
-
-    ghost output = { λ status. Some (status_text status) };
-
-    fn fmt<W: fmt::Write>(&self, f: &mut fmt::Formatter<W>) -> fmt::Result {
-        match self {
-            Status::Done => write!(f, "Done"),
-            Status::BadWords { place } => write!(f, "BadWords {place}"),
-            Status::ReadFault => write!(f, "ReadFault"),
-            Status::RuleTooLong => write!(f, "RuleTooLong"),
-            Status::RuleRefused { fault } => write!(f, "RuleRefused {fault}"),
-            Status::BadAddress { fault } => write!(f, "BadAddress {fault}"),
-            Status::NoEdge { edge, edges } => write!(f, "NoEdge {edge} {edges}"),
-            Status::Outside { edge, part } => write!(f, "Outside {edge} {part}"),
-            Status::CoordLimit { value } => write!(f, "CoordLimit {value}"),
-            Status::WriteFault => write!(f, "WriteFault"),
-            Status::NoMemory => write!(f, "NoMemory"),
         }
     }
 }

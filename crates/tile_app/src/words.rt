@@ -2,7 +2,8 @@
 ghost use Rattle.std.specs.Prelude.{◌≡◌, is_some};
 ghost use Rattle.std.specs.Option.{option_map};
 ghost use Rattle.std.specs.List.{list_all};
-ghost use Rattle.tile_app.specs.Words.{texts, key_text, command_named, keys_of, required_keys, has_form, value_in, value_given, is_right, command_of};
+ghost use Rattle.tile_app.specs.Commands.{key_text, command_named, keys_of, required_keys, has_form};
+ghost use Rattle.tile_app.specs.Words.{texts, value_in, value_given, is_right, command_of};
 
 use crate::number::number_up_to_255;
 use crate::rule_choice::choice_in;

@@ -14,8 +14,6 @@ mod fault_plan;
 pub mod laws;
 pub mod mem_sink;
 pub mod mem_source;
-#[cfg(test)]
-mod mem_tests;
 pub mod read_all_fault;
 pub mod reading;
 pub mod sink;
@@ -24,6 +22,4 @@ pub mod std_sink;
 pub mod std_source;
 pub mod steady_sink;
 pub mod steady_source;
-#[cfg(test)]
-mod tests;
 pub mod writing;

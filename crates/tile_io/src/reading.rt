@@ -14,8 +14,8 @@ const PIECE: usize = 4096;
 
 /// Reads all bytes of the source to its end, where there are at most `most` of them.
 ///
-/// `TooLong` comes exactly where `most + 1` bytes were read, and no call follows it. `Fault` comes
-/// at the first call that fails. What was read by then is gone.
+/// `TooLong` comes exactly where `most + 1` bytes were read. `Fault` comes only where the source's
+/// count of faults rose. At a refusal at most `most + 1` bytes were read, and they are gone.
 pub fn read_all<R: Source>(
     alloc: Global,
     source: &mut R,

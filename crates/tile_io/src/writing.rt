@@ -8,8 +8,8 @@ use crate::sink::Sink;
 
 /// Writes all of `bytes`, in as many calls as the sink needs; none where there is nothing to write.
 ///
-/// `Failed` comes at the first call that fails, so that a proper prefix of `bytes` was taken. No
-/// memory is taken.
+/// `Failed` comes only where the sink's count of faults rose, and then a proper prefix of `bytes` was
+/// taken. No memory is taken.
 pub fn write_all<W: Sink>(sink: &mut W, bytes: &[u8]) -> Result<(), Failed>
     ensures all { OnOk result (Takes (W.taken sink.old) (W.taken sink.new) bytes.now) }
     ensures part { OnErr result (TakesProperPrefix (W.taken sink.old) (W.taken sink.new) bytes.now) }

@@ -21,7 +21,7 @@ use Rattle.cyclo_points.specs.Order.{NumberOf, points_of, is_refused}
 use Rattle.cyclo_points.specs.Point.{point_in}
 use Rattle.rule_model.specs.declared.rule.Rule.{Rule}
 use Rattle.rule_model.specs.Accepted.{IsAccepted}
-use Rattle.rule_model.specs.Checked.{contacts_of, child_kinds_of}
+use Rattle.rule_model.specs.Tiling as tiling
 use Rattle.rule_model.specs.Small.{is_small}
 use Rattle.rule_model.specs.Views.{as_rule}
 use Rattle.tile_place.specs.Triangle.{triangle, triangle_tables, IsTriangle}
@@ -92,8 +92,8 @@ accepted r is = record {
   edge_to_edge = moved (λ o l. IsEdgeToEdge (points_of o) (is_refused o) (map_rule (point_in o) l)) r is edge_to_edge;
 }
 
-pub its_tables : (r : Rule) (t : Tables) → IsTriangle r → t ≡ triangle_tables → t ≡ contacts_of r
+pub its_tables : (r : Rule) (t : Tables) → IsTriangle r → t ≡ triangle_tables → t ≡ tiling.contacts (tiling.tiling_of r)
 its_tables r t is h = moved (λ o l. t ≡ tables_of (points_of o) (map_rule (point_in o) l)) r is (h ∙ sym contacts)
 
-pub its_uses : (r : Rule) (u : List (List ℕ)) → IsTriangle r → u ≡ tables_child_kinds triangle_tables → u ≡ child_kinds_of r
+pub its_uses : (r : Rule) (u : List (List ℕ)) → IsTriangle r → u ≡ tables_child_kinds triangle_tables → u ≡ tiling.children (tiling.tiling_of r)
 its_uses r u is h = moved (λ o l. u ≡ child_kinds (map_rule (point_in o) l)) r is h

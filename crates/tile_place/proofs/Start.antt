@@ -3,7 +3,7 @@ use Rattle.std.proofs.Common.{◌≡◌, ℕ, ℤ, pos, ◌<◌, refl, arith}
 use Rattle.std.proofs.lemmas.Int.{ints}
 use Rattle.substitution.specs.Motion.{still}
 use Rattle.cyclo_points.specs.declared.order.Order.{Order}
-use Rattle.cyclo_points.specs.declared.order.Order.TheVariants.{Four, Eight, Ten}
+use Rattle.cyclo_points.specs.declared.order.Order.TheVariants.{Four, Six, Eight, Ten}
 use Rattle.cyclo_points.specs.declared.motion.Motion.{Motion}
 use Rattle.cyclo_points.specs.declared.point.Point.{Point}
 use Rattle.cyclo_points.specs.Order.{points_of}
@@ -19,16 +19,19 @@ pub record IsOrigin (p : Point) : Type 0 where
 
 pub start-still : (o : Order) (m : Motion) → m.turn ≡ 0 → IsOrigin m.shift → motion_in o m ≡ still (points_of o)
 start-still Four m t h = rw (t, h.at_0, h.at_1) refl
+start-still Six m t h = rw (t, h.at_0, h.at_1) refl
 start-still Eight m t h = rw (t, h.at_0, h.at_1, h.at_2, h.at_3) refl
 start-still Ten m t h = rw (t, h.at_0, h.at_1, h.at_2, h.at_3) refl
 
 pub start-turn : (o : Order) (m : Motion) → m.turn ≡ 0 → m.turn < (points_of o).order
 start-turn Four m t = omega arith
+start-turn Six m t = omega arith
 start-turn Eight m t = omega arith
 start-turn Ten m t = omega arith
 
 pub start-in_order : (o : Order) (p : Point) → IsOrigin p → IsOf o p
 start-in_order Four p h = (h.at_2, h.at_3)
+start-in_order Six p h = (h.at_2, h.at_3)
 start-in_order Eight p h = tt
 start-in_order Ten p h = tt
 

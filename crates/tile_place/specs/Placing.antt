@@ -3,10 +3,9 @@ use Rattle.std.specs.Prelude.{List, find}
 use Rattle.std.specs.declared.option.Option.{Option}
 use Rattle.addressing.specs.Address.{Step}
 use Rattle.substitution.specs.Placement.{horner_values}
-use Rattle.substitution.specs.Rule.{Rule}
-use Rattle.cyclo_points.specs.declared.order.Order.{Order}
 use Rattle.cyclo_points.specs.Order.{NumberOf, points_of, is_refused}
+use Rattle.rule_model.specs.Tiling.{Tiling}
 
 -- the first Horner value, from coarse to fine, that is refused
-abbrev pub first_refused : (o : Order) → Rule (NumberOf o) → List Step → Option (NumberOf o)
-first_refused o r digits = find (is_refused o) (horner_values (points_of o) r digits)
+abbrev pub first_refused : (t : Tiling) → List Step → Option (NumberOf t.order)
+first_refused t digits = find (is_refused t.order) (horner_values (points_of t.order) t.rule digits)

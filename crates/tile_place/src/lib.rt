@@ -13,5 +13,3 @@ mod place;
 pub mod placed_tile;
 #[cfg(test)]
 mod tests;
-#[cfg(test)]
-mod triangle;

@@ -1,14 +1,16 @@
 //! The machine of a checked rule.
-ghost use Rattle.std.specs.Prelude.{◌≡◌, ◌+◌, ◌*◌, ◌≤◌, ℕ, List, IsSome, IsOk, IfOk, IfErr, Err};
+ghost use Rattle.std.specs.Prelude.{◌≡◌, ◌+◌, ◌*◌, ◌≤◌, ℕ, IsSome, IsOk, IfOk, IfErr, Err};
 ghost use Rattle.addressing.specs.Address.{Address as TheAddress, depth, Fits};
 ghost use Rattle.addressing.specs.Tables.{child_kinds, type_of};
-ghost use Rattle.addressing.specs.Touch.{Touches, IsOnlyTouched};
-ghost use Rattle.addressing.specs.Trace.{Cut, HasTrace, first_part};
+ghost use Rattle.addressing.specs.Touch.{Touches};
+ghost use Rattle.addressing.specs.Across.{IsAcross, LiesOn};
 ghost use Rattle.rule_model.specs.Accepted.{IsAccepted};
-ghost use Rattle.rule_model.specs.Checked.{contacts_of, child_kinds_of};
+ghost use Rattle.rule_model.specs.Tiling.{tiling_of, contacts, children};
 ghost use Rattle.rule_model.specs.Usable.{IsUsable};
 ghost use Rattle.tile_shape.specs.Views.{address_of};
+ghost use Rattle.tile_place.specs.Crossed.{IsOnlyAcross, LiesOnBoundary};
 
+use dissection::laws::{across_law, boundary_law};
 use edge_tables::steps::Steps;
 use rule_model::checked::Checked;
 use std::alloc::Global;
@@ -31,13 +33,13 @@ pub struct Machine {
 impl Model for Machine {
     ghost use Rattle.std.specs.Prelude.{◌≡◌};
     ghost use Rattle.rule_model.specs.declared.rule.Rule.{Rule};
-    ghost use Rattle.rule_model.specs.Checked.{contacts_of};
+    ghost use Rattle.rule_model.specs.Tiling.{tiling_of, contacts};
 
     ghost Value = { Rule };
 
     ghost view = { λ m. m.checked };
 
-    ghost invariant = { λ m. m.transducer ≡ contacts_of m.checked };
+    ghost invariant = { λ m. m.transducer ≡ contacts (tiling_of m.checked) };
 }
 
 impl Machine {
@@ -57,9 +59,10 @@ impl Machine {
         ensures rule { result.now ≡ self.now }
         ensures accepted { IsAccepted self.now }
         ensures usable { IsUsable self.now }
-        ensures same_child_kinds { child_kinds (contacts_of self.now) ≡ child_kinds_of self.now }
+        ensures same_child_kinds { child_kinds (contacts (tiling_of self.now)) ≡ children (tiling_of self.now) }
     {
         let _accepted = self.checked.rule();
+        let _same_child_kinds = self.checked.tables();
         &self.checked
     }
 
@@ -71,23 +74,31 @@ impl Machine {
         edge: u8,
         steps: &mut Steps<L>,
     ) -> Result<Crossing, Outside>
-        requires fits { Fits (child_kinds_of self.now) (address_of addr.now) }
-        requires edge_exists { IsSome (type_of (contacts_of self.now) addr.now.kind edge) }
+        requires fits { Fits (children (tiling_of self.now)) (address_of addr.now) }
+        requires edge_exists { IsSome (type_of (contacts (tiling_of self.now)) addr.now.kind edge) }
 
-        // The one pair that is touched, at the same depth, and it leads back.
-        ensures only_pair_touching { IfOk result (λ x. IsOnlyTouched (contacts_of self.now) (address_of addr.now) edge (address_of x.addr) x.edge) }
-        ensures same_depth { IfOk result (λ x. depth (address_of x.addr) ≡ depth (address_of addr.now)) }
-        ensures answer_fits { IfOk result (λ x. Fits (child_kinds_of self.now) (address_of x.addr)) }
-        ensures answer_edge_exists { IfOk result (λ x. IsSome (type_of (contacts_of self.now) x.addr.kind x.edge)) }
-        ensures leads_back { IfOk result (λ x. IsOnlyTouched (contacts_of self.now) (address_of x.addr) x.edge (address_of addr.now) edge) }
+        // By the contact tables of the rule's geometry.
+        ensures across { IfOk result (λ x. IsAcross (contacts (tiling_of self.now)) (address_of addr.now) edge (address_of x.addr) x.edge) }
+        ensures answer_fits { IfOk result (λ x. Fits (children (tiling_of self.now)) (address_of x.addr)) }
+        ensures on_boundary { IfErr result (λ o. LiesOn (contacts (tiling_of self.now)) (address_of addr.now) edge o.edge o.part) }
+        ensures boundary_when { (own part : ℕ) → LiesOn (contacts (tiling_of self.now)) (address_of addr.now) edge own part
+            → result ≡ Err (record { edge = own; part = part }) }
+        ensures across_when { (b : TheAddress) (f : ℕ) → Fits (children (tiling_of self.now)) b
+            → Touches (contacts (tiling_of self.now)) (address_of addr.now) edge b f → IsOk result }
 
-        // Outside exactly where there is a trace to the top, and across exactly where a pair is touched.
-        ensures outside_has_trace { IfErr result (λ o. (cuts : List Cut) × HasTrace (contacts_of self.now) (address_of addr.now) edge o.edge cuts × (o.part ≡ first_part cuts)) }
-        ensures trace_is_outside { (top : ℕ) (cuts : List Cut) → HasTrace (contacts_of self.now) (address_of addr.now) edge top cuts → result ≡ Err (record { edge = top; part = first_part cuts }) }
-        ensures touching_is_across { (b : TheAddress) (f : ℕ) → Fits (child_kinds_of self.now) b → Touches (contacts_of self.now) (address_of addr.now) edge b f → IsOk result }
+        // In the plane, both tiles placed in their common supertile: the answer is the only tile across, the
+        // edge answered leads back, and Outside comes exactly on the supertile's boundary.
+        ensures only_tile_across { IfOk result (λ x. IsOnlyAcross (tiling_of self.now) (address_of addr.now) edge (address_of x.addr) x.edge) }
+        ensures leads_back { IfOk result (λ x. IsOnlyAcross (tiling_of self.now) (address_of x.addr) x.edge (address_of addr.now) edge) }
+        ensures outside_on_boundary { IfErr result (λ o. LiesOnBoundary (tiling_of self.now) (address_of addr.now) edge o.edge o.part) }
+        ensures boundary_is_outside { (own part : ℕ) → LiesOnBoundary (tiling_of self.now) (address_of addr.now) edge own part
+            → result ≡ Err (record { edge = own; part = part }) }
 
         ensures steps_within_bound { steps.new ≤ steps.old + (2 * depth (address_of addr.now) + 2) }
     {
+        let order = self.checked().order();
+        across_law(order);
+        boundary_law(order);
         self.transducer.step_across(addr, edge, steps)
     }
 }

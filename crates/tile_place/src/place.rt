@@ -2,13 +2,11 @@
 ghost use Rattle.std.specs.Prelude.{◌≡◌, ◌<◌, ◌^◌, length, None, Some, IfOk, IfErr};
 ghost use Rattle.addressing.specs.Address.{Fits};
 ghost use Rattle.substitution.specs.Rule.{children_of};
-ghost use Rattle.substitution.specs.Supertile.{StandsBeside};
 ghost use Rattle.substitution.specs.Placement.{finer};
-ghost use Rattle.substitution.specs.RuleParts.{child_of};
 ghost use Rattle.cyclo_points.specs.Order.{points_of};
 ghost use Rattle.cyclo_points.specs.Point.{point_in, IsOf, IsWithin};
 ghost use Rattle.cyclo_points.specs.Motion.{motion_in};
-ghost use Rattle.rule_model.specs.Checked.{child_kinds_of};
+ghost use Rattle.rule_model.specs.Tiling.{tiling_of, children, its_child, IsPlaced};
 ghost use Rattle.rule_model.specs.Views.{rule_of};
 ghost use Rattle.tile_shape.specs.Views.{address_of};
 ghost use Rattle.tile_place.specs.Placing.{first_refused};
@@ -28,14 +26,13 @@ impl Machine {
     /// value that has a coefficient above 2^24 in absolute value is refused; the answer is then the first,
     /// from coarse to fine.
     pub fn place(&self, addr: &Address) -> Result<Motion, CoordLimit>
-        requires fits { Fits (child_kinds_of self.now) (address_of addr.now) }
-        ensures beside { IfOk result (λ motion. StandsBeside (points_of self.now.order) (rule_of self.now)
-            (address_of addr.now) (motion_in self.now.order motion)) }
-        ensures within { IfOk result (λ _. first_refused self.now.order (rule_of self.now) (address_of addr.now).digits ≡ None) }
+        requires fits { Fits (children (tiling_of self.now)) (address_of addr.now) }
+        ensures beside { IfOk result (λ motion. IsPlaced (tiling_of self.now) (address_of addr.now) (motion_in self.now.order motion)) }
+        ensures within { IfOk result (λ _. first_refused (tiling_of self.now) (address_of addr.now).digits ≡ None) }
         ensures turn_below { IfOk result (λ motion. motion.turn < (points_of self.now.order).order) }
         ensures shift_within { IfOk result (λ motion. IsWithin (2 ^ 24) motion.shift) }
         ensures in_order { IfOk result (λ motion. IsOf self.now.order motion.shift) }
-        ensures limit { IfErr result (λ limit. first_refused self.now.order (rule_of self.now) (address_of addr.now).digits
+        ensures limit { IfErr result (λ limit. first_refused (tiling_of self.now) (address_of addr.now).digits
             ≡ Some (point_in self.now.order limit.value)) }
         ensures limit_in_order { IfErr result (λ limit. IsOf self.now.order limit.value) }
     {
@@ -63,7 +60,7 @@ impl Machine {
         requires within { IsWithin (2 ^ 24) motion.now.shift }
         ensures moved { motion_in self.now.order result
             ≡ finer (points_of self.now.order) (rule_of self.now) (motion_in self.now.order motion.now)
-            (child_of (points_of self.now.order) (rule_of self.now) step.parent step.child).motion }
+            (its_child (tiling_of self.now) step.parent step.child).motion }
         ensures turn_below { result.turn < (points_of self.now.order).order }
         ensures in_order { IsOf self.now.order result.shift }
     {

@@ -1,10 +1,11 @@
 //! Each public call, on the triangle that is cut into four.
+mod triangle;
+
 ghost use Rattle.std.specs.Prelude.{◌≡◌, ◌<◌};
 
 use crate::coord_limit::CoordLimit;
 use crate::machine::Machine;
 use crate::placed_tile::PlacedTile;
-use crate::triangle::checked;
 use cyclo_points::motion::Motion;
 use cyclo_points::point::Point;
 use edge_tables::steps::Steps;
@@ -16,6 +17,7 @@ use tile_shape::reading::read_address;
 use tile_shape::step::Step;
 use transducer_core::crossing::Crossing;
 use transducer_core::outside::Outside;
+use triangle::checked;
 
 /// Where a tile lies; None where there is none of that address.
 fn place(machine: &Machine, addr: &Address) -> Option<Result<Motion, CoordLimit>> {

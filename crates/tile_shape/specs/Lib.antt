@@ -2,9 +2,12 @@ pub mod Views
 pub mod Coarser
 pub mod Misfit
 pub mod Text
+pub mod Limits
 pub mod Accepted
 pub mod Refused
+pub mod Decimal
 pub mod Parse
 pub mod Kept
 pub mod Usable
 pub mod FaultText
+pub mod UsesInOrder

@@ -1,5 +1,6 @@
 //! Laws of traces, of touch, and of crossings.
 ghost use Rattle.std.specs.Prelude.{◌≡◌, ℕ, List, IsSome, IsNone, IfSome};
+ghost use Rattle.addressing.specs.Across.{LiesOn};
 ghost use Rattle.addressing.specs.Address.{Address as TheAddress, Fits};
 ghost use Rattle.addressing.specs.Coherent.{IsCoherent};
 ghost use Rattle.addressing.specs.Tables.{Tables, child_kinds, type_of};
@@ -13,8 +14,8 @@ use edge_tables::steps::Steps;
 use std::sync::ledger::Ledger;
 use tile_shape::address::Address;
 
-/// Across an edge and back again. None exactly where the edge lies on the supertile's own edge.
-pub fn across_and_back<L: Ledger>(
+/// The law that the way across an edge and back again leads home. None exactly where the edge lies on the supertile's own edge.
+pub fn return_law<L: Ledger>(
     transducer: &Transducer,
     addr: &Address,
     edge: u8,
@@ -24,8 +25,8 @@ pub fn across_and_back<L: Ledger>(
     requires edge_exists { IsSome (type_of transducer.now addr.now.kind edge) }
     ensures same_tile { IfSome result (λ x. address_of x.addr ≡ address_of addr.now) }
     ensures same_edge { IfSome result (λ x. x.edge ≡ edge) }
-    ensures trace_is_none { (top : ℕ) (cuts : List Cut) → HasTrace transducer.now (address_of addr.now) edge top cuts → IsNone result }
-    ensures none_is_outside { IsNone result → (top : ℕ) × (cuts : List Cut) × HasTrace transducer.now (address_of addr.now) edge top cuts }
+    ensures none_when { (top part : ℕ) → LiesOn transducer.now (address_of addr.now) edge top part → IsNone result }
+    ensures none_on_boundary { IsNone result → (top : ℕ) × (part : ℕ) × LiesOn transducer.now (address_of addr.now) edge top part }
 {
     match transducer.step_across(addr, edge, steps) {
         Ok(there) => match transducer.step_across(&there.addr, there.edge, steps) {
@@ -37,16 +38,16 @@ pub fn across_and_back<L: Ledger>(
 }
 
 /// The law that what is touched touches back.
-pub fn touch_is_mutual()
+pub fn touch_law()
     ensures { (t : Tables) (a b : TheAddress) (e f : ℕ) → IsCoherent t → Fits (child_kinds t) a → Fits (child_kinds t) b → IsSome (type_of t a.kind e) → Touches t a e b f → Touches t b f a e }
 {}
 
 /// The law that an edge has one trace.
-pub fn trace_is_one()
+pub fn trace_law()
     ensures { (t : Tables) (a : TheAddress) (e top other : ℕ) (cuts others : List Cut) → HasTrace t a e top cuts → HasTrace t a e other others → (top ≡ other) × (cuts ≡ others) }
 {}
 
 /// The law that an edge with a trace touches none.
-pub fn trace_excludes_touch()
+pub fn boundary_law()
     ensures { (t : Tables) (a b : TheAddress) (e f top : ℕ) (cuts : List Cut) → IsCoherent t → Fits (child_kinds t) a → Fits (child_kinds t) b → IsSome (type_of t a.kind e) → HasTrace t a e top cuts → Touches t a e b f → ⊥ }
 {}

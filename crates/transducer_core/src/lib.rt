@@ -5,13 +5,9 @@
 //! level and two more; that the way back leads back; and the supertile's own edge exactly where the edge lies on it.
 #![tactic(auto)]
 
-#[cfg(test)]
-mod chair;
 mod climb;
 pub mod crossing;
 mod descent;
 pub mod laws;
 pub mod outside;
-#[cfg(test)]
-mod tests;
 pub mod transducer;

@@ -1,10 +1,10 @@
 //! The machine that finds the tile across an edge.
-ghost use Rattle.std.specs.Prelude.{◌≡◌, ◌+◌, ◌*◌, ◌≤◌, ◌-◌, ℕ, List, length, slice_index, IsSome, IsOk, IfOk, IfErr, Err};
+ghost use Rattle.std.specs.Prelude.{◌≡◌, ◌+◌, ◌*◌, ◌≤◌, ◌-◌, ℕ, length, slice_index, IsSome, IsOk, IfOk, IfErr, Err};
+ghost use Rattle.addressing.specs.Across.{IsAcross, LiesOn};
 ghost use Rattle.addressing.specs.Address.{Address as TheAddress, depth, Fits};
 ghost use Rattle.addressing.specs.Coherent.{IsCoherent};
 ghost use Rattle.addressing.specs.Tables.{child_kinds, type_of};
-ghost use Rattle.addressing.specs.Touch.{Touches, IsOnlyTouched};
-ghost use Rattle.addressing.specs.Trace.{Cut, HasTrace, first_part};
+ghost use Rattle.addressing.specs.Touch.{Touches};
 ghost use Rattle.tile_shape.specs.Views.{address_of};
 
 use crate::climb::{Ending, climb};
@@ -59,16 +59,11 @@ impl Transducer {
         requires fits { Fits (child_kinds self.now) (address_of addr.now) }
         requires edge_exists { IsSome (type_of self.now addr.now.kind edge) }
 
-        // The one pair that is touched, at the same depth, and it leads back.
-        ensures only_pair_touching { IfOk result (λ x. IsOnlyTouched self.now (address_of addr.now) edge (address_of x.addr) x.edge) }
-        ensures same_depth { IfOk result (λ x. depth (address_of x.addr) ≡ depth (address_of addr.now)) }
-        ensures answer_edge_exists { IfOk result (λ x. IsSome (type_of self.now x.addr.kind x.edge)) }
-        ensures leads_back { IfOk result (λ x. IsOnlyTouched self.now (address_of x.addr) x.edge (address_of addr.now) edge) }
-
-        // Outside exactly where there is a trace to the top, and across exactly where a pair is touched.
-        ensures outside_has_trace { IfErr result (λ o. (cuts : List Cut) × HasTrace self.now (address_of addr.now) edge o.edge cuts × (o.part ≡ first_part cuts)) }
-        ensures trace_is_outside { (top : ℕ) (cuts : List Cut) → HasTrace self.now (address_of addr.now) edge top cuts → result ≡ Err (record { edge = top; part = first_part cuts }) }
-        ensures touching_is_across { (b : TheAddress) (f : ℕ) → Fits (child_kinds self.now) b → Touches self.now (address_of addr.now) edge b f → IsOk result }
+        // Across exactly where a pair is touched, and on the boundary exactly where there is a trace to the top.
+        ensures across { IfOk result (λ x. IsAcross self.now (address_of addr.now) edge (address_of x.addr) x.edge) }
+        ensures on_boundary { IfErr result (λ o. LiesOn self.now (address_of addr.now) edge o.edge o.part) }
+        ensures across_when { (b : TheAddress) (f : ℕ) → Fits (child_kinds self.now) b → Touches self.now (address_of addr.now) edge b f → IsOk result }
+        ensures boundary_when { (top part : ℕ) → LiesOn self.now (address_of addr.now) edge top part → result ≡ Err (record { edge = top; part = part }) }
 
         ensures steps_within_bound { steps.new ≤ steps.old + (2 * depth (address_of addr.now) + 2) }
     {

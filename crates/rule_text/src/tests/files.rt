@@ -1,5 +1,6 @@
 //! Whole files: the chair with one piece of it changed.
-use super::{CHAIR, fault_of, is_read_to_chair};
+use super::chair_rule::{CHAIR, is_read_to_chair};
+use super::faults::{HEAD, fault_of};
 use crate::key::Key;
 use crate::place::Place;
 use crate::reading::{LONGEST_FILE, read_rule};
@@ -90,6 +91,13 @@ const SPELLINGS: [(&str, &str); 11] = [
     ),
 ];
 
+/// Types and kinds, the lists in either form.
+const LISTS: [&str; 3] = [
+    "kind = [{vertices = [], edges = [], children = []}]\ntype = [{mate = 0, parts = []}]\n",
+    "kind = []\n[[type]]\nmate = 0\nparts = [0, 0]\n",
+    "type = []\n[[kind]]\nchildren = []\nedges = []\nvertices = []\n",
+];
+
 /// A number, and the order that it is.
 const ORDERS: [(&str, Order); 8] = [
     ("4", Order::Four),
@@ -113,19 +121,16 @@ fn tells_the_fault_of_a_file(rt: HostRuntime) -> Result<(), Fail> {
 }
 
 #[test]
-fn reads_each_spelling_of_the_chair(rt: HostRuntime) -> Result<(), Fail> {
+fn reads_each_spelling(rt: HostRuntime) -> Result<(), Fail> {
     let alloc = rt.alloc();
     for (piece, other) in SPELLINGS {
         let text = CHAIR.replace(alloc, piece, other)?;
         assert!(rt; text.as_str() != CHAIR);
         assert!(rt; is_read_to_chair(alloc, text.as_str())?, "at {other}");
     }
-    Ok(())
-}
-
-#[test]
-fn reads_numbers_in_each_notation(rt: HostRuntime) -> Result<(), Fail> {
-    let alloc = rt.alloc();
+    for lists in LISTS {
+        assert_eq!(rt; fault_of(alloc, HEAD, lists)?, None);
+    }
     for (number, order) in ORDERS {
         let text = CHAIR.replace(
             alloc,

@@ -1,5 +1,5 @@
 //! Faults of the keys before the types.
-use super::assert_faults;
+use super::faults::assert_faults;
 use crate::key::Key;
 use crate::text_fault::TextFault;
 use std::test::Fail;

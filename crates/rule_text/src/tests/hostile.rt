@@ -1,5 +1,5 @@
 //! Files that are no documents, and documents that strain a reader.
-use super::{HEAD, assert_faults, fault_of};
+use super::faults::{HEAD, assert_faults, fault_of};
 use crate::key::Key;
 use crate::place::Place;
 use crate::reading::read_rule;
@@ -69,51 +69,25 @@ fn refuses_what_is_no_document(rt: HostRuntime) -> Result<(), Fail> {
     for text in NO_DOCUMENTS {
         assert_eq!(rt; fault_of(alloc, text, "")?, no_toml);
     }
-    assert_faults(&rt, alloc, "", &DOCUMENTS)
-}
-
-#[test]
-fn refuses_deep_nests(rt: HostRuntime) -> Result<(), Fail> {
-    let alloc = rt.alloc();
-    let no_toml = Some(TextFault::NotToml);
-    let wrong_type = Some(TextFault::WrongType { key: Key::Format });
+    assert_faults(&rt, alloc, "", &DOCUMENTS)?;
+    assert_faults(
+        &rt,
+        alloc,
+        HEAD,
+        &[(
+            "name = \"x\"\nkind = []\ntype = []\n",
+            TextFault::UnknownKey { place: Place::Top },
+        )],
+    )?;
     assert_eq!(rt; fault_of_nest(alloc, 10_000, 0)?, no_toml);
     assert_eq!(rt; fault_of_nest(alloc, 5_000, 5_000)?, no_toml);
-    assert_eq!(rt; fault_of_nest(alloc, 70, 70)?, wrong_type);
+    assert_eq!(rt;
+        fault_of_nest(alloc, 70, 70)?,
+        Some(TextFault::WrongType { key: Key::Format })
+    );
     let tables = "a = {".repeat(alloc, 5_000)?;
     assert_eq!(rt; fault_of(alloc, tables.as_str(), "")?, no_toml);
     let path = "a.".repeat(alloc, 5_000)?;
     assert_eq!(rt; fault_of(alloc, path.as_str(), "a = 1")?, no_toml);
-    Ok(())
-}
-
-#[test]
-fn reads_no_text_that_may_take_much_memory(rt: HostRuntime) -> Result<(), Fail> {
-    let alloc = rt.alloc();
-    let missing = Some(TextFault::Missing { key: Key::Format });
-    let most = ".".repeat(alloc, 200_000)?;
-    assert_eq!(rt; fault_of(alloc, "#", most.as_str())?, missing);
-    let more = ".".repeat(alloc, 200_001)?;
-    assert_eq!(rt;
-        fault_of(alloc, "#", more.as_str())?,
-        Some(TextFault::NoMemory)
-    );
-    Ok(())
-}
-
-#[test]
-fn reads_lists_in_either_form(rt: HostRuntime) -> Result<(), Fail> {
-    let alloc = rt.alloc();
-    for lists in [
-        "kind = [{vertices = [], edges = [], children = []}]\ntype = [{mate = 0, parts = []}]\n",
-        "kind = []\n[[type]]\nmate = 0\nparts = [0, 0]\n",
-        "type = []\n[[kind]]\nchildren = []\nedges = []\nvertices = []\n",
-    ] {
-        assert_eq!(rt; fault_of(alloc, HEAD, lists)?, None);
-    }
-    let place = Place::Top;
-    let named = "name = \"x\"\nkind = []\ntype = []\n";
-    let fault = TextFault::UnknownKey { place };
-    assert_eq!(rt; fault_of(alloc, HEAD, named)?, Some(fault));
     Ok(())
 }

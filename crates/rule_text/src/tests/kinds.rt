@@ -1,5 +1,5 @@
 //! Faults of the kinds, and of a further key at the top.
-use super::{HEAD, TYPES, assert_faults};
+use super::faults::{HEAD, TYPES, assert_faults};
 use crate::key::Key;
 use crate::place::Place;
 use crate::text_fault::TextFault;

@@ -1,12 +1,14 @@
-use Rattle.std.proofs.Common.{pos, ◌*◌, subst, sym}
+use Rattle.std.proofs.Common.{pos, ◌*◌, subst, sym, refl}
 use Rattle.ordered_ring.specs.Ring.{integers}
+use Rattle.cyclo_points.specs.Six.{conj_six}
 use Rattle.cyclo_points.specs.Eight.{conj_eight}
 use Rattle.cyclo_points.specs.Ten.{conj_ten}
-use Rattle.cyclo_points.specs.Point.{coefficient, quad_of}
+use Rattle.cyclo_points.specs.Point.{coefficient, quad_of, pair_of}
 use Rattle.cyclo_points.proofs.Identities.{pair_path}
 use Rattle.cyclo_points.proofs.Readings.{point_of, machine, machine-is, machine_negative, machine_negative-small}
 use Rattle.cyclo_points.proofs.Sizes.{quad_within, within_quad}
-use Rattle.cyclo_points.proofs.CoordinateReadings.{IsConjugate, conjugate_eight, conjugate_eight-is, conj_eight-doubles, conjugate_ten, conjugate_ten-is, conj_ten-doubles}
+use Rattle.cyclo_points.proofs.PairSizes.{within_pair}
+use Rattle.cyclo_points.proofs.CoordinateReadings.{IsConjugate, conjugate_six, conjugate_six-is, conj_six-doubles, conjugate_eight, conjugate_eight-is, conj_eight-doubles, conjugate_ten, conjugate_ten-is, conj_ten-doubles}
 use Rattle.cyclo_points.proofs.coordinates.conj.Goals as goal
 
 pub returns-in-Four-clause-conjugate : goal.returns-in-Four-clause-conjugate
@@ -15,6 +17,15 @@ returns-in-Four-clause-conjugate c =
     let h = c.requires.p_within in
     subst (λ o. IsConjugate o p (point_of (machine (coefficient p 0)) (machine_negative (coefficient p 1)) (pos 0) (pos 0))) (sym c.in-Four.is)
     (pair_path _ _ (machine-is _ h.at_0) (machine_negative-small _ h.at_1))
+
+pub returns-in-Six-clause-conjugate : goal.returns-in-Six-clause-conjugate
+returns-in-Six-clause-conjugate c =
+    subst (λ o. IsConjugate o c.args.p.now (conjugate_six c.args.p.now)) (sym c.in-Six.is) (conjugate_six-is c.args.p.now c.requires.p_within)
+
+pub returns-in-Six-clause-at_most_doubled : goal.returns-in-Six-clause-at_most_doubled
+returns-in-Six-clause-at_most_doubled c =
+    λ m h. within_pair (2 * m) (conjugate_six c.args.p.now) (conj_six integers (pair_of c.args.p.now)) (conjugate_six-is c.args.p.now c.requires.p_within) refl refl
+    (conj_six-doubles m c.args.p.now h)
 
 pub returns-in-Eight-clause-conjugate : goal.returns-in-Eight-clause-conjugate
 returns-in-Eight-clause-conjugate c =

@@ -1,12 +1,17 @@
 use Rattle.std.proofs.Common.{◌*◌, ◌∙◌, subst, sym}
 use Rattle.cyclo_points.specs.Point.{Within}
 use Rattle.cyclo_points.proofs.Identities.{pair_path}
-use Rattle.cyclo_points.proofs.CoordinateReadings.{IsX, part_doubled, part_difference, part_of_x, part_of_x-theta, within_doubled, within_difference, within_part_of_x, within_part_of_x-theta}
+use Rattle.cyclo_points.proofs.CoordinateReadings.{IsX, part_doubled, part_difference, part_of_x-six, part_of_x, part_of_x-theta, within_doubled, within_difference, within_part_of_x, within_part_of_x-theta}
 use Rattle.cyclo_points.proofs.coordinates.x.Goals as goal
 
 pub returns-in-Four-clause-coordinate : goal.returns-in-Four-clause-coordinate
 returns-in-Four-clause-coordinate c =
     subst (λ o. IsX o c.args.p.now c.from_parts.result) (sym c.in-Four.is) (c.from_parts.ensures.of_a ∙ part_doubled _ c.requires.p_within.at_0)
+
+pub returns-in-Six-clause-coordinate : goal.returns-in-Six-clause-coordinate
+returns-in-Six-clause-coordinate c =
+    subst (λ o. IsX o c.args.p.now c.from_parts-in-Six.result) (sym c.in-Six.is)
+    (c.from_parts-in-Six.ensures.of_a ∙ part_of_x-six _ _ c.requires.p_within.at_0 c.requires.p_within.at_1)
 
 pub returns-in-Eight-clause-coordinate : goal.returns-in-Eight-clause-coordinate
 returns-in-Eight-clause-coordinate c =

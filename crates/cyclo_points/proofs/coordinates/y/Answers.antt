@@ -1,11 +1,13 @@
 use Rattle.std.proofs.Common.{◌∙◌, subst, sym}
 use Rattle.cyclo_points.proofs.Identities.{pair_path}
+use Rattle.cyclo_points.proofs.Reals.{in_either}
 use Rattle.cyclo_points.proofs.CoordinateReadings.{IsY, part_kept, part_sum}
 use Rattle.cyclo_points.proofs.coordinates.y.Goals as goal
 
 pub returns-in-Four-clause-coordinate : goal.returns-in-Four-clause-coordinate
 returns-in-Four-clause-coordinate c =
-    subst (λ o. IsY o c.args.p.now c.from_parts.result) (sym c.in-Four.is) (c.from_parts.ensures.of_a ∙ part_kept _ c.requires.p_within.at_1)
+    let e = c.from_parts.ensures.of_a ∙ part_kept _ c.requires.p_within.at_1 in
+    in_either (λ o. IsY o c.args.p.now c.from_parts.result) c.args.order c.in-Four.is e e
 
 pub returns-in-Eight-clause-coordinate : goal.returns-in-Eight-clause-coordinate
 returns-in-Eight-clause-coordinate c =

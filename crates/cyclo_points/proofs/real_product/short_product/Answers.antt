@@ -1,6 +1,7 @@
 use Rattle.std.proofs.Common.{◌≡◌, pos, ◌+ℤ◌, ◌*ℤ◌, ◌∙◌, ap₂, sym, subst}
 use Rattle.cyclo_points.specs.Real.{real_in}
-use Rattle.cyclo_points.proofs.RealProducts.{read_short_product, short_kept, short_double_sum, short_sum, short_three, multiplied, multiplied_four, multiplied_eight, multiplied_ten}
+use Rattle.cyclo_points.proofs.Reals.{in_either}
+use Rattle.cyclo_points.proofs.RealProducts.{read_short_product, short_kept, short_double_sum, short_sum, short_three, multiplied, multiplied_four, multiplied_six, multiplied_eight, multiplied_ten}
 use Rattle.cyclo_points.proofs.real_product.short_product.Goals as goal
 
 pub returns-in-Four-clause-product : goal.returns-in-Four-clause-product
@@ -8,8 +9,8 @@ returns-in-Four-clause-product c =
     let i = c.requires in
     let t = c.short_times in
     let e = c.from_parts.ensures.of_a ∙ short_kept t.result t.ensures.bounded ∙ t.ensures.value ∙ read_short_product c.args.a c.args.c i.a_within i.c_within in
-    subst (λ o. real_in o c.from_parts.result ≡ multiplied o c.args.a c.args.b c.args.c c.args.d) (sym c.in-Four.is)
-    (multiplied_four c.args.a c.args.b c.args.c c.args.d c.from_parts.result.a e)
+    in_either (λ o. real_in o c.from_parts.result ≡ multiplied o c.args.a c.args.b c.args.c c.args.d) c.args.order c.in-Four.is
+    (multiplied_four c.args.a c.args.b c.args.c c.args.d c.from_parts.result.a e) (multiplied_six c.args.a c.args.b c.args.c c.args.d c.from_parts.result.a e)
 
 pub returns-in-Eight-clause-product : goal.returns-in-Eight-clause-product
 returns-in-Eight-clause-product c =

@@ -1,8 +1,8 @@
 use Rattle.std.specs.Int.{w128}
 use Rattle.std.proofs.Common.{◌≡◌, pos, ◌+ℤ◌, ◌*ℤ◌, ◌∙◌, ap₂, sym, subst}
 use Rattle.cyclo_points.specs.Real.{number}
-use Rattle.cyclo_points.proofs.Reals.{reading}
-use Rattle.cyclo_points.proofs.RealProducts.{read_wide_product, wide_kept, wide_double_sum, wide_sum, wide_three, multiplied, multiplied_four, multiplied_eight, multiplied_ten}
+use Rattle.cyclo_points.proofs.Reals.{in_either, reading}
+use Rattle.cyclo_points.proofs.RealProducts.{read_wide_product, wide_kept, wide_double_sum, wide_sum, wide_three, multiplied, multiplied_four, multiplied_six, multiplied_eight, multiplied_ten}
 use Rattle.cyclo_points.proofs.real_product.wide_product.Goals as goal
 
 pub returns-in-Four-clause-product : goal.returns-in-Four-clause-product
@@ -11,7 +11,8 @@ returns-in-Four-clause-product c =
     let s = c.args.s.now in
     let t = c.wide_times in
     let e = wide_kept t.result t.ensures.bounded ∙ t.ensures.value ∙ read_wide_product r.a s.a c.requires.r_within.at_a c.requires.s_within.at_a in
-    subst (λ o. number o (reading w128 t.result) (pos 0) ≡ multiplied o r.a r.b s.a s.b) (sym c.in-Four.is) (multiplied_four r.a r.b s.a s.b _ e)
+    in_either (λ o. number o (reading w128 t.result) (pos 0) ≡ multiplied o r.a r.b s.a s.b) c.args.order c.in-Four.is
+    (multiplied_four r.a r.b s.a s.b _ e) (multiplied_six r.a r.b s.a s.b _ e)
 
 pub returns-in-Eight-clause-product : goal.returns-in-Eight-clause-product
 returns-in-Eight-clause-product c =

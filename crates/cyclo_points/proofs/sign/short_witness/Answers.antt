@@ -5,7 +5,7 @@ use Rattle.ordered_ring.proofs.Ordered.{two_above, five_above}
 use Rattle.ordered_ring.proofs.Squares.{no_root_two, no_root_five}
 use Rattle.cyclo_points.specs.Point.{Within}
 use Rattle.cyclo_points.proofs.Sizes.{within_product}
-use Rattle.cyclo_points.proofs.Reals.{reading, sign_at}
+use Rattle.cyclo_points.proofs.Reals.{in_either, reading, sign_at}
 use Rattle.cyclo_points.proofs.Witnesses.{IsNear, sign-by_near}
 use Rattle.cyclo_points.proofs.sign.short_witness.Goals as goal
 
@@ -40,7 +40,9 @@ halved a b = at_sum (pos 102334155 *ℤ (pos 2 *ℤ a +ℤ b) +ℤ pos 228826127
     at_sum x y e = grind (arith, ints)
 
 pub returns-in-Four : goal.returns-in-Four
-returns-in-Four c = ap (λ o. sign_at o c.args.a c.args.b) c.in-Four.is ∙ ap (λ x. int_cmp x (pos 0)) (sym (read_part c.args.a c.requires.a_within))
+returns-in-Four c =
+    let e = ap (λ x. int_cmp x (pos 0)) (sym (read_part c.args.a c.requires.a_within)) in
+    in_either (λ o. sign_at o c.args.a c.args.b ≡ int_cmp (reading w64 c.args.a) (pos 0)) c.args.order c.in-Four.is e e
 
 pub returns-in-Eight : goal.returns-in-Eight
 returns-in-Eight c =

@@ -4,7 +4,7 @@ use Rattle.std.proofs.lemmas.Int.{ints}
 use Rattle.ordered_ring.proofs.Ordered.{two_above, five_above}
 use Rattle.ordered_ring.proofs.Squares.{no_root_two, no_root_five}
 use Rattle.cyclo_points.specs.Point.{Within}
-use Rattle.cyclo_points.proofs.Reals.{reading, sign_at}
+use Rattle.cyclo_points.proofs.Reals.{in_either, reading, sign_at}
 use Rattle.cyclo_points.proofs.SignReadings.{product-is_square, squared_within, two_squares, five_squares}
 use Rattle.cyclo_points.proofs.Witnesses.{sign-by_squares}
 use Rattle.cyclo_points.proofs.sign.wide_witness.Goals as goal
@@ -46,7 +46,10 @@ overflow_add-result-in-Ten c =
     omega (arith, ints)
 
 pub returns-in-Four : goal.returns-in-Four
-returns-in-Four c = ap (λ o. sign_at o c.args.r.now.a c.args.r.now.b) c.in-Four.is ∙ ap (λ x. int_cmp x (pos 0)) (sym (read_part c.args.r.now.a c.requires.r_within.at_a))
+returns-in-Four c =
+    let r = c.args.r.now in
+    let e = ap (λ x. int_cmp x (pos 0)) (sym (read_part r.a c.requires.r_within.at_a)) in
+    in_either (λ o. sign_at o r.a r.b ≡ int_cmp (reading w128 r.a) (pos 0)) c.args.order c.in-Four.is e e
 
 pub returns-in-Eight : goal.returns-in-Eight
 returns-in-Eight c =

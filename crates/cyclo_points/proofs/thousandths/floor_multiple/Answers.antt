@@ -7,7 +7,7 @@ use Rattle.ordered_ring.proofs.Squares.{no_root_two, no_root_five}
 use Rattle.cyclo_points.specs.declared.order.Order.TheVariants.{Eight, Ten}
 use Rattle.cyclo_points.specs.Point.{Within}
 use Rattle.cyclo_points.proofs.Sizes.{within_product}
-use Rattle.cyclo_points.proofs.Reals.{reading, sign_at}
+use Rattle.cyclo_points.proofs.Reals.{in_either, reading, sign_at}
 use Rattle.cyclo_points.proofs.Witnesses.{IsNear, sign-by_near}
 use Rattle.cyclo_points.proofs.Floors.{div-at_most, div-below_next}
 use Rattle.cyclo_points.proofs.thousandths.floor_multiple.Goals as goal
@@ -64,13 +64,13 @@ quotient-below_next : (x s n : ℤ) (d : ℕ) → 0 < d → FitsSigned w128 x �
 quotient-below_next x s n d h f e g = subst (λ y. n <ℤ (y *ℤ pos d +ℤ pos d)) (sym (to_z-of_z w128 x f ∙ e ∙ ap (λ s. int_div_euclid s (pos d)) g)) (div-below_next n d h)
 
 pub returns-in-Four-clause-at_most : goal.returns-in-Four-clause-at_most
-returns-in-Four-clause-at_most c = λ h. different (ap (λ o. sign_at o (pos 0) (neg_ℤ c.args.b)) (sym c.in-Four.is) ∙ h)
+returns-in-Four-clause-at_most c = in_either (λ o. sign_at o (pos 0) (neg_ℤ c.args.b) ≡ Greater → ⊥) c.args.order c.in-Four.is different different
   where
     different : int_cmp (pos 0) (pos 0) ≡ Greater → ⊥
     different e = cc e
 
 pub returns-in-Four-clause-below_next : goal.returns-in-Four-clause-below_next
-returns-in-Four-clause-below_next c = ap (λ o. sign_at o (pos 1) (neg_ℤ c.args.b)) c.in-Four.is
+returns-in-Four-clause-below_next c = in_either (λ o. sign_at o (pos 1) (neg_ℤ c.args.b) ≡ Greater) c.args.order c.in-Four.is refl refl
 
 pub returns-in-Eight-clause-at_most : goal.returns-in-Eight-clause-at_most
 returns-in-Eight-clause-at_most c =

@@ -13,8 +13,8 @@ returns-in_err-before_children-clause-fault c =
     let p = err_from_is_err_and c.from_residual.result c.from_residual.ensures.1 in
     rw (p.1, p.2) (agrees_front Rule c.in_err-before_children.field-0.0 (front r) (rest r) c.in_err-before_children.ensures)
 
-pub children-requires : goal.children-requires
-children-requires c = record { usable = usable-front c.args.rule c.in_ok-before_children.ensures }
+pub tables_of_kinds-requires : goal.tables_of_kinds-requires
+tables_of_kinds-requires c = record { usable = usable-front c.args.rule c.in_ok-before_children.ensures }
 
 pub returns-in_err-rows-clause-fault : goal.returns-in_err-rows-clause-fault
 returns-in_err-rows-clause-fault c =

@@ -1,5 +1,5 @@
 use Rattle.std.proofs.Common.{◌+◌, ◌*◌, ◌^◌, arith}
-use Rattle.cyclo_points.proofs.Widths.{point_wider}
+use Rattle.cyclo_points.proofs.Within.{point_wider}
 use Rattle.dissect_check.proofs.child_edges.child_vertex.Goals as goal
 
 pub returns-clause-within : goal.returns-clause-within

@@ -4,7 +4,7 @@ use Rattle.std.proofs.lemmas.Cmp.{is_gt_index}
 use Rattle.std.proofs.lemmas.Int.{ints}
 use Rattle.ordered_ring.specs.Ring.{difference}
 use Rattle.plane_geom.specs.Spots.{reals_of}
-use Rattle.cyclo_points.proofs.Widths.{real_wider, whole_is}
+use Rattle.cyclo_points.proofs.Within.{real_wider, whole_is}
 use Rattle.dissect_check.proofs.factor.is_above_one.Goals as goal
 
 pub sign-requires : goal.sign-requires

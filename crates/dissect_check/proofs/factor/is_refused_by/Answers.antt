@@ -2,7 +2,7 @@ use Rattle.std.proofs.Common.{◌≡◌, ◌^◌, false, refl, sym, ◌∙◌, s
 use Rattle.addressing.specs.Search.{some_below}
 use Rattle.cyclo_points.specs.Order.{points_of}
 use Rattle.cyclo_points.specs.Point.{point_in}
-use Rattle.cyclo_points.proofs.Widths.{point_wider}
+use Rattle.cyclo_points.proofs.Within.{point_wider}
 use Rattle.dissect_check.proofs.Powers.{is_refused_at, refused-at, power-next, one-in, one-of}
 use Rattle.addressing.proofs.BoolLoops.{some_below-more, some_below-found}
 use Rattle.dissect_check.proofs.factor.is_refused_by.Goals as goal

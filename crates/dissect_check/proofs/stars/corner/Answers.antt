@@ -1,7 +1,7 @@
 use Rattle.std.proofs.Common.{◌<◌, ◌^◌, ap, subst, arith}
 use Rattle.substitution.specs.Plane.{plane_point}
 use Rattle.cyclo_points.specs.Order.{points_of}
-use Rattle.cyclo_points.proofs.Widths.{point_wider}
+use Rattle.cyclo_points.proofs.Within.{point_wider}
 use Rattle.dissect_check.proofs.stars.corner.Goals as goal
 
 pub corner-requires-clause-i_in : goal.corner-requires-clause-i_in

@@ -1,5 +1,5 @@
 use Rattle.std.proofs.Common.{◌^◌, ◌+◌, arith}
-use Rattle.cyclo_points.proofs.Widths.{real_wider}
+use Rattle.cyclo_points.proofs.Within.{real_wider}
 use Rattle.plane_geom.proofs.half_plane.below.Goals as goal
 
 pub measure-requires-clause-start_within : goal.measure-requires-clause-start_within

@@ -1,5 +1,5 @@
 use Rattle.std.proofs.Common.{◌^◌, ◌*◌, ◌+◌, arith}
-use Rattle.cyclo_points.proofs.Widths.{real_wider}
+use Rattle.cyclo_points.proofs.Within.{real_wider}
 use Rattle.plane_geom.proofs.half_plane.enters_first.Goals as goal
 
 pub rsub-difference-requires-clause-r_within : goal.rsub-difference-requires-clause-r_within

@@ -1,7 +1,7 @@
 use Rattle.std.proofs.Common.{◌≡◌, pos, to_z, arith}
 use Rattle.std.specs.Int.{w128}
 use Rattle.std.proofs.lemmas.Int.{ints}
-use Rattle.cyclo_points.proofs.Widths.{whole_is}
+use Rattle.cyclo_points.proofs.Within.{whole_is}
 use Rattle.plane_geom.proofs.half_plane.whole.Goals as goal
 
 pub returns-clause-value : goal.returns-clause-value

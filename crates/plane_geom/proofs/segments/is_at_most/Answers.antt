@@ -1,5 +1,5 @@
 use Rattle.std.proofs.Common.{◌+◌, ◌^◌, arith}
-use Rattle.cyclo_points.proofs.Widths.{real_wider}
+use Rattle.cyclo_points.proofs.Within.{real_wider}
 use Rattle.plane_geom.proofs.segments.is_at_most.Goals as goal
 
 pub sign-requires : goal.sign-requires

@@ -1,5 +1,5 @@
 use Rattle.std.proofs.Common.{◌*◌, ◌^◌, arith}
-use Rattle.cyclo_points.proofs.Widths.{point_wider}
+use Rattle.cyclo_points.proofs.Within.{point_wider}
 use Rattle.plane_geom.proofs.segments.twice_squared_length.Goals as goal
 
 pub x-requires : goal.x-requires

@@ -1,5 +1,5 @@
 use Rattle.std.proofs.Common.{◌+◌, ◌^◌, ◌*◌, arith}
-use Rattle.cyclo_points.proofs.Widths.{real_wider}
+use Rattle.cyclo_points.proofs.Within.{real_wider}
 use Rattle.plane_geom.proofs.sides.side.Goals as goal
 
 pub rsub-requires-clause-r_within : goal.rsub-requires-clause-r_within

@@ -1,5 +1,5 @@
 use Rattle.std.proofs.Common.{◌^◌, ◌*◌, arith}
-use Rattle.cyclo_points.proofs.Widths.{real_wider}
+use Rattle.cyclo_points.proofs.Within.{real_wider}
 use Rattle.plane_geom.proofs.sides.y_gap.Goals as goal
 
 pub returns-clause-bounded : goal.returns-clause-bounded

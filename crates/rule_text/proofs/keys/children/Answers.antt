@@ -5,7 +5,7 @@ use Rattle.substitution.specs.Rule.{Child as TheChild}
 use Rattle.rule_model.specs.declared.child.Child.{Child}
 use Rattle.rule_model.specs.Views.{as_child}
 use Rattle.rule_text.specs.Forms.{each, rows}
-use Rattle.rule_text.specs.Ranges.{child_of}
+use Rattle.rule_text.specs.Ranges.{child_in_row}
 use Rattle.rule_text.proofs.Items.{each-map}
 use Rattle.rule_text.proofs.KeyLaws.{value_at-formed, Gives-ok_or}
 use Rattle.rule_text.proofs.keys.children.Goals as goal
@@ -17,6 +17,6 @@ returns c =
     let given = c.in-Some-2.rows.items in
     let seen : Vec Child Global → List (TheChild Point) = λ v. map as_child v.items in
     let form : rows 6 (view c.in-Some.value.now) ≡ Some (map items given) = sym (rw c.in-Some-2.is at c.in_ok-rows.ensures.read) in
-    let range : each (child_of o) (map items given) ≡ option_map seen c.in_ok-children_of.field-0 =
-    each-map (child_of o) items given ∙ ap (each (λ (row : Vec ℤ Global). child_of o row.items)) (sym c.as_slice.ensures.value) ∙ sym c.in_ok-children_of.ensures in
-    rw c.ok_or.ensures.value (Gives-ok_or seen c.in_ok-children_of.field-0 _ _ (value_at-formed c.args.key (codes "children") (rows 6) (each (child_of o)) (table_view c.args.table.now) _ _ _ (sym c.in-Some.ensures) form range))
+    let range : each (child_in_row o) (map items given) ≡ option_map seen c.in_ok-children_of.field-0 =
+    each-map (child_in_row o) items given ∙ ap (each (λ (row : Vec ℤ Global). child_in_row o row.items)) (sym c.as_slice.ensures.value) ∙ sym c.in_ok-children_of.ensures in
+    rw c.ok_or.ensures.value (Gives-ok_or seen c.in_ok-children_of.field-0 _ _ (value_at-formed c.args.key (codes "children") (rows 6) (each (child_in_row o)) (table_view c.args.table.now) _ _ _ (sym c.in-Some.ensures) form range))

@@ -7,7 +7,7 @@ use Rattle.cyclo_points.specs.declared.point.Point.{Point}
 use Rattle.rule_model.specs.Views.{as_kind}
 use Rattle.rule_text.specs.declared.key.Key.TheVariants as key
 use Rattle.rule_text.specs.declared.text_fault.TextFault.{TextFault}
-use Rattle.rule_text.specs.Agrees.{Gives}
+use Rattle.rule_text.specs.Agrees.{ReadsAs}
 use Rattle.rule_text.specs.Document.{kind_in}
 use Rattle.rule_text.specs.Steps.{in_order}
 use Rattle.rule_text.proofs.Rows.{in_order-map}
@@ -28,4 +28,4 @@ returns c =
     let same = kinds_in-entries o (table_view c.args.table.now) (map seen entries) c.in_ok-entries.ensures
     ∙ in_order-map (kind_in o) seen 0 entries
     ∙ ap (in_order (λ kind entry. kind_in o kind (table_view entry.now)) 0) (sym c.as_slice.ensures.value) in
-    subst (λ (r : Result (List (Kind Point)) TextFault). Gives (λ v. map as_kind v.items) c.kind_rows.result r) (sym same) c.kind_rows.ensures
+    subst (λ (r : Result (List (Kind Point)) TextFault). ReadsAs (λ v. map as_kind v.items) c.kind_rows.result r) (sym same) c.kind_rows.ensures

@@ -1,7 +1,7 @@
 use Rattle.std.proofs.Common.{◌≡◌, ◌∙◌, Some, None, sym, ap, refl}
 use Rattle.std.proofs.lemmas.Bool.{false≢true}
 use Rattle.toml.specs.View.{table_view}
-use Rattle.rule_text.specs.Agrees.{Gives}
+use Rattle.rule_text.specs.Agrees.{ReadsAs}
 use Rattle.rule_text.specs.File.{document_in, rule_of_document, rule_in_file}
 use Rattle.rule_model.specs.Tiling.{listed}
 use Rattle.rule_text.proofs.Meaning.{document-some, document-none, meant-read, meant-fault, toml-document}
@@ -15,7 +15,7 @@ rule_of-requires c = record { few = document-few 1048576 c.args.bytes.now (table
 document : (c : After-drop-table) → document_in c.args.bytes.now ≡ Some (table_view c.in-Ok.table)
 document c = document-some c.args.bytes.now (table_view c.in-Ok.table) c.in-Ok.ensures.ok.0 c.in-Ok.ensures.ok.1
 
-given : (c : After-drop-table) → Gives listed c.rule_of.result (rule_in_file c.args.bytes.now)
+given : (c : After-drop-table) → ReadsAs listed c.rule_of.result (rule_in_file c.args.bytes.now)
 given c = rw (document c) c.rule_of.ensures
 
 pub returns-in-Ok-clause-read : goal.returns-in-Ok-clause-read

@@ -6,7 +6,7 @@ use Rattle.substitution.specs.Rule.{EdgeType}
 use Rattle.rule_model.specs.Views.{as_type}
 use Rattle.rule_text.specs.declared.key.Key.TheVariants as key
 use Rattle.rule_text.specs.declared.text_fault.TextFault.{TextFault}
-use Rattle.rule_text.specs.Agrees.{Gives}
+use Rattle.rule_text.specs.Agrees.{ReadsAs}
 use Rattle.rule_text.specs.Document.{type_in}
 use Rattle.rule_text.specs.Steps.{in_order}
 use Rattle.rule_text.proofs.Rows.{in_order-map}
@@ -26,4 +26,4 @@ returns c =
     let same = types_in-entries (table_view c.args.table.now) (map seen entries) c.in_ok-entries.ensures
     ∙ in_order-map type_in seen 0 entries
     ∙ ap (in_order (λ ty entry. type_in ty (table_view entry.now)) 0) (sym c.as_slice.ensures.value) in
-    subst (λ (r : Result (List EdgeType) TextFault). Gives (λ v. map as_type v.items) c.type_rows.result r) (sym same) c.type_rows.ensures
+    subst (λ (r : Result (List EdgeType) TextFault). ReadsAs (λ v. map as_type v.items) c.type_rows.result r) (sym same) c.type_rows.ensures

@@ -1,6 +1,7 @@
 use Rattle.std.proofs.Common.{◌≡◌, drop, is_some}
 use Rattle.std.specs.List.{list_all}
-use Rattle.tile_app.specs.Words.{texts, value_given, required_keys}
+use Rattle.tile_app.specs.Commands.{required_keys}
+use Rattle.tile_app.specs.Words.{texts, value_given}
 use Rattle.tile_app.proofs.words.has_required.Given as goal
 
 -- each key before is given

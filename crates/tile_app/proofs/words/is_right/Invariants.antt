@@ -1,7 +1,8 @@
 use Rattle.std.proofs.Common.{◌≡◌, drop, not, ◌&&◌, is_some, false}
 use Rattle.std.specs.List.{list_any}
 use Rattle.std.specs.Option.{option_map_or}
-use Rattle.tile_app.specs.Words.{texts, value_in, value_given, has_form, keys_of}
+use Rattle.tile_app.specs.Commands.{has_form, keys_of}
+use Rattle.tile_app.specs.Words.{texts, value_in, value_given}
 use Rattle.tile_app.proofs.words.is_right.Given as goal
 
 -- no key before makes the word right

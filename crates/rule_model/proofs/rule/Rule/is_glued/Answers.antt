@@ -4,7 +4,7 @@ use Rattle.substitution.specs.RuleParts.{mate}
 use Rattle.edge_to_edge.specs.Glue.{glue_type}
 use Rattle.rule_model.specs.Views.{rule_of}
 use Rattle.rule_model.proofs.Glue.{either}
-use Rattle.rule_model.proofs.Searches.{some_below-found}
+use Rattle.addressing.proofs.BoolLoops.{some_below-found}
 use Rattle.rule_model.proofs.rule.Rule.is_glued.Goals as goal
 use Rattle.rule_model.proofs.rule.Rule.is_glued.Goals.{then-ty-glue-via-then-ty-glue, then-ty-glue-via-else-ty-glue+then-ty-mate}
 
@@ -14,8 +14,8 @@ returns-then-ty-glue c =
     let i = c.loop-i.i in
     let glue = c.glue_type-glue.ensures.lists in
     let below = subst (λ n. i < n) c.glue_count-i-end.ensures.lists c.loop-i-test.true in
-    sym (some_below-found (λ i. nat_eq c.args.ty (glue_type r i) || nat_eq c.args.ty (mate r (glue_type r i))) i (length r.glue) below
+    sym (some_below-found (λ i. nat_eq c.args.ty (glue_type r i) || nat_eq c.args.ty (mate r (glue_type r i))) i (length r.glue)
     (either (glue_type r i) (mate r (glue_type r i)) c.args.ty (elim c.then-ty-glue.branch [
       | then-ty-glue-via-then-ty-glue w ↦ inl (w.if-ty-glue.true ∙ glue)
       | then-ty-glue-via-else-ty-glue+then-ty-mate w ↦ inr (w.if-ty-mate.true ∙ w.mate.ensures.lists ∙ ap (mate r) glue)
-    ])))
+    ])) below)

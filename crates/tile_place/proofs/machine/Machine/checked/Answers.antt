@@ -1,7 +1,8 @@
-use Rattle.cyclo_points.specs.Order.{points_of}
-use Rattle.rule_model.specs.Views.{rule_of}
-use Rattle.tile_place.proofs.Uses.{child_kinds-tables}
+use Rattle.std.proofs.Common.{◌≡◌, subst}
+use Rattle.addressing.specs.Tables.{child_kinds}
+use Rattle.rule_model.specs.declared.rule.Rule.{Rule}
+use Rattle.rule_model.specs.Tiling.{tiling_of, contacts, children}
 use Rattle.tile_place.proofs.machine.Machine.checked.Goals as goal
 
 pub returns-clause-same_child_kinds : goal.returns-clause-same_child_kinds
-returns-clause-same_child_kinds c = let r = c.args.self.now in child_kinds-tables (points_of r.order) (rule_of r)
+returns-clause-same_child_kinds c = subst (λ (r : Rule). child_kinds (contacts (tiling_of r)) ≡ children (tiling_of r)) c.self.view_is c.tables-same_child_kinds.ensures.same_uses

@@ -9,24 +9,24 @@ use Rattle.cyclo_points.specs.Motion.{motion_in}
 use Rattle.rule_model.specs.declared.rule.Rule.{Rule}
 use Rattle.rule_model.specs.Views.{rule_of, child_in}
 use Rattle.tile_shape.specs.Views.{step_of}
-use Rattle.tile_place.proofs.Sizes.{IsWithin-weaker}
+use Rattle.cyclo_points.proofs.Within.{point_wider}
 use Rattle.tile_place.proofs.Finer.{finer_is}
 use Rattle.tile_place.proofs.machine.Machine.finer.Goals as goal
 
 pub mul-inflated-requires-clause-p_within : goal.mul-inflated-requires-clause-p_within
-mul-inflated-requires-clause-p_within c = IsWithin-weaker (2 ^ 24) (2 ^ 32) _ (lit≤ tt) c.requires.within
+mul-inflated-requires-clause-p_within c = point_wider (2 ^ 24) (2 ^ 32) _ (lit≤ tt) c.requires.within
 
 pub mul-inflated-requires-clause-q_within : goal.mul-inflated-requires-clause-q_within
-mul-inflated-requires-clause-q_within c = IsWithin-weaker 64 (2 ^ 16) _ (lit≤ tt) c.factor.ensures.small.within
+mul-inflated-requires-clause-q_within c = point_wider 64 (2 ^ 16) _ (lit≤ tt) c.factor.ensures.small.within
 
 pub turn-turned-requires-clause-p_within : goal.turn-turned-requires-clause-p_within
-turn-turned-requires-clause-p_within c = IsWithin-weaker 64 (2 ^ 40) _ (lit≤ tt) c.child-child.ensures.small.within
+turn-turned-requires-clause-p_within c = point_wider 64 (2 ^ 40) _ (lit≤ tt) c.child-child.ensures.small.within
 
 pub add-requires-clause-p_within : goal.add-requires-clause-p_within
-add-requires-clause-p_within c = IsWithin-weaker (8 * 2 ^ 24 * 64) (2 ^ 40) _ (lit≤ tt) (c.mul-inflated.ensures.bounded (2 ^ 24) 64 c.requires.within c.factor.ensures.small.within)
+add-requires-clause-p_within c = point_wider (8 * 2 ^ 24 * 64) (2 ^ 40) _ (lit≤ tt) (c.mul-inflated.ensures.bounded (2 ^ 24) 64 c.requires.within c.factor.ensures.small.within)
 
 pub add-requires-clause-q_within : goal.add-requires-clause-q_within
-add-requires-clause-q_within c = IsWithin-weaker (2 * 64) (2 ^ 40) _ (lit≤ tt) (c.turn-turned.ensures.at_most_doubled 64 c.child-child.ensures.small.within)
+add-requires-clause-q_within c = point_wider (2 * 64) (2 ^ 40) _ (lit≤ tt) (c.turn-turned.ensures.at_most_doubled 64 c.child-child.ensures.small.within)
 
 pub returns-clause-moved : goal.returns-clause-moved
 returns-clause-moved c =

@@ -7,7 +7,7 @@ use Rattle.cyclo_points.specs.Order.{points_of}
 use Rattle.cyclo_points.specs.Placement.{PlacementLaw}
 use Rattle.cyclo_points.specs.Motion.{motion_in}
 use Rattle.rule_model.specs.declared.rule.Rule.{Rule}
-use Rattle.rule_model.specs.Checked.{child_kinds_of}
+use Rattle.rule_model.specs.Tiling.{tiling_of, children}
 use Rattle.rule_model.specs.Views.{rule_of}
 use Rattle.tile_shape.specs.Views.{step_of, address_of}
 use Rattle.tile_place.specs.Placing.{first_refused}
@@ -35,13 +35,13 @@ pub finer-motion-requires-clause-parent : goal.finer-motion-requires-clause-pare
 finer-motion-requires-clause-parent c =
     let r = c.args.self.now in
     (digit-listed (rule_of r) c.args.addr.now.kind c.as_slice-digits.result.now (c.loop-level.level - 1) _
-    (subst (λ xs. Climbs (child_kinds_of r) c.args.addr.now.kind (map step_of xs)) (sym c.as_slice-digits.ensures.value) c.requires.fits.climbs) (omega arith)).0
+    (subst (λ xs. Climbs (children (tiling_of r)) c.args.addr.now.kind (map step_of xs)) (sym c.as_slice-digits.ensures.value) c.requires.fits.climbs) (omega arith)).0
 
 pub finer-motion-requires-clause-child : goal.finer-motion-requires-clause-child
 finer-motion-requires-clause-child c =
     let r = c.args.self.now in
     (digit-listed (rule_of r) c.args.addr.now.kind c.as_slice-digits.result.now (c.loop-level.level - 1) _
-    (subst (λ xs. Climbs (child_kinds_of r) c.args.addr.now.kind (map step_of xs)) (sym c.as_slice-digits.ensures.value) c.requires.fits.climbs) (omega arith)).1
+    (subst (λ xs. Climbs (children (tiling_of r)) c.args.addr.now.kind (map step_of xs)) (sym c.as_slice-digits.ensures.value) c.requires.fits.climbs) (omega arith)).1
 
 pub loop-level-preserved : goal.loop-level-preserved
 loop-level-preserved c =
@@ -63,7 +63,7 @@ returns-then-refused-clause-limit c =
     let goes : Goes r.order (rule_of r) c.as_slice-digits.result.now (c.loop-level.level - 1) (motion_in r.order c.finer-motion.result) =
     Goes-finer r.order (rule_of r) c.as_slice-digits.result.now c.loop-level.level (c.loop-level.level - 1) _ (motion_in r.order c.loop-level.motion) (motion_in r.order c.finer-motion.result)
     (omega arith) c.loop-level.invariant.level c.loop-level.invariant.descends c.finer-motion.ensures.moved in
-    ap (λ xs. first_refused r.order (rule_of r) (map step_of xs)) (sym c.as_slice-digits.ensures.value)
+    ap (λ xs. first_refused (tiling_of r) (map step_of xs)) (sym c.as_slice-digits.ensures.value)
     ∙ goes.out (sym (c.refused.ensures.in_order r.order c.finer-motion.ensures.in_order) ∙ c.if-refused.true)
 
 pub returns-clause-beside : goal.returns-clause-beside

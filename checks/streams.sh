@@ -1,0 +1,83 @@
+#!/bin/sh
+# The program's streams and exit status, which no proof speaks of: the answer stands on standard output and nothing on
+# standard error; a refusal has its exit code, its one line on standard error, and nothing on standard output. The
+# program is the one that is given, or that TILING names, or crates/tiling/out/tiling. The last line is 'N passed, M
+# failed'; ends with 1 where one failed.
+top=$(cd "$(dirname "$0")/.." && pwd) || exit 1
+program=${1:-${TILING:-$top/crates/tiling/out/tiling}}
+[ -x "$program" ] || { echo "streams: skipped, since there is no program $program"; exit 0; }
+work=$(mktemp -d) || exit 1
+trap 'rm -rf "$work"' EXIT
+passed=0
+failed=0
+
+# counts a case: its name, and whether it holds
+count() {
+    if [ "$2" = yes ]; then
+        passed=$((passed + 1))
+    else
+        failed=$((failed + 1))
+        echo "streams: $1" >&2
+    fi
+}
+
+# whether the files `out` and `err` have these lines, or nothing where a line is empty, and the status is this
+holds() {
+    if [ -n "$3" ]; then printf '%s\n' "$3"; fi > "$work/want_out"
+    if [ -n "$4" ]; then printf '%s\n' "$4"; fi > "$work/want_err"
+    [ "$1" = "$2" ] && cmp -s "$work/out" "$work/want_out" && cmp -s "$work/err" "$work/want_err" && echo yes
+}
+
+# runs words over an input: the exit status wanted, the lines on standard output and on standard error, the input, and
+# the words
+try() {
+    code=$1 out=$2 err=$3 input=$4
+    shift 4
+    "$program" "$@" < "$input" > "$work/out" 2> "$work/err"
+    count "$*, from $input" "$(holds $? "$code" "$out" "$err")"
+}
+
+# an address of kind 0 with this digit so many times
+address() {
+    digits=$1
+    i=1
+    while [ $i -lt "$2" ]; do digits="$digits,$1" i=$((i + 1)); done
+    echo "0:$digits"
+}
+
+chair="$top/rules/chair.toml"
+awk 'BEGIN { for (i = 0; i < 1048577; i++) printf "#" }' > "$work/long"
+
+# answers
+try 0 '0 1 7,1,0,0' '' /dev/null place rule=chair addr=0:1/0,2/0
+try 0 '0:1/0,0/0 7' '' /dev/null neighbour edge=4 rule=chair addr=0:0/0,1/0
+try 0 'accepted order 10 kinds 4 types 8' '' /dev/null check rule=p3
+try 0 'accepted order 4 kinds 1 types 1' '' "$chair" check rule=-
+try 0 '0 1 7,1,0,0' '' "$chair" place rule=- addr=0:1/0,2/0
+
+# refusals
+try 2 '' '2 BadWords 0' /dev/null
+try 2 '' '2 BadWords 3' /dev/null place rule=chair addr=0: addr=0:
+try 3 '' '3 RuleRefused Missing format' /dev/null check rule=-
+try 3 '' '3 RuleTooLong' "$work/long" check rule=-
+try 4 '' '4 BadAddress WrongChild 0' /dev/null place rule=chair addr=0:4/0
+try 6 '' '6 CoordLimit 26843544,13421772,0,0' /dev/null place rule=chair "addr=$(address 2/0 40)"
+try 8 '' '8 Outside 4 0' /dev/null neighbour rule=chair addr=0:0/0 edge=4
+try 9 '' '9 ReadFault' "$work" check rule=-
+try 12 '' '12 NoEdge 8 8' /dev/null neighbour rule=chair addr=0:0/0 edge=8
+
+# words that aren't UTF-8: nothing is written
+try 1 '' '' /dev/null "$(printf 'place\377')"
+
+# streams that are full: standard output is to blame, or standard error, which changes no status
+if [ -c /dev/full ]; then
+    : > "$work/out"
+    "$program" place rule=chair addr=0: < /dev/null > /dev/full 2> "$work/err"
+    count 'standard output is full' "$(holds $? 10 '' '10 WriteFault')"
+    : > "$work/err"
+    "$program" place rule=chair < /dev/null > "$work/out" 2> /dev/full
+    count 'standard error is full' "$(holds $? 2 '' '')"
+fi
+
+echo "$passed passed, $failed failed"
+[ $failed -eq 0 ]

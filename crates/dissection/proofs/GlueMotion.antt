@@ -1,0 +1,90 @@
+-- The motion of the tile across an edge is the glue motion followed by the motion of the edge's own tile, and the glue motion's turn is the only one.
+use Rattle.std.proofs.Common.{◌≡◌, ◌⊎◌, inl, inr, ℕ, ◌<◌, Bool, true, not, ◌||◌, nat_eq, List, [], ◌∷◌, pos, refl, sym, ap, ap₂, ◌∙◌, subst, eqb-true}
+use Rattle.std.proofs.Math.Nat.{mod-lt}
+use Rattle.ordered_ring.specs.Ring.{Ops, difference, power}
+use Rattle.ordered_ring.proofs.Booleans.{either, denied}
+use Rattle.ordered_ring.proofs.Normaliser.{var, con, ring, ◌⊕◌, ◌⊖◌, ◌⊗◌}
+use Rattle.substitution.specs.Points.{Points, PointLaws}
+use Rattle.substitution.specs.Plane.{IsGrowthFactor}
+use Rattle.substitution.specs.Motion.{Motion, moved, followed}
+use Rattle.addressing.specs.Address.{Step, Address, top_kind, depth, Fits}
+use Rattle.substitution.specs.Rule.{Rule}
+use Rattle.edge_to_edge.specs.Contacts.{tables_of}
+use Rattle.addressing.specs.Tables.{child_kinds}
+use Rattle.addressing.specs.Search.{all_below}
+use Rattle.substitution.specs.Supertile.{Placed}
+use Rattle.substitution.specs.Placement.{placement}
+use Rattle.edge_to_edge.specs.Numbered.{IsNumbered}
+use Rattle.edge_to_edge.specs.EdgeToEdge.{IsEdgeToEdge}
+use Rattle.substitution.proofs.Motions.{moved-followed}
+use Rattle.addressing.proofs.CoherenceTests.{all_below-at}
+use Rattle.addressing.proofs.Chains.{chain_of}
+use Rattle.dissection.specs.TileEdges.{tile_at}
+use Rattle.dissection.specs.Across.{IsTileAcross}
+use Rattle.dissection.specs.Glue.{glue_motion, TurnsDiffer, turns_differ, IsGlued}
+use Rattle.dissection.proofs.Glue.{some_order, across-glued, glued-turn, edge_has_length}
+use Rattle.dissection.proofs.RuleAddresses.{top_exists}
+use Rattle.dissection.proofs.Members.{member}
+
+-- the test says so
+pub turns_differ-is : (P : Points) → PointLaws P → turns_differ P ≡ true → TurnsDiffer P
+turns_differ-is P W h i j hi hj e =
+    let row = all_below-at P.order (λ i. all_below P.order (λ j. not (P.same (power P.ring P.zeta i) (power P.ring P.zeta j)) || nat_eq i j)) h i hi in
+    let cell = all_below-at P.order (λ j. not (P.same (power P.ring P.zeta i) (power P.ring P.zeta j)) || nat_eq i j) row j hj in
+    at_case (either _ _ cell)
+  where
+    same : P.same (power P.ring P.zeta i) (power P.ring P.zeta j) ≡ true
+    same = ap (P.same (power P.ring P.zeta i)) (sym e) ∙ W.same_self (power P.ring P.zeta i)
+
+    at_case : (not (P.same (power P.ring P.zeta i) (power P.ring P.zeta j)) ≡ true) ⊎ (nat_eq i j ≡ true) → i ≡ j
+    at_case (inl k) = absurd (cc (denied _ k, same))
+    at_case (inr k) = eqb-true i j k
+
+module _ (P : Points) (W : PointLaws P) (refused : P.ring.carrier → Bool) (r : Rule P.ring.carrier) (N : IsNumbered P r) (D : IsEdgeToEdge P refused r) (growth : IsGrowthFactor P r.factor) (differ : TurnsDiffer P) where
+  abbrev K : Ops
+  K = P.ring
+
+  -- a tile's turn is below the order
+  turn_below : (ds : List Step) → (placement P r ds).turn < P.order
+  turn_below [] = some_order P W refused r N D growth
+  turn_below (d ∷ ds) = mod-lt _ (some_order P W refused r N D growth)
+
+  pub across-motion : (a : Address) (e : ℕ) (b : Placed K.carrier) (f : ℕ) → Fits (child_kinds (tables_of P r)) a → IsTileAcross P r (tile_at P r a) e b f → IsGlued P r (tile_at P r a) e b f
+  across-motion a e b f fits across =
+      let m = member P W refused r N D (top_kind a) (depth a) (top_exists P W refused r N D a.kind a.digits (chain_of (tables_of P r) a fits)) b across.beside in
+      let has = edge_has_length P W refused r N D growth b.address.kind f m.tile.kind_exists across.edge_exists in
+      let both = across-glued P W refused r N D growth a e b f fits across in
+      let t = both.0.0 in
+      let small : b.motion.turn < P.order = subst (λ (g : Motion K.carrier). g.turn < P.order) (sym m.motion_is) (turn_below b.address.digits) in
+      record {
+        turn = t;
+        below = both.0.1;
+        turns = both.0.2;
+        alone = λ s below turns. differ s t below both.0.1 (glued-turn P W r a.kind e b.address.kind f s t turns both.0.2 has);
+        motion_is = motions t small (both.1 t both.0.2);
+      }
+    where
+      motions : (t : ℕ) → b.motion.turn < P.order → ((z : K.carrier) → moved P (placement P r a.digits) (moved P (glue_motion P r a.kind e b.address.kind f t) z) ≡ moved P b.motion z)
+          → b.motion ≡ followed P (glue_motion P r a.kind e b.address.kind f t) (placement P r a.digits)
+      motions t small moves = λ i. record { turn = turns i; shift = shifts i }
+        where
+          both_moves : (z : K.carrier) → moved P (followed P (glue_motion P r a.kind e b.address.kind f t) (placement P r a.digits)) z ≡ moved P b.motion z
+          both_moves z = moved-followed P W (glue_motion P r a.kind e b.address.kind f t) (placement P r a.digits) z ∙ moves z
+
+          at_zero : (h : Motion K.carrier) → moved P h (K.int (pos 0)) ≡ h.shift
+          at_zero h = ring K W.of_ring (power K P.zeta h.turn ∷ (h.shift ∷ [])) (var 0 ⊗ con (pos 0) ⊕ var 1) (var 1) refl
+
+          at_one : (h : Motion K.carrier) → moved P h (K.int (pos 1)) ≡ K.add (power K P.zeta h.turn) h.shift
+          at_one h = ring K W.of_ring (power K P.zeta h.turn ∷ (h.shift ∷ [])) (var 0 ⊗ con (pos 1) ⊕ var 1) (var 0 ⊕ var 1) refl
+
+          shifts : b.motion.shift ≡ (followed P (glue_motion P r a.kind e b.address.kind f t) (placement P r a.digits)).shift
+          shifts = sym (at_zero b.motion) ∙ sym (both_moves (K.int (pos 0))) ∙ at_zero (followed P (glue_motion P r a.kind e b.address.kind f t) (placement P r a.digits))
+
+          powers : power K P.zeta b.motion.turn ≡ power K P.zeta (followed P (glue_motion P r a.kind e b.address.kind f t) (placement P r a.digits)).turn
+          powers =
+              ring K W.of_ring (power K P.zeta b.motion.turn ∷ (b.motion.shift ∷ [])) (var 0) ((var 0 ⊕ var 1) ⊖ var 1) refl
+              ∙ ap₂ (difference K) (sym (at_one b.motion) ∙ sym (both_moves (K.int (pos 1))) ∙ at_one (followed P (glue_motion P r a.kind e b.address.kind f t) (placement P r a.digits))) shifts
+              ∙ ring K W.of_ring (power K P.zeta (followed P (glue_motion P r a.kind e b.address.kind f t) (placement P r a.digits)).turn ∷ ((followed P (glue_motion P r a.kind e b.address.kind f t) (placement P r a.digits)).shift ∷ [])) ((var 0 ⊕ var 1) ⊖ var 1) (var 0) refl
+
+          turns : b.motion.turn ≡ (followed P (glue_motion P r a.kind e b.address.kind f t) (placement P r a.digits)).turn
+          turns = differ b.motion.turn _ small (mod-lt _ (some_order P W refused r N D growth)) powers

@@ -1,0 +1,123 @@
+-- The counts of the tiles of a supertile add up to the supertile's count.
+use Rattle.std.proofs.Common.{◌≡◌, inl, inr, ℕ, zero, suc, ◌+◌, ◌<◌, ℤ, pos, Bool, List, [], ◌∷◌, length, map, refl, sym, ap, ap₂, ◌∙◌, subst, arith}
+use Rattle.std.specs.List.{enumerate_from}
+use Rattle.ordered_ring.specs.Ring.{Ops, power}
+use Rattle.ordered_ring.specs.Sign.{Signed}
+use Rattle.ordered_plane.specs.Plane.{TestPoint}
+use Rattle.ordered_plane.specs.Crossing.{crossing, count}
+use Rattle.ordered_ring.proofs.Normaliser.{var, con, ring, ◌⊕◌, ◌⊗◌}
+use Rattle.substitution.specs.Points.{Points, PointLaws}
+use Rattle.substitution.specs.Plane.{plane_point, Keeps, IsGrowthFactor}
+use Rattle.substitution.specs.Motion.{Motion, moved, still}
+use Rattle.substitution.specs.Rule.{Child, Rule, children_of}
+use Rattle.substitution.specs.RuleParts.{vertices_of, edge_count, next, vertex, child_of}
+use Rattle.addressing.specs.Search.{below, IsAmong}
+use Rattle.edge_to_edge.specs.Edges.{Edge, child_edge, edges_of_child}
+use Rattle.substitution.specs.Supertile.{Placed, inflated, lifted, supertile}
+use Rattle.edge_to_edge.specs.Numbered.{IsNumbered}
+use Rattle.edge_to_edge.specs.EdgeToEdge.{IsEdgeToEdge}
+use Rattle.substitution.proofs.Motions.{moved-followed}
+use Rattle.substitution.proofs.Keeping.{motion-keeps, powers-keep, keeps-then}
+use Rattle.addressing.proofs.Lists.{get_or-enumerated}
+use Rattle.dissection.specs.Sums.{sum_over, sum_below}
+use Rattle.dissection.proofs.Sums.{plus_zero, sum-ext, sum-ext_on, sum-flat_map, sum-map, sum-places, sum-enumerated, sum-below_list, sum_below-ext}
+use Rattle.dissection.proofs.EdgeSums.{count-edges}
+use Rattle.dissection.proofs.StarEdges.{next_of}
+use Rattle.dissection.proofs.OneLevel.{at_line, edges_sum}
+
+pub map-ext : {A B : Type 0} (f g : A → B) (xs : List A) → ((x : A) → f x ≡ g x) → map f xs ≡ map g xs
+map-ext f g [] h = refl
+map-ext f g (x ∷ xs) h = ap₂ (λ u v. u ∷ v) (h x) (map-ext f g xs h)
+
+-- what stands in a numbered list has a number within it
+enumerated-from : {A : Type 0} (n : ℕ) (xs : List A) (c : ℕ × A) → IsAmong c (enumerate_from n xs) → c.0 < n + length xs
+enumerated-from n [] c i = elim i [ ]
+enumerated-from n (x ∷ xs) c (inl e) = let first : c.0 ≡ n = ap (λ d. d.0) e in omega arith
+enumerated-from n (x ∷ xs) c (inr i) = let rest = enumerated-from (n + 1) xs c i in omega arith
+
+pub enumerated-at : {A : Type 0} (xs : List A) (c : ℕ × A) → IsAmong c (enumerate_from 0 xs) → c.0 < length xs
+enumerated-at xs c i = let h = enumerated-from 0 xs c i in omega arith
+
+module _ (P : Points) (W : PointLaws P) (refused : P.ring.carrier → Bool) (r : Rule P.ring.carrier) (N : IsNumbered P r) (D : IsEdgeToEdge P refused r) (growth : IsGrowthFactor P r.factor)
+    (p : TestPoint P.real.ops.carrier) where
+  abbrev A : Type 0
+  A = P.ring.carrier
+
+  abbrev K : Ops
+  K = P.ring
+
+  abbrev S : Signed
+  S = P.real
+
+  -- the count of kind k's prototile, moved by f
+  abbrev pub kind_count : (A → A) → ℕ → ℤ
+  kind_count f k = count S (map (λ z. plane_point P (f z)) (vertices_of r k)) p
+
+  -- of a tile that f moves, and of the whole supertile
+  abbrev pub tile_count : (A → A) → Placed A → ℤ
+  tile_count f t = kind_count (λ z. f (moved P t.motion z)) t.address.kind
+
+  abbrev pub whole_count : (A → A) → ℕ → ℕ → ℤ
+  whole_count f k n = kind_count (λ z. f (K.mul (power K r.factor n) z)) k
+
+  pub count-ext : (f g : A → A) (k : ℕ) → ((z : A) → f z ≡ g z) → kind_count f k ≡ kind_count g k
+  count-ext f g k h = ap (λ vs. count S vs p) (map-ext _ _ (vertices_of r k) (λ z. ap (plane_point P) (h z)))
+
+  -- by the edges' numbers
+  kind-edges : (f : A → A) (k : ℕ) → k < length r.kinds
+      → kind_count f k ≡ sum_below (λ e. crossing S (plane_point P (f (vertex P r k e))) (plane_point P (f (vertex P r k (next r k e)))) p) (edge_count r k)
+  kind-edges f k h =
+      count-edges S p (λ z. plane_point P (f z)) (K.int (pos 0)) (vertices_of r k)
+      ∙ ap (λ n. sum_below (λ e. crossing S (plane_point P (f (vertex P r k e))) (plane_point P (f (vertex P r k (next_of n e)))) p) n) (N.vertex_each k h)
+
+  module _ (f : A → A) (keeps : Keeps P f) (k : ℕ) (hk : k < length r.kinds) where
+    abbrev line : Edge A → ℤ
+    line = at_line P W refused r N D p f keeps
+
+    child_sum : (i : ℕ) → i < length (children_of r k)
+        → kind_count (λ z. f (moved P (child_of P r k i).motion z)) (child_of P r k i).kind ≡ sum_over (λ s. line s.line) (edges_of_child P r k i)
+    child_sum i h =
+        kind-edges (λ z. f (moved P (child_of P r k i).motion z)) (child_of P r k i).kind (N.child_exists k i hk h)
+        ∙ sym (sum-below_list (λ s. line s.line) (child_edge P r k i) (edge_count r (child_of P r k i).kind))
+
+    pub one_level : sum_over (λ c. kind_count (λ z. f (moved P c.motion z)) c.kind) (children_of r k) ≡ kind_count (λ z. f (K.mul r.factor z)) k
+    one_level =
+        sum-places (λ c. kind_count (λ z. f (moved P c.motion z)) c.kind) (children_of r k) (record { kind = 0; motion = still P })
+        ∙ sum_below-ext (λ i. kind_count (λ z. f (moved P (child_of P r k i).motion z)) (child_of P r k i).kind) (λ i. sum_over (λ s. line s.line) (edges_of_child P r k i)) (length (children_of r k)) child_sum
+        ∙ sym (sum-flat_map (λ s. line s.line) (edges_of_child P r k) (below (λ c. c) (length (children_of r k))) ∙ sum-below_list (λ c. sum_over (λ s. line s.line) (edges_of_child P r k c)) (λ c. c) (length (children_of r k)))
+        ∙ edges_sum P W refused r N D p f keeps k hk
+        ∙ sum_below-ext _ _ (edge_count r k) (λ e lt. ap₂ (λ u v. crossing S (plane_point P (f u)) (plane_point P (f v)) p) (W.of_ring.mul_comm (vertex P r k e) r.factor) (W.of_ring.mul_comm (vertex P r k (next r k e)) r.factor))
+        ∙ sym (kind-edges (λ z. f (K.mul r.factor z)) k hk)
+
+  still-moves : (z : A) → moved P (still P) z ≡ K.mul (K.int (pos 1)) z
+  still-moves z = ring K W.of_ring (z ∷ []) (con (pos 1) ⊗ var 0 ⊕ con (pos 0)) (con (pos 1) ⊗ var 0) refl
+
+  pub inflated-moves : (n : ℕ) (m : Motion A) (z : A) → moved P (inflated P r n m) (K.mul (power K r.factor n) z) ≡ K.mul (power K r.factor n) (moved P m z)
+  inflated-moves n m z =
+      ring K W.of_ring (power K P.zeta m.turn ∷ (power K r.factor n ∷ (z ∷ (m.shift ∷ []))))
+      (var 0 ⊗ (var 1 ⊗ var 2) ⊕ var 1 ⊗ var 3) (var 1 ⊗ (var 0 ⊗ var 2 ⊕ var 3)) refl
+
+  -- a child of the list exists
+  child_below : (k : ℕ) → k < length r.kinds → (c : ℕ × Child A) → IsAmong c (enumerate_from 0 (children_of r k)) → c.1.kind < length r.kinds
+  child_below k hk c i =
+      let at = enumerated-at (children_of r k) c i in
+      subst (λ (x : Child A). x.kind < length r.kinds) (get_or-enumerated (record { kind = 0; motion = still P }) (children_of r k) c i) (N.child_exists k c.0 hk at)
+
+  pub sum-all : (k n : ℕ) → k < length r.kinds → (f : A → A) → Keeps P f → sum_over (tile_count f) (supertile P r k n) ≡ whole_count f k n
+  sum-all k zero hk f h = plus_zero _ ∙ count-ext (λ z. f (moved P (still P) z)) (λ z. f (K.mul (K.int (pos 1)) z)) k (λ z. ap f (still-moves z))
+  sum-all k (suc n) hk f h =
+      sum-flat_map (tile_count f) (λ c. map (lifted P r k n c.0 c.1) (supertile P r c.1.kind n)) (enumerate_from 0 (children_of r k))
+      ∙ sum-ext_on _ (λ c. kind_count (λ z. f (K.mul (power K r.factor n) (moved P c.1.motion z))) c.1.kind) (enumerate_from 0 (children_of r k))
+      (λ c i. child c.0 c.1 (sum-all c.1.kind n (child_below k hk c i) (λ z. f (moved P (inflated P r n c.1.motion) z)) (keeps-then P W f (moved P (inflated P r n c.1.motion)) h (motion-keeps P W (inflated P r n c.1.motion)))))
+      ∙ sum-enumerated (λ c. kind_count (λ z. f (K.mul (power K r.factor n) (moved P c.motion z))) c.kind) 0 (children_of r k)
+      ∙ one_level (λ z. f (K.mul (power K r.factor n) z)) (keeps-then P W f (K.mul (power K r.factor n)) h (powers-keep P W r.factor growth n)) k hk
+      ∙ count-ext (λ z. f (K.mul (power K r.factor n) (K.mul r.factor z))) (λ z. f (K.mul (power K r.factor (suc n)) z)) k
+      (λ z. ap f (ring K W.of_ring (power K r.factor n ∷ (r.factor ∷ (z ∷ []))) (var 0 ⊗ (var 1 ⊗ var 2)) ((var 1 ⊗ var 0) ⊗ var 2) refl))
+    where
+      child : (i : ℕ) (c : Child A) → sum_over (tile_count (λ z. f (moved P (inflated P r n c.motion) z))) (supertile P r c.kind n) ≡ whole_count (λ z. f (moved P (inflated P r n c.motion) z)) c.kind n
+          → sum_over (tile_count f) (map (lifted P r k n i c) (supertile P r c.kind n)) ≡ kind_count (λ z. f (K.mul (power K r.factor n) (moved P c.motion z))) c.kind
+      child i c e =
+          sum-map (tile_count f) (lifted P r k n i c) (supertile P r c.kind n)
+          ∙ sum-ext _ _ (supertile P r c.kind n) (λ t. count-ext _ _ t.address.kind (λ z. ap f (moved-followed P W t.motion (inflated P r n c.motion) z)))
+          ∙ e
+          ∙ count-ext _ _ c.kind (λ z. ap f (inflated-moves n c.motion z))

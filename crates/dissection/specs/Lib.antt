@@ -1,0 +1,9 @@
+pub mod Sums
+pub mod TileEdges
+pub mod Polygons
+pub mod Across
+pub mod OnBoundary
+pub mod Laws
+pub mod Glue
+pub mod Holder
+pub mod Orders

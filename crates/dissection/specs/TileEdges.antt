@@ -1,0 +1,31 @@
+-- The tiles of a supertile in the plane, their edges, and those of the supertile itself.
+use Rattle.std.specs.Prelude.{ℕ}
+use Rattle.ordered_ring.specs.Ring.{power}
+use Rattle.substitution.specs.Points.{Points}
+use Rattle.addressing.specs.Address.{Address, depth, top_kind}
+use Rattle.substitution.specs.Rule.{Rule}
+use Rattle.substitution.specs.RuleParts.{next, vertex}
+use Rattle.edge_to_edge.specs.Edges.{Edge, moved_edge}
+use Rattle.substitution.specs.Placement.{placement}
+use Rattle.addressing.specs.Search.{IsAmong}
+use Rattle.substitution.specs.Supertile.{Placed, supertile}
+
+-- the tile is one of the supertile that the address a names a tile of
+abbrev pub IsTileBeside : (P : Points) → Rule P.ring.carrier → Address → Placed P.ring.carrier → Type 0
+IsTileBeside P r a t = IsAmong t (supertile P r (top_kind a) (depth a))
+
+-- the tile of an address, where Horner's scheme puts it
+abbrev pub tile_at : (P : Points) → Rule P.ring.carrier → Address → Placed P.ring.carrier
+tile_at P r a = record { address = a; motion = placement P r a.digits }
+
+-- edge number e of a tile
+abbrev pub edge_of : (P : Points) → Rule P.ring.carrier → Placed P.ring.carrier → ℕ → Edge P.ring.carrier
+edge_of P r t e = moved_edge P r t.address.kind t.motion e
+
+-- a line multiplied by the n-th power of the factor
+abbrev pub inflated_line : (P : Points) → Rule P.ring.carrier → ℕ → Edge P.ring.carrier → Edge P.ring.carrier
+inflated_line P r n e = record { from = P.ring.mul (power P.ring r.factor n) e.from; to = P.ring.mul (power P.ring r.factor n) e.to }
+
+-- edge number e of the polygon of the supertile of kind k and depth n
+abbrev pub supertile_edge : (P : Points) → Rule P.ring.carrier → ℕ → ℕ → ℕ → Edge P.ring.carrier
+supertile_edge P r k n e = inflated_line P r n (record { from = vertex P r k e; to = vertex P r k (next r k e) })

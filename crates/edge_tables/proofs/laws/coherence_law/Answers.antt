@@ -1,0 +1,5 @@
+use Rattle.addressing.proofs.CoherenceTests.{IsCoherent-test}
+use Rattle.edge_tables.proofs.laws.coherence_law.Goals as goal
+
+pub returns : goal.returns
+returns c = IsCoherent-test

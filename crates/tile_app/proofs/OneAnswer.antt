@@ -1,0 +1,269 @@
+-- A request has one answer: the cause of one status is no cause of another.
+use Rattle.std.proofs.Common.{◌≡◌, ◌⊎◌, inl, inr, ℕ, ◌<◌, ◌≤◌, true, List, length, Some, None, Result, Ok, Err, is_ok, refl, sym, ap, ap₂, ◌∙◌, subst, ℤ, arith}
+use Rattle.std.specs.declared.option.Option.{Option}
+use Rattle.addressing.specs.Across.{LiesOn}
+use Rattle.addressing.specs.Address.{Address, Fits}
+use Rattle.addressing.specs.Tables.{Tables}
+use Rattle.addressing.specs.Trace.{Cut, HasTrace, first_part}
+use Rattle.cyclo_points.specs.declared.point.Point.{Point}
+use Rattle.cyclo_points.specs.Order.{coefficients}
+use Rattle.rule_model.specs.Tiling.{Tiling, contacts, children}
+use Rattle.tile_place.specs.Placing.{first_refused}
+use Rattle.tile_shape.specs.declared.address_fault.AddressFault.{AddressFault}
+use Rattle.tile_shape.specs.Refused.{IsFaultOf}
+use Rattle.tile_shape.specs.Text.{HasShortNumbers, address_text}
+use Rattle.tile_shape.specs.Usable.{AreUsable}
+use Rattle.tile_app.specs.declared.rule_fault.RuleFault.{RuleFault}
+use Rattle.tile_app.specs.declared.status.Status.{Status}
+use Rattle.tile_app.specs.declared.status.Status.TheVariants.{Done, BadWords, RuleTooLong, RuleRefused, BadAddress, NoEdge, Outside, CoordLimit}
+use Rattle.tile_app.specs.declared.words.Command.{Command}
+use Rattle.tile_app.specs.declared.words.Command.TheVariants.{Place, Neighbour, Check}
+use Rattle.tile_app.specs.Answer.{OfCommand, HasAnswer, Refuses, CanBeAnswered}
+use Rattle.tile_app.specs.Causes.{Causes}
+use Rattle.tile_app.specs.Neighbour.{GivesEdge, CanBeCrossed, HasNoEdge, LiesOutside, edges_of}
+use Rattle.tile_app.specs.Place.{CanBePlaced, PassesLimit}
+use Rattle.tile_app.specs.Request.{Request, Asks, tiling_asked}
+use Rattle.tile_app.specs.Tile.{GivesTile, GivesNoTile}
+use Rattle.tile_app.specs.Words.{command_of, reads_file}
+use Rattle.tile_app.proofs.Faults.{OneText, fault_once}
+use Rattle.tile_app.proofs.Given.{both_true}
+use Rattle.tile_app.proofs.Requested.{some_is}
+use Rattle.tile_app.proofs.Tilings.{AcceptedAreUsable, named_is_usable}
+
+-- ---- the laws from which it follows
+abbrev pub FitsAreShort : Type 0
+FitsAreShort = (children : List (List ℕ)) (a : Address) → AreUsable children → Fits children a → HasShortNumbers a
+
+abbrev pub OneTrace : Type 0
+OneTrace = (t : Tables) (a : Address) (e top other : ℕ) (cuts others : List Cut) → HasTrace t a e top cuts → HasTrace t a e other others → (top ≡ other) × (cuts ≡ others)
+
+pub record Laws : Type 0 where
+  pub one_text : OneText
+  pub short : FitsAreShort
+  pub one_trace : OneTrace
+  pub usable : AcceptedAreUsable
+
+-- a point is its coefficients
+same_point : (p q : Point) → p.c ≡ q.c → p ≡ q
+same_point p q e = ap (λ (c : List ℤ). (let s : Point = record { c = c } in s)) e
+
+-- a command has something to print, where all is done, or the cause of a refusal
+abbrev IsFor : List (List ℕ) → Tiling → Command → Status → Type 0
+IsFor words t c Done = HasAnswer c words t
+IsFor words t c status = Refuses c words t status
+
+module _ (laws : Laws) (words : List (List ℕ)) (t : Tiling) (usable : AreUsable (children t)) where
+  -- ---- one tile or one fault is given
+  same_tile : (a b : Address) → GivesTile words t a → GivesTile words t b → a ≡ b
+  same_tile a b p q =
+      laws.one_text a b (laws.short (children t) a usable p.accepted.fits) (laws.short (children t) b usable q.accepted.fits)
+      (some_is (address_text a) (address_text b) (sym p.given ∙ q.given))
+
+  tile_or_none : (a : Address) (fault : AddressFault) → GivesTile words t a → GivesNoTile words t fault → ⊥
+  tile_or_none a fault p q = q.none a p.accepted (some_is q.text (address_text a) (sym q.given ∙ p.given))
+
+  same_fault : (f g : AddressFault) → GivesNoTile words t f → GivesNoTile words t g → f ≡ g
+  same_fault f g p q =
+      fault_once laws.one_text (children t) q.text f g
+      (subst (λ text. IsFaultOf (children t) text f) (some_is p.text q.text (sym p.given ∙ q.given)) p.first) q.first
+
+  -- ---- `place`: a tile is within the limit or passes it
+  within_or_beyond : (value : Point) → CanBePlaced words t → PassesLimit words t value → ⊥
+  within_or_beyond value p q =
+      let e : first_refused t q.address.digits ≡ None =
+      subst (λ (a : Address). first_refused t a.digits ≡ None) (same_tile p.address q.address p.tile q.tile) p.within in
+      absurd (cc (e, q.first))
+
+  same_value : (v w : Point) → PassesLimit words t v → PassesLimit words t w → v ≡ w
+  same_value v w p q =
+      let e : first_refused t q.address.digits ≡ Some p.number =
+      subst (λ (a : Address). first_refused t a.digits ≡ Some p.number) (same_tile p.address q.address p.tile q.tile) p.first in
+      same_point v w (p.is_value ∙ ap (coefficients t.order) (some_is p.number q.number (sym e ∙ q.first)) ∙ sym q.is_value)
+
+  -- ---- `neighbour`: what holds of the tile and the edge that are given holds of any that are
+  of_given : (P : Address → ℕ → Type 0) (a b : Address) (e f : ℕ) → GivesEdge words t a e → GivesEdge words t b f → P a e → P b f
+  of_given P a b e f p q h =
+      subst (λ g. P b g) (some_is e f (sym p.given ∙ q.given)) (subst (λ c. P c e) (same_tile a b p.tile q.tile) h)
+
+  abbrev Exists : Address → ℕ → Type 0
+  Exists a e = e < edges_of t a.kind
+
+  abbrev IsOnNone : Address → ℕ → Type 0
+  IsOnNone a e = (top part : ℕ) → LiesOn (contacts t) a e top part → ⊥
+
+  -- an edge exists or doesn't
+  edge_or_none : (a : Address) (own edge edges : ℕ) → GivesEdge words t a own → own < edges_of t a.kind → HasNoEdge words t edge edges → ⊥
+  edge_or_none a own edge edges p h q =
+      let f : edge < edges_of t q.address.kind = of_given Exists a q.address own edge p q.gives h in
+      let g = q.count in let k = q.beyond in omega arith
+
+  -- an edge is inside or outside
+  inside_or_outside : (edge part : ℕ) → CanBeCrossed words t → LiesOutside words t edge part → ⊥
+  inside_or_outside edge part p q = of_given IsOnNone p.address q.address p.edge q.own p.gives q.gives p.inside.on_none edge part q.lies
+
+  -- the number of edges, and the place outside, are determined
+  same_no_edge : (e es f fs : ℕ) → HasNoEdge words t e es → HasNoEdge words t f fs → NoEdge e es ≡ NoEdge f fs
+  same_no_edge e es f fs p q =
+      ap₂ NoEdge (some_is e f (sym p.gives.given ∙ q.gives.given))
+      (of_given (λ a g. es ≡ edges_of t a.kind) p.address q.address e f p.gives q.gives p.count ∙ sym q.count)
+
+  same_outside : (e i f j : ℕ) → LiesOutside words t e i → LiesOutside words t f j → Outside e i ≡ Outside f j
+  same_outside e i f j p q =
+      let lies : LiesOn (contacts t) q.address q.own e i = of_given (λ a g. LiesOn (contacts t) a g e i) p.address q.address p.own q.own p.gives q.gives p.lies in
+      let one = laws.one_trace (contacts t) q.address q.own e f lies.cuts q.lies.cuts lies.trace q.lies.trace in
+      ap₂ Outside one.0 (lies.is_part ∙ ap first_part one.1 ∙ sym q.lies.is_part)
+
+  -- ---- a command has one answer
+  place_once : (s u : Status) → IsFor words t Place s → IsFor words t Place u → s ≡ u
+  place_once Done Done h k = refl
+  place_once Done (BadAddress f) h k = absurd (tile_or_none h.address f h.tile k)
+  place_once Done (CoordLimit v) h k = absurd (within_or_beyond v h k)
+  place_once Done u h k = absurd k
+  place_once (BadAddress f) Done h k = absurd (tile_or_none k.address f k.tile h)
+  place_once (BadAddress f) (BadAddress g) h k = ap (λ x. BadAddress x) (same_fault f g h k)
+  place_once (BadAddress f) (CoordLimit v) h k = absurd (tile_or_none k.address f k.tile h)
+  place_once (BadAddress f) u h k = absurd k
+  place_once (CoordLimit v) Done h k = absurd (within_or_beyond v k h)
+  place_once (CoordLimit v) (BadAddress f) h k = absurd (tile_or_none h.address f h.tile k)
+  place_once (CoordLimit v) (CoordLimit w) h k = ap (λ x. CoordLimit x) (same_value v w h k)
+  place_once (CoordLimit v) u h k = absurd k
+  place_once s u h k = absurd h
+
+  neighbour_once : (s u : Status) → IsFor words t Neighbour s → IsFor words t Neighbour u → s ≡ u
+  neighbour_once Done Done h k = refl
+  neighbour_once Done (BadAddress f) h k = absurd (tile_or_none h.address f h.gives.tile k)
+  neighbour_once Done (NoEdge e es) h k = absurd (edge_or_none h.address h.edge e es h.gives h.inside.exists k)
+  neighbour_once Done (Outside e i) h k = absurd (inside_or_outside e i h k)
+  neighbour_once Done u h k = absurd k
+  neighbour_once (BadAddress f) Done h k = absurd (tile_or_none k.address f k.gives.tile h)
+  neighbour_once (BadAddress f) (BadAddress g) h k = ap (λ x. BadAddress x) (same_fault f g h k)
+  neighbour_once (BadAddress f) (NoEdge e es) h k = absurd (tile_or_none k.address f k.gives.tile h)
+  neighbour_once (BadAddress f) (Outside e i) h k = absurd (tile_or_none k.address f k.gives.tile h)
+  neighbour_once (BadAddress f) u h k = absurd k
+  neighbour_once (NoEdge e es) Done h k = absurd (edge_or_none k.address k.edge e es k.gives k.inside.exists h)
+  neighbour_once (NoEdge e es) (BadAddress f) h k = absurd (tile_or_none h.address f h.gives.tile k)
+  neighbour_once (NoEdge e es) (NoEdge f fs) h k = same_no_edge e es f fs h k
+  neighbour_once (NoEdge e es) (Outside f i) h k = absurd (edge_or_none k.address k.own e es k.gives k.exists h)
+  neighbour_once (NoEdge e es) u h k = absurd k
+  neighbour_once (Outside e i) Done h k = absurd (inside_or_outside e i k h)
+  neighbour_once (Outside e i) (BadAddress f) h k = absurd (tile_or_none h.address f h.gives.tile k)
+  neighbour_once (Outside e i) (NoEdge f fs) h k = absurd (edge_or_none h.address h.own f fs h.gives h.exists k)
+  neighbour_once (Outside e i) (Outside f j) h k = same_outside e i f j h k
+  neighbour_once (Outside e i) u h k = absurd k
+  neighbour_once s u h k = absurd h
+
+  check_once : (s u : Status) → IsFor words t Check s → IsFor words t Check u → s ≡ u
+  check_once Done Done h k = refl
+  check_once Done u h k = absurd k
+  check_once s u h k = absurd h
+
+  command_once : (c : Command) (s u : Status) → IsFor words t c s → IsFor words t c u → s ≡ u
+  command_once Place s u h k = place_once s u h k
+  command_once Neighbour s u h k = neighbour_once s u h k
+  command_once Check s u h k = check_once s u h k
+
+-- ---- words and rule files
+-- a status for which no command is asked
+abbrev IsEarly : Request → Status → Type 0
+IsEarly r (BadWords place) = Causes r (BadWords place)
+IsEarly r RuleTooLong = Causes r RuleTooLong
+IsEarly r (RuleRefused fault) = Causes r (RuleRefused fault)
+IsEarly r status = ⊥
+
+right_or_wrong : (r : Request) (c : Command) (place : ℕ) → command_of r.words ≡ Ok c → command_of r.words ≡ Err place → ⊥
+right_or_wrong r c place e f = absurd (cc (e, f))
+
+pub reading_or_wrong : (words : List (List ℕ)) (place : ℕ) → reads_file words ≡ true → command_of words ≡ Err place → ⊥
+reading_or_wrong words place f e = let g = (both_true (is_ok (command_of words)) _ f).0 in absurd (cc (subst (λ o. is_ok o ≡ true) e g))
+
+long_or_not : (m n : ℕ) → m < n → n ≤ m → ⊥
+long_or_not m n l k = omega arith
+
+place_is : (p q : ℕ) (o : Result Command ℕ) → o ≡ Err p → o ≡ Err q → p ≡ q
+place_is p q o e f = cc
+
+fault_is : (x y : RuleFault) (o : Option (Result Tiling RuleFault)) → o ≡ Some (Err x) → o ≡ Some (Err y) → x ≡ y
+fault_is x y o e f = cc
+
+either : (t : Tiling) (x : RuleFault) (o : Option (Result Tiling RuleFault)) → o ≡ Some (Ok t) → o ≡ Some (Err x) → ⊥
+either t x o e f = absurd (cc (e, f))
+
+tiling_is : (s t : Tiling) (o : Option (Result Tiling RuleFault)) → o ≡ Some (Ok s) → o ≡ Some (Ok t) → s ≡ t
+tiling_is s t o e f = cc
+
+command_is : (c d : Command) (o : Result Command ℕ) → o ≡ Ok c → o ≡ Ok d → c ≡ d
+command_is c d o e f = cc
+
+module _ (r : Request) where
+  early_once : (s u : Status) → IsEarly r s → IsEarly r u → s ≡ u
+  early_once (BadWords p) (BadWords q) h k = ap (λ n. BadWords n) (place_is p q (command_of r.words) h k)
+  early_once (BadWords p) RuleTooLong h k = absurd (reading_or_wrong r.words p k.0 h)
+  early_once (BadWords p) (RuleRefused x) h k = absurd (right_or_wrong r k.right.0 p k.right.1 h)
+  early_once (BadWords p) u h k = absurd k
+  early_once RuleTooLong (BadWords q) h k = absurd (reading_or_wrong r.words q h.0 k)
+  early_once RuleTooLong RuleTooLong h k = refl
+  early_once RuleTooLong (RuleRefused x) h k = absurd (long_or_not _ (length r.file) h.1 k.not_too_long)
+  early_once RuleTooLong u h k = absurd k
+  early_once (RuleRefused x) (BadWords q) h k = absurd (right_or_wrong r h.right.0 q h.right.1 k)
+  early_once (RuleRefused x) RuleTooLong h k = absurd (long_or_not _ (length r.file) k.1 h.not_too_long)
+  early_once (RuleRefused x) (RuleRefused y) h k = ap (λ z. RuleRefused z) (fault_is x y (tiling_asked r) h.first k.first)
+  early_once (RuleRefused x) u h k = absurd k
+  early_once s u h k = absurd h
+
+  early_or_asks : (s : Status) (c : Command) (t : Tiling) → IsEarly r s → Asks r c t → ⊥
+  early_or_asks (BadWords p) c t h k = right_or_wrong r c p k.right h
+  early_or_asks RuleTooLong c t h k = long_or_not _ (length r.file) h.1 k.names.not_too_long
+  early_or_asks (RuleRefused x) c t h k = either t x (tiling_asked r) k.names.chosen h.first
+  early_or_asks s c t h k = h
+
+  -- something to print, where all is done, or the cause of a refusal
+  abbrev pub Outcome : Status → Type 0
+  Outcome Done = CanBeAnswered r
+  Outcome status = Causes r status
+
+  -- it is an early one, or that of a command
+  abbrev IsOfCommand : Status → Type 0
+  IsOfCommand s = OfCommand (λ c words t. IsFor words t c s) r
+
+  no_cause : Causes r Done → ⊥
+  no_cause h = none h.command r.words h.tiling h.holds
+    where
+      none : (c : Command) (words : List (List ℕ)) (t : Tiling) → Refuses c words t Done → ⊥
+      none Place words t k = k
+      none Neighbour words t k = k
+      none Check words t k = k
+
+  pub outcome_of : (s : Status) → Causes r s → Outcome s
+  outcome_of Done h = absurd (no_cause h)
+  outcome_of s h = h
+
+  pub refused_at_done : (s : Status) → Causes r s → Done ≡ s → ⊥
+  refused_at_done s h e = no_cause (subst (Causes r) (sym e) h)
+
+  early_or_command : (s : Status) → Outcome s → IsEarly r s ⊎ IsOfCommand s
+  early_or_command Done h = inr h
+  early_or_command (BadWords p) h = inl h
+  early_or_command RuleTooLong h = inl h
+  early_or_command (RuleRefused x) h = inl h
+  early_or_command s h = inr h
+
+  asked_once : (laws : Laws) (s u : Status) → IsOfCommand s → IsOfCommand u → s ≡ u
+  asked_once laws s u h k =
+      let same_command : h.command ≡ k.command = command_is h.command k.command (command_of r.words) h.asks.right k.asks.right in
+      let same_tiling : h.tiling ≡ k.tiling = tiling_is h.tiling k.tiling (tiling_asked r) h.asks.names.chosen k.asks.names.chosen in
+      let moved : IsFor r.words k.tiling k.command s =
+      subst (λ t. IsFor r.words t k.command s) same_tiling (subst (λ c. IsFor r.words h.tiling c s) same_command h.holds) in
+      command_once laws r.words k.tiling (named_is_usable laws.usable r k.tiling k.asks.names.chosen) k.command s u moved k.holds
+
+  pub one_answer : (laws : Laws) (s u : Status) → Outcome s → Outcome u → s ≡ u
+  one_answer laws s u h k =
+      elim (early_or_command s h) [
+        | inl e ↦ elim (early_or_command u k) [
+          | inl f ↦ early_once s u e f
+          | inr f ↦ absurd (early_or_asks s f.command f.tiling e f.asks)
+        ]
+        | inr e ↦ elim (early_or_command u k) [
+          | inl f ↦ absurd (early_or_asks u e.command e.tiling f e.asks)
+          | inr f ↦ asked_once laws s u e f
+        ]
+      ]

@@ -1,0 +1,86 @@
+use Rattle.std.proofs.Common.{◌≡◌, ◌<◌, ℕ, length, Result, Ok, Err, ap, ◌∙◌, subst}
+use Rattle.std.proofs.lemmas.Result.{err_from_is_err_and}
+use Rattle.addressing.specs.Tables.{Tables, child_kinds, kind_tables}
+use Rattle.rule_model.specs.Checked.{rule_contacts, child_kinds_of}
+use Rattle.rule_model.specs.declared.rule.Rule.{Rule}
+use Rattle.rule_model.specs.Tiling.{tiling_of}
+use Rattle.tile_shape.specs.Views.{address_of}
+use Rattle.tile_app.specs.declared.words.Command.TheVariants.{Neighbour}
+use Rattle.tile_app.specs.Neighbour.{edges_of}
+use Rattle.tile_app.proofs.Children.{kind_in_tables}
+use Rattle.tile_app.proofs.Edges.{edge_has_type}
+use Rattle.tile_app.proofs.neighbour.neighbour_text.Goals as goal
+
+-- the number of edges that the tables of a rule give
+edges-counted : (t : Tables) (inside now : Rule) (kind edges : ℕ) → t ≡ rule_contacts inside → inside ≡ now → edges ≡ length (kind_tables t kind).types → edges ≡ edges_of (tiling_of now) kind
+edges-counted t inside now kind edges is same h = h ∙ ap (λ t. length (kind_tables t kind).types) (is ∙ ap rule_contacts same)
+
+ok_or_err : {A B : Type 0} (o : Result A B) (x : A) (y : B) → o ≡ Ok x → o ≡ Err y → ⊥
+ok_or_err o x y e f = absurd (cc (e, f))
+
+pub address_given-requires : goal.address_given-requires
+address_given-requires g c = record { right = (Neighbour, c.requires.right, tt) }
+
+pub edges-edges-requires : goal.edges-edges-requires
+edges-edges-requires g c = record {
+  exists = kind_in_tables c.tables.result.now (child_kinds_of c.args.machine.now) c.in_ok-address.address.kind
+      (ap child_kinds (c.tables.ensures.contacts ∙ ap rule_contacts c.checked.ensures.rule) ∙ c.checked.ensures.same_child_kinds)
+      c.in_ok-address.ensures.given.accepted.fits.kind_exists;
+}
+
+pub returns-in_err-address-clause-refused : goal.returns-in_err-address-clause-refused
+returns-in_err-address-clause-refused g c =
+    let p = err_from_is_err_and c.from_residual.result c.from_residual.ensures.1 in
+    rw (p.1, p.2) c.in_err-address.ensures.refused
+
+pub returns-then-edge-edges-clause-refused : goal.returns-then-edge-edges-clause-refused
+returns-then-edge-edges-clause-refused g c = record {
+  address = address_of c.in_ok-address.address;
+  gives = record { tile = c.in_ok-address.ensures.given; given = c.edge_given-edge.ensures };
+  count = edges-counted c.tables.result.now c.checked.result.now c.args.machine.now c.in_ok-address.address.kind c.edges-edges.result c.tables.ensures.contacts c.checked.ensures.rule c.edges-edges.ensures.count;
+  beyond = c.if-edge-edges.true;
+}
+
+pub cross-requires-clause-fits : goal.cross-requires-clause-fits
+cross-requires-clause-fits g c = c.in_ok-address.ensures.given.accepted.fits
+
+pub cross-requires-clause-edge_exists : goal.cross-requires-clause-edge_exists
+cross-requires-clause-edge_exists g c =
+    let kind = c.in_ok-address.address.kind in
+    edge_has_type (rule_contacts c.args.machine.now) kind c.edge_given-edge.result
+    (subst (λ n. c.edge_given-edge.result < n)
+    (edges-counted c.tables.result.now c.checked.result.now c.args.machine.now kind c.edges-edges.result c.tables.ensures.contacts c.checked.ensures.rule c.edges-edges.ensures.count) c.if-edge-edges.false)
+
+pub returns-in_err-crossing-clause-refused : goal.returns-in_err-crossing-clause-refused
+returns-in_err-crossing-clause-refused g c =
+    let p = err_from_is_err_and c.from_residual-in_err-crossing.result c.from_residual-in_err-crossing.ensures.1 in
+    let edge = c.edge_given-edge.result in
+    rw (p.1, p.2) (record {
+      address = address_of c.in_ok-address.address;
+      own = edge;
+      gives = record { tile = c.in_ok-address.ensures.given; given = c.edge_given-edge.ensures };
+      exists = subst (λ n. edge < n)
+          (edges-counted c.tables.result.now c.checked.result.now c.args.machine.now c.in_ok-address.address.kind c.edges-edges.result c.tables.ensures.contacts c.checked.ensures.rule c.edges-edges.ensures.count) c.if-edge-edges.false;
+      lies = c.in_err-crossing.ensures.on_boundary;
+      along = c.in_err-crossing.ensures.outside_on_boundary;
+    })
+
+pub returns-clause-printed : goal.returns-clause-printed
+returns-clause-printed g c =
+    let edge = c.edge_given-edge.result in
+    record {
+      address = address_of c.in_ok-address.address;
+      edge = edge;
+      gives = record { tile = c.in_ok-address.ensures.given; given = c.edge_given-edge.ensures };
+      inside = record {
+        exists = subst (λ n. edge < n)
+            (edges-counted c.tables.result.now c.checked.result.now c.args.machine.now c.in_ok-address.address.kind c.edges-edges.result c.tables.ensures.contacts c.checked.ensures.rule c.edges-edges.ensures.count) c.if-edge-edges.false;
+        on_none = λ top part lies. ok_or_err _ _ _ c.in_ok-crossing.was (c.cross.ensures.boundary_when top part lies);
+      };
+      across = address_of c.in_ok-crossing.crossing.addr;
+      back = c.in_ok-crossing.crossing.edge;
+      is_across = c.in_ok-crossing.ensures.across;
+      only_across = c.in_ok-crossing.ensures.only_tile_across;
+      leads_back = c.in_ok-crossing.ensures.leads_back;
+      line = c.in_ok-neighbour_line.ensures;
+    }

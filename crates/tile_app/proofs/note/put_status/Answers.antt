@@ -1,0 +1,22 @@
+use Rattle.std.proofs.Common.{◌∷◌, ◌++◌, codes, sym, ap, ◌∙◌}
+use Rattle.cyclo_points.specs.Text.{point_text, blank}
+use Rattle.tile_shape.specs.FaultText.{address_fault_text}
+use Rattle.tile_app.specs.Notes.{status_text}
+use Rattle.tile_app.specs.RuleFaultText.{rule_fault_text}
+use Rattle.tile_app.proofs.Lines.{two_words}
+use Rattle.tile_app.proofs.note.put_status.Goals as goal
+
+pub returns-in-RuleRefused-clause-status : goal.returns-in-RuleRefused-clause-status
+returns-in-RuleRefused-clause-status c =
+    two_words c.args.line.now.bytes _ _ (codes "RuleRefused") (rule_fault_text c.in-RuleRefused.fault) c.put_word-in-RuleRefused.ensures c.put_rule_fault.ensures.fault
+    ∙ ap (λ s. c.args.line.now.bytes ++ blank ∷ status_text s) (sym c.in-RuleRefused.is)
+
+pub returns-in-BadAddress-clause-status : goal.returns-in-BadAddress-clause-status
+returns-in-BadAddress-clause-status c =
+    two_words c.args.line.now.bytes _ _ (codes "BadAddress") (address_fault_text c.in-BadAddress.fault) c.put_word-in-BadAddress.ensures c.put_address_fault.ensures.fault
+    ∙ ap (λ s. c.args.line.now.bytes ++ blank ∷ status_text s) (sym c.in-BadAddress.is)
+
+pub returns-in-CoordLimit-clause-status : goal.returns-in-CoordLimit-clause-status
+returns-in-CoordLimit-clause-status c =
+    two_words c.args.line.now.bytes _ _ (codes "CoordLimit") (point_text c.in-CoordLimit.value) c.put_word-in-CoordLimit.ensures c.put_point.ensures.point
+    ∙ ap (λ s. c.args.line.now.bytes ++ blank ∷ status_text s) (sym c.in-CoordLimit.is)

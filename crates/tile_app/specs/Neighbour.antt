@@ -1,0 +1,85 @@
+-- What `neighbour` prints, and what it refuses.
+use Rattle.std.specs.Prelude.{◌≡◌, ℕ, ◌<◌, ◌≤◌, List, [], ◌∷◌, ◌++◌, Some, length}
+use Rattle.std.specs.declared.option.Option.{Option}
+use Rattle.std.specs.Fmt.{decimal}
+use Rattle.std.specs.Option.{option_and_then}
+use Rattle.addressing.specs.Across.{IsAcross, LiesOn}
+use Rattle.addressing.specs.Address.{Address}
+use Rattle.addressing.specs.Tables.{kind_tables}
+use Rattle.rule_model.specs.Tiling.{Tiling, contacts}
+use Rattle.tile_place.specs.Crossed.{IsOnlyAcross, LiesOnBoundary}
+use Rattle.tile_shape.specs.Text.{address_text}
+use Rattle.tile_app.specs.declared.status.Status.{Status}
+use Rattle.tile_app.specs.declared.status.Status.TheVariants.{BadAddress, NoEdge, Outside}
+use Rattle.tile_app.specs.declared.words.Key.TheVariants.{Edge}
+use Rattle.tile_shape.specs.Decimal.{number_up_to}
+use Rattle.tile_app.specs.Text.{newline}
+use Rattle.cyclo_points.specs.Text.{blank}
+use Rattle.tile_app.specs.Tile.{GivesTile, GivesNoTile}
+use Rattle.tile_app.specs.Words.{value_given}
+
+-- the tile across an edge and the edge there that leads back, as `address edge`
+abbrev pub neighbour_line : Address → ℕ → List ℕ
+neighbour_line across edge = address_text across ++ blank ∷ decimal edge ++ newline ∷ []
+
+-- the number of the edge that the words give
+abbrev pub edge_given : List (List ℕ) → Option ℕ
+edge_given words = option_and_then (number_up_to 255) (value_given Edge words)
+
+-- how many edges a kind has
+abbrev pub edges_of : Tiling → ℕ → ℕ
+edges_of t kind = length (kind_tables (contacts t) kind).types
+
+-- the words give a tile and the number of an edge
+pub record GivesEdge (words : List (List ℕ)) (t : Tiling) (a : Address) (edge : ℕ) : Type 0 where
+  pub tile : GivesTile words t a
+  pub given : edge_given words ≡ Some edge
+
+-- the tile has the edge, and the edge lies on no edge of the supertile
+pub record IsInside (t : Tiling) (a : Address) (edge : ℕ) : Type 0 where
+  pub exists : edge < edges_of t a.kind
+  pub on_none : (top part : ℕ) → LiesOn (contacts t) a edge top part → ⊥
+
+-- the words give an edge of a tile that is inside the supertile
+pub record CanBeCrossed (words : List (List ℕ)) (t : Tiling) : Type 0 where
+  pub address : Address
+  pub edge : ℕ
+  pub gives : GivesEdge words t address edge
+  pub inside : IsInside t address edge
+
+-- The words give an edge of a tile that is inside the supertile, and the text is the line of the one tile and edge across it. By the contact tables that is the
+-- one pair that the edge touches; in the plane, both placed in their common supertile, it is the only tile across the edge, and its edge leads back.
+pub record PrintsNeighbour (words : List (List ℕ)) (t : Tiling) (text : List ℕ) : Type 0 where
+  pub address : Address
+  pub edge : ℕ
+  pub gives : GivesEdge words t address edge
+  pub inside : IsInside t address edge
+  pub across : Address
+  pub back : ℕ
+  pub is_across : IsAcross (contacts t) address edge across back
+  pub only_across : IsOnlyAcross t address edge across back
+  pub leads_back : IsOnlyAcross t across back address edge
+  pub line : text ≡ neighbour_line across back
+
+-- the words give a tile that has only so many edges, and not the edge that they give
+pub record HasNoEdge (words : List (List ℕ)) (t : Tiling) (edge edges : ℕ) : Type 0 where
+  pub address : Address
+  pub gives : GivesEdge words t address edge
+  pub count : edges ≡ edges_of t address.kind
+  pub beyond : edges ≤ edge
+
+-- the words give an edge of a tile that lies on this edge of the supertile, in this part of it: by the contact tables, and along it in the plane
+pub record LiesOutside (words : List (List ℕ)) (t : Tiling) (edge part : ℕ) : Type 0 where
+  pub address : Address
+  pub own : ℕ
+  pub gives : GivesEdge words t address own
+  pub exists : own < edges_of t address.kind
+  pub lies : LiesOn (contacts t) address own edge part
+  pub along : LiesOnBoundary t address own edge part
+
+-- why `neighbour` refuses its words for a tiling: for each status its cause
+abbrev pub NeighbourRefuses : List (List ℕ) → Tiling → Status → Type 0
+NeighbourRefuses words t (BadAddress fault) = GivesNoTile words t fault
+NeighbourRefuses words t (NoEdge edge edges) = HasNoEdge words t edge edges
+NeighbourRefuses words t (Outside edge part) = LiesOutside words t edge part
+NeighbourRefuses words t _ = ⊥

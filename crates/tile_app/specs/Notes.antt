@@ -1,0 +1,38 @@
+-- The one line that a refusal writes to the notes.
+use Rattle.std.specs.Prelude.{ℕ, ◌≤◌, List, [], ◌∷◌, ◌++◌, codes, length, take}
+use Rattle.std.specs.declared.option.Option.{Option}
+use Rattle.std.specs.Fmt.{decimal}
+use Rattle.cyclo_points.specs.Text.{point_text, blank}
+use Rattle.tile_io.specs.Causes.{Rose}
+use Rattle.tile_io.specs.Taken.{Takes}
+use Rattle.tile_shape.specs.FaultText.{address_fault_text}
+use Rattle.tile_app.specs.declared.status.Status.{Status}
+use Rattle.tile_app.specs.declared.status.Status.TheVariants.{Done, BadWords, ReadFault, RuleTooLong, RuleRefused, BadAddress, NoEdge, Outside, CoordLimit, WriteFault, NoMemory}
+use Rattle.tile_app.specs.RuleFaultText.{rule_fault_text}
+use Rattle.tile_app.specs.Status.{code_of}
+use Rattle.tile_app.specs.Text.{newline}
+
+-- a status by its name and its fields, each field behind a blank
+abbrev pub status_text : Status → List ℕ
+status_text Done = codes "Done"
+status_text (BadWords place) = codes "BadWords " ++ decimal place
+status_text ReadFault = codes "ReadFault"
+status_text RuleTooLong = codes "RuleTooLong"
+status_text (RuleRefused fault) = codes "RuleRefused " ++ rule_fault_text fault
+status_text (BadAddress fault) = codes "BadAddress " ++ address_fault_text fault
+status_text (NoEdge edge edges) = codes "NoEdge " ++ decimal edge ++ blank ∷ decimal edges
+status_text (Outside edge part) = codes "Outside " ++ decimal edge ++ blank ∷ decimal part
+status_text (CoordLimit value) = codes "CoordLimit " ++ point_text value
+status_text WriteFault = codes "WriteFault"
+status_text NoMemory = codes "NoMemory"
+
+-- what is noted of a call: nothing where all is done, and else a line with the code and the text of its status
+abbrev pub note_of : Status → List ℕ
+note_of Done = []
+note_of status = decimal (code_of status) ++ blank ∷ status_text status ++ newline ∷ []
+
+-- the notes, with their count of faults before and after and the bytes that they had taken and have, took a part from the front of the line, and all of it
+-- unless their count rose
+pub record IsNoted (before after : ℕ) (old new : Option (List ℕ)) (line : List ℕ) : Type 0 where
+  pub front : (count : ℕ) × (count ≤ length line) × Takes old new (take count line)
+  pub whole : (Rose before after → ⊥) → Takes old new line

@@ -1,0 +1,67 @@
+//! A line in fixed storage, to which words are put, each behind a blank.
+ghost use Rattle.std.specs.Prelude.{◌≡◌, ◌+◌, ◌≤◌, ◌∷◌, ◌++◌, length, decimal};
+ghost use Rattle.std.specs.Fmt.{signed_decimal};
+ghost use Rattle.arrayvec.specs.ArrayString.{array_string_len};
+ghost use Rattle.cyclo_points.specs.Text.{point_text, blank};
+
+use arrayvec::ArrayString;
+use cyclo_points::point::Point;
+use itoa::Buffer;
+
+/// How many bytes a line has room for.
+pub const LINE_ROOM: usize = 640;
+
+/// Puts a word behind a blank.
+pub fn put_word(line: &mut ArrayString<LINE_ROOM>, word: &str)
+    requires room { array_string_len line.old + length word.now + 1 ≤ LINE_ROOM }
+    ensures { line.new.bytes ≡ line.old.bytes ++ blank ∷ word.now }
+{
+    line.push_str(" ");
+    line.push_str(word);
+}
+
+/// Puts a number behind a blank, in decimal.
+pub fn put_number(line: &mut ArrayString<LINE_ROOM>, number: u64)
+    requires room { array_string_len line.old + 21 ≤ LINE_ROOM }
+    ensures number { line.new.bytes ≡ line.old.bytes ++ blank ∷ decimal number }
+    ensures at_most { array_string_len line.new ≤ array_string_len line.old + 21 }
+{
+    let mut figures = Buffer::new();
+    put_word(line, figures.format(number));
+}
+
+/// Puts a word and a number, each behind a blank.
+pub fn put_numbered(line: &mut ArrayString<LINE_ROOM>, word: &str, number: u64)
+    requires room { array_string_len line.old + length word.now + 22 ≤ LINE_ROOM }
+    ensures numbered { line.new.bytes ≡ line.old.bytes ++ blank ∷ (word.now ++ blank ∷ decimal number) }
+    ensures at_most { array_string_len line.new ≤ array_string_len line.old + length word.now + 22 }
+{
+    put_word(line, word);
+    put_number(line, number);
+}
+
+/// Puts a signed number, in decimal.
+fn put_signed(line: &mut ArrayString<LINE_ROOM>, number: i64)
+    requires room { array_string_len line.old + 20 ≤ LINE_ROOM }
+    ensures number { line.new.bytes ≡ line.old.bytes ++ signed_decimal number }
+    ensures at_most { array_string_len line.new ≤ array_string_len line.old + 20 }
+{
+    let mut figures = Buffer::new();
+    line.push_str(figures.format(number));
+}
+
+/// Puts a point behind a blank: its four coefficients, joined by commas.
+pub fn put_point(line: &mut ArrayString<LINE_ROOM>, point: &Point)
+    requires room { array_string_len line.old + 84 ≤ LINE_ROOM }
+    ensures point { line.new.bytes ≡ line.old.bytes ++ blank ∷ point_text point.now }
+    ensures at_most { array_string_len line.new ≤ array_string_len line.old + 84 }
+{
+    line.push_str(" ");
+    put_signed(line, point.c[0]);
+    line.push_str(",");
+    put_signed(line, point.c[1]);
+    line.push_str(",");
+    put_signed(line, point.c[2]);
+    line.push_str(",");
+    put_signed(line, point.c[3]);
+}

@@ -1,0 +1,22 @@
+//! The tile that right words are about.
+ghost use Rattle.std.specs.Prelude.{IfOk, IfErr};
+ghost use Rattle.rule_model.specs.Tiling.{tiling_of};
+ghost use Rattle.tile_shape.specs.Views.{address_of};
+ghost use Rattle.tile_app.specs.Tile.{GivesTile, GivesNoTile};
+ghost use Rattle.tile_app.specs.Words.{texts, AskAboutTile};
+
+use crate::words::Key;
+use tile_place::machine::Machine;
+use tile_shape::address::Address;
+use tile_shape::address_fault::AddressFault;
+use tile_shape::reading::read_address;
+
+/// The address that right words give, of a tile of the machine's tiling.
+pub fn address_given(machine: &Machine, words: &[String]) -> Result<Address, AddressFault>
+    requires right { AskAboutTile (texts words.now) }
+    ensures given { IfOk result (λ a. GivesTile (texts words.now) (tiling_of machine.now) (address_of a)) }
+    ensures refused { IfErr result (GivesNoTile (texts words.now) (tiling_of machine.now)) }
+{
+    let text = Key::Addr.value_given(words).unwrap();
+    read_address(machine.checked().uses(), text.as_bytes())
+}

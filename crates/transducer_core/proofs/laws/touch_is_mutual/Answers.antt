@@ -1,5 +1,0 @@
-use Rattle.addressing.proofs.Touching.{Touches-sym}
-use Rattle.transducer_core.proofs.laws.touch_is_mutual.Goals as goal
-
-pub returns : goal.returns
-returns c = λ t a b e f coherent fits fits' edge touches. Touches-sym a b coherent fits fits' edge touches

@@ -1,5 +1,0 @@
-use Rattle.addressing.proofs.Traces.{IsTrace-unique}
-use Rattle.transducer_core.proofs.laws.trace_is_one.Goals as goal
-
-pub returns : goal.returns
-returns c = λ t a e top other cuts others trace trace'. IsTrace-unique trace trace'
