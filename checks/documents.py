@@ -213,7 +213,7 @@ def rule_files():
             tally.compare("rows of the library", f"rules/README.md: {stem}, glue", cells[5], glue)
             zeta = cmath.exp(2j * cmath.pi / rule["order"])
             factor = sum(a * zeta**i for i, a in enumerate(rule["lambda"]))
-            tally.compare("rows of the library", f"rules/README.md: {stem}, factor", abs(factor - value(cells[2])) < 1e-9, True)
+            tally.compare("rows of the library", f"rules/README.md: {stem}, factor", abs(factor - value(cells[2], zeta)) < 1e-9, True)
         if os.path.exists(f"{TOP}/rules/commented/{name}"):
             commented = read(f"rules/commented/{name}")
             tally.compare("rule files", f"rules/commented/{name}", call(["check", "rule=-"], commented.encode()), (wanted, 0))
@@ -223,16 +223,16 @@ def rule_files():
         tally.fault("rules/README.md", f"has a row for {stem}, which isn't there")
 
 
-def value(text):
-    """The number that a short formula stands for."""
+def value(text, zeta=1):
+    """The number that a short formula stands for, which may have ζ in it."""
     root = re.compile(r"√(\d+)")
-    names = {"φ": "((1 + 5**0.5) / 2)", "²": "**2"}
+    names = {"φ": "((1 + 5**0.5) / 2)", "²": "**2", "ζ": "z"}
     plain = root.sub(r"(\1**0.5)", text.replace(" ", ""))
     for name, meaning in names.items():
         plain = plain.replace(name, meaning)
-    if not re.fullmatch(r"[-+*/().\d\s]+", plain):
+    if not re.fullmatch(r"[-+*/().z\d\s]+", plain):
         raise ValueError(text)
-    return eval(plain)
+    return eval(plain, {"z": zeta})
 
 
 def coefficients():

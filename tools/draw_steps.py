@@ -1,5 +1,5 @@
 #!/usr/bin/env python3
-"""Draws the steps 1, ζ, ζ², ζ³ of the three orders, and how a point is reached by them, as SVG.
+"""Draws the steps 1, ζ, ζ², ζ³ of the four orders, and how a point is reached by them, as SVG.
 
     draw_steps.py > PICTURE.svg
 """
@@ -8,7 +8,7 @@ import sys
 
 UNIT, CELL, HEAD = 60, 270, 34
 NAMES = ["1", "ζ", "ζ²", "ζ³"]
-PANELS = [(4, [2, 1, 0, 0]), (8, [1, 1, 0, -1]), (10, [1, 0, 1, -1])]
+PANELS = [(4, [2, 1, 0, 0]), (6, [1, 1, 0, 0]), (8, [1, 1, 0, -1]), (10, [1, 0, 1, -1])]
 
 
 def arrow(a, b, colour, width):
@@ -38,7 +38,7 @@ def panel(order, point, x):
     for k in range(order):
         tip = seen(zeta**k)
         lines.append(f'<circle cx="{tip.real:.1f}" cy="{tip.imag:.1f}" r="2" fill="#999"/>')
-    for k in range(2 if order == 4 else 4):
+    for k in range(2 if order in (4, 6) else 4):
         lines += arrow(seen(0), seen(zeta**k), "#1f5fa8", 1.6)
         at = seen(zeta**k * 1.24) + 4j if k else seen(0.8) + 16j
         lines.append(f'<text x="{at.real:.1f}" y="{at.imag:.1f}" fill="#1f5fa8">{NAMES[k]}</text>')

@@ -10,6 +10,7 @@ use Rattle.addressing.specs.Search.{all_below}
 use Rattle.edge_to_edge.specs.Limits.{is_type, kinds_fit, types_fit, glue_fits, parts_fit, edges_fit, vertices_fit, children_fit}
 use Rattle.edge_to_edge.specs.Limited.{WithinLimits}
 use Rattle.edge_to_edge.specs.Star.{is_star}
+use Rattle.edge_to_edge.specs.Edition.{Edition}
 use Rattle.edge_to_edge.specs.Factor.{is_inflation_factor}
 use Rattle.edge_to_edge.specs.EdgeTypes.{mates_back, is_mirrored, has_length_of_type}
 use Rattle.edge_to_edge.specs.Edges.{PlacedEdge, child_edges}
@@ -55,9 +56,9 @@ within_limits n small r t = record {
 }
 
 -- the nine clauses beyond the limits, as tests
-pub record PassesTests (P : Points) (refused : P.ring.carrier → Bool) (r : Rule P.ring.carrier) : Type 0 where
+pub record PassesTests (P : Points) (edition : Edition) (refused : P.ring.carrier → Bool) (r : Rule P.ring.carrier) : Type 0 where
   pub star_shaped : all_below (length r.kinds) (λ k. is_star P (vertices_of r k)) ≡ true
-  pub inflation_factor : is_inflation_factor P refused r.factor ≡ true
+  pub inflation_factor : is_inflation_factor P edition refused r.factor ≡ true
   pub mates_back : all_below (length r.types) (mates_back r) ≡ true
   pub equal_lengths : all_below (length r.kinds) (λ k. all_below (edge_count r k) (has_length_of_type P r k)) ≡ true
   pub mirrored : all_below (length r.types) (is_mirrored r) ≡ true
@@ -66,8 +67,8 @@ pub record PassesTests (P : Points) (refused : P.ring.carrier → Bool) (r : Rul
   pub each_used : all_below (length r.kinds) (is_used r) ≡ true
   pub glue_right : all_below (length r.glue) (glues_halves r) ≡ true
 
-pub is_edge_to_edge : (P : Points) (refused : P.ring.carrier → Bool) (r : Rule P.ring.carrier) → PassesTests P refused r → IsEdgeToEdge P refused r
-is_edge_to_edge P refused r t = record {
+pub is_edge_to_edge : (P : Points) (edition : Edition) (refused : P.ring.carrier → Bool) (r : Rule P.ring.carrier) → PassesTests P edition refused r → IsEdgeToEdge P edition refused r
+is_edge_to_edge P edition refused r t = record {
   star_shaped = each (length r.kinds) (λ k. is_star P (vertices_of r k)) t.star_shaped;
   inflation_factor = t.inflation_factor;
   mates_back = each (length r.types) (mates_back r) t.mates_back;

@@ -7,11 +7,12 @@ use Rattle.addressing.specs.Tables.{Tables}
 use Rattle.tile_shape.specs.Usable.{AreUsable, is_child_kind}
 use Rattle.rule_model.specs.Tiling.{tiling_listed, children}
 use Rattle.builtin_rules.specs.declared.name.Name.{Name}
-use Rattle.builtin_rules.specs.declared.name.Name.TheVariants.{Chair, P2, P3, AmmannBeenker}
+use Rattle.builtin_rules.specs.declared.name.Name.TheVariants.{Chair, P2, P3, AmmannBeenker, HalfHex}
 use Rattle.builtin_rules.specs.declared.chair.TheConstants as chair
 use Rattle.builtin_rules.specs.declared.p2.TheConstants as p2
 use Rattle.builtin_rules.specs.declared.p3.TheConstants as p3
 use Rattle.builtin_rules.specs.declared.ammann_beenker.TheConstants as ammann_beenker
+use Rattle.builtin_rules.specs.declared.half_hex.TheConstants as half_hex
 use Rattle.builtin_rules.specs.Named.{named, contacts_named}
 use Rattle.builtin_rules.specs.Numbers.{RuleBy, Fixed}
 use Rattle.builtin_rules.specs.Written.{written}
@@ -23,6 +24,7 @@ constant Chair = chair.NUMBERS
 constant P2 = p2.NUMBERS
 constant P3 = p3.NUMBERS
 constant AmmannBeenker = ammann_beenker.NUMBERS
+constant HalfHex = half_hex.NUMBERS
 
 -- it has the numbers of the rule
 pub its_numbers : (name : Name) → written (constant name) ≡ named name
@@ -30,6 +32,7 @@ its_numbers Chair = refl
 its_numbers P2 = refl
 its_numbers P3 = refl
 its_numbers AmmannBeenker = refl
+its_numbers HalfHex = refl
 
 -- the contact tables beside them are those of the geometry
 pub its_contacts : (name : Name) → written_tables (constant name) ≡ contacts_named name
@@ -38,6 +41,7 @@ its_contacts Chair = refl
 its_contacts P2 = refl
 its_contacts P3 = refl
 its_contacts AmmannBeenker = refl
+its_contacts HalfHex = refl
 
 passes : (name : Name) → coherence_test (written_tables (constant name)) ≡ true
 unfolding tables.kind_tables tables.type_of tables.child_kind_of tables.contacts_of tables.parts_of tables.contact_of tables.part_of tables.mate_of tables.subs_of tables.child_type_of
@@ -45,6 +49,7 @@ passes Chair = refl
 passes P2 = refl
 passes P3 = refl
 passes AmmannBeenker = refl
+passes HalfHex = refl
 
 pub coherent : (name : Name) → coherence_test (contacts_named name) ≡ true
 coherent name = subst (λ (t : Tables). coherence_test t ≡ true) (its_contacts name) (passes name)
@@ -55,6 +60,7 @@ same_kinds Chair = refl
 same_kinds P2 = refl
 same_kinds P3 = refl
 same_kinds AmmannBeenker = refl
+same_kinds HalfHex = refl
 
 pub its_kinds : (name : Name) → tables.child_kinds (contacts_named name) ≡ children (tiling_listed (named name))
 its_kinds name = sym (ap tables.child_kinds (its_contacts name)) ∙ same_kinds name
@@ -69,6 +75,7 @@ rows_usable Chair = seen _ (lit≤ tt) (lit≤ tt) refl refl refl refl
 rows_usable P2 = seen _ (lit≤ tt) (lit≤ tt) refl refl refl refl
 rows_usable P3 = seen _ (lit≤ tt) (lit≤ tt) refl refl refl refl
 rows_usable AmmannBeenker = seen _ (lit≤ tt) (lit≤ tt) refl refl refl refl
+rows_usable HalfHex = seen _ (lit≤ tt) (lit≤ tt) refl refl refl refl
 
 pub usable : (name : Name) → AreUsable (tables.child_kinds (contacts_named name))
 usable name = subst AreUsable (sym (its_kinds name)) (rows_usable name)

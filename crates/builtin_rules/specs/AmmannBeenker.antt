@@ -3,6 +3,7 @@ use Rattle.std.specs.Prelude.{ℕ, [], ◌∷◌}
 use Rattle.substitution.specs.Rule.{Rule}
 use Rattle.cyclo_points.specs.declared.order.Order.TheVariants.{Eight}
 use Rattle.cyclo_points.specs.declared.point.Point.{Point}
+use Rattle.rule_model.specs.declared.edition.Edition.TheVariants.{One}
 use Rattle.rule_model.specs.Tiling.{ListedRule}
 use Rattle.builtin_rules.specs.Notation.{at, mated_type, child, prototile, -1, +0, +1, +2}
 
@@ -29,4 +30,4 @@ rhombs_and_halves_of_squares s s- h h- = record {
 
 -- the rhombs and squares, the types s, s-, h and h- having the numbers 0 to 3
 abbrev pub ammann_beenker : ListedRule
-ammann_beenker = record { order = Eight; rule = rhombs_and_halves_of_squares 0 1 2 3 }
+ammann_beenker = record { edition = One; order = Eight; rule = rhombs_and_halves_of_squares 0 1 2 3 }

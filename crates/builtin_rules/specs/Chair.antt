@@ -1,12 +1,14 @@
 -- The chair: an L of three unit squares, each leg two long, cut into four of itself.
 use Rattle.std.specs.Prelude.{[], ◌∷◌}
 use Rattle.cyclo_points.specs.declared.order.Order.TheVariants.{Four}
+use Rattle.rule_model.specs.declared.edition.Edition.TheVariants.{One}
 use Rattle.rule_model.specs.Tiling.{ListedRule}
 use Rattle.builtin_rules.specs.Notation.{at, mated_type, child, prototile, +0, +1, +2, +4}
 
 -- ζ is a quarter turn, and the factor is 2. The one edge type, number 0, has length 1, is its own mate and is cut into two of itself. Nothing is glued.
 abbrev pub chair : ListedRule
 chair = record {
+  edition = One;
   order = Four;
   rule = record {
     factor = at +2 +0 +0 +0;

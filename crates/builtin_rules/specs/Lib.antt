@@ -3,6 +3,7 @@ pub mod Chair
 pub mod P2
 pub mod P3
 pub mod AmmannBeenker
+pub mod HalfHex
 pub mod Named
 pub mod Numbers
 pub mod Written

@@ -42,6 +42,7 @@ fixed_kind k = record {
 
 abbrev pub fixed_rule : RuleBy Bor → RuleBy Fixed
 fixed_rule r = record {
+  edition = r.edition;
   order = r.order;
   factor = r.factor;
   glue = fixed r.glue;

@@ -3,6 +3,7 @@ use Rattle.std.specs.Prelude.{ℕ, [], ◌∷◌}
 use Rattle.substitution.specs.Rule.{Rule}
 use Rattle.cyclo_points.specs.declared.order.Order.TheVariants.{Ten}
 use Rattle.cyclo_points.specs.declared.point.Point.{Point}
+use Rattle.rule_model.specs.declared.edition.Edition.TheVariants.{One}
 use Rattle.rule_model.specs.Tiling.{ListedRule}
 use Rattle.builtin_rules.specs.Notation.{at, mated_type, child, prototile, -1, +0, +1, +2}
 
@@ -32,4 +33,4 @@ halves_of_kites_and_darts a a- b b- c c- f f- = record {
 
 -- Penrose's kites and darts, the types a, a-, b, b-, c, c-, f and f- having the numbers 0 to 7
 abbrev pub p2 : ListedRule
-p2 = record { order = Ten; rule = halves_of_kites_and_darts 0 1 2 3 4 5 6 7 }
+p2 = record { edition = One; order = Ten; rule = halves_of_kites_and_darts 0 1 2 3 4 5 6 7 }

@@ -3,6 +3,7 @@ use Rattle.std.specs.Prelude.{ℕ, [], ◌∷◌}
 use Rattle.substitution.specs.Rule.{Rule}
 use Rattle.cyclo_points.specs.declared.order.Order.TheVariants.{Ten}
 use Rattle.cyclo_points.specs.declared.point.Point.{Point}
+use Rattle.rule_model.specs.declared.edition.Edition.TheVariants.{One}
 use Rattle.rule_model.specs.Tiling.{ListedRule}
 use Rattle.builtin_rules.specs.Notation.{at, mated_type, child, prototile, -1, +0, +1}
 
@@ -32,4 +33,4 @@ halves_of_rhombs u u- v v- w w- x x- = record {
 
 -- Penrose's rhombs, the types u, u-, v, v-, w, w-, x and x- having the numbers 0 to 7
 abbrev pub p3 : ListedRule
-p3 = record { order = Ten; rule = halves_of_rhombs 0 1 2 3 4 5 6 7 }
+p3 = record { edition = One; order = Ten; rule = halves_of_rhombs 0 1 2 3 4 5 6 7 }

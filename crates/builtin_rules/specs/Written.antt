@@ -1,4 +1,4 @@
--- Rules as they are written down: an order, and lists of numbers, each point by its coefficients.
+-- Rules as they are written down: an edition, an order, and lists of numbers, each point by its coefficients.
 use Rattle.std.specs.Prelude.{map}
 use Rattle.substitution.specs.Rule.{EdgeType, Kind}
 use Rattle.cyclo_points.specs.declared.point.Point.{Point}
@@ -15,6 +15,7 @@ written_kind k = record { vertices = k.vertices.now; edges = k.edges.now; childr
 
 abbrev pub written : RuleBy Fixed → ListedRule
 written r = record {
+  edition = r.edition;
   order = r.order;
   rule = record { factor = r.factor; glue = r.glue.now; types = map written_type r.types.now; kinds = map written_kind r.kinds.now };
 }

@@ -3,10 +3,12 @@ use crate::kind_numbers::KindNumbers;
 use crate::notation::{child, edge_type, inner, outer, part, point};
 use crate::rule_numbers::RuleNumbers;
 use cyclo_points::order::Order;
+use rule_model::edition::Edition;
 
 /// ζ is an eighth of a turn, and the factor is 1 + √2. The edge types are the side s, of length 1, and
 /// the square's diagonal h, of length √2, along which halves are glued; each is followed by its mate.
 pub(crate) const NUMBERS: RuleNumbers = RuleNumbers {
+    edition: Edition::One,
     order: Order::Eight,
     factor: point!(1, 1, 0, -1),
     glue: &[2],

@@ -9,7 +9,7 @@ use crate::contacts::{tables_from, uses_from};
 use crate::name::Name;
 use crate::rule_numbers::RuleNumbers;
 use crate::rules::rule_from;
-use crate::{ammann_beenker, chair, p2, p3};
+use crate::{ammann_beenker, chair, half_hex, p2, p3};
 use edge_tables::laws::coherence_law;
 use rule_model::checked::Checked;
 use rule_model::rule::Rule;
@@ -26,6 +26,7 @@ fn numbers(name: Name) -> RuleNumbers
         Name::P2 => p2::NUMBERS,
         Name::P3 => p3::NUMBERS,
         Name::AmmannBeenker => ammann_beenker::NUMBERS,
+        Name::HalfHex => half_hex::NUMBERS,
     }
 }
 

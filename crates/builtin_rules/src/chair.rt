@@ -3,9 +3,11 @@ use crate::kind_numbers::KindNumbers;
 use crate::notation::{child, edge_type, inner, outer, part, point};
 use crate::rule_numbers::RuleNumbers;
 use cyclo_points::order::Order;
+use rule_model::edition::Edition;
 
 /// ζ is a quarter turn. The one edge type has length 1 and is its own mate. No halves are glued.
 pub(crate) const NUMBERS: RuleNumbers = RuleNumbers {
+    edition: Edition::One,
     order: Order::Four,
     factor: point!(2, 0, 0, 0),
     glue: &[],

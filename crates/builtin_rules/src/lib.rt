@@ -1,9 +1,9 @@
 //! The rules that are built in, known by name: the chair, an L of three squares that is cut into four of
-//! itself; Penrose's rhombs, and his kites and darts, each by halves of the tiles; and the rhombs and
-//! squares of Ammann and Beenker, the squares by halves (Grünbaum and Shephard, Tilings and Patterns,
-//! chapter 10).
+//! itself; Penrose's rhombs, and his kites and darts, each by halves of the tiles; the rhombs and squares
+//! of Ammann and Beenker, the squares by halves; and the half of a hexagon, which is cut into four of
+//! itself (Grünbaum and Shephard, Tilings and Patterns, chapter 10).
 //!
-//! Each rule is written down as a definition, by its order and its numbers. `rule_of` makes the rule of a
+//! Each rule is written down as a definition, by its edition, its order and its numbers. `rule_of` makes the rule of a
 //! name, with exactly these numbers, and `builtin` answers that rule as an accepted one, with its contact
 //! tables and its uses. The numbers of the program are constants, one rule a file, with the contact tables
 //! of the kinds beside them; that they are those of the definition, and the tables those of its geometry, is
@@ -15,6 +15,7 @@ mod ammann_beenker;
 pub mod builtin;
 mod chair;
 mod contacts;
+mod half_hex;
 mod kind_numbers;
 pub mod name;
 mod notation;

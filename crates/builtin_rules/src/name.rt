@@ -9,4 +9,6 @@ pub enum Name {
     P3,
     /// The rhombs and squares of Ammann and Beenker, the squares by halves of them.
     AmmannBeenker,
+    /// The half of a regular hexagon, cut into four of itself.
+    HalfHex,
 }

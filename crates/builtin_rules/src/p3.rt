@@ -4,11 +4,13 @@ use crate::kind_numbers::KindNumbers;
 use crate::notation::{child, edge_type, inner, outer, part, point};
 use crate::rule_numbers::RuleNumbers;
 use cyclo_points::order::Order;
+use rule_model::edition::Edition;
 
 /// ζ is a tenth of a turn, and the factor is φ. The edge types are u and v, sides of length 1, and the
 /// diagonals w, of length 1/φ, and x, of length φ, along which halves are glued; each is followed by its
 /// mate.
 pub(crate) const NUMBERS: RuleNumbers = RuleNumbers {
+    edition: Edition::One,
     order: Order::Ten,
     factor: point!(1, 0, 1, -1),
     glue: &[4, 6],

@@ -2,15 +2,17 @@ use crate::kind_numbers::KindNumbers;
 use crate::type_numbers::TypeNumbers;
 use cyclo_points::order::Order;
 use cyclo_points::point::Point;
+use rule_model::edition::Edition;
 
-/// The numbers of a rule: its order, its inflation factor, the edge types along which halves are glued,
-/// its edge types and its kinds.
+/// The numbers of a rule: its edition, its order, its inflation factor, the edge types along which halves
+/// are glued, its edge types and its kinds.
 #[derive(Clone, Copy)]
 pub struct RuleNumbers<
     Glue = &'static [u8],
     Types = &'static [TypeNumbers],
     Kinds = &'static [KindNumbers],
 > {
+    pub edition: Edition,
     pub order: Order,
     pub factor: Point,
     pub glue: Glue,

@@ -62,6 +62,7 @@ pub(crate) fn rule_from(alloc: Global, numbers: &RuleNumbers) -> Result<Rule, No
     ensures { IfOk result (IsWritten (written (fixed_rule numbers.now))) }
 {
     Ok(Rule {
+        edition: numbers.edition,
         order: numbers.order,
         factor: numbers.factor,
         glue: numbers.glue.to_vec(alloc)?,

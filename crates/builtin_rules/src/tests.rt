@@ -71,6 +71,13 @@ const RHOMBS_AND_SQUARES: &[Row] = &[
     ),
 ];
 
+/// The half-hex.
+const HALF_HEX: &[Row] = &[(
+    "01-12 02-22 03-32 11-23 21-33 | 0: 00 13; 1: 14 10; 2: 24 20; 3: 34 30; 4: 31 04;",
+    "0/0 1/0 2/0 3/0",
+    None,
+)];
+
 /// The edge along which a kind is glued, where there is such a kind and such an edge.
 fn glue_edge_there(checked: &Checked, kind: u8) -> Option<u8> {
     if usize::from(kind) >= checked.rule().kind_count() {
@@ -119,5 +126,6 @@ fn each_rule_is_as_described(rt: HostRuntime) -> Result<(), Fail> {
         right_in(alloc, Name::AmmannBeenker, RHOMBS_AND_SQUARES)?,
         Some(3)
     );
+    assert_eq!(rt; right_in(alloc, Name::HalfHex, HALF_HEX)?, Some(1));
     Ok(())
 }

@@ -7,16 +7,13 @@ use Rattle.ordered_ring.specs.Surd.{Pair}
 use Rattle.ordered_ring.proofs.Normaliser.{Expr, eval, agree, ring}
 use Rattle.ordered_ring.proofs.Integers.{integers_laws}
 use Rattle.cyclo_points.specs.Quad.{Quad}
+use Rattle.std.proofs.lemmas.Bool.{and_parts as both}
 
 pub quad_path : (p q : Quad ℤ) → p.a0 ≡ q.a0 → p.a1 ≡ q.a1 → p.a2 ≡ q.a2 → p.a3 ≡ q.a3 → p ≡ q
 quad_path p q e f g h = λ i. record { a0 = e i; a1 = f i; a2 = g i; a3 = h i }
 
 pub pair_path : (p q : Pair ℤ) → p.a ≡ q.a → p.b ≡ q.b → p ≡ q
 pair_path p q e f = λ i. record { a = e i; b = f i }
-
-pub both : (a b : Bool) → a && b ≡ true → (a ≡ true) × (b ≡ true)
-both true b e = (refl, e)
-both false b e = absurd (cc e)
 
 -- ---- identities of polynomials
 abbrev pub agree_pair : Pair Expr → Pair Expr → Bool

@@ -4,7 +4,8 @@ use Rattle.ordered_ring.specs.Ring.{integers}
 use Rattle.ordered_ring.specs.Surd.{Pair}
 use Rattle.ordered_ring.proofs.Normaliser.{Expr, var, con, neg, exprs, ◌⊕◌}
 use Rattle.cyclo_points.specs.Pairs.{add_pair, neg_pair, int_pair, same_pair}
-use Rattle.cyclo_points.proofs.Identities.{pair_ring, pair_path, both, int_same, int_self}
+use Rattle.cyclo_points.proofs.Identities.{pair_ring, pair_path, int_same, int_self}
+use Rattle.std.proofs.lemmas.Bool.{and_parts as both}
 
 -- three pairs of variables
 abbrev pub P : Pair Expr

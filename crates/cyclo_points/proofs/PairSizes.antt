@@ -4,14 +4,12 @@ use Rattle.std.proofs.lemmas.Int.{ints}
 use Rattle.ordered_ring.specs.Surd.{Pair}
 use Rattle.cyclo_points.specs.declared.point.Point.{Point}
 use Rattle.cyclo_points.specs.Point.{coefficient, pair_of, Within, IsWithin}
+use Rattle.cyclo_points.proofs.Within.{zero_within}
 
 -- both coefficients are at most n in absolute value
 pub record IsWithinPair (n : ℕ) (q : Pair ℤ) : Type 0 where
   pub at_0 : Within n q.a
   pub at_1 : Within n q.b
-
-zero_within : (n : ℕ) → Within n (pos 0)
-zero_within n = record { low = omega (arith, ints); high = omega (arith, ints) }
 
 -- the last two coefficients are 0
 pub within_pair : (n : ℕ) (r : Point) (q : Pair ℤ) → pair_of r ≡ q → coefficient r 2 ≡ pos 0 → coefficient r 3 ≡ pos 0 → IsWithinPair n q → IsWithin n r

@@ -13,13 +13,11 @@ use Rattle.cyclo_points.specs.Order.{points_of}
 use Rattle.cyclo_points.specs.Point.{quad_of, point_in, IsOf, Within, IsWithin}
 use Rattle.cyclo_points.proofs.Sizes.{IsWithinQuad, quad_within, within_quad, double_kept, double_negative, double_sum, double_negative_sum}
 use Rattle.cyclo_points.proofs.Dots.{dot_within, four_0, four_1, six_0, six_1, eight_0, eight_1, eight_2, eight_3, ten_0, ten_1, ten_2, ten_3}
+use Rattle.cyclo_points.proofs.Within.{zero_within}
 
 -- r is the product of p and q
 abbrev pub IsProduct : Order → Point → Point → Point → Type 0
 IsProduct o p q r = point_in o r ≡ (points_of o).ring.mul (point_in o p) (point_in o q)
-
-zero_within : (n : ℕ) → Within n (pos 0)
-zero_within n = record { low = omega (arith, ints); high = omega (arith, ints) }
 
 difference_doubled : (n : ℕ) (x y : ℤ) → Within n x → Within n y → Within (2 * n) (x -ℤ y)
 difference_doubled n x y f g = record { low = omega (arith, ints); high = omega (arith, ints) }

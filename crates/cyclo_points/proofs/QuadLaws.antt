@@ -3,7 +3,8 @@ use Rattle.std.proofs.Common.{◌≡◌, ℤ, pos, ◌+ℤ◌, neg_ℤ, true, �
 use Rattle.ordered_ring.specs.Ring.{integers}
 use Rattle.ordered_ring.proofs.Normaliser.{Expr, var, con, neg, exprs, ◌⊕◌}
 use Rattle.cyclo_points.specs.Quad.{Quad, add_quad, neg_quad, int_quad, same_quad}
-use Rattle.cyclo_points.proofs.Identities.{quad_ring, quad_path, both, int_same, int_self}
+use Rattle.cyclo_points.proofs.Identities.{quad_ring, quad_path, int_same, int_self}
+use Rattle.std.proofs.lemmas.Bool.{and_parts as both}
 
 -- three quadruples of variables
 abbrev pub P : Quad Expr

@@ -14,6 +14,7 @@ use Rattle.cyclo_points.specs.Real.{RealOf, number, real_in, IsRealOf, IsRealWit
 use Rattle.cyclo_points.proofs.OrderLaws.{laws_of}
 use Rattle.cyclo_points.proofs.Sizes.{within_abs, within_product}
 use Rattle.cyclo_points.proofs.Reals.{reading, sign_at}
+use Rattle.cyclo_points.proofs.Within.{zero_within}
 
 module _ (w : Width) where
   pub read_part_product : (x y : ℤ) → FitsSigned w x → FitsSigned w y → FitsSigned w (x *ℤ y) → reading w (reading w x *ℤ reading w y) ≡ x *ℤ y
@@ -102,9 +103,6 @@ two_sum n x y f g = record { low = omega (arith, ints); high = omega (arith, int
 
 one_only : (n : ℕ) (x : ℤ) → Within n x → Within (3 * n) x
 one_only n x f = record { low = omega (arith, ints); high = omega (arith, ints) }
-
-zero_within : (n : ℕ) → Within n (pos 0)
-zero_within n = record { low = omega (arith, ints); high = omega (arith, ints) }
 
 grouped : (m k : ℕ) → 3 * (m * k) ≡ 3 * m * k
 grouped m k = omega arith

@@ -12,6 +12,9 @@ use Rattle.cyclo_points.specs.Real.{real_in, IsRealWithin}
 pub within_wider : (m n : ℕ) (x : ℤ) → m ≤ n → Within m x → Within n x
 within_wider m n x h w = let a = w.low in let b = w.high in record { low = omega (arith, ints); high = omega (arith, ints) }
 
+pub zero_within : (n : ℕ) → Within n (pos 0)
+zero_within n = record { low = omega (arith, ints); high = omega (arith, ints) }
+
 pub real_wider : (m n : ℕ) (r : Real) → m ≤ n → IsRealWithin m r → IsRealWithin n r
 real_wider m n r h w = record { at_a = within_wider m n r.a h w.at_a; at_b = within_wider m n r.b h w.at_b }
 

@@ -1,4 +1,4 @@
--- All ten clauses hold of an order and lists exactly where no fault is found, clause by clause: so a rule is accepted exactly where its check finds none.
+-- All ten clauses hold of an edition, an order and lists exactly where no fault is found, clause by clause: so a rule is accepted exactly where its check finds none.
 use Rattle.std.specs.Prelude.{is_ok}
 use Rattle.std.specs.List.{AllByRecursion}
 use Rattle.std.proofs.Common.{◌≡◌, ℕ, true, false, not, List, [], ◌∷◌, length, Option, None, Result, Ok, Err, refl, ap}
@@ -21,9 +21,10 @@ use Rattle.cyclo_points.specs.declared.order.Order.{Order}
 use Rattle.cyclo_points.specs.declared.point.Point.{Point}
 use Rattle.cyclo_points.specs.Order.{NumberOf, points_of, is_refused}
 use Rattle.cyclo_points.specs.Point.{point_in}
+use Rattle.rule_model.specs.declared.edition.Edition.{Edition}
 use Rattle.rule_model.specs.declared.rule.Rule.{Rule}
 use Rattle.rule_model.specs.Small.{is_small}
-use Rattle.rule_model.specs.Views.{as_rule}
+use Rattle.rule_model.specs.Views.{as_rule, as_edition}
 use Rattle.rule_model.specs.Accepted.{IsAccepted}
 use Rattle.dissect_check.specs.declared.check_fault.CheckFault.{CheckFault}
 use Rattle.dissect_check.specs.declared.check_fault.CheckFault.TheVariants.{NotStar, WrongFactor, BadMate, BadLength, BadSubdivision, ChildEdgeLoose, Unused, GlueWrong}
@@ -42,7 +43,7 @@ part_fault-all : {A : Type 0} (k e : ℕ) (x : Result A ℕ) → is_ok x ≡ tru
 part_fault-all k e (Ok ss) h = refl
 part_fault-all k e (Err j) h = absurd (cc)
 
-module _ (o : Order) (lists : TheRule Point) where
+module _ (edition : Edition) (o : Order) (lists : TheRule Point) where
   -- the points of the order, and the lists over its numbers
   abbrev P : Points
   P = points_of o
@@ -58,11 +59,11 @@ module _ (o : Order) (lists : TheRule Point) where
   none-stars = tests-all (λ k. is_star P (vertices_of R k)) (λ k. NotStar k) (length R.kinds)
 
   -- the inflation factor
-  pub factor-where : IsNone (fault.factor o lists) → HasInflationFactor P (is_refused o) R
-  factor-where = unless-none (is_inflation_factor P (is_refused o) R.factor) WrongFactor
+  pub factor-where : IsNone (fault.factor edition o lists) → HasInflationFactor P (as_edition edition) (is_refused o) R
+  factor-where = unless-none (is_inflation_factor P (as_edition edition) (is_refused o) R.factor) WrongFactor
 
-  pub none-factor : HasInflationFactor P (is_refused o) R → IsNone (fault.factor o lists)
-  none-factor = unless-true (is_inflation_factor P (is_refused o) R.factor) WrongFactor
+  pub none-factor : HasInflationFactor P (as_edition edition) (is_refused o) R → IsNone (fault.factor edition o lists)
+  none-factor = unless-true (is_inflation_factor P (as_edition edition) (is_refused o) R.factor) WrongFactor
 
   -- mates
   pub mates-where : IsNone (fault.mates o lists) → MatesBack R
@@ -137,13 +138,13 @@ module _ (o : Order) (lists : TheRule Point) where
   later_faults = fault.subdivisions o lists ∷ (fault.loose_edges o lists ∷ (fault.boundaries o lists ∷ (fault.uses o lists ∷ (fault.glues o lists ∷ []))))
 
   abbrev faults : List (Option CheckFault)
-  faults = fault.limits o lists ∷ (fault.stars o lists ∷ (fault.factor o lists ∷ (fault.mates o lists ∷ (fault.lengths o lists ∷ later_faults))))
+  faults = fault.limits o lists ∷ (fault.stars o lists ∷ (fault.factor edition o lists ∷ (fault.mates o lists ∷ (fault.lengths o lists ∷ later_faults))))
 
   -- no fault: then all ten clauses hold, and none is found where they do
-  pub limits-where : IsNone (fault.fault_of_lists o lists) → WithinLimits P.order (is_small o) lists
+  pub limits-where : IsNone (fault.fault_of_lists edition o lists) → WithinLimits P.order (is_small o) lists
   limits-where h = within-where o lists (first_some-each faults h).0
 
-  pub edge_to_edge-where : IsNone (fault.fault_of_lists o lists) → IsEdgeToEdge P (is_refused o) R
+  pub edge_to_edge-where : IsNone (fault.fault_of_lists edition o lists) → IsEdgeToEdge P (as_edition edition) (is_refused o) R
   edge_to_edge-where h =
       let p : AllByRecursion IsNone faults = first_some-each faults h in
       record {
@@ -158,7 +159,7 @@ module _ (o : Order) (lists : TheRule Point) where
         glue_right = glues-where p.1.1.1.1.1.1.1.1.1.0;
       }
 
-  pub none-clauses : WithinLimits P.order (is_small o) lists → IsEdgeToEdge P (is_refused o) R → IsNone (fault.fault_of_lists o lists)
+  pub none-clauses : WithinLimits P.order (is_small o) lists → IsEdgeToEdge P (as_edition edition) (is_refused o) R → IsNone (fault.fault_of_lists edition o lists)
   none-clauses w d =
       let later : AllByRecursion IsNone later_faults =
       (none-subdivisions d.mirrored, (none-loose d.none_loose, (none-boundaries d.boundary_cut, (none-uses d.each_used, (none-glues d.glue_right, tt))))) in
@@ -166,7 +167,7 @@ module _ (o : Order) (lists : TheRule Point) where
 
 -- so of a rule
 pub accepted-where : (r : Rule) → first_fault r ≡ None → IsAccepted r
-accepted-where r h = record { limits = limits-where r.order (as_rule r) h; edge_to_edge = edge_to_edge-where r.order (as_rule r) h }
+accepted-where r h = record { limits = limits-where r.edition r.order (as_rule r) h; edge_to_edge = edge_to_edge-where r.edition r.order (as_rule r) h }
 
 pub none-where : (r : Rule) → IsAccepted r → first_fault r ≡ None
-none-where r a = none-clauses r.order (as_rule r) a.limits a.edge_to_edge
+none-where r a = none-clauses r.edition r.order (as_rule r) a.limits a.edge_to_edge

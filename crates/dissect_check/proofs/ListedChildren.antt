@@ -13,6 +13,7 @@ use Rattle.cyclo_points.specs.declared.point.Point.{Point}
 use Rattle.cyclo_points.specs.Order.{points_of}
 use Rattle.cyclo_points.specs.Point.{point_in}
 use Rattle.tile_shape.specs.Usable.{AreUsable}
+use Rattle.rule_model.specs.declared.edition.Edition.{Edition}
 use Rattle.rule_model.specs.Small.{is_small}
 use Rattle.rule_model.proofs.Usable.{from_to}
 use Rattle.rule_model.proofs.Views.{kind_of-map}
@@ -66,6 +67,6 @@ module _ {A B : Type 0} (f : A → B) (n : ℕ) (small : A → Bool) (r : Rule A
             (kinds_exist (children_of r k) (children k (kind_in k l)).fit));
       }
 
-pub children-usable : (o : Order) (lists : Rule Point) → fault_of_lists o lists ≡ None → AreUsable (child_kinds (map_rule (point_in o) lists))
-children-usable o lists h =
-    uses-usable (map_rule (point_in o) lists) (listed-children (point_in o) (points_of o).order (is_small o) lists (limits-where o lists h)) (edge_to_edge-where o lists h).each_used
+pub children-usable : (edition : Edition) (o : Order) (lists : Rule Point) → fault_of_lists edition o lists ≡ None → AreUsable (child_kinds (map_rule (point_in o) lists))
+children-usable edition o lists h =
+    uses-usable (map_rule (point_in o) lists) (listed-children (point_in o) (points_of o).order (is_small o) lists (limits-where edition o lists h)) (edge_to_edge-where edition o lists h).each_used

@@ -8,7 +8,7 @@ use Rattle.cyclo_points.specs.Order.{points_of, is_refused, PointsLaw}
 use Rattle.rule_model.specs.declared.rule.Rule.{Rule}
 use Rattle.rule_model.specs.Accepted.{IsAccepted}
 use Rattle.rule_model.specs.Usable.{IsUsable}
-use Rattle.rule_model.specs.Views.{as_rule, rule_of}
+use Rattle.rule_model.specs.Views.{as_rule, rule_of, as_edition}
 use Rattle.dissect_check.specs.declared.check_fault.CheckFault.{CheckFault}
 use Rattle.dissect_check.specs.FirstFault.{limits, stars, factor, mates, lengths, subdivisions, loose_edges, boundaries, uses, glues, first_fault}
 use Rattle.addressing.proofs.FirstSome.{first_some-parts}
@@ -19,7 +19,7 @@ use Rattle.dissect_check.proofs.Accepted.{accepted-where}
 module _ (r : Rule) where
   -- the clauses before those on children, and those on children with those behind them
   abbrev pub front : List (Option CheckFault)
-  front = let o = r.order in let l = as_rule r in limits o l ∷ stars o l ∷ factor o l ∷ mates o l ∷ lengths o l ∷ subdivisions o l ∷ []
+  front = let o = r.order in let l = as_rule r in limits o l ∷ stars o l ∷ factor r.edition o l ∷ mates o l ∷ lengths o l ∷ subdivisions o l ∷ []
 
   abbrev pub rest : List (Option CheckFault)
   rest = let o = r.order in let l = as_rule r in loose_edges o l ∷ boundaries o l ∷ uses o l ∷ glues o l ∷ []
@@ -28,7 +28,7 @@ module _ (r : Rule) where
   usable-front h =
       let o = r.order in
       let l = as_rule r in
-      usable-where r (first_some-parts (limits o l) (stars o l ∷ factor o l ∷ mates o l ∷ lengths o l ∷ subdivisions o l ∷ []) (sym h)).0
+      usable-where r (first_some-parts (limits o l) (stars o l ∷ factor r.edition o l ∷ mates o l ∷ lengths o l ∷ subdivisions o l ∷ []) (sym h)).0
 
   pub no_fault : None ≡ first_some front → first_some rest ≡ None → first_fault r ≡ None
   no_fault h k = first_of_rest front rest (sym h) ∙ k
@@ -38,4 +38,4 @@ module _ (r : Rule) where
 
   -- so its contacts are coherent
   pub coherent-both : PointsLaw r.order → None ≡ first_some front → first_some rest ≡ None → IsCoherent (tables_of (points_of r.order) (rule_of r))
-  coherent-both w h k = contacts-coherent (points_of r.order) w (is_refused r.order) (rule_of r) (usable-front h).numbered (accepted-both h k).edge_to_edge
+  coherent-both w h k = contacts-coherent (points_of r.order) w (as_edition r.edition) (is_refused r.order) (rule_of r) (usable-front h).numbered (accepted-both h k).edge_to_edge

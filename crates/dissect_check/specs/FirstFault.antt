@@ -1,4 +1,4 @@
--- The fault of the first clause that fails, at its first place: a definition on an order and the lists of a rule.
+-- The fault of the first clause that fails, at its first place: a definition on an edition, an order and the lists of a rule.
 use Rattle.std.specs.Prelude.{ℕ, not, [], ◌∷◌, map, length, Option, Some, None, Result, Ok, Err}
 use Rattle.substitution.specs.Rule as theory
 use Rattle.addressing.specs.Search.{unless, first_some, first_below}
@@ -16,9 +16,10 @@ use Rattle.cyclo_points.specs.declared.order.Order.{Order}
 use Rattle.cyclo_points.specs.declared.point.Point.{Point}
 use Rattle.cyclo_points.specs.Order.{NumberOf, points_of, is_refused}
 use Rattle.cyclo_points.specs.Point.{point_in}
+use Rattle.rule_model.specs.declared.edition.Edition.{Edition}
 use Rattle.rule_model.specs.declared.rule.Rule.{Rule}
 use Rattle.rule_model.specs.Small.{is_small}
-use Rattle.rule_model.specs.Views.{as_rule}
+use Rattle.rule_model.specs.Views.{as_rule, as_edition}
 use Rattle.dissect_check.specs.declared.what.What.TheVariants.{Kinds, Types, Factor, Glue, Mate, Parts, Edges, Vertex, Child}
 use Rattle.dissect_check.specs.declared.check_fault.CheckFault.{CheckFault}
 use Rattle.dissect_check.specs.declared.check_fault.CheckFault.TheVariants.{TooMany, NotStar, WrongFactor, BadMate, BadLength, BadSubdivision, ChildEdgeLoose, BoundaryWrong, Unused, GlueWrong}
@@ -66,10 +67,6 @@ module _ (o : Order) (l : theory.Rule Point) where
   abbrev pub stars : Option CheckFault
   stars = first_below (λ k. unless (is_star (points_of o) (vertices_of numbers k)) (NotStar k)) (length numbers.kinds)
 
-  -- the inflation factor
-  abbrev pub factor : Option CheckFault
-  factor = unless (is_inflation_factor (points_of o) (is_refused o) numbers.factor) WrongFactor
-
   -- the mate's mate is the type
   abbrev pub mates : Option CheckFault
   mates = first_below (λ ty. unless (mates_back numbers ty) (BadMate ty)) (length numbers.types)
@@ -111,11 +108,16 @@ module _ (o : Order) (l : theory.Rule Point) where
   abbrev pub glues : Option CheckFault
   glues = first_below (λ i. unless (glues_halves numbers i) (GlueWrong (glue_type numbers i))) (length numbers.glue)
 
+module _ (edition : Edition) (o : Order) (l : theory.Rule Point) where
+  -- the inflation factor, as the edition has it
+  abbrev pub factor : Option CheckFault
+  factor = unless (is_inflation_factor (points_of o) (as_edition edition) (is_refused o) (numbers o l).factor) WrongFactor
+
   -- all ten clauses in order
   abbrev pub fault_of_lists : Option CheckFault
   fault_of_lists = first_some (
-      limits ∷ stars ∷ factor ∷ mates ∷ lengths ∷ subdivisions ∷ loose_edges ∷ boundaries ∷ uses ∷ glues ∷ [])
+      limits o l ∷ stars o l ∷ factor ∷ mates o l ∷ lengths o l ∷ subdivisions o l ∷ loose_edges o l ∷ boundaries o l ∷ uses o l ∷ glues o l ∷ [])
 
--- the same of a rule, by its own order and lists
+-- the same of a rule, by its own edition, order and lists
 abbrev pub first_fault : Rule → Option CheckFault
-first_fault r = fault_of_lists r.order (as_rule r)
+first_fault r = fault_of_lists r.edition r.order (as_rule r)

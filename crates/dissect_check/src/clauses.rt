@@ -24,7 +24,7 @@ use rule_model::rule::Rule;
 /// types.
 pub(crate) fn before_children(rule: &Rule) -> Result<(), CheckFault>
     ensures { let o = rule.now.order in let l = as_rule rule.now in
-        fault_in result ≡ first_some (limits_fault o l ∷ stars_fault o l ∷ factor_fault o l
+        fault_in result ≡ first_some (limits_fault o l ∷ stars_fault o l ∷ factor_fault rule.now.edition o l
         ∷ mates_fault o l ∷ lengths_fault o l ∷ subdivisions_fault o l ∷ []) }
 {
     limits(rule)?;
@@ -35,7 +35,7 @@ pub(crate) fn before_children(rule: &Rule) -> Result<(), CheckFault>
 fn shapes_and_types(rule: &Rule) -> Result<(), CheckFault>
     requires usable { IsUsable rule.now }
     ensures { let o = rule.now.order in let l = as_rule rule.now in
-        fault_in result ≡ first_some (stars_fault o l ∷ factor_fault o l
+        fault_in result ≡ first_some (stars_fault o l ∷ factor_fault rule.now.edition o l
         ∷ mates_fault o l ∷ lengths_fault o l ∷ subdivisions_fault o l ∷ []) }
 {
     stars(rule)?;

@@ -1,4 +1,4 @@
-//! Laws of what no clause refuses, of orders and lists alone.
+//! Laws of what no clause refuses, of editions, orders and lists alone.
 ghost use Rattle.std.specs.Prelude.{◌≡◌, ◌↔◌, None};
 ghost use Rattle.substitution.specs.Rule.{Rule, child_kinds};
 ghost use Rattle.substitution.specs.RuleParts.{map_rule};
@@ -9,18 +9,21 @@ ghost use Rattle.cyclo_points.specs.declared.point.Point.{Point};
 ghost use Rattle.cyclo_points.specs.Order.{points_of, is_refused};
 ghost use Rattle.cyclo_points.specs.Point.{point_in};
 ghost use Rattle.tile_shape.specs.Usable.{AreUsable};
+ghost use Rattle.rule_model.specs.declared.edition.Edition.{Edition};
 ghost use Rattle.rule_model.specs.Small.{is_small};
+ghost use Rattle.rule_model.specs.Views.{as_edition};
 ghost use Rattle.dissect_check.specs.FirstFault.{fault_of_lists};
 
-/// The law that the check finds no fault of an order and lists exactly where all ten clauses hold of
-/// them: the limits of counts and numbers, and the nine that make its children fit edge to edge.
+/// The law that the check finds no fault of an edition, an order and lists exactly where all ten clauses
+/// hold of them: the limits of counts and numbers, and the nine that make its children fit edge to edge.
 pub fn clauses_law()
-    ensures { (o : Order) (l : Rule Point) → (fault_of_lists o l ≡ None)
+    ensures { (edition : Edition) (o : Order) (l : Rule Point) → (fault_of_lists edition o l ≡ None)
         ↔ (WithinLimits (points_of o).order (is_small o) l
-        × IsEdgeToEdge (points_of o) (is_refused o) (map_rule (point_in o) l)) }
+        × IsEdgeToEdge (points_of o) (as_edition edition) (is_refused o) (map_rule (point_in o) l)) }
 {}
 
 /// The law that the child kinds of lists that no clause refuses are usable for addresses.
 pub fn accepted_children_law()
-    ensures { (o : Order) (l : Rule Point) → fault_of_lists o l ≡ None → AreUsable (child_kinds (map_rule (point_in o) l)) }
+    ensures { (edition : Edition) (o : Order) (l : Rule Point) → fault_of_lists edition o l ≡ None
+        → AreUsable (child_kinds (map_rule (point_in o) l)) }
 {}

@@ -1,4 +1,5 @@
 -- The edges of tiles that are across from each other can be turned onto each other, and the tile across lies where such a turn puts it.
+use Rattle.edge_to_edge.specs.Edition.{Edition}
 use Rattle.std.proofs.Common.{◌≡◌, ℕ, ◌+◌, ◌-◌, ◌<◌, ◌%◌, Bool, [], ◌∷◌, length, pos, negsuc, refl, sym, ap, ◌∙◌, arith}
 use Rattle.std.specs.declared.cmp.Ordering.{Ordering}
 use Rattle.std.specs.declared.cmp.Ordering.TheVariants.{Less, Equal, Greater}
@@ -145,14 +146,14 @@ glued-turn P W r k e l f s t x y some =
     ring_from P.ring W.of_ring (power P.ring P.zeta s ∷ (power P.ring P.zeta t ∷ [])) (var 0) (var 1) ((con (pos 1), var 0 ⊖ var 1, con (pos 0)) ∷ []) (gone, tt) refl
 
 -- of an accepted rule: each edge has a length, and there is a turn below the order
-module _ (P : Points) (W : PointLaws P) (refused : P.ring.carrier → Bool) (r : Rule P.ring.carrier) (N : IsNumbered P r) (D : IsEdgeToEdge P refused r) (growth : IsGrowthFactor P r.factor) where
+module _ (P : Points) (W : PointLaws P) (edition : Edition) (refused : P.ring.carrier → Bool) (r : Rule P.ring.carrier) (N : IsNumbered P r) (D : IsEdgeToEdge P edition refused r) (growth : IsGrowthFactor P r.factor) where
   pub some_order : 0 < P.order
   some_order = let below = N.turn_below 0 0 N.some_kind (N.some_child 0 N.some_kind) in omega arith
 
   pub edge_has_length : (k e : ℕ) → k < length r.kinds → e < edge_count r k → twice_squared_length P (edge_vector P r k e) ≡ P.real.ops.int (pos 0) → ⊥
   edge_has_length k e hk he flat =
       let gone = norm-zero P W (edge_vector P r k e) flat in
-      ends_apart P W refused r N D growth k e hk he
+      ends_apart P W edition refused r N D growth k e hk he
       (ring_from P.ring W.of_ring (vertex P r k e ∷ (vertex P r k (next r k e) ∷ [])) (var 0) (var 1) ((con (negsuc 0), var 1 ⊖ var 0, con (pos 0)) ∷ []) (gone, tt) refl)
 
   -- the tile across an edge lies where a turn of its edge onto this one, with the shift, and then the motion of this one's tile put it; and there is such a turn
@@ -161,7 +162,7 @@ module _ (P : Points) (W : PointLaws P) (refused : P.ring.carrier → Bool) (r :
       × ((t : ℕ) → TurnsOnto P r a.kind e b.address.kind f t → (z : P.ring.carrier) → moved P (tile_at P r a).motion (moved P (glue_motion P r a.kind e b.address.kind f t) z) ≡ moved P b.motion z)
   across-glued a e b f fits across =
       let chain = chain_of (tables_of P r) a fits in
-      let m = member P W refused r N D (top_kind a) (depth a) (top_exists P W refused r N D a.kind a.digits chain) b across.beside in (
+      let m = member P W edition refused r N D (top_kind a) (depth a) (top_exists P W edition refused r N D a.kind a.digits chain) b across.beside in (
         some_turn P W r (tile_at P r a) b e f across.runs_back some_order,
         (λ t turns z. glued P W r (tile_at P r a) b e f across.runs_back t turns (edge_has_length b.address.kind f m.tile.kind_exists across.edge_exists) z),
       )

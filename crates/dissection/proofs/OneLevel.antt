@@ -1,4 +1,5 @@
 -- One level: the counts of the children of an inflated prototile add up to its count.
+use Rattle.edge_to_edge.specs.Edition.{Edition}
 use Rattle.std.proofs.Common.{◌≡◌, inl, inr, ℕ, ◌<◌, ℤ, pos, ◌+ℤ◌, neg_ℤ, Bool, true, false, not, ◌&&◌, cond, List, [], ◌∷◌, length, nat_eq, refl, sym, ap, ap₂, ◌∙◌, arith, is_ok}
 use Rattle.std.specs.List.{filter}
 use Rattle.std.proofs.lemmas.Bool.{and_parts, ne_eqb}
@@ -26,7 +27,7 @@ use Rattle.edge_to_edge.proofs.CoherentContacts.{cut_edges}
 use Rattle.dissection.specs.Sums.{sum_over, sum_below}
 use Rattle.dissection.proofs.Sums.{zero_plus, plus_zero, regroup, own_negative, sum-ext_on, sum-both, sum-swap, sum-filter, sum-taken, sum-below_list, sum_below-ext, sum_below-once, sum_below-none, cell, pairs_cancel}
 
-module _ (P : Points) (W : PointLaws P) (refused : P.ring.carrier → Bool) (r : Rule P.ring.carrier) (N : IsNumbered P r) (D : IsEdgeToEdge P refused r)
+module _ (P : Points) (W : PointLaws P) (edition : Edition) (refused : P.ring.carrier → Bool) (r : Rule P.ring.carrier) (N : IsNumbered P r) (D : IsEdgeToEdge P edition refused r)
     (p : TestPoint P.real.ops.carrier) (f : P.ring.carrier → P.ring.carrier) (keeps : Keeps P f) where
   abbrev A : Type 0
   A = P.ring.carrier
@@ -85,7 +86,7 @@ module _ (P : Points) (W : PointLaws P) (refused : P.ring.carrier → Bool) (r :
     edges = child_edges P r k
 
     abbrev cut : (e : ℕ) → e < edge_count r k → is_ok (parts_of_edge P r k e) ≡ true
-    cut = cut_edges P W refused r N D k
+    cut = cut_edges P W edition refused r N D k
 
     boundary_sum : (e : ℕ) → e < edge_count r k → sum_over at_edge (boundary_edges P r k e) ≡ at_line (inflated_edge P r k e)
     boundary_sum e he =

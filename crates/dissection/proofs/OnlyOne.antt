@@ -1,4 +1,5 @@
 -- Each test point of a supertile is in exactly one of its tiles; so along a line lies the edge of at most one tile.
+use Rattle.edge_to_edge.specs.Edition.{Edition}
 use Rattle.std.proofs.Common.{◌≡◌, inl, inr, ℕ, ◌<◌, ◌≤◌, ℤ, pos, int_eq, cond, Bool, length, sym, ap, ◌∙◌, subst, arith}
 use Rattle.std.proofs.lemmas.Int.{ints}
 use Rattle.ordered_ring.specs.Ring.{Ops, power}
@@ -29,7 +30,7 @@ use Rattle.dissection.proofs.Members.{member}
 pos_is : (m n : ℕ) → pos m ≡ pos n → m ≡ n
 pos_is m n e = omega (arith, ints)
 
-module _ (P : Points) (W : PointLaws P) (refused : P.ring.carrier → Bool) (r : Rule P.ring.carrier) (N : IsNumbered P r) (D : IsEdgeToEdge P refused r) (growth : IsGrowthFactor P r.factor) where
+module _ (P : Points) (W : PointLaws P) (edition : Edition) (refused : P.ring.carrier → Bool) (r : Rule P.ring.carrier) (N : IsNumbered P r) (D : IsEdgeToEdge P edition refused r) (growth : IsGrowthFactor P r.factor) where
   abbrev A : Type 0
   A = P.ring.carrier
 
@@ -53,10 +54,10 @@ module _ (P : Points) (W : PointLaws P) (refused : P.ring.carrier → Bool) (r :
   -- ---- counts
   module _ (f : A → A) (keeps : Keeps P f) (p : TestPoint S.ops.carrier) (d_pos : IsPositive S p.d) where
     abbrev in_tile : Placed A → ℤ
-    in_tile = tile_count P W refused r N D growth p f
+    in_tile = tile_count P W edition refused r N D growth p f
 
     abbrev in_whole : ℕ → ℕ → ℤ
-    in_whole = whole_count P W refused r N D growth p f
+    in_whole = whole_count P W edition refused r N D growth p f
 
     tile-good : (t : Placed A) → t.address.kind < length r.kinds → Good (in_tile t)
     tile-good t h =
@@ -69,12 +70,12 @@ module _ (P : Points) (W : PointLaws P) (refused : P.ring.carrier → Bool) (r :
         (D.star_shaped k h) (three_vertices k h) p d_pos
 
     pub tiles-good : (k n : ℕ) → k < length r.kinds → (t : Placed A) → IsAmong t (supertile P r k n) → Good (in_tile t)
-    tiles-good k n hk t i = tile-good t (member P W refused r N D k n hk t i).tile.kind_exists
+    tiles-good k n hk t i = tile-good t (member P W edition refused r N D k n hk t i).tile.kind_exists
 
     -- exactly one tile holds a point of the supertile, and none another
     pub exactly_one : (k n : ℕ) → k < length r.kinds → number_of (λ t. int_eq (in_tile t) (pos 1)) (supertile P r k n) ≡ cond (int_eq (in_whole k n) (pos 1)) 1 0
     exactly_one k n hk =
-        at_case (whole-good k n hk) (sym (sum-number in_tile (supertile P r k n) (tiles-good k n hk)) ∙ sum-all P W refused r N D growth p k n hk f keeps)
+        at_case (whole-good k n hk) (sym (sum-number in_tile (supertile P r k n) (tiles-good k n hk)) ∙ sum-all P W edition refused r N D growth p k n hk f keeps)
       where
         at_case : Good (in_whole k n) → pos (number_of (λ t. int_eq (in_tile t) (pos 1)) (supertile P r k n)) ≡ in_whole k n
             → number_of (λ t. int_eq (in_tile t) (pos 1)) (supertile P r k n) ≡ cond (int_eq (in_whole k n) (pos 1)) 1 0
@@ -83,7 +84,7 @@ module _ (P : Points) (W : PointLaws P) (refused : P.ring.carrier → Bool) (r :
 
     pub one_tile : (k n : ℕ) → k < length r.kinds → (t u : Placed A) → IsAmong t (supertile P r k n) → IsAmong u (supertile P r k n) → in_tile t ≡ pos 1 → in_tile u ≡ pos 1 → t ≡ u
     one_tile k n hk t u i j x y =
-        one_holder in_tile t u (supertile P r k n) i j x y (tiles-good k n hk) (subst Good (sym (sum-all P W refused r N D growth p k n hk f keeps)) (whole-good k n hk))
+        one_holder in_tile t u (supertile P r k n) i j x y (tiles-good k n hk) (subst Good (sym (sum-all P W edition refused r N D growth p k n hk f keeps)) (whole-good k n hk))
 
   -- ---- edges
   module _ (f : A → A) (keeps : Keeps P f) where
@@ -107,10 +108,10 @@ module _ (P : Points) (W : PointLaws P) (refused : P.ring.carrier → Bool) (r :
     one_along k n hk t u d e a' b' i j hd he x y = (same, edges (subst (λ (v : Placed A). (e < edge_count r v.address.kind) × OnEdge v e a' b') (sym same) (he, y)))
       where
         ht : t.address.kind < length r.kinds
-        ht = (member P W refused r N D k n hk t i).tile.kind_exists
+        ht = (member P W edition refused r N D k n hk t i).tile.kind_exists
 
         hu : u.address.kind < length r.kinds
-        hu = (member P W refused r N D k n hk u j).tile.kind_exists
+        hu = (member P W edition refused r N D k n hk u j).tile.kind_exists
 
         ft : A → A
         ft z = f (moved P t.motion z)

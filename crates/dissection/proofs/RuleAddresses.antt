@@ -1,4 +1,5 @@
 -- Addresses that fit the contact tables of a rule fit the rule, and name tiles of its supertiles.
+use Rattle.edge_to_edge.specs.Edition.{Edition}
 use Rattle.std.proofs.Common.{◌≡◌, ℕ, ◌<◌, Bool, List, [], ◌∷◌, length, map, slice_get, Some, sym, ap, ◌∙◌, subst}
 use Rattle.std.specs.Option.{option_and_then}
 use Rattle.std.proofs.lemmas.Option.{slice_get-get_or}
@@ -23,7 +24,7 @@ use Rattle.edge_to_edge.proofs.CoherentTypes.{kind_below}
 use Rattle.edge_to_edge.proofs.CoherentContacts.{contacts-coherent}
 use Rattle.substitution.proofs.Addresses.{StandsBeside-placement}
 
-module _ (P : Points) (W : PointLaws P) (refused : P.ring.carrier → Bool) (r : Rule P.ring.carrier) (N : IsNumbered P r) (D : IsEdgeToEdge P refused r) where
+module _ (P : Points) (W : PointLaws P) (edition : Edition) (refused : P.ring.carrier → Bool) (r : Rule P.ring.carrier) (N : IsNumbered P r) (D : IsEdgeToEdge P edition refused r) where
   abbrev A : Type 0
   A = P.ring.carrier
 
@@ -46,12 +47,12 @@ module _ (P : Points) (W : PointLaws P) (refused : P.ring.carrier → Bool) (r :
   climbs-rule kind (d ∷ ds) h = (same_child d.parent d.child kind h.0, climbs-rule d.parent ds h.1)
 
   pub top_exists : (kind : ℕ) (ds : List Step) → IsChain t kind ds → top_from kind ds < length r.kinds
-  top_exists kind [] h = kind_below P W refused r N D kind h
+  top_exists kind [] h = kind_below P W edition refused r N D kind h
   top_exists kind (d ∷ ds) h = top_exists d.parent ds h.1
 
   pub lowest_exists : (kind : ℕ) (ds : List Step) → IsChain t kind ds → kind < length r.kinds
-  lowest_exists kind [] h = kind_below P W refused r N D kind h
-  lowest_exists kind (d ∷ ds) h = kind_below P W refused r N D kind ((contacts-coherent P W refused r N D).child_exists d.parent d.child kind h.0)
+  lowest_exists kind [] h = kind_below P W edition refused r N D kind h
+  lowest_exists kind (d ∷ ds) h = kind_below P W edition refused r N D kind ((contacts-coherent P W edition refused r N D).child_exists d.parent d.child kind h.0)
 
   pub fits-rule : (a : Address) → IsChain t a.kind a.digits → Fits (child_kinds r) a
   fits-rule a h = record { kind_exists = subst (λ n. a.kind < n) (sym (length-rows r.kinds)) (lowest_exists a.kind a.digits h); climbs = climbs-rule a.kind a.digits h }

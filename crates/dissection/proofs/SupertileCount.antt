@@ -1,4 +1,5 @@
 -- The counts of the tiles of a supertile add up to the supertile's count.
+use Rattle.edge_to_edge.specs.Edition.{Edition}
 use Rattle.std.proofs.Common.{◌≡◌, inl, inr, ℕ, zero, suc, ◌+◌, ◌<◌, ℤ, pos, Bool, List, [], ◌∷◌, length, map, refl, sym, ap, ap₂, ◌∙◌, subst, arith}
 use Rattle.std.specs.List.{enumerate_from}
 use Rattle.ordered_ring.specs.Ring.{Ops, power}
@@ -38,7 +39,7 @@ enumerated-from n (x ∷ xs) c (inr i) = let rest = enumerated-from (n + 1) xs c
 pub enumerated-at : {A : Type 0} (xs : List A) (c : ℕ × A) → IsAmong c (enumerate_from 0 xs) → c.0 < length xs
 enumerated-at xs c i = let h = enumerated-from 0 xs c i in omega arith
 
-module _ (P : Points) (W : PointLaws P) (refused : P.ring.carrier → Bool) (r : Rule P.ring.carrier) (N : IsNumbered P r) (D : IsEdgeToEdge P refused r) (growth : IsGrowthFactor P r.factor)
+module _ (P : Points) (W : PointLaws P) (edition : Edition) (refused : P.ring.carrier → Bool) (r : Rule P.ring.carrier) (N : IsNumbered P r) (D : IsEdgeToEdge P edition refused r) (growth : IsGrowthFactor P r.factor)
     (p : TestPoint P.real.ops.carrier) where
   abbrev A : Type 0
   A = P.ring.carrier
@@ -72,7 +73,7 @@ module _ (P : Points) (W : PointLaws P) (refused : P.ring.carrier → Bool) (r :
 
   module _ (f : A → A) (keeps : Keeps P f) (k : ℕ) (hk : k < length r.kinds) where
     abbrev line : Edge A → ℤ
-    line = at_line P W refused r N D p f keeps
+    line = at_line P W edition refused r N D p f keeps
 
     child_sum : (i : ℕ) → i < length (children_of r k)
         → kind_count (λ z. f (moved P (child_of P r k i).motion z)) (child_of P r k i).kind ≡ sum_over (λ s. line s.line) (edges_of_child P r k i)
@@ -85,7 +86,7 @@ module _ (P : Points) (W : PointLaws P) (refused : P.ring.carrier → Bool) (r :
         sum-places (λ c. kind_count (λ z. f (moved P c.motion z)) c.kind) (children_of r k) (record { kind = 0; motion = still P })
         ∙ sum_below-ext (λ i. kind_count (λ z. f (moved P (child_of P r k i).motion z)) (child_of P r k i).kind) (λ i. sum_over (λ s. line s.line) (edges_of_child P r k i)) (length (children_of r k)) child_sum
         ∙ sym (sum-flat_map (λ s. line s.line) (edges_of_child P r k) (below (λ c. c) (length (children_of r k))) ∙ sum-below_list (λ c. sum_over (λ s. line s.line) (edges_of_child P r k c)) (λ c. c) (length (children_of r k)))
-        ∙ edges_sum P W refused r N D p f keeps k hk
+        ∙ edges_sum P W edition refused r N D p f keeps k hk
         ∙ sum_below-ext _ _ (edge_count r k) (λ e lt. ap₂ (λ u v. crossing S (plane_point P (f u)) (plane_point P (f v)) p) (W.of_ring.mul_comm (vertex P r k e) r.factor) (W.of_ring.mul_comm (vertex P r k (next r k e)) r.factor))
         ∙ sym (kind-edges (λ z. f (K.mul r.factor z)) k hk)
 

@@ -5,6 +5,7 @@ use Rattle.addressing.specs.Search.{IsAmong}
 use Rattle.substitution.specs.Rule.{Rule}
 use Rattle.substitution.specs.RuleParts.{mate, edge_count, child_of}
 use Rattle.edge_to_edge.specs.Numbered.{IsNumbered}
+use Rattle.edge_to_edge.specs.Edition.{Edition}
 use Rattle.edge_to_edge.specs.EdgeToEdge.{IsEdgeToEdge}
 use Rattle.addressing.specs.Contact.{Contact, ChildEdge, inner, outer}
 use Rattle.edge_to_edge.specs.Contacts.{name_of, contact_by, tables_of}
@@ -41,7 +42,7 @@ contacted P r k c e x h =
     let found = contact_of-found P r k c e x h in
     record { has = found.0; among = child_edge-among P r k c e found.0; is = sym found.1; in_range = kind-with_child P r k c found.0.child_below }
 
-module _ (P : Points) (W : PointLaws P) (refused : P.ring.carrier → Bool) (r : Rule P.ring.carrier) (N : IsNumbered P r) (D : IsEdgeToEdge P refused r) where
+module _ (P : Points) (W : PointLaws P) (edition : Edition) (refused : P.ring.carrier → Bool) (r : Rule P.ring.carrier) (N : IsNumbered P r) (D : IsEdgeToEdge P edition refused r) where
   abbrev A : Type 0
   A = P.ring.carrier
 
@@ -98,30 +99,30 @@ module _ (P : Points) (W : PointLaws P) (refused : P.ring.carrier → Bool) (r :
   outer-edge k c e f p h = rw (type_of-at P r k f (part-from k c e f p h).edge_below) refl
 
 -- the contact tables of an accepted rule are coherent
-pub contacts-coherent : (P : Points) → PointLaws P → (refused : P.ring.carrier → Bool) → (r : Rule P.ring.carrier) → IsNumbered P r → IsEdgeToEdge P refused r → IsCoherent (tables_of P r)
-contacts-coherent P W refused r N D = record {
+pub contacts-coherent : (P : Points) → PointLaws P → (edition : Edition) → (refused : P.ring.carrier → Bool) → (r : Rule P.ring.carrier) → IsNumbered P r → IsEdgeToEdge P edition refused r → IsCoherent (tables_of P r)
+contacts-coherent P W edition refused r N D = record {
   some_kind = rw (length-kinds P r) N.some_kind;
   at_most_16_kinds = rw (length-kinds P r) N.at_most_16_kinds;
-  some_child = λ k h. rw (length-children P W refused r N D k) (N.some_child k (kind_below P W refused r N D k h));
-  at_most_16_children = λ k h. rw (length-children P W refused r N D k) (N.at_most_16_children k (kind_below P W refused r N D k h));
-  at_least_3_edges = λ k h. rw (length-types P W refused r N D k) (N.at_least_3_edges k (kind_below P W refused r N D k h));
-  at_most_12_edges = λ k h. rw (length-types P W refused r N D k) (N.at_most_12_edges k (kind_below P W refused r N D k h));
+  some_child = λ k h. rw (length-children P W edition refused r N D k) (N.some_child k (kind_below P W edition refused r N D k h));
+  at_most_16_children = λ k h. rw (length-children P W edition refused r N D k) (N.at_most_16_children k (kind_below P W edition refused r N D k h));
+  at_least_3_edges = λ k h. rw (length-types P W edition refused r N D k) (N.at_least_3_edges k (kind_below P W edition refused r N D k h));
+  at_most_12_edges = λ k h. rw (length-types P W edition refused r N D k) (N.at_most_12_edges k (kind_below P W edition refused r N D k h));
   some_type = rw (length-mates P r) N.some_type;
   at_most_32_types = rw (length-mates P r) N.at_most_32_types;
-  some_part = λ ty h. rw (subs_of-is P r ty) (N.some_part ty (type_below P W refused r N D ty h));
-  at_most_8_parts = λ ty. rw (subs_of-is P r ty) (few_parts P W refused r N D ty);
+  some_part = λ ty h. rw (subs_of-is P r ty) (N.some_part ty (type_below P W edition refused r N D ty h));
+  at_most_8_parts = λ ty. rw (subs_of-is P r ty) (few_parts P W edition refused r N D ty);
   sub_each = length-subs P r ∙ sym (length-mates P r);
-  contacts_each = λ k. length-contacts P W refused r N D k ∙ sym (length-children P W refused r N D k);
-  contact_each = contact-each P W refused r N D;
-  parts_each = λ k h. length-parts P W refused r N D k ∙ sym (length-types P W refused r N D k);
-  child_exists = child-exists P W refused r N D;
-  type_exists = type-exists P W refused r N D;
-  mate_exists = mate-exists P W refused r N D;
-  mates_back = mates-back P W refused r N D;
-  mirrored = is-mirrored P W refused r N D;
-  points_back = points-back P W refused r N D;
-  mated = is-mated P W refused r N D;
-  outer_part = λ k c e f p. (outer-part P W refused r N D k c e f p, part-outer P W refused r N D k c e f p);
-  outer_edge = outer-edge P W refused r N D;
-  part_types = types-of_parts P W refused r N D;
+  contacts_each = λ k. length-contacts P W edition refused r N D k ∙ sym (length-children P W edition refused r N D k);
+  contact_each = contact-each P W edition refused r N D;
+  parts_each = λ k h. length-parts P W edition refused r N D k ∙ sym (length-types P W edition refused r N D k);
+  child_exists = child-exists P W edition refused r N D;
+  type_exists = type-exists P W edition refused r N D;
+  mate_exists = mate-exists P W edition refused r N D;
+  mates_back = mates-back P W edition refused r N D;
+  mirrored = is-mirrored P W edition refused r N D;
+  points_back = points-back P W edition refused r N D;
+  mated = is-mated P W edition refused r N D;
+  outer_part = λ k c e f p. (outer-part P W edition refused r N D k c e f p, part-outer P W edition refused r N D k c e f p);
+  outer_edge = outer-edge P W edition refused r N D;
+  part_types = types-of_parts P W edition refused r N D;
 }

@@ -8,6 +8,7 @@ use Rattle.addressing.specs.Search.{IsAmong}
 use Rattle.substitution.specs.Rule.{Rule, Child, children_of}
 use Rattle.substitution.specs.RuleParts.{mate, parts, edge_count, child_of}
 use Rattle.edge_to_edge.specs.Numbered.{IsNumbered}
+use Rattle.edge_to_edge.specs.Edition.{Edition}
 use Rattle.edge_to_edge.specs.EdgeToEdge.{IsEdgeToEdge}
 use Rattle.edge_to_edge.specs.Contacts.{name_of, named_parts, contacts_of_child, tables_of}
 use Rattle.edge_to_edge.specs.Edges.{PlacedEdge, child_edge, edges_of_child, child_edges}
@@ -42,7 +43,7 @@ map-members f g h j (x ∷ xs) e =
     let rest = map-members f g h j xs (λ y i. e y (inr i)) in
     rw (first, rest) refl
 
-module _ (P : Points) (W : PointLaws P) (refused : P.ring.carrier → Bool) (r : Rule P.ring.carrier) (N : IsNumbered P r) (D : IsEdgeToEdge P refused r) where
+module _ (P : Points) (W : PointLaws P) (edition : Edition) (refused : P.ring.carrier → Bool) (r : Rule P.ring.carrier) (N : IsNumbered P r) (D : IsEdgeToEdge P edition refused r) where
   abbrev A : Type 0
   A = P.ring.carrier
 

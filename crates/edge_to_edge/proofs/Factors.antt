@@ -3,15 +3,15 @@ use Rattle.std.proofs.Common.{◌≡◌, ℕ, pos, Bool, true, false, not, ◌&&
 use Rattle.std.specs.Ordering.{is_gt}
 use Rattle.std.specs.declared.cmp.Ordering.{Ordering}
 use Rattle.std.specs.declared.cmp.Ordering.TheVariants.{Less, Equal, Greater}
+use Rattle.ordered_ring.specs.Ring.{power}
 use Rattle.ordered_ring.specs.Sign.{less}
 use Rattle.substitution.specs.Points.{Points, PointLaws}
 use Rattle.substitution.specs.Plane.{IsGrowthFactor}
 use Rattle.substitution.proofs.Lengths.{real_growth}
-use Rattle.edge_to_edge.specs.Factor.{is_real_above_one, is_above_one, outgrows, is_inflation_factor, is_turning_factor}
-
-both : (a b : Bool) → a && b ≡ true → (a ≡ true) × (b ≡ true)
-both true b e = (refl, e)
-both false b e = absurd (cc e)
+use Rattle.addressing.specs.Search.{some_below}
+use Rattle.edge_to_edge.specs.Edition.{Edition, First, Second}
+use Rattle.edge_to_edge.specs.Factor.{is_real_above_one, is_growing, is_inflation_factor}
+use Rattle.std.proofs.lemmas.Bool.{and_parts as both}
 
 is_greater : (o : Ordering) → is_gt o ≡ true → o ≡ Greater
 is_greater Less e = absurd (cc e)
@@ -25,14 +25,15 @@ different n h e = impossible (subst (λ m. not (nat_eq m 6) ≡ true) e h)
     impossible e = cc e
 
 module _ (P : Points) (refused : P.ring.carrier → Bool) (l : P.ring.carrier) where
-  pub not_of_order_six : is_inflation_factor P refused l ≡ true → P.order ≡ 6 → ⊥
-  not_of_order_six h = different P.order (both (not (nat_eq P.order 6)) (is_real_above_one P l) (both (not (nat_eq P.order 6) && is_real_above_one P l) (outgrows P refused l) h).0).0
+  growing : (edition : Edition) → is_inflation_factor P edition refused l ≡ true → is_growing P edition l ≡ true
+  growing edition h = (both (is_growing P edition l) (some_below 65 (λ n. refused (power P.ring l n))) h).0
 
-  pub growth-of_first : PointLaws P → is_inflation_factor P refused l ≡ true → IsGrowthFactor P l
-  growth-of_first W h =
-      let real = (both (not (nat_eq P.order 6)) (is_real_above_one P l) (both (not (nat_eq P.order 6) && is_real_above_one P l) (outgrows P refused l) h).0).1 in
+  pub not_of_order_six : is_inflation_factor P First refused l ≡ true → P.order ≡ 6 → ⊥
+  not_of_order_six h = different P.order (both (not (nat_eq P.order 6)) (is_real_above_one P l) (growing First h)).0
+
+  pub growth_of : PointLaws P → (edition : Edition) → is_inflation_factor P edition refused l ≡ true → IsGrowthFactor P l
+  growth_of W First h =
+      let real = (both (not (nat_eq P.order 6)) (is_real_above_one P l) (growing First h)).1 in
       let parts = both (P.same (P.conj l) l) (less P.real (P.real.ops.int (pos 2)) (P.x l)) real in
       real_growth P W l (W.same-is (P.conj l) l parts.0) (is_greater _ parts.1)
-
-  pub growth-of_second : is_turning_factor P refused l ≡ true → IsGrowthFactor P l
-  growth-of_second h = is_greater _ (both (is_above_one P l) (outgrows P refused l) h).0
+  growth_of W Second h = is_greater _ (growing Second h)

@@ -6,6 +6,7 @@ use Rattle.substitution.specs.Points.{Points}
 use Rattle.substitution.specs.Rule.{Rule}
 use Rattle.substitution.specs.RuleParts.{vertices_of, edge_count}
 use Rattle.edge_to_edge.specs.Star.{is_star}
+use Rattle.edge_to_edge.specs.Edition.{Edition}
 use Rattle.edge_to_edge.specs.Factor.{is_inflation_factor}
 use Rattle.edge_to_edge.specs.EdgeTypes.{mates_back, is_mirrored, has_length_of_type}
 use Rattle.edge_to_edge.specs.Edges.{child_edges}
@@ -18,9 +19,9 @@ use Rattle.edge_to_edge.specs.Glue.{glues_halves}
 abbrev pub IsStarShaped : (P : Points) → Rule P.ring.carrier → Type 0
 IsStarShaped P r = (k : ℕ) → k < length r.kinds → is_star P (vertices_of r k) ≡ true
 
--- the factor is one of the first edition: the order isn't six, the factor is real and greater than 1, and supertiles outgrow the limit of coordinates
-abbrev pub HasInflationFactor : (P : Points) → (P.ring.carrier → Bool) → Rule P.ring.carrier → Type 0
-HasInflationFactor P refused r = is_inflation_factor P refused r.factor ≡ true
+-- the factor is one that the edition takes: real and greater than 1, or of squared length above 1; and supertiles outgrow the limit of coordinates
+abbrev pub HasInflationFactor : (P : Points) → Edition → (P.ring.carrier → Bool) → Rule P.ring.carrier → Type 0
+HasInflationFactor P edition refused r = is_inflation_factor P edition refused r.factor ≡ true
 
 -- the mate's mate of each type is the type
 abbrev pub MatesBack : {A : Type 0} → Rule A → Type 0
@@ -51,9 +52,9 @@ abbrev pub HasRightGlue : {A : Type 0} → Rule A → Type 0
 HasRightGlue r = (i : ℕ) → i < length r.glue → glues_halves r i ≡ true
 
 -- the nine clauses beyond the limits
-pub record IsEdgeToEdge (P : Points) (refused : P.ring.carrier → Bool) (r : Rule P.ring.carrier) : Type 0 where
+pub record IsEdgeToEdge (P : Points) (edition : Edition) (refused : P.ring.carrier → Bool) (r : Rule P.ring.carrier) : Type 0 where
   pub star_shaped : IsStarShaped P r
-  pub inflation_factor : HasInflationFactor P refused r
+  pub inflation_factor : HasInflationFactor P edition refused r
   pub mates_back : MatesBack r
   pub equal_lengths : HasEqualLengths P r
   pub mirrored : HasMirroredSubdivisions r

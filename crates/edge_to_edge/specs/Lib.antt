@@ -1,6 +1,7 @@
 pub mod Limits
 pub mod Limited
 pub mod Star
+pub mod Edition
 pub mod Factor
 pub mod EdgeTypes
 pub mod Edges

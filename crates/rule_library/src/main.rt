@@ -14,14 +14,17 @@ use std::{fs, io};
 use tile_shape::no_memory::NoMemory;
 
 /// The rule files of the library, and then those that are refused.
-const FILES: [&str; 34] = [
+const FILES: [&str; 42] = [
     "ammann_beenker.toml",
     "ammann_beenker_mirrored.toml",
     "chair.toml",
     "domino_table.toml",
     "half_chair.toml",
+    "half_hex.toml",
     "half_square_four.toml",
+    "half_square_turned.toml",
     "half_square_two.toml",
+    "half_triangle_three.toml",
     "l_tetromino_four.toml",
     "p_pentomino_four.toml",
     "paper_rectangle_two.toml",
@@ -29,14 +32,19 @@ const FILES: [&str; 34] = [
     "penrose_p3.toml",
     "rectangle_four.toml",
     "rhomb_eight_four.toml",
+    "rhomb_six_four.toml",
     "rhomb_ten_four.toml",
     "right_triangle_four.toml",
     "robinson_kite_halves.toml",
     "robinson_rhomb_halves.toml",
+    "robinson_rhomb_turned.toml",
     "silver_mean_squares.toml",
+    "sphinx.toml",
     "square_four.toml",
     "square_nine.toml",
     "thue_morse_squares.toml",
+    "triangle_four.toml",
+    "triangle_nine.toml",
     "tromino_nine.toml",
     "tuebingen_triangles.toml",
     "01_too_many.toml",
@@ -52,11 +60,12 @@ const FILES: [&str; 34] = [
 ];
 
 /// The rule files of the built-in rules.
-const BUILT_IN: [(&str, Name); 4] = [
+const BUILT_IN: [(&str, Name); 5] = [
     ("chair.toml", Name::Chair),
     ("penrose_p2.toml", Name::P2),
     ("penrose_p3.toml", Name::P3),
     ("ammann_beenker.toml", Name::AmmannBeenker),
+    ("half_hex.toml", Name::HalfHex),
 ];
 
 /// A line for each file.

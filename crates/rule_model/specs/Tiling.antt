@@ -11,6 +11,7 @@ use Rattle.cyclo_points.specs.declared.order.Order.{Order}
 use Rattle.cyclo_points.specs.declared.point.Point.{Point}
 use Rattle.cyclo_points.specs.Order.{NumberOf, points_of}
 use Rattle.cyclo_points.specs.Point.{point_in}
+use Rattle.rule_model.specs.declared.edition.Edition.{Edition}
 use Rattle.rule_model.specs.declared.rule.Rule as program
 use Rattle.rule_model.specs.Views.{as_rule, rule_of}
 
@@ -19,8 +20,9 @@ pub record Tiling : Type 0 where
   pub order : Order
   pub rule : Rule (NumberOf order)
 
--- a rule as lists, each point by its coefficients, with its order
+-- a rule as lists, each point by its coefficients, with its edition and its order
 pub record ListedRule : Type 0 where
+  pub edition : Edition
   pub order : Order
   pub rule : Rule Point
 
@@ -33,7 +35,7 @@ tiling_of r = record { order = r.order; rule = rule_of r }
 
 -- the lists of a rule of the program
 abbrev pub listed : program.Rule → ListedRule
-listed r = record { order = r.order; rule = as_rule r }
+listed r = record { edition = r.edition; order = r.order; rule = as_rule r }
 
 -- The contact tables of a tiling. They aren't given beside the rule: which edges of children are opposite, and which are parts of the edges of their
 -- parent, is what the geometry of the rule says.

@@ -9,6 +9,9 @@ use Rattle.cyclo_points.specs.Point.{point_in}
 use Rattle.rule_model.specs.declared.type_row.TypeRow.{TypeRow}
 use Rattle.rule_model.specs.declared.child.Child.{Child}
 use Rattle.rule_model.specs.declared.kind_row.KindRow.{KindRow}
+use Rattle.edge_to_edge.specs.Edition as theory_edition
+use Rattle.rule_model.specs.declared.edition.Edition.{Edition}
+use Rattle.rule_model.specs.declared.edition.Edition.TheVariants.{One, Two}
 use Rattle.rule_model.specs.declared.rule.Rule.{Rule}
 
 -- the lists that the vectors of an edge type, of a kind and of a rule hold, and the numbers of a child
@@ -34,3 +37,8 @@ child_in o c = record { kind = c.kind; motion = record { turn = c.turn; shift = 
 -- a rule of the program over the numbers of its own order
 abbrev pub rule_of : (r : Rule) → theory.Rule (NumberOf r.order)
 rule_of r = rule_in r.order r
+
+-- an edition of the program as the theory has it
+abbrev pub as_edition : Edition → theory_edition.Edition
+as_edition One = theory_edition.First
+as_edition Two = theory_edition.Second

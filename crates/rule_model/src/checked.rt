@@ -12,6 +12,7 @@ ghost use Rattle.rule_model.specs.Usable.{IsSmall, IsUsable};
 ghost use Rattle.rule_model.specs.Views.{as_rule, rule_of, child_in};
 
 use crate::child::Child;
+use crate::edition::Edition;
 use crate::rule::Rule;
 use cyclo_points::order::Order;
 use cyclo_points::point::Point;
@@ -55,7 +56,7 @@ impl Checked {
         ensures rule { result.now ≡ self.now }
         ensures accepted { IsAccepted self.now }
         ensures usable { IsUsable self.now }
-        ensures order_not_six { ¬ self.now.order ≡ Order.Six }
+        ensures order_of_edition { self.now.edition ≡ Edition.One → ¬ self.now.order ≡ Order.Six }
     {
         &self.rule
     }

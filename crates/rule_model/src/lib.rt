@@ -8,6 +8,7 @@
 
 pub mod checked;
 pub mod child;
+pub mod edition;
 pub mod glued;
 pub mod kind_row;
 pub mod rule;

@@ -1,3 +1,4 @@
+use crate::edition::Edition;
 use crate::kind_row::KindRow;
 use crate::type_row::TypeRow;
 use cyclo_points::order::Order;
@@ -7,6 +8,8 @@ use cyclo_points::point::Point;
 /// are glued, its edge types and its kinds, each named by its number from 0.
 #[derive(Debug, Drop)]
 pub struct Rule {
+    /// Which inflation factors it may have.
+    pub edition: Edition,
     pub order: Order,
     pub factor: Point,
     pub glue: Vec<u8>,

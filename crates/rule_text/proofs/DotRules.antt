@@ -99,16 +99,16 @@ top-of form all d a e = top-bare d (all d a e)
 rule-top : (ms : Members) (x : ListedRule) → rule_of_members ms ≡ Ok x → AllAt IsTop ms
 unfolding rule_of_members
 rule-top ms x e =
-    let (format, is_format, e1) = bind-ok (value_at key.Format (codes "format") as_integer format_of ms) _ x e in
-    let (order, is_order, e2) = bind-ok (value_at key.Order (codes "order") as_integer order_of ms) _ x e1 in
+    let (edition, is_edition, e1) = bind-ok (value_at key.Format (codes "format") as_integer format_of ms) _ x e in
+    let (order, is_order, e2) = bind-ok (value_at key.Order (codes "order") as_integer (order_of edition) ms) _ x e1 in
     let (factor, is_factor, e3) = bind-ok (value_at key.Lambda (codes "lambda") (row 4) (point_of order) ms) _ x e2 in
     let (glue, is_glue, e4) = bind-ok (value_at key.Glue (codes "glue") integer_list (each (number_below 32)) ms) _ x e3 in
     let (types, are_types, e5) = bind-ok (types_in ms) _ x e4 in
     let (kinds, are_kinds, e6) = bind-ok (kinds_in order ms) _ x e5 in
     only-named IsTop top_keys ms (further-ok top_keys _ ms _ x e6) (
-      value-ok IsTop key.Format (codes "format") as_integer format_of ms format (top-of as_integer integer-bare) is_format,
+      value-ok IsTop key.Format (codes "format") as_integer format_of ms edition (top-of as_integer integer-bare) is_edition,
       (
-        value-ok IsTop key.Order (codes "order") as_integer order_of ms order (top-of as_integer integer-bare) is_order,
+        value-ok IsTop key.Order (codes "order") as_integer (order_of edition) ms order (top-of as_integer integer-bare) is_order,
         (
           value-ok IsTop key.Lambda (codes "lambda") (row 4) (point_of order) ms factor (top-of (row 4) (row-bare 4)) is_factor,
           (

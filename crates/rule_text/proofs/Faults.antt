@@ -69,9 +69,9 @@ own-kinds o ms = own-then (value_at _ _ _ _ ms) _ (own-value _ _ _ _ ms) (λ ent
 own-rule : (ms : Members) → IsOwn (rule_of_members ms)
 unfolding rule_of_members
 own-rule ms =
-    own-then (value_at _ _ _ _ ms) _ (own-value _ _ _ _ ms) (λ format. own-then (value_at _ _ _ _ ms) _ (own-value _ _ _ _ ms)
+    own-then (value_at _ _ _ _ ms) _ (own-value _ _ _ _ ms) (λ edition. own-then (value_at _ _ _ _ ms) _ (own-value _ _ _ _ ms)
     (λ order. own-then (value_at _ _ _ _ ms) _ (own-value _ _ _ _ ms) (λ factor. own-then (value_at _ _ _ _ ms) _ (own-value _ _ _ _ ms)
-    (λ glue. own-then (types_in ms) _ (own-types ms) (λ types. own-then (kinds_in order ms) _ (own-kinds order ms) (λ kinds. own-further top_keys Top ms (record { order = order; rule = record { factor = factor; glue = glue; types = types; kinds = kinds } })))))))
+    (λ glue. own-then (types_in ms) _ (own-types ms) (λ types. own-then (kinds_in order ms) _ (own-kinds order ms) (λ kinds. own-further top_keys Top ms (record { edition = edition; order = order; rule = record { factor = factor; glue = glue; types = types; kinds = kinds } })))))))
 
 -- a document is never one that toml refuses
 pub rule_in-toml : (ms : Members) → rule_of_members ms ≢ Err NotToml

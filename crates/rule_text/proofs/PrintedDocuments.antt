@@ -15,7 +15,7 @@ use Rattle.cyclo_points.specs.declared.point.Point.{Point}
 use Rattle.cyclo_points.specs.Order.{points_of}
 use Rattle.rule_model.specs.Small.{is_small}
 use Rattle.rule_model.specs.Tiling.{ListedRule}
-use Rattle.rule_text.specs.Written.{IsFour, HasFours, number_data, list_data, point_data, child_data, type_members, type_data, kind_members, kind_data, rule_members}
+use Rattle.rule_text.specs.Written.{IsFour, HasFours, number_data, list_data, point_data, child_data, type_members, type_data, kind_members, kind_data, format_number, rule_members}
 use Rattle.rule_text.proofs.Limits.{AreLimits, All-at, high, few_types, few_kinds}
 use Rattle.rule_text.proofs.PrintedValues.{integer-short, numbers-short, point-short, points-short, children-short}
 use Rattle.rule_text.proofs.PrintedLines.{AreShort, none-short, both-short, section-apart, member-short, elements-short}
@@ -107,7 +107,7 @@ pairs-short x h four =
     let lambda-lines = member-short 90 34 (codes "lambda") factor on_order (bare-short (codes "lambda") refl (omega arith)) (point-short r.factor four) order-lines in
     let kinds-lines : AreShort 138 (pairs on_kinds) = subst (AreShort 138) (sym kind_apart) lambda-lines in
     let glue-lines = member-short 354 138 (codes "glue") glue on_kinds (bare-short (codes "glue") refl (omega arith)) (numbers-short r.glue few) kinds-lines in
-    member-short 20 506 (codes "format") (number_data 1) on_glue (bare-short (codes "format") refl (omega arith)) (integer-short _) glue-lines
+    member-short 20 506 (codes "format") (number_data (format_number x.edition)) on_glue (bare-short (codes "format") refl (omega arith)) (integer-short _) glue-lines
 
 -- the lines under headers are those of the kinds and those of the types
 sections-split : (x : ListedRule) → sections [] (rule_members x) ≡ elements ([], codes "kind") (items_of (map kind_data x.rule.kinds)) ++ (elements ([], codes "type") (items_of (map type_data x.rule.types)) ++ [])

@@ -6,6 +6,7 @@ use Rattle.cyclo_points.specs.declared.order.Order.{Order}
 use Rattle.cyclo_points.specs.declared.order.Order.TheVariants.{Six}
 use Rattle.cyclo_points.specs.declared.point.Point.{Point}
 use Rattle.cyclo_points.specs.Order.{points_of}
+use Rattle.rule_model.specs.declared.edition.Edition.TheVariants.{One}
 use Rattle.rule_model.specs.Small.{is_small}
 use Rattle.rule_text.specs.declared.key.Key.{Key}
 use Rattle.rule_text.specs.declared.key.Key.TheVariants as key
@@ -15,10 +16,10 @@ use Rattle.rule_text.specs.Ranges.{number_below, format_of, order_of, point_of, 
 use Rattle.rule_text.specs.Steps.{value_at, in_order}
 use Rattle.rule_text.specs.Document.{type_in, kind_in, types_in, kinds_in, rule_of_members}
 use Rattle.rule_model.specs.Tiling.{ListedRule}
-use Rattle.rule_text.specs.Written.{IsFour, number_data, list_data, point_data, child_data, type_members, type_data, kind_members, kind_data, rule_members}
+use Rattle.rule_text.specs.Written.{IsFour, number_data, list_data, point_data, child_data, type_members, type_data, kind_members, kind_data, format_number, rule_members}
 use Rattle.rule_text.proofs.KeyLaws.{value_at-formed}
 use Rattle.rule_text.proofs.ReadForms.{each-same, numbers-read, row-read, rows-read, tables-read}
-use Rattle.rule_text.proofs.ReadRanges.{below-read, numbers-below, order-read, point-read, child-read}
+use Rattle.rule_text.proofs.ReadRanges.{below-read, numbers-below, format-read, order-read, point-read, child-read}
 
 -- the parts of a rule whose numbers are in range
 pub record IsFitType (t : EdgeType) : Type 0 where
@@ -108,15 +109,16 @@ kinds-read x all =
     (in_order-read (kind_in x.order) kind_members 0 ks (λ k d lt. λ i. kind-read x.order i _ (all k d lt)))
 
 -- the whole document
-pub rule-read : (x : ListedRule) → IsFit x → (x.order ≡ Six → ⊥) → rule_of_members (rule_members x) ≡ Ok x
+pub rule-read : (x : ListedRule) → IsFit x → (x.edition ≡ One → x.order ≡ Six → ⊥) → rule_of_members (rule_members x) ≡ Ok x
 unfolding rule_of_members
 rule-read x h not_six =
     let ms = rule_members x in
     let r = x.rule in
     let n = (points_of x.order).order in
+    let f = format_number x.edition in
     rw (
-      value-read key.Format (codes "format") as_integer format_of ms (number_data 1) (pos 1) 1 refl refl refl,
-      value-read key.Order (codes "order") as_integer order_of ms (number_data n) (pos n) x.order refl refl (order-read x.order not_six),
+      value-read key.Format (codes "format") as_integer format_of ms (number_data f) (pos f) x.edition refl refl (format-read x.edition),
+      value-read key.Order (codes "order") as_integer (order_of x.edition) ms (number_data n) (pos n) x.order refl refl (order-read x.edition x.order not_six),
       value-read key.Lambda (codes "lambda") (row 4) (point_of x.order) ms (point_data r.factor) r.factor.c r.factor refl (row-read 4 r.factor.c h.factor.four) (point-read x.order r.factor h.factor.small),
       numbers-at key.Glue (codes "glue") r.glue ms refl h.glue,
       types-read x h.types,

@@ -7,8 +7,11 @@ use Rattle.cyclo_points.specs.declared.order.Order.TheVariants.{Four, Six, Eight
 use Rattle.cyclo_points.specs.declared.point.Point.{Point}
 use Rattle.cyclo_points.specs.Order.{points_of}
 use Rattle.rule_model.specs.Small.{is_small}
+use Rattle.rule_model.specs.declared.edition.Edition.{Edition}
+use Rattle.rule_model.specs.declared.edition.Edition.TheVariants.{One, Two}
 use Rattle.rule_text.specs.Forms.{each}
-use Rattle.rule_text.specs.Ranges.{number_below, order_of, point_of, child_in_row}
+use Rattle.rule_text.specs.Ranges.{number_below, format_of, order_of, point_of, child_in_row}
+use Rattle.rule_text.specs.Written.{format_number}
 use Rattle.rule_text.proofs.ReadForms.{each-same}
 
 pub below-read : (n k : ℕ) → k < n → number_below n (pos k) ≡ Some k
@@ -17,11 +20,19 @@ below-read n k lt = rw (le-leb 0 k (omega arith), le-leb (suc k) n (omega arith)
 pub numbers-below : (n : ℕ) (ks : List ℕ) → All (λ k. k < n) ks → each (number_below n) (map pos ks) ≡ Some ks
 numbers-below n ks all = each-same (number_below n) pos ks (λ k d lt. below-read n _ (all k d lt))
 
-pub order-read : (o : Order) → (o ≡ Six → ⊥) → order_of (pos (points_of o).order) ≡ Some o
-order-read Four not_six = refl
-order-read Six not_six = absurd (not_six refl)
-order-read Eight not_six = refl
-order-read Ten not_six = refl
+pub format-read : (e : Edition) → format_of (pos (format_number e)) ≡ Some e
+format-read One = refl
+format-read Two = refl
+
+pub order-read : (e : Edition) (o : Order) → (e ≡ One → o ≡ Six → ⊥) → order_of e (pos (points_of o).order) ≡ Some o
+order-read One Four not_six = refl
+order-read One Six not_six = absurd (not_six refl refl)
+order-read One Eight not_six = refl
+order-read One Ten not_six = refl
+order-read Two Four not_six = refl
+order-read Two Six not_six = refl
+order-read Two Eight not_six = refl
+order-read Two Ten not_six = refl
 
 pub point-read : (o : Order) (p : Point) → is_small o p ≡ true → point_of o p.c ≡ Some p
 point-read o p h = rw h refl

@@ -48,10 +48,10 @@ kinds_in order members = value_at key.KindList (codes "kind") tables Some member
 -- the rule of the document
 unfoldable pub rule_of_members : Members → Result ListedRule TextFault
 rule_of_members members = do
-  format ← value_at key.Format (codes "format") as_integer format_of members
-  order ← value_at key.Order (codes "order") as_integer order_of members
+  edition ← value_at key.Format (codes "format") as_integer format_of members
+  order ← value_at key.Order (codes "order") as_integer (order_of edition) members
   factor ← value_at key.Lambda (codes "lambda") (row 4) (point_of order) members
   glue ← value_at key.Glue (codes "glue") integer_list (each (number_below 32)) members
   types ← types_in members
   kinds ← kinds_in order members
-  unless_further top_keys Top members (record { order = order; rule = record { factor = factor; glue = glue; types = types; kinds = kinds } })
+  unless_further top_keys Top members (record { edition = edition; order = order; rule = record { factor = factor; glue = glue; types = types; kinds = kinds } })

@@ -3,9 +3,11 @@ use Rattle.std.specs.Prelude.{ℕ, ℤ, pos, List, drop, get_or, Option, Some, N
 use Rattle.std.specs.Ordering.{int_eq}
 use Rattle.substitution.specs.Rule.{Child}
 use Rattle.cyclo_points.specs.declared.order.Order.{Order}
-use Rattle.cyclo_points.specs.declared.order.Order.TheVariants.{Four, Eight, Ten}
+use Rattle.cyclo_points.specs.declared.order.Order.TheVariants.{Four, Six, Eight, Ten}
 use Rattle.cyclo_points.specs.declared.point.Point.{Point}
 use Rattle.cyclo_points.specs.Order.{points_of}
+use Rattle.rule_model.specs.declared.edition.Edition.{Edition}
+use Rattle.rule_model.specs.declared.edition.Edition.TheVariants.{One, Two}
 use Rattle.rule_model.specs.Small.{is_small}
 use Rattle.rule_text.specs.Forms.{◌>>=◌}
 
@@ -13,13 +15,18 @@ use Rattle.rule_text.specs.Forms.{◌>>=◌}
 abbrev pub number_below : ℕ → ℤ → Option ℕ
 number_below n z = if int_le (pos 0) z && int_lt z (pos n) then Some (nat_abs z) else None
 
--- the one format
-abbrev pub format_of : ℤ → Option ℕ
-format_of z = if int_eq z (pos 1) then Some 1 else None
+-- a format: 1 or 2, each of which is that of an edition
+abbrev pub format_of : ℤ → Option Edition
+format_of z = if int_eq z (pos 1) then Some One else if int_eq z (pos 2) then Some Two else None
 
--- an order: 4, 8 or 10
-abbrev pub order_of : ℤ → Option Order
-order_of z = if int_eq z (pos 4) then Some Four else if int_eq z (pos 8) then Some Eight else if int_eq z (pos 10) then Some Ten else None
+-- an order of both editions: 4, 8 or 10
+abbrev pub shared_order_of : ℤ → Option Order
+shared_order_of z = if int_eq z (pos 4) then Some Four else if int_eq z (pos 8) then Some Eight else if int_eq z (pos 10) then Some Ten else None
+
+-- an order of the edition: 4, 8 or 10, and 6 in edition two alone
+abbrev pub order_of : Edition → ℤ → Option Order
+order_of One z = shared_order_of z
+order_of Two z = if int_eq z (pos 6) then Some Six else shared_order_of z
 
 -- a point of the order with these four coefficients, each from -64 to 64
 abbrev pub point_of : Order → List ℤ → Option Point

@@ -7,6 +7,8 @@ use Rattle.cyclo_points.specs.declared.point.Point.{Point}
 use Rattle.cyclo_points.specs.Order.{points_of}
 use Rattle.toml.specs.Data.{Data, integer, array, table, Members, no_members, member}
 use Rattle.toml.specs.View.{items_of}
+use Rattle.rule_model.specs.declared.edition.Edition.{Edition}
+use Rattle.rule_model.specs.declared.edition.Edition.TheVariants.{One, Two}
 use Rattle.rule_model.specs.Tiling.{ListedRule}
 
 -- the members with a value at a key, in the order of the keys
@@ -45,10 +47,15 @@ kind_members k =
 abbrev pub kind_data : Kind Point → Data
 kind_data k = table (kind_members k)
 
+-- the format of an edition
+abbrev pub format_number : Edition → ℕ
+format_number One = 1
+format_number Two = 2
+
 -- the document of a rule, with its keys in alphabetical order
 abbrev pub rule_members : ListedRule → Members
 rule_members x =
-    member (codes "format") (number_data 1)
+    member (codes "format") (number_data (format_number x.edition))
     (member (codes "glue") (list_data number_data x.rule.glue)
     (member (codes "kind") (list_data kind_data x.rule.kinds)
     (member (codes "lambda") (point_data x.rule.factor)

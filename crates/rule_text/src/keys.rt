@@ -14,6 +14,7 @@ use crate::{forms, ranges};
 use cyclo_points::order::Order;
 use cyclo_points::point::Point;
 use rule_model::child::Child;
+use rule_model::edition::Edition;
 use std::alloc::Global;
 use toml::{Table, Value};
 
@@ -27,10 +28,10 @@ fn value_named<'a>(table: &'a Table, name: &str) -> Option<&'a Value>
     table.get(name)
 }
 
-/// The format.
+/// The edition that the format names.
 #[tactic(auto, unfolding(crate::specs::Steps::value_at))]
-pub(crate) fn format(table: &Table) -> Result<u8, TextFault>
-    ensures { ReadsAs (λ n. n) result (value_at Key.Format (codes "format") as_integer format_of (table_view table.now)) }
+pub(crate) fn format(table: &Table) -> Result<Edition, TextFault>
+    ensures { ReadsAs (λ e. e) result (value_at Key.Format (codes "format") as_integer format_of (table_view table.now)) }
 {
     let key = Key::Format;
     let Some(value) = value_named(table, "format") else {
@@ -42,10 +43,10 @@ pub(crate) fn format(table: &Table) -> Result<u8, TextFault>
     ranges::format_of(number).ok_or(TextFault::OutOfRange { key })
 }
 
-/// The order.
+/// The order, which is one of the edition.
 #[tactic(auto, unfolding(crate::specs::Steps::value_at))]
-pub(crate) fn order(table: &Table) -> Result<Order, TextFault>
-    ensures { ReadsAs (λ o. o) result (value_at Key.Order (codes "order") as_integer order_of (table_view table.now)) }
+pub(crate) fn order(table: &Table, edition: Edition) -> Result<Order, TextFault>
+    ensures { ReadsAs (λ o. o) result (value_at Key.Order (codes "order") as_integer (order_of edition) (table_view table.now)) }
 {
     let key = Key::Order;
     let Some(value) = value_named(table, "order") else {
@@ -54,7 +55,7 @@ pub(crate) fn order(table: &Table) -> Result<Order, TextFault>
     let Some(number) = value.as_integer() else {
         return Err(TextFault::WrongType { key });
     };
-    ranges::order_of(number).ok_or(TextFault::OutOfRange { key })
+    ranges::order_of(edition, number).ok_or(TextFault::OutOfRange { key })
 }
 
 /// The inflation factor.

@@ -2,25 +2,48 @@
 ghost use Rattle.std.specs.Prelude.{◌≡◌, All, length, map, option_map, IfOk};
 ghost use Rattle.rule_model.specs.Views.{as_child};
 ghost use Rattle.rule_text.specs.Forms.{each};
-ghost use Rattle.rule_text.specs.Ranges.{number_below, format_of, order_of, point_of, child_in_row};
+ghost use Rattle.rule_text.specs.Ranges.{number_below, format_of, shared_order_of, order_of, point_of, child_in_row};
 
 use cyclo_points::order::Order;
 use cyclo_points::point::Point;
 use rule_model::child::Child;
+use rule_model::edition::Edition;
 use rule_model::small::is_small;
 use std::alloc::Global;
 use tile_shape::no_memory::NoMemory;
 
-/// The format, which is 1.
-pub(crate) fn format_of(number: i64) -> Option<u8>
+/// The edition whose format has this number, 1 or 2.
+pub(crate) fn format_of(number: i64) -> Option<Edition>
     ensures { result ≡ format_of number }
 {
-    if number == 1 { Some(1) } else { None }
+    if number == 1 {
+        Some(Edition::One)
+    } else if number == 2 {
+        Some(Edition::Two)
+    } else {
+        None
+    }
 }
 
-/// The order that a number names.
-pub(crate) fn order_of(number: i64) -> Option<Order>
-    ensures { result ≡ order_of number }
+/// The order that a number names in the edition.
+pub(crate) fn order_of(edition: Edition, number: i64) -> Option<Order>
+    ensures { result ≡ order_of edition number }
+{
+    match edition {
+        Edition::One => shared_order_of(number),
+        Edition::Two => {
+            if number == 6 {
+                Some(Order::Six)
+            } else {
+                shared_order_of(number)
+            }
+        }
+    }
+}
+
+/// The order that a number names in both editions.
+fn shared_order_of(number: i64) -> Option<Order>
+    ensures { result ≡ shared_order_of number }
 {
     if number == 4 {
         Some(Order::Four)

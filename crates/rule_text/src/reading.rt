@@ -112,8 +112,8 @@ fn rule_of(alloc: Global, table: &Table) -> Result<Rule, TextFault>
     requires few { AreNarrow (longest_file + 2) (table_view table.now) }
     ensures { ReadsAs listed result (rule_of_members (table_view table.now)) }
 {
-    let _format = keys::format(table)?;
-    let order = keys::order(table)?;
+    let edition = keys::format(table)?;
+    let order = keys::order(table, edition)?;
     let factor = keys::lambda(alloc, table, order)?;
     let glue = keys::type_numbers(alloc, table, "glue", Key::Glue)?;
     let types = types(alloc, table)?;
@@ -126,6 +126,7 @@ fn rule_of(alloc: Global, table: &Table) -> Result<Rule, TextFault>
         return Err(TextFault::UnknownKey { place });
     }
     Ok(Rule {
+        edition,
         order,
         factor,
         glue,

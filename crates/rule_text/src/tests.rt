@@ -2,6 +2,7 @@
 //! chair both ways.
 mod chair_rule;
 mod dotted;
+mod editions;
 mod faults;
 mod files;
 mod heads;
@@ -14,13 +15,14 @@ use crate::place::Place;
 use crate::text_fault::TextFault;
 use crate::writing::{write_rule, written_and_read};
 use chair_rule::{CHAIR, chair, is_chair, is_read_to_chair};
+use rule_model::edition::Edition;
 use std::test::Fail;
 
 #[test]
 fn reads_and_writes_the_chair(rt: HostRuntime) -> Result<(), Fail> {
     let alloc = rt.alloc();
     assert!(rt; is_read_to_chair(alloc, CHAIR)?);
-    let rule = chair(alloc)?;
+    let rule = chair(alloc, Edition::One)?;
     assert!(rt; is_chair(&rule));
     let text = write_rule(alloc, &rule)?;
     assert!(rt; text.len() < 1_000);

@@ -4,10 +4,11 @@ ghost use Rattle.toml.specs.Data.{integer};
 ghost use Rattle.toml.specs.View.{view, table_view};
 ghost use Rattle.rule_model.specs.Views.{as_child, as_type, as_kind, as_rule};
 ghost use Rattle.rule_model.specs.Tiling.{listed};
-ghost use Rattle.rule_text.specs.Written.{put_member, number_data, list_data, point_data, child_data, type_data, kind_data, rule_members, IsFour, HasFours};
+ghost use Rattle.rule_text.specs.Written.{put_member, number_data, list_data, point_data, child_data, type_data, kind_data, format_number, rule_members, IsFour, HasFours};
 
 use cyclo_points::point::Point;
 use rule_model::child::Child;
+use rule_model::edition::Edition;
 use rule_model::kind_row::KindRow;
 use rule_model::rule::Rule;
 use rule_model::type_row::TypeRow;
@@ -164,13 +165,28 @@ fn kinds(alloc: Global, rows: &[KindRow]) -> Result<Value, NoMemory>
     Ok(Value::from(values))
 }
 
+/// The number of an edition's format.
+fn format_number(edition: Edition) -> u8
+    ensures { result ≡ format_number edition }
+{
+    match edition {
+        Edition::One => 1,
+        Edition::Two => 2,
+    }
+}
+
 /// The document of a rule.
 pub(crate) fn document(alloc: Global, rule: &Rule) -> Result<Table, NoMemory>
     ensures value { IfOk result (λ table. table_view table ≡ rule_members (listed rule.now)) }
     ensures fours { OnOk result (IsFour rule.now.factor × All HasFours (as_rule rule.now).kinds) }
 {
     let mut table = Table::new(alloc);
-    put(alloc, &mut table, "format", number(1))?;
+    put(
+        alloc,
+        &mut table,
+        "format",
+        number(format_number(rule.edition)),
+    )?;
     put(alloc, &mut table, "order", number(rule.order.n()))?;
     put(alloc, &mut table, "lambda", point(alloc, &rule.factor)?)?;
     put(

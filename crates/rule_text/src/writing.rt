@@ -14,15 +14,16 @@ use crate::reading::read_rule;
 use crate::text_fault::TextFault;
 use crate::values;
 use cyclo_points::order::Order;
+use rule_model::edition::Edition;
 use rule_model::rule::Rule;
 use std::alloc::Global;
 use tile_shape::no_memory::NoMemory;
 
 /// The text of a document that stands for the rule, whose counts and numbers are within the limits,
-/// and whose order isn't six, which the format hasn't. `read_rule` reads it back to the rule.
+/// and whose order isn't six in edition one, whose format hasn't it. `read_rule` reads it back to the rule.
 pub fn write_rule(alloc: Global, rule: &Rule) -> Result<String, NoMemory>
     requires within_limits { WithinLimits (points_of rule.now.order).order (is_small rule.now.order) (as_rule rule.now) }
-    requires order_not_six { ¬ rule.now.order ≡ Order.Six }
+    requires order_of_edition { rule.now.edition ≡ Edition.One → ¬ rule.now.order ≡ Order.Six }
 
     // The text is what `toml` prints for the rule's document, each array on one line.
     ensures printed { IfOk result (λ text. IsDocumentText false (rule_members (listed rule.now)) (string_bytes text)) }
@@ -41,7 +42,7 @@ pub fn write_rule(alloc: Global, rule: &Rule) -> Result<String, NoMemory>
 /// What reading the rule's own text answers: the rule again.
 pub fn written_and_read(alloc: Global, rule: &Rule) -> Result<Rule, TextFault>
     requires within_limits { WithinLimits (points_of rule.now.order).order (is_small rule.now.order) (as_rule rule.now) }
-    requires order_not_six { ¬ rule.now.order ≡ Order.Six }
+    requires order_of_edition { rule.now.edition ≡ Edition.One → ¬ rule.now.order ≡ Order.Six }
     ensures same { IfOk result (λ back. listed back ≡ listed rule.now) }
     ensures memory { IfErr result (λ e. e ≡ TextFault.NoMemory) }
 {

@@ -2,6 +2,7 @@
 use cyclo_points::order::Order;
 use cyclo_points::point::Point;
 use rule_model::child::Child;
+use rule_model::edition::Edition;
 use rule_model::kind_row::KindRow;
 use rule_model::rule::Rule;
 use rule_model::type_row::TypeRow;
@@ -78,13 +79,19 @@ fn kind_rows(alloc: Global, kinds: &[Kind]) -> Result<Vec<KindRow>, AllocError> 
     Ok(rows)
 }
 
-/// The rule of these numbers.
-pub fn rule(alloc: Global, given: &Given) -> Result<Rule, AllocError> {
+/// The rule of these numbers, in an edition.
+pub fn rule_of(alloc: Global, edition: Edition, given: &Given) -> Result<Rule, AllocError> {
     Ok(Rule {
+        edition,
         order: given.0,
         factor: Point { c: given.1 },
         glue: given.2.to_vec(alloc)?,
         types: type_rows(alloc, given.3)?,
         kinds: kind_rows(alloc, given.4)?,
     })
+}
+
+/// The rule of these numbers, in edition one.
+pub fn rule(alloc: Global, given: &Given) -> Result<Rule, AllocError> {
+    rule_of(alloc, Edition::One, given)
 }

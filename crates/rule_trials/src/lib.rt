@@ -11,6 +11,8 @@ mod contact_tables;
 #[cfg(test)]
 mod crossings;
 #[cfg(test)]
+mod editions;
+#[cfg(test)]
 mod given;
 #[cfg(test)]
 mod hand_tables;

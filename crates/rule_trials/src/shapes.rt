@@ -259,3 +259,63 @@ pub const HALF_SQUARES: Given = Given(
     &EIGHTFOLD_TYPES,
     &EIGHTFOLD_KINDS,
 );
+
+/// The half square, inflated by 1 + i, which turns it by an eighth of a turn, and cut into two by its height:
+/// a leg grows to a hypotenuse, and the hypotenuse to two legs.
+pub const TURNING: Quad = [1, 1, 0, 0];
+
+pub const HALF_SQUARE_KIND: Kind = (
+    &[[0, 0, 0, 0], [1, 0, 0, 0], [0, 1, 0, 0]],
+    &[0, 1, 0],
+    &[(0, 3, [0, 1, 0, 0]), (0, 2, [0, 1, 0, 0])],
+);
+
+pub const BISECTED: Given = Given(
+    Order::Four,
+    TURNING,
+    &[],
+    &LEG_AND_HYPOTENUSE,
+    &[HALF_SQUARE_KIND],
+);
+
+/// The half-hex: half of a regular hexagon, cut into four of itself.
+pub const TRAPEZOID: [Quad; 5] = [
+    [1, 0, 0, 0],
+    [2, 0, 0, 0],
+    [1, 1, 0, 0],
+    [0, 1, 0, 0],
+    [0, 0, 0, 0],
+];
+
+pub const TRAPEZOID_CHILDREN: [Placed; 4] = [
+    (0, 0, [1, 0, 0, 0]),
+    (0, 2, [4, 0, 0, 0]),
+    (0, 3, [2, 2, 0, 0]),
+    (0, 4, [0, 2, 0, 0]),
+];
+
+pub const HALF_HEX: Given = Given(
+    Order::Six,
+    TWO,
+    &[],
+    &HALVED,
+    &[(&TRAPEZOID, &[0, 0, 0, 0, 0], &TRAPEZOID_CHILDREN)],
+);
+
+/// A square inflated by -2, so turned by half a turn, and cut into four.
+pub const TURNED_SQUARE: Given = Given(
+    Order::Four,
+    [-2, 0, 0, 0],
+    &[],
+    &HALVED,
+    &[(
+        &SQUARE_VERTICES,
+        &[0, 0, 0, 0],
+        &[
+            (0, 2, [0, 0, 0, 0]),
+            (0, 2, [-1, 0, 0, 0]),
+            (0, 2, [-1, -1, 0, 0]),
+            (0, 2, [0, -1, 0, 0]),
+        ],
+    )],
+);

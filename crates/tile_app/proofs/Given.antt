@@ -13,12 +13,10 @@ use Rattle.tile_shape.specs.Decimal.{number_up_to}
 use Rattle.tile_app.specs.Choices.{choice_in}
 use Rattle.tile_app.specs.Commands.{key_text, command_named, keys_of, required_keys, has_form, IsAboutTile}
 use Rattle.tile_app.specs.Words.{is_equals, value_in, value_given, is_right, wrong_place, command_of}
+use Rattle.std.proofs.lemmas.Bool.{and_parts as both_true}
+use Rattle.std.proofs.lemmas.List.{append-nil as append_nil}
 
 -- ---- what is given among more words
-append_nil : {A : Type 0} (xs : List A) → xs ++ [] ≡ xs
-append_nil [] = refl
-append_nil (x ∷ xs) = ap (λ ys. x ∷ ys) (append_nil xs)
-
 value_given-append : (key : Key) (before : List (List ℕ)) (word : List ℕ) → value_given key (before ++ word ∷ []) ≡ option_map_or Some (value_given key before) (value_in key word)
 value_given-append key [] word = at_value (value_in key word)
   where
@@ -36,10 +34,6 @@ value_given-append key (w ∷ ws) word = at_value (value_in key w) (value_given-
 test_of_none : {A : Type 0} (b : Bool) (rest : Option A) (x : A) → cond b rest (Some x) ≡ None → (b ≡ true) × (rest ≡ None)
 test_of_none true rest x e = (refl, e)
 test_of_none false rest x e = absurd (cc e)
-
-pub both_true : (a b : Bool) → a && b ≡ true → (a ≡ true) × (b ≡ true)
-both_true true b e = (refl, e)
-both_true false b e = absurd (cc e)
 
 value_name : (key : Key) (word value : List ℕ) → value_in key word ≡ Some value → before_first is_equals word ≡ key_text key
 value_name key word value e = at_test (nat_lt (position_or_len is_equals word) (length word) && bytes_eq (before_first is_equals word) (key_text key)) refl e

@@ -26,9 +26,9 @@ use Rattle.tile_app.specs.Request.{Request, Asks, tiling_asked}
 use Rattle.tile_app.specs.Tile.{GivesTile, GivesNoTile}
 use Rattle.tile_app.specs.Words.{command_of, reads_file}
 use Rattle.tile_app.proofs.Faults.{OneText, fault_once}
-use Rattle.tile_app.proofs.Given.{both_true}
 use Rattle.tile_app.proofs.Requested.{some_is}
 use Rattle.tile_app.proofs.Tilings.{AcceptedAreUsable, named_is_usable}
+use Rattle.std.proofs.lemmas.Bool.{and_parts as both_true}
 
 -- ---- the laws from which it follows
 abbrev pub FitsAreShort : Type 0

@@ -1,6 +1,6 @@
 -- What is asked is one request: the file that was read is the one that the source had, or a part of one that is too long.
 use Rattle.std.proofs.Common.{◌≡◌, ℕ, ◌<◌, ◌≤◌, Bool, true, false, IsTrue, List, [], ◌∷◌, ◌++◌, length, Some, None, IfSome, refl, sym, ap, ap₂, ◌∙◌, subst, arith}
-use Rattle.std.proofs.lemmas.List.{length-append}
+use Rattle.std.proofs.lemmas.List.{length-append, append-nil as append_nil}
 use Rattle.std.specs.declared.option.Option.{Option}
 use Rattle.rule_text.specs.Limits.{longest_file}
 use Rattle.tile_io.specs.Left.{Gives}
@@ -10,10 +10,6 @@ use Rattle.tile_app.specs.Words.{reads_file}
 
 pub some_is : {A : Type 0} (x y : A) → Some x ≡ Some y → x ≡ y
 some_is x y e = cc
-
-append_nil : {A : Type 0} (xs : List A) → xs ++ [] ≡ xs
-append_nil [] = refl
-append_nil (x ∷ xs) = ap (λ ys. x ∷ ys) (append_nil xs)
 
 -- ---- a file that isn't too long was read whole
 all_read : (file other : List ℕ) (left rest : Option (List ℕ)) → left ≡ Some file → Gives left rest other → IfSome rest (λ bytes. bytes ≡ []) → other ≡ file

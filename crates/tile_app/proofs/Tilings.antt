@@ -10,13 +10,14 @@ use Rattle.cyclo_points.specs.declared.point.Point.{Point}
 use Rattle.cyclo_points.specs.Point.{point_in}
 use Rattle.dissect_check.specs.declared.check_fault.CheckFault.{CheckFault}
 use Rattle.dissect_check.specs.FirstFault.{fault_of_lists}
+use Rattle.rule_model.specs.declared.edition.Edition.{Edition}
 use Rattle.rule_model.specs.declared.rule.Rule.{Rule}
 use Rattle.rule_text.specs.declared.text_fault.TextFault.{TextFault}
 use Rattle.rule_model.specs.Tiling.{ListedRule, Tiling, tiling_of, tiling_listed}
 use Rattle.rule_text.specs.File.{rule_in_file}
 use Rattle.tile_shape.specs.Usable.{AreUsable, is_child_kind}
 use Rattle.builtin_rules.specs.declared.name.Name.{Name}
-use Rattle.builtin_rules.specs.declared.name.Name.TheVariants.{Chair, P2, P3, AmmannBeenker}
+use Rattle.builtin_rules.specs.declared.name.Name.TheVariants.{Chair, P2, P3, AmmannBeenker, HalfHex}
 use Rattle.builtin_rules.specs.Named.{named, IsWritten}
 use Rattle.tile_app.specs.declared.rule_choice.RuleChoice.{RuleChoice}
 use Rattle.tile_app.specs.declared.rule_choice.RuleChoice.TheVariants.{Builtin, File}
@@ -45,20 +46,21 @@ builtin_is_usable Chair = seen _ (lit≤ tt) (lit≤ tt) refl refl refl refl
 builtin_is_usable P2 = seen _ (lit≤ tt) (lit≤ tt) refl refl refl refl
 builtin_is_usable P3 = seen _ (lit≤ tt) (lit≤ tt) refl refl refl refl
 builtin_is_usable AmmannBeenker = seen _ (lit≤ tt) (lit≤ tt) refl refl refl refl
+builtin_is_usable HalfHex = seen _ (lit≤ tt) (lit≤ tt) refl refl refl refl
 
 -- and those of a rule that no clause refuses, by a law
 abbrev pub AcceptedAreUsable : Type 0
-AcceptedAreUsable = (o : Order) (l : TheRule Point) → fault_of_lists o l ≡ None → AreUsable (child_kinds (map_rule (point_in o) l))
+AcceptedAreUsable = (e : Edition) (o : Order) (l : TheRule Point) → fault_of_lists e o l ≡ None → AreUsable (child_kinds (map_rule (point_in o) l))
 
 ok_is : (s t : Tiling) (o : Result Tiling RuleFault) → o ≡ Ok s → o ≡ Ok t → s ≡ t
 ok_is s t o e f = cc
 
 file_is_usable : AcceptedAreUsable → (t : Tiling) (read : Result ListedRule TextFault) → tiling_of_text read ≡ Ok t → AreUsable (child_kinds t.rule)
 file_is_usable law t (Err e) h = absurd (cc h)
-file_is_usable law t (Ok x) h = at_fault (fault_of_lists x.order x.rule) refl h
+file_is_usable law t (Ok x) h = at_fault (fault_of_lists x.edition x.order x.rule) refl h
   where
-    at_fault : (o : Option CheckFault) → fault_of_lists x.order x.rule ≡ o → tiling_unless o x ≡ Ok t → AreUsable (child_kinds t.rule)
-    at_fault None f g = subst (λ (s : Tiling). AreUsable (child_kinds s.rule)) (ok_is (tiling_listed x) t (Ok (tiling_listed x)) refl g) (law x.order x.rule f)
+    at_fault : (o : Option CheckFault) → fault_of_lists x.edition x.order x.rule ≡ o → tiling_unless o x ≡ Ok t → AreUsable (child_kinds t.rule)
+    at_fault None f g = subst (λ (s : Tiling). AreUsable (child_kinds s.rule)) (ok_is (tiling_listed x) t (Ok (tiling_listed x)) refl g) (law x.edition x.order x.rule f)
     at_fault (Some e) f g = absurd (cc g)
 
 chosen_is_usable : AcceptedAreUsable → (file : List ℕ) (t : Tiling) (choice : RuleChoice) → tiling_chosen file choice ≡ Ok t → AreUsable (child_kinds t.rule)

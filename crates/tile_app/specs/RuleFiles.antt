@@ -16,7 +16,7 @@ tiling_unless (Some e) x = Err (Check e)
 
 -- the tiling of the rule that was read, or the first fault, of the text or of the rule
 abbrev pub tiling_of_text : Result ListedRule TextFault → Result Tiling RuleFault
-tiling_of_text (Ok x) = tiling_unless (fault_of_lists x.order x.rule) x
+tiling_of_text (Ok x) = tiling_unless (fault_of_lists x.edition x.order x.rule) x
 tiling_of_text (Err e) = Err (Text e)
 
 -- the tiling of a rule file

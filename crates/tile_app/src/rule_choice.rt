@@ -23,6 +23,7 @@ fn name_in(text: &str) -> Option<Name>
         "p2" => Some(Name::P2),
         "p3" => Some(Name::P3),
         "ab" => Some(Name::AmmannBeenker),
+        "halfhex" => Some(Name::HalfHex),
         _ => None,
     }
 }

@@ -8,6 +8,7 @@ use Rattle.substitution.specs.Rule.{child_kinds}
 use Rattle.substitution.specs.RuleParts.{edge_count, map_rule}
 use Rattle.edge_to_edge.specs.Contacts.{tables_of}
 use Rattle.edge_to_edge.specs.Limited.{WithinLimits}
+use Rattle.edge_to_edge.specs.Edition.{First}
 use Rattle.edge_to_edge.specs.EdgeToEdge.{IsEdgeToEdge}
 use Rattle.edge_to_edge.specs.EdgeTypes.{has_length_of_type}
 use Rattle.edge_to_edge.specs.Edges.{PlacedEdge, child_edges}
@@ -19,11 +20,13 @@ use Rattle.cyclo_points.specs.declared.order.Order.TheVariants.{Four}
 use Rattle.cyclo_points.specs.declared.point.Point.{Point}
 use Rattle.cyclo_points.specs.Order.{NumberOf, points_of, is_refused}
 use Rattle.cyclo_points.specs.Point.{point_in}
+use Rattle.rule_model.specs.declared.edition.Edition.{Edition}
+use Rattle.rule_model.specs.declared.edition.Edition.TheVariants.{One}
 use Rattle.rule_model.specs.declared.rule.Rule.{Rule}
 use Rattle.rule_model.specs.Accepted.{IsAccepted}
 use Rattle.rule_model.specs.Tiling as tiling
 use Rattle.rule_model.specs.Small.{is_small}
-use Rattle.rule_model.specs.Views.{as_rule}
+use Rattle.rule_model.specs.Views.{as_rule, as_edition}
 use Rattle.tile_place.specs.Triangle.{triangle, triangle_tables, IsTriangle}
 
 abbrev numbers : theory.Rule (NumberOf Four)
@@ -65,7 +68,7 @@ limits = record {
 not_loose : list_all (λ (s : PlacedEdge (NumberOf Four)). not (is_loose (lie_of (points_of Four) numbers 0 s))) (child_edges (points_of Four) numbers 0) ≡ true
 not_loose = refl
 
-edge_to_edge : IsEdgeToEdge (points_of Four) (is_refused Four) numbers
+edge_to_edge : IsEdgeToEdge (points_of Four) First (is_refused Four) numbers
 edge_to_edge = record {
   star_shaped = one _ refl;
   inflation_factor = refl;
@@ -83,17 +86,17 @@ contacts : tables_of (points_of Four) numbers ≡ triangle_tables
 contacts = refl
 
 -- ---- the rule of the program
-moved : (Q : Order → theory.Rule Point → Type 0) (r : Rule) → IsTriangle r → Q Four triangle → Q r.order (as_rule r)
-moved Q r is h = subst (λ o. Q o (as_rule r)) (sym is.order) (subst (Q Four) (sym is.lists) h)
+moved : (Q : Edition → Order → theory.Rule Point → Type 0) (r : Rule) → IsTriangle r → Q One Four triangle → Q r.edition r.order (as_rule r)
+moved Q r is h = subst (λ e. Q e r.order (as_rule r)) (sym is.edition) (subst (λ o. Q One o (as_rule r)) (sym is.order) (subst (Q One Four) (sym is.lists) h))
 
 pub accepted : (r : Rule) → IsTriangle r → IsAccepted r
 accepted r is = record {
-  limits = moved (λ o l. WithinLimits (points_of o).order (is_small o) l) r is limits;
-  edge_to_edge = moved (λ o l. IsEdgeToEdge (points_of o) (is_refused o) (map_rule (point_in o) l)) r is edge_to_edge;
+  limits = moved (λ e o l. WithinLimits (points_of o).order (is_small o) l) r is limits;
+  edge_to_edge = moved (λ e o l. IsEdgeToEdge (points_of o) (as_edition e) (is_refused o) (map_rule (point_in o) l)) r is edge_to_edge;
 }
 
 pub its_tables : (r : Rule) (t : Tables) → IsTriangle r → t ≡ triangle_tables → t ≡ tiling.contacts (tiling.tiling_of r)
-its_tables r t is h = moved (λ o l. t ≡ tables_of (points_of o) (map_rule (point_in o) l)) r is (h ∙ sym contacts)
+its_tables r t is h = moved (λ e o l. t ≡ tables_of (points_of o) (map_rule (point_in o) l)) r is (h ∙ sym contacts)
 
 pub its_uses : (r : Rule) (u : List (List ℕ)) → IsTriangle r → u ≡ tables_child_kinds triangle_tables → u ≡ tiling.children (tiling.tiling_of r)
-its_uses r u is h = moved (λ o l. u ≡ child_kinds (map_rule (point_in o) l)) r is h
+its_uses r u is h = moved (λ e o l. u ≡ child_kinds (map_rule (point_in o) l)) r is h

@@ -12,7 +12,7 @@ use Rattle.rule_model.specs.declared.rule.Rule.{Rule}
 use Rattle.rule_model.specs.Accepted.{IsAccepted}
 use Rattle.rule_model.specs.Tiling.{tiling_of, contacts, children}
 use Rattle.rule_model.specs.Usable.{IsUsable}
-use Rattle.rule_model.specs.Views.{rule_of}
+use Rattle.rule_model.specs.Views.{rule_of, as_edition}
 use Rattle.tile_shape.specs.Views.{address_of}
 use Rattle.transducer_core.specs.declared.crossing.Crossing.{Crossing}
 use Rattle.transducer_core.specs.declared.outside.Outside.{Outside}
@@ -25,7 +25,7 @@ pub record IsSettled (m : Rule) : Type 0 where
   pub same_child_kinds : child_kinds (contacts (tiling_of m)) ≡ children (tiling_of m)
 
 module _ (m : Rule) (settled : IsSettled m) where
-  ok : IsAcceptedRule (points_of m.order) (is_refused m.order) (rule_of m)
+  ok : IsAcceptedRule (points_of m.order) (as_edition m.edition) (is_refused m.order) (rule_of m)
   ok = record { numbered = settled.usable.numbered; edge_to_edge = settled.accepted.edge_to_edge }
 
   fits_tables : (a : TheAddress) → Fits (children (tiling_of m)) a → Fits (child_kinds (contacts (tiling_of m))) a
@@ -42,21 +42,21 @@ module _ (m : Rule) (settled : IsSettled m) where
 
     pub only_across : OnlyTilesLaw m.order → (x : Result Crossing Outside) → IfOk x (λ x. IsAcross (contacts (tiling_of m)) a e (address_of x.addr) x.edge)
         → IfOk x (λ x. IsOnlyAcross (tiling_of m) a e (address_of x.addr) x.edge)
-    only_across law (Ok x) h = (law (is_refused m.order) (rule_of m) ok a (address_of x.addr) e x.edge own h.only.fits).0 h.only
+    only_across law (Ok x) h = (law (as_edition m.edition) (is_refused m.order) (rule_of m) ok a (address_of x.addr) e x.edge own h.only.fits).0 h.only
     only_across law (Err o) h = tt
 
     pub way_back : OnlyTilesLaw m.order → (x : Result Crossing Outside) → IfOk x (λ x. IsAcross (contacts (tiling_of m)) a e (address_of x.addr) x.edge)
         → IfOk x (λ x. IsOnlyAcross (tiling_of m) (address_of x.addr) x.edge a e)
     way_back law (Ok x) h =
-        (law (is_refused m.order) (rule_of m) ok (address_of x.addr) a x.edge e (has_edge (address_of x.addr) x.edge h.only.fits h.edge_exists) own.fits).0 h.leads_back
+        (law (as_edition m.edition) (is_refused m.order) (rule_of m) ok (address_of x.addr) a x.edge e (has_edge (address_of x.addr) x.edge h.only.fits h.edge_exists) own.fits).0 h.leads_back
     way_back law (Err o) h = tt
 
     pub lies_on_boundary : BoundariesLaw m.order → (x : Result Crossing Outside) → IfErr x (λ o. LiesOn (contacts (tiling_of m)) a e o.edge o.part)
         → IfErr x (λ o. LiesOnBoundary (tiling_of m) a e o.edge o.part)
     lies_on_boundary law (Ok x) h = tt
-    lies_on_boundary law (Err o) h = (law (is_refused m.order) (rule_of m) ok a e o.edge o.part own).1 (h.cuts, h.trace, sym h.is_part)
+    lies_on_boundary law (Err o) h = (law (as_edition m.edition) (is_refused m.order) (rule_of m) ok a e o.edge o.part own).1 (h.cuts, h.trace, sym h.is_part)
 
     pub boundary_lies : BoundariesLaw m.order → (top part : ℕ) → LiesOnBoundary (tiling_of m) a e top part → LiesOn (contacts (tiling_of m)) a e top part
     boundary_lies law top part on =
-        let h = (law (is_refused m.order) (rule_of m) ok a e top part own).0 on in
+        let h = (law (as_edition m.edition) (is_refused m.order) (rule_of m) ok a e top part own).0 on in
         record { cuts = h.0; trace = h.1; is_part = sym h.2 }

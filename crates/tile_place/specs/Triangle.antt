@@ -5,6 +5,7 @@ use Rattle.addressing.specs.Contact.{ChildEdge, inner, outer}
 use Rattle.addressing.specs.Tables.{Tables, KindTables}
 use Rattle.cyclo_points.specs.declared.order.Order.TheVariants.{Four}
 use Rattle.cyclo_points.specs.declared.point.Point.{Point}
+use Rattle.rule_model.specs.declared.edition.Edition.TheVariants.{One}
 use Rattle.rule_model.specs.declared.rule.Rule.{Rule}
 use Rattle.rule_model.specs.Views.{as_rule}
 
@@ -44,7 +45,8 @@ triangle_kind = record {
 abbrev pub triangle_tables : Tables
 triangle_tables = record { mates = 0 ∷ 1 ∷ []; subs = (0 ∷ 0 ∷ []) ∷ (1 ∷ 1 ∷ []) ∷ []; kinds = triangle_kind ∷ [] }
 
--- a rule of the program that has the triangle's numbers
+-- a rule of the program that has the triangle's numbers, of edition one
 pub record IsTriangle (r : Rule) : Type 0 where
+  pub edition : r.edition ≡ One
   pub order : r.order ≡ Four
   pub lists : as_rule r ≡ triangle

@@ -9,6 +9,7 @@ use crate::reading::{LONGEST_FILE, read_rule};
 use cyclo_points::order::Order;
 use cyclo_points::point::Point;
 use rule_model::child::Child;
+use rule_model::edition::Edition;
 use rule_model::kind_row::KindRow;
 use rule_model::rule::Rule;
 use rule_model::type_row::TypeRow;
@@ -67,8 +68,8 @@ const CHILDREN: [Child; 4] = [
     },
 ];
 
-/// The chair.
-pub(super) fn chair(alloc: Global) -> Result<Rule, AllocError>
+/// The chair as a rule of the edition.
+pub(super) fn chair(alloc: Global, edition: Edition) -> Result<Rule, AllocError>
     ensures limits { IfOk result (λ rule. WithinLimits (points_of rule.order).order (is_small rule.order) (as_rule rule)) }
     ensures order { IfOk result (λ rule. rule.order ≡ Order.Four) }
 {
@@ -86,6 +87,7 @@ pub(super) fn chair(alloc: Global) -> Result<Rule, AllocError>
     let factor = Point { c: [2, 0, 0, 0] };
     let glue = Vec::new(alloc);
     Ok(Rule {
+        edition,
         order: Order::Four,
         factor,
         glue,

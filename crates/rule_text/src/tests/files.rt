@@ -17,7 +17,7 @@ const FAULTS: [(&str, &str, TextFault); 12] = [
     ("format = 1\n", "", TextFault::Missing { key: Key::Format }),
     (
         "format = 1",
-        "format = 2",
+        "format = 3",
         TextFault::OutOfRange { key: Key::Format },
     ),
     (

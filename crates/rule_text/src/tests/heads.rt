@@ -6,7 +6,7 @@ use std::test::Fail;
 
 const FORMAT: Key = Key::Format;
 
-const FORMAT_ROWS: [(&str, TextFault); 14] = [
+const FORMAT_ROWS: [(&str, TextFault); 15] = [
     ("", TextFault::Missing { key: FORMAT }),
     ("order = 5", TextFault::Missing { key: FORMAT }),
     ("format = \"1\"", TextFault::WrongType { key: FORMAT }),
@@ -15,7 +15,8 @@ const FORMAT_ROWS: [(&str, TextFault); 14] = [
     ("format = [1]", TextFault::WrongType { key: FORMAT }),
     ("format.name = 1", TextFault::WrongType { key: FORMAT }),
     ("format = 0", TextFault::OutOfRange { key: FORMAT }),
-    ("format = 2", TextFault::OutOfRange { key: FORMAT }),
+    ("format = 2", TextFault::Missing { key: ORDER }),
+    ("format = 3", TextFault::OutOfRange { key: FORMAT }),
     ("format = -1", TextFault::OutOfRange { key: FORMAT }),
     (
         "format = 9223372036854775807",
@@ -52,6 +53,18 @@ const ORDER_ROWS: [(&str, TextFault); 18] = [
     ("order = 1_0", TextFault::Missing { key: LAMBDA }),
     ("\"order\" = 4", TextFault::Missing { key: LAMBDA }),
     ("'order' = 4", TextFault::Missing { key: LAMBDA }),
+];
+
+/// The orders of format 2.
+const ORDER_ROWS_OF_TWO: [(&str, TextFault); 8] = [
+    ("", TextFault::Missing { key: ORDER }),
+    ("order = \"6\"", TextFault::WrongType { key: ORDER }),
+    ("order = 5", TextFault::OutOfRange { key: ORDER }),
+    ("order = 12", TextFault::OutOfRange { key: ORDER }),
+    ("order = -6", TextFault::OutOfRange { key: ORDER }),
+    ("order = 6", TextFault::Missing { key: LAMBDA }),
+    ("order = 8", TextFault::Missing { key: LAMBDA }),
+    ("order = 10", TextFault::Missing { key: LAMBDA }),
 ];
 
 const GLUE: Key = Key::Glue;
@@ -123,6 +136,27 @@ const EIGHT_ROWS: [(&str, TextFault); 3] = [
     ),
 ];
 
+/// In order six the last two coefficients are 0.
+const SIX_ROWS: [(&str, TextFault); 5] = [
+    ("lambda = [64, -64, 0, 0]", TextFault::Missing { key: GLUE }),
+    (
+        "lambda = [1, 1, 1, 0]",
+        TextFault::OutOfRange { key: LAMBDA },
+    ),
+    (
+        "lambda = [1, 1, 0, -1]",
+        TextFault::OutOfRange { key: LAMBDA },
+    ),
+    (
+        "lambda = [65, 0, 0, 0]",
+        TextFault::OutOfRange { key: LAMBDA },
+    ),
+    (
+        "lambda = [0, -65, 0, 0]",
+        TextFault::OutOfRange { key: LAMBDA },
+    ),
+];
+
 const TYPES: Key = Key::TypeList;
 
 const GLUE_ROWS: [(&str, TextFault); 12] = [
@@ -147,6 +181,9 @@ fn tells_faults_of_the_head(rt: HostRuntime) -> Result<(), Fail> {
     assert_faults(&rt, alloc, "format = 1\n", &ORDER_ROWS)?;
     assert_faults(&rt, alloc, "format = 1\norder = 4\n", &LAMBDA_ROWS)?;
     assert_faults(&rt, alloc, "format = 1\norder = 8\n", &EIGHT_ROWS)?;
+    assert_faults(&rt, alloc, "format = 2\n", &ORDER_ROWS_OF_TWO)?;
+    assert_faults(&rt, alloc, "format = 2\norder = 4\n", &LAMBDA_ROWS)?;
+    assert_faults(&rt, alloc, "format = 2\norder = 6\n", &SIX_ROWS)?;
     let head = "format = 1\norder = 4\nlambda = [2, 0, 0, 0]\n";
     assert_faults(&rt, alloc, head, &GLUE_ROWS)
 }

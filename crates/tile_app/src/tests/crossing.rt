@@ -114,6 +114,7 @@ fn across_and_back(rt: HostRuntime) -> Result<(), Fail> {
         (Name::P2, "p2"),
         (Name::P3, "p3"),
         (Name::AmmannBeenker, "ab"),
+        (Name::HalfHex, "halfhex"),
     ];
     for (name, text) in names {
         let checked = builtin(rt.alloc(), name)?;

@@ -264,6 +264,87 @@ const P3_ROWS: [(&str, &str, &str, u8, &str, &str); 6] = [
     ),
 ];
 
+// The half square cut by a factor that turns.
+const HALF_SQUARE: &str = "format = 2
+order = 4
+lambda = [1, 1, 0, 0]
+glue = []
+
+[[type]]
+mate = 0
+parts = [1]
+
+[[type]]
+mate = 1
+parts = [0, 0]
+
+[[kind]]
+vertices = [[0,0,0,0],[1,0,0,0],[0,1,0,0]]
+edges = [0, 1, 0]
+children = [[0,3, 0,1,0,0], [0,2, 0,1,0,0]]
+";
+
+// The same of the half square.
+const HALF_SQUARE_ROWS: [(&str, &str, &str, u8, &str, &str); 8] = [
+    (
+        "check rule=-",
+        "",
+        "",
+        0,
+        "accepted order 4 kinds 1 types 2",
+        "",
+    ),
+    ("place rule=- addr=0:1/0,0/0", "", "", 0, "0 1 0,1,0,0", ""),
+    (
+        "check rule=-",
+        "format = 2",
+        "format = 1",
+        3,
+        "",
+        "3 RuleRefused WrongFactor",
+    ),
+    (
+        "check rule=-",
+        "format = 2",
+        "format = 3",
+        3,
+        "",
+        "3 RuleRefused OutOfRange format",
+    ),
+    (
+        "check rule=-",
+        "order = 4",
+        "order = 5",
+        3,
+        "",
+        "3 RuleRefused OutOfRange order",
+    ),
+    (
+        "check rule=-",
+        "[1, 1, 0, 0]",
+        "[0, 1, 0, 0]",
+        3,
+        "",
+        "3 RuleRefused WrongFactor",
+    ),
+    (
+        "check rule=-",
+        "order = 4\nlambda = [1, 1, 0, 0]",
+        "order = 6\nlambda = [1, 1, 1, 0]",
+        3,
+        "",
+        "3 RuleRefused OutOfRange lambda",
+    ),
+    (
+        "check rule=-",
+        "order = 4",
+        "order = 6",
+        3,
+        "",
+        "3 RuleRefused ChildEdgeLoose 0 0 1",
+    ),
+];
+
 // The text with the first place where the old text stands replaced by the new one.
 fn changed(alloc: Global, text: &str, old: &str, new: &str) -> Result<String, AllocError> {
     match text.split_once(old) {
@@ -310,6 +391,11 @@ fn rows_of_files(rt: HostRuntime) -> Result<(), Fail> {
     }
     for (words, old, new, code, text, note) in P3_ROWS.iter() {
         let file = changed(alloc, P3, old, new)?;
+        let left = check_file(&rt, words, file, *code, text, note)?;
+        assert_eq!(rt; left, 0, "{words}");
+    }
+    for (words, old, new, code, text, note) in HALF_SQUARE_ROWS.iter() {
+        let file = changed(alloc, HALF_SQUARE, old, new)?;
         let left = check_file(&rt, words, file, *code, text, note)?;
         assert_eq!(rt; left, 0, "{words}");
     }

@@ -4,7 +4,7 @@ use std::alloc::{AllocError, Global};
 use std::test::Fail;
 
 // Words, the exit code that is wanted, the line printed, and the line noted.
-const ROWS: [(&str, u8, &str, &str); 48] = [
+const ROWS: [(&str, u8, &str, &str); 55] = [
     ("place rule=chair addr=0:", 0, "0 0 0,0,0,0", ""),
     ("place rule=chair addr=0:1/0,2/0", 0, "0 1 7,1,0,0", ""),
     ("place addr=0:1/0,2/0 rule=chair", 0, "0 1 7,1,0,0", ""),
@@ -101,6 +101,33 @@ const ROWS: [(&str, u8, &str, &str); 48] = [
     ("check rule=p3", 0, "accepted order 10 kinds 4 types 8", ""),
     ("check rule=p2", 0, "accepted order 10 kinds 4 types 8", ""),
     ("check rule=ab", 0, "accepted order 8 kinds 3 types 4", ""),
+    (
+        "check rule=halfhex",
+        0,
+        "accepted order 6 kinds 1 types 1",
+        "",
+    ),
+    ("place rule=halfhex addr=0:1/0,2/0", 0, "0 5 0,4,0,0", ""),
+    (
+        "place rule=halfhex addr=0:4/0",
+        4,
+        "",
+        "4 BadAddress WrongChild 0",
+    ),
+    ("neighbour rule=halfhex addr=0:0/0 edge=1", 0, "0:1/0 2", ""),
+    (
+        "neighbour rule=halfhex addr=0:3/0,0/0 edge=0",
+        0,
+        "0:2/0,3/0 4",
+        "",
+    ),
+    (
+        "neighbour rule=halfhex addr=0:0/0 edge=5",
+        12,
+        "",
+        "12 NoEdge 5 5",
+    ),
+    ("check rule=half", 2, "", "2 BadWords 1"),
     ("place rule=p3 addr=0:0/0,0/0", 0, "0 4 2,0,1,-1", ""),
     ("place rule=p2 addr=1:1/0", 0, "1 4 2,0,1,-1", ""),
     ("place rule=ab addr=0:3/0", 0, "0 4 2,2,1,-1", ""),

@@ -14,6 +14,7 @@ use edge_tables::laws::coherence_law;
 use edge_tables::tables::Tables;
 use rule_model::checked::Checked;
 use rule_model::child::Child;
+use rule_model::edition::Edition;
 use rule_model::kind_row::KindRow;
 use rule_model::rule::Rule;
 use rule_model::type_row::TypeRow;
@@ -107,6 +108,7 @@ fn rule(alloc: Global) -> Result<Rule, AllocError>
         children: PIECES.to_vec(alloc)?,
     })?;
     Ok(Rule {
+        edition: Edition::One,
         order: Order::Four,
         factor: Point { c: [2, 0, 0, 0] },
         glue: Vec::new(alloc),

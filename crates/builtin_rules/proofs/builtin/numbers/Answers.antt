@@ -1,5 +1,5 @@
 use Rattle.std.proofs.Common.{sym, ap, ◌∙◌}
-use Rattle.builtin_rules.specs.declared.name.Name.TheVariants.{Chair, P2, P3, AmmannBeenker}
+use Rattle.builtin_rules.specs.declared.name.Name.TheVariants.{Chair, P2, P3, AmmannBeenker, HalfHex}
 use Rattle.builtin_rules.specs.Named.{named, contacts_named}
 use Rattle.builtin_rules.proofs.Constants.{its_numbers, its_contacts}
 use Rattle.builtin_rules.proofs.builtin.numbers.Goals as goal
@@ -27,3 +27,9 @@ returns-in-AmmannBeenker-clause-rule c = its_numbers AmmannBeenker ∙ ap named 
 
 pub returns-in-AmmannBeenker-clause-contacts : goal.returns-in-AmmannBeenker-clause-contacts
 returns-in-AmmannBeenker-clause-contacts c = its_contacts AmmannBeenker ∙ ap contacts_named (sym c.in-AmmannBeenker.is)
+
+pub returns-in-HalfHex-clause-rule : goal.returns-in-HalfHex-clause-rule
+returns-in-HalfHex-clause-rule c = its_numbers HalfHex ∙ ap named (sym c.in-HalfHex.is)
+
+pub returns-in-HalfHex-clause-contacts : goal.returns-in-HalfHex-clause-contacts
+returns-in-HalfHex-clause-contacts c = its_contacts HalfHex ∙ ap contacts_named (sym c.in-HalfHex.is)

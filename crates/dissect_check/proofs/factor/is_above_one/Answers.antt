@@ -9,8 +9,8 @@ use Rattle.dissect_check.proofs.factor.is_above_one.Goals as goal
 
 pub sign-requires : goal.sign-requires
 sign-requires c = record {
-  r_within = real_wider (4 * 64 + 2) (2 ^ 61) c.rsub.result (omega arith)
-      (c.rsub.ensures.bounded (4 * 64) 2 (c.x.ensures.bounded 64 c.requires.small.within) (record { at_a = record { low = omega (arith, ints); high = omega (arith, ints) }; at_b = record { low = omega (arith, ints); high = omega (arith, ints) } }));
+  r_within = real_wider (4 * 2 ^ 16 + 2) (2 ^ 61) c.rsub.result (omega arith)
+      (c.rsub.ensures.bounded (4 * 2 ^ 16) 2 (c.x.ensures.bounded (2 ^ 16) c.requires.within) (record { at_a = record { low = omega (arith, ints); high = omega (arith, ints) }; at_b = record { low = omega (arith, ints); high = omega (arith, ints) } }));
 }
 
 pub returns : goal.returns
