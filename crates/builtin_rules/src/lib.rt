@@ -23,6 +23,4 @@ mod p2;
 mod p3;
 mod rule_numbers;
 mod rules;
-#[cfg(test)]
-mod tests;
 mod type_numbers;

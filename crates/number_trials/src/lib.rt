@@ -8,11 +8,7 @@
 #[cfg(test)]
 mod addresses;
 #[cfg(test)]
-mod half_hex;
-#[cfg(test)]
 mod numbers;
-#[cfg(test)]
-mod order_six;
 #[cfg(test)]
 mod plane;
 #[cfg(test)]

@@ -124,7 +124,7 @@ const SHORT: i128 = 1073741824;
 const SQUARE: i128 = 1329227995784915872903807060280344576;
 
 /// Calls and what they give.
-const ROWS: [(Call, Pair); 41] = [
+const ROWS: [(Call, Pair); 47] = [
     // ζ + ζ^-1 of order ten, and 1 + ζ + ζ^-1 of order eight, are real
     (Call::X(Order::Ten, [1, 0, 1, -1]), (0, 2)),
     (Call::Y(Order::Ten, [1, 0, 1, -1]), (0, 0)),
@@ -220,6 +220,12 @@ const ROWS: [(Call, Pair); 41] = [
         (1073741824000, 0),
     ),
     (Call::Sum((1, 2), (3, 4)), (4, 6)),
+    (Call::X(Order::Six, [3, -5, 0, 0]), (1, 0)),
+    (Call::Y(Order::Six, [3, -5, 0, 0]), (-5, 0)),
+    (Call::X(Order::Six, [MOST, MOST, 0, 0]), (3298534883328, 0)),
+    (Call::Y(Order::Six, [MOST, MOST, 0, 0]), (1099511627776, 0)),
+    (Call::Product(Order::Six, (1, 0), (-2, 0)), (-2, 0)),
+    (Call::Thousandths(Order::Six, (-2, 0)), (-2000, 0)),
 ];
 
 /// 2^61, the bound of a number whose sign is asked, and 2^25, up to which a number is short.
@@ -228,7 +234,7 @@ const SIGNED: i128 = 2305843009213693952;
 const LAST_SHORT: i128 = 33554432;
 
 /// Numbers and their signs: -1, 0 or 1.
-const SIGNS: [(Order, Pair, Ordering); 21] = [
+const SIGNS: [(Order, Pair, Ordering); 24] = [
     (Order::Ten, (-987, 610), Ordering::Greater),
     (Order::Ten, (-1597, 987), Ordering::Less),
     // the last of two short parts, and the first of a wide one
@@ -272,6 +278,9 @@ const SIGNS: [(Order, Pair, Ordering); 21] = [
     (Order::Four, (-SIGNED, 0), Ordering::Less),
     (Order::Eight, (LAST_SHORT, -LAST_SHORT), Ordering::Less),
     (Order::Ten, (LAST_SHORT, -LAST_SHORT), Ordering::Less),
+    (Order::Six, (-2, 0), Ordering::Less),
+    (Order::Six, (0, 0), Ordering::Equal),
+    (Order::Six, (SIGNED, 0), Ordering::Greater),
 ];
 
 #[test]

@@ -6,7 +6,9 @@ use crate::sizes::{all_within, within};
 use cyclo_points::order::Order;
 use cyclo_points::point::Point;
 use plane_geom::box_edges::edge_meets_box;
-use plane_geom::laws::{crossing_law, factor_law, fan_law, motion_law, segment_law, triangle_law};
+use plane_geom::laws::{
+    crossing_law, factor_law, fan_law, motion_law, product_law, segment_law, triangle_law,
+};
 use plane_geom::polygons::{count, member};
 use plane_geom::right_side::right_side_law;
 use plane_geom::segments::{along, on_segment, same_length};
@@ -191,6 +193,9 @@ const CHAIR: [Point; 8] = [
     at!(2, 1),
 ];
 
+/// The half-hex, a trapezium of the triangular lattice.
+const HALF_HEX: [Point; 5] = [at!(1, 0), at!(2, 0), at!(1, 1), at!(0, 1), at!(0, 0)];
+
 /// The upper half of the plane up to the bound, as a triangle.
 const UPWARD: [Point; 3] = [LEFT, RIGHT, ABOVE];
 
@@ -225,7 +230,7 @@ const SQUARE: [Point; 24] = [
     at!(0, STEP),
 ];
 
-/// Questions with one answer in all three orders.
+/// Questions with one answer in the orders four, eight and ten.
 const IN_EACH_ORDER: [(Call, i32); 35] = [
     (Call::Side([MIDDLE, at!(0, 1), at!(-1, 0)]), 1),
     (Call::Side([MIDDLE, at!(0, 1), at!(0, 1)]), 0),
@@ -296,7 +301,7 @@ const ACROSS: [Point; 3] = [
 ];
 
 /// Questions of one order.
-const IN_ONE_ORDER: [(Order, Call, i32); 17] = [
+const IN_ONE_ORDER: [(Order, Call, i32); 34] = [
     // the chair holds its lower and left sides
     (Order::Four, Call::Member(&CHAIR, at!(0, 0)), 1),
     (Order::Four, Call::Member(&CHAIR, at!(1, 1)), 0),
@@ -318,6 +323,50 @@ const IN_ONE_ORDER: [(Order, Call, i32); 17] = [
     (Order::Four, Call::Side(ACROSS), 1),
     (Order::Eight, Call::Side(ACROSS), 0),
     (Order::Ten, Call::Side(ACROSS), 0),
+    // the half-hex likewise
+    (Order::Six, Call::Member(&HALF_HEX, at!(0, 0)), 1),
+    (Order::Six, Call::Member(&HALF_HEX, at!(1, 0)), 1),
+    (Order::Six, Call::Member(&HALF_HEX, at!(2, 0)), 0),
+    (Order::Six, Call::Member(&HALF_HEX, at!(0, 1)), 0),
+    (Order::Six, Call::Member(&HALF_HEX, at!(-1, 1)), 0),
+    (Order::Six, Call::Count(&HALF_HEX, at!(1, 0)), 1),
+    (Order::Six, Call::Side([at!(2, 0), at!(1, 1), MIDDLE]), 1),
+    (Order::Six, Call::Side([at!(1, 1), at!(2, 0), MIDDLE]), -1),
+    (
+        Order::Six,
+        Call::Crossing([at!(2, 0), at!(1, 1), MIDDLE]),
+        1,
+    ),
+    (
+        Order::Six,
+        Call::Crossing([at!(1, 1), at!(2, 0), MIDDLE]),
+        -1,
+    ),
+    // 1 + ζ and 2 - ζ have the squared length 3, and 2 and 2ζ have 4
+    (Order::Six, Call::SameLength([at!(1, 1), at!(2, -1)]), 1),
+    (Order::Six, Call::SameLength([at!(2, 0), at!(0, 2)]), 1),
+    (Order::Six, Call::SameLength([at!(1, 1), at!(2, 0)]), 0),
+    // 1 + ζ is the middle of 2 and 2ζ
+    (
+        Order::Six,
+        Call::OnSegment([at!(2, 0), at!(0, 2), at!(1, 1)]),
+        1,
+    ),
+    (
+        Order::Six,
+        Call::OnSegment([at!(2, 0), at!(0, 2), at!(2, -1)]),
+        0,
+    ),
+    (
+        Order::Six,
+        Call::Along([at!(2, 0), at!(0, 2), at!(1, 1), at!(0, 2)]),
+        1,
+    ),
+    (
+        Order::Six,
+        Call::Along([at!(2, 0), at!(0, 2), at!(0, 2), at!(1, 1)]),
+        0,
+    ),
     // from the centre of the box; along its side
     (
         Order::Four,
@@ -374,4 +423,5 @@ fn laws(_rt: HostRuntime) {
     motion_law(Order::Ten);
     factor_law(Order::Eight);
     right_side_law(Order::Four);
+    product_law(Order::Six);
 }

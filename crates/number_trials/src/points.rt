@@ -1,4 +1,4 @@
-//! Points and motions.
+//! Points and motions. In order six ζ² is ζ - 1 and ζ³ is -1.
 ghost use Rattle.std.specs.Prelude.{◌^◌, ◌<◌, IsTrue};
 ghost use Rattle.cyclo_points.specs.Order.{points_of};
 ghost use Rattle.cyclo_points.specs.Point.{IsWithin};
@@ -169,7 +169,7 @@ const SILVER: Quad = [1, 1, 0, -1];
 const GOLDEN: Quad = [1, 0, 1, -1];
 
 /// Calls and what they give.
-const ROWS: [(Call, Moved); 34] = [
+const ROWS: [(Call, Moved); 54] = [
     (
         Call::Sum([1, -2, 3, 40], [10, 20, -3, 4]),
         (0, [11, 18, 0, 44]),
@@ -282,10 +282,77 @@ const ROWS: [(Call, Moved); 34] = [
         Call::Composed(Order::Ten, (1, [FAR; 4]), (1, [FAR; 4])),
         (2, [0, 3 * FAR, FAR, 3 * FAR]),
     ),
+    (Call::Turned(Order::Six, 1, ONE), (0, [0, 1, 0, 0])),
+    (Call::Turned(Order::Six, 2, ONE), (0, [-1, 1, 0, 0])),
+    (Call::Turned(Order::Six, 3, ONE), (0, [-1, 0, 0, 0])),
+    (Call::Turned(Order::Six, 4, ONE), (0, [0, -1, 0, 0])),
+    (Call::Turned(Order::Six, 5, ONE), (0, [1, -1, 0, 0])),
+    (
+        Call::Turned(Order::Six, 1, [MOST, MOST, 0, 0]),
+        (0, [-MOST, 2 * MOST, 0, 0]),
+    ),
+    (
+        Call::Turned(Order::Six, 2, [MOST, MOST, 0, 0]),
+        (0, [-2 * MOST, MOST, 0, 0]),
+    ),
+    (
+        Call::Turned(Order::Six, 4, [MOST, MOST, 0, 0]),
+        (0, [MOST, -2 * MOST, 0, 0]),
+    ),
+    (
+        Call::Conjugate(Order::Six, [0, 1, 0, 0]),
+        (0, [1, -1, 0, 0]),
+    ),
+    (
+        Call::Conjugate(Order::Six, [MOST, MOST, 0, 0]),
+        (0, [2 * MOST, -MOST, 0, 0]),
+    ),
+    // 1 + ζ has the squared length 3: its square is 3ζ, and its conjugate 2 - ζ
+    (
+        Call::Product(Order::Six, [1, 1, 0, 0], [1, 1, 0, 0]),
+        (0, [0, 3, 0, 0]),
+    ),
+    (
+        Call::Product(Order::Six, [1, 1, 0, 0], [2, -1, 0, 0]),
+        (0, [3, 0, 0, 0]),
+    ),
+    (
+        Call::Product(Order::Six, [WIDE, WIDE, 0, 0], [SHORT, SHORT, 0, 0]),
+        (0, [0, 3 * UNIT, 0, 0]),
+    ),
+    (Call::Reduced(Order::Six, [1, 2, 3, 4]), (0, [-6, 5, 0, 0])),
+    (
+        Call::Reduced(Order::Six, [MOST, MOST, -MOST, -MOST]),
+        (0, [3 * MOST, 0, 0, 0]),
+    ),
+    (
+        Call::Reduced(Order::Six, [-MOST, -MOST, -MOST, MOST]),
+        (0, [-MOST, -2 * MOST, 0, 0]),
+    ),
+    // z ↦ ζz + 1, and z ↦ ζ⁵z - ζ⁵
+    (Call::Inverse(Order::Six, (1, ONE)), (5, [-1, 1, 0, 0])),
+    (
+        Call::Composed(Order::Six, (1, ONE), (5, [-1, 1, 0, 0])),
+        (0, [0, 0, 0, 0]),
+    ),
+    (
+        Call::Applied(Order::Six, (1, ONE), [2, 2, 0, 0]),
+        (0, [-1, 4, 0, 0]),
+    ),
+    // child 0 of child 1 of the half-hex, whose factor is 2
+    (
+        Call::Composed(Order::Six, (2, [4, 0, 0, 0]), (0, ONE)),
+        (2, [3, 1, 0, 0]),
+    ),
 ];
 
-/// The three orders, with their numbers of turns.
-const ORDERS: [(Order, u8); 3] = [(Order::Four, 4), (Order::Eight, 8), (Order::Ten, 10)];
+/// The orders, with their numbers of turns.
+const ORDERS: [(Order, u8); 4] = [
+    (Order::Four, 4),
+    (Order::Six, 6),
+    (Order::Eight, 8),
+    (Order::Ten, 10),
+];
 
 #[test]
 fn points_and_motions(rt: HostRuntime) {
@@ -294,7 +361,7 @@ fn points_and_motions(rt: HostRuntime) {
     }
     points_law(Order::Ten);
     placement_law(Order::Eight);
-    divisors_law(Order::Four);
+    divisors_law(Order::Six);
 }
 
 #[test]

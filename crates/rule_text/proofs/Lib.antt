@@ -14,7 +14,6 @@ pub mod ReadRanges
 pub mod ReadBack
 pub mod Depths
 pub mod Limits
-pub mod Chair
 pub mod Shortening
 pub mod NarrowValues
 pub mod NarrowLines

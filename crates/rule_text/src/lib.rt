@@ -17,8 +17,6 @@ pub mod place;
 mod ranges;
 pub mod reading;
 mod region;
-#[cfg(test)]
-mod tests;
 pub mod text_fault;
 mod values;
 pub mod writing;

@@ -17,7 +17,5 @@ pub mod rule_fault;
 mod rule_given;
 pub mod run;
 pub mod status;
-#[cfg(test)]
-mod tests;
 mod tile;
 pub mod words;

@@ -48,15 +48,13 @@ fn put_status(line: &mut ArrayString<LINE_ROOM>, status: &Status)
     }
 }
 
-/// The one line of a refusal, its code, its name and its fields; nothing where all is done. It is built
-/// in fixed storage and takes no memory.
+/// The one line of a refusal, its code, its name and its fields. It is built in fixed storage and takes
+/// no memory.
 fn note(status: &Status) -> ArrayString<LINE_ROOM>
+    requires refusal { ¬ status.now ≡ Status.Done }
     ensures { result.bytes ≡ note_of status.now }
 {
     let mut line = ArrayString::new();
-    if let Status::Done = status {
-        return line;
-    }
     let mut figures = Buffer::new();
     line.push_str(figures.format(status.code()));
     put_status(&mut line, status);
@@ -64,11 +62,14 @@ fn note(status: &Status) -> ArrayString<LINE_ROOM>
     line
 }
 
-/// Writes the note of a status. A fault of the notes is passed over.
+/// Writes the note of a status, nothing where all is done. A fault of the notes is passed over.
 pub fn write_note<N: Sink>(notes: &mut N, status: &Status)
     ensures noted { IsNoted (N.faults notes.old) (N.faults notes.new) (N.taken notes.old) (N.taken notes.new) (note_of status.now) }
     ensures not_noted { status.now ≡ Status.Done → notes.new ≡ notes.old }
 {
+    if let Status::Done = status {
+        return;
+    }
     let line = note(status);
     let _ = write_all(notes, line.as_bytes());
 }

@@ -1,0 +1,14 @@
+//! Trials of the top call, `run`: what the program prints and notes, on values from outside, with sound streams and
+//! with streams that fail. There is no other code here.
+#![tactic(auto)]
+
+#[cfg(test)]
+mod calls;
+#[cfg(test)]
+mod crossing;
+#[cfg(test)]
+mod failing;
+#[cfg(test)]
+mod files;
+#[cfg(test)]
+mod rows;

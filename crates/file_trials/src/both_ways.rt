@@ -1,0 +1,48 @@
+//! The chair from its file to its rule and back, and faults as they are printed.
+use crate::chair_rule::{CHAIR, chair, is_chair, is_read_to_chair};
+use rule_model::edition::Edition;
+use rule_text::key::Key;
+use rule_text::place::Place;
+use rule_text::text_fault::TextFault;
+use rule_text::writing::{write_rule, written_and_read};
+use std::test::Fail;
+
+#[test]
+fn reads_and_writes_the_chair(rt: HostRuntime) -> Result<(), Fail> {
+    let alloc = rt.alloc();
+    assert!(rt; is_read_to_chair(alloc, CHAIR)?);
+    let rule = chair(alloc, Edition::One)?;
+    assert!(rt; is_chair(&rule));
+    let text = write_rule(alloc, &rule)?;
+    assert!(rt; text.len() < 1_000);
+    assert!(rt; is_read_to_chair(alloc, text.as_str())?);
+    assert!(rt; is_chair(&written_and_read(alloc, &rule)?));
+    Ok(())
+}
+
+#[test]
+fn prints_faults(rt: HostRuntime) -> Result<(), Fail> {
+    let key = Key::Vertices { kind: 12 };
+    let place = Place::InType { ty: 3 };
+    let rows = [
+        (TextFault::NotToml, "NotToml"),
+        (TextFault::Missing { key }, "Missing vertices 12"),
+        (
+            TextFault::WrongType { key: Key::TypeList },
+            "WrongType type",
+        ),
+        (
+            TextFault::OutOfRange { key: Key::Lambda },
+            "OutOfRange lambda",
+        ),
+        (TextFault::UnknownKey { place }, "UnknownKey type 3"),
+        (
+            TextFault::UnknownKey { place: Place::Top },
+            "UnknownKey top",
+        ),
+    ];
+    for (fault, wanted) in rows {
+        assert_eq!(rt; format!(in rt.alloc(); "{fault}")?.as_str(), wanted);
+    }
+    Ok(())
+}

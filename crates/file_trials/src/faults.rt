@@ -1,0 +1,35 @@
+//! The faults of texts.
+use rule_text::reading::{LONGEST_FILE, read_rule};
+use rule_text::text_fault::TextFault;
+use std::alloc::Global;
+use std::process::Abort;
+use std::test::Fail;
+
+/// What stands before the types.
+pub const HEAD: &str = "format = 1\norder = 4\nlambda = [2, 0, 0, 0]\nglue = []\n";
+
+/// What stands before the kinds.
+pub const TYPES: &str = "[[type]]\nmate = 0\nparts = [0, 0]\n";
+
+/// The fault of a text in two parts.
+pub fn fault_of(alloc: Global, head: &str, tail: &str) -> Result<Option<TextFault>, Fail> {
+    let mut text = String::from_str(alloc, head)?;
+    text.push_str(tail)?;
+    if text.len() > LONGEST_FILE {
+        return Ok(None);
+    }
+    Ok(read_rule(alloc, text.as_bytes()).err())
+}
+
+/// That the texts, behind one head, have these faults.
+pub fn assert_faults(
+    rt: &impl Abort,
+    alloc: Global,
+    head: &str,
+    rows: &[(&str, TextFault)],
+) -> Result<(), Fail> {
+    for (tail, fault) in rows {
+        assert_eq!(rt; fault_of(alloc, head, tail)?, Some(*fault));
+    }
+    Ok(())
+}

@@ -1,0 +1,196 @@
+//! Faults of the kinds, and of a further key at the top.
+use crate::faults::{HEAD, TYPES, assert_faults};
+use rule_text::key::Key;
+use rule_text::place::Place;
+use rule_text::text_fault::TextFault;
+use std::test::Fail;
+
+const LIST: Key = Key::KindList;
+
+const VERTICES: Key = Key::Vertices { kind: 0 };
+
+const EDGES: Key = Key::Edges { kind: 0 };
+
+const CHILDREN: Key = Key::Children { kind: 0 };
+
+const PLACE: Place = Place::InKind { kind: 0 };
+
+/// Behind an empty list of types.
+const TOP_ROWS: [(&str, TextFault); 9] = [
+    ("", TextFault::Missing { key: LIST }),
+    ("kind = 0", TextFault::WrongType { key: LIST }),
+    ("kind = {}", TextFault::WrongType { key: LIST }),
+    ("kind = [3]", TextFault::WrongType { key: LIST }),
+    ("kind = [[]]", TextFault::WrongType { key: LIST }),
+    ("kind = [{}, 3]", TextFault::WrongType { key: LIST }),
+    ("kind.edges = []", TextFault::WrongType { key: LIST }),
+    ("kind = [{}]", TextFault::Missing { key: VERTICES }),
+    ("kind = []\n'' = 1", TextFault::UnknownKey { place: TOP }),
+];
+
+/// Behind the types.
+const LIST_ROWS: [(&str, TextFault); 2] = [
+    ("", TextFault::Missing { key: LIST }),
+    ("[kind]", TextFault::WrongType { key: LIST }),
+];
+
+/// Behind the header of the first kind.
+const VERTEX_ROWS: [(&str, TextFault); 14] = [
+    ("", TextFault::Missing { key: VERTICES }),
+    ("name = 1\nedges = 0", TextFault::Missing { key: VERTICES }),
+    ("vertices = 0", TextFault::WrongType { key: VERTICES }),
+    ("vertices = [0]", TextFault::WrongType { key: VERTICES }),
+    (
+        "vertices = [[65,0,0,0],[0,0,0]]",
+        TextFault::WrongType { key: VERTICES },
+    ),
+    (
+        "vertices = [[0,0,0,0,0]]",
+        TextFault::WrongType { key: VERTICES },
+    ),
+    (
+        "vertices = [[0,0,0,'']]",
+        TextFault::WrongType { key: VERTICES },
+    ),
+    ("vertices = {}", TextFault::WrongType { key: VERTICES }),
+    ("vertices = [[]]", TextFault::WrongType { key: VERTICES }),
+    (
+        "vertices = [[0,0,0,0],0]",
+        TextFault::WrongType { key: VERTICES },
+    ),
+    (
+        "vertices = [[[0,0,0,0]]]",
+        TextFault::WrongType { key: VERTICES },
+    ),
+    (
+        "vertices = [[0,0,0,0],[65,0,0,0]]",
+        TextFault::OutOfRange { key: VERTICES },
+    ),
+    (
+        "vertices = [[0,0,1,0]]\nedges = 0",
+        TextFault::OutOfRange { key: VERTICES },
+    ),
+    (
+        "vertices = [[0,0,0,9223372036854775807]]",
+        TextFault::OutOfRange { key: VERTICES },
+    ),
+];
+
+/// Behind the vertices of the first kind.
+const EDGE_ROWS: [(&str, TextFault); 9] = [
+    ("", TextFault::Missing { key: EDGES }),
+    ("edges = {}", TextFault::WrongType { key: EDGES }),
+    ("edges = [32, []]", TextFault::WrongType { key: EDGES }),
+    ("edges = 0", TextFault::WrongType { key: EDGES }),
+    ("edges = [[0]]", TextFault::WrongType { key: EDGES }),
+    ("edges = [0.0]", TextFault::WrongType { key: EDGES }),
+    (
+        "edges = [32]\nchildren = 0",
+        TextFault::OutOfRange { key: EDGES },
+    ),
+    ("edges = [-1]", TextFault::OutOfRange { key: EDGES }),
+    ("edges = [0, 256]", TextFault::OutOfRange { key: EDGES }),
+];
+
+const NEXT: Key = Key::Vertices { kind: 1 };
+
+const TOP: Place = Place::Top;
+
+/// Behind the edges of the first kind.
+const CHILD_ROWS: [(&str, TextFault); 24] = [
+    ("", TextFault::Missing { key: CHILDREN }),
+    ("name = 1", TextFault::Missing { key: CHILDREN }),
+    ("children = 0", TextFault::WrongType { key: CHILDREN }),
+    (
+        "children = [[16,0,0,0,0,0],[0,0,0,0,0]]",
+        TextFault::WrongType { key: CHILDREN },
+    ),
+    (
+        "children = [[0,0,0,0,0,0,0]]",
+        TextFault::WrongType { key: CHILDREN },
+    ),
+    (
+        "children = [[0,0,0,0,0,0.0]]",
+        TextFault::WrongType { key: CHILDREN },
+    ),
+    ("children = {}", TextFault::WrongType { key: CHILDREN }),
+    ("children = [0]", TextFault::WrongType { key: CHILDREN }),
+    ("children = [[]]", TextFault::WrongType { key: CHILDREN }),
+    (
+        "children = [[0,0,[0,0,0,0]]]",
+        TextFault::WrongType { key: CHILDREN },
+    ),
+    (
+        "children = [[0,0,0,0,0,0],0]",
+        TextFault::WrongType { key: CHILDREN },
+    ),
+    (
+        "children = [[16,0,0,0,0,0]]",
+        TextFault::OutOfRange { key: CHILDREN },
+    ),
+    (
+        "children = [[-1,0,0,0,0,0]]",
+        TextFault::OutOfRange { key: CHILDREN },
+    ),
+    (
+        "children = [[0,4,0,0,0,0]]",
+        TextFault::OutOfRange { key: CHILDREN },
+    ),
+    (
+        "children = [[0,-1,0,0,0,0]]",
+        TextFault::OutOfRange { key: CHILDREN },
+    ),
+    (
+        "children = [[0,0,65,0,0,0]]",
+        TextFault::OutOfRange { key: CHILDREN },
+    ),
+    (
+        "children = [[0,0,0,0,0,1]]\nname = 1",
+        TextFault::OutOfRange { key: CHILDREN },
+    ),
+    (
+        "children = [[256,0,0,0,0,0]]",
+        TextFault::OutOfRange { key: CHILDREN },
+    ),
+    (
+        "children = [[0,4294967296,0,0,0,0]]",
+        TextFault::OutOfRange { key: CHILDREN },
+    ),
+    (
+        "children = [[0,0,0,-65,0,0]]",
+        TextFault::OutOfRange { key: CHILDREN },
+    ),
+    (
+        "children = [[15,3,64,-64,0,0]]\nname = 1",
+        TextFault::UnknownKey { place: PLACE },
+    ),
+    (
+        "children = []\nname = 1\n[[kind]]",
+        TextFault::UnknownKey { place: PLACE },
+    ),
+    (
+        "children = []\n[[kind]]\n[more]",
+        TextFault::Missing { key: NEXT },
+    ),
+    (
+        "children = []\n[more]",
+        TextFault::UnknownKey { place: TOP },
+    ),
+];
+
+#[test]
+fn tells_faults_of_kinds(rt: HostRuntime) -> Result<(), Fail> {
+    let alloc = rt.alloc();
+    let mut head = String::from_str(alloc, HEAD)?;
+    head.push_str("type = []\n")?;
+    assert_faults(&rt, alloc, head.as_str(), &TOP_ROWS)?;
+    let mut head = String::from_str(alloc, HEAD)?;
+    head.push_str(TYPES)?;
+    assert_faults(&rt, alloc, head.as_str(), &LIST_ROWS)?;
+    head.push_str("[[kind]]\n")?;
+    assert_faults(&rt, alloc, head.as_str(), &VERTEX_ROWS)?;
+    head.push_str("vertices = [[0,0,0,0]]\n")?;
+    assert_faults(&rt, alloc, head.as_str(), &EDGE_ROWS)?;
+    head.push_str("edges = [0]\n")?;
+    assert_faults(&rt, alloc, head.as_str(), &CHILD_ROWS)
+}

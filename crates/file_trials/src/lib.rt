@@ -1,0 +1,24 @@
+//! Trials of `rule_text` on rows of files: each key with each fault, faults whose order matters, hostile files, dots, and
+//! the chair both ways, as values typed from outside. There is no other code here.
+#![tactic(auto)]
+
+#[cfg(test)]
+mod both_ways;
+#[cfg(test)]
+mod chair_rule;
+#[cfg(test)]
+mod dotted;
+#[cfg(test)]
+mod editions;
+#[cfg(test)]
+mod faults;
+#[cfg(test)]
+mod files;
+#[cfg(test)]
+mod heads;
+#[cfg(test)]
+mod hostile;
+#[cfg(test)]
+mod kinds;
+#[cfg(test)]
+mod types;
