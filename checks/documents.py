@@ -79,7 +79,7 @@ def call(words, given=b""):
 
 def is_runnable(name, command):
     """Whether a command is one of the program or of a script of the repository, and can be run here."""
-    if not re.match(r"(\./tiling|python3 tools/\w+\.py)\b", command):
+    if not re.match(r"(\./tiling|python3 tools/\w+\.py|sed '[^']*' rules/\w+\.toml \| \./tiling)\b", command):
         tally.skipped.append(f"{name}: $ {command}")
         return False
     if "python3" in command and tomllib is None:
@@ -154,17 +154,20 @@ def refusals(folder):
 
 
 def refused_texts():
-    """The table of `Refused texts`: each row is a change of one line of a rule file."""
-    base = read("rules/half_square_two.toml")
-    for cells in rows(section(read("docs/TUTORIAL.md"), "Refused texts")):
-        if len(cells) != 3 or "RuleRefused" not in cells[2]:
-            continue
-        old, wanted = quoted(cells[0])[0], quoted(cells[2])[0]
-        new = "\n".join(quoted(cells[1]))
-        text = base.replace(old, new, 1) + (f"\n{old}\n" if "at the end" in cells[1] else "")
-        if old not in base:
-            tally.fault("docs/TUTORIAL.md", f"{old} isn't in rules/half_square_two.toml")
-        tally.compare("refused texts", f"docs/TUTORIAL.md: {cells[0]}", call(["check", "rule=-"], text.encode()), (wanted, 3))
+    """The tables of `Refused texts`: each row is a change of one line of the rule file that is named above the table."""
+    below = re.split(r"`(rules/\w+\.toml)` is changed", section(read("docs/TUTORIAL.md"), "Refused texts"))
+    for name, table in zip(below[1::2], below[2::2]):
+        base = read(name)
+        for cells in rows(table):
+            if len(cells) != 3 or "RuleRefused" not in cells[2]:
+                continue
+            old, wanted = quoted(cells[0])[0], quoted(cells[2])[0]
+            new = "\n".join(quoted(cells[1]))
+            text = base.replace(old, new, 1) + (f"\n{old}\n" if "at the end" in cells[1] else "")
+            if old not in base:
+                tally.fault("docs/TUTORIAL.md", f"{old} isn't in {name}")
+            where = f"docs/TUTORIAL.md: {cells[0]} of {name}"
+            tally.compare("refused texts", where, call(["check", "rule=-"], text.encode()), (wanted, 3))
 
 
 def typed_in_order():
@@ -173,6 +176,7 @@ def typed_in_order():
     for title, name in (
         ("First example: a triangle cut in two", "rules/half_square_two.toml"),
         ("Second example: directed edges, mates and glue", "rules/half_chair.toml"),
+        ("Third example: a factor that turns", "rules/half_square_turned.toml"),
     ):
         fences = re.findall(r"^```toml( whole)?\n(.*?)^```", section(text, title), re.M | re.S)
         pieces = [(title, "".join(piece for whole, piece in fences if not whole))]
