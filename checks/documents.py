@@ -227,6 +227,43 @@ def rule_files():
         tally.fault("rules/README.md", f"has a row for {stem}, which isn't there")
 
 
+def times_zeta(order, point):
+    """The coefficients of a point times ζ, as docs/COORDINATES.md has them."""
+    a0, a1, a2, a3 = point
+    return {4: [-a1, a0, 0, 0], 6: [-a1, a0 + a1, 0, 0], 8: [-a3, a0, a1, a2], 10: [-a3, a0 + a3, a1 - a3, a2 + a3]}[order]
+
+
+def rule_text(rule):
+    """The file of a rule."""
+    lines = [f"{key} = {rule[key]}" for key in ("format", "order", "lambda", "glue")]
+    for name in ("type", "kind"):
+        for entry in rule[name]:
+            lines += [f"[[{name}]]", *(f"{key} = {numbers}" for key, numbers in entry.items())]
+    return "\n".join(lines).encode()
+
+
+def turned_rules():
+    """Each rule of the library with its factor times each power of ζ, and its children turned alike: it is accepted in
+    format 2; in format 1 where the factor is real and positive and the order isn't 6."""
+    for name in sorted(os.listdir(f"{TOP}/rules")) if tomllib else []:
+        if not name.endswith(".toml"):
+            continue
+        rule = tomllib.loads(read(f"rules/{name}"))
+        order, zeta = rule["order"], cmath.exp(2j * cmath.pi / rule["order"])
+        accepted = f"accepted order {order} kinds {len(rule['kind'])} types {len(rule['type'])}", 0
+        for k in range(order):
+            factor = sum(a * zeta**i for i, a in enumerate(rule["lambda"]))
+            is_real = abs(factor.imag) < 1e-9 and factor.real > 0
+            refused = f"3 RuleRefused {'OutOfRange order' if order == 6 else 'WrongFactor'}", 3
+            for number, wanted in ((2, accepted), (1, accepted if is_real and order != 6 else refused)):
+                rule["format"] = number
+                where = f"rules/{name}, turned {k} times, format {number}"
+                tally.compare("rules turned", where, call(["check", "rule=-"], rule_text(rule)), wanted)
+            rule["lambda"] = times_zeta(order, rule["lambda"])
+            for kind in rule["kind"]:
+                kind["children"] = [[of, (turn + 1) % order, *times_zeta(order, shift)] for of, turn, *shift in kind["children"]]
+
+
 def value(text, zeta=1):
     """The number that a short formula stands for, which may have ζ in it."""
     root = re.compile(r"√(\d+)")
@@ -291,6 +328,7 @@ def main():
     refused_texts()
     typed_in_order()
     rule_files()
+    turned_rules()
     coefficients()
     links()
     return tally.end()
