@@ -79,7 +79,7 @@ def call(words, given=b""):
 
 def is_runnable(name, command):
     """Whether a command is one of the program or of a script of the repository, and can be run here."""
-    if not re.match(r"(\./tiling|python3 tools/\w+\.py)\b", command):
+    if not re.match(r"(\./tiling|python3 tools/\w+\.py|sed '[^']*' rules/\w+\.toml \| \./tiling)\b", command):
         tally.skipped.append(f"{name}: $ {command}")
         return False
     if "python3" in command and tomllib is None:
@@ -154,17 +154,20 @@ def refusals(folder):
 
 
 def refused_texts():
-    """The table of `Refused texts`: each row is a change of one line of a rule file."""
-    base = read("rules/half_square_two.toml")
-    for cells in rows(section(read("docs/TUTORIAL.md"), "Refused texts")):
-        if len(cells) != 3 or "RuleRefused" not in cells[2]:
-            continue
-        old, wanted = quoted(cells[0])[0], quoted(cells[2])[0]
-        new = "\n".join(quoted(cells[1]))
-        text = base.replace(old, new, 1) + (f"\n{old}\n" if "at the end" in cells[1] else "")
-        if old not in base:
-            tally.fault("docs/TUTORIAL.md", f"{old} isn't in rules/half_square_two.toml")
-        tally.compare("refused texts", f"docs/TUTORIAL.md: {cells[0]}", call(["check", "rule=-"], text.encode()), (wanted, 3))
+    """The tables of `Refused texts`: each row is a change of one line of the rule file that is named above the table."""
+    below = re.split(r"`(rules/\w+\.toml)` is changed", section(read("docs/TUTORIAL.md"), "Refused texts"))
+    for name, table in zip(below[1::2], below[2::2]):
+        base = read(name)
+        for cells in rows(table):
+            if len(cells) != 3 or "RuleRefused" not in cells[2]:
+                continue
+            old, wanted = quoted(cells[0])[0], quoted(cells[2])[0]
+            new = "\n".join(quoted(cells[1]))
+            text = base.replace(old, new, 1) + (f"\n{old}\n" if "at the end" in cells[1] else "")
+            if old not in base:
+                tally.fault("docs/TUTORIAL.md", f"{old} isn't in {name}")
+            where = f"docs/TUTORIAL.md: {cells[0]} of {name}"
+            tally.compare("refused texts", where, call(["check", "rule=-"], text.encode()), (wanted, 3))
 
 
 def typed_in_order():
@@ -173,6 +176,7 @@ def typed_in_order():
     for title, name in (
         ("First example: a triangle cut in two", "rules/half_square_two.toml"),
         ("Second example: directed edges, mates and glue", "rules/half_chair.toml"),
+        ("Third example: a factor that turns", "rules/half_square_turned.toml"),
     ):
         fences = re.findall(r"^```toml( whole)?\n(.*?)^```", section(text, title), re.M | re.S)
         pieces = [(title, "".join(piece for whole, piece in fences if not whole))]
@@ -221,6 +225,43 @@ def rule_files():
                 tally.fault(f"rules/commented/{name}", f"has other numbers than rules/{name}")
     for stem in listed:
         tally.fault("rules/README.md", f"has a row for {stem}, which isn't there")
+
+
+def times_zeta(order, point):
+    """The coefficients of a point times ζ, as docs/COORDINATES.md has them."""
+    a0, a1, a2, a3 = point
+    return {4: [-a1, a0, 0, 0], 6: [-a1, a0 + a1, 0, 0], 8: [-a3, a0, a1, a2], 10: [-a3, a0 + a3, a1 - a3, a2 + a3]}[order]
+
+
+def rule_text(rule):
+    """The file of a rule."""
+    lines = [f"{key} = {rule[key]}" for key in ("format", "order", "lambda", "glue")]
+    for name in ("type", "kind"):
+        for entry in rule[name]:
+            lines += [f"[[{name}]]", *(f"{key} = {numbers}" for key, numbers in entry.items())]
+    return "\n".join(lines).encode()
+
+
+def turned_rules():
+    """Each rule of the library with its factor times each power of ζ, and its children turned alike: it is accepted in
+    format 2; in format 1 where the factor is real and positive and the order isn't 6."""
+    for name in sorted(os.listdir(f"{TOP}/rules")) if tomllib else []:
+        if not name.endswith(".toml"):
+            continue
+        rule = tomllib.loads(read(f"rules/{name}"))
+        order, zeta = rule["order"], cmath.exp(2j * cmath.pi / rule["order"])
+        accepted = f"accepted order {order} kinds {len(rule['kind'])} types {len(rule['type'])}", 0
+        for k in range(order):
+            factor = sum(a * zeta**i for i, a in enumerate(rule["lambda"]))
+            is_real = abs(factor.imag) < 1e-9 and factor.real > 0
+            refused = f"3 RuleRefused {'OutOfRange order' if order == 6 else 'WrongFactor'}", 3
+            for number, wanted in ((2, accepted), (1, accepted if is_real and order != 6 else refused)):
+                rule["format"] = number
+                where = f"rules/{name}, turned {k} times, format {number}"
+                tally.compare("rules turned", where, call(["check", "rule=-"], rule_text(rule)), wanted)
+            rule["lambda"] = times_zeta(order, rule["lambda"])
+            for kind in rule["kind"]:
+                kind["children"] = [[of, (turn + 1) % order, *times_zeta(order, shift)] for of, turn, *shift in kind["children"]]
 
 
 def value(text, zeta=1):
@@ -287,6 +328,7 @@ def main():
     refused_texts()
     typed_in_order()
     rule_files()
+    turned_rules()
     coefficients()
     links()
     return tally.end()

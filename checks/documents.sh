@@ -1,7 +1,7 @@
 #!/bin/sh
 # Runs every command of README.md, docs/ and rules/README.md with the program, and compares what it prints with what
 # stands beside it; and so for the tables of refusals, the tutorial typed in its own order, the refused files, the rule
-# files, the tables of coefficients and the links. Says how many it ran, and ends with 1 where one differs.
+# files, these with their factors turned, the tables of coefficients and the links. Says how many it ran, and ends with 1 where one differs.
 # The program is the one that TILING names, or crates/tiling/out/tiling.
 top=$(cd "$(dirname "$0")/.." && pwd) || exit 1
 program=${TILING:-$top/crates/tiling/out/tiling}

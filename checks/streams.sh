@@ -52,6 +52,8 @@ awk 'BEGIN { for (i = 0; i < 1048577; i++) printf "#" }' > "$work/long"
 try 0 '0 1 7,1,0,0' '' /dev/null place rule=chair addr=0:1/0,2/0
 try 0 '0:1/0,0/0 7' '' /dev/null neighbour edge=4 rule=chair addr=0:0/0,1/0
 try 0 'accepted order 10 kinds 4 types 8' '' /dev/null check rule=p3
+try 0 'accepted order 6 kinds 1 types 1' '' /dev/null check rule=halfhex
+try 0 '0 1 0,1,0,0' '' "$top/rules/half_square_turned.toml" place rule=- addr=0:1/0,0/0
 try 0 'accepted order 4 kinds 1 types 1' '' "$chair" check rule=-
 try 0 '0 1 7,1,0,0' '' "$chair" place rule=- addr=0:1/0,2/0
 

@@ -26,6 +26,10 @@ patch domino_table --colour turn --window 30,18 rules/domino_table.toml 0 5
 patch p_pentomino_four --colour kind --window 30,18 rules/p_pentomino_four.toml 0 5
 patch tuebingen_triangles --colour kind --window 15,9 rules/tuebingen_triangles.toml 0 8
 patch thue_morse_squares --colour kind --window 30,18 rules/thue_morse_squares.toml 0 5
+patch half_hex --colour turn --window 26,15.6 rules/half_hex.toml 0 6
+patch sphinx --colour turn --window 26,15.6 rules/sphinx.toml 0 6
+patch equithirds --colour shape --window 20,12 rules/equithirds.toml 0 8
+patch half_triangle_three --colour turn --window 20,12 --outline 3 rules/half_triangle_three.toml 0 8
 patch address_chair --colour child --label --mark 0:1/0,2/0 --width 400 rules/chair.toml 0 2
 patch address_p3 --colour child --label --mark 2:1/0,0/0 --mark 3:1/2,1/0 --width 400 rules/penrose_p3.toml 0 2
 "$python" tools/draw_steps.py > "$to/docs/gallery/steps.svg" || fault=1

@@ -9,6 +9,7 @@
     --window W,H                     only what lies in a window of W by H about the supertile's middle
     --centre X,Y                     the middle of that window
     --label                          each tile's child numbers, from fine to coarse
+    --outline LEVEL                  thick lines round the supertiles of that level; may be given more than once
     --mark ADDRESS                   that tile in another colour; may be given more than once
     --width N                        pixels; 800 where it isn't given
 
@@ -36,8 +37,9 @@ def whole_kinds(rule):
     return of
 
 
-def tiles_of(rule, top, depth, window):
-    """The tiles of a supertile that may meet the window: (kind, turn, shift, digits from fine to coarse)."""
+def tiles_of(rule, top, depth, window, level=0):
+    """The tiles of a supertile that may meet the window, or its supertiles of a level that do: (kind, turn, shift, digits
+    from fine to coarse), the shift as it is in the whole."""
     reach = [max(abs(z - centre(kind.vertices)) for z in kind.vertices) for kind in rule.kinds]
     middle = [centre(kind.vertices) for kind in rule.kinds]
     stack, found = [(top, 0, 0, ())], []
@@ -49,7 +51,7 @@ def tiles_of(rule, top, depth, window):
         x0, y0, x1, y1 = window
         if at.real + far < x0 or at.real - far > x1 or at.imag + far < y0 or at.imag - far > y1:
             continue
-        if len(digits) == depth:
+        if len(digits) == depth - level:
             found.append((kind, turn, shift, digits))
             continue
         below = rule.factor ** (depth - len(digits) - 1)
@@ -126,11 +128,11 @@ def draw(rule, top, depth, options):
             at = label_place(polygon)
             labels.append(f'<text x="{at.real:.1f}" y="{at.imag + 4:.1f}" font-size="12"{bold}>{",".join(str(c) for c, _ in digits)}</text>')
     body.append(f'<path class="l" d="{"".join(lines)}"/>')
-    if options["label"]:
-        coarse = [(kind, turn, shift) for kind, turn, shift, _ in tiles_of(rule, top, 1, box([z * rule.factor for z in rule.kinds[top].vertices]))]
-        for kind, turn, shift in coarse:
-            big = [seen((rule.zeta**turn * z + shift) * rule.factor ** (depth - 1)) for z in rule.kinds[kind].vertices]
-            body.append(f'<path d="M{points(big)}Z" fill="none" stroke="#222" stroke-width="2.6"/>')
+    levels = [(level, 1.3 + 0.8 * level) for level in options["outline"]] + ([(depth - 1, 2.6)] if options["label"] else [])
+    for level, thick in levels:
+        for kind, turn, shift, _ in tiles_of(rule, top, depth, window, level):
+            big = [seen(rule.zeta**turn * z * rule.factor**level + shift) for z in rule.kinds[kind].vertices]
+            body.append(f'<path d="M{points(big)}Z" fill="none" stroke="#222" stroke-width="{thick:.1f}"/>')
     return "\n".join(body + labels + ["</svg>", ""])
 
 
@@ -145,7 +147,7 @@ def numbers(word, count, form):
 
 
 def main(words):
-    options = {"colour": "kind", "whole": False, "window": None, "centre": None, "label": False, "mark": [], "width": 800}
+    options = {"colour": "kind", "whole": False, "window": None, "centre": None, "label": False, "mark": [], "outline": [], "width": 800}
     while words and words[0].startswith("--"):
         option = words[0][2:]
         if option in ("whole", "label"):
@@ -158,17 +160,19 @@ def main(words):
             value = numbers(value, 2, float)
         elif option == "centre":
             value = complex(*numbers(value, 2, float))
-        elif option == "width":
+        elif option in ("width", "outline"):
             value = numbers(value, 1, int)[0]
         elif option == "colour" and value not in ("kind", "turn", "child", "shape"):
             raise Trouble(f"'{value}' is none of kind, turn, child, shape")
-        options[option] = options["mark"] + [value] if option == "mark" else value
+        options[option] = options[option] + [value] if option in ("mark", "outline") else value
     if len(words) != 3:
         raise Trouble(__doc__)
     rule = load(words[0])
     kind, depth = numbers(words[1], 1, int)[0], numbers(words[2], 1, int)[0]
     if not 0 <= kind < len(rule.kinds) or depth < 0:
         raise Trouble(f"{words[0]} has the kinds 0 to {len(rule.kinds) - 1}, and a depth is at least 0")
+    if not all(0 <= level <= depth for level in options["outline"]):
+        raise Trouble(f"the levels of a supertile of depth {depth} are 0 to {depth}")
     if not options["window"] and abs(rule.factor) ** (2 * depth) > 50000:
         raise Trouble("so deep a supertile has too many tiles for one picture: give --window W,H")
     try:

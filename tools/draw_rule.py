@@ -164,10 +164,12 @@ def mark(rule, marks, name, words, numbers):
         marks.fans.add(numbers[0])
         return f"Kind {numbers[0]}: the triangles from vertex 0 to the edges that don't end there have to turn left, and not overlap."
     if name == "WrongFactor":
-        degrees = math.degrees(cmath.phase(rule.factor))
+        degrees, length = math.degrees(cmath.phase(rule.factor)), abs(rule.factor)
         marks.kinds.update(range(len(rule.kinds)))
+        if rule.format == 2:
+            return f"The length of the factor is {length:.3f}: it has to be above 1, and its 64th power above 2^24."
         if abs(rule.factor.imag) > 1e-9:
-            return f"The factor turns by {degrees:.0f}°, and its length is {abs(rule.factor):.3f}: it has to be real, and above 1."
+            return f"The factor turns by {degrees:.0f}°, and its length is {length:.3f}: in format 1 it has to be real, and above 1."
         return f"The factor is {rule.factor.real:.3f}: it has to be above 1, and its 64th power above 2^24."
     if name in ("BadMate", "BadSubdivision", "GlueWrong"):
         number = numbers[0]

@@ -20,10 +20,10 @@ class Kind:
 
 
 class Rule:
-    """A rule file's numbers. `mates` and `parts` are by edge type, `glue` is the list of glue types."""
+    """A rule file's numbers, of either format. `mates` and `parts` are by edge type, `glue` is the list of glue types."""
 
     def __init__(self, document, name):
-        self.name, self.order = name, document["order"]
+        self.name, self.format, self.order = name, document["format"], document["order"]
         if type(self.order) is not int or self.order < 3:
             raise Trouble(f"order is {self.order!r}, which is no number of turns")
         self.zeta = cmath.exp(2j * cmath.pi / self.order)

@@ -14,11 +14,12 @@ use std::{fs, io};
 use tile_shape::no_memory::NoMemory;
 
 /// The rule files of the library, and then those that are refused.
-const FILES: [&str; 42] = [
+const FILES: [&str; 43] = [
     "ammann_beenker.toml",
     "ammann_beenker_mirrored.toml",
     "chair.toml",
     "domino_table.toml",
+    "equithirds.toml",
     "half_chair.toml",
     "half_hex.toml",
     "half_square_four.toml",
