@@ -230,7 +230,7 @@ const SQUARE: [Point; 24] = [
     at!(0, STEP),
 ];
 
-/// Questions with one answer in the orders four, eight and ten.
+/// Questions with one answer in each order.
 const IN_EACH_ORDER: [(Call, i32); 35] = [
     (Call::Side([MIDDLE, at!(0, 1), at!(-1, 0)]), 1),
     (Call::Side([MIDDLE, at!(0, 1), at!(0, 1)]), 0),
@@ -404,7 +404,7 @@ const IN_ONE_ORDER: [(Order, Call, i32); 34] = [
 
 #[test]
 fn plane(rt: HostRuntime) {
-    for order in [Order::Four, Order::Eight, Order::Ten] {
+    for order in [Order::Four, Order::Six, Order::Eight, Order::Ten] {
         for (row, (call, wanted)) in IN_EACH_ORDER.iter().enumerate() {
             assert_eq!(rt; answer(order, call), Some(*wanted), "{order:?} {row}");
         }

@@ -148,15 +148,15 @@ fn mate_there(tables: &Tables, kind: u8, edge: u8) -> Option<u8> {
 #[test]
 fn each_rule_is_as_described(rt: HostRuntime) -> Result<(), Fail> {
     let alloc = rt.alloc();
-    for (given, name, rows) in ROWS {
-        let checked = check(alloc, rule(alloc, &given)?)?;
+    for (given, name, rows) in ROWS.iter() {
+        let checked = check(alloc, rule(alloc, given)?)?;
         assert_eq!(&rt; right_in(alloc, &checked, rows)?, Some(rows.len()));
         if let Some(name) = name {
             assert_eq!(&rt;
-                right_in(alloc, &builtin(alloc, name)?, rows)?,
+                right_in(alloc, &builtin(alloc, *name)?, rows)?,
                 Some(rows.len())
             );
-            assert_eq!(&rt; rule_of(alloc, name)?.kinds.len(), rows.len());
+            assert_eq!(&rt; rule_of(alloc, *name)?.kinds.len(), rows.len());
         }
     }
     Ok(())
