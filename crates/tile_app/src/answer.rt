@@ -35,10 +35,7 @@ fn command_text<L: Ledger>(
 {
     match command {
         Command::Check => Ok(check_text(alloc, &checked)?),
-        Command::Place => {
-            let machine = Machine::new(alloc, checked)?;
-            place_text(alloc, &machine, words)
-        }
+        Command::Place => place_text(alloc, &checked, words),
         Command::Neighbour => {
             let machine = Machine::new(alloc, checked)?;
             neighbour_text(alloc, &machine, words, steps)

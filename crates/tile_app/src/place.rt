@@ -12,8 +12,9 @@ ghost use Rattle.tile_app.specs.Words.{texts, command_of};
 use crate::status::Status;
 use crate::tile::address_given;
 use cyclo_points::motion::Motion;
+use rule_model::checked::Checked;
 use std::alloc::{AllocError, Global};
-use tile_place::machine::Machine;
+use tile_place::place::place;
 
 /// The line of a tile placed: its kind, and the turn and the shift of its motion. It is the same in
 /// every order that the shift is a point of.
@@ -25,12 +26,12 @@ fn place_line(alloc: Global, kind: u8, motion: &Motion) -> Result<String, AllocE
 }
 
 /// What `place` prints for right words, or its refusal.
-pub fn place_text(alloc: Global, machine: &Machine, words: &[String]) -> Result<String, Status>
+pub fn place_text(alloc: Global, checked: &Checked, words: &[String]) -> Result<String, Status>
     requires right { command_of (texts words.now) ≡ Ok Place }
-    ensures printed { IfOk result (λ text. PrintsPlace (texts words.now) (tiling_of machine.now) (string_bytes text)) }
-    ensures refused { IfErr result (OrNoMemory (PlaceRefuses (texts words.now) (tiling_of machine.now))) }
+    ensures printed { IfOk result (λ text. PrintsPlace (texts words.now) (tiling_of checked.now) (string_bytes text)) }
+    ensures refused { IfErr result (OrNoMemory (PlaceRefuses (texts words.now) (tiling_of checked.now))) }
 {
-    let address = address_given(machine, words)?;
-    let motion = machine.place(&address)?;
+    let address = address_given(checked, words)?;
+    let motion = place(checked, &address)?;
     Ok(place_line(alloc, address.kind, &motion)?)
 }

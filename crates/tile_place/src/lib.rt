@@ -1,7 +1,7 @@
 //! The tiles of a checked rule: where a tile lies in its supertile, and the tile across an edge.
 //!
 //! A substitution (Grünbaum and Shephard, Tilings and Patterns, chapter 10) gives each tile of a supertile
-//! one address and one motion. `Machine::place` computes the motion by Horner's scheme on the digits of
+//! one address and one motion. `place::place` computes the motion by Horner's scheme on the digits of
 //! the address and refuses it exactly where a value on the way is too large; `Machine::cross` finds the
 //! tile across an edge by the contact tables of the rule's own geometry (Tatham's transducers). Both hold
 //! for every rule that is accepted. After `Machine::new` no call takes memory.
@@ -9,7 +9,7 @@
 
 pub mod coord_limit;
 pub mod machine;
-mod place;
+pub mod place;
 pub mod placed_tile;
 #[cfg(test)]
 mod tests;

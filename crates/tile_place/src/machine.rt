@@ -1,15 +1,22 @@
 //! The machine of a checked rule.
-ghost use Rattle.std.specs.Prelude.{◌≡◌, ◌+◌, ◌*◌, ◌≤◌, ℕ, IsSome, IsOk, IfOk, IfErr, Err};
+ghost use Rattle.std.specs.Prelude.{◌≡◌, ◌+◌, ◌*◌, ◌<◌, ◌≤◌, ◌^◌, ℕ, IsSome, IsOk, None, Some, IfOk, IfErr, Err};
 ghost use Rattle.addressing.specs.Address.{Address as TheAddress, depth, Fits};
 ghost use Rattle.addressing.specs.Tables.{child_kinds, type_of};
 ghost use Rattle.addressing.specs.Touch.{Touches};
 ghost use Rattle.addressing.specs.Across.{IsAcross, LiesOn};
+ghost use Rattle.cyclo_points.specs.Order.{points_of};
+ghost use Rattle.cyclo_points.specs.Point.{point_in, IsOf, IsWithin};
+ghost use Rattle.cyclo_points.specs.Motion.{motion_in};
 ghost use Rattle.rule_model.specs.Accepted.{IsAccepted};
-ghost use Rattle.rule_model.specs.Tiling.{tiling_of, contacts, children};
+ghost use Rattle.rule_model.specs.Tiling.{tiling_of, contacts, children, IsPlaced};
 ghost use Rattle.rule_model.specs.Usable.{IsUsable};
 ghost use Rattle.tile_shape.specs.Views.{address_of};
 ghost use Rattle.tile_place.specs.Crossed.{IsOnlyAcross, LiesOnBoundary};
+ghost use Rattle.tile_place.specs.Placing.{first_refused};
 
+use crate::coord_limit::CoordLimit;
+use crate::place::place;
+use cyclo_points::motion::Motion;
 use dissection::laws::{across_law, boundary_law};
 use edge_tables::steps::Steps;
 use rule_model::checked::Checked;
@@ -64,6 +71,22 @@ impl Machine {
         let _accepted = self.checked.rule();
         let _same_child_kinds = self.checked.tables();
         &self.checked
+    }
+
+    /// The motion that stands beside the address of a tile in the list of its supertile's tiles, as
+    /// [`place`] says of the rule.
+    pub fn place(&self, addr: &Address) -> Result<Motion, CoordLimit>
+        requires fits { Fits (children (tiling_of self.now)) (address_of addr.now) }
+        ensures beside { IfOk result (λ motion. IsPlaced (tiling_of self.now) (address_of addr.now) (motion_in self.now.order motion)) }
+        ensures within { IfOk result (λ _. first_refused (tiling_of self.now) (address_of addr.now).digits ≡ None) }
+        ensures turn_below { IfOk result (λ motion. motion.turn < (points_of self.now.order).order) }
+        ensures shift_within { IfOk result (λ motion. IsWithin (2 ^ 24) motion.shift) }
+        ensures in_order { IfOk result (λ motion. IsOf self.now.order motion.shift) }
+        ensures limit { IfErr result (λ limit. first_refused (tiling_of self.now) (address_of addr.now).digits
+            ≡ Some (point_in self.now.order limit.value)) }
+        ensures limit_in_order { IfErr result (λ limit. IsOf self.now.order limit.value) }
+    {
+        place(&self.checked, addr)
     }
 
     /// The tile across an edge with the edge that leads back, or the supertile's own edge on which the

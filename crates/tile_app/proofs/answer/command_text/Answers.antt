@@ -2,23 +2,18 @@ use Rattle.std.proofs.Common.{IfOk, IfErr, string_bytes, sym, subst}
 use Rattle.rule_model.specs.Tiling.{tiling_of}
 use Rattle.tile_app.specs.Answer.{IsPrinted, Refuses}
 use Rattle.tile_app.specs.Neighbour.{PrintsNeighbour, NeighbourRefuses}
-use Rattle.tile_app.specs.Place.{PrintsPlace, PlaceRefuses}
 use Rattle.tile_app.specs.Status.{OrNoMemory}
 use Rattle.tile_app.specs.Words.{texts}
 use Rattle.tile_app.proofs.answer.command_text.Goals as goal
 
--- each is what the command's own function answers for the machine's rule, which is the checked rule
-pub returns-in_ok-machine-in-Place-clause-printed : goal.returns-in_ok-machine-in-Place-clause-printed
-returns-in_ok-machine-in-Place-clause-printed g c =
-    subst (λ d. IfOk c.place_text.result (λ text. IsPrinted d (texts c.args.words.now) (tiling_of c.args.checked) (string_bytes text))) (sym c.in-Place.is)
-    (subst (λ m. IfOk c.place_text.result (λ text. PrintsPlace (texts c.args.words.now) (tiling_of m) (string_bytes text)))
-    c.in_ok-machine-in-Place.ensures.its_rule c.place_text.ensures.printed)
+-- each is what the command's own function answers, for `neighbour` of the machine's rule, which is the checked rule
+pub returns-in-Place-clause-printed : goal.returns-in-Place-clause-printed
+returns-in-Place-clause-printed g c =
+    subst (λ d. IfOk c.place_text.result (λ text. IsPrinted d (texts c.args.words.now) (tiling_of c.args.checked) (string_bytes text))) (sym c.in-Place.is) c.place_text.ensures.printed
 
-pub returns-in_ok-machine-in-Place-clause-refused : goal.returns-in_ok-machine-in-Place-clause-refused
-returns-in_ok-machine-in-Place-clause-refused g c =
-    subst (λ d. IfErr c.place_text.result (OrNoMemory (Refuses d (texts c.args.words.now) (tiling_of c.args.checked)))) (sym c.in-Place.is)
-    (subst (λ m. IfErr c.place_text.result (OrNoMemory (PlaceRefuses (texts c.args.words.now) (tiling_of m))))
-    c.in_ok-machine-in-Place.ensures.its_rule c.place_text.ensures.refused)
+pub returns-in-Place-clause-refused : goal.returns-in-Place-clause-refused
+returns-in-Place-clause-refused g c =
+    subst (λ d. IfErr c.place_text.result (OrNoMemory (Refuses d (texts c.args.words.now) (tiling_of c.args.checked)))) (sym c.in-Place.is) c.place_text.ensures.refused
 
 pub returns-in_ok-machine-in-Neighbour-clause-printed : goal.returns-in_ok-machine-in-Neighbour-clause-printed
 returns-in_ok-machine-in-Neighbour-clause-printed g c =

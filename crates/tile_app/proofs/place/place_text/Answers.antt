@@ -25,9 +25,9 @@ returns-in_err-motion-clause-refused c =
     rw (p.1, p.2) (record {
       address = address_of c.in_ok-address.address;
       tile = c.in_ok-address.ensures.given;
-      number = point_in c.args.machine.now.order c.in_err-motion.field-0.0.value;
+      number = point_in c.args.checked.now.order c.in_err-motion.field-0.0.value;
       first = c.in_err-motion.ensures.limit;
-      is_value = coefficients_of c.args.machine.now.order c.in_err-motion.field-0.0.value l c.in_err-motion.ensures.limit_in_order;
+      is_value = coefficients_of c.args.checked.now.order c.in_err-motion.field-0.0.value l c.in_err-motion.ensures.limit_in_order;
     })
 
 pub returns-clause-printed : goal.returns-clause-printed
@@ -35,7 +35,7 @@ returns-clause-printed c = record {
   address = address_of c.in_ok-address.address;
   tile = c.in_ok-address.ensures.given;
   within = c.in_ok-motion.ensures.within;
-  motion = motion_in c.args.machine.now.order c.in_ok-motion.motion;
+  motion = motion_in c.args.checked.now.order c.in_ok-motion.motion;
   placed = c.in_ok-motion.ensures.beside;
-  line = c.in_ok-place_line.ensures c.args.machine.now.order c.in_ok-motion.ensures.in_order;
+  line = c.in_ok-place_line.ensures c.args.checked.now.order c.in_ok-motion.ensures.in_order;
 }

@@ -15,12 +15,12 @@ unwrap-text-requires c =
 
 pub returns-clause-given : goal.returns-clause-given
 returns-clause-given c =
-    tile_read (texts c.args.words.now) (tiling_of c.args.machine.now) c.as_bytes.result.now
+    tile_read (texts c.args.words.now) (tiling_of c.args.checked.now) c.as_bytes.result.now
     (sym c.value_given.ensures ∙ ap (option_map (λ v. v.now)) c.unwrap-text.ensures ∙ ap (λ t. Some t) (sym c.as_bytes.ensures.value))
-    c.uses.result.now (c.uses.ensures ∙ ap child_kinds_of c.checked.ensures.rule) address_of c.read_address.result c.read_address.ensures.read
+    c.uses.result.now c.uses.ensures address_of c.read_address.result c.read_address.ensures.read
 
 pub returns-clause-refused : goal.returns-clause-refused
 returns-clause-refused c =
-    no_tile_read (texts c.args.words.now) (tiling_of c.args.machine.now) c.as_bytes.result.now
+    no_tile_read (texts c.args.words.now) (tiling_of c.args.checked.now) c.as_bytes.result.now
     (sym c.value_given.ensures ∙ ap (option_map (λ v. v.now)) c.unwrap-text.ensures ∙ ap (λ t. Some t) (sym c.as_bytes.ensures.value))
-    c.uses.result.now (c.uses.ensures ∙ ap child_kinds_of c.checked.ensures.rule) c.read_address.result c.read_address.ensures.refused c.read_address.ensures.fault
+    c.uses.result.now c.uses.ensures c.read_address.result c.read_address.ensures.refused c.read_address.ensures.fault

@@ -6,7 +6,6 @@ use Rattle.substitution.specs.Placement.{placement}
 use Rattle.cyclo_points.specs.Order.{points_of}
 use Rattle.cyclo_points.specs.Placement.{PlacementLaw}
 use Rattle.cyclo_points.specs.Motion.{motion_in}
-use Rattle.rule_model.specs.declared.rule.Rule.{Rule}
 use Rattle.rule_model.specs.Tiling.{tiling_of, children}
 use Rattle.rule_model.specs.Views.{rule_of}
 use Rattle.tile_shape.specs.Views.{step_of, address_of}
@@ -14,11 +13,11 @@ use Rattle.tile_place.specs.Placing.{first_refused}
 use Rattle.tile_place.proofs.Children.{digit-listed}
 use Rattle.tile_place.proofs.Start.{IsOrigin, start-still, start-turn, start-in_order, start-within}
 use Rattle.tile_place.proofs.Descent.{start, Goes, Goes-finer}
-use Rattle.tile_place.proofs.machine.Machine.place.Goals as goal
+use Rattle.tile_place.proofs.place.place.Goals as goal
 
 pub loop-level-init : goal.loop-level-init
 loop-level-init c =
-    let r = c.args.self.now in
+    let r = c.args.checked.now in
     let m = c.default-motion.result in
     let xs = c.as_slice-digits.result.now in
     let default = c.default-motion.ensures in
@@ -33,19 +32,19 @@ loop-level-init c =
 
 pub finer-motion-requires-clause-parent : goal.finer-motion-requires-clause-parent
 finer-motion-requires-clause-parent c =
-    let r = c.args.self.now in
+    let r = c.args.checked.now in
     (digit-listed (rule_of r) c.args.addr.now.kind c.as_slice-digits.result.now (c.loop-level.level - 1) _
     (subst (λ xs. Climbs (children (tiling_of r)) c.args.addr.now.kind (map step_of xs)) (sym c.as_slice-digits.ensures.value) c.requires.fits.climbs) (omega arith)).0
 
 pub finer-motion-requires-clause-child : goal.finer-motion-requires-clause-child
 finer-motion-requires-clause-child c =
-    let r = c.args.self.now in
+    let r = c.args.checked.now in
     (digit-listed (rule_of r) c.args.addr.now.kind c.as_slice-digits.result.now (c.loop-level.level - 1) _
     (subst (λ xs. Climbs (children (tiling_of r)) c.args.addr.now.kind (map step_of xs)) (sym c.as_slice-digits.ensures.value) c.requires.fits.climbs) (omega arith)).1
 
 pub loop-level-preserved : goal.loop-level-preserved
 loop-level-preserved c =
-    let r = c.args.self.now in
+    let r = c.args.checked.now in
     let goes : Goes r.order (rule_of r) c.as_slice-digits.result.now (c.loop-level.level - 1) (motion_in r.order c.finer-motion.result) =
     Goes-finer r.order (rule_of r) c.as_slice-digits.result.now c.loop-level.level (c.loop-level.level - 1) _ (motion_in r.order c.loop-level.motion) (motion_in r.order c.finer-motion.result)
     (omega arith) c.loop-level.invariant.level c.loop-level.invariant.descends c.finer-motion.ensures.moved in
@@ -59,7 +58,7 @@ loop-level-preserved c =
 
 pub returns-then-refused-clause-limit : goal.returns-then-refused-clause-limit
 returns-then-refused-clause-limit c =
-    let r = c.args.self.now in
+    let r = c.args.checked.now in
     let goes : Goes r.order (rule_of r) c.as_slice-digits.result.now (c.loop-level.level - 1) (motion_in r.order c.finer-motion.result) =
     Goes-finer r.order (rule_of r) c.as_slice-digits.result.now c.loop-level.level (c.loop-level.level - 1) _ (motion_in r.order c.loop-level.motion) (motion_in r.order c.finer-motion.result)
     (omega arith) c.loop-level.invariant.level c.loop-level.invariant.descends c.finer-motion.ensures.moved in
@@ -68,8 +67,8 @@ returns-then-refused-clause-limit c =
 
 pub returns-clause-beside : goal.returns-clause-beside
 returns-clause-beside c =
-    let r = c.args.self.now in
-    let law : PlacementLaw r.order = subst PlacementLaw (c.order.ensures.order ∙ ap (λ (q : Rule). q.order) c.checked.ensures.rule) c.placement_law.ensures in
+    let r = c.args.checked.now in
+    let law : PlacementLaw r.order = subst PlacementLaw c.order.ensures.order c.placement_law.ensures in
     let at_the_fine_end : c.loop-level.level ≡ 0 = omega arith in
     subst (StandsBeside (points_of r.order) (rule_of r) (address_of c.args.addr.now))
     (sym (c.loop-level.invariant.descends.motion ∙ ap (λ i. placement (points_of r.order) (rule_of r) (drop i (map step_of c.as_slice-digits.result.now))) at_the_fine_end

@@ -1,17 +1,14 @@
-use Rattle.std.proofs.Common.{◌≡◌, ◌+◌, ◌%◌, ◌^◌, ◌*◌, ◌∙◌, ap, subst, lit≤}
+use Rattle.std.proofs.Common.{◌≡◌, ◌^◌, ◌*◌, ◌∙◌, ap, subst, lit≤}
 use Rattle.ordered_ring.specs.Ring.{power}
 use Rattle.substitution.specs.Rule.{Child}
 use Rattle.substitution.specs.Placement.{finer}
-use Rattle.substitution.specs.RuleParts.{child_of}
 use Rattle.cyclo_points.specs.Order.{NumberOf, PointsLaw, points_of}
 use Rattle.cyclo_points.specs.Point.{point_in, IsOf}
 use Rattle.cyclo_points.specs.Motion.{motion_in}
-use Rattle.rule_model.specs.declared.rule.Rule.{Rule}
 use Rattle.rule_model.specs.Views.{rule_of, child_in}
-use Rattle.tile_shape.specs.Views.{step_of}
 use Rattle.cyclo_points.proofs.Within.{point_wider}
 use Rattle.tile_place.proofs.Finer.{finer_is}
-use Rattle.tile_place.proofs.machine.Machine.finer.Goals as goal
+use Rattle.tile_place.proofs.place.finer.Goals as goal
 
 pub mul-inflated-requires-clause-p_within : goal.mul-inflated-requires-clause-p_within
 mul-inflated-requires-clause-p_within c = point_wider (2 ^ 24) (2 ^ 32) _ (lit≤ tt) c.requires.within
@@ -30,23 +27,21 @@ add-requires-clause-q_within c = point_wider (2 * 64) (2 ^ 40) _ (lit≤ tt) (c.
 
 pub returns-clause-moved : goal.returns-clause-moved
 returns-clause-moved c =
-    let r = c.checked-checked.result.now in
+    let r = c.args.checked.now in
     let m = c.args.motion.now in
     let child = c.child-child.result in
     let its_order : c.order-order.result ≡ r.order = c.order-order.ensures.order in
-    subst (λ (r : Rule). motion_in r.order (record { turn = (m.turn + child.turn) % c.n.result; shift = c.add.result })
-    ≡ finer (points_of r.order) (rule_of r) (motion_in r.order m) (child_of (points_of r.order) (rule_of r) (step_of c.args.step).parent (step_of c.args.step).child).motion) c.checked-checked.ensures.rule
-    (finer_is (points_of r.order) (subst PointsLaw its_order c.points_law.ensures) (rule_of r) (motion_in r.order m) (child_in r.order child).motion c.n.result
+    finer_is (points_of r.order) (subst PointsLaw its_order c.points_law.ensures) (rule_of r) (motion_in r.order m) (child_in r.order child).motion c.n.result
     (point_in r.order c.factor.result) (point_in r.order c.mul-inflated.result) (point_in r.order c.turn-turned.result) (point_in r.order c.add.result)
     (subst (λ o. c.n.result ≡ (points_of o).order) its_order c.n.ensures)
     (ap (point_in r.order) c.factor.ensures.factor)
     (subst (λ o. point_in o c.mul-inflated.result ≡ (points_of o).ring.mul (point_in o m.shift) (point_in o c.factor.result)) its_order c.mul-inflated.ensures.product)
     (subst (λ o. point_in o c.turn-turned.result ≡ (points_of o).ring.mul (power (points_of o).ring (points_of o).zeta m.turn) (point_in o child.shift)) its_order c.turn-turned.ensures.turned)
     (c.add.ensures.sum r.order)
-    ∙ ap (λ (child : Child (NumberOf r.order)). finer (points_of r.order) (rule_of r) (motion_in r.order m) child.motion) c.child-child.ensures.number)
+    ∙ ap (λ (child : Child (NumberOf r.order)). finer (points_of r.order) (rule_of r) (motion_in r.order m) child.motion) c.child-child.ensures.number
 
 pub returns-clause-in_order : goal.returns-clause-in_order
 returns-clause-in_order c =
-    let same : c.order-order.result ≡ c.args.self.now.order = c.order-order.ensures.order ∙ ap (λ (r : Rule). r.order) c.checked-checked.ensures.rule in
-    c.add.ensures.in_order c.args.self.now.order (subst (λ o. IsOf o c.mul-inflated.result) same c.mul-inflated.ensures.in_order)
+    let same : c.order-order.result ≡ c.args.checked.now.order = c.order-order.ensures.order in
+    c.add.ensures.in_order c.args.checked.now.order (subst (λ o. IsOf o c.mul-inflated.result) same c.mul-inflated.ensures.in_order)
     (subst (λ o. IsOf o c.turn-turned.result) same c.turn-turned.ensures.in_order)
