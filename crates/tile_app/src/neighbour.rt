@@ -44,7 +44,7 @@ pub fn neighbour_text<L: Ledger>(
     ensures printed { IfOk result (λ text. PrintsNeighbour (texts words.now) (tiling_of machine.now) (string_bytes text)) }
     ensures refused { IfErr result (OrNoMemory (NeighbourRefuses (texts words.now) (tiling_of machine.now))) }
 {
-    let address = address_given(machine.checked(), words)?;
+    let address = address_given(machine, words)?;
     let edge = edge_given(words);
     let edges = machine.checked().tables().edges(address.kind);
     if edge >= edges {

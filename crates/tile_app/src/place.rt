@@ -10,7 +10,7 @@ ghost use Rattle.tile_app.specs.Status.{OrNoMemory};
 ghost use Rattle.tile_app.specs.Words.{texts, command_of};
 
 use crate::status::Status;
-use crate::tile::address_given;
+use crate::tile::address_read;
 use cyclo_points::motion::Motion;
 use rule_model::checked::Checked;
 use std::alloc::{AllocError, Global};
@@ -31,7 +31,7 @@ pub fn place_text(alloc: Global, checked: &Checked, words: &[String]) -> Result<
     ensures printed { IfOk result (λ text. PrintsPlace (texts words.now) (tiling_of checked.now) (string_bytes text)) }
     ensures refused { IfErr result (OrNoMemory (PlaceRefuses (texts words.now) (tiling_of checked.now))) }
 {
-    let address = address_given(checked, words)?;
+    let address = address_read(checked, words)?;
     let motion = place(checked, &address)?;
     Ok(place_line(alloc, address.kind, &motion)?)
 }

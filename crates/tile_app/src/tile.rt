@@ -7,16 +7,26 @@ ghost use Rattle.tile_app.specs.Words.{texts, AskAboutTile};
 
 use crate::words::Key;
 use rule_model::checked::Checked;
+use tile_place::machine::Machine;
 use tile_shape::address::Address;
 use tile_shape::address_fault::AddressFault;
 use tile_shape::reading::read_address;
 
 /// The address that right words give, of a tile of the rule's tiling.
-pub fn address_given(checked: &Checked, words: &[String]) -> Result<Address, AddressFault>
+pub fn address_read(checked: &Checked, words: &[String]) -> Result<Address, AddressFault>
     requires right { AskAboutTile (texts words.now) }
     ensures given { IfOk result (λ a. GivesTile (texts words.now) (tiling_of checked.now) (address_of a)) }
     ensures refused { IfErr result (GivesNoTile (texts words.now) (tiling_of checked.now)) }
 {
     let text = Key::Addr.value_given(words).unwrap();
     read_address(checked.uses(), text.as_bytes())
+}
+
+/// The same of the machine's tiling.
+pub fn address_given(machine: &Machine, words: &[String]) -> Result<Address, AddressFault>
+    requires right { AskAboutTile (texts words.now) }
+    ensures given { IfOk result (λ a. GivesTile (texts words.now) (tiling_of machine.now) (address_of a)) }
+    ensures refused { IfErr result (GivesNoTile (texts words.now) (tiling_of machine.now)) }
+{
+    address_read(machine.checked(), words)
 }

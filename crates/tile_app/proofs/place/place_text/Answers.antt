@@ -7,8 +7,8 @@ use Rattle.tile_app.specs.declared.words.Command.TheVariants.{Place}
 use Rattle.tile_app.proofs.Asking.{coefficients_of}
 use Rattle.tile_app.proofs.place.place_text.Goals as goal
 
-pub address_given-requires : goal.address_given-requires
-address_given-requires c = record { right = (Place, c.requires.right, tt) }
+pub address_read-requires : goal.address_read-requires
+address_read-requires c = record { right = (Place, c.requires.right, tt) }
 
 pub place-requires : goal.place-requires
 place-requires c = record { fits = c.in_ok-address.ensures.given.accepted.fits }

@@ -1,26 +1,15 @@
-use Rattle.std.proofs.Common.{rules, Some, sym, ap, ◌∙◌, option_map}
-use Rattle.rule_model.specs.Checked.{child_kinds_of}
+use Rattle.std.proofs.Common.{IfOk, IfErr, subst}
 use Rattle.rule_model.specs.Tiling.{tiling_of}
 use Rattle.tile_shape.specs.Views.{address_of}
+use Rattle.tile_app.specs.Tile.{GivesTile, GivesNoTile}
 use Rattle.tile_app.specs.Words.{texts}
-use Rattle.tile_app.proofs.Asking.{tile_read, no_tile_read}
-use Rattle.tile_app.proofs.Given.{GivesText-right}
 use Rattle.tile_app.proofs.tile.address_given.Goals as goal
 
-pub unwrap-text-requires : goal.unwrap-text-requires
-unwrap-text-requires c =
-    let k = GivesText-right c.requires.right.0 (texts c.args.words.now) c.requires.right.1 c.requires.right.2 in
-    let h = c.value_given.ensures ∙ k.1 in
-    search (rules, h)
-
+-- the machine's checked rule is the machine's rule
 pub returns-clause-given : goal.returns-clause-given
 returns-clause-given c =
-    tile_read (texts c.args.words.now) (tiling_of c.args.checked.now) c.as_bytes.result.now
-    (sym c.value_given.ensures ∙ ap (option_map (λ v. v.now)) c.unwrap-text.ensures ∙ ap (λ t. Some t) (sym c.as_bytes.ensures.value))
-    c.uses.result.now c.uses.ensures address_of c.read_address.result c.read_address.ensures.read
+    subst (λ m. IfOk c.address_read.result (λ a. GivesTile (texts c.args.words.now) (tiling_of m) (address_of a))) c.checked.ensures.rule c.address_read.ensures.given
 
 pub returns-clause-refused : goal.returns-clause-refused
 returns-clause-refused c =
-    no_tile_read (texts c.args.words.now) (tiling_of c.args.checked.now) c.as_bytes.result.now
-    (sym c.value_given.ensures ∙ ap (option_map (λ v. v.now)) c.unwrap-text.ensures ∙ ap (λ t. Some t) (sym c.as_bytes.ensures.value))
-    c.uses.result.now c.uses.ensures c.read_address.result c.read_address.ensures.refused c.read_address.ensures.fault
+    subst (λ m. IfErr c.address_read.result (GivesNoTile (texts c.args.words.now) (tiling_of m))) c.checked.ensures.rule c.address_read.ensures.refused
