@@ -1,3 +1,5 @@
+pub mod Setting
+pub mod MovedStar
 pub mod Ahead
 pub mod Around
 pub mod StarEdges
