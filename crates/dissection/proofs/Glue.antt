@@ -24,7 +24,8 @@ use Rattle.dissection.proofs.TraceAlong.{ends_apart}
 use Rattle.dissection.proofs.RuleAddresses.{top_exists}
 use Rattle.dissection.proofs.Members.{member}
 use Rattle.dissection.specs.Across.{RunsBack, IsTileAcross}
-use Rattle.dissection.specs.Glue.{TurnsOnto, glue_motion}
+use Rattle.dissection.specs.Glue.{TurnsOnto}
+use Rattle.dissection.proofs.GlueMotions.{glue_motion}
 use Rattle.dissection.proofs.Setting.{Setting}
 use Rattle.dissection.proofs.EquallyFar.{zero_factor, only_origin}
 

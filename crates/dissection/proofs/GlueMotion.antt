@@ -1,4 +1,4 @@
--- The motion of the tile across an edge is the glue motion followed by the motion of the edge's own tile, and the glue motion's turn is the only one.
+-- The motion of the tile across an edge is the motion that glues the two edges, followed by that of the edge's own tile.
 use Rattle.std.proofs.Common.{◌≡◌, ◌⊎◌, inl, inr, ℕ, ◌<◌, true, not, ◌||◌, nat_eq, List, [], ◌∷◌, pos, refl, sym, ap, ap₂, ◌∙◌, subst, eqb-true}
 use Rattle.std.proofs.Math.Nat.{mod-lt}
 use Rattle.ordered_ring.specs.Ring.{Ops, difference, power}
@@ -17,8 +17,9 @@ use Rattle.addressing.proofs.CoherenceTests.{all_below-at}
 use Rattle.addressing.proofs.Chains.{chain_of}
 use Rattle.dissection.specs.TileEdges.{tile_at}
 use Rattle.dissection.specs.Across.{IsTileAcross}
-use Rattle.dissection.specs.Glue.{glue_motion, TurnsDiffer, turns_differ, IsGlued}
+use Rattle.dissection.specs.Glue.{TurnsDiffer, turns_differ, IsGlueMotion, IsGlued}
 use Rattle.dissection.proofs.Setting.{Setting}
+use Rattle.dissection.proofs.GlueMotions.{glue_motion, its_turn, motion_is}
 use Rattle.dissection.proofs.Glue.{some_order, across-glued, glued-turn, edge_has_length}
 use Rattle.dissection.proofs.RuleAddresses.{top_exists}
 use Rattle.dissection.proofs.Members.{member}
@@ -56,11 +57,15 @@ module _ (T : Setting) (differ : TurnsDiffer T.points) where
       let t = both.0.0 in
       let small : b.motion.turn < P.order = subst (λ (g : Motion K.carrier). g.turn < P.order) (sym m.motion_is) (turn_below b.address.digits) in
       record {
-        turn = t;
-        below = both.0.1;
-        turns = both.0.2;
-        alone = λ s below turns. differ s t below both.0.1 (glued-turn P W r a.kind e b.address.kind f s t turns both.0.2 has);
-        motion_is = motions t small (both.1 t both.0.2);
+        met = record { turn = t; below = both.0.1; turns = both.0.2 };
+        alone = λ m g x y.
+            let k = a.kind in let l = b.address.kind in
+            let one = differ m.turn g.turn x.below y.below (glued-turn P W r k e l f m.turn g.turn (its_turn P W r k e l f m x) (its_turn P W r k e l f g y) has) in
+            motion_is P W r k e l f m x ∙ ap (glue_motion P r k e l f) one ∙ sym (motion_is P W r k e l f g y);
+        motion_is = λ m glues.
+            let turns = its_turn P W r a.kind e b.address.kind f m glues in
+            motions m.turn small (both.1 m.turn turns)
+            ∙ ap (λ (g : Motion K.carrier). followed P g (placement P r a.digits)) (sym (motion_is P W r a.kind e b.address.kind f m glues));
       }
     where
       motions : (t : ℕ) → b.motion.turn < P.order → ((z : K.carrier) → moved P (placement P r a.digits) (moved P (glue_motion P r a.kind e b.address.kind f t) z) ≡ moved P b.motion z)

@@ -48,7 +48,8 @@ BoundaryLaw P =
 abbrev pub CrossingLaw : Points → Type 0
 CrossingLaw P = (T : AcceptedRule P) (a : Address) (e : ℕ) → HasEdge P T.rule a e → IsCrossed P T.rule a e ⊎ IsOutside P T.rule a e
 
--- the tile across an edge lies where the motion that glues the two edges, and then that of the edge's own tile, put it
+-- the edges of tiles across from each other meet, and the tile across lies where the motion that glues the two edges, and then that of the edge's own tile,
+-- put it
 abbrev pub GlueLaw : Points → Type 0
 GlueLaw P =
     (T : AcceptedRule P) (a : Address) (e : ℕ) → HasEdge P T.rule a e → (b : Placed P.ring.carrier) (f : ℕ)
