@@ -5,3 +5,12 @@ pub mod Finer
 pub mod Descent
 pub mod Example
 pub mod Plane
+pub mod Ahead
+pub mod Corners
+pub mod Parts
+pub mod FactorPowers
+pub mod Holders
+pub mod Below
+pub mod Counted
+pub mod Held
+pub mod Located

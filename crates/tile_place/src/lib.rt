@@ -8,8 +8,16 @@
 #![tactic(auto)]
 
 pub mod coord_limit;
+mod locate;
+pub mod locate_fault;
+mod look;
 pub mod machine;
+mod outline;
+mod part;
 mod place;
 pub mod placed_tile;
+mod powers;
+mod search;
+mod seen;
 #[cfg(test)]
 mod tests;
