@@ -1,0 +1,10 @@
+pub mod Back
+pub mod Frame
+pub mod Growth
+pub mod Outward
+pub mod Outline
+pub mod Part
+pub mod Descent
+pub mod Looked
+pub mod Contain
+pub mod Laws
