@@ -14,7 +14,7 @@ use Rattle.substitution.specs.RuleParts.{vertices_of}
 use Rattle.substitution.specs.Supertile.{Placed, supertile}
 use Rattle.substitution.specs.Placement.{placement}
 use Rattle.substitution.proofs.Placement.{IsPlaced, supertile-placed}
-use Rattle.dissection.specs.Orders.{SupertilesLaw}
+use Rattle.dissection.specs.Laws.{DissectionLaw}
 use Rattle.frames.specs.Outline.{supertile_holds}
 use Rattle.frames.specs.Descent.{tile_below, tile_holding}
 use Rattle.frames.specs.Looked.{values_looked_at}
@@ -31,10 +31,10 @@ use Rattle.tile_place.specs.declared.locate_fault.LocateFault.TheVariants.{NotIn
 use Rattle.tile_place.specs.Located.{moved_tiles, OnlyHoldsPoint, IsInside, first_refused_looked_at, IsCauseOf}
 use Rattle.tile_place.specs.Searched.{placed_in, IsFaultOf}
 use Rattle.tile_place.proofs.Ahead.{map-map}
-use Rattle.tile_place.proofs.Plane.{IsSettled}
+use Rattle.tile_place.proofs.Plane.{IsSettled, its_rule}
 use Rattle.tile_place.proofs.Held.{IsDissected, has_holders, only_one}
 
-module _ (m : Rule) (settled : IsSettled m) (W : PointsLaw m.order) (law : SupertilesLaw m.order) (k n : ℕ) (exists : k < length (rule_of m).kinds) (at : MotionOf (tiling_of m)) (below : at.turn < (points_of m.order).order)
+module _ (m : Rule) (settled : IsSettled m) (W : PointsLaw m.order) (law : DissectionLaw (points_of m.order)) (k n : ℕ) (exists : k < length (rule_of m).kinds) (at : MotionOf (tiling_of m)) (below : at.turn < (points_of m.order).order)
     (p : NumberOf m.order) where
   abbrev P : Points
   P = points_of m.order
@@ -43,7 +43,7 @@ module _ (m : Rule) (settled : IsSettled m) (W : PointsLaw m.order) (law : Super
   r = rule_of m
 
   dissected : IsDissected P r
-  dissected = λ k n h f keeps q is. law (as_edition m.edition) (is_refused m.order) r (record { numbered = settled.usable.numbered; edge_to_edge = settled.accepted.edge_to_edge }) k n h f keeps q is
+  dissected = law (its_rule m settled)
 
   -- the search ends at a tile exactly where the supertile holds the point
   inside : (t : Placed P.ring.carrier) → tile_holding P r k n at p ≡ Some t → IsInside (tiling_of m) k n at p

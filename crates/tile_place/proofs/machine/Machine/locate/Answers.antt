@@ -8,7 +8,7 @@ use Rattle.cyclo_points.specs.declared.order.Order.{Order}
 use Rattle.cyclo_points.specs.Order.{NumberOf, PointsLaw, points_of}
 use Rattle.cyclo_points.specs.Point.{point_in}
 use Rattle.cyclo_points.specs.Motion.{motion_in}
-use Rattle.dissection.specs.Orders.{SupertilesLaw}
+use Rattle.dissection.specs.Laws.{DissectionLaw}
 use Rattle.rule_model.specs.declared.rule.Rule.{Rule}
 use Rattle.rule_model.specs.Tiling.{tiling_of, children}
 use Rattle.rule_model.specs.Views.{rule_of}
@@ -26,9 +26,9 @@ so_of : (o : Order) (x : Result PlacedTile LocateFault) (tile : Option (Placed (
 so_of o (Ok t) tile Q each h = each (placed_in o t) h
 so_of o (Err f) tile Q each h = tt
 
-settled : (m : Rule) (o : Order) (r : Rule) → o ≡ r.order → r ≡ m → PointsLaw o → SupertilesLaw o → PointsLaw m.order × SupertilesLaw m.order
+settled : (m : Rule) (o : Order) (r : Rule) → o ≡ r.order → r ≡ m → PointsLaw o → DissectionLaw (points_of o) → PointsLaw m.order × DissectionLaw (points_of m.order)
 settled m o r e f points law =
-    let same : o ≡ m.order = e ∙ ap (λ (q : Rule). q.order) f in (subst PointsLaw same points, subst SupertilesLaw same law)
+    let same : o ≡ m.order = e ∙ ap (λ (q : Rule). q.order) f in (subst PointsLaw same points, subst (λ o. DissectionLaw (points_of o)) same law)
 
 pub returns-clause-only_tile : goal.returns-clause-only_tile
 returns-clause-only_tile c =
