@@ -1,13 +1,12 @@
 -- A request has one answer: the cause of one status is no cause of another.
 use Rattle.std.proofs.Common.{◌≡◌, ◌⊎◌, inl, inr, ℕ, ◌<◌, ◌≤◌, true, List, length, Some, None, Result, Ok, Err, is_ok, refl, sym, ap, ap₂, ◌∙◌, subst, ℤ, arith}
 use Rattle.std.specs.declared.option.Option.{Option}
-use Rattle.addressing.specs.Across.{LiesOn}
 use Rattle.addressing.specs.Address.{Address, Fits}
 use Rattle.addressing.specs.Tables.{Tables}
-use Rattle.addressing.specs.Trace.{Cut, HasTrace, first_part}
 use Rattle.cyclo_points.specs.declared.point.Point.{Point}
 use Rattle.cyclo_points.specs.Order.{coefficients}
 use Rattle.rule_model.specs.Tiling.{Tiling, contacts, children}
+use Rattle.tile_place.specs.Crossed.{LiesOnBoundary}
 use Rattle.tile_place.specs.Placing.{first_refused}
 use Rattle.tile_shape.specs.declared.address_fault.AddressFault.{AddressFault}
 use Rattle.tile_shape.specs.Refused.{IsFaultOf}
@@ -34,13 +33,9 @@ use Rattle.std.proofs.lemmas.Bool.{and_parts as both_true}
 abbrev pub FitsAreShort : Type 0
 FitsAreShort = (children : List (List ℕ)) (a : Address) → AreUsable children → Fits children a → HasShortNumbers a
 
-abbrev pub OneTrace : Type 0
-OneTrace = (t : Tables) (a : Address) (e top other : ℕ) (cuts others : List Cut) → HasTrace t a e top cuts → HasTrace t a e other others → (top ≡ other) × (cuts ≡ others)
-
 pub record Laws : Type 0 where
   pub one_text : OneText
   pub short : FitsAreShort
-  pub one_trace : OneTrace
   pub usable : AcceptedAreUsable
 
 -- a point is its coefficients
@@ -89,7 +84,10 @@ module _ (laws : Laws) (words : List (List ℕ)) (t : Tiling) (usable : AreUsabl
   Exists a e = e < edges_of t a.kind
 
   abbrev IsOnNone : Address → ℕ → Type 0
-  IsOnNone a e = (top part : ℕ) → LiesOn (contacts t) a e top part → ⊥
+  IsOnNone a e = (top part : ℕ) → LiesOnBoundary t a e top part → ⊥
+
+  abbrev IsAlone : ℕ → ℕ → Address → ℕ → Type 0
+  IsAlone edge part a e = (top other : ℕ) → LiesOnBoundary t a e top other → (top ≡ edge) × (other ≡ part)
 
   -- an edge exists or doesn't
   edge_or_none : (a : Address) (own edge edges : ℕ) → GivesEdge words t a own → own < edges_of t a.kind → HasNoEdge words t edge edges → ⊥
@@ -99,7 +97,7 @@ module _ (laws : Laws) (words : List (List ℕ)) (t : Tiling) (usable : AreUsabl
 
   -- an edge is inside or outside
   inside_or_outside : (edge part : ℕ) → CanBeCrossed words t → LiesOutside words t edge part → ⊥
-  inside_or_outside edge part p q = of_given IsOnNone p.address q.address p.edge q.own p.gives q.gives p.inside.on_none edge part q.lies
+  inside_or_outside edge part p q = of_given IsOnNone p.address q.address p.edge q.own p.gives q.gives p.inside.on_none edge part q.along
 
   -- the number of edges, and the place outside, are determined
   same_no_edge : (e es f fs : ℕ) → HasNoEdge words t e es → HasNoEdge words t f fs → NoEdge e es ≡ NoEdge f fs
@@ -109,9 +107,9 @@ module _ (laws : Laws) (words : List (List ℕ)) (t : Tiling) (usable : AreUsabl
 
   same_outside : (e i f j : ℕ) → LiesOutside words t e i → LiesOutside words t f j → Outside e i ≡ Outside f j
   same_outside e i f j p q =
-      let lies : LiesOn (contacts t) q.address q.own e i = of_given (λ a g. LiesOn (contacts t) a g e i) p.address q.address p.own q.own p.gives q.gives p.lies in
-      let one = laws.one_trace (contacts t) q.address q.own e f lies.cuts q.lies.cuts lies.trace q.lies.trace in
-      ap₂ Outside one.0 (lies.is_part ∙ ap first_part one.1 ∙ sym q.lies.is_part)
+      let alone : IsAlone e i q.address q.own = of_given (IsAlone e i) p.address q.address p.own q.own p.gives q.gives p.alone in
+      let one = alone f j q.along in
+      ap₂ Outside (sym one.0) (sym one.1)
 
   -- ---- a command has one answer
   place_once : (s u : Status) → IsFor words t Place s → IsFor words t Place u → s ≡ u

@@ -3,7 +3,6 @@ use Rattle.std.specs.Prelude.{◌≡◌, ℕ, ◌<◌, ◌≤◌, List, [], ◌�
 use Rattle.std.specs.declared.option.Option.{Option}
 use Rattle.std.specs.Fmt.{decimal}
 use Rattle.std.specs.Option.{option_and_then}
-use Rattle.addressing.specs.Across.{IsAcross, LiesOn}
 use Rattle.addressing.specs.Address.{Address}
 use Rattle.addressing.specs.Tables.{kind_tables}
 use Rattle.rule_model.specs.Tiling.{Tiling, contacts}
@@ -35,10 +34,10 @@ pub record GivesEdge (words : List (List ℕ)) (t : Tiling) (a : Address) (edge 
   pub tile : GivesTile words t a
   pub given : edge_given words ≡ Some edge
 
--- the tile has the edge, and the edge lies on no edge of the supertile
+-- the tile has the edge, and the edge isn't on the boundary of the supertile: it lies along no edge of the supertile's polygon
 pub record IsInside (t : Tiling) (a : Address) (edge : ℕ) : Type 0 where
   pub exists : edge < edges_of t a.kind
-  pub on_none : (top part : ℕ) → LiesOn (contacts t) a edge top part → ⊥
+  pub on_none : (top part : ℕ) → LiesOnBoundary t a edge top part → ⊥
 
 -- the words give an edge of a tile that is inside the supertile
 pub record CanBeCrossed (words : List (List ℕ)) (t : Tiling) : Type 0 where
@@ -47,8 +46,8 @@ pub record CanBeCrossed (words : List (List ℕ)) (t : Tiling) : Type 0 where
   pub gives : GivesEdge words t address edge
   pub inside : IsInside t address edge
 
--- The words give an edge of a tile that is inside the supertile, and the text is the line of the one tile and edge across it. By the contact tables that is the
--- one pair that the edge touches; in the plane, both placed in their common supertile, it is the only tile across the edge, and its edge leads back.
+-- The words give an edge of a tile that is inside the supertile, and the text is the line of the one tile and edge across it: both tiles placed in their common
+-- supertile, it is the only tile across the edge, and its edge leads back.
 pub record PrintsNeighbour (words : List (List ℕ)) (t : Tiling) (text : List ℕ) : Type 0 where
   pub address : Address
   pub edge : ℕ
@@ -56,7 +55,6 @@ pub record PrintsNeighbour (words : List (List ℕ)) (t : Tiling) (text : List �
   pub inside : IsInside t address edge
   pub across : Address
   pub back : ℕ
-  pub is_across : IsAcross (contacts t) address edge across back
   pub only_across : IsOnlyAcross t address edge across back
   pub leads_back : IsOnlyAcross t across back address edge
   pub line : text ≡ neighbour_line across back
@@ -68,14 +66,14 @@ pub record HasNoEdge (words : List (List ℕ)) (t : Tiling) (edge edges : ℕ) :
   pub count : edges ≡ edges_of t address.kind
   pub beyond : edges ≤ edge
 
--- the words give an edge of a tile that lies on this edge of the supertile, in this part of it: by the contact tables, and along it in the plane
+-- the words give an edge of a tile that is on the boundary of the supertile, along this edge of its polygon, on this part of it, and along no other
 pub record LiesOutside (words : List (List ℕ)) (t : Tiling) (edge part : ℕ) : Type 0 where
   pub address : Address
   pub own : ℕ
   pub gives : GivesEdge words t address own
   pub exists : own < edges_of t address.kind
-  pub lies : LiesOn (contacts t) address own edge part
   pub along : LiesOnBoundary t address own edge part
+  pub alone : (top other : ℕ) → LiesOnBoundary t address own top other → (top ≡ edge) × (other ≡ part)
 
 -- why `neighbour` refuses its words for a tiling: for each status its cause
 abbrev pub NeighbourRefuses : List (List ℕ) → Tiling → Status → Type 0

@@ -24,7 +24,6 @@ use tile_io::sink::Sink;
 use tile_io::source::Source;
 use tile_io::writing::write_all;
 use tile_shape::laws::{short_numbers_law, text_law};
-use transducer_core::laws::trace_law;
 
 /// Writes the text that answers the request, built whole before the first byte is written. The steps
 /// of the crossings are counted on a counter made here, which nobody reads.
@@ -105,11 +104,10 @@ pub fn run<R: Source, W: Sink, N: Sink>(
     ensures not_noted { result ≡ Status.Done → notes.new ≡ notes.old }
 {
     // Laws, whose calls do nothing, by which a request has one answer, so that where a cause holds its
-    // status comes: no two addresses that fit have one text, an edge has one trace, and the child kinds
-    // of an accepted rule are a table that addresses can fit.
+    // status comes: no two addresses that fit have one text, and the child kinds of an accepted rule are
+    // a table that addresses can fit.
     text_law();
     short_numbers_law();
-    trace_law();
     accepted_children_law();
     let status = answer::<R, W, Brand>(alloc, words.as_slice(), source, sink, Blank::new(1));
     write_note(notes, &status);

@@ -1,5 +1,7 @@
 -- Points of an order are one exactly where their coefficients are the same.
-use Rattle.std.proofs.Common.{◌≡◌, ℤ, pos, List, [], ◌∷◌, length, get_or, refl, sym, ap, ap₂, ◌∙◌}
+use Rattle.std.specs.Ordering.{int_eq}
+use Rattle.std.specs.Cmp.Lexicographic.{pointwise}
+use Rattle.std.proofs.Common.{◌≡◌, ℤ, pos, Bool, true, false, ◌&&◌, List, [], ◌∷◌, length, get_or, refl, sym, ap, ap₂, ◌∙◌}
 use Rattle.cyclo_points.specs.declared.order.Order.{Order}
 use Rattle.cyclo_points.specs.declared.order.Order.TheVariants.{Four, Six, Eight, Ten}
 use Rattle.cyclo_points.specs.declared.point.Point.{Point}
@@ -27,3 +29,17 @@ same_coefficients o p q l m f g e = coefficients_of o p l f ∙ ap (coefficients
 -- one list, so one number
 pub same_number : (o : Order) (p q : Point) → p.c ≡ q.c → point_in o p ≡ point_in o q
 same_number o p q e = ap (λ (c : List ℤ). (let s : Point = record { c = c } in point_in o s)) e
+
+regrouped : (a b c d : Bool) → (a && (b && (c && (d && true)))) ≡ a && b && c && d
+regrouped false b c d = refl
+regrouped true false c d = refl
+regrouped true true false d = refl
+regrouped true true true false = refl
+regrouped true true true true = refl
+
+-- one by one
+pub one_by_one : (p q : Point) → length p.c ≡ 4 → length q.c ≡ 4 → pointwise int_eq p.c q.c
+    ≡ int_eq (coefficient p 0) (coefficient q 0) && int_eq (coefficient p 1) (coefficient q 1) && int_eq (coefficient p 2) (coefficient q 2) && int_eq (coefficient p 3) (coefficient q 3)
+one_by_one p q l m =
+    ap₂ (pointwise int_eq) (four p.c l) (four q.c m)
+    ∙ regrouped (int_eq (coefficient p 0) (coefficient q 0)) (int_eq (coefficient p 1) (coefficient q 1)) (int_eq (coefficient p 2) (coefficient q 2)) (int_eq (coefficient p 3) (coefficient q 3))

@@ -1,6 +1,7 @@
 //! Edges that meet, and the motion that glues them.
 ghost use Rattle.std.specs.Prelude.{◌≡◌, ◌↔◌, ◌<◌, ◌^◌, ℕ, IsTrue, None, IfSome};
 ghost use Rattle.std.specs.Bool.{Decides};
+ghost use Rattle.std.specs.Ordering.{int_eq};
 ghost use Rattle.substitution.specs.RuleParts.{next, vertex};
 ghost use Rattle.edge_to_edge.specs.EdgeTypes.{edge_vector};
 ghost use Rattle.cyclo_points.specs.declared.order.Order.{Order};
@@ -23,12 +24,19 @@ use cyclo_points::points_law;
 use cyclo_points::rotation::turn;
 use dissection::laws::glue_law;
 
+/// Whether two coefficients are the same.
+fn is_equal(a: i64, b: i64) -> bool
+    ensures { result ≡ int_eq a b }
+{
+    a == b
+}
+
 /// Whether two points of one order are the same.
 fn is_same(p: &Point, q: &Point) -> bool
     ensures { (order : Order) → IsOf order p.now → IsOf order q.now
         → Decides result (point_in order p.now ≡ point_in order q.now) }
 {
-    p.c == q.c
+    is_equal(p.c[0], q.c[0]) & is_equal(p.c[1], q.c[1]) & is_equal(p.c[2], q.c[2]) & is_equal(p.c[3], q.c[3])
 }
 
 /// The turn below n by which a vector becomes `onto`, which is the reverse of `back`.

@@ -5,6 +5,7 @@ use Rattle.rule_model.specs.Checked.{rule_contacts, child_kinds_of}
 use Rattle.rule_model.specs.declared.rule.Rule.{Rule}
 use Rattle.rule_model.specs.Tiling.{tiling_of}
 use Rattle.tile_shape.specs.Views.{address_of}
+use Rattle.transducer_core.specs.declared.outside.Outside.{Outside}
 use Rattle.tile_app.specs.declared.words.Command.TheVariants.{Neighbour}
 use Rattle.tile_app.specs.Neighbour.{edges_of}
 use Rattle.tile_app.proofs.Children.{kind_in_tables}
@@ -17,6 +18,12 @@ edges-counted t inside now kind edges is same h = h ∙ ap (λ t. length (kind_t
 
 ok_or_err : {A B : Type 0} (o : Result A B) (x : A) (y : B) → o ≡ Ok x → o ≡ Err y → ⊥
 ok_or_err o x y e f = absurd (cc (e, f))
+
+err_is : {A : Type 0} (x : Result A Outside) (o u : Outside) → x ≡ Err o → x ≡ Err u → u ≡ o
+err_is x o u e f = cc
+
+outside_is : {A : Type 0} (x : Result A Outside) (o : Outside) (top other : ℕ) → x ≡ Err o → x ≡ Err (record { edge = top; part = other }) → (top ≡ o.edge) × (other ≡ o.part)
+outside_is x o top other e f = let one = err_is x o (record { edge = top; part = other }) e f in (ap (λ (u : Outside). u.edge) one, ap (λ (u : Outside). u.part) one)
 
 pub address_given-requires : goal.address_given-requires
 address_given-requires g c = record { right = (Neighbour, c.requires.right, tt) }
@@ -61,8 +68,8 @@ returns-in_err-crossing-clause-refused g c =
       gives = record { tile = c.in_ok-address.ensures.given; given = c.edge_given-edge.ensures };
       exists = subst (λ n. edge < n)
           (edges-counted c.tables.result.now c.checked.result.now c.args.machine.now c.in_ok-address.address.kind c.edges-edges.result c.tables.ensures.contacts c.checked.ensures.rule c.edges-edges.ensures.count) c.if-edge-edges.false;
-      lies = c.in_err-crossing.ensures.on_boundary;
       along = c.in_err-crossing.ensures.outside_on_boundary;
+      alone = λ top other on. outside_is _ _ top other c.in_err-crossing.was (c.cross.ensures.boundary_is_outside top other on);
     })
 
 pub returns-clause-printed : goal.returns-clause-printed
@@ -75,11 +82,10 @@ returns-clause-printed g c =
       inside = record {
         exists = subst (λ n. edge < n)
             (edges-counted c.tables.result.now c.checked.result.now c.args.machine.now c.in_ok-address.address.kind c.edges-edges.result c.tables.ensures.contacts c.checked.ensures.rule c.edges-edges.ensures.count) c.if-edge-edges.false;
-        on_none = λ top part lies. ok_or_err _ _ _ c.in_ok-crossing.was (c.cross.ensures.boundary_when top part lies);
+        on_none = λ top part lies. ok_or_err _ _ _ c.in_ok-crossing.was (c.cross.ensures.boundary_is_outside top part lies);
       };
       across = address_of c.in_ok-crossing.crossing.addr;
       back = c.in_ok-crossing.crossing.edge;
-      is_across = c.in_ok-crossing.ensures.across;
       only_across = c.in_ok-crossing.ensures.only_tile_across;
       leads_back = c.in_ok-crossing.ensures.leads_back;
       line = c.in_ok-neighbour_line.ensures;

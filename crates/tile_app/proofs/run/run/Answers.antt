@@ -9,12 +9,12 @@ pub returns-clause-refused_when : goal.returns-clause-refused_when
 returns-clause-refused_when g c = λ r status asked cause.
     refused_when (texts c.as_slice.result.now) (g.R.Source.left c.args.source.now) (g.R.Source.left c.answer-status.new.source) r
     (subst (λ ws. IsAsked ws (g.R.Source.left c.args.source.now) r) (sym (ap texts c.as_slice.ensures.value)) asked)
-    (record { one_text = c.text_law.ensures; short = c.short_numbers_law.ensures; one_trace = c.trace_law.ensures; usable = c.accepted_children_law.ensures })
+    (record { one_text = c.text_law.ensures; short = c.short_numbers_law.ensures; usable = c.accepted_children_law.ensures })
     c.answer-status.result status c.answer-status.ensures.done c.answer-status.ensures.part c.answer-status.ensures.refused cause
 
 pub returns-clause-complete : goal.returns-clause-complete
 returns-clause-complete g c = λ r asked can sink source.
     complete (texts c.as_slice.result.now) (g.R.Source.left c.args.source.now) (g.R.Source.left c.answer-status.new.source) r
     (subst (λ ws. IsAsked ws (g.R.Source.left c.args.source.now) r) (sym (ap texts c.as_slice.ensures.value)) asked)
-    (record { one_text = c.text_law.ensures; short = c.short_numbers_law.ensures; one_trace = c.trace_law.ensures; usable = c.accepted_children_law.ensures })
+    (record { one_text = c.text_law.ensures; short = c.short_numbers_law.ensures; usable = c.accepted_children_law.ensures })
     c.answer-status.result c.answer-status.ensures.refused can (λ e. sink (c.answer-status.ensures.write_fault e)) (λ e. source (c.answer-status.ensures.read_fault e))
