@@ -1,5 +1,6 @@
 -- A vertex of the program, scaled and moved.
 use Rattle.std.proofs.Common.{◌≡◌, ℕ, List, map, sym, ap, ◌∙◌, subst}
+use Rattle.ordered_ring.specs.Ring.{power}
 use Rattle.substitution.specs.RuleParts.{vertices_of}
 use Rattle.frames.specs.Outline.{outline}
 use Rattle.rule_model.specs.declared.rule.Rule.{Rule}
@@ -9,12 +10,20 @@ use Rattle.substitution.specs.Motion.{moved}
 use Rattle.cyclo_points.specs.declared.order.Order.{Order}
 use Rattle.cyclo_points.specs.declared.point.Point.{Point}
 use Rattle.cyclo_points.specs.declared.motion.Motion.{Motion}
-use Rattle.cyclo_points.specs.Order.{NumberOf, points_of}
+use Rattle.cyclo_points.specs.Order.{NumberOf, PointsLaw, points_of}
 use Rattle.cyclo_points.specs.Point.{point_in}
 use Rattle.cyclo_points.specs.Motion.{motion_in}
 
 abbrev pub corner_of : (o : Order) → Point → Motion → Point → NumberOf o
 corner_of o scale at v = moved (points_of o) (motion_in o at) ((points_of o).ring.mul (point_in o scale) (point_in o v))
+
+-- the scale may be turned instead of the vertex
+pub corner-is : (o : Order) (W : PointsLaw o) (scale : Point) (at : Motion) (v turned product corner : Point)
+    → point_in o turned ≡ (points_of o).ring.mul (power (points_of o).ring (points_of o).zeta at.turn) (point_in o scale) → point_in o product ≡ (points_of o).ring.mul (point_in o turned) (point_in o v)
+    → point_in o corner ≡ (points_of o).ring.add (point_in o product) (point_in o at.shift) → point_in o corner ≡ corner_of o scale at v
+corner-is o W scale at v turned product corner t p s =
+    s ∙ ap (λ (z : NumberOf o). (points_of o).ring.add z (point_in o at.shift))
+    (p ∙ ap (λ (z : NumberOf o). (points_of o).ring.mul z (point_in o v)) t ∙ W.of_ring.mul_assoc (power (points_of o).ring (points_of o).zeta at.turn) (point_in o scale) (point_in o v))
 
 -- what is said of the vertices of the program is said of the outline
 pub of_outline : (o : Order) (r m : Rule) (vs : List Point) (kind : ℕ) (scale : Point) (at : Motion) (T : (o : Order) → List (NumberOf o) → Type 0)

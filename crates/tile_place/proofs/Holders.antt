@@ -1,5 +1,5 @@
 -- Children looked at one after another.
-use Rattle.std.proofs.Common.{◌≡◌, ℕ, ◌+◌, ◌<◌, Bool, true, false, cond, List, [], ◌∷◌, ◌++◌, length, drop, get_or, find, Option, None, Some, IfSome, refl, sym, ap, ap₂, ◌∙◌}
+use Rattle.std.proofs.Common.{◌≡◌, ℕ, ◌+◌, ◌<◌, Bool, true, false, cond, ◌&&◌, not, is_some, List, [], ◌∷◌, ◌++◌, length, drop, get_or, find, Option, None, Some, IfSome, refl, sym, ap, ap₂, ◌∙◌}
 use Rattle.substitution.specs.Points.{Points}
 use Rattle.substitution.specs.Motion.{Motion}
 use Rattle.substitution.specs.Rule.{Rule, Child}
@@ -59,6 +59,13 @@ module _ (P : Points) (r : Rule P.ring.carrier) (scale : P.ring.carrier) (m : Mo
       ap (λ y. or_else y (holder P r scale m point (n + 1) (drop (n + 1) cs))) (or_else-map f held (if_holds b x) ∙ ap (or_else (option_map f held)) (if_holds-map f b x ∙ ap₂ if_holds t e))
       ∙ or_else-assoc (option_map f held) (if_holds it_holds here) (holder P r scale m point (n + 1) (drop (n + 1) cs))
       ∙ ap (or_else (option_map f held)) (sym (cond-or_else it_holds here (holder P r scale m point (n + 1) (drop (n + 1) cs))) ∙ ap (holder P r scale m point n) (sym split))
+
+  -- the same where it is asked only as long as none is held
+  pub sought-next : {X : Type 0} (f : X → Part P.ring.carrier) (held : Option X) (x : X) (sought b : Bool) → is_some held ≡ not sought → f x ≡ here → b ≡ (sought && it_holds)
+      → or_else (option_map f (or_else held (if_holds b x))) (holder P r scale m point (n + 1) (drop (n + 1) cs)) ≡ or_else (option_map f held) (holder P r scale m point n (drop n cs))
+  sought-next f None x true b q e t = held-next f None x b e t
+  sought-next f None x false b q e t = absurd (cc q)
+  sought-next f (Some y) x sought b q e t = refl
 
   -- its values come before those further on
   pub values-next : (test : P.ring.carrier → Bool) → find test (values_of_child P r scale m (get_or cs n d)) ≡ None

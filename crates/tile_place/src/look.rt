@@ -1,11 +1,13 @@
 //! The child of a part of a supertile that holds a point.
-ghost use Rattle.std.specs.Prelude.{◌≡◌, ◌<◌, ◌^◌, length, find, None, Some, IfOk, IfErr, IfSome};
+ghost use Rattle.std.specs.Prelude.{◌≡◌, ◌<◌, ◌≤◌, ◌^◌, ◌&&◌, All, length, find, None, Some, IfOk, IfErr, IfSome};
 ghost use Rattle.std.specs.Option.{option_map};
 ghost use Rattle.substitution.specs.Rule.{children_of};
 ghost use Rattle.substitution.specs.RuleParts.{child_of};
 ghost use Rattle.frames.specs.Outline.{outline, holds_point};
 ghost use Rattle.frames.specs.Part.{child_motion, holder};
 ghost use Rattle.frames.specs.Looked.{values_of_children};
+ghost use Rattle.ordered_plane.specs.Crossing.{member};
+ghost use Rattle.plane_geom.specs.Spots.{reals_of, spots_of, test_of};
 ghost use Rattle.cyclo_points.specs.Order.{points_of, is_refused};
 ghost use Rattle.cyclo_points.specs.Point.{point_in, IsOf, IsWithin};
 ghost use Rattle.cyclo_points.specs.Motion.{motion_in};
@@ -22,13 +24,14 @@ use crate::seen::Seen;
 use cyclo_points::arithmetic::refused;
 use cyclo_points::motion::Motion;
 use cyclo_points::movement::compose;
+use cyclo_points::order::Order;
 use cyclo_points::point::Point;
 use cyclo_points::product::mul;
 use plane_geom::polygons::member;
 
 impl Machine {
     /// Looks at one child of a part: at its shift, and at its vertices. It answers the first of these that is
-    /// refused, or whether the child holds a point.
+    /// refused, or whether the child holds a point, where that is sought.
     pub(crate) fn look(
         &self,
         kind: u8,
@@ -36,6 +39,7 @@ impl Machine {
         scale: &Point,
         at: &Motion,
         point: &Point,
+        sought: bool,
     ) -> Result<Seen, CoordLimit>
         requires exists { kind < length (rule_of self.now).kinds }
         requires child_exists { number < length (children_of (rule_of self.now) kind) }
@@ -47,9 +51,9 @@ impl Machine {
         ensures part { IfOk result (λ seen. part_in self.now.order seen.part
             ≡ part_of (points_of self.now.order) (rule_of self.now) (point_in self.now.order scale.now) (motion_in self.now.order at.now) number
             (child_of (points_of self.now.order) (rule_of self.now) kind number)) }
-        ensures holds { IfOk result (λ seen. seen.holds ≡ holds_point (points_of self.now.order)
+        ensures holds { IfOk result (λ seen. seen.holds ≡ (sought && holds_point (points_of self.now.order)
             (outline (points_of self.now.order) (rule_of self.now) seen.part.kind (point_in self.now.order scale.now) (motion_in self.now.order seen.part.motion))
-            (point_in self.now.order point.now)) }
+            (point_in self.now.order point.now))) }
         ensures is_part { IfOk result (λ seen. IsPart self.now seen.part) }
         ensures none_refused { IfOk result (λ _. find (is_refused self.now.order)
             (values_of_child (points_of self.now.order) (rule_of self.now) (point_in self.now.order scale.now) (motion_in self.now.order at.now)
@@ -73,7 +77,7 @@ impl Machine {
             });
         }
         let corners = self.outline(child.kind, scale, &motion)?;
-        let holds = member(order, corners.as_slice(), point);
+        let holds = holds_where(sought, order, corners.as_slice(), point);
         Ok(Seen {
             part: Part {
                 child: number,
@@ -114,11 +118,22 @@ impl Machine {
         let count = self.checked().rule().child_count(usize::from(kind));
         let mut held = None;
         for number in 0..count {
-            let seen = self.look(kind, number as u8, scale, at, point)?;
+            let seen = self.look(kind, number as u8, scale, at, point, held.is_none())?;
             held = first_held(held, seen);
         }
         Ok(held)
     }
+}
+
+/// Whether a polygon holds a point, where that is sought.
+fn holds_where(sought: bool, order: Order, polygon: &[Point], point: &Point) -> bool
+    requires at_least_three { 3 ≤ length polygon.now }
+    requires at_most_24 { length polygon.now ≤ 24 }
+    requires vertices_within { All (IsWithin (2 ^ 25)) polygon.now }
+    requires point_within { IsWithin (2 ^ 25) point.now }
+    ensures { result ≡ (sought && member (reals_of order) (spots_of order polygon.now) (test_of order point.now)) }
+{
+    sought && member(order, polygon, point)
 }
 
 /// The part held so far, or else the one that was looked at, where it holds the point.

@@ -9,11 +9,12 @@ ghost use Rattle.rule_model.specs.Views.{rule_of};
 use crate::coord_limit::CoordLimit;
 use crate::machine::Machine;
 use arrayvec::ArrayVec;
-use cyclo_points::arithmetic::refused;
+use cyclo_points::arithmetic::{add, refused};
 use cyclo_points::motion::Motion;
-use cyclo_points::movement::apply;
 use cyclo_points::point::Point;
+use cyclo_points::points_law;
 use cyclo_points::product::mul;
+use cyclo_points::rotation::turn;
 
 impl Machine {
     /// The vertices of a scaled prototile that is moved, in order, or the first that is refused.
@@ -41,11 +42,12 @@ impl Machine {
     {
         let checked = self.checked();
         let order = checked.order();
+        points_law(order);
+        let turned = turn(order, at.turn, scale);
         let mut corners = ArrayVec::new();
         let vertices = checked.vertices(kind);
         for vertex in vertices {
-            let scaled = mul(order, scale, vertex);
-            let corner = apply(order, at, &scaled);
+            let corner = add(&mul(order, &turned, vertex), &at.shift);
             if refused(&corner) {
                 return Err(CoordLimit { value: corner });
             }

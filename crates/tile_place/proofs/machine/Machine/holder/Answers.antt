@@ -1,4 +1,4 @@
-use Rattle.std.proofs.Common.{◌+◌, ◌<◌, length, drop, IfSome, sym, ap, ◌∙◌, subst, arith}
+use Rattle.std.proofs.Common.{◌+◌, ◌<◌, length, drop, IfSome, ◌&&◌, sym, ap, ◌∙◌, subst, arith}
 use Rattle.std.specs.Option.{option_map}
 use Rattle.substitution.specs.Motion.{still}
 use Rattle.substitution.specs.Rule.{Child, children_of}
@@ -11,7 +11,7 @@ use Rattle.rule_model.specs.Views.{rule_of}
 use Rattle.addressing.specs.Search.{or_else}
 use Rattle.tile_place.specs.Parts.{part_in, IsPart}
 use Rattle.tile_place.proofs.Ahead.{handed_on}
-use Rattle.tile_place.proofs.Holders.{held-next, values-next, values-here, IfSome-or_else}
+use Rattle.tile_place.proofs.Holders.{sought-next, values-next, values-here, IfSome-or_else}
 use Rattle.tile_place.proofs.machine.Machine.holder.Goals as goal
 
 pub returns-in_err-seen-clause-limit : goal.returns-in_err-seen-clause-limit
@@ -39,8 +39,8 @@ loop-number-preserved c =
     record {
       held =
           ap (λ x. or_else (option_map (part_in m.order) x) (holder P r scale at point (n + 1) (drop (n + 1) cs))) c.first_held-held.ensures
-          ∙ held-next P r scale at point cs n none within (part_in m.order) c.loop-number.held seen.part seen.holds c.in_ok-seen.ensures.part
-          (c.in_ok-seen.ensures.holds ∙ ap (λ (p : Part (NumberOf m.order)). holds_point P (outline P r p.kind scale p.motion) point) c.in_ok-seen.ensures.part)
+          ∙ sought-next P r scale at point cs n none within (part_in m.order) c.loop-number.held seen.part c.is_none.result seen.holds c.is_none.ensures c.in_ok-seen.ensures.part
+          (c.in_ok-seen.ensures.holds ∙ ap (λ (p : Part (NumberOf m.order)). c.is_none.result && holds_point P (outline P r p.kind scale p.motion) point) c.in_ok-seen.ensures.part)
           ∙ c.loop-number.invariant.held;
       first = sym (values-next P r scale at point cs n none within (is_refused m.order) c.in_ok-seen.ensures.none_refused) ∙ c.loop-number.invariant.first;
       is_part = subst (λ x. IfSome x (IsPart m)) (sym c.first_held-held.ensures) (IfSome-or_else (IsPart m) c.loop-number.held seen.holds seen.part c.loop-number.invariant.is_part c.in_ok-seen.ensures.is_part);

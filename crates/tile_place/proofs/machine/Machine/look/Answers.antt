@@ -1,4 +1,6 @@
-use Rattle.std.proofs.Common.{◌≡◌, ◌*◌, ◌^◌, find, sym, ap, ◌∙◌, subst, lit≤}
+use Rattle.std.proofs.Common.{◌≡◌, ◌*◌, ◌^◌, ◌&&◌, find, refl, sym, ap, ◌∙◌, subst, lit≤}
+use Rattle.ordered_plane.specs.Crossing.{member}
+use Rattle.plane_geom.specs.Spots.{reals_of, spots_of, test_of}
 use Rattle.cyclo_points.specs.Order.{is_refused}
 use Rattle.cyclo_points.specs.Point.{point_in, IsOf}
 use Rattle.rule_model.specs.declared.rule.Rule.{Rule}
@@ -49,8 +51,9 @@ returns-clause-part c =
 pub returns-clause-holds : goal.returns-clause-holds
 returns-clause-holds c =
     let m = c.args.self.now in
-    holds_is c.order-order.result m.order (c.order-order.ensures.order ∙ ap (λ (r : Rule). r.order) c.checked-checked.ensures.rule) c.in_ok-corners.corners.items c.as_slice.result.now _ c.args.point.now c.member-holds.result
-    c.as_slice.ensures.value c.in_ok-corners.ensures.vertices c.member-holds.ensures
+    c.holds_where-holds.ensures
+    ∙ ap (λ b. c.args.sought && b) (holds_is c.order-order.result m.order (c.order-order.ensures.order ∙ ap (λ (r : Rule). r.order) c.checked-checked.ensures.rule) c.in_ok-corners.corners.items c.as_slice.result.now _ c.args.point.now
+    (member (reals_of c.order-order.result) (spots_of c.order-order.result c.as_slice.result.now) (test_of c.order-order.result c.args.point.now)) c.as_slice.ensures.value c.in_ok-corners.ensures.vertices refl)
 
 pub returns-clause-none_refused : goal.returns-clause-none_refused
 returns-clause-none_refused c =

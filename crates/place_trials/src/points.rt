@@ -1,0 +1,70 @@
+//! Points of tiles: middles of edges, and points inside.
+use crate::calls::near;
+use cyclo_points::order::Order;
+use cyclo_points::point::Point;
+use cyclo_points::rotation::turn;
+
+/// The sum, coefficient by coefficient.
+fn sum(p: &Point, q: &Point) -> Point {
+    Point {
+        c: [
+            p.c[0].wrapping_add(q.c[0]),
+            p.c[1].wrapping_add(q.c[1]),
+            p.c[2].wrapping_add(q.c[2]),
+            p.c[3].wrapping_add(q.c[3]),
+        ],
+    }
+}
+
+/// The difference, coefficient by coefficient.
+fn difference(p: &Point, q: &Point) -> Point {
+    Point {
+        c: [
+            p.c[0].wrapping_sub(q.c[0]),
+            p.c[1].wrapping_sub(q.c[1]),
+            p.c[2].wrapping_sub(q.c[2]),
+            p.c[3].wrapping_sub(q.c[3]),
+        ],
+    }
+}
+
+/// The middle of two points, where it is a point of the ring.
+pub(crate) fn middle(p: &Point, q: &Point) -> Option<Point> {
+    let twice = sum(p, q);
+    if (twice.c[0] | twice.c[1] | twice.c[2] | twice.c[3]) & 1 != 0 {
+        return None;
+    }
+    Some(Point {
+        c: [
+            twice.c[0] >> 1,
+            twice.c[1] >> 1,
+            twice.c[2] >> 1,
+            twice.c[3] >> 1,
+        ],
+    })
+}
+
+/// The point times a number between 0 and 1/2, where the ring has one: √2 - 1 in order eight, where √2 is
+/// ζ + ζ^-1; and 2 - φ in order ten, where φ is ζ + ζ^-1.
+fn shrunk(order: Order, p: &Point) -> Option<Point> {
+    if !near(p) {
+        return None;
+    }
+    match order {
+        Order::Eight => {
+            let root = sum(&turn(order, 1, p), &turn(order, 7, p));
+            Some(difference(&root, p))
+        }
+        Order::Ten => {
+            let golden = sum(&turn(order, 1, p), &turn(order, 9, p));
+            Some(difference(&sum(p, p), &golden))
+        }
+        _ => None,
+    }
+}
+
+/// A point inside the triangle of p, q and r: p + w (q - p) + w (r - p), w between 0 and 1/2.
+pub(crate) fn inside(order: Order, p: &Point, q: &Point, r: &Point) -> Option<Point> {
+    let sides = sum(&difference(q, p), &difference(r, p));
+    Some(sum(p, &shrunk(order, &sides)?))
+}
