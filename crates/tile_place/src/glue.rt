@@ -36,7 +36,10 @@ fn is_same(p: &Point, q: &Point) -> bool
     ensures { (order : Order) → IsOf order p.now → IsOf order q.now
         → Decides result (point_in order p.now ≡ point_in order q.now) }
 {
-    is_equal(p.c[0], q.c[0]) & is_equal(p.c[1], q.c[1]) & is_equal(p.c[2], q.c[2]) & is_equal(p.c[3], q.c[3])
+    is_equal(p.c[0], q.c[0])
+        & is_equal(p.c[1], q.c[1])
+        & is_equal(p.c[2], q.c[2])
+        & is_equal(p.c[3], q.c[3])
 }
 
 /// The turn below n by which a vector becomes `onto`, which is the reverse of `back`.
