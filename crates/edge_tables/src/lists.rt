@@ -14,10 +14,7 @@ pub fn copied<T: Copy>(alloc: Global, list: &Vec<T>) -> Result<Vec<T>, NoMemory>
 }
 
 /// The same lists.
-pub fn copied_lists<T: Copy>(
-    alloc: Global,
-    lists: &Vec<Vec<T>>,
-) -> Result<Vec<Vec<T>>, NoMemory>
+pub fn copied_lists<T: Copy>(alloc: Global, lists: &Vec<Vec<T>>) -> Result<Vec<Vec<T>>, NoMemory>
     ensures { IfOk result (λ copy. map (λ list. list.items) copy.items ≡ map (λ list. list.items) lists.now.items) }
 {
     let mut copy = Vec::new(alloc);

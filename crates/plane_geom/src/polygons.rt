@@ -6,7 +6,7 @@ ghost use Rattle.ordered_plane.specs.Crossing.{count, member};
 ghost use Rattle.plane_geom.specs.Spots.{reals_of};
 ghost use Rattle.plane_geom.specs.Spots.{spots_of, test_of};
 
-use crate::sides::crossing;
+use crate::sides::{crossing_between, is_above};
 use cyclo_points::order::Order;
 use cyclo_points::point::Point;
 
@@ -21,15 +21,19 @@ pub fn count(order: Order, poly: &[Point], p: &Point) -> i32
     ensures { result ≡ count (reals_of order) (spots_of order poly.now) (test_of order p.now) }
 {
     let first = poly[0];
+    let begins_above = is_above(order, &first, p);
     let mut from = first;
+    let mut above = begins_above;
     let mut total = 0;
     for i in 1..poly.len() {
         let to = poly[i];
-        let crossed = crossing(order, &from, &to, p);
+        let ends_above = is_above(order, &to, p);
+        let crossed = crossing_between(order, &from, &to, p, above, ends_above);
         total += crossed as i32;
         from = to;
+        above = ends_above;
     }
-    let crossed = crossing(order, &from, &first, p);
+    let crossed = crossing_between(order, &from, &first, p, above, begins_above);
     total + crossed as i32
 }
 

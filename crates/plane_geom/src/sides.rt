@@ -56,7 +56,7 @@ pub(crate) fn y_gap(order: Order, a: &Point, b: &Point) -> Real
 }
 
 /// Whether the vertex lies above p.
-fn is_above(order: Order, vertex: &Point, p: &Point) -> bool
+pub(crate) fn is_above(order: Order, vertex: &Point, p: &Point) -> bool
     requires vertex_within { IsWithin (2 ^ 25) vertex.now }
     requires p_within { IsWithin (2 ^ 25) p.now }
     ensures { result ≡ less (reals_of order) (spot_of order p.now).y (spot_of order vertex.now).y }
@@ -77,6 +77,27 @@ pub fn crossing(order: Order, a: &Point, b: &Point, p: &Point) -> i8
 {
     let starts_above = is_above(order, a, p);
     let ends_above = is_above(order, b, p);
+    crossing_between(order, a, b, p, starts_above, ends_above)
+}
+
+/// The crossing of an edge of which it is known whether each end lies above the point.
+pub(crate) fn crossing_between(
+    order: Order,
+    a: &Point,
+    b: &Point,
+    p: &Point,
+    starts_above: bool,
+    ends_above: bool,
+) -> i8
+    requires a_within { IsWithin (2 ^ 25) a.now }
+    requires b_within { IsWithin (2 ^ 25) b.now }
+    requires p_within { IsWithin (2 ^ 25) p.now }
+    requires starts { starts_above ≡ less (reals_of order) (spot_of order p.now).y (spot_of order a.now).y }
+    requires ends { ends_above ≡ less (reals_of order) (spot_of order p.now).y (spot_of order b.now).y }
+    ensures value { result ≡ crossing (reals_of order) (spot_of order a.now) (spot_of order b.now)
+        (test_of order p.now) }
+    ensures at_most_one { Within 1 result }
+{
     if starts_above == ends_above {
         return 0;
     }
