@@ -8,6 +8,6 @@ pub mod child_edge;
 pub mod contact;
 pub mod kind_rows;
 pub mod laws;
-mod lists;
+pub mod lists;
 pub mod steps;
 pub mod tables;

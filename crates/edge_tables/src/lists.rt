@@ -5,7 +5,7 @@ use std::alloc::Global;
 use tile_shape::no_memory::NoMemory;
 
 /// A list of the same elements.
-pub(crate) fn copied<T: Copy>(alloc: Global, list: &Vec<T>) -> Result<Vec<T>, NoMemory>
+pub fn copied<T: Copy>(alloc: Global, list: &Vec<T>) -> Result<Vec<T>, NoMemory>
     ensures { IfOk result (λ copy. copy.items ≡ list.now.items) }
 {
     let mut copy = Vec::new(alloc);
@@ -14,10 +14,7 @@ pub(crate) fn copied<T: Copy>(alloc: Global, list: &Vec<T>) -> Result<Vec<T>, No
 }
 
 /// The same lists.
-pub(crate) fn copied_lists<T: Copy>(
-    alloc: Global,
-    lists: &Vec<Vec<T>>,
-) -> Result<Vec<Vec<T>>, NoMemory>
+pub fn copied_lists<T: Copy>(alloc: Global, lists: &Vec<Vec<T>>) -> Result<Vec<Vec<T>>, NoMemory>
     ensures { IfOk result (λ copy. map (λ list. list.items) copy.items ≡ map (λ list. list.items) lists.now.items) }
 {
     let mut copy = Vec::new(alloc);

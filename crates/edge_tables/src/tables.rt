@@ -1,5 +1,5 @@
 //! Coherent contact tables, and the look-ups in them.
-ghost use Rattle.std.specs.Prelude.{◌≡◌, ◌↔◌, ◌+◌, ◌<◌, ◌≤◌, ℕ, length, Some, IsSome, IfOk};
+ghost use Rattle.std.specs.Prelude.{◌≡◌, ◌↔◌, ◌+◌, ◌<◌, ◌≤◌, ℕ, length, map, Some, IsSome, IfOk};
 ghost use Rattle.addressing.specs.Coherent.{IsCoherent};
 ghost use Rattle.addressing.specs.Tables.{kind_tables, type_of, child_kind_of, contact_of, part_of, part_count, mate_of};
 ghost use Rattle.edge_tables.specs.Views.{as_contact, as_child_edge, as_kind_tables, as_tables};
@@ -56,6 +56,28 @@ impl Tables {
             subs: copied_lists(alloc, &self.subs)?,
             rows,
         })
+    }
+
+    /// The mate of each type.
+    pub fn mates(&self) -> &Vec<u8>
+        ensures { result.now.items ≡ self.now.mates }
+    {
+        &self.mates
+    }
+
+    /// The types into which each type is cut.
+    pub fn subs(&self) -> &Vec<Vec<u8>>
+        ensures { map (λ v. v.items) result.now.items ≡ self.now.subs }
+    {
+        &self.subs
+    }
+
+    /// The lists of each kind.
+    pub fn rows(&self) -> &Vec<KindRows>
+        ensures lists { map as_kind_tables result.now.items ≡ self.now.kinds }
+        ensures coherent { IsCoherent self.now }
+    {
+        &self.rows
     }
 
     /// How many kinds there are.
