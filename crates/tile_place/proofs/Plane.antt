@@ -14,8 +14,6 @@ use Rattle.rule_model.specs.Accepted.{IsAccepted}
 use Rattle.rule_model.specs.Tiling.{tiling_of, contacts, children}
 use Rattle.rule_model.specs.Usable.{IsUsable}
 use Rattle.rule_model.specs.Views.{rule_of, as_edition}
-use Rattle.tile_shape.specs.Views.{address_of}
-use Rattle.transducer_core.specs.declared.crossing.Crossing.{Crossing}
 use Rattle.transducer_core.specs.declared.outside.Outside.{Outside}
 use Rattle.tile_place.specs.Crossed.{IsOnlyAcross, LiesOnBoundary}
 
@@ -55,18 +53,18 @@ module _ (m : Rule) (settled : IsSettled m) where
     own : HasEdge (points_of m.order) (rule_of m) a e
     own = has_edge a e (fits_tables a fits) edge
 
-    pub only_across : OnlyTilesLaw m.order → (x : Result Crossing Outside) → IfOk x (λ x. IsAcross (contacts (tiling_of m)) a e (address_of x.addr) x.edge)
-        → IfOk x (λ x. IsOnlyAcross (tiling_of m) a e (address_of x.addr) x.edge)
-    only_across law (Ok x) h = (law its_rule a (address_of x.addr) e x.edge own h.only.fits).0 h.only
-    only_across law (Err o) h = tt
+    pub only_across : OnlyTilesLaw m.order → (b : TheAddress) (x : Result ℕ Outside) → IfOk x (λ f. IsAcross (contacts (tiling_of m)) a e b f)
+        → IfOk x (λ f. IsOnlyAcross (tiling_of m) a e b f)
+    only_across law b (Ok f) h = (law its_rule a b e f own h.only.fits).0 h.only
+    only_across law b (Err o) h = tt
 
-    pub way_back : OnlyTilesLaw m.order → (x : Result Crossing Outside) → IfOk x (λ x. IsAcross (contacts (tiling_of m)) a e (address_of x.addr) x.edge)
-        → IfOk x (λ x. IsOnlyAcross (tiling_of m) (address_of x.addr) x.edge a e)
-    way_back law (Ok x) h =
-        (law its_rule (address_of x.addr) a x.edge e (has_edge (address_of x.addr) x.edge h.only.fits h.edge_exists) own.fits).0 h.leads_back
-    way_back law (Err o) h = tt
+    pub way_back : OnlyTilesLaw m.order → (b : TheAddress) (x : Result ℕ Outside) → IfOk x (λ f. IsAcross (contacts (tiling_of m)) a e b f)
+        → IfOk x (λ f. IsOnlyAcross (tiling_of m) b f a e)
+    way_back law b (Ok f) h =
+        (law its_rule b a f e (has_edge b f h.only.fits h.edge_exists) own.fits).0 h.leads_back
+    way_back law b (Err o) h = tt
 
-    pub lies_on_boundary : BoundariesLaw m.order → (x : Result Crossing Outside) → IfErr x (λ o. LiesOn (contacts (tiling_of m)) a e o.edge o.part)
+    pub lies_on_boundary : BoundariesLaw m.order → (x : Result ℕ Outside) → IfErr x (λ o. LiesOn (contacts (tiling_of m)) a e o.edge o.part)
         → IfErr x (λ o. LiesOnBoundary (tiling_of m) a e o.edge o.part)
     lies_on_boundary law (Ok x) h = tt
     lies_on_boundary law (Err o) h = (law its_rule a e o.edge o.part own).1 (h.cuts, h.trace, sym h.is_part)

@@ -1,5 +1,5 @@
 //! The machine of a checked rule.
-ghost use Rattle.std.specs.Prelude.{◌≡◌, ◌+◌, ◌*◌, ◌<◌, ◌≤◌, ◌^◌, ℕ, IsSome, IsOk, None, Some, IfOk, IfErr, Err};
+ghost use Rattle.std.specs.Prelude.{◌≡◌, ◌+◌, ◌*◌, ◌<◌, ◌≤◌, ◌^◌, ℕ, IsSome, IsOk, None, Some, IfOk, IfErr, OnErr, Err};
 ghost use Rattle.addressing.specs.Address.{Address as TheAddress, depth, Fits};
 ghost use Rattle.addressing.specs.Tables.{child_kinds, type_of};
 ghost use Rattle.addressing.specs.Touch.{Touches};
@@ -119,9 +119,47 @@ impl Machine {
 
         ensures steps_within_bound { steps.new ≤ steps.old + (2 * depth (address_of addr.now) + 2) }
     {
+        let mut there = addr.copy();
+        match self.cross_in_place(&mut there, edge, steps) {
+            Ok(back) => Ok(Crossing {
+                addr: there,
+                edge: back,
+            }),
+            Err(outside) => Err(outside),
+        }
+    }
+
+    /// The same in place: the address becomes that of the tile across, and the answer is the edge that leads
+    /// back. Where the edge lies on the supertile's own edge, the address is unchanged.
+    pub fn cross_in_place<L: Ledger>(
+        &self,
+        addr: &mut Address,
+        edge: u8,
+        steps: &mut Steps<L>,
+    ) -> Result<u8, Outside>
+        requires fits { Fits (children (tiling_of self.now)) (address_of addr.old) }
+        requires edge_exists { IsSome (type_of (contacts (tiling_of self.now)) addr.old.kind edge) }
+
+        ensures across { IfOk result (λ back. IsAcross (contacts (tiling_of self.now)) (address_of addr.old) edge (address_of addr.new) back) }
+        ensures answer_fits { Fits (children (tiling_of self.now)) (address_of addr.new) }
+        ensures unchanged { OnErr result (addr.new ≡ addr.old) }
+        ensures on_boundary { IfErr result (λ o. LiesOn (contacts (tiling_of self.now)) (address_of addr.old) edge o.edge o.part) }
+        ensures boundary_when { (own part : ℕ) → LiesOn (contacts (tiling_of self.now)) (address_of addr.old) edge own part
+            → result ≡ Err (record { edge = own; part = part }) }
+        ensures across_when { (b : TheAddress) (f : ℕ) → Fits (children (tiling_of self.now)) b
+            → Touches (contacts (tiling_of self.now)) (address_of addr.old) edge b f → IsOk result }
+
+        ensures only_tile_across { IfOk result (λ back. IsOnlyAcross (tiling_of self.now) (address_of addr.old) edge (address_of addr.new) back) }
+        ensures leads_back { IfOk result (λ back. IsOnlyAcross (tiling_of self.now) (address_of addr.new) back (address_of addr.old) edge) }
+        ensures outside_on_boundary { IfErr result (λ o. LiesOnBoundary (tiling_of self.now) (address_of addr.old) edge o.edge o.part) }
+        ensures boundary_is_outside { (own part : ℕ) → LiesOnBoundary (tiling_of self.now) (address_of addr.old) edge own part
+            → result ≡ Err (record { edge = own; part = part }) }
+
+        ensures steps_within_bound { steps.new ≤ steps.old + (2 * depth (address_of addr.old) + 2) }
+    {
         let order = self.checked().order();
         across_law(order);
         boundary_law(order);
-        self.transducer.step_across(addr, edge, steps)
+        self.transducer.step_across_in_place(addr, edge, steps)
     }
 }

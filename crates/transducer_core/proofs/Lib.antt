@@ -1,3 +1,9 @@
-mod Rising
-mod Halfway
 mod Carried
+mod FlatCounts
+mod FlatLooks
+mod FlatMade
+mod Halfway
+mod Once
+mod Rising
+mod Standing
+mod Strides

@@ -6,10 +6,10 @@ ghost use Rattle.addressing.specs.Tables.{child_kinds, type_of};
 ghost use Rattle.tile_shape.specs.Views.{address_of};
 ghost use Rattle.transducer_core.specs.Climbing.{EndsClimb};
 
+use crate::flat_table::FlatTable;
 use arrayvec::ArrayVec;
 use edge_tables::contact::Contact;
 use edge_tables::steps::Steps;
-use edge_tables::tables::Tables;
 use std::sync::ledger::Ledger;
 use tile_shape::address::Address;
 
@@ -30,7 +30,7 @@ pub(crate) enum Ending {
 /// Climbs from an edge to the first level where it meets another child's edge, or to the top. It keeps the number of the part
 /// in which the edge lies at each level on the way.
 pub(crate) fn climb<L: Ledger>(
-    tables: &Tables,
+    tables: &FlatTable,
     addr: &Address,
     edge: u8,
     parts: &mut ArrayVec<u8, 64>,

@@ -8,20 +8,12 @@ ghost use Rattle.tile_shape.specs.Views.{address_of, step_of};
 ghost use Rattle.transducer_core.specs.Climbing.{MeetsAt};
 
 use crate::climb::Meeting;
+use crate::flat_table::FlatTable;
 use arrayvec::ArrayVec;
 use edge_tables::steps::Steps;
-use edge_tables::tables::Tables;
 use std::sync::ledger::Ledger;
 use tile_shape::address::Address;
 use tile_shape::step::Step;
-
-/// The number, counted from the other side, of a part of an edge.
-fn mirror(count: u8, part: u8) -> u8
-    requires { part < count }
-    ensures { result + (part + 1) ≡ count }
-{
-    count - 1 - part
-}
 
 /// Writes the digit at a level.
 fn set_digit(digits: &mut ArrayVec<Step, 64>, level: usize, step: Step)
@@ -32,7 +24,7 @@ fn set_digit(digits: &mut ArrayVec<Step, 64>, level: usize, step: Step)
 }
 
 /// Writes the digit at a level, so that the address names the child there, as far as the digits from that level up say.
-fn write_digit(tables: &Tables, addr: &mut Address, level: usize, step: Step)
+fn write_digit(tables: &FlatTable, addr: &mut Address, level: usize, step: Step)
     requires level { level < length addr.old.digits.items }
     requires child { IsSome (child_kind_of tables.now step.parent step.child) }
     ensures kind { child_kind_of tables.now step.parent step.child ≡ Some addr.new.kind }
@@ -44,7 +36,7 @@ fn write_digit(tables: &Tables, addr: &mut Address, level: usize, step: Step)
 
 /// Descends from a meeting along the mirrored parts. The address becomes that of the tile across, and the answer is its edge.
 pub(crate) fn descend<L: Ledger>(
-    tables: &Tables,
+    tables: &FlatTable,
     addr: &mut Address,
     meeting: Meeting,
     parts: &[u8],
@@ -66,8 +58,7 @@ pub(crate) fn descend<L: Ledger>(
     while level > 0 {
         level -= 1;
         let parent = addr.kind;
-        let part = mirror(tables.parts(parent, edge), parts[level]);
-        let below = tables.part(parent, edge, part, steps);
+        let below = tables.part_across(parent, edge, parts[level], steps);
         let child = below.child;
         write_digit(tables, addr, level, Step { child, parent });
         edge = below.edge;

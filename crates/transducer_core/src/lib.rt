@@ -8,6 +8,12 @@
 mod climb;
 pub mod crossing;
 mod descent;
+pub mod flat_table;
 pub mod laws;
+mod merging;
+mod mirror;
 pub mod outside;
+mod spread;
+mod table_lists;
 pub mod transducer;
+mod words;

@@ -1,5 +1,5 @@
 //! The machine that finds the tile across an edge.
-ghost use Rattle.std.specs.Prelude.{◌≡◌, ◌+◌, ◌*◌, ◌≤◌, ◌-◌, ℕ, length, slice_index, IsSome, IsOk, IfOk, IfErr, Err};
+ghost use Rattle.std.specs.Prelude.{◌≡◌, ◌+◌, ◌*◌, ◌≤◌, ◌-◌, ℕ, length, slice_index, IsSome, IsOk, IfOk, IfErr, OnErr, Err};
 ghost use Rattle.addressing.specs.Across.{IsAcross, LiesOn};
 ghost use Rattle.addressing.specs.Address.{Address as TheAddress, depth, Fits};
 ghost use Rattle.addressing.specs.Coherent.{IsCoherent};
@@ -10,6 +10,7 @@ ghost use Rattle.tile_shape.specs.Views.{address_of};
 use crate::climb::{Ending, climb};
 use crate::crossing::Crossing;
 use crate::descent::descend;
+use crate::flat_table::FlatTable;
 use crate::outside::Outside;
 use arrayvec::ArrayVec;
 use edge_tables::steps::Steps;
@@ -20,10 +21,10 @@ use std::sync::ledger::Ledger;
 use tile_shape::address::Address;
 use tile_shape::no_memory::NoMemory;
 
-/// Finds the tile across an edge by its own copy of contact tables, which contracts see as those tables.
+/// Finds the tile across an edge by a flat table of contact tables, which contracts see as those tables.
 #[derive(Drop)]
 pub struct Transducer {
-    tables: Tables,
+    flat: FlatTable,
 }
 
 impl Model for Transducer {
@@ -32,21 +33,28 @@ impl Model for Transducer {
 
     ghost Value = { TheTables };
 
-    ghost view = { λ machine. machine.tables };
+    ghost view = { λ machine. machine.flat };
 
-    ghost invariant = { λ machine. IsCoherent machine.tables };
+    ghost invariant = { λ machine. IsCoherent machine.flat };
 }
 
 impl Transducer {
-    /// The machine of these tables, of which it keeps a copy.
+    /// The machine of these tables.
     pub fn compile(alloc: Global, tables: &Tables) -> Result<Transducer, NoMemory>
         ensures tables { IfOk result (λ machine. machine ≡ tables.now) }
         ensures coherent { IsCoherent tables.now }
     {
         let _coherent = tables.kinds();
         Ok(Transducer {
-            tables: tables.copy(alloc)?,
+            flat: FlatTable::build(alloc, tables)?,
         })
+    }
+
+    /// Its flat table.
+    pub fn flat(&self) -> &FlatTable
+        ensures { result.now ≡ self.now }
+    {
+        &self.flat
     }
 
     /// The tile across an edge with the edge that leads back, or the supertile's own edge on which the edge lies.
@@ -67,16 +75,36 @@ impl Transducer {
 
         ensures steps_within_bound { steps.new ≤ steps.old + (2 * depth (address_of addr.now) + 2) }
     {
+        let mut there = addr.copy();
+        match self.step_across_in_place(&mut there, edge, steps) {
+            Ok(back) => Ok(Crossing {
+                addr: there,
+                edge: back,
+            }),
+            Err(outside) => Err(outside),
+        }
+    }
+
+    /// The same in place: the address becomes that of the tile across, and the answer is the edge that leads back. Where the edge
+    /// lies on the supertile's own edge, the address is unchanged.
+    pub fn step_across_in_place<L: Ledger>(
+        &self,
+        addr: &mut Address,
+        edge: u8,
+        steps: &mut Steps<L>,
+    ) -> Result<u8, Outside>
+        requires fits { Fits (child_kinds self.now) (address_of addr.old) }
+        requires edge_exists { IsSome (type_of self.now addr.old.kind edge) }
+        ensures across { IfOk result (λ back. IsAcross self.now (address_of addr.old) edge (address_of addr.new) back) }
+        ensures on_boundary { IfErr result (λ o. LiesOn self.now (address_of addr.old) edge o.edge o.part) }
+        ensures across_when { (b : TheAddress) (f : ℕ) → Fits (child_kinds self.now) b → Touches self.now (address_of addr.old) edge b f → IsOk result }
+        ensures boundary_when { (top part : ℕ) → LiesOn self.now (address_of addr.old) edge top part → result ≡ Err (record { edge = top; part = part }) }
+        ensures unchanged { OnErr result (addr.new ≡ addr.old) }
+        ensures steps_within_bound { steps.new ≤ steps.old + (2 * depth (address_of addr.old) + 2) }
+    {
         let mut parts = ArrayVec::new();
-        match climb(&self.tables, addr, edge, &mut parts, steps) {
-            Ending::Met(meeting) => {
-                let mut across = addr.copy();
-                let back = descend(&self.tables, &mut across, meeting, parts.as_slice(), steps);
-                Ok(Crossing {
-                    addr: across,
-                    edge: back,
-                })
-            }
+        match climb(&self.flat, addr, edge, &mut parts, steps) {
+            Ending::Met(meeting) => Ok(descend(&self.flat, addr, meeting, parts.as_slice(), steps)),
             Ending::Top(edge) => {
                 let part = top_part(parts.as_slice());
                 Err(Outside { edge, part })

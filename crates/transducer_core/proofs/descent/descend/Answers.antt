@@ -38,26 +38,15 @@ loop-level-init g c =
           c.requires.coherent chain edge (met_of (address_of c.args.addr.now) met) is c.write_digit.ensures.kind below;
     }
 
-pub mirror-part-requires : goal.mirror-part-requires
-mirror-part-requires g c =
+pub part_across-below-requires : goal.part_across-below-requires
+part_across-below-requires g c =
     let m = met_of (address_of c.args.addr.now) c.requires.met.2 in
     let chain = chain_of c.args.tables.now (address_of c.args.addr.now) c.requires.fits in
     let in_level : c.args.meeting.level < length c.args.addr.now.digits.items = omega (arith, slice_get_within (map step_of c.args.addr.now.digits.items) c.args.meeting.level m.step m.at, length-map c.args.addr.now.digits.items step_of) in
     let half = c.loop-level.invariant.halfway c.requires.met.0 c.requires.met.1 c.requires.met.2 in
     let o = Halfway.onward c.args.tables.now c.args.addr.now.kind (map step_of c.args.addr.now.digits.items) c.requires.met.0 c.args.meeting.level c.args.meeting.child c.args.meeting.edge c.args.parts.now (c.loop-level.level - 1) c.loop-level.level (map step_of c.loop-level.addr.digits.items) c.loop-level.addr.kind c.loop-level.edge
     c.requires.coherent chain m (omega arith) (omega arith) half in
-    omega (arith, o.inside, c.parts.ensures.count)
-
-pub part-below-requires : goal.part-below-requires
-part-below-requires g c =
-    let m = met_of (address_of c.args.addr.now) c.requires.met.2 in
-    let chain = chain_of c.args.tables.now (address_of c.args.addr.now) c.requires.fits in
-    let in_level : c.args.meeting.level < length c.args.addr.now.digits.items = omega (arith, slice_get_within (map step_of c.args.addr.now.digits.items) c.args.meeting.level m.step m.at, length-map c.args.addr.now.digits.items step_of) in
-    let half = c.loop-level.invariant.halfway c.requires.met.0 c.requires.met.1 c.requires.met.2 in
-    let o = Halfway.onward c.args.tables.now c.args.addr.now.kind (map step_of c.args.addr.now.digits.items) c.requires.met.0 c.args.meeting.level c.args.meeting.child c.args.meeting.edge c.args.parts.now (c.loop-level.level - 1) c.loop-level.level (map step_of c.loop-level.addr.digits.items) c.loop-level.addr.kind c.loop-level.edge
-    c.requires.coherent chain m (omega arith) (omega arith) half in
-    let mirror : c.mirror-part.result + (get_or c.args.parts.now (c.loop-level.level - 1) 0 + 1) ≡ part_count c.args.tables.now c.loop-level.addr.kind c.loop-level.edge = c.mirror-part.ensures ∙ c.parts.ensures.count in
-    record { exists = o.part c.mirror-part.result mirror }
+    record { inside = omega (arith, o.inside) }
 
 pub write_digit-requires-in-loop-level-clause-level : goal.write_digit-requires-in-loop-level-clause-level
 write_digit-requires-in-loop-level-clause-level g c =
@@ -74,27 +63,30 @@ write_digit-requires-in-loop-level-clause-child g c =
     let half = c.loop-level.invariant.halfway c.requires.met.0 c.requires.met.1 c.requires.met.2 in
     let o = Halfway.onward c.args.tables.now c.args.addr.now.kind (map step_of c.args.addr.now.digits.items) c.requires.met.0 c.args.meeting.level c.args.meeting.child c.args.meeting.edge c.args.parts.now (c.loop-level.level - 1) c.loop-level.level (map step_of c.loop-level.addr.digits.items) c.loop-level.addr.kind c.loop-level.edge
     c.requires.coherent chain m (omega arith) (omega arith) half in
-    let mirror : c.mirror-part.result + (get_or c.args.parts.now (c.loop-level.level - 1) 0 + 1) ≡ part_count c.args.tables.now c.loop-level.addr.kind c.loop-level.edge = c.mirror-part.ensures ∙ c.parts.ensures.count in
-    o.child c.mirror-part.result (as_child_edge c.part-below.result) mirror c.part-below.ensures.value
+    let mirror : (part_count c.args.tables.now c.loop-level.addr.kind c.loop-level.edge - 1 - get_or c.args.parts.now (c.loop-level.level - 1) 0) + (get_or c.args.parts.now (c.loop-level.level - 1) 0 + 1) ≡ part_count c.args.tables.now c.loop-level.addr.kind c.loop-level.edge = omega (arith, o.inside) in
+    o.child (part_count c.args.tables.now c.loop-level.addr.kind c.loop-level.edge - 1 - get_or c.args.parts.now (c.loop-level.level - 1) 0) (as_child_edge c.part_across-below.result) mirror (c.part_across-below.ensures.value (part_count c.args.tables.now c.loop-level.addr.kind c.loop-level.edge - 1 - get_or c.args.parts.now (c.loop-level.level - 1) 0) mirror)
 
 pub loop-level-preserved : goal.loop-level-preserved
 loop-level-preserved g c =
     let m = met_of (address_of c.args.addr.now) c.requires.met.2 in
     let chain = chain_of c.args.tables.now (address_of c.args.addr.now) c.requires.fits in
     let in_level : c.args.meeting.level < length c.args.addr.now.digits.items = omega (arith, slice_get_within (map step_of c.args.addr.now.digits.items) c.args.meeting.level m.step m.at, length-map c.args.addr.now.digits.items step_of) in
-    let mirror : c.mirror-part.result + (get_or c.args.parts.now (c.loop-level.level - 1) 0 + 1) ≡ part_count c.args.tables.now c.loop-level.addr.kind c.loop-level.edge = c.mirror-part.ensures ∙ c.parts.ensures.count in
+    let half = c.loop-level.invariant.halfway c.requires.met.0 c.requires.met.1 c.requires.met.2 in
+    let o = Halfway.onward c.args.tables.now c.args.addr.now.kind (map step_of c.args.addr.now.digits.items) c.requires.met.0 c.args.meeting.level c.args.meeting.child c.args.meeting.edge c.args.parts.now (c.loop-level.level - 1) c.loop-level.level (map step_of c.loop-level.addr.digits.items) c.loop-level.addr.kind c.loop-level.edge
+    c.requires.coherent chain m (omega arith) (omega arith) half in
+    let mirror : (part_count c.args.tables.now c.loop-level.addr.kind c.loop-level.edge - 1 - get_or c.args.parts.now (c.loop-level.level - 1) 0) + (get_or c.args.parts.now (c.loop-level.level - 1) 0 + 1) ≡ part_count c.args.tables.now c.loop-level.addr.kind c.loop-level.edge = omega (arith, o.inside) in
     let more : c.loop-level.level ≡ c.loop-level.level - 1 + 1 = omega arith in
     let in_answer : c.loop-level.level - 1 < length (map step_of c.loop-level.addr.digits.items) = omega (arith, in_level, c.loop-level.invariant.count, length-map c.loop-level.addr.digits.items step_of) in
-    let below = Halfway.written (map step_of c.loop-level.addr.digits.items) (map step_of c.write_digit-in-loop-level.new.addr.digits.items) (c.loop-level.level - 1) (record { child = c.part-below.result.child; parent = c.loop-level.addr.kind }) c.write_digit-in-loop-level.ensures.digits in_answer in
+    let below = Halfway.written (map step_of c.loop-level.addr.digits.items) (map step_of c.write_digit-in-loop-level.new.addr.digits.items) (c.loop-level.level - 1) (record { child = c.part_across-below.result.child; parent = c.loop-level.addr.kind }) c.write_digit-in-loop-level.ensures.digits in_answer in
     record {
       inside = omega arith;
-      count = sym (length-map c.write_digit-in-loop-level.new.addr.digits.items step_of) ∙ ap (λ (l : List Step). length l) c.write_digit-in-loop-level.ensures.digits ∙ length-set (map step_of c.loop-level.addr.digits.items) (c.loop-level.level - 1) (record { child = c.part-below.result.child; parent = c.loop-level.addr.kind }) ∙ length-map c.loop-level.addr.digits.items step_of ∙ c.loop-level.invariant.count;
-      cost = omega (arith, c.part-below.ensures.one_step);
+      count = sym (length-map c.write_digit-in-loop-level.new.addr.digits.items step_of) ∙ ap (λ (l : List Step). length l) c.write_digit-in-loop-level.ensures.digits ∙ length-set (map step_of c.loop-level.addr.digits.items) (c.loop-level.level - 1) (record { child = c.part_across-below.result.child; parent = c.loop-level.addr.kind }) ∙ length-map c.loop-level.addr.digits.items step_of ∙ c.loop-level.invariant.count;
+      cost = omega (arith, c.part_across-below.ensures.one_step);
       chain = rw (below, ← more) (c.write_digit-in-loop-level.ensures.kind, c.loop-level.invariant.chain);
       halfway = λ e edge met.
           (Halfway.onward c.args.tables.now c.args.addr.now.kind (map step_of c.args.addr.now.digits.items) e c.args.meeting.level c.args.meeting.child c.args.meeting.edge c.args.parts.now (c.loop-level.level - 1) c.loop-level.level (map step_of c.loop-level.addr.digits.items) c.loop-level.addr.kind c.loop-level.edge
           c.requires.coherent chain (met_of (address_of c.args.addr.now) met) (omega arith) more (c.loop-level.invariant.halfway e edge met)).more
-          c.mirror-part.result (as_child_edge c.part-below.result) c.write_digit-in-loop-level.new.addr.kind (map step_of c.write_digit-in-loop-level.new.addr.digits.items) mirror c.part-below.ensures.value c.write_digit-in-loop-level.ensures.kind below;
+          (part_count c.args.tables.now c.loop-level.addr.kind c.loop-level.edge - 1 - get_or c.args.parts.now (c.loop-level.level - 1) 0) (as_child_edge c.part_across-below.result) c.write_digit-in-loop-level.new.addr.kind (map step_of c.write_digit-in-loop-level.new.addr.digits.items) mirror (c.part_across-below.ensures.value (part_count c.args.tables.now c.loop-level.addr.kind c.loop-level.edge - 1 - get_or c.args.parts.now (c.loop-level.level - 1) 0) mirror) c.write_digit-in-loop-level.ensures.kind below;
     }
 
 pub returns-clause-touches : goal.returns-clause-touches

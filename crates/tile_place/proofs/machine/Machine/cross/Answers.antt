@@ -1,104 +1,28 @@
-use Rattle.std.proofs.Common.{◌≡◌, ◌∙◌, ℕ, Result, Ok, Err, IfOk, IfErr, List, sym, ap, subst}
-use Rattle.addressing.specs.Address.{Address as TheAddress, Fits}
-use Rattle.addressing.specs.Across.{IsAcross, LiesOn}
-use Rattle.addressing.specs.Tables.{Tables, child_kinds}
-use Rattle.addressing.specs.Touch.{Touches}
-use Rattle.cyclo_points.specs.declared.order.Order.{Order}
-use Rattle.rule_model.specs.declared.rule.Rule.{Rule}
-use Rattle.rule_model.specs.Tiling.{tiling_of, contacts, children}
-use Rattle.tile_shape.specs.Views.{address_of}
-use Rattle.transducer_core.specs.declared.crossing.Crossing.{Crossing}
-use Rattle.transducer_core.specs.declared.outside.Outside.{Outside}
-use Rattle.tile_place.proofs.Plane.{OnlyTilesLaw, BoundariesLaw, IsSettled, only_across, way_back, lies_on_boundary, boundary_lies}
+use Rattle.std.proofs.Common.{◌≡◌, Err, sym, ap, subst}
+use Rattle.addressing.specs.Across.{LiesOn}
+use Rattle.addressing.specs.Address.{Address}
+use Rattle.rule_model.specs.Tiling.{tiling_of, contacts}
+use Rattle.tile_place.specs.Crossed.{LiesOnBoundary}
 use Rattle.tile_place.proofs.machine.Machine.cross.Goals as goal
 
--- the transducer's tables are those of the tiling, and their child kinds too
-same_tables : (t : Tables) (inside now : Rule) → t ≡ contacts (tiling_of inside) → inside ≡ now → t ≡ contacts (tiling_of now)
-same_tables t inside now is same = is ∙ ap (λ (r : Rule). contacts (tiling_of r)) same
+pub returns-in-Ok-clause-boundary_when : goal.returns-in-Ok-clause-boundary_when
+returns-in-Ok-clause-boundary_when g c = λ own part lies.
+    let no = c.in-Ok.ensures.boundary_when own part (subst (λ (a : Address). LiesOn (contacts (tiling_of c.args.self.now)) a c.args.edge own part) (sym c.copy-there.ensures.seen) lies) in
+    absurd cc
 
-same_kinds : (t : Tables) (now : Rule) → t ≡ contacts (tiling_of now) → child_kinds (contacts (tiling_of now)) ≡ children (tiling_of now) → child_kinds t ≡ children (tiling_of now)
-same_kinds t now is kinds = ap child_kinds is ∙ kinds
+pub returns-in-Err-clause-boundary_when : goal.returns-in-Err-clause-boundary_when
+returns-in-Err-clause-boundary_when g c = λ own part lies.
+    let is = c.in-Err.ensures.boundary_when own part (subst (λ (a : Address). LiesOn (contacts (tiling_of c.args.self.now)) a c.args.edge own part) (sym c.copy-there.ensures.seen) lies) in
+    let same : c.in-Err.outside ≡ record { edge = own; part = part } = cc in
+    ap Err same
 
--- the answers of the transducer, over the tables of the tiling
-across_of : (t u : Tables) (a : TheAddress) (e : ℕ) (x : Result Crossing Outside) → t ≡ u
-    → IfOk x (λ x. IsAcross t a e (address_of x.addr) x.edge) → IfOk x (λ x. IsAcross u a e (address_of x.addr) x.edge)
-across_of t u a e (Ok x) same h = subst (λ (t : Tables). IsAcross t a e (address_of x.addr) x.edge) same h
-across_of t u a e (Err o) same h = tt
+pub returns-in-Ok-clause-boundary_is_outside : goal.returns-in-Ok-clause-boundary_is_outside
+returns-in-Ok-clause-boundary_is_outside g c = λ own part lies.
+    let no = c.in-Ok.ensures.boundary_is_outside own part (subst (λ (a : Address). LiesOnBoundary (tiling_of c.args.self.now) a c.args.edge own part) (sym c.copy-there.ensures.seen) lies) in
+    absurd cc
 
-fits_of : (t : Tables) (kinds : List (List ℕ)) (a : TheAddress) (e : ℕ) (x : Result Crossing Outside) → child_kinds t ≡ kinds
-    → IfOk x (λ x. IsAcross t a e (address_of x.addr) x.edge) → IfOk x (λ x. Fits kinds (address_of x.addr))
-fits_of t kinds a e (Ok x) same h = subst (λ v. Fits v (address_of x.addr)) same h.only.fits
-fits_of t kinds a e (Err o) same h = tt
-
-lies_of : (t u : Tables) (a : TheAddress) (e : ℕ) (x : Result Crossing Outside) → t ≡ u → IfErr x (λ o. LiesOn t a e o.edge o.part) → IfErr x (λ o. LiesOn u a e o.edge o.part)
-lies_of t u a e (Ok x) same h = tt
-lies_of t u a e (Err o) same h = subst (λ (t : Tables). LiesOn t a e o.edge o.part) same h
-
-pub step_across-requires-clause-fits : goal.step_across-requires-clause-fits
-step_across-requires-clause-fits g c =
-    let same = same_tables c.self.inside.transducer c.self.inside.checked c.args.self.now c.self.invariant c.self.view_is in
-    subst (λ u. Fits u (address_of c.args.addr.now)) (sym (same_kinds c.self.inside.transducer c.args.self.now same c.checked.ensures.same_child_kinds)) c.requires.fits
-
-pub returns-clause-across : goal.returns-clause-across
-returns-clause-across g c =
-    let same = same_tables c.self.inside.transducer c.self.inside.checked c.args.self.now c.self.invariant c.self.view_is in
-    across_of c.self.inside.transducer (contacts (tiling_of c.args.self.now)) (address_of c.args.addr.now) c.args.edge c.step_across.result same c.step_across.ensures.across
-
-pub returns-clause-answer_fits : goal.returns-clause-answer_fits
-returns-clause-answer_fits g c =
-    let same = same_tables c.self.inside.transducer c.self.inside.checked c.args.self.now c.self.invariant c.self.view_is in
-    fits_of c.self.inside.transducer (children (tiling_of c.args.self.now)) (address_of c.args.addr.now) c.args.edge c.step_across.result
-    (same_kinds c.self.inside.transducer c.args.self.now same c.checked.ensures.same_child_kinds) c.step_across.ensures.across
-
-pub returns-clause-on_boundary : goal.returns-clause-on_boundary
-returns-clause-on_boundary g c =
-    let same = same_tables c.self.inside.transducer c.self.inside.checked c.args.self.now c.self.invariant c.self.view_is in
-    lies_of c.self.inside.transducer (contacts (tiling_of c.args.self.now)) (address_of c.args.addr.now) c.args.edge c.step_across.result same c.step_across.ensures.on_boundary
-
-pub returns-clause-boundary_when : goal.returns-clause-boundary_when
-returns-clause-boundary_when g c own part lies =
-    let same = same_tables c.self.inside.transducer c.self.inside.checked c.args.self.now c.self.invariant c.self.view_is in
-    c.step_across.ensures.boundary_when own part (subst (λ (t : Tables). LiesOn t (address_of c.args.addr.now) c.args.edge own part) (sym same) lies)
-
-pub returns-clause-across_when : goal.returns-clause-across_when
-returns-clause-across_when g c b f fits touches =
-    let same = same_tables c.self.inside.transducer c.self.inside.checked c.args.self.now c.self.invariant c.self.view_is in
-    c.step_across.ensures.across_when b f
-    (subst (λ u. Fits u b) (sym (same_kinds c.self.inside.transducer c.args.self.now same c.checked.ensures.same_child_kinds)) fits)
-    (subst (λ (t : Tables). Touches t (address_of c.args.addr.now) c.args.edge b f) (sym same) touches)
-
--- a law over the order that the machine answers is one over its rule's
-of_order : (L : Order → Type 0) (order : Order) (inside now : Rule) → order ≡ inside.order → inside ≡ now → L order → L now.order
-of_order L order inside now is same law = subst L (is ∙ ap (λ (r : Rule). r.order) same) law
-
-pub returns-clause-only_tile_across : goal.returns-clause-only_tile_across
-returns-clause-only_tile_across g c =
-    let same = same_tables c.self.inside.transducer c.self.inside.checked c.args.self.now c.self.invariant c.self.view_is in
-    let settled : IsSettled c.args.self.now = record { accepted = c.checked.ensures.accepted; usable = c.checked.ensures.usable; same_child_kinds = c.checked.ensures.same_child_kinds } in
-    only_across c.args.self.now settled (address_of c.args.addr.now) c.args.edge c.requires.fits c.requires.edge_exists
-    (of_order OnlyTilesLaw c.order-order.result c.checked.result.now c.args.self.now c.order-order.ensures.order c.checked.ensures.rule c.across_law.ensures) c.step_across.result
-    (across_of c.self.inside.transducer (contacts (tiling_of c.args.self.now)) (address_of c.args.addr.now) c.args.edge c.step_across.result same c.step_across.ensures.across)
-
-pub returns-clause-leads_back : goal.returns-clause-leads_back
-returns-clause-leads_back g c =
-    let same = same_tables c.self.inside.transducer c.self.inside.checked c.args.self.now c.self.invariant c.self.view_is in
-    let settled : IsSettled c.args.self.now = record { accepted = c.checked.ensures.accepted; usable = c.checked.ensures.usable; same_child_kinds = c.checked.ensures.same_child_kinds } in
-    way_back c.args.self.now settled (address_of c.args.addr.now) c.args.edge c.requires.fits c.requires.edge_exists
-    (of_order OnlyTilesLaw c.order-order.result c.checked.result.now c.args.self.now c.order-order.ensures.order c.checked.ensures.rule c.across_law.ensures) c.step_across.result
-    (across_of c.self.inside.transducer (contacts (tiling_of c.args.self.now)) (address_of c.args.addr.now) c.args.edge c.step_across.result same c.step_across.ensures.across)
-
-pub returns-clause-outside_on_boundary : goal.returns-clause-outside_on_boundary
-returns-clause-outside_on_boundary g c =
-    let same = same_tables c.self.inside.transducer c.self.inside.checked c.args.self.now c.self.invariant c.self.view_is in
-    let settled : IsSettled c.args.self.now = record { accepted = c.checked.ensures.accepted; usable = c.checked.ensures.usable; same_child_kinds = c.checked.ensures.same_child_kinds } in
-    lies_on_boundary c.args.self.now settled (address_of c.args.addr.now) c.args.edge c.requires.fits c.requires.edge_exists
-    (of_order BoundariesLaw c.order-order.result c.checked.result.now c.args.self.now c.order-order.ensures.order c.checked.ensures.rule c.boundary_law.ensures) c.step_across.result
-    (lies_of c.self.inside.transducer (contacts (tiling_of c.args.self.now)) (address_of c.args.addr.now) c.args.edge c.step_across.result same c.step_across.ensures.on_boundary)
-
-pub returns-clause-boundary_is_outside : goal.returns-clause-boundary_is_outside
-returns-clause-boundary_is_outside g c own part on =
-    let same = same_tables c.self.inside.transducer c.self.inside.checked c.args.self.now c.self.invariant c.self.view_is in
-    let settled : IsSettled c.args.self.now = record { accepted = c.checked.ensures.accepted; usable = c.checked.ensures.usable; same_child_kinds = c.checked.ensures.same_child_kinds } in
-    let lies = boundary_lies c.args.self.now settled (address_of c.args.addr.now) c.args.edge c.requires.fits c.requires.edge_exists
-    (of_order BoundariesLaw c.order-order.result c.checked.result.now c.args.self.now c.order-order.ensures.order c.checked.ensures.rule c.boundary_law.ensures) own part on in
-    c.step_across.ensures.boundary_when own part (subst (λ (t : Tables). LiesOn t (address_of c.args.addr.now) c.args.edge own part) (sym same) lies)
+pub returns-in-Err-clause-boundary_is_outside : goal.returns-in-Err-clause-boundary_is_outside
+returns-in-Err-clause-boundary_is_outside g c = λ own part lies.
+    let is = c.in-Err.ensures.boundary_is_outside own part (subst (λ (a : Address). LiesOnBoundary (tiling_of c.args.self.now) a c.args.edge own part) (sym c.copy-there.ensures.seen) lies) in
+    let same : c.in-Err.outside ≡ record { edge = own; part = part } = cc in
+    ap Err same

@@ -1,52 +1,15 @@
-use Rattle.std.proofs.Common.{◌≡◌, IsSome, ◌∙◌, refl}
-use Rattle.std.proofs.Math.Seq.{take-length}
-use Rattle.tile_shape.specs.Views.{address_of}
-use Rattle.addressing.specs.Address.{Fits}
-use Rattle.addressing.specs.Coherent.{IsCoherent}
-use Rattle.addressing.specs.Tables.{child_kinds, type_of}
-use Rattle.addressing.specs.Trace.{HasTrace, first_part}
-use Rattle.addressing.proofs.Traces.{IsTrace-unique}
-use Rattle.addressing.proofs.Touching.{trace_excludes_touch}
-use Rattle.transducer_core.specs.Climbing.{MeetsAt}
-use Rattle.transducer_core.proofs.Carried.{carried, is_across}
-use Rattle.transducer_core.proofs.Rising.{last_part}
+use Rattle.std.proofs.Common.{◌≡◌, Err, sym, ap, subst}
+use Rattle.addressing.specs.Across.{LiesOn}
+use Rattle.addressing.specs.Address.{Address}
 use Rattle.transducer_core.proofs.transducer.Transducer.step_across.Goals as goal
 
-pub returns-in-Met-clause-across : goal.returns-in-Met-clause-across
-returns-in-Met-clause-across g c =
-    let m : MeetsAt c.self.inside.tables (address_of c.args.addr.now) c.args.edge c.in-Met.meeting c.as_slice.result.now = rw c.as_slice.ensures.value c.in-Met.ensures.ends in
-    let edge : IsSome (type_of c.self.inside.tables c.args.addr.now.kind c.args.edge) = rw c.self.view_is c.requires.edge_exists in
-    let fits : Fits (child_kinds c.self.inside.tables) (address_of c.args.addr.now) = rw c.self.view_is c.requires.fits in
-    let touches = carried c.self.inside.tables (address_of c.args.addr.now) (address_of c.copy-across.result) (address_of c.descend-back.new.addr) c.descend-back.result c.in-Met.meeting c.as_slice.result.now c.copy-across.ensures.seen c.descend-back.ensures.touches c.args.edge edge m in
-    rw (← c.self.view_is) (is_across (address_of c.args.addr.now) (address_of c.descend-back.new.addr) c.args.edge c.descend-back.result c.self.invariant fits edge touches c.descend-back.ensures.fits c.descend-back.ensures.edge_exists)
+pub returns-in-Ok-clause-boundary_when : goal.returns-in-Ok-clause-boundary_when
+returns-in-Ok-clause-boundary_when g c = λ top part lies.
+    let no = c.in-Ok.ensures.boundary_when top part (subst (λ (a : Address). LiesOn c.args.self.now a c.args.edge top part) (sym c.copy-there.ensures.seen) lies) in
+    absurd cc
 
-pub returns-in-Met-clause-boundary_when : goal.returns-in-Met-clause-boundary_when
-returns-in-Met-clause-boundary_when g c = λ top part lies.
-    let m : MeetsAt c.self.inside.tables (address_of c.args.addr.now) c.args.edge c.in-Met.meeting c.as_slice.result.now = rw c.as_slice.ensures.value c.in-Met.ensures.ends in
-    let edge : IsSome (type_of c.self.inside.tables c.args.addr.now.kind c.args.edge) = rw c.self.view_is c.requires.edge_exists in
-    let fits : Fits (child_kinds c.self.inside.tables) (address_of c.args.addr.now) = rw c.self.view_is c.requires.fits in
-    let touches = carried c.self.inside.tables (address_of c.args.addr.now) (address_of c.copy-across.result) (address_of c.descend-back.new.addr) c.descend-back.result c.in-Met.meeting c.as_slice.result.now c.copy-across.ensures.seen c.descend-back.ensures.touches c.args.edge edge m in
-    let trace : HasTrace c.self.inside.tables (address_of c.args.addr.now) c.args.edge top lies.cuts = rw c.self.view_is lies.trace in
-    absurd (trace_excludes_touch (address_of c.args.addr.now) (address_of c.descend-back.new.addr) c.self.invariant fits c.descend-back.ensures.fits edge trace touches)
-
-pub returns-in-Top-clause-on_boundary : goal.returns-in-Top-clause-on_boundary
-returns-in-Top-clause-on_boundary g c =
-    let ends = c.in-Top.ensures.ends in
-    let trace : HasTrace c.args.self.now (address_of c.args.addr.now) c.args.edge c.in-Top.edge ends.cuts = rw (← c.self.view_is) (rw (take-length (address_of c.args.addr.now).digits) at ends.trace) in
-    let part : c.top_part-part.result ≡ first_part ends.cuts = c.top_part-part.ensures ∙ rw (c.as_slice-in-Top.ensures.value, ends.parts_are) (last_part ends.cuts) in
-    record { cuts = ends.cuts; trace = trace; is_part = part }
-
-pub returns-in-Top-clause-boundary_when : goal.returns-in-Top-clause-boundary_when
-returns-in-Top-clause-boundary_when g c = λ top other lies.
-    let ends = c.in-Top.ensures.ends in
-    let trace : HasTrace c.args.self.now (address_of c.args.addr.now) c.args.edge c.in-Top.edge ends.cuts = rw (← c.self.view_is) (rw (take-length (address_of c.args.addr.now).digits) at ends.trace) in
-    let part : c.top_part-part.result ≡ first_part ends.cuts = c.top_part-part.ensures ∙ rw (c.as_slice-in-Top.ensures.value, ends.parts_are) (last_part ends.cuts) in
-    let same = IsTrace-unique trace lies.trace in
-    rw (part, lies.is_part, same.0, same.1) refl
-
-pub returns-in-Top-clause-across_when : goal.returns-in-Top-clause-across_when
-returns-in-Top-clause-across_when g c = λ b f fits touches.
-    let ends = c.in-Top.ensures.ends in
-    let trace : HasTrace c.args.self.now (address_of c.args.addr.now) c.args.edge c.in-Top.edge ends.cuts = rw (← c.self.view_is) (rw (take-length (address_of c.args.addr.now).digits) at ends.trace) in
-    let coherent : IsCoherent c.args.self.now = rw (← c.self.view_is) c.self.invariant in
-    absurd (trace_excludes_touch (address_of c.args.addr.now) b coherent c.requires.fits fits c.requires.edge_exists trace touches)
+pub returns-in-Err-clause-boundary_when : goal.returns-in-Err-clause-boundary_when
+returns-in-Err-clause-boundary_when g c = λ top part lies.
+    let is = c.in-Err.ensures.boundary_when top part (subst (λ (a : Address). LiesOn c.args.self.now a c.args.edge top part) (sym c.copy-there.ensures.seen) lies) in
+    let same : c.in-Err.outside ≡ record { edge = top; part = part } = cc in
+    ap Err same

@@ -1,0 +1,66 @@
+use Rattle.std.proofs.Common.{map, subst, sym, ap, ◌∙◌}
+use Rattle.addressing.specs.Tables.{Tables, KindTables, child_kinds}
+use Rattle.transducer_core.specs.FlatTables.{lists_in, IsFlat}
+use Rattle.transducer_core.specs.Merged.{IsMerged, AreSpread}
+use Rattle.transducer_core.specs.Merging.{AreSmall}
+use Rattle.transducer_core.specs.Words.{contact_words, part_words}
+use Rattle.transducer_core.proofs.FlatCounts.{written_contacts, written_parts, written_types, written_children, short_children, small_contacts, small_parts}
+use Rattle.transducer_core.proofs.FlatMade.{Holds, flat_is}
+use Rattle.transducer_core.proofs.flat_table.FlatTable.build.Goals as goal
+
+pub spread-requires : goal.spread-requires
+spread-requires c = record {
+  short = short_children c.args.tables.now c.in_ok-wide_lists.field-0 c.rows-rows.ensures.coherent
+      (c.in_ok-wide_lists.ensures ∙ c.in_ok-children.ensures ∙ written_children c.rows-rows.result.now.items ∙ ap (map (λ (k : KindTables). k.children)) c.rows-rows.ensures.lists);
+}
+
+pub merge-requires : goal.merge-requires
+merge-requires c =
+    let are = c.in_ok-contact_rows.ensures ∙ written_contacts c.rows-rows.result.now.items ∙ ap (map (λ (k : KindTables). map contact_words k.contacts)) c.rows-rows.ensures.lists in
+    record { small = subst AreSmall (sym are) (small_contacts c.args.tables.now c.rows-rows.ensures.coherent) }
+
+pub merge-requires-2 : goal.merge-requires-2
+merge-requires-2 c =
+    let are = c.in_ok-part_rows.ensures ∙ written_parts c.rows-rows.result.now.items ∙ ap (map (λ (k : KindTables). map part_words k.parts)) c.rows-rows.ensures.lists in
+    record { small = subst AreSmall (sym are) (small_parts c.args.tables.now c.rows-rows.ensures.coherent) }
+
+pub invariant_of-result : goal.invariant_of-result
+invariant_of-result c =
+    let t = c.args.tables.now in
+    let contacts_are = c.in_ok-contact_rows.ensures ∙ written_contacts c.rows-rows.result.now.items ∙ ap (map (λ (k : KindTables). map contact_words k.contacts)) c.rows-rows.ensures.lists in
+    let parts_are = c.in_ok-part_rows.ensures ∙ written_parts c.rows-rows.result.now.items ∙ ap (map (λ (k : KindTables). map part_words k.parts)) c.rows-rows.ensures.lists in
+    let children_are = c.in_ok-children.ensures ∙ written_children c.rows-rows.result.now.items ∙ ap (map (λ (k : KindTables). k.children)) c.rows-rows.ensures.lists in
+    let types_are = c.in_ok-types.ensures ∙ written_types c.rows-rows.result.now.items ∙ ap (map (λ (k : KindTables). k.types)) c.rows-rows.ensures.lists in
+    let contacts = subst (λ rows. IsMerged rows c.in_ok-contacts.contacts.starts.items c.in_ok-contacts.contacts.words.items c.in_ok-contacts.contacts.count) contacts_are c.in_ok-contacts.ensures in
+    let parts = subst (λ rows. IsMerged rows c.in_ok-parts.parts.starts.items c.in_ok-parts.parts.words.items c.in_ok-parts.parts.count) parts_are c.in_ok-parts.ensures in
+    let kinds : AreSpread (child_kinds t) c.in_ok-child_kinds.child_kinds.items = subst (λ rows. AreSpread rows c.in_ok-child_kinds.child_kinds.items) (c.in_ok-wide_lists.ensures ∙ children_are) c.in_ok-child_kinds.ensures in
+    let f = lists_in c.in_ok-copied.field-0 c.in_ok-copied_lists.field-0 c.in_ok-types.field-0 c.in_ok-children.children c.in_ok-contacts.contacts c.in_ok-parts.parts in
+    let held : Holds t f c.in_ok-contacts.contacts.count c.in_ok-parts.parts.count = record {
+      coherent = c.rows-rows.ensures.coherent;
+      mates = c.in_ok-copied.ensures ∙ c.mates.ensures;
+      subs = c.in_ok-copied_lists.ensures ∙ c.subs.ensures;
+      types = types_are;
+      children = children_are;
+      contacts = contacts;
+      parts = parts;
+    } in
+    subst (λ (u : Tables). IsFlat u c.in_ok-child_kinds.child_kinds c.in_ok-contacts.contacts c.in_ok-parts.parts) (sym (flat_is t f c.in_ok-contacts.contacts.count c.in_ok-parts.parts.count held))
+    (record { coherent = c.rows-rows.ensures.coherent; kinds_at = kinds; contacts_at = contacts; parts_at = parts })
+
+pub returns-clause-tables : goal.returns-clause-tables
+returns-clause-tables c =
+    let t = c.args.tables.now in
+    let contacts_are = c.in_ok-contact_rows.ensures ∙ written_contacts c.rows-rows.result.now.items ∙ ap (map (λ (k : KindTables). map contact_words k.contacts)) c.rows-rows.ensures.lists in
+    let parts_are = c.in_ok-part_rows.ensures ∙ written_parts c.rows-rows.result.now.items ∙ ap (map (λ (k : KindTables). map part_words k.parts)) c.rows-rows.ensures.lists in
+    let children_are = c.in_ok-children.ensures ∙ written_children c.rows-rows.result.now.items ∙ ap (map (λ (k : KindTables). k.children)) c.rows-rows.ensures.lists in
+    let types_are = c.in_ok-types.ensures ∙ written_types c.rows-rows.result.now.items ∙ ap (map (λ (k : KindTables). k.types)) c.rows-rows.ensures.lists in
+    let f = lists_in c.in_ok-copied.field-0 c.in_ok-copied_lists.field-0 c.in_ok-types.field-0 c.in_ok-children.children c.in_ok-contacts.contacts c.in_ok-parts.parts in
+    flat_is t f c.in_ok-contacts.contacts.count c.in_ok-parts.parts.count (record {
+      coherent = c.rows-rows.ensures.coherent;
+      mates = c.in_ok-copied.ensures ∙ c.mates.ensures;
+      subs = c.in_ok-copied_lists.ensures ∙ c.subs.ensures;
+      types = types_are;
+      children = children_are;
+      contacts = subst (λ rows. IsMerged rows c.in_ok-contacts.contacts.starts.items c.in_ok-contacts.contacts.words.items c.in_ok-contacts.contacts.count) contacts_are c.in_ok-contacts.ensures;
+      parts = subst (λ rows. IsMerged rows c.in_ok-parts.parts.starts.items c.in_ok-parts.parts.words.items c.in_ok-parts.parts.count) parts_are c.in_ok-parts.ensures;
+    })

@@ -1,0 +1,30 @@
+-- When flat lists are laid out right.
+use Rattle.std.specs.Prelude.{ℕ, map, Vec}
+use Rattle.std.specs.Global.{Global}
+use Rattle.addressing.specs.Coherent.{IsCoherent}
+use Rattle.addressing.specs.Tables.{Tables, KindTables, child_kinds}
+use Rattle.transducer_core.specs.declared.merging.Merged.{Merged}
+use Rattle.transducer_core.specs.Flat.{Lists}
+use Rattle.transducer_core.specs.Merged.{AreSpread, IsMerged}
+use Rattle.transducer_core.specs.Merging.{as_lists}
+use Rattle.transducer_core.specs.Words.{contact_words, part_words}
+
+-- the lists of the fields
+abbrev pub lists_in : Vec ℕ Global → Vec (Vec ℕ Global) Global → Vec (Vec ℕ Global) Global → Vec (Vec ℕ Global) Global → Merged → Merged → Lists
+lists_in mates subs types children contacts parts = record {
+  mates = mates.items;
+  subs = as_lists subs;
+  types = as_lists types;
+  children = as_lists children;
+  contact_starts = contacts.starts.items;
+  contact_words = contacts.words.items;
+  part_starts = parts.starts.items;
+  part_words = parts.words.items;
+}
+
+-- the tables fit together; their child kinds stand where they are looked up; and so do their blocks, equal ones once
+pub record IsFlat (t : Tables) (kinds : Vec ℕ Global) (contacts parts : Merged) : Type 0 where
+  pub coherent : IsCoherent t
+  pub kinds_at : AreSpread (child_kinds t) kinds.items
+  pub contacts_at : IsMerged (map (λ (k : KindTables). map contact_words k.contacts) t.kinds) contacts.starts.items contacts.words.items contacts.count
+  pub parts_at : IsMerged (map (λ (k : KindTables). map part_words k.parts) t.kinds) parts.starts.items parts.words.items parts.count

@@ -1,0 +1,39 @@
+-- Blocks of numbers, one behind the other in one list, equal ones once.
+use Rattle.std.specs.Prelude.{◌≡◌, ℕ, ◌+◌, ◌*◌, List, ◌++◌, Some, length, slice_get}
+use Rattle.std.specs.List.{flat_map, concat}
+use Rattle.transducer_core.specs.Once.{AreOnce}
+
+-- the block stands in the list, from this place on
+pub record Stands (words : List ℕ) (start : ℕ) (block : List ℕ) : Type 0 where
+  pub front : List ℕ
+  pub rest : List ℕ
+  pub words_are : words ≡ front ++ (block ++ rest)
+  pub start_is : start ≡ length front
+
+-- the list is the blocks that are different, so many, one behind the other
+pub record IsOnceEach (blocks : List (List ℕ)) (words : List ℕ) (count : ℕ) : Type 0 where
+  pub kept : List (List ℕ)
+  pub once : AreOnce blocks kept
+  pub words_are : words ≡ concat kept
+  pub count_is : count ≡ length kept
+
+-- block c of row k begins at the place that stands at 256 k + c
+pub record BeginsAt (words starts : List ℕ) (k c : ℕ) (block : List ℕ) : Type 0 where
+  pub start : ℕ
+  pub start_at : slice_get starts (256 * k + c) ≡ Some start
+  pub stands : Stands words start block
+
+-- so do all, and equal ones are kept once
+pub record IsMerged (rows : List (List (List ℕ))) (starts words : List ℕ) (count : ℕ) : Type 0 where
+  pub begins : (k c : ℕ) (row : List (List ℕ)) (block : List ℕ) → slice_get rows k ≡ Some row → slice_get row c ≡ Some block → BeginsAt words starts k c block
+  pub once_each : IsOnceEach (flat_map (λ (row : List (List ℕ)). row) rows) words count
+
+-- number c of row k stands in the list at 256 k + c
+abbrev pub AreSpread : {A : Type 0} → List (List A) → List A → Type 0
+AreSpread {A} rows flat = (k c : ℕ) (row : List A) (x : A) → slice_get rows k ≡ Some row → slice_get row c ≡ Some x → slice_get flat (256 * k + c) ≡ Some x
+
+-- the word at a place of block c of row k, found by where the block begins
+pub record HasEntry (starts words : List ℕ) (k c place word : ℕ) : Type 0 where
+  pub start : ℕ
+  pub start_at : slice_get starts (256 * k + c) ≡ Some start
+  pub word_at : slice_get words (start + place) ≡ Some word

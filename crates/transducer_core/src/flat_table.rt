@@ -1,0 +1,147 @@
+//! Contact tables in flat lists, and the look-ups in them.
+ghost use Rattle.std.specs.Prelude.{◌≡◌, ◌+◌, ◌<◌, ℕ, Some, IsSome, IfOk};
+ghost use Rattle.addressing.specs.Coherent.{IsCoherent};
+ghost use Rattle.addressing.specs.Tables.{type_of, child_kind_of, contact_of, part_of, part_count};
+ghost use Rattle.edge_tables.specs.Views.{as_contact, as_child_edge};
+ghost use Rattle.transducer_core.specs.Blocks.{contact_blocks, part_blocks};
+ghost use Rattle.transducer_core.specs.Once.{HasDifferent};
+
+use crate::merging::{Merged, merge};
+use crate::mirror::mirror;
+use crate::spread::{cell, spread};
+use crate::table_lists::{children, contact_rows, part_rows, types, wide_lists};
+use crate::words::{contact_in, part_in};
+use edge_tables::child_edge::ChildEdge;
+use edge_tables::contact::Contact;
+use edge_tables::lists::{copied, copied_lists};
+use edge_tables::steps::Steps;
+use edge_tables::tables::Tables;
+use std::alloc::Global;
+use std::marker::Model;
+use std::sync::ledger::Ledger;
+use tile_shape::no_memory::NoMemory;
+
+/// Contact tables in flat lists, which contracts see as those tables. The contact block of a child is what its edges are, the part
+/// block of an edge the child edges that are its parts, in order; equal blocks are kept once. Where the block of a number of a
+/// kind begins stands at 256 times the kind and the number.
+#[derive(Drop)]
+pub struct FlatTable {
+    mates: Vec<u8>,
+    subs: Vec<Vec<u8>>,
+    types: Vec<Vec<u8>>,
+    children: Vec<Vec<u8>>,
+    child_kinds: Vec<u16>,
+    contacts: Merged,
+    parts: Merged,
+}
+
+impl Model for FlatTable {
+    ghost use Rattle.addressing.specs.Tables.{Tables as TheTables};
+    ghost use Rattle.transducer_core.specs.Flat.{flat_tables};
+    ghost use Rattle.transducer_core.specs.FlatTables.{lists_in, IsFlat};
+
+    ghost Value = { TheTables };
+
+    ghost view = { λ f. flat_tables (lists_in f.mates f.subs f.types f.children f.contacts f.parts) };
+
+    ghost invariant = { λ f. IsFlat (flat_tables (lists_in f.mates f.subs f.types f.children f.contacts f.parts)) f.child_kinds f.contacts f.parts };
+}
+
+impl FlatTable {
+    /// The flat table of these tables.
+    pub fn build(alloc: Global, tables: &Tables) -> Result<FlatTable, NoMemory>
+        ensures tables { IfOk result (λ flat. flat ≡ tables.now) }
+        ensures coherent { IsCoherent tables.now }
+    {
+        let rows = tables.rows();
+        let children = children(alloc, rows)?;
+        let child_kinds = spread(alloc, &wide_lists(alloc, &children)?)?;
+        let contacts = merge(alloc, &contact_rows(alloc, rows)?)?;
+        let parts = merge(alloc, &part_rows(alloc, rows)?)?;
+        Ok(FlatTable {
+            mates: copied(alloc, tables.mates())?,
+            subs: copied_lists(alloc, tables.subs())?,
+            types: types(alloc, rows)?,
+            children,
+            child_kinds,
+            contacts,
+            parts,
+        })
+    }
+
+    /// What an edge of a child is. It takes one step.
+    pub fn contact<L: Ledger>(&self, kind: u8, child: u8, edge: u8, steps: &mut Steps<L>) -> Contact
+        requires exists { IsSome (contact_of self.now kind child edge) }
+        ensures value { contact_of self.now kind child edge ≡ Some (as_contact result) }
+        ensures one_step { steps.new ≡ steps.old + 1 }
+    {
+        steps.tick();
+        contact_in(self.contacts.entry(kind, child, edge))
+    }
+
+    /// The child edge that is a part of an edge. It takes one step.
+    pub fn part<L: Ledger>(&self, kind: u8, edge: u8, part: u8, steps: &mut Steps<L>) -> ChildEdge
+        requires exists { IsSome (part_of self.now kind edge part) }
+        ensures value { part_of self.now kind edge part ≡ Some (as_child_edge result) }
+        ensures one_step { steps.new ≡ steps.old + 1 }
+    {
+        self.coherent();
+        let count = self.part_count(kind, edge);
+        self.part_across(kind, edge, mirror(count, part), steps)
+    }
+
+    /// The child edge of an edge that meets the part of this number of the edge on the other side. It takes one step.
+    pub(crate) fn part_across<L: Ledger>(
+        &self,
+        kind: u8,
+        edge: u8,
+        part: u8,
+        steps: &mut Steps<L>,
+    ) -> ChildEdge
+        requires inside { part < part_count self.now kind edge }
+        ensures value { (own : ℕ) → own + (part + 1) ≡ part_count self.now kind edge → part_of self.now kind edge own ≡ Some (as_child_edge result) }
+        ensures one_step { steps.new ≡ steps.old + 1 }
+    {
+        steps.tick();
+        part_in(self.parts.entry(kind, edge, part))
+    }
+
+    /// Into how many parts an edge is cut: as many as its type.
+    fn part_count(&self, kind: u8, edge: u8) -> u8
+        requires exists { IsSome (type_of self.now kind edge) }
+        ensures { result ≡ part_count self.now kind edge }
+    {
+        let types = &self.types[kind as usize];
+        let ty = types[edge as usize];
+        self.subs[ty as usize].len() as u8
+    }
+
+    /// The kind of a child.
+    pub(crate) fn child_kind(&self, kind: u8, child: u8) -> u8
+        requires exists { IsSome (child_kind_of self.now kind child) }
+        ensures { child_kind_of self.now kind child ≡ Some result }
+    {
+        self.child_kinds[cell(kind, child)] as u8
+    }
+
+    /// How many different contact blocks there are.
+    pub fn contact_blocks(&self) -> u16
+        ensures { HasDifferent (contact_blocks self.now) result }
+    {
+        self.contacts.count
+    }
+
+    /// How many different part blocks there are.
+    pub fn part_blocks(&self) -> u16
+        ensures { HasDifferent (part_blocks self.now) result }
+    {
+        self.parts.count
+    }
+
+    /// The tables fit together.
+    pub(crate) fn coherent(&self)
+        ensures { IsCoherent self.now }
+    {
+        let _fields = self.contacts.count;
+    }
+}

@@ -1,0 +1,108 @@
+//! Blocks of words put one behind the other, equal ones once.
+ghost use Rattle.std.specs.Prelude.{◌≡◌, ◌↔◌, ◌+◌, ◌*◌, ◌^◌, ◌<◌, ◌≤◌, ℕ, true, List, [], ◌∷◌, ◌++◌, length, OnOk, IfOk};
+ghost use Rattle.std.specs.List.{concat};
+ghost use Rattle.transducer_core.specs.Merged.{Stands, IsMerged};
+ghost use Rattle.transducer_core.specs.Merging.{as_lists, as_rows, AllStand, AreShort, AreSmall};
+ghost use Rattle.transducer_core.specs.Once.{AreOnce};
+
+use crate::spread::{cell, spread};
+use std::alloc::Global;
+use tile_shape::no_memory::NoMemory;
+
+/// Blocks in one list: where each begins, by 256 times its row and its number there, and the words of the different ones.
+#[derive(Drop)]
+pub(crate) struct Merged {
+    pub(crate) starts: Vec<u16>,
+    pub(crate) words: Vec<u32>,
+    pub(crate) count: u16,
+}
+
+impl Merged {
+    ghost use Rattle.transducer_core.specs.Merged.{HasEntry};
+
+    /// The word at a place of a block.
+    pub(crate) fn entry(&self, row: u8, number: u8, place: u8) -> u32
+        requires { (word : ℕ) × HasEntry self.now.starts.items self.now.words.items row number place word }
+        ensures { HasEntry self.now.starts.items self.now.words.items row number place result }
+    {
+        let start = self.starts[cell(row, number)];
+        self.words[usize::from(start) + usize::from(place)]
+    }
+}
+
+/// Whether two blocks are the same.
+fn same_words(a: &Vec<u32>, b: &Vec<u32>) -> bool
+    ensures { (result ≡ true) ↔ (a.now.items ≡ b.now.items) }
+{
+    a == b
+}
+
+/// Keeps a block if no equal one is kept, and answers where it stands when those that are kept stand in a row.
+fn place(alloc: Global, kept: &mut Vec<Vec<u32>>, block: &Vec<u32>) -> Result<u16, NoMemory>
+    requires room { length (concat (as_lists kept.old)) < 2 ^ 16 }
+    ensures stands { IfOk result (λ start. Stands (concat (as_lists kept.new)) start block.now.items) }
+    ensures grown { OnOk result ((more : List (List ℕ)) × (as_lists kept.new ≡ as_lists kept.old ++ more) × (length (concat more) ≤ length block.now.items) × (length more ≤ 1)) }
+    ensures once { OnOk result ((all : List (List ℕ)) → AreOnce all (as_lists kept.old) → AreOnce (all ++ block.now.items ∷ []) (as_lists kept.new)) }
+{
+    let mut start = 0usize;
+    let known = kept.as_slice();
+    for earlier in known {
+        if same_words(earlier, block) {
+            return Ok(start as u16);
+        }
+        start += earlier.len();
+    }
+    let mut copy = Vec::new(alloc);
+    copy.extend_from_slice(block)?;
+    kept.push(copy)?;
+    Ok(start as u16)
+}
+
+/// Keeps each block of a row, and answers where they stand.
+fn place_row(
+    alloc: Global,
+    kept: &mut Vec<Vec<u32>>,
+    row: &Vec<Vec<u32>>,
+) -> Result<Vec<u16>, NoMemory>
+    requires few { length row.now.items ≤ 16 }
+    requires short { AreShort (as_lists row.now) }
+    requires room { length (concat (as_lists kept.old)) ≤ 2 ^ 15 }
+    ensures stand { IfOk result (λ starts. AllStand (concat (as_lists kept.new)) starts.items (as_lists row.now)) }
+    ensures grown { OnOk result ((more : List (List ℕ)) × (as_lists kept.new ≡ as_lists kept.old ++ more) × (length (concat more) ≤ 256) × (length more ≤ 16)) }
+    ensures few { IfOk result (λ starts. length starts.items ≤ 16) }
+    ensures once { OnOk result ((all : List (List ℕ)) → AreOnce all (as_lists kept.old) → AreOnce (all ++ as_lists row.now) (as_lists kept.new)) }
+{
+    let mut starts = Vec::new(alloc);
+    for block in row {
+        starts.push(place(alloc, kept, block)?)?;
+    }
+    Ok(starts)
+}
+
+/// The blocks in a row.
+fn joined(alloc: Global, blocks: &Vec<Vec<u32>>) -> Result<Vec<u32>, NoMemory>
+    ensures { IfOk result (λ words. words.items ≡ concat (as_lists blocks.now)) }
+{
+    let mut words = Vec::new(alloc);
+    for block in blocks {
+        words.extend_from_slice(block)?;
+    }
+    Ok(words)
+}
+
+/// The blocks of these rows, equal ones once.
+pub(crate) fn merge(alloc: Global, rows: &Vec<Vec<Vec<u32>>>) -> Result<Merged, NoMemory>
+    requires small { AreSmall (as_rows rows.now) }
+    ensures { IfOk result (λ merged. IsMerged (as_rows rows.now) merged.starts.items merged.words.items merged.count) }
+{
+    let mut kept = Vec::new(alloc);
+    let mut starts = Vec::new(alloc);
+    for row in rows {
+        starts.push(place_row(alloc, &mut kept, row)?)?;
+    }
+    Ok(Merged {
+        starts: spread(alloc, &starts)?,
+        words: joined(alloc, &kept)?,
+        count: kept.len() as u16,
+    })
+}

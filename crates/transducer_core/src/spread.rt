@@ -1,0 +1,33 @@
+//! Rows in one list with a fixed stride.
+ghost use Rattle.std.specs.Prelude.{◌≡◌, ◌+◌, ◌*◌, ◌≤◌, length, IfOk};
+ghost use Rattle.std.specs.List.{AllByRecursion};
+ghost use Rattle.transducer_core.specs.Merged.{AreSpread};
+ghost use Rattle.transducer_core.specs.Merging.{as_lists};
+
+use std::alloc::Global;
+use tile_shape::no_memory::NoMemory;
+
+/// What stands behind a row.
+const BLANKS: [u16; 256] = [0; 256];
+
+/// Where a number of a row stands.
+pub(crate) fn cell(row: u8, number: u8) -> usize
+    ensures { result ≡ 256 * row + number }
+{
+    usize::from(row) * 256 + usize::from(number)
+}
+
+/// The rows in one list, each 256 long.
+pub(crate) fn spread(alloc: Global, rows: &Vec<Vec<u16>>) -> Result<Vec<u16>, NoMemory>
+    requires short { AllByRecursion (λ row. length row.items ≤ 256) rows.now.items }
+    ensures { IfOk result (λ flat. AreSpread (as_lists rows.now) flat.items) }
+{
+    let blanks = BLANKS;
+    let blanks = blanks.as_slice();
+    let mut flat = Vec::new(alloc);
+    for row in rows {
+        flat.extend_from_slice(row)?;
+        flat.extend_from_slice(&blanks[row.len()..])?;
+    }
+    Ok(flat)
+}

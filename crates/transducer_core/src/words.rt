@@ -1,0 +1,102 @@
+//! Entries of tables, and their blocks, as words.
+ghost use Rattle.std.specs.Prelude.{◌≡◌, map, IfOk};
+ghost use Rattle.edge_tables.specs.Views.{as_contact, as_child_edge};
+ghost use Rattle.transducer_core.specs.Words.{word_of_contact, contact_of_word, word_of_part, part_of_word, contact_words, part_words};
+
+use edge_tables::child_edge::ChildEdge;
+use edge_tables::contact::Contact;
+use std::alloc::Global;
+use tile_shape::no_memory::NoMemory;
+
+/// What an edge of a child is, as a word.
+fn contact_word(contact: Contact) -> u32
+    ensures { result ≡ word_of_contact (as_contact contact) }
+{
+    match contact {
+        Contact::Inner { child, edge } => 65536 + u32::from(edge) * 256 + u32::from(child),
+        Contact::Outer { edge, part } => u32::from(edge) * 256 + u32::from(part),
+    }
+}
+
+/// A part of an edge, as a word.
+fn part_word(part: ChildEdge) -> u32
+    ensures { result ≡ word_of_part (as_child_edge part) }
+{
+    u32::from(part.edge) * 256 + u32::from(part.child)
+}
+
+/// What the edge is of which this is the word.
+pub(crate) fn contact_in(word: u32) -> Contact
+    ensures { as_contact result ≡ contact_of_word word }
+{
+    let number = (word % 256) as u8;
+    let edge = (word / 256 % 256) as u8;
+    if word < 65536 {
+        let part = number;
+        Contact::Outer { edge, part }
+    } else {
+        let child = number;
+        Contact::Inner { child, edge }
+    }
+}
+
+/// The part of which this is the word.
+pub(crate) fn part_in(word: u32) -> ChildEdge
+    ensures { as_child_edge result ≡ part_of_word word }
+{
+    ChildEdge {
+        child: (word % 256) as u8,
+        edge: (word / 256 % 256) as u8,
+    }
+}
+
+/// A contact block as words.
+fn contact_block(alloc: Global, block: &Vec<Contact>) -> Result<Vec<u32>, NoMemory>
+    ensures { IfOk result (λ words. words.items ≡ contact_words (map as_contact block.now.items)) }
+{
+    let mut words = Vec::new(alloc);
+    for contact in block {
+        words.push(contact_word(*contact))?;
+    }
+    Ok(words)
+}
+
+/// A part block as words, backwards.
+fn part_block(alloc: Global, block: &Vec<ChildEdge>) -> Result<Vec<u32>, NoMemory>
+    ensures { IfOk result (λ words. words.items ≡ part_words (map as_child_edge block.now.items)) }
+{
+    let mut words = Vec::new(alloc);
+    for part in block {
+        words.push(part_word(*part))?;
+    }
+    words.as_mut_slice().reverse();
+    Ok(words)
+}
+
+/// The contact blocks of a kind as words.
+pub(crate) fn contact_blocks(
+    alloc: Global,
+    blocks: &Vec<Vec<Contact>>,
+) -> Result<Vec<Vec<u32>>, NoMemory>
+    ensures { IfOk result (λ lists. map (λ v. v.items) lists.items ≡ map (λ v. contact_words (map as_contact v.items)) blocks.now.items) }
+{
+    let mut lists = Vec::new(alloc);
+    for block in blocks {
+        lists.push(contact_block(alloc, block)?)?;
+    }
+    Ok(lists)
+}
+
+/// The part blocks of a kind as words, each backwards.
+pub(crate) fn part_blocks(
+    alloc: Global,
+    blocks: &Vec<Vec<ChildEdge>>,
+) -> Result<Vec<Vec<u32>>, NoMemory>
+    ensures { IfOk result (λ lists. map (λ v. v.items) lists.items ≡ map (λ v. part_words (map as_child_edge v.items)) blocks.now.items) }
+{
+    let mut lists = Vec::new(alloc);
+    for block in blocks {
+        lists.push(part_block(alloc, block)?)?;
+    }
+    Ok(lists)
+}
