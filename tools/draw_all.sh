@@ -28,5 +28,6 @@ patch tuebingen_triangles --colour kind --window 15,9 rules/tuebingen_triangles.
 patch thue_morse_squares --colour kind --window 30,18 rules/thue_morse_squares.toml 0 5
 patch address_chair --colour child --label --mark 0:1/0,2/0 --width 400 rules/chair.toml 0 2
 patch address_p3 --colour child --label --mark 2:1/0,0/0 --mark 3:1/2,1/0 --width 400 rules/penrose_p3.toml 0 2
+"$python" tools/draw_dissection.py rules/chair.toml > "$to/docs/gallery/dissection.svg" || fault=1
 "$python" tools/draw_steps.py > "$to/docs/gallery/steps.svg" || fault=1
 exit $fault
