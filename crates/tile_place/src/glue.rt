@@ -36,10 +36,14 @@ fn is_same(p: &Point, q: &Point) -> bool
     ensures { (order : Order) → IsOf order p.now → IsOf order q.now
         → Decides result (point_in order p.now ≡ point_in order q.now) }
 {
-    is_equal(p.c[0], q.c[0]) & is_equal(p.c[1], q.c[1]) & is_equal(p.c[2], q.c[2]) & is_equal(p.c[3], q.c[3])
+    is_equal(p.c[0], q.c[0])
+        & is_equal(p.c[1], q.c[1])
+        & is_equal(p.c[2], q.c[2])
+        & is_equal(p.c[3], q.c[3])
 }
 
 /// The turn below n by which a vector becomes `onto`, which is the reverse of `back`.
+#[inline(always)]
 fn turn_onto(order: Order, vector: &Point, onto: &Point, back: &Point) -> Option<u8>
     requires vector_within { IsWithin (2 ^ 40) vector.now }
     requires onto_in_order { IsOf order onto.now }
@@ -65,7 +69,28 @@ fn turn_onto(order: Order, vector: &Point, onto: &Point, back: &Point) -> Option
     None
 }
 
+/// The same, by order, so that the turns of each stand in code of their own.
+#[inline(always)]
+fn turn_by_order(order: Order, vector: &Point, onto: &Point, back: &Point) -> Option<u8>
+    requires vector_within { IsWithin (2 ^ 40) vector.now }
+    requires onto_in_order { IsOf order onto.now }
+    requires back_in_order { IsOf order back.now }
+    requires reverse { point_in order onto.now ≡ (points_of order).ring.neg (point_in order back.now) }
+    ensures below { IfSome result (λ k. k < (points_of order).order) }
+    ensures turned { IfSome result (λ k. IsTurnedTo order k (point_in order vector.now) (point_in order onto.now)) }
+    ensures none { result ≡ None → (k : ℕ) → k < (points_of order).order
+        → ¬ IsTurnedTo order k (point_in order vector.now) (point_in order onto.now) }
+{
+    match order {
+        Order::Four => turn_onto(Order::Four, vector, onto, back),
+        Order::Six => turn_onto(Order::Six, vector, onto, back),
+        Order::Eight => turn_onto(Order::Eight, vector, onto, back),
+        Order::Ten => turn_onto(Order::Ten, vector, onto, back),
+    }
+}
+
 /// The turn below n that takes the vector of one edge to that of another, reversed.
+#[inline(always)]
 fn turn_between(order: Order, own: &PrototileEdge, its: &PrototileEdge) -> Option<u8>
     requires own_start { IsSmall order own.now.start }
     requires own_end { IsSmall order own.now.end }
@@ -80,7 +105,7 @@ fn turn_between(order: Order, own: &PrototileEdge, its: &PrototileEdge) -> Optio
     let vector = sub(&its.end, &its.start);
     let onto = sub(&own.start, &own.end);
     let back = sub(&own.end, &own.start);
-    turn_onto(order, &vector, &onto, &back)
+    turn_by_order(order, &vector, &onto, &back)
 }
 
 impl Machine {
