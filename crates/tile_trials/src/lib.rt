@@ -8,6 +8,8 @@
 #[cfg(test)]
 mod far;
 #[cfg(test)]
+mod glued;
+#[cfg(test)]
 mod placed;
 #[cfg(test)]
 mod sides;
