@@ -1,9 +1,7 @@
-use Rattle.std.proofs.Common.{◌≡◌, ◌<◌, ◌+◌, ◌*◌, ◌^◌, ◌∙◌, ℕ, refl, ap, subst, lit≤}
-use Rattle.ordered_ring.specs.Ring.{difference, power}
+use Rattle.std.proofs.Common.{◌≡◌, ◌<◌, ◌∙◌, ℕ, refl, ap, subst}
 use Rattle.cyclo_points.specs.declared.order.Order.{Order}
 use Rattle.cyclo_points.specs.Order.{PointsLaw, points_of}
 use Rattle.cyclo_points.specs.Point.{point_in, IsOf}
-use Rattle.cyclo_points.proofs.Within.{point_wider}
 use Rattle.rule_model.specs.declared.rule.Rule.{Rule}
 use Rattle.tile_place.specs.Glued.{IsTurnedTo, IsShift}
 use Rattle.tile_place.specs.Vectors.{vector_of}
