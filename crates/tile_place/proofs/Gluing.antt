@@ -6,6 +6,7 @@ use Rattle.substitution.specs.RuleParts.{edge_count, next, vertex}
 use Rattle.edge_to_edge.specs.EdgeTypes.{edge_vector}
 use Rattle.edge_to_edge.proofs.ChildEdges.{kind-with_edge}
 use Rattle.edge_to_edge.proofs.TablesOf.{type_of-found}
+use Rattle.cyclo_points.specs.declared.motion.Motion.{Motion}
 use Rattle.cyclo_points.specs.declared.order.Order.{Order}
 use Rattle.cyclo_points.specs.Order.{NumberOf, PointsLaw, points_of}
 use Rattle.dissection.specs.Laws.{GlueLaw}
@@ -46,12 +47,12 @@ module _ (m : Rule) where
     turned_back turn h = subst (λ v. IsTurnedTo m.order turn v ((points_of m.order).ring.neg own)) (sym its_is)
         (subst (λ w. IsTurnedTo m.order turn (edge_vector (points_of m.order) (rule_of m) l f) ((points_of m.order).ring.neg w)) (sym own_is) h)
 
-    abbrev IsNone : Option ℕ → Type 0
+    abbrev IsNone : Option Motion → Type 0
     IsNone x = x ≡ None → (turn : ℕ) → turn < (points_of m.order).order → ¬ IsTurnedTo m.order turn its ((points_of m.order).ring.neg own)
 
-    pub met : (x : Option ℕ) → IfSome x (λ turn. turn < (points_of m.order).order) → IfSome x (λ turn. IsTurnedTo m.order turn its ((points_of m.order).ring.neg own)) → IsNone x
+    pub met : (x : Option Motion) → IfSome x (λ (g : Motion). g.turn < (points_of m.order).order) → IfSome x (λ (g : Motion). IsTurnedTo m.order g.turn its ((points_of m.order).ring.neg own)) → IsNone x
         → IsTrue (is_some x) ↔ Meets (tiling_of m) k e l f
-    met (Some turn) below turned none = ((λ t. record { turn = turn; below = below; turns = turns_onto turn turned }), (λ h. refl))
+    met (Some g) below turned none = ((λ t. record { turn = g.turn; below = below; turns = turns_onto g.turn turned }), (λ h. refl))
     met None below turned none = ((λ t. absurd (cc t)), (λ h. absurd (none refl h.turn h.below (turned_back h.turn h.turns))))
 
     -- and the motion of that turn

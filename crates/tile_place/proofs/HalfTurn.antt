@@ -1,13 +1,13 @@
 -- A half turn: ζ^(n/2) is -1, so a vector that turns into the reverse of another does so by one of the turns below n/2, or by one of these and half a turn.
-use Rattle.std.proofs.Common.{◌≡◌, ℕ, ◌+◌, ◌-◌, ◌/◌, ◌<◌, inl, inr, [], ◌∷◌, negsuc, refl, sym, ap, ◌∙◌, subst, arith}
+use Rattle.std.proofs.Common.{pos, ◌≡◌, ℕ, ◌+◌, ◌-◌, ◌/◌, ◌<◌, inl, inr, [], ◌∷◌, negsuc, refl, sym, ap, ◌∙◌, subst, arith}
 use Rattle.std.proofs.lemmas.Bool.{cases_lt}
-use Rattle.ordered_ring.specs.Ring.{power}
-use Rattle.ordered_ring.proofs.Normaliser.{var, con, neg, ring_from, ◌⊗◌}
+use Rattle.ordered_ring.specs.Ring.{difference, power}
+use Rattle.ordered_ring.proofs.Normaliser.{var, con, neg, ring_from, ◌⊕◌, ◌⊖◌, ◌⊗◌}
 use Rattle.substitution.proofs.Motions.{power-add}
 use Rattle.cyclo_points.specs.declared.order.Order.{Order}
 use Rattle.cyclo_points.specs.declared.order.Order.TheVariants.{Four, Six, Eight, Ten}
 use Rattle.cyclo_points.specs.Order.{NumberOf, PointsLaw, points_of}
-use Rattle.tile_place.specs.Glued.{IsTurnedTo}
+use Rattle.tile_place.specs.Glued.{IsTurnedTo, IsShift}
 
 -- by computation
 half_power : (o : Order) → power (points_of o).ring (points_of o).zeta ((points_of o).order / 2) ≡ (points_of o).ring.int (negsuc 0)
@@ -52,3 +52,13 @@ module _ (o : Order) (W : PointsLaw o) (v onto back : NumberOf o) (reverse : ont
         let again : k ≡ (k - (points_of o).order / 2) + (points_of o).order / 2 = omega arith in
         (none (k - (points_of o).order / 2) (above_half o k below (omega arith))).1 (nearer (k - (points_of o).order / 2) (subst (λ j. IsTurnedTo o j v onto) again h))
   ]
+
+-- half a turn more takes a point to its reverse, so that its shift is a sum
+pub further_shift : (o : Order) → PointsLaw o → (k : ℕ) (p q v t : NumberOf o) → t ≡ (points_of o).ring.mul (power (points_of o).ring (points_of o).zeta k) p
+    → v ≡ (points_of o).ring.add q t → IsShift o (k + (points_of o).order / 2) p q v
+further_shift o W k p q v t turned sum =
+    sum
+    ∙ ring_from (points_of o).ring W.of_ring
+    (power (points_of o).ring (points_of o).zeta k ∷ (power (points_of o).ring (points_of o).zeta ((points_of o).order / 2) ∷ (p ∷ (q ∷ (t ∷ [])))))
+    (var 3 ⊕ var 4) (var 3 ⊖ (var 0 ⊗ var 1) ⊗ var 2) ((con (pos 1), var 4, var 0 ⊗ var 2) ∷ ((var 0 ⊗ var 2, var 1, con (negsuc 0)) ∷ [])) (turned, (half_power o, tt)) refl
+    ∙ ap (λ z. difference (points_of o).ring q ((points_of o).ring.mul z p)) (sym (power-add (points_of o).ring W.of_ring (points_of o).zeta k ((points_of o).order / 2)))

@@ -1,6 +1,6 @@
 -- Which edges of prototiles meet, and the motions that glue them.
 use Rattle.std.specs.Prelude.{◌≡◌, ℕ, IsSome}
-use Rattle.ordered_ring.specs.Ring.{power}
+use Rattle.ordered_ring.specs.Ring.{difference, power}
 use Rattle.addressing.specs.Address.{Address, Fits}
 use Rattle.addressing.specs.Tables.{type_of}
 use Rattle.cyclo_points.specs.declared.order.Order.{Order}
@@ -13,6 +13,10 @@ use Rattle.tile_place.specs.Crossed.{placed_tile, IsOnlyAcross}
 -- a turn by ζ^k takes the vector v to w
 abbrev pub IsTurnedTo : (o : Order) → ℕ → NumberOf o → NumberOf o → Type 0
 IsTurnedTo o k v w = (points_of o).ring.mul (power (points_of o).ring (points_of o).zeta k) v ≡ w
+
+-- turned by ζ^k and then shifted by v, the point p comes to q
+abbrev pub IsShift : (o : Order) → ℕ → NumberOf o → NumberOf o → NumberOf o → Type 0
+IsShift o k p q v = v ≡ difference (points_of o).ring q ((points_of o).ring.mul (power (points_of o).ring (points_of o).zeta k) p)
 
 -- a kind of the tiling has an edge of this number
 abbrev pub HasKindEdge : Tiling → ℕ → ℕ → Type 0

@@ -12,11 +12,11 @@ ghost use Rattle.rule_model.specs.Tiling.{tiling_of};
 ghost use Rattle.rule_model.specs.Usable.{IsSmall};
 ghost use Rattle.rule_model.specs.Views.{rule_of};
 ghost use Rattle.tile_place.specs.Vectors.{vector_of};
-ghost use Rattle.tile_place.specs.Glued.{IsTurnedTo, HasKindEdge, Meets, Glues, GluingLaw};
+ghost use Rattle.tile_place.specs.Glued.{IsTurnedTo, IsShift, HasKindEdge, Meets, Glues, GluingLaw};
 
 use crate::machine::Machine;
 use crate::prototile_edge::PrototileEdge;
-use cyclo_points::arithmetic::sub;
+use cyclo_points::arithmetic::{add, sub};
 use cyclo_points::motion::Motion;
 use cyclo_points::order::Order;
 use cyclo_points::point::Point;
@@ -42,14 +42,27 @@ fn is_same(p: &Point, q: &Point) -> bool
         & is_equal(p.c[3], q.c[3])
 }
 
-/// The turn below n by which a vector becomes `onto`, which is the reverse of `back`.
-fn turn_onto(order: Order, vector: &Point, onto: &Point, back: &Point) -> Option<u8>
+/// The motion that turns a vector into `onto`, which is the reverse of `back`, and takes `start` to `end`.
+#[inline(always)]
+fn motion_onto(
+    order: Order,
+    vector: &Point,
+    onto: &Point,
+    back: &Point,
+    start: &Point,
+    end: &Point,
+) -> Option<Motion>
+    requires start_small { IsSmall order start.now }
+    requires end_small { IsSmall order end.now }
     requires vector_within { IsWithin (2 ^ 40) vector.now }
     requires onto_in_order { IsOf order onto.now }
     requires back_in_order { IsOf order back.now }
     requires reverse { point_in order onto.now ≡ (points_of order).ring.neg (point_in order back.now) }
-    ensures below { IfSome result (λ k. k < (points_of order).order) }
-    ensures turned { IfSome result (λ k. IsTurnedTo order k (point_in order vector.now) (point_in order onto.now)) }
+    ensures below { IfSome result (λ m. m.turn < (points_of order).order) }
+    ensures turned { IfSome result (λ m. IsTurnedTo order m.turn (point_in order vector.now) (point_in order onto.now)) }
+    ensures shift { IfSome result (λ m. IsShift order m.turn (point_in order start.now) (point_in order end.now) (point_in order m.shift)) }
+    ensures within { IfSome result (λ m. IsWithin (2 ^ 8) m.shift) }
+    ensures in_order { IfSome result (λ m. IsOf order m.shift) }
     ensures none { result ≡ None → (k : ℕ) → k < (points_of order).order
         → ¬ IsTurnedTo order k (point_in order vector.now) (point_in order onto.now) }
 {
@@ -59,23 +72,65 @@ fn turn_onto(order: Order, vector: &Point, onto: &Point, back: &Point) -> Option
     for k in 0..half {
         let turned = turn(order, k, vector);
         if is_same(&turned, onto) {
-            return Some(k);
+            return Some(Motion {
+                turn: k,
+                shift: sub(end, &turn(order, k, start)),
+            });
         }
         if is_same(&turned, back) {
-            return Some(k + half);
+            return Some(Motion {
+                turn: k + half,
+                shift: add(end, &turn(order, k, start)),
+            });
         }
     }
     None
 }
 
-/// The turn below n that takes the vector of one edge to that of another, reversed.
-fn turn_between(order: Order, own: &PrototileEdge, its: &PrototileEdge) -> Option<u8>
+/// The same, by order, so that the turns of each stand in code of their own.
+#[inline(always)]
+fn motion_by_order(
+    order: Order,
+    vector: &Point,
+    onto: &Point,
+    back: &Point,
+    start: &Point,
+    end: &Point,
+) -> Option<Motion>
+    requires start_small { IsSmall order start.now }
+    requires end_small { IsSmall order end.now }
+    requires vector_within { IsWithin (2 ^ 40) vector.now }
+    requires onto_in_order { IsOf order onto.now }
+    requires back_in_order { IsOf order back.now }
+    requires reverse { point_in order onto.now ≡ (points_of order).ring.neg (point_in order back.now) }
+    ensures below { IfSome result (λ m. m.turn < (points_of order).order) }
+    ensures turned { IfSome result (λ m. IsTurnedTo order m.turn (point_in order vector.now) (point_in order onto.now)) }
+    ensures shift { IfSome result (λ m. IsShift order m.turn (point_in order start.now) (point_in order end.now) (point_in order m.shift)) }
+    ensures within { IfSome result (λ m. IsWithin (2 ^ 8) m.shift) }
+    ensures in_order { IfSome result (λ m. IsOf order m.shift) }
+    ensures none { result ≡ None → (k : ℕ) → k < (points_of order).order
+        → ¬ IsTurnedTo order k (point_in order vector.now) (point_in order onto.now) }
+{
+    match order {
+        Order::Four => motion_onto(Order::Four, vector, onto, back, start, end),
+        Order::Six => motion_onto(Order::Six, vector, onto, back, start, end),
+        Order::Eight => motion_onto(Order::Eight, vector, onto, back, start, end),
+        Order::Ten => motion_onto(Order::Ten, vector, onto, back, start, end),
+    }
+}
+
+/// The motion that brings one edge onto the reverse of another.
+#[inline(always)]
+fn motion_between(order: Order, own: &PrototileEdge, its: &PrototileEdge) -> Option<Motion>
     requires own_start { IsSmall order own.now.start }
     requires own_end { IsSmall order own.now.end }
     requires its_start { IsSmall order its.now.start }
     requires its_end { IsSmall order its.now.end }
-    ensures below { IfSome result (λ k. k < (points_of order).order) }
-    ensures turned { IfSome result (λ k. IsTurnedTo order k (vector_of order its.now) ((points_of order).ring.neg (vector_of order own.now))) }
+    ensures below { IfSome result (λ m. m.turn < (points_of order).order) }
+    ensures turned { IfSome result (λ m. IsTurnedTo order m.turn (vector_of order its.now) ((points_of order).ring.neg (vector_of order own.now))) }
+    ensures shift { IfSome result (λ m. IsShift order m.turn (point_in order its.now.start) (point_in order own.now.end) (point_in order m.shift)) }
+    ensures within { IfSome result (λ m. IsWithin (2 ^ 8) m.shift) }
+    ensures in_order { IfSome result (λ m. IsOf order m.shift) }
     ensures none { result ≡ None → (k : ℕ) → k < (points_of order).order
         → ¬ IsTurnedTo order k (vector_of order its.now) ((points_of order).ring.neg (vector_of order own.now)) }
 {
@@ -83,7 +138,7 @@ fn turn_between(order: Order, own: &PrototileEdge, its: &PrototileEdge) -> Optio
     let vector = sub(&its.end, &its.start);
     let onto = sub(&own.start, &own.end);
     let back = sub(&own.end, &own.start);
-    turn_onto(order, &vector, &onto, &back)
+    motion_by_order(order, &vector, &onto, &back, &its.start, &own.end)
 }
 
 impl Machine {
@@ -110,7 +165,7 @@ impl Machine {
     {
         let own = self.prototile_edge(kind, edge);
         let its = self.prototile_edge(other, other_edge);
-        turn_between(self.checked().order(), &own, &its).is_some()
+        motion_between(self.checked().order(), &own, &its).is_some()
     }
 
     /// The motion that brings the second prototile's edge onto the reverse of the first's.
@@ -126,11 +181,8 @@ impl Machine {
         points_law(order);
         let own = self.prototile_edge(kind, edge);
         let its = self.prototile_edge(other, other_edge);
-        match turn_between(order, &own, &its) {
-            Some(k) => Motion {
-                turn: k,
-                shift: sub(&own.end, &turn(order, k, &its.start)),
-            },
+        match motion_between(order, &own, &its) {
+            Some(motion) => motion,
             None => Motion::default(),
         }
     }

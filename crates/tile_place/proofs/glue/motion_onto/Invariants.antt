@@ -1,7 +1,7 @@
 use Rattle.std.proofs.Common.{ℕ, ◌<◌}
 use Rattle.cyclo_points.specs.Point.{point_in}
 use Rattle.tile_place.specs.Glued.{IsTurnedTo}
-use Rattle.tile_place.proofs.glue.turn_onto.Given as goal
+use Rattle.tile_place.proofs.glue.motion_onto.Given as goal
 
 -- no turn before takes the vector to the one or to its reverse
 abbrev pub invariant-loop-k : goal.invariant-loop-k

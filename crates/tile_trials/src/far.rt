@@ -1,0 +1,162 @@
+//! Edges of tiles with 64 digits: the motion of the tile across, by gluing and by placing both tiles.
+ghost use Rattle.std.specs.Prelude.{◌≡◌, ◌<◌};
+
+use crate::placed::{across, followed, glue_motion};
+use builtin_rules::builtin::builtin;
+use builtin_rules::name::Name;
+use cyclo_points::motion::Motion;
+use edge_tables::steps::Steps;
+use std::alloc::Global;
+use std::marker::Brand;
+use std::sync::ledger::{Blank, Ledger};
+use std::test::Fail;
+use tile_place::machine::Machine;
+use tile_shape::address::Address;
+use tile_shape::step::Step;
+use transducer_core::crossing::Crossing;
+
+#[derive(Drop)]
+/// Numbers drawn one after another, by a linear congruence.
+struct Draws {
+    state: u64,
+}
+
+impl Draws {
+    /// A number below n, or 0 where there is none.
+    fn below(&mut self, n: u64) -> u64 {
+        self.state = self
+            .state
+            .wrapping_mul(6364136223846793005)
+            .wrapping_add(1442695040888963407);
+        (self.state >> 33).checked_rem(n).unwrap_or(0)
+    }
+}
+
+/// A digit above this kind, drawn of its uses.
+fn drawn_digit(machine: &Machine, kind: u8, draws: &mut Draws) -> Option<Step> {
+    let uses = machine.checked().uses();
+    if kind >= uses.kinds() {
+        return None;
+    }
+    let count = uses.count(kind);
+    let number = u16::try_from(draws.below(u64::from(count))).ok()?;
+    if number >= count {
+        return None;
+    }
+    Some(uses.get(kind, number))
+}
+
+/// An address of 64 digits.
+fn drawn_address(machine: &Machine, draws: &mut Draws) -> Option<Address> {
+    let kinds = machine.checked().uses().kinds();
+    let mut kind = u8::try_from(draws.below(u64::from(kinds))).ok()?;
+    let mut addr = Address::new(kind);
+    for _ in 0..64 {
+        let digit = drawn_digit(machine, kind, draws)?;
+        addr.push_coarse(digit).ok()?;
+        kind = digit.parent;
+    }
+    Some(addr)
+}
+
+/// The address in the ancestor at this level.
+fn below(addr: &Address, level: usize) -> Address {
+    let mut short = Address::new(addr.kind);
+    for digit in addr.digits.as_slice().iter().take(level) {
+        let _ = short.push_coarse(*digit);
+    }
+    short
+}
+
+/// The least level from which on two addresses have the same digits.
+fn common_level(a: &Address, b: &Address) -> usize {
+    let mut level = 0;
+    for (number, (x, y)) in a.digits.iter().zip(b.digits.iter()).enumerate() {
+        if x != y {
+            level = number.saturating_add(1);
+        }
+    }
+    level
+}
+
+/// Where a tile lies; None where there is none of that address, or a value is refused.
+fn place(machine: &Machine, addr: &Address) -> Option<Motion> {
+    if !machine.checked().uses().fits(addr) {
+        return None;
+    }
+    machine.place(addr).ok()
+}
+
+/// Whether the tile across an edge lies, in the least supertile that both share, where the gluing motion
+/// puts it.
+fn is_glued(machine: &Machine, a: &Address, edge: u8, b: &Address, back: u8) -> bool {
+    let level = common_level(a, b);
+    let own = place(machine, &below(a, level));
+    let other = place(machine, &below(b, level));
+    let motion = glue_motion(machine, a.kind, edge, b.kind, back);
+    let order = machine.checked().order();
+    match (own, other, motion) {
+        (Some(own), Some(other), Some(motion)) => followed(order, &motion, &own) == Some(other),
+        _ => false,
+    }
+}
+
+/// How many of so many drawn edges have a tile across, glued, from which the way back leads back; and how
+/// many lie outside.
+fn counted<L: Ledger>(alloc: Global, name: Name, blank: Blank) -> Result<(u32, u32), Fail>
+    requires name { blank.name ≡ L.name }
+    requires parts { blank.parts ≡ L.parts }
+    requires some { 0 < blank.parts }
+{
+    let mut steps = Steps::<L>::new(blank);
+    let machine = Machine::new(alloc, builtin(alloc, name)?)?;
+    let mut draws = Draws { state: 42 };
+    let mut glued: u32 = 0;
+    let mut outside: u32 = 0;
+    for _ in 0..1000 {
+        if let Some(addr) = drawn_address(&machine, &mut draws) {
+            let edge = u8::try_from(draws.below(3)).unwrap_or(0);
+            match across(&machine, &addr, edge, &mut steps) {
+                Some(
+                    Ok(
+                        Crossing {
+                            addr: b,
+                            edge: back,
+                        },
+                    ),
+                ) => {
+                    let home = Some(Ok(Crossing {
+                        addr: addr.copy(),
+                        edge,
+                    }));
+                    if is_glued(&machine, &addr, edge, &b, back)
+                        && across(&machine, &b, back, &mut steps) == home
+                    {
+                        glued = glued.saturating_add(1);
+                    }
+                }
+                Some(Err(_)) => outside = outside.saturating_add(1),
+                None => (),
+            }
+        }
+    }
+    Ok((glued, outside))
+}
+
+#[test]
+fn far_up(rt: HostRuntime) -> Result<(), Fail> {
+    for name in [
+        Name::Chair,
+        Name::P2,
+        Name::P3,
+        Name::AmmannBeenker,
+        Name::HalfHex,
+    ] {
+        assert_eq!(rt;
+            counted::<Brand>(rt.alloc(), name, Blank::new(1))?,
+            (1000, 0),
+            "{name:?}"
+        );
+    }
+    Ok(())
+}

@@ -1,0 +1,45 @@
+//! Gluing motions of edges that meet, worked out by hand from where neighbours lie, and edges that don't meet.
+use crate::placed::glue_motion;
+use builtin_rules::builtin::builtin;
+use builtin_rules::name::Name;
+use cyclo_points::motion::Motion;
+use cyclo_points::order::Order;
+use cyclo_points::point::Point;
+use dissection::laws::{crossing_law, dissection_law, multiples_law, no_return_law, touch_law};
+use std::test::Fail;
+use tile_place::machine::Machine;
+
+/// A rule, a kind and an edge, another kind and edge, and the turn and the shift of the motion that glues the
+/// second onto the first. A kite's half has two sides of length φ, and one of length 1.
+const ROWS: [(Name, [u8; 4], Option<(u8, [i64; 4])>); 6] = [
+    (Name::Chair, [0, 0, 0, 3], Some((0, [1, 1, 0, 0]))),
+    (Name::Chair, [0, 3, 0, 0], Some((0, [-1, -1, 0, 0]))),
+    (Name::Chair, [0, 0, 0, 1], Some((1, [3, 1, 0, 0]))),
+    (Name::P2, [0, 2, 1, 0], Some((1, [0, 0, 0, 0]))),
+    (Name::P2, [0, 0, 0, 1], None),
+    (Name::P2, [0, 1, 0, 0], None),
+];
+
+#[test]
+fn gluing_motions(rt: HostRuntime) -> Result<(), Fail> {
+    for (name, [kind, edge, other, other_edge], wanted) in ROWS {
+        let machine = Machine::new(rt.alloc(), builtin(rt.alloc(), name)?)?;
+        machine.gluing_law();
+        let wanted = wanted.map(|(turn, c)| Motion {
+            turn,
+            shift: Point { c },
+        });
+        let found = glue_motion(&machine, kind, edge, other, other_edge);
+        assert_eq!(rt;
+            found,
+            wanted,
+            "{name:?} {kind} {edge} {other} {other_edge}"
+        );
+    }
+    dissection_law(Order::Four);
+    touch_law(Order::Six);
+    crossing_law(Order::Eight);
+    no_return_law(Order::Ten);
+    multiples_law(Order::Eight);
+    Ok(())
+}
