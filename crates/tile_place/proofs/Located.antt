@@ -28,7 +28,7 @@ use Rattle.rule_model.specs.Views.{rule_of, as_edition}
 use Rattle.tile_place.specs.declared.placed_tile.PlacedTile.{PlacedTile}
 use Rattle.tile_place.specs.declared.locate_fault.LocateFault.{LocateFault}
 use Rattle.tile_place.specs.declared.locate_fault.LocateFault.TheVariants.{NotInside, CoordLimit}
-use Rattle.tile_place.specs.Located.{moved_tiles, OnlyHoldsPoint, IsInside, first_refused_looked_at, IsCauseOf}
+use Rattle.tile_place.specs.Located.{moved_tiles, IsOnlyTileHolding, IsInside, first_refused_looked_at, IsCauseOf}
 use Rattle.tile_place.specs.Searched.{placed_in, IsFaultOf}
 use Rattle.tile_place.proofs.Ahead.{map-map}
 use Rattle.tile_place.proofs.Plane.{IsSettled, its_rule}
@@ -71,7 +71,7 @@ module _ (m : Rule) (settled : IsSettled m) (W : PointsLaw m.order) (law : Disse
     pub located-motion : t.motion ≡ followed P (placement P r t.address.digits) at
     located-motion = own.moved ∙ ap (λ g. followed P g at) (AllByRecursion-among (IsPlaced P W r n) (record { address = t.address; motion = own.own }) (supertile P r k n) own.among (supertile-placed P W r k n)).motion_is
 
-    pub located-only : OnlyHoldsPoint (tiling_of m) k n at p t
+    pub located-only : IsOnlyTileHolding (tiling_of m) k n at p t
     located-only = record {
       here = record { among = among; holds = holds };
       only = λ y h. only_one P W r dissected settled.usable.numbered.child_exists p k n at exists (inside t e) t y among holds h.among h.holds;

@@ -21,14 +21,14 @@ abbrev pub moved_tiles : (t : Tiling) → ℕ → ℕ → MotionOf t → List (P
 moved_tiles t k n m = map (λ (x : Placed (NumberOf t.order)). record { address = x.address; motion = followed (points_of t.order) x.motion m }) (supertile (points_of t.order) t.rule k n)
 
 -- a tile is one of them, and the point belongs to its polygon
-pub record HoldsPoint (t : Tiling) (k n : ℕ) (m : MotionOf t) (p : NumberOf t.order) (x : Placed (NumberOf t.order)) : Type 0 where
+pub record IsTileHolding (t : Tiling) (k n : ℕ) (m : MotionOf t) (p : NumberOf t.order) (x : Placed (NumberOf t.order)) : Type 0 where
   pub among : IsAmong x (moved_tiles t k n m)
   pub holds : member (points_of t.order).real (tile_polygon (points_of t.order) t.rule (λ z. z) x) (test_point (points_of t.order).real.ops (plane_point (points_of t.order) p)) ≡ true
 
 -- and no other tile of them does
-pub record OnlyHoldsPoint (t : Tiling) (k n : ℕ) (m : MotionOf t) (p : NumberOf t.order) (x : Placed (NumberOf t.order)) : Type 0 where
-  pub here : HoldsPoint t k n m p x
-  pub only : (y : Placed (NumberOf t.order)) → HoldsPoint t k n m p y → y ≡ x
+pub record IsOnlyTileHolding (t : Tiling) (k n : ℕ) (m : MotionOf t) (p : NumberOf t.order) (x : Placed (NumberOf t.order)) : Type 0 where
+  pub here : IsTileHolding t k n m p x
+  pub only : (y : Placed (NumberOf t.order)) → IsTileHolding t k n m p y → y ≡ x
 
 -- the supertile of kind k and depth n, moved by m, holds the point: its count there is 1
 abbrev pub IsInside : (t : Tiling) → ℕ → ℕ → MotionOf t → NumberOf t.order → Type 0

@@ -11,7 +11,7 @@ ghost use Rattle.rule_model.specs.Tiling.{tiling_of, children};
 ghost use Rattle.rule_model.specs.Views.{rule_of};
 ghost use Rattle.tile_shape.specs.Views.{address_of};
 ghost use Rattle.tile_place.specs.declared.locate_fault.LocateFault.TheVariants.{NotInside};
-ghost use Rattle.tile_place.specs.Located.{OnlyHoldsPoint, IsInside, first_refused_looked_at, IsCauseOf};
+ghost use Rattle.tile_place.specs.Located.{IsOnlyTileHolding, IsInside, first_refused_looked_at, IsCauseOf};
 ghost use Rattle.tile_place.specs.Searched.{placed_in};
 
 use crate::locate_fault::LocateFault;
@@ -43,7 +43,7 @@ impl Machine {
         requires point_within { IsWithin (2 ^ 24) point.now }
 
         // In the plane: the only tile that holds the point.
-        ensures only_tile { IfOk result (λ tile. OnlyHoldsPoint (tiling_of self.now) kind depth (motion_in self.now.order at.now)
+        ensures only_tile { IfOk result (λ tile. IsOnlyTileHolding (tiling_of self.now) kind depth (motion_in self.now.order at.now)
             (point_in self.now.order point.now) (placed_in self.now.order tile)) }
         ensures its_kind { IfOk result (λ tile. tile.kind ≡ tile.addr.kind) }
         ensures its_depth { IfOk result (λ tile. depth_of (address_of tile.addr) ≡ depth) }

@@ -14,7 +14,7 @@ use Rattle.rule_model.specs.Tiling.{tiling_of, children}
 use Rattle.rule_model.specs.Views.{rule_of}
 use Rattle.tile_place.specs.declared.placed_tile.PlacedTile.{PlacedTile}
 use Rattle.tile_place.specs.declared.locate_fault.LocateFault.{LocateFault}
-use Rattle.tile_place.specs.Located.{OnlyHoldsPoint}
+use Rattle.tile_place.specs.Located.{IsOnlyTileHolding}
 use Rattle.tile_place.specs.Searched.{placed_in}
 use Rattle.tile_place.proofs.Plane.{IsSettled}
 use Rattle.tile_place.proofs.Located.{located-only, located-depth, located-fits, located-motion, causes, found_exactly, not_inside}
@@ -37,7 +37,7 @@ returns-clause-only_tile c =
     let laws = settled m c.order-order.result c.checked.result.now c.order-order.ensures.order c.checked.ensures.rule c.points_law.ensures c.dissection_law.ensures in
     let at = motion_in m.order c.args.at.now in
     let point = point_in m.order c.args.point.now in
-    so_of m.order c.search.result (tile_holding (points_of m.order) (rule_of m) c.args.kind c.args.depth at point) (OnlyHoldsPoint (tiling_of m) c.args.kind c.args.depth at point)
+    so_of m.order c.search.result (tile_holding (points_of m.order) (rule_of m) c.args.kind c.args.depth at point) (IsOnlyTileHolding (tiling_of m) c.args.kind c.args.depth at point)
     (located-only m s laws.0 laws.1 c.args.kind c.args.depth c.requires.exists at c.requires.turn_below point) c.search.ensures.holder
 
 pub returns-clause-its_depth : goal.returns-clause-its_depth
