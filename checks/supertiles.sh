@@ -1,0 +1,13 @@
+#!/bin/sh
+# Lists whole supertiles of every file of rules/, as their definition says, with whole numbers and apart from the
+# engine, and compares the program with them: `place` on each tile, and `neighbour` on each edge of each tile. Ends with
+# 1 where one differs. The program is the one that TILING names, or crates/tiling/out/tiling.
+top=$(cd "$(dirname "$0")/.." && pwd) || exit 1
+program=${TILING:-$top/crates/tiling/out/tiling}
+python=${PYTHON:-python3}
+[ -x "$program" ] || { echo "supertiles: skipped, since there is no program $program"; exit 0; }
+if ! "$python" -c 'import tomllib' 2> /dev/null; then
+    echo "supertiles: skipped, since there is no Python 3.11 or later"
+    exit 0
+fi
+exec "$python" "$top/checks/supertiles.py" "$top" "$program"
