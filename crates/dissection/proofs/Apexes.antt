@@ -1,5 +1,5 @@
 -- Each edge of a star-shaped polygon has a triangle of the polygon on its left; and two edges along which one line lies are one edge.
-use Rattle.std.proofs.Common.{◌≡◌, inl, inr, ℕ, zero, suc, ◌<◌, ◌≤◌, pos, true, List, [], ◌∷◌, length, map, refl, sym, ap, ap₂, ◌∙◌, subst, arith}
+use Rattle.std.proofs.Common.{◌≡◌, inl, inr, ℕ, zero, suc, ◌<◌, ◌≤◌, pos, [], ◌∷◌, length, map, refl, sym, ap, ap₂, ◌∙◌, subst, arith}
 use Rattle.std.proofs.lemmas.Bool.{cases_lt, cases_eq}
 use Rattle.std.specs.declared.cmp.Ordering.TheVariants.{Equal}
 use Rattle.ordered_ring.specs.Ring.{Ops, Laws, difference}
@@ -12,14 +12,13 @@ use Rattle.ordered_ring.proofs.Signs.{pos_add_nonneg, nonneg_mul, pos_nonneg}
 use Rattle.ordered_plane.proofs.Linear.{cancel}
 use Rattle.ordered_plane.proofs.Triangle.{edge_sum, count-edge_sum}
 use Rattle.ordered_plane.proofs.Inside.{sum_rotated}
-use Rattle.substitution.specs.Points.{Points, PointLaws}
-use Rattle.substitution.specs.Plane.{plane_point, Keeps}
-use Rattle.edge_to_edge.specs.Star.{is_star}
+use Rattle.substitution.specs.Plane.{plane_point}
 use Rattle.dissection.proofs.Ahead.{Ahead, ahead-turns}
 use Rattle.dissection.proofs.Around.{orientation-rotated, orientation-start, orientation-end, orientation-none}
 use Rattle.dissection.proofs.StarEdges.{next_of, Place, first, middle, last, at, from, to, fan-left, next-middle, next-last, middle-left}
 use Rattle.dissection.proofs.StarCount.{in_triangle, one_triangle}
 use Rattle.dissection.proofs.CommonPoint.{Shared, common_point}
+use Rattle.dissection.proofs.MovedStar.{MovedStar}
 
 module _ (S : Signed) (L : Laws S.ops) (O : OrderLaws S) where
   abbrev R : Ops
@@ -50,19 +49,20 @@ module _ (S : Signed) (L : Laws S.ops) (O : OrderLaws S) where
           ∷ ((neg (var 5 ⊗ (var 9 ⊗ (var 0 ⊖ var 2))), var 8, (var 10 ⊕ var 9) ⊕ var 11) ∷ [])))))
           (e1, (e2, (e3, (e4, (g.whole, tt))))) refl)
 
-module _ (P : Points) (W : PointLaws P) (f : P.ring.carrier → P.ring.carrier) (keeps : Keeps P f) (vs : List P.ring.carrier)
-    (star : is_star P vs ≡ true) (three : 3 ≤ length vs) where
+module _ (Q : MovedStar) where
+  open Q use {points as P, laws as W, move as f, keeps, vertices as vs, star, three}
+
   abbrev S : Signed
   S = P.real
 
   abbrev at_vertex : ℕ → PlanePoint P.real.ops.carrier
-  at_vertex = at P W f keeps vs star three
+  at_vertex = at Q
 
   abbrev start : ℕ → PlanePoint P.real.ops.carrier
-  start = from P W f keeps vs star three
+  start = from Q
 
   abbrev end : ℕ → PlanePoint P.real.ops.carrier
-  end = to P W f keeps vs star three
+  end = to Q
 
   -- the triangle of the fan on an edge, and the vertex that is its third
   pub record Apex (e : ℕ) : Type 0 where
@@ -77,18 +77,18 @@ module _ (P : Points) (W : PointLaws P) (f : P.ring.carrier → P.ring.carrier) 
     number = 0;
     in_fan = omega arith;
     apex = at_vertex 2;
-    left = ap (λ j. S.sign (orientation P.real.ops (at_vertex 0) (at_vertex j) (at_vertex 2))) is ∙ fan-left P W f keeps vs star three 0 (omega arith);
+    left = ap (λ j. S.sign (orientation P.real.ops (at_vertex 0) (at_vertex j) (at_vertex 2))) is ∙ fan-left Q 0 (omega arith);
     sum = λ q. ap (λ j. edge_sum S (at_vertex 0) (at_vertex j) (at_vertex 2) q) is;
   }
     where
       is : next_of (length vs) 0 ≡ 1
-      is = next-middle P W f keeps vs star three 0 (omega arith)
+      is = next-middle Q 0 (omega arith)
   apex_of e (middle i h) = record {
     number = i;
     in_fan = h;
     apex = at_vertex 0;
-    left = middle-left P W f keeps vs star three i h;
-    sum = λ q. ap (λ j. edge_sum S (at_vertex (suc i)) (at_vertex j) (at_vertex 0) q) (next-middle P W f keeps vs star three (suc i) h)
+    left = middle-left Q i h;
+    sum = λ q. ap (λ j. edge_sum S (at_vertex (suc i)) (at_vertex j) (at_vertex 0) q) (next-middle Q (suc i) h)
         ∙ sum_rotated S W.of_real W.of_order (at_vertex 0) (at_vertex (suc i)) (at_vertex (suc (suc i))) q;
   }
   apex_of e (last zero h) = absurd (omega arith)
@@ -99,20 +99,20 @@ module _ (P : Points) (W : PointLaws P) (f : P.ring.carrier → P.ring.carrier) 
     left =
         ap (λ j. S.sign (orientation P.real.ops (at_vertex (suc (suc i))) (at_vertex j) (at_vertex (suc i)))) is
         ∙ ap S.sign (orientation-rotated S W.of_real W.of_order (at_vertex (suc i)) (at_vertex (suc (suc i))) (at_vertex 0))
-        ∙ ap S.sign (orientation-rotated S W.of_real W.of_order (at_vertex 0) (at_vertex (suc i)) (at_vertex (suc (suc i)))) ∙ fan-left P W f keeps vs star three i (omega arith);
+        ∙ ap S.sign (orientation-rotated S W.of_real W.of_order (at_vertex 0) (at_vertex (suc i)) (at_vertex (suc (suc i)))) ∙ fan-left Q i (omega arith);
     sum = λ q. ap (λ j. edge_sum S (at_vertex (suc (suc i))) (at_vertex j) (at_vertex (suc i)) q) is
         ∙ sum_rotated S W.of_real W.of_order (at_vertex (suc i)) (at_vertex (suc (suc i))) (at_vertex 0) q
         ∙ sum_rotated S W.of_real W.of_order (at_vertex 0) (at_vertex (suc i)) (at_vertex (suc (suc i))) q;
   }
     where
       is : next_of (length vs) (suc (suc i)) ≡ 0
-      is = next-last P W f keeps vs star three (suc (suc i)) h
+      is = next-last Q (suc (suc i)) h
 
   -- the polygon holds the triangle's points
   pub apex-covers : (e : ℕ) (a : Apex e) (q : TestPoint P.real.ops.carrier) → IsPositive S q.d → edge_sum S (start e) (end e) a.apex q ≡ pos 1
       → count S (map (λ z. plane_point P (f z)) vs) q ≡ pos 1
   apex-covers e a q d_pos h =
-      in_triangle P W f keeps vs star three q d_pos a.number a.in_fan
+      in_triangle Q q d_pos a.number a.in_fan
       (count-edge_sum S (record { a = at_vertex 0; b = at_vertex (suc a.number); c = at_vertex (suc (suc a.number)) }) q ∙ sym (a.sum q) ∙ h)
 
   -- an edge in the middle has the triangle of its number
@@ -135,10 +135,10 @@ module _ (P : Points) (W : PointLaws P) (f : P.ring.carrier → P.ring.carrier) 
       in_b = count-edge_sum S (record { a = at_vertex 0; b = at_vertex (suc b.number); c = at_vertex (suc (suc b.number)) }) c.point ∙ sym (b.sum c.point) ∙ c.in_other
 
       below : a.number < b.number → ⊥
-      below lt = one_triangle P W f keeps vs star three c.point c.d_pos a.number b.number lt b.in_fan in_a in_b
+      below lt = one_triangle Q c.point c.d_pos a.number b.number lt b.in_fan in_a in_b
 
       above : (a.number ≡ b.number → ⊥) → b.number ≤ a.number → ⊥
-      above differ ge = one_triangle P W f keeps vs star three c.point c.d_pos b.number a.number (omega arith) a.in_fan in_b in_a
+      above differ ge = one_triangle Q c.point c.d_pos b.number a.number (omega arith) a.in_fan in_b in_a
 
   same_side : (d e : ℕ) (u v z : PlanePoint P.real.ops.carrier) → Ahead S (start d) (end d) u v → Ahead S (start e) (end e) u v
       → S.sign (orientation P.real.ops (start d) (end d) z) ≡ S.sign (orientation P.real.ops (start e) (end e) z)
@@ -147,22 +147,22 @@ module _ (P : Points) (W : PointLaws P) (f : P.ring.carrier → P.ring.carrier) 
   -- one in the middle and one at vertex 0
   not_both_kinds : (i e : ℕ) (u v : PlanePoint P.real.ops.carrier) → suc (suc i) < length vs → S.sign (orientation P.real.ops (start e) (end e) (at_vertex 0)) ≡ Equal
       → Ahead S (start (suc i)) (end (suc i)) u v → Ahead S (start e) (end e) u v → ⊥
-  not_both_kinds i e u v k flat h g = cc (sym (middle-left P W f keeps vs star three i k) ∙ same_side (suc i) e u v (at_vertex 0) h g ∙ flat)
+  not_both_kinds i e u v k flat h g = cc (sym (middle-left Q i k) ∙ same_side (suc i) e u v (at_vertex 0) h g ∙ flat)
 
   first-flat : S.sign (orientation P.real.ops (start 0) (end 0) (at_vertex 0)) ≡ Equal
   first-flat = orientation-start S W.of_real W.of_order (at_vertex 0) (end 0)
 
   last-flat : (i : ℕ) → suc (suc i) ≡ length vs → S.sign (orientation P.real.ops (start (suc i)) (end (suc i)) (at_vertex 0)) ≡ Equal
-  last-flat i n = ap (λ j. S.sign (orientation P.real.ops (at_vertex (suc i)) (at_vertex j) (at_vertex 0))) (next-last P W f keeps vs star three (suc i) n) ∙ orientation-end S W.of_real W.of_order (at_vertex (suc i)) (at_vertex 0)
+  last-flat i n = ap (λ j. S.sign (orientation P.real.ops (at_vertex (suc i)) (at_vertex j) (at_vertex 0))) (next-last Q (suc i) n) ∙ orientation-end S W.of_real W.of_order (at_vertex (suc i)) (at_vertex 0)
 
   -- the first and the last
   not_both_ends : (i : ℕ) (u v : PlanePoint P.real.ops.carrier) → suc (suc i) ≡ length vs → Ahead S (start 0) (end 0) u v → Ahead S (start (suc i)) (end (suc i)) u v → ⊥
   not_both_ends i u v n h g =
-      let h' = subst (λ j. Ahead S (at_vertex 0) (at_vertex j) u v) (next-middle P W f keeps vs star three 0 (omega arith)) h in
-      let g' = subst (λ j. Ahead S (at_vertex (suc i)) (at_vertex j) u v) (next-last P W f keeps vs star three (suc i) n) g in
+      let h' = subst (λ j. Ahead S (at_vertex 0) (at_vertex j) u v) (next-middle Q 0 (omega arith)) h in
+      let g' = subst (λ j. Ahead S (at_vertex (suc i)) (at_vertex j) u v) (next-last Q (suc i) n) g in
       let same = no_line S W.of_real W.of_order (at_vertex 0) (at_vertex 1) (at_vertex (suc i)) u v h' g' in
       let one = ap₂ (λ x y. S.sign (orientation P.real.ops (at_vertex 0) (record { x = x; y = y }) (at_vertex 2))) same.0 same.1 in
-      cc (sym (fan-left P W f keeps vs star three 0 (omega arith)) ∙ one ∙ orientation-none S W.of_real W.of_order (at_vertex 0) (at_vertex 2))
+      cc (sym (fan-left Q 0 (omega arith)) ∙ one ∙ orientation-none S W.of_real W.of_order (at_vertex 0) (at_vertex 2))
 
   pub one_edge : (d e : ℕ) (u v : PlanePoint P.real.ops.carrier) → Place (length vs) d → Place (length vs) e → Ahead S (start d) (end d) u v → Ahead S (start e) (end e) u v → d ≡ e
   one_edge d e u v first first h g = refl

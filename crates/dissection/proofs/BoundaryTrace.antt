@@ -1,14 +1,11 @@
 -- An edge lies along an edge of the supertile exactly where it has a trace to it; and then on one part, the one that the trace names first.
-use Rattle.edge_to_edge.specs.Edition.{Edition}
-use Rattle.std.proofs.Common.{◌≡◌, ℕ, zero, suc, ◌<◌, Bool, true, List, [], ◌∷◌, length, get_or, slice_get, pos, Some, refl, sym, ap, ap₂, ◌∙◌, subst}
+use Rattle.std.proofs.Common.{◌≡◌, ℕ, zero, suc, ◌<◌, true, List, [], ◌∷◌, length, get_or, slice_get, pos, Some, refl, sym, ap, ap₂, ◌∙◌, subst}
 use Rattle.ordered_ring.specs.Ring.{Ops, power}
 use Rattle.ordered_ring.specs.Sign.{Signed}
 use Rattle.ordered_ring.proofs.Normaliser.{var, con, ring, ◌⊕◌, ◌⊗◌}
-use Rattle.substitution.specs.Points.{Points, PointLaws}
-use Rattle.substitution.specs.Plane.{plane_point, IsGrowthFactor}
+use Rattle.substitution.specs.Plane.{plane_point}
 use Rattle.substitution.specs.Motion.{moved}
 use Rattle.addressing.specs.Address.{Step, Address, top_kind, depth, Fits}
-use Rattle.substitution.specs.Rule.{Rule}
 use Rattle.substitution.specs.RuleParts.{edge_count, child_of}
 use Rattle.edge_to_edge.specs.Edges.{Edge, PlacedEdge, child_edge, lies_along}
 use Rattle.addressing.specs.Search.{IsAmong}
@@ -16,31 +13,29 @@ use Rattle.substitution.specs.Supertile.{Placed, supertile}
 use Rattle.edge_to_edge.specs.Contacts.{name_of, tables_of}
 use Rattle.addressing.specs.Tables.{Tables, child_kinds}
 use Rattle.addressing.specs.Trace.{Cut, IsTrace, HasTrace, first_part}
-use Rattle.edge_to_edge.specs.Numbered.{IsNumbered}
-use Rattle.edge_to_edge.specs.EdgeToEdge.{IsEdgeToEdge}
-use Rattle.substitution.proofs.Keeping.{powers-keep}
 use Rattle.addressing.proofs.Chains.{chain_of}
 use Rattle.edge_to_edge.proofs.TablesOf.{child_kind_of-at}
 use Rattle.edge_to_edge.proofs.ChildEdges.{among-child_edges, one_named}
 use Rattle.edge_to_edge.proofs.CutEdges.{cut_parts}
 use Rattle.edge_to_edge.proofs.ContactCases.{part-alone}
-use Rattle.edge_to_edge.proofs.CoherentTypes.{below_kinds}
-use Rattle.edge_to_edge.proofs.CoherentContacts.{cut_edges}
-use Rattle.dissection.specs.TileEdges.{edge_of, inflated_line, supertile_edge}
+use Rattle.dissection.specs.TileEdges.{edge_of, inflated_line, supertile_edge, tile_at}
 use Rattle.dissection.specs.Across.{IsTileAcross}
 use Rattle.dissection.specs.OnBoundary.{LiesOnPart, IsOnBoundary}
+use Rattle.dissection.proofs.Setting.{Setting, below_kinds, cut_edges, inflating-keeps}
 use Rattle.dissection.proofs.Ahead.{Ahead}
 use Rattle.dissection.proofs.Injective.{AheadOf, along_of, ahead-along}
 use Rattle.dissection.proofs.MirroredCuts.{part_facts}
 use Rattle.dissection.proofs.Opposite.{finer-edge}
 use Rattle.dissection.proofs.Frames.{frame}
-use Rattle.dissection.proofs.TraceAlong.{tile_of, trace-on_boundary}
+use Rattle.dissection.proofs.TraceAlong.{trace-on_boundary}
 use Rattle.dissection.proofs.RuleAddresses.{top_exists, lowest_exists, tile-among}
 use Rattle.dissection.proofs.OnlyOne.{one_along}
 use Rattle.dissection.proofs.AcrossTouches.{same, traced-none}
 use Rattle.dissection.proofs.Covering.{cover}
 
-module _ (P : Points) (W : PointLaws P) (edition : Edition) (refused : P.ring.carrier → Bool) (r : Rule P.ring.carrier) (N : IsNumbered P r) (D : IsEdgeToEdge P edition refused r) (growth : IsGrowthFactor P r.factor) where
+module _ (T : Setting) where
+  open T use {points as P, laws as W, accepted.{rule as r, numbered as N, edge_to_edge as D}}
+
   abbrev A : Type 0
   A = P.ring.carrier
 
@@ -54,7 +49,7 @@ module _ (P : Points) (W : PointLaws P) (edition : Edition) (refused : P.ring.ca
   t = tables_of P r
 
   abbrev tile : Address → Placed A
-  tile = tile_of P W edition refused r N D growth
+  tile = tile_at P r
 
   -- ---- a line along two parts of an edge: they are one
   abbrev child_address : ℕ → PlacedEdge A → Address
@@ -71,13 +66,13 @@ module _ (P : Points) (W : PointLaws P) (edition : Edition) (refused : P.ring.ca
 
   on_child : (k e p : ℕ) (s : PlacedEdge A) → k < length r.kinds → e < edge_count r k → slice_get (cut_parts P r k e) p ≡ Some s → OnChild k s
   on_child k e p s hk he at =
-      let named = among-child_edges P r k s (part_facts P W edition refused r N D k e p s hk he at).among in
+      let named = among-child_edges P r k s (part_facts T k e p s hk he at).among in
       let fits = child_kind_of-at P r k s.child named.has.child_below in
       record {
-        among = tile-among P W edition refused r N D (child_address k s) (fits, below_kinds P W edition refused r N D k hk);
+        among = tile-among T (child_address k s) (fits, below_kinds T k hk);
         edge_exists = named.has.edge_below;
         line =
-            finer-edge P W edition refused r N D (child_of P r k s.child).kind s.edge (record { child = s.child; parent = k }) [] fits
+            finer-edge T (child_of P r k s.child).kind s.edge (record { child = s.child; parent = k }) [] fits
             ∙ ap₂ (λ u v. record { from = u; to = v }) (frame-still (child_edge P r k s.child s.edge).line.from) (frame-still (child_edge P r k s.child s.edge).line.to)
             ∙ sym (ap (λ (x : PlacedEdge A). x.line) named.is);
       }
@@ -87,13 +82,13 @@ module _ (P : Points) (W : PointLaws P) (edition : Edition) (refused : P.ring.ca
   parts_one k e m p q s s' l hk he at at' along along' =
       let a = on_child k e p s hk he at in
       let b = on_child k e q s' hk he at' in
-      let one = one_along P W edition refused r N D growth (K.mul (power K r.factor m)) (powers-keep P W r.factor growth m) k 1 hk (tile (child_address k s)) (tile (child_address k s')) s.edge s'.edge
+      let one = one_along T (K.mul (power K r.factor m)) (inflating-keeps T m) k 1 hk (tile (child_address k s)) (tile (child_address k s')) s.edge s'.edge
       (plane_point P l.from) (plane_point P l.to) a.among b.among a.edge_exists b.edge_exists
       (on_line s a.line along) (on_line s' b.line along') in
       let child : s.child ≡ s'.child = ap (λ (x : Placed A). (get_or x.address.digits 0 (record { child = 0; parent = 0 })).child) one.0 in
       let name : name_of s ≡ name_of s' = ap₂ (λ (c : ℕ) (f : ℕ). record { child = c; edge = f }) child one.1 in
-      let same_edge : s ≡ s' = one_named P r k s s' (part_facts P W edition refused r N D k e p s hk he at).among (part_facts P W edition refused r N D k e q s' hk he at').among name in
-      (part-alone P W r k (D.none_loose k hk) (cut_edges P W edition refused r N D k) s e p e q (record { edge_below = he; at = at })
+      let same_edge : s ≡ s' = one_named P r k s s' (part_facts T k e p s hk he at).among (part_facts T k e q s' hk he at').among name in
+      (part-alone P W r k (D.none_loose k hk) (cut_edges T k) s e p e q (record { edge_below = he; at = at })
       (record { edge_below = he; at = at' ∙ ap Some (sym same_edge) })).1
     where
       on_line : (x : PlacedEdge A) → edge_of P r (tile (child_address k x)) x.edge ≡ x.line → lies_along P (inflated_line P r m x.line) l ≡ true
@@ -110,14 +105,14 @@ module _ (P : Points) (W : PointLaws P) (edition : Edition) (refused : P.ring.ca
       → lies_along P (supertile_edge P r (top_kind a) (depth a) top) (edge_of P r (tile a) e) ≡ true → (cuts : List Cut) × HasTrace t a e top cuts
   along-traced a e top fits he ht along =
       let chain = chain_of t a fits in
-      let hk = top_exists P W edition refused r N D a.kind a.digits chain in
+      let hk = top_exists T a.kind a.digits chain in
       let l = edge_of P r (tile a) e in
       let on_line = ahead-along P W (supertile_edge P r (top_kind a) (depth a) top) l (along_of P W (supertile_edge P r (top_kind a) (depth a) top) l along) in
-      let c = cover P W edition refused r N D growth (depth a) (top_kind a) top (λ z. z) (same P W edition refused r N D growth) (plane_point P l.from) (plane_point P l.to) hk ht on_line in
+      let c = cover T (depth a) (top_kind a) top (λ z. z) (same T) (plane_point P l.from) (plane_point P l.to) hk ht on_line in
       let b : Address = record { kind = c.kind; digits = c.digits } in
-      let beside = subst (λ n. IsAmong (tile b) (supertile P r (top_kind a) n)) c.deep (subst (λ k. IsAmong (tile b) (supertile P r k (depth b))) c.top_is (tile-among P W edition refused r N D b c.chain)) in
-      let one = one_along P W edition refused r N D growth (λ z. z) (same P W edition refused r N D growth) (top_kind a) (depth a) hk (tile b) (tile a) c.edge e c.from c.to
-      beside (tile-among P W edition refused r N D a chain) c.edge_exists he c.in_edge c.in_line in (
+      let beside = subst (λ n. IsAmong (tile b) (supertile P r (top_kind a) n)) c.deep (subst (λ k. IsAmong (tile b) (supertile P r k (depth b))) c.top_is (tile-among T b c.chain)) in
+      let one = one_along T (λ z. z) (same T) (top_kind a) (depth a) hk (tile b) (tile a) c.edge e c.from c.to
+      beside (tile-among T a chain) c.edge_exists he c.in_edge c.in_line in (
         c.cuts,
         subst (λ (f : ℕ). IsTrace t f a.digits top c.cuts) one.1 (subst (λ (ds : List Step). IsTrace t c.edge ds top c.cuts) (ap (λ (x : Placed A). x.address.digits) one.0) c.trace),
       )
@@ -127,10 +122,10 @@ module _ (P : Points) (W : PointLaws P) (edition : Edition) (refused : P.ring.ca
   boundary-traced a e top part fits he h =
       let chain = chain_of t a fits in
       let trace = along-traced a e top fits he h.edge_exists h.along in
-      let back = trace-on_boundary P W edition refused r N D growth a e top trace.0 fits (lowest_exists P W edition refused r N D a.kind a.digits chain) he trace.1 in (
+      let back = trace-on_boundary T a e top trace.0 fits (lowest_exists T a.kind a.digits chain) he trace.1 in (
         trace.0,
         trace.1,
-        one_part (top_kind a) (depth a) top (first_part trace.0) part (edge_of P r (tile a) e) (top_exists P W edition refused r N D a.kind a.digits chain) h.edge_exists back.on_part h.on_part,
+        one_part (top_kind a) (depth a) top (first_part trace.0) part (edge_of P r (tile a) e) (top_exists T a.kind a.digits chain) h.edge_exists back.on_part h.on_part,
       )
 
   -- what lies along an edge of the supertile is on its boundary, on some part, and no tile is across it
@@ -138,9 +133,9 @@ module _ (P : Points) (W : PointLaws P) (edition : Edition) (refused : P.ring.ca
       → lies_along P (supertile_edge P r (top_kind a) (depth a) top) (edge_of P r (tile a) e) ≡ true → (part : ℕ) × IsOnBoundary P r (tile a) e top part
   along-boundary a e top fits he ht along =
       let trace = along-traced a e top fits he ht along in
-      (first_part trace.0, trace-on_boundary P W edition refused r N D growth a e top trace.0 fits (lowest_exists P W edition refused r N D a.kind a.digits (chain_of t a fits)) he trace.1)
+      (first_part trace.0, trace-on_boundary T a e top trace.0 fits (lowest_exists T a.kind a.digits (chain_of t a fits)) he trace.1)
 
   pub boundary-none : (a : Address) (e top part : ℕ) → Fits (child_kinds t) a → e < edge_count r a.kind → IsOnBoundary P r (tile a) e top part → (c : Placed A) (g : ℕ) → IsTileAcross P r (tile a) e c g → ⊥
   boundary-none a e top part fits he h c g across =
       let trace = boundary-traced a e top part fits he h in
-      traced-none P W edition refused r N D growth a e top trace.0 fits he trace.1 c g across
+      traced-none T a e top trace.0 fits he trace.1 c g across

@@ -1,15 +1,12 @@
 -- The edges with a trace to an edge of the supertile cover it: each line along it has a piece in common with one of them.
-use Rattle.edge_to_edge.specs.Edition.{Edition}
-use Rattle.std.proofs.Common.{◌≡◌, ℕ, zero, suc, ◌+◌, ◌<◌, Bool, List, [], ◌∷◌, ◌++◌, length, pos, Some, refl, sym, ap, ◌∙◌, subst, arith, length-append}
+use Rattle.std.proofs.Common.{◌≡◌, ℕ, zero, suc, ◌+◌, ◌<◌, List, [], ◌∷◌, ◌++◌, length, pos, Some, refl, sym, ap, ◌∙◌, subst, arith, length-append}
 use Rattle.ordered_ring.specs.Ring.{Ops, difference, power}
 use Rattle.ordered_ring.specs.Sign.{Signed, IsNonNegative}
 use Rattle.ordered_plane.specs.Plane.{PlanePoint}
 use Rattle.ordered_ring.proofs.Normaliser.{var, con, ring, ◌⊖◌, ◌⊗◌}
-use Rattle.substitution.specs.Points.{Points, PointLaws}
-use Rattle.substitution.specs.Plane.{plane_point, Keeps, IsGrowthFactor}
+use Rattle.substitution.specs.Plane.{plane_point, Keeps}
 use Rattle.substitution.specs.Motion.{Motion, moved}
 use Rattle.addressing.specs.Address.{Step, top_from}
-use Rattle.substitution.specs.Rule.{Rule}
 use Rattle.substitution.specs.RuleParts.{parts, edge_count, edge_type, vertex, next, child_of}
 use Rattle.edge_to_edge.specs.Edges.{Edge, PlacedEdge, inflated_edge, child_edge}
 use Rattle.addressing.specs.Search.{IsAmong}
@@ -19,20 +16,17 @@ use Rattle.addressing.specs.Contact.{outer}
 use Rattle.edge_to_edge.specs.Contacts.{name_of, tables_of}
 use Rattle.addressing.specs.Tables.{Tables, contact_of, part_count}
 use Rattle.addressing.specs.Trace.{Cut, IsTrace, bare, further}
-use Rattle.edge_to_edge.specs.Numbered.{IsNumbered}
-use Rattle.edge_to_edge.specs.EdgeToEdge.{IsEdgeToEdge}
-use Rattle.substitution.proofs.Keeping.{motion-keeps, powers-keep, keeps-then}
+use Rattle.substitution.proofs.Keeping.{motion-keeps, keeps-then}
 use Rattle.addressing.proofs.Ranges.{among-place, slice_get-image}
 use Rattle.edge_to_edge.proofs.ChildEdges.{among-child_edges}
 use Rattle.addressing.proofs.Chains.{IsChain}
 use Rattle.substitution.proofs.Addresses.{top_from-append}
 use Rattle.edge_to_edge.proofs.TablesOf.{child_kind_of-at, part_of-at}
 use Rattle.edge_to_edge.proofs.CutEdges.{cut_parts, boundary_edges, found}
-use Rattle.edge_to_edge.proofs.CoherentTypes.{below_kinds}
-use Rattle.edge_to_edge.proofs.CoherentContacts.{cut_edges, contacts-coherent}
-use Rattle.dissection.specs.TileEdges.{supertile_edge}
+use Rattle.dissection.specs.TileEdges.{supertile_edge, image_of}
+use Rattle.dissection.proofs.Setting.{Setting, below_kinds, contacts-coherent, cut_edges, inflating-keeps}
 use Rattle.dissection.proofs.Ahead.{Ahead}
-use Rattle.dissection.proofs.Injective.{keeps-injective, Along-image, ahead-along, image}
+use Rattle.dissection.proofs.Injective.{keeps-injective, Along-image, ahead-along}
 use Rattle.dissection.proofs.Positions.{At, ahead-self, ahead-trans, gap, start_at}
 use Rattle.dissection.proofs.CommonPiece.{OnPart, search}
 use Rattle.dissection.proofs.MirroredCuts.{part_facts}
@@ -40,7 +34,9 @@ use Rattle.dissection.proofs.Opposite.{tile_edge}
 use Rattle.dissection.proofs.TraceAlong.{ends_apart, still-moves, inflated-moves, coarser, one_more}
 use Rattle.dissection.proofs.Members.{chain-append}
 
-module _ (P : Points) (W : PointLaws P) (edition : Edition) (refused : P.ring.carrier → Bool) (r : Rule P.ring.carrier) (N : IsNumbered P r) (D : IsEdgeToEdge P edition refused r) (growth : IsGrowthFactor P r.factor) where
+module _ (T : Setting) where
+  open T use {points as P, laws as W, accepted.{rule as r, numbered as N, edge_to_edge as D}}
+
   abbrev A : Type 0
   A = P.ring.carrier
 
@@ -54,7 +50,7 @@ module _ (P : Points) (W : PointLaws P) (edition : Edition) (refused : P.ring.ca
   t = tables_of P r
 
   abbrev line_of : ℕ → List Step → ℕ → Edge A
-  line_of k ds e = tile_edge P W edition refused r N D k ds e
+  line_of k ds e = tile_edge T k ds e
 
   -- f takes a point to the plane
   abbrev put : (A → A) → A → PlanePoint S.ops.carrier
@@ -83,7 +79,7 @@ module _ (P : Points) (W : PointLaws P) (edition : Edition) (refused : P.ring.ca
     digits = [];
     edge = top;
     cuts = [];
-    chain = below_kinds P W edition refused r N D k hk;
+    chain = below_kinds T k hk;
     top_is = refl;
     deep = refl;
     edge_exists = he;
@@ -92,8 +88,8 @@ module _ (P : Points) (W : PointLaws P) (edition : Edition) (refused : P.ring.ca
     to = v;
     in_line = ahead-self S W.of_real W.of_order u v;
     in_edge =
-        subst (λ (z : A). Ahead S (put f z) (put f (line_of k [] top).to) u v) (sym (still-moves P W edition refused r N D growth (vertex P r k top)))
-        (subst (λ (z : A). Ahead S (put f (supertile_edge P r k 0 top).from) (put f z) u v) (sym (still-moves P W edition refused r N D growth (vertex P r k (next r k top)))) h);
+        subst (λ (z : A). Ahead S (put f z) (put f (line_of k [] top).to) u v) (sym (still-moves T (vertex P r k top)))
+        (subst (λ (z : A). Ahead S (put f (supertile_edge P r k 0 top).from) (put f z) u v) (sym (still-moves T (vertex P r k (next r k top)))) h);
   }
 
   -- ---- one level: a part of the inflated edge
@@ -103,7 +99,7 @@ module _ (P : Points) (W : PointLaws P) (edition : Edition) (refused : P.ring.ca
     g z = f (K.mul (power K r.factor n) z)
 
     g_keeps : Keeps P g
-    g_keeps = keeps-then P W f (K.mul (power K r.factor n)) keeps (powers-keep P W r.factor growth n)
+    g_keeps = keeps-then P W f (K.mul (power K r.factor n)) keeps (inflating-keeps T n)
 
     abbrev whole : Edge A
     whole = inflated_edge P r k top
@@ -116,21 +112,21 @@ module _ (P : Points) (W : PointLaws P) (edition : Edition) (refused : P.ring.ca
 
     line : Ahead S (put g whole.from) (put g whole.to) u v
     line =
-        subst (λ (z : A). Ahead S (put f z) (put g whole.to) u v) (sym (one_more P W edition refused r N D growth n (vertex P r k top)))
-        (subst (λ (z : A). Ahead S (put f (supertile_edge P r k (suc n) top).from) (put f z) u v) (sym (one_more P W edition refused r N D growth n (vertex P r k (next r k top)))) h)
+        subst (λ (z : A). Ahead S (put f z) (put g whole.to) u v) (sym (one_more T n (vertex P r k top)))
+        (subst (λ (z : A). Ahead S (put f (supertile_edge P r k (suc n) top).from) (put f z) u v) (sym (one_more T n (vertex P r k (next r k top)))) h)
 
     apart : ((put g whole.to).x ≡ (put g whole.from).x) → ((put g whole.to).y ≡ (put g whole.from).y) → ⊥
     apart x y =
         let same : g whole.from ≡ g whole.to = sym (W.separate (g whole.to) (g whole.from) x y) in
         let moved : f (K.mul (power K r.factor (suc n)) (vertex P r k top)) ≡ f (K.mul (power K r.factor (suc n)) (vertex P r k (next r k top)))
-        = ap f (sym (one_more P W edition refused r N D growth n (vertex P r k top))) ∙ same ∙ ap f (one_more P W edition refused r N D growth n (vertex P r k (next r k top))) in
-        ends_apart P W edition refused r N D growth k top hk he
-        (keeps-injective P W (λ z. f (K.mul (power K r.factor (suc n)) z)) (keeps-then P W f (K.mul (power K r.factor (suc n))) keeps (powers-keep P W r.factor growth (suc n))) _ _ moved)
+        = ap f (sym (one_more T n (vertex P r k top))) ∙ same ∙ ap f (one_more T n (vertex P r k (next r k top))) in
+        ends_apart T k top hk he
+        (keeps-injective P W (λ z. f (K.mul (power K r.factor (suc n)) z)) (keeps-then P W f (K.mul (power K r.factor (suc n))) keeps (inflating-keeps T (suc n))) _ _ moved)
 
     along : (s : PlacedEdge A) → IsAmong s ss → Ahead S (put g whole.from) (put g whole.to) (put g s.line.from) (put g s.line.to)
     along s i =
         let place = among-place s ss i in
-        ahead-along P W (image P W g whole) (image P W g s.line) (Along-image P W g g_keeps whole s.line (part_facts P W edition refused r N D k top place.0 s hk he place.1).along)
+        ahead-along P W (image_of P g whole) (image_of P g s.line) (Along-image P W g g_keeps whole s.line (part_facts T k top place.0 s hk he place.1).along)
 
     begin : At S (put g whole.from) (put g whole.to) (put g whole.from)
     begin = record { num = S.ops.int (pos 0); den = S.ops.int (pos 1); den_pos = W.of_order.one_greater; at_x = nothing (put g whole.from).x (put g whole.to).x; at_y = nothing (put g whole.from).y (put g whole.to).y }
@@ -144,7 +140,7 @@ module _ (P : Points) (W : PointLaws P) (edition : Edition) (refused : P.ring.ca
 
     on_part : OnPart P W g whole u v ss
     on_part =
-        search P W g whole u v line apart on (parts r (edge_type r k top)) whole.from ss (found P W r k (cut_edges P W edition refused r N D k) top he).parts along begin first
+        search P W g whole u v line apart on (parts r (edge_type r k top)) whole.from ss (found P W r k (cut_edges T k) top he).parts along begin first
 
     abbrev part : PlacedEdge A
     part = on_part.part
@@ -165,19 +161,19 @@ module _ (P : Points) (W : PointLaws P) (edition : Edition) (refused : P.ring.ca
     f'-keeps = keeps-then P W f (moved P (inflated P r n child_motion)) keeps (motion-keeps P W (inflated P r n child_motion))
 
     named : part ≡ child_edge P r k part.child part.edge
-    named = (among-child_edges P r k part (part_facts P W edition refused r N D k top on_part.number part hk he on_part.at).among).is
+    named = (among-child_edges P r k part (part_facts T k top on_part.number part hk he on_part.at).among).is
 
     -- the part as the edge of the child's supertile
     below : Ahead S (put f' (supertile_edge P r child_kind n part.edge).from) (put f' (supertile_edge P r child_kind n part.edge).to) on_part.piece.from on_part.piece.to
     below =
         subst (λ (z : A). Ahead S (put f z) (put f' (supertile_edge P r child_kind n part.edge).to) on_part.piece.from on_part.piece.to)
-        (ap (λ (w : PlacedEdge A). K.mul (power K r.factor n) w.line.from) named ∙ sym (inflated-moves P W edition refused r N D growth n child_motion (vertex P r child_kind part.edge)))
+        (ap (λ (w : PlacedEdge A). K.mul (power K r.factor n) w.line.from) named ∙ sym (inflated-moves T n child_motion (vertex P r child_kind part.edge)))
         (subst (λ (z : A). Ahead S (put g part.line.from) (put f z) on_part.piece.from on_part.piece.to)
-        (ap (λ (w : PlacedEdge A). K.mul (power K r.factor n) w.line.to) named ∙ sym (inflated-moves P W edition refused r N D growth n child_motion (vertex P r child_kind (next r child_kind part.edge)))) on_part.piece.in_part)
+        (ap (λ (w : PlacedEdge A). K.mul (power K r.factor n) w.line.to) named ∙ sym (inflated-moves T n child_motion (vertex P r child_kind (next r child_kind part.edge)))) on_part.piece.in_part)
 
     contact : contact_of t k part.child part.edge ≡ Some (outer top on_part.number)
     contact =
-        ((contacts-coherent P W edition refused r N D).outer_part k part.child part.edge top on_part.number).1
+        ((contacts-coherent T).outer_part k part.child part.edge top on_part.number).1
         (part_of-at P r k top on_part.number he ∙ slice_get-image name_of part ss on_part.number on_part.at)
 
     covered-suc : Covered child_kind n part.edge f' on_part.piece.from on_part.piece.to → Covered k (suc n) top f u v
@@ -187,8 +183,8 @@ module _ (P : Points) (W : PointLaws P) (edition : Edition) (refused : P.ring.ca
       edge = c.edge;
       cuts = record { part = on_part.number; parts = part_count t k top } ∷ c.cuts;
       chain = chain-append t c.kind c.digits digit c.chain
-          (child_kind_of-at P r k part.child (among-child_edges P r k part (part_facts P W edition refused r N D k top on_part.number part hk he on_part.at).among).has.child_below ∙ ap Some (sym c.top_is))
-          (below_kinds P W edition refused r N D k hk);
+          (child_kind_of-at P r k part.child (among-child_edges P r k part (part_facts T k top on_part.number part hk he on_part.at).among).has.child_below ∙ ap Some (sym c.top_is))
+          (below_kinds T k hk);
       top_is = top_from-append c.kind c.digits digit;
       deep = length-append c.digits (digit ∷ []) ∙ plus_one (length c.digits) ∙ ap suc c.deep;
       edge_exists = c.edge_exists;
@@ -205,14 +201,14 @@ module _ (P : Points) (W : PointLaws P) (edition : Edition) (refused : P.ring.ca
         plus_one m = omega arith
 
         one : (z : A) → moved P (placement P r (c.digits ++ digit ∷ [])) z ≡ moved P (inflated P r n child_motion) (moved P (placement P r c.digits) z)
-        one z = coarser P W edition refused r N D growth c.digits digit z ∙ ap (λ (m : ℕ). moved P (inflated P r m child_motion) (moved P (placement P r c.digits) z)) c.deep
+        one z = coarser T c.digits digit z ∙ ap (λ (m : ℕ). moved P (inflated P r m child_motion) (moved P (placement P r c.digits) z)) c.deep
 
   -- ---- at every depth
   pub cover : (n k top : ℕ) (f : A → A) → Keeps P f → (u v : PlanePoint S.ops.carrier) → k < length r.kinds → top < edge_count r k
       → Ahead S (put f (supertile_edge P r k n top).from) (put f (supertile_edge P r k n top).to) u v → Covered k n top f u v
   cover zero k top f keeps u v hk he h = covered-zero k top f u v hk he h
   cover (suc n) k top f keeps u v hk he h =
-      let facts = part_facts P W edition refused r N D k top (on_part k n top f keeps u v hk he h).number (on_part k n top f keeps u v hk he h).part hk he (on_part k n top f keeps u v hk he h).at in
+      let facts = part_facts T k top (on_part k n top f keeps u v hk he h).number (on_part k n top f keeps u v hk he h).part hk he (on_part k n top f keeps u v hk he h).at in
       covered-suc k n top f keeps u v hk he h
       (cover n (child_kind k n top f keeps u v hk he h) (part k n top f keeps u v hk he h).edge (f' k n top f keeps u v hk he h) (f'-keeps k n top f keeps u v hk he h)
       (on_part k n top f keeps u v hk he h).piece.from (on_part k n top f keeps u v hk he h).piece.to facts.kind_below facts.edge_below (below k n top f keeps u v hk he h))

@@ -1,6 +1,5 @@
 -- The edges of tiles that are across from each other can be turned onto each other, and the tile across lies where such a turn puts it.
-use Rattle.edge_to_edge.specs.Edition.{Edition}
-use Rattle.std.proofs.Common.{◌≡◌, ℕ, ◌+◌, ◌-◌, ◌<◌, ◌%◌, Bool, [], ◌∷◌, length, pos, negsuc, refl, sym, ap, ◌∙◌, arith}
+use Rattle.std.proofs.Common.{◌≡◌, ℕ, ◌+◌, ◌-◌, ◌<◌, ◌%◌, [], ◌∷◌, length, pos, negsuc, refl, sym, ap, ◌∙◌, arith}
 use Rattle.std.specs.declared.cmp.Ordering.{Ordering}
 use Rattle.std.specs.declared.cmp.Ordering.TheVariants.{Less, Equal, Greater}
 use Rattle.std.proofs.Math.Nat.{mod-lt}
@@ -15,19 +14,19 @@ use Rattle.edge_to_edge.specs.EdgeTypes.{edge_vector}
 use Rattle.substitution.specs.Supertile.{Placed}
 use Rattle.substitution.proofs.Motions.{power-add, power-mod}
 use Rattle.substitution.proofs.Lengths.{height, norm-is, norm-mul}
-use Rattle.substitution.specs.Plane.{twice_squared_length, IsGrowthFactor}
+use Rattle.substitution.specs.Plane.{twice_squared_length}
 use Rattle.addressing.specs.Address.{Address, top_kind, depth, Fits}
 use Rattle.edge_to_edge.specs.Contacts.{tables_of}
 use Rattle.addressing.specs.Tables.{child_kinds}
-use Rattle.edge_to_edge.specs.Numbered.{IsNumbered}
-use Rattle.edge_to_edge.specs.EdgeToEdge.{IsEdgeToEdge}
 use Rattle.addressing.proofs.Chains.{chain_of}
 use Rattle.dissection.specs.TileEdges.{edge_of, tile_at}
 use Rattle.dissection.proofs.TraceAlong.{ends_apart}
 use Rattle.dissection.proofs.RuleAddresses.{top_exists}
 use Rattle.dissection.proofs.Members.{member}
 use Rattle.dissection.specs.Across.{RunsBack, IsTileAcross}
-use Rattle.dissection.specs.Glue.{TurnsOnto, glue_motion}
+use Rattle.dissection.specs.Glue.{TurnsOnto}
+use Rattle.dissection.proofs.GlueMotions.{glue_motion}
+use Rattle.dissection.proofs.Setting.{Setting}
 use Rattle.dissection.proofs.EquallyFar.{zero_factor, only_origin}
 
 module _ (P : Points) (W : PointLaws P) where
@@ -146,14 +145,16 @@ glued-turn P W r k e l f s t x y some =
     ring_from P.ring W.of_ring (power P.ring P.zeta s ∷ (power P.ring P.zeta t ∷ [])) (var 0) (var 1) ((con (pos 1), var 0 ⊖ var 1, con (pos 0)) ∷ []) (gone, tt) refl
 
 -- of an accepted rule: each edge has a length, and there is a turn below the order
-module _ (P : Points) (W : PointLaws P) (edition : Edition) (refused : P.ring.carrier → Bool) (r : Rule P.ring.carrier) (N : IsNumbered P r) (D : IsEdgeToEdge P edition refused r) (growth : IsGrowthFactor P r.factor) where
+module _ (T : Setting) where
+  open T use {points as P, laws as W, accepted.{rule as r, numbered as N, edge_to_edge as D}}
+
   pub some_order : 0 < P.order
   some_order = let below = N.turn_below 0 0 N.some_kind (N.some_child 0 N.some_kind) in omega arith
 
   pub edge_has_length : (k e : ℕ) → k < length r.kinds → e < edge_count r k → twice_squared_length P (edge_vector P r k e) ≡ P.real.ops.int (pos 0) → ⊥
   edge_has_length k e hk he flat =
       let gone = norm-zero P W (edge_vector P r k e) flat in
-      ends_apart P W edition refused r N D growth k e hk he
+      ends_apart T k e hk he
       (ring_from P.ring W.of_ring (vertex P r k e ∷ (vertex P r k (next r k e) ∷ [])) (var 0) (var 1) ((con (negsuc 0), var 1 ⊖ var 0, con (pos 0)) ∷ []) (gone, tt) refl)
 
   -- the tile across an edge lies where a turn of its edge onto this one, with the shift, and then the motion of this one's tile put it; and there is such a turn
@@ -162,7 +163,7 @@ module _ (P : Points) (W : PointLaws P) (edition : Edition) (refused : P.ring.ca
       × ((t : ℕ) → TurnsOnto P r a.kind e b.address.kind f t → (z : P.ring.carrier) → moved P (tile_at P r a).motion (moved P (glue_motion P r a.kind e b.address.kind f t) z) ≡ moved P b.motion z)
   across-glued a e b f fits across =
       let chain = chain_of (tables_of P r) a fits in
-      let m = member P W edition refused r N D (top_kind a) (depth a) (top_exists P W edition refused r N D a.kind a.digits chain) b across.beside in (
+      let m = member T (top_kind a) (depth a) (top_exists T a.kind a.digits chain) b across.beside in (
         some_turn P W r (tile_at P r a) b e f across.runs_back some_order,
         (λ t turns z. glued P W r (tile_at P r a) b e f across.runs_back t turns (edge_has_length b.address.kind f m.tile.kind_exists across.edge_exists) z),
       )

@@ -1,28 +1,25 @@
--- The motion of the tile across an edge is the glue motion followed by the motion of the edge's own tile, and the glue motion's turn is the only one.
-use Rattle.edge_to_edge.specs.Edition.{Edition}
-use Rattle.std.proofs.Common.{◌≡◌, ◌⊎◌, inl, inr, ℕ, ◌<◌, Bool, true, not, ◌||◌, nat_eq, List, [], ◌∷◌, pos, refl, sym, ap, ap₂, ◌∙◌, subst, eqb-true}
+-- The motion of the tile across an edge is the motion that glues the two edges, followed by that of the edge's own tile.
+use Rattle.std.proofs.Common.{◌≡◌, ◌⊎◌, inl, inr, ℕ, ◌<◌, true, not, ◌||◌, nat_eq, List, [], ◌∷◌, pos, refl, sym, ap, ap₂, ◌∙◌, subst, eqb-true}
 use Rattle.std.proofs.Math.Nat.{mod-lt}
 use Rattle.ordered_ring.specs.Ring.{Ops, difference, power}
 use Rattle.ordered_ring.proofs.Booleans.{either, denied}
 use Rattle.ordered_ring.proofs.Normaliser.{var, con, ring, ◌⊕◌, ◌⊖◌, ◌⊗◌}
 use Rattle.substitution.specs.Points.{Points, PointLaws}
-use Rattle.substitution.specs.Plane.{IsGrowthFactor}
 use Rattle.substitution.specs.Motion.{Motion, moved, followed}
 use Rattle.addressing.specs.Address.{Step, Address, top_kind, depth, Fits}
-use Rattle.substitution.specs.Rule.{Rule}
 use Rattle.edge_to_edge.specs.Contacts.{tables_of}
 use Rattle.addressing.specs.Tables.{child_kinds}
 use Rattle.addressing.specs.Search.{all_below}
 use Rattle.substitution.specs.Supertile.{Placed}
 use Rattle.substitution.specs.Placement.{placement}
-use Rattle.edge_to_edge.specs.Numbered.{IsNumbered}
-use Rattle.edge_to_edge.specs.EdgeToEdge.{IsEdgeToEdge}
 use Rattle.substitution.proofs.Motions.{moved-followed}
 use Rattle.addressing.proofs.CoherenceTests.{all_below-at}
 use Rattle.addressing.proofs.Chains.{chain_of}
 use Rattle.dissection.specs.TileEdges.{tile_at}
 use Rattle.dissection.specs.Across.{IsTileAcross}
-use Rattle.dissection.specs.Glue.{glue_motion, TurnsDiffer, turns_differ, IsGlued}
+use Rattle.dissection.specs.Glue.{TurnsDiffer, turns_differ, IsGlueMotion, IsGlued}
+use Rattle.dissection.proofs.Setting.{Setting}
+use Rattle.dissection.proofs.GlueMotions.{glue_motion, its_turn, motion_is}
 use Rattle.dissection.proofs.Glue.{some_order, across-glued, glued-turn, edge_has_length}
 use Rattle.dissection.proofs.RuleAddresses.{top_exists}
 use Rattle.dissection.proofs.Members.{member}
@@ -41,28 +38,34 @@ turns_differ-is P W h i j hi hj e =
     at_case (inl k) = absurd (cc (denied _ k, same))
     at_case (inr k) = eqb-true i j k
 
-module _ (P : Points) (W : PointLaws P) (edition : Edition) (refused : P.ring.carrier → Bool) (r : Rule P.ring.carrier) (N : IsNumbered P r) (D : IsEdgeToEdge P edition refused r) (growth : IsGrowthFactor P r.factor) (differ : TurnsDiffer P) where
+module _ (T : Setting) (differ : TurnsDiffer T.points) where
+  open T use {points as P, laws as W, accepted.{rule as r, numbered as N, edge_to_edge as D}}
+
   abbrev K : Ops
   K = P.ring
 
   -- a tile's turn is below the order
   turn_below : (ds : List Step) → (placement P r ds).turn < P.order
-  turn_below [] = some_order P W edition refused r N D growth
-  turn_below (d ∷ ds) = mod-lt _ (some_order P W edition refused r N D growth)
+  turn_below [] = some_order T
+  turn_below (d ∷ ds) = mod-lt _ (some_order T)
 
   pub across-motion : (a : Address) (e : ℕ) (b : Placed K.carrier) (f : ℕ) → Fits (child_kinds (tables_of P r)) a → IsTileAcross P r (tile_at P r a) e b f → IsGlued P r (tile_at P r a) e b f
   across-motion a e b f fits across =
-      let m = member P W edition refused r N D (top_kind a) (depth a) (top_exists P W edition refused r N D a.kind a.digits (chain_of (tables_of P r) a fits)) b across.beside in
-      let has = edge_has_length P W edition refused r N D growth b.address.kind f m.tile.kind_exists across.edge_exists in
-      let both = across-glued P W edition refused r N D growth a e b f fits across in
+      let m = member T (top_kind a) (depth a) (top_exists T a.kind a.digits (chain_of (tables_of P r) a fits)) b across.beside in
+      let has = edge_has_length T b.address.kind f m.tile.kind_exists across.edge_exists in
+      let both = across-glued T a e b f fits across in
       let t = both.0.0 in
       let small : b.motion.turn < P.order = subst (λ (g : Motion K.carrier). g.turn < P.order) (sym m.motion_is) (turn_below b.address.digits) in
       record {
-        turn = t;
-        below = both.0.1;
-        turns = both.0.2;
-        alone = λ s below turns. differ s t below both.0.1 (glued-turn P W r a.kind e b.address.kind f s t turns both.0.2 has);
-        motion_is = motions t small (both.1 t both.0.2);
+        met = record { turn = t; below = both.0.1; turns = both.0.2 };
+        alone = λ m g x y.
+            let k = a.kind in let l = b.address.kind in
+            let one = differ m.turn g.turn x.below y.below (glued-turn P W r k e l f m.turn g.turn (its_turn P W r k e l f m x) (its_turn P W r k e l f g y) has) in
+            motion_is P W r k e l f m x ∙ ap (glue_motion P r k e l f) one ∙ sym (motion_is P W r k e l f g y);
+        motion_is = λ m glues.
+            let turns = its_turn P W r a.kind e b.address.kind f m glues in
+            motions m.turn small (both.1 m.turn turns)
+            ∙ ap (λ (g : Motion K.carrier). followed P g (placement P r a.digits)) (sym (motion_is P W r a.kind e b.address.kind f m glues));
       }
     where
       motions : (t : ℕ) → b.motion.turn < P.order → ((z : K.carrier) → moved P (placement P r a.digits) (moved P (glue_motion P r a.kind e b.address.kind f t) z) ≡ moved P b.motion z)
@@ -88,4 +91,4 @@ module _ (P : Points) (W : PointLaws P) (edition : Edition) (refused : P.ring.ca
               ∙ ring K W.of_ring (power K P.zeta (followed P (glue_motion P r a.kind e b.address.kind f t) (placement P r a.digits)).turn ∷ ((followed P (glue_motion P r a.kind e b.address.kind f t) (placement P r a.digits)).shift ∷ [])) ((var 0 ⊕ var 1) ⊖ var 1) (var 0) refl
 
           turns : b.motion.turn ≡ (followed P (glue_motion P r a.kind e b.address.kind f t) (placement P r a.digits)).turn
-          turns = differ b.motion.turn _ small (mod-lt _ (some_order P W edition refused r N D growth)) powers
+          turns = differ b.motion.turn _ small (mod-lt _ (some_order T)) powers

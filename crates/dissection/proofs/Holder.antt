@@ -1,24 +1,21 @@
 -- A point that a supertile holds is held by one of its tiles and no other, and a tile of a child's supertile that holds it is that tile with a digit more.
-use Rattle.edge_to_edge.specs.Edition.{Edition}
-use Rattle.std.proofs.Common.{◌≡◌, inl, inr, ℕ, suc, ◌<◌, ℤ, pos, ◌+ℤ◌, Bool, List, [], ◌∷◌, length, map, refl, sym, ap, ◌∙◌}
+use Rattle.std.proofs.Common.{◌≡◌, inl, inr, ℕ, suc, ◌<◌, ℤ, pos, ◌+ℤ◌, List, [], ◌∷◌, length, map, refl, sym, ap, ◌∙◌}
 use Rattle.std.specs.List.{enumerate_from}
 use Rattle.ordered_ring.specs.Sign.{IsPositive}
 use Rattle.ordered_plane.specs.Plane.{TestPoint}
 use Rattle.ordered_plane.specs.Crossing.{count}
 use Rattle.ordered_plane.proofs.Triangle.{Good}
-use Rattle.substitution.specs.Points.{Points, PointLaws}
-use Rattle.substitution.specs.Plane.{Keeps, IsGrowthFactor}
+use Rattle.substitution.specs.Plane.{Keeps}
 use Rattle.substitution.specs.Motion.{moved}
-use Rattle.substitution.specs.Rule.{Child, Rule, children_of}
+use Rattle.substitution.specs.Rule.{Child, children_of}
 use Rattle.addressing.specs.Search.{IsAmong}
 use Rattle.substitution.specs.Supertile.{Placed, inflated, lifted, supertile}
-use Rattle.edge_to_edge.specs.Numbered.{IsNumbered}
-use Rattle.edge_to_edge.specs.EdgeToEdge.{IsEdgeToEdge}
 use Rattle.substitution.proofs.Motions.{moved-followed}
 use Rattle.addressing.proofs.Lists.{IsAmong-map, IsAmong-flat_map}
 use Rattle.dissection.specs.Sums.{sum_over}
 use Rattle.dissection.specs.Polygons.{supertile_polygon}
 use Rattle.dissection.specs.Holder.{IsHolder, IsOnlyHolder}
+use Rattle.dissection.proofs.Setting.{Setting}
 use Rattle.dissection.proofs.Sums.{zero_plus}
 use Rattle.dissection.proofs.SupertileCount.{tile_count, sum-all, count-ext}
 use Rattle.dissection.proofs.OnlyOne.{tiles-good, one_tile}
@@ -32,18 +29,20 @@ some_one {A} g (x ∷ xs) good e = at_case (good x (inl refl)) (some_one g xs (�
     at_case (inr k) rest = (x, inl refl, k)
     at_case (inl k) rest = let h = rest (sym (ap (λ v. v +ℤ sum_over g xs) k ∙ zero_plus (sum_over g xs)) ∙ e) in (h.0, inr h.1, h.2)
 
-module _ (P : Points) (W : PointLaws P) (edition : Edition) (refused : P.ring.carrier → Bool) (r : Rule P.ring.carrier) (N : IsNumbered P r) (D : IsEdgeToEdge P edition refused r) (growth : IsGrowthFactor P r.factor) where
+module _ (T : Setting) where
+  open T use {points as P, laws as W, accepted.{rule as r, numbered as N, edge_to_edge as D}}
+
   abbrev A : Type 0
   A = P.ring.carrier
 
   module _ (f : A → A) (keeps : Keeps P f) (p : TestPoint P.real.ops.carrier) (d_pos : IsPositive P.real p.d) where
     pub only_holder : (k n : ℕ) → k < length r.kinds → count P.real (supertile_polygon P r f k n) p ≡ pos 1 → (t : Placed A) × IsOnlyHolder P r f k n p t
     only_holder k n hk e =
-        let h = some_one (tile_count P W edition refused r N D growth p f) (supertile P r k n) (tiles-good P W edition refused r N D growth f keeps p d_pos k n hk) (sum-all P W edition refused r N D growth p k n hk f keeps ∙ e) in (
+        let h = some_one (tile_count T p f) (supertile P r k n) (tiles-good T f keeps p d_pos k n hk) (sum-all T p k n hk f keeps ∙ e) in (
           h.0,
           record {
             holder = record { among = h.1; holds = h.2 };
-            only = λ u x. one_tile P W edition refused r N D growth f keeps p d_pos k n hk u h.0 x.among h.1 x.holds h.2;
+            only = λ u x. one_tile T f keeps p d_pos k n hk u h.0 x.among h.1 x.holds h.2;
           },
         )
 
@@ -53,5 +52,5 @@ module _ (P : Points) (W : PointLaws P) (edition : Edition) (refused : P.ring.ca
   holder-lifted f p k n i c t there h = record {
     among = IsAmong-flat_map (λ (d : ℕ × Child A). map (lifted P r k n d.0 d.1) (supertile P r d.1.kind n)) (i, c) (lifted P r k n i c t) (enumerate_from 0 (children_of r k)) there
         (IsAmong-map (lifted P r k n i c) t (supertile P r c.kind n) h.among);
-    holds = count-ext P W edition refused r N D growth p _ _ t.address.kind (λ z. ap f (moved-followed P W t.motion (inflated P r n c.motion) z)) ∙ h.holds;
+    holds = count-ext T p _ _ t.address.kind (λ z. ap f (moved-followed P W t.motion (inflated P r n c.motion) z)) ∙ h.holds;
   }

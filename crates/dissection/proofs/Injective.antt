@@ -15,6 +15,7 @@ use Rattle.substitution.specs.Points.{Points, PointLaws}
 use Rattle.substitution.specs.Plane.{plane_point, Keeps}
 use Rattle.edge_to_edge.specs.Edges.{Edge, lies_along}
 use Rattle.edge_to_edge.proofs.LieCases.{same_place-self}
+use Rattle.dissection.specs.TileEdges.{image_of}
 use Rattle.dissection.proofs.Ahead.{Ahead, ahead}
 
 module _ (S : Signed) (L : Laws S.ops) (O : OrderLaws S) where
@@ -91,10 +92,7 @@ module _ (P : Points) (W : PointLaws P) where
       }
 
   -- an edge moved
-  abbrev pub image : (A → A) → Edge A → Edge A
-  image f e = record { from = f e.from; to = f e.to }
-
-  pub Along-image : (f : A → A) → Keeps P f → (whole e : Edge A) → Along whole e → Along (image f whole) (image f e)
+  pub Along-image : (f : A → A) → Keeps P f → (whole e : Edge A) → Along whole e → Along (image_of P f whole) (image_of P f e)
   Along-image f keeps whole e h = record {
     ends_differ = λ g. h.ends_differ (keeps-injective f keeps e.from e.to g);
     end_on = keeps.segments whole.from whole.to e.to ∙ h.end_on;

@@ -1,30 +1,26 @@
 -- Across in the plane and touch in the tables are one relation; and an edge has the one tile across it that it touches, or a trace.
-use Rattle.edge_to_edge.specs.Edition.{Edition}
-use Rattle.std.proofs.Common.{◌≡◌, ℕ, ◌<◌, Bool, List, sym, ap, subst}
-use Rattle.substitution.specs.Points.{Points, PointLaws}
-use Rattle.substitution.specs.Plane.{IsGrowthFactor}
+use Rattle.std.proofs.Common.{◌≡◌, ℕ, ◌<◌, List, sym, ap, subst}
 use Rattle.addressing.specs.Address.{Address, Fits}
-use Rattle.substitution.specs.Rule.{Rule}
 use Rattle.substitution.specs.RuleParts.{edge_count}
 use Rattle.substitution.specs.Supertile.{Placed}
 use Rattle.edge_to_edge.specs.Contacts.{tables_of}
 use Rattle.addressing.specs.Tables.{Tables, child_kinds}
 use Rattle.addressing.specs.Trace.{Cut, HasTrace, first_part}
 use Rattle.addressing.specs.Touch.{Touches}
-use Rattle.edge_to_edge.specs.Numbered.{IsNumbered}
-use Rattle.edge_to_edge.specs.EdgeToEdge.{IsEdgeToEdge}
 use Rattle.addressing.proofs.Chains.{chain_of}
 use Rattle.addressing.proofs.Touching.{Touches-sym}
-use Rattle.edge_to_edge.proofs.CoherentContacts.{contacts-coherent}
-use Rattle.dissection.specs.TileEdges.{edge_of}
+use Rattle.dissection.specs.TileEdges.{edge_of, tile_at}
 use Rattle.dissection.specs.Across.{IsTileAcross, IsOnlyTileAcross}
 use Rattle.dissection.specs.OnBoundary.{IsOnBoundary}
+use Rattle.dissection.proofs.Setting.{Setting, contacts-coherent}
 use Rattle.dissection.proofs.EitherWay.{TraceOrTouch, traced, touched, trace_or_touch}
-use Rattle.dissection.proofs.TraceAlong.{trace-on_boundary, tile_of}
+use Rattle.dissection.proofs.TraceAlong.{trace-on_boundary}
 use Rattle.dissection.proofs.RuleAddresses.{lowest_exists}
 use Rattle.dissection.proofs.AcrossTouches.{edge_known, touch-across, one_across, tile-is, traced-none}
 
-module _ (P : Points) (W : PointLaws P) (edition : Edition) (refused : P.ring.carrier → Bool) (r : Rule P.ring.carrier) (N : IsNumbered P r) (D : IsEdgeToEdge P edition refused r) (growth : IsGrowthFactor P r.factor) where
+module _ (T : Setting) where
+  open T use {points as P, laws as W, accepted.{rule as r, numbered as N, edge_to_edge as D}}
+
   abbrev A : Type 0
   A = P.ring.carrier
 
@@ -32,32 +28,32 @@ module _ (P : Points) (W : PointLaws P) (edition : Edition) (refused : P.ring.ca
   t = tables_of P r
 
   abbrev tile : Address → Placed A
-  tile = tile_of P W edition refused r N D growth
+  tile = tile_at P r
 
   -- what is across a touched edge is what it touches
   touched-only : (a b : Address) (e f : ℕ) → Fits (child_kinds t) a → Fits (child_kinds t) b → e < edge_count r a.kind → Touches t a e b f → (c : Placed A) (g : ℕ) → IsTileAcross P r (tile a) e c g
       → (c ≡ tile b) × (g ≡ f)
   touched-only a b e f fits fits' he touches c g across =
-      let own = touch-across P W edition refused r N D growth a b e f fits fits' he touches in
-      one_across P W edition refused r N D growth a (tile b) c f g (edge_of P r (tile a) e) (chain_of t a fits) own.beside across.beside own.edge_exists across.edge_exists own.runs_back across.runs_back
+      let own = touch-across T a b e f fits fits' he touches in
+      one_across T a (tile b) c f g (edge_of P r (tile a) e) (chain_of t a fits) own.beside across.beside own.edge_exists across.edge_exists own.runs_back across.runs_back
 
   -- the edge touched is the only one across
   pub touch-only_across : (a b : Address) (e f : ℕ) → Fits (child_kinds t) a → Fits (child_kinds t) b → e < edge_count r a.kind → Touches t a e b f → IsOnlyTileAcross P r (tile a) e (tile b) f
   touch-only_across a b e f fits fits' he touches = record {
-    across = touch-across P W edition refused r N D growth a b e f fits fits' he touches;
+    across = touch-across T a b e f fits fits' he touches;
     only = touched-only a b e f fits fits' he touches;
   }
 
   -- what is across is touched
   pub across-touch : (a : Address) (e : ℕ) (c : Placed A) (g : ℕ) → Fits (child_kinds t) a → e < edge_count r a.kind → IsTileAcross P r (tile a) e c g
       → Touches t a e c.address g × Fits (child_kinds t) c.address × (c ≡ tile c.address)
-  across-touch a e c g fits he across = at_case (trace_or_touch t a e (contacts-coherent P W edition refused r N D) fits (edge_known P W edition refused r N D growth a.kind e he))
+  across-touch a e c g fits he across = at_case (trace_or_touch t a e (contacts-coherent T) fits (edge_known T a.kind e he))
     where
       at_case : TraceOrTouch t a e → Touches t a e c.address g × Fits (child_kinds t) c.address × (c ≡ tile c.address)
-      at_case (traced top cuts h) = absurd (traced-none P W edition refused r N D growth a e top cuts fits he h c g across)
+      at_case (traced top cuts h) = absurd (traced-none T a e top cuts fits he h c g across)
       at_case (touched m) =
           let only = touched-only a m.other e m.edge fits m.fits he m.touches c g across in
-          let is = tile-is P W edition refused r N D growth a c (chain_of t a fits) across.beside in
+          let is = tile-is T a c (chain_of t a fits) across.beside in
           let address = ap (λ (x : Placed A). x.address) only.0 in (
             subst (λ (f : ℕ). Touches t a e c.address f) (sym only.1) (subst (λ (x : Address). Touches t a e x m.edge) (sym address) m.touches),
             subst (λ (x : Address). Fits (child_kinds t) x) (sym address) m.fits,
@@ -68,9 +64,9 @@ module _ (P : Points) (W : PointLaws P) (edition : Edition) (refused : P.ring.ca
   pub across-back : (a : Address) (e : ℕ) (c : Placed A) (g : ℕ) → Fits (child_kinds t) a → e < edge_count r a.kind → IsTileAcross P r (tile a) e c g → IsOnlyTileAcross P r c g (tile a) e
   across-back a e c g fits he across =
       let h = across-touch a e c g fits he across in
-      let coherent = contacts-coherent P W edition refused r N D in
+      let coherent = contacts-coherent T in
       subst (λ (x : Placed A). IsOnlyTileAcross P r x g (tile a) e) (sym h.2)
-      (touch-only_across c.address a g e h.1 fits across.edge_exists (Touches-sym a c.address coherent fits h.1 (edge_known P W edition refused r N D growth a.kind e he) h.0))
+      (touch-only_across c.address a g e h.1 fits across.edge_exists (Touches-sym a c.address coherent fits h.1 (edge_known T a.kind e he) h.0))
 
   -- ---- each edge is the one or the other
   -- one tile is across, and the edge touches it
@@ -94,14 +90,14 @@ module _ (P : Points) (W : PointLaws P) (edition : Edition) (refused : P.ring.ca
     outside : IsOutside a e → Crossing a e
 
   pub crossing : (a : Address) (e : ℕ) → Fits (child_kinds t) a → e < edge_count r a.kind → Crossing a e
-  crossing a e fits he = at_case (trace_or_touch t a e (contacts-coherent P W edition refused r N D) fits (edge_known P W edition refused r N D growth a.kind e he))
+  crossing a e fits he = at_case (trace_or_touch t a e (contacts-coherent T) fits (edge_known T a.kind e he))
     where
       at_case : TraceOrTouch t a e → Crossing a e
       at_case (traced top cuts h) = outside (record {
         top = top;
         cuts = cuts;
         trace = h;
-        boundary = trace-on_boundary P W edition refused r N D growth a e top cuts fits (lowest_exists P W edition refused r N D a.kind a.digits (chain_of t a fits)) he h;
-        none = traced-none P W edition refused r N D growth a e top cuts fits he h;
+        boundary = trace-on_boundary T a e top cuts fits (lowest_exists T a.kind a.digits (chain_of t a fits)) he h;
+        none = traced-none T a e top cuts fits he h;
       })
       at_case (touched m) = crossed (record { other = m.other; edge = m.edge; fits = m.fits; touches = m.touches; only = touch-only_across a m.other e m.edge fits m.fits he m.touches })

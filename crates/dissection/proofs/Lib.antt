@@ -1,3 +1,5 @@
+pub mod Setting
+pub mod MovedStar
 pub mod Ahead
 pub mod Around
 pub mod StarEdges
@@ -33,6 +35,7 @@ pub mod BoundaryTrace
 pub mod Carried
 pub mod OneChild
 pub mod Glue
+pub mod GlueMotions
 pub mod GlueMotion
 pub mod Holder
 pub mod Turns

@@ -1,32 +1,30 @@
 -- The tiles that a supertile's list has: their addresses fit, and each has the motion of its digits.
-use Rattle.edge_to_edge.specs.Edition.{Edition}
-use Rattle.std.proofs.Common.{◌≡◌, ℕ, zero, suc, ◌<◌, Bool, List, [], ◌∷◌, ◌++◌, length, Some, refl, sym, ap, ◌∙◌, subst}
+use Rattle.std.proofs.Common.{◌≡◌, ℕ, zero, suc, ◌<◌, List, [], ◌∷◌, ◌++◌, length, Some, refl, sym, ap, ◌∙◌, subst}
 use Rattle.std.specs.List.{enumerate_from, AllByRecursion}
-use Rattle.substitution.specs.Points.{Points, PointLaws}
 use Rattle.substitution.specs.Motion.{still}
 use Rattle.addressing.specs.Address.{Step, top_from, top_kind, depth}
-use Rattle.substitution.specs.Rule.{Child, Rule, children_of}
+use Rattle.substitution.specs.Rule.{Child, children_of}
 use Rattle.substitution.specs.RuleParts.{child_of}
 use Rattle.substitution.specs.Placement.{placement}
 use Rattle.addressing.specs.Search.{IsAmong}
 use Rattle.substitution.specs.Supertile.{Placed, lifted, supertile}
 use Rattle.edge_to_edge.specs.Contacts.{tables_of}
 use Rattle.addressing.specs.Tables.{Tables, child_kind_of}
-use Rattle.edge_to_edge.specs.Numbered.{IsNumbered}
-use Rattle.edge_to_edge.specs.EdgeToEdge.{IsEdgeToEdge}
 use Rattle.addressing.proofs.Chains.{IsChain}
 use Rattle.addressing.proofs.Lists.{AllByRecursion-among, AllByRecursion-from, AllByRecursion-map, AllByRecursion-flat_map, AllByRecursion-each, get_or-enumerated}
 use Rattle.substitution.proofs.Addresses.{top_from-append}
 use Rattle.substitution.proofs.Placement.{IsPlaced, supertile-placed}
-use Rattle.edge_to_edge.proofs.CoherentTypes.{below_kinds}
 use Rattle.edge_to_edge.proofs.TablesOf.{child_kind_of-at}
+use Rattle.dissection.proofs.Setting.{Setting, below_kinds}
 use Rattle.dissection.proofs.SupertileCount.{enumerated-at}
 
 pub chain-append : (t : Tables) (kind : ℕ) (ds : List Step) (d : Step) → IsChain t kind ds → child_kind_of t d.parent d.child ≡ Some (top_from kind ds) → d.parent < length t.kinds → IsChain t kind (ds ++ d ∷ [])
 chain-append t kind [] d h fits exists = (fits, exists)
 chain-append t kind (e ∷ ds) d h fits exists = (h.0, chain-append t e.parent ds d h.1 fits exists)
 
-module _ (P : Points) (W : PointLaws P) (edition : Edition) (refused : P.ring.carrier → Bool) (r : Rule P.ring.carrier) (N : IsNumbered P r) (D : IsEdgeToEdge P edition refused r) where
+module _ (T : Setting) where
+  open T use {points as P, laws as W, accepted.{rule as r, numbered as N, edge_to_edge as D}}
+
   abbrev A : Type 0
   A = P.ring.carrier
 
@@ -36,7 +34,7 @@ module _ (P : Points) (W : PointLaws P) (edition : Edition) (refused : P.ring.ca
     pub top : top_kind t.address ≡ k
 
   supertile-tiles : (k n : ℕ) → k < length r.kinds → AllByRecursion (IsTile k) (supertile P r k n)
-  supertile-tiles k zero hk = (record { kind_exists = hk; chain = below_kinds P W edition refused r N D k hk; top = refl }, tt)
+  supertile-tiles k zero hk = (record { kind_exists = hk; chain = below_kinds T k hk; top = refl }, tt)
   supertile-tiles k (suc n) hk =
       AllByRecursion-flat_map _ _ (enumerate_from 0 (children_of r k)) (AllByRecursion-from _ (enumerate_from 0 (children_of r k)) (λ c i.
       AllByRecursion-map _ (lifted P r k n c.0 c.1) (supertile P r c.1.kind n) (AllByRecursion-each (IsTile c.1.kind) _ (supertile P r c.1.kind n) (λ t h. one_more c i t h) (supertile-tiles c.1.kind n (child_exists c i)))))
@@ -52,7 +50,7 @@ module _ (P : Points) (W : PointLaws P) (edition : Edition) (refused : P.ring.ca
         kind_exists = h.kind_exists;
         chain = chain-append (tables_of P r) t.address.kind t.address.digits (record { child = c.0; parent = k }) h.chain
             (child_kind_of-at P r k c.0 (enumerated-at (children_of r k) c i) ∙ ap (λ (x : Child A). Some x.kind) (is_child c i) ∙ ap Some (sym h.top))
-            (below_kinds P W edition refused r N D k hk);
+            (below_kinds T k hk);
         top = top_from-append t.address.kind t.address.digits (record { child = c.0; parent = k });
       }
 

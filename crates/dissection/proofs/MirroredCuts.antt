@@ -1,19 +1,14 @@
 -- Edges whose types are mates and that run opposite are cut at the same points.
-use Rattle.edge_to_edge.specs.Edition.{Edition}
-use Rattle.std.proofs.Common.{◌≡◌, ℕ, zero, suc, ◌+◌, ◌<◌, Bool, List, length, map, reverse, slice_get, Some, sym, ap, ◌∙◌, subst, arith}
+use Rattle.std.proofs.Common.{◌≡◌, ℕ, zero, suc, ◌+◌, ◌<◌, List, length, map, reverse, slice_get, Some, sym, ap, ◌∙◌, subst, arith}
 use Rattle.std.specs.Cmp.Lexicographic.{same_text}
 use Rattle.std.proofs.lemmas.List.{length-map, length-reverse}
 use Rattle.ordered_ring.specs.Ring.{difference}
-use Rattle.substitution.specs.Points.{Points, PointLaws}
 use Rattle.substitution.specs.Motion.{Motion, moved}
 use Rattle.substitution.specs.Plane.{twice_squared_length}
 use Rattle.addressing.specs.Search.{IsAmong}
-use Rattle.substitution.specs.Rule.{Rule}
 use Rattle.substitution.specs.RuleParts.{mate, parts, edge_count, edge_type, child_of}
 use Rattle.edge_to_edge.specs.Edges.{PlacedEdge, inflated_edge, child_edges}
 use Rattle.edge_to_edge.specs.EdgeTypes.{edge_vector}
-use Rattle.edge_to_edge.specs.Numbered.{IsNumbered}
-use Rattle.edge_to_edge.specs.EdgeToEdge.{IsEdgeToEdge}
 use Rattle.substitution.proofs.Lengths.{motion-length}
 use Rattle.substitution.proofs.Keeping.{motion-keeps}
 use Rattle.addressing.proofs.TableBounds.{some_within}
@@ -24,13 +19,16 @@ use Rattle.edge_to_edge.proofs.CutParts.{AreParts-length}
 use Rattle.edge_to_edge.proofs.CutEdges.{cut_parts, boundary_edges, found, part-types}
 use Rattle.edge_to_edge.proofs.LieCases.{lie_of-boundary}
 use Rattle.edge_to_edge.proofs.ContactCases.{IsPart, part-is_child_edge}
-use Rattle.edge_to_edge.proofs.CoherentContacts.{cut_edges}
+use Rattle.dissection.specs.TileEdges.{image_of}
+use Rattle.dissection.proofs.Setting.{Setting, cut_edges}
 use Rattle.dissection.proofs.SameLengths.{mates-as_long}
-use Rattle.dissection.proofs.Injective.{AheadOf, Along, along_of, Along-image, ahead-along, image}
+use Rattle.dissection.proofs.Injective.{AheadOf, Along, along_of, Along-image, ahead-along}
 use Rattle.dissection.proofs.EquallyFar.{equally_far}
 use Rattle.dissection.proofs.PartChain.{first-begins, next-begins, last-ends}
 
-module _ (P : Points) (W : PointLaws P) (edition : Edition) (refused : P.ring.carrier → Bool) (r : Rule P.ring.carrier) (N : IsNumbered P r) (D : IsEdgeToEdge P edition refused r) where
+module _ (T : Setting) where
+  open T use {points as P, laws as W, accepted.{rule as r, numbered as N, edge_to_edge as D}}
+
   abbrev A : Type 0
   A = P.ring.carrier
 
@@ -46,7 +44,7 @@ module _ (P : Points) (W : PointLaws P) (edition : Edition) (refused : P.ring.ca
   pub part_facts : (k e p : ℕ) (s : PlacedEdge A) → k < length r.kinds → e < edge_count r k → slice_get (cut_parts P r k e) p ≡ Some s → PartFacts k e s
   part_facts k e p s hk he at =
       let part : IsPart P r k s e p = record { edge_below = he; at = at } in
-      let child = part-is_child_edge P W r k (D.none_loose k hk) (cut_edges P W edition refused r N D k) s e p part in
+      let child = part-is_child_edge P W r k (D.none_loose k hk) (cut_edges T k) s e p part in
       let named = among-child_edges P r k s child.0 in
       record {
         among = child.0;
@@ -72,13 +70,13 @@ module _ (P : Points) (W : PointLaws P) (edition : Edition) (refused : P.ring.ca
 
   part_type-at : (k e p : ℕ) (s : PlacedEdge A) → e < edge_count r k → slice_get (cut_parts P r k e) p ≡ Some s → slice_get (parts r (edge_type r k e)) p ≡ Some s.type
   part_type-at k e p s he at =
-      ap (λ (l : List ℕ). slice_get l p) (sym (part-types P W r k (cut_edges P W edition refused r N D k) e he))
+      ap (λ (l : List ℕ). slice_get l p) (sym (part-types P W r k (cut_edges T k) e he))
       ∙ slice_get-image (λ (u : PlacedEdge A). u.type) s (cut_parts P r k e) p at
 
   pub parts_length : (k e : ℕ) → e < edge_count r k → length (cut_parts P r k e) ≡ length (parts r (edge_type r k e))
   parts_length k e he =
       AreParts-length P W (boundary_edges P r k e) (inflated_edge P r k e).to (parts r (edge_type r k e)) (inflated_edge P r k e).from (cut_parts P r k e)
-      (found P W r k (cut_edges P W edition refused r N D k) e he).parts
+      (found P W r k (cut_edges T k) e he).parts
 
   module _ (k e l f : ℕ) (hk : k < length r.kinds) (he : e < edge_count r k) (hl : l < length r.kinds) (hf : f < edge_count r l) (mates : edge_type r l f ≡ mate r (edge_type r k e))
       (m m' : Motion A) (starts : moved P m (inflated_edge P r k e).from ≡ moved P m' (inflated_edge P r l f).to) (ends : moved P m (inflated_edge P r k e).to ≡ moved P m' (inflated_edge P r l f).from) where
@@ -108,12 +106,12 @@ module _ (P : Points) (W : PointLaws P) (edition : Edition) (refused : P.ring.ca
     other_end : (i j : ℕ) (x y : PlacedEdge A) → slice_get (cut_parts P r k e) i ≡ Some x → slice_get (cut_parts P r l f) j ≡ Some y → j + (i + 1) ≡ length (cut_parts P r k e)
         → moved P m x.line.from ≡ moved P m' y.line.to → moved P m x.line.to ≡ moved P m' y.line.from
     other_end i j x y at at' n here =
-        let g = ahead-along P W (image P W (moved P m) (inflated_edge P r k e)) (image P W (moved P m) x.line) (Along-image P W (moved P m) (motion-keeps P W m) (inflated_edge P r k e) x.line (part_facts k e i x hk he at).along) in
-        let g' = ahead-along P W (image P W (moved P m') (inflated_edge P r l f)) (image P W (moved P m') y.line) (Along-image P W (moved P m') (motion-keeps P W m') (inflated_edge P r l f) y.line (part_facts l f j y hl hf at').along) in
+        let g = ahead-along P W (image_of P (moved P m) (inflated_edge P r k e)) (image_of P (moved P m) x.line) (Along-image P W (moved P m) (motion-keeps P W m) (inflated_edge P r k e) x.line (part_facts k e i x hk he at).along) in
+        let g' = ahead-along P W (image_of P (moved P m') (inflated_edge P r l f)) (image_of P (moved P m') y.line) (Along-image P W (moved P m') (motion-keeps P W m') (inflated_edge P r l f) y.line (part_facts l f j y hl hf at').along) in
         let h : AheadOf P W (record { from = moved P m (inflated_edge P r k e).to; to = moved P m (inflated_edge P r k e).from }) (record { from = moved P m' y.line.from; to = moved P m x.line.from })
         = subst (λ c. AheadOf P W (record { from = c; to = moved P m (inflated_edge P r k e).from }) (record { from = moved P m' y.line.from; to = moved P m x.line.from })) (sym ends)
         (subst (λ d. AheadOf P W (record { from = moved P m' (inflated_edge P r l f).from; to = d }) (record { from = moved P m' y.line.from; to = moved P m x.line.from })) (sym starts)
-        (subst (λ u. AheadOf P W (image P W (moved P m') (inflated_edge P r l f)) (record { from = moved P m' y.line.from; to = u })) (sym here) g')) in
+        (subst (λ u. AheadOf P W (image_of P (moved P m') (inflated_edge P r l f)) (record { from = moved P m' y.line.from; to = u })) (sym here) g')) in
         equally_far P W (moved P m (inflated_edge P r k e).from) (moved P m (inflated_edge P r k e).to) (moved P m x.line.from) (moved P m x.line.to) (moved P m' y.line.from) g h
         (motion-length P W m x.line.from x.line.to ∙ as_long i j x y at at' n ∙ sym (motion-length P W m' y.line.from y.line.to)
         ∙ ap (λ u. twice_squared_length P (difference P.ring u (moved P m' y.line.from))) (sym here))
@@ -121,8 +119,8 @@ module _ (P : Points) (W : PointLaws P) (edition : Edition) (refused : P.ring.ca
     pub mirrored : (i j : ℕ) (x y : PlacedEdge A) → slice_get (cut_parts P r k e) i ≡ Some x → slice_get (cut_parts P r l f) j ≡ Some y → j + (i + 1) ≡ length (cut_parts P r k e)
         → (moved P m x.line.from ≡ moved P m' y.line.to) × (moved P m x.line.to ≡ moved P m' y.line.from)
     mirrored zero j x y at at' n =
-        let own = (found P W r k (cut_edges P W edition refused r N D k) e he).parts in
-        let other = (found P W r l (cut_edges P W edition refused r N D l) f hf).parts in
+        let own = (found P W r k (cut_edges T k) e he).parts in
+        let other = (found P W r l (cut_edges T l) f hf).parts in
         let first = first-begins P W (boundary_edges P r k e) (inflated_edge P r k e).to (parts r (edge_type r k e)) (inflated_edge P r k e).from (cut_parts P r k e) x own at in
         let last = last-ends P W (boundary_edges P r l f) (inflated_edge P r l f).to (parts r (edge_type r l f)) (inflated_edge P r l f).from (cut_parts P r l f) j y other at' (omega (arith, one_length)) in
         let here = ap (moved P m) first ∙ starts ∙ ap (moved P m') (sym last) in
@@ -131,8 +129,8 @@ module _ (P : Points) (W : PointLaws P) (edition : Edition) (refused : P.ring.ca
         let x' = some_within (cut_parts P r k e) i (omega arith) in
         let y' = some_within (cut_parts P r l f) (suc j) (omega (arith, one_length)) in
         let before = mirrored i (suc j) x'.0 y'.0 x'.1 y'.1 (omega arith) in
-        let own = (found P W r k (cut_edges P W edition refused r N D k) e he).parts in
-        let other = (found P W r l (cut_edges P W edition refused r N D l) f hf).parts in
+        let own = (found P W r k (cut_edges T k) e he).parts in
+        let other = (found P W r l (cut_edges T l) f hf).parts in
         let next = next-begins P W (boundary_edges P r k e) (inflated_edge P r k e).to (parts r (edge_type r k e)) (inflated_edge P r k e).from (cut_parts P r k e) i x'.0 x own x'.1 at in
         let next' = next-begins P W (boundary_edges P r l f) (inflated_edge P r l f).to (parts r (edge_type r l f)) (inflated_edge P r l f).from (cut_parts P r l f) j y y'.0 other at' y'.1 in
         let here = ap (moved P m) next ∙ before.1 ∙ ap (moved P m') next' in

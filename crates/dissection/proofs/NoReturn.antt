@@ -1,5 +1,5 @@
 -- No edge of a star-shaped polygon runs back along another, not even along a piece of it.
-use Rattle.std.proofs.Common.{◌≡◌, ◌⊎◌, inl, inr, ℕ, suc, ◌-◌, ◌<◌, ◌≤◌, negsuc, true, List, [], ◌∷◌, length, refl, sym, ap, ◌∙◌, subst, arith}
+use Rattle.std.proofs.Common.{◌≡◌, ◌⊎◌, inl, inr, ℕ, suc, ◌-◌, ◌<◌, negsuc, [], ◌∷◌, length, refl, sym, ap, ◌∙◌, subst, arith}
 use Rattle.std.specs.Ordering.{ordering_reverse, is_lt}
 use Rattle.std.specs.declared.cmp.Ordering.{Ordering}
 use Rattle.std.specs.declared.cmp.Ordering.TheVariants.{Less, Equal, Greater}
@@ -10,12 +10,10 @@ use Rattle.ordered_plane.specs.Segment.{Between, on_segment}
 use Rattle.ordered_ring.proofs.Normaliser.{var, con, neg, ring, ring_from, ◌⊕◌, ◌⊖◌, ◌⊗◌}
 use Rattle.ordered_ring.proofs.Signs.{pos_nonneg, pos_add_nonneg, less_neg}
 use Rattle.ordered_plane.proofs.OnSegment.{on_segment-between}
-use Rattle.substitution.specs.Points.{Points, PointLaws}
-use Rattle.substitution.specs.Plane.{Keeps}
-use Rattle.edge_to_edge.specs.Star.{is_star}
 use Rattle.dissection.proofs.Ahead.{Ahead, ahead-turns}
 use Rattle.dissection.proofs.Around.{orientation-back}
 use Rattle.dissection.proofs.StarEdges.{Place, first, middle, last, spot_of, at, from, to, middle-left, left_of_edge, zero_of_edge, next-middle, next-last, open_first, open_last}
+use Rattle.dissection.proofs.MovedStar.{MovedStar}
 
 module _ (S : Signed) (L : Laws S.ops) (O : OrderLaws S) where
   abbrev R : Ops
@@ -68,19 +66,20 @@ module _ (S : Signed) (L : Laws S.ops) (O : OrderLaws S) where
           ∷ ((neg (var 5), var 8 ⊗ (var 4 ⊖ var 1), var 10 ⊗ (var 0 ⊖ var 1)) ∷ ((neg (var 5 ⊗ (var 1 ⊖ var 0)), var 8, (var 10 ⊕ var 9) ⊕ var 11) ∷ []))))
           (e1, (e2, (e4, (g.whole, tt)))) refl
 
-module _ (P : Points) (W : PointLaws P) (f : P.ring.carrier → P.ring.carrier) (keeps : Keeps P f) (vs : List P.ring.carrier)
-    (star : is_star P vs ≡ true) (three : 3 ≤ length vs) where
+module _ (Q : MovedStar) where
+  open Q use {points as P, laws as W, move as f, keeps, vertices as vs, star, three}
+
   abbrev S : Signed
   S = P.real
 
   abbrev at_vertex : ℕ → PlanePoint P.real.ops.carrier
-  at_vertex = at P W f keeps vs star three
+  at_vertex = at Q
 
   abbrev start : ℕ → PlanePoint P.real.ops.carrier
-  start = from P W f keeps vs star three
+  start = from Q
 
   abbrev end : ℕ → PlanePoint P.real.ops.carrier
-  end = to P W f keeps vs star three
+  end = to Q
 
   -- the two edges have opposite directions
   opposite : (d e : ℕ) (a b z : PlanePoint P.real.ops.carrier) → Ahead S (start d) (end d) a b → Ahead S (start e) (end e) b a
@@ -94,10 +93,10 @@ module _ (P : Points) (W : PointLaws P) (f : P.ring.carrier → P.ring.carrier) 
   at_ends i a b n h g = at_case (meets_back S W.of_real W.of_order (at_vertex 0) (at_vertex (suc i)) (at_vertex 1) a b h' g')
     where
       h' : Ahead S (at_vertex 0) (at_vertex 1) a b
-      h' = subst (λ j. Ahead S (at_vertex 0) (at_vertex j) a b) (next-middle P W f keeps vs star three 0 (omega arith)) h
+      h' = subst (λ j. Ahead S (at_vertex 0) (at_vertex j) a b) (next-middle Q 0 (omega arith)) h
 
       g' : Ahead S (at_vertex (suc i)) (at_vertex 0) b a
-      g' = subst (λ j. Ahead S (at_vertex (suc i)) (at_vertex j) b a) (next-last P W f keeps vs star three (suc i) n) g
+      g' = subst (λ j. Ahead S (at_vertex (suc i)) (at_vertex j) b a) (next-last Q (suc i) n) g
 
       number : suc i ≡ length vs - 1
       number = omega arith
@@ -105,21 +104,21 @@ module _ (P : Points) (W : PointLaws P) (f : P.ring.carrier → P.ring.carrier) 
       at_case : Between S (at_vertex 0) (at_vertex 1) (at_vertex (suc i)) ⊎ Between S (at_vertex 0) (at_vertex (suc i)) (at_vertex 1) → ⊥
       at_case (inl k) =
           let t = ap (λ j. on_segment S (at_vertex 0) (at_vertex 1) (at_vertex j)) number in
-          cc (sym (on_segment-between S W.of_real W.of_order (at_vertex 0) (at_vertex 1) (at_vertex (suc i)) k) ∙ t ∙ open_last P W f keeps vs star three)
+          cc (sym (on_segment-between S W.of_real W.of_order (at_vertex 0) (at_vertex 1) (at_vertex (suc i)) k) ∙ t ∙ open_last Q)
       at_case (inr k) =
           let t = ap (λ j. on_segment S (at_vertex 0) (at_vertex j) (at_vertex 1)) number in
-          cc (sym (on_segment-between S W.of_real W.of_order (at_vertex 0) (at_vertex (suc i)) (at_vertex 1) k) ∙ t ∙ open_first P W f keeps vs star three)
+          cc (sym (on_segment-between S W.of_real W.of_order (at_vertex 0) (at_vertex (suc i)) (at_vertex 1) k) ∙ t ∙ open_first Q)
 
   -- an edge with itself
   itself : (e : ℕ) (a b : PlanePoint P.real.ops.carrier) → Place (length vs) e → Ahead S (start e) (end e) a b → Ahead S (start e) (end e) b a → ⊥
   itself e a b p h g =
-      let z = left_of_edge P W f keeps vs star three e p in
+      let z = left_of_edge Q e p in
       cc (sym z.1 ∙ opposite e e a b z.0 h g ∙ ap ordering_reverse z.1)
 
   -- one of the two in the middle: vertex 0 is strictly left of it, and so strictly right of the other
   with_middle : (d e : ℕ) (a b : PlanePoint P.real.ops.carrier) → Place (length vs) e → S.sign (orientation P.real.ops (start d) (end d) (at_vertex 0)) ≡ Greater
       → Ahead S (start d) (end d) a b → Ahead S (start e) (end e) b a → ⊥
-  with_middle d e a b p left h g = at_case (zero_of_edge P W f keeps vs star three e p)
+  with_middle d e a b p left h g = at_case (zero_of_edge Q e p)
     where
       is : S.sign (orientation P.real.ops (start e) (end e) (at_vertex 0)) ≡ Less
       is = opposite d e a b (at_vertex 0) h g ∙ ap ordering_reverse left
@@ -129,9 +128,9 @@ module _ (P : Points) (W : PointLaws P) (f : P.ring.carrier → P.ring.carrier) 
       at_case (inr k) = cc (sym is ∙ k)
 
   returns_not : (d e : ℕ) (a b : PlanePoint P.real.ops.carrier) → Place (length vs) d → Place (length vs) e → Ahead S (start d) (end d) a b → Ahead S (start e) (end e) b a → ⊥
-  returns_not d e a b (middle i k) q h g = with_middle (suc i) e a b q (middle-left P W f keeps vs star three i k) h g
-  returns_not d e a b first (middle i k) h g = with_middle (suc i) 0 b a first (middle-left P W f keeps vs star three i k) g h
-  returns_not d e a b (last j n) (middle i k) h g = with_middle (suc i) (suc j) b a (last j n) (middle-left P W f keeps vs star three i k) g h
+  returns_not d e a b (middle i k) q h g = with_middle (suc i) e a b q (middle-left Q i k) h g
+  returns_not d e a b first (middle i k) h g = with_middle (suc i) 0 b a first (middle-left Q i k) g h
+  returns_not d e a b (last j n) (middle i k) h g = with_middle (suc i) (suc j) b a (last j n) (middle-left Q i k) g h
   returns_not d e a b first first h g = itself 0 a b first h g
   returns_not d e a b first (last i n) h g = at_ends i a b n h g
   returns_not d e a b (last i n) first h g = at_ends i b a n g h

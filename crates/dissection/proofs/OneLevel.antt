@@ -1,5 +1,4 @@
 -- One level: the counts of the children of an inflated prototile add up to its count.
-use Rattle.edge_to_edge.specs.Edition.{Edition}
 use Rattle.std.proofs.Common.{◌≡◌, inl, inr, ℕ, ◌<◌, ℤ, pos, ◌+ℤ◌, neg_ℤ, Bool, true, false, not, ◌&&◌, cond, List, [], ◌∷◌, length, nat_eq, refl, sym, ap, ap₂, ◌∙◌, arith, is_ok}
 use Rattle.std.specs.List.{filter}
 use Rattle.std.proofs.lemmas.Bool.{and_parts, ne_eqb}
@@ -9,26 +8,24 @@ use Rattle.ordered_plane.specs.Segment.{Between}
 use Rattle.ordered_plane.specs.Crossing.{crossing}
 use Rattle.ordered_plane.proofs.Crossing.{crossing-turned, crossing-parts}
 use Rattle.ordered_plane.proofs.OnSegment.{between-on_segment, on_segment-between}
-use Rattle.substitution.specs.Points.{Points, PointLaws}
 use Rattle.substitution.specs.Plane.{plane_point, Keeps}
 use Rattle.addressing.specs.Search.{IsAmong, below}
-use Rattle.substitution.specs.Rule.{Rule}
 use Rattle.substitution.specs.RuleParts.{parts, edge_count, edge_type}
 use Rattle.edge_to_edge.specs.Edges.{Edge, PlacedEdge, inflated_edge, child_edges, runs_back, is_opposite}
 use Rattle.edge_to_edge.specs.Lying.{inner, boundary, lie_of, is_along}
 use Rattle.edge_to_edge.specs.Boundary.{parts_of_edge}
-use Rattle.edge_to_edge.specs.Numbered.{IsNumbered}
-use Rattle.edge_to_edge.specs.EdgeToEdge.{IsEdgeToEdge}
 use Rattle.edge_to_edge.proofs.ChildEdges.{is_opposite-sym}
 use Rattle.edge_to_edge.proofs.CutParts.{AreParts, begins, AreParts-alone, AreParts-apart, AreParts-length, AreParts-among, from_of}
 use Rattle.edge_to_edge.proofs.CutEdges.{cut_parts, boundary_edges, found, leads_away}
 use Rattle.edge_to_edge.proofs.ContactCases.{Settled, inside, along, settled, part-is_child_edge}
-use Rattle.edge_to_edge.proofs.CoherentContacts.{cut_edges}
 use Rattle.dissection.specs.Sums.{sum_over, sum_below}
+use Rattle.dissection.proofs.Setting.{Setting, cut_edges}
 use Rattle.dissection.proofs.Sums.{zero_plus, plus_zero, regroup, own_negative, sum-ext_on, sum-both, sum-swap, sum-filter, sum-taken, sum-below_list, sum_below-ext, sum_below-once, sum_below-none, cell, pairs_cancel}
 
-module _ (P : Points) (W : PointLaws P) (edition : Edition) (refused : P.ring.carrier → Bool) (r : Rule P.ring.carrier) (N : IsNumbered P r) (D : IsEdgeToEdge P edition refused r)
-    (p : TestPoint P.real.ops.carrier) (f : P.ring.carrier → P.ring.carrier) (keeps : Keeps P f) where
+module _ (T : Setting)
+    (p : TestPoint T.points.real.ops.carrier) (f : T.points.ring.carrier → T.points.ring.carrier) (keeps : Keeps T.points f) where
+  open T use {points as P, laws as W, accepted.{rule as r, numbered as N, edge_to_edge as D}}
+
   abbrev A : Type 0
   A = P.ring.carrier
 
@@ -86,7 +83,7 @@ module _ (P : Points) (W : PointLaws P) (edition : Edition) (refused : P.ring.ca
     edges = child_edges P r k
 
     abbrev cut : (e : ℕ) → e < edge_count r k → is_ok (parts_of_edge P r k e) ≡ true
-    cut = cut_edges P W edition refused r N D k
+    cut = cut_edges T k
 
     boundary_sum : (e : ℕ) → e < edge_count r k → sum_over at_edge (boundary_edges P r k e) ≡ at_line (inflated_edge P r k e)
     boundary_sum e he =

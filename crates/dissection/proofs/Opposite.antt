@@ -1,12 +1,9 @@
 -- Edges that meet by the tables run opposite in the plane.
-use Rattle.edge_to_edge.specs.Edition.{Edition}
-use Rattle.std.proofs.Common.{◌≡◌, ℕ, ◌+◌, ◌<◌, Bool, not, ◌&&◌, nat_eq, List, ◌∷◌, length, Some, IsSome, sym, ap, ap₂, ◌∙◌}
+use Rattle.std.proofs.Common.{◌≡◌, ℕ, ◌+◌, ◌<◌, not, ◌&&◌, nat_eq, List, ◌∷◌, length, Some, IsSome, sym, ap, ap₂, ◌∙◌}
 use Rattle.std.proofs.lemmas.Bool.{and_parts}
 use Rattle.std.proofs.lemmas.List.{length-map}
-use Rattle.substitution.specs.Points.{Points, PointLaws}
 use Rattle.substitution.specs.Motion.{moved}
 use Rattle.addressing.specs.Address.{Step, Address, Fits}
-use Rattle.substitution.specs.Rule.{Rule}
 use Rattle.substitution.specs.RuleParts.{mate, edge_count, edge_type, child_of, next, vertex}
 use Rattle.edge_to_edge.specs.Edges.{Edge, PlacedEdge, inflated_edge, moved_edge, child_edge, child_edges, runs_back, is_opposite}
 use Rattle.substitution.specs.Placement.{placement}
@@ -14,8 +11,6 @@ use Rattle.addressing.specs.Contact.{inner, outer}
 use Rattle.edge_to_edge.specs.Contacts.{name_of, tables_of}
 use Rattle.addressing.specs.Tables.{child_kinds, type_of, child_kind_of, contact_of, part_count}
 use Rattle.addressing.specs.Touch.{Touches}
-use Rattle.edge_to_edge.specs.Numbered.{IsNumbered}
-use Rattle.edge_to_edge.specs.EdgeToEdge.{IsEdgeToEdge}
 use Rattle.addressing.proofs.Chains.{IsChain, chain_of}
 use Rattle.addressing.proofs.Filters.{kept_one}
 use Rattle.addressing.proofs.FineTouch.{Meets, as_children, as_parts}
@@ -23,13 +18,16 @@ use Rattle.addressing.proofs.Mated.{IsMated}
 use Rattle.edge_to_edge.proofs.TablesOf.{type_of-found, mate_of-found, child_kind_of-found, parts_of-at}
 use Rattle.edge_to_edge.proofs.ChildEdges.{kind-with_edge}
 use Rattle.edge_to_edge.proofs.CutEdges.{cut_parts}
-use Rattle.edge_to_edge.proofs.CoherentContacts.{named, inner_other, part-from, contacts-coherent}
+use Rattle.edge_to_edge.proofs.CoherentContacts.{named}
 use Rattle.addressing.proofs.Touching.{Meets-of}
+use Rattle.dissection.proofs.Setting.{Setting, contacts-coherent, inner_other, part-from}
 use Rattle.dissection.proofs.Frames.{frame, finer-moves, frame-moves}
 use Rattle.dissection.proofs.MirroredCuts.{mirrored}
 use Rattle.dissection.proofs.MeetMates.{met_mates}
 
-module _ (P : Points) (W : PointLaws P) (edition : Edition) (refused : P.ring.carrier → Bool) (r : Rule P.ring.carrier) (N : IsNumbered P r) (D : IsEdgeToEdge P edition refused r) where
+module _ (T : Setting) where
+  open T use {points as P, laws as W, accepted.{rule as r, numbered as N, edge_to_edge as D}}
+
   abbrev A : Type 0
   A = P.ring.carrier
 
@@ -63,7 +61,7 @@ module _ (P : Points) (W : PointLaws P) (edition : Edition) (refused : P.ring.ca
       → child_kind_of (tables_of P r) s.parent s.child ≡ Some k → child_kind_of (tables_of P r) u.parent u.child ≡ Some l
       → Opposite (tile_edge k (s ∷ ds) e) (tile_edge l (u ∷ ds) f)
   children-opposite k l e f s u ds parent met fits fits' =
-      let back = inner_other P W edition refused r N D s.parent s.child e u.child f met in
+      let back = inner_other T s.parent s.child e u.child f met in
       let kept = kept_one (is_opposite P (child_edge P r s.parent s.child e)) back.other (child_edges P r s.parent) back.meets_alone in
       let other = named P r s.parent u.child f back.other back.among back.child back.edge in
       let runs = (and_parts (not (nat_eq s.child back.other.child && nat_eq e back.other.edge)) (runs_back P (child_edge P r s.parent s.child e).line back.other.line) kept.1).1 in
@@ -88,8 +86,8 @@ module _ (P : Points) (W : PointLaws P) (edition : Edition) (refused : P.ring.ca
       → IsMated (tables_of P r) s.parent own u.parent other → Opposite (tile_edge s.parent xs own) (tile_edge u.parent ys other)
       → Opposite (tile_edge k (s ∷ xs) e) (tile_edge l (u ∷ ys) f)
   parts-opposite k l e f own other p q s u xs ys is is' n fits fits' mated above =
-      let part = part-from P W edition refused r N D s.parent s.child e own p is in
-      let part' = part-from P W edition refused r N D u.parent u.child f other q is' in
+      let part = part-from T s.parent s.child e own p is in
+      let part' = part-from T u.parent u.child f other q is' in
       let type = type_of-found P r s.parent own mated.own mated.own_is in
       let type' = type_of-found P r u.parent other mated.other mated.other_is in
       let mates : edge_type r u.parent other ≡ mate r (edge_type r s.parent own) = sym type'.1 ∙ (mate_of-found P r mated.own mated.other mated.mates).1 ∙ ap (mate r) type.1 in
@@ -98,7 +96,7 @@ module _ (P : Points) (W : PointLaws P) (edition : Edition) (refused : P.ring.ca
       let ends : moved P (frame P W r xs) (inflated_edge P r s.parent own).to ≡ moved P (frame P W r ys) (inflated_edge P r u.parent other).from
       = frame-to s.parent own xs ∙ ap (P.ring.mul r.factor) (sym above.0) ∙ sym (frame-from u.parent other ys) in
       let count : q + (p + 1) ≡ length (cut_parts P r s.parent own) = n ∙ part_count-is s.parent own part.edge_below in
-      let both = mirrored P W edition refused r N D s.parent own u.parent other (kind-with_edge P r s.parent own part.edge_below) part.edge_below (kind-with_edge P r u.parent other part'.edge_below) part'.edge_below
+      let both = mirrored T s.parent own u.parent other (kind-with_edge P r s.parent own part.edge_below) part.edge_below (kind-with_edge P r u.parent other part'.edge_below) part'.edge_below
       mates (frame P W r xs) (frame P W r ys) starts ends p q (child_edge P r s.parent s.child e) (child_edge P r u.parent u.child f) part.at part'.at count in
       let mine = finer-edge k e s xs fits in
       let its = finer-edge l f u ys fits' in (
@@ -111,7 +109,7 @@ module _ (P : Points) (W : PointLaws P) (edition : Edition) (refused : P.ring.ca
       → Opposite (tile_edge k xs e) (tile_edge l ys f)
   meets-opposite k l e f xs ys (as_children {s = s} {u = u} {ds = ds} parent met) fits fits' edge = children-opposite k l e f s u ds parent met fits.0 fits'.0
   meets-opposite k l e f xs ys (as_parts {s = s} {u = u} {own = own} {other = other} {p = p} {q = q} {xs = xs'} {ys = ys'} is is' n m rest) fits fits' edge =
-      let coherent = contacts-coherent P W edition refused r N D in
+      let coherent = contacts-coherent T in
       let known = coherent.outer_edge s.parent s.child e own p is in
       parts-opposite k l e f own other p q s u xs' ys' is is' n fits.0 fits'.0 (met_mates (tables_of P r) s.parent u.parent own other xs' ys' coherent fits.1 fits'.1 known rest)
       (meets-opposite s.parent u.parent own other xs' ys' rest fits.1 fits'.1 known)
@@ -120,5 +118,5 @@ module _ (P : Points) (W : PointLaws P) (edition : Edition) (refused : P.ring.ca
   pub touches-opposite : (a b : Address) (e f : ℕ) → Fits (child_kinds (tables_of P r)) a → Fits (child_kinds (tables_of P r)) b → IsSome (type_of (tables_of P r) a.kind e) → Touches (tables_of P r) a e b f
       → Opposite (tile_edge a.kind a.digits e) (tile_edge b.kind b.digits f)
   touches-opposite a b e f fits fits' edge touches =
-      meets-opposite a.kind b.kind e f a.digits b.digits (Meets-of a b (contacts-coherent P W edition refused r N D) fits fits' edge touches)
+      meets-opposite a.kind b.kind e f a.digits b.digits (Meets-of a b (contacts-coherent T) fits fits' edge touches)
       (chain_of (tables_of P r) a fits) (chain_of (tables_of P r) b fits') edge

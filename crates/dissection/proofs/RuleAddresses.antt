@@ -1,30 +1,27 @@
 -- Addresses that fit the contact tables of a rule fit the rule, and name tiles of its supertiles.
-use Rattle.edge_to_edge.specs.Edition.{Edition}
-use Rattle.std.proofs.Common.{◌≡◌, ℕ, ◌<◌, Bool, List, [], ◌∷◌, length, map, slice_get, Some, sym, ap, ◌∙◌, subst}
+use Rattle.std.proofs.Common.{◌≡◌, ℕ, ◌<◌, List, [], ◌∷◌, length, map, slice_get, Some, sym, ap, ◌∙◌, subst}
 use Rattle.std.specs.Option.{option_and_then}
 use Rattle.std.proofs.lemmas.Option.{slice_get-get_or}
 use Rattle.std.proofs.lemmas.List.{length-map}
-use Rattle.substitution.specs.Points.{Points, PointLaws}
 use Rattle.substitution.specs.Motion.{still}
 use Rattle.addressing.specs.Address.{Step, Address, top_from, top_kind, depth, child_kind, Climbs, Fits}
-use Rattle.substitution.specs.Rule.{Child, Kind, Rule, kind_of, children_of, child_kinds}
+use Rattle.substitution.specs.Rule.{Child, Kind, kind_of, children_of, child_kinds}
 use Rattle.substitution.specs.RuleParts.{child_of}
 use Rattle.substitution.specs.Placement.{placement}
 use Rattle.addressing.specs.Search.{IsAmong}
 use Rattle.substitution.specs.Supertile.{supertile}
 use Rattle.edge_to_edge.specs.Contacts.{tables_of}
 use Rattle.addressing.specs.Tables.{Tables, child_kind_of}
-use Rattle.edge_to_edge.specs.Numbered.{IsNumbered}
-use Rattle.edge_to_edge.specs.EdgeToEdge.{IsEdgeToEdge}
 use Rattle.addressing.proofs.Chains.{IsChain}
 use Rattle.addressing.proofs.Ranges.{slice_get-image}
 use Rattle.edge_to_edge.proofs.ChildEdges.{kind-with_child}
 use Rattle.edge_to_edge.proofs.TablesOf.{child_kind_of-found}
-use Rattle.edge_to_edge.proofs.CoherentTypes.{kind_below}
-use Rattle.edge_to_edge.proofs.CoherentContacts.{contacts-coherent}
 use Rattle.substitution.proofs.Addresses.{StandsBeside-placement}
+use Rattle.dissection.proofs.Setting.{Setting, contacts-coherent, kind_below}
 
-module _ (P : Points) (W : PointLaws P) (edition : Edition) (refused : P.ring.carrier → Bool) (r : Rule P.ring.carrier) (N : IsNumbered P r) (D : IsEdgeToEdge P edition refused r) where
+module _ (T : Setting) where
+  open T use {points as P, laws as W, accepted.{rule as r, numbered as N, edge_to_edge as D}}
+
   abbrev A : Type 0
   A = P.ring.carrier
 
@@ -47,12 +44,12 @@ module _ (P : Points) (W : PointLaws P) (edition : Edition) (refused : P.ring.ca
   climbs-rule kind (d ∷ ds) h = (same_child d.parent d.child kind h.0, climbs-rule d.parent ds h.1)
 
   pub top_exists : (kind : ℕ) (ds : List Step) → IsChain t kind ds → top_from kind ds < length r.kinds
-  top_exists kind [] h = kind_below P W edition refused r N D kind h
+  top_exists kind [] h = kind_below T kind h
   top_exists kind (d ∷ ds) h = top_exists d.parent ds h.1
 
   pub lowest_exists : (kind : ℕ) (ds : List Step) → IsChain t kind ds → kind < length r.kinds
-  lowest_exists kind [] h = kind_below P W edition refused r N D kind h
-  lowest_exists kind (d ∷ ds) h = kind_below P W edition refused r N D kind ((contacts-coherent P W edition refused r N D).child_exists d.parent d.child kind h.0)
+  lowest_exists kind [] h = kind_below T kind h
+  lowest_exists kind (d ∷ ds) h = kind_below T kind ((contacts-coherent T).child_exists d.parent d.child kind h.0)
 
   pub fits-rule : (a : Address) → IsChain t a.kind a.digits → Fits (child_kinds r) a
   fits-rule a h = record { kind_exists = subst (λ n. a.kind < n) (sym (length-rows r.kinds)) (lowest_exists a.kind a.digits h); climbs = climbs-rule a.kind a.digits h }

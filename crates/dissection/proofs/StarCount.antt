@@ -1,5 +1,5 @@
 -- The count of a star-shaped prototile is 0 or 1, wherever a map that keeps left turns puts it: 1 where it is 1 for a triangle of the fan.
-use Rattle.std.proofs.Common.{◌≡◌, ℕ, suc, ◌-◌, ◌<◌, ◌≤◌, ℤ, pos, ◌+ℤ◌, true, not, ◌&&◌, ◌||◌, int_eq, is_gt, List, [], ◌∷◌, length, map, get_or, refl, sym, ap, ◌∙◌, subst, arith}
+use Rattle.std.proofs.Common.{◌≡◌, ℕ, suc, ◌-◌, ◌<◌, ℤ, pos, ◌+ℤ◌, true, not, ◌&&◌, ◌||◌, int_eq, is_gt, List, [], ◌∷◌, length, map, get_or, refl, sym, ap, ◌∙◌, subst, arith}
 use Rattle.std.proofs.lemmas.Bool.{and_parts}
 use Rattle.ordered_ring.specs.Ring.{Ops}
 use Rattle.ordered_ring.specs.Sign.{Signed, IsPositive}
@@ -9,15 +9,15 @@ use Rattle.ordered_plane.specs.Triangle.{Triangle, corners, fan_from, fan, count
 use Rattle.ordered_plane.proofs.Fan.{count-fan}
 use Rattle.ordered_plane.proofs.Triangle.{Good, triangle-good}
 use Rattle.ordered_plane.proofs.Separated.{separated-apart}
-use Rattle.substitution.specs.Points.{Points, PointLaws}
-use Rattle.substitution.specs.Plane.{plane_point, Keeps}
-use Rattle.edge_to_edge.specs.Star.{fan_triangle, fan_turns_left, fan_is_apart, fan_is_open, is_star}
+use Rattle.substitution.specs.Plane.{plane_point}
+use Rattle.edge_to_edge.specs.Star.{fan_triangle, fan_turns_left, fan_is_apart, fan_is_open}
 use Rattle.addressing.specs.Search.{all_below}
 use Rattle.addressing.proofs.CoherenceTests.{all_below-at}
 use Rattle.dissection.specs.Sums.{sum_below}
 use Rattle.dissection.proofs.Sums.{sum_below-front}
 use Rattle.dissection.proofs.ZeroOrOne.{sum_below-good, sum_below-one, one_of_sum}
 use Rattle.dissection.proofs.StarEdges.{at, fan-left}
+use Rattle.dissection.proofs.MovedStar.{MovedStar}
 
 module _ (S : Signed) (p : TestPoint S.ops.carrier) where
   abbrev Corner : Type 0
@@ -30,8 +30,9 @@ module _ (S : Signed) (p : TestPoint S.ops.carrier) where
       ap (λ u. count S (corners (record { a = put first; b = put cur; c = put v })) p +ℤ u) (counts-below put none first v vs)
       ∙ sym (sum_below-front (λ i. count S (corners (record { a = put first; b = put (get_or (cur ∷ (v ∷ vs)) i none); c = put (get_or (v ∷ vs) i none) })) p) (length vs))
 
-module _ (P : Points) (W : PointLaws P) (f : P.ring.carrier → P.ring.carrier) (keeps : Keeps P f) (vs : List P.ring.carrier)
-    (star : is_star P vs ≡ true) (three : 3 ≤ length vs) (p : TestPoint P.real.ops.carrier) (d_pos : IsPositive P.real p.d) where
+module _ (Q : MovedStar) (p : TestPoint Q.points.real.ops.carrier) (d_pos : IsPositive Q.points.real p.d) where
+  open Q use {points as P, laws as W, move as f, keeps, vertices as vs, star, three}
+
   abbrev S : Signed
   S = P.real
 
@@ -39,7 +40,7 @@ module _ (P : Points) (W : PointLaws P) (f : P.ring.carrier → P.ring.carrier) 
   R = P.real.ops
 
   abbrev vertex_at : ℕ → PlanePoint R.carrier
-  vertex_at = at P W f keeps vs star three
+  vertex_at = at Q
 
   abbrev pub triangle : ℕ → Triangle (PlanePoint R.carrier)
   triangle i = record { a = vertex_at 0; b = vertex_at (suc i); c = vertex_at (suc (suc i)) }
@@ -65,7 +66,7 @@ module _ (P : Points) (W : PointLaws P) (f : P.ring.carrier → P.ring.carrier) 
           size = omega arith
 
   turned : (i : ℕ) → suc (suc i) < length vs → turns_left S (triangle i) ≡ true
-  turned i h = ap is_gt (fan-left P W f keeps vs star three i h)
+  turned i h = ap is_gt (fan-left Q i h)
 
   -- ---- separation is kept
   right-kept : (a b v : P.ring.carrier) → right_of S (plane_point P (f a)) (plane_point P (f b)) (plane_point P (f v)) ≡ right_of S (plane_point P a) (plane_point P b) (plane_point P v)

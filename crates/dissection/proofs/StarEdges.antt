@@ -1,6 +1,6 @@
 -- The edges of a star-shaped polygon, wherever a map that keeps left turns puts it: each has a triangle of the fan on its left, and the first and the last
 -- edge leave the first vertex in two directions.
-use Rattle.std.proofs.Common.{◌≡◌, ◌⊎◌, inl, inr, ℕ, zero, suc, ◌-◌, ◌<◌, ◌≤◌, pos, true, false, not, ◌&&◌, cond, List, length, get_or, nat_lt, ap, ◌∙◌, arith}
+use Rattle.std.proofs.Common.{◌≡◌, ◌⊎◌, inl, inr, ℕ, zero, suc, ◌-◌, ◌<◌, pos, true, false, not, ◌&&◌, cond, length, get_or, nat_lt, ap, ◌∙◌, arith}
 use Rattle.std.specs.declared.cmp.Ordering.TheVariants.{Equal, Greater}
 use Rattle.std.proofs.lemmas.Bool.{and_parts, cases_lt, lt-ltb, le-ltb}
 use Rattle.ordered_ring.specs.Ring.{Ops}
@@ -9,12 +9,12 @@ use Rattle.ordered_plane.specs.Plane.{PlanePoint, orientation}
 use Rattle.ordered_plane.specs.Segment.{on_segment}
 use Rattle.ordered_ring.proofs.Booleans.{denied}
 use Rattle.ordered_plane.proofs.Triangle.{is_greater}
-use Rattle.substitution.specs.Points.{Points, PointLaws}
-use Rattle.substitution.specs.Plane.{plane_point, Keeps}
-use Rattle.edge_to_edge.specs.Star.{corner, fan_triangle, fan_turns_left, fan_is_apart, fan_is_open, is_star}
+use Rattle.substitution.specs.Plane.{plane_point}
+use Rattle.edge_to_edge.specs.Star.{corner, fan_triangle, fan_turns_left, fan_is_apart, fan_is_open}
 use Rattle.ordered_plane.specs.Triangle.{turns_left}
 use Rattle.addressing.proofs.CoherenceTests.{all_below-at}
 use Rattle.dissection.proofs.Around.{orientation-rotated, orientation-start, orientation-end}
+use Rattle.dissection.proofs.MovedStar.{MovedStar}
 
 -- the vertex at which edge number e of n ends
 abbrev pub next_of : ℕ → ℕ → ℕ
@@ -30,8 +30,9 @@ pub spot_of : (n e : ℕ) → e < n → Place n e
 spot_of n zero h = first
 spot_of n (suc i) h = elim (cases_lt (suc (suc i)) n) [ inl lt ↦ middle i lt | inr ge ↦ last i (omega arith) ]
 
-module _ (P : Points) (W : PointLaws P) (f : P.ring.carrier → P.ring.carrier) (keeps : Keeps P f) (vs : List P.ring.carrier)
-    (star : is_star P vs ≡ true) (three : 3 ≤ length vs) where
+module _ (Q : MovedStar) where
+  open Q use {points as P, laws as W, move as f, keeps, vertices as vs, star, three}
+
   abbrev S : Signed
   S = P.real
 

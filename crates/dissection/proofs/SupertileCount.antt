@@ -1,26 +1,23 @@
 -- The counts of the tiles of a supertile add up to the supertile's count.
-use Rattle.edge_to_edge.specs.Edition.{Edition}
-use Rattle.std.proofs.Common.{◌≡◌, inl, inr, ℕ, zero, suc, ◌+◌, ◌<◌, ℤ, pos, Bool, List, [], ◌∷◌, length, map, refl, sym, ap, ap₂, ◌∙◌, subst, arith}
+use Rattle.std.proofs.Common.{◌≡◌, inl, inr, ℕ, zero, suc, ◌+◌, ◌<◌, ℤ, pos, List, [], ◌∷◌, length, map, refl, sym, ap, ap₂, ◌∙◌, subst, arith}
 use Rattle.std.specs.List.{enumerate_from}
 use Rattle.ordered_ring.specs.Ring.{Ops, power}
 use Rattle.ordered_ring.specs.Sign.{Signed}
 use Rattle.ordered_plane.specs.Plane.{TestPoint}
 use Rattle.ordered_plane.specs.Crossing.{crossing, count}
 use Rattle.ordered_ring.proofs.Normaliser.{var, con, ring, ◌⊕◌, ◌⊗◌}
-use Rattle.substitution.specs.Points.{Points, PointLaws}
-use Rattle.substitution.specs.Plane.{plane_point, Keeps, IsGrowthFactor}
+use Rattle.substitution.specs.Plane.{plane_point, Keeps}
 use Rattle.substitution.specs.Motion.{Motion, moved, still}
-use Rattle.substitution.specs.Rule.{Child, Rule, children_of}
+use Rattle.substitution.specs.Rule.{Child, children_of}
 use Rattle.substitution.specs.RuleParts.{vertices_of, edge_count, next, vertex, child_of}
 use Rattle.addressing.specs.Search.{below, IsAmong}
 use Rattle.edge_to_edge.specs.Edges.{Edge, child_edge, edges_of_child}
 use Rattle.substitution.specs.Supertile.{Placed, inflated, lifted, supertile}
-use Rattle.edge_to_edge.specs.Numbered.{IsNumbered}
-use Rattle.edge_to_edge.specs.EdgeToEdge.{IsEdgeToEdge}
 use Rattle.substitution.proofs.Motions.{moved-followed}
-use Rattle.substitution.proofs.Keeping.{motion-keeps, powers-keep, keeps-then}
+use Rattle.substitution.proofs.Keeping.{motion-keeps, keeps-then}
 use Rattle.addressing.proofs.Lists.{get_or-enumerated}
 use Rattle.dissection.specs.Sums.{sum_over, sum_below}
+use Rattle.dissection.proofs.Setting.{Setting, inflating-keeps}
 use Rattle.dissection.proofs.Sums.{plus_zero, sum-ext, sum-ext_on, sum-flat_map, sum-map, sum-places, sum-enumerated, sum-below_list, sum_below-ext}
 use Rattle.dissection.proofs.EdgeSums.{count-edges}
 use Rattle.dissection.proofs.StarEdges.{next_of}
@@ -39,8 +36,10 @@ enumerated-from n (x ∷ xs) c (inr i) = let rest = enumerated-from (n + 1) xs c
 pub enumerated-at : {A : Type 0} (xs : List A) (c : ℕ × A) → IsAmong c (enumerate_from 0 xs) → c.0 < length xs
 enumerated-at xs c i = let h = enumerated-from 0 xs c i in omega arith
 
-module _ (P : Points) (W : PointLaws P) (edition : Edition) (refused : P.ring.carrier → Bool) (r : Rule P.ring.carrier) (N : IsNumbered P r) (D : IsEdgeToEdge P edition refused r) (growth : IsGrowthFactor P r.factor)
-    (p : TestPoint P.real.ops.carrier) where
+module _ (T : Setting)
+    (p : TestPoint T.points.real.ops.carrier) where
+  open T use {points as P, laws as W, accepted.{rule as r, numbered as N, edge_to_edge as D}}
+
   abbrev A : Type 0
   A = P.ring.carrier
 
@@ -73,7 +72,7 @@ module _ (P : Points) (W : PointLaws P) (edition : Edition) (refused : P.ring.ca
 
   module _ (f : A → A) (keeps : Keeps P f) (k : ℕ) (hk : k < length r.kinds) where
     abbrev line : Edge A → ℤ
-    line = at_line P W edition refused r N D p f keeps
+    line = at_line T p f keeps
 
     child_sum : (i : ℕ) → i < length (children_of r k)
         → kind_count (λ z. f (moved P (child_of P r k i).motion z)) (child_of P r k i).kind ≡ sum_over (λ s. line s.line) (edges_of_child P r k i)
@@ -86,7 +85,7 @@ module _ (P : Points) (W : PointLaws P) (edition : Edition) (refused : P.ring.ca
         sum-places (λ c. kind_count (λ z. f (moved P c.motion z)) c.kind) (children_of r k) (record { kind = 0; motion = still P })
         ∙ sum_below-ext (λ i. kind_count (λ z. f (moved P (child_of P r k i).motion z)) (child_of P r k i).kind) (λ i. sum_over (λ s. line s.line) (edges_of_child P r k i)) (length (children_of r k)) child_sum
         ∙ sym (sum-flat_map (λ s. line s.line) (edges_of_child P r k) (below (λ c. c) (length (children_of r k))) ∙ sum-below_list (λ c. sum_over (λ s. line s.line) (edges_of_child P r k c)) (λ c. c) (length (children_of r k)))
-        ∙ edges_sum P W edition refused r N D p f keeps k hk
+        ∙ edges_sum T p f keeps k hk
         ∙ sum_below-ext _ _ (edge_count r k) (λ e lt. ap₂ (λ u v. crossing S (plane_point P (f u)) (plane_point P (f v)) p) (W.of_ring.mul_comm (vertex P r k e) r.factor) (W.of_ring.mul_comm (vertex P r k (next r k e)) r.factor))
         ∙ sym (kind-edges (λ z. f (K.mul r.factor z)) k hk)
 
@@ -111,7 +110,7 @@ module _ (P : Points) (W : PointLaws P) (edition : Edition) (refused : P.ring.ca
       ∙ sum-ext_on _ (λ c. kind_count (λ z. f (K.mul (power K r.factor n) (moved P c.1.motion z))) c.1.kind) (enumerate_from 0 (children_of r k))
       (λ c i. child c.0 c.1 (sum-all c.1.kind n (child_below k hk c i) (λ z. f (moved P (inflated P r n c.1.motion) z)) (keeps-then P W f (moved P (inflated P r n c.1.motion)) h (motion-keeps P W (inflated P r n c.1.motion)))))
       ∙ sum-enumerated (λ c. kind_count (λ z. f (K.mul (power K r.factor n) (moved P c.motion z))) c.kind) 0 (children_of r k)
-      ∙ one_level (λ z. f (K.mul (power K r.factor n) z)) (keeps-then P W f (K.mul (power K r.factor n)) h (powers-keep P W r.factor growth n)) k hk
+      ∙ one_level (λ z. f (K.mul (power K r.factor n) z)) (keeps-then P W f (K.mul (power K r.factor n)) h (inflating-keeps T n)) k hk
       ∙ count-ext (λ z. f (K.mul (power K r.factor n) (K.mul r.factor z))) (λ z. f (K.mul (power K r.factor (suc n)) z)) k
       (λ z. ap f (ring K W.of_ring (power K r.factor n ∷ (r.factor ∷ (z ∷ []))) (var 0 ⊗ (var 1 ⊗ var 2)) ((var 1 ⊗ var 0) ⊗ var 2) refl))
     where

@@ -1,43 +1,39 @@
 -- An edge with a trace to the top lies along that edge of the supertile, on the part that the trace names first.
-use Rattle.edge_to_edge.specs.Edition.{Edition}
-use Rattle.std.proofs.Common.{◌≡◌, ℕ, suc, ◌+◌, ◌<◌, ◌≤◌, List, [], ◌∷◌, ◌++◌, length, pos, Bool, Some, refl, sym, ap, ap₂, ◌∙◌, subst, arith, length-append}
+use Rattle.std.proofs.Common.{◌≡◌, ℕ, suc, ◌+◌, ◌<◌, ◌≤◌, List, [], ◌∷◌, ◌++◌, length, pos, Some, refl, sym, ap, ap₂, ◌∙◌, subst, arith, length-append}
 use Rattle.std.specs.declared.cmp.Ordering.TheVariants.{Greater}
 use Rattle.ordered_ring.specs.Ring.{Ops, power}
 use Rattle.ordered_plane.specs.Plane.{orientation}
 use Rattle.ordered_ring.proofs.Normaliser.{var, con, ring, ◌⊕◌, ◌⊗◌}
 use Rattle.ordered_plane.proofs.OnSegment.{on_segment-between}
-use Rattle.substitution.specs.Points.{Points, PointLaws}
-use Rattle.substitution.specs.Plane.{plane_point, Keeps, IsGrowthFactor}
+use Rattle.substitution.specs.Plane.{plane_point, Keeps}
 use Rattle.substitution.specs.Motion.{Motion, moved, still}
 use Rattle.addressing.specs.Address.{Step, Address, top_from, top_kind, depth, Fits}
-use Rattle.substitution.specs.Rule.{Rule}
 use Rattle.substitution.specs.RuleParts.{edge_count, vertices_of, vertex, next, child_of}
 use Rattle.edge_to_edge.specs.Edges.{Edge, inflated_edge, child_edge}
-use Rattle.substitution.specs.Supertile.{Placed, inflated}
+use Rattle.substitution.specs.Supertile.{inflated}
 use Rattle.substitution.specs.Placement.{placement}
 use Rattle.addressing.specs.Contact.{outer}
 use Rattle.edge_to_edge.specs.Contacts.{tables_of}
 use Rattle.addressing.specs.Tables.{Tables, child_kinds, child_kind_of, contact_of}
 use Rattle.addressing.specs.Trace.{Cut, IsTrace, bare, further, HasTrace, first_part}
-use Rattle.edge_to_edge.specs.Numbered.{IsNumbered}
-use Rattle.edge_to_edge.specs.EdgeToEdge.{IsEdgeToEdge}
 use Rattle.substitution.proofs.Motions.{moved-followed}
-use Rattle.substitution.proofs.Keeping.{motion-keeps, powers-keep}
+use Rattle.substitution.proofs.Keeping.{motion-keeps}
 use Rattle.substitution.proofs.Placement.{placement-append}
 use Rattle.substitution.proofs.Addresses.{top_from-append}
 use Rattle.addressing.proofs.Chains.{IsChain, chain_of}
 use Rattle.edge_to_edge.proofs.TablesOf.{child_kind_of-found}
 use Rattle.edge_to_edge.proofs.ChildEdges.{kind-with_edge}
-use Rattle.edge_to_edge.proofs.CoherentContacts.{part-from, contacts-coherent}
-use Rattle.dissection.specs.TileEdges.{edge_of, inflated_line, supertile_edge}
+use Rattle.dissection.specs.TileEdges.{edge_of, inflated_line, supertile_edge, image_of, tile_at}
 use Rattle.dissection.specs.OnBoundary.{LiesOnPart, IsOnBoundary}
+use Rattle.dissection.proofs.Setting.{Setting, contacts-coherent, inflating-keeps, part-from}
 use Rattle.dissection.proofs.Around.{orientation-none}
 use Rattle.dissection.proofs.StarEdges.{next_of, spot_of, left_of_edge}
-use Rattle.dissection.proofs.Injective.{Along, along_from, Along-image, image, between-start, between-end}
+use Rattle.dissection.proofs.Injective.{Along, along_from, Along-image, between-start, between-end}
 use Rattle.dissection.proofs.AlongAlong.{Along-trans}
 use Rattle.dissection.proofs.MirroredCuts.{part_facts}
 use Rattle.dissection.proofs.Opposite.{tile_edge}
 use Rattle.dissection.proofs.RuleAddresses.{tile-among}
+use Rattle.dissection.proofs.MovedStar.{star_of}
 
 -- a chain with one coarse digit more
 pub IsChain-append : (t : Tables) (k : ℕ) (ds : List Step) (d : Step) → IsChain t k (ds ++ d ∷ []) → (child_kind_of t d.parent d.child ≡ Some (top_from k ds)) × (d.parent < length t.kinds)
@@ -48,7 +44,9 @@ pub IsChain-fine : (t : Tables) (k : ℕ) (ds : List Step) (d : Step) → ((k c 
 IsChain-fine t k [] d exists h = exists d.parent d.child k h.0
 IsChain-fine t k (e ∷ ds) d exists h = (h.0, IsChain-fine t e.parent ds d exists h.1)
 
-module _ (P : Points) (W : PointLaws P) (edition : Edition) (refused : P.ring.carrier → Bool) (r : Rule P.ring.carrier) (N : IsNumbered P r) (D : IsEdgeToEdge P edition refused r) (growth : IsGrowthFactor P r.factor) where
+module _ (T : Setting) where
+  open T use {points as P, laws as W, accepted.{rule as r, numbered as N, edge_to_edge as D}}
+
   abbrev A : Type 0
   A = P.ring.carrier
 
@@ -73,7 +71,7 @@ module _ (P : Points) (W : PointLaws P) (edition : Edition) (refused : P.ring.ca
       let size : length (vertices_of r k) ≡ edge_count r k = N.vertex_each k hk in
       let three : 3 ≤ length (vertices_of r k) = omega (arith, size, N.at_least_3_edges k hk) in
       let keeps : Keeps P (λ z. z) = record { turns = λ a b c. refl; segments = λ a b c. refl; equal_lengths = λ a b c d. refl } in
-      let z = left_of_edge P W (λ u. u) keeps (vertices_of r k) (D.star_shaped k hk) three e (spot_of (length (vertices_of r k)) e (omega (arith, size, he))) in
+      let z = left_of_edge (star_of T (λ u. u) keeps k hk) e (spot_of (length (vertices_of r k)) e (omega (arith, size, he))) in
       let is : next_of (length (vertices_of r k)) e ≡ next r k e = ap (λ n. next_of n e) size in
       let left : P.real.sign (orientation P.real.ops (plane_point P (vertex P r k e)) (plane_point P (vertex P r k (next r k e))) z.0) ≡ Greater
       = ap (λ j. P.real.sign (orientation P.real.ops (plane_point P (vertex P r k e)) (plane_point P (vertex P r k j)) z.0)) (sym is) ∙ z.1 in
@@ -96,8 +94,8 @@ module _ (P : Points) (W : PointLaws P) (edition : Edition) (refused : P.ring.ca
   -- ---- what is shown, of digits
   pub record OnTop (k e : ℕ) (ds : List Step) (top part : ℕ) : Type 0 where
     pub edge_exists : top < edge_count r (top_from k ds)
-    pub along : Along P W (supertile_edge P r (top_from k ds) (length ds) top) (tile_edge P W edition refused r N D k ds e)
-    pub on_part : LiesOnPart P r (top_from k ds) (length ds) top part (tile_edge P W edition refused r N D k ds e)
+    pub along : Along P W (supertile_edge P r (top_from k ds) (length ds) top) (tile_edge T k ds e)
+    pub on_part : LiesOnPart P r (top_from k ds) (length ds) top part (tile_edge T k ds e)
 
   on_top-bare : (k e : ℕ) → k < length r.kinds → e < edge_count r k → OnTop k e [] e 0
   on_top-bare k e hk he = record {
@@ -127,36 +125,36 @@ module _ (P : Points) (W : PointLaws P) (edition : Edition) (refused : P.ring.ca
       let n = length fine in
       let c = child_of P r d.parent d.child in
       let G = moved P (inflated P r n c.motion) in
-      let x = part-from P W edition refused r N D d.parent d.child own f p is in
-      let facts = part_facts P W edition refused r N D d.parent f p (child_edge P r d.parent d.child own) (kind-with_edge P r d.parent f x.edge_below) x.edge_below x.at in
+      let x = part-from T d.parent d.child own f p is in
+      let facts = part_facts T d.parent f p (child_edge P r d.parent d.child own) (kind-with_edge P r d.parent f x.edge_below) x.edge_below x.at in
       let kind : top_from k fine ≡ c.kind = (child_kind_of-found P r d.parent d.child (top_from k fine) fits).1 in
       let line : Edge A = (child_edge P r d.parent d.child own).line in
       -- the tile's edge, moved as the child is
-      let tile : tile_edge P W edition refused r N D k (fine ++ d ∷ []) e ≡ image P W G (tile_edge P W edition refused r N D k fine e)
+      let tile : tile_edge T k (fine ++ d ∷ []) e ≡ image_of P G (tile_edge T k fine e)
       = ap₂ (λ u v. record { from = u; to = v }) (coarser fine d (vertex P r k e)) (coarser fine d (vertex P r k (next r k e))) in
-      let child : image P W G (supertile_edge P r (top_from k fine) n own) ≡ inflated_line P r n line
-      = ap (λ (j : ℕ). image P W G (supertile_edge P r j n own)) kind
+      let child : image_of P G (supertile_edge P r (top_from k fine) n own) ≡ inflated_line P r n line
+      = ap (λ (j : ℕ). image_of P G (supertile_edge P r j n own)) kind
       ∙ ap₂ (λ u v. record { from = u; to = v }) (inflated-moves n c.motion (vertex P r c.kind own)) (inflated-moves n c.motion (vertex P r c.kind (next r c.kind own))) in
-      let on_line : Along P W (inflated_line P r n line) (tile_edge P W edition refused r N D k (fine ++ d ∷ []) e)
-      = subst (λ (w : Edge A). Along P W w (tile_edge P W edition refused r N D k (fine ++ d ∷ []) e)) child
-      (subst (λ (w : Edge A). Along P W (image P W G (supertile_edge P r (top_from k fine) n own)) w) (sym tile)
-      (Along-image P W G (motion-keeps P W (inflated P r n c.motion)) (supertile_edge P r (top_from k fine) n own) (tile_edge P W edition refused r N D k fine e) h.along)) in
+      let on_line : Along P W (inflated_line P r n line) (tile_edge T k (fine ++ d ∷ []) e)
+      = subst (λ (w : Edge A). Along P W w (tile_edge T k (fine ++ d ∷ []) e)) child
+      (subst (λ (w : Edge A). Along P W (image_of P G (supertile_edge P r (top_from k fine) n own)) w) (sym tile)
+      (Along-image P W G (motion-keeps P W (inflated P r n c.motion)) (supertile_edge P r (top_from k fine) n own) (tile_edge T k fine e) h.along)) in
       let whole : inflated_line P r n (inflated_edge P r d.parent f) ≡ supertile_edge P r d.parent (suc n) f
       = ap₂ (λ u v. record { from = u; to = v }) (one_more n (vertex P r d.parent f)) (one_more n (vertex P r d.parent (next r d.parent f))) in
       let on_whole : Along P W (supertile_edge P r d.parent (suc n) f) (inflated_line P r n line)
-      = subst (λ (w : Edge A). Along P W w (inflated_line P r n line)) whole (Along-image P W (λs n) (powers-keep P W r.factor growth n) (inflated_edge P r d.parent f) line facts.along) in
+      = subst (λ (w : Edge A). Along P W w (inflated_line P r n line)) whole (Along-image P W (λs n) (inflating-keeps T n) (inflated_edge P r d.parent f) line facts.along) in
       let size : suc n ≡ length (fine ++ d ∷ []) = sym (length-append fine (d ∷ []) ∙ plus_one n) in
-      let all = at_depth (sym (top_from-append k fine d)) size x.edge_below (Along-trans P W (supertile_edge P r d.parent (suc n) f) (inflated_line P r n line) (tile_edge P W edition refused r N D k (fine ++ d ∷ []) e) on_whole on_line)
-      (child_edge P r d.parent d.child own, x.at, along_from P W (inflated_line P r n line) (tile_edge P W edition refused r N D k (fine ++ d ∷ []) e) on_line) in
+      let all = at_depth (sym (top_from-append k fine d)) size x.edge_below (Along-trans P W (supertile_edge P r d.parent (suc n) f) (inflated_line P r n line) (tile_edge T k (fine ++ d ∷ []) e) on_whole on_line)
+      (child_edge P r d.parent d.child own, x.at, along_from P W (inflated_line P r n line) (tile_edge T k (fine ++ d ∷ []) e) on_line) in
       record { edge_exists = all.0; along = all.1; on_part = all.2 }
     where
       plus_one : (m : ℕ) → m + 1 ≡ suc m
       plus_one m = omega arith
 
       at_depth : {j m : ℕ} → d.parent ≡ j → suc (length fine) ≡ m → f < edge_count r d.parent
-          → Along P W (supertile_edge P r d.parent (suc (length fine)) f) (tile_edge P W edition refused r N D k (fine ++ d ∷ []) e)
-          → LiesOnPart P r d.parent (suc (length fine)) f p (tile_edge P W edition refused r N D k (fine ++ d ∷ []) e)
-          → (f < edge_count r j) × Along P W (supertile_edge P r j m f) (tile_edge P W edition refused r N D k (fine ++ d ∷ []) e) × LiesOnPart P r j m f p (tile_edge P W edition refused r N D k (fine ++ d ∷ []) e)
+          → Along P W (supertile_edge P r d.parent (suc (length fine)) f) (tile_edge T k (fine ++ d ∷ []) e)
+          → LiesOnPart P r d.parent (suc (length fine)) f p (tile_edge T k (fine ++ d ∷ []) e)
+          → (f < edge_count r j) × Along P W (supertile_edge P r j m f) (tile_edge T k (fine ++ d ∷ []) e) × LiesOnPart P r j m f p (tile_edge T k (fine ++ d ∷ []) e)
       at_depth same size a b c = rw (← same, ← size) (a, b, c)
 
   pub on_top : (k e : ℕ) (ds : List Step) (top : ℕ) (cuts : List Cut) → IsChain (tables_of P r) k ds → k < length r.kinds → e < edge_count r k → IsTrace (tables_of P r) e ds top cuts
@@ -164,21 +162,17 @@ module _ (P : Points) (W : PointLaws P) (edition : Edition) (refused : P.ring.ca
   on_top k e [] top cuts chain hk he bare = on_top-bare k e hk he
   on_top k e ds top cuts chain hk he (further {fine = fine} {own = own} {f = f} {p = p} {cuts = cuts'} d rest is met) =
       let here : IsChain (tables_of P r) k (fine ++ d ∷ []) = subst (λ (l : List Step). IsChain (tables_of P r) k l) is chain in
-      let finer = IsChain-fine (tables_of P r) k fine d (contacts-coherent P W edition refused r N D).child_exists here in
+      let finer = IsChain-fine (tables_of P r) k fine d (contacts-coherent T).child_exists here in
       subst (λ (l : List Step). OnTop k e l f p) (sym is)
       (on_top-further k e own f p (first_part cuts') fine d (IsChain-append (tables_of P r) k fine d here).0 met (on_top k e fine own cuts' finer hk he rest))
 
-  -- the tile of an address, where Horner's scheme puts it
-  abbrev pub tile_of : Address → Placed A
-  tile_of a = record { address = a; motion = placement P r a.digits }
-
   pub trace-on_boundary : (a : Address) (e top : ℕ) (cuts : List Cut) → Fits (child_kinds (tables_of P r)) a → a.kind < length r.kinds → e < edge_count r a.kind → HasTrace (tables_of P r) a e top cuts
-      → IsOnBoundary P r (tile_of a) e top (first_part cuts)
+      → IsOnBoundary P r (tile_at P r a) e top (first_part cuts)
   trace-on_boundary a e top cuts fits hk he trace =
       let h = on_top a.kind e a.digits top cuts (chain_of (tables_of P r) a fits) hk he trace in
       record {
-        own = tile-among P W edition refused r N D a (chain_of (tables_of P r) a fits);
+        own = tile-among T a (chain_of (tables_of P r) a fits);
         edge_exists = h.edge_exists;
-        along = along_from P W (supertile_edge P r (top_kind a) (depth a) top) (edge_of P r (tile_of a) e) h.along;
+        along = along_from P W (supertile_edge P r (top_kind a) (depth a) top) (edge_of P r (tile_at P r a) e) h.along;
         on_part = h.on_part;
       }

@@ -1,21 +1,36 @@
--- The motion that brings an edge of one prototile onto the reverse of an edge of another.
+-- Gluing: the motion that brings an edge of one prototile onto the reverse of an edge of another.
 use Rattle.std.specs.Prelude.{◌≡◌, ℕ, ◌<◌, Bool, not, ◌||◌, nat_eq}
-use Rattle.ordered_ring.specs.Ring.{difference, power}
+use Rattle.ordered_ring.specs.Ring.{power}
 use Rattle.substitution.specs.Points.{Points}
 use Rattle.substitution.specs.Motion.{Motion, followed}
 use Rattle.substitution.specs.Rule.{Rule}
-use Rattle.substitution.specs.RuleParts.{next, vertex}
+use Rattle.substitution.specs.Supertile.{Placed}
+use Rattle.edge_to_edge.specs.Edges.{moved_edge}
 use Rattle.edge_to_edge.specs.EdgeTypes.{edge_vector}
 use Rattle.addressing.specs.Search.{all_below}
-use Rattle.substitution.specs.Supertile.{Placed}
+use Rattle.dissection.specs.Across.{RunsBack}
+use Rattle.dissection.specs.TileEdges.{kind_edge}
 
 -- a turn by ζ^turn takes the vector of edge f of kind l to that of edge e of kind k, reversed
 abbrev pub TurnsOnto : (P : Points) → Rule P.ring.carrier → ℕ → ℕ → ℕ → ℕ → ℕ → Type 0
 TurnsOnto P r k e l f turn = P.ring.mul (power P.ring P.zeta turn) (edge_vector P r l f) ≡ P.ring.neg (edge_vector P r k e)
 
--- that turn, and the shift that takes the start of edge f to the end of edge e
-abbrev pub glue_motion : (P : Points) → Rule P.ring.carrier → ℕ → ℕ → ℕ → ℕ → ℕ → Motion P.ring.carrier
-glue_motion P r k e l f turn = record { turn = turn; shift = difference P.ring (vertex P r k (next r k e)) (P.ring.mul (power P.ring P.zeta turn) (vertex P r l f)) }
+-- some turn below the order does: edge f of kind l meets edge e of kind k
+pub record IsMet (P : Points) (r : Rule P.ring.carrier) (k e l f : ℕ) : Type 0 where
+  pub turn : ℕ
+  pub below : turn < P.order
+  pub turns : TurnsOnto P r k e l f turn
+
+-- the motion brings edge f of kind l onto the reverse of edge e of kind k: moved by it, the edge runs from the end of e to its start
+pub record IsGlueMotion (P : Points) (r : Rule P.ring.carrier) (k e l f : ℕ) (m : Motion P.ring.carrier) : Type 0 where
+  pub below : m.turn < P.order
+  pub runs_back : RunsBack (kind_edge P r k e) (moved_edge P r l m f)
+
+-- edge f of tile b meets edge e of tile a; one motion alone glues the two edges; and the motion of b is that one, followed by the motion of a
+pub record IsGlued (P : Points) (r : Rule P.ring.carrier) (a : Placed P.ring.carrier) (e : ℕ) (b : Placed P.ring.carrier) (f : ℕ) : Type 0 where
+  pub met : IsMet P r a.address.kind e b.address.kind f
+  pub alone : (m g : Motion P.ring.carrier) → IsGlueMotion P r a.address.kind e b.address.kind f m → IsGlueMotion P r a.address.kind e b.address.kind f g → m ≡ g
+  pub motion_is : (m : Motion P.ring.carrier) → IsGlueMotion P r a.address.kind e b.address.kind f m → b.motion ≡ followed P m a.motion
 
 -- the turns below the order are different
 abbrev pub TurnsDiffer : Points → Type 0
@@ -24,11 +39,3 @@ TurnsDiffer P = (i j : ℕ) → i < P.order → j < P.order → power P.ring P.z
 -- the same as a test that computes
 abbrev pub turns_differ : Points → Bool
 turns_differ P = all_below P.order (λ i. all_below P.order (λ j. not (P.same (power P.ring P.zeta i) (power P.ring P.zeta j)) || nat_eq i j))
-
--- in the turns below the order, one takes the edge across onto this one, and the motion of the tile across is then the glue motion followed by this tile's
-pub record IsGlued (P : Points) (r : Rule P.ring.carrier) (a : Placed P.ring.carrier) (e : ℕ) (b : Placed P.ring.carrier) (f : ℕ) : Type 0 where
-  pub turn : ℕ
-  pub below : turn < P.order
-  pub turns : TurnsOnto P r a.address.kind e b.address.kind f turn
-  pub alone : (t : ℕ) → t < P.order → TurnsOnto P r a.address.kind e b.address.kind f t → t ≡ turn
-  pub motion_is : b.motion ≡ followed P (glue_motion P r a.address.kind e b.address.kind f turn) a.motion

@@ -1,9 +1,10 @@
 pub mod Sums
 pub mod TileEdges
 pub mod Polygons
+pub mod Accepted
 pub mod Across
 pub mod OnBoundary
-pub mod Laws
+pub mod Crossings
 pub mod Glue
 pub mod Holder
-pub mod Orders
+pub mod Laws

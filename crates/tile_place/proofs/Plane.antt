@@ -5,9 +5,10 @@ use Rattle.addressing.specs.Across.{IsAcross, LiesOn}
 use Rattle.addressing.specs.Tables.{child_kinds, type_of}
 use Rattle.addressing.proofs.TableBounds.{some_of}
 use Rattle.edge_to_edge.proofs.TablesOf.{type_of-found}
+use Rattle.cyclo_points.specs.declared.order.Order.{Order}
 use Rattle.cyclo_points.specs.Order.{points_of, is_refused}
-use Rattle.dissection.specs.Laws.{IsAcceptedRule, HasEdge}
-use Rattle.dissection.specs.Orders.{OnlyTilesLaw, BoundariesLaw}
+use Rattle.dissection.specs.Accepted.{AcceptedRule, HasEdge}
+use Rattle.dissection.specs.Laws.{AcrossLaw, BoundaryLaw}
 use Rattle.rule_model.specs.declared.rule.Rule.{Rule}
 use Rattle.rule_model.specs.Accepted.{IsAccepted}
 use Rattle.rule_model.specs.Tiling.{tiling_of, contacts, children}
@@ -18,6 +19,13 @@ use Rattle.transducer_core.specs.declared.crossing.Crossing.{Crossing}
 use Rattle.transducer_core.specs.declared.outside.Outside.{Outside}
 use Rattle.tile_place.specs.Crossed.{IsOnlyAcross, LiesOnBoundary}
 
+-- the laws that are used, over the points of an order
+abbrev pub OnlyTilesLaw : Order → Type 0
+OnlyTilesLaw o = AcrossLaw (points_of o)
+
+abbrev pub BoundariesLaw : Order → Type 0
+BoundariesLaw o = BoundaryLaw (points_of o)
+
 -- what a checked rule brings: it is accepted and within its limits, and its tables have its child kinds
 pub record IsSettled (m : Rule) : Type 0 where
   pub accepted : IsAccepted m
@@ -25,13 +33,20 @@ pub record IsSettled (m : Rule) : Type 0 where
   pub same_child_kinds : child_kinds (contacts (tiling_of m)) ≡ children (tiling_of m)
 
 module _ (m : Rule) (settled : IsSettled m) where
-  ok : IsAcceptedRule (points_of m.order) (as_edition m.edition) (is_refused m.order) (rule_of m)
-  ok = record { numbered = settled.usable.numbered; edge_to_edge = settled.accepted.edge_to_edge }
+  -- the rule of the theory
+  abbrev pub its_rule : AcceptedRule (points_of m.order)
+  its_rule = record {
+    edition = as_edition m.edition;
+    refused = is_refused m.order;
+    rule = rule_of m;
+    numbered = settled.usable.numbered;
+    edge_to_edge = settled.accepted.edge_to_edge;
+  }
 
-  fits_tables : (a : TheAddress) → Fits (children (tiling_of m)) a → Fits (child_kinds (contacts (tiling_of m))) a
+  pub fits_tables : (a : TheAddress) → Fits (children (tiling_of m)) a → Fits (child_kinds (contacts (tiling_of m))) a
   fits_tables a h = subst (λ u. Fits u a) (sym settled.same_child_kinds) h
 
-  has_edge : (a : TheAddress) (e : ℕ) → Fits (child_kinds (contacts (tiling_of m))) a → IsSome (type_of (contacts (tiling_of m)) a.kind e) → HasEdge (points_of m.order) (rule_of m) a e
+  pub has_edge : (a : TheAddress) (e : ℕ) → Fits (child_kinds (contacts (tiling_of m))) a → IsSome (type_of (contacts (tiling_of m)) a.kind e) → HasEdge (points_of m.order) (rule_of m) a e
   has_edge a e fits edge =
       let ty = some_of (type_of (contacts (tiling_of m)) a.kind e) edge in
       record { fits = fits; edge_exists = (type_of-found (points_of m.order) (rule_of m) a.kind e ty.0 ty.1).0 }
@@ -42,21 +57,21 @@ module _ (m : Rule) (settled : IsSettled m) where
 
     pub only_across : OnlyTilesLaw m.order → (x : Result Crossing Outside) → IfOk x (λ x. IsAcross (contacts (tiling_of m)) a e (address_of x.addr) x.edge)
         → IfOk x (λ x. IsOnlyAcross (tiling_of m) a e (address_of x.addr) x.edge)
-    only_across law (Ok x) h = (law (as_edition m.edition) (is_refused m.order) (rule_of m) ok a (address_of x.addr) e x.edge own h.only.fits).0 h.only
+    only_across law (Ok x) h = (law its_rule a (address_of x.addr) e x.edge own h.only.fits).0 h.only
     only_across law (Err o) h = tt
 
     pub way_back : OnlyTilesLaw m.order → (x : Result Crossing Outside) → IfOk x (λ x. IsAcross (contacts (tiling_of m)) a e (address_of x.addr) x.edge)
         → IfOk x (λ x. IsOnlyAcross (tiling_of m) (address_of x.addr) x.edge a e)
     way_back law (Ok x) h =
-        (law (as_edition m.edition) (is_refused m.order) (rule_of m) ok (address_of x.addr) a x.edge e (has_edge (address_of x.addr) x.edge h.only.fits h.edge_exists) own.fits).0 h.leads_back
+        (law its_rule (address_of x.addr) a x.edge e (has_edge (address_of x.addr) x.edge h.only.fits h.edge_exists) own.fits).0 h.leads_back
     way_back law (Err o) h = tt
 
     pub lies_on_boundary : BoundariesLaw m.order → (x : Result Crossing Outside) → IfErr x (λ o. LiesOn (contacts (tiling_of m)) a e o.edge o.part)
         → IfErr x (λ o. LiesOnBoundary (tiling_of m) a e o.edge o.part)
     lies_on_boundary law (Ok x) h = tt
-    lies_on_boundary law (Err o) h = (law (as_edition m.edition) (is_refused m.order) (rule_of m) ok a e o.edge o.part own).1 (h.cuts, h.trace, sym h.is_part)
+    lies_on_boundary law (Err o) h = (law its_rule a e o.edge o.part own).1 (h.cuts, h.trace, sym h.is_part)
 
     pub boundary_lies : BoundariesLaw m.order → (top part : ℕ) → LiesOnBoundary (tiling_of m) a e top part → LiesOn (contacts (tiling_of m)) a e top part
     boundary_lies law top part on =
-        let h = (law (as_edition m.edition) (is_refused m.order) (rule_of m) ok a e top part own).0 on in
+        let h = (law its_rule a e top part own).0 on in
         record { cuts = h.0; trace = h.1; is_part = sym h.2 }

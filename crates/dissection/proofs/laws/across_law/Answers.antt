@@ -4,4 +4,4 @@ use Rattle.dissection.proofs.Carried as law
 use Rattle.dissection.proofs.laws.across_law.Goals as goal
 
 pub returns : goal.returns
-returns c = λ edition refused. law.only_tile_law (points_of c.args.order) (laws_of c.args.order) edition refused
+returns c = law.across_law (points_of c.args.order) (laws_of c.args.order)

@@ -5,4 +5,4 @@ use Rattle.dissection.proofs.Turns.{turns_of}
 use Rattle.dissection.proofs.laws.glue_law.Goals as goal
 
 pub returns : goal.returns
-returns c = λ edition refused. law.glue_law (points_of c.args.order) (laws_of c.args.order) edition refused (turns_of c.args.order)
+returns c = law.glue_law (points_of c.args.order) (laws_of c.args.order) (turns_of c.args.order)

@@ -4,13 +4,12 @@ use Rattle.addressing.specs.Across.{IsAcross, LiesOn}
 use Rattle.addressing.specs.Tables.{Tables, child_kinds}
 use Rattle.addressing.specs.Touch.{Touches}
 use Rattle.cyclo_points.specs.declared.order.Order.{Order}
-use Rattle.dissection.specs.Orders.{OnlyTilesLaw, BoundariesLaw}
 use Rattle.rule_model.specs.declared.rule.Rule.{Rule}
 use Rattle.rule_model.specs.Tiling.{tiling_of, contacts, children}
 use Rattle.tile_shape.specs.Views.{address_of}
 use Rattle.transducer_core.specs.declared.crossing.Crossing.{Crossing}
 use Rattle.transducer_core.specs.declared.outside.Outside.{Outside}
-use Rattle.tile_place.proofs.Plane.{IsSettled, only_across, way_back, lies_on_boundary, boundary_lies}
+use Rattle.tile_place.proofs.Plane.{OnlyTilesLaw, BoundariesLaw, IsSettled, only_across, way_back, lies_on_boundary, boundary_lies}
 use Rattle.tile_place.proofs.machine.Machine.cross.Goals as goal
 
 -- the transducer's tables are those of the tiling, and their child kinds too
