@@ -2,11 +2,11 @@ use Rattle.std.proofs.Common.{◌≡◌, ℕ, ◌+◌, ◌<◌, inl, inr, true, 
 use Rattle.std.proofs.lemmas.Bool.{cases_lt}
 use Rattle.addressing.specs.Across.{IsAcross, LiesOn}
 use Rattle.addressing.specs.Address.{Fits}
-use Rattle.dissection.specs.Orders.{BoundariesLaw}
+
 use Rattle.frames.specs.Frame.{lifted_in}
 use Rattle.rule_model.specs.declared.rule.Rule.{Rule}
 use Rattle.rule_model.specs.Tiling.{tiling_of, contacts, children}
-use Rattle.tile_place.proofs.Plane.{IsSettled}
+use Rattle.tile_place.proofs.Plane.{BoundariesLaw, IsSettled}
 use Rattle.tile_shape.specs.Usable.{AreUsable}
 use Rattle.tile_shape.specs.Views.{address_of}
 use Rattle.lazy_walk.specs.Boundary.{IsBoundaryEdge}
