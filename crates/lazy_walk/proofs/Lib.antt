@@ -1,3 +1,4 @@
 pub mod Walks
 pub mod Lifting
 pub mod Crossings
+pub mod Longer

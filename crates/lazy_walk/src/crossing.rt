@@ -45,6 +45,7 @@ impl Frame {
 
         // The new depth is the least, not below the old, at which the edge is not on the boundary; DepthLimit
         // comes exactly where it is on the boundary at depth 64.
+        ensures inside { IfOk result (λ _. ¬ IsBoundaryEdge (tiling_of machine.now) (lifted_in (whole self.new) (address_of tile.now)) edge) }
         ensures least { (n : ℕ) → length self.old.digits ≤ n → n < length self.new.digits
             → IsBoundaryEdge (tiling_of machine.now) (lifted_at (tiling_of machine.now) self.old (address_of tile.now) n) edge }
         ensures limit_exactly { IsErr result ↔ IsBoundaryEdge (tiling_of machine.now) (lifted_at (tiling_of machine.now) self.old (address_of tile.now) 64) edge }
@@ -82,6 +83,7 @@ impl Frame {
         ensures at_new_depth { IfOk result (λ _. depth (address_of tile.new) ≡ length self.new.digits) }
         ensures answer_of_frame { IfOk result (λ _. IsTileOf (children (tiling_of machine.now)) (whole self.new) (address_of tile.new)) }
 
+        ensures inside { IfOk result (λ _. ¬ IsBoundaryEdge (tiling_of machine.now) (lifted_in (whole self.new) (address_of tile.old)) edge) }
         ensures least { (n : ℕ) → length self.old.digits ≤ n → n < length self.new.digits
             → IsBoundaryEdge (tiling_of machine.now) (lifted_at (tiling_of machine.now) self.old (address_of tile.old) n) edge }
         ensures limit_exactly { IsErr result ↔ IsBoundaryEdge (tiling_of machine.now) (lifted_at (tiling_of machine.now) self.old (address_of tile.old) 64) edge }
