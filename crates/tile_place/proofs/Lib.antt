@@ -5,3 +5,7 @@ pub mod Finer
 pub mod Descent
 pub mod Example
 pub mod Plane
+pub mod SamePoint
+pub mod HalfTurn
+pub mod Vectors
+pub mod Gluing

@@ -8,8 +8,10 @@
 #![tactic(auto)]
 
 pub mod coord_limit;
+mod glue;
 pub mod machine;
 mod place;
 pub mod placed_tile;
+mod prototile_edge;
 #[cfg(test)]
 mod tests;

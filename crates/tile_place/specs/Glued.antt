@@ -1,0 +1,40 @@
+-- Which edges of prototiles meet, and the motions that glue them.
+use Rattle.std.specs.Prelude.{◌≡◌, ℕ, IsSome}
+use Rattle.ordered_ring.specs.Ring.{power}
+use Rattle.addressing.specs.Address.{Address, Fits}
+use Rattle.addressing.specs.Tables.{type_of}
+use Rattle.cyclo_points.specs.declared.order.Order.{Order}
+use Rattle.cyclo_points.specs.Order.{NumberOf, points_of}
+use Rattle.dissection.specs.Glue.{IsMet, IsGlueMotion}
+use Rattle.rule_model.specs.Tiling.{Tiling, MotionOf, contacts, children}
+use Rattle.substitution.specs.Motion.{followed}
+use Rattle.tile_place.specs.Crossed.{placed_tile, IsOnlyAcross}
+
+-- a turn by ζ^k takes the vector v to w
+abbrev pub IsTurnedTo : (o : Order) → ℕ → NumberOf o → NumberOf o → Type 0
+IsTurnedTo o k v w = (points_of o).ring.mul (power (points_of o).ring (points_of o).zeta k) v ≡ w
+
+-- a kind of the tiling has an edge of this number
+abbrev pub HasKindEdge : Tiling → ℕ → ℕ → Type 0
+HasKindEdge t kind edge = IsSome (type_of (contacts t) kind edge)
+
+-- some turn below the order takes the vector of edge f of kind l to that of edge e of kind k, reversed
+abbrev pub Meets : Tiling → ℕ → ℕ → ℕ → ℕ → Type 0
+Meets t k e l f = IsMet (points_of t.order) t.rule k e l f
+
+-- moved by m, edge f of kind l runs from the end of edge e of kind k to its start
+abbrev pub Glues : (t : Tiling) → ℕ → ℕ → ℕ → ℕ → MotionOf t → Type 0
+Glues t k e l f m = IsGlueMotion (points_of t.order) t.rule k e l f m
+
+-- the motion of b is the motion m, followed by that of a
+abbrev pub LiesBeyond : (t : Tiling) → Address → MotionOf t → Address → Type 0
+LiesBeyond t a m b = (placed_tile t b).motion ≡ followed (points_of t.order) m (placed_tile t a).motion
+
+-- Edges across from each other meet; one motion alone glues them; and the tile across lies where that motion, and then the motion of the edge's own tile, put
+-- it.
+abbrev pub GluingLaw : Tiling → Type 0
+GluingLaw t =
+    (a b : Address) (e f : ℕ) → Fits (children t) a → HasKindEdge t a.kind e → IsOnlyAcross t a e b f
+    → Meets t a.kind e b.kind f
+    × ((m g : MotionOf t) → Glues t a.kind e b.kind f m → Glues t a.kind e b.kind f g → m ≡ g)
+    × ((m : MotionOf t) → Glues t a.kind e b.kind f m → LiesBeyond t a m b)
