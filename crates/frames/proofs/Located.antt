@@ -1,19 +1,25 @@
 -- The tile that the descent ends at is a tile of the supertile, and holds the point.
-use Rattle.std.proofs.Common.{◌≡◌, ℕ, zero, suc, ◌+◌, ◌<◌, Bool, true, false, cond, List, [], ◌∷◌, length, Option, None, Some, inl, inr, refl, sym, ap, ◌∙◌, subst, arith, mod-lt}
+use Rattle.std.proofs.Common.{◌≡◌, ℕ, zero, suc, ◌+◌, ◌<◌, Bool, true, false, cond, List, [], ◌∷◌, length, map, Option, None, Some, ◌⊎◌, inl, inr, pos, refl, sym, ap, ap₂, ◌∙◌, subst, arith, mod-lt}
 use Rattle.std.specs.List.{enumerate_from}
 use Rattle.std.specs.Option.{option_map, option_and_then}
 use Rattle.ordered_ring.specs.Ring.{power}
+use Rattle.ordered_ring.proofs.Normaliser.{var, con, ring, ◌⊗◌}
 use Rattle.substitution.specs.Points.{Points, PointLaws}
-use Rattle.substitution.specs.Motion.{Motion, followed, still}
+use Rattle.substitution.specs.Motion.{Motion, moved, followed, still}
+use Rattle.substitution.specs.RuleParts.{vertices_of}
 use Rattle.substitution.specs.Rule.{Child, Rule, children_of}
 use Rattle.addressing.specs.Search.{IsAmong}
 use Rattle.substitution.specs.Supertile.{Placed, inflated, lifted, supertile}
 use Rattle.addressing.proofs.Lists.{IsAmong-map, IsAmong-flat_map, AllByRecursion-among}
 use Rattle.substitution.proofs.Placement.{IsPlaced, supertile-placed}
 use Rattle.frames.specs.Outline.{outline, holds_point, supertile_holds}
-use Rattle.frames.specs.Part.{Part, child_motion, holder, holder_of, HasHolders}
+use Rattle.frames.specs.Part.{Part, part_of, child_motion, holder, holder_of, HasHolders}
 use Rattle.frames.specs.Descent.{behind, tile_below}
 use Rattle.frames.proofs.Group.{followed-assoc, still-followed}
+
+map-ext : {A B : Type 0} (f g : A → B) (xs : List A) → ((x : A) → f x ≡ g x) → map f xs ≡ map g xs
+map-ext f g [] h = refl
+map-ext f g (x ∷ xs) h = ap₂ (λ u v. u ∷ v) (h x) (map-ext f g xs h)
 
 module _ (P : Points) (W : PointLaws P) (r : Rule P.ring.carrier) where
   -- the child found is one of the list, and holds the point
@@ -38,6 +44,22 @@ module _ (P : Points) (W : PointLaws P) (r : Rule P.ring.carrier) where
           let same : here ≡ c = cc (f) in
           subst (IsHolder scale m p i (x ∷ xs)) same (record { child = x; listed = inl refl; kind = refl; motion = refl; holds = q })
       by false q f rest = let h = rest f in record { child = h.child; listed = inr h.listed; kind = h.kind; motion = h.motion; holds = h.holds }
+
+  -- where a child of the list holds the point, there is a first that does
+  pub holder-some : (scale : P.ring.carrier) (m : Motion P.ring.carrier) (p : P.ring.carrier) (i : ℕ) (cs : List (Child P.ring.carrier)) (c : ℕ × Child P.ring.carrier) → IsAmong c (enumerate_from i cs)
+      → holds_point P (outline P r c.1.kind scale (child_motion P r scale m c.1)) p ≡ true → (x : Part P.ring.carrier) × (holder P r scale m p i cs ≡ Some x)
+  holder-some scale m p i [] c among holds = elim among [ ]
+  holder-some scale m p i (x ∷ xs) c among holds = by (holds_point P (outline P r x.kind scale (child_motion P r scale m x)) p) refl among (λ a. holder-some scale m p (i + 1) xs c a holds)
+    where
+      here : Child P.ring.carrier → Bool
+      here y = holds_point P (outline P r y.kind scale (child_motion P r scale m y)) p
+
+      by : (b : Bool) → here x ≡ b → (c ≡ (i, x)) ⊎ IsAmong c (enumerate_from (i + 1) xs)
+          → (IsAmong c (enumerate_from (i + 1) xs) → (y : Part P.ring.carrier) × (holder P r scale m p (i + 1) xs ≡ Some y))
+          → (y : Part P.ring.carrier) × (cond b (Some (part_of P r scale m i x)) (holder P r scale m p (i + 1) xs) ≡ Some y)
+      by true q a rest = (part_of P r scale m i x, refl)
+      by false q (inl e) rest = let no : false ≡ true = sym q ∙ ap (λ (d : ℕ × Child P.ring.carrier). here d.1) (sym e) ∙ holds in absurd (cc no)
+      by false q (inr a) rest = rest a
 
   -- a tile of the moved supertile: its motion is its own there, and then the supertile's
   pub record IsMoved (k n : ℕ) (m : Motion P.ring.carrier) (t : Placed P.ring.carrier) : Type 0 where
@@ -91,3 +113,24 @@ tile_below-some P W r one k (suc n) m p h =
       ap (option_and_then (λ (c : Part P.ring.carrier). option_map (behind (record { child = c.child; parent = k } ∷ [])) (tile_below P r c.kind n c.motion p))) c.1
           ∙ ap (option_map (behind (record { child = c.0.child; parent = k } ∷ []))) t.1,
     )
+
+module _ (P : Points) (W : PointLaws P) (r : Rule P.ring.carrier) where
+  -- the tile that the descent through a supertile that holds the point ends at holds it
+  pub tile_below-holds : (k n : ℕ) (m : Motion P.ring.carrier) (p : P.ring.carrier) (t : Placed P.ring.carrier) → supertile_holds P r k n m p ≡ true → tile_below P r k n m p ≡ Some t
+      → holds_point P (map (moved P t.motion) (vertices_of r t.address.kind)) p ≡ true
+  tile_below-holds k zero m p t h e =
+      let same : record { address = record { kind = k; digits = [] }; motion = m } ≡ t = cc (e) in
+      subst (λ (x : Placed P.ring.carrier). holds_point P (map (moved P x.motion) (vertices_of r x.address.kind)) p ≡ true) same
+      (ap (λ vs. holds_point P vs p) (map-ext (λ z. moved P m z) (λ z. moved P m (P.ring.mul (power P.ring r.factor 0) z)) (vertices_of r k)
+      (λ z. ap (moved P m) (ring P.ring W.of_ring (z ∷ []) (var 0) (con (pos 1) ⊗ var 0) refl))) ∙ h)
+  tile_below-holds k (suc n) m p t h e = by (holder_of P r k n m p) refl e (λ c a g f. tile_below-holds c.kind n c.motion p a g f)
+    where
+      by : (x : Option (Part P.ring.carrier)) → holder_of P r k n m p ≡ x
+          → option_and_then (λ (c : Part P.ring.carrier). option_map (behind (record { child = c.child; parent = k } ∷ [])) (tile_below P r c.kind n c.motion p)) x ≡ Some t
+          → ((c : Part P.ring.carrier) (a : Placed P.ring.carrier) → supertile_holds P r c.kind n c.motion p ≡ true → tile_below P r c.kind n c.motion p ≡ Some a
+          → holds_point P (map (moved P a.motion) (vertices_of r a.address.kind)) p ≡ true) → holds_point P (map (moved P t.motion) (vertices_of r t.address.kind)) p ≡ true
+      by None q f rest = absurd (cc f)
+      by (Some c) q f rest =
+          let held = holder-is P W r (power P.ring r.factor n) m p 0 (children_of r k) c q in
+          let a = of_some P W r (behind (record { child = c.child; parent = k } ∷ [])) (tile_below P r c.kind n c.motion p) t f in
+          subst (λ (x : Placed P.ring.carrier). holds_point P (map (moved P x.motion) (vertices_of r x.address.kind)) p ≡ true) a.2 (rest c a.0 held.holds a.1)

@@ -9,3 +9,12 @@ pub mod SamePoint
 pub mod HalfTurn
 pub mod Vectors
 pub mod Gluing
+pub mod Ahead
+pub mod Corners
+pub mod Parts
+pub mod FactorPowers
+pub mod Holders
+pub mod Below
+pub mod Counted
+pub mod Held
+pub mod Located

@@ -9,9 +9,17 @@
 
 pub mod coord_limit;
 mod glue;
+mod locate;
+pub mod locate_fault;
+mod look;
 pub mod machine;
+mod outline;
+mod part;
 mod place;
 pub mod placed_tile;
+mod powers;
 mod prototile_edge;
+mod search;
+mod seen;
 #[cfg(test)]
 mod tests;

@@ -1,0 +1,120 @@
+-- What the search from the top down finds is the only tile that holds the point.
+use Rattle.std.proofs.Common.{◌≡◌, ◌↔◌, ℕ, ◌<◌, true, cond, length, find, None, Some, Result, Ok, Err, IsOk, IfOk, IfErr, refl, sym, ap, ◌∙◌, subst}
+use Rattle.addressing.specs.Address.{depth, Fits}
+use Rattle.addressing.specs.Search.{IsAmong}
+use Rattle.ordered_plane.specs.Plane.{test_point}
+use Rattle.ordered_plane.specs.Crossing.{member}
+use Rattle.dissection.specs.Polygons.{tile_polygon}
+use Rattle.addressing.proofs.Lists.{AllByRecursion-among, IsAmong-map}
+use Rattle.substitution.specs.Motion.{moved, followed}
+use Rattle.substitution.specs.Plane.{plane_point}
+use Rattle.substitution.specs.Points.{Points}
+use Rattle.substitution.specs.Rule.{Rule as TheRule}
+use Rattle.substitution.specs.RuleParts.{vertices_of}
+use Rattle.substitution.specs.Supertile.{Placed, supertile}
+use Rattle.substitution.specs.Placement.{placement}
+use Rattle.substitution.proofs.Placement.{IsPlaced, supertile-placed}
+use Rattle.frames.specs.Outline.{supertile_holds}
+use Rattle.frames.specs.Descent.{tile_below, tile_holding}
+use Rattle.frames.specs.Looked.{values_looked_at}
+use Rattle.frames.proofs.Carried.{held}
+use Rattle.frames.proofs.Fitting.{IsFitting, supertile-fits}
+use Rattle.frames.proofs.Located.{IsMoved, IsMoved-depth, tile_below-moved, tile_below-some, tile_below-holds}
+use Rattle.cyclo_points.specs.Order.{NumberOf, PointsLaw, points_of, is_refused}
+use Rattle.rule_model.specs.declared.rule.Rule.{Rule}
+use Rattle.rule_model.specs.Tiling.{tiling_of, children, MotionOf}
+use Rattle.rule_model.specs.Views.{rule_of}
+use Rattle.tile_place.specs.declared.placed_tile.PlacedTile.{PlacedTile}
+use Rattle.tile_place.specs.declared.locate_fault.LocateFault.{LocateFault}
+use Rattle.tile_place.specs.declared.locate_fault.LocateFault.TheVariants.{NotInside, CoordLimit}
+use Rattle.tile_place.specs.Located.{moved_tiles, OnlyHoldsPoint, IsInside, first_refused_looked_at, IsCauseOf}
+use Rattle.tile_place.specs.Searched.{placed_in, IsFaultOf}
+use Rattle.tile_place.proofs.Ahead.{map-map}
+use Rattle.tile_place.proofs.Plane.{SupertilesLaw, its_rule, IsSettled}
+use Rattle.tile_place.proofs.Held.{IsDissected, has_holders, only_one}
+
+module _ (m : Rule) (settled : IsSettled m) (W : PointsLaw m.order) (law : SupertilesLaw m.order) (k n : ℕ) (exists : k < length (rule_of m).kinds) (at : MotionOf (tiling_of m)) (below : at.turn < (points_of m.order).order)
+    (p : NumberOf m.order) where
+  abbrev P : Points
+  P = points_of m.order
+
+  abbrev r : TheRule P.ring.carrier
+  r = rule_of m
+
+  dissected : IsDissected P r
+  dissected = λ k n h f keeps q is. law (its_rule m settled) k n h f keeps q is
+
+  -- the search ends at a tile exactly where the supertile holds the point
+  inside : (t : Placed P.ring.carrier) → tile_holding P r k n at p ≡ Some t → IsInside (tiling_of m) k n at p
+  inside t e = (held (supertile_holds P r k n at p) (tile_below P r k n at p) t e).0
+
+  outside : tile_holding P r k n at p ≡ None → ¬ IsInside (tiling_of m) k n at p
+  outside e h =
+      let t = tile_below-some P W r (has_holders P W r dissected settled.usable.numbered.child_exists) k n at p h in
+      absurd (cc (sym e ∙ ap (λ b. cond b (tile_below P r k n at p) None) h ∙ t.1))
+
+  module _ (t : Placed P.ring.carrier) (e : tile_holding P r k n at p ≡ Some t) where
+    found : tile_below P r k n at p ≡ Some t
+    found = (held (supertile_holds P r k n at p) (tile_below P r k n at p) t e).1
+
+    own : IsMoved P W r k n at t
+    own = tile_below-moved P W r k n at p t below found
+
+    pub located-depth : depth t.address ≡ n
+    located-depth = IsMoved-depth P W r k n at t own
+
+    pub located-fits : Fits (children (tiling_of m)) t.address
+    located-fits = (AllByRecursion-among (λ (x : Placed P.ring.carrier). IsFitting P r settled.usable.numbered.child_exists k x.address) (record { address = t.address; motion = own.own }) (supertile P r k n) own.among
+        (supertile-fits P r settled.usable.numbered.child_exists k n exists)).fits
+
+    pub located-motion : t.motion ≡ followed P (placement P r t.address.digits) at
+    located-motion = own.moved ∙ ap (λ g. followed P g at) (AllByRecursion-among (IsPlaced P W r n) (record { address = t.address; motion = own.own }) (supertile P r k n) own.among (supertile-placed P W r k n)).motion_is
+
+    pub located-only : OnlyHoldsPoint (tiling_of m) k n at p t
+    located-only = record {
+      here = record { among = among; holds = holds };
+      only = λ y h. only_one P W r dissected settled.usable.numbered.child_exists p k n at exists (inside t e) t y among holds h.among h.holds;
+    }
+      where
+        among : IsAmong t (moved_tiles (tiling_of m) k n at)
+        among = subst (λ g. IsAmong (record { address = t.address; motion = g }) (moved_tiles (tiling_of m) k n at)) (sym own.moved)
+            (IsAmong-map (λ (x : Placed P.ring.carrier). record { address = x.address; motion = followed P x.motion at }) (record { address = t.address; motion = own.own }) (supertile P r k n) own.among)
+
+        holds : member P.real (tile_polygon P r (λ z. z) t) (test_point P.real.ops (plane_point P p)) ≡ true
+        holds = ap (λ vs. member P.real vs (test_point P.real.ops (plane_point P p))) (sym (map-map (moved P t.motion) (plane_point P) (vertices_of r t.address.kind)))
+            ∙ tile_below-holds P W r k n at p t (inside t e) found
+
+  -- ---- the answer
+  module _ (x : Result PlacedTile LocateFault) (holder : IfOk x (λ tile. tile_holding P r k n at p ≡ Some (placed_in m.order tile)))
+      (none : IfOk x (λ _. find (is_refused m.order) (values_looked_at P r k n at p) ≡ None)) (fault : IfErr x (IsFaultOf m.order (values_looked_at P r k n at p) (tile_holding P r k n at p))) where
+    cause_of : (f : LocateFault) → IsFaultOf m.order (values_looked_at P r k n at p) (tile_holding P r k n at p) f → IsCauseOf (tiling_of m) k n at p f
+    cause_of NotInside h = (h.0, outside h.1)
+    cause_of (CoordLimit v) h = h
+
+    pub causes : IfErr x (IsCauseOf (tiling_of m) k n at p)
+    causes = by x fault
+      where
+        by : (x : Result PlacedTile LocateFault) → IfErr x (IsFaultOf m.order (values_looked_at P r k n at p) (tile_holding P r k n at p)) → IfErr x (IsCauseOf (tiling_of m) k n at p)
+        by (Ok t) h = tt
+        by (Err f) h = cause_of f h
+
+    -- it is a tile exactly where no value is refused and the supertile holds the point
+    pub found_exactly : IsOk x ↔ ((first_refused_looked_at (tiling_of m) k n at p ≡ None) × IsInside (tiling_of m) k n at p)
+    found_exactly = by x holder none causes
+      where
+        by : (x : Result PlacedTile LocateFault) → IfOk x (λ tile. tile_holding P r k n at p ≡ Some (placed_in m.order tile))
+            → IfOk x (λ _. find (is_refused m.order) (values_looked_at P r k n at p) ≡ None) → IfErr x (IsCauseOf (tiling_of m) k n at p)
+            → IsOk x ↔ ((first_refused_looked_at (tiling_of m) k n at p ≡ None) × IsInside (tiling_of m) k n at p)
+        by (Ok t) h e c = (λ _. (e, inside (placed_in m.order t) h), λ _. refl)
+        by (Err NotInside) h e c = (λ u. absurd (cc u), λ f. absurd (c.1 f.1))
+        by (Err (CoordLimit v)) h e c = (λ u. absurd (cc u), λ f. absurd (cc (sym f.0 ∙ c.0)))
+
+    -- and NotInside exactly where none is refused and it doesn't
+    pub not_inside : (x ≡ Err NotInside) ↔ ((first_refused_looked_at (tiling_of m) k n at p ≡ None) × (¬ IsInside (tiling_of m) k n at p))
+    not_inside = by x holder causes
+      where
+        by : (x : Result PlacedTile LocateFault) → IfOk x (λ tile. tile_holding P r k n at p ≡ Some (placed_in m.order tile)) → IfErr x (IsCauseOf (tiling_of m) k n at p)
+            → (x ≡ Err NotInside) ↔ ((first_refused_looked_at (tiling_of m) k n at p ≡ None) × (¬ IsInside (tiling_of m) k n at p))
+        by (Ok t) h c = (λ e. absurd (cc e), λ f. absurd (f.1 (inside (placed_in m.order t) h)))
+        by (Err NotInside) h c = (λ _. c, λ _. refl)
+        by (Err (CoordLimit v)) h c = (λ e. absurd (cc e), λ f. absurd (cc (sym f.0 ∙ c.0)))

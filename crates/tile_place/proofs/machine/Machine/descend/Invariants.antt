@@ -1,0 +1,27 @@
+use Rattle.std.proofs.Common.{◌≡◌, ◌+◌, ◌<◌, ◌^◌, length, map, find}
+use Rattle.std.specs.Option.{option_map}
+use Rattle.frames.specs.Descent.{tile_below, behind}
+use Rattle.frames.specs.Looked.{values_below}
+use Rattle.cyclo_points.specs.Order.{points_of, is_refused}
+use Rattle.cyclo_points.specs.Point.{point_in, IsOf, IsWithin}
+use Rattle.cyclo_points.specs.Motion.{motion_in}
+use Rattle.rule_model.specs.Views.{rule_of}
+use Rattle.tile_shape.specs.Views.{step_of}
+use Rattle.tile_place.proofs.machine.Machine.descend.Given as goal
+
+-- what is left to do is the same from the part that is reached, behind whose digits those found so far stand
+abbrev pub invariant-loop-level : goal.invariant-loop-level
+invariant-loop-level l = record {
+  values : find (is_refused l.self.order) (values_below (points_of l.self.order) (rule_of l.self) l.top l.level (motion_in l.self.order l.motion) (point_in l.self.order l.point))
+      ≡ find (is_refused l.self.order) (values_below (points_of l.self.order) (rule_of l.self) l.kind l.depth (motion_in l.self.order l.at) (point_in l.self.order l.point));
+  tile : option_map (behind (map step_of l.digits.items)) (tile_below (points_of l.self.order) (rule_of l.self) l.top l.level (motion_in l.self.order l.motion) (point_in l.self.order l.point))
+      ≡ tile_below (points_of l.self.order) (rule_of l.self) l.kind l.depth (motion_in l.self.order l.at) (point_in l.self.order l.point);
+  kind_exists : l.top < length (rule_of l.self).kinds;
+  turn_below : l.motion.turn < (points_of l.self.order).order;
+  within : IsWithin (2 ^ 24) l.motion.shift;
+  in_order : IsOf l.self.order l.motion.shift;
+  count : length l.digits.items + l.level ≡ l.depth;
+}
+
+abbrev pub decreases-loop-level : goal.decreases-loop-level
+decreases-loop-level l = l.level

@@ -1,0 +1,109 @@
+use Rattle.std.proofs.Common.{◌≡◌, ◌+◌, true, false, get_or, [], refl, sym, ap, ◌∙◌, arith}
+use Rattle.ordered_ring.specs.Ring.{power}
+use Rattle.frames.specs.Outline.{outline, holds_point}
+use Rattle.frames.specs.Descent.{tile_below, tile_holding}
+use Rattle.frames.specs.Looked.{values_below, values_looked_at}
+use Rattle.cyclo_points.specs.Order.{points_of, is_refused}
+use Rattle.cyclo_points.specs.Point.{point_in}
+use Rattle.cyclo_points.specs.Motion.{motion_in}
+use Rattle.rule_model.specs.declared.rule.Rule.{Rule}
+use Rattle.rule_model.specs.Views.{rule_of}
+use Rattle.tile_place.proofs.FactorPowers.{power-read}
+use Rattle.tile_place.proofs.Parts.{holds_is}
+use Rattle.tile_place.proofs.Below.{power_refused, vertex_refused, past_outline, tile_same, same_tile, same_none, same_fault}
+use Rattle.tile_place.proofs.machine.Machine.search.Goals as goal
+
+pub returns-in-Err-clause-fault : goal.returns-in-Err-clause-fault
+returns-in-Err-clause-fault c =
+    let m = c.args.self.now in
+    (power_refused (points_of m.order) (rule_of m) (is_refused m.order) c.args.kind c.args.depth (motion_in m.order c.args.at.now) (point_in m.order c.args.point.now) _ refl (point_in m.order c.in-Err.limit.value) c.in-Err.ensures.limit, c.in-Err.ensures.limit_in_order)
+
+pub returns-in-Err-outline-clause-fault : goal.returns-in-Err-outline-clause-fault
+returns-in-Err-outline-clause-fault c =
+    let m = c.args.self.now in
+    let P = points_of m.order in
+    let r = rule_of m in
+    let at = motion_in m.order c.args.at.now in
+    let point = point_in m.order c.args.point.now in
+    let scale = point_in m.order (get_or c.deref.result.now c.args.depth (record { c = [] })) in
+    let power_is : scale ≡ power P.ring r.factor c.args.depth =
+    ap (λ ps. point_in m.order (get_or ps c.args.depth (record { c = [] }))) c.deref.ensures.0
+    ∙ power-read m.order r.factor (c.args.depth + 1) c.in-Ok.powers.items c.args.depth (record { c = [] }) c.in-Ok.ensures.powers (omega arith) in
+    (vertex_refused P r (is_refused m.order) c.args.kind c.args.depth at point scale power_is (point_in m.order c.in-Err-outline.limit.value) c.in-Ok.ensures.none_refused c.in-Err-outline.ensures.limit, c.in-Err-outline.ensures.limit_in_order)
+
+pub returns-then-not-member-clause-fault : goal.returns-then-not-member-clause-fault
+returns-then-not-member-clause-fault c =
+    let m = c.args.self.now in
+    let P = points_of m.order in
+    let r = rule_of m in
+    let at = motion_in m.order c.args.at.now in
+    let point = point_in m.order c.args.point.now in
+    let scale = point_in m.order (get_or c.deref.result.now c.args.depth (record { c = [] })) in
+    let power_is : scale ≡ power P.ring r.factor c.args.depth =
+    ap (λ ps. point_in m.order (get_or ps c.args.depth (record { c = [] }))) c.deref.ensures.0
+    ∙ power-read m.order r.factor (c.args.depth + 1) c.in-Ok.powers.items c.args.depth (record { c = [] }) c.in-Ok.ensures.powers (omega arith) in
+    let held : c.member.result ≡ holds_point P (outline P r c.args.kind scale at) point =
+    holds_is c.order-order.result m.order (c.order-order.ensures.order ∙ ap (λ (q : Rule). q.order) c.checked.ensures.rule) c.in-Ok-outline.corners.items c.as_slice.result.now _ c.args.point.now c.member.result
+    c.as_slice.ensures.value c.in-Ok-outline.ensures.vertices c.member.ensures in
+    let outside : false ≡ holds_point P (outline P r c.args.kind scale at) point = sym c.if-not-member.true ∙ held in (
+      past_outline P r (is_refused m.order) c.args.kind c.args.depth at point scale power_is false outside c.in-Ok.ensures.none_refused c.in-Ok-outline.ensures.none_refused,
+      tile_same P r (is_refused m.order) c.args.kind c.args.depth at point scale power_is false outside,
+    )
+
+pub returns-clause-holder : goal.returns-clause-holder
+returns-clause-holder c =
+    let m = c.args.self.now in
+    let P = points_of m.order in
+    let r = rule_of m in
+    let at = motion_in m.order c.args.at.now in
+    let point = point_in m.order c.args.point.now in
+    let scale = point_in m.order (get_or c.deref.result.now c.args.depth (record { c = [] })) in
+    let power_is : scale ≡ power P.ring r.factor c.args.depth =
+    ap (λ ps. point_in m.order (get_or ps c.args.depth (record { c = [] }))) c.deref.ensures.0
+    ∙ power-read m.order r.factor (c.args.depth + 1) c.in-Ok.powers.items c.args.depth (record { c = [] }) c.in-Ok.ensures.powers (omega arith) in
+    let held : c.member.result ≡ holds_point P (outline P r c.args.kind scale at) point =
+    holds_is c.order-order.result m.order (c.order-order.ensures.order ∙ ap (λ (q : Rule). q.order) c.checked.ensures.rule) c.in-Ok-outline.corners.items c.as_slice.result.now _ c.args.point.now c.member.result
+    c.as_slice.ensures.value c.in-Ok-outline.ensures.vertices c.member.ensures in
+    let inside : true ≡ holds_point P (outline P r c.args.kind scale at) point = sym c.if-not-member.false ∙ held in
+    let values = past_outline P r (is_refused m.order) c.args.kind c.args.depth at point scale power_is true inside c.in-Ok.ensures.none_refused c.in-Ok-outline.ensures.none_refused in
+    let tile = tile_same P r (is_refused m.order) c.args.kind c.args.depth at point scale power_is true inside in
+    same_tile m.order c.descend.result (tile_holding P r c.args.kind c.args.depth at point) (tile_below P r c.args.kind c.args.depth at point) tile c.descend.ensures.holder
+
+pub returns-clause-none_refused : goal.returns-clause-none_refused
+returns-clause-none_refused c =
+    let m = c.args.self.now in
+    let P = points_of m.order in
+    let r = rule_of m in
+    let at = motion_in m.order c.args.at.now in
+    let point = point_in m.order c.args.point.now in
+    let scale = point_in m.order (get_or c.deref.result.now c.args.depth (record { c = [] })) in
+    let power_is : scale ≡ power P.ring r.factor c.args.depth =
+    ap (λ ps. point_in m.order (get_or ps c.args.depth (record { c = [] }))) c.deref.ensures.0
+    ∙ power-read m.order r.factor (c.args.depth + 1) c.in-Ok.powers.items c.args.depth (record { c = [] }) c.in-Ok.ensures.powers (omega arith) in
+    let held : c.member.result ≡ holds_point P (outline P r c.args.kind scale at) point =
+    holds_is c.order-order.result m.order (c.order-order.ensures.order ∙ ap (λ (q : Rule). q.order) c.checked.ensures.rule) c.in-Ok-outline.corners.items c.as_slice.result.now _ c.args.point.now c.member.result
+    c.as_slice.ensures.value c.in-Ok-outline.ensures.vertices c.member.ensures in
+    let inside : true ≡ holds_point P (outline P r c.args.kind scale at) point = sym c.if-not-member.false ∙ held in
+    let values = past_outline P r (is_refused m.order) c.args.kind c.args.depth at point scale power_is true inside c.in-Ok.ensures.none_refused c.in-Ok-outline.ensures.none_refused in
+    let tile = tile_same P r (is_refused m.order) c.args.kind c.args.depth at point scale power_is true inside in
+    same_none m.order c.descend.result (values_looked_at P r c.args.kind c.args.depth at point) (values_below P r c.args.kind c.args.depth at point) values c.descend.ensures.none_refused
+
+pub returns-clause-fault : goal.returns-clause-fault
+returns-clause-fault c =
+    let m = c.args.self.now in
+    let P = points_of m.order in
+    let r = rule_of m in
+    let at = motion_in m.order c.args.at.now in
+    let point = point_in m.order c.args.point.now in
+    let scale = point_in m.order (get_or c.deref.result.now c.args.depth (record { c = [] })) in
+    let power_is : scale ≡ power P.ring r.factor c.args.depth =
+    ap (λ ps. point_in m.order (get_or ps c.args.depth (record { c = [] }))) c.deref.ensures.0
+    ∙ power-read m.order r.factor (c.args.depth + 1) c.in-Ok.powers.items c.args.depth (record { c = [] }) c.in-Ok.ensures.powers (omega arith) in
+    let held : c.member.result ≡ holds_point P (outline P r c.args.kind scale at) point =
+    holds_is c.order-order.result m.order (c.order-order.ensures.order ∙ ap (λ (q : Rule). q.order) c.checked.ensures.rule) c.in-Ok-outline.corners.items c.as_slice.result.now _ c.args.point.now c.member.result
+    c.as_slice.ensures.value c.in-Ok-outline.ensures.vertices c.member.ensures in
+    let inside : true ≡ holds_point P (outline P r c.args.kind scale at) point = sym c.if-not-member.false ∙ held in
+    let values = past_outline P r (is_refused m.order) c.args.kind c.args.depth at point scale power_is true inside c.in-Ok.ensures.none_refused c.in-Ok-outline.ensures.none_refused in
+    let tile = tile_same P r (is_refused m.order) c.args.kind c.args.depth at point scale power_is true inside in
+    same_fault m.order c.descend.result (values_looked_at P r c.args.kind c.args.depth at point) (values_below P r c.args.kind c.args.depth at point)
+    (tile_holding P r c.args.kind c.args.depth at point) (tile_below P r c.args.kind c.args.depth at point) values tile c.descend.ensures.fault

@@ -1,0 +1,44 @@
+-- What is answered of a point in a supertile that is moved.
+use Rattle.std.specs.Prelude.{◌≡◌, ℕ, true, List, map, find, None, Some}
+use Rattle.std.specs.declared.option.Option.{Option}
+use Rattle.addressing.specs.Search.{IsAmong}
+use Rattle.substitution.specs.Motion.{followed}
+use Rattle.substitution.specs.Plane.{plane_point}
+use Rattle.substitution.specs.Supertile.{Placed, supertile}
+use Rattle.ordered_plane.specs.Plane.{test_point}
+use Rattle.ordered_plane.specs.Crossing.{member}
+use Rattle.dissection.specs.Polygons.{tile_polygon}
+use Rattle.frames.specs.Outline.{supertile_holds}
+use Rattle.frames.specs.Looked.{values_looked_at}
+use Rattle.cyclo_points.specs.Order.{NumberOf, points_of, is_refused}
+use Rattle.cyclo_points.specs.Point.{point_in, IsOf}
+use Rattle.rule_model.specs.Tiling.{Tiling, MotionOf}
+use Rattle.tile_place.specs.declared.locate_fault.LocateFault.{LocateFault}
+use Rattle.tile_place.specs.declared.locate_fault.LocateFault.TheVariants.{NotInside, CoordLimit}
+
+-- the tiles of the supertile of kind k and depth n, moved by m: the motion of each in the supertile, followed by m
+abbrev pub moved_tiles : (t : Tiling) → ℕ → ℕ → MotionOf t → List (Placed (NumberOf t.order))
+moved_tiles t k n m = map (λ (x : Placed (NumberOf t.order)). record { address = x.address; motion = followed (points_of t.order) x.motion m }) (supertile (points_of t.order) t.rule k n)
+
+-- a tile is one of them, and the point belongs to its polygon
+pub record HoldsPoint (t : Tiling) (k n : ℕ) (m : MotionOf t) (p : NumberOf t.order) (x : Placed (NumberOf t.order)) : Type 0 where
+  pub among : IsAmong x (moved_tiles t k n m)
+  pub holds : member (points_of t.order).real (tile_polygon (points_of t.order) t.rule (λ z. z) x) (test_point (points_of t.order).real.ops (plane_point (points_of t.order) p)) ≡ true
+
+-- and no other tile of them does
+pub record OnlyHoldsPoint (t : Tiling) (k n : ℕ) (m : MotionOf t) (p : NumberOf t.order) (x : Placed (NumberOf t.order)) : Type 0 where
+  pub here : HoldsPoint t k n m p x
+  pub only : (y : Placed (NumberOf t.order)) → HoldsPoint t k n m p y → y ≡ x
+
+-- the supertile of kind k and depth n, moved by m, holds the point: its count there is 1
+abbrev pub IsInside : (t : Tiling) → ℕ → ℕ → MotionOf t → NumberOf t.order → Type 0
+IsInside t k n m p = supertile_holds (points_of t.order) t.rule k n m p ≡ true
+
+-- the first refused value of those looked at for the point in that supertile
+abbrev pub first_refused_looked_at : (t : Tiling) → ℕ → ℕ → MotionOf t → NumberOf t.order → Option (NumberOf t.order)
+first_refused_looked_at t k n m p = find (is_refused t.order) (values_looked_at (points_of t.order) t.rule k n m p)
+
+-- the cause of each fault: no value looked at is refused and the supertile doesn't hold the point, or this is the first that is refused
+abbrev pub IsCauseOf : (t : Tiling) → ℕ → ℕ → MotionOf t → NumberOf t.order → LocateFault → Type 0
+IsCauseOf t k n m p NotInside = (first_refused_looked_at t k n m p ≡ None) × (¬ IsInside t k n m p)
+IsCauseOf t k n m p (CoordLimit v) = (first_refused_looked_at t k n m p ≡ Some (point_in t.order v)) × IsOf t.order v

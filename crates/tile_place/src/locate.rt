@@ -1,0 +1,72 @@
+//! The tile of a supertile that holds a point.
+ghost use Rattle.std.specs.Prelude.{◌≡◌, ◌↔◌, ◌<◌, ◌≤◌, ◌^◌, length, None, Some, Err, IsOk, IfOk, IfErr};
+ghost use Rattle.addressing.specs.Address.{depth as depth_of, Fits};
+ghost use Rattle.substitution.specs.Motion.{followed};
+ghost use Rattle.substitution.specs.Placement.{placement};
+ghost use Rattle.frames.specs.Descent.{tile_holding};
+ghost use Rattle.cyclo_points.specs.Order.{points_of};
+ghost use Rattle.cyclo_points.specs.Point.{point_in, IsOf, IsWithin};
+ghost use Rattle.cyclo_points.specs.Motion.{motion_in};
+ghost use Rattle.rule_model.specs.Tiling.{tiling_of, children};
+ghost use Rattle.rule_model.specs.Views.{rule_of};
+ghost use Rattle.tile_shape.specs.Views.{address_of};
+ghost use Rattle.tile_place.specs.declared.locate_fault.LocateFault.TheVariants.{NotInside};
+ghost use Rattle.tile_place.specs.Located.{OnlyHoldsPoint, IsInside, first_refused_looked_at, IsCauseOf};
+ghost use Rattle.tile_place.specs.Searched.{placed_in};
+
+use crate::locate_fault::LocateFault;
+use crate::machine::Machine;
+use crate::placed_tile::PlacedTile;
+use cyclo_points::motion::Motion;
+use cyclo_points::point::Point;
+use cyclo_points::{placement_law, points_law};
+use dissection::laws::dissection_law;
+
+impl Machine {
+    /// The one tile that holds the point in the supertile of a kind and depth that is moved by `at`, with
+    /// its address in that supertile and its motion there followed by `at`. The values are looked at in
+    /// three steps: the powers of the inflation factor up to the depth; the supertile's vertices; and,
+    /// where it holds the point, from it down to the tile, of all children of each supertile that holds
+    /// the point, the shift and then the vertices.
+    pub fn locate(
+        &self,
+        kind: u8,
+        depth: u8,
+        at: &Motion,
+        point: &Point,
+    ) -> Result<PlacedTile, LocateFault>
+        requires exists { kind < length (rule_of self.now).kinds }
+        requires at_most_64 { depth ≤ 64 }
+        requires turn_below { at.now.turn < (points_of self.now.order).order }
+        requires at_within { IsWithin (2 ^ 24) at.now.shift }
+        requires at_in_order { IsOf self.now.order at.now.shift }
+        requires point_within { IsWithin (2 ^ 24) point.now }
+
+        // In the plane: the only tile that holds the point.
+        ensures only_tile { IfOk result (λ tile. OnlyHoldsPoint (tiling_of self.now) kind depth (motion_in self.now.order at.now)
+            (point_in self.now.order point.now) (placed_in self.now.order tile)) }
+        ensures its_kind { IfOk result (λ tile. tile.kind ≡ tile.addr.kind) }
+        ensures its_depth { IfOk result (λ tile. depth_of (address_of tile.addr) ≡ depth) }
+        ensures its_address { IfOk result (λ tile. Fits (children (tiling_of self.now)) (address_of tile.addr)) }
+        ensures its_motion { IfOk result (λ tile. motion_in self.now.order tile.motion ≡ followed (points_of self.now.order)
+            (placement (points_of self.now.order) (rule_of self.now) (address_of tile.addr).digits) (motion_in self.now.order at.now)) }
+        ensures not_inside { (result ≡ Err NotInside) ↔ ((first_refused_looked_at (tiling_of self.now) kind depth (motion_in self.now.order at.now)
+            (point_in self.now.order point.now) ≡ None) × (¬ IsInside (tiling_of self.now) kind depth (motion_in self.now.order at.now) (point_in self.now.order point.now))) }
+        ensures found_exactly { IsOk result ↔ ((first_refused_looked_at (tiling_of self.now) kind depth (motion_in self.now.order at.now)
+            (point_in self.now.order point.now) ≡ None) × IsInside (tiling_of self.now) kind depth (motion_in self.now.order at.now) (point_in self.now.order point.now)) }
+        ensures fault { IfErr result (IsCauseOf (tiling_of self.now) kind depth (motion_in self.now.order at.now) (point_in self.now.order point.now)) }
+        ensures turn_below { IfOk result (λ tile. tile.motion.turn < (points_of self.now.order).order) }
+        ensures shift_within { IfOk result (λ tile. IsWithin (2 ^ 24) tile.motion.shift) }
+        ensures in_order { IfOk result (λ tile. IsOf self.now.order tile.motion.shift) }
+
+        // By the way down.
+        ensures by_descent { IfOk result (λ tile. tile_holding (points_of self.now.order) (rule_of self.now) kind depth
+            (motion_in self.now.order at.now) (point_in self.now.order point.now) ≡ Some (placed_in self.now.order tile)) }
+    {
+        let order = self.checked().order();
+        points_law(order);
+        placement_law(order);
+        dissection_law(order);
+        self.search(kind, depth, at, point)
+    }
+}

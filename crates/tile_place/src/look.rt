@@ -1,0 +1,133 @@
+//! The child of a part of a supertile that holds a point.
+ghost use Rattle.std.specs.Prelude.{◌≡◌, ◌<◌, ◌^◌, length, find, None, Some, IfOk, IfErr, IfSome};
+ghost use Rattle.std.specs.Option.{option_map};
+ghost use Rattle.substitution.specs.Rule.{children_of};
+ghost use Rattle.substitution.specs.RuleParts.{child_of};
+ghost use Rattle.frames.specs.Outline.{outline, holds_point};
+ghost use Rattle.frames.specs.Part.{child_motion, holder};
+ghost use Rattle.frames.specs.Looked.{values_of_children};
+ghost use Rattle.cyclo_points.specs.Order.{points_of, is_refused};
+ghost use Rattle.cyclo_points.specs.Point.{point_in, IsOf, IsWithin};
+ghost use Rattle.cyclo_points.specs.Motion.{motion_in};
+ghost use Rattle.rule_model.specs.Views.{rule_of};
+ghost use Rattle.addressing.specs.Search.{or_else};
+ghost use Rattle.frames.specs.Part.{part_of};
+ghost use Rattle.frames.specs.Looked.{values_of_child};
+ghost use Rattle.tile_place.specs.Parts.{part_in, IsPart, if_holds};
+
+use crate::coord_limit::CoordLimit;
+use crate::machine::Machine;
+use crate::part::Part;
+use crate::seen::Seen;
+use cyclo_points::arithmetic::refused;
+use cyclo_points::motion::Motion;
+use cyclo_points::movement::compose;
+use cyclo_points::point::Point;
+use cyclo_points::product::mul;
+use plane_geom::polygons::member;
+
+impl Machine {
+    /// Looks at one child of a part: at its shift, and at its vertices. It answers the first of these that is
+    /// refused, or whether the child holds a point.
+    pub(crate) fn look(
+        &self,
+        kind: u8,
+        number: u8,
+        scale: &Point,
+        at: &Motion,
+        point: &Point,
+    ) -> Result<Seen, CoordLimit>
+        requires exists { kind < length (rule_of self.now).kinds }
+        requires child_exists { number < length (children_of (rule_of self.now) kind) }
+        requires scale_within { IsWithin (2 ^ 24) scale.now }
+        requires turn_below { at.now.turn < (points_of self.now.order).order }
+        requires at_within { IsWithin (2 ^ 24) at.now.shift }
+        requires at_in_order { IsOf self.now.order at.now.shift }
+        requires point_within { IsWithin (2 ^ 24) point.now }
+        ensures part { IfOk result (λ seen. part_in self.now.order seen.part
+            ≡ part_of (points_of self.now.order) (rule_of self.now) (point_in self.now.order scale.now) (motion_in self.now.order at.now) number
+            (child_of (points_of self.now.order) (rule_of self.now) kind number)) }
+        ensures holds { IfOk result (λ seen. seen.holds ≡ holds_point (points_of self.now.order)
+            (outline (points_of self.now.order) (rule_of self.now) seen.part.kind (point_in self.now.order scale.now) (motion_in self.now.order seen.part.motion))
+            (point_in self.now.order point.now)) }
+        ensures is_part { IfOk result (λ seen. IsPart self.now seen.part) }
+        ensures none_refused { IfOk result (λ _. find (is_refused self.now.order)
+            (values_of_child (points_of self.now.order) (rule_of self.now) (point_in self.now.order scale.now) (motion_in self.now.order at.now)
+            (child_of (points_of self.now.order) (rule_of self.now) kind number)) ≡ None) }
+        ensures limit { IfErr result (λ limit. find (is_refused self.now.order)
+            (values_of_child (points_of self.now.order) (rule_of self.now) (point_in self.now.order scale.now) (motion_in self.now.order at.now)
+            (child_of (points_of self.now.order) (rule_of self.now) kind number)) ≡ Some (point_in self.now.order limit.value)) }
+        ensures limit_in_order { IfErr result (λ limit. IsOf self.now.order limit.value) }
+    {
+        let checked = self.checked();
+        let order = checked.order();
+        let child = checked.child(kind, number);
+        let scaled = Motion {
+            turn: child.turn,
+            shift: mul(order, scale, &child.shift),
+        };
+        let motion = compose(order, at, &scaled);
+        if refused(&motion.shift) {
+            return Err(CoordLimit {
+                value: motion.shift,
+            });
+        }
+        let corners = self.outline(child.kind, scale, &motion)?;
+        let holds = member(order, corners.as_slice(), point);
+        Ok(Seen {
+            part: Part {
+                child: number,
+                kind: child.kind,
+                motion,
+            },
+            holds,
+        })
+    }
+
+    /// Looks at all children of a part, and answers the first of them that holds a point, or the first value
+    /// that is refused.
+    pub(crate) fn holder(
+        &self,
+        kind: u8,
+        scale: &Point,
+        at: &Motion,
+        point: &Point,
+    ) -> Result<Option<Part>, CoordLimit>
+        requires exists { kind < length (rule_of self.now).kinds }
+        requires scale_within { IsWithin (2 ^ 24) scale.now }
+        requires turn_below { at.now.turn < (points_of self.now.order).order }
+        requires at_within { IsWithin (2 ^ 24) at.now.shift }
+        requires at_in_order { IsOf self.now.order at.now.shift }
+        requires point_within { IsWithin (2 ^ 24) point.now }
+        ensures held { IfOk result (λ part. option_map (part_in self.now.order) part
+            ≡ holder (points_of self.now.order) (rule_of self.now) (point_in self.now.order scale.now) (motion_in self.now.order at.now) (point_in self.now.order point.now)
+            0 (children_of (rule_of self.now) kind)) }
+        ensures is_part { IfOk result (λ part. IfSome part (IsPart self.now)) }
+        ensures none_refused { IfOk result (λ _. find (is_refused self.now.order)
+            (values_of_children (points_of self.now.order) (rule_of self.now) (point_in self.now.order scale.now) (motion_in self.now.order at.now)
+            (children_of (rule_of self.now) kind)) ≡ None) }
+        ensures limit { IfErr result (λ limit. find (is_refused self.now.order)
+            (values_of_children (points_of self.now.order) (rule_of self.now) (point_in self.now.order scale.now) (motion_in self.now.order at.now)
+            (children_of (rule_of self.now) kind)) ≡ Some (point_in self.now.order limit.value)) }
+        ensures limit_in_order { IfErr result (λ limit. IsOf self.now.order limit.value) }
+    {
+        let count = self.checked().rule().child_count(usize::from(kind));
+        let mut held = None;
+        for number in 0..count {
+            let seen = self.look(kind, number as u8, scale, at, point)?;
+            held = first_held(held, seen);
+        }
+        Ok(held)
+    }
+}
+
+/// The part held so far, or else the one that was looked at, where it holds the point.
+fn first_held(held: Option<Part>, seen: Seen) -> Option<Part>
+    ensures { result ≡ or_else held (if_holds seen.holds seen.part) }
+{
+    match held {
+        Some(part) => Some(part),
+        None if seen.holds => Some(seen.part),
+        None => None,
+    }
+}
