@@ -6,7 +6,6 @@ use Rattle.addressing.specs.Address.{Address, depth, top_kind, kind_at, Fits}
 use Rattle.addressing.specs.Tables.{type_of}
 use Rattle.frames.specs.Frame.{IsTileOf, lifted_in}
 use Rattle.frames.proofs.Frames.{IsWhole, lifted-whole, kind_at-top}
-
 use Rattle.rule_model.specs.declared.rule.Rule.{Rule}
 use Rattle.rule_model.specs.Tiling.{tiling_of, contacts, children}
 use Rattle.tile_place.proofs.Plane.{BoundariesLaw, IsSettled, boundary_lies}

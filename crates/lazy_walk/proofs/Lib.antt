@@ -2,3 +2,4 @@ pub mod Walks
 pub mod Lifting
 pub mod Crossings
 pub mod Longer
+pub mod Walked

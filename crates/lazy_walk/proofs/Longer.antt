@@ -1,8 +1,8 @@
 -- A longer coarse end changes no crossing: what is across stays across, and what is inside stays inside.
-use Rattle.std.proofs.Common.{◌≡◌, ℕ, zero, suc, ◌+◌, ◌<◌, ◌≤◌, IsSome, List, [], ◌∷◌, ◌++◌, length, slice_get, take, drop, Some, refl, sym, ap, ◌∙◌, subst, arith, length-append}
+use Rattle.std.proofs.Common.{◌≡◌, ℕ, zero, suc, ◌+◌, ◌<◌, IsSome, List, [], ◌∷◌, ◌++◌, length, slice_get, Some, refl, sym, ap, ◌∙◌, subst, arith, length-append}
 use Rattle.std.proofs.lemmas.List.{drop-append-le, take-append-le}
 use Rattle.addressing.specs.Address.{Step, Address, Climbs, Fits}
-use Rattle.addressing.specs.Tables.{Tables, child_kinds, type_of}
+use Rattle.addressing.specs.Tables.{Tables, type_of}
 use Rattle.addressing.specs.Touch.{Touches}
 use Rattle.addressing.specs.Trace.{IsTrace, first_part}
 use Rattle.addressing.specs.Coherent.{IsCoherent}
@@ -11,15 +11,12 @@ use Rattle.addressing.proofs.Touching.{only_touching}
 use Rattle.edge_to_edge.proofs.CoherentContacts.{contacts-coherent}
 use Rattle.cyclo_points.specs.Order.{points_of, is_refused}
 use Rattle.cyclo_points.proofs.OrderLaws.{laws_of}
-use Rattle.frames.specs.Frame.{IsTileOf, lifted_in}
 use Rattle.frames.proofs.Frames.{IsWhole, Climbs-join, Climbs-split}
 use Rattle.rule_model.specs.declared.rule.Rule.{Rule}
 use Rattle.rule_model.specs.Tiling.{Tiling, tiling_of, contacts, children}
 use Rattle.rule_model.specs.Views.{rule_of, as_edition}
-use Rattle.tile_place.specs.Crossed.{IsOnlyAcross}
 use Rattle.tile_place.proofs.Plane.{OnlyTilesLaw, BoundariesLaw, IsSettled, its_rule, fits_tables, has_edge, boundary_lies}
 use Rattle.lazy_walk.specs.Boundary.{IsBoundaryEdge}
-use Rattle.lazy_walk.specs.Frames.{FrameValue, whole, IsFrameOf, GrowsTo}
 use Rattle.lazy_walk.specs.Paths.{Crosses, Leads}
 use Rattle.lazy_walk.proofs.Lifting.{trace-front, touching-top}
 

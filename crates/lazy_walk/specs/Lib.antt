@@ -1,3 +1,4 @@
 pub mod Frames
 pub mod Boundary
 pub mod Paths
+pub mod Faults

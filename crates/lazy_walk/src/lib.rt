@@ -9,3 +9,5 @@
 pub mod crossing;
 pub mod depth_limit;
 pub mod frame;
+pub mod path;
+pub mod path_fault;

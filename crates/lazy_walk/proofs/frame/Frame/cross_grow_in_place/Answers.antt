@@ -2,7 +2,6 @@ use Rattle.std.proofs.Common.{◌≡◌, ℕ, ◌+◌, ◌<◌, inl, inr, true, 
 use Rattle.std.proofs.lemmas.Bool.{cases_lt}
 use Rattle.addressing.specs.Across.{IsAcross, LiesOn}
 use Rattle.addressing.specs.Address.{Fits}
-
 use Rattle.frames.specs.Frame.{lifted_in}
 use Rattle.rule_model.specs.declared.rule.Rule.{Rule}
 use Rattle.rule_model.specs.Tiling.{tiling_of, contacts, children}
