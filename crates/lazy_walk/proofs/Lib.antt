@@ -3,3 +3,4 @@ pub mod Lifting
 pub mod Crossings
 pub mod Longer
 pub mod Walked
+pub mod Standing

@@ -11,3 +11,4 @@ pub mod depth_limit;
 pub mod frame;
 pub mod path;
 pub mod path_fault;
+pub mod step;
