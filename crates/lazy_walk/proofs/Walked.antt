@@ -1,13 +1,14 @@
 -- Going along a path from the base of a frame that grows.
-use Rattle.std.proofs.Common.{◌≡◌, ℕ, zero, suc, ◌+◌, ◌-◌, ◌<◌, ◌≤◌, inl, inr, Some, List, [], ◌∷◌, ◌++◌, length, get_or, take, drop, refl, sym, ap, ap₂, ◌∙◌, subst, arith, append_assoc}
+use Rattle.std.proofs.Common.{◌≡◌, ℕ, zero, suc, ◌+◌, ◌-◌, ◌<◌, ◌≤◌, inl, inr, Some, IsSome, List, [], ◌∷◌, ◌++◌, length, get_or, take, drop, refl, sym, ap, ap₂, ◌∙◌, subst, arith, append_assoc}
 use Rattle.std.proofs.lemmas.Bool.{cases_lt}
 use Rattle.std.proofs.Math.Seq.{drop-append_seam}
 use Rattle.addressing.specs.Address.{Step, Address, depth, top_kind, kind_at, Fits}
+use Rattle.addressing.specs.Tables.{type_of}
 use Rattle.frames.specs.Growth.{grown_from}
 use Rattle.frames.specs.Frame.{IsTileOf, lifted_in}
 use Rattle.frames.proofs.Frames.{IsWhole, kind_at-top}
 use Rattle.rule_model.specs.declared.rule.Rule.{Rule}
-use Rattle.rule_model.specs.Tiling.{Tiling, tiling_of, children}
+use Rattle.rule_model.specs.Tiling.{Tiling, tiling_of, contacts, children}
 use Rattle.seeded_growth.specs.Words.{word}
 use Rattle.tile_place.proofs.Plane.{OnlyTilesLaw, BoundariesLaw, IsSettled}
 use Rattle.tile_shape.specs.Usable.{AreUsable}
@@ -134,15 +135,16 @@ module _ (m : Rule) (laws : HasLaws m) where
     comes_at_64 e path rest split = record { front = front; rest = rest; split = split; leads = leads_at 64 h.grows.is_frame.at_most_64 (omega arith) }
 
     -- up to the depth at which the next edge is crossed, or refused, the path is stopped
-    pub stops_before : (g : FrameValue) (e : ℕ) → GrowsTo (tiling_of m) f g → ((n : ℕ) → length f.digits ≤ n → n < length g.digits → IsBoundaryEdge (tiling_of m) (lifted_at (tiling_of m) f a n) e)
+    pub stops_before : (g : FrameValue) (e : ℕ) → IsSome (type_of (contacts (tiling_of m)) a.kind e) → GrowsTo (tiling_of m) f g → ((n : ℕ) → length f.digits ≤ n → n < length g.digits → IsBoundaryEdge (tiling_of m) (lifted_at (tiling_of m) f a n) e)
         → (n : ℕ) (rest : List ℕ) → length old.digits ≤ n → n < length g.digits → IsStopped (tiling_of m) (whole (at_depth (tiling_of m) n old)) (front ++ e ∷ rest)
-    stops_before g e more least n rest l below = elim (cases_lt n (length f.digits)) [
+    stops_before g e edge more least n rest l below = elim (cases_lt n (length f.digits)) [
       | inl j ↦ h.before n (e ∷ rest) l j
       | inr j ↦ (
         lifted_at (tiling_of m) f a n,
         e,
         record {
           comes = record { front = front; rest = rest; split = refl; leads = leads_at n j (omega (arith, below, more.is_frame.at_most_64)) };
+          edge_exists = edge;
           on_boundary = least n j below;
         },
       )
@@ -155,5 +157,5 @@ module _ (m : Rule) (laws : HasLaws m) where
       grows = GrowsTo-then (tiling_of m) old f g h.grows more;
       own = own;
       leads = Leads-further (tiling_of m) (whole g) (lifted_in (whole g) a) b front e k (leads_on f g a front h.grows.is_frame more h.own h.leads) x;
-      before = λ n rest l below. subst (IsStopped (tiling_of m) (whole (at_depth (tiling_of m) n old))) (sym (append_assoc front (e ∷ []) rest)) (stops_before g e more least n rest l below);
+      before = λ n rest l below. subst (IsStopped (tiling_of m) (whole (at_depth (tiling_of m) n old))) (sym (append_assoc front (e ∷ []) rest)) (stops_before g e x.edge_exists more least n rest l below);
     }

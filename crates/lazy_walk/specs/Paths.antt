@@ -29,9 +29,10 @@ pub record ComesTo (t : Tiling) (a : Address) (path : List ℕ) (b : Address) (e
   pub split : path ≡ front ++ e ∷ rest
   pub leads : Leads t a front b
 
--- it is stopped there, since that edge is on the boundary
+-- it is stopped there, since that edge exists and is on the boundary
 pub record IsStoppedAt (t : Tiling) (a : Address) (path : List ℕ) (b : Address) (e : ℕ) : Type 0 where
   pub comes : ComesTo t a path b e
+  pub edge_exists : IsSome (type_of (contacts t) b.kind e)
   pub on_boundary : IsBoundaryEdge t b e
 
 -- it is stopped at some tile

@@ -1,5 +1,5 @@
 //! A base tile and the supertile round it.
-ghost use Rattle.std.specs.Prelude.{◌≡◌, ◌↔◌, ◌+◌, ◌<◌, ◌≤◌, length, map, Some, IsOk, OnOk, OnErr};
+ghost use Rattle.std.specs.Prelude.{◌≡◌, ◌↔◌, ◌+◌, ◌<◌, ◌≤◌, length, map, max, Some, IsOk, OnOk, OnErr};
 ghost use Rattle.addressing.specs.Address.{depth, kind_at};
 ghost use Rattle.frames.specs.Frame.{lifted_in};
 ghost use Rattle.rule_model.specs.Tiling.{tiling_of};
@@ -105,6 +105,18 @@ impl Frame {
         let digit = self.growth.next_digit(uses, top);
         self.digits.push(digit);
         Ok(())
+    }
+
+    /// Grows to a depth, where the frame is shallower.
+    pub fn grow_to(&mut self, machine: &Machine, depth: u8)
+        requires frame { IsFrameOf (tiling_of machine.now) self.old }
+        requires at_most_64 { depth ≤ 64 }
+        ensures frame { GrowsTo (tiling_of machine.now) self.old self.new }
+        ensures depth { length self.new.digits ≡ max (length self.old.digits) depth }
+    {
+        while self.depth() < depth {
+            let _ = self.grow(machine);
+        }
     }
 
     /// A tile of the frame as one of the whole frame: the frame's digits from the tile's depth up stand

@@ -75,7 +75,7 @@ returns-in-Err-clause-least g c n l k =
     (record { accepted = c.checked-checked.ensures.accepted; usable = c.checked-checked.ensures.usable; same_child_kinds = c.checked-checked.ensures.same_child_kinds }) c.across_law.ensures c.boundary_law.ensures
     c.uses.ensures c.kinds-usable.ensures.limits (λ children usable base start n h. c.grown_fits_law.ensures children base start n usable h) in
     subst (IsStopped (tiling_of c.args.machine.now) (whole (at_depth (tiling_of c.args.machine.now) n c.args.self.now))) (sym (parted c.args.path.now c.loop-edge.edge-index c.loop-edge-test.true))
-    (stops_before c.args.machine.now laws c.args.self.now c.loop-edge.self (address_of c.loop-edge.tile) (take c.loop-edge.edge-index c.args.path.now) c.loop-edge.invariant c.cross_grow_in_place.new.self (get_or c.args.path.now c.loop-edge.edge-index 0) c.in-Err.ensures.frame c.in-Err.ensures.least n (drop (c.loop-edge.edge-index + 1) c.args.path.now) l k)
+    (stops_before c.args.machine.now laws c.args.self.now c.loop-edge.self (address_of c.loop-edge.tile) (take c.loop-edge.edge-index c.args.path.now) c.loop-edge.invariant c.cross_grow_in_place.new.self (get_or c.args.path.now c.loop-edge.edge-index 0) (edge_there c.tables.result.now c.checked-checked.result.now c.args.machine.now c.loop-edge.tile.kind (get_or c.args.path.now c.loop-edge.edge-index 0) c.edges-edges.result c.tables.ensures.contacts c.checked-checked.ensures.rule c.edges-edges.ensures.exist c.if-edge-edges.false) c.in-Err.ensures.frame c.in-Err.ensures.least n (drop (c.loop-edge.edge-index + 1) c.args.path.now) l k)
 
 pub returns-in-Err-clause-fault_at_64 : goal.returns-in-Err-clause-fault_at_64
 returns-in-Err-clause-fault_at_64 g c =
@@ -86,6 +86,7 @@ returns-in-Err-clause-fault_at_64 g c =
     let at = whole (at_depth (tiling_of c.args.machine.now) 64 c.args.self.now) in
     let here : IsStoppedAt t at c.args.path.now (lifted_at t c.loop-edge.self (address_of c.loop-edge.tile) 64) (get_or c.args.path.now c.loop-edge.edge-index 0) = record {
       comes = comes_at_64 c.args.machine.now laws c.args.self.now c.loop-edge.self (address_of c.loop-edge.tile) (take c.loop-edge.edge-index c.args.path.now) c.loop-edge.invariant (get_or c.args.path.now c.loop-edge.edge-index 0) c.args.path.now (drop (c.loop-edge.edge-index + 1) c.args.path.now) (parted c.args.path.now c.loop-edge.edge-index c.loop-edge-test.true);
+      edge_exists = edge_there c.tables.result.now c.checked-checked.result.now c.args.machine.now c.loop-edge.tile.kind (get_or c.args.path.now c.loop-edge.edge-index 0) c.edges-edges.result c.tables.ensures.contacts c.checked-checked.ensures.rule c.edges-edges.ensures.exist c.if-edge-edges.false;
       on_boundary = c.in-Err.ensures.limit_exactly.0 refl;
     } in
     subst (λ e. IsStoppedAt t at c.args.path.now (address_of c.in-Err.limit.addr) e) (sym c.in-Err.ensures.limit_edge)
