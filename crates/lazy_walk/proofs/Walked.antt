@@ -22,7 +22,7 @@ use Rattle.lazy_walk.proofs.Lifting.{Longer, longer}
 use Rattle.lazy_walk.proofs.Longer.{further_up, Leads-longer, Leads-further}
 
 -- the frame of a depth is the same from a frame that has grown
-at_depth-grown : (t : Tiling) (f g : FrameValue) (n : ℕ) → GrowsTo t f g → at_depth t n g ≡ at_depth t n f
+pub at_depth-grown : (t : Tiling) (f g : FrameValue) (n : ℕ) → GrowsTo t f g → at_depth t n g ≡ at_depth t n f
 at_depth-grown t f g n h = λ i. at_depth t n (record { base = h.same_base i; start = h.same_start i; digits = g.digits })
 
 -- a frame that has grown has further digits, and they stand behind those of each tile of its old depth

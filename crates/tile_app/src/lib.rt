@@ -11,6 +11,7 @@ mod line;
 mod neighbour;
 mod note;
 mod number;
+mod path_word;
 mod place;
 pub mod rule_choice;
 pub mod rule_fault;
@@ -20,4 +21,5 @@ pub mod status;
 #[cfg(test)]
 mod tests;
 mod tile;
+mod walk;
 pub mod words;
