@@ -4,7 +4,7 @@ use std::alloc::{AllocError, Global};
 use std::test::Fail;
 
 // Words, the exit code that is wanted, the line printed, and the line noted.
-const ROWS: [(&str, u8, &str, &str); 55] = [
+const ROWS: [(&str, u8, &str, &str); 63] = [
     ("place rule=chair addr=0:", 0, "0 0 0,0,0,0", ""),
     ("place rule=chair addr=0:1/0,2/0", 0, "0 1 7,1,0,0", ""),
     ("place addr=0:1/0,2/0 rule=chair", 0, "0 1 7,1,0,0", ""),
@@ -92,7 +92,30 @@ const ROWS: [(&str, u8, &str, &str); 55] = [
         "4 BadAddress UnknownKind 1",
     ),
     ("", 2, "", "2 BadWords 0"),
-    ("walk rule=chair addr=0:", 2, "", "2 BadWords 0"),
+    (
+        "walk rule=chair seed=42 addr=0: grow=6",
+        0,
+        "0 0 0,0,0,0 0:3/0,1/0,0/0,3/0,3/0,2/0 -",
+        "",
+    ),
+    (
+        "walk rule=p3 seed=42 addr=0: grow=3",
+        0,
+        "0 0 0,0,0,0 0:2/3,1/1,0/1 -",
+        "",
+    ),
+    (
+        "walk rule=chair seed=42 addr=0: path=0,3",
+        0,
+        "0 0 0,0,0,0 0:3/0 -\n0 1 3,1,0,0 0:1/0 1\n0 1 4,0,0,0 0:0/0 0",
+        "",
+    ),
+    ("walk rule=chair addr=0:", 0, "0 0 0,0,0,0 0: -", ""),
+    ("walk rule=chair addr=0: path=8", 12, "", "12 NoEdge 8 8"),
+    ("walk rule=chair addr=0: path=0,", 2, "", "2 BadWords 3"),
+    ("walk rule=chair addr=0: path=256", 2, "", "2 BadWords 3"),
+    ("walk rule=chair addr=0: grow=65", 2, "", "2 BadWords 3"),
+    ("cross rule=chair addr=0:", 2, "", "2 BadWords 0"),
     ("place", 2, "", "2 BadWords 1"),
     ("place rule=chair", 2, "", "2 BadWords 2"),
     ("place rule=chair addr=0: addr=0:", 2, "", "2 BadWords 3"),
@@ -226,5 +249,8 @@ fn rows(rt: HostRuntime) -> Result<(), Fail> {
     let across = with_digits(alloc, "0:", &[("1/0", 63), ("0/0", 1)], " 7")?;
     check_line(&rt, all_the_way.as_str(), 0, across.as_str(), "")?;
     let outside = with_digits(alloc, front, &[("0/0", 64)], " edge=4")?;
-    check_line(&rt, outside.as_str(), 8, "", "8 Outside 4 0")
+    check_line(&rt, outside.as_str(), 8, "", "8 Outside 4 0")?;
+    let stopped = with_digits(alloc, "walk rule=chair addr=0:", &[("0/0", 64)], " path=4")?;
+    let limit = with_digits(alloc, "5 DepthLimit 0:", &[("0/0", 64)], " 4")?;
+    check_line(&rt, stopped.as_str(), 5, "", limit.as_str())
 }

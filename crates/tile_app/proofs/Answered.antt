@@ -3,9 +3,9 @@ use Rattle.std.proofs.Common.{◌≡◌, ◌⊎◌, inl, inr, ℕ, Bool, true, f
 use Rattle.std.specs.declared.option.Option.{Option}
 use Rattle.rule_model.specs.Tiling.{Tiling}
 use Rattle.tile_app.specs.declared.status.Status.{Status}
-use Rattle.tile_app.specs.declared.status.Status.TheVariants.{Done, BadWords, ReadFault, RuleTooLong, RuleRefused, BadAddress, NoEdge, Outside, CoordLimit, WriteFault, NoMemory}
+use Rattle.tile_app.specs.declared.status.Status.TheVariants.{Done, BadWords, ReadFault, RuleTooLong, RuleRefused, BadAddress, NoEdge, Outside, DepthLimit, CoordLimit, WriteFault, NoMemory}
 use Rattle.tile_app.specs.declared.words.Command.{Command}
-use Rattle.tile_app.specs.declared.words.Command.TheVariants.{Place, Neighbour, Check}
+use Rattle.tile_app.specs.declared.words.Command.TheVariants.{Place, Neighbour, Walk, Check}
 use Rattle.tile_app.specs.Answer.{OfCommand, IsPrinted, HasAnswer, Refuses, Prints, CanBeAnswered}
 use Rattle.tile_app.specs.Asked.{OfRequest, IsAsked, WasFileIn}
 use Rattle.tile_app.specs.Causes.{Causes, IsRefused}
@@ -19,6 +19,7 @@ use Rattle.tile_app.proofs.Requested.{same_request, same_too_long}
 can : (c : Command) (words : List (List ℕ)) (t : Tiling) (text : List ℕ) → IsPrinted c words t text → HasAnswer c words t
 can Place words t text p = record { address = p.address; tile = p.tile; within = p.within }
 can Neighbour words t text p = record { address = p.address; edge = p.edge; gives = p.gives; inside = p.inside }
+can Walk words t text p = record { base = p.base; tile = p.tile; walked = p.walked }
 can Check words t text p = tt
 
 can_be_answered : (r : Request) (text : List ℕ) → Prints r text → CanBeAnswered r
@@ -52,6 +53,7 @@ module _ (words : List (List ℕ)) (left rest : Option (List ℕ)) where
         none : (c : Command) → Refuses c words t ReadFault → ⊥
         none Place k = k
         none Neighbour k = k
+        none Walk k = k
         none Check k = k
 
     pub refused_asked : (s : Status) → OrNoMemory (Refuses command words t) s → IsRefused words left rest s
@@ -61,6 +63,7 @@ module _ (words : List (List ℕ)) (left rest : Option (List ℕ)) where
         no_words : (c : Command) → Refuses c words t (BadWords place) → ⊥
         no_words Place k = k
         no_words Neighbour k = k
+        no_words Walk k = k
         no_words Check k = k
     refused_asked ReadFault h = absurd (no_read_fault h)
     refused_asked RuleTooLong h = absurd (no_file command h)
@@ -68,12 +71,14 @@ module _ (words : List (List ℕ)) (left rest : Option (List ℕ)) where
         no_file : (c : Command) → Refuses c words t RuleTooLong → ⊥
         no_file Place k = k
         no_file Neighbour k = k
+        no_file Walk k = k
         no_file Check k = k
     refused_asked (RuleRefused fault) h = absurd (no_rule command h)
       where
         no_rule : (c : Command) → Refuses c words t (RuleRefused fault) → ⊥
         no_rule Place k = k
         no_rule Neighbour k = k
+        no_rule Walk k = k
         no_rule Check k = k
     refused_asked NoMemory h = (command, right)
     refused_asked s h = of_command (λ c ws u. Refuses c ws u s) h
@@ -101,6 +106,7 @@ module _ (words : List (List ℕ)) (left rest : Option (List ℕ)) where
     caused (BadAddress fault) i k = inr (of_asked (λ c ws t. Refuses c ws t (BadAddress fault)) k)
     caused (NoEdge edge edges) i k = inr (of_asked (λ c ws t. Refuses c ws t (NoEdge edge edges)) k)
     caused (Outside edge part) i k = inr (of_asked (λ c ws t. Refuses c ws t (Outside edge part)) k)
+    caused (DepthLimit addr edge) i k = inr (of_asked (λ c ws t. Refuses c ws t (DepthLimit addr edge)) k)
     caused (CoordLimit value) i k = inr (of_asked (λ c ws t. Refuses c ws t (CoordLimit value)) k)
     caused WriteFault i k = absurd i
     caused NoMemory i k = inl tt

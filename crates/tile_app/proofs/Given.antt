@@ -6,9 +6,9 @@ use Rattle.std.specs.Option.{option_map_or}
 use Rattle.std.specs.Str.{bytes_eq}
 use Rattle.std.proofs.lemmas.Slice.Eq.{bytes_eq-Decides}
 use Rattle.tile_app.specs.declared.words.Command.{Command}
-use Rattle.tile_app.specs.declared.words.Command.TheVariants.{Place, Neighbour, Check}
+use Rattle.tile_app.specs.declared.words.Command.TheVariants.{Place, Neighbour, Walk, Check}
 use Rattle.tile_app.specs.declared.words.Key.{Key}
-use Rattle.tile_app.specs.declared.words.Key.TheVariants.{Rule, Addr, Edge}
+use Rattle.tile_app.specs.declared.words.Key.TheVariants.{Rule, Addr, Edge, Seed, Grow, Path}
 use Rattle.tile_shape.specs.Decimal.{number_up_to}
 use Rattle.tile_app.specs.Choices.{choice_in}
 use Rattle.tile_app.specs.Commands.{key_text, command_named, keys_of, required_keys, has_form, IsAboutTile}
@@ -46,7 +46,8 @@ value_name key word value e = at_test (nat_lt (position_or_len is_equals word) (
 -- ---- the name of a key tells the key
 key_of_text : List ℕ → Option Key
 key_of_text text =
-    cond (bytes_eq text (codes "rule")) (Some Rule) (cond (bytes_eq text (codes "addr")) (Some Addr) (cond (bytes_eq text (codes "edge")) (Some Edge) None))
+    cond (bytes_eq text (codes "rule")) (Some Rule) (cond (bytes_eq text (codes "addr")) (Some Addr) (cond (bytes_eq text (codes "edge")) (Some Edge)
+    (cond (bytes_eq text (codes "seed")) (Some Seed) (cond (bytes_eq text (codes "grow")) (Some Grow) (cond (bytes_eq text (codes "path")) (Some Path) None)))))
 
 key_text-tells : (j k : Key) → key_text j ≡ key_text k → j ≡ k
 unfolding key_of_text
@@ -56,6 +57,9 @@ key_text-tells j k e = some_is j k (sym (named j) ∙ ap key_of_text e ∙ named
     named Rule = refl
     named Addr = refl
     named Edge = refl
+    named Seed = refl
+    named Grow = refl
+    named Path = refl
 
     some_is : (j k : Key) → Some j ≡ Some k → j ≡ k
     some_is j k e = cc
@@ -118,12 +122,16 @@ name_gives_nothing name command e key value g = at_place (bytes_eq name (codes "
     at_check true f h = nothing_in (codes "check") ((bytes_eq-Decides _ _).0 f) refl
     at_check false f h = absurd (cc h)
 
-    at_neighbour : (b : Bool) → bytes_eq name (codes "neighbour") ≡ b → cond b (Some Neighbour) (cond (bytes_eq name (codes "check")) (Some Check) None) ≡ Some command → has_form key value ≡ true
+    at_walk : (b : Bool) → bytes_eq name (codes "walk") ≡ b → cond b (Some Walk) (cond (bytes_eq name (codes "check")) (Some Check) None) ≡ Some command → has_form key value ≡ true
+    at_walk true f h = nothing_in (codes "walk") ((bytes_eq-Decides _ _).0 f) refl
+    at_walk false f h = at_check (bytes_eq name (codes "check")) refl h
+
+    at_neighbour : (b : Bool) → bytes_eq name (codes "neighbour") ≡ b → cond b (Some Neighbour) (cond (bytes_eq name (codes "walk")) (Some Walk) (cond (bytes_eq name (codes "check")) (Some Check) None)) ≡ Some command → has_form key value ≡ true
     at_neighbour true f h = nothing_in (codes "neighbour") ((bytes_eq-Decides _ _).0 f) refl
-    at_neighbour false f h = at_check (bytes_eq name (codes "check")) refl h
+    at_neighbour false f h = at_walk (bytes_eq name (codes "walk")) refl h
 
     at_place : (b : Bool) → bytes_eq name (codes "place") ≡ b
-        → cond b (Some Place) (cond (bytes_eq name (codes "neighbour")) (Some Neighbour) (cond (bytes_eq name (codes "check")) (Some Check) None)) ≡ Some command → has_form key value ≡ true
+        → cond b (Some Place) (cond (bytes_eq name (codes "neighbour")) (Some Neighbour) (cond (bytes_eq name (codes "walk")) (Some Walk) (cond (bytes_eq name (codes "check")) (Some Check) None))) ≡ Some command → has_form key value ≡ true
     at_place true f h = nothing_in (codes "place") ((bytes_eq-Decides _ _).0 f) refl
     at_place false f h = at_neighbour (bytes_eq name (codes "neighbour")) refl h
 
@@ -156,6 +164,7 @@ rule_given words h e = let rule = some_value (value_given Rule words) e in recor
 pub GivesRule-right : (command : Command) (words : List (List ℕ)) → command_of words ≡ Ok command → GivesRule words
 GivesRule-right Place words e = let h = Gives-right Place words e in rule_given words h.forms (both_true _ _ h.required).0
 GivesRule-right Neighbour words e = let h = Gives-right Neighbour words e in rule_given words h.forms (both_true _ _ h.required).0
+GivesRule-right Walk words e = let h = Gives-right Walk words e in rule_given words h.forms (both_true _ _ h.required).0
 GivesRule-right Check words e = let h = Gives-right Check words e in rule_given words h.forms (both_true _ _ h.required).0
 
 pub rule_is_choice : (words : List (List ℕ)) (text : List ℕ) → GivesRule words → value_given Rule words ≡ Some text → is_some (choice_in text) ≡ true
@@ -171,6 +180,9 @@ GivesText-right Place words e about =
     some_value (value_given Addr words) (both_true _ _ (both_true _ _ h.required).1).0
 GivesText-right Neighbour words e about =
     let h = Gives-right Neighbour words e in
+    some_value (value_given Addr words) (both_true _ _ (both_true _ _ h.required).1).0
+GivesText-right Walk words e about =
+    let h = Gives-right Walk words e in
     some_value (value_given Addr words) (both_true _ _ (both_true _ _ h.required).1).0
 GivesText-right Check words e about = absurd about
 

@@ -3,7 +3,13 @@ pub mod Requested
 pub mod Read
 pub mod Tilings
 pub mod Faults
-pub mod OneAnswer
+pub mod Pieces
+mod AddressBytes
+mod Frames
+mod Walking
+mod SameAddress
+mod OnePath
+mod OneAnswer
 pub mod Answered
 pub mod Given
 pub mod Asking

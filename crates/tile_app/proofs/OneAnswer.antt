@@ -14,12 +14,19 @@ use Rattle.tile_shape.specs.Text.{HasShortNumbers, address_text}
 use Rattle.tile_shape.specs.Usable.{AreUsable}
 use Rattle.tile_app.specs.declared.rule_fault.RuleFault.{RuleFault}
 use Rattle.tile_app.specs.declared.status.Status.{Status}
-use Rattle.tile_app.specs.declared.status.Status.TheVariants.{Done, BadWords, RuleTooLong, RuleRefused, BadAddress, NoEdge, Outside, CoordLimit}
+use Rattle.tile_app.specs.declared.status.Status.TheVariants.{Done, BadWords, RuleTooLong, RuleRefused, BadAddress, NoEdge, Outside, DepthLimit, CoordLimit}
 use Rattle.tile_app.specs.declared.words.Command.{Command}
-use Rattle.tile_app.specs.declared.words.Command.TheVariants.{Place, Neighbour, Check}
+use Rattle.tile_app.specs.declared.words.Command.TheVariants.{Place, Neighbour, Walk, Check}
 use Rattle.tile_app.specs.Answer.{OfCommand, HasAnswer, Refuses, CanBeAnswered}
 use Rattle.tile_app.specs.Causes.{Causes}
-use Rattle.tile_app.specs.Neighbour.{GivesEdge, CanBeCrossed, HasNoEdge, LiesOutside, edges_of}
+use Rattle.tile_app.specs.Neighbour.{GivesEdge, CanBeCrossed, HasNoEdge, LiesOutside}
+use Rattle.tile_place.specs.Crossed.{edges_of}
+use Rattle.lazy_walk.specs.Paths.{CanBeWalked, IsStoppedAt, LacksEdge}
+use Rattle.tile_app.specs.Walk.{CanWalk, WalksToNoEdge, WalksToLimit, frame_at, path_given}
+use Rattle.tile_shape.specs.declared.address.Address as program
+use Rattle.tile_shape.specs.Views.{address_of}
+use Rattle.tile_app.proofs.OnePath.{walked_or_halted, halts_once, stopped_halts, lacking_halts, edge_is_below}
+use Rattle.tile_app.proofs.SameAddress.{same_program_address}
 use Rattle.tile_app.specs.Place.{CanBePlaced, PassesLimit}
 use Rattle.tile_app.specs.Request.{Request, Asks, tiling_asked}
 use Rattle.tile_app.specs.Tile.{GivesTile, GivesNoTile}
@@ -150,6 +157,67 @@ module _ (laws : Laws) (words : List (List ℕ)) (t : Tiling) (usable : AreUsabl
   neighbour_once (Outside e i) u h k = absurd k
   neighbour_once s u h k = absurd h
 
+  -- ---- `walk`: from one base a path can be walked, or halts at one edge
+  at_one_base : (P : Address → Type 0) (a b : Address) → GivesTile words t a → GivesTile words t b → P (frame_at words t a 64) → P (frame_at words t b 64)
+  at_one_base P a b p q h = subst (λ c. P (frame_at words t c 64)) (same_tile a b p q) h
+
+  walked_or_lacking : (e es : ℕ) → CanWalk words t → WalksToNoEdge words t e es → ⊥
+  walked_or_lacking e es p q =
+      let walked : CanBeWalked t (frame_at words t q.base 64) (path_given words) = at_one_base (λ f. CanBeWalked t f (path_given words)) p.base q.base p.tile q.tile p.walked in
+      walked_or_halted t (frame_at words t q.base 64) walked.0 q.lacks.tile e (path_given words) (lacking_halts t (frame_at words t q.base 64) e es (path_given words) q.lacks) q.lacks.comes walked.1
+
+  walked_or_stopped : (b : Address) (e : ℕ) → CanWalk words t → WalksToLimit words t b e → ⊥
+  walked_or_stopped b e p q =
+      let walked : CanBeWalked t (frame_at words t q.base 64) (path_given words) = at_one_base (λ f. CanBeWalked t f (path_given words)) p.base q.base p.tile q.tile p.walked in
+      walked_or_halted t (frame_at words t q.base 64) walked.0 b e (path_given words) (stopped_halts t (frame_at words t q.base 64) b e (path_given words) q.stopped) q.stopped.comes walked.1
+
+  lacking_once : (e es f fs : ℕ) → WalksToNoEdge words t e es → WalksToNoEdge words t f fs → NoEdge e es ≡ NoEdge f fs
+  lacking_once e es f fs p q =
+      let x : LacksEdge t (frame_at words t q.base 64) (path_given words) e es = at_one_base (λ a. LacksEdge t a (path_given words) e es) p.base q.base p.tile q.tile p.lacks in
+      let one = halts_once t (frame_at words t q.base 64) x.tile q.lacks.tile e f (path_given words) (lacking_halts t (frame_at words t q.base 64) e es (path_given words) x)
+      (lacking_halts t (frame_at words t q.base 64) f fs (path_given words) q.lacks) x.comes q.lacks.comes in
+      ap₂ NoEdge one.1 (x.count ∙ ap (λ (a : Address). edges_of t a.kind) one.0 ∙ sym q.lacks.count)
+
+  stopped_once : (a b : program.Address) (e f : ℕ) → WalksToLimit words t (address_of a) e → WalksToLimit words t (address_of b) f → DepthLimit a e ≡ DepthLimit b f
+  stopped_once a b e f p q =
+      let x : IsStoppedAt t (frame_at words t q.base 64) (path_given words) (address_of a) e = at_one_base (λ c. IsStoppedAt t c (path_given words) (address_of a) e) p.base q.base p.tile q.tile p.stopped in
+      let one = halts_once t (frame_at words t q.base 64) (address_of a) (address_of b) e f (path_given words) (stopped_halts t (frame_at words t q.base 64) (address_of a) e (path_given words) x)
+      (stopped_halts t (frame_at words t q.base 64) (address_of b) f (path_given words) q.stopped) x.comes q.stopped.comes in
+      ap₂ DepthLimit (same_program_address a b one.0) one.1
+
+  lacking_or_stopped : (b : Address) (e es f : ℕ) → WalksToNoEdge words t e es → WalksToLimit words t b f → ⊥
+  lacking_or_stopped b e es f p q =
+      let x : LacksEdge t (frame_at words t q.base 64) (path_given words) e es = at_one_base (λ a. LacksEdge t a (path_given words) e es) p.base q.base p.tile q.tile p.lacks in
+      let one = halts_once t (frame_at words t q.base 64) x.tile b e f (path_given words) (lacking_halts t (frame_at words t q.base 64) e es (path_given words) x)
+      (stopped_halts t (frame_at words t q.base 64) b f (path_given words) q.stopped) x.comes q.stopped.comes in
+      let below : f < edges_of t b.kind = edge_is_below (contacts t) b.kind f q.stopped.edge_exists in
+      let count : es ≡ edges_of t b.kind = x.count ∙ ap (λ (a : Address). edges_of t a.kind) one.0 in
+      let beyond : es ≤ e = x.beyond in
+      omega (arith, below, count, beyond, one.1)
+
+  walk_once : (s u : Status) → IsFor words t Walk s → IsFor words t Walk u → s ≡ u
+  walk_once Done Done h k = refl
+  walk_once Done (BadAddress f) h k = absurd (tile_or_none h.base f h.tile k)
+  walk_once Done (NoEdge e es) h k = absurd (walked_or_lacking e es h k)
+  walk_once Done (DepthLimit a e) h k = absurd (walked_or_stopped (address_of a) e h k)
+  walk_once Done u h k = absurd k
+  walk_once (BadAddress f) Done h k = absurd (tile_or_none k.base f k.tile h)
+  walk_once (BadAddress f) (BadAddress g) h k = ap (λ x. BadAddress x) (same_fault f g h k)
+  walk_once (BadAddress f) (NoEdge e es) h k = absurd (tile_or_none k.base f k.tile h)
+  walk_once (BadAddress f) (DepthLimit a e) h k = absurd (tile_or_none k.base f k.tile h)
+  walk_once (BadAddress f) u h k = absurd k
+  walk_once (NoEdge e es) Done h k = absurd (walked_or_lacking e es k h)
+  walk_once (NoEdge e es) (BadAddress f) h k = absurd (tile_or_none h.base f h.tile k)
+  walk_once (NoEdge e es) (NoEdge f fs) h k = lacking_once e es f fs h k
+  walk_once (NoEdge e es) (DepthLimit a f) h k = absurd (lacking_or_stopped (address_of a) e es f h k)
+  walk_once (NoEdge e es) u h k = absurd k
+  walk_once (DepthLimit a e) Done h k = absurd (walked_or_stopped (address_of a) e k h)
+  walk_once (DepthLimit a e) (BadAddress f) h k = absurd (tile_or_none h.base f h.tile k)
+  walk_once (DepthLimit a e) (NoEdge f fs) h k = absurd (lacking_or_stopped (address_of a) f fs e k h)
+  walk_once (DepthLimit a e) (DepthLimit b f) h k = stopped_once a b e f h k
+  walk_once (DepthLimit a e) u h k = absurd k
+  walk_once s u h k = absurd h
+
   check_once : (s u : Status) → IsFor words t Check s → IsFor words t Check u → s ≡ u
   check_once Done Done h k = refl
   check_once Done u h k = absurd k
@@ -158,6 +226,7 @@ module _ (laws : Laws) (words : List (List ℕ)) (t : Tiling) (usable : AreUsabl
   command_once : (c : Command) (s u : Status) → IsFor words t c s → IsFor words t c u → s ≡ u
   command_once Place s u h k = place_once s u h k
   command_once Neighbour s u h k = neighbour_once s u h k
+  command_once Walk s u h k = walk_once s u h k
   command_once Check s u h k = check_once s u h k
 
 -- ---- words and rule files
@@ -229,6 +298,7 @@ module _ (r : Request) where
       none : (c : Command) (words : List (List ℕ)) (t : Tiling) → Refuses c words t Done → ⊥
       none Place words t k = k
       none Neighbour words t k = k
+      none Walk words t k = k
       none Check words t k = k
 
   pub outcome_of : (s : Status) → Causes r s → Outcome s

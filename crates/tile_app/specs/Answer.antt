@@ -3,28 +3,32 @@ use Rattle.std.specs.Prelude.{◌≡◌, ℕ, List}
 use Rattle.rule_model.specs.Tiling.{Tiling}
 use Rattle.tile_app.specs.declared.status.Status.{Status}
 use Rattle.tile_app.specs.declared.words.Command.{Command}
-use Rattle.tile_app.specs.declared.words.Command.TheVariants.{Place, Neighbour, Check}
+use Rattle.tile_app.specs.declared.words.Command.TheVariants.{Place, Neighbour, Walk, Check}
 use Rattle.tile_app.specs.Check.{check_line}
 use Rattle.tile_app.specs.Neighbour.{CanBeCrossed, PrintsNeighbour, NeighbourRefuses}
 use Rattle.tile_app.specs.Place.{CanBePlaced, PrintsPlace, PlaceRefuses}
 use Rattle.tile_app.specs.Request.{Request, Asks}
+use Rattle.tile_app.specs.Walk.{CanWalk, PrintsWalk, WalkRefuses}
 
 -- the command prints this text for these words and this tiling
 abbrev pub IsPrinted : Command → List (List ℕ) → Tiling → List ℕ → Type 0
 IsPrinted Place = PrintsPlace
 IsPrinted Neighbour = PrintsNeighbour
+IsPrinted Walk = PrintsWalk
 IsPrinted Check = λ words t text. text ≡ check_line t
 
 -- the command has something to print for these words and this tiling
 abbrev pub HasAnswer : Command → List (List ℕ) → Tiling → Type 0
 HasAnswer Place = CanBePlaced
 HasAnswer Neighbour = CanBeCrossed
+HasAnswer Walk = CanWalk
 HasAnswer Check = λ words t. Unit {0}
 
 -- the command refuses these words for this tiling with this status, for its cause
 abbrev pub Refuses : Command → List (List ℕ) → Tiling → Status → Type 0
 Refuses Place = PlaceRefuses
 Refuses Neighbour = NeighbourRefuses
+Refuses Walk = WalkRefuses
 Refuses Check = λ words t status. ⊥
 
 -- right words ask a command of a tiling, and this holds of the command, of the words and of the tiling

@@ -10,7 +10,7 @@ use Rattle.tile_app.specs.Status.{IsTrueFault}
 use Rattle.tile_app.specs.Words.{command_of, reads_file, AreRight}
 
 -- What of a request causes a status, in the order of the tests: the words, the rule file, and then what its command refuses (`PlaceRefuses`,
--- `NeighbourRefuses`; `check` refuses nothing more).
+-- `NeighbourRefuses`, `WalkRefuses`; `check` refuses nothing more).
 abbrev pub Causes : Request → Status → Type 0
 Causes r (BadWords place) = command_of r.words ≡ Err place
 Causes r RuleTooLong = HasTooLongFile r

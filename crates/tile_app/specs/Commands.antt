@@ -3,45 +3,61 @@ use Rattle.std.specs.Prelude.{ℕ, Bool, true, List, [], ◌∷◌, codes, Some,
 use Rattle.std.specs.declared.option.Option.{Option}
 use Rattle.std.specs.Str.{bytes_eq}
 use Rattle.tile_app.specs.declared.words.Command.{Command}
-use Rattle.tile_app.specs.declared.words.Command.TheVariants.{Place, Neighbour, Check}
+use Rattle.tile_app.specs.declared.words.Command.TheVariants.{Place, Neighbour, Walk, Check}
 use Rattle.tile_app.specs.declared.words.Key.{Key}
-use Rattle.tile_app.specs.declared.words.Key.TheVariants.{Rule, Addr, Edge}
+use Rattle.tile_app.specs.declared.words.Key.TheVariants.{Rule, Addr, Edge, Seed, Grow, Path}
 use Rattle.tile_app.specs.Choices.{choice_in}
+use Rattle.tile_app.specs.PathWords.{path_in}
 use Rattle.tile_shape.specs.Decimal.{number_up_to}
+
+-- the greatest start number
+abbrev pub most_seed : ℕ
+most_seed = 18446744073709551615
 
 -- the name of a key
 abbrev pub key_text : Key → List ℕ
 key_text Rule = codes "rule"
 key_text Addr = codes "addr"
 key_text Edge = codes "edge"
+key_text Seed = codes "seed"
+key_text Grow = codes "grow"
+key_text Path = codes "path"
 
 -- the command that a word names
 abbrev pub command_named : List ℕ → Option Command
 command_named word =
     if bytes_eq word (codes "place") then Some Place else
     if bytes_eq word (codes "neighbour") then Some Neighbour else
+    if bytes_eq word (codes "walk") then Some Walk else
     if bytes_eq word (codes "check") then Some Check else None
 
 -- the keys of a command
 abbrev pub keys_of : Command → List Key
 keys_of Place = Rule ∷ Addr ∷ []
 keys_of Neighbour = Rule ∷ Addr ∷ Edge ∷ []
+keys_of Walk = Rule ∷ Addr ∷ Seed ∷ Grow ∷ Path ∷ []
 keys_of Check = Rule ∷ []
 
 -- the keys that a command can't do without
 abbrev pub required_keys : Command → List Key
 required_keys Place = Rule ∷ Addr ∷ []
 required_keys Neighbour = Rule ∷ Addr ∷ Edge ∷ []
+required_keys Walk = Rule ∷ Addr ∷ []
 required_keys Check = Rule ∷ []
 
--- whether a value has the form of its key: a rule is one of the names known or `-`, an address any text, and an edge a number from 0 to 255
+-- whether a value has the form of its key: a rule is one of the names known or `-`, an address any text, an edge a number from 0 to 255, a start number one
+-- of 64 bits, a depth at most 64, and a path numbers of edges joined by commas
 abbrev pub has_form : Key → List ℕ → Bool
 has_form Rule value = is_some (choice_in value)
 has_form Addr value = true
 has_form Edge value = is_some (number_up_to 255 value)
+has_form Seed value = is_some (number_up_to most_seed value)
+has_form Grow value = is_some (number_up_to 64 value)
+has_form Path value = is_some (path_in value)
 
 -- a command that asks about a tile, by its address
 abbrev pub IsAboutTile : Command → Type 0
 IsAboutTile Place = Unit {0}
 IsAboutTile Neighbour = Unit {0}
+IsAboutTile Walk = Unit {0}
 IsAboutTile Check = ⊥

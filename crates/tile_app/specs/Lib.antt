@@ -1,6 +1,7 @@
 pub mod Tilings
 pub mod RuleFiles
 pub mod Choices
+pub mod PathWords
 pub mod Commands
 pub mod Words
 pub mod Request
@@ -9,6 +10,7 @@ pub mod Text
 pub mod Tile
 pub mod Place
 pub mod Neighbour
+pub mod Walk
 pub mod Check
 pub mod Answer
 pub mod RuleFaultText

@@ -1,12 +1,11 @@
 -- What `neighbour` prints, and what it refuses.
-use Rattle.std.specs.Prelude.{◌≡◌, ℕ, ◌<◌, ◌≤◌, List, [], ◌∷◌, ◌++◌, Some, length}
+use Rattle.std.specs.Prelude.{◌≡◌, ℕ, ◌<◌, ◌≤◌, List, [], ◌∷◌, ◌++◌, Some}
 use Rattle.std.specs.declared.option.Option.{Option}
 use Rattle.std.specs.Fmt.{decimal}
 use Rattle.std.specs.Option.{option_and_then}
 use Rattle.addressing.specs.Address.{Address}
-use Rattle.addressing.specs.Tables.{kind_tables}
 use Rattle.rule_model.specs.Tiling.{Tiling, contacts}
-use Rattle.tile_place.specs.Crossed.{IsOnlyAcross, LiesOnBoundary}
+use Rattle.tile_place.specs.Crossed.{IsOnlyAcross, LiesOnBoundary, edges_of}
 use Rattle.tile_shape.specs.Text.{address_text}
 use Rattle.tile_app.specs.declared.status.Status.{Status}
 use Rattle.tile_app.specs.declared.status.Status.TheVariants.{BadAddress, NoEdge, Outside}
@@ -24,10 +23,6 @@ neighbour_line across edge = address_text across ++ blank ∷ decimal edge ++ ne
 -- the number of the edge that the words give
 abbrev pub edge_given : List (List ℕ) → Option ℕ
 edge_given words = option_and_then (number_up_to 255) (value_given Edge words)
-
--- how many edges a kind has
-abbrev pub edges_of : Tiling → ℕ → ℕ
-edges_of t kind = length (kind_tables (contacts t) kind).types
 
 -- the words give a tile and the number of an edge
 pub record GivesEdge (words : List (List ℕ)) (t : Tiling) (a : Address) (edge : ℕ) : Type 0 where

@@ -6,8 +6,10 @@ use Rattle.cyclo_points.specs.Text.{point_text, blank}
 use Rattle.tile_io.specs.Causes.{Rose}
 use Rattle.tile_io.specs.Taken.{Takes}
 use Rattle.tile_shape.specs.FaultText.{address_fault_text}
+use Rattle.tile_shape.specs.Text.{address_text}
+use Rattle.tile_shape.specs.Views.{address_of}
 use Rattle.tile_app.specs.declared.status.Status.{Status}
-use Rattle.tile_app.specs.declared.status.Status.TheVariants.{Done, BadWords, ReadFault, RuleTooLong, RuleRefused, BadAddress, NoEdge, Outside, CoordLimit, WriteFault, NoMemory}
+use Rattle.tile_app.specs.declared.status.Status.TheVariants.{Done, BadWords, ReadFault, RuleTooLong, RuleRefused, BadAddress, NoEdge, Outside, DepthLimit, CoordLimit, WriteFault, NoMemory}
 use Rattle.tile_app.specs.RuleFaultText.{rule_fault_text}
 use Rattle.tile_app.specs.Status.{code_of}
 use Rattle.tile_app.specs.Text.{newline}
@@ -22,6 +24,7 @@ status_text (RuleRefused fault) = codes "RuleRefused " ++ rule_fault_text fault
 status_text (BadAddress fault) = codes "BadAddress " ++ address_fault_text fault
 status_text (NoEdge edge edges) = codes "NoEdge " ++ decimal edge ++ blank ∷ decimal edges
 status_text (Outside edge part) = codes "Outside " ++ decimal edge ++ blank ∷ decimal part
+status_text (DepthLimit addr edge) = codes "DepthLimit " ++ address_text (address_of addr) ++ blank ∷ decimal edge
 status_text (CoordLimit value) = codes "CoordLimit " ++ point_text value
 status_text WriteFault = codes "WriteFault"
 status_text NoMemory = codes "NoMemory"

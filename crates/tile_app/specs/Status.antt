@@ -5,7 +5,7 @@ use Rattle.rule_text.specs.declared.text_fault.TextFault.TheVariants as text
 use Rattle.tile_app.specs.declared.rule_fault.RuleFault.{RuleFault}
 use Rattle.tile_app.specs.declared.rule_fault.RuleFault.TheVariants.{Text, Check}
 use Rattle.tile_app.specs.declared.status.Status.{Status}
-use Rattle.tile_app.specs.declared.status.Status.TheVariants.{Done, BadWords, ReadFault, RuleTooLong, RuleRefused, BadAddress, NoEdge, Outside, CoordLimit, WriteFault, NoMemory}
+use Rattle.tile_app.specs.declared.status.Status.TheVariants.{Done, BadWords, ReadFault, RuleTooLong, RuleRefused, BadAddress, NoEdge, Outside, DepthLimit, CoordLimit, WriteFault, NoMemory}
 
 -- the exit code of the program
 abbrev pub code_of : Status → ℕ
@@ -14,6 +14,7 @@ code_of (BadWords place) = 2
 code_of RuleTooLong = 3
 code_of (RuleRefused fault) = 3
 code_of (BadAddress fault) = 4
+code_of (DepthLimit addr edge) = 5
 code_of (CoordLimit value) = 6
 code_of (Outside edge part) = 8
 code_of ReadFault = 9

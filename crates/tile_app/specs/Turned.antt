@@ -7,7 +7,9 @@ use Rattle.dissect_check.specs.declared.check_fault.CheckFault.{CheckFault}
 use Rattle.dissect_check.specs.declared.check_fault.CheckFault.TheVariants as check
 use Rattle.tile_app.specs.declared.rule_fault.RuleFault.TheVariants.{Text, Check}
 use Rattle.tile_app.specs.declared.status.Status.{Status}
-use Rattle.tile_app.specs.declared.status.Status.TheVariants.{ReadFault, RuleTooLong, RuleRefused, NoMemory}
+use Rattle.tile_app.specs.declared.status.Status.TheVariants.{ReadFault, RuleTooLong, RuleRefused, NoEdge, DepthLimit, NoMemory}
+use Rattle.lazy_walk.specs.declared.path_fault.PathFault.{PathFault}
+use Rattle.lazy_walk.specs.declared.path_fault.PathFault.TheVariants as walking
 
 -- of a reading to the end
 abbrev pub status_of_reading : ReadAllFault → Status
@@ -24,3 +26,8 @@ status_of_text e = RuleRefused (Text e)
 abbrev pub status_of_check : CheckFault → Status
 status_of_check check.NoMemory = NoMemory
 status_of_check e = RuleRefused (Check e)
+
+-- of a path
+abbrev pub status_of_path : PathFault → Status
+status_of_path (walking.NoEdge edge edges) = NoEdge edge edges
+status_of_path (walking.DepthLimit limit) = DepthLimit limit.addr limit.edge

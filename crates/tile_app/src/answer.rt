@@ -13,6 +13,7 @@ use crate::neighbour::neighbour_text;
 use crate::place::place_text;
 use crate::rule_given::rule_given;
 use crate::status::Status;
+use crate::walk::walk_text;
 use crate::words::{Command, command_of};
 use edge_tables::steps::Steps;
 use rule_model::checked::Checked;
@@ -39,6 +40,10 @@ fn command_text<L: Ledger>(
         Command::Neighbour => {
             let machine = Machine::new(alloc, checked)?;
             neighbour_text(alloc, &machine, words, steps)
+        }
+        Command::Walk => {
+            let machine = Machine::new(alloc, checked)?;
+            walk_text(alloc, &machine, words, steps)
         }
     }
 }

@@ -2,11 +2,15 @@
 ghost use Rattle.std.specs.Prelude.{◌≡◌, ◌+◌, ◌≤◌, ◌∷◌, ◌++◌, length, decimal};
 ghost use Rattle.std.specs.Fmt.{signed_decimal};
 ghost use Rattle.arrayvec.specs.ArrayString.{array_string_len};
+ghost use Rattle.tile_shape.specs.Text.{address_text};
+ghost use Rattle.tile_shape.specs.Views.{address_of};
 ghost use Rattle.cyclo_points.specs.Text.{point_text, blank};
 
 use arrayvec::ArrayString;
 use cyclo_points::point::Point;
 use itoa::Buffer;
+use tile_shape::address::Address;
+use tile_shape::writing::write_address;
 
 /// How many bytes a line has room for.
 pub const LINE_ROOM: usize = 640;
@@ -48,6 +52,16 @@ fn put_signed(line: &mut ArrayString<LINE_ROOM>, number: i64)
 {
     let mut figures = Buffer::new();
     line.push_str(figures.format(number));
+}
+
+/// Puts the text of an address behind a blank.
+pub fn put_address(line: &mut ArrayString<LINE_ROOM>, addr: &Address)
+    requires room { array_string_len line.old + 516 ≤ LINE_ROOM }
+    ensures address { line.new.bytes ≡ line.old.bytes ++ blank ∷ address_text (address_of addr.now) }
+    ensures at_most { array_string_len line.new ≤ array_string_len line.old + 516 }
+{
+    let text = write_address(addr);
+    put_word(line, str::from_utf8(text.as_slice()).unwrap());
 }
 
 /// Puts a point behind a blank: its four coefficients, joined by commas.

@@ -5,7 +5,7 @@ ghost use Rattle.tile_app.specs.Notes.{status_text, note_of, IsNoted};
 ghost use Rattle.cyclo_points.specs.Text.{blank};
 
 use crate::fault_words::{put_address_fault, put_rule_fault};
-use crate::line::{LINE_ROOM, put_number, put_numbered, put_point, put_word};
+use crate::line::{LINE_ROOM, put_address, put_number, put_numbered, put_point, put_word};
 use crate::status::Status;
 use arrayvec::ArrayString;
 use itoa::Buffer;
@@ -14,34 +14,39 @@ use tile_io::writing::write_all;
 
 /// Puts the name of a status and its fields.
 fn put_status(line: &mut ArrayString<LINE_ROOM>, status: &Status)
-    requires room { array_string_len line.old + 120 ≤ LINE_ROOM }
+    requires room { array_string_len line.old + 560 ≤ LINE_ROOM }
     ensures status { line.new.bytes ≡ line.old.bytes ++ blank ∷ status_text status.now }
-    ensures at_most { array_string_len line.new ≤ array_string_len line.old + 120 }
+    ensures at_most { array_string_len line.new ≤ array_string_len line.old + 560 }
 {
-    match *status {
+    match status {
         Status::Done => put_word(line, "Done"),
-        Status::BadWords { place } => put_numbered(line, "BadWords", place as u64),
+        Status::BadWords { place } => put_numbered(line, "BadWords", *place as u64),
         Status::ReadFault => put_word(line, "ReadFault"),
         Status::RuleTooLong => put_word(line, "RuleTooLong"),
         Status::RuleRefused { fault } => {
             put_word(line, "RuleRefused");
-            put_rule_fault(line, fault);
+            put_rule_fault(line, *fault);
         }
         Status::BadAddress { fault } => {
             put_word(line, "BadAddress");
-            put_address_fault(line, fault);
+            put_address_fault(line, *fault);
         }
         Status::NoEdge { edge, edges } => {
-            put_numbered(line, "NoEdge", u64::from(edge));
-            put_number(line, u64::from(edges));
+            put_numbered(line, "NoEdge", u64::from(*edge));
+            put_number(line, u64::from(*edges));
         }
         Status::Outside { edge, part } => {
-            put_numbered(line, "Outside", u64::from(edge));
-            put_number(line, u64::from(part));
+            put_numbered(line, "Outside", u64::from(*edge));
+            put_number(line, u64::from(*part));
+        }
+        Status::DepthLimit { addr, edge } => {
+            put_word(line, "DepthLimit");
+            put_address(line, addr);
+            put_number(line, u64::from(*edge));
         }
         Status::CoordLimit { value } => {
             put_word(line, "CoordLimit");
-            put_point(line, &value);
+            put_point(line, value);
         }
         Status::WriteFault => put_word(line, "WriteFault"),
         Status::NoMemory => put_word(line, "NoMemory"),

@@ -5,16 +5,18 @@ ghost use Rattle.tile_app.specs.Status.{code_of};
 use crate::rule_fault::RuleFault;
 use cyclo_points::point::Point;
 use dissect_check::check_fault::CheckFault;
+use lazy_walk::path_fault::PathFault;
 use rule_text::text_fault::TextFault;
 use std::alloc::AllocError;
 use tile_io::read_all_fault::ReadAllFault;
 use tile_place::coord_limit::CoordLimit;
+use tile_shape::address::Address;
 use tile_shape::address_fault::AddressFault;
 use tile_shape::no_memory::NoMemory;
 use transducer_core::outside::Outside;
 
 /// How a call of `run` ended.
-#[derive(Clone, Copy, Debug, PartialEq, Eq)]
+#[derive(Debug, Drop, PartialEq, Eq)]
 pub enum Status {
     /// The whole text was taken by the sink.
     Done,
@@ -33,6 +35,8 @@ pub enum Status {
     NoEdge { edge: u8, edges: u8 },
     /// The edge lies on this edge of the supertile, in this part of it.
     Outside { edge: u8, part: u8 },
+    /// An edge of a walk is on the boundary of its frame at depth 64: the tile, and its edge.
+    DepthLimit { addr: Address, edge: u8 },
     /// A coefficient passes 2^24 in absolute value: the first value, from coarse to fine, of which
     /// one does.
     CoordLimit { value: Point },
@@ -52,6 +56,7 @@ impl Status {
             Status::BadWords { .. } => 2,
             Status::RuleTooLong | Status::RuleRefused { .. } => 3,
             Status::BadAddress { .. } => 4,
+            Status::DepthLimit { .. } => 5,
             Status::CoordLimit { .. } => 6,
             Status::Outside { .. } => 8,
             Status::ReadFault => 9,
@@ -155,6 +160,22 @@ impl From<Outside> for Status {
         Status::Outside {
             edge: outside.edge,
             part: outside.part,
+        }
+    }
+}
+
+impl From<PathFault> for Status {
+    ghost use Rattle.tile_app.specs.Turned.{status_of_path};
+
+    ghost from_gives = { λ fault status. status ≡ status_of_path fault };
+
+    fn from(fault: PathFault) -> Status {
+        match fault {
+            PathFault::NoEdge { edge, edges } => Status::NoEdge { edge, edges },
+            PathFault::DepthLimit(limit) => Status::DepthLimit {
+                addr: limit.addr,
+                edge: limit.edge,
+            },
         }
     }
 }

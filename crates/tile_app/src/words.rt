@@ -6,7 +6,9 @@ ghost use Rattle.tile_app.specs.Commands.{key_text, command_named, keys_of, requ
 ghost use Rattle.tile_app.specs.Words.{texts, value_in, value_given, is_right, command_of};
 
 use crate::number::number_up_to_255;
+use crate::path_word::path_in;
 use crate::rule_choice::choice_in;
+use tile_shape::decimal::read_number;
 
 /// A command of the program.
 #[derive(Clone, Copy, Debug, PartialEq, Eq)]
@@ -15,6 +17,8 @@ pub enum Command {
     Place,
     /// Prints the tile across an edge.
     Neighbour,
+    /// Walks along a path, in a frame that grows, and prints the tiles.
+    Walk,
     /// Prints that a rule is accepted.
     Check,
 }
@@ -28,6 +32,12 @@ pub enum Key {
     Addr,
     /// The number of an edge.
     Edge,
+    /// The start number of growth.
+    Seed,
+    /// The depth to which a frame grows first.
+    Grow,
+    /// Numbers of edges that are crossed, one after the other.
+    Path,
 }
 
 impl Command {
@@ -39,6 +49,8 @@ impl Command {
             Some(Command::Place)
         } else if word == "neighbour" {
             Some(Command::Neighbour)
+        } else if word == "walk" {
+            Some(Command::Walk)
         } else if word == "check" {
             Some(Command::Check)
         } else {
@@ -53,6 +65,7 @@ impl Command {
         match self {
             Command::Place => &[Key::Rule, Key::Addr],
             Command::Neighbour => &[Key::Rule, Key::Addr, Key::Edge],
+            Command::Walk => &[Key::Rule, Key::Addr, Key::Seed, Key::Grow, Key::Path],
             Command::Check => &[Key::Rule],
         }
     }
@@ -64,6 +77,7 @@ impl Command {
         match self {
             Command::Place => &[Key::Rule, Key::Addr],
             Command::Neighbour => &[Key::Rule, Key::Addr, Key::Edge],
+            Command::Walk => &[Key::Rule, Key::Addr],
             Command::Check => &[Key::Rule],
         }
     }
@@ -78,6 +92,9 @@ impl Key {
             Key::Rule => "rule",
             Key::Addr => "addr",
             Key::Edge => "edge",
+            Key::Seed => "seed",
+            Key::Grow => "grow",
+            Key::Path => "path",
         }
     }
 
@@ -89,6 +106,9 @@ impl Key {
             Key::Rule => choice_in(value).is_some(),
             Key::Addr => true,
             Key::Edge => number_up_to_255(value).is_some(),
+            Key::Seed => read_number(value.as_bytes(), u64::MAX).is_some(),
+            Key::Grow => read_number(value.as_bytes(), 64).is_some(),
+            Key::Path => path_in(value).is_some(),
         }
     }
 

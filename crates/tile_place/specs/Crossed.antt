@@ -1,11 +1,12 @@
 -- What a crossing answers, in the plane: the only tile across an edge, and edges on the boundary of the supertile.
-use Rattle.std.specs.Prelude.{ℕ}
+use Rattle.std.specs.Prelude.{ℕ, length}
 use Rattle.addressing.specs.Address.{Address}
+use Rattle.addressing.specs.Tables.{kind_tables}
 use Rattle.cyclo_points.specs.Order.{NumberOf, points_of}
 use Rattle.dissection.specs.Across.{IsOnlyTileAcross}
 use Rattle.dissection.specs.OnBoundary.{IsOnBoundary}
 use Rattle.dissection.specs.TileEdges.{tile_at}
-use Rattle.rule_model.specs.Tiling.{Tiling}
+use Rattle.rule_model.specs.Tiling.{Tiling, contacts}
 use Rattle.substitution.specs.Supertile.{Placed}
 
 -- the tile of this address, as it lies in the supertile that the address names
@@ -19,3 +20,7 @@ IsOnlyAcross t a e b f = IsOnlyTileAcross (points_of t.order) t.rule (placed_til
 -- edge e of a lies along edge `own` of its supertile's polygon, on this part of it
 abbrev pub LiesOnBoundary : Tiling → Address → ℕ → ℕ → ℕ → Type 0
 LiesOnBoundary t a e own part = IsOnBoundary (points_of t.order) t.rule (placed_tile t a) e own part
+
+-- how many edges a kind has
+abbrev pub edges_of : Tiling → ℕ → ℕ
+edges_of t kind = length (kind_tables (contacts t) kind).types

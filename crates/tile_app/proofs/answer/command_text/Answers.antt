@@ -3,6 +3,7 @@ use Rattle.rule_model.specs.Tiling.{tiling_of}
 use Rattle.tile_app.specs.Answer.{IsPrinted, Refuses}
 use Rattle.tile_app.specs.Neighbour.{PrintsNeighbour, NeighbourRefuses}
 use Rattle.tile_app.specs.Status.{OrNoMemory}
+use Rattle.tile_app.specs.Walk.{PrintsWalk, WalkRefuses}
 use Rattle.tile_app.specs.Words.{texts}
 use Rattle.tile_app.proofs.answer.command_text.Goals as goal
 
@@ -26,3 +27,15 @@ returns-in_ok-machine-in-Neighbour-clause-refused g c =
     subst (λ d. IfErr c.neighbour_text.result (OrNoMemory (Refuses d (texts c.args.words.now) (tiling_of c.args.checked)))) (sym c.in-Neighbour.is)
     (subst (λ m. IfErr c.neighbour_text.result (OrNoMemory (NeighbourRefuses (texts c.args.words.now) (tiling_of m))))
     c.in_ok-machine-in-Neighbour.ensures.its_rule c.neighbour_text.ensures.refused)
+
+pub returns-in_ok-machine-in-Walk-clause-printed : goal.returns-in_ok-machine-in-Walk-clause-printed
+returns-in_ok-machine-in-Walk-clause-printed g c =
+    subst (λ d. IfOk c.walk_text.result (λ text. IsPrinted d (texts c.args.words.now) (tiling_of c.args.checked) (string_bytes text))) (sym c.in-Walk.is)
+    (subst (λ m. IfOk c.walk_text.result (λ text. PrintsWalk (texts c.args.words.now) (tiling_of m) (string_bytes text)))
+    c.in_ok-machine-in-Walk.ensures.its_rule c.walk_text.ensures.printed)
+
+pub returns-in_ok-machine-in-Walk-clause-refused : goal.returns-in_ok-machine-in-Walk-clause-refused
+returns-in_ok-machine-in-Walk-clause-refused g c =
+    subst (λ d. IfErr c.walk_text.result (OrNoMemory (Refuses d (texts c.args.words.now) (tiling_of c.args.checked)))) (sym c.in-Walk.is)
+    (subst (λ m. IfErr c.walk_text.result (OrNoMemory (WalkRefuses (texts c.args.words.now) (tiling_of m))))
+    c.in_ok-machine-in-Walk.ensures.its_rule c.walk_text.ensures.refused)

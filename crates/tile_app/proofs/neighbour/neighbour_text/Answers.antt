@@ -7,7 +7,7 @@ use Rattle.rule_model.specs.Tiling.{tiling_of}
 use Rattle.tile_shape.specs.Views.{address_of}
 use Rattle.transducer_core.specs.declared.outside.Outside.{Outside}
 use Rattle.tile_app.specs.declared.words.Command.TheVariants.{Neighbour}
-use Rattle.tile_app.specs.Neighbour.{edges_of}
+use Rattle.tile_place.specs.Crossed.{edges_of}
 use Rattle.tile_app.proofs.Children.{kind_in_tables}
 use Rattle.tile_app.proofs.Edges.{edge_has_type}
 use Rattle.tile_app.proofs.neighbour.neighbour_text.Goals as goal

@@ -3,7 +3,10 @@ use Rattle.cyclo_points.specs.Text.{point_text, blank}
 use Rattle.tile_shape.specs.FaultText.{address_fault_text}
 use Rattle.tile_app.specs.Notes.{status_text}
 use Rattle.tile_app.specs.RuleFaultText.{rule_fault_text}
-use Rattle.tile_app.proofs.Lines.{two_words}
+use Rattle.std.specs.Fmt.{decimal}
+use Rattle.tile_shape.specs.Text.{address_text}
+use Rattle.tile_shape.specs.Views.{address_of}
+use Rattle.tile_app.proofs.Lines.{two_words, three_words}
 use Rattle.tile_app.proofs.note.put_status.Goals as goal
 
 pub returns-in-RuleRefused-clause-status : goal.returns-in-RuleRefused-clause-status
@@ -20,3 +23,8 @@ pub returns-in-CoordLimit-clause-status : goal.returns-in-CoordLimit-clause-stat
 returns-in-CoordLimit-clause-status c =
     two_words c.args.line.now.bytes _ _ (codes "CoordLimit") (point_text c.in-CoordLimit.value) c.put_word-in-CoordLimit.ensures c.put_point.ensures.point
     ∙ ap (λ s. c.args.line.now.bytes ++ blank ∷ status_text s) (sym c.in-CoordLimit.is)
+
+pub returns-in-DepthLimit-clause-status : goal.returns-in-DepthLimit-clause-status
+returns-in-DepthLimit-clause-status c =
+    three_words c.args.line.now.bytes _ _ _ (codes "DepthLimit") (address_text (address_of c.in-DepthLimit.addr)) (decimal c.in-DepthLimit.edge) c.put_word-in-DepthLimit.ensures c.put_address.ensures.address
+    (c.put_number-in-DepthLimit.ensures.number ∙ ap (λ n. c.put_address.new.line.bytes ++ blank ∷ decimal n) c.from-in-DepthLimit.ensures) ∙ ap (λ s. c.args.line.now.bytes ++ blank ∷ status_text s) (sym c.in-DepthLimit.is)

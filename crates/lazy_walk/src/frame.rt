@@ -1,0 +1,141 @@
+//! A base tile and the supertile round it.
+ghost use Rattle.std.specs.Prelude.{◌≡◌, ◌↔◌, ◌+◌, ◌<◌, ◌≤◌, length, map, max, Some, IsOk, OnOk, OnErr};
+ghost use Rattle.addressing.specs.Address.{depth, kind_at};
+ghost use Rattle.frames.specs.Frame.{lifted_in};
+ghost use Rattle.rule_model.specs.Tiling.{tiling_of};
+ghost use Rattle.tile_shape.specs.Views.{address_of, step_of};
+ghost use Rattle.lazy_walk.specs.Frames.{whole, at_depth, IsFrameOf, GrowsTo};
+
+use arrayvec::ArrayVec;
+use seeded_growth::growth::Growth;
+use seeded_growth::laws::{grown_fits_law, next_digit_law};
+use std::marker::Model;
+use tile_place::machine::Machine;
+use tile_shape::address::{Address, Full};
+use tile_shape::step::Step;
+
+/// A base address with the digits grown so far. Contracts see the base, the start number and all digits.
+#[derive(Drop)]
+pub struct Frame {
+    base: Address,
+    digits: ArrayVec<Step, 64>,
+    growth: Growth,
+}
+
+impl Model for Frame {
+    ghost use Rattle.std.specs.Prelude.{◌≡◌, ◌+◌, length, map};
+    ghost use Rattle.tile_shape.specs.Views.{address_of, step_of};
+    ghost use Rattle.lazy_walk.specs.Frames.{FrameValue};
+
+    ghost Value = { FrameValue };
+
+    ghost view = { λ f. record { base = address_of f.base; start = f.growth.start; digits = map step_of f.digits.items } };
+
+    ghost invariant = { λ f. length f.base.digits.items + f.growth.taken ≡ length f.digits.items };
+}
+
+impl Frame {
+    /// The frame of a base that has grown no digit.
+    pub fn new(base: Address, start: u64) -> Frame
+        ensures base { result.base ≡ address_of base }
+        ensures start { result.start ≡ start }
+        ensures digits { result.digits ≡ (address_of base).digits }
+        ensures at_most_64 { length result.digits ≤ 64 }
+    {
+        let mut digits = ArrayVec::new();
+        let _ = digits.try_extend_from_slice(base.digits.as_slice());
+        Frame {
+            base,
+            digits,
+            growth: Growth::new(start),
+        }
+    }
+
+    /// The base's own address.
+    pub fn base(&self) -> &Address
+        ensures { address_of result.now ≡ self.now.base }
+    {
+        &self.base
+    }
+
+    /// How many digits there are.
+    pub fn depth(&self) -> u8
+        ensures digits { result ≡ length self.now.digits }
+        ensures at_most_64 { result ≤ 64 }
+    {
+        self.digits.len() as u8
+    }
+
+    /// The base's digits, and behind them the grown ones.
+    pub fn digits(&self) -> &ArrayVec<Step, 64>
+        ensures { map step_of result.now.items ≡ self.now.digits }
+    {
+        &self.digits
+    }
+
+    /// The kind of the base's ancestor at a level.
+    pub fn kind_at(&self, level: u8) -> u8
+        requires deep { level ≤ length self.now.digits }
+        ensures { Some result ≡ kind_at (whole self.now) level }
+    {
+        if level == 0 {
+            self.base.kind
+        } else {
+            self.digits[level as usize - 1].parent
+        }
+    }
+
+    /// One digit more. Full exactly at depth 64; then nothing changes.
+    pub fn grow(&mut self, machine: &Machine) -> Result<(), Full>
+        requires frame { IsFrameOf (tiling_of machine.now) self.old }
+        ensures room { IsOk result ↔ (length self.old.digits < 64) }
+        ensures one_more { OnOk result (self.new ≡ at_depth (tiling_of machine.now) (length self.old.digits + 1) self.old) }
+        ensures full { OnErr result (self.new ≡ self.old) }
+        ensures frame { GrowsTo (tiling_of machine.now) self.old self.new }
+    {
+        grown_fits_law();
+        next_digit_law();
+        let depth = self.depth();
+        if depth == 64 {
+            return Err(Full);
+        }
+        let uses = machine.checked().uses();
+        let _usable = uses.kinds();
+        let top = self.kind_at(depth);
+        let digit = self.growth.next_digit(uses, top);
+        self.digits.push(digit);
+        Ok(())
+    }
+
+    /// Grows to a depth, where the frame is shallower.
+    pub fn grow_to(&mut self, machine: &Machine, depth: u8)
+        requires frame { IsFrameOf (tiling_of machine.now) self.old }
+        requires at_most_64 { depth ≤ 64 }
+        ensures frame { GrowsTo (tiling_of machine.now) self.old self.new }
+        ensures depth { length self.new.digits ≡ max (length self.old.digits) depth }
+    {
+        while self.depth() < depth {
+            let _ = self.grow(machine);
+        }
+    }
+
+    /// A tile of the frame as one of the whole frame: the frame's digits from the tile's depth up stand
+    /// behind its own.
+    pub fn lift(&self, tile: &Address) -> Address
+        requires no_deeper { depth (address_of tile.now) ≤ length self.now.digits }
+        ensures { address_of result ≡ lifted_in (whole self.now) (address_of tile.now) }
+    {
+        let mut lifted = tile.copy();
+        self.raise(&mut lifted);
+        lifted
+    }
+
+    /// Lifts a tile where it stands.
+    pub fn raise(&self, tile: &mut Address)
+        requires no_deeper { depth (address_of tile.old) ≤ length self.now.digits }
+        ensures { address_of tile.new ≡ lifted_in (whole self.now) (address_of tile.old) }
+    {
+        let above = &self.digits[tile.digits.len()..];
+        let _ = tile.digits.try_extend_from_slice(above);
+    }
+}

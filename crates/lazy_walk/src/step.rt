@@ -1,0 +1,80 @@
+//! From tile to tile of a frame, each in its place.
+ghost use Rattle.std.specs.Prelude.{◌≡◌, ◌+◌, ◌≤◌, ◌^◌, ℕ, IsSome, Err, IfOk, IfErr, OnErr};
+ghost use Rattle.addressing.specs.Tables.{type_of};
+ghost use Rattle.cyclo_points.specs.Point.{IsWithin};
+ghost use Rattle.rule_model.specs.Tiling.{tiling_of, contacts};
+ghost use Rattle.tile_place.specs.Crossed.{IsOnlyAcross, LiesOnBoundary};
+ghost use Rattle.tile_shape.specs.Views.{address_of};
+ghost use Rattle.lazy_walk.specs.Frames.{whole, IsFrameOf};
+ghost use Rattle.lazy_walk.specs.Standing.{Stands};
+
+use crate::frame::Frame;
+use cyclo_points::motion::Motion;
+use cyclo_points::movement::compose;
+use cyclo_points::point::Point;
+use cyclo_points::points_law;
+use edge_tables::steps::Steps;
+use seeded_growth::laws::grown_fits_law;
+use std::sync::ledger::Ledger;
+use tile_place::machine::Machine;
+use tile_place::placed_tile::PlacedTile;
+use transducer_core::outside::Outside;
+
+impl Frame {
+    /// The base in its place: it stands on its prototile.
+    pub fn base_tile(&self, machine: &Machine) -> PlacedTile
+        requires frame { IsFrameOf (tiling_of machine.now) self.now }
+        ensures base { address_of result.addr ≡ whole self.now }
+        ensures stands { Stands (tiling_of machine.now) self.now result }
+        ensures at_origin { IsWithin 0 result.motion.shift }
+    {
+        grown_fits_law();
+        let checked = machine.checked();
+        points_law(checked.order());
+        let _usable = checked.uses().kinds();
+        PlacedTile {
+            kind: self.base().kind,
+            motion: Motion {
+                turn: 0,
+                shift: Point { c: [0; 4] },
+            },
+            addr: self.lift(&self.base()),
+        }
+    }
+
+    /// Goes across an edge of a tile in its place: the tile becomes the one across, in its place too, and the
+    /// answer is the edge that leads back. Its motion is the one that glues the two edges, followed by the
+    /// motion of the tile before. Where the edge is on the boundary of the frame's supertile, nothing changes.
+    pub fn step<L: Ledger>(
+        &self,
+        machine: &Machine,
+        tile: &mut PlacedTile,
+        edge: u8,
+        steps: &mut Steps<L>,
+    ) -> Result<u8, Outside>
+        requires frame { IsFrameOf (tiling_of machine.now) self.now }
+        requires stands { Stands (tiling_of machine.now) self.now tile.old }
+        requires edge_exists { IsSome (type_of (contacts (tiling_of machine.now)) tile.old.addr.kind edge) }
+        requires within { IsWithin (2 ^ 24) tile.old.motion.shift }
+        ensures only_tile_across { IfOk result (λ back. IsOnlyAcross (tiling_of machine.now) (address_of tile.old.addr) edge (address_of tile.new.addr) back) }
+        ensures stands { Stands (tiling_of machine.now) self.now tile.new }
+        ensures within { (k : ℕ) → IsWithin k tile.old.motion.shift → IsWithin (k + 512) tile.new.motion.shift }
+        ensures outside_on_boundary { IfErr result (λ o. LiesOnBoundary (tiling_of machine.now) (address_of tile.old.addr) edge o.edge o.part) }
+        ensures boundary_is_outside { (own part : ℕ) → LiesOnBoundary (tiling_of machine.now) (address_of tile.old.addr) edge own part
+            → result ≡ Err (record { edge = own; part = part }) }
+        ensures unchanged { OnErr result (tile.new ≡ tile.old) }
+    {
+        grown_fits_law();
+        let checked = machine.checked();
+        let order = checked.order();
+        points_law(order);
+        machine.gluing_law();
+        let _usable = checked.uses().kinds();
+        let across = machine.cross(&tile.addr, edge, steps)?;
+        let glue = machine.glue_motion(tile.kind, edge, across.addr.kind, across.edge);
+        tile.motion = compose(order, &tile.motion, &glue);
+        tile.kind = across.addr.kind;
+        tile.addr = across.addr;
+        Ok(across.edge)
+    }
+}

@@ -1,0 +1,122 @@
+//! The command `walk`: the tiles of a path, in a frame that grows.
+ghost use Rattle.std.specs.Prelude.{◌≡◌, ◌≤◌, None, Some, Ok, IfOk, IfErr, length, string_bytes};
+ghost use Rattle.cyclo_points.specs.declared.order.Order.{Order};
+ghost use Rattle.cyclo_points.specs.Motion.{motion_in};
+ghost use Rattle.cyclo_points.specs.Point.{IsOf};
+ghost use Rattle.rule_model.specs.Tiling.{tiling_of};
+ghost use Rattle.lazy_walk.specs.Frames.{whole, IsFrameOf};
+ghost use Rattle.lazy_walk.specs.Paths.{CanBeWalked};
+ghost use Rattle.lazy_walk.specs.Standing.{Stands};
+ghost use Rattle.tile_app.specs.declared.words.Command.TheVariants.{Walk};
+ghost use Rattle.tile_app.specs.PathWords.{longest_path};
+ghost use Rattle.tile_app.specs.Status.{OrNoMemory};
+ghost use Rattle.tile_app.specs.Walk.{seed_given, grow_given, path_given, walk_line, IsWalkText, PrintsWalk, WalkRefuses};
+ghost use Rattle.tile_app.specs.Words.{texts, command_of};
+ghost use Rattle.tile_shape.specs.Views.{address_of};
+
+use crate::path_word::{LONGEST_PATH, path_in};
+use crate::status::Status;
+use crate::tile::address_given;
+use crate::words::Key;
+use arrayvec::ArrayVec;
+use edge_tables::steps::Steps;
+use lazy_walk::frame::Frame;
+use std::alloc::{AllocError, Global};
+use std::sync::ledger::Ledger;
+use tile_place::machine::Machine;
+use tile_place::placed_tile::PlacedTile;
+use tile_shape::decimal::read_number;
+
+/// The start number that the words give, or 0.
+fn seed_given(words: &[String]) -> u64
+    ensures { result ≡ seed_given (texts words.now) }
+{
+    match Key::Seed.value_given(words) {
+        Some(text) => read_number(text.as_bytes(), u64::MAX).unwrap_or(0),
+        None => 0,
+    }
+}
+
+/// The depth to which the words have the frame grow first, or 0.
+fn grow_given(words: &[String]) -> u8
+    ensures given { result ≡ grow_given (texts words.now) }
+    ensures at_most_64 { result ≤ 64 }
+{
+    match Key::Grow.value_given(words) {
+        Some(text) => read_number(text.as_bytes(), 64).unwrap_or(0) as u8,
+        None => 0,
+    }
+}
+
+/// The path that the words give, or one of no edge.
+fn path_given(words: &[String]) -> ArrayVec<u8, LONGEST_PATH>
+    ensures given { result.items ≡ path_given (texts words.now) }
+    ensures at_most_1000 { length result.items ≤ longest_path }
+{
+    match Key::Path.value_given(words) {
+        Some(text) => match path_in(text) {
+            Some(path) => path,
+            None => ArrayVec::new(),
+        },
+        None => ArrayVec::new(),
+    }
+}
+
+/// The line of the base.
+fn first_line(alloc: Global, tile: &PlacedTile) -> Result<String, AllocError>
+    ensures { IfOk result (λ text. (order : Order) → IsOf order tile.now.motion.shift → tile.now.kind ≡ tile.now.addr.kind
+        → string_bytes text ≡ walk_line order (address_of tile.now.addr) (motion_in order tile.now.motion) None) }
+{
+    let PlacedTile { kind, motion, addr } = tile;
+    format!(in alloc; "{kind} {motion} {addr} -\n")
+}
+
+/// The line of a tile of the path, with the edge that leads back.
+fn next_line(alloc: Global, tile: &PlacedTile, back: u8) -> Result<String, AllocError>
+    ensures { IfOk result (λ text. (order : Order) → IsOf order tile.now.motion.shift → tile.now.kind ≡ tile.now.addr.kind
+        → string_bytes text ≡ walk_line order (address_of tile.now.addr) (motion_in order tile.now.motion) (Some back)) }
+{
+    let PlacedTile { kind, motion, addr } = tile;
+    format!(in alloc; "{kind} {motion} {addr} {back}\n")
+}
+
+/// The text of a path that can be walked in the frame as it is.
+fn lines<L: Ledger>(
+    alloc: Global,
+    machine: &Machine,
+    frame: &Frame,
+    path: &[u8],
+    steps: &mut Steps<L>,
+) -> Result<String, AllocError>
+    requires frame { IsFrameOf (tiling_of machine.now) frame.now }
+    requires walked { CanBeWalked (tiling_of machine.now) (whole frame.now) path.now }
+    requires at_most_1000 { length path.now ≤ longest_path }
+    ensures { IfOk result (λ text. IsWalkText (tiling_of machine.now) (whole frame.now) path.now (string_bytes text)) }
+{
+    let mut tile = frame.base_tile(machine);
+    let mut text = first_line(alloc, &tile)?;
+    for edge in path {
+        let back = frame.step(machine, &mut tile, *edge, steps).unwrap();
+        text.push_str(next_line(alloc, &tile, back)?.as_str())?;
+    }
+    Ok(text)
+}
+
+/// What `walk` prints for right words, or its refusal.
+pub fn walk_text<L: Ledger>(
+    alloc: Global,
+    machine: &Machine,
+    words: &[String],
+    steps: &mut Steps<L>,
+) -> Result<String, Status>
+    requires right { command_of (texts words.now) ≡ Ok Walk }
+    ensures printed { IfOk result (λ text. PrintsWalk (texts words.now) (tiling_of machine.now) (string_bytes text)) }
+    ensures refused { IfErr result (OrNoMemory (WalkRefuses (texts words.now) (tiling_of machine.now))) }
+{
+    let address = address_given(machine, words)?;
+    let mut frame = Frame::new(address, seed_given(words));
+    frame.grow_to(machine, grow_given(words));
+    let path = path_given(words);
+    frame.grow_along(machine, path.as_slice(), steps)?;
+    Ok(lines(alloc, machine, &frame, path.as_slice(), steps)?)
+}
