@@ -8,7 +8,7 @@ use Rattle.edge_to_edge.proofs.TablesOf.{type_of-found}
 use Rattle.cyclo_points.specs.declared.order.Order.{Order}
 use Rattle.cyclo_points.specs.Order.{points_of, is_refused}
 use Rattle.dissection.specs.Accepted.{AcceptedRule, HasEdge}
-use Rattle.dissection.specs.Laws.{AcrossLaw, BoundaryLaw, DissectionLaw}
+use Rattle.dissection.specs.Laws.{AcrossLaw, BoundaryLaw}
 use Rattle.rule_model.specs.declared.rule.Rule.{Rule}
 use Rattle.rule_model.specs.Accepted.{IsAccepted}
 use Rattle.rule_model.specs.Tiling.{tiling_of, contacts, children}
@@ -23,9 +23,6 @@ OnlyTilesLaw o = AcrossLaw (points_of o)
 
 abbrev pub BoundariesLaw : Order → Type 0
 BoundariesLaw o = BoundaryLaw (points_of o)
-
-abbrev pub SupertilesLaw : Order → Type 0
-SupertilesLaw o = DissectionLaw (points_of o)
 
 -- what a checked rule brings: it is accepted and within its limits, and its tables have its child kinds
 pub record IsSettled (m : Rule) : Type 0 where
