@@ -24,7 +24,7 @@ use Rattle.frames.proofs.Located.{IsMoved, IsMoved-depth, tile_below-moved, tile
 use Rattle.cyclo_points.specs.Order.{NumberOf, PointsLaw, points_of, is_refused}
 use Rattle.rule_model.specs.declared.rule.Rule.{Rule}
 use Rattle.rule_model.specs.Tiling.{tiling_of, children, MotionOf}
-use Rattle.rule_model.specs.Views.{rule_of, as_edition}
+use Rattle.rule_model.specs.Views.{rule_of}
 use Rattle.tile_place.specs.declared.placed_tile.PlacedTile.{PlacedTile}
 use Rattle.tile_place.specs.declared.locate_fault.LocateFault.{LocateFault}
 use Rattle.tile_place.specs.declared.locate_fault.LocateFault.TheVariants.{NotInside, CoordLimit}

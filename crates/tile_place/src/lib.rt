@@ -9,6 +9,7 @@
 
 pub mod coord_limit;
 mod glue;
+mod hold;
 mod locate;
 pub mod locate_fault;
 mod look;

@@ -6,8 +6,6 @@ ghost use Rattle.substitution.specs.RuleParts.{child_of};
 ghost use Rattle.frames.specs.Outline.{outline, holds_point};
 ghost use Rattle.frames.specs.Part.{child_motion, holder};
 ghost use Rattle.frames.specs.Looked.{values_of_children};
-ghost use Rattle.ordered_plane.specs.Crossing.{member};
-ghost use Rattle.plane_geom.specs.Spots.{reals_of, spots_of, test_of};
 ghost use Rattle.cyclo_points.specs.Order.{points_of, is_refused};
 ghost use Rattle.cyclo_points.specs.Point.{point_in, IsOf, IsWithin};
 ghost use Rattle.cyclo_points.specs.Motion.{motion_in};
@@ -24,10 +22,8 @@ use crate::seen::Seen;
 use cyclo_points::arithmetic::refused;
 use cyclo_points::motion::Motion;
 use cyclo_points::movement::compose;
-use cyclo_points::order::Order;
 use cyclo_points::point::Point;
 use cyclo_points::product::mul;
-use plane_geom::polygons::member;
 
 impl Machine {
     /// Looks at one child of a part: at its shift, and at its vertices. It answers the first of these that is
@@ -76,8 +72,7 @@ impl Machine {
                 value: motion.shift,
             });
         }
-        let corners = self.outline(child.kind, scale, &motion)?;
-        let holds = holds_where(sought, order, corners.as_slice(), point);
+        let holds = self.holds_where(sought, child.kind, scale, &motion, point)?;
         Ok(Seen {
             part: Part {
                 child: number,
@@ -123,17 +118,6 @@ impl Machine {
         }
         Ok(held)
     }
-}
-
-/// Whether a polygon holds a point, where that is sought.
-fn holds_where(sought: bool, order: Order, polygon: &[Point], point: &Point) -> bool
-    requires at_least_three { 3 ≤ length polygon.now }
-    requires at_most_24 { length polygon.now ≤ 24 }
-    requires vertices_within { All (IsWithin (2 ^ 25)) polygon.now }
-    requires point_within { IsWithin (2 ^ 25) point.now }
-    ensures { result ≡ (sought && member (reals_of order) (spots_of order polygon.now) (test_of order point.now)) }
-{
-    sought && member(order, polygon, point)
 }
 
 /// The part held so far, or else the one that was looked at, where it holds the point.

@@ -1,12 +1,10 @@
-use Rattle.std.proofs.Common.{◌≡◌, ◌*◌, ◌^◌, ◌&&◌, find, refl, sym, ap, ◌∙◌, subst, lit≤}
-use Rattle.ordered_plane.specs.Crossing.{member}
-use Rattle.plane_geom.specs.Spots.{reals_of, spots_of, test_of}
+use Rattle.std.proofs.Common.{◌≡◌, ◌*◌, ◌^◌, find, sym, ap, ◌∙◌, subst, lit≤}
 use Rattle.cyclo_points.specs.Order.{is_refused}
 use Rattle.cyclo_points.specs.Point.{point_in, IsOf}
 use Rattle.rule_model.specs.declared.rule.Rule.{Rule}
 use Rattle.cyclo_points.proofs.Within.{point_wider}
 use Rattle.tile_place.proofs.Ahead.{handed_on}
-use Rattle.tile_place.proofs.Parts.{part_is, values_of_part, holds_is, first_is, first_not}
+use Rattle.tile_place.proofs.Parts.{part_is, values_of_part, first_is, first_not}
 use Rattle.tile_place.proofs.machine.Machine.look.Goals as goal
 
 pub mul-requires-clause-p_within : goal.mul-requires-clause-p_within
@@ -31,17 +29,17 @@ returns-then-refused-clause-limit c =
     ∙ first_is (is_refused m.order) (point_in m.order c.compose-motion.result.shift) _
     (sym (c.refused.ensures.in_order m.order (subst (λ q. IsOf q c.compose-motion.result.shift) same (c.compose-motion.ensures.in_order (subst (λ q. IsOf q c.args.at.now.shift) (sym same) c.requires.at_in_order)))) ∙ c.if-refused.true)
 
-pub returns-in_err-corners-clause-limit : goal.returns-in_err-corners-clause-limit
-returns-in_err-corners-clause-limit c =
+pub returns-in_err-holds-clause-limit : goal.returns-in_err-holds-clause-limit
+returns-in_err-holds-clause-limit c =
     let m = c.args.self.now in
     let same : c.order-order.result ≡ m.order = c.order-order.ensures.order ∙ ap (λ (r : Rule). r.order) c.checked-checked.ensures.rule in
     let part = part_is c.order-order.result c.checked-checked.result.now m c.order-order.ensures.order c.checked-checked.ensures.rule c.child-child.result c.args.scale.now c.args.at.now c.mul.result c.compose-motion.result c.args.kind c.args.number
     c.child-child.ensures.number c.mul.ensures.product c.compose-motion.ensures.followed_by in
-    handed_on c.from_residual.result c.in_err-corners.field-0.0 _ c.from_residual.ensures.1
+    handed_on c.from_residual.result c.in_err-holds.field-0.0 _ c.from_residual.ensures.1
     (ap (λ p. find (is_refused m.order) (values_of_part m c.args.scale.now p)) (sym part)
     ∙ first_not (is_refused m.order) (point_in m.order c.compose-motion.result.shift) _
     (sym (c.refused.ensures.in_order m.order (subst (λ q. IsOf q c.compose-motion.result.shift) same (c.compose-motion.ensures.in_order (subst (λ q. IsOf q c.args.at.now.shift) (sym same) c.requires.at_in_order)))) ∙ c.if-refused.false)
-    ∙ c.in_err-corners.ensures.limit)
+    ∙ c.in_err-holds.ensures.limit)
 
 pub returns-clause-part : goal.returns-clause-part
 returns-clause-part c =
@@ -49,11 +47,7 @@ returns-clause-part c =
     c.child-child.ensures.number c.mul.ensures.product c.compose-motion.ensures.followed_by
 
 pub returns-clause-holds : goal.returns-clause-holds
-returns-clause-holds c =
-    let m = c.args.self.now in
-    c.holds_where-holds.ensures
-    ∙ ap (λ b. c.args.sought && b) (holds_is c.order-order.result m.order (c.order-order.ensures.order ∙ ap (λ (r : Rule). r.order) c.checked-checked.ensures.rule) c.in_ok-corners.corners.items c.as_slice.result.now _ c.args.point.now
-    (member (reals_of c.order-order.result) (spots_of c.order-order.result c.as_slice.result.now) (test_of c.order-order.result c.args.point.now)) c.as_slice.ensures.value c.in_ok-corners.ensures.vertices refl)
+returns-clause-holds c = c.in_ok-holds.ensures.holds
 
 pub returns-clause-none_refused : goal.returns-clause-none_refused
 returns-clause-none_refused c =
@@ -64,4 +58,4 @@ returns-clause-none_refused c =
     ap (λ p. find (is_refused m.order) (values_of_part m c.args.scale.now p)) (sym part)
     ∙ first_not (is_refused m.order) (point_in m.order c.compose-motion.result.shift) _
     (sym (c.refused.ensures.in_order m.order (subst (λ q. IsOf q c.compose-motion.result.shift) same (c.compose-motion.ensures.in_order (subst (λ q. IsOf q c.args.at.now.shift) (sym same) c.requires.at_in_order)))) ∙ c.if-refused.false)
-    ∙ c.in_ok-corners.ensures.none_refused
+    ∙ c.in_ok-holds.ensures.none_refused
