@@ -7,6 +7,7 @@ ghost use Rattle.tile_shape.specs.Views.{address_of};
 ghost use Rattle.transducer_core.specs.Climbing.{EndsClimb};
 
 use crate::flat_table::FlatTable;
+use crate::spread::cell;
 use arrayvec::ArrayVec;
 use edge_tables::contact::Contact;
 use edge_tables::steps::Steps;
@@ -48,7 +49,8 @@ pub(crate) fn climb<L: Ledger>(
     let mut own = edge;
     for level in 0..digits.len() {
         let step = digits[level];
-        match tables.contact(step.parent, step.child, own, steps) {
+        let at = cell(step.parent, step.child);
+        match tables.contact_at(at, own, steps) {
             Contact::Inner { child, edge } => return Ending::Met(Meeting { level, child, edge }),
             Contact::Outer { edge, part } => {
                 parts.push(part);

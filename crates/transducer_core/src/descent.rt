@@ -23,15 +23,15 @@ fn set_digit(digits: &mut ArrayVec<Step, 64>, level: usize, step: Step)
     digits.as_mut_slice()[level] = step;
 }
 
-/// Writes the digit at a level, so that the address names the child there, as far as the digits from that level up say.
-fn write_digit(tables: &FlatTable, addr: &mut Address, level: usize, step: Step)
-    requires level { level < length addr.old.digits.items }
+/// Writes the digit at a level, and answers the kind of the child there.
+fn write_digit(tables: &FlatTable, digits: &mut ArrayVec<Step, 64>, level: usize, step: Step) -> u8
+    requires level { level < length digits.old.items }
     requires child { IsSome (child_kind_of tables.now step.parent step.child) }
-    ensures kind { child_kind_of tables.now step.parent step.child ≡ Some addr.new.kind }
-    ensures digits { map step_of addr.new.digits.items ≡ slice_set (map step_of addr.old.digits.items) level (step_of step) }
+    ensures kind { child_kind_of tables.now step.parent step.child ≡ Some result }
+    ensures digits { map step_of digits.new.items ≡ slice_set (map step_of digits.old.items) level (step_of step) }
 {
-    addr.kind = tables.child_kind(step.parent, step.child);
-    set_digit(&mut addr.digits, level, step);
+    set_digit(digits, level, step);
+    tables.child_kind(step.parent, step.child)
 }
 
 /// Descends from a meeting along the mirrored parts. The address becomes that of the tile across, and the answer is its edge.
@@ -52,16 +52,22 @@ pub(crate) fn descend<L: Ledger>(
 {
     let parent = addr.digits.as_slice()[meeting.level].parent;
     let child = meeting.child;
-    write_digit(tables, addr, meeting.level, Step { child, parent });
+    let mut kind = write_digit(
+        tables,
+        &mut addr.digits,
+        meeting.level,
+        Step { child, parent },
+    );
     let mut edge = meeting.edge;
     let mut level = meeting.level;
     while level > 0 {
         level -= 1;
-        let parent = addr.kind;
+        let parent = kind;
         let below = tables.part_across(parent, edge, parts[level], steps);
         let child = below.child;
-        write_digit(tables, addr, level, Step { child, parent });
+        kind = write_digit(tables, &mut addr.digits, level, Step { child, parent });
         edge = below.edge;
     }
+    addr.kind = kind;
     edge
 }

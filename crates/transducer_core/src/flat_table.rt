@@ -1,5 +1,5 @@
 //! Contact tables in flat lists, and the look-ups in them.
-ghost use Rattle.std.specs.Prelude.{◌≡◌, ◌+◌, ◌<◌, ℕ, Some, IsSome, IfOk};
+ghost use Rattle.std.specs.Prelude.{◌≡◌, ◌+◌, ◌*◌, ◌<◌, ℕ, Some, IsSome, IfOk};
 ghost use Rattle.addressing.specs.Coherent.{IsCoherent};
 ghost use Rattle.addressing.specs.Tables.{type_of, child_kind_of, contact_of, part_of, part_count};
 ghost use Rattle.edge_tables.specs.Views.{as_contact, as_child_edge};
@@ -75,8 +75,17 @@ impl FlatTable {
         ensures value { contact_of self.now kind child edge ≡ Some (as_contact result) }
         ensures one_step { steps.new ≡ steps.old + 1 }
     {
+        self.contact_at(cell(kind, child), edge, steps)
+    }
+
+    /// What an edge is of the child whose block begins as this cell says. It takes one step.
+    pub(crate) fn contact_at<L: Ledger>(&self, at: usize, edge: u8, steps: &mut Steps<L>) -> Contact
+        requires exists { (kind : ℕ) × (child : ℕ) × (at ≡ 256 * kind + child) × IsSome (contact_of self.now kind child edge) }
+        ensures value { (kind child : ℕ) → at ≡ 256 * kind + child → IsSome (contact_of self.now kind child edge) → contact_of self.now kind child edge ≡ Some (as_contact result) }
+        ensures one_step { steps.new ≡ steps.old + 1 }
+    {
         steps.tick();
-        contact_in(self.contacts.entry(kind, child, edge))
+        contact_in(self.contacts.entry(at, edge))
     }
 
     /// The child edge that is a part of an edge. It takes one step.
@@ -103,7 +112,7 @@ impl FlatTable {
         ensures one_step { steps.new ≡ steps.old + 1 }
     {
         steps.tick();
-        part_in(self.parts.entry(kind, edge, part))
+        part_in(self.parts.entry(cell(kind, edge), part))
     }
 
     /// Into how many parts an edge is cut: as many as its type.

@@ -5,7 +5,7 @@ ghost use Rattle.transducer_core.specs.Merged.{Stands, IsMerged};
 ghost use Rattle.transducer_core.specs.Merging.{as_lists, as_rows, AllStand, AreShort, AreSmall};
 ghost use Rattle.transducer_core.specs.Once.{AreOnce};
 
-use crate::spread::{cell, spread};
+use crate::spread::spread;
 use std::alloc::Global;
 use tile_shape::no_memory::NoMemory;
 
@@ -20,12 +20,12 @@ pub(crate) struct Merged {
 impl Merged {
     ghost use Rattle.transducer_core.specs.Merged.{HasEntry};
 
-    /// The word at a place of a block.
-    pub(crate) fn entry(&self, row: u8, number: u8, place: u8) -> u32
-        requires { (word : ℕ) × HasEntry self.now.starts.items self.now.words.items row number place word }
-        ensures { HasEntry self.now.starts.items self.now.words.items row number place result }
+    /// The word at a place of the block whose beginning stands at this cell.
+    pub(crate) fn entry(&self, at: usize, place: u8) -> u32
+        requires { (row : ℕ) × (number : ℕ) × (word : ℕ) × (at ≡ 256 * row + number) × HasEntry self.now.starts.items self.now.words.items row number place word }
+        ensures { (row number : ℕ) → at ≡ 256 * row + number → HasEntry self.now.starts.items self.now.words.items row number place result }
     {
-        let start = self.starts[cell(row, number)];
+        let start = self.starts[at];
         self.words[usize::from(start) + usize::from(place)]
     }
 }

@@ -11,9 +11,9 @@ invariant-loop-level g l = record {
   inside : l.level ≤ l.fn.meeting.level;
   count : length l.addr.digits.items ≡ length l.fn.addr.digits.items;
   cost : l.steps + l.level ≡ l.fn.steps + l.fn.meeting.level;
-  chain : IsChain l.tables l.addr.kind (drop l.level (map step_of l.addr.digits.items));
+  chain : IsChain l.tables l.kind (drop l.level (map step_of l.addr.digits.items));
   halfway : (e : ℕ) → IsSome (type_of l.tables l.fn.addr.kind e) → MeetsAt l.tables (address_of l.fn.addr) e l.fn.meeting l.parts
-      → Halfway l.tables l.fn.addr.kind (map step_of l.fn.addr.digits.items) e l.parts l.level (map step_of l.addr.digits.items) l.addr.kind l.edge;
+      → Halfway l.tables l.fn.addr.kind (map step_of l.fn.addr.digits.items) e l.parts l.level (map step_of l.addr.digits.items) l.kind l.edge;
 }
 
 abbrev pub decreases-loop-level : goal.decreases-loop-level

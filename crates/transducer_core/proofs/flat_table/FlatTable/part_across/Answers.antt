@@ -8,9 +8,10 @@ use Rattle.transducer_core.proofs.flat_table.FlatTable.part_across.Goals as goal
 pub entry-requires : goal.entry-requires
 entry-requires g c =
     let flat = subst (λ (t : Tables). IsFlat t c.self.inside.child_kinds c.self.inside.contacts c.self.inside.parts) c.self.view_is c.self.invariant in
-    FlatLooks.part_across_there c.args.self.now c.self.inside.child_kinds c.self.inside.contacts c.self.inside.parts flat c.args.kind c.args.edge c.args.part c.requires.inside
+    let there = FlatLooks.part_across_there c.args.self.now c.self.inside.child_kinds c.self.inside.contacts c.self.inside.parts flat c.args.kind c.args.edge c.args.part c.requires.inside in
+    (c.args.kind, c.args.edge, there.0, c.cell.ensures, there.1)
 
 pub returns-clause-value : goal.returns-clause-value
 returns-clause-value g c =
     let flat = subst (λ (t : Tables). IsFlat t c.self.inside.child_kinds c.self.inside.contacts c.self.inside.parts) c.self.view_is c.self.invariant in
-    FlatLooks.part_across_read c.args.self.now c.self.inside.child_kinds c.self.inside.contacts c.self.inside.parts flat c.args.kind c.args.edge c.args.part c.entry.result (as_child_edge c.part_in.result) c.entry.ensures c.part_in.ensures
+    FlatLooks.part_across_read c.args.self.now c.self.inside.child_kinds c.self.inside.contacts c.self.inside.parts flat c.args.kind c.args.edge c.args.part c.entry.result (as_child_edge c.part_in.result) (c.entry.ensures c.args.kind c.args.edge c.cell.ensures) c.part_in.ensures
