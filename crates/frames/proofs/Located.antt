@@ -13,8 +13,8 @@ use Rattle.substitution.specs.Supertile.{Placed, inflated, lifted, supertile}
 use Rattle.addressing.proofs.Lists.{IsAmong-map, IsAmong-flat_map, AllByRecursion-among}
 use Rattle.substitution.proofs.Placement.{IsPlaced, supertile-placed}
 use Rattle.frames.specs.Outline.{outline, holds_point, supertile_holds}
-use Rattle.frames.specs.Part.{Part, part_of, child_motion, holder, holder_of, HasHolders}
-use Rattle.frames.specs.Descent.{behind, tile_below}
+use Rattle.frames.specs.Part.{Part, child_part, child_motion, holder, holder_of, HasHolders}
+use Rattle.frames.specs.Descent.{of_whole, tile_below}
 use Rattle.frames.proofs.Group.{followed-assoc, still-followed}
 
 map-ext : {A B : Type 0} (f g : A → B) (xs : List A) → ((x : A) → f x ≡ g x) → map f xs ≡ map g xs
@@ -56,8 +56,8 @@ module _ (P : Points) (W : PointLaws P) (r : Rule P.ring.carrier) where
 
       by : (b : Bool) → here x ≡ b → (c ≡ (i, x)) ⊎ IsAmong c (enumerate_from (i + 1) xs)
           → (IsAmong c (enumerate_from (i + 1) xs) → (y : Part P.ring.carrier) × (holder P r scale m p (i + 1) xs ≡ Some y))
-          → (y : Part P.ring.carrier) × (cond b (Some (part_of P r scale m i x)) (holder P r scale m p (i + 1) xs) ≡ Some y)
-      by true q a rest = (part_of P r scale m i x, refl)
+          → (y : Part P.ring.carrier) × (cond b (Some (child_part P r scale m i x)) (holder P r scale m p (i + 1) xs) ≡ Some y)
+      by true q a rest = (child_part P r scale m i x, refl)
       by false q (inl e) rest = let no : false ≡ true = sym q ∙ ap (λ (d : ℕ × Child P.ring.carrier). here d.1) (sym e) ∙ holds in absurd (cc no)
       by false q (inr a) rest = rest a
 
@@ -72,7 +72,7 @@ module _ (P : Points) (W : PointLaws P) (r : Rule P.ring.carrier) where
 
   -- a tile of a child is one of the whole
   of_child : (k n : ℕ) (m : Motion P.ring.carrier) (i : ℕ) (c : Child P.ring.carrier) (t : Placed P.ring.carrier) → IsAmong (i, c) (enumerate_from 0 (children_of r k))
-      → IsMoved c.kind n (child_motion P r (power P.ring r.factor n) m c) t → IsMoved k (suc n) m (behind (record { child = i; parent = k } ∷ []) t)
+      → IsMoved c.kind n (child_motion P r (power P.ring r.factor n) m c) t → IsMoved k (suc n) m (of_whole (record { child = i; parent = k } ∷ []) t)
   of_child k n m i c t among h = record {
     own = followed P h.own (inflated P r n c.motion);
     among = IsAmong-flat_map _ (i, c) _ (enumerate_from 0 (children_of r k)) among
@@ -91,12 +91,12 @@ module _ (P : Points) (W : PointLaws P) (r : Rule P.ring.carrier) where
   tile_below-moved k (suc n) m p t b e = by (holder_of P r k n m p) refl e (λ c a h g. tile_below-moved c.kind n c.motion p a h g)
     where
       by : (h : Option (Part P.ring.carrier)) → holder_of P r k n m p ≡ h
-          → option_and_then (λ (c : Part P.ring.carrier). option_map (behind (record { child = c.child; parent = k } ∷ [])) (tile_below P r c.kind n c.motion p)) h ≡ Some t
+          → option_and_then (λ (c : Part P.ring.carrier). option_map (of_whole (record { child = c.child; parent = k } ∷ [])) (tile_below P r c.kind n c.motion p)) h ≡ Some t
           → ((c : Part P.ring.carrier) (a : Placed P.ring.carrier) → c.motion.turn < P.order → tile_below P r c.kind n c.motion p ≡ Some a → IsMoved c.kind n c.motion a) → IsMoved k (suc n) m t
       by None q f rest = absurd (cc f)
       by (Some c) q f rest =
           let h = holder-is (power P.ring r.factor n) m p 0 (children_of r k) c q in
-          let a = of_some (behind (record { child = c.child; parent = k } ∷ [])) (tile_below P r c.kind n c.motion p) t f in
+          let a = of_some (of_whole (record { child = c.child; parent = k } ∷ [])) (tile_below P r c.kind n c.motion p) t f in
           let turn : c.motion.turn < P.order = subst (λ (g : Motion P.ring.carrier). g.turn < P.order) (sym h.motion) (mod-lt (m.turn + h.child.motion.turn) (omega arith)) in
           let fine = rest c a.0 turn a.1 in
           subst (IsMoved k (suc n) m) a.2 (of_child k n m c.child h.child a.0 h.listed (subst (λ g. IsMoved h.child.kind n g a.0) h.motion (subst (λ j. IsMoved j n c.motion a.0) h.kind fine)))
@@ -109,9 +109,9 @@ tile_below-some P W r one k (suc n) m p h =
     let c = one k n m p h in
     let held = holder-is P W r (power P.ring r.factor n) m p 0 (children_of r k) c.0 c.1 in
     let t = tile_below-some P W r one c.0.kind n c.0.motion p held.holds in (
-      behind (record { child = c.0.child; parent = k } ∷ []) t.0,
-      ap (option_and_then (λ (c : Part P.ring.carrier). option_map (behind (record { child = c.child; parent = k } ∷ [])) (tile_below P r c.kind n c.motion p))) c.1
-          ∙ ap (option_map (behind (record { child = c.0.child; parent = k } ∷ []))) t.1,
+      of_whole (record { child = c.0.child; parent = k } ∷ []) t.0,
+      ap (option_and_then (λ (c : Part P.ring.carrier). option_map (of_whole (record { child = c.child; parent = k } ∷ [])) (tile_below P r c.kind n c.motion p))) c.1
+          ∙ ap (option_map (of_whole (record { child = c.0.child; parent = k } ∷ []))) t.1,
     )
 
 module _ (P : Points) (W : PointLaws P) (r : Rule P.ring.carrier) where
@@ -126,11 +126,11 @@ module _ (P : Points) (W : PointLaws P) (r : Rule P.ring.carrier) where
   tile_below-holds k (suc n) m p t h e = by (holder_of P r k n m p) refl e (λ c a g f. tile_below-holds c.kind n c.motion p a g f)
     where
       by : (x : Option (Part P.ring.carrier)) → holder_of P r k n m p ≡ x
-          → option_and_then (λ (c : Part P.ring.carrier). option_map (behind (record { child = c.child; parent = k } ∷ [])) (tile_below P r c.kind n c.motion p)) x ≡ Some t
+          → option_and_then (λ (c : Part P.ring.carrier). option_map (of_whole (record { child = c.child; parent = k } ∷ [])) (tile_below P r c.kind n c.motion p)) x ≡ Some t
           → ((c : Part P.ring.carrier) (a : Placed P.ring.carrier) → supertile_holds P r c.kind n c.motion p ≡ true → tile_below P r c.kind n c.motion p ≡ Some a
           → holds_point P (map (moved P a.motion) (vertices_of r a.address.kind)) p ≡ true) → holds_point P (map (moved P t.motion) (vertices_of r t.address.kind)) p ≡ true
       by None q f rest = absurd (cc f)
       by (Some c) q f rest =
           let held = holder-is P W r (power P.ring r.factor n) m p 0 (children_of r k) c q in
-          let a = of_some P W r (behind (record { child = c.child; parent = k } ∷ [])) (tile_below P r c.kind n c.motion p) t f in
+          let a = of_some P W r (of_whole (record { child = c.child; parent = k } ∷ [])) (tile_below P r c.kind n c.motion p) t f in
           subst (λ (x : Placed P.ring.carrier). holds_point P (map (moved P x.motion) (vertices_of r x.address.kind)) p ≡ true) a.2 (rest c a.0 held.holds a.1)

@@ -18,14 +18,14 @@ pub record Part (A : Type 0) : Type 0 where
   pub motion : Motion A
 
 -- child number i as a part of a supertile with the motion m
-abbrev pub part_of : (P : Points) → Rule P.ring.carrier → P.ring.carrier → Motion P.ring.carrier → ℕ → Child P.ring.carrier → Part P.ring.carrier
-part_of P r scale m i c = record { child = i; kind = c.kind; motion = child_motion P r scale m c }
+abbrev pub child_part : (P : Points) → Rule P.ring.carrier → P.ring.carrier → Motion P.ring.carrier → ℕ → Child P.ring.carrier → Part P.ring.carrier
+child_part P r scale m i c = record { child = i; kind = c.kind; motion = child_motion P r scale m c }
 
 -- of these children, the first of them number i, the first that holds a point
 abbrev pub holder : (P : Points) → Rule P.ring.carrier → P.ring.carrier → Motion P.ring.carrier → P.ring.carrier → ℕ → List (Child P.ring.carrier) → Option (Part P.ring.carrier)
 holder P r scale m p i [] = None
 holder P r scale m p i (c ∷ cs) =
-    cond (holds_point P (outline P r c.kind scale (child_motion P r scale m c)) p) (Some (part_of P r scale m i c)) (holder P r scale m p (i + 1) cs)
+    cond (holds_point P (outline P r c.kind scale (child_motion P r scale m c)) p) (Some (child_part P r scale m i c)) (holder P r scale m p (i + 1) cs)
 
 -- the part that holds a point, of the supertile of kind k and depth n + 1 moved by m
 abbrev pub holder_of : (P : Points) → Rule P.ring.carrier → ℕ → ℕ → Motion P.ring.carrier → P.ring.carrier → Option (Part P.ring.carrier)

@@ -10,22 +10,22 @@ use Rattle.substitution.specs.Rule.{Rule, children_of}
 use Rattle.substitution.specs.Supertile.{Placed}
 use Rattle.frames.specs.Outline.{outline, holds_point, supertile_holds}
 use Rattle.frames.specs.Part.{Part, holder, holder_of}
-use Rattle.frames.specs.Descent.{behind, tile_below, tile_holding}
+use Rattle.frames.specs.Descent.{of_whole, tile_below, tile_holding}
 use Rattle.frames.specs.Looked.{values_of_children, values_below, powers_from, values_looked_at}
 use Rattle.cyclo_points.specs.declared.order.Order.{Order}
 use Rattle.cyclo_points.specs.Order.{NumberOf, is_refused}
 use Rattle.tile_place.specs.declared.locate_fault.LocateFault.{LocateFault}
 use Rattle.tile_place.specs.declared.locate_fault.LocateFault.TheVariants.{NotInside, CoordLimit}
 use Rattle.tile_place.specs.declared.placed_tile.PlacedTile.{PlacedTile}
-use Rattle.tile_place.specs.Searched.{placed_in, IsFaultOf}
+use Rattle.tile_place.specs.Searched.{placed_in, IsSearchFault}
 use Rattle.tile_place.proofs.Values.{find-append_found}
 use Rattle.tile_place.proofs.Holders.{find-front}
 
-pub behind-behind : {A : Type 0} (ds : List Step) (s : Step) (x : Option (Placed A)) → option_map (behind ds) (option_map (behind (s ∷ [])) x) ≡ option_map (behind (s ∷ ds)) x
+pub behind-behind : {A : Type 0} (ds : List Step) (s : Step) (x : Option (Placed A)) → option_map (of_whole ds) (option_map (of_whole (s ∷ [])) x) ≡ option_map (of_whole (s ∷ ds)) x
 behind-behind ds s None = refl
 behind-behind ds s (Some t) = λ i. Some (record { address = record { kind = t.address.kind; digits = append_assoc t.address.digits (s ∷ []) ds i }; motion = t.motion })
 
-pub behind-none : {A : Type 0} (x : Option (Placed A)) → option_map (behind []) x ≡ x
+pub behind-none : {A : Type 0} (x : Option (Placed A)) → option_map (of_whole []) x ≡ x
 behind-none None = refl
 behind-none (Some t) = λ i. Some (record { address = record { kind = t.address.kind; digits = append-nil t.address.digits i }; motion = t.motion })
 
@@ -52,10 +52,10 @@ module _ (P : Points) (r : Rule P.ring.carrier) (test : P.ring.carrier → Bool)
   values_on c q f = sym (opened (Some c) q ∙ find-front test (values_of_children P r scale m (children_of r k)) _ f)
 
   pub tile_on : (c : Part P.ring.carrier) → held_here (Some c)
-      → option_map (behind (record { child = c.child; parent = k } ∷ [])) (tile_below P r c.kind n c.motion p) ≡ tile_below P r k level m p
+      → option_map (of_whole (record { child = c.child; parent = k } ∷ [])) (tile_below P r c.kind n c.motion p) ≡ tile_below P r k level m p
   tile_on c q =
       sym (ap (λ l. tile_below P r k l m p) e
-      ∙ ap (option_and_then (λ (c : Part P.ring.carrier). option_map (behind (record { child = c.child; parent = k } ∷ [])) (tile_below P r c.kind n c.motion p))) (same_holder (Some c) q))
+      ∙ ap (option_and_then (λ (c : Part P.ring.carrier). option_map (of_whole (record { child = c.child; parent = k } ∷ [])) (tile_below P r c.kind n c.motion p))) (same_holder (Some c) q))
 
   -- none is, and none holds it
   pub values_end : held_here None → find test (values_of_children P r scale m (children_of r k)) ≡ None → find test (values_below P r k level m p) ≡ None
@@ -64,7 +64,7 @@ module _ (P : Points) (r : Rule P.ring.carrier) (test : P.ring.carrier → Bool)
   pub tile_none : held_here None → tile_below P r k level m p ≡ None
   tile_none q =
       ap (λ l. tile_below P r k l m p) e
-      ∙ ap (option_and_then (λ (c : Part P.ring.carrier). option_map (behind (record { child = c.child; parent = k } ∷ [])) (tile_below P r c.kind n c.motion p))) (same_holder None q)
+      ∙ ap (option_and_then (λ (c : Part P.ring.carrier). option_map (of_whole (record { child = c.child; parent = k } ∷ [])) (tile_below P r c.kind n c.motion p))) (same_holder None q)
 
 -- ---- the values of the whole search
 module _ (P : Points) (r : Rule P.ring.carrier) (test : P.ring.carrier → Bool) (k n : ℕ) (m : Motion P.ring.carrier) (p scale : P.ring.carrier) (s : scale ≡ power P.ring r.factor n) where
@@ -104,7 +104,7 @@ pub if_err-each : {T E : Type 0} (x : Result T E) (Q R : E → Type 0) → ((e :
 if_err-each (Ok t) Q R f h = tt
 if_err-each (Err e) Q R f h = f e h
 
-pub fault_same : (o : Order) (vs ws : List (NumberOf o)) (t u : Option (Placed (NumberOf o))) → find (is_refused o) vs ≡ find (is_refused o) ws → t ≡ u → (fault : LocateFault) → IsFaultOf o ws u fault → IsFaultOf o vs t fault
+pub fault_same : (o : Order) (vs ws : List (NumberOf o)) (t u : Option (Placed (NumberOf o))) → find (is_refused o) vs ≡ find (is_refused o) ws → t ≡ u → (fault : LocateFault) → IsSearchFault o ws u fault → IsSearchFault o vs t fault
 fault_same o vs ws t u e f NotInside h = (e ∙ h.0, f ∙ h.1)
 fault_same o vs ws t u e f (CoordLimit v) h = (e ∙ h.0, h.1)
 
@@ -114,5 +114,5 @@ same_tile o x t u e h = if_ok-each x (λ tile. u ≡ Some (placed_in o tile)) (�
 pub same_none : (o : Order) (x : Result PlacedTile LocateFault) (vs ws : List (NumberOf o)) → find (is_refused o) vs ≡ find (is_refused o) ws → IfOk x (λ tile. find (is_refused o) ws ≡ None) → IfOk x (λ tile. find (is_refused o) vs ≡ None)
 same_none o x vs ws e h = if_ok-each x (λ tile. find (is_refused o) ws ≡ None) (λ tile. find (is_refused o) vs ≡ None) (λ tile k. e ∙ k) h
 
-pub same_fault : (o : Order) (x : Result PlacedTile LocateFault) (vs ws : List (NumberOf o)) (t u : Option (Placed (NumberOf o))) → find (is_refused o) vs ≡ find (is_refused o) ws → t ≡ u → IfErr x (IsFaultOf o ws u) → IfErr x (IsFaultOf o vs t)
-same_fault o x vs ws t u e f h = if_err-each x (IsFaultOf o ws u) (IsFaultOf o vs t) (fault_same o vs ws t u e f) h
+pub same_fault : (o : Order) (x : Result PlacedTile LocateFault) (vs ws : List (NumberOf o)) (t u : Option (Placed (NumberOf o))) → find (is_refused o) vs ≡ find (is_refused o) ws → t ≡ u → IfErr x (IsSearchFault o ws u) → IfErr x (IsSearchFault o vs t)
+same_fault o x vs ws t u e f h = if_err-each x (IsSearchFault o ws u) (IsSearchFault o vs t) (fault_same o vs ws t u e f) h

@@ -8,7 +8,7 @@ use Rattle.frames.specs.Part.{Part, holder}
 use Rattle.frames.specs.Looked.{values_of_children}
 use Rattle.std.specs.Option.{option_map}
 use Rattle.addressing.specs.Search.{or_else}
-use Rattle.frames.specs.Part.{part_of}
+use Rattle.frames.specs.Part.{child_part}
 use Rattle.frames.specs.Looked.{values_of_child}
 use Rattle.tile_place.specs.Parts.{if_holds}
 use Rattle.tile_place.proofs.Ahead.{there, drop-next}
@@ -44,7 +44,7 @@ find-front {A} test (x ∷ xs) ys e = at_test (test x) e (find-front test xs ys)
 
 module _ (P : Points) (r : Rule P.ring.carrier) (scale : P.ring.carrier) (m : Motion P.ring.carrier) (point : P.ring.carrier) (cs : List (Child P.ring.carrier)) (n : ℕ) (d : Child P.ring.carrier) (h : n < length cs) where
   abbrev here : Part P.ring.carrier
-  here = part_of P r scale m n (get_or cs n d)
+  here = child_part P r scale m n (get_or cs n d)
 
   abbrev it_holds : Bool
   it_holds = holds_point P (outline P r here.kind scale here.motion) point

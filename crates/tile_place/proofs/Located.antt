@@ -28,8 +28,8 @@ use Rattle.rule_model.specs.Views.{rule_of}
 use Rattle.tile_place.specs.declared.placed_tile.PlacedTile.{PlacedTile}
 use Rattle.tile_place.specs.declared.locate_fault.LocateFault.{LocateFault}
 use Rattle.tile_place.specs.declared.locate_fault.LocateFault.TheVariants.{NotInside, CoordLimit}
-use Rattle.tile_place.specs.Located.{moved_tiles, IsOnlyTileHolding, IsInside, first_refused_looked_at, IsCauseOf}
-use Rattle.tile_place.specs.Searched.{placed_in, IsFaultOf}
+use Rattle.tile_place.specs.Located.{moved_tiles, IsOnlyTileHolding, HasInside, first_refused_looked_at, IsCauseOf}
+use Rattle.tile_place.specs.Searched.{placed_in, IsSearchFault}
 use Rattle.tile_place.proofs.Ahead.{map-map}
 use Rattle.tile_place.proofs.Plane.{IsSettled, its_rule}
 use Rattle.tile_place.proofs.Held.{IsDissected, has_holders, only_one}
@@ -46,10 +46,10 @@ module _ (m : Rule) (settled : IsSettled m) (W : PointsLaw m.order) (law : Disse
   dissected = law (its_rule m settled)
 
   -- the search ends at a tile exactly where the supertile holds the point
-  inside : (t : Placed P.ring.carrier) → tile_holding P r k n at p ≡ Some t → IsInside (tiling_of m) k n at p
+  inside : (t : Placed P.ring.carrier) → tile_holding P r k n at p ≡ Some t → HasInside (tiling_of m) k n at p
   inside t e = (held (supertile_holds P r k n at p) (tile_below P r k n at p) t e).0
 
-  outside : tile_holding P r k n at p ≡ None → ¬ IsInside (tiling_of m) k n at p
+  outside : tile_holding P r k n at p ≡ None → ¬ HasInside (tiling_of m) k n at p
   outside e h =
       let t = tile_below-some P W r (has_holders P W r dissected settled.usable.numbered.child_exists) k n at p h in
       absurd (cc (sym e ∙ ap (λ b. cond b (tile_below P r k n at p) None) h ∙ t.1))
@@ -87,35 +87,35 @@ module _ (m : Rule) (settled : IsSettled m) (W : PointsLaw m.order) (law : Disse
 
   -- ---- the answer
   module _ (x : Result PlacedTile LocateFault) (holder : IfOk x (λ tile. tile_holding P r k n at p ≡ Some (placed_in m.order tile)))
-      (none : IfOk x (λ _. find (is_refused m.order) (values_looked_at P r k n at p) ≡ None)) (fault : IfErr x (IsFaultOf m.order (values_looked_at P r k n at p) (tile_holding P r k n at p))) where
-    cause_of : (f : LocateFault) → IsFaultOf m.order (values_looked_at P r k n at p) (tile_holding P r k n at p) f → IsCauseOf (tiling_of m) k n at p f
+      (none : IfOk x (λ _. find (is_refused m.order) (values_looked_at P r k n at p) ≡ None)) (fault : IfErr x (IsSearchFault m.order (values_looked_at P r k n at p) (tile_holding P r k n at p))) where
+    cause_of : (f : LocateFault) → IsSearchFault m.order (values_looked_at P r k n at p) (tile_holding P r k n at p) f → IsCauseOf (tiling_of m) k n at p f
     cause_of NotInside h = (h.0, outside h.1)
     cause_of (CoordLimit v) h = h
 
     pub causes : IfErr x (IsCauseOf (tiling_of m) k n at p)
     causes = by x fault
       where
-        by : (x : Result PlacedTile LocateFault) → IfErr x (IsFaultOf m.order (values_looked_at P r k n at p) (tile_holding P r k n at p)) → IfErr x (IsCauseOf (tiling_of m) k n at p)
+        by : (x : Result PlacedTile LocateFault) → IfErr x (IsSearchFault m.order (values_looked_at P r k n at p) (tile_holding P r k n at p)) → IfErr x (IsCauseOf (tiling_of m) k n at p)
         by (Ok t) h = tt
         by (Err f) h = cause_of f h
 
     -- it is a tile exactly where no value is refused and the supertile holds the point
-    pub found_exactly : IsOk x ↔ ((first_refused_looked_at (tiling_of m) k n at p ≡ None) × IsInside (tiling_of m) k n at p)
+    pub found_exactly : IsOk x ↔ ((first_refused_looked_at (tiling_of m) k n at p ≡ None) × HasInside (tiling_of m) k n at p)
     found_exactly = by x holder none causes
       where
         by : (x : Result PlacedTile LocateFault) → IfOk x (λ tile. tile_holding P r k n at p ≡ Some (placed_in m.order tile))
             → IfOk x (λ _. find (is_refused m.order) (values_looked_at P r k n at p) ≡ None) → IfErr x (IsCauseOf (tiling_of m) k n at p)
-            → IsOk x ↔ ((first_refused_looked_at (tiling_of m) k n at p ≡ None) × IsInside (tiling_of m) k n at p)
+            → IsOk x ↔ ((first_refused_looked_at (tiling_of m) k n at p ≡ None) × HasInside (tiling_of m) k n at p)
         by (Ok t) h e c = (λ _. (e, inside (placed_in m.order t) h), λ _. refl)
         by (Err NotInside) h e c = (λ u. absurd (cc u), λ f. absurd (c.1 f.1))
         by (Err (CoordLimit v)) h e c = (λ u. absurd (cc u), λ f. absurd (cc (sym f.0 ∙ c.0)))
 
     -- and NotInside exactly where none is refused and it doesn't
-    pub not_inside : (x ≡ Err NotInside) ↔ ((first_refused_looked_at (tiling_of m) k n at p ≡ None) × (¬ IsInside (tiling_of m) k n at p))
+    pub not_inside : (x ≡ Err NotInside) ↔ ((first_refused_looked_at (tiling_of m) k n at p ≡ None) × (¬ HasInside (tiling_of m) k n at p))
     not_inside = by x holder causes
       where
         by : (x : Result PlacedTile LocateFault) → IfOk x (λ tile. tile_holding P r k n at p ≡ Some (placed_in m.order tile)) → IfErr x (IsCauseOf (tiling_of m) k n at p)
-            → (x ≡ Err NotInside) ↔ ((first_refused_looked_at (tiling_of m) k n at p ≡ None) × (¬ IsInside (tiling_of m) k n at p))
+            → (x ≡ Err NotInside) ↔ ((first_refused_looked_at (tiling_of m) k n at p ≡ None) × (¬ HasInside (tiling_of m) k n at p))
         by (Ok t) h c = (λ e. absurd (cc e), λ f. absurd (f.1 (inside (placed_in m.order t) h)))
         by (Err NotInside) h c = (λ _. c, λ _. refl)
         by (Err (CoordLimit v)) h c = (λ e. absurd (cc e), λ f. absurd (cc (sym f.0 ∙ c.0)))

@@ -16,7 +16,7 @@ use Rattle.cyclo_points.specs.Motion.{motion_in}
 use Rattle.rule_model.specs.declared.rule.Rule.{Rule}
 use Rattle.rule_model.specs.declared.child.Child.{Child}
 use Rattle.rule_model.specs.Views.{rule_of, child_in}
-use Rattle.frames.specs.Part.{part_of}
+use Rattle.frames.specs.Part.{child_part}
 use Rattle.tile_place.specs.Parts.{part_in}
 use Rattle.tile_place.proofs.Ahead.{map-map}
 
@@ -25,21 +25,21 @@ module _ (o : Order) (r m : Rule) (eo : o ≡ r.order) (er : r ≡ m) (child : C
       → point_in r.order product ≡ (points_of r.order).ring.mul (point_in r.order scale) (point_in r.order child.shift)
       → motion_in r.order moved ≡ followed (points_of r.order) (motion_in r.order (record { turn = child.turn; shift = product })) (motion_in r.order at)
       → part_in r.order (record { child = number; kind = child.kind; motion = moved })
-      ≡ part_of (points_of r.order) (rule_of r) (point_in r.order scale) (motion_in r.order at) number (child_of (points_of r.order) (rule_of r) kind number)
+      ≡ child_part (points_of r.order) (rule_of r) (point_in r.order scale) (motion_in r.order at) number (child_of (points_of r.order) (rule_of r) kind number)
   in_its_order same times moves =
       ap (λ (g : MotionOf (NumberOf r.order)). record { child = number; kind = child.kind; motion = g })
       (moves ∙ ap (λ z. followed (points_of r.order) (record { turn = child.turn; shift = z }) (motion_in r.order at)) times)
-      ∙ ap (part_of (points_of r.order) (rule_of r) (point_in r.order scale) (motion_in r.order at) number) same
+      ∙ ap (child_part (points_of r.order) (rule_of r) (point_in r.order scale) (motion_in r.order at) number) same
 
   -- the part found is the child's
   pub part_is : child_in r.order child ≡ child_of (points_of r.order) (rule_of r) kind number
       → point_in o product ≡ (points_of o).ring.mul (point_in o scale) (point_in o child.shift)
       → motion_in o moved ≡ followed (points_of o) (motion_in o (record { turn = child.turn; shift = product })) (motion_in o at)
       → part_in m.order (record { child = number; kind = child.kind; motion = moved })
-      ≡ part_of (points_of m.order) (rule_of m) (point_in m.order scale) (motion_in m.order at) number (child_of (points_of m.order) (rule_of m) kind number)
+      ≡ child_part (points_of m.order) (rule_of m) (point_in m.order scale) (motion_in m.order at) number (child_of (points_of m.order) (rule_of m) kind number)
   part_is same times moves =
       subst (λ (m : Rule). part_in m.order (record { child = number; kind = child.kind; motion = moved })
-      ≡ part_of (points_of m.order) (rule_of m) (point_in m.order scale) (motion_in m.order at) number (child_of (points_of m.order) (rule_of m) kind number)) er
+      ≡ child_part (points_of m.order) (rule_of m) (point_in m.order scale) (motion_in m.order at) number (child_of (points_of m.order) (rule_of m) kind number)) er
       (in_its_order same
       (subst (λ q. point_in q product ≡ (points_of q).ring.mul (point_in q scale) (point_in q child.shift)) eo times)
       (subst (λ q. motion_in q moved ≡ followed (points_of q) (motion_in q (record { turn = child.turn; shift = product })) (motion_in q at)) eo moves))

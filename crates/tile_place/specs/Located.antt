@@ -31,8 +31,8 @@ pub record IsOnlyTileHolding (t : Tiling) (k n : ℕ) (m : MotionOf t) (p : Numb
   pub only : (y : Placed (NumberOf t.order)) → IsTileHolding t k n m p y → y ≡ x
 
 -- the supertile of kind k and depth n, moved by m, holds the point: its count there is 1
-abbrev pub IsInside : (t : Tiling) → ℕ → ℕ → MotionOf t → NumberOf t.order → Type 0
-IsInside t k n m p = supertile_holds (points_of t.order) t.rule k n m p ≡ true
+abbrev pub HasInside : (t : Tiling) → ℕ → ℕ → MotionOf t → NumberOf t.order → Type 0
+HasInside t k n m p = supertile_holds (points_of t.order) t.rule k n m p ≡ true
 
 -- the first refused value of those looked at for the point in that supertile
 abbrev pub first_refused_looked_at : (t : Tiling) → ℕ → ℕ → MotionOf t → NumberOf t.order → Option (NumberOf t.order)
@@ -40,5 +40,5 @@ first_refused_looked_at t k n m p = find (is_refused t.order) (values_looked_at 
 
 -- the cause of each fault: no value looked at is refused and the supertile doesn't hold the point, or this is the first that is refused
 abbrev pub IsCauseOf : (t : Tiling) → ℕ → ℕ → MotionOf t → NumberOf t.order → LocateFault → Type 0
-IsCauseOf t k n m p NotInside = (first_refused_looked_at t k n m p ≡ None) × (¬ IsInside t k n m p)
+IsCauseOf t k n m p NotInside = (first_refused_looked_at t k n m p ≡ None) × (¬ HasInside t k n m p)
 IsCauseOf t k n m p (CoordLimit v) = (first_refused_looked_at t k n m p ≡ Some (point_in t.order v)) × IsOf t.order v

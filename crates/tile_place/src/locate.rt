@@ -11,7 +11,7 @@ ghost use Rattle.rule_model.specs.Tiling.{tiling_of, children};
 ghost use Rattle.rule_model.specs.Views.{rule_of};
 ghost use Rattle.tile_shape.specs.Views.{address_of};
 ghost use Rattle.tile_place.specs.declared.locate_fault.LocateFault.TheVariants.{NotInside};
-ghost use Rattle.tile_place.specs.Located.{IsOnlyTileHolding, IsInside, first_refused_looked_at, IsCauseOf};
+ghost use Rattle.tile_place.specs.Located.{IsOnlyTileHolding, HasInside, first_refused_looked_at, IsCauseOf};
 ghost use Rattle.tile_place.specs.Searched.{placed_in};
 
 use crate::locate_fault::LocateFault;
@@ -51,9 +51,9 @@ impl Machine {
         ensures its_motion { IfOk result (λ tile. motion_in self.now.order tile.motion ≡ followed (points_of self.now.order)
             (placement (points_of self.now.order) (rule_of self.now) (address_of tile.addr).digits) (motion_in self.now.order at.now)) }
         ensures not_inside { (result ≡ Err NotInside) ↔ ((first_refused_looked_at (tiling_of self.now) kind depth (motion_in self.now.order at.now)
-            (point_in self.now.order point.now) ≡ None) × (¬ IsInside (tiling_of self.now) kind depth (motion_in self.now.order at.now) (point_in self.now.order point.now))) }
+            (point_in self.now.order point.now) ≡ None) × (¬ HasInside (tiling_of self.now) kind depth (motion_in self.now.order at.now) (point_in self.now.order point.now))) }
         ensures found_exactly { IsOk result ↔ ((first_refused_looked_at (tiling_of self.now) kind depth (motion_in self.now.order at.now)
-            (point_in self.now.order point.now) ≡ None) × IsInside (tiling_of self.now) kind depth (motion_in self.now.order at.now) (point_in self.now.order point.now)) }
+            (point_in self.now.order point.now) ≡ None) × HasInside (tiling_of self.now) kind depth (motion_in self.now.order at.now) (point_in self.now.order point.now)) }
         ensures fault { IfErr result (IsCauseOf (tiling_of self.now) kind depth (motion_in self.now.order at.now) (point_in self.now.order point.now)) }
         ensures turn_below { IfOk result (λ tile. tile.motion.turn < (points_of self.now.order).order) }
         ensures shift_within { IfOk result (λ tile. IsWithin (2 ^ 24) tile.motion.shift) }

@@ -11,7 +11,7 @@ ghost use Rattle.cyclo_points.specs.Point.{point_in, IsOf, IsWithin};
 ghost use Rattle.cyclo_points.specs.Motion.{motion_in};
 ghost use Rattle.rule_model.specs.Views.{rule_of};
 ghost use Rattle.addressing.specs.Search.{or_else};
-ghost use Rattle.frames.specs.Part.{part_of};
+ghost use Rattle.frames.specs.Part.{child_part};
 ghost use Rattle.frames.specs.Looked.{values_of_child};
 ghost use Rattle.tile_place.specs.Parts.{part_in, IsPart, if_holds};
 
@@ -45,7 +45,7 @@ impl Machine {
         requires at_in_order { IsOf self.now.order at.now.shift }
         requires point_within { IsWithin (2 ^ 24) point.now }
         ensures part { IfOk result (λ seen. part_in self.now.order seen.part
-            ≡ part_of (points_of self.now.order) (rule_of self.now) (point_in self.now.order scale.now) (motion_in self.now.order at.now) number
+            ≡ child_part (points_of self.now.order) (rule_of self.now) (point_in self.now.order scale.now) (motion_in self.now.order at.now) number
             (child_of (points_of self.now.order) (rule_of self.now) kind number)) }
         ensures holds { IfOk result (λ seen. seen.holds ≡ (sought && holds_point (points_of self.now.order)
             (outline (points_of self.now.order) (rule_of self.now) seen.part.kind (point_in self.now.order scale.now) (motion_in self.now.order seen.part.motion))

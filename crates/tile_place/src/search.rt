@@ -6,7 +6,7 @@ ghost use Rattle.cyclo_points.specs.Order.{points_of, is_refused};
 ghost use Rattle.cyclo_points.specs.Point.{point_in, IsOf, IsWithin};
 ghost use Rattle.cyclo_points.specs.Motion.{motion_in};
 ghost use Rattle.rule_model.specs.Views.{rule_of};
-ghost use Rattle.tile_place.specs.Searched.{placed_in, IsFaultOf};
+ghost use Rattle.tile_place.specs.Searched.{placed_in, IsSearchFault};
 
 use crate::locate_fault::LocateFault;
 use crate::machine::Machine;
@@ -42,7 +42,7 @@ impl Machine {
         ensures in_order { IfOk result (λ tile. IsOf self.now.order tile.motion.shift) }
         ensures none_refused { IfOk result (λ _. find (is_refused self.now.order) (values_looked_at (points_of self.now.order) (rule_of self.now) kind depth
             (motion_in self.now.order at.now) (point_in self.now.order point.now)) ≡ None) }
-        ensures fault { IfErr result (λ fault. IsFaultOf self.now.order (values_looked_at (points_of self.now.order) (rule_of self.now) kind depth
+        ensures fault { IfErr result (λ fault. IsSearchFault self.now.order (values_looked_at (points_of self.now.order) (rule_of self.now) kind depth
             (motion_in self.now.order at.now) (point_in self.now.order point.now))
             (tile_holding (points_of self.now.order) (rule_of self.now) kind depth
             (motion_in self.now.order at.now) (point_in self.now.order point.now)) fault) }
@@ -87,7 +87,7 @@ impl Machine {
         ensures in_order { IfOk result (λ tile. IsOf self.now.order tile.motion.shift) }
         ensures none_refused { IfOk result (λ _. find (is_refused self.now.order) (values_below (points_of self.now.order) (rule_of self.now) kind depth
             (motion_in self.now.order at.now) (point_in self.now.order point.now)) ≡ None) }
-        ensures fault { IfErr result (λ fault. IsFaultOf self.now.order (values_below (points_of self.now.order) (rule_of self.now) kind depth
+        ensures fault { IfErr result (λ fault. IsSearchFault self.now.order (values_below (points_of self.now.order) (rule_of self.now) kind depth
             (motion_in self.now.order at.now) (point_in self.now.order point.now))
             (tile_below (points_of self.now.order) (rule_of self.now) kind depth
             (motion_in self.now.order at.now) (point_in self.now.order point.now)) fault) }

@@ -3,7 +3,7 @@ use Rattle.std.specs.Option.{option_map}
 use Rattle.std.proofs.lemmas.List.{length-map}
 use Rattle.ordered_ring.specs.Ring.{power}
 use Rattle.frames.specs.Part.{holder}
-use Rattle.frames.specs.Descent.{tile_below, behind}
+use Rattle.frames.specs.Descent.{tile_below, of_whole}
 use Rattle.substitution.specs.Rule.{children_of}
 use Rattle.cyclo_points.specs.Order.{points_of, is_refused}
 use Rattle.cyclo_points.specs.Point.{point_in}
@@ -44,9 +44,9 @@ loop-level-preserved c =
     record {
       values = values_on P r (is_refused m.order) c.loop-level.top n c.loop-level.level at point scale down power_is (part_in m.order part) held c.in-Ok-Some.ensures.none_refused ∙ c.loop-level.invariant.values;
       tile =
-          ap (λ xs. option_map (behind (map step_of xs)) (tile_below P r part.kind n (motion_in m.order part.motion) point)) c.insert.ensures.items
+          ap (λ xs. option_map (of_whole (map step_of xs)) (tile_below P r part.kind n (motion_in m.order part.motion) point)) c.insert.ensures.items
           ∙ sym (behind-behind (map step_of c.loop-level.digits.items) (record { child = part.child; parent = c.loop-level.top }) (tile_below P r part.kind n (motion_in m.order part.motion) point))
-          ∙ ap (option_map (behind (map step_of c.loop-level.digits.items))) (tile_on P r (is_refused m.order) c.loop-level.top n c.loop-level.level at point scale down power_is (part_in m.order part) held)
+          ∙ ap (option_map (of_whole (map step_of c.loop-level.digits.items))) (tile_on P r (is_refused m.order) c.loop-level.top n c.loop-level.level at point scale down power_is (part_in m.order part) held)
           ∙ c.loop-level.invariant.tile;
       kind_exists = is_part.kind_exists;
       turn_below = is_part.turn_below;
@@ -69,7 +69,7 @@ returns-in-Ok-None-clause-fault c =
     let held : None ≡ holder P r scale at point 0 (children_of r c.loop-level.top) =
     ap (option_map (part_in m.order)) (sym c.in-Ok-None.field-0-is) ∙ c.in-Ok-None.ensures.held in (
       sym c.loop-level.invariant.values ∙ values_end P r (is_refused m.order) c.loop-level.top n c.loop-level.level at point scale down power_is held c.in-Ok-None.ensures.none_refused,
-      sym c.loop-level.invariant.tile ∙ ap (option_map (behind (map step_of c.loop-level.digits.items))) (tile_none P r (is_refused m.order) c.loop-level.top n c.loop-level.level at point scale down power_is held),
+      sym c.loop-level.invariant.tile ∙ ap (option_map (of_whole (map step_of c.loop-level.digits.items))) (tile_none P r (is_refused m.order) c.loop-level.top n c.loop-level.level at point scale down power_is held),
     )
 
 pub returns-in-Err-clause-fault : goal.returns-in-Err-clause-fault
