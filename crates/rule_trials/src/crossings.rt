@@ -1,9 +1,9 @@
-//! Tiles across an edge, on the chair.
+//! Tiles across an edge, on the chair, and how many different blocks the flat tables of rules have.
 ghost use Rattle.std.specs.Prelude.{◌≡◌, ◌<◌};
 ghost use Rattle.rule_model.specs.Checked.{rule_contacts};
 
-use crate::given::rule;
-use crate::shapes::CHAIR;
+use crate::given::{Given, rule};
+use crate::shapes::{CHAIR, HALF_HEX, HALF_KITES, HALF_RHOMBS, HALF_SQUARES};
 use dissect_check::check::check;
 use edge_tables::steps::Steps;
 use rule_model::checked::Checked;
@@ -113,6 +113,26 @@ fn first_wrong<L: Ledger>(alloc: Global, blank: Blank) -> Result<Option<usize>, 
         }
     }
     Ok(None)
+}
+
+/// Rules, and how many different contact blocks and part blocks their tables have.
+const BLOCKS: [(Given, u16, u16); 5] = [
+    (CHAIR, 4, 8),
+    (HALF_RHOMBS, 10, 10),
+    (HALF_KITES, 10, 9),
+    (HALF_SQUARES, 17, 10),
+    (HALF_HEX, 4, 5),
+];
+
+#[test]
+fn blocks(rt: HostRuntime) -> Result<(), Fail> {
+    for (given, contacts, parts) in &BLOCKS {
+        let checked = check(rt.alloc(), rule(rt.alloc(), given)?)?;
+        let transducer = Transducer::compile(rt.alloc(), checked.tables())?;
+        assert_eq!(rt; transducer.flat().contact_blocks(), *contacts);
+        assert_eq!(rt; transducer.flat().part_blocks(), *parts);
+    }
+    Ok(())
 }
 
 #[test]

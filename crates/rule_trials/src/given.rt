@@ -91,7 +91,12 @@ pub fn rule_of(alloc: Global, edition: Edition, given: &Given) -> Result<Rule, A
     })
 }
 
-/// The rule of these numbers, in edition one.
+/// The rule of these numbers, in the first edition that has its order.
 pub fn rule(alloc: Global, given: &Given) -> Result<Rule, AllocError> {
-    rule_of(alloc, Edition::One, given)
+    let edition = if given.0 == Order::Six {
+        Edition::Two
+    } else {
+        Edition::One
+    };
+    rule_of(alloc, edition, given)
 }
