@@ -7,6 +7,8 @@
 #![tactic(auto)]
 
 #[cfg(test)]
+mod agreement;
+#[cfg(test)]
 mod crossings;
 #[cfg(test)]
 mod described;
@@ -14,6 +16,8 @@ mod described;
 mod editions;
 #[cfg(test)]
 mod given;
+#[cfg(test)]
+mod nested;
 #[cfg(test)]
 mod numbers;
 #[cfg(test)]
