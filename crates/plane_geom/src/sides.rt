@@ -21,7 +21,7 @@ use std::cmp::Ordering;
 
 /// The side of the directed edge a→b on which p lies: Greater strictly left of it, Equal on its
 /// line, Less strictly right. Coefficients may be up to 2^25.
-#[inline(never)]
+#[inline]
 pub fn side(order: Order, a: &Point, b: &Point, p: &Point) -> Ordering
     requires a_within { IsWithin (2 ^ 25) a.now }
     requires b_within { IsWithin (2 ^ 25) b.now }
@@ -57,7 +57,7 @@ pub(crate) fn y_gap(order: Order, a: &Point, b: &Point) -> Real
 }
 
 /// Whether the vertex lies above p.
-#[inline]
+#[inline(always)]
 pub fn is_above(order: Order, vertex: &Point, p: &Point) -> bool
     requires vertex_within { IsWithin (2 ^ 25) vertex.now }
     requires p_within { IsWithin (2 ^ 25) p.now }
@@ -83,7 +83,7 @@ pub fn crossing(order: Order, a: &Point, b: &Point, p: &Point) -> i8
 }
 
 /// The crossing of an edge of which it is known whether each end lies above the point.
-#[inline]
+#[inline(always)]
 pub fn crossing_between(
     order: Order,
     a: &Point,
