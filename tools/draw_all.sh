@@ -33,5 +33,6 @@ patch half_triangle_three --colour turn --window 20,12 --outline 3 rules/half_tr
 patch address_chair --colour child --label --mark 0:1/0,2/0 --width 400 rules/chair.toml 0 2
 patch address_p3 --colour child --label --mark 2:1/0,0/0 --mark 3:1/2,1/0 --width 400 rules/penrose_p3.toml 0 2
 "$python" tools/draw_dissection.py rules/chair.toml > "$to/docs/gallery/dissection.svg" || fault=1
+"$python" tools/draw_walk.py rules/chair.toml 0 3/0,1/0,0/0 6,6,0,7 > "$to/docs/gallery/walk.svg" || fault=1
 "$python" tools/draw_steps.py > "$to/docs/gallery/steps.svg" || fault=1
 exit $fault
