@@ -1,0 +1,106 @@
+//! The laws of windows, for the points of each order.
+ghost use Rattle.cyclo_points.specs.Order.{points_of};
+ghost use Rattle.windows.specs.Laws.{ClosedChainLaw, ClosedChainsLaw, TriangleMeetsLaw, PolygonMeetsLaw};
+ghost use Rattle.windows.specs.Laws.{CutLaw, CutsLaw, RotationLaw, GluingLaw, WholesLaw};
+ghost use Rattle.windows.specs.Laws.{WindowLaw, OutlineLaw, OwnerLaw, EnoughLaw};
+ghost use Rattle.windows.specs.Laws.{StartLaw, StepLaw, FinishLaw, OpenStepLaw, FoundOrOpenLaw, NoneOpenLaw};
+ghost use Rattle.windows.specs.Laws.{SearchAnswersLaw, SearchEndsLaw};
+ghost use Rattle.windows.specs.Laws.{DepthRefusalLaw, AllDrawnLaw, CountRefusalLaw, GoesOnLaw, EndsWithinLaw};
+ghost use Rattle.windows.specs.Laws.{LevelLaw, LiftLevelLaw};
+
+use cyclo_points::order::Order;
+
+/// The law of closed chains: the count of a polygon is constant on an open box that its edges avoid;
+/// and so is the sum over polygons, where those of their edges that meet the box cancel in pairs.
+pub fn closed_chain_law(order: Order)
+    ensures one { ClosedChainLaw (points_of order) }
+    ensures together { ClosedChainsLaw (points_of order) }
+{}
+
+/// The law that a triangle that turns left, and a polygon whose fan does, meets an open box where an
+/// edge of it does.
+pub fn edge_meets_law(order: Order)
+    ensures triangle { TriangleMeetsLaw (points_of order) }
+    ensures polygon { PolygonMeetsLaw (points_of order) }
+{}
+
+/// The law that an edge that is cut at points of it, in order, meets an open box exactly where one of
+/// its parts does.
+pub fn cut_law(order: Order)
+    ensures one { CutLaw (points_of order) }
+    ensures many { CutsLaw (points_of order) }
+{}
+
+/// The law of two polygons that are glued along an edge: the outline of both counts as they do
+/// together. A polygon counts the same from whichever vertex it begins, and whole tiles glued of the
+/// tiles that cover a window cover it.
+pub fn gluing_law(order: Order)
+    ensures rotation { RotationLaw (points_of order) }
+    ensures gluing { GluingLaw (points_of order) }
+    ensures covering { WholesLaw (points_of order) }
+{}
+
+/// The theorem of the window: tiles of a dissected patch among which one holds the centre, and the
+/// tile across each edge that meets the window is one of them, are all that meet the window, and
+/// cover it. A search that comes to its end answers such tiles, at the least enough depth, and it
+/// comes to its end exactly within the limits.
+pub fn window_law(order: Order)
+    ensures found { WindowLaw (points_of order) }
+    ensures answers { SearchAnswersLaw (points_of order) }
+    ensures ends { SearchEndsLaw (points_of order) }
+{}
+
+/// The law that a tile of a dissected patch is known by its outline, and that no directed edge is of
+/// two tiles that share no point.
+pub fn outline_law(order: Order)
+    ensures known { OutlineLaw (points_of order) }
+    ensures one_owner { OwnerLaw (points_of order) }
+{}
+
+/// The law that a depth of a growing patch is enough for a window exactly where the patch's polygon
+/// holds the centre and none of its edges meets the window.
+pub fn enough_law(order: Order)
+    ensures { EnoughLaw (points_of order) }
+{}
+
+/// The law that a search for the tiles of a window keeps its state right, from the tile of the centre
+/// by steps across open edges; and that where no edge is open it has found what it is to find.
+pub fn search_law(order: Order)
+    ensures start { StartLaw (points_of order) }
+    ensures step { StepLaw (points_of order) }
+    ensures finish { FinishLaw (points_of order) }
+{}
+
+/// The law that the new open edges are found by comparing the new tile's edges with open edges alone.
+pub fn open_step_law(order: Order)
+    ensures { OpenStepLaw (points_of order) }
+{}
+
+/// The law that a search that crosses each edge that meets the window, open or not, finds the same
+/// tiles.
+pub fn every_edge_law(order: Order)
+    ensures found_or_open { FoundOrOpenLaw (points_of order) }
+    ensures none_open { NoneOpenLaw (points_of order) }
+{}
+
+/// The law of refusals: an open edge with no tile across it means that no depth is enough; a tile
+/// found is drawn at each enough depth; and tiles found are no more than are drawn there.
+pub fn refusal_law(order: Order)
+    ensures depth { DepthRefusalLaw (points_of order) }
+    ensures drawn { AllDrawnLaw (points_of order) }
+    ensures count { CountRefusalLaw (points_of order) }
+{}
+
+/// The law that the search goes on where the window is within the limits, and comes to its end only
+/// there.
+pub fn limits_law(order: Order)
+    ensures onward { GoesOnLaw (points_of order) }
+    ensures end { EndsWithinLaw (points_of order) }
+{}
+
+/// The law of levels: of two lists of as many digits, the level is at most n exactly where the digits
+/// from number n up are the same; so it is with digits of depth n, lifted, and with no others.
+pub fn level_law()
+    ensures level { LevelLaw }
+    ensures lifts { LiftLevelLaw }
+{}
