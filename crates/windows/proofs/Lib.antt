@@ -20,4 +20,10 @@ pub mod OpenStep
 pub mod WholeSearch
 pub mod GrownPolygon
 pub mod Level
+pub mod Places
+pub mod DistinctTiles
+pub mod MovedTiles
+pub mod FramePatch
+pub mod Lifts
+pub mod FrameEdges
 pub mod Carried

@@ -21,4 +21,6 @@ pub mod Refusals
 pub mod Limits
 pub mod WholeSearch
 pub mod Level
+pub mod FramePatch
+pub mod FrameLaws
 pub mod Laws
