@@ -1,5 +1,5 @@
 -- Edges of the tiles of a frame: across from one another as in the supertile, and on the boundary as there.
-use Rattle.std.proofs.Common.{◌≡◌, ◌⊎◌, inl, inr, ℕ, ◌<◌, ◌≤◌, Bool, true, false, List, length, Some, refl, sym, ap, ◌∙◌, subst}
+use Rattle.std.proofs.Common.{◌≡◌, ◌⊎◌, inl, inr, ℕ, ◌<◌, ◌≤◌, Bool, true, List, length, Some, refl, sym, ap, ◌∙◌, subst}
 use Rattle.std.proofs.lemmas.Bool.{and_from}
 use Rattle.ordered_ring.specs.Sign.{Signed}
 use Rattle.ordered_plane.specs.Plane.{PlanePoint}
@@ -9,12 +9,11 @@ use Rattle.addressing.specs.Tables.{Tables, child_kinds}
 use Rattle.addressing.specs.Search.{IsAmong}
 use Rattle.addressing.proofs.Chains.{IsChain, chain_of, fits_of}
 use Rattle.substitution.specs.Plane.{plane_point, Keeps}
-use Rattle.substitution.specs.Motion.{Motion, moved, followed}
+use Rattle.substitution.specs.Motion.{moved, followed}
 use Rattle.substitution.specs.RuleParts.{edge_count, vertex, next}
 use Rattle.substitution.specs.Supertile.{Placed, supertile}
 use Rattle.substitution.proofs.Motions.{moved-followed}
 use Rattle.edge_to_edge.specs.Contacts.{tables_of}
-use Rattle.edge_to_edge.specs.Edges.{Edge}
 use Rattle.edge_to_edge.proofs.LieCases.{same_place-self}
 use Rattle.dissection.specs.Across.{RunsBack, IsTileAcross}
 use Rattle.dissection.specs.Crossings.{IsCrossed, IsOutside}
@@ -26,7 +25,7 @@ use Rattle.dissection.proofs.AcrossTouches.{same}
 use Rattle.dissection.proofs.BoundaryTrace.{boundary-none}
 use Rattle.dissection.proofs.Carried.{crossing_law}
 use Rattle.dissection.proofs.Injective.{keeps-injective}
-use Rattle.dissection.proofs.Members.{Member, member}
+use Rattle.dissection.proofs.Members.{member}
 use Rattle.dissection.proofs.RuleAddresses.{top_exists, lowest_exists, tile-among}
 use Rattle.frames.specs.Frame.{at_level, IsTileOf}
 use Rattle.frames.proofs.Frames.{kind_at-top, top_is}
@@ -74,7 +73,7 @@ module _ (T : Setting) where
         one x y k = keeps-injective P W f keeps x y (W.separate (f x) (f y) (ap (λ (z : PlanePoint S.ops.carrier). z.x) k) (ap (λ (z : PlanePoint S.ops.carrier). z.y) k))
 
   -- a line in the frame is the motion back's of the line in the supertile
-  line-in_frame : (f a : Address) (e n : ℕ) → depth a ≡ n → line_of P r (in_frame P r f a) e ≡ moved_line T (frame_move T (at_level f n)) (tile_at P r a) e
+  pub line-in_frame : (f a : Address) (e n : ℕ) → depth a ≡ n → line_of P r (in_frame P r f a) e ≡ moved_line T (frame_move T (at_level f n)) (tile_at P r a) e
   line-in_frame f a e n deep =
       subst (λ k. line_of P r (in_frame P r f a) e ≡ moved_line T (frame_move T (at_level f k)) (tile_at P r a) e) deep
       (λ i. record { from = plane_point P (through (vertex P r a.kind e) i); to = plane_point P (through (vertex P r a.kind (next r a.kind e)) i) })
@@ -129,8 +128,7 @@ module _ (T : Setting) where
       pub across-inner : Across → Inner
       across-inner x =
           let b = beside x.0 x.2.beside in
-          let across : IsTileAcross P r (tile_at P r a) e (tile_at P r x.0.address) x.1 = subst (λ (u : Placed A). IsTileAcross P r (tile_at P r a) e u x.1) b.is x.2 in
-          (
+          let across : IsTileAcross P r (tile_at P r a) e (tile_at P r x.0.address) x.1 = subst (λ (u : Placed A). IsTileAcross P r (tile_at P r a) e u x.1) b.is x.2 in (
             in_frame P r f x.0.address,
             line_of P r (in_frame P r f x.0.address) x.1,
             subst (λ n. IsOfDepth S (Placed A) (growing_frame P refused r f) n (in_frame P r f x.0.address)) b.deep (named T f h.frame refused x.0.address b.tile),

@@ -1,5 +1,5 @@
 -- The tiles of a frame are a dissected patch.
-use Rattle.std.proofs.Common.{◌≡◌, ◌<◌, ℕ, List, length, map, pos, true, refl, sym, ap, ◌∙◌, subst}
+use Rattle.std.proofs.Common.{◌≡◌, ◌<◌, List, length, pos, true, sym, ap, ◌∙◌, subst}
 use Rattle.ordered_ring.specs.Sign.{Signed}
 use Rattle.ordered_ring.proofs.Booleans.{equal_numbers}
 use Rattle.ordered_plane.specs.Plane.{TestPoint, IsTestPoint}
@@ -24,7 +24,7 @@ use Rattle.dissection.proofs.Members.{member as tile-member}
 use Rattle.dissection.proofs.RuleAddresses.{top_exists}
 use Rattle.frames.specs.Back.{back}
 use Rattle.frames.specs.Frame.{frame_tiles}
-use Rattle.windows.specs.Outlines.{Polygon, PlaneEdge, edges, is_reverse}
+use Rattle.windows.specs.Outlines.{Polygon, edges}
 use Rattle.windows.specs.Meeting.{IsLeftFan}
 use Rattle.windows.specs.Distinct.{AreDistinct}
 use Rattle.windows.specs.Patch.{IsDissected}

@@ -1,5 +1,5 @@
 -- The tiles of a frame at a depth are those of its ancestor's frame there, lifted.
-use Rattle.std.proofs.Common.{◌≡◌, ◌↔◌, ℕ, ◌<◌, ◌≤◌, Bool, true, ◌&&◌, nat_eq, List, [], ◌∷◌, ◌++◌, take, drop, length, Some, refl, sym, ap, ap₂, ◌∙◌, subst, arith, eqb-true}
+use Rattle.std.proofs.Common.{◌≡◌, ◌↔◌, ℕ, ◌≤◌, Bool, true, nat_eq, List, [], ◌∷◌, ◌++◌, take, drop, Some, sym, ap, ap₂, ◌∙◌, subst, eqb-true}
 use Rattle.std.proofs.lemmas.Bool.{and_parts, and_from, eq-eqb}
 use Rattle.std.proofs.lemmas.List.{length-take-le}
 use Rattle.ordered_ring.specs.Sign.{Signed}
@@ -7,7 +7,7 @@ use Rattle.addressing.specs.Address.{Step, Address, depth, top_from, top_kind, k
 use Rattle.addressing.specs.Tables.{Tables}
 use Rattle.addressing.specs.Tables as tables
 use Rattle.addressing.specs.Search.{IsAmong}
-use Rattle.addressing.proofs.Chains.{IsChain, chain_of, fits_of}
+use Rattle.addressing.proofs.Chains.{chain_of, fits_of}
 use Rattle.substitution.specs.Motion.{Motion, followed}
 use Rattle.substitution.specs.Rule.{child_kinds}
 use Rattle.substitution.specs.Supertile.{Placed, supertile}
@@ -21,7 +21,7 @@ use Rattle.frames.specs.Back.{back}
 use Rattle.frames.specs.Frame.{at_level, motion_beside, frame_tiles, IsTileOf, lifted_in}
 use Rattle.frames.proofs.Frames.{top_from-join, Climbs-split, at_level-depth, at_level-fits, top_kind-split, kind_at-top, kind_at-level, top_is, lifted-whole, lifted-moves_none, StandsInFrame-whole}
 use Rattle.windows.specs.GrowingPatch.{IsOfDepth}
-use Rattle.windows.specs.Level.{level_of, LiftsAreOfDepth}
+use Rattle.windows.specs.Level.{LiftsAreOfDepth}
 use Rattle.windows.specs.FramePatch.{is_same_step, level_in, growing_frame, lifted_tile, in_frame}
 use Rattle.windows.proofs.Level.{lifts_tell}
 use Rattle.windows.proofs.Members.{among-map}
@@ -64,6 +64,10 @@ module _ (T : Setting) where
   -- a tile of a frame by the contact tables is one by the rule
   pub rule-tile : (f a : Address) → IsTileOf children f a → IsTileOf (child_kinds r) f a
   rule-tile f a h = record { fits = fits-rule T a (chain_of t a h.fits); no_deeper = h.no_deeper; same_kind = h.same_kind }
+
+  -- the tile that an address of depth n names in the frame of the ancestor there
+  abbrev pub fine_tile : Address → ℕ → Address → Placed A
+  fine_tile f n a = record { address = a; motion = motion_beside P r (at_level f n).digits a.digits }
 
   module _ (f : Address) (fits : Fits children f) (refused : A → Bool) where
     rule-frame : Fits (child_kinds r) f
@@ -156,12 +160,12 @@ module _ (T : Setting) where
                 m.motion_is (sym deep);
           }
 
-      pub named-fine : (a : Address) → IsTileOf children f a → depth a ≡ n → IsAmong (record { address = a; motion = motion_beside P r (at_level f n).digits a.digits }) (frame_tiles P r (at_level f n))
+      pub named-fine : (a : Address) → IsTileOf children f a → depth a ≡ n → IsAmong (fine_tile f n a) (frame_tiles P r (at_level f n))
       named-fine a h deep = (StandsInFrame-whole P W (some_order T) r (at_level f n) a (record {
         fits = (rule-tile f a h).fits;
         same_depth = deep ∙ sym (at_level-depth f n within);
         same_top = top_is (child_kinds r) f a (rule-tile f a h) ∙ ap (λ k. top_kind (at_level f k)) deep;
       })).among
 
-      pub named-is : (a : Address) → depth a ≡ n → in_frame P r f a ≡ lifted_tile f (record { address = a; motion = motion_beside P r (at_level f n).digits a.digits })
-      named-is a deep = ap (λ k. record { address = lifted_in f a; motion = motion_beside P r (at_level f k).digits a.digits }) deep
+      pub named-is : (a : Address) → depth a ≡ n → in_frame P r f a ≡ lifted_tile f (fine_tile f n a)
+      named-is a deep = ap (λ k. lifted_tile f (fine_tile f k a)) deep

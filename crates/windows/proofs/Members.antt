@@ -1,5 +1,5 @@
 -- Members of lists, distinct lists, and how many pass a test.
-use Rattle.std.proofs.Common.{◌≡◌, ◌⊎◌, inl, inr, suc, List, [], ◌∷◌, ◌++◌, map, flat_map, length, ◌≤◌, refl, sym, ap, ◌∙◌, subst, Bool, true, false, cond, arith}
+use Rattle.std.proofs.Common.{◌≡◌, ◌⊎◌, inl, inr, ℕ, suc, List, [], ◌∷◌, ◌++◌, map, flat_map, length, ◌≤◌, refl, sym, ap, ◌∙◌, subst, Bool, true, false, cond, arith}
 use Rattle.std.specs.List.{AllByRecursion, filter}
 use Rattle.addressing.specs.Search.{IsAmong}
 use Rattle.addressing.proofs.Lists.{IsAmong-map, IsAmong-flat_map}
@@ -87,6 +87,19 @@ some-passes {A} test (x ∷ xs) e = at_test (test x) refl e (some-passes test xs
         → (y : A) × IsAmong y (x ∷ xs) × (test y ≡ true)
     at_test true h k more = (x, inl refl, h)
     at_test false h k more = let m = more k in (m.0, inr m.1, m.2)
+
+-- where one passes, the number isn't 0
+pub some-counted : {A : Type 0} (test : A → Bool) (x : A) (xs : List A) → IsAmong x xs → test x ≡ true → number_of test xs ≡ 0 → ⊥
+some-counted test x [] i h e = elim i [ ]
+some-counted test x (y ∷ ys) (inl f) h e = one (sym (ap (λ b. cond b (suc (number_of test ys)) (number_of test ys)) (ap test (sym f) ∙ h)) ∙ e)
+  where
+    one : {n : ℕ} → suc n ≡ 0 → ⊥
+    one k = omega arith
+some-counted test x (y ∷ ys) (inr i) h e = some-counted test x ys i h (fewer (test y) e)
+  where
+    fewer : (b : Bool) → cond b (suc (number_of test ys)) (number_of test ys) ≡ 0 → number_of test ys ≡ 0
+    fewer true k = omega arith
+    fewer false k = k
 
 -- ---- distinct members of a list are no more than it has
 -- a list without one of its members

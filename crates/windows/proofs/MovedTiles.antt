@@ -1,19 +1,16 @@
 -- The outline of a tile that a map moves: its edges by their numbers, and that it is a left fan no edge of which is another or the reverse of another.
-use Rattle.std.proofs.Common.{◌≡◌, ℕ, suc, ◌<◌, ◌≤◌, List, [], ◌∷◌, length, map, get_or, slice_get, Some, cond, nat_lt, pos, true, false, is_gt, refl, sym, ap, ◌∙◌, subst, arith}
+use Rattle.std.proofs.Common.{◌≡◌, ℕ, suc, ◌<◌, ◌≤◌, List, [], ◌∷◌, length, map, get_or, slice_get, Some, pos, true, false, is_gt, sym, ap, ◌∙◌, subst, arith}
 use Rattle.std.specs.List.{AllByRecursion}
 use Rattle.std.proofs.lemmas.Bool.{false_from_ne_true}
 use Rattle.std.proofs.lemmas.List.{length-map}
-use Rattle.std.proofs.lemmas.Option.{slice_get_within}
-use Rattle.std.proofs.Math.ListN.{get_or-map}
 use Rattle.ordered_ring.specs.Sign.{Signed}
 use Rattle.ordered_plane.specs.Plane.{PlanePoint}
 use Rattle.ordered_plane.specs.Triangle.{fan, turns_left}
 use Rattle.ordered_plane.proofs.Triangle.{denominator_pos}
 use Rattle.addressing.specs.Search.{IsAmong}
-use Rattle.addressing.proofs.Ranges.{among-place, place-among}
 use Rattle.substitution.specs.Plane.{plane_point, Keeps}
 use Rattle.substitution.specs.Motion.{moved}
-use Rattle.substitution.specs.RuleParts.{vertices_of, edge_count, next, vertex}
+use Rattle.substitution.specs.RuleParts.{vertices_of, edge_count}
 use Rattle.substitution.specs.Supertile.{Placed}
 use Rattle.substitution.proofs.Keeping.{motion-keeps, keeps-then}
 use Rattle.dissection.specs.Polygons.{tile_polygon}
@@ -30,12 +27,9 @@ use Rattle.dissection.proofs.AcrossTouches.{not_back}
 use Rattle.windows.specs.Distinct.{AreDistinct}
 use Rattle.windows.specs.Outlines.{PlaneEdge, edges, is_reverse}
 use Rattle.windows.specs.Meeting.{IsLeftFan}
-use Rattle.windows.proofs.Places.{distinct-places, length-edges, fan-each}
-use Rattle.windows.proofs.EdgeNumbers.{edges_by_number}
+use Rattle.windows.proofs.Places.{distinct-places, fan-each}
+use Rattle.windows.proofs.KindEdges as kind
 use Rattle.windows.proofs.ClosedChains.{reverse-is}
-
-is_some : {A : Type 0} {x y : A} → Some x ≡ Some y → x ≡ y
-is_some e = cc (e)
 
 -- the fan of the images of three or more points
 fan-images : (S : Signed) {A : Type 0} (put : A → PlanePoint S.ops.carrier) (o : A) (vs : List A) → 3 ≤ length vs
@@ -71,30 +65,15 @@ module _ (T : Setting) where
     abbrev count : ℕ
     count = edge_count r t.address.kind
 
-    size : length (map put vs) ≡ count
-    size = length-map vs put ∙ N.vertex_each t.address.kind hk
-
     -- ---- edges by their numbers
     pub lines : (e : ℕ) → e < count → slice_get (edges (tile_polygon P r f t)) e ≡ Some (moved_line f t e)
-    lines e he = edges_by_number (put (P.ring.int (pos 0))) (map put vs) e (subst (λ n. e < n) (sym size) he) ∙ ap Some (λ i. record { from = start i; to = end i })
-      where
-        start : get_or (map put vs) e (put (P.ring.int (pos 0))) ≡ put (vertex P r t.address.kind e)
-        start = get_or-map put vs e (P.ring.int (pos 0))
-
-        end : get_or (map put vs) (cond (nat_lt (suc e) (length (map put vs))) (suc e) 0) (put (P.ring.int (pos 0))) ≡ put (vertex P r t.address.kind (next r t.address.kind e))
-        end = ap (λ n. get_or (map put vs) (cond (nat_lt (suc e) n) (suc e) 0) (put (P.ring.int (pos 0)))) size ∙ get_or-map put vs (next r t.address.kind e) (P.ring.int (pos 0))
+    lines = kind.lines T put t.address.kind hk
 
     pub line-among : (e : ℕ) → e < count → IsAmong (moved_line f t e) (edges (tile_polygon P r f t))
-    line-among e he = place-among (moved_line f t e) (edges (tile_polygon P r f t)) e (lines e he)
-
-    number-below : (e : ℕ) (l : PlaneEdge S) → slice_get (edges (tile_polygon P r f t)) e ≡ Some l → e < count
-    number-below e l at = subst (λ n. e < n) (length-edges (map put vs) ∙ size) (slice_get_within (edges (tile_polygon P r f t)) e l at)
-
-    line-at : (e : ℕ) (l : PlaneEdge S) → slice_get (edges (tile_polygon P r f t)) e ≡ Some l → l ≡ moved_line f t e
-    line-at e l at = is_some (sym at ∙ lines e (number-below e l at))
+    line-among = kind.line-among T put t.address.kind hk
 
     pub line-number : (l : PlaneEdge S) → IsAmong l (edges (tile_polygon P r f t)) → (e : ℕ) × (e < count) × (l ≡ moved_line f t e)
-    line-number l i = let place = among-place l (edges (tile_polygon P r f t)) i in (place.0, number-below place.0 l place.1, line-at place.0 l place.1)
+    line-number = kind.line-number T put t.address.kind hk
 
     -- ---- a left fan
     abbrev star : MovedStar
@@ -120,7 +99,8 @@ module _ (T : Setting) where
         (along-own d) (subst (λ (l : PlaneEdge S). Ahead S (from star e) (to star e) l.from l.to) (sym same) (along-own e))
 
     pub own_edges : AreDistinct (edges (tile_polygon P r f t))
-    own_edges = distinct-places (edges (tile_polygon P r f t)) (λ i j l a b. one_number i j (number-below i l a) (number-below j l b) (sym (line-at i l a) ∙ line-at j l b))
+    own_edges = distinct-places (edges (tile_polygon P r f t)) (λ i j l a b. one_number i j (kind.number-below T put t.address.kind hk i l a) (kind.number-below T put t.address.kind hk j l b)
+        (sym (kind.line-at T put t.address.kind hk i l a) ∙ kind.line-at T put t.address.kind hk j l b))
 
     pub no_return : (l m : PlaneEdge S) → IsAmong l (edges (tile_polygon P r f t)) → IsAmong m (edges (tile_polygon P r f t)) → is_reverse S l m ≡ false
     no_return l m i j = false_from_ne_true _ (λ h. back (line-number l i) (line-number m j) h)

@@ -1,5 +1,5 @@
 -- Lists by their places: distinct ones, the edges of a polygon, and the fan of a polygon of images.
-use Rattle.std.proofs.Common.{◌≡◌, inl, inr, ℕ, zero, suc, ◌<◌, List, [], ◌∷◌, length, map, get_or, slice_get, Some, true, refl, sym, ap, ◌∙◌, subst, arith}
+use Rattle.std.proofs.Common.{◌≡◌, inl, inr, ℕ, suc, ◌<◌, List, [], ◌∷◌, length, map, get_or, slice_get, Some, true, refl, sym, ap, subst, arith}
 use Rattle.std.specs.List.{AllByRecursion}
 use Rattle.ordered_ring.specs.Sign.{Signed}
 use Rattle.ordered_plane.specs.Plane.{PlanePoint}

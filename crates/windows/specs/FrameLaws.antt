@@ -8,13 +8,13 @@ use Rattle.substitution.specs.Points.{Points}
 use Rattle.substitution.specs.RuleParts.{edge_count}
 use Rattle.substitution.specs.Supertile.{Placed}
 use Rattle.edge_to_edge.specs.Contacts.{tables_of}
-use Rattle.dissection.specs.Accepted.{AcceptedRule, NamesTile, HasEdge}
+use Rattle.dissection.specs.Accepted.{AcceptedRule, NamesTile}
 use Rattle.dissection.specs.Across.{IsTileAcross}
 use Rattle.dissection.specs.OnBoundary.{IsOnBoundary}
 use Rattle.dissection.specs.Polygons.{tile_polygon}
 use Rattle.dissection.specs.TileEdges.{tile_at}
 use Rattle.frames.specs.Frame.{at_level, frame_tiles, IsTileOf}
-use Rattle.windows.specs.Outlines.{PlaneEdge, edges, is_reverse}
+use Rattle.windows.specs.Outlines.{edges, is_reverse}
 use Rattle.windows.specs.Patch.{IsDissected}
 use Rattle.windows.specs.GrowingPatch.{IsOfDepth, IsInner}
 use Rattle.windows.specs.EnoughDepth.{IsEnough}

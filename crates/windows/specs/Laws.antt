@@ -9,6 +9,7 @@ use Rattle.windows.specs.Gluing.{Rotation, Gluing}
 use Rattle.windows.specs.WholeTiles.{WholesCover}
 use Rattle.windows.specs.Window.{WindowTheorem, KnownByOutline, OneOwner}
 use Rattle.windows.specs.GrownPolygon.{EnoughByPolygon}
+use Rattle.windows.specs.FromLevel.{InnerFromLevel, HeldFromLevel}
 use Rattle.windows.specs.SearchSteps.{StartRight, StepRight, FinishRight}
 use Rattle.windows.specs.OpenStep.{OpenStep}
 use Rattle.windows.specs.EveryEdge.{FoundOrOpen, NoneOpen}
@@ -57,6 +58,12 @@ OwnerLaw P = OneOwner P.real (Placed P.ring.carrier)
 
 abbrev pub EnoughLaw : Points → Type 0
 EnoughLaw P = EnoughByPolygon P.real (Placed P.ring.carrier)
+
+abbrev pub InnerFromLevelLaw : Points → Type 0
+InnerFromLevelLaw P = InnerFromLevel P.real (Placed P.ring.carrier)
+
+abbrev pub HeldFromLevelLaw : Points → Type 0
+HeldFromLevelLaw P = HeldFromLevel P.real (Placed P.ring.carrier)
 
 -- ---- of the search
 abbrev pub StartLaw : Points → Type 0

@@ -14,6 +14,7 @@ pub mod GrownPolygon
 pub mod OpenEdges
 pub mod SearchState
 pub mod PatchWindow
+pub mod FromLevel
 pub mod SearchSteps
 pub mod OpenStep
 pub mod EveryEdge

@@ -6,7 +6,9 @@ ghost use Rattle.windows.specs.Laws.{WindowLaw, OutlineLaw, OwnerLaw, EnoughLaw}
 ghost use Rattle.windows.specs.Laws.{StartLaw, StepLaw, FinishLaw, OpenStepLaw, FoundOrOpenLaw, NoneOpenLaw};
 ghost use Rattle.windows.specs.Laws.{SearchAnswersLaw, SearchEndsLaw};
 ghost use Rattle.windows.specs.Laws.{DepthRefusalLaw, AllDrawnLaw, CountRefusalLaw, GoesOnLaw, EndsWithinLaw};
-ghost use Rattle.windows.specs.Laws.{LevelLaw, LiftLevelLaw};
+ghost use Rattle.windows.specs.Laws.{InnerFromLevelLaw, HeldFromLevelLaw, LevelLaw, LiftLevelLaw};
+ghost use Rattle.windows.specs.FrameLaws.{FramePatchLaw, LiftLaw, NamedLaw, LinesLaw, ReverseLaw};
+ghost use Rattle.windows.specs.FrameLaws.{InnerLaw, OutsideLaw, FramePolygonLaw, FrameEnoughLaw};
 
 use cyclo_points::order::Order;
 
@@ -103,4 +105,36 @@ pub fn limits_law(order: Order)
 pub fn level_law()
     ensures level { LevelLaw }
     ensures lifts { LiftLevelLaw }
+{}
+
+/// The law that in a growing patch an edge is inner exactly from the level of the tile across it on,
+/// and a test point held exactly from the level of the tile that holds it on.
+pub fn from_level_law(order: Order)
+    ensures inner { InnerFromLevelLaw (points_of order) }
+    ensures held { HeldFromLevelLaw (points_of order) }
+{}
+
+/// The law that the tiles of a frame are a dissected patch, and grow as the frame does: at a depth they
+/// are the tiles of the base's ancestor's frame there, lifted, each with the motion that it has there.
+pub fn frame_patch_law(order: Order)
+    ensures dissected { FramePatchLaw (points_of order) }
+    ensures lifted { LiftLaw (points_of order) }
+    ensures named { NamedLaw (points_of order) }
+{}
+
+/// The law of the edges of a frame's tiles. The tile across an edge in the supertile is the tile across
+/// it in the frame; at a depth an edge is inner exactly where there is one, and it isn't exactly where
+/// it lies on the supertile's boundary.
+pub fn frame_edge_law(order: Order)
+    ensures lines { LinesLaw (points_of order) }
+    ensures across { ReverseLaw (points_of order) }
+    ensures inner { InnerLaw (points_of order) }
+    ensures outside { OutsideLaw (points_of order) }
+{}
+
+/// The law that the frame's polygon at a depth is that of its tiles there, so that the depth is enough
+/// for a window exactly where this polygon holds the centre and none of its edges meets the window.
+pub fn frame_polygon_law(order: Order)
+    ensures whole { FramePolygonLaw (points_of order) }
+    ensures enough { FrameEnoughLaw (points_of order) }
 {}
