@@ -1,17 +1,7 @@
 -- The laws of windows, proved over the points of an order.
 use Rattle.ordered_ring.specs.Divisor.{DividesWhole}
 use Rattle.substitution.specs.Points.{Points, PointLaws}
-use Rattle.dissection.specs.Accepted.{AcceptedRule}
-use Rattle.dissection.proofs.Setting.{Setting}
-use Rattle.addressing.proofs.Chains.{chain_of}
-use Rattle.edge_to_edge.specs.Contacts.{tables_of}
-use Rattle.std.proofs.Common.{sym, ◌∙◌, subst}
-use Rattle.windows.specs.GrowingPatch.{IsOfDepth}
-use Rattle.windows.specs.FramePatch.{growing_frame, in_frame}
-use Rattle.windows.specs.FramePatch as is_frame
-use Rattle.substitution.specs.Supertile.{Placed}
 use Rattle.windows.specs.Laws as is
-use Rattle.windows.specs.FrameLaws as frames
 use Rattle.windows.proofs.ClosedChains as chains
 use Rattle.windows.proofs.Meeting as meeting
 use Rattle.windows.proofs.CutEdges as cuts
@@ -27,12 +17,7 @@ use Rattle.windows.proofs.EveryEdge as every
 use Rattle.windows.proofs.Limits as limits
 use Rattle.windows.proofs.OpenStep as open_step
 use Rattle.windows.proofs.FromLevel as from_level
-use Rattle.windows.proofs.FramePatch as patch
-use Rattle.windows.proofs.Lifts as lifts
-use Rattle.windows.proofs.MovedTiles as tiles
-use Rattle.windows.proofs.FrameEdges as across
-use Rattle.windows.proofs.FramePolygon as frame_polygon
-use Rattle.dissection.proofs.AcrossTouches.{same}
+use Rattle.windows.proofs.AnyOrder as order
 use Rattle.windows.proofs.WholeSearch as whole_search
 
 module _ (P : Points) (W : PointLaws P) where
@@ -72,50 +57,14 @@ module _ (P : Points) (W : PointLaws P) where
   pub held_from_level_law : is.HeldFromLevelLaw P
   held_from_level_law = from_level.held_from_level
 
-  -- ---- of the frames of an accepted rule
-  abbrev setting : AcceptedRule P → Setting
-  setting T = record { points = P; laws = W; accepted = T }
+  pub drawn_same_law : is.DrawnSameLaw P
+  drawn_same_law = order.drawn_same
 
-  pub frame_patch_law : frames.FramePatchLaw P
-  frame_patch_law T f fits = patch.frame-dissected (setting T) f (chain_of (tables_of P T.rule) f fits)
+  pub drawn_order_law : is.DrawnOrderLaw P
+  drawn_order_law = order.drawn_any_order
 
-  pub lift_law : frames.LiftLaw P
-  lift_law T f fits refused n within t = (
-    λ h. let u = lifts.lift-named (setting T) f fits refused n within t h in
-        (lifts.fine_tile (setting T) f n u.fine, lifts.named-fine (setting T) f fits refused n within u.fine u.tile u.deep, u.is ∙ lifts.named-is (setting T) f fits refused n within u.fine u.deep),
-    λ x. let u = lifts.fine-named (setting T) f fits refused n within x.0 x.1 in
-        subst (λ (v : Placed P.ring.carrier). IsOfDepth P.real (Placed P.ring.carrier) (growing_frame P refused T.rule f) n v) (sym (x.2 ∙ u.is))
-        (subst (λ m. IsOfDepth P.real (Placed P.ring.carrier) (growing_frame P refused T.rule f) m (in_frame P T.rule f u.fine)) u.deep (lifts.named (setting T) f fits refused u.fine u.tile)),
-  )
-
-  pub named_law : frames.NamedLaw P
-  named_law T f fits refused n within t = (
-    λ h. let u = lifts.lift-named (setting T) f fits refused n within t h in (u.fine, u.tile, u.deep, u.is),
-    λ x. subst (λ (v : Placed P.ring.carrier). IsOfDepth P.real (Placed P.ring.carrier) (growing_frame P refused T.rule f) n v) (sym x.3)
-        (subst (λ m. IsOfDepth P.real (Placed P.ring.carrier) (growing_frame P refused T.rule f) m (in_frame P T.rule f x.0)) x.2 (lifts.named (setting T) f fits refused x.0 x.1)),
-  )
-
-  pub lines_law : frames.LinesLaw P
-  lines_law T t hk e he = tiles.lines (setting T) (λ z. z) (same (setting T)) t hk e he
-
-  pub reverse_law : frames.ReverseLaw P
-  reverse_law T f a e h b g x = across.reverse_law (setting T) f a e h b g x
-
-  pub inner_law : frames.InnerLaw P
-  inner_law T f a e h refused = (across.inner-across (setting T) f a e h refused, across.across-inner (setting T) f a e h refused)
-
-  pub outside_law : frames.OutsideLaw P
-  outside_law T f a e h refused = (
-    λ outer. across.outer-boundary (setting T) f a e h refused (λ x. absurd (outer x)),
-    λ on x. absurd (across.boundary-outer (setting T) f a e h refused on.0 on.1 on.2 x),
-  )
-
-  pub frame_polygon_law : frames.FramePolygonLaw P
-  frame_polygon_law T f fits refused n within = frame_polygon.frame-whole (setting T) f fits refused n within
-
-  pub frame_enough_law : frames.FrameEnoughLaw P
-  frame_enough_law T f fits refused n within box =
-      polygon.enough_by_polygon P.real W.of_real W.of_order (growing_frame P refused T.rule f) box n (is_frame.frame_polygon P T.rule f n) (frame_polygon_law T f fits refused n within)
+  pub covers_order_law : is.CoversOrderLaw P
+  covers_order_law = order.covers_any_order
 
   module _ (divides : DividesWhole P.real) where
     pub closed_chain_law : is.ClosedChainLaw P

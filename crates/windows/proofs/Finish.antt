@@ -85,7 +85,7 @@ module _ (S : Signed) (L : Laws S.ops) (O : OrderLaws S) (whole : DividesWhole S
               (u.0, u.1, found-depth u.0 u.2, u.3, u.4);
         }
 
-        is_finished : IsFinished S T G s
+        is_finished : IsFinished S T G.growing G.box s
         is_finished = record {
           drawn = record {
             of_depth = AllByRecursion-both (λ t. IsAmong t P.tiles) (λ t. F.level t ≤ s.depth) s.found right.of_patch right.at_depth;

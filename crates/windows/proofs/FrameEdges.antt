@@ -93,13 +93,13 @@ module _ (T : Setting) where
     move = frame_move T (at_level f (depth a))
 
     -- a tile of the same supertile, by its address
-    record Beside (b : Placed A) : Type 0 where
-      is : b ≡ tile_at P r b.address
-      tile : IsTileOf children f b.address
-      deep : depth b.address ≡ depth a
-      kind_exists : b.address.kind < length r.kinds
+    pub record Beside (b : Placed A) : Type 0 where
+      pub is : b ≡ tile_at P r b.address
+      pub tile : IsTileOf children f b.address
+      pub deep : depth b.address ≡ depth a
+      pub kind_exists : b.address.kind < length r.kinds
 
-    beside : (b : Placed A) → IsTileBeside P r a b → Beside b
+    pub beside : (b : Placed A) → IsTileBeside P r a b → Beside b
     beside b i =
         let m = member T (top_kind a) (depth a) (top_exists T a.kind a.digits chain) b i in
         record {

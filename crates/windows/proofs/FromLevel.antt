@@ -9,11 +9,11 @@ use Rattle.windows.proofs.ClosedChains.{reverse-is}
 
 -- the reverse of an edge is of one tile alone
 pub inner_from_level : (S : Signed) (L : Laws S.ops) (O : OrderLaws S) → {T : Type 0} → InnerFromLevel S T
-inner_from_level S L O F D o u across n = (
+inner_from_level S L O F D e u across n = (
   λ x.
-      let same : x.1 ≡ across.edge = reverse-is S L O o.line x.1 x.4 ∙ sym (reverse-is S L O o.line across.edge across.back) in
+      let same : x.1 ≡ across.edge = reverse-is S L O e x.1 x.4 ∙ sym (reverse-is S L O e across.edge across.back) in
       subst (λ v. F.level v ≤ n)
-      (D.one_owner x.0 u x.2.0 across.of_patch across.edge (subst (λ (e : PlaneEdge S). IsAmong e (edges (F.patch.outline x.0))) same x.3) across.among) x.2.1,
+      (D.one_owner x.0 u x.2.0 across.of_patch across.edge (subst (λ (g : PlaneEdge S). IsAmong g (edges (F.patch.outline x.0))) same x.3) across.among) x.2.1,
   λ h. (u, across.edge, (across.of_patch, h), across.among, across.back),
 )
 

@@ -17,6 +17,7 @@ pub mod Finish
 pub mod EveryEdge
 pub mod Limits
 pub mod FromLevel
+pub mod AnyOrder
 pub mod OpenStep
 pub mod WholeSearch
 pub mod GrownPolygon
@@ -30,4 +31,6 @@ pub mod FramePatch
 pub mod Lifts
 pub mod FrameEdges
 pub mod FramePolygon
+pub mod FrameSearch
 pub mod Carried
+pub mod CarriedFrames

@@ -1,5 +1,5 @@
 -- The tiles of a frame at a depth are those of its ancestor's frame there, lifted.
-use Rattle.std.proofs.Common.{◌≡◌, ◌↔◌, ℕ, ◌≤◌, Bool, true, nat_eq, List, [], ◌∷◌, ◌++◌, take, drop, Some, sym, ap, ap₂, ◌∙◌, subst, eqb-true}
+use Rattle.std.proofs.Common.{◌≡◌, ◌↔◌, ℕ, ◌≤◌, Bool, true, nat_eq, List, [], ◌∷◌, ◌++◌, take, drop, length, Some, sym, ap, ap₂, ◌∙◌, subst, eqb-true}
 use Rattle.std.proofs.lemmas.Bool.{and_parts, and_from, eq-eqb}
 use Rattle.std.proofs.lemmas.List.{length-take-le}
 use Rattle.ordered_ring.specs.Sign.{Signed}
@@ -21,9 +21,9 @@ use Rattle.frames.specs.Back.{back}
 use Rattle.frames.specs.Frame.{at_level, motion_beside, frame_tiles, IsTileOf, lifted_in}
 use Rattle.frames.proofs.Frames.{top_from-join, Climbs-split, at_level-depth, at_level-fits, top_kind-split, kind_at-top, kind_at-level, top_is, lifted-whole, lifted-moves_none, StandsInFrame-whole}
 use Rattle.windows.specs.GrowingPatch.{IsOfDepth}
-use Rattle.windows.specs.Level.{LiftsAreOfDepth}
+use Rattle.windows.specs.Level.{level_of, LiftsAreOfDepth}
 use Rattle.windows.specs.FramePatch.{is_same_step, level_in, growing_frame, lifted_tile, in_frame}
-use Rattle.windows.proofs.Level.{lifts_tell}
+use Rattle.windows.proofs.Level.{tells-from, lifts_tell}
 use Rattle.windows.proofs.Members.{among-map}
 use Rattle.windows.proofs.FramePatch.{moved_tile}
 
@@ -37,6 +37,10 @@ same_step-tells d e = (
 
 lifts : (es : List Step) → LiftsAreOfDepth Step is_same_step es
 lifts es = lifts_tell is_same_step same_step-tells es
+
+-- digits of which none beyond number n differ have level n at most
+pub lifts-level : (ds es : List Step) → length ds ≡ length es → (n : ℕ) → drop n ds ≡ drop n es → level_of is_same_step ds es ≤ n
+lifts-level ds es h n k = tells-from is_same_step same_step-tells ds es h n k
 
 -- two kinds below one another's digits are one, where they end at one kind
 same_below : (children : List (List ℕ)) (x y : ℕ) (zs : List Step) → Climbs children x zs → Climbs children y zs → top_from x zs ≡ top_from y zs → x ≡ y

@@ -44,7 +44,7 @@ module _ (S : Signed) (L : Laws S.ops) (O : OrderLaws S) (whole : DividesWhole S
       lines = flat_map edges (outlines S T F s.found)
 
       -- ---- refusals
-      depth-limit : (o : NumberedEdge S) → IsAmong o s.open_edges → ((u : T) → LiesAcross S T F o u → ⊥) → (t : T) × IsAmong t s.found × IsDepthLimit S T G o t
+      depth-limit : (o : NumberedEdge S) → IsAmong o s.open_edges → ((u : T) → LiesAcross S T F o.line u → ⊥) → (t : T) × IsAmong t s.found × IsDepthLimit S T G.growing G.box o.line t
       depth-limit o i none_across =
           let f : OpenFacts S L O whole G s right o = open-facts S L O whole G s right o i in
           let m : Meets f.tile = AllByRecursion-among Meets f.tile s.found f.found right.each_meets in (
@@ -73,14 +73,14 @@ module _ (S : Signed) (L : Laws S.ops) (O : OrderLaws S) (whole : DividesWhole S
   pub goes_on : {T : Type 0} → GoesOn S T
   goes_on {T} G m limit within s right o i = onward (open-facts S L O whole G s right o i)
     where
-      onward : OpenFacts S L O whole G s right o → (u : T) × LiesAcross S T G.growing o u × (G.growing.refused u ≡ false) × (length s.found < limit)
+      onward : OpenFacts S L O whole G s right o → (u : T) × LiesAcross S T G.growing o.line u × (G.growing.refused u ≡ false) × (length s.found < limit)
       onward f =
           let E : IsEnough S T G.growing G.box within.depth = within.least.enough in
           let here : IsAmong f.tile G.growing.patch.tiles = AllByRecursion-among (λ v. IsAmong v G.growing.patch.tiles) f.tile s.found f.found right.of_patch in
           let met : PolygonMeetsBox S G.box (G.growing.patch.outline f.tile) = AllByRecursion-among (λ v. PolygonMeetsBox S G.box (G.growing.patch.outline v)) f.tile s.found f.found right.each_meets in
           let u : IsInner S T G.growing within.depth o.line = E.none_on_boundary f.tile (here, enough_holds_all S L O whole G within.depth E f.tile here met) o.line f.of_tile f.meets in
-          let across : LiesAcross S T G.growing o u.0 = record { of_patch = u.2.0; edge = u.1; among = u.3; back = u.4 } in
-          let step : IsStep S T G s u.0 = step_right S L O whole G s right o i u.0 across in (
+          let across : LiesAcross S T G.growing o.line u.0 = record { of_patch = u.2.0; edge = u.1; among = u.3; back = u.4 } in
+          let step : IsStep S T G.growing G.box s u.0 = step_right S L O whole G s right o i u.0 across in (
             u.0,
             across,
             AllByRecursion-among (λ t. G.growing.refused t ≡ false) u.0 within.drawn (all_drawn S L O whole G within.depth E within.drawn within.are_drawn u.0 u.2.0 step.meets) within.none_refused,
@@ -92,5 +92,5 @@ module _ (S : Signed) (L : Laws S.ops) (O : OrderLaws S) (whole : DividesWhole S
 
   pub ends_within : {T : Type 0} → EndsWithin S T
   ends_within {T} G m limit s right none beyond few =
-      let end : IsFinished S T G s = finish_right S L O whole G s right none in
+      let end : IsFinished S T G.growing G.box s = finish_right S L O whole G s right none in
       record { depth = s.depth; least = end.least m beyond; drawn = s.found; are_drawn = end.drawn; none_refused = right.none_refused; not_too_many = few }

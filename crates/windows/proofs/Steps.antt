@@ -62,7 +62,7 @@ module _ (S : Signed) (L : Laws S.ops) (O : OrderLaws S) (whole : DividesWhole S
       abbrev lines : List (PlaneEdge S)
       lines = flat_map edges (outlines S T F s.found)
 
-      module _ (o : NumberedEdge S) (i : IsAmong o s.open_edges) (u : T) (across : LiesAcross S T F o u) where
+      module _ (o : NumberedEdge S) (i : IsAmong o s.open_edges) (u : T) (across : LiesAcross S T F o.line u) where
         is_new : IsAmong u s.found → ⊥
         is_new j = cc (sym (open-facts S L O whole G s right o i).not_met ∙ any-among (is_reverse S o.line) across.edge lines (goes-to P.outline edges across.edge u s.found j across.among) across.back)
 
@@ -95,7 +95,7 @@ module _ (S : Signed) (L : Laws S.ops) (O : OrderLaws S) (whole : DividesWhole S
             same_found t j (inl e) = subst (λ v. IsAmong v s.found) e j
             same_found t j (inr k) = elim k [ ]
 
-        is_step : IsStep S T G s u
+        is_step : IsStep S T G.growing G.box s u
         is_step = record {
           new = λ j. absurd (is_new j);
           meets = across-meets;
@@ -110,7 +110,7 @@ module _ (S : Signed) (L : Laws S.ops) (O : OrderLaws S) (whole : DividesWhole S
     centre-test : IsTestPoint S (test_point R G.box.centre)
     centre-test = (0, refl)
 
-    start-right : (t : T) → HoldsCentre S T G t → (depth : ℕ) → F.level t ≤ depth → F.refused t ≡ false → IsRightState S T F G.box (started S T F G.box depth t)
+    start-right : (t : T) → HoldsCentre S T G.growing G.box t → (depth : ℕ) → F.level t ≤ depth → F.refused t ≡ false → IsRightState S T F G.box (started S T F G.box depth t)
     start-right t h depth l kept = record {
       of_patch = (h.of_patch, tt);
       at_depth = (l, tt);
@@ -121,7 +121,7 @@ module _ (S : Signed) (L : Laws S.ops) (O : OrderLaws S) (whole : DividesWhole S
       open_is = sym (open_edges-more S G.box [] (P.outline t) (λ e f j k. D.no_return t h.of_patch e f j k));
     }
 
-    start-not_beyond : (t : T) → HoldsCentre S T G t → (m : ℕ) → IsNotBeyond S T F G.box m (max m (F.level t))
+    start-not_beyond : (t : T) → HoldsCentre S T G.growing G.box t → (m : ℕ) → IsNotBeyond S T F G.box m (max m (F.level t))
     start-not_beyond t h m = record {
       not_below = below_max m (F.level t);
       not_beyond = λ k l E. max_least m (F.level t) k l

@@ -31,33 +31,33 @@ module _ (S : Signed) (L : Laws S.ops) (O : OrderLaws S) (whole : DividesWhole S
   first-among : (o : NumberedEdge S) (s : SearchState S T) → IsFirstOpen o s → IsAmong o s.open_edges
   first-among o s f = subst (IsAmong o) (sym f.1) (inl refl)
 
-  start-sound : (t : T) → HoldsCentre S T G t → G.growing.refused t ≡ false → Sound (started S T G.growing G.box (max m (G.growing.level t)) t)
+  start-sound : (t : T) → HoldsCentre S T G.growing G.box t → G.growing.refused t ≡ false → Sound (started S T G.growing G.box (max m (G.growing.level t)) t)
   start-sound t h kept = let r = start_right S L O whole G t h m in record { right = r.1 kept; not_beyond = r.0 }
 
-  step-sound : (s : SearchState S T) → Sound s → (o : NumberedEdge S) → IsFirstOpen o s → (u : T) → LiesAcross S T G.growing o u → G.growing.refused u ≡ false → Sound (stepped S T G.growing G.box s u)
+  step-sound : (s : SearchState S T) → Sound s → (o : NumberedEdge S) → IsFirstOpen o s → (u : T) → LiesAcross S T G.growing o.line u → G.growing.refused u ≡ false → Sound (stepped S T G.growing G.box s u)
   step-sound s h o f u across kept =
-      let step : IsStep S T G s u = step_right S L O whole G s h.right o (first-among o s f) u across in
+      let step : IsStep S T G.growing G.box s u = step_right S L O whole G s h.right o (first-among o s f) u across in
       record { right = step.right kept; not_beyond = step.not_beyond m h.not_beyond }
 
-  lead-sound : (us : List T) (s end : SearchState S T) → Sound s → Lead S T G s us end → Sound end
+  lead-sound : (us : List T) (s end : SearchState S T) → Sound s → Lead S T G.growing G.box s us end → Sound end
   lead-sound [] s end h l = subst Sound l h
   lead-sound (u ∷ us) s end h l = lead-sound us (stepped S T G.growing G.box s u) end (step-sound s h l.0.0 l.0.1 u l.0.2 l.1) l.2
 
-  end-sound : (limit : ℕ) (end : SearchState S T) → IsSearch S T G m limit end → Sound end
+  end-sound : (limit : ℕ) (end : SearchState S T) → IsSearch S T G.growing G.box m limit end → Sound end
   end-sound limit end h = lead-sound h.tiles _ end (start-sound h.centre h.holds_centre h.kept) h.lead
 
-  answers : (limit : ℕ) (end : SearchState S T) → IsSearch S T G m limit end → IsAnswer S T G m end
+  answers : (limit : ℕ) (end : SearchState S T) → IsSearch S T G.growing G.box m limit end → IsAnswer S T G.growing G.box m end
   answers limit end h =
       let e : Sound end = end-sound limit end h in
-      let f : IsFinished S T G end = finish_right S L O whole G end e.right h.none_open in
+      let f : IsFinished S T G.growing G.box end = finish_right S L O whole G end e.right h.none_open in
       record { least = f.least m e.not_beyond; drawn = f.drawn; covers = f.covers }
 
-  module _ (limit : ℕ) (within : IsWithinLimits S T G m limit) where
+  module _ (limit : ℕ) (within : IsWithinLimits S T G.growing G.box m limit) where
     -- the rest of a search
     record Rest (s : SearchState S T) : Type 0 where
       tiles : List T
       end : SearchState S T
-      lead : Lead S T G s tiles end
+      lead : Lead S T G.growing G.box s tiles end
       none_open : end.open_edges ≡ []
 
     longer : (s : SearchState S T) (u : T) → length (s.found ++ u ∷ []) ≡ suc (length s.found)
@@ -98,14 +98,14 @@ module _ (S : Signed) (L : Laws S.ops) (O : OrderLaws S) (whole : DividesWhole S
         at_most : length s.found ≤ length within.drawn → length s.found ≤ limit
         at_most l = let k = within.not_too_many in omega arith
 
-    search : (end : SearchState S T) × IsSearch S T G m limit end
+    search : (end : SearchState S T) × IsSearch S T G.growing G.box m limit end
     search =
         let E : IsEnough S T G.growing G.box within.depth = within.least.enough in
         let t : T = E.holds_centre.0 in
         let meets : PolygonMeetsBox S G.box (G.growing.patch.outline t) = (test_point S.ops G.box.centre, (0, refl), centre-in_box S L O G.box G.wide G.high, E.holds_centre.2) in
         let kept : G.growing.refused t ≡ false =
         AllByRecursion-among (λ v. G.growing.refused v ≡ false) t within.drawn (all_drawn S L O whole G within.depth E within.drawn within.are_drawn t E.holds_centre.1.0 meets) within.none_refused in
-        let held : HoldsCentre S T G t = record { of_patch = E.holds_centre.1.0; holds = E.holds_centre.2 } in
+        let held : HoldsCentre S T G.growing G.box t = record { of_patch = E.holds_centre.1.0; holds = E.holds_centre.2 } in
         let r : Rest (started S T G.growing G.box (max m (G.growing.level t)) t) = rest-from limit (started S T G.growing G.box (max m (G.growing.level t)) t) (start-sound t held kept) (omega arith) in (
           r.end,
           record {

@@ -6,13 +6,13 @@ use Rattle.ordered_plane.specs.Crossing.{member}
 use Rattle.addressing.specs.Search.{IsAmong}
 use Rattle.windows.specs.Patch.{IsDissected}
 use Rattle.windows.specs.GrowingPatch.{GrowingPatch, IsOfDepth, IsInner}
-use Rattle.windows.specs.OpenEdges.{NumberedEdge}
+use Rattle.windows.specs.Outlines.{PlaneEdge}
 use Rattle.windows.specs.PatchWindow.{LiesAcross}
 
 -- an edge is inner exactly from the level of the tile across it on
 abbrev pub InnerFromLevel : Signed → Type 0 → Type 0
 InnerFromLevel S T =
-    (F : GrowingPatch S T) → IsDissected S T F.patch → (o : NumberedEdge S) (u : T) → LiesAcross S T F o u → (n : ℕ) → IsInner S T F n o.line ↔ (F.level u ≤ n)
+    (F : GrowingPatch S T) → IsDissected S T F.patch → (e : PlaneEdge S) (u : T) → LiesAcross S T F e u → (n : ℕ) → IsInner S T F n e ↔ (F.level u ≤ n)
 
 -- a test point is held exactly from the level of the tile that holds it on
 abbrev pub HeldFromLevel : Signed → Type 0 → Type 0

@@ -8,6 +8,7 @@ use Rattle.windows.specs.CutEdges.{CutMeets, CutsMeet}
 use Rattle.windows.specs.Gluing.{Rotation, Gluing}
 use Rattle.windows.specs.WholeTiles.{WholesCover}
 use Rattle.windows.specs.Window.{WindowTheorem, KnownByOutline, OneOwner}
+use Rattle.windows.specs.AnyOrder.{DrawnSame, DrawnAnyOrder, CoversAnyOrder}
 use Rattle.windows.specs.GrownPolygon.{EnoughByPolygon}
 use Rattle.windows.specs.FromLevel.{InnerFromLevel, HeldFromLevel}
 use Rattle.windows.specs.SearchSteps.{StartRight, StepRight, FinishRight}
@@ -58,6 +59,15 @@ OwnerLaw P = OneOwner P.real (Placed P.ring.carrier)
 
 abbrev pub EnoughLaw : Points → Type 0
 EnoughLaw P = EnoughByPolygon P.real (Placed P.ring.carrier)
+
+abbrev pub DrawnSameLaw : Points → Type 0
+DrawnSameLaw P = DrawnSame P.real (Placed P.ring.carrier)
+
+abbrev pub DrawnOrderLaw : Points → Type 0
+DrawnOrderLaw P = DrawnAnyOrder P.real (Placed P.ring.carrier)
+
+abbrev pub CoversOrderLaw : Points → Type 0
+CoversOrderLaw P = CoversAnyOrder P.real (Placed P.ring.carrier)
 
 abbrev pub InnerFromLevelLaw : Points → Type 0
 InnerFromLevelLaw P = InnerFromLevel P.real (Placed P.ring.carrier)

@@ -10,6 +10,7 @@ pub mod Window
 pub mod WholeTiles
 pub mod GrowingPatch
 pub mod EnoughDepth
+pub mod AnyOrder
 pub mod GrownPolygon
 pub mod OpenEdges
 pub mod SearchState
@@ -24,4 +25,5 @@ pub mod WholeSearch
 pub mod Level
 pub mod FramePatch
 pub mod FrameLaws
+pub mod FrameSearch
 pub mod Laws

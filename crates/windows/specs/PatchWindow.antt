@@ -8,7 +8,6 @@ use Rattle.addressing.specs.Search.{IsAmong}
 use Rattle.windows.specs.Outlines.{PlaneEdge, edges, is_reverse}
 use Rattle.windows.specs.Patch.{IsDissected}
 use Rattle.windows.specs.GrowingPatch.{GrowingPatch}
-use Rattle.windows.specs.OpenEdges.{NumberedEdge}
 
 -- a window of some extent on a growing patch that is dissected
 pub record PatchWindow (S : Signed) (T : Type 0) : Type 0 where
@@ -18,14 +17,14 @@ pub record PatchWindow (S : Signed) (T : Type 0) : Type 0 where
   pub wide : 0 < box.w
   pub high : 0 < box.h
 
--- u is the tile across the edge o: it has an edge that is the reverse of it
-pub record LiesAcross (S : Signed) (T : Type 0) (F : GrowingPatch S T) (o : NumberedEdge S) (u : T) : Type 0 where
+-- u is the tile across e: it has an edge that is the reverse of it
+pub record LiesAcross (S : Signed) (T : Type 0) (F : GrowingPatch S T) (e : PlaneEdge S) (u : T) : Type 0 where
   pub of_patch : IsAmong u F.patch.tiles
   pub edge : PlaneEdge S
   pub among : IsAmong edge (edges (F.patch.outline u))
-  pub back : IsTrue (is_reverse S o.line edge)
+  pub back : IsTrue (is_reverse S e edge)
 
 -- t is the tile that holds the centre
-pub record HoldsCentre (S : Signed) (T : Type 0) (G : PatchWindow S T) (t : T) : Type 0 where
-  pub of_patch : IsAmong t G.growing.patch.tiles
-  pub holds : IsTrue (member S (G.growing.patch.outline t) (test_point S.ops G.box.centre))
+pub record HoldsCentre (S : Signed) (T : Type 0) (F : GrowingPatch S T) (box : OpenBox S.ops.carrier) (t : T) : Type 0 where
+  pub of_patch : IsAmong t F.patch.tiles
+  pub holds : IsTrue (member S (F.patch.outline t) (test_point S.ops box.centre))

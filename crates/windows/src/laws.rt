@@ -7,8 +7,11 @@ ghost use Rattle.windows.specs.Laws.{StartLaw, StepLaw, FinishLaw, OpenStepLaw, 
 ghost use Rattle.windows.specs.Laws.{SearchAnswersLaw, SearchEndsLaw};
 ghost use Rattle.windows.specs.Laws.{DepthRefusalLaw, AllDrawnLaw, CountRefusalLaw, GoesOnLaw, EndsWithinLaw};
 ghost use Rattle.windows.specs.Laws.{InnerFromLevelLaw, HeldFromLevelLaw, LevelLaw, LiftLevelLaw};
+ghost use Rattle.windows.specs.Laws.{DrawnSameLaw, DrawnOrderLaw, CoversOrderLaw};
 ghost use Rattle.windows.specs.FrameLaws.{FramePatchLaw, LiftLaw, NamedLaw, LinesLaw, ReverseLaw};
 ghost use Rattle.windows.specs.FrameLaws.{InnerLaw, OutsideLaw, FramePolygonLaw, FrameEnoughLaw};
+ghost use Rattle.windows.specs.FrameSearch.{GrownLevelLaw, RenamedLaw, AtDepthLaw};
+ghost use Rattle.windows.specs.FrameSearch.{AcrossLaw, GrownCrossingLaw, LastBoundaryLaw, AncestorHoldsLaw};
 
 use cyclo_points::order::Order;
 
@@ -107,6 +110,14 @@ pub fn level_law()
     ensures lifts { LiftLevelLaw }
 {}
 
+/// The law that the tiles drawn at a depth are determined but for their order, and in any order cover
+/// the window.
+pub fn drawn_law(order: Order)
+    ensures same { DrawnSameLaw (points_of order) }
+    ensures drawn { DrawnOrderLaw (points_of order) }
+    ensures covers { CoversOrderLaw (points_of order) }
+{}
+
 /// The law that in a growing patch an edge is inner exactly from the level of the tile across it on,
 /// and a test point held exactly from the level of the tile that holds it on.
 pub fn from_level_law(order: Order)
@@ -137,4 +148,27 @@ pub fn frame_edge_law(order: Order)
 pub fn frame_polygon_law(order: Order)
     ensures whole { FramePolygonLaw (points_of order) }
     ensures enough { FrameEnoughLaw (points_of order) }
+{}
+
+/// The law of names: the frame of an ancestor is the frame before it grew beyond; a tile lifted there
+/// has the same name in the whole frame; and all tiles are there at the frame's own depth.
+pub fn frame_name_law(order: Order)
+    ensures before_growth { GrownLevelLaw }
+    ensures renamed { RenamedLaw (points_of order) }
+    ensures at_depth { AtDepthLaw (points_of order) }
+{}
+
+/// The law of crossings in a frame that grows: the tile across in the supertile lies across in the frame;
+/// the least depth at which it is found is its level, where the frame isn't as deep already; and where
+/// the edge is on the boundary at the frame's own depth, no tile lies across it.
+pub fn frame_crossing_law(order: Order)
+    ensures across { AcrossLaw (points_of order) }
+    ensures grown { GrownCrossingLaw (points_of order) }
+    ensures last { LastBoundaryLaw (points_of order) }
+{}
+
+/// The law that the base's ancestors that hold a point are those from the level of the tile that holds
+/// it on.
+pub fn ancestor_holds_law(order: Order)
+    ensures { AncestorHoldsLaw (points_of order) }
 {}

@@ -1,6 +1,6 @@
 use Rattle.cyclo_points.specs.Order.{points_of}
 use Rattle.cyclo_points.proofs.OrderLaws.{laws_of}
-use Rattle.windows.proofs.Carried as law
+use Rattle.windows.proofs.CarriedFrames as law
 use Rattle.windows.proofs.laws.frame_polygon_law.Goals as goal
 
 pub returns-clause-whole : goal.returns-clause-whole

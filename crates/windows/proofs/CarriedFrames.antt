@@ -1,0 +1,86 @@
+-- The laws of the frames of an accepted rule, proved over the points of an order.
+use Rattle.std.proofs.Common.{sym, ◌∙◌, subst}
+use Rattle.addressing.proofs.Chains.{chain_of}
+use Rattle.substitution.specs.Points.{Points, PointLaws}
+use Rattle.substitution.specs.Supertile.{Placed}
+use Rattle.edge_to_edge.specs.Contacts.{tables_of}
+use Rattle.dissection.specs.Accepted.{AcceptedRule}
+use Rattle.dissection.proofs.Setting.{Setting}
+use Rattle.dissection.proofs.AcrossTouches.{same}
+use Rattle.dissection.specs.TileEdges.{tile_at}
+use Rattle.windows.specs.GrowingPatch.{IsOfDepth}
+use Rattle.windows.specs.FramePatch.{growing_frame, in_frame, frame_polygon}
+use Rattle.windows.specs.FrameLaws as frames
+use Rattle.windows.specs.FrameSearch as search
+use Rattle.windows.proofs.GrownPolygon.{enough_by_polygon}
+use Rattle.windows.proofs.FramePatch as patch
+use Rattle.windows.proofs.Lifts as lifts
+use Rattle.windows.proofs.MovedTiles as tiles
+use Rattle.windows.proofs.FrameEdges as across
+use Rattle.windows.proofs.FramePolygon.{frame-whole}
+use Rattle.windows.proofs.FrameSearch as found
+
+module _ (P : Points) (W : PointLaws P) where
+  abbrev setting : AcceptedRule P → Setting
+  setting T = record { points = P; laws = W; accepted = T }
+
+  pub frame_patch_law : frames.FramePatchLaw P
+  frame_patch_law T f fits = patch.frame-dissected (setting T) f (chain_of (tables_of P T.rule) f fits)
+
+  pub lift_law : frames.LiftLaw P
+  lift_law T f fits refused n within t = (
+    λ h. let u = lifts.lift-named (setting T) f fits refused n within t h in
+        (lifts.fine_tile (setting T) f n u.fine, lifts.named-fine (setting T) f fits refused n within u.fine u.tile u.deep, u.is ∙ lifts.named-is (setting T) f fits refused n within u.fine u.deep),
+    λ x. let u = lifts.fine-named (setting T) f fits refused n within x.0 x.1 in
+        subst (λ (v : Placed P.ring.carrier). IsOfDepth P.real (Placed P.ring.carrier) (growing_frame P refused T.rule f) n v) (sym (x.2 ∙ u.is))
+        (subst (λ m. IsOfDepth P.real (Placed P.ring.carrier) (growing_frame P refused T.rule f) m (in_frame P T.rule f u.fine)) u.deep (lifts.named (setting T) f fits refused u.fine u.tile)),
+  )
+
+  pub named_law : frames.NamedLaw P
+  named_law T f fits refused n within t = (
+    λ h. let u = lifts.lift-named (setting T) f fits refused n within t h in (u.fine, u.tile, u.deep, u.is),
+    λ x. subst (λ (v : Placed P.ring.carrier). IsOfDepth P.real (Placed P.ring.carrier) (growing_frame P refused T.rule f) n v) (sym x.3)
+        (subst (λ m. IsOfDepth P.real (Placed P.ring.carrier) (growing_frame P refused T.rule f) m (in_frame P T.rule f x.0)) x.2 (lifts.named (setting T) f fits refused x.0 x.1)),
+  )
+
+  pub lines_law : frames.LinesLaw P
+  lines_law T t hk e he = tiles.lines (setting T) (λ z. z) (same (setting T)) t hk e he
+
+  pub reverse_law : frames.ReverseLaw P
+  reverse_law T f a e h b g x = across.reverse_law (setting T) f a e h b g x
+
+  pub inner_law : frames.InnerLaw P
+  inner_law T f a e h refused = (across.inner-across (setting T) f a e h refused, across.across-inner (setting T) f a e h refused)
+
+  pub outside_law : frames.OutsideLaw P
+  outside_law T f a e h refused = (
+    λ outer. across.outer-boundary (setting T) f a e h refused (λ x. absurd (outer x)),
+    λ on x. absurd (across.boundary-outer (setting T) f a e h refused on.0 on.1 on.2 x),
+  )
+
+  pub frame_polygon_law : frames.FramePolygonLaw P
+  frame_polygon_law T f fits refused n within = frame-whole (setting T) f fits refused n within
+
+  pub frame_enough_law : frames.FrameEnoughLaw P
+  frame_enough_law T f fits refused n within box =
+      enough_by_polygon P.real W.of_real W.of_order (growing_frame P refused T.rule f) box n (frame_polygon P T.rule f n) (frame_polygon_law T f fits refused n within)
+
+  -- ---- of searches
+  pub renamed_law : search.RenamedLaw P
+  renamed_law T f fits n within a h = (found.lifted-tile (setting T) f fits n within a h, found.renamed (setting T) f fits n within a h)
+
+  pub at_depth_law : search.AtDepthLaw P
+  at_depth_law T f fits t i = found.at-depth (setting T) f fits t i
+
+  pub across_law : search.AcrossLaw P
+  across_law T f a e h b g x refused =
+      found.lies-across (setting T) f h.frame refused a e h b g x (across.beside (setting T) f a e h (tile_at P T.rule b) x.beside).tile
+
+  pub grown_crossing_law : search.GrownCrossingLaw P
+  grown_crossing_law T f m n a e b g c refused = found.grown-crossing (setting T) f c.frame refused m n a e b g c
+
+  pub last_boundary_law : search.LastBoundaryLaw P
+  last_boundary_law T f a e h own part on refused u x = absurd (found.last-boundary (setting T) f h.frame refused a e h own part on u x)
+
+  pub ancestor_holds_law : search.AncestorHoldsLaw P
+  ancestor_holds_law T f fits t i p h n within = found.ancestor-level (setting T) f fits t i p h n within
