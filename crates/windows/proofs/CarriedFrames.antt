@@ -9,9 +9,10 @@ use Rattle.dissection.proofs.Setting.{Setting}
 use Rattle.dissection.proofs.AcrossTouches.{same}
 use Rattle.dissection.specs.TileEdges.{tile_at}
 use Rattle.windows.specs.GrowingPatch.{IsOfDepth}
-use Rattle.windows.specs.FramePatch.{growing_frame, in_frame, frame_polygon}
+use Rattle.windows.specs.FramePatch.{growing_frame, frame_polygon, lifted_tile}
 use Rattle.windows.specs.FrameLaws as frames
 use Rattle.windows.specs.FrameSearch as search
+use Rattle.windows.specs.FrameWindow as is_window
 use Rattle.windows.proofs.GrownPolygon.{enough_by_polygon}
 use Rattle.windows.proofs.FramePatch as patch
 use Rattle.windows.proofs.Lifts as lifts
@@ -19,6 +20,7 @@ use Rattle.windows.proofs.MovedTiles as tiles
 use Rattle.windows.proofs.FrameEdges as across
 use Rattle.windows.proofs.FramePolygon.{frame-whole}
 use Rattle.windows.proofs.FrameSearch as found
+use Rattle.windows.proofs.FrameWindow as window
 
 module _ (P : Points) (W : PointLaws P) where
   abbrev setting : AcceptedRule P → Setting
@@ -31,16 +33,14 @@ module _ (P : Points) (W : PointLaws P) where
   lift_law T f fits refused n within t = (
     λ h. let u = lifts.lift-named (setting T) f fits refused n within t h in
         (lifts.fine_tile (setting T) f n u.fine, lifts.named-fine (setting T) f fits refused n within u.fine u.tile u.deep, u.is ∙ lifts.named-is (setting T) f fits refused n within u.fine u.deep),
-    λ x. let u = lifts.fine-named (setting T) f fits refused n within x.0 x.1 in
-        subst (λ (v : Placed P.ring.carrier). IsOfDepth P.real (Placed P.ring.carrier) (growing_frame P refused T.rule f) n v) (sym (x.2 ∙ u.is))
-        (subst (λ m. IsOfDepth P.real (Placed P.ring.carrier) (growing_frame P refused T.rule f) m (in_frame P T.rule f u.fine)) u.deep (lifts.named (setting T) f fits refused u.fine u.tile)),
+    λ x. subst (λ (v : Placed P.ring.carrier). IsOfDepth P.real (Placed P.ring.carrier) (growing_frame P refused T.rule f) n v) (sym x.2)
+        (lifts.named-depth (setting T) f fits refused n within (lifted_tile f x.0) (lifts.fine-named (setting T) f fits refused n within x.0 x.1)),
   )
 
   pub named_law : frames.NamedLaw P
   named_law T f fits refused n within t = (
     λ h. let u = lifts.lift-named (setting T) f fits refused n within t h in (u.fine, u.tile, u.deep, u.is),
-    λ x. subst (λ (v : Placed P.ring.carrier). IsOfDepth P.real (Placed P.ring.carrier) (growing_frame P refused T.rule f) n v) (sym x.3)
-        (subst (λ m. IsOfDepth P.real (Placed P.ring.carrier) (growing_frame P refused T.rule f) m (in_frame P T.rule f x.0)) x.2 (lifts.named (setting T) f fits refused x.0 x.1)),
+    λ x. lifts.named-depth (setting T) f fits refused n within t (record { fine = x.0; tile = x.1; deep = x.2; is = x.3 }),
   )
 
   pub lines_law : frames.LinesLaw P
@@ -84,3 +84,19 @@ module _ (P : Points) (W : PointLaws P) where
 
   pub ancestor_holds_law : search.AncestorHoldsLaw P
   ancestor_holds_law T f fits t i p h n within = found.ancestor-level (setting T) f fits t i p h n within
+
+  -- ---- of windows
+  pub drawn_law : is_window.DrawnLaw P
+  drawn_law T f fits refused n within box tiles deep = (
+    window.drawn-from (setting T) f fits refused n within box tiles deep,
+    window.drawn-to (setting T) f fits refused n within box tiles deep,
+  )
+
+  pub covers_law : is_window.CoversLaw P
+  covers_law T f n box tiles = window.covers-lifted (setting T) f n box tiles
+
+  pub least_law : is_window.LeastLaw P
+  least_law T f fits refused box m n start = (window.least-enough (setting T) f fits refused box m n start, window.enough-least (setting T) f fits refused box m n start)
+
+  pub within_law : is_window.WithinLaw P
+  within_law T f fits refused box m limit start = (window.within-limits (setting T) f fits refused box m limit start, window.limits-within (setting T) f fits refused box m limit start)

@@ -32,5 +32,6 @@ pub mod Lifts
 pub mod FrameEdges
 pub mod FramePolygon
 pub mod FrameSearch
+pub mod FrameWindow
 pub mod Carried
 pub mod CarriedFrames

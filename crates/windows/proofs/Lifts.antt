@@ -93,6 +93,11 @@ module _ (T : Setting) where
         pub deep : depth fine ≡ n
         pub is : u ≡ in_frame P r f fine
 
+      pub named-depth : (u : Placed A) → Named u → IsOfDepth S (Placed A) (growing_frame P refused r f) n u
+      named-depth u x =
+          subst (λ (v : Placed A). IsOfDepth S (Placed A) (growing_frame P refused r f) n v) (sym x.is)
+          (subst (λ m. IsOfDepth S (Placed A) (growing_frame P refused r f) m (in_frame P r f x.fine)) x.deep (named x.fine x.tile))
+
       -- ---- and nothing else is
       module _ (s : Placed A) (m : Member T (top_kind f) (depth f) s) (level : level_in f s.address ≤ n) where
         abbrev ds : List Step
@@ -146,6 +151,14 @@ module _ (T : Setting) where
       ancestor-fits : Fits children (at_level f n)
       ancestor-fits = (at_level-fits f n within children fits).0
 
+      -- have its depth
+      pub fine-depth : (x : Placed A) → IsAmong x (frame_tiles P r (at_level f n)) → depth x.address ≡ n
+      fine-depth x i =
+          let s = among-map (moved_tile T (at_level f n)) x (supertile P r (top_kind (at_level f n)) (depth (at_level f n))) i in
+          let m = member T (top_kind (at_level f n)) (depth (at_level f n)) (top_exists T f.kind (at_level f n).digits (chain_of t (at_level f n) ancestor-fits)) s.0 s.1 in
+          ap (λ (y : Placed A). depth y.address) s.2 ∙ m.depth_is ∙ at_level-depth f n within
+
+      -- and are named by their addresses
       pub fine-named : (x : Placed A) → IsAmong x (frame_tiles P r (at_level f n)) → Named (lifted_tile f x)
       fine-named x i =
           let s = among-map (moved_tile T (at_level f n)) x (supertile P r (top_kind (at_level f n)) (depth (at_level f n))) i in

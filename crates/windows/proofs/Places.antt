@@ -5,6 +5,7 @@ use Rattle.ordered_ring.specs.Sign.{Signed}
 use Rattle.ordered_plane.specs.Plane.{PlanePoint}
 use Rattle.ordered_plane.specs.Triangle.{fan_from, turns_left}
 use Rattle.addressing.specs.Search.{IsAmong}
+use Rattle.addressing.proofs.Lists.{IsAmong-map}
 use Rattle.addressing.proofs.Ranges.{among-place}
 use Rattle.windows.specs.Distinct.{AreDistinct}
 use Rattle.windows.specs.Outlines.{edges_from, edges}
@@ -31,6 +32,10 @@ distinct-map f (x ∷ xs) h d = (
   λ i. let m = among-map f (f x) xs i in absurd (d.0 (subst (λ u. IsAmong u xs) (sym (h x m.0 (inl refl) (inr m.1) m.2)) m.1)),
   distinct-map f xs (λ y z i j. h y z (inr i) (inr j)) d.1,
 )
+
+pub distinct-unmap : {A B : Type 0} (f : A → B) (xs : List A) → AreDistinct (map f xs) → AreDistinct xs
+distinct-unmap f [] d = tt
+distinct-unmap f (x ∷ xs) d = (λ i. absurd (d.0 (IsAmong-map f x xs i)), distinct-unmap f xs d.1)
 
 length-edges_from : {A : Type 0} (first cur : A) (vs : List A) → length (edges_from first cur vs) ≡ suc (length vs)
 length-edges_from first cur [] = refl

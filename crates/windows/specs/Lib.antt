@@ -26,4 +26,5 @@ pub mod Level
 pub mod FramePatch
 pub mod FrameLaws
 pub mod FrameSearch
+pub mod FrameWindow
 pub mod Laws

@@ -12,6 +12,7 @@ ghost use Rattle.windows.specs.FrameLaws.{FramePatchLaw, LiftLaw, NamedLaw, Line
 ghost use Rattle.windows.specs.FrameLaws.{InnerLaw, OutsideLaw, FramePolygonLaw, FrameEnoughLaw};
 ghost use Rattle.windows.specs.FrameSearch.{GrownLevelLaw, RenamedLaw, AtDepthLaw};
 ghost use Rattle.windows.specs.FrameSearch.{AcrossLaw, GrownCrossingLaw, LastBoundaryLaw, AncestorHoldsLaw};
+ghost use Rattle.windows.specs.FrameWindow.{DrawnLaw, CoversLaw, LeastLaw, WithinLaw};
 
 use cyclo_points::order::Order;
 
@@ -171,4 +172,14 @@ pub fn frame_crossing_law(order: Order)
 /// it on.
 pub fn ancestor_holds_law(order: Order)
     ensures { AncestorHoldsLaw (points_of order) }
+{}
+
+/// The law of a window on a frame: the frame's own tiles that meet it are those drawn of the patch, and
+/// cover what they do; the least depth at which the frame's polygon holds the centre and none of its
+/// edges meets the window is the least enough one; and the limits are the same.
+pub fn frame_window_law(order: Order)
+    ensures drawn { DrawnLaw (points_of order) }
+    ensures covers { CoversLaw (points_of order) }
+    ensures least { LeastLaw (points_of order) }
+    ensures within { WithinLaw (points_of order) }
 {}
