@@ -1,109 +1,35 @@
 -- The law of closed chains: by steps of equal height and below one another, edge by edge.
-use Rattle.std.proofs.Common.{◌≡◌, ◌⊎◌, inl, inr, List, [], ◌∷◌, ◌++◌, flat_map, ℤ, pos, neg_ℤ, ◌+ℤ◌, ◌-ℤ◌, refl, sym, ap, ap₂, ◌∙◌, subst, Bool, true, false, ◌&&◌, Ordering, Less, Equal, Greater, is_gt, is_lt, is_eq, arith}
+use Rattle.std.proofs.Common.{◌≡◌, ◌⊎◌, inl, inr, List, [], ◌∷◌, ◌++◌, flat_map, ℤ, pos, neg_ℤ, ◌+ℤ◌, ◌-ℤ◌, refl, sym, ap, ap₂, ◌∙◌, Bool, true, false, Ordering, Less, Equal, Greater, is_lt, arith}
 use Rattle.std.proofs.lemmas.Int.{ints}
-use Rattle.std.proofs.lemmas.Bool.{and_parts, and_from}
-use Rattle.std.specs.Ordering.{ordering_reverse}
+use Rattle.std.proofs.lemmas.Bool.{and_parts}
 use Rattle.ordered_ring.specs.Ring.{Ops, Laws, difference}
 use Rattle.ordered_ring.specs.Sign.{Signed, OrderLaws, IsPositive, IsNonNegative}
 use Rattle.ordered_ring.specs.Divisor.{DividesWhole}
-use Rattle.ordered_plane.specs.Plane.{PlanePoint, TestPoint, side}
-use Rattle.ordered_plane.specs.Crossing.{crossing, crossing_of, count_from, count}
-use Rattle.ordered_plane.specs.Segment.{same_place}
-use Rattle.ordered_plane.specs.Box.{OpenBox, is_shorter, in_box, EdgeMeetsBox}
+use Rattle.ordered_plane.specs.Plane.{PlanePoint, TestPoint}
+use Rattle.ordered_plane.specs.Crossing.{crossing, count}
+use Rattle.ordered_plane.specs.Box.{OpenBox, in_box, EdgeMeetsBox}
 use Rattle.ordered_plane.specs.BoxTest.{box_test}
-use Rattle.ordered_ring.proofs.Normaliser.{var, neg, ring, equal_of_diff, ◌⊖◌, ◌⊗◌}
-use Rattle.ordered_ring.proofs.Signs.{pos_nonneg, less_neg, sign-scale}
-use Rattle.ordered_ring.proofs.Booleans.{is_equal}
+use Rattle.ordered_ring.proofs.Normaliser.{var, neg, ring, ◌⊖◌}
+use Rattle.ordered_ring.proofs.Signs.{pos_nonneg, less_neg}
 use Rattle.ordered_plane.proofs.Crossing.{crossing-turned}
 use Rattle.ordered_plane.proofs.BoxPoints.{test_positive, test_of_mean}
 use Rattle.ordered_plane.proofs.BoxMeets.{box_test-meets, meets-box_test}
 use Rattle.dissection.specs.Sums.{sum_over, number_of}
 use Rattle.std.specs.List.{AllByRecursion}
-use Rattle.edge_to_edge.specs.Edges.{Edge}
-use Rattle.windows.specs.Outlines.{edges_from, edges, PlaneEdge, Polygon, MeetsBox, is_reverse}
+use Rattle.windows.specs.Outlines.{edges, PlaneEdge, Polygon, MeetsBox, is_reverse}
 use Rattle.windows.specs.ClosedChains.{total_count, ClosedChain, ClosedChains}
-use Rattle.dissection.proofs.Sums.{plus_zero, sum-ext, sum-append, sum-flat_map, sum-both}
+use Rattle.dissection.proofs.Sums.{plus_zero, sum-ext, sum-both}
 use Rattle.windows.proofs.PairedSums.{sum-neg, sum-paired}
 use Rattle.addressing.proofs.Lists.{AllByRecursion-each}
-use Rattle.windows.proofs.Avoiding.{Avoids, InX, InY, crossing-level, passed, crossing-passed}
-
--- ---- a polygon's edges
-telescope : (x y z : ℤ) → (y -ℤ x) +ℤ (z -ℤ y) ≡ z -ℤ x
-telescope x y z = omega (arith, ints)
-
-one_step : (x y : ℤ) → (y -ℤ x) +ℤ pos 0 ≡ y -ℤ x
-one_step x y = omega (arith, ints)
-
-no_change : (x : ℤ) → x -ℤ x ≡ pos 0
-no_change x = omega (arith, ints)
-
--- the change of a number of vertices, from the start of an edge to its end
-abbrev change : {A : Type 0} → (A → ℤ) → Edge A → ℤ
-change h e = h e.to -ℤ h e.from
-
-change-from : {A : Type 0} (h : A → ℤ) (first cur : A) (vs : List A) → sum_over (change h) (edges_from first cur vs) ≡ h first -ℤ h cur
-change-from h first cur [] = one_step (h cur) (h first)
-change-from h first cur (v ∷ vs) = ap (λ u. (h v -ℤ h cur) +ℤ u) (change-from h first v vs) ∙ telescope (h cur) (h v) (h first)
-
--- round a polygon it is 0
-change-round : {A : Type 0} (h : A → ℤ) (vs : List A) → sum_over (change h) (edges vs) ≡ pos 0
-change-round h [] = refl
-change-round h (v ∷ vs) = change-from h v v vs ∙ no_change (h v)
-
-change-all : {A : Type 0} (h : A → ℤ) (polygons : List (List A)) → sum_over (change h) (flat_map edges polygons) ≡ pos 0
-change-all h [] = refl
-change-all h (vs ∷ rest) = sum-append (change h) (edges vs) (flat_map edges rest) ∙ ap₂ (λ u v. u +ℤ v) (change-round h vs) (change-all h rest)
-
-module _ (S : Signed) where
-  abbrev edge_crossing : TestPoint S.ops.carrier → PlaneEdge S → ℤ
-  edge_crossing p e = crossing S e.from e.to p
-
-  count-from : (p : TestPoint S.ops.carrier) (first cur : PlanePoint S.ops.carrier) (vs : Polygon S) → sum_over (edge_crossing p) (edges_from first cur vs) ≡ count_from S p first cur vs
-  count-from p first cur [] = plus_zero (crossing S cur first p)
-  count-from p first cur (v ∷ vs) = ap (λ u. crossing S cur v p +ℤ u) (count-from p first v vs)
-
-  count-edges : (p : TestPoint S.ops.carrier) (vs : Polygon S) → sum_over (edge_crossing p) (edges vs) ≡ count S vs p
-  count-edges p [] = refl
-  count-edges p (v ∷ vs) = count-from p v v vs
-
-  pub total-edges : (p : TestPoint S.ops.carrier) (polygons : List (Polygon S)) → sum_over (edge_crossing p) (flat_map edges polygons) ≡ total_count S polygons p
-  total-edges p polygons = sum-flat_map (edge_crossing p) edges polygons ∙ sum-ext _ _ polygons (count-edges p)
+use Rattle.windows.proofs.Avoiding.{Avoids, InX, InY, Strip}
+use Rattle.windows.proofs.LevelCrossing.{crossing-level}
+use Rattle.windows.proofs.UprightCrossing.{passed, crossing-passed}
+use Rattle.windows.proofs.Reverses.{reverse-is, reverse-turned}
+use Rattle.windows.proofs.EdgeCounts.{change, change-all, edge_crossing, total-edges, again, crossing-again, below-again}
 
 module _ (S : Signed) (L : Laws S.ops) (O : OrderLaws S) where
   abbrev R : Ops
   R = S.ops
-
-  -- ---- a test point written with another denominator
-  module _ (k D : R.carrier) (p : TestPoint R.carrier) (k_pos : IsPositive S k) (denominator : R.mul k p.d ≡ D) where
-    abbrev again : TestPoint R.carrier
-    again = record { x = R.mul k p.x; y = R.mul k p.y; d = D }
-
-    above-again : (v : PlanePoint R.carrier) → S.sign (difference R (R.mul D v.y) (R.mul k p.y)) ≡ S.sign (difference R (R.mul p.d v.y) p.y)
-    above-again v =
-        ap (λ d. S.sign (difference R (R.mul d v.y) (R.mul k p.y))) (sym denominator)
-        ∙ ap S.sign (ring R L (k ∷ (p.d ∷ (p.y ∷ (v.y ∷ [])))) ((var 0 ⊗ var 1) ⊗ var 3 ⊖ var 0 ⊗ var 2) (var 0 ⊗ (var 1 ⊗ var 3 ⊖ var 2)) refl)
-        ∙ sign-scale S L O k _ k_pos
-
-    side-again : (a b : PlanePoint R.carrier) → S.sign (side R a b again) ≡ S.sign (side R a b p)
-    side-again a b =
-        ap (λ d. S.sign (side R a b (record { x = R.mul k p.x; y = R.mul k p.y; d = d }))) (sym denominator)
-        ∙ ap S.sign (ring R L (a.x ∷ (a.y ∷ (b.x ∷ (b.y ∷ (p.x ∷ (p.y ∷ (p.d ∷ (k ∷ []))))))))
-        ((var 2 ⊖ var 0) ⊗ (var 7 ⊗ var 5 ⊖ (var 7 ⊗ var 6) ⊗ var 1) ⊖ (var 3 ⊖ var 1) ⊗ (var 7 ⊗ var 4 ⊖ (var 7 ⊗ var 6) ⊗ var 0))
-        (var 7 ⊗ ((var 2 ⊖ var 0) ⊗ (var 5 ⊖ var 6 ⊗ var 1) ⊖ (var 3 ⊖ var 1) ⊗ (var 4 ⊖ var 6 ⊗ var 0))) refl)
-        ∙ sign-scale S L O k _ k_pos
-
-    crossing-again : (a b : PlanePoint R.carrier) → crossing S a b again ≡ crossing S a b p
-    crossing-again a b = λ i. crossing_of (is_gt (above-again a i)) (is_gt (above-again b i)) (side-again a b i)
-
-    below-again : (x c w : R.carrier) → is_shorter S (difference R x (R.mul p.d c)) (R.mul p.d w) ≡ true → is_shorter S (difference R (R.mul k x) (R.mul D c)) (R.mul D w) ≡ true
-    below-again x c w h =
-        subst (λ d. is_shorter S (difference R (R.mul k x) (R.mul d c)) (R.mul d w) ≡ true) denominator
-        (and_from _ _
-        (ap is_gt (ap S.sign (ring R L these ((var 0 ⊗ var 1) ⊗ var 4 ⊖ (var 0 ⊗ var 2 ⊖ (var 0 ⊗ var 1) ⊗ var 3)) (var 0 ⊗ (var 1 ⊗ var 4 ⊖ (var 2 ⊖ var 1 ⊗ var 3))) refl) ∙ sign-scale S L O k _ k_pos) ∙ (and_parts _ _ h).0)
-        (ap is_gt (ap S.sign (ring R L these ((var 0 ⊗ var 1) ⊗ var 4 ⊖ neg (var 0 ⊗ var 2 ⊖ (var 0 ⊗ var 1) ⊗ var 3)) (var 0 ⊗ (var 1 ⊗ var 4 ⊖ neg (var 2 ⊖ var 1 ⊗ var 3))) refl) ∙ sign-scale S L O k _ k_pos) ∙ (and_parts _ _ h).1))
-      where
-        these : List R.carrier
-        these = k ∷ (p.d ∷ (x ∷ (c ∷ (w ∷ []))))
 
   -- ---- edges that avoid the box
   avoids : DividesWhole S → (box : OpenBox R.carrier) (a b : PlanePoint R.carrier) → (EdgeMeetsBox S a b box → ⊥) → Avoids S L O box a b
@@ -115,37 +41,6 @@ module _ (S : Signed) (L : Laws S.ops) (O : OrderLaws S) where
       at_test : (t : Bool) → box_test S a b box ≡ t → EdgeMeetsBox S a b box ⊎ Avoids S L O box a b
       at_test true e = inl (box_test-meets S L O whole a b box e)
       at_test false e = inr (avoids whole box a b (λ m. absurd (cc (sym e ∙ meets-box_test S L O a b box m))))
-
-  same-place : (a b : PlanePoint R.carrier) → same_place S a b ≡ true → a ≡ b
-  same-place a b e =
-      let h = and_parts _ _ e in
-      λ i. record {
-        x = sym (equal_of_diff R L b.x a.x (O.equal_zero _ (is_equal _ h.0))) i;
-        y = sym (equal_of_diff R L b.y a.y (O.equal_zero _ (is_equal _ h.1))) i;
-      }
-
-  is_eq-reverse : (o : Ordering) → is_eq (ordering_reverse o) ≡ is_eq o
-  is_eq-reverse Less = refl
-  is_eq-reverse Equal = refl
-  is_eq-reverse Greater = refl
-
-  is_eq-turned : (r s : R.carrier) → is_eq (S.sign (difference R r s)) ≡ is_eq (S.sign (difference R s r))
-  is_eq-turned r s = ap (λ z. is_eq (S.sign z)) (ring R L (r ∷ (s ∷ [])) (var 0 ⊖ var 1) (neg (var 1 ⊖ var 0)) refl) ∙ ap is_eq (O.sign-neg _) ∙ is_eq-reverse _
-
-  same_place-turned : (a b : PlanePoint R.carrier) → same_place S a b ≡ same_place S b a
-  same_place-turned a b = ap₂ (λ s t. s && t) (is_eq-turned b.x a.x) (is_eq-turned b.y a.y)
-
-  and_swapped : (s t : Bool) → s && t ≡ t && s
-  and_swapped true true = refl
-  and_swapped true false = refl
-  and_swapped false true = refl
-  and_swapped false false = refl
-
-  pub reverse-turned : (e f : PlaneEdge S) → is_reverse S e f ≡ is_reverse S f e
-  reverse-turned e f = ap₂ (λ s t. s && t) (same_place-turned f.from e.to) (same_place-turned f.to e.from) ∙ and_swapped (same_place S e.to f.from) (same_place S e.from f.to)
-
-  pub reverse-is : (e f : PlaneEdge S) → is_reverse S e f ≡ true → f ≡ record { from = e.to; to = e.from }
-  reverse-is e f h = λ i. record { from = same-place f.from e.to (and_parts _ _ h).0 i; to = same-place f.to e.from (and_parts _ _ h).1 i }
 
   gone_changed : (u v c : ℤ) → u ≡ v +ℤ c → (u +ℤ neg_ℤ v) +ℤ neg_ℤ c ≡ pos 0
   gone_changed u v c e = omega (arith, ints)
@@ -167,7 +62,7 @@ module _ (S : Signed) (L : Laws S.ops) (O : OrderLaws S) where
 
       rest-turned : (e f : PlaneEdge S) → is_reverse S e f ≡ true → rest f ≡ neg_ℤ (rest e)
       rest-turned e f k =
-          ap rest (reverse-is e f k)
+          ap rest (reverse-is S L O e f k)
           ∙ ap₂ (λ u v. (u +ℤ neg_ℤ v) +ℤ neg_ℤ (h e.from -ℤ h e.to)) (crossing-turned S L O e.from e.to p) (crossing-turned S L O e.from e.to q)
           ∙ turned (crossing S e.from e.to p) (crossing S e.from e.to q) (h e.from) (h e.to)
         where
@@ -182,7 +77,7 @@ module _ (S : Signed) (L : Laws S.ops) (O : OrderLaws S) where
           at_case (inr m) = inl (gone_changed _ _ _ (changed e.from e.to m))
 
       rest-sum : sum_over rest all ≡ pos 0
-      rest-sum = sum-paired rest (is_reverse S) rest-turned reverse-turned all (AllByRecursion-each _ _ all rest-once paired)
+      rest-sum = sum-paired rest (is_reverse S) rest-turned (reverse-turned S L O) all (AllByRecursion-each _ _ all rest-once paired)
 
       split : sum_over rest all ≡ (total_count S polygons p +ℤ neg_ℤ (total_count S polygons q)) +ℤ neg_ℤ (pos 0)
       split =
@@ -205,11 +100,14 @@ module _ (S : Signed) (L : Laws S.ops) (O : OrderLaws S) where
         total-same (record { x = x1; y = y; d = d }) (record { x = x2; y = y; d = d }) (λ v. pos 0)
         (λ a b m. unchanged _ _ (crossing-level S L O box x1 x2 y d d_pos in1 in2 in_y a b m))
 
+    abbrev strip : (x y1 y2 d : R.carrier) → IsPositive S d → InX S L O box x d → InY S L O box y1 d → InY S L O box y2 d → IsNonNegative S (difference R y2 y1) → Strip S L O box
+    strip x y1 y2 d d_pos in_x in1 in2 order = record { x = x; y1 = y1; y2 = y2; d = d; d_pos = d_pos; in_x = in_x; in1 = in1; in2 = in2; order = order }
+
     total-rising : (x y1 y2 d : R.carrier) → IsPositive S d → InX S L O box x d → InY S L O box y1 d → InY S L O box y2 d → IsNonNegative S (difference R y2 y1)
         → total_count S polygons (record { x = x; y = y1; d = d }) ≡ total_count S polygons (record { x = x; y = y2; d = d })
     total-rising x y1 y2 d d_pos in_x in1 in2 order =
-        total-same (record { x = x; y = y1; d = d }) (record { x = x; y = y2; d = d }) (passed S L O box x y1 y2 d d_pos in_x in1 in2 order)
-        (crossing-passed S L O box x y1 y2 d d_pos in_x in1 in2 order)
+        total-same (record { x = x; y = y1; d = d }) (record { x = x; y = y2; d = d }) (passed S L O box (strip x y1 y2 d d_pos in_x in1 in2 order))
+        (crossing-passed S L O box (strip x y1 y2 d d_pos in_x in1 in2 order))
 
     total-upright : (x y1 y2 d : R.carrier) → IsPositive S d → InX S L O box x d → InY S L O box y1 d → InY S L O box y2 d
         → total_count S polygons (record { x = x; y = y1; d = d }) ≡ total_count S polygons (record { x = x; y = y2; d = d })
@@ -221,21 +119,21 @@ module _ (S : Signed) (L : Laws S.ops) (O : OrderLaws S) where
         at_sign Less e = sym (total-rising x y2 y1 d d_pos in_x in2 in1
             (pos_nonneg S L O _ (ap S.sign (ring R L (y1 ∷ (y2 ∷ [])) (var 0 ⊖ var 1) (neg (var 1 ⊖ var 0)) refl) ∙ less_neg S L O _ e)))
 
-    total-again : (k D : R.carrier) (p : TestPoint R.carrier) (k_pos : IsPositive S k) (e : R.mul k p.d ≡ D) → total_count S polygons (again k D p k_pos e) ≡ total_count S polygons p
+    total-again : (k D : R.carrier) (p : TestPoint R.carrier) (k_pos : IsPositive S k) (e : R.mul k p.d ≡ D) → total_count S polygons (again S L O k D p k_pos e) ≡ total_count S polygons p
     total-again k D p k_pos e =
-        sym (total-edges S (again k D p k_pos e) polygons) ∙ sum-ext _ _ all (λ f. crossing-again k D p k_pos e f.from f.to) ∙ total-edges S p polygons
+        sym (total-edges S (again S L O k D p k_pos e) polygons) ∙ sum-ext _ _ all (λ f. crossing-again S L O k D p k_pos e f.from f.to) ∙ total-edges S p polygons
 
     pub total-constant : (p q : TestPoint R.carrier) → IsPositive S p.d → IsPositive S q.d → in_box S box p ≡ true → in_box S box q ≡ true → total_count S polygons p ≡ total_count S polygons q
     total-constant p q p_pos q_pos in_p in_q =
         sym (total-again q.d D p q_pos refl)
         ∙ total-level (R.mul q.d p.x) (R.mul p.d q.x) (R.mul q.d p.y) D D_pos
-        (below-again q.d D p q_pos refl p.x box.centre.x (R.int (pos box.w)) here.0)
-        (below-again p.d D q p_pos (L.mul_comm _ _) q.x box.centre.x (R.int (pos box.w)) there.0)
-        (below-again q.d D p q_pos refl p.y box.centre.y (R.int (pos box.h)) here.1)
+        (below-again S L O q.d D p q_pos refl p.x box.centre.x (R.int (pos box.w)) here.0)
+        (below-again S L O p.d D q p_pos (L.mul_comm _ _) q.x box.centre.x (R.int (pos box.w)) there.0)
+        (below-again S L O q.d D p q_pos refl p.y box.centre.y (R.int (pos box.h)) here.1)
         ∙ total-upright (R.mul p.d q.x) (R.mul q.d p.y) (R.mul p.d q.y) D D_pos
-        (below-again p.d D q p_pos (L.mul_comm _ _) q.x box.centre.x (R.int (pos box.w)) there.0)
-        (below-again q.d D p q_pos refl p.y box.centre.y (R.int (pos box.h)) here.1)
-        (below-again p.d D q p_pos (L.mul_comm _ _) q.y box.centre.y (R.int (pos box.h)) there.1)
+        (below-again S L O p.d D q p_pos (L.mul_comm _ _) q.x box.centre.x (R.int (pos box.w)) there.0)
+        (below-again S L O q.d D p q_pos refl p.y box.centre.y (R.int (pos box.h)) here.1)
+        (below-again S L O p.d D q p_pos (L.mul_comm _ _) q.y box.centre.y (R.int (pos box.h)) there.1)
         ∙ total-again p.d D q p_pos (L.mul_comm _ _)
       where
         D : R.carrier

@@ -17,7 +17,7 @@ use Rattle.windows.specs.PatchWindow.{PatchWindow}
 use Rattle.windows.specs.EveryEdge.{FoundOrOpen, NoneOpen}
 use Rattle.addressing.proofs.Lists.{IsAmong-map, AllByRecursion-among}
 use Rattle.windows.proofs.Members.{among-map, comes-from, ComesFrom, goes-to}
-use Rattle.windows.proofs.ClosedChains.{reverse-is}
+use Rattle.windows.proofs.Reverses.{reverse-is}
 use Rattle.addressing.proofs.Filters.{IsAmong-kept}
 use Rattle.windows.proofs.OpenEdges.{any-among, some-any, of-polygon, number-of-edge}
 use Rattle.windows.proofs.OpenFacts.{of_patch}

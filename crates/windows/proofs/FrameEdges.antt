@@ -33,7 +33,7 @@ use Rattle.windows.specs.Outlines.{PlaneEdge, edges, is_reverse}
 use Rattle.windows.specs.GrowingPatch.{IsOfDepth, IsInner}
 use Rattle.windows.specs.FramePatch.{growing_frame, in_frame, line_of}
 use Rattle.windows.specs.FrameLaws.{IsEdgeInFrame}
-use Rattle.windows.proofs.ClosedChains.{reverse-is}
+use Rattle.windows.proofs.Reverses.{reverse-is}
 use Rattle.windows.proofs.MovedTiles.{moved_line, line-among, line-number, no_return}
 use Rattle.windows.proofs.FramePatch.{frame_back, frame_move, frame_keeps}
 use Rattle.windows.proofs.Lifts.{rule-tile, named, Named, lift-named}

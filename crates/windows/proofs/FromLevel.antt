@@ -5,7 +5,7 @@ use Rattle.ordered_ring.specs.Sign.{Signed, OrderLaws}
 use Rattle.addressing.specs.Search.{IsAmong}
 use Rattle.windows.specs.Outlines.{PlaneEdge, edges}
 use Rattle.windows.specs.FromLevel.{InnerFromLevel, HeldFromLevel}
-use Rattle.windows.proofs.ClosedChains.{reverse-is}
+use Rattle.windows.proofs.Reverses.{reverse-is}
 
 -- the reverse of an edge is of one tile alone
 pub inner_from_level : (S : Signed) (L : Laws S.ops) (O : OrderLaws S) → {T : Type 0} → InnerFromLevel S T

@@ -1,7 +1,15 @@
 pub mod Members
 pub mod PairedSums
 pub mod Avoiding
+pub mod LevelCrossing
+pub mod EdgeHeights
+pub mod UprightCrossing
+pub mod Reverses
+pub mod EdgeCounts
 pub mod ClosedChains
+pub mod Multiples
+pub mod MixedPoint
+pub mod FanEdges
 pub mod Meeting
 pub mod OneOwner
 pub mod CutEdges

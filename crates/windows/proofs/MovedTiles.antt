@@ -29,7 +29,7 @@ use Rattle.windows.specs.Outlines.{PlaneEdge, edges, is_reverse}
 use Rattle.windows.specs.Meeting.{IsLeftFan}
 use Rattle.windows.proofs.Places.{distinct-places, fan-each}
 use Rattle.windows.proofs.KindEdges as kind
-use Rattle.windows.proofs.ClosedChains.{reverse-is}
+use Rattle.windows.proofs.Reverses.{reverse-is}
 
 -- the fan of the images of three or more points
 fan-images : (S : Signed) {A : Type 0} (put : A → PlanePoint S.ops.carrier) (o : A) (vs : List A) → 3 ≤ length vs

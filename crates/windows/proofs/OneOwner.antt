@@ -19,7 +19,8 @@ use Rattle.windows.specs.Outlines.{PlaneEdge, Polygon, edges}
 use Rattle.windows.specs.Meeting.{IsLeftFan}
 use Rattle.windows.specs.Window.{OneOwner}
 use Rattle.dissection.proofs.CommonPoint.{inside-count}
-use Rattle.windows.proofs.Meeting.{Steps, reaches, all_reach, Over, tri, over-polygon, counts-one, must_be_one, all-good, turned-left}
+use Rattle.windows.proofs.Multiples.{Steps, reaches, all_reach}
+use Rattle.windows.proofs.FanEdges.{Over, tri, over-polygon, counts-one, must_be_one, all-good, turned-left}
 use Rattle.addressing.proofs.Lists.{AllByRecursion-among}
 
 module _ (S : Signed) (L : Laws S.ops) (O : OrderLaws S) where
@@ -67,11 +68,11 @@ module _ (S : Signed) (L : Laws S.ops) (O : OrderLaws S) where
       → (p : TestPoint R.carrier) × IsTestPoint S p × (edge_sum S a b v p ≡ pos 1) × (edge_sum S a b w p ≡ pos 1)
   common-point a b v w lv lw = at_multiple (all_reach S L O steps (lv, (lv, (lw, (lw, tt)))))
     where
-      steps : List (Steps S L O)
+      steps : List (Steps S)
       steps = record { size = orientation R a b v; from = orientation R b v w } ∷ (record { size = orientation R a b v; from = orientation R v a w }
           ∷ (record { size = orientation R a b w; from = orientation R b w w } ∷ (record { size = orientation R a b w; from = orientation R w a w } ∷ [])))
 
-      at_multiple : (n : ℕ) × AllByRecursion (reaches S L O (R.int (pos (suc n)))) steps
+      at_multiple : (n : ℕ) × AllByRecursion (reaches S (R.int (pos (suc n)))) steps
           → (p : TestPoint R.carrier) × IsTestPoint S p × (edge_sum S a b v p ≡ pos 1) × (edge_sum S a b w p ≡ pos 1)
       at_multiple n =
           let k : R.carrier = R.int (pos (suc n.0)) in
@@ -99,13 +100,13 @@ module _ (S : Signed) (L : Laws S.ops) (O : OrderLaws S) where
       ap (λ z. int_eq z (pos 1)) (must_be_one S L O _ (star.zero_or_one p test) (subst (λ z. pos 1 ≤ℤ z) (sym (count-fan S L O p polygon))
       (counts-one S L O p t (fan polygon) i (count-edge_sum S t p ∙ h) (all-good S L O p (test_positive S L O p test) (fan polygon) star.turns_left))))
 
-  on-edge : (polygon : Polygon S) → IsLeftFan S polygon → (e : PlaneEdge S) → Over S L O e (fan polygon) → OnEdge polygon e
+  on-edge : (polygon : Polygon S) → IsLeftFan S polygon → (e : PlaneEdge S) → Over e (fan polygon) → OnEdge polygon e
   on-edge polygon star e o = at_case o.rotated (AllByRecursion-among (λ t. turns_left S t ≡ true) o.triangle (fan polygon) o.among star.turns_left) (of-triangle polygon star o.triangle o.among)
     where
       Points : Triangle (PlanePoint R.carrier) → Type 0
       Points t = (p : TestPoint R.carrier) → IsTestPoint S p → edge_sum S t.a t.b t.c p ≡ pos 1 → member S polygon p ≡ true
 
-      at_case : (o.triangle ≡ tri S L O e.from e.to o.apex) ⊎ ((o.triangle ≡ tri S L O o.apex e.from e.to) ⊎ (o.triangle ≡ tri S L O e.to o.apex e.from)) → turns_left S o.triangle ≡ true → Points o.triangle
+      at_case : (o.triangle ≡ tri e.from e.to o.apex) ⊎ ((o.triangle ≡ tri o.apex e.from e.to) ⊎ (o.triangle ≡ tri e.to o.apex e.from)) → turns_left S o.triangle ≡ true → Points o.triangle
           → OnEdge polygon e
       at_case (inl f) l c = record { apex = o.apex; left = greater _ (subst (λ t. turns_left S t ≡ true) f l); covers = subst Points f c }
       at_case (inr (inl f)) l c = record {
@@ -122,11 +123,11 @@ module _ (S : Signed) (L : Laws S.ops) (O : OrderLaws S) where
   edge-of : (polygon : Polygon S) → IsLeftFan S polygon → (e : PlaneEdge S) → IsAmong e (edges polygon) → OnEdge polygon e
   edge-of polygon star e i = on-edge polygon star e (over polygon star.corners i)
     where
-      over : (vs : Polygon S) → 2 < length vs → IsAmong e (edges vs) → Over S L O e (fan vs)
+      over : (vs : Polygon S) → 2 < length vs → IsAmong e (edges vs) → Over e (fan vs)
       over [] l j = elim j [ ]
       over (a ∷ []) l j = absurd (omega arith)
       over (a ∷ (b ∷ [])) l j = absurd (omega arith)
-      over (a ∷ (b ∷ (c ∷ vs))) l j = over-polygon S L O a b c vs e j
+      over (a ∷ (b ∷ (c ∷ vs))) l j = over-polygon a b c vs e j
 
   pub one_owner : {T : Type 0} → OneOwner S T
   one_owner P fans holder t u i j e m n =

@@ -13,7 +13,7 @@ use Rattle.windows.specs.SearchState.{SearchState, outlines, IsRightState, stepp
 use Rattle.windows.specs.PatchWindow.{PatchWindow}
 use Rattle.windows.specs.OpenStep.{closes_one, OpenStep}
 use Rattle.windows.proofs.Members.{among-map, comes-from, ComesFrom, goes-to}
-use Rattle.windows.proofs.ClosedChains.{reverse-is, reverse-turned}
+use Rattle.windows.proofs.Reverses.{reverse-is, reverse-turned}
 use Rattle.addressing.proofs.Filters.{IsAmong-filter}
 use Rattle.windows.proofs.OpenEdges.{any-among, some-any, of-polygon, filter-same, line-of}
 use Rattle.windows.proofs.EnoughDepth.{meets-turned}

@@ -18,7 +18,7 @@ use Rattle.windows.specs.PatchWindow.{PatchWindow, LiesAcross, HoldsCentre}
 use Rattle.windows.specs.SearchSteps.{StartRight, IsStep, StepRight}
 use Rattle.addressing.proofs.Lists.{AllByRecursion-each}
 use Rattle.windows.proofs.Members.{AllByRecursion-more, distinct-append, goes-to}
-use Rattle.windows.proofs.ClosedChains.{reverse-is}
+use Rattle.windows.proofs.Reverses.{reverse-is}
 use Rattle.windows.proofs.Window.{centre-in_box}
 use Rattle.windows.proofs.OpenEdges.{any-among, open_edges-more}
 use Rattle.windows.proofs.EnoughDepth.{meets-turned, tile-meets, enough_holds_all}

@@ -22,7 +22,8 @@ use Rattle.dissection.proofs.Sums.{sum-map}
 use Rattle.addressing.proofs.Lists.{AllByRecursion-among, AllByRecursion-from}
 use Rattle.windows.proofs.Members.{ComesFrom, comes-from, goes-to, distinct-append, number-one, some-passes}
 use Rattle.dissection.proofs.ZeroOrOne.{sum-number}
-use Rattle.windows.proofs.ClosedChains.{reverse-is, closed_chains}
+use Rattle.windows.proofs.Reverses.{reverse-is}
+use Rattle.windows.proofs.ClosedChains.{closed_chains}
 
 same_whole : (m n : ℕ) → pos m ≡ pos n → m ≡ n
 same_whole m n e = ap size e
