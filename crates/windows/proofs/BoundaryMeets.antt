@@ -1,11 +1,8 @@
 -- Where an edge of a supertile meets an open box, an edge of one of its tiles that has a trace to it does: level by level, one of the parts into which the
 -- edge is cut.
-use Rattle.std.proofs.Common.{◌≡◌, inl, inr, ℕ, zero, suc, ◌+◌, ◌<◌, ◌≤◌, List, [], ◌∷◌, ◌++◌, length, map, Some, refl, sym, ap, ◌∙◌, subst, arith, length-append}
-use Rattle.std.specs.List.{filter}
+use Rattle.std.proofs.Common.{◌≡◌, ℕ, zero, suc, ◌+◌, ◌<◌, List, [], ◌∷◌, ◌++◌, length, Some, refl, sym, ap, ◌∙◌, subst, arith, length-append}
 use Rattle.ordered_ring.specs.Ring.{Ops, power}
 use Rattle.ordered_ring.specs.Sign.{Signed}
-use Rattle.ordered_plane.specs.Plane.{PlanePoint}
-use Rattle.ordered_plane.specs.Segment.{on_segment}
 use Rattle.ordered_plane.specs.Box.{OpenBox, EdgeMeetsBox}
 use Rattle.addressing.specs.Address.{Step, top_from}
 use Rattle.addressing.specs.Contact.{outer}
@@ -13,9 +10,8 @@ use Rattle.addressing.specs.Search.{IsAmong}
 use Rattle.addressing.specs.Tables.{Tables, contact_of, part_count}
 use Rattle.addressing.specs.Trace.{Cut, IsTrace, bare, further}
 use Rattle.addressing.proofs.Chains.{IsChain}
-use Rattle.addressing.proofs.Filters.{kept_one}
 use Rattle.addressing.proofs.Ranges.{among-place, slice_get-image}
-use Rattle.substitution.specs.Plane.{plane_point, Keeps}
+use Rattle.substitution.specs.Plane.{Keeps}
 use Rattle.substitution.specs.Motion.{Motion, moved}
 use Rattle.substitution.specs.RuleParts.{parts, edge_count, edge_type, vertex, next, child_of}
 use Rattle.substitution.specs.Supertile.{inflated}
@@ -26,17 +22,14 @@ use Rattle.edge_to_edge.specs.Contacts.{name_of, tables_of}
 use Rattle.edge_to_edge.specs.Edges.{Edge, PlacedEdge, inflated_edge, child_edge}
 use Rattle.edge_to_edge.proofs.ChildEdges.{among-child_edges}
 use Rattle.edge_to_edge.proofs.CutEdges.{cut_parts, boundary_edges, found}
-use Rattle.edge_to_edge.proofs.CutParts.{AreParts, begins_at}
 use Rattle.edge_to_edge.proofs.TablesOf.{child_kind_of-at, part_of-at}
 use Rattle.dissection.specs.TileEdges.{supertile_edge}
 use Rattle.dissection.proofs.Setting.{Setting, below_kinds, contacts-coherent, cut_edges, inflating-keeps}
-use Rattle.dissection.proofs.Injective.{Along, Along-image}
 use Rattle.dissection.proofs.Members.{chain-append}
 use Rattle.dissection.proofs.MirroredCuts.{PartFacts, part_facts}
 use Rattle.dissection.proofs.Opposite.{tile_edge}
 use Rattle.dissection.proofs.TraceAlong.{still-moves, inflated-moves, coarser, one_more}
-use Rattle.windows.specs.CutEdges.{AreCuts, last_from, PartMeets}
-use Rattle.windows.proofs.CutEdges.{cuts_meet}
+use Rattle.windows.proofs.MeetingParts.{put, Meets, some-part}
 
 module _ (T : Setting) (box : OpenBox T.points.real.ops.carrier) where
   open T use {points as P, laws as W, accepted.{rule as r, numbered as N, edge_to_edge as D}}
@@ -56,14 +49,6 @@ module _ (T : Setting) (box : OpenBox T.points.real.ops.carrier) where
   abbrev line_of : ℕ → List Step → ℕ → Edge A
   line_of k ds e = tile_edge T k ds e
 
-  -- f takes a point to the plane
-  abbrev put : (A → A) → A → PlanePoint S.ops.carrier
-  put f z = plane_point P (f z)
-
-  -- where f takes the edge, it meets the box
-  abbrev Meets : (A → A) → Edge A → Type 0
-  Meets f e = EdgeMeetsBox S (put f e.from) (put f e.to) box
-
   -- an edge with a trace to edge `top` of the supertile of kind k and depth n that f moves, and it meets the box
   pub record Met (k n top : ℕ) (f : A → A) : Type 0 where
     pub kind : ℕ
@@ -75,9 +60,9 @@ module _ (T : Setting) (box : OpenBox T.points.real.ops.carrier) where
     pub deep : length digits ≡ n
     pub edge_exists : edge < edge_count r kind
     pub trace : IsTrace t edge digits top cuts
-    pub meets : Meets f (line_of kind digits edge)
+    pub meets : Meets T box f (line_of kind digits edge)
 
-  met-zero : (k top : ℕ) (f : A → A) → k < length r.kinds → top < edge_count r k → Meets f (supertile_edge P r k 0 top) → Met k 0 top f
+  met-zero : (k top : ℕ) (f : A → A) → k < length r.kinds → top < edge_count r k → Meets T box f (supertile_edge P r k 0 top) → Met k 0 top f
   met-zero k top f hk he m = record {
     kind = k;
     digits = [];
@@ -89,50 +74,9 @@ module _ (T : Setting) (box : OpenBox T.points.real.ops.carrier) where
     edge_exists = he;
     trace = bare;
     meets =
-        subst (λ (z : A). EdgeMeetsBox S (put f z) (put f (line_of k [] top).to) box) (sym (still-moves T (vertex P r k top)))
-        (subst (λ (z : A). EdgeMeetsBox S (put f (supertile_edge P r k 0 top).from) (put f z) box) (sym (still-moves T (vertex P r k (next r k top)))) m);
+        subst (λ (z : A). EdgeMeetsBox S (put T box f z) (put T box f (line_of k [] top).to) box) (sym (still-moves T (vertex P r k top)))
+        (subst (λ (z : A). EdgeMeetsBox S (put T box f (supertile_edge P r k 0 top).from) (put T box f z) box) (sym (still-moves T (vertex P r k (next r k top)))) m);
   }
-
-  -- ---- the parts of a whole, moved by g
-  module _ (g : A → A) (g_keeps : Keeps P g) (whole : Edge A) (on : List (PlacedEdge A)) where
-    abbrev ends : List (PlacedEdge A) → List (PlanePoint S.ops.carrier)
-    ends ss = map (λ (s : PlacedEdge A). put g s.line.to) ss
-
-    -- the first part begins where it is to
-    begins : (p : A) (s : PlacedEdge A) → filter (begins_at P p) on ≡ s ∷ [] → s.line.from ≡ p
-    begins p s h = W.same-is s.line.from p (kept_one (begins_at P p) s on h).1
-
-    are-cuts : (types : List ℕ) (p : A) (ss : List (PlacedEdge A)) → AreParts P on whole.to types p ss → ((s : PlacedEdge A) → IsAmong s ss → Along P W whole s.line)
-        → AreCuts S (put g whole.from) (put g p) (ends ss)
-    are-cuts [] p [] h along = tt
-    are-cuts [] p (s ∷ ss) h along = elim h [ ]
-    are-cuts (ty ∷ types) p [] h along = elim h [ ]
-    are-cuts (ty ∷ types) p (s ∷ ss) h along = (
-      ap (λ (z : A). on_segment S (put g whole.from) (put g s.line.to) (put g z)) (sym (begins p s h.0)) ∙ (Along-image P W g g_keeps whole s.line (along s (inl refl))).start_on,
-      are-cuts types s.line.to ss h.2 (λ u i. along u (inr i)),
-    )
-
-    to-end : (types : List ℕ) (p : A) (ss : List (PlacedEdge A)) → AreParts P on whole.to types p ss → last_from (put g p) (ends ss) ≡ put g whole.to
-    to-end [] p [] h = ap (put g) h
-    to-end [] p (s ∷ ss) h = elim h [ ]
-    to-end (ty ∷ types) p [] h = elim h [ ]
-    to-end (ty ∷ types) p (s ∷ ss) h = to-end types s.line.to ss h.2
-
-    meeting-part : (types : List ℕ) (p : A) (ss : List (PlacedEdge A)) → AreParts P on whole.to types p ss → PartMeets S box (put g p) (ends ss)
-        → (s : PlacedEdge A) × IsAmong s ss × Meets g s.line
-    meeting-part types p [] h m = elim m [ ]
-    meeting-part [] p (s ∷ ss) h m = elim h [ ]
-    meeting-part (ty ∷ types) p (s ∷ ss) h (inl m) = (s, inl refl, subst (λ (z : A). EdgeMeetsBox S (put g z) (put g s.line.to) box) (sym (begins p s h.0)) m)
-    meeting-part (ty ∷ types) p (s ∷ ss) h (inr m) = let k = meeting-part types s.line.to ss h.2 m in (k.0, inr k.1, k.2)
-
-    some-part : (types : List ℕ) (ss : List (PlacedEdge A)) → 1 ≤ length types → AreParts P on whole.to types whole.from ss → ((s : PlacedEdge A) → IsAmong s ss → Along P W whole s.line)
-        → Meets g whole → (s : PlacedEdge A) × IsAmong s ss × Meets g s.line
-    some-part [] ss some h along m = absurd (omega arith)
-    some-part (ty ∷ types) [] some h along m = elim h [ ]
-    some-part (ty ∷ types) (s ∷ ss) some h along m =
-        meeting-part (ty ∷ types) whole.from (s ∷ ss) h
-        ((cuts_meet S W.of_real W.of_order box (put g whole.from) (put g s.line.to) (ends ss) (are-cuts types s.line.to ss h.2 (λ u i. along u (inr i)))).0
-        (subst (λ z. EdgeMeetsBox S (put g whole.from) z box) (sym (to-end types s.line.to ss h.2)) m))
 
   -- ---- one level
   module _ (k n top : ℕ) (f : A → A) (keeps : Keeps P f) (hk : k < length r.kinds) (he : top < edge_count r k) where
@@ -151,14 +95,14 @@ module _ (T : Setting) (box : OpenBox T.points.real.ops.carrier) where
     facts : (s : PlacedEdge A) (i : IsAmong s ss) → PartFacts T k top s
     facts s i = let place = among-place s ss i in part_facts T k top place.0 s hk he place.1
 
-    meets-whole : Meets f (supertile_edge P r k (suc n) top) → Meets g whole
+    meets-whole : Meets T box f (supertile_edge P r k (suc n) top) → Meets T box g whole
     meets-whole m =
-        subst (λ (z : A). EdgeMeetsBox S (put f z) (put g whole.to) box) (sym (one_more T n (vertex P r k top)))
-        (subst (λ (z : A). EdgeMeetsBox S (put f (supertile_edge P r k (suc n) top).from) (put f z) box) (sym (one_more T n (vertex P r k (next r k top)))) m)
+        subst (λ (z : A). EdgeMeetsBox S (put T box f z) (put T box g whole.to) box) (sym (one_more T n (vertex P r k top)))
+        (subst (λ (z : A). EdgeMeetsBox S (put T box f (supertile_edge P r k (suc n) top).from) (put T box f z) box) (sym (one_more T n (vertex P r k (next r k top)))) m)
 
-    pub part : Meets f (supertile_edge P r k (suc n) top) → (s : PlacedEdge A) × IsAmong s ss × Meets g s.line
+    pub part : Meets T box f (supertile_edge P r k (suc n) top) → (s : PlacedEdge A) × IsAmong s ss × Meets T box g s.line
     part m =
-        some-part g g_keeps whole (boundary_edges P r k top) (parts r (edge_type r k top)) ss (N.some_part (edge_type r k top) (N.type_exists k top hk he))
+        some-part T box g g_keeps whole (boundary_edges P r k top) (parts r (edge_type r k top)) ss (N.some_part (edge_type r k top) (N.type_exists k top hk he))
         (found P W r k (cut_edges T k) top he).parts (λ s i. (facts s i).along) (meets-whole m)
 
     module _ (s : PlacedEdge A) (i : IsAmong s ss) where
@@ -181,11 +125,11 @@ module _ (T : Setting) (box : OpenBox T.points.real.ops.carrier) where
       named = (among-child_edges P r k s (facts s i).among).is
 
       -- the part as the edge of the child's supertile
-      below : Meets g s.line → Meets f' (supertile_edge P r child_kind n s.edge)
+      below : Meets T box g s.line → Meets T box f' (supertile_edge P r child_kind n s.edge)
       below m =
-          subst (λ (z : A). EdgeMeetsBox S (put f z) (put f' (supertile_edge P r child_kind n s.edge).to) box)
+          subst (λ (z : A). EdgeMeetsBox S (put T box f z) (put T box f' (supertile_edge P r child_kind n s.edge).to) box)
           (ap (λ (w : PlacedEdge A). K.mul (power K r.factor n) w.line.from) named ∙ sym (inflated-moves T n child_motion (vertex P r child_kind s.edge)))
-          (subst (λ (z : A). EdgeMeetsBox S (put g s.line.from) (put f z) box)
+          (subst (λ (z : A). EdgeMeetsBox S (put T box g s.line.from) (put T box f z) box)
           (ap (λ (w : PlacedEdge A). K.mul (power K r.factor n) w.line.to) named ∙ sym (inflated-moves T n child_motion (vertex P r child_kind (next r child_kind s.edge)))) m)
 
       abbrev number : ℕ
@@ -210,8 +154,8 @@ module _ (T : Setting) (box : OpenBox T.points.real.ops.carrier) where
         edge_exists = c.edge_exists;
         trace = further digit c.trace refl contact;
         meets =
-            subst (λ (z : A). EdgeMeetsBox S (put f z) (put f (line_of c.kind (c.digits ++ digit ∷ []) c.edge).to) box) (sym (one (vertex P r c.kind c.edge)))
-            (subst (λ (z : A). EdgeMeetsBox S (put f' (line_of c.kind c.digits c.edge).from) (put f z) box) (sym (one (vertex P r c.kind (next r c.kind c.edge)))) c.meets);
+            subst (λ (z : A). EdgeMeetsBox S (put T box f z) (put T box f (line_of c.kind (c.digits ++ digit ∷ []) c.edge).to) box) (sym (one (vertex P r c.kind c.edge)))
+            (subst (λ (z : A). EdgeMeetsBox S (put T box f' (line_of c.kind c.digits c.edge).from) (put T box f z) box) (sym (one (vertex P r c.kind (next r c.kind c.edge)))) c.meets);
       }
         where
           plus_one : (m : ℕ) → m + 1 ≡ suc m
@@ -221,7 +165,7 @@ module _ (T : Setting) (box : OpenBox T.points.real.ops.carrier) where
           one z = coarser T c.digits digit z ∙ ap (λ (m : ℕ). moved P (inflated P r m child_motion) (moved P (placement P r c.digits) z)) c.deep
 
   -- ---- at every depth
-  pub boundary-met : (n k top : ℕ) (f : A → A) → Keeps P f → k < length r.kinds → top < edge_count r k → Meets f (supertile_edge P r k n top) → Met k n top f
+  pub boundary-met : (n k top : ℕ) (f : A → A) → Keeps P f → k < length r.kinds → top < edge_count r k → Meets T box f (supertile_edge P r k n top) → Met k n top f
   boundary-met zero k top f keeps hk he m = met-zero k top f hk he m
   boundary-met (suc n) k top f keeps hk he m =
       let s = part k n top f keeps hk he m in

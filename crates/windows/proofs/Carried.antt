@@ -51,6 +51,9 @@ module _ (P : Points) (W : PointLaws P) where
   pub enough_law : is.EnoughLaw P
   enough_law = polygon.enough_by_polygon P.real W.of_real W.of_order
 
+  pub one_across_law : is.OneAcrossLaw P
+  one_across_law = from_level.one_across P.real W.of_real W.of_order
+
   pub inner_from_level_law : is.InnerFromLevelLaw P
   inner_from_level_law = from_level.inner_from_level P.real W.of_real W.of_order
 

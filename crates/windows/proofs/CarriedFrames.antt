@@ -19,7 +19,10 @@ use Rattle.windows.proofs.Lifts as lifts
 use Rattle.windows.proofs.MovedTiles as tiles
 use Rattle.windows.proofs.FrameEdges as across
 use Rattle.windows.proofs.FramePolygon.{frame-whole}
-use Rattle.windows.proofs.FrameSearch as found
+use Rattle.windows.proofs.Renamed as names
+use Rattle.windows.proofs.GrownCrossings as crossings
+use Rattle.windows.proofs.AncestorHolds.{ancestor-level}
+use Rattle.windows.proofs.FrameDrawn as drawn
 use Rattle.windows.proofs.FrameWindow as window
 
 module _ (P : Points) (W : PointLaws P) where
@@ -67,33 +70,33 @@ module _ (P : Points) (W : PointLaws P) where
 
   -- ---- of searches
   pub renamed_law : search.RenamedLaw P
-  renamed_law T f fits n within a h = (found.lifted-tile (setting T) f fits n within a h, found.renamed (setting T) f fits n within a h)
+  renamed_law T f fits n within a h = (names.lifted-tile (setting T) f fits n within a h, names.renamed (setting T) f fits n within a h)
 
   pub at_depth_law : search.AtDepthLaw P
-  at_depth_law T f fits t i = found.at-depth (setting T) f fits t i
+  at_depth_law T f fits t i = names.at-depth (setting T) f fits t i
 
   pub across_law : search.AcrossLaw P
   across_law T f a e h b g x refused =
-      found.lies-across (setting T) f h.frame refused a e h b g x (across.beside (setting T) f a e h (tile_at P T.rule b) x.beside).tile
+      crossings.lies-across (setting T) f h.frame refused a e h b g x (across.beside (setting T) f a e h (tile_at P T.rule b) x.beside).tile
 
   pub grown_crossing_law : search.GrownCrossingLaw P
-  grown_crossing_law T f m n a e b g c refused = found.grown-crossing (setting T) f c.frame refused m n a e b g c
+  grown_crossing_law T f m n a e b g c refused = crossings.grown-crossing (setting T) f c.frame refused m n a e b g c
 
   pub last_boundary_law : search.LastBoundaryLaw P
-  last_boundary_law T f a e h own part on refused u x = absurd (found.last-boundary (setting T) f h.frame refused a e h own part on u x)
+  last_boundary_law T f a e h own part on refused u x = absurd (crossings.last-boundary (setting T) f h.frame refused a e h own part on u x)
 
   pub ancestor_holds_law : search.AncestorHoldsLaw P
-  ancestor_holds_law T f fits t i p h n within = found.ancestor-level (setting T) f fits t i p h n within
+  ancestor_holds_law T f fits t i p h n within = ancestor-level (setting T) f fits t i p h n within
 
   -- ---- of windows
   pub drawn_law : is_window.DrawnLaw P
   drawn_law T f fits refused n within box tiles deep = (
-    window.drawn-from (setting T) f fits refused n within box tiles deep,
-    window.drawn-to (setting T) f fits refused n within box tiles deep,
+    drawn.drawn-from (setting T) f fits refused n within box tiles deep,
+    drawn.drawn-to (setting T) f fits refused n within box tiles deep,
   )
 
   pub covers_law : is_window.CoversLaw P
-  covers_law T f n box tiles = window.covers-lifted (setting T) f n box tiles
+  covers_law T f n box tiles = drawn.covers-lifted (setting T) f n box tiles
 
   pub least_law : is_window.LeastLaw P
   least_law T f fits refused box m n start = (window.least-enough (setting T) f fits refused box m n start, window.enough-least (setting T) f fits refused box m n start)

@@ -34,12 +34,16 @@ pub mod Places
 pub mod DistinctTiles
 pub mod KindEdges
 pub mod MovedTiles
+pub mod MeetingParts
 pub mod BoundaryMeets
 pub mod FramePatch
 pub mod Lifts
 pub mod FrameEdges
 pub mod FramePolygon
-pub mod FrameSearch
+pub mod Renamed
+pub mod GrownCrossings
+pub mod AncestorHolds
+pub mod FrameDrawn
 pub mod FrameWindow
 pub mod Carried
 pub mod CarriedFrames

@@ -1,5 +1,5 @@
--- From which depth of a growing patch on an edge is inner, and a point held.
-use Rattle.std.specs.Prelude.{◌↔◌, ℕ, ◌≤◌, IsTrue}
+-- The one tile across an edge; and from which depth of a growing patch on an edge is inner, and a point held.
+use Rattle.std.specs.Prelude.{◌≡◌, ◌↔◌, ℕ, ◌≤◌, IsTrue}
 use Rattle.ordered_ring.specs.Sign.{Signed}
 use Rattle.ordered_plane.specs.Plane.{TestPoint, IsTestPoint}
 use Rattle.ordered_plane.specs.Crossing.{member}
@@ -8,6 +8,10 @@ use Rattle.windows.specs.Patch.{IsDissected}
 use Rattle.windows.specs.GrowingPatch.{GrowingPatch, IsOfDepth, IsInner}
 use Rattle.windows.specs.Outlines.{PlaneEdge}
 use Rattle.windows.specs.PatchWindow.{LiesAcross}
+
+-- one tile alone lies across an edge
+abbrev pub OneAcross : Signed → Type 0 → Type 0
+OneAcross S T = (F : GrowingPatch S T) → IsDissected S T F.patch → (e : PlaneEdge S) (u v : T) → LiesAcross S T F e u → LiesAcross S T F e v → u ≡ v
 
 -- an edge is inner exactly from the level of the tile across it on
 abbrev pub InnerFromLevel : Signed → Type 0 → Type 0

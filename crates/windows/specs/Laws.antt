@@ -10,7 +10,7 @@ use Rattle.windows.specs.WholeTiles.{WholesCover}
 use Rattle.windows.specs.Window.{WindowTheorem, KnownByOutline, OneOwner}
 use Rattle.windows.specs.AnyOrder.{DrawnSame, DrawnAnyOrder, CoversAnyOrder}
 use Rattle.windows.specs.GrownPolygon.{EnoughByPolygon}
-use Rattle.windows.specs.FromLevel.{InnerFromLevel, HeldFromLevel}
+use Rattle.windows.specs.FromLevel.{OneAcross, InnerFromLevel, HeldFromLevel}
 use Rattle.windows.specs.SearchSteps.{StartRight, StepRight, FinishRight}
 use Rattle.windows.specs.OpenStep.{OpenStep}
 use Rattle.windows.specs.EveryEdge.{FoundOrOpen, NoneOpen}
@@ -68,6 +68,9 @@ DrawnOrderLaw P = DrawnAnyOrder P.real (Placed P.ring.carrier)
 
 abbrev pub CoversOrderLaw : Points → Type 0
 CoversOrderLaw P = CoversAnyOrder P.real (Placed P.ring.carrier)
+
+abbrev pub OneAcrossLaw : Points → Type 0
+OneAcrossLaw P = OneAcross P.real (Placed P.ring.carrier)
 
 abbrev pub InnerFromLevelLaw : Points → Type 0
 InnerFromLevelLaw P = InnerFromLevel P.real (Placed P.ring.carrier)

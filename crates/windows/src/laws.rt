@@ -6,7 +6,7 @@ ghost use Rattle.windows.specs.Laws.{WindowLaw, OutlineLaw, OwnerLaw, EnoughLaw}
 ghost use Rattle.windows.specs.Laws.{StartLaw, StepLaw, FinishLaw, OpenStepLaw, FoundOrOpenLaw, NoneOpenLaw};
 ghost use Rattle.windows.specs.Laws.{SearchAnswersLaw, SearchEndsLaw};
 ghost use Rattle.windows.specs.Laws.{DepthRefusalLaw, AllDrawnLaw, CountRefusalLaw, GoesOnLaw, EndsWithinLaw};
-ghost use Rattle.windows.specs.Laws.{InnerFromLevelLaw, HeldFromLevelLaw, LevelLaw, LiftLevelLaw};
+ghost use Rattle.windows.specs.Laws.{OneAcrossLaw, InnerFromLevelLaw, HeldFromLevelLaw, LevelLaw, LiftLevelLaw};
 ghost use Rattle.windows.specs.Laws.{DrawnSameLaw, DrawnOrderLaw, CoversOrderLaw};
 ghost use Rattle.windows.specs.FrameLaws.{FramePatchLaw, LiftLaw, NamedLaw, LinesLaw, ReverseLaw};
 ghost use Rattle.windows.specs.FrameLaws.{InnerLaw, OutsideLaw, FramePolygonLaw, FrameEnoughLaw};
@@ -119,9 +119,10 @@ pub fn drawn_law(order: Order)
     ensures covers { CoversOrderLaw (points_of order) }
 {}
 
-/// The law that in a growing patch an edge is inner exactly from the level of the tile across it on,
-/// and a test point held exactly from the level of the tile that holds it on.
+/// The law that one tile alone lies across an edge, and in a growing patch the edge is inner exactly from
+/// that tile's level on; and a test point is held exactly from the level of the tile that holds it on.
 pub fn from_level_law(order: Order)
+    ensures one { OneAcrossLaw (points_of order) }
     ensures inner { InnerFromLevelLaw (points_of order) }
     ensures held { HeldFromLevelLaw (points_of order) }
 {}

@@ -1,6 +1,6 @@
 use Rattle.cyclo_points.specs.Order.{points_of}
 use Rattle.cyclo_points.proofs.OrderLaws.{laws_of}
-use Rattle.windows.proofs.FrameSearch.{grown_level_law}
+use Rattle.windows.proofs.Renamed.{grown_level_law}
 use Rattle.windows.proofs.CarriedFrames as law
 use Rattle.windows.proofs.laws.frame_name_law.Goals as goal
 

@@ -8,3 +8,6 @@ returns-clause-inner c = law.inner_from_level_law (points_of c.args.order) (laws
 
 pub returns-clause-held : goal.returns-clause-held
 returns-clause-held c = law.held_from_level_law (points_of c.args.order) (laws_of c.args.order)
+
+pub returns-clause-one : goal.returns-clause-one
+returns-clause-one c = law.one_across_law (points_of c.args.order) (laws_of c.args.order)
