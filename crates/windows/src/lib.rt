@@ -8,4 +8,7 @@
 //! proofs and laws, and no other code.
 #![tactic(auto)]
 
-pub mod laws;
+pub mod frame_laws;
+pub mod patch_laws;
+pub mod plane_laws;
+pub mod search_laws;
