@@ -36,7 +36,7 @@ module _ (P : Points) (W : PointLaws P) where
   pub rotation_law : is.RotationLaw P
   rotation_law = glue.rotation P.real
 
-  pub gluing_law : is.GluingLaw P
+  pub gluing_law : is.OutlineGluingLaw P
   gluing_law = glue.gluing P.real W.of_real W.of_order
 
   pub wholes_law : is.WholesLaw P

@@ -75,7 +75,7 @@ module _ (P : Points) (W : PointLaws P) where
   pub at_depth_law : search.AtDepthLaw P
   at_depth_law T f fits t i = names.at-depth (setting T) f fits t i
 
-  pub across_law : search.AcrossLaw P
+  pub across_law : search.FrameAcrossLaw P
   across_law T f a e h b g x refused =
       crossings.lies-across (setting T) f h.frame refused a e h b g x (across.beside (setting T) f a e h (tile_at P T.rule b) x.beside).tile
 

@@ -41,8 +41,8 @@ AtDepthLaw P = (T : AcceptedRule P) (f : Address) → NamesTile P T.rule f → (
 
 -- ---- crossings
 -- the tile across an edge in the supertile lies across it in the frame
-abbrev pub AcrossLaw : Points → Type 0
-AcrossLaw P =
+abbrev pub FrameAcrossLaw : Points → Type 0
+FrameAcrossLaw P =
     (T : AcceptedRule P) (f a : Address) (e : ℕ) → IsEdgeInFrame P T f a e → (b : Address) (g : ℕ) → IsTileAcross P T.rule (tile_at P T.rule a) e (tile_at P T.rule b) g
     → (refused : P.ring.carrier → Bool)
     → LiesAcross P.real (Placed P.ring.carrier) (growing_frame P refused T.rule f) (line_of P T.rule (in_frame P T.rule f a) e) (in_frame P T.rule f b)

@@ -41,8 +41,8 @@ CutsLaw P = CutsMeet P.real
 abbrev pub RotationLaw : Points → Type 0
 RotationLaw P = Rotation P.real
 
-abbrev pub GluingLaw : Points → Type 0
-GluingLaw P = Gluing P.real
+abbrev pub OutlineGluingLaw : Points → Type 0
+OutlineGluingLaw P = Gluing P.real
 
 -- ---- of dissected patches
 abbrev pub WholesLaw : Points → Type 0

@@ -4,7 +4,7 @@ ghost use Rattle.cyclo_points.specs.Order.{points_of};
 ghost use Rattle.windows.specs.Laws.{LevelLaw, LiftLevelLaw};
 ghost use Rattle.windows.specs.FrameLaws.{FramePatchLaw, LiftLaw, NamedLaw, LinesLaw, ReverseLaw, InnerLaw};
 ghost use Rattle.windows.specs.FrameLaws.{OutsideLaw, FramePolygonLaw, FrameEnoughLaw};
-ghost use Rattle.windows.specs.FrameSearch.{GrownLevelLaw, RenamedLaw, AtDepthLaw, AcrossLaw, GrownCrossingLaw};
+ghost use Rattle.windows.specs.FrameSearch.{GrownLevelLaw, RenamedLaw, AtDepthLaw, FrameAcrossLaw, GrownCrossingLaw};
 ghost use Rattle.windows.specs.FrameSearch.{LastBoundaryLaw, AncestorHoldsLaw};
 ghost use Rattle.windows.specs.FrameWindow.{DrawnLaw, CoversLaw, LeastLaw, WithinLaw};
 
@@ -54,7 +54,7 @@ pub fn frame_name_law(order: Order)
 /// the least depth at which it is found is its level, where the frame isn't as deep already; and where
 /// the edge is on the boundary at the frame's own depth, no tile lies across it.
 pub fn frame_crossing_law(order: Order)
-    ensures across { AcrossLaw (points_of order) }
+    ensures across { FrameAcrossLaw (points_of order) }
     ensures grown { GrownCrossingLaw (points_of order) }
     ensures last { LastBoundaryLaw (points_of order) }
 {}

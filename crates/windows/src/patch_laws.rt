@@ -1,7 +1,7 @@
 //! The laws of dissected patches and of the windows on them, for the points of each order. Tiles are
 //! named by address and motion.
 ghost use Rattle.cyclo_points.specs.Order.{points_of};
-ghost use Rattle.windows.specs.Laws.{RotationLaw, GluingLaw, WholesLaw, WindowLaw, OutlineLaw, OwnerLaw};
+ghost use Rattle.windows.specs.Laws.{RotationLaw, OutlineGluingLaw, WholesLaw, WindowLaw, OutlineLaw, OwnerLaw};
 ghost use Rattle.windows.specs.Laws.{EnoughLaw, SearchAnswersLaw, SearchEndsLaw, OneAcrossLaw};
 ghost use Rattle.windows.specs.Laws.{InnerFromLevelLaw, HeldFromLevelLaw, DrawnSameLaw, DrawnOrderLaw};
 ghost use Rattle.windows.specs.Laws.{CoversOrderLaw};
@@ -23,7 +23,7 @@ pub fn window_law(order: Order)
 /// tiles that cover a window cover it.
 pub fn gluing_law(order: Order)
     ensures rotation { RotationLaw (points_of order) }
-    ensures gluing { GluingLaw (points_of order) }
+    ensures gluing { OutlineGluingLaw (points_of order) }
     ensures covering { WholesLaw (points_of order) }
 {}
 
