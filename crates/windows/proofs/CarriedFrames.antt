@@ -17,6 +17,7 @@ use Rattle.windows.proofs.GrownPolygon.{enough_by_polygon}
 use Rattle.windows.proofs.FramePatch as patch
 use Rattle.windows.proofs.Lifts as lifts
 use Rattle.windows.proofs.MovedTiles as tiles
+use Rattle.windows.proofs.Reverses.{reverse-test}
 use Rattle.windows.proofs.FrameEdges as across
 use Rattle.windows.proofs.FramePolygon.{frame-whole}
 use Rattle.windows.proofs.Renamed as names
@@ -48,6 +49,12 @@ module _ (P : Points) (W : PointLaws P) where
 
   pub lines_law : frames.LinesLaw P
   lines_law T t hk e he = tiles.lines (setting T) (λ z. z) (same (setting T)) t hk e he
+
+  pub numbered_law : frames.NumberedLaw P
+  numbered_law T t hk i = tiles.numbered (setting T) (λ z. z) (same (setting T)) t hk i
+
+  pub reverse_test_law : frames.ReverseTestLaw P
+  reverse_test_law = reverse-test P W
 
   pub reverse_law : frames.ReverseLaw P
   reverse_law T f a e h b g x = across.reverse_law (setting T) f a e h b g x

@@ -1,14 +1,13 @@
 -- Edges that meet the window, crossed whether open or not.
 use Rattle.std.proofs.Common.{◌≡◌, ◌⊎◌, inl, inr, List, [], ◌∷◌, flat_map, refl, sym, ap, ◌∙◌, subst, Bool, true, false, cond, not, ◌&&◌}
 use Rattle.std.specs.List.{filter, AllByRecursion}
-use Rattle.ordered_ring.specs.Ring.{Ops, Laws}
+use Rattle.ordered_ring.specs.Ring.{Laws}
 use Rattle.ordered_ring.specs.Sign.{Signed, OrderLaws}
 use Rattle.ordered_ring.specs.Divisor.{DividesWhole}
 use Rattle.ordered_plane.specs.BoxTest.{box_test}
 use Rattle.ordered_plane.proofs.BoxMeets.{box_test-meets, meets-box_test}
 use Rattle.addressing.specs.Search.{IsAmong}
 use Rattle.windows.specs.Outlines.{PlaneEdge, edges, MeetsBox, is_reverse}
-use Rattle.windows.specs.Meeting.{PolygonMeetsBox}
 use Rattle.windows.specs.Patch.{Patch, IsDissected, HasAcross, IsClosed}
 use Rattle.windows.specs.GrowingPatch.{GrowingPatch}
 use Rattle.windows.specs.OpenEdges.{NumberedEdge, is_met, is_open, numbered_from}
@@ -28,9 +27,6 @@ none-left p [] h = refl
 none-left p (x ∷ xs) h = ap (λ b. cond b (x ∷ filter p xs) (filter p xs)) (h x (inl refl)) ∙ none-left p xs (λ y i. h y (inr i))
 
 module _ (S : Signed) (L : Laws S.ops) (O : OrderLaws S) (whole : DividesWhole S) where
-  abbrev R : Ops
-  R = S.ops
-
   module _ {T : Type 0} (G : PatchWindow S T) where
     abbrev F : GrowingPatch S T
     F = G.growing
@@ -40,9 +36,6 @@ module _ (S : Signed) (L : Laws S.ops) (O : OrderLaws S) (whole : DividesWhole S
 
     abbrev D : IsDissected S T P
     D = G.dissected
-
-    abbrev Meets : T → Type 0
-    Meets t = PolygonMeetsBox S G.box (P.outline t)
 
     module _ (s : SearchState S T) (right : IsRightState S T F G.box s) where
       abbrev lines : List (PlaneEdge S)

@@ -1,6 +1,6 @@
 -- Where no edge is open, the tiles found are those that meet the window, at the least enough depth.
 use Rattle.std.proofs.Common.{◌≡◌, inl, ◌≤◌, List, [], ◌∷◌, flat_map, refl, sym, ap, ◌∙◌, Bool, true, false, not, ◌&&◌}
-use Rattle.ordered_ring.specs.Ring.{Ops, Laws}
+use Rattle.ordered_ring.specs.Ring.{Laws}
 use Rattle.ordered_ring.specs.Sign.{Signed, OrderLaws}
 use Rattle.ordered_ring.specs.Divisor.{DividesWhole}
 use Rattle.ordered_plane.specs.BoxTest.{box_test}
@@ -27,9 +27,6 @@ first-among t [] h = elim h [ ]
 first-among t (x ∷ xs) h = inl h
 
 module _ (S : Signed) (L : Laws S.ops) (O : OrderLaws S) (whole : DividesWhole S) where
-  abbrev R : Ops
-  R = S.ops
-
   module _ {T : Type 0} (G : PatchWindow S T) where
     abbrev F : GrowingPatch S T
     F = G.growing

@@ -1,20 +1,36 @@
 -- The edges of the images of a prototile's vertices, by their numbers.
-use Rattle.std.proofs.Common.{◌≡◌, ℕ, suc, ◌<◌, List, length, map, get_or, slice_get, Some, cond, nat_lt, pos, sym, ap, ◌∙◌, subst}
-use Rattle.std.proofs.lemmas.List.{length-map}
-use Rattle.std.proofs.lemmas.Option.{slice_get_within}
+use Rattle.std.proofs.Common.{◌≡◌, ℕ, zero, suc, ◌+◌, ◌<◌, List, [], ◌∷◌, ◌++◌, length, map, get_or, slice_get, Some, cond, nat_lt, pos, refl, sym, ap, ap₂, ◌∙◌, subst, arith, add-zero, zero-add}
+use Rattle.std.specs.List.{enumerate_from}
+use Rattle.std.proofs.lemmas.List.{length-map, map-append, ext_get_or}
+use Rattle.std.proofs.lemmas.Option.{slice_get_within, get_or_from_slice_get}
 use Rattle.std.proofs.Math.ListN.{get_or-map}
 use Rattle.ordered_ring.specs.Sign.{Signed}
 use Rattle.ordered_plane.specs.Plane.{PlanePoint}
-use Rattle.addressing.specs.Search.{IsAmong}
-use Rattle.addressing.proofs.Ranges.{among-place, place-among}
+use Rattle.addressing.specs.Search.{IsAmong, below}
+use Rattle.addressing.proofs.Ranges.{among-place, place-among, length-below, get_or-below}
 use Rattle.substitution.specs.RuleParts.{vertices_of, edge_count, next, vertex}
 use Rattle.dissection.proofs.Setting.{Setting}
+use Rattle.windows.specs.OpenEdges.{edges_of_tile}
 use Rattle.windows.specs.Outlines.{PlaneEdge, edges}
 use Rattle.windows.proofs.Places.{length-edges}
 use Rattle.windows.proofs.EdgeNumbers.{edges_by_number}
 
 is_some : {A : Type 0} {x y : A} → Some x ≡ Some y → x ≡ y
 is_some e = cc (e)
+
+-- numbered lists in a row
+enumerate-more : {A : Type 0} (k : ℕ) (xs : List A) (x : A) → enumerate_from k (xs ++ x ∷ []) ≡ enumerate_from k xs ++ (k + length xs, x) ∷ []
+enumerate-more k [] x = ap (λ n. (n, x) ∷ []) (sym (add-zero k))
+enumerate-more k (y ∷ ys) x = ap (λ l. (k, y) ∷ l) (enumerate-more (k + 1) ys x ∙ ap (λ n. enumerate_from (k + 1) ys ++ (n, x) ∷ []) (shift (length ys)))
+  where
+    shift : (n : ℕ) → (k + 1) + n ≡ k + suc n
+    shift n = omega arith
+
+map-enumerated : {A B : Type 0} (f : ℕ × A → B) (g : ℕ → A) (n : ℕ) → map f (enumerate_from 0 (below g n)) ≡ below (λ i. f (i, g i)) n
+map-enumerated f g zero = refl
+map-enumerated f g (suc n) =
+    ap (map f) (enumerate-more 0 (below g n) (g n)) ∙ map-append f (enumerate_from 0 (below g n)) ((0 + length (below g n), g n) ∷ [])
+    ∙ ap₂ (λ l k. l ++ f (k, g n) ∷ []) (map-enumerated f g n) (zero-add (length (below g n)) ∙ length-below g n)
 
 module _ (T : Setting) where
   open T use {points as P, accepted.{rule as r, numbered as N}}
@@ -59,3 +75,16 @@ module _ (T : Setting) where
 
     pub line-number : (l : PlaneEdge S) → IsAmong l (edges polygon) → (e : ℕ) × (e < edge_count r k) × (l ≡ line e)
     line-number l i = let place = among-place l (edges polygon) i in (place.0, number-below place.0 l place.1, line-at place.0 l place.1)
+
+    -- the list of them
+    pub edges-below : edges polygon ≡ below line (edge_count r k)
+    edges-below =
+        ext_get_or (line 0) (edges polygon) (below line (edge_count r k)) (many ∙ sym (length-below line (edge_count r k)))
+        (λ e h. get_or_from_slice_get (edges polygon) e (line e) (line 0) (lines e (subst (λ n. e < n) many h)) ∙ sym (get_or-below line (edge_count r k) e (line 0) (subst (λ n. e < n) many h)))
+      where
+        many : length (edges polygon) ≡ edge_count r k
+        many = length-edges polygon ∙ size
+
+    pub numbered : (i : ℕ) → edges_of_tile S i polygon ≡ below (λ e. record { tile = i; edge = e; line = line e }) (edge_count r k)
+    numbered i = ap (λ (es : List (PlaneEdge S)). map (λ (e : ℕ × PlaneEdge S). record { tile = i; edge = e.0; line = e.1 }) (enumerate_from 0 es)) edges-below
+        ∙ map-enumerated (λ (e : ℕ × PlaneEdge S). record { tile = i; edge = e.0; line = e.1 }) line (edge_count r k)

@@ -1,15 +1,14 @@
 -- Why a search stops, and that it goes on exactly where the window is within the limits.
-use Rattle.std.proofs.Common.{◌≡◌, inl, inr, ℕ, ◌<◌, ◌≤◌, List, ◌∷◌, flat_map, length, sym, subst, false, arith}
-use Rattle.ordered_ring.specs.Ring.{Ops, Laws}
+use Rattle.std.proofs.Common.{◌≡◌, inl, inr, ℕ, ◌<◌, ◌≤◌, ◌∷◌, length, sym, subst, false, arith}
+use Rattle.ordered_ring.specs.Ring.{Laws}
 use Rattle.ordered_ring.specs.Sign.{Signed, OrderLaws}
 use Rattle.ordered_ring.specs.Divisor.{DividesWhole}
 use Rattle.addressing.specs.Search.{IsAmong}
-use Rattle.windows.specs.Outlines.{PlaneEdge, edges}
 use Rattle.windows.specs.Meeting.{PolygonMeetsBox}
-use Rattle.windows.specs.Patch.{Patch, IsDissected}
+use Rattle.windows.specs.Patch.{Patch}
 use Rattle.windows.specs.GrowingPatch.{GrowingPatch, IsInner}
 use Rattle.windows.specs.OpenEdges.{NumberedEdge}
-use Rattle.windows.specs.SearchState.{SearchState, outlines, IsRightState}
+use Rattle.windows.specs.SearchState.{SearchState, IsRightState}
 use Rattle.windows.specs.EnoughDepth.{IsEnough}
 use Rattle.windows.specs.PatchWindow.{PatchWindow, LiesAcross}
 use Rattle.windows.specs.SearchSteps.{IsStep, IsFinished}
@@ -23,9 +22,6 @@ use Rattle.windows.proofs.Steps.{step_right}
 use Rattle.windows.proofs.Finish.{finish_right}
 
 module _ (S : Signed) (L : Laws S.ops) (O : OrderLaws S) (whole : DividesWhole S) where
-  abbrev R : Ops
-  R = S.ops
-
   module _ {T : Type 0} (G : PatchWindow S T) where
     abbrev F : GrowingPatch S T
     F = G.growing
@@ -33,16 +29,10 @@ module _ (S : Signed) (L : Laws S.ops) (O : OrderLaws S) (whole : DividesWhole S
     abbrev P : Patch S T
     P = G.growing.patch
 
-    abbrev D : IsDissected S T P
-    D = G.dissected
-
     abbrev Meets : T → Type 0
     Meets t = PolygonMeetsBox S G.box (P.outline t)
 
     module _ (s : SearchState S T) (right : IsRightState S T F G.box s) where
-      abbrev lines : List (PlaneEdge S)
-      lines = flat_map edges (outlines S T F s.found)
-
       -- ---- refusals
       depth-limit : (o : NumberedEdge S) → IsAmong o s.open_edges → ((u : T) → LiesAcross S T F o.line u → ⊥) → (t : T) × IsAmong t s.found × IsDepthLimit S T G.growing G.box o.line t
       depth-limit o i none_across =

@@ -1,6 +1,7 @@
 -- Members of lists, distinct lists, and how many pass a test.
-use Rattle.std.proofs.Common.{◌≡◌, ◌⊎◌, inl, inr, ℕ, suc, List, [], ◌∷◌, ◌++◌, map, flat_map, length, ◌≤◌, refl, sym, ap, ◌∙◌, subst, Bool, true, false, cond, arith}
+use Rattle.std.proofs.Common.{◌≡◌, ◌⊎◌, inl, inr, ℕ, suc, List, [], ◌∷◌, ◌++◌, map, flat_map, length, ◌≤◌, refl, sym, ap, ◌∙◌, subst, Bool, true, false, cond, pos, arith}
 use Rattle.std.specs.List.{AllByRecursion, filter}
+use Rattle.std.proofs.lemmas.Int.{ints}
 use Rattle.addressing.specs.Search.{IsAmong}
 use Rattle.addressing.proofs.Lists.{IsAmong-map, IsAmong-flat_map}
 use Rattle.addressing.proofs.Ranges.{among-append, InPiece, among-flat_map}
@@ -58,6 +59,9 @@ distinct-filter p (x ∷ xs) d = at_test (p x) (distinct-filter p xs d.1)
     at_test false k = k
 
 -- ---- how many pass
+pub same_whole : (m n : ℕ) → pos m ≡ pos n → m ≡ n
+same_whole m n e = omega (arith, ints)
+
 none : {A : Type 0} (test : A → Bool) (xs : List A) → ((x : A) → IsAmong x xs → test x ≡ true → ⊥) → number_of test xs ≡ 0
 none test [] h = refl
 none test (x ∷ xs) h = at_test (test x) refl (none test xs (λ y i. h y (inr i)))

@@ -7,7 +7,7 @@ use Rattle.ordered_ring.specs.Sign.{Signed}
 use Rattle.ordered_plane.specs.Plane.{PlanePoint}
 use Rattle.ordered_plane.specs.Triangle.{fan, turns_left}
 use Rattle.ordered_plane.proofs.Triangle.{denominator_pos}
-use Rattle.addressing.specs.Search.{IsAmong}
+use Rattle.addressing.specs.Search.{IsAmong, below}
 use Rattle.substitution.specs.Plane.{plane_point, Keeps}
 use Rattle.substitution.specs.Motion.{moved}
 use Rattle.substitution.specs.RuleParts.{vertices_of, edge_count}
@@ -25,6 +25,7 @@ use Rattle.dissection.proofs.Apexes.{one_edge}
 use Rattle.dissection.proofs.OnlyOne.{end-is, kind_edge_below}
 use Rattle.dissection.proofs.AcrossTouches.{not_back}
 use Rattle.windows.specs.Distinct.{AreDistinct}
+use Rattle.windows.specs.OpenEdges.{edges_of_tile}
 use Rattle.windows.specs.Outlines.{PlaneEdge, edges, is_reverse}
 use Rattle.windows.specs.Meeting.{IsLeftFan}
 use Rattle.windows.proofs.Places.{distinct-places, fan-each}
@@ -68,6 +69,9 @@ module _ (T : Setting) where
     -- ---- edges by their numbers
     pub lines : (e : ℕ) → e < count → slice_get (edges (tile_polygon P r f t)) e ≡ Some (moved_line f t e)
     lines = kind.lines T put t.address.kind hk
+
+    pub numbered : (i : ℕ) → edges_of_tile S i (tile_polygon P r f t) ≡ below (λ e. record { tile = i; edge = e; line = moved_line f t e }) count
+    numbered = kind.numbered T put t.address.kind hk
 
     pub line-among : (e : ℕ) → e < count → IsAmong (moved_line f t e) (edges (tile_polygon P r f t))
     line-among = kind.line-among T put t.address.kind hk

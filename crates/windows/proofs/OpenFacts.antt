@@ -1,14 +1,14 @@
 -- The open edges of a right state.
-use Rattle.std.proofs.Common.{◌≡◌, List, flat_map, refl, sym, subst, Bool, true, false, not}
+use Rattle.std.proofs.Common.{◌≡◌, List, flat_map, subst, false}
 use Rattle.std.proofs.lemmas.Bool.{and_parts}
-use Rattle.ordered_ring.specs.Ring.{Ops, Laws}
+use Rattle.ordered_ring.specs.Ring.{Laws}
 use Rattle.ordered_ring.specs.Sign.{Signed, OrderLaws}
 use Rattle.ordered_ring.specs.Divisor.{DividesWhole}
+use Rattle.ordered_ring.proofs.Booleans.{denied}
 use Rattle.ordered_plane.proofs.BoxMeets.{box_test-meets}
 use Rattle.addressing.specs.Search.{IsAmong}
 use Rattle.windows.specs.Outlines.{PlaneEdge, edges, MeetsBox}
-use Rattle.windows.specs.Meeting.{PolygonMeetsBox}
-use Rattle.windows.specs.Patch.{Patch, IsDissected}
+use Rattle.windows.specs.Patch.{Patch}
 use Rattle.windows.specs.GrowingPatch.{GrowingPatch}
 use Rattle.windows.specs.OpenEdges.{NumberedEdge, is_met, is_open, numbered_from}
 use Rattle.windows.specs.SearchState.{SearchState, outlines, IsRightState}
@@ -18,26 +18,13 @@ use Rattle.windows.proofs.Members.{among-map}
 use Rattle.addressing.proofs.Filters.{IsAmong-filter}
 use Rattle.windows.proofs.OpenEdges.{of-polygon}
 
-denied : (b : Bool) → not b ≡ true → b ≡ false
-denied true e = sym e
-denied false e = refl
-
 module _ (S : Signed) (L : Laws S.ops) (O : OrderLaws S) (whole : DividesWhole S) where
-  abbrev R : Ops
-  R = S.ops
-
   module _ {T : Type 0} (G : PatchWindow S T) where
     abbrev F : GrowingPatch S T
     F = G.growing
 
     abbrev P : Patch S T
     P = G.growing.patch
-
-    abbrev D : IsDissected S T P
-    D = G.dissected
-
-    abbrev Meets : T → Type 0
-    Meets t = PolygonMeetsBox S G.box (P.outline t)
 
     module _ (s : SearchState S T) (right : IsRightState S T F G.box s) where
       pub of_patch : (t : T) → IsAmong t s.found → IsAmong t P.tiles

@@ -13,17 +13,12 @@ use Rattle.windows.specs.SearchState.{SearchState, outlines, IsRightState, stepp
 use Rattle.windows.specs.PatchWindow.{PatchWindow}
 use Rattle.windows.specs.OpenStep.{closes_one, OpenStep}
 use Rattle.windows.proofs.Members.{among-map, comes-from, ComesFrom, goes-to}
-use Rattle.windows.proofs.Reverses.{reverse-is, reverse-turned}
+use Rattle.windows.proofs.Reverses.{same_tests, reverse-is, reverse-turned}
 use Rattle.addressing.proofs.Filters.{IsAmong-filter}
 use Rattle.windows.proofs.OpenEdges.{any-among, some-any, of-polygon, filter-same, line-of}
 use Rattle.windows.proofs.EnoughDepth.{meets-turned}
 use Rattle.windows.proofs.OpenFacts.{of_patch}
 use Rattle.windows.proofs.EveryEdge.{found_or_open}
-
-same_tests : (b c : Bool) → (b ≡ true → c ≡ true) → (c ≡ true → b ≡ true) → b ≡ c
-same_tests true c f g = sym (f refl)
-same_tests false true f g = g refl
-same_tests false false f g = refl
 
 and_same : (a b c : Bool) → (a ≡ true → b ≡ c) → a && not b ≡ a && not c
 and_same true b c f = ap not (f refl)

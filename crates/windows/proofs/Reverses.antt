@@ -9,6 +9,17 @@ use Rattle.ordered_plane.specs.Segment.{same_place}
 use Rattle.ordered_ring.proofs.Normaliser.{var, neg, ring, equal_of_diff, ◌⊖◌}
 use Rattle.ordered_ring.proofs.Booleans.{is_equal}
 use Rattle.windows.specs.Outlines.{PlaneEdge, is_reverse}
+use Rattle.substitution.specs.Points.{Points, PointLaws}
+use Rattle.substitution.specs.Plane.{plane_point}
+use Rattle.edge_to_edge.specs.Edges.{Edge, runs_back}
+use Rattle.edge_to_edge.proofs.LieCases.{same_place-self}
+use Rattle.windows.specs.FramePatch.{plane_edge}
+
+-- tests that follow from one another are the same
+pub same_tests : (b c : Bool) → (b ≡ true → c ≡ true) → (c ≡ true → b ≡ true) → b ≡ c
+same_tests true c f g = sym (f refl)
+same_tests false true f g = g refl
+same_tests false false f g = refl
 
 module _ (S : Signed) (L : Laws S.ops) (O : OrderLaws S) where
   abbrev R : Ops
@@ -44,3 +55,14 @@ module _ (S : Signed) (L : Laws S.ops) (O : OrderLaws S) where
 
   pub reverse-is : (e f : PlaneEdge S) → is_reverse S e f ≡ true → f ≡ record { from = e.to; to = e.from }
   reverse-is e f h = λ i. record { from = same-place f.from e.to (and_parts _ _ h).0 i; to = same-place f.to e.from (and_parts _ _ h).1 i }
+
+-- by the points between which edges run
+module _ (P : Points) (W : PointLaws P) where
+  one_place : (a b : P.ring.carrier) → same_place P.real (plane_point P a) (plane_point P b) ≡ P.same a b
+  one_place a b = same_tests _ _
+      (λ h. let e : plane_point P a ≡ plane_point P b = same-place P.real W.of_real W.of_order (plane_point P a) (plane_point P b) h in
+      ap (P.same a) (sym (W.separate a b (ap (λ (z : PlanePoint P.real.ops.carrier). z.x) e) (ap (λ (z : PlanePoint P.real.ops.carrier). z.y) e))) ∙ W.same_self a)
+      (λ h. ap (λ z. same_place P.real (plane_point P a) (plane_point P z)) (sym (W.same-is a b h)) ∙ same_place-self P W a)
+
+  pub reverse-test : (e f : Edge P.ring.carrier) → is_reverse P.real (plane_edge P e) (plane_edge P f) ≡ runs_back P e f
+  reverse-test e f = ap₂ (λ s t. s && t) (one_place f.from e.to) (one_place f.to e.from)

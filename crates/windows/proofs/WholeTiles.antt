@@ -12,7 +12,7 @@ use Rattle.windows.specs.Patch.{Patch, IsDissected, Covers}
 use Rattle.windows.specs.WholeTiles.{WholeTile, AreGlued, WholesCover}
 use Rattle.dissection.proofs.Sums.{sum-ext_on, sum-flat_map}
 use Rattle.addressing.proofs.Lists.{AllByRecursion-among, AllByRecursion-from, IsAmong-flat_map}
-use Rattle.windows.proofs.Members.{number-one, some-passes}
+use Rattle.windows.proofs.Members.{same_whole, number-one, some-passes}
 use Rattle.dissection.proofs.ZeroOrOne.{sum-number}
 
 -- ---- natural numbers whose sum is 1
@@ -50,9 +50,6 @@ sum-naturals n (x ∷ xs) = ap (λ z. pos (n x) +ℤ z) (sum-naturals n xs) ∙ 
 number-same : {A : Type 0} (p q : A → Bool) (xs : List A) → AllByRecursion (λ x. p x ≡ q x) xs → number_of p xs ≡ number_of q xs
 number-same p q [] h = refl
 number-same p q (x ∷ xs) h = ap₂ (λ b n. cond b (suc n) n) h.0 (number-same p q xs h.1)
-
-same_whole : (m n : ℕ) → pos m ≡ pos n → m ≡ n
-same_whole m n e = omega (arith, ints)
 
 module _ (S : Signed) {T : Type 0} (P : Patch S T) (D : IsDissected S T P) (box : OpenBox S.ops.carrier) (found : List T) (C : Covers S T P box found) (wholes : List (WholeTile S T)) (G : AreGlued S T P found wholes)
     (p : TestPoint S.ops.carrier) (test : IsTestPoint S p) (inside : in_box S box p ≡ true) where

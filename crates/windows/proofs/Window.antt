@@ -1,5 +1,5 @@
 -- The theorem of the window: the number of found tiles that hold a point is constant on the box, and 1 at the centre.
-use Rattle.std.proofs.Common.{◌≡◌, inl, inr, ℕ, zero, suc, ◌<◌, List, [], ◌∷◌, map, length, flat_map, ℤ, pos, negsuc, refl, sym, ap, ◌∙◌, subst, true, is_gt, arith}
+use Rattle.std.proofs.Common.{◌≡◌, inl, inr, ℕ, zero, suc, ◌<◌, List, [], ◌∷◌, map, length, flat_map, pos, refl, sym, ap, ◌∙◌, subst, true, is_gt, arith}
 use Rattle.std.proofs.lemmas.Bool.{and_from}
 use Rattle.ordered_ring.specs.Ring.{Ops, Laws, difference}
 use Rattle.ordered_ring.specs.Sign.{Signed, OrderLaws, IsPositive}
@@ -20,17 +20,10 @@ use Rattle.windows.specs.Patch.{Patch, IsDissected, HasAcross, IsClosed, Covers,
 use Rattle.windows.specs.Window.{WindowTheorem, KnownByOutline}
 use Rattle.dissection.proofs.Sums.{sum-map}
 use Rattle.addressing.proofs.Lists.{AllByRecursion-among, AllByRecursion-from}
-use Rattle.windows.proofs.Members.{ComesFrom, comes-from, goes-to, distinct-append, number-one, some-passes}
+use Rattle.windows.proofs.Members.{same_whole, ComesFrom, comes-from, goes-to, distinct-append, number-one, some-passes}
 use Rattle.dissection.proofs.ZeroOrOne.{sum-number}
 use Rattle.windows.proofs.Reverses.{reverse-is}
 use Rattle.windows.proofs.ClosedChains.{closed_chains}
-
-same_whole : (m n : ℕ) → pos m ≡ pos n → m ≡ n
-same_whole m n e = ap size e
-  where
-    size : ℤ → ℕ
-    size (pos k) = k
-    size (negsuc k) = 0
 
 -- ---- the centre of a box is in it
 module _ (S : Signed) (L : Laws S.ops) (O : OrderLaws S) (box : OpenBox S.ops.carrier) where

@@ -1,13 +1,14 @@
 -- What holds of every frame of an accepted rule over the points of P: its tiles are a dissected patch, which grows as the frame does.
 use Rattle.std.specs.Prelude.{◌≡◌, ◌↔◌, ℕ, ◌<◌, ◌≤◌, Bool, Some, slice_get, length, IsTrue}
 use Rattle.ordered_plane.specs.Box.{OpenBox}
-use Rattle.addressing.specs.Search.{IsAmong}
+use Rattle.addressing.specs.Search.{IsAmong, below}
 use Rattle.addressing.specs.Address.{Address, depth}
 use Rattle.addressing.specs.Tables.{child_kinds}
 use Rattle.substitution.specs.Points.{Points}
 use Rattle.substitution.specs.RuleParts.{edge_count}
 use Rattle.substitution.specs.Supertile.{Placed}
 use Rattle.edge_to_edge.specs.Contacts.{tables_of}
+use Rattle.edge_to_edge.specs.Edges.{Edge, runs_back}
 use Rattle.dissection.specs.Accepted.{AcceptedRule, NamesTile}
 use Rattle.dissection.specs.Across.{IsTileAcross}
 use Rattle.dissection.specs.OnBoundary.{IsOnBoundary}
@@ -15,11 +16,12 @@ use Rattle.dissection.specs.Polygons.{tile_polygon}
 use Rattle.dissection.specs.TileEdges.{tile_at}
 use Rattle.frames.specs.Frame.{at_level, frame_tiles, IsTileOf}
 use Rattle.windows.specs.Outlines.{edges, is_reverse}
+use Rattle.windows.specs.OpenEdges.{edges_of_tile}
 use Rattle.windows.specs.Patch.{IsDissected}
 use Rattle.windows.specs.GrowingPatch.{IsOfDepth, IsInner}
 use Rattle.windows.specs.EnoughDepth.{IsEnough}
 use Rattle.windows.specs.GrownPolygon.{IsWholeOf, HoldsWindow}
-use Rattle.windows.specs.FramePatch.{frame_patch, growing_frame, frame_polygon, lifted_tile, in_frame, line_of}
+use Rattle.windows.specs.FramePatch.{frame_patch, growing_frame, frame_polygon, lifted_tile, in_frame, plane_edge, line_of}
 
 -- the tiles of a frame are a dissected patch
 abbrev pub FramePatchLaw : Points → Type 0
@@ -44,6 +46,16 @@ abbrev pub LinesLaw : Points → Type 0
 LinesLaw P =
     (T : AcceptedRule P) (t : Placed P.ring.carrier) → t.address.kind < length T.rule.kinds → (e : ℕ) → e < edge_count T.rule t.address.kind
     → slice_get (edges (tile_polygon P T.rule (λ z. z) t)) e ≡ Some (line_of P T.rule t e)
+
+abbrev pub NumberedLaw : Points → Type 0
+NumberedLaw P =
+    (T : AcceptedRule P) (t : Placed P.ring.carrier) → t.address.kind < length T.rule.kinds → (i : ℕ)
+    → edges_of_tile P.real i (tile_polygon P T.rule (λ z. z) t)
+    ≡ below (λ e. record { tile = i; edge = e; line = line_of P T.rule t e }) (edge_count T.rule t.address.kind)
+
+-- whether one edge is the reverse of another is seen by the points between which they run
+abbrev pub ReverseTestLaw : Points → Type 0
+ReverseTestLaw P = (e f : Edge P.ring.carrier) → is_reverse P.real (plane_edge P e) (plane_edge P f) ≡ runs_back P e f
 
 -- a tile of the frame, by the address that it has at its own depth, with one of its edges
 pub record IsEdgeInFrame (P : Points) (T : AcceptedRule P) (f a : Address) (e : ℕ) : Type 0 where

@@ -7,6 +7,7 @@ use Rattle.substitution.specs.Motion.{moved}
 use Rattle.substitution.specs.Rule.{Rule}
 use Rattle.substitution.specs.Supertile.{Placed}
 use Rattle.substitution.specs.Placement.{placement}
+use Rattle.edge_to_edge.specs.Edges.{Edge}
 use Rattle.dissection.specs.Polygons.{tile_polygon, supertile_polygon}
 use Rattle.dissection.specs.TileEdges.{edge_of}
 use Rattle.frames.specs.Back.{back}
@@ -43,6 +44,9 @@ lifted_tile f t = record { address = lifted_in f t.address; motion = t.motion }
 abbrev pub in_frame : (P : Points) → Rule P.ring.carrier → Address → Address → Placed P.ring.carrier
 in_frame P r f a = record { address = lifted_in f a; motion = motion_beside P r (at_level f (depth a)).digits a.digits }
 
--- where edge number e of a tile lies
+-- where an edge between two points lies, and edge number e of a tile
+abbrev pub plane_edge : (P : Points) → Edge P.ring.carrier → PlaneEdge P.real
+plane_edge P e = record { from = plane_point P e.from; to = plane_point P e.to }
+
 abbrev pub line_of : (P : Points) → Rule P.ring.carrier → Placed P.ring.carrier → ℕ → PlaneEdge P.real
-line_of P r t e = record { from = plane_point P (edge_of P r t e).from; to = plane_point P (edge_of P r t e).to }
+line_of P r t e = plane_edge P (edge_of P r t e)

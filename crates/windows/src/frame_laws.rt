@@ -3,7 +3,7 @@
 ghost use Rattle.cyclo_points.specs.Order.{points_of};
 ghost use Rattle.windows.specs.Laws.{LevelLaw, LiftLevelLaw};
 ghost use Rattle.windows.specs.FrameLaws.{FramePatchLaw, LiftLaw, NamedLaw, LinesLaw, ReverseLaw, InnerLaw};
-ghost use Rattle.windows.specs.FrameLaws.{OutsideLaw, FramePolygonLaw, FrameEnoughLaw};
+ghost use Rattle.windows.specs.FrameLaws.{NumberedLaw, ReverseTestLaw, OutsideLaw, FramePolygonLaw, FrameEnoughLaw};
 ghost use Rattle.windows.specs.FrameSearch.{GrownLevelLaw, RenamedLaw, AtDepthLaw, FrameAcrossLaw, GrownCrossingLaw};
 ghost use Rattle.windows.specs.FrameSearch.{LastBoundaryLaw, AncestorHoldsLaw};
 ghost use Rattle.windows.specs.FrameWindow.{DrawnLaw, CoversLaw, LeastLaw, WithinLaw};
@@ -25,11 +25,14 @@ pub fn frame_patch_law(order: Order)
     ensures named { NamedLaw (points_of order) }
 {}
 
-/// The law of the edges of a frame's tiles. The tile across an edge in the supertile is the tile across
+/// The law of the edges of a frame's tiles. They are those of the outline, by their numbers; whether one
+/// is the reverse of another is seen by the points between which they run. The tile across an edge in the supertile is the tile across
 /// it in the frame; at a depth an edge is inner exactly where there is one, and it isn't exactly where
 /// it lies on the supertile's boundary.
 pub fn frame_edge_law(order: Order)
     ensures lines { LinesLaw (points_of order) }
+    ensures numbered { NumberedLaw (points_of order) }
+    ensures reverse_test { ReverseTestLaw (points_of order) }
     ensures across { ReverseLaw (points_of order) }
     ensures inner { InnerLaw (points_of order) }
     ensures outside { OutsideLaw (points_of order) }

@@ -14,3 +14,9 @@ returns-clause-inner c = law.inner_law (points_of c.args.order) (laws_of c.args.
 
 pub returns-clause-outside : goal.returns-clause-outside
 returns-clause-outside c = law.outside_law (points_of c.args.order) (laws_of c.args.order)
+
+pub returns-clause-numbered : goal.returns-clause-numbered
+returns-clause-numbered c = law.numbered_law (points_of c.args.order) (laws_of c.args.order)
+
+pub returns-clause-reverse_test : goal.returns-clause-reverse_test
+returns-clause-reverse_test c = law.reverse_test_law (points_of c.args.order) (laws_of c.args.order)
