@@ -15,6 +15,7 @@ use Rattle.windows.proofs.Steps as steps
 use Rattle.windows.proofs.Finish as finish
 use Rattle.windows.proofs.EveryEdge as every
 use Rattle.windows.proofs.Limits as limits
+use Rattle.windows.proofs.OpenNumbers as numbers
 use Rattle.windows.proofs.OpenStep as open_step
 use Rattle.windows.proofs.FromLevel as from_level
 use Rattle.windows.proofs.AnyOrder as order
@@ -87,6 +88,9 @@ module _ (P : Points) (W : PointLaws P) where
 
     pub finish_law : is.FinishLaw P
     finish_law = finish.finish_right P.real W.of_real W.of_order divides
+
+    pub open_number_law : is.OpenNumberLaw P
+    open_number_law = numbers.open_numbers P.real W.of_real W.of_order divides
 
     pub open_step_law : is.OpenStepLaw P
     open_step_law = open_step.open_step P.real W.of_real W.of_order divides

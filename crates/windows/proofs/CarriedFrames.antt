@@ -5,6 +5,7 @@ use Rattle.substitution.specs.Points.{Points, PointLaws}
 use Rattle.substitution.specs.Supertile.{Placed}
 use Rattle.edge_to_edge.specs.Contacts.{tables_of}
 use Rattle.dissection.specs.Accepted.{AcceptedRule}
+use Rattle.dissection.specs.Glue.{TurnsDiffer}
 use Rattle.dissection.proofs.Setting.{Setting}
 use Rattle.dissection.proofs.AcrossTouches.{same}
 use Rattle.dissection.specs.TileEdges.{tile_at}
@@ -22,6 +23,7 @@ use Rattle.windows.proofs.FrameEdges as across
 use Rattle.windows.proofs.FramePolygon.{frame-whole}
 use Rattle.windows.proofs.Renamed as names
 use Rattle.windows.proofs.GrownCrossings as crossings
+use Rattle.windows.proofs.GluedInFrame.{glued-grown}
 use Rattle.windows.proofs.AncestorHolds.{ancestor-level}
 use Rattle.windows.proofs.FrameDrawn as drawn
 use Rattle.windows.proofs.FrameWindow as window
@@ -88,6 +90,9 @@ module _ (P : Points) (W : PointLaws P) where
 
   pub grown_crossing_law : search.GrownCrossingLaw P
   grown_crossing_law T f m n a e b g c refused = crossings.grown-crossing (setting T) f c.frame refused m n a e b g c
+
+  pub glued_crossing_law : TurnsDiffer P → search.GluedCrossingLaw P
+  glued_crossing_law differ T f m n a e b g c k glues = glued-grown (setting T) differ f m n a e b g c k glues
 
   pub last_boundary_law : search.LastBoundaryLaw P
   last_boundary_law T f a e h own part on refused u x = absurd (crossings.last-boundary (setting T) f h.frame refused a e h own part on u x)

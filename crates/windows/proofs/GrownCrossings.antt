@@ -14,7 +14,6 @@ use Rattle.dissection.proofs.Setting.{Setting}
 use Rattle.dissection.proofs.AcrossTouches.{same}
 use Rattle.dissection.proofs.RuleAddresses.{lowest_exists}
 use Rattle.frames.specs.Frame.{at_level, IsTileOf, lifted_in}
-use Rattle.frames.proofs.Frames.{at_level-depth}
 use Rattle.windows.specs.PatchWindow.{LiesAcross}
 use Rattle.windows.specs.FramePatch.{level_in, growing_frame, in_frame, line_of}
 use Rattle.windows.specs.FrameLaws.{IsEdgeInFrame}
@@ -25,7 +24,7 @@ use Rattle.substitution.specs.RuleParts.{edge_count}
 use Rattle.std.proofs.lemmas.List.{take_all}
 use Rattle.windows.proofs.Lifts.{named}
 use Rattle.windows.proofs.FrameEdges.{Beside, beside, reverse_law, boundary-outer}
-use Rattle.windows.proofs.Renamed.{lifted-depth, lifted-tile, renamed, longer, shorter, at-depth}
+use Rattle.windows.proofs.Renamed.{lifted-depth, lifted-tile, renamed, shorter, further, at-depth}
 
 module _ (T : Setting) where
   open T use {points as P, laws as W, accepted.{refused, rule as r, numbered as N, edge_to_edge as D}}
@@ -78,17 +77,8 @@ module _ (T : Setting) where
           → LiesAcross S (Placed A) (growing_frame P refused r f) (line_of P r (in_frame P r f a) e) (in_frame P r f b) × (max m (level_in f (lifted_in f b)) ≡ n)
       grown-crossing m n a e b g c = (lies, max-is m n (level_in f (lifted_in f b)) c.not_below level none)
         where
-          least-depth : m ≤ depth f
-          least-depth = let l = c.not_below in let w = c.within in omega arith
-
-          whole : IsTileOf children f a
-          whole = longer T f fits m least-depth a c.tile
-
-          deep : depth a ≤ m
-          deep = subst (λ k. depth a ≤ k) (at_level-depth f m least-depth) c.tile.no_deeper
-
           at : (k : ℕ) → m ≤ k → k ≤ depth f → IsTileOf children (at_level f k) a
-          at k l w = shorter T f fits k w a whole (let h = deep in omega arith)
+          at k l w = further T f fits m k l w a c.tile
 
           here : IsEdgeInFrame P T.accepted f (lifted_in (at_level f n) a) e
           here = record { frame = fits; tile = lifted-tile T f fits n c.within a (at n c.not_below c.within); edge_exists = c.edge_exists }

@@ -26,6 +26,7 @@ pub mod EveryEdge
 pub mod Limits
 pub mod FromLevel
 pub mod AnyOrder
+pub mod OpenNumbers
 pub mod OpenStep
 pub mod WholeSearch
 pub mod GrownPolygon
@@ -42,6 +43,7 @@ pub mod FrameEdges
 pub mod FramePolygon
 pub mod Renamed
 pub mod GrownCrossings
+pub mod GluedInFrame
 pub mod AncestorHolds
 pub mod FrameDrawn
 pub mod FrameWindow

@@ -123,6 +123,16 @@ module _ (T : Setting) where
               ∙ kind_at-below f.kind (take n f.digits) (drop n f.digits) (depth a) no_deeper;
         }
 
+    -- so what is of the frame of an ancestor is of that of each further one
+    pub further : (m k : ℕ) → m ≤ k → k ≤ depth f → (a : Address) → IsTileOf children (at_level f m) a → IsTileOf children (at_level f k) a
+    further m k least within a h = shorter k within a (longer m below a h) (at_most (depth a) m k (subst (λ j. depth a ≤ j) (at_level-depth f m below) h.no_deeper) least)
+      where
+        at_most : (x y z : ℕ) → x ≤ y → y ≤ z → x ≤ z
+        at_most x y z l w = omega arith
+
+        below : m ≤ depth f
+        below = at_most m k (depth f) least within
+
     -- ---- all tiles are there at the frame's own depth
     pub at-depth : (x : Placed A) → IsAmong x (frame_tiles P r f) → level_in f x.address ≤ depth f
     at-depth x i =

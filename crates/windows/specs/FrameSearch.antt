@@ -8,11 +8,13 @@ use Rattle.addressing.specs.Search.{IsAmong}
 use Rattle.addressing.specs.Tables.{child_kinds}
 use Rattle.substitution.specs.Points.{Points}
 use Rattle.substitution.specs.Plane.{plane_point}
+use Rattle.substitution.specs.Motion.{Motion, followed}
 use Rattle.substitution.specs.RuleParts.{edge_count}
 use Rattle.substitution.specs.Supertile.{Placed}
 use Rattle.edge_to_edge.specs.Contacts.{tables_of}
 use Rattle.dissection.specs.Accepted.{AcceptedRule, NamesTile}
 use Rattle.dissection.specs.Across.{IsTileAcross}
+use Rattle.dissection.specs.Glue.{IsGlueMotion}
 use Rattle.dissection.specs.OnBoundary.{IsOnBoundary}
 use Rattle.dissection.specs.Polygons.{tile_polygon}
 use Rattle.dissection.specs.TileEdges.{tile_at}
@@ -63,6 +65,12 @@ GrownCrossingLaw P =
     (T : AcceptedRule P) (f : Address) (m n : ℕ) (a : Address) (e : ℕ) (b : Address) (g : ℕ) → IsGrownCrossing P T f m n a e b g → (refused : P.ring.carrier → Bool)
     → LiesAcross P.real (Placed P.ring.carrier) (growing_frame P refused T.rule f) (line_of P T.rule (in_frame P T.rule f a) e) (in_frame P T.rule f b)
     × (max m (level_in f (lifted_in f b)) ≡ n)
+
+-- and the motion of the tile across is the one that glues the two edges, followed by that of the edge's own tile
+abbrev pub GluedCrossingLaw : Points → Type 0
+GluedCrossingLaw P =
+    (T : AcceptedRule P) (f : Address) (m n : ℕ) (a : Address) (e : ℕ) (b : Address) (g : ℕ) → IsGrownCrossing P T f m n a e b g
+    → (k : Motion P.ring.carrier) → IsGlueMotion P T.rule a.kind e b.kind g k → (in_frame P T.rule f b).motion ≡ followed P k (in_frame P T.rule f a).motion
 
 -- where the edge is on the boundary at the frame's own depth, no tile lies across it at all
 abbrev pub LastBoundaryLaw : Points → Type 0

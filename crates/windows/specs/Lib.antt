@@ -17,6 +17,7 @@ pub mod SearchState
 pub mod PatchWindow
 pub mod FromLevel
 pub mod SearchSteps
+pub mod OpenNumbers
 pub mod OpenStep
 pub mod EveryEdge
 pub mod Refusals

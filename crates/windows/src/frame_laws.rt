@@ -5,7 +5,7 @@ ghost use Rattle.windows.specs.Laws.{LevelLaw, LiftLevelLaw};
 ghost use Rattle.windows.specs.FrameLaws.{FramePatchLaw, LiftLaw, NamedLaw, LinesLaw, ReverseLaw, InnerLaw};
 ghost use Rattle.windows.specs.FrameLaws.{NumberedLaw, ReverseTestLaw, OutsideLaw, FramePolygonLaw, FrameEnoughLaw};
 ghost use Rattle.windows.specs.FrameSearch.{GrownLevelLaw, RenamedLaw, AtDepthLaw, FrameAcrossLaw, GrownCrossingLaw};
-ghost use Rattle.windows.specs.FrameSearch.{LastBoundaryLaw, AncestorHoldsLaw};
+ghost use Rattle.windows.specs.FrameSearch.{GluedCrossingLaw, LastBoundaryLaw, AncestorHoldsLaw};
 ghost use Rattle.windows.specs.FrameWindow.{DrawnLaw, CoversLaw, LeastLaw, WithinLaw};
 
 use cyclo_points::order::Order;
@@ -54,11 +54,13 @@ pub fn frame_name_law(order: Order)
 {}
 
 /// The law of crossings in a frame that grows: the tile across in the supertile lies across in the frame;
-/// the least depth at which it is found is its level, where the frame isn't as deep already; and where
-/// the edge is on the boundary at the frame's own depth, no tile lies across it.
+/// the least depth at which it is found is its level, where the frame isn't as deep already; it stands
+/// where the motion that glues the two edges puts it; and where the edge is on the boundary at the frame's
+/// own depth, no tile lies across it.
 pub fn frame_crossing_law(order: Order)
     ensures across { FrameAcrossLaw (points_of order) }
     ensures grown { GrownCrossingLaw (points_of order) }
+    ensures glued { GluedCrossingLaw (points_of order) }
     ensures last { LastBoundaryLaw (points_of order) }
 {}
 

@@ -1,5 +1,6 @@
 use Rattle.cyclo_points.specs.Order.{points_of}
 use Rattle.cyclo_points.proofs.OrderLaws.{laws_of}
+use Rattle.dissection.proofs.Turns.{turns_of}
 use Rattle.windows.proofs.CarriedFrames as law
 use Rattle.windows.proofs.frame_laws.frame_crossing_law.Goals as goal
 
@@ -11,3 +12,6 @@ returns-clause-grown c = law.grown_crossing_law (points_of c.args.order) (laws_o
 
 pub returns-clause-last : goal.returns-clause-last
 returns-clause-last c = law.last_boundary_law (points_of c.args.order) (laws_of c.args.order)
+
+pub returns-clause-glued : goal.returns-clause-glued
+returns-clause-glued c = law.glued_crossing_law (points_of c.args.order) (laws_of c.args.order) (turns_of c.args.order)
