@@ -1,5 +1,6 @@
 -- The laws of the frames of an accepted rule, proved over the points of an order.
 use Rattle.std.proofs.Common.{sym, ◌∙◌, subst}
+use Rattle.ordered_ring.specs.Divisor.{DividesWhole}
 use Rattle.addressing.proofs.Chains.{chain_of}
 use Rattle.substitution.specs.Points.{Points, PointLaws}
 use Rattle.substitution.specs.Supertile.{Placed}
@@ -14,6 +15,8 @@ use Rattle.windows.specs.FramePatch.{growing_frame, frame_polygon, lifted_tile}
 use Rattle.windows.specs.FrameLaws as frames
 use Rattle.windows.specs.FrameSearch as search
 use Rattle.windows.specs.FrameWindow as is_window
+use Rattle.windows.specs.FrameCover as is_cover
+use Rattle.windows.proofs.FrameCover as cover
 use Rattle.windows.proofs.GrownPolygon.{enough_by_polygon}
 use Rattle.windows.proofs.FramePatch as patch
 use Rattle.windows.proofs.Lifts as lifts
@@ -115,3 +118,26 @@ module _ (P : Points) (W : PointLaws P) where
 
   pub within_law : is_window.WithinLaw P
   within_law T f fits refused box m limit start = (window.within-limits (setting T) f fits refused box m limit start, window.limits-within (setting T) f fits refused box m limit start)
+
+  -- ---- of covering
+  module _ (divides : DividesWhole P.real) where
+    pub frame_start_law : is_cover.FrameStartLaw P
+    frame_start_law T f refused centre w h on t i holds m k first = cover.frame-start (setting T) divides f refused centre w h on t i holds k first m
+
+    pub frame_step_law : is_cover.FrameStepLaw P
+    frame_step_law T f refused box on s right o n a b g c = cover.frame-step (setting T) divides f refused box on s right o n a b g c
+
+    pub frame_finish_law : is_cover.FrameFinishLaw P
+    frame_finish_law T f refused box on s right none within tiles distinct deep members = cover.frame-answer (setting T) divides f refused box on s right none within tiles distinct deep members
+
+    pub frame_stop_law : is_cover.FrameStopLaw P
+    frame_stop_law T f refused box on s right o i a tile h own part boundary = (
+      cover.stop-cause (setting T) divides f refused box on s right o i a tile h own part boundary,
+      λ m limit x. absurd (cover.stop-beyond (setting T) divides f refused box on s right o i a tile h own part boundary m limit x),
+    )
+
+    pub frame_goes_on_law : is_cover.FrameGoesOnLaw P
+    frame_goes_on_law T f refused box on m limit within s right o n a b g c = cover.frame-onward (setting T) divides f refused box on s right o n a b g c m limit within
+
+    pub frame_ends_law : is_cover.FrameEndsLaw P
+    frame_ends_law T f refused box on m limit start s right none beyond few = cover.frame-ends (setting T) divides f refused box on s right none m limit start beyond few

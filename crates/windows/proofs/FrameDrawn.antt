@@ -80,7 +80,7 @@ module _ (T : Setting) where
           }
 
       -- tiles of one depth that are one when lifted are one
-      lifted-one : (x y : Placed A) → depth x.address ≡ n → depth y.address ≡ n → lifted_tile f x ≡ lifted_tile f y → x ≡ y
+      pub lifted-one : (x y : Placed A) → depth x.address ≡ n → depth y.address ≡ n → lifted_tile f x ≡ lifted_tile f y → x ≡ y
       lifted-one x y dx dy e = λ i. record { address = record { kind = (e i).address.kind; digits = digits i }; motion = (e i).motion }
         where
           digits : x.address.digits ≡ y.address.digits

@@ -47,5 +47,6 @@ pub mod GluedInFrame
 pub mod AncestorHolds
 pub mod FrameDrawn
 pub mod FrameWindow
+pub mod FrameCover
 pub mod Carried
 pub mod CarriedFrames

@@ -28,4 +28,5 @@ pub mod FramePatch
 pub mod FrameLaws
 pub mod FrameSearch
 pub mod FrameWindow
+pub mod FrameCover
 pub mod Laws

@@ -8,6 +8,7 @@
 //! proofs and laws, and no other code.
 #![tactic(auto)]
 
+pub mod cover_laws;
 pub mod frame_laws;
 pub mod patch_laws;
 pub mod plane_laws;
