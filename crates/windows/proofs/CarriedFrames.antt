@@ -1,5 +1,5 @@
 -- The laws of the frames of an accepted rule, proved over the points of an order.
-use Rattle.std.proofs.Common.{sym, ◌∙◌, subst}
+use Rattle.std.proofs.Common.{ℕ, map, ap₂, sym, ◌∙◌, subst}
 use Rattle.ordered_ring.specs.Divisor.{DividesWhole}
 use Rattle.addressing.proofs.Chains.{chain_of}
 use Rattle.substitution.specs.Points.{Points, PointLaws}
@@ -13,6 +13,11 @@ use Rattle.dissection.specs.TileEdges.{tile_at}
 use Rattle.windows.specs.GrowingPatch.{IsOfDepth}
 use Rattle.windows.specs.FramePatch.{growing_frame, frame_polygon, lifted_tile}
 use Rattle.windows.specs.FrameLaws as frames
+use Rattle.windows.specs.FramePatch as is_frame
+use Rattle.windows.proofs.Window.{known_by_outline}
+use Rattle.substitution.specs.Plane.{plane_point}
+use Rattle.substitution.specs.Motion.{Motion, moved}
+use Rattle.substitution.specs.RuleParts.{vertices_of}
 use Rattle.windows.specs.FrameSearch as search
 use Rattle.windows.specs.FrameWindow as is_window
 use Rattle.windows.specs.FrameCover as is_cover
@@ -86,6 +91,10 @@ module _ (P : Points) (W : PointLaws P) where
 
   pub at_depth_law : search.AtDepthLaw P
   at_depth_law T f fits t i = names.at-depth (setting T) f fits t i
+
+  pub known_law : search.KnownLaw P
+  known_law T f fits t u i j kind motion =
+      known_by_outline (is_frame.frame_patch P T.rule f) (frame_patch_law T f fits) t u i j (ap₂ (λ (k : ℕ) (m : Motion P.ring.carrier). map (λ z. plane_point P (moved P m z)) (vertices_of T.rule k)) kind motion)
 
   pub across_law : search.FrameAcrossLaw P
   across_law T f a e h b g x refused =

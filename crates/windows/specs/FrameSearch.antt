@@ -41,6 +41,12 @@ RenamedLaw P =
 abbrev pub AtDepthLaw : Points → Type 0
 AtDepthLaw P = (T : AcceptedRule P) (f : Address) → NamesTile P T.rule f → (t : Placed P.ring.carrier) → IsAmong t (frame_tiles P T.rule f) → level_in f t.address ≤ depth f
 
+-- a tile is known by its kind and its motion
+abbrev pub KnownLaw : Points → Type 0
+KnownLaw P =
+    (T : AcceptedRule P) (f : Address) → NamesTile P T.rule f → (t u : Placed P.ring.carrier) → IsAmong t (frame_tiles P T.rule f) → IsAmong u (frame_tiles P T.rule f)
+    → t.address.kind ≡ u.address.kind → t.motion ≡ u.motion → t ≡ u
+
 -- ---- crossings
 -- the tile across an edge in the supertile lies across it in the frame
 abbrev pub FrameAcrossLaw : Points → Type 0

@@ -4,7 +4,8 @@ ghost use Rattle.cyclo_points.specs.Order.{points_of};
 ghost use Rattle.windows.specs.Laws.{LevelLaw, LiftLevelLaw};
 ghost use Rattle.windows.specs.FrameLaws.{FramePatchLaw, LiftLaw, NamedLaw, LinesLaw, ReverseLaw, InnerLaw};
 ghost use Rattle.windows.specs.FrameLaws.{NumberedLaw, ReverseTestLaw, OutsideLaw, FramePolygonLaw, FrameEnoughLaw};
-ghost use Rattle.windows.specs.FrameSearch.{GrownLevelLaw, RenamedLaw, AtDepthLaw, FrameAcrossLaw, GrownCrossingLaw};
+ghost use Rattle.windows.specs.FrameSearch.{GrownLevelLaw, RenamedLaw, AtDepthLaw, KnownLaw};
+ghost use Rattle.windows.specs.FrameSearch.{FrameAcrossLaw, GrownCrossingLaw};
 ghost use Rattle.windows.specs.FrameSearch.{GluedCrossingLaw, LastBoundaryLaw, AncestorHoldsLaw};
 ghost use Rattle.windows.specs.FrameWindow.{DrawnLaw, CoversLaw, LeastLaw, WithinLaw};
 
@@ -46,11 +47,13 @@ pub fn frame_polygon_law(order: Order)
 {}
 
 /// The law of names: the frame of an ancestor is the frame before it grew beyond; a tile lifted there
-/// has the same name in the whole frame; and all tiles are there at the frame's own depth.
+/// has the same name in the whole frame; all tiles are there at the frame's own depth; and each is known
+/// by its kind and motion.
 pub fn frame_name_law(order: Order)
     ensures before_growth { GrownLevelLaw }
     ensures renamed { RenamedLaw (points_of order) }
     ensures at_depth { AtDepthLaw (points_of order) }
+    ensures known { KnownLaw (points_of order) }
 {}
 
 /// The law of crossings in a frame that grows: the tile across in the supertile lies across in the frame;

@@ -12,3 +12,6 @@ returns-clause-renamed c = law.renamed_law (points_of c.args.order) (laws_of c.a
 
 pub returns-clause-at_depth : goal.returns-clause-at_depth
 returns-clause-at_depth c = law.at_depth_law (points_of c.args.order) (laws_of c.args.order)
+
+pub returns-clause-known : goal.returns-clause-known
+returns-clause-known c = law.known_law (points_of c.args.order) (laws_of c.args.order)
