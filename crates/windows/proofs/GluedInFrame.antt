@@ -1,0 +1,41 @@
+-- The motion of the tile across in a frame is the motion that glues the two edges, followed by that of the edge's own tile.
+use Rattle.std.proofs.Common.{◌≡◌, ℕ, ap, ◌∙◌}
+use Rattle.addressing.specs.Address.{Address, depth}
+use Rattle.substitution.specs.Motion.{Motion, followed}
+use Rattle.substitution.specs.Supertile.{Placed}
+use Rattle.substitution.specs.Placement.{placement}
+use Rattle.dissection.specs.Across.{IsTileAcross}
+use Rattle.dissection.specs.Glue.{IsGlueMotion, TurnsDiffer}
+use Rattle.dissection.specs.TileEdges.{tile_at}
+use Rattle.dissection.proofs.Setting.{Setting}
+use Rattle.dissection.proofs.Carried.{glue_law}
+use Rattle.frames.specs.Back.{back}
+use Rattle.frames.specs.Frame.{at_level, lifted_in}
+use Rattle.frames.proofs.Group.{followed-assoc}
+use Rattle.windows.specs.FramePatch.{in_frame}
+use Rattle.windows.specs.FrameLaws.{IsEdgeInFrame}
+use Rattle.windows.specs.FrameSearch.{IsGrownCrossing}
+use Rattle.windows.proofs.FrameEdges.{beside}
+use Rattle.windows.proofs.Renamed.{lifted-tile, renamed, further}
+
+module _ (T : Setting) (differ : TurnsDiffer T.points) where
+  open T use {points as P, laws as W, accepted.{rule as r}}
+
+  abbrev A : Type 0
+  A = P.ring.carrier
+
+  -- at the tile's own depth
+  pub glued-beside : (f a : Address) (e : ℕ) (h : IsEdgeInFrame P T.accepted f a e) (b : Address) (g : ℕ) → IsTileAcross P r (tile_at P r a) e (tile_at P r b) g
+      → (m : Motion A) → IsGlueMotion P r a.kind e b.kind g m → (in_frame P r f b).motion ≡ followed P m (in_frame P r f a).motion
+  glued-beside f a e h b g x m glues =
+      ap (λ k. followed P (placement P r b.digits) (back P (placement P r (at_level f k).digits))) (beside T f a e h (tile_at P r b) x.beside).deep
+      ∙ ap (λ (n : Motion A). followed P n (back P (placement P r (at_level f (depth a)).digits)))
+      ((glue_law P W differ T.accepted a e (record { fits = h.tile.fits; edge_exists = h.edge_exists }) (tile_at P r b) g x).motion_is m glues)
+      ∙ followed-assoc P W m (placement P r a.digits) (back P (placement P r (at_level f (depth a)).digits))
+
+  -- and at the depth to which the frame grows
+  pub glued-grown : (f : Address) (m n : ℕ) (a : Address) (e : ℕ) (b : Address) (g : ℕ) → IsGrownCrossing P T.accepted f m n a e b g
+      → (k : Motion A) → IsGlueMotion P r a.kind e b.kind g k → (in_frame P r f b).motion ≡ followed P k (in_frame P r f a).motion
+  glued-grown f m n a e b g c k glues =
+      glued-beside f (lifted_in (at_level f n) a) e (record { frame = c.frame; tile = lifted-tile T f c.frame n c.within a (further T f c.frame m n c.not_below c.within a c.tile); edge_exists = c.edge_exists }) b g c.across k glues
+      ∙ ap (λ (v : Placed A). followed P k v.motion) (renamed T f c.frame n c.within a (further T f c.frame m n c.not_below c.within a c.tile))

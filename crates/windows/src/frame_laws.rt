@@ -1,0 +1,84 @@
+//! The laws of the frames of an accepted rule, for the points of each order: a frame is a dissected
+//! patch that grows.
+ghost use Rattle.cyclo_points.specs.Order.{points_of};
+ghost use Rattle.windows.specs.Laws.{LevelLaw, LiftLevelLaw};
+ghost use Rattle.windows.specs.FrameLaws.{FramePatchLaw, LiftLaw, NamedLaw, LinesLaw, ReverseLaw, InnerLaw};
+ghost use Rattle.windows.specs.FrameLaws.{NumberedLaw, ReverseTestLaw, OutsideLaw, FramePolygonLaw, FrameEnoughLaw};
+ghost use Rattle.windows.specs.FrameSearch.{GrownLevelLaw, RenamedLaw, AtDepthLaw, KnownLaw};
+ghost use Rattle.windows.specs.FrameSearch.{FrameAcrossLaw, GrownCrossingLaw};
+ghost use Rattle.windows.specs.FrameSearch.{GluedCrossingLaw, LastBoundaryLaw, AncestorHoldsLaw};
+ghost use Rattle.windows.specs.FrameWindow.{DrawnLaw, CoversLaw, LeastLaw, WithinLaw};
+
+use cyclo_points::order::Order;
+
+/// The law of levels: of two lists of as many digits, the level is at most n exactly where the digits
+/// from number n up are the same; so it is with digits of depth n, lifted, and with no others.
+pub fn level_law()
+    ensures level { LevelLaw }
+    ensures lifts { LiftLevelLaw }
+{}
+
+/// The law that the tiles of a frame are a dissected patch, and grow as the frame does: at a depth they
+/// are the tiles of the base's ancestor's frame there, lifted, each with the motion that it has there.
+pub fn frame_patch_law(order: Order)
+    ensures dissected { FramePatchLaw (points_of order) }
+    ensures lifted { LiftLaw (points_of order) }
+    ensures named { NamedLaw (points_of order) }
+{}
+
+/// The law of the edges of a frame's tiles. They are those of the outline, by their numbers; whether one
+/// is the reverse of another is seen by the points between which they run. The tile across an edge in the supertile is the tile across
+/// it in the frame; at a depth an edge is inner exactly where there is one, and it isn't exactly where
+/// it lies on the supertile's boundary.
+pub fn frame_edge_law(order: Order)
+    ensures lines { LinesLaw (points_of order) }
+    ensures numbered { NumberedLaw (points_of order) }
+    ensures reverse_test { ReverseTestLaw (points_of order) }
+    ensures across { ReverseLaw (points_of order) }
+    ensures inner { InnerLaw (points_of order) }
+    ensures outside { OutsideLaw (points_of order) }
+{}
+
+/// The law that the frame's polygon at a depth is that of its tiles there, so that the depth is enough
+/// for a window exactly where this polygon holds the centre and none of its edges meets the window.
+pub fn frame_polygon_law(order: Order)
+    ensures whole { FramePolygonLaw (points_of order) }
+    ensures enough { FrameEnoughLaw (points_of order) }
+{}
+
+/// The law of names: the frame of an ancestor is the frame before it grew beyond; a tile lifted there
+/// has the same name in the whole frame; all tiles are there at the frame's own depth; and each is known
+/// by its kind and motion.
+pub fn frame_name_law(order: Order)
+    ensures before_growth { GrownLevelLaw }
+    ensures renamed { RenamedLaw (points_of order) }
+    ensures at_depth { AtDepthLaw (points_of order) }
+    ensures known { KnownLaw (points_of order) }
+{}
+
+/// The law of crossings in a frame that grows: the tile across in the supertile lies across in the frame;
+/// the least depth at which it is found is its level, where the frame isn't as deep already; it stands
+/// where the motion that glues the two edges puts it; and where the edge is on the boundary at the frame's
+/// own depth, no tile lies across it.
+pub fn frame_crossing_law(order: Order)
+    ensures across { FrameAcrossLaw (points_of order) }
+    ensures grown { GrownCrossingLaw (points_of order) }
+    ensures glued { GluedCrossingLaw (points_of order) }
+    ensures last { LastBoundaryLaw (points_of order) }
+{}
+
+/// The law that the base's ancestors that hold a point are those from the level of the tile that holds
+/// it on.
+pub fn ancestor_holds_law(order: Order)
+    ensures { AncestorHoldsLaw (points_of order) }
+{}
+
+/// The law of a window on a frame: the frame's own tiles that meet it are those drawn of the patch, and
+/// cover what they do; the least depth at which the frame's polygon holds the centre and none of its
+/// edges meets the window is the least enough one; and the limits are the same.
+pub fn frame_window_law(order: Order)
+    ensures drawn { DrawnLaw (points_of order) }
+    ensures covers { CoversLaw (points_of order) }
+    ensures least { LeastLaw (points_of order) }
+    ensures within { WithinLaw (points_of order) }
+{}
