@@ -4,3 +4,8 @@ pub mod Crossings
 pub mod Longer
 pub mod Walked
 pub mod Standing
+pub mod Ancestors
+pub mod Aheads
+pub mod Outs
+pub mod Holders
+pub mod Leasts

@@ -3,3 +3,5 @@ pub mod Boundary
 pub mod Standing
 pub mod Paths
 pub mod Faults
+pub mod Ancestors
+pub mod Containing

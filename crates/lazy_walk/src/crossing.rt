@@ -96,12 +96,8 @@ impl Frame {
         let _usable = checked.uses().kinds();
         self.raise(tile);
         loop {
-            match machine.cross(tile, edge, steps) {
-                Ok(across) => {
-                    *tile = across.addr;
-                    return Ok(across.edge);
-                }
-                Err(_) => {}
+            if let Ok(back) = machine.cross_in_place(tile, edge, steps) {
+                return Ok(back);
             }
             match self.grow(machine) {
                 Ok(()) => self.raise(tile),

@@ -70,11 +70,10 @@ impl Frame {
         points_law(order);
         machine.gluing_law();
         let _usable = checked.uses().kinds();
-        let across = machine.cross(&tile.addr, edge, steps)?;
-        let glue = machine.glue_motion(tile.kind, edge, across.addr.kind, across.edge);
+        let back = machine.cross_in_place(&mut tile.addr, edge, steps)?;
+        let glue = machine.glue_motion(tile.kind, edge, tile.addr.kind, back);
         tile.motion = compose(order, &tile.motion, &glue);
-        tile.kind = across.addr.kind;
-        tile.addr = across.addr;
-        Ok(across.edge)
+        tile.kind = tile.addr.kind;
+        Ok(back)
     }
 }

@@ -16,13 +16,13 @@ use Rattle.lazy_walk.proofs.Walked.{whole-tile_of, tile_of-whole}
 use Rattle.lazy_walk.proofs.Standing.{across-is_whole, stands-across}
 use Rattle.lazy_walk.proofs.frame.Frame.step.Goals as goal
 
-pub returns-in_err-across-clause-within : goal.returns-in_err-across-clause-within
-returns-in_err-across-clause-within g c = λ k h. point_wider k (k + 512) _ (omega arith) h
+pub returns-in_err-back-clause-within : goal.returns-in_err-back-clause-within
+returns-in_err-back-clause-within g c = λ k h. point_wider k (k + 512) _ (omega arith) h
 
 pub glue_motion-glue-requires-clause-meets : goal.glue_motion-glue-requires-clause-meets
 glue_motion-glue-requires-clause-meets g c =
-    subst (λ k. Meets (tiling_of c.args.machine.now) k c.args.edge c.in_ok-across.across.addr.kind c.in_ok-across.across.edge) (sym c.requires.stands.its_kind)
-    (c.gluing_law.ensures (address_of c.args.tile.now.addr) (address_of c.in_ok-across.across.addr) c.args.edge c.in_ok-across.across.edge c.requires.stands.of_frame.fits c.requires.edge_exists c.in_ok-across.ensures.only_tile_across).0
+    subst (λ k. Meets (tiling_of c.args.machine.now) k c.args.edge c.cross_in_place.new.addr.kind c.in_ok-back.back) (sym c.requires.stands.its_kind)
+    (c.gluing_law.ensures (address_of c.args.tile.now.addr) (address_of c.cross_in_place.new.addr) c.args.edge c.in_ok-back.back c.requires.stands.of_frame.fits c.requires.edge_exists c.in_ok-back.ensures.only_tile_across).0
 
 pub compose-tile-requires-clause-f_within : goal.compose-tile-requires-clause-f_within
 compose-tile-requires-clause-f_within g c = point_wider (2 ^ 24) (2 ^ 38) _ (omega arith) c.requires.within
@@ -32,14 +32,14 @@ returns-clause-stands g c =
     let m = c.args.machine.now in
     let f = whole c.args.self.now in
     let a = address_of c.args.tile.now.addr in
-    let b = address_of c.in_ok-across.across.addr in
+    let b = address_of c.cross_in_place.new.addr in
     let own : IsWhole (children (tiling_of m)) f a = tile_of-whole (children (tiling_of m)) f a c.requires.stands.of_frame c.requires.stands.at_depth in
-    let across : IsWhole (children (tiling_of m)) f b = across-is_whole (tiling_of m) f a b c.args.edge c.in_ok-across.across.edge own c.in_ok-across.ensures.across c.in_ok-across.ensures.answer_fits in
+    let across : IsWhole (children (tiling_of m)) f b = across-is_whole (tiling_of m) f a b c.args.edge c.in_ok-back.back own c.in_ok-back.ensures.across c.in_ok-back.ensures.answer_fits in
     let same : c.order-order.result ≡ m.order = c.order-order.ensures.order ∙ ap (λ (r : Rule). r.order) c.checked-checked.ensures.rule in
     let laws : PointsLaw m.order = subst PointsLaw same c.points_law.ensures in
     let glue = motion_in m.order c.glue_motion-glue.result in
-    let glued = subst (λ k. Glues (tiling_of m) k c.args.edge b.kind c.in_ok-across.across.edge glue) c.requires.stands.its_kind c.glue_motion-glue.ensures.glues in
-    let beyond = (c.gluing_law.ensures a b c.args.edge c.in_ok-across.across.edge c.requires.stands.of_frame.fits c.requires.edge_exists c.in_ok-across.ensures.only_tile_across).2 glue glued in
+    let glued = subst (λ k. Glues (tiling_of m) k c.args.edge b.kind c.in_ok-back.back glue) c.requires.stands.its_kind c.glue_motion-glue.ensures.glues in
+    let beyond = (c.gluing_law.ensures a b c.args.edge c.in_ok-back.back c.requires.stands.of_frame.fits c.requires.edge_exists c.in_ok-back.ensures.only_tile_across).2 glue glued in
     let composed : motion_in m.order c.compose-tile.result ≡ followed (points_of m.order) glue (motion_in m.order c.args.tile.now.motion) =
     subst (λ o. motion_in o c.compose-tile.result ≡ followed (points_of o) (motion_in o c.glue_motion-glue.result) (motion_in o c.args.tile.now.motion)) same c.compose-tile.ensures.followed_by in
     record {

@@ -1,0 +1,127 @@
+//! The tile of a frame that holds a point.
+ghost use Rattle.std.specs.Prelude.{◌≡◌, ◌↔◌, ◌<◌, ◌≤◌, ◌^◌, ℕ, true, find, None, Some, length, IsOk, IfOk, IfErr, OnOk};
+ghost use Rattle.cyclo_points.specs.Order.{points_of, is_refused};
+ghost use Rattle.cyclo_points.specs.Point.{point_in, IsOf, IsWithin};
+ghost use Rattle.frames.specs.Contain.{ancestor_holds};
+ghost use Rattle.rule_model.specs.Tiling.{tiling_of};
+ghost use Rattle.rule_model.specs.Views.{rule_of};
+ghost use Rattle.tile_place.specs.Searched.{placed_in};
+ghost use Rattle.lazy_walk.specs.Ancestors.{full, IsAncestor, vertices_of_ancestor, values_in};
+ghost use Rattle.lazy_walk.specs.Containing.{FrameHolds, IsOnlyHolder, first_refused_outward};
+ghost use Rattle.lazy_walk.specs.Frames.{at_depth, IsFrameOf, GrowsTo};
+ghost use Rattle.lazy_walk.specs.Standing.{Stands};
+
+use crate::ancestor::Ancestor;
+use crate::frame::Frame;
+use cyclo_points::point::Point;
+use cyclo_points::points_law;
+use dissection::laws::dissection_law;
+use frames::laws::{ancestor_law, found_tile_law};
+use plane_geom::polygons::member;
+use tile_place::coord_limit::CoordLimit;
+use tile_place::locate_fault::LocateFault;
+use tile_place::machine::Machine;
+use tile_place::placed_tile::PlacedTile;
+
+impl Frame {
+    /// The tile of the frame that holds a point, in its place there. From the base outward the ancestors are
+    /// looked at, and the frame grows to each where it is shallower, up to the first that holds the point;
+    /// then it is searched down to the tile. At each level the power of the inflation factor comes first, then
+    /// the ancestor's shift and its vertices. Coefficients of the point may be up to 2^22.
+    pub fn contain(&mut self, machine: &Machine, point: &Point) -> Result<PlacedTile, CoordLimit>
+        requires frame { IsFrameOf (tiling_of machine.now) self.old }
+        requires point_within { IsWithin (2 ^ 22) point.now }
+
+        ensures frame { GrowsTo (tiling_of machine.now) self.old self.new }
+
+        // In the plane: the only tile of the frame, at its new depth, that holds the point, and its motion is
+        // the only one that stands beside its address there.
+        ensures only_tile { IfOk result (λ tile. IsOnlyHolder (tiling_of machine.now) self.new (point_in machine.now.order point.now) (placed_in machine.now.order tile)) }
+        ensures stands { IfOk result (λ tile. Stands (tiling_of machine.now) self.new tile) }
+        ensures shift_within { IfOk result (λ tile. IsWithin (2 ^ 24) tile.motion.shift) }
+
+        // The new depth is the least, not below the old, at which the frame holds the point.
+        ensures held { OnOk result (FrameHolds (tiling_of machine.now) self.new (point_in machine.now.order point.now)) }
+        ensures least { (n : ℕ) → length self.old.digits ≤ n → n < length self.new.digits
+            → ¬ FrameHolds (tiling_of machine.now) (at_depth (tiling_of machine.now) n self.old) (point_in machine.now.order point.now) }
+
+        // It is refused exactly where a value looked at is, and with the first such value.
+        ensures found_exactly { IsOk result ↔ (first_refused_outward (tiling_of machine.now) self.old (point_in machine.now.order point.now) ≡ None) }
+        ensures limit { IfErr result (λ limit. first_refused_outward (tiling_of machine.now) self.old (point_in machine.now.order point.now)
+            ≡ Some (point_in machine.now.order limit.value)) }
+        ensures limit_in_order { IfErr result (λ limit. IsOf machine.now.order limit.value) }
+    {
+        ancestor_law(machine.checked().order());
+        let mut ancestor = Ancestor::base();
+        loop {
+            if self.is_inside(machine, &ancestor, point)? {
+                return self.tile_in(machine, &ancestor, point);
+            }
+            ancestor = self.next_out(machine, &ancestor)?;
+        }
+    }
+
+    /// Whether an ancestor of the base holds a point, or the first of its vertices that is refused.
+    fn is_inside(
+        &self,
+        machine: &Machine,
+        ancestor: &Ancestor,
+        point: &Point,
+    ) -> Result<bool, CoordLimit>
+        requires frame { IsFrameOf (tiling_of machine.now) self.now }
+        requires deep { ancestor.now.level ≤ length self.now.digits }
+        requires ancestor { IsAncestor (tiling_of machine.now) (full (tiling_of machine.now) self.now) ancestor.now }
+        requires point_within { IsWithin (2 ^ 22) point.now }
+        ensures holds { IfOk result (λ holds. ancestor_holds (points_of machine.now.order) (rule_of machine.now) (full (tiling_of machine.now) self.now) ancestor.now.level
+            (point_in machine.now.order point.now) ≡ holds) }
+        ensures none_refused { IfOk result (λ _. find (is_refused machine.now.order)
+            (vertices_of_ancestor (tiling_of machine.now) (full (tiling_of machine.now) self.now) ancestor.now.level) ≡ None) }
+        ensures limit { IfErr result (λ limit. find (is_refused machine.now.order)
+            (vertices_of_ancestor (tiling_of machine.now) (full (tiling_of machine.now) self.now) ancestor.now.level) ≡ Some (point_in machine.now.order limit.value)) }
+        ensures limit_in_order { IfErr result (λ limit. IsOf machine.now.order limit.value) }
+    {
+        let order = machine.checked().order();
+        let kind = self.kind_of(machine, ancestor.level);
+        let corners = machine.outline(kind, &ancestor.power, &ancestor.motion)?;
+        Ok(member(order, corners.as_slice(), point))
+    }
+
+    /// The tile that holds a point in an ancestor of the base that holds it, as a tile of the frame.
+    fn tile_in(
+        &self,
+        machine: &Machine,
+        ancestor: &Ancestor,
+        point: &Point,
+    ) -> Result<PlacedTile, CoordLimit>
+        requires frame { IsFrameOf (tiling_of machine.now) self.now }
+        requires deep { ancestor.now.level ≤ length self.now.digits }
+        requires ancestor { IsAncestor (tiling_of machine.now) (full (tiling_of machine.now) self.now) ancestor.now }
+        requires point_within { IsWithin (2 ^ 22) point.now }
+        requires holds { ancestor_holds (points_of machine.now.order) (rule_of machine.now) (full (tiling_of machine.now) self.now) ancestor.now.level
+            (point_in machine.now.order point.now) ≡ true }
+        ensures only_tile { IfOk result (λ tile. IsOnlyHolder (tiling_of machine.now) self.now (point_in machine.now.order point.now) (placed_in machine.now.order tile)) }
+        ensures stands { IfOk result (λ tile. Stands (tiling_of machine.now) self.now tile) }
+        ensures shift_within { IfOk result (λ tile. IsWithin (2 ^ 24) tile.motion.shift) }
+        ensures held { OnOk result (FrameHolds (tiling_of machine.now) self.now (point_in machine.now.order point.now)) }
+        ensures none_refused { IfOk result (λ _. find (is_refused machine.now.order)
+            (values_in (tiling_of machine.now) (full (tiling_of machine.now) self.now) (point_in machine.now.order point.now) ancestor.now.level) ≡ None) }
+        ensures limit { IfErr result (λ limit. find (is_refused machine.now.order)
+            (values_in (tiling_of machine.now) (full (tiling_of machine.now) self.now) (point_in machine.now.order point.now) ancestor.now.level)
+            ≡ Some (point_in machine.now.order limit.value)) }
+        ensures limit_in_order { IfErr result (λ limit. IsOf machine.now.order limit.value) }
+    {
+        let order = machine.checked().order();
+        points_law(order);
+        dissection_law(order);
+        found_tile_law(order);
+        let kind = self.kind_of(machine, ancestor.level);
+        match machine.locate(kind, ancestor.level, &ancestor.motion, point) {
+            Ok(mut tile) => {
+                self.raise(&mut tile.addr);
+                Ok(tile)
+            }
+            Err(LocateFault::CoordLimit { value }) => Err(CoordLimit { value }),
+            Err(LocateFault::NotInside) => unreachable!(),
+        }
+    }
+}
