@@ -25,7 +25,7 @@ use std::marker::Model;
 use std::sync::ledger::Ledger;
 use tile_shape::address::Address;
 use tile_shape::no_memory::NoMemory;
-use transducer_core::crossing::Crossing;
+use transducer_core::crossing::{Crossing, put_digits};
 use transducer_core::outside::Outside;
 use transducer_core::transducer::Transducer;
 
@@ -119,7 +119,8 @@ impl Machine {
 
         ensures steps_within_bound { steps.new ≤ steps.old + (2 * depth (address_of addr.now) + 2) }
     {
-        let mut there = addr.copy();
+        let mut there = Address::new(addr.kind);
+        put_digits(&mut there, addr);
         match self.cross_in_place(&mut there, edge, steps) {
             Ok(back) => Ok(Crossing {
                 addr: there,

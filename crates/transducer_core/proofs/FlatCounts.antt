@@ -1,5 +1,5 @@
 -- The blocks of tables, as they are written and counted.
-use Rattle.std.proofs.Common.{◌≡◌, ℕ, ◌≤◌, ◌<◌, List, [], ◌∷◌, length, map, reverse, Some, refl, sym, ap, ◌∙◌, arith, Vec, Global}
+use Rattle.std.proofs.Common.{◌≡◌, ℕ, ◌*◌, ◌≤◌, ◌<◌, List, [], ◌∷◌, length, map, reverse, Some, refl, sym, ap, ◌∙◌, arith, Vec, Global}
 use Rattle.std.specs.List.{slice_get, AllByRecursion}
 use Rattle.std.proofs.lemmas.List.{length-map, length-reverse}
 use Rattle.std.proofs.lemmas.Option.{slice_get_within}
@@ -10,11 +10,12 @@ use Rattle.edge_tables.specs.Views.{as_contact, as_child_edge, as_kind_tables}
 use Rattle.addressing.specs.Coherent.{IsCoherent}
 use Rattle.addressing.specs.Contact.{Contact, ChildEdge}
 use Rattle.addressing.specs.Search.{IsAmong}
-use Rattle.addressing.specs.Tables.{Tables, KindTables, kind_tables, part_count}
+use Rattle.addressing.specs.Tables.{Tables, KindTables, kind_tables, child_kinds, part_count}
 use Rattle.addressing.proofs.Lists.{AllByRecursion-from, IsAmong-map}
 use Rattle.addressing.proofs.Ranges.{among-place, image-at, among-flat_map}
 use Rattle.addressing.proofs.TableBounds.{some_within, part_count-within}
 use Rattle.transducer_core.specs.Blocks.{contact_blocks, part_blocks}
+use Rattle.transducer_core.specs.FlatTables.{kind_rows}
 use Rattle.transducer_core.specs.Merged.{IsMerged}
 use Rattle.transducer_core.specs.Merging.{as_lists, AreShort, AreSmall}
 use Rattle.transducer_core.specs.Once.{AreOnce, HasDifferent}
@@ -48,13 +49,18 @@ written_children [] = refl
 written_children (r ∷ rows) = ap (λ l. r.children.items ∷ l) (written_children rows)
 
 -- ---- they are few and short
-pub short_children : (t : Tables) (lists : Vec (Vec ℕ Global) Global) → IsCoherent t → as_lists lists ≡ map (λ (k : KindTables). k.children) t.kinds → AllByRecursion (λ row. length row.items ≤ 256) lists.items
+pub scaled : (vs : List (Vec ℕ Global)) → map (λ v. map (λ n. 256 * n) v.items) vs ≡ map (map (λ n. 256 * n)) (map (λ v. v.items) vs)
+scaled [] = refl
+scaled (v ∷ vs) = ap (λ l. map (λ n. 256 * n) v.items ∷ l) (scaled vs)
+
+pub short_children : (t : Tables) (lists : Vec (Vec ℕ Global) Global) → IsCoherent t → as_lists lists ≡ kind_rows t → AllByRecursion (λ row. length row.items ≤ 256) lists.items
 short_children t lists coherent are = AllByRecursion-from (λ row. length row.items ≤ 256) lists.items (λ x i.
     let place = among-place x.items (as_lists lists) (IsAmong-map (λ v. v.items) x lists.items i) in
-    let at : slice_get (map (λ (k : KindTables). k.children) t.kinds) place.0 ≡ Some x.items = rw (← are) place.1 in
-    let row = image-at (λ (k : KindTables). k.children) x.items t.kinds place.0 at in
+    let at : slice_get (kind_rows t) place.0 ≡ Some x.items = rw (← are) place.1 in
+    let scaled = image-at (map (λ n. 256 * n)) x.items (child_kinds t) place.0 at in
+    let row = image-at (λ (k : KindTables). k.children) scaled.source t.kinds place.0 scaled.at in
     let same = kind_is t place.0 row.source row.at in
-    omega (arith, coherent.at_most_16_children place.0 (slice_get_within t.kinds place.0 row.source row.at), ap (λ (k : KindTables). length k.children) same, ap (λ l. length l) row.image))
+    omega (arith, coherent.at_most_16_children place.0 (slice_get_within t.kinds place.0 row.source row.at), ap (λ (k : KindTables). length k.children) same, ap (λ l. length l) row.image, ap (λ l. length l) scaled.image, length-map scaled.source (λ n. 256 * n)))
 
 block_length : (t : Tables) (k c : ℕ) (block : List Contact) → IsCoherent t → k < length t.kinds → slice_get (kind_tables t k).contacts c ≡ Some block → length block ≤ 16
 block_length t k c block coherent inside is =

@@ -1,5 +1,5 @@
 -- What the flat lists of tables hold where they are looked up.
-use Rattle.std.proofs.Common.{◌≡◌, ℕ, ◌+◌, ◌*◌, ◌-◌, ◌<◌, ◌/◌, ◌%◌, List, ◌++◌, length, map, reverse, get_or, Some, IsSome, true, false, nat_lt, Vec, Global, refl, sym, ap, ◌∙◌, arith}
+use Rattle.std.proofs.Common.{◌≡◌, ℕ, ◌+◌, ◌*◌, ◌-◌, ◌<◌, ◌≤◌, ◌/◌, ◌%◌, ◌^◌, List, ◌++◌, length, map, reverse, get_or, Some, IsSome, true, false, nat_lt, refl, sym, ap, ◌∙◌, arith}
 use Rattle.std.specs.List.{slice_get}
 use Rattle.std.proofs.lemmas.Bool.{le-ltb, lt-ltb}
 use Rattle.std.proofs.lemmas.Option.{slice_get_within, slice_get-get_or, get_or_from_slice_get}
@@ -9,9 +9,8 @@ use Rattle.addressing.specs.Contact.{Contact, ChildEdge, inner, outer}
 use Rattle.addressing.specs.Tables.{Tables, KindTables, kind_tables, child_kinds, type_of, child_kind_of, contacts_of, parts_of, contact_of, part_of, part_count}
 use Rattle.addressing.proofs.Ranges.{slice_get-append_left, slice_get-image}
 use Rattle.addressing.proofs.TableBounds.{some_within, contact_bounds, part_bounds, child_bounds, type_bounds, part_count-within, some_of, part_there}
-use Rattle.transducer_core.specs.declared.merging.Merged.{Merged}
-use Rattle.transducer_core.specs.FlatTables.{IsFlat}
-use Rattle.transducer_core.specs.Merged.{Stands, IsMerged, HasEntry, AreSpread}
+use Rattle.transducer_core.specs.FlatTables.{contact_rows, part_rows, kind_rows}
+use Rattle.transducer_core.specs.Merged.{Stands, AllBegin, HasEntry, AreSpread}
 use Rattle.transducer_core.specs.Words.{word_of_contact, contact_of_word, word_of_part, part_of_word, contact_words, part_words}
 use Rattle.transducer_core.proofs.Strides.{slice_get-append_right}
 
@@ -33,21 +32,21 @@ stands_entry : (words : List ℕ) (s : ℕ) (block : List ℕ) (e w : ℕ) → S
 stands_entry words s block e w h is =
     rw (h.words_are, h.start_is) (slice_get-append_right h.front (block ++ h.rest) e ∙ slice_get-append_left block h.rest e (slice_get_within block e w is) ∙ is)
 
-pub same_entry : {starts words : List ℕ} {k c place w v : ℕ} → HasEntry starts words k c place w → HasEntry starts words k c place v → w ≡ v
-same_entry {starts} {words} {k} {c} {place} {w} {v} a b =
+pub same_entry : {starts words : List ℕ} {at place w v : ℕ} → HasEntry starts words at place w → HasEntry starts words at place v → w ≡ v
+same_entry {starts} {words} {at} {place} {w} {v} a b =
     let two : Some a.start ≡ Some b.start = sym a.start_at ∙ b.start_at in
     let one : a.start ≡ b.start = cc in
     let both : Some w ≡ Some v = sym a.word_at ∙ ap (λ s. slice_get words (s + place)) one ∙ b.word_at in
     cc
 
-pub has_contact : (t : Tables) (k c e : ℕ) (x : Contact) (starts words : List ℕ) (count : ℕ) → IsMerged (map (λ (r : KindTables). map contact_words r.contacts) t.kinds) starts words count
-    → contact_of t k c e ≡ Some x → HasEntry starts words k c e (word_of_contact x)
+pub has_contact : (t : Tables) (k c e : ℕ) (x : Contact) (starts words : List ℕ) → AllBegin (contact_rows t) starts words
+    → contact_of t k c e ≡ Some x → HasEntry starts words (256 * k + c) e (word_of_contact x)
 unfolding contact_of
-has_contact t k c e x starts words count h is =
+has_contact t k c e x starts words h is =
     let bounds = contact_bounds t k c e (rw is refl) in
     let row = slice_get-image (λ (r : KindTables). map contact_words r.contacts) (kind_tables t k) t.kinds k (kind_at t k bounds.0) in
     let block = slice_get-image contact_words (contacts_of t k c) (kind_tables t k).contacts c (contacts_at t k c bounds.1) in
-    let b = h.begins k c (map contact_words (kind_tables t k).contacts) (contact_words (contacts_of t k c)) row block in
+    let b = h k c (map contact_words (kind_tables t k).contacts) (contact_words (contacts_of t k c)) row block in
     record { start = b.start; start_at = b.start_at; word_at = stands_entry words b.start (contact_words (contacts_of t k c)) e (word_of_contact x) b.stands (slice_get-image word_of_contact x (contacts_of t k c) e is) }
 
 reversed : {A : Type 0} (xs : List A) (own p : ℕ) (x : A) → own + (p + 1) ≡ length xs → slice_get xs own ≡ Some x → slice_get (reverse xs) p ≡ Some x
@@ -57,23 +56,25 @@ reversed xs own p x count is =
     let place : length xs - 1 - p ≡ own = omega arith in
     there ∙ ap Some (get_or-reverse xs p x inside ∙ ap (λ i. get_or xs i x) place ∙ get_or_from_slice_get xs own x x is)
 
-pub has_part : (t : Tables) (k e own p : ℕ) (x : ChildEdge) (starts words : List ℕ) (count : ℕ) → IsMerged (map (λ (r : KindTables). map part_words r.parts) t.kinds) starts words count
-    → part_of t k e own ≡ Some x → own + (p + 1) ≡ part_count t k e → HasEntry starts words k e p (word_of_part x)
+pub has_part : (t : Tables) (k e own p : ℕ) (x : ChildEdge) (starts words : List ℕ) → AllBegin (part_rows t) starts words
+    → part_of t k e own ≡ Some x → own + (p + 1) ≡ part_count t k e → HasEntry starts words (256 * k + e) p (word_of_part x)
 unfolding part_of part_count
-has_part t k e own p x starts words count h is mirrored =
+has_part t k e own p x starts words h is mirrored =
     let bounds = part_bounds t k e own (rw is refl) in
     let row = slice_get-image (λ (r : KindTables). map part_words r.parts) (kind_tables t k) t.kinds k (kind_at t k bounds.0) in
     let block = slice_get-image part_words (parts_of t k e) (kind_tables t k).parts e (parts_at t k e bounds.1) in
-    let b = h.begins k e (map part_words (kind_tables t k).parts) (part_words (parts_of t k e)) row block in
+    let b = h k e (map part_words (kind_tables t k).parts) (part_words (parts_of t k e)) row block in
     let entry = reversed (map word_of_part (parts_of t k e)) own p (word_of_part x) (mirrored ∙ sym (length-map (parts_of t k e) word_of_part)) (slice_get-image word_of_part x (parts_of t k e) own is) in
     record { start = b.start; start_at = b.start_at; word_at = stands_entry words b.start (part_words (parts_of t k e)) p (word_of_part x) b.stands entry }
 
--- the kind of a child
-pub has_kind : (t : Tables) (k c kind : ℕ) (kinds : List ℕ) → AreSpread (child_kinds t) kinds → child_kind_of t k c ≡ Some kind → slice_get kinds (256 * k + c) ≡ Some kind
+-- 256 times the kind of a child
+pub has_kind : (t : Tables) (k c kind : ℕ) (kinds : List ℕ) → AreSpread (kind_rows t) kinds → child_kind_of t k c ≡ Some kind → slice_get kinds (256 * k + c) ≡ Some (256 * kind)
 unfolding child_kind_of
 has_kind t k c kind kinds h is =
     let bounds = child_bounds t k c (rw is refl) in
-    h k c (kind_tables t k).children kind (slice_get-image (λ (r : KindTables). r.children) (kind_tables t k) t.kinds k (kind_at t k bounds.0)) is
+    let row = slice_get-image (λ (r : KindTables). r.children) (kind_tables t k) t.kinds k (kind_at t k bounds.0) in
+    h k c (map (λ n. 256 * n) (kind_tables t k).children) (256 * kind) (slice_get-image (map (λ n. 256 * n)) (kind_tables t k).children (child_kinds t) k row)
+    (slice_get-image (λ n. 256 * n) kind (kind_tables t k).children c is)
 
 -- ---- words stand for one entry
 low : (e c : ℕ) → c < 256 → (e * 256 + c) % 256 ≡ c
@@ -140,42 +141,87 @@ part_entry_back t k e p x coherent is =
     part_back x s.0 s.1
 
 -- ---- the look-ups in tables that are laid out right
-module _ (t : Tables) (kinds : Vec ℕ Global) (contacts parts : Merged) (flat : IsFlat t kinds contacts parts) where
-  pub contact_there : (k c e : ℕ) → IsSome (contact_of t k c e) → (w : ℕ) × HasEntry contacts.starts.items contacts.words.items k c e w
+module _ (t : Tables) (starts words : List ℕ) (coherent : IsCoherent t) (begin : AllBegin (contact_rows t) starts words) where
+  pub contact_there : (k c e : ℕ) → IsSome (contact_of t k c e) → (w : ℕ) × HasEntry starts words (256 * k + c) e w
   contact_there k c e h =
       let x = some_of (contact_of t k c e) h in
-      (word_of_contact x.0, has_contact t k c e x.0 contacts.starts.items contacts.words.items contacts.count flat.contacts_at x.1)
+      (word_of_contact x.0, has_contact t k c e x.0 starts words begin x.1)
 
-  pub contact_read : (k c e w : ℕ) (y : Contact) → IsSome (contact_of t k c e) → HasEntry contacts.starts.items contacts.words.items k c e w → y ≡ contact_of_word w → contact_of t k c e ≡ Some y
+  -- the word that is read is that of the contact
+  pub contact_word : (k c e w : ℕ) (x : Contact) → contact_of t k c e ≡ Some x → HasEntry starts words (256 * k + c) e w → w ≡ word_of_contact x
+  contact_word k c e w x is entry = same_entry entry (has_contact t k c e x starts words begin is)
+
+  pub contact_read : (k c e w : ℕ) (y : Contact) → IsSome (contact_of t k c e) → HasEntry starts words (256 * k + c) e w → y ≡ contact_of_word w → contact_of t k c e ≡ Some y
   contact_read k c e w y h entry is =
       let x = some_of (contact_of t k c e) h in
-      let same = same_entry entry (has_contact t k c e x.0 contacts.starts.items contacts.words.items contacts.count flat.contacts_at x.1) in
-      x.1 ∙ ap Some (sym (is ∙ ap contact_of_word same ∙ contact_back t k c e x.0 flat.coherent x.1))
+      x.1 ∙ ap Some (sym (is ∙ ap contact_of_word (contact_word k c e w x.0 x.1 entry) ∙ contact_back t k c e x.0 coherent x.1))
 
-  pub part_across_there : (k e p : ℕ) → p < part_count t k e → (w : ℕ) × HasEntry parts.starts.items parts.words.items k e p w
+  -- below 2 ^ 16 it is outer, and else inner
+  pub outer_read : (k c e w : ℕ) → IsSome (contact_of t k c e) → HasEntry starts words (256 * k + c) e w → w < 2 ^ 16 → contact_of t k c e ≡ Some (outer (w / 256) (w % 256))
+  outer_read k c e w h entry below =
+      let x = some_of (contact_of t k c e) h in
+      x.1 ∙ ap Some (as_outer x.0 x.1 (contact_word k c e w x.0 x.1 entry))
+    where
+      as_outer : (x : Contact) → contact_of t k c e ≡ Some x → w ≡ word_of_contact x → x ≡ outer (w / 256) (w % 256)
+      as_outer (inner b f) is word = absurd (omega arith)
+      as_outer (outer f p) is word =
+          let s = outer_small t k c e f p coherent is in
+          let edge : f ≡ w / 256 = omega arith in
+          let part : p ≡ w % 256 = omega arith in
+          λ i. outer (edge i) (part i)
+
+  pub inner_read : (k c e w : ℕ) → IsSome (contact_of t k c e) → HasEntry starts words (256 * k + c) e w → 2 ^ 16 ≤ w → contact_of t k c e ≡ Some (inner (w % 256) (w / 256 % 256))
+  inner_read k c e w h entry above =
+      let x = some_of (contact_of t k c e) h in
+      x.1 ∙ ap Some (as_inner x.0 x.1 (contact_word k c e w x.0 x.1 entry))
+    where
+      as_inner : (x : Contact) → contact_of t k c e ≡ Some x → w ≡ word_of_contact x → x ≡ inner (w % 256) (w / 256 % 256)
+      as_inner (outer f p) is word = let s = outer_small t k c e f p coherent is in absurd (omega arith)
+      as_inner (inner b f) is word =
+          let s = small t k b f coherent (rw (coherent.points_back k c e b f is) refl) in
+          let child : b ≡ w % 256 = rw word (sym (low_top f b s.0)) in
+          let edge : f ≡ w / 256 % 256 = rw word (sym (high_top f b s.0 s.1)) in
+          λ i. inner (child i) (edge i)
+
+module _ (t : Tables) (starts words : List ℕ) (coherent : IsCoherent t) (begin : AllBegin (part_rows t) starts words) where
+  pub part_across_there : (k e p : ℕ) → p < part_count t k e → (w : ℕ) × HasEntry starts words (256 * k + e) p w
   part_across_there k e p inside =
       let own = part_count t k e - 1 - p in
       let mirrored : own + (p + 1) ≡ part_count t k e = omega arith in
       let x = some_of (part_of t k e own) (part_there t k e own (omega arith)) in
-      (word_of_part x.0, has_part t k e own p x.0 parts.starts.items parts.words.items parts.count flat.parts_at x.1 mirrored)
+      (word_of_part x.0, has_part t k e own p x.0 starts words begin x.1 mirrored)
 
-  pub part_across_read : (k e p w : ℕ) (y : ChildEdge) → HasEntry parts.starts.items parts.words.items k e p w → y ≡ part_of_word w → (own : ℕ) → own + (p + 1) ≡ part_count t k e → part_of t k e own ≡ Some y
+  pub part_across_read : (k e p w : ℕ) (y : ChildEdge) → HasEntry starts words (256 * k + e) p w → y ≡ part_of_word w → (own : ℕ) → own + (p + 1) ≡ part_count t k e → part_of t k e own ≡ Some y
   part_across_read k e p w y entry is own mirrored =
       let x = some_of (part_of t k e own) (part_there t k e own (omega arith)) in
-      let same = same_entry entry (has_part t k e own p x.0 parts.starts.items parts.words.items parts.count flat.parts_at x.1 mirrored) in
-      x.1 ∙ ap Some (sym (is ∙ ap part_of_word same ∙ part_entry_back t k e own x.0 flat.coherent x.1))
+      let same = same_entry entry (has_part t k e own p x.0 starts words begin x.1 mirrored) in
+      x.1 ∙ ap Some (sym (is ∙ ap part_of_word same ∙ part_entry_back t k e own x.0 coherent x.1))
 
-  pub kind_inside : (k c : ℕ) → IsSome (child_kind_of t k c) → 256 * k + c < length kinds.items
-  kind_inside k c h =
+  -- its word is small, so that its edge is what is left of it
+  pub part_across_edge : (k e p w : ℕ) → HasEntry starts words (256 * k + e) p w → (own : ℕ) → own + (p + 1) ≡ part_count t k e
+      → part_of t k e own ≡ Some (record { child = w % 256; edge = w / 256 })
+  part_across_edge k e p w entry own mirrored =
+      let x = some_of (part_of t k e own) (part_there t k e own (omega arith)) in
+      let same = same_entry entry (has_part t k e own p x.0 starts words begin x.1 mirrored) in
+      let s = small t k x.0.child x.0.edge coherent (rw ((coherent.outer_part k x.0.child x.0.edge e own).1 x.1) refl) in
+      let child : x.0.child ≡ w % 256 = omega (arith, same, s.0) in
+      let edge : x.0.edge ≡ w / 256 = omega (arith, same, s.0) in
+      x.1 ∙ (λ i. Some (record { child = child i; edge = edge i }))
+
+module _ (t : Tables) (kinds : List ℕ) (coherent : IsCoherent t) (spread : AreSpread (kind_rows t) kinds) where
+  -- 256 times a child's kind is read at its cell
+  pub kind_there : (k c : ℕ) → IsSome (child_kind_of t k c) → (row : ℕ) × (slice_get kinds (256 * k + c) ≡ Some row)
+  kind_there k c h =
       let x = some_of (child_kind_of t k c) h in
-      slice_get_within kinds.items (256 * k + c) x.0 (has_kind t k c x.0 kinds.items flat.kinds_at x.1)
+      (256 * x.0, has_kind t k c x.0 kinds spread x.1)
 
-  pub kind_read : (k c x : ℕ) → IsSome (child_kind_of t k c) → x ≡ get_or kinds.items (256 * k + c) x → (child_kind_of t k c ≡ Some x) × (x < 256)
-  kind_read k c x h is =
-      let y = some_of (child_kind_of t k c) h in
-      let here = get_or_from_slice_get kinds.items (256 * k + c) y.0 x (has_kind t k c y.0 kinds.items flat.kinds_at y.1) in
-      let same : x ≡ y.0 = is ∙ here in
-      (y.1 ∙ ap Some (sym same), omega (arith, same, flat.coherent.child_exists k c y.0 y.1, flat.coherent.at_most_16_kinds))
+  pub kind_read : (k c row : ℕ) → IsSome (child_kind_of t k c) → slice_get kinds (256 * k + c) ≡ Some row → (child_kind_of t k c ≡ Some (row / 256)) × (row ≡ 256 * (row / 256)) × (row / 256 < 16)
+  kind_read k c row h is =
+      let x = some_of (child_kind_of t k c) h in
+      let two : Some row ≡ Some (256 * x.0) = sym is ∙ has_kind t k c x.0 kinds spread x.1 in
+      let same : row ≡ 256 * x.0 = cc in
+      let kind : x.0 ≡ row / 256 = omega arith in
+      (x.1 ∙ ap Some kind, omega arith, omega (arith, kind, coherent.child_exists k c x.0 x.1, coherent.at_most_16_kinds))
 
 -- the edge of a part, and its number
 pub part_edge : (t : Tables) (k e p : ℕ) → IsCoherent t → IsSome (part_of t k e p) → IsSome (type_of t k e)

@@ -1,4 +1,6 @@
 mod Carried
+mod Climbs
+mod Falls
 mod FlatCounts
 mod FlatLooks
 mod FlatMade

@@ -1,5 +1,5 @@
 -- The climb, level by level, over plain variables.
-use Rattle.std.proofs.Common.{◌≡◌, ℕ, ◌+◌, ◌-◌, ◌<◌, List, [], ◌∷◌, ◌++◌, length, map, reverse, take, Some, IsSome, get_or, ap, ◌∙◌, arith, refl, length-append}
+use Rattle.std.proofs.Common.{◌≡◌, ℕ, ◌+◌, ◌*◌, ◌-◌, ◌<◌, ◌/◌, ◌%◌, List, [], ◌∷◌, ◌++◌, length, map, reverse, take, Some, IsSome, get_or, ap, ◌∙◌, arith, refl, length-append}
 use Rattle.std.specs.List.{slice_get}
 use Rattle.std.proofs.lemmas.Option.{slice_get-get_or, slice_get-map, get_or_from_slice_get, slice_get_within}
 use Rattle.std.proofs.lemmas.List.{take_more, map-append, reverse-reverse, get_or_at}
@@ -42,7 +42,7 @@ rises_of a h = record { cuts = reverse h.cuts; parts_are = rw (reverse-reverse h
 pub climbed_of : {t : Tables} {e level own : ℕ} {parts : List ℕ} (a : Address) → Rises t a e level own parts → Climbed t a.digits e level own parts
 climbed_of a h = record { cuts = reverse h.cuts; parts_are = h.parts_are; trace = lies_of h.trace }
 
-pub met_of : {t : Tables} {e : ℕ} {m : Meeting} {parts : List ℕ} (a : Address) → MeetsAt t a e m parts → MetAt t a.digits e m.level m.child m.edge parts
+pub met_of : {t : Tables} {e : ℕ} {m : Meeting} {parts : List ℕ} (a : Address) → MeetsAt t a e m parts → MetAt t a.digits e m.level (m.word % 256) (m.word / 256 % 256) parts
 met_of a h = record { own = h.own; step = h.step; climbs = climbed_of a h.rises; at = h.digit; met = h.met; count = h.count }
 
 -- the climb, as far as it has come
@@ -78,10 +78,10 @@ rise_more t k ds e i own parts s f p coherent fits r is met =
       edge = rw at.1 (coherent.outer_edge s.parent s.child own f p met);
     }
 
-pub rise_meets : (t : Tables) (k : ℕ) (ds : List Step) (e i own : ℕ) (parts : List ℕ) (s : Step) (b f : ℕ) → Rising t k ds e i own parts
-    → slice_get ds i ≡ Some s → contact_of t s.parent s.child own ≡ Some (inner b f) → MeetsAt t (record { kind = k; digits = ds }) e (record { level = i; child = b; edge = f }) parts
-rise_meets t k ds e i own parts s b f r is met =
-    record { own = own; step = s; rises = rises_of (record { kind = k; digits = ds }) r.climbs; digit = is; met = met; count = r.count }
+pub rise_meets : (t : Tables) (k : ℕ) (ds : List Step) (e i own : ℕ) (parts : List ℕ) (s : Step) (at word : ℕ) → at ≡ 256 * s.parent + s.child → Rising t k ds e i own parts
+    → slice_get ds i ≡ Some s → contact_of t s.parent s.child own ≡ Some (inner (word % 256) (word / 256 % 256)) → MeetsAt t (record { kind = k; digits = ds }) e (record { level = i; at = at; word = word }) parts
+rise_meets t k ds e i own parts s at word cell r is met =
+    record { own = own; step = s; rises = rises_of (record { kind = k; digits = ds }) r.climbs; digit = is; at_is = cell; met = met; count = r.count }
 
 pub rise_ends : (t : Tables) (k : ℕ) (ds : List Step) (e i own : ℕ) (parts : List ℕ) → Rising t k ds e i own parts → i ≡ length ds
     → Rises t (record { kind = k; digits = ds }) e (length ds) own parts

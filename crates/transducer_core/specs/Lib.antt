@@ -1,4 +1,5 @@
 pub mod Climbing
+pub mod Descending
 pub mod Once
 pub mod Blocks
 pub mod Words

@@ -23,17 +23,21 @@ pub record BeginsAt (words starts : List ℕ) (k c : ℕ) (block : List ℕ) : T
   pub start_at : slice_get starts (256 * k + c) ≡ Some start
   pub stands : Stands words start block
 
--- so do all, and equal ones are kept once
+-- so do all
+abbrev pub AllBegin : List (List (List ℕ)) → List ℕ → List ℕ → Type 0
+AllBegin rows starts words = (k c : ℕ) (row : List (List ℕ)) (block : List ℕ) → slice_get rows k ≡ Some row → slice_get row c ≡ Some block → BeginsAt words starts k c block
+
+-- and equal ones are kept once
 pub record IsMerged (rows : List (List (List ℕ))) (starts words : List ℕ) (count : ℕ) : Type 0 where
-  pub begins : (k c : ℕ) (row : List (List ℕ)) (block : List ℕ) → slice_get rows k ≡ Some row → slice_get row c ≡ Some block → BeginsAt words starts k c block
+  pub begins : AllBegin rows starts words
   pub once_each : IsOnceEach (flat_map (λ (row : List (List ℕ)). row) rows) words count
 
 -- number c of row k stands in the list at 256 k + c
 abbrev pub AreSpread : {A : Type 0} → List (List A) → List A → Type 0
 AreSpread {A} rows flat = (k c : ℕ) (row : List A) (x : A) → slice_get rows k ≡ Some row → slice_get row c ≡ Some x → slice_get flat (256 * k + c) ≡ Some x
 
--- the word at a place of block c of row k, found by where the block begins
-pub record HasEntry (starts words : List ℕ) (k c place word : ℕ) : Type 0 where
+-- the word at a place of a block, found by where the block begins, which stands at a cell
+pub record HasEntry (starts words : List ℕ) (cell place word : ℕ) : Type 0 where
   pub start : ℕ
-  pub start_at : slice_get starts (256 * k + c) ≡ Some start
+  pub start_at : slice_get starts cell ≡ Some start
   pub word_at : slice_get words (start + place) ≡ Some word

@@ -1,62 +1,89 @@
 //! The way up from an edge, to where it is another child's edge or to the top.
-ghost use Rattle.std.specs.Prelude.{◌≡◌, ◌+◌, ◌≤◌, [], length, IsSome};
+ghost use Rattle.std.specs.Prelude.{◌≡◌, ◌+◌, ◌*◌, ◌^◌, ◌<◌, ◌≤◌, ℕ, length, IsSome, IfOk, IfErr, OnOk};
 ghost use Rattle.addressing.specs.Address.{Fits};
 ghost use Rattle.addressing.specs.Coherent.{IsCoherent};
 ghost use Rattle.addressing.specs.Tables.{child_kinds, type_of};
 ghost use Rattle.tile_shape.specs.Views.{address_of};
-ghost use Rattle.transducer_core.specs.Climbing.{EndsClimb};
+ghost use Rattle.transducer_core.specs.Climbing.{EndsClimb, GoesUp};
+ghost use Rattle.transducer_core.specs.Merged.{HasEntry};
 
+use crate::blocks::Blocks;
 use crate::flat_table::FlatTable;
 use crate::spread::cell;
-use arrayvec::ArrayVec;
-use edge_tables::contact::Contact;
 use edge_tables::steps::Steps;
 use std::sync::ledger::Ledger;
 use tile_shape::address::Address;
+use tile_shape::step::Step;
 
-/// At this level the edge is also this edge of that other child.
+/// At this level the edge is also another child's: the cell of the digit there, and the word of the contact, which names that
+/// child and its edge.
 #[derive(Clone, Copy)]
 pub(crate) struct Meeting {
     pub(crate) level: usize,
-    pub(crate) child: u8,
-    pub(crate) edge: u8,
+    pub(crate) at: usize,
+    pub(crate) word: u32,
 }
 
-/// Where a climb ends: at a meeting, or on an edge of the top.
-pub(crate) enum Ending {
-    Met(Meeting),
-    Top(u8),
+/// One level up, from an edge to the parent's edge on which it lies; the number of its part there is kept. Err where it is
+/// another child's edge.
+#[inline]
+fn rise<L: Ledger>(
+    contacts: Blocks<'_>,
+    digit: Step,
+    level: usize,
+    own: usize,
+    parts: &mut [u8; 64],
+    steps: &mut Steps<L>,
+) -> Result<usize, Meeting>
+    requires level { level < 64 }
+    requires exists { (word : ℕ) × HasEntry contacts.starts.now contacts.words.now (256 * digit.parent + digit.child) own word }
+    ensures outer { IfOk result (λ next. (word : ℕ) × HasEntry contacts.entry.starts.now contacts.entry.words.now (256 * digit.parent + digit.child) own word
+        × GoesUp parts.old level word next parts.new) }
+    ensures inner { IfErr result (λ m. (m.level ≡ level) × (m.at ≡ 256 * digit.parent + digit.child)
+        × HasEntry contacts.entry.starts.now contacts.entry.words.now (256 * digit.parent + digit.child) own m.word × (2 ^ 16 ≤ m.word)) }
+    ensures unchanged { IfErr result (λ _. parts.new ≡ parts.old) }
+    ensures one_step { steps.new ≡ steps.old + 1 }
+{
+    let at = cell(digit.parent, digit.child);
+    let word = contacts.look_up(at, own, steps);
+    if word < 65536 {
+        parts[level] = (word % 256) as u8;
+        Ok((word / 256) as usize)
+    } else {
+        Err(Meeting { level, at, word })
+    }
 }
 
-/// Climbs from an edge to the first level where it meets another child's edge, or to the top. It keeps the number of the part
-/// in which the edge lies at each level on the way.
+/// Climbs from an edge to the top, and answers the top's edge on which it lies. Err at the first level where it is another
+/// child's edge. It keeps the number of the part in which the edge lies at each level on the way.
 pub(crate) fn climb<L: Ledger>(
     tables: &FlatTable,
     addr: &Address,
     edge: u8,
-    parts: &mut ArrayVec<u8, 64>,
+    parts: &mut [u8; 64],
     steps: &mut Steps<L>,
-) -> Ending
+) -> Result<u8, Meeting>
     requires coherent { IsCoherent tables.now }
     requires fits { Fits (child_kinds tables.now) (address_of addr.now) }
     requires edge_exists { IsSome (type_of tables.now addr.now.kind edge) }
-    requires empty { parts.old.items ≡ [] }
-    ensures ends { EndsClimb tables.now (address_of addr.now) edge parts.new.items result }
-    ensures a_part_a_level { length parts.new.items ≤ length addr.now.digits.items }
-    ensures a_step_a_part { steps.new ≤ steps.old + length parts.new.items + 1 }
+    ensures ends { EndsClimb tables.now (address_of addr.now) edge parts.new result }
+    ensures within { IfErr result (λ m. m.level < length addr.now.digits.items) }
+    ensures a_step_a_level { OnOk result (steps.new ≤ steps.old + length addr.now.digits.items) }
+    ensures a_step_more_where_it_meets { IfErr result (λ m. steps.new ≤ steps.old + m.level + 1) }
 {
+    let contacts = tables.contacts();
     let digits = addr.digits.as_slice();
-    let mut own = edge;
-    for level in 0..digits.len() {
-        let step = digits[level];
-        let at = cell(step.parent, step.child);
-        match tables.contact_at(at, own, steps) {
-            Contact::Inner { child, edge } => return Ending::Met(Meeting { level, child, edge }),
-            Contact::Outer { edge, part } => {
-                parts.push(part);
-                own = edge;
-            }
-        }
+    let depth = digits.len();
+    let mut own = usize::from(edge);
+    let mut level = 0usize;
+    if depth % 2 == 1 {
+        own = rise(contacts, digits[0], 0, own, parts, steps)?;
+        level = 1;
     }
-    Ending::Top(own)
+    while level < depth {
+        own = rise(contacts, digits[level], level, own, parts, steps)?;
+        own = rise(contacts, digits[level + 1], level + 1, own, parts, steps)?;
+        level += 2;
+    }
+    Ok(own as u8)
 }

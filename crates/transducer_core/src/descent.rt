@@ -1,37 +1,106 @@
 //! The way down on the other side of an edge.
-ghost use Rattle.std.specs.Prelude.{◌≡◌, ◌+◌, ◌<◌, ℕ, length, map, Some, IsSome, slice_set};
+ghost use Rattle.std.specs.Prelude.{◌≡◌, ◌+◌, ◌*◌, ◌/◌, ◌%◌, ◌^◌, ◌<◌, ℕ, length, map, Some, IsSome, slice_get};
 ghost use Rattle.addressing.specs.Address.{Fits};
 ghost use Rattle.addressing.specs.Coherent.{IsCoherent};
-ghost use Rattle.addressing.specs.Tables.{child_kinds, child_kind_of, type_of};
+ghost use Rattle.addressing.specs.Tables.{child_kinds, type_of};
 ghost use Rattle.addressing.specs.Touch.{Touches};
 ghost use Rattle.tile_shape.specs.Views.{address_of, step_of};
 ghost use Rattle.transducer_core.specs.Climbing.{MeetsAt};
+ghost use Rattle.transducer_core.specs.Descending.{GoesDown, StartsDown};
+ghost use Rattle.transducer_core.specs.Merged.{HasEntry};
 
+use crate::blocks::Blocks;
 use crate::climb::Meeting;
 use crate::flat_table::FlatTable;
-use arrayvec::ArrayVec;
+use crate::spread::{cell, digit_at};
+use crate::words::part_in;
 use edge_tables::steps::Steps;
 use std::sync::ledger::Ledger;
 use tile_shape::address::Address;
 use tile_shape::step::Step;
 
-/// Writes the digit at a level.
-fn set_digit(digits: &mut ArrayVec<Step, 64>, level: usize, step: Step)
-    requires { level < length digits.old.items }
-    ensures { digits.new.items ≡ slice_set digits.old.items level step }
-{
-    digits.as_mut_slice()[level] = step;
+/// An edge of a child on the way down: 256 times the child's kind, and the number of the edge.
+#[derive(Clone, Copy)]
+pub(crate) struct Side {
+    pub(crate) row: usize,
+    pub(crate) edge: usize,
 }
 
-/// Writes the digit at a level, and answers the kind of the child there.
-fn write_digit(tables: &FlatTable, digits: &mut ArrayVec<Step, 64>, level: usize, step: Step) -> u8
-    requires level { level < length digits.old.items }
-    requires child { IsSome (child_kind_of tables.now step.parent step.child) }
-    ensures kind { child_kind_of tables.now step.parent step.child ≡ Some result }
-    ensures digits { map step_of digits.new.items ≡ slice_set (map step_of digits.old.items) level (step_of step) }
+/// One level down, to the child's edge that is this part of an edge, counted from across. The digit there is written.
+#[inline]
+fn fall<L: Ledger>(
+    blocks: Blocks<'_>,
+    kinds: &[u16],
+    side: Side,
+    part: u8,
+    digit: &mut Step,
+    steps: &mut Steps<L>,
+) -> Side
+    requires { (word : ℕ) × (row : ℕ) × HasEntry blocks.starts.now blocks.words.now (side.row + side.edge) part word
+        × (slice_get kinds.now (side.row + word % 256) ≡ Some row) × (side.row + word % 256 < 2 ^ 16) }
+    ensures down { GoesDown blocks.entry.starts.now blocks.entry.words.now kinds.now side part digit.new result }
+    ensures one_step { steps.new ≡ steps.old + 1 }
 {
-    set_digit(digits, level, step);
-    tables.child_kind(step.parent, step.child)
+    let word = blocks.look_up(side.row + side.edge, usize::from(part), steps);
+    let at = side.row + (word % 256) as usize;
+    *digit = digit_at(at);
+    Side {
+        row: usize::from(kinds[at]),
+        edge: (word / 256) as usize,
+    }
+}
+
+/// Writes the digits from a meeting down along the mirrored parts, and answers the side at which it ends.
+fn write_down<L: Ledger>(
+    tables: &FlatTable,
+    digits: &mut [Step],
+    meeting: Meeting,
+    parts: &[u8],
+    steps: &mut Steps<L>,
+) -> Side
+    requires coherent { IsCoherent tables.now }
+    requires met { (kind : ℕ) × (e : ℕ) × StartsDown tables.now (record { kind = kind; digits = map step_of digits.old }) e meeting parts.now }
+    ensures touches { (kind e : ℕ) → StartsDown tables.now (record { kind = kind; digits = map step_of digits.old }) e meeting parts.now
+        → Touches tables.now (record { kind = kind; digits = map step_of digits.old }) e (record { kind = result.row / 256; digits = map step_of digits.new }) result.edge }
+    ensures fits { Fits (child_kinds tables.now) (record { kind = result.row / 256; digits = map step_of digits.new }) }
+    ensures edge_exists { IsSome (type_of tables.now (result.row / 256) result.edge) }
+    ensures a_step_a_level { steps.new ≡ steps.old + meeting.level }
+{
+    let blocks = tables.parts();
+    let kinds = tables.child_kinds();
+    let met = part_in(meeting.word);
+    let child = met.child;
+    let parent = (meeting.at / 256) as u8;
+    digits[meeting.level] = Step { child, parent };
+    let mut side = Side {
+        row: usize::from(kinds[cell(parent, child)]),
+        edge: usize::from(met.edge),
+    };
+    let mut level = meeting.level;
+    if level % 2 == 1 {
+        level -= 1;
+        side = fall(blocks, kinds, side, parts[level], &mut digits[level], steps);
+    }
+    while level > 0 {
+        side = fall(
+            blocks,
+            kinds,
+            side,
+            parts[level - 1],
+            &mut digits[level - 1],
+            steps,
+        );
+        side = fall(
+            blocks,
+            kinds,
+            side,
+            parts[level - 2],
+            &mut digits[level - 2],
+            steps,
+        );
+        level -= 2;
+    }
+    side
 }
 
 /// Descends from a meeting along the mirrored parts. The address becomes that of the tile across, and the answer is its edge.
@@ -43,31 +112,13 @@ pub(crate) fn descend<L: Ledger>(
     steps: &mut Steps<L>,
 ) -> u8
     requires coherent { IsCoherent tables.now }
-    requires fits { Fits (child_kinds tables.now) (address_of addr.old) }
-    requires met { (e : ℕ) × IsSome (type_of tables.now addr.old.kind e) × MeetsAt tables.now (address_of addr.old) e meeting parts.now }
-    ensures touches { (e : ℕ) → IsSome (type_of tables.now addr.old.kind e) → MeetsAt tables.now (address_of addr.old) e meeting parts.now → Touches tables.now (address_of addr.old) e (address_of addr.new) result }
+    requires met { (e : ℕ) × StartsDown tables.now (address_of addr.old) e meeting parts.now }
+    ensures touches { (e : ℕ) → StartsDown tables.now (address_of addr.old) e meeting parts.now → Touches tables.now (address_of addr.old) e (address_of addr.new) result }
     ensures fits { Fits (child_kinds tables.now) (address_of addr.new) }
     ensures edge_exists { IsSome (type_of tables.now addr.new.kind result) }
     ensures a_step_a_level { steps.new ≡ steps.old + meeting.level }
 {
-    let parent = addr.digits.as_slice()[meeting.level].parent;
-    let child = meeting.child;
-    let mut kind = write_digit(
-        tables,
-        &mut addr.digits,
-        meeting.level,
-        Step { child, parent },
-    );
-    let mut edge = meeting.edge;
-    let mut level = meeting.level;
-    while level > 0 {
-        level -= 1;
-        let parent = kind;
-        let below = tables.part_across(parent, edge, parts[level], steps);
-        let child = below.child;
-        kind = write_digit(tables, &mut addr.digits, level, Step { child, parent });
-        edge = below.edge;
-    }
-    addr.kind = kind;
-    edge
+    let side = write_down(tables, addr.digits.as_mut_slice(), meeting, parts, steps);
+    addr.kind = (side.row / 256) as u8;
+    side.edge as u8
 }

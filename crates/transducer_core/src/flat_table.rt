@@ -1,15 +1,18 @@
 //! Contact tables in flat lists, and the look-ups in them.
-ghost use Rattle.std.specs.Prelude.{◌≡◌, ◌+◌, ◌*◌, ◌<◌, ℕ, Some, IsSome, IfOk};
+ghost use Rattle.std.specs.Prelude.{◌≡◌, ◌+◌, Some, IsSome, IfOk};
 ghost use Rattle.addressing.specs.Coherent.{IsCoherent};
-ghost use Rattle.addressing.specs.Tables.{type_of, child_kind_of, contact_of, part_of, part_count};
+ghost use Rattle.addressing.specs.Tables.{type_of, contact_of, part_of, part_count};
 ghost use Rattle.edge_tables.specs.Views.{as_contact, as_child_edge};
 ghost use Rattle.transducer_core.specs.Blocks.{contact_blocks, part_blocks};
+ghost use Rattle.transducer_core.specs.FlatTables.{contact_rows, part_rows, kind_rows};
+ghost use Rattle.transducer_core.specs.Merged.{AllBegin, AreSpread};
 ghost use Rattle.transducer_core.specs.Once.{HasDifferent};
 
+use crate::blocks::Blocks;
 use crate::merging::{Merged, merge};
 use crate::mirror::mirror;
 use crate::spread::{cell, spread};
-use crate::table_lists::{children, contact_rows, part_rows, types, wide_lists};
+use crate::table_lists::{children, contact_rows, part_rows, scaled_lists, types};
 use crate::words::{contact_in, part_in};
 use edge_tables::child_edge::ChildEdge;
 use edge_tables::contact::Contact;
@@ -55,7 +58,7 @@ impl FlatTable {
     {
         let rows = tables.rows();
         let children = children(alloc, rows)?;
-        let child_kinds = spread(alloc, &wide_lists(alloc, &children)?)?;
+        let child_kinds = spread(alloc, &scaled_lists(alloc, &children)?)?;
         let contacts = merge(alloc, &contact_rows(alloc, rows)?)?;
         let parts = merge(alloc, &part_rows(alloc, rows)?)?;
         Ok(FlatTable {
@@ -75,17 +78,9 @@ impl FlatTable {
         ensures value { contact_of self.now kind child edge ≡ Some (as_contact result) }
         ensures one_step { steps.new ≡ steps.old + 1 }
     {
-        self.contact_at(cell(kind, child), edge, steps)
-    }
-
-    /// What an edge is of the child whose block begins as this cell says. It takes one step.
-    pub(crate) fn contact_at<L: Ledger>(&self, at: usize, edge: u8, steps: &mut Steps<L>) -> Contact
-        requires exists { (kind : ℕ) × (child : ℕ) × (at ≡ 256 * kind + child) × IsSome (contact_of self.now kind child edge) }
-        ensures value { (kind child : ℕ) → at ≡ 256 * kind + child → IsSome (contact_of self.now kind child edge) → contact_of self.now kind child edge ≡ Some (as_contact result) }
-        ensures one_step { steps.new ≡ steps.old + 1 }
-    {
-        steps.tick();
-        contact_in(self.contacts.entry(at, edge))
+        self.coherent();
+        let contacts = self.contacts();
+        contact_in(contacts.look_up(cell(kind, child), usize::from(edge), steps))
     }
 
     /// The child edge that is a part of an edge. It takes one step.
@@ -95,24 +90,30 @@ impl FlatTable {
         ensures one_step { steps.new ≡ steps.old + 1 }
     {
         self.coherent();
-        let count = self.part_count(kind, edge);
-        self.part_across(kind, edge, mirror(count, part), steps)
+        let across = mirror(self.part_count(kind, edge), part);
+        let parts = self.parts();
+        part_in(parts.look_up(cell(kind, edge), usize::from(across), steps))
     }
 
-    /// The child edge of an edge that meets the part of this number of the edge on the other side. It takes one step.
-    pub(crate) fn part_across<L: Ledger>(
-        &self,
-        kind: u8,
-        edge: u8,
-        part: u8,
-        steps: &mut Steps<L>,
-    ) -> ChildEdge
-        requires inside { part < part_count self.now kind edge }
-        ensures value { (own : ℕ) → own + (part + 1) ≡ part_count self.now kind edge → part_of self.now kind edge own ≡ Some (as_child_edge result) }
-        ensures one_step { steps.new ≡ steps.old + 1 }
+    /// The contact blocks.
+    pub(crate) fn contacts(&self) -> Blocks<'_>
+        ensures { AllBegin (contact_rows self.now) result.starts.now result.words.now }
     {
-        steps.tick();
-        part_in(self.parts.entry(cell(kind, edge), part))
+        self.contacts.blocks()
+    }
+
+    /// The part blocks, each backwards, so that its entries stand as the opposite edge numbers its own parts.
+    pub(crate) fn parts(&self) -> Blocks<'_>
+        ensures { AllBegin (part_rows self.now) result.starts.now result.words.now }
+    {
+        self.parts.blocks()
+    }
+
+    /// 256 times the kind of each child, at its cell.
+    pub(crate) fn child_kinds(&self) -> &[u16]
+        ensures { AreSpread (kind_rows self.now) result.now }
+    {
+        self.child_kinds.as_slice()
     }
 
     /// Into how many parts an edge is cut: as many as its type.
@@ -123,14 +124,6 @@ impl FlatTable {
         let types = &self.types[kind as usize];
         let ty = types[edge as usize];
         self.subs[ty as usize].len() as u8
-    }
-
-    /// The kind of a child.
-    pub(crate) fn child_kind(&self, kind: u8, child: u8) -> u8
-        requires exists { IsSome (child_kind_of self.now kind child) }
-        ensures { child_kind_of self.now kind child ≡ Some result }
-    {
-        self.child_kinds[cell(kind, child)] as u8
     }
 
     /// How many different contact blocks there are.

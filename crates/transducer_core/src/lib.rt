@@ -5,6 +5,7 @@
 //! level and two more; that the way back leads back; and the supertile's own edge exactly where the edge lies on it.
 #![tactic(auto)]
 
+mod blocks;
 mod climb;
 pub mod crossing;
 mod descent;

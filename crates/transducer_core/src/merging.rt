@@ -1,10 +1,11 @@
 //! Blocks of words put one behind the other, equal ones once.
-ghost use Rattle.std.specs.Prelude.{◌≡◌, ◌↔◌, ◌+◌, ◌*◌, ◌^◌, ◌<◌, ◌≤◌, ℕ, true, List, [], ◌∷◌, ◌++◌, length, OnOk, IfOk};
+ghost use Rattle.std.specs.Prelude.{◌≡◌, ◌↔◌, ◌^◌, ◌<◌, ◌≤◌, ℕ, true, List, [], ◌∷◌, ◌++◌, length, OnOk, IfOk};
 ghost use Rattle.std.specs.List.{concat};
 ghost use Rattle.transducer_core.specs.Merged.{Stands, IsMerged};
 ghost use Rattle.transducer_core.specs.Merging.{as_lists, as_rows, AllStand, AreShort, AreSmall};
 ghost use Rattle.transducer_core.specs.Once.{AreOnce};
 
+use crate::blocks::Blocks;
 use crate::spread::spread;
 use std::alloc::Global;
 use tile_shape::no_memory::NoMemory;
@@ -18,15 +19,15 @@ pub(crate) struct Merged {
 }
 
 impl Merged {
-    ghost use Rattle.transducer_core.specs.Merged.{HasEntry};
-
-    /// The word at a place of the block whose beginning stands at this cell.
-    pub(crate) fn entry(&self, at: usize, place: u8) -> u32
-        requires { (row : ℕ) × (number : ℕ) × (word : ℕ) × (at ≡ 256 * row + number) × HasEntry self.now.starts.items self.now.words.items row number place word }
-        ensures { (row number : ℕ) → at ≡ 256 * row + number → HasEntry self.now.starts.items self.now.words.items row number place result }
+    /// The blocks for look-ups.
+    pub(crate) fn blocks(&self) -> Blocks<'_>
+        ensures starts { result.starts.now ≡ self.now.starts.items }
+        ensures words { result.words.now ≡ self.now.words.items }
     {
-        let start = self.starts[at];
-        self.words[usize::from(start) + usize::from(place)]
+        Blocks {
+            starts: self.starts.as_slice(),
+            words: self.words.as_slice(),
+        }
     }
 }
 

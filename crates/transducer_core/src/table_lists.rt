@@ -1,5 +1,5 @@
 //! The lists of contact tables, taken apart.
-ghost use Rattle.std.specs.Prelude.{◌≡◌, length, map, IfOk};
+ghost use Rattle.std.specs.Prelude.{◌≡◌, ◌*◌, map, IfOk};
 ghost use Rattle.edge_tables.specs.Views.{as_contact, as_child_edge};
 ghost use Rattle.transducer_core.specs.Merging.{as_lists, as_rows};
 ghost use Rattle.transducer_core.specs.Words.{contact_words, part_words};
@@ -32,26 +32,26 @@ pub(crate) fn children(alloc: Global, rows: &Vec<KindRows>) -> Result<Vec<Vec<u8
     Ok(lists)
 }
 
-/// The same numbers.
-fn wide(alloc: Global, list: &Vec<u8>) -> Result<Vec<u16>, NoMemory>
-    ensures { IfOk result (λ copy. copy.items ≡ list.now.items) }
+/// 256 times each kind.
+fn scaled(alloc: Global, kinds: &Vec<u8>) -> Result<Vec<u16>, NoMemory>
+    ensures { IfOk result (λ row. row.items ≡ map (λ n. 256 * n) kinds.now.items) }
 {
-    let mut copy = Vec::new(alloc);
-    for number in list {
-        copy.push(u16::from(*number))?;
+    let mut row = Vec::new(alloc);
+    for kind in kinds {
+        row.push(u16::from(*kind) * 256)?;
     }
-    Ok(copy)
+    Ok(row)
 }
 
-/// The same lists of numbers.
-pub(crate) fn wide_lists(alloc: Global, lists: &Vec<Vec<u8>>) -> Result<Vec<Vec<u16>>, NoMemory>
-    ensures { IfOk result (λ copy. as_lists copy ≡ as_lists lists.now) }
+/// 256 times the kind of each child of each kind.
+pub(crate) fn scaled_lists(alloc: Global, lists: &Vec<Vec<u8>>) -> Result<Vec<Vec<u16>>, NoMemory>
+    ensures { IfOk result (λ rows. as_lists rows ≡ map (λ v. map (λ n. 256 * n) v.items) lists.now.items) }
 {
-    let mut copy = Vec::new(alloc);
-    for list in lists {
-        copy.push(wide(alloc, list)?)?;
+    let mut rows = Vec::new(alloc);
+    for kinds in lists {
+        rows.push(scaled(alloc, kinds)?)?;
     }
-    Ok(copy)
+    Ok(rows)
 }
 
 /// The contact blocks of each kind as words.

@@ -7,12 +7,11 @@ ghost use Rattle.addressing.specs.Tables.{child_kinds, type_of};
 ghost use Rattle.addressing.specs.Touch.{Touches};
 ghost use Rattle.tile_shape.specs.Views.{address_of};
 
-use crate::climb::{Ending, climb};
-use crate::crossing::Crossing;
+use crate::climb::climb;
+use crate::crossing::{Crossing, put_digits};
 use crate::descent::descend;
 use crate::flat_table::FlatTable;
 use crate::outside::Outside;
-use arrayvec::ArrayVec;
 use edge_tables::steps::Steps;
 use edge_tables::tables::Tables;
 use std::alloc::Global;
@@ -75,7 +74,8 @@ impl Transducer {
 
         ensures steps_within_bound { steps.new ≤ steps.old + (2 * depth (address_of addr.now) + 2) }
     {
-        let mut there = addr.copy();
+        let mut there = Address::new(addr.kind);
+        put_digits(&mut there, addr);
         match self.step_across_in_place(&mut there, edge, steps) {
             Ok(back) => Ok(Crossing {
                 addr: there,
@@ -102,12 +102,16 @@ impl Transducer {
         ensures unchanged { OnErr result (addr.new ≡ addr.old) }
         ensures steps_within_bound { steps.new ≤ steps.old + (2 * depth (address_of addr.old) + 2) }
     {
-        let mut parts = ArrayVec::new();
+        let depth = addr.digits.len();
+        let mut parts = [0u8; 64];
         match climb(&self.flat, addr, edge, &mut parts, steps) {
-            Ending::Met(meeting) => Ok(descend(&self.flat, addr, meeting, parts.as_slice(), steps)),
-            Ending::Top(edge) => {
-                let part = top_part(parts.as_slice());
+            Ok(edge) => {
+                let part = top_part(&parts[..depth]);
                 Err(Outside { edge, part })
+            }
+            Err(meeting) => {
+                let parts = &parts[..meeting.level];
+                Ok(descend(&self.flat, addr, meeting, parts, steps))
             }
         }
     }

@@ -1,17 +1,17 @@
-use Rattle.std.proofs.Common.{map, subst, sym, ap, ◌∙◌}
-use Rattle.addressing.specs.Tables.{Tables, KindTables, child_kinds}
-use Rattle.transducer_core.specs.FlatTables.{lists_in, IsFlat}
+use Rattle.std.proofs.Common.{◌*◌, map, subst, sym, ap, ◌∙◌}
+use Rattle.addressing.specs.Tables.{Tables, KindTables}
+use Rattle.transducer_core.specs.FlatTables.{lists_in, kind_rows, IsFlat}
 use Rattle.transducer_core.specs.Merged.{IsMerged, AreSpread}
 use Rattle.transducer_core.specs.Merging.{AreSmall}
 use Rattle.transducer_core.specs.Words.{contact_words, part_words}
-use Rattle.transducer_core.proofs.FlatCounts.{written_contacts, written_parts, written_types, written_children, short_children, small_contacts, small_parts}
+use Rattle.transducer_core.proofs.FlatCounts.{written_contacts, written_parts, written_types, written_children, scaled, short_children, small_contacts, small_parts}
 use Rattle.transducer_core.proofs.FlatMade.{Holds, flat_is}
 use Rattle.transducer_core.proofs.flat_table.FlatTable.build.Goals as goal
 
 pub spread-requires : goal.spread-requires
 spread-requires c = record {
-  short = short_children c.args.tables.now c.in_ok-wide_lists.field-0 c.rows-rows.ensures.coherent
-      (c.in_ok-wide_lists.ensures ∙ c.in_ok-children.ensures ∙ written_children c.rows-rows.result.now.items ∙ ap (map (λ (k : KindTables). k.children)) c.rows-rows.ensures.lists);
+  short = short_children c.args.tables.now c.in_ok-scaled_lists.field-0 c.rows-rows.ensures.coherent
+      (c.in_ok-scaled_lists.ensures ∙ scaled c.in_ok-children.children.items ∙ ap (map (map (λ n. 256 * n))) (c.in_ok-children.ensures ∙ written_children c.rows-rows.result.now.items ∙ ap (map (λ (k : KindTables). k.children)) c.rows-rows.ensures.lists));
 }
 
 pub merge-requires : goal.merge-requires
@@ -33,7 +33,8 @@ invariant_of-result c =
     let types_are = c.in_ok-types.ensures ∙ written_types c.rows-rows.result.now.items ∙ ap (map (λ (k : KindTables). k.types)) c.rows-rows.ensures.lists in
     let contacts = subst (λ rows. IsMerged rows c.in_ok-contacts.contacts.starts.items c.in_ok-contacts.contacts.words.items c.in_ok-contacts.contacts.count) contacts_are c.in_ok-contacts.ensures in
     let parts = subst (λ rows. IsMerged rows c.in_ok-parts.parts.starts.items c.in_ok-parts.parts.words.items c.in_ok-parts.parts.count) parts_are c.in_ok-parts.ensures in
-    let kinds : AreSpread (child_kinds t) c.in_ok-child_kinds.child_kinds.items = subst (λ rows. AreSpread rows c.in_ok-child_kinds.child_kinds.items) (c.in_ok-wide_lists.ensures ∙ children_are) c.in_ok-child_kinds.ensures in
+    let kinds : AreSpread (kind_rows t) c.in_ok-child_kinds.child_kinds.items =
+    subst (λ rows. AreSpread rows c.in_ok-child_kinds.child_kinds.items) (c.in_ok-scaled_lists.ensures ∙ scaled c.in_ok-children.children.items ∙ ap (map (map (λ n. 256 * n))) children_are) c.in_ok-child_kinds.ensures in
     let f = lists_in c.in_ok-copied.field-0 c.in_ok-copied_lists.field-0 c.in_ok-types.field-0 c.in_ok-children.children c.in_ok-contacts.contacts c.in_ok-parts.parts in
     let held : Holds t f c.in_ok-contacts.contacts.count c.in_ok-parts.parts.count = record {
       coherent = c.rows-rows.ensures.coherent;
