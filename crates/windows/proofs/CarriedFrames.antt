@@ -21,6 +21,7 @@ use Rattle.substitution.specs.RuleParts.{vertices_of}
 use Rattle.windows.specs.FrameSearch as search
 use Rattle.windows.specs.FrameWindow as is_window
 use Rattle.windows.specs.FrameCover as is_cover
+use Rattle.windows.proofs.FrameStart.{frame-start}
 use Rattle.windows.proofs.FrameCover as cover
 use Rattle.windows.proofs.GrownPolygon.{enough_by_polygon}
 use Rattle.windows.proofs.FramePatch as patch
@@ -32,7 +33,7 @@ use Rattle.windows.proofs.FramePolygon.{frame-whole}
 use Rattle.windows.proofs.Renamed as names
 use Rattle.windows.proofs.GrownCrossings as crossings
 use Rattle.windows.proofs.GluedInFrame.{glued-grown}
-use Rattle.windows.proofs.AncestorHolds.{ancestor-level}
+use Rattle.windows.proofs.FrameHolds.{ancestor-holds, holder-level}
 use Rattle.windows.proofs.FrameDrawn as drawn
 use Rattle.windows.proofs.FrameWindow as window
 
@@ -109,8 +110,11 @@ module _ (P : Points) (W : PointLaws P) where
   pub last_boundary_law : search.LastBoundaryLaw P
   last_boundary_law T f a e h own part on refused u x = absurd (crossings.last-boundary (setting T) f h.frame refused a e h own part on u x)
 
+  pub holder_level_law : search.HolderLevelLaw P
+  holder_level_law T f fits t i p h n within = holder-level (setting T) f fits t i p h n within
+
   pub ancestor_holds_law : search.AncestorHoldsLaw P
-  ancestor_holds_law T f fits t i p h n within = ancestor-level (setting T) f fits t i p h n within
+  ancestor_holds_law T f n p = ancestor-holds (setting T) f n p
 
   -- ---- of windows
   pub drawn_law : is_window.DrawnLaw P
@@ -131,7 +135,7 @@ module _ (P : Points) (W : PointLaws P) where
   -- ---- of covering
   module _ (divides : DividesWhole P.real) where
     pub frame_start_law : is_cover.FrameStartLaw P
-    frame_start_law T f refused centre w h on t i holds m k first = cover.frame-start (setting T) divides f refused centre w h on t i holds k first m
+    frame_start_law T f refused centre w h on m n least t i holds = frame-start (setting T) divides f refused centre w h on m n least t i holds
 
     pub frame_step_law : is_cover.FrameStepLaw P
     frame_step_law T f refused box on s right o n a b g c = cover.frame-step (setting T) divides f refused box on s right o n a b g c

@@ -1,18 +1,14 @@
 -- The search for the tiles of a window on a frame.
-use Rattle.std.proofs.Common.{◌≡◌, ℕ, ◌<◌, ◌≤◌, inl, inr, max, Bool, true, false, List, [], map, length, Some, slice_get, sym, ap, ◌∙◌, subst, arith}
+use Rattle.std.proofs.Common.{◌≡◌, ℕ, ◌<◌, ◌≤◌, max, Bool, false, List, [], map, length, Some, slice_get, sym, ap, ◌∙◌, subst, arith}
 use Rattle.std.specs.List.{AllByRecursion}
-use Rattle.std.proofs.lemmas.Bool.{cases_lt}
 use Rattle.ordered_ring.specs.Divisor.{DividesWhole}
 use Rattle.ordered_ring.specs.Sign.{Signed}
-use Rattle.ordered_plane.specs.Plane.{test_point}
-use Rattle.ordered_plane.specs.Crossing.{member}
 use Rattle.ordered_plane.specs.Box.{OpenBox}
 use Rattle.addressing.specs.Address.{Address, depth}
 use Rattle.addressing.specs.Search.{IsAmong}
 use Rattle.addressing.proofs.Chains.{chain_of}
 use Rattle.addressing.proofs.Lists.{AllByRecursion-among}
 use Rattle.addressing.proofs.Ranges.{place-among, slice_get-image}
-use Rattle.substitution.specs.Plane.{plane_point, box_at}
 use Rattle.substitution.specs.Supertile.{Placed}
 use Rattle.edge_to_edge.specs.Contacts.{tables_of}
 use Rattle.dissection.specs.OnBoundary.{IsOnBoundary}
@@ -21,7 +17,7 @@ use Rattle.dissection.specs.TileEdges.{tile_at}
 use Rattle.dissection.proofs.Setting.{Setting}
 use Rattle.dissection.proofs.AcrossTouches.{same}
 use Rattle.dissection.proofs.RuleAddresses.{lowest_exists}
-use Rattle.frames.specs.Frame.{frame_tiles, lifted_in}
+use Rattle.frames.specs.Frame.{lifted_in}
 use Rattle.windows.specs.Distinct.{AreDistinct}
 use Rattle.windows.specs.Outlines.{Polygon, PlaneEdge, edges, MeetsBox}
 use Rattle.windows.specs.Meeting.{PolygonMeetsBox}
@@ -29,7 +25,7 @@ use Rattle.windows.specs.AnyOrder.{HaveSameMembers}
 use Rattle.windows.specs.GrowingPatch.{GrowingPatch}
 use Rattle.windows.specs.EnoughDepth.{IsNotBeyond}
 use Rattle.windows.specs.OpenEdges.{NumberedEdge}
-use Rattle.windows.specs.SearchState.{started, outlines}
+use Rattle.windows.specs.SearchState.{outlines}
 use Rattle.windows.specs.SearchSteps.{IsStep, IsFinished}
 use Rattle.windows.specs.PatchWindow.{PatchWindow, LiesAcross}
 use Rattle.windows.specs.Refusals.{IsDepthLimit}
@@ -37,19 +33,18 @@ use Rattle.windows.specs.OpenNumbers.{IsEdgeAt}
 use Rattle.windows.specs.FramePatch.{level_in, growing_frame, lifted_tile, in_frame, line_of}
 use Rattle.windows.specs.FrameLaws.{IsEdgeInFrame}
 use Rattle.windows.specs.FrameWindow.{IsWindowWithin}
-use Rattle.windows.specs.FrameCover.{IsWindowOn, StateOn, IsRightOn, IsFirstHolder, IsOpenCrossing, IsFrameAnswer}
+use Rattle.windows.specs.FrameCover.{IsWindowOn, StateOn, IsRightOn, IsOpenCrossing, IsFrameAnswer}
 use Rattle.windows.proofs.Places.{distinct-map}
 use Rattle.windows.proofs.AnyOrder.{drawn_any_order, covers_any_order}
 use Rattle.windows.proofs.FromLevel.{one_across}
 use Rattle.windows.proofs.OpenNumbers.{open_numbers}
-use Rattle.windows.proofs.Steps.{start_right, step_right}
+use Rattle.windows.proofs.Steps.{step_right}
 use Rattle.windows.proofs.Finish.{finish_right}
 use Rattle.windows.proofs.Limits.{depth_refusal, goes_on, ends_within}
 use Rattle.windows.proofs.MovedTiles.{lines}
 use Rattle.windows.proofs.FramePatch.{frame-dissected}
 use Rattle.windows.proofs.Renamed.{longer}
 use Rattle.windows.proofs.GrownCrossings.{grown-crossing, last-boundary}
-use Rattle.windows.proofs.AncestorHolds.{ancestor-level}
 use Rattle.windows.proofs.FrameDrawn.{lifted-one, drawn-to, covers-lifted}
 use Rattle.windows.proofs.FrameWindow.{enough-least, within-limits, limits-within}
 
@@ -160,32 +155,3 @@ module _ (T : Setting) (divides : DividesWhole T.points.real) (f : Address) (ref
     pub frame-ends : (m limit : ℕ) → m ≤ depth f → IsNotBeyond S (Placed A) F box m s.depth → length s.found ≤ limit → IsWindowWithin P refused r f box m limit
     frame-ends m limit start beyond few =
         limits-within T f on.frame refused box m limit start (ends_within S W.of_real W.of_order divides G m limit s right none beyond few)
-
--- ---- the start
-module _ (T : Setting) (divides : DividesWhole T.points.real) (f : Address) (refused : T.points.ring.carrier → Bool) (centre : T.points.ring.carrier) (w h : ℕ)
-    (on : IsWindowOn T.points T.accepted f (box_at T.points centre w h)) where
-  open T use {points as P, laws as W, accepted.{rule as r, numbered as N, edge_to_edge as D}}
-
-  module _ (t : Placed P.ring.carrier) (i : IsAmong t (frame_tiles P r f)) (holds : member P.real (tile_polygon P r (λ z. z) t) (test_point P.real.ops (plane_point P centre)) ≡ true)
-      (k : ℕ) (first : IsFirstHolder P r f centre k) where
-    level-is : level_in f t.address ≡ k
-    level-is = least (level_in f t.address) ((ancestor-level T f on.frame t i centre holds k first.within).0 first.holds)
-        (λ lt. cc (sym (first.first (level_in f t.address) lt)
-        ∙ (ancestor-level T f on.frame t i centre holds (level_in f t.address) (at_most (level_in f t.address) k (depth f) (below lt) first.within)).1 (at_least (level_in f t.address))))
-      where
-        least : (l : ℕ) → l ≤ k → (l < k → ⊥) → l ≡ k
-        least l le none = elim (cases_lt l k) [ inl lt ↦ absurd (none lt) | inr ge ↦ omega arith ]
-
-        below : {l : ℕ} → l < k → l ≤ k
-        below lt = omega arith
-
-        at_least : (l : ℕ) → l ≤ l
-        at_least l = omega arith
-
-    pub frame-start : (m : ℕ) → IsNotBeyond P.real (Placed P.ring.carrier) (growing_frame P refused r f) (box_at P centre w h) m (max m k)
-        × (refused t.motion.shift ≡ false → IsRightOn P refused T.accepted f (box_at P centre w h) (started P.real (Placed P.ring.carrier) (growing_frame P refused r f) (box_at P centre w h) (max m k) t))
-    frame-start m =
-        subst (λ l. IsNotBeyond P.real (Placed P.ring.carrier) (growing_frame P refused r f) (box_at P centre w h) m (max m l)
-        × (refused t.motion.shift ≡ false → IsRightOn P refused T.accepted f (box_at P centre w h) (started P.real (Placed P.ring.carrier) (growing_frame P refused r f) (box_at P centre w h) (max m l) t)))
-        level-is
-        (start_right P.real W.of_real W.of_order divides (G T divides f refused (box_at P centre w h) on) t (record { of_patch = i; holds = holds }) m)

@@ -26,6 +26,14 @@ use Rattle.windows.proofs.Lifts.{named}
 use Rattle.windows.proofs.FrameEdges.{Beside, beside, reverse_law, boundary-outer}
 use Rattle.windows.proofs.Renamed.{lifted-depth, lifted-tile, renamed, shorter, further, at-depth}
 
+-- the greatest of m and a level that is n at most, and no less from m on
+pub max-is : (m n l : ℕ) → m ≤ n → l ≤ n → ((k : ℕ) → m ≤ k → k < n → l ≤ k → ⊥) → max m l ≡ n
+max-is m zero l h g none = omega arith
+max-is m (suc n) l h g none = elim (cases_lt n l) [
+  | inl lt ↦ omega arith
+  | inr ge ↦ elim (cases_lt n m) [ inl lt ↦ omega arith | inr le ↦ absurd (none n le (omega arith) ge) ]
+]
+
 module _ (T : Setting) where
   open T use {points as P, laws as W, accepted.{refused, rule as r, numbered as N, edge_to_edge as D}}
 
@@ -64,14 +72,6 @@ module _ (T : Setting) where
             x.among,
             subst (λ (v : Placed A). is_reverse S (line_of P r v e) x.edge ≡ true) (sym (renamed T f fits k within a h)) x.back,
           )
-
-      -- the greatest of m and a level that is n at most, and no less from m on
-      max-is : (m n l : ℕ) → m ≤ n → l ≤ n → ((k : ℕ) → m ≤ k → k < n → l ≤ k → ⊥) → max m l ≡ n
-      max-is m zero l h g none = omega arith
-      max-is m (suc n) l h g none = elim (cases_lt n l) [
-        | inl lt ↦ omega arith
-        | inr ge ↦ elim (cases_lt n m) [ inl lt ↦ omega arith | inr le ↦ absurd (none n le (omega arith) ge) ]
-      ]
 
       pub grown-crossing : (m n : ℕ) (a : Address) (e : ℕ) (b : Address) (g : ℕ) → IsGrownCrossing P T.accepted f m n a e b g
           → LiesAcross S (Placed A) (growing_frame P refused r f) (line_of P r (in_frame P r f a) e) (in_frame P r f b) × (max m (level_in f (lifted_in f b)) ≡ n)

@@ -44,9 +44,10 @@ pub mod FramePolygon
 pub mod Renamed
 pub mod GrownCrossings
 pub mod GluedInFrame
-pub mod AncestorHolds
+pub mod FrameHolds
 pub mod FrameDrawn
 pub mod FrameWindow
+pub mod FrameStart
 pub mod FrameCover
 pub mod Carried
 pub mod CarriedFrames

@@ -14,7 +14,6 @@ use Rattle.dissection.specs.Accepted.{AcceptedRule, NamesTile}
 use Rattle.dissection.specs.OnBoundary.{IsOnBoundary}
 use Rattle.dissection.specs.Polygons.{tile_polygon}
 use Rattle.dissection.specs.TileEdges.{tile_at}
-use Rattle.frames.specs.Contain.{ancestor_holds}
 use Rattle.frames.specs.Frame.{at_level, frame_tiles, lifted_in}
 use Rattle.windows.specs.Distinct.{AreDistinct}
 use Rattle.windows.specs.Patch.{Covers}
@@ -24,7 +23,7 @@ use Rattle.windows.specs.OpenEdges.{NumberedEdge}
 use Rattle.windows.specs.SearchState.{SearchState, IsRightState, started}
 use Rattle.windows.specs.SearchSteps.{IsStep}
 use Rattle.windows.specs.Refusals.{IsDepthLimit}
-use Rattle.windows.specs.FramePatch.{frame_patch, level_in, growing_frame, lifted_tile, in_frame, line_of}
+use Rattle.windows.specs.FramePatch.{frame_patch, frame_holds, level_in, growing_frame, lifted_tile, in_frame, line_of}
 use Rattle.windows.specs.FrameLaws.{IsEdgeInFrame}
 use Rattle.windows.specs.FrameSearch.{IsGrownCrossing}
 use Rattle.windows.specs.FrameWindow.{AreAllThatMeet, IsLeastDepth, IsWindowWithin}
@@ -43,22 +42,22 @@ abbrev pub IsRightOn : (P : Points) → (P.ring.carrier → Bool) → AcceptedRu
 IsRightOn P refused T f box s = IsRightState P.real (Placed P.ring.carrier) (growing_frame P refused T.rule f) box s
 
 -- ---- the start
--- k is the first level at which the base's ancestor holds the point
-pub record IsFirstHolder (P : Points) (r : Rule P.ring.carrier) (f : Address) (p : P.ring.carrier) (k : ℕ) : Type 0 where
-  pub within : k ≤ depth f
-  pub holds : ancestor_holds P r f k p ≡ true
-  pub first : (j : ℕ) → j < k → ancestor_holds P r f j p ≡ false
+-- n is the least depth from m on at which the frame holds the point
+pub record IsLeastHolding (P : Points) (r : Rule P.ring.carrier) (f : Address) (p : P.ring.carrier) (m n : ℕ) : Type 0 where
+  pub not_below : m ≤ n
+  pub within : n ≤ depth f
+  pub holds : frame_holds P r f n p ≡ true
+  pub least : (k : ℕ) → m ≤ k → k < n → ¬ (frame_holds P r f k p ≡ true)
 
--- the search starts with the tile that holds the centre, at that level where the frame isn't as deep already
+-- the search starts with the tile that holds the centre, at that depth
 abbrev pub FrameStartLaw : Points → Type 0
 FrameStartLaw P =
     (T : AcceptedRule P) (f : Address) (refused : P.ring.carrier → Bool) (centre : P.ring.carrier) (w h : ℕ) → IsWindowOn P T f (box_at P centre w h)
-    → (t : Placed P.ring.carrier) → IsAmong t (frame_tiles P T.rule f)
+    → (m n : ℕ) → IsLeastHolding P T.rule f centre m n → (t : Placed P.ring.carrier) → IsAmong t (frame_tiles P T.rule (at_level f n))
     → IsTrue (member P.real (tile_polygon P T.rule (λ z. z) t) (test_point P.real.ops (plane_point P centre)))
-    → (m k : ℕ) → IsFirstHolder P T.rule f centre k
-    → IsNotBeyond P.real (Placed P.ring.carrier) (growing_frame P refused T.rule f) (box_at P centre w h) m (max m k)
+    → IsNotBeyond P.real (Placed P.ring.carrier) (growing_frame P refused T.rule f) (box_at P centre w h) m n
     × (refused t.motion.shift ≡ false
-    → IsRightOn P refused T f (box_at P centre w h) (started P.real (Placed P.ring.carrier) (growing_frame P refused T.rule f) (box_at P centre w h) (max m k) t))
+    → IsRightOn P refused T f (box_at P centre w h) (started P.real (Placed P.ring.carrier) (growing_frame P refused T.rule f) (box_at P centre w h) n (lifted_tile f t)))
 
 -- ---- a step
 -- an open edge of the tile that a names, which is crossed at depth n to edge g of the tile b

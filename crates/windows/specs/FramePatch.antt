@@ -12,6 +12,7 @@ use Rattle.dissection.specs.Polygons.{tile_polygon, supertile_polygon}
 use Rattle.dissection.specs.TileEdges.{edge_of}
 use Rattle.frames.specs.Back.{back}
 use Rattle.frames.specs.Frame.{at_level, motion_beside, frame_tiles, lifted_in}
+use Rattle.frames.specs.Outline.{supertile_holds}
 use Rattle.windows.specs.Outlines.{Polygon, PlaneEdge}
 use Rattle.windows.specs.Patch.{Patch}
 use Rattle.windows.specs.GrowingPatch.{GrowingPatch}
@@ -35,6 +36,10 @@ growing_frame P refused r f = record { patch = frame_patch P r f; level = λ t. 
 -- the polygon of the frame of the base's ancestor at a level: the supertile's, moved back as its tiles are
 abbrev pub frame_polygon : (P : Points) → Rule P.ring.carrier → Address → ℕ → Polygon P.real
 frame_polygon P r f n = supertile_polygon P r (moved P (back P (placement P r (at_level f n).digits))) (top_kind (at_level f n)) n
+
+-- the frame of the base's ancestor at a level holds a point
+abbrev pub frame_holds : (P : Points) → Rule P.ring.carrier → Address → ℕ → P.ring.carrier → Bool
+frame_holds P r f n p = supertile_holds P r (top_kind (at_level f n)) n (back P (placement P r (at_level f n).digits)) p
 
 -- a tile of the frame of the base's ancestor, as one of the whole frame: its address is lifted, and it stays where it is
 abbrev pub lifted_tile : {A : Type 0} → Address → Placed A → Placed A

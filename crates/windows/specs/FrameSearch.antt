@@ -22,7 +22,7 @@ use Rattle.frames.specs.Contain.{ancestor_holds}
 use Rattle.frames.specs.Frame.{at_level, frame_tiles, IsTileOf, lifted_in}
 use Rattle.frames.specs.Growth.{grown_by}
 use Rattle.windows.specs.PatchWindow.{LiesAcross}
-use Rattle.windows.specs.FramePatch.{level_in, growing_frame, in_frame, line_of}
+use Rattle.windows.specs.FramePatch.{frame_holds, level_in, growing_frame, in_frame, line_of}
 use Rattle.windows.specs.FrameLaws.{IsEdgeInFrame}
 
 -- ---- names
@@ -86,9 +86,13 @@ LastBoundaryLaw P =
     → ¬ LiesAcross P.real (Placed P.ring.carrier) (growing_frame P refused T.rule f) (line_of P T.rule (in_frame P T.rule f a) e) u
 
 -- ---- the tile that holds a point
--- the base's ancestors that hold it are those from the tile's level on
-abbrev pub AncestorHoldsLaw : Points → Type 0
-AncestorHoldsLaw P =
+-- the frame holds it at the depths from the tile's level on
+abbrev pub HolderLevelLaw : Points → Type 0
+HolderLevelLaw P =
     (T : AcceptedRule P) (f : Address) → NamesTile P T.rule f → (t : Placed P.ring.carrier) → IsAmong t (frame_tiles P T.rule f)
     → (p : P.ring.carrier) → IsTrue (member P.real (tile_polygon P T.rule (λ z. z) t) (test_point P.real.ops (plane_point P p)))
-    → (n : ℕ) → n ≤ depth f → (ancestor_holds P T.rule f n p ≡ true) ↔ (level_in f t.address ≤ n)
+    → (n : ℕ) → n ≤ depth f → (frame_holds P T.rule f n p ≡ true) ↔ (level_in f t.address ≤ n)
+
+-- and that is where the base's ancestor, found from level to level, holds it
+abbrev pub AncestorHoldsLaw : Points → Type 0
+AncestorHoldsLaw P = (T : AcceptedRule P) (f : Address) (n : ℕ) (p : P.ring.carrier) → ancestor_holds P T.rule f n p ≡ frame_holds P T.rule f n p

@@ -6,9 +6,9 @@ ghost use Rattle.windows.specs.FrameCover.{FrameStopLaw, FrameGoesOnLaw, FrameEn
 
 use cyclo_points::order::Order;
 
-/// The law that the search on a frame is right: from the tile that holds the centre, which the first
-/// ancestor of the base that holds it has, by crossings that grow the frame; and that where no edge is
-/// open the tiles found are all that meet the window, cover it, and the depth is the least.
+/// The law that the search on a frame is right: from the tile that holds the centre, at the least depth at
+/// which the frame holds it, by crossings that grow the frame; and that where no edge is open the tiles
+/// found are all that meet the window, cover it, and the depth is the least.
 pub fn frame_search_law(order: Order)
     ensures start { FrameStartLaw (points_of order) }
     ensures step { FrameStepLaw (points_of order) }

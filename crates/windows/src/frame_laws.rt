@@ -6,7 +6,7 @@ ghost use Rattle.windows.specs.FrameLaws.{FramePatchLaw, LiftLaw, NamedLaw, Line
 ghost use Rattle.windows.specs.FrameLaws.{NumberedLaw, ReverseTestLaw, OutsideLaw, FramePolygonLaw, FrameEnoughLaw};
 ghost use Rattle.windows.specs.FrameSearch.{GrownLevelLaw, RenamedLaw, AtDepthLaw, KnownLaw};
 ghost use Rattle.windows.specs.FrameSearch.{FrameAcrossLaw, GrownCrossingLaw};
-ghost use Rattle.windows.specs.FrameSearch.{GluedCrossingLaw, LastBoundaryLaw, AncestorHoldsLaw};
+ghost use Rattle.windows.specs.FrameSearch.{GluedCrossingLaw, LastBoundaryLaw, HolderLevelLaw, AncestorHoldsLaw};
 ghost use Rattle.windows.specs.FrameWindow.{DrawnLaw, CoversLaw, LeastLaw, WithinLaw};
 
 use cyclo_points::order::Order;
@@ -67,10 +67,11 @@ pub fn frame_crossing_law(order: Order)
     ensures last { LastBoundaryLaw (points_of order) }
 {}
 
-/// The law that the base's ancestors that hold a point are those from the level of the tile that holds
-/// it on.
-pub fn ancestor_holds_law(order: Order)
-    ensures { AncestorHoldsLaw (points_of order) }
+/// The law that a frame holds a point at the depths from the level of the tile that holds it on, and that
+/// these are the levels of the base's ancestors, found from level to level, that hold it.
+pub fn frame_holds_law(order: Order)
+    ensures level { HolderLevelLaw (points_of order) }
+    ensures outward { AncestorHoldsLaw (points_of order) }
 {}
 
 /// The law of a window on a frame: the frame's own tiles that meet it are those drawn of the patch, and

@@ -1,4 +1,4 @@
--- The base's ancestors that hold a point are those from the level of the tile that holds it on.
+-- The depths at which the frame holds a point are those from the level of the tile that holds it on.
 use Rattle.std.proofs.Common.{◌≡◌, ℕ, ◌≤◌, ◌↔◌, true, List, [], ◌∷◌, map, refl, sym, ap, ◌∙◌}
 use Rattle.ordered_ring.specs.Ring.{power}
 use Rattle.ordered_ring.specs.Sign.{Signed}
@@ -18,9 +18,9 @@ use Rattle.dissection.proofs.Setting.{Setting}
 use Rattle.dissection.proofs.Glue.{some_order}
 use Rattle.frames.specs.Contain.{ancestor_holds}
 use Rattle.frames.specs.Frame.{at_level, frame_tiles}
-use Rattle.frames.specs.Outline.{outline}
+use Rattle.frames.specs.Outline.{supertile_holds}
 use Rattle.frames.proofs.Outwards.{outward-back, turns_below}
-use Rattle.windows.specs.FramePatch.{level_in, growing_frame, frame_polygon}
+use Rattle.windows.specs.FramePatch.{frame_holds, level_in, growing_frame, frame_polygon}
 use Rattle.windows.proofs.FromLevel.{held_from_level}
 use Rattle.frames.specs.Back.{back}
 use Rattle.frames.specs.Outward.{HasTurnsBelow}
@@ -47,23 +47,25 @@ module _ (T : Setting) where
   abbrev children : List (List ℕ)
   children = child_kinds t
 
-  module _ (f : Address) (fits : Fits children f) where
-    module _ (n : ℕ) (p : A) where
-      below : HasTurnsBelow P r
-      below = turns_below P r (some_order T) (λ k c hk hc. N.turn_below k c hk hc)
+  -- ---- by the motions found from level to level
+  below : HasTurnsBelow P r
+  below = turns_below P r (some_order T) (λ k c hk hc. N.turn_below k c hk hc)
 
-      pub ancestor-polygon : ancestor_holds P r f n p ≡ member S (frame_polygon P r f n) (test_point S.ops (plane_point P p))
-      ancestor-polygon =
-          ap (λ (m : Motion A). member S (map (plane_point P) (outline P r (top_kind (at_level f n)) (power P.ring r.factor n) m)) (test_point S.ops (plane_point P p)))
-          (outward-back P W (some_order T) r below (at_level f n).digits)
-          ∙ ap (λ vs. member S vs (test_point S.ops (plane_point P p)))
-          (map-twice (plane_point P) (λ z. moved P (back P (placement P r (at_level f n).digits)) (P.ring.mul (power P.ring r.factor n) z)) (vertices_of r (top_kind (at_level f n))))
+  pub ancestor-holds : (f : Address) (n : ℕ) (p : A) → ancestor_holds P r f n p ≡ frame_holds P r f n p
+  ancestor-holds f n p = ap (λ (m : Motion A). supertile_holds P r (top_kind (at_level f n)) n m p) (outward-back P W (some_order T) r below (at_level f n).digits)
 
-    pub ancestor-level : (x : Placed A) → IsAmong x (frame_tiles P r f) → (p : A) → member S (tile_polygon P r (λ z. z) x) (test_point S.ops (plane_point P p)) ≡ true
-        → (n : ℕ) → n ≤ depth f → (ancestor_holds P r f n p ≡ true) ↔ (level_in f x.address ≤ n)
-    ancestor-level x i p h n within =
-        let whole = (frame-whole T f fits refused n within).holds (test_point S.ops (plane_point P p)) (0, refl) in
-        let held = held_from_level (growing_frame P refused r f) (frame-dissected T f (chain_of t f fits)) x i (test_point S.ops (plane_point P p)) (0, refl) h n in (
-          λ g. held.0 (whole.0 (sym (ancestor-polygon n p) ∙ g)),
-          λ l. ancestor-polygon n p ∙ whole.1 (held.1 l),
-        )
+  -- ---- by the frame's polygon
+  frame-polygon : (f : Address) (n : ℕ) (p : A) → frame_holds P r f n p ≡ member S (frame_polygon P r f n) (test_point S.ops (plane_point P p))
+  frame-polygon f n p =
+      ap (λ vs. member S vs (test_point S.ops (plane_point P p)))
+      (map-twice (plane_point P) (λ z. moved P (back P (placement P r (at_level f n).digits)) (P.ring.mul (power P.ring r.factor n) z)) (vertices_of r (top_kind (at_level f n))))
+
+  pub holder-level : (f : Address) (fits : Fits children f) (x : Placed A) → IsAmong x (frame_tiles P r f) → (p : A)
+      → member S (tile_polygon P r (λ z. z) x) (test_point S.ops (plane_point P p)) ≡ true
+      → (n : ℕ) → n ≤ depth f → (frame_holds P r f n p ≡ true) ↔ (level_in f x.address ≤ n)
+  holder-level f fits x i p h n within =
+      let whole = (frame-whole T f fits refused n within).holds (test_point S.ops (plane_point P p)) (0, refl) in
+      let held = held_from_level (growing_frame P refused r f) (frame-dissected T f (chain_of t f fits)) x i (test_point S.ops (plane_point P p)) (0, refl) h n in (
+        λ g. held.0 (whole.0 (sym (frame-polygon f n p) ∙ g)),
+        λ l. frame-polygon f n p ∙ whole.1 (held.1 l),
+      )
