@@ -1,6 +1,6 @@
 //! The calls that are tried, where their conditions hold.
 ghost use Rattle.std.specs.Prelude.{◌≤◌, ◌^◌, All, IsTrue, IfSome, length};
-ghost use Rattle.cyclo_points.specs.Point.{IsWithin};
+ghost use Rattle.cyclo_points.specs.Point.{Within, IsWithin};
 
 use arrayvec::ArrayVec;
 use cyclo_points::arithmetic::refused;
@@ -21,6 +21,20 @@ pub(crate) fn near(p: &Point) -> bool
     ensures turned { IsTrue result → IsWithin (2 ^ 40) p.now }
 {
     !refused(p)
+}
+
+/// Whether coefficients are at most 2^22 in absolute value.
+pub(crate) fn close(p: &Point) -> bool
+    ensures { IsTrue result → IsWithin (2 ^ 22) p.now }
+{
+    is_close(p.c[0]) && is_close(p.c[1]) && is_close(p.c[2]) && is_close(p.c[3])
+}
+
+/// Whether a coefficient is at most 2^22 in absolute value.
+fn is_close(a: i64) -> bool
+    ensures { IsTrue result → Within (2 ^ 22) a }
+{
+    -4_194_304 <= a && a <= 4_194_304
 }
 
 /// The motion with this turn and this shift, in the machine's order.

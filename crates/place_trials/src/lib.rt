@@ -1,12 +1,16 @@
-//! Trials of the machine of a checked rule on the built-in rules.
+//! Trials of the search for the tile that holds a point, on the built-in rules.
 //!
-//! `Machine::locate` is tried on points that were worked out by hand, and compared with a list of all tiles of
-//! small supertiles, each placed by its address and asked whether it holds the point. There is no other code
-//! here.
+//! `Machine::locate` and `Frame::contain` are tried on points that were worked out by hand, and compared with a
+//! list of all tiles of small supertiles, each placed by its address and asked whether it holds the point.
+//! There is no other code here.
 #![tactic(auto)]
 
 #[cfg(test)]
 mod calls;
+#[cfg(test)]
+mod contain;
+#[cfg(test)]
+mod frame_tiles;
 #[cfg(test)]
 mod listing;
 #[cfg(test)]
