@@ -1,6 +1,7 @@
 pub mod Climbing
 pub mod Descending
 pub mod Once
+pub mod RowBlocks
 pub mod Blocks
 pub mod Words
 pub mod Merged

@@ -8,9 +8,6 @@ use Rattle.transducer_core.specs.Merged.{Stands}
 abbrev pub as_lists : Vec (Vec ℕ Global) Global → List (List ℕ)
 as_lists v = map (λ w. w.items) v.items
 
-abbrev pub as_rows : Vec (Vec (Vec ℕ Global) Global) Global → List (List (List ℕ))
-as_rows v = map as_lists v.items
-
 -- each block stands at its place
 abbrev pub AllStand : List ℕ → List ℕ → List (List ℕ) → Type 0
 AllStand words [] [] = Unit {0}

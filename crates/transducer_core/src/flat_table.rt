@@ -12,8 +12,8 @@ use crate::blocks::Blocks;
 use crate::merging::{Merged, merge};
 use crate::mirror::mirror;
 use crate::spread::{cell, spread};
-use crate::table_lists::{children, contact_rows, part_rows, scaled_lists, types};
-use crate::words::{contact_in, part_in};
+use crate::table_lists::{children, scaled_lists, types};
+use crate::words::{Which, contact_in, part_in};
 use edge_tables::child_edge::ChildEdge;
 use edge_tables::contact::Contact;
 use edge_tables::lists::{copied, copied_lists};
@@ -59,8 +59,8 @@ impl FlatTable {
         let rows = tables.rows();
         let children = children(alloc, rows)?;
         let child_kinds = spread(alloc, &scaled_lists(alloc, &children)?)?;
-        let contacts = merge(alloc, &contact_rows(alloc, rows)?)?;
-        let parts = merge(alloc, &part_rows(alloc, rows)?)?;
+        let contacts = merge(alloc, rows, Which::Contacts)?;
+        let parts = merge(alloc, rows, Which::Parts)?;
         Ok(FlatTable {
             mates: copied(alloc, tables.mates())?,
             subs: copied_lists(alloc, tables.subs())?,

@@ -1,12 +1,15 @@
 //! Blocks of words put one behind the other, equal ones once.
-ghost use Rattle.std.specs.Prelude.{◌≡◌, ◌↔◌, ◌^◌, ◌<◌, ◌≤◌, ℕ, true, List, [], ◌∷◌, ◌++◌, length, OnOk, IfOk};
+ghost use Rattle.std.specs.Prelude.{◌≡◌, ◌↔◌, ◌^◌, ◌<◌, ◌≤◌, ℕ, true, List, [], ◌∷◌, ◌++◌, length, map, OnOk, IfOk};
 ghost use Rattle.std.specs.List.{concat};
 ghost use Rattle.transducer_core.specs.Merged.{Stands, IsMerged};
-ghost use Rattle.transducer_core.specs.Merging.{as_lists, as_rows, AllStand, AreShort, AreSmall};
+ghost use Rattle.transducer_core.specs.Merging.{as_lists, AllStand, AreShort, AreSmall};
 ghost use Rattle.transducer_core.specs.Once.{AreOnce};
+ghost use Rattle.transducer_core.specs.RowBlocks.{blocks_of};
 
 use crate::blocks::Blocks;
 use crate::spread::spread;
+use crate::words::{Which, block_count, block_words};
+use edge_tables::kind_rows::KindRows;
 use std::alloc::Global;
 use tile_shape::no_memory::NoMemory;
 
@@ -39,43 +42,44 @@ fn same_words(a: &Vec<u32>, b: &Vec<u32>) -> bool
 }
 
 /// Keeps a block if no equal one is kept, and answers where it stands when those that are kept stand in a row.
-fn place(alloc: Global, kept: &mut Vec<Vec<u32>>, block: &Vec<u32>) -> Result<u16, NoMemory>
+fn place(kept: &mut Vec<Vec<u32>>, block: Vec<u32>) -> Result<u16, NoMemory>
     requires room { length (concat (as_lists kept.old)) < 2 ^ 16 }
-    ensures stands { IfOk result (λ start. Stands (concat (as_lists kept.new)) start block.now.items) }
-    ensures grown { OnOk result ((more : List (List ℕ)) × (as_lists kept.new ≡ as_lists kept.old ++ more) × (length (concat more) ≤ length block.now.items) × (length more ≤ 1)) }
-    ensures once { OnOk result ((all : List (List ℕ)) → AreOnce all (as_lists kept.old) → AreOnce (all ++ block.now.items ∷ []) (as_lists kept.new)) }
+    ensures stands { IfOk result (λ start. Stands (concat (as_lists kept.new)) start block.items) }
+    ensures grown { OnOk result ((more : List (List ℕ)) × (as_lists kept.new ≡ as_lists kept.old ++ more) × (length (concat more) ≤ length block.items) × (length more ≤ 1)) }
+    ensures once { OnOk result ((all : List (List ℕ)) → AreOnce all (as_lists kept.old) → AreOnce (all ++ block.items ∷ []) (as_lists kept.new)) }
 {
     let mut start = 0usize;
     let known = kept.as_slice();
     for earlier in known {
-        if same_words(earlier, block) {
+        if same_words(earlier, &block) {
             return Ok(start as u16);
         }
         start += earlier.len();
     }
-    let mut copy = Vec::new(alloc);
-    copy.extend_from_slice(block)?;
-    kept.push(copy)?;
+    kept.push(block)?;
     Ok(start as u16)
 }
 
-/// Keeps each block of a row, and answers where they stand.
+/// Keeps each block of a kind, and answers where they stand.
 fn place_row(
     alloc: Global,
     kept: &mut Vec<Vec<u32>>,
-    row: &Vec<Vec<u32>>,
+    row: &KindRows,
+    which: Which,
 ) -> Result<Vec<u16>, NoMemory>
-    requires few { length row.now.items ≤ 16 }
-    requires short { AreShort (as_lists row.now) }
+    requires few { length (blocks_of which row.now) ≤ 16 }
+    requires short { AreShort (blocks_of which row.now) }
     requires room { length (concat (as_lists kept.old)) ≤ 2 ^ 15 }
-    ensures stand { IfOk result (λ starts. AllStand (concat (as_lists kept.new)) starts.items (as_lists row.now)) }
+    ensures stand { IfOk result (λ starts. AllStand (concat (as_lists kept.new)) starts.items (blocks_of which row.now)) }
     ensures grown { OnOk result ((more : List (List ℕ)) × (as_lists kept.new ≡ as_lists kept.old ++ more) × (length (concat more) ≤ 256) × (length more ≤ 16)) }
     ensures few { IfOk result (λ starts. length starts.items ≤ 16) }
-    ensures once { OnOk result ((all : List (List ℕ)) → AreOnce all (as_lists kept.old) → AreOnce (all ++ as_lists row.now) (as_lists kept.new)) }
+    ensures once { OnOk result ((all : List (List ℕ)) → AreOnce all (as_lists kept.old) → AreOnce (all ++ blocks_of which row.now) (as_lists kept.new)) }
 {
-    let mut starts = Vec::new(alloc);
-    for block in row {
-        starts.push(place(alloc, kept, block)?)?;
+    let count = block_count(row, which);
+    let mut starts = Vec::with_capacity(alloc, count)?;
+    for number in 0..count {
+        let block = block_words(alloc, row, which, number)?;
+        starts.push(place(kept, block)?)?;
     }
     Ok(starts)
 }
@@ -91,15 +95,15 @@ fn joined(alloc: Global, blocks: &Vec<Vec<u32>>) -> Result<Vec<u32>, NoMemory>
     Ok(words)
 }
 
-/// The blocks of these rows, equal ones once.
-pub(crate) fn merge(alloc: Global, rows: &Vec<Vec<Vec<u32>>>) -> Result<Merged, NoMemory>
-    requires small { AreSmall (as_rows rows.now) }
-    ensures { IfOk result (λ merged. IsMerged (as_rows rows.now) merged.starts.items merged.words.items merged.count) }
+/// The blocks of all kinds, equal ones once.
+pub(crate) fn merge(alloc: Global, rows: &Vec<KindRows>, which: Which) -> Result<Merged, NoMemory>
+    requires small { AreSmall (map (blocks_of which) rows.now.items) }
+    ensures { IfOk result (λ merged. IsMerged (map (blocks_of which) rows.now.items) merged.starts.items merged.words.items merged.count) }
 {
-    let mut kept = Vec::new(alloc);
+    let mut kept = Vec::with_capacity(alloc, 16)?;
     let mut starts = Vec::new(alloc);
     for row in rows {
-        starts.push(place_row(alloc, &mut kept, row)?)?;
+        starts.push(place_row(alloc, &mut kept, row, which)?)?;
     }
     Ok(Merged {
         starts: spread(alloc, &starts)?,

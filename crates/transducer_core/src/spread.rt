@@ -38,7 +38,7 @@ pub(crate) fn spread(alloc: Global, rows: &Vec<Vec<u16>>) -> Result<Vec<u16>, No
 {
     let blanks = BLANKS;
     let blanks = blanks.as_slice();
-    let mut flat = Vec::new(alloc);
+    let mut flat = Vec::with_capacity(alloc, 256)?;
     for row in rows {
         flat.extend_from_slice(row)?;
         flat.extend_from_slice(&blanks[row.len()..])?;

@@ -1,10 +1,7 @@
 //! The lists of contact tables, taken apart.
 ghost use Rattle.std.specs.Prelude.{◌≡◌, ◌*◌, map, IfOk};
-ghost use Rattle.edge_tables.specs.Views.{as_contact, as_child_edge};
-ghost use Rattle.transducer_core.specs.Merging.{as_lists, as_rows};
-ghost use Rattle.transducer_core.specs.Words.{contact_words, part_words};
+ghost use Rattle.transducer_core.specs.Merging.{as_lists};
 
-use crate::words::{contact_blocks, part_blocks};
 use edge_tables::kind_rows::KindRows;
 use edge_tables::lists::copied;
 use std::alloc::Global;
@@ -14,7 +11,7 @@ use tile_shape::no_memory::NoMemory;
 pub(crate) fn types(alloc: Global, rows: &Vec<KindRows>) -> Result<Vec<Vec<u8>>, NoMemory>
     ensures { IfOk result (λ lists. as_lists lists ≡ map (λ r. r.types.items) rows.now.items) }
 {
-    let mut lists = Vec::new(alloc);
+    let mut lists = Vec::with_capacity(alloc, rows.len())?;
     for row in rows {
         lists.push(copied(alloc, &row.types)?)?;
     }
@@ -25,7 +22,7 @@ pub(crate) fn types(alloc: Global, rows: &Vec<KindRows>) -> Result<Vec<Vec<u8>>,
 pub(crate) fn children(alloc: Global, rows: &Vec<KindRows>) -> Result<Vec<Vec<u8>>, NoMemory>
     ensures { IfOk result (λ lists. as_lists lists ≡ map (λ r. r.children.items) rows.now.items) }
 {
-    let mut lists = Vec::new(alloc);
+    let mut lists = Vec::with_capacity(alloc, rows.len())?;
     for row in rows {
         lists.push(copied(alloc, &row.children)?)?;
     }
@@ -36,7 +33,7 @@ pub(crate) fn children(alloc: Global, rows: &Vec<KindRows>) -> Result<Vec<Vec<u8
 fn scaled(alloc: Global, kinds: &Vec<u8>) -> Result<Vec<u16>, NoMemory>
     ensures { IfOk result (λ row. row.items ≡ map (λ n. 256 * n) kinds.now.items) }
 {
-    let mut row = Vec::new(alloc);
+    let mut row = Vec::with_capacity(alloc, kinds.len())?;
     for kind in kinds {
         row.push(u16::from(*kind) * 256)?;
     }
@@ -47,34 +44,9 @@ fn scaled(alloc: Global, kinds: &Vec<u8>) -> Result<Vec<u16>, NoMemory>
 pub(crate) fn scaled_lists(alloc: Global, lists: &Vec<Vec<u8>>) -> Result<Vec<Vec<u16>>, NoMemory>
     ensures { IfOk result (λ rows. as_lists rows ≡ map (λ v. map (λ n. 256 * n) v.items) lists.now.items) }
 {
-    let mut rows = Vec::new(alloc);
+    let mut rows = Vec::with_capacity(alloc, lists.len())?;
     for kinds in lists {
         rows.push(scaled(alloc, kinds)?)?;
     }
     Ok(rows)
-}
-
-/// The contact blocks of each kind as words.
-pub(crate) fn contact_rows(
-    alloc: Global,
-    rows: &Vec<KindRows>,
-) -> Result<Vec<Vec<Vec<u32>>>, NoMemory>
-    ensures { IfOk result (λ lists. as_rows lists ≡ map (λ r. map (λ v. contact_words (map as_contact v.items)) r.contacts.items) rows.now.items) }
-{
-    let mut lists = Vec::new(alloc);
-    for row in rows {
-        lists.push(contact_blocks(alloc, &row.contacts)?)?;
-    }
-    Ok(lists)
-}
-
-/// The part blocks of each kind as words, each backwards.
-pub(crate) fn part_rows(alloc: Global, rows: &Vec<KindRows>) -> Result<Vec<Vec<Vec<u32>>>, NoMemory>
-    ensures { IfOk result (λ lists. as_rows lists ≡ map (λ r. map (λ v. part_words (map as_child_edge v.items)) r.parts.items) rows.now.items) }
-{
-    let mut lists = Vec::new(alloc);
-    for row in rows {
-        lists.push(part_blocks(alloc, &row.parts)?)?;
-    }
-    Ok(lists)
 }

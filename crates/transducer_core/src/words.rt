@@ -1,10 +1,12 @@
 //! Entries of tables, and their blocks, as words.
-ghost use Rattle.std.specs.Prelude.{◌≡◌, map, IfOk};
+ghost use Rattle.std.specs.Prelude.{◌≡◌, ◌<◌, length, map, slice_get, Some, IfOk};
 ghost use Rattle.edge_tables.specs.Views.{as_contact, as_child_edge};
+ghost use Rattle.transducer_core.specs.RowBlocks.{blocks_of};
 ghost use Rattle.transducer_core.specs.Words.{word_of_contact, contact_of_word, word_of_part, part_of_word, contact_words, part_words};
 
 use edge_tables::child_edge::ChildEdge;
 use edge_tables::contact::Contact;
+use edge_tables::kind_rows::KindRows;
 use std::alloc::Global;
 use tile_shape::no_memory::NoMemory;
 
@@ -50,11 +52,18 @@ pub(crate) fn part_in(word: u32) -> ChildEdge
     }
 }
 
+/// Which blocks of a kind: the contacts of its children, or the parts of its edges.
+#[derive(Clone, Copy)]
+pub(crate) enum Which {
+    Contacts,
+    Parts,
+}
+
 /// A contact block as words.
 fn contact_block(alloc: Global, block: &Vec<Contact>) -> Result<Vec<u32>, NoMemory>
     ensures { IfOk result (λ words. words.items ≡ contact_words (map as_contact block.now.items)) }
 {
-    let mut words = Vec::new(alloc);
+    let mut words = Vec::with_capacity(alloc, block.len())?;
     for contact in block {
         words.push(contact_word(*contact))?;
     }
@@ -65,7 +74,7 @@ fn contact_block(alloc: Global, block: &Vec<Contact>) -> Result<Vec<u32>, NoMemo
 fn part_block(alloc: Global, block: &Vec<ChildEdge>) -> Result<Vec<u32>, NoMemory>
     ensures { IfOk result (λ words. words.items ≡ part_words (map as_child_edge block.now.items)) }
 {
-    let mut words = Vec::new(alloc);
+    let mut words = Vec::with_capacity(alloc, block.len())?;
     for part in block {
         words.push(part_word(*part))?;
     }
@@ -73,30 +82,34 @@ fn part_block(alloc: Global, block: &Vec<ChildEdge>) -> Result<Vec<u32>, NoMemor
     Ok(words)
 }
 
-/// The contact blocks of a kind as words.
-pub(crate) fn contact_blocks(
-    alloc: Global,
-    blocks: &Vec<Vec<Contact>>,
-) -> Result<Vec<Vec<u32>>, NoMemory>
-    ensures { IfOk result (λ lists. map (λ v. v.items) lists.items ≡ map (λ v. contact_words (map as_contact v.items)) blocks.now.items) }
+/// How many blocks of a kind there are.
+pub(crate) fn block_count(row: &KindRows, which: Which) -> usize
+    ensures { result ≡ length (blocks_of which row.now) }
 {
-    let mut lists = Vec::new(alloc);
-    for block in blocks {
-        lists.push(contact_block(alloc, block)?)?;
+    match which {
+        Which::Contacts => row.contacts.len(),
+        Which::Parts => row.parts.len(),
     }
-    Ok(lists)
 }
 
-/// The part blocks of a kind as words, each backwards.
-pub(crate) fn part_blocks(
+/// A block of a kind as words.
+pub(crate) fn block_words(
     alloc: Global,
-    blocks: &Vec<Vec<ChildEdge>>,
-) -> Result<Vec<Vec<u32>>, NoMemory>
-    ensures { IfOk result (λ lists. map (λ v. v.items) lists.items ≡ map (λ v. part_words (map as_child_edge v.items)) blocks.now.items) }
+    row: &KindRows,
+    which: Which,
+    number: usize,
+) -> Result<Vec<u32>, NoMemory>
+    requires { number < length (blocks_of which row.now) }
+    ensures { IfOk result (λ words. slice_get (blocks_of which row.now) number ≡ Some words.items) }
 {
-    let mut lists = Vec::new(alloc);
-    for block in blocks {
-        lists.push(part_block(alloc, block)?)?;
+    match which {
+        Which::Contacts => {
+            let block = &row.contacts[number];
+            contact_block(alloc, block)
+        }
+        Which::Parts => {
+            let block = &row.parts[number];
+            part_block(alloc, block)
+        }
     }
-    Ok(lists)
 }

@@ -1,4 +1,4 @@
-use Rattle.std.proofs.Common.{inl, inr, List, ◌∷◌, [], ◌++◌, length, map, take, ap, ◌∙◌, sym, arith, length-append}
+use Rattle.std.proofs.Common.{inl, inr, List, ◌∷◌, [], ◌++◌, length, map, take, ap, ◌∙◌, sym, refl, arith, length-append}
 use Rattle.std.specs.List.{concat}
 use Rattle.std.proofs.lemmas.List.{take_all, length-map}
 use Rattle.addressing.specs.Search.{IsAmong}
@@ -26,9 +26,9 @@ pub returns-then-same_words-clause-once : goal.returns-then-same_words-clause-on
 returns-then-same_words-clause-once c = λ all once.
     let at = Standing.mapped_at (λ v. v.items) c.as_slice-known.result.now c.loop-earlier.earlier-index c.earlier-item.result c.loop-earlier-test.true c.earlier-item.is in
     let equal = c.same_words.ensures.0 c.if-same_words.true in
-    let known : IsAmong c.args.block.now.items (as_lists c.args.kept.now) =
+    let known : IsAmong c.args.block.items (as_lists c.args.kept.now) =
     rw (← c.as_slice-known.ensures.value, ← equal) (place-among c.earlier-item.result.items (map (λ v. v.items) c.as_slice-known.result.now) c.loop-earlier.earlier-index at) in
-    once_known c.args.block.now.items all (as_lists c.args.kept.now) once known
+    once_known c.args.block.items all (as_lists c.args.kept.now) once known
 
 pub overflow_add-start : goal.overflow_add-start
 overflow_add-start c =
@@ -47,8 +47,8 @@ loop-earlier-preserved c =
     record {
       start_is = omega (arith, ap (λ x. length (concat x)) more, ap length joined, ap length none, length-append (concat (take c.loop-earlier.earlier-index l)) (c.earlier-item.result.items ++ []), c.loop-earlier.invariant.start_is);
       fresh = λ i.
-          let i' : IsAmong c.args.block.now.items (take c.loop-earlier.earlier-index l ++ c.earlier-item.result.items ∷ []) = rw more at i in
-          elim (among-append c.args.block.now.items (take c.loop-earlier.earlier-index l) (c.earlier-item.result.items ∷ []) i') [
+          let i' : IsAmong c.args.block.items (take c.loop-earlier.earlier-index l ++ c.earlier-item.result.items ∷ []) = rw more at i in
+          elim (among-append c.args.block.items (take c.loop-earlier.earlier-index l) (c.earlier-item.result.items ∷ []) i') [
             | inl j ↦ c.loop-earlier.invariant.fresh j
             | inr j ↦ elim j [ inl e ↦ (let no = c.same_words.ensures.1 (sym e) in absurd (cc (no, c.if-same_words.false))) | inr k ↦ elim k [ ] ]
           ];
@@ -58,21 +58,18 @@ pub returns-clause-stands : goal.returns-clause-stands
 returns-clause-stands c =
     let l : List (List _) = map (λ v. v.items) c.as_slice-known.result.now in
     let whole = take_all c.loop-earlier.earlier-index l (omega (arith, length-map c.as_slice-known.result.now (λ v. v.items))) in
-    let copy = c.in_ok-extend_from_slice.ensures.items ∙ ap (λ x. x ++ c.deref.result.now) c.new-copy.ensures.items ∙ c.deref.ensures.value in
-    let lists = Standing.pushed_lists c.push.new.self.items c.args.kept.now.items c.extend_from_slice.new.self c.args.block.now.items c.in_ok-push.ensures.items copy in
+    let lists = Standing.pushed_lists c.push.new.self.items c.args.kept.now.items c.args.block c.args.block.items c.in_ok-push.ensures.items refl in
     let start = c.loop-earlier.invariant.start_is ∙ ap (λ x. length (concat x)) whole ∙ ap (λ xs. length (concat (map (λ v. v.items) xs))) c.as_slice-known.ensures.value in
-    rw (lists, start) (Standing.stands_last (as_lists c.args.kept.now) c.args.block.now.items)
+    rw (lists, start) (Standing.stands_last (as_lists c.args.kept.now) c.args.block.items)
 
 pub returns-clause-grown : goal.returns-clause-grown
 returns-clause-grown c =
-    let copy = c.in_ok-extend_from_slice.ensures.items ∙ ap (λ x. x ++ c.deref.result.now) c.new-copy.ensures.items ∙ c.deref.ensures.value in
-    let lists = Standing.pushed_lists c.push.new.self.items c.args.kept.now.items c.extend_from_slice.new.self c.args.block.now.items c.in_ok-push.ensures.items copy in
-    (c.args.block.now.items ∷ [], lists, omega (arith, ap length (Standing.append-none c.args.block.now.items)), omega arith)
+    let lists = Standing.pushed_lists c.push.new.self.items c.args.kept.now.items c.args.block c.args.block.items c.in_ok-push.ensures.items refl in
+    (c.args.block.items ∷ [], lists, omega (arith, ap length (Standing.append-none c.args.block.items)), omega arith)
 
 pub returns-clause-once : goal.returns-clause-once
 returns-clause-once c = λ all once.
     let l : List (List _) = map (λ v. v.items) c.as_slice-known.result.now in
     let whole = take_all c.loop-earlier.earlier-index l (omega (arith, length-map c.as_slice-known.result.now (λ v. v.items))) in
-    let copy = c.in_ok-extend_from_slice.ensures.items ∙ ap (λ x. x ++ c.deref.result.now) c.new-copy.ensures.items ∙ c.deref.ensures.value in
-    let lists = Standing.pushed_lists c.push.new.self.items c.args.kept.now.items c.extend_from_slice.new.self c.args.block.now.items c.in_ok-push.ensures.items copy in
-    rw lists (once_fresh c.args.block.now.items all (as_lists c.args.kept.now) once (λ i. c.loop-earlier.invariant.fresh (rw (whole, c.as_slice-known.ensures.value) i)))
+    let lists = Standing.pushed_lists c.push.new.self.items c.args.kept.now.items c.args.block c.args.block.items c.in_ok-push.ensures.items refl in
+    rw lists (once_fresh c.args.block.items all (as_lists c.args.kept.now) once (λ i. c.loop-earlier.invariant.fresh (rw (whole, c.as_slice-known.ensures.value) i)))

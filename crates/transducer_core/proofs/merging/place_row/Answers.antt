@@ -4,55 +4,57 @@ use Rattle.std.proofs.lemmas.List.{take_all, length-map}
 use Rattle.addressing.proofs.Lists.{AllByRecursion-among}
 use Rattle.addressing.proofs.Ranges.{place-among}
 use Rattle.transducer_core.specs.Merging.{as_lists, AllStand}
+use Rattle.transducer_core.specs.RowBlocks.{blocks_of}
 use Rattle.transducer_core.proofs.Standing
 use Rattle.transducer_core.proofs.merging.place_row.Goals as goal
 
 pub place-requires : goal.place-requires
 place-requires c =
-    let count = length-map c.args.row.now.items (λ v. v.items) in
     record {
       room = omega (
         arith,
-        ap (λ x. length (concat x)) c.loop-block.invariant.grown,
-        ap length (Standing.concat-append (as_lists c.args.kept.now) c.loop-block.invariant.more),
-        length-append (concat (as_lists c.args.kept.now)) (concat c.loop-block.invariant.more),
-        c.loop-block.invariant.few_words,
+        ap (λ x. length (concat x)) c.loop-number.invariant.grown,
+        ap length (Standing.concat-append (as_lists c.args.kept.now) c.loop-number.invariant.more),
+        length-append (concat (as_lists c.args.kept.now)) (concat c.loop-number.invariant.more),
+        c.loop-number.invariant.few_words,
         c.requires.room,
         c.requires.few,
-        c.deref-block-items.ensures.len,
-        c.loop-block-test.true,
+        c.block_count-count.ensures,
       );
     }
 
-pub loop-block-preserved : goal.loop-block-preserved
-loop-block-preserved c =
-    let at = Standing.mapped_at (λ v. v.items) c.args.row.now.items c.loop-block.block-index c.block-item.result (rw (← c.deref-block-items.ensures.value) c.loop-block-test.true) (rw (← c.deref-block-items.ensures.value) c.block-item.is) in
-    let next = Standing.take_at (as_lists c.args.row.now) c.loop-block.block-index c.block-item.result.items at in
-    let short = AllByRecursion-among (λ (b : List ℕ). length b ≤ 16) c.block-item.result.items (as_lists c.args.row.now) (place-among c.block-item.result.items (as_lists c.args.row.now) c.loop-block.block-index at) c.requires.short in
+pub loop-number-preserved : goal.loop-number-preserved
+loop-number-preserved c =
+    let at = c.in_ok-block.ensures in
+    let next = Standing.take_at (blocks_of c.args.which c.args.row.now) c.loop-number.number c.in_ok-block.block.items at in
+    let short = AllByRecursion-among (λ (b : List ℕ). length b ≤ 16) c.in_ok-block.block.items (blocks_of c.args.which c.args.row.now) (place-among c.in_ok-block.block.items (blocks_of c.args.which c.args.row.now) c.loop-number.number at) c.requires.short in
     let here = c.in_ok-place.ensures.stands in
     let grown = c.in_ok-place.ensures.grown in
-    let words : concat (as_lists c.place.new.kept) ≡ concat (as_lists c.loop-block.kept) ++ concat grown.0 = ap concat grown.1 ∙ Standing.concat-append (as_lists c.loop-block.kept) grown.0 in
-    let before : AllStand (concat (as_lists c.place.new.kept)) c.loop-block.starts.items (take c.loop-block.block-index (as_lists c.args.row.now)) =
-    rw words (Standing.AllStand-more (concat (as_lists c.loop-block.kept)) (concat grown.0) c.loop-block.starts.items (take c.loop-block.block-index (as_lists c.args.row.now)) c.loop-block.invariant.stand) in
-    let more' = c.loop-block.invariant.more in
+    let words : concat (as_lists c.place.new.kept) ≡ concat (as_lists c.loop-number.kept) ++ concat grown.0 = ap concat grown.1 ∙ Standing.concat-append (as_lists c.loop-number.kept) grown.0 in
+    let before : AllStand (concat (as_lists c.place.new.kept)) c.loop-number.starts.items (take c.loop-number.number (blocks_of c.args.which c.args.row.now)) =
+    rw words (Standing.AllStand-more (concat (as_lists c.loop-number.kept)) (concat grown.0) c.loop-number.starts.items (take c.loop-number.number (blocks_of c.args.which c.args.row.now)) c.loop-number.invariant.stand) in
+    let more' = c.loop-number.invariant.more in
     record {
-      stand = rw (c.in_ok-push.ensures.items, next) (Standing.AllStand-push (concat (as_lists c.place.new.kept)) c.loop-block.starts.items (take c.loop-block.block-index (as_lists c.args.row.now)) c.in_ok-place.field-0 c.block-item.result.items before here);
+      stand = rw (c.in_ok-push.ensures.items, next) (Standing.AllStand-push (concat (as_lists c.place.new.kept)) c.loop-number.starts.items (take c.loop-number.number (blocks_of c.args.which c.args.row.now)) c.in_ok-place.field-0 c.in_ok-block.block.items before here);
       more = more' ++ grown.0;
-      grown = grown.1 ∙ ap (λ x. x ++ grown.0) c.loop-block.invariant.grown ∙ append_assoc (as_lists c.args.kept.now) more' grown.0;
-      few_words = omega (arith, ap length (Standing.concat-append more' grown.0), length-append (concat more') (concat grown.0), c.loop-block.invariant.few_words, grown.2, short);
-      few = omega (arith, length-append more' grown.0, c.loop-block.invariant.few, grown.3);
-      once = λ all once. rw (next, ← append_assoc all (take c.loop-block.block-index (as_lists c.args.row.now)) (c.block-item.result.items ∷ []))
-          (c.in_ok-place.ensures.once (all ++ take c.loop-block.block-index (as_lists c.args.row.now)) (c.loop-block.invariant.once all once));
+      grown = grown.1 ∙ ap (λ x. x ++ grown.0) c.loop-number.invariant.grown ∙ append_assoc (as_lists c.args.kept.now) more' grown.0;
+      few_words = omega (arith, ap length (Standing.concat-append more' grown.0), length-append (concat more') (concat grown.0), c.loop-number.invariant.few_words, grown.2, short);
+      few = omega (arith, length-append more' grown.0, c.loop-number.invariant.few, grown.3);
+      once = λ all once. rw (next, ← append_assoc all (take c.loop-number.number (blocks_of c.args.which c.args.row.now)) (c.in_ok-block.block.items ∷ []))
+          (c.in_ok-place.ensures.once (all ++ take c.loop-number.number (blocks_of c.args.which c.args.row.now)) (c.loop-number.invariant.once all once));
     }
+
+pub returns-clause-stand : goal.returns-clause-stand
+returns-clause-stand c =
+    let whole = take_all c.loop-number.number (blocks_of c.args.which c.args.row.now) (omega (arith, c.block_count-count.ensures)) in
+    rw whole at c.loop-number.invariant.stand
 
 pub returns-clause-few : goal.returns-clause-few
 returns-clause-few c =
-    let count = length-map c.args.row.now.items (λ v. v.items) in
-    let whole = take_all c.loop-block.block-index (as_lists c.args.row.now) (omega (arith, count, c.deref-block-items.ensures.len)) in
-    omega (arith, Standing.AllStand-length (concat (as_lists c.loop-block.kept)) c.loop-block.starts.items (take c.loop-block.block-index (as_lists c.args.row.now)) c.loop-block.invariant.stand, ap length whole, count, c.requires.few)
+    let whole = take_all c.loop-number.number (blocks_of c.args.which c.args.row.now) (omega (arith, c.block_count-count.ensures)) in
+    omega (arith, Standing.AllStand-length (concat (as_lists c.loop-number.kept)) c.loop-number.starts.items (take c.loop-number.number (blocks_of c.args.which c.args.row.now)) c.loop-number.invariant.stand, ap length whole, c.requires.few)
 
 pub returns-clause-once : goal.returns-clause-once
 returns-clause-once c = λ all once.
-    let count = length-map c.args.row.now.items (λ v. v.items) in
-    let whole = take_all c.loop-block.block-index (as_lists c.args.row.now) (omega (arith, count, c.deref-block-items.ensures.len)) in
-    rw (← whole) (c.loop-block.invariant.once all once)
+    let whole = take_all c.loop-number.number (blocks_of c.args.which c.args.row.now) (omega (arith, c.block_count-count.ensures)) in
+    rw (← whole) (c.loop-number.invariant.once all once)

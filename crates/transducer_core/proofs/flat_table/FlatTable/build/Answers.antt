@@ -16,19 +16,19 @@ spread-requires c = record {
 
 pub merge-requires : goal.merge-requires
 merge-requires c =
-    let are = c.in_ok-contact_rows.ensures ∙ written_contacts c.rows-rows.result.now.items ∙ ap (map (λ (k : KindTables). map contact_words k.contacts)) c.rows-rows.ensures.lists in
+    let are = written_contacts c.rows-rows.result.now.items ∙ ap (map (λ (k : KindTables). map contact_words k.contacts)) c.rows-rows.ensures.lists in
     record { small = subst AreSmall (sym are) (small_contacts c.args.tables.now c.rows-rows.ensures.coherent) }
 
 pub merge-requires-2 : goal.merge-requires-2
 merge-requires-2 c =
-    let are = c.in_ok-part_rows.ensures ∙ written_parts c.rows-rows.result.now.items ∙ ap (map (λ (k : KindTables). map part_words k.parts)) c.rows-rows.ensures.lists in
+    let are = written_parts c.rows-rows.result.now.items ∙ ap (map (λ (k : KindTables). map part_words k.parts)) c.rows-rows.ensures.lists in
     record { small = subst AreSmall (sym are) (small_parts c.args.tables.now c.rows-rows.ensures.coherent) }
 
 pub invariant_of-result : goal.invariant_of-result
 invariant_of-result c =
     let t = c.args.tables.now in
-    let contacts_are = c.in_ok-contact_rows.ensures ∙ written_contacts c.rows-rows.result.now.items ∙ ap (map (λ (k : KindTables). map contact_words k.contacts)) c.rows-rows.ensures.lists in
-    let parts_are = c.in_ok-part_rows.ensures ∙ written_parts c.rows-rows.result.now.items ∙ ap (map (λ (k : KindTables). map part_words k.parts)) c.rows-rows.ensures.lists in
+    let contacts_are = written_contacts c.rows-rows.result.now.items ∙ ap (map (λ (k : KindTables). map contact_words k.contacts)) c.rows-rows.ensures.lists in
+    let parts_are = written_parts c.rows-rows.result.now.items ∙ ap (map (λ (k : KindTables). map part_words k.parts)) c.rows-rows.ensures.lists in
     let children_are = c.in_ok-children.ensures ∙ written_children c.rows-rows.result.now.items ∙ ap (map (λ (k : KindTables). k.children)) c.rows-rows.ensures.lists in
     let types_are = c.in_ok-types.ensures ∙ written_types c.rows-rows.result.now.items ∙ ap (map (λ (k : KindTables). k.types)) c.rows-rows.ensures.lists in
     let contacts = subst (λ rows. IsMerged rows c.in_ok-contacts.contacts.starts.items c.in_ok-contacts.contacts.words.items c.in_ok-contacts.contacts.count) contacts_are c.in_ok-contacts.ensures in
@@ -51,8 +51,8 @@ invariant_of-result c =
 pub returns-clause-tables : goal.returns-clause-tables
 returns-clause-tables c =
     let t = c.args.tables.now in
-    let contacts_are = c.in_ok-contact_rows.ensures ∙ written_contacts c.rows-rows.result.now.items ∙ ap (map (λ (k : KindTables). map contact_words k.contacts)) c.rows-rows.ensures.lists in
-    let parts_are = c.in_ok-part_rows.ensures ∙ written_parts c.rows-rows.result.now.items ∙ ap (map (λ (k : KindTables). map part_words k.parts)) c.rows-rows.ensures.lists in
+    let contacts_are = written_contacts c.rows-rows.result.now.items ∙ ap (map (λ (k : KindTables). map contact_words k.contacts)) c.rows-rows.ensures.lists in
+    let parts_are = written_parts c.rows-rows.result.now.items ∙ ap (map (λ (k : KindTables). map part_words k.parts)) c.rows-rows.ensures.lists in
     let children_are = c.in_ok-children.ensures ∙ written_children c.rows-rows.result.now.items ∙ ap (map (λ (k : KindTables). k.children)) c.rows-rows.ensures.lists in
     let types_are = c.in_ok-types.ensures ∙ written_types c.rows-rows.result.now.items ∙ ap (map (λ (k : KindTables). k.types)) c.rows-rows.ensures.lists in
     let f = lists_in c.in_ok-copied.field-0 c.in_ok-copied_lists.field-0 c.in_ok-types.field-0 c.in_ok-children.children c.in_ok-contacts.contacts c.in_ok-parts.parts in
