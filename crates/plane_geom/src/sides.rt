@@ -21,7 +21,7 @@ use std::cmp::Ordering;
 
 /// The side of the directed edge a→b on which p lies: Greater strictly left of it, Equal on its
 /// line, Less strictly right. Coefficients may be up to 2^25.
-#[inline]
+#[inline(always)]
 pub fn side(order: Order, a: &Point, b: &Point, p: &Point) -> Ordering
     requires a_within { IsWithin (2 ^ 25) a.now }
     requires b_within { IsWithin (2 ^ 25) b.now }
