@@ -34,5 +34,6 @@ patch address_chair --colour child --label --mark 0:1/0,2/0 --width 400 rules/ch
 patch address_p3 --colour child --label --mark 2:1/0,0/0 --mark 3:1/2,1/0 --width 400 rules/penrose_p3.toml 0 2
 "$python" tools/draw_dissection.py rules/chair.toml > "$to/docs/gallery/dissection.svg" || fault=1
 "$python" tools/draw_walk.py rules/chair.toml 0 3/0,1/0,0/0 6,6,0,7 > "$to/docs/gallery/walk.svg" || fault=1
+"$python" tools/draw_window.py rules/penrose_p3.toml 0 2/3,1/1,0/1,2/2,0/2,0/2,1/3,1/1 2.2,1.6 9 > "$to/docs/gallery/window.svg" || fault=1
 "$python" tools/draw_steps.py > "$to/docs/gallery/steps.svg" || fault=1
 exit $fault
