@@ -1,6 +1,6 @@
 -- Frames of one base and start number, at one depth and another.
 use Rattle.std.proofs.Common.{◌≡◌, ℕ, zero, suc, ◌+◌, ◌-◌, ◌<◌, ◌≤◌, List, [], ◌∷◌, ◌++◌, length, map, get_or, slice_get, take, drop, Some, Result, Ok, Err, IsOk, OnOk, refl, sym, ap, ap₂, ◌∙◌, subst, arith, length-append}
-use Rattle.std.proofs.lemmas.List.{take_rest, map-append, length-map}
+use Rattle.std.proofs.lemmas.List.{append-nil, take_rest, map-append, length-map}
 use Rattle.addressing.specs.Address.{Step, Address, depth, top_kind, kind_at, Fits}
 use Rattle.frames.specs.Growth.{grown_from, grown_by, chosen}
 use Rattle.frames.proofs.Frames.{kind_at-top, Climbs-top}
@@ -32,6 +32,18 @@ module _ (t : Tiling) where
   at_depth-depth f n h =
       length-append f.base.digits (grown f (n - depth f.base))
       ∙ ap (λ m. length f.base.digits + m) (grown-length (uses_in_order (children t)) (word f.start) 0 (top_kind f.base) (n - depth f.base)) ∙ omega (arith, h)
+
+  -- a base that fits and has grown no digit
+  pub new-is_frame : (f : FrameValue) → Fits (children t) f.base → f.digits ≡ f.base.digits → length f.digits ≤ 64 → IsFrameOf t f
+  new-is_frame f fits same few = record {
+    fits = fits;
+    holds_base = omega (arith, ap length same);
+    at_most_64 = few;
+    its_digits = frame_path f (at_depth t (length f.digits) f) refl refl (same ∙ sym (append-nil f.base.digits) ∙ ap (λ n. f.base.digits ++ grown f n) none);
+  }
+    where
+      none : 0 ≡ length f.digits - depth f.base
+      none = omega (arith, ap length same)
 
   -- a frame may become any of its base and start number that is no shallower
   pub later : (f : FrameValue) (n : ℕ) → IsFrameOf t f → length f.digits ≤ n → n ≤ 64 → GrowsTo t f (at_depth t n f)

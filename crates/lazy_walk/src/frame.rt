@@ -1,8 +1,8 @@
 //! A base tile and the supertile round it.
 ghost use Rattle.std.specs.Prelude.{◌≡◌, ◌↔◌, ◌+◌, ◌<◌, ◌≤◌, length, map, max, Some, IsOk, OnOk, OnErr};
-ghost use Rattle.addressing.specs.Address.{depth, kind_at};
+ghost use Rattle.addressing.specs.Address.{depth, kind_at, Fits};
 ghost use Rattle.frames.specs.Frame.{lifted_in};
-ghost use Rattle.rule_model.specs.Tiling.{tiling_of};
+ghost use Rattle.rule_model.specs.Tiling.{Tiling, tiling_of, children};
 ghost use Rattle.tile_shape.specs.Views.{address_of, step_of};
 ghost use Rattle.lazy_walk.specs.Frames.{whole, at_depth, IsFrameOf, GrowsTo};
 
@@ -41,6 +41,7 @@ impl Frame {
         ensures start { result.start ≡ start }
         ensures digits { result.digits ≡ (address_of base).digits }
         ensures at_most_64 { length result.digits ≤ 64 }
+        ensures is_frame { (t : Tiling) → Fits (children t) (address_of base) → IsFrameOf t result }
     {
         let mut digits = ArrayVec::new();
         let _ = digits.try_extend_from_slice(base.digits.as_slice());

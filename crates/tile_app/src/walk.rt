@@ -1,5 +1,5 @@
 //! The command `walk`: the tiles of a path, in a frame that grows.
-ghost use Rattle.std.specs.Prelude.{◌≡◌, ◌≤◌, None, Some, Ok, IfOk, IfErr, length, string_bytes};
+ghost use Rattle.std.specs.Prelude.{◌≡◌, ◌≤◌, ◌++◌, None, Some, Ok, IfOk, IfErr, OnOk, length, string_bytes};
 ghost use Rattle.cyclo_points.specs.declared.order.Order.{Order};
 ghost use Rattle.cyclo_points.specs.Motion.{motion_in};
 ghost use Rattle.cyclo_points.specs.Point.{IsOf};
@@ -71,13 +71,13 @@ fn first_line(alloc: Global, tile: &PlacedTile) -> Result<String, AllocError>
     format!(in alloc; "{kind} {motion} {addr} -\n")
 }
 
-/// The line of a tile of the path, with the edge that leads back.
-fn next_line(alloc: Global, tile: &PlacedTile, back: u8) -> Result<String, AllocError>
-    ensures { IfOk result (λ text. (order : Order) → IsOf order tile.now.motion.shift → tile.now.kind ≡ tile.now.addr.kind
-        → string_bytes text ≡ walk_line order (address_of tile.now.addr) (motion_in order tile.now.motion) (Some back)) }
+/// Writes the line of a tile of the path, with the edge that leads back, behind a text.
+fn write_line(text: &mut String, tile: &PlacedTile, back: u8) -> Result<(), AllocError>
+    ensures { OnOk result ((order : Order) → IsOf order tile.now.motion.shift → tile.now.kind ≡ tile.now.addr.kind
+        → string_bytes text.new ≡ string_bytes text.old ++ walk_line order (address_of tile.now.addr) (motion_in order tile.now.motion) (Some back)) }
 {
     let PlacedTile { kind, motion, addr } = tile;
-    format!(in alloc; "{kind} {motion} {addr} {back}\n")
+    write!(text, "{kind} {motion} {addr} {back}\n")
 }
 
 /// The text of a path that can be walked in the frame as it is.
@@ -97,7 +97,7 @@ fn lines<L: Ledger>(
     let mut text = first_line(alloc, &tile)?;
     for edge in path {
         let back = frame.step(machine, &mut tile, *edge, steps).unwrap();
-        text.push_str(next_line(alloc, &tile, back)?.as_str())?;
+        write_line(&mut text, &tile, back)?;
     }
     Ok(text)
 }

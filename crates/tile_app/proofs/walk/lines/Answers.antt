@@ -1,15 +1,11 @@
-use Rattle.std.proofs.Common.{◌≡◌, ℕ, ◌+◌, ◌*◌, ◌≤◌, ◌<◌, ◌^◌, ◌++◌, List, [], ◌∷◌, length, get_or, take, drop, None, Some, string_bytes, refl, sym, ap, ap₂, ◌∙◌, subst, arith, append_assoc, append-nil}
+use Rattle.std.proofs.Common.{◌+◌, ◌*◌, ◌^◌, ◌++◌, [], get_or, take, drop, None, Some, string_bytes, refl, sym, ap, ◌∙◌, subst, arith, append_assoc, append-nil}
 use Rattle.std.proofs.lemmas.List.{take_more}
 use Rattle.addressing.specs.Address.{Address}
-use Rattle.cyclo_points.specs.Order.{points_of}
-use Rattle.cyclo_points.specs.Point.{IsWithin}
 use Rattle.cyclo_points.specs.Motion.{motion_in}
 use Rattle.cyclo_points.proofs.Within.{point_wider}
-use Rattle.frames.specs.Frame.{StandsInFrame}
 use Rattle.lazy_walk.specs.Frames.{whole}
 use Rattle.lazy_walk.specs.Paths.{CanBeWalked, Leads}
 use Rattle.rule_model.specs.Tiling.{tiling_of}
-use Rattle.rule_model.specs.Views.{rule_of}
 use Rattle.tile_place.specs.Crossed.{IsOnlyAcross}
 use Rattle.tile_shape.specs.Views.{address_of}
 use Rattle.tile_app.specs.Walk.{walk_line, IsWalkLine, AreLines}
@@ -53,15 +49,15 @@ loop-edge-preserved g c =
     let across : IsOnlyAcross t a e x c.unwrap-back.result = of_ok c.step.result c.unwrap-back.result (λ back. IsOnlyAcross t a e x back) c.unwrap-back.ensures c.step.ensures.only_tile_across in
     let stands = c.step.ensures.stands in
     let ahead = ahead_at t a inv.ahead.0 c.args.path.now c.loop-edge.edge-index c.loop-edge-test.true inv.ahead.1 in
-    let line = string_bytes c.in_ok-next_line.field-0 in
+    let line = walk_line m.order x (motion_in m.order c.step.new.tile.motion) (Some c.unwrap-back.result) in
     record {
       first = inv.first;
       after = inv.after ++ line;
       base = inv.base;
       along = subst (λ p. AreLines t (whole c.args.frame.now) (whole c.args.frame.now) p x (inv.after ++ line)) (sym (take_more c.args.path.now c.loop-edge.edge-index 0 c.loop-edge-test.true))
           (one_line t (whole c.args.frame.now) (whole c.args.frame.now) a x (take c.loop-edge.edge-index c.args.path.now) inv.after line e c.unwrap-back.result inv.along across
-          (record { motion = motion_in m.order c.step.new.tile.motion; stands = stands.in_frame; is_line = c.in_ok-next_line.ensures m.order stands.in_order stands.its_kind }));
-      is_text = c.in_ok-push_str.ensures.bytes ∙ ap₂ (λ xs ys. xs ++ ys) inv.is_text c.as_str.ensures.value ∙ append_assoc inv.first inv.after line;
+          (record { motion = motion_in m.order c.step.new.tile.motion; stands = stands.in_frame; is_line = refl }));
+      is_text = c.in_ok-write_line.ensures m.order stands.in_order stands.its_kind ∙ ap (λ xs. xs ++ line) inv.is_text ∙ append_assoc inv.first inv.after line;
       stands = stands;
       within = point_wider (512 * c.loop-edge.edge-index + 512) (512 * (c.loop-edge.edge-index + 1)) c.step.new.tile.motion.shift (omega arith) (c.step.ensures.within (512 * c.loop-edge.edge-index) inv.within);
       ahead = (inv.ahead.0, subst (λ y. Leads t y (drop (c.loop-edge.edge-index + 1) c.args.path.now) inv.ahead.0) (one_across t a ahead.0 x e ahead.1 c.unwrap-back.result ahead.2.across across).0 ahead.3);
