@@ -3,7 +3,6 @@ use Rattle.std.proofs.Common.{◌≡◌, ℕ, zero, suc, ◌+◌, ◌*◌, ◌<�
 use Rattle.std.specs.List.{slice_get}
 use Rattle.std.proofs.lemmas.Option.{slice_get_within, get_or_from_slice_get}
 use Rattle.std.proofs.lemmas.List.{length-map, length-reverse, reverse-reverse, take_all, map-append}
-use Rattle.std.proofs.Math.Seq.{drop-append_seam, take-append_seam}
 use Rattle.addressing.specs.Coherent.{IsCoherent}
 use Rattle.addressing.specs.Contact.{Contact, ChildEdge}
 use Rattle.addressing.specs.Search.{below}
@@ -16,7 +15,7 @@ use Rattle.transducer_core.specs.Merged.{Stands, IsMerged}
 use Rattle.transducer_core.specs.Words.{word_of_contact, contact_of_word, word_of_part, part_of_word, contact_words, part_words}
 use Rattle.transducer_core.proofs.FlatLooks.{kind_at, contact_back, part_entry_back}
 use Rattle.transducer_core.specs.Merging.{as_lists}
-use Rattle.transducer_core.proofs.Standing.{take_at, mapped_at, read_at}
+use Rattle.transducer_core.proofs.Standing.{take_at, mapped_at, read_at, block_read}
 
 -- ---- a list by its places
 below_take : {A : Type 0} (f : ℕ → A) (xs : List A) (n : ℕ) → n ≤ length xs → ((k : ℕ) (x : A) → slice_get xs k ≡ Some x → f k ≡ x) → below f n ≡ take n xs
@@ -38,9 +37,6 @@ map-reversed : {A B : Type 0} (f : A → B) (xs : List A) → map f (reverse xs)
 map-reversed f [] = refl
 map-reversed f (x ∷ xs) =
     ap (map f) (reverse_cons x xs) ∙ map-append f (reverse xs) (x ∷ []) ∙ ap (λ l. l ++ f x ∷ []) (map-reversed f xs) ∙ sym (reverse_cons (f x) (map f xs))
-
-block_read : (words : List ℕ) (s n : ℕ) (block : List ℕ) → Stands words s block → n ≡ length block → take n (drop s words) ≡ block
-block_read words s n block h size = rw (h.words_are, h.start_is, size, drop-append_seam h.front (block ++ h.rest)) (take-append_seam block h.rest)
 
 pub contact_block_back : (t : Tables) (k c : ℕ) → IsCoherent t → map contact_of_word (contact_words (contacts_of t k c)) ≡ contacts_of t k c
 unfolding contact_of

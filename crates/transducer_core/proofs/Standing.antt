@@ -1,7 +1,8 @@
 -- Blocks, one behind the other.
-use Rattle.std.proofs.Common.{◌≡◌, ℕ, zero, suc, ◌+◌, ◌<◌, ◌≤◌, List, [], ◌∷◌, ◌++◌, length, map, take, Some, refl, sym, ap, ◌∙◌, arith, append_assoc, length-append, get_or, Vec, Global}
+use Rattle.std.proofs.Common.{◌≡◌, ℕ, zero, suc, ◌+◌, ◌<◌, ◌≤◌, List, [], ◌∷◌, ◌++◌, length, map, take, drop, Some, refl, sym, ap, ◌∙◌, arith, append_assoc, length-append, get_or, Vec, Global}
 use Rattle.std.proofs.lemmas.Option.{slice_get-map, slice_get_read, get_or_from_slice_get, slice_get_within}
 use Rattle.std.proofs.lemmas.List.{take_more, map-append}
+use Rattle.std.proofs.Math.Seq.{drop-append_seam, take-append_seam}
 use Rattle.std.specs.List.{slice_get, concat, flat_map, AllByRecursion}
 use Rattle.addressing.proofs.Lists.{AllByRecursion-among}
 use Rattle.addressing.proofs.Ranges.{place-among}
@@ -50,6 +51,9 @@ room_at l i b e =
 
 pub stands_last : (l : List (List ℕ)) (b : List ℕ) → Stands (concat (l ++ b ∷ [])) (length (concat l)) b
 stands_last l b = record { front = concat l; rest = []; words_are = concat-append l (b ∷ []); start_is = refl }
+
+pub block_read : (words : List ℕ) (s n : ℕ) (block : List ℕ) → Stands words s block → n ≡ length block → take n (drop s words) ≡ block
+block_read words s n block h size = rw (h.words_are, h.start_is, size, drop-append_seam h.front (block ++ h.rest)) (take-append_seam block h.rest)
 
 -- more behind them change nothing
 pub Stands-more : (words more : List ℕ) (s : ℕ) (b : List ℕ) → Stands words s b → Stands (words ++ more) s b

@@ -11,8 +11,8 @@ ghost use Rattle.transducer_core.specs.Once.{HasDifferent};
 use crate::blocks::Blocks;
 use crate::merging::{Merged, merge};
 use crate::mirror::mirror;
-use crate::spread::{cell, spread};
-use crate::table_lists::{children, scaled_lists, types};
+use crate::spread::{cell, kind_cells};
+use crate::table_lists::{children, types};
 use crate::words::{Which, contact_in, part_in};
 use edge_tables::child_edge::ChildEdge;
 use edge_tables::contact::Contact;
@@ -57,15 +57,14 @@ impl FlatTable {
         ensures coherent { IsCoherent tables.now }
     {
         let rows = tables.rows();
-        let children = children(alloc, rows)?;
-        let child_kinds = spread(alloc, &scaled_lists(alloc, &children)?)?;
+        let child_kinds = kind_cells(alloc, rows)?;
         let contacts = merge(alloc, rows, Which::Contacts)?;
         let parts = merge(alloc, rows, Which::Parts)?;
         Ok(FlatTable {
             mates: copied(alloc, tables.mates())?,
             subs: copied_lists(alloc, tables.subs())?,
             types: types(alloc, rows)?,
-            children,
+            children: children(alloc, rows)?,
             child_kinds,
             contacts,
             parts,

@@ -1,5 +1,5 @@
 //! The lists of contact tables, taken apart.
-ghost use Rattle.std.specs.Prelude.{◌≡◌, ◌*◌, map, IfOk};
+ghost use Rattle.std.specs.Prelude.{◌≡◌, map, IfOk};
 ghost use Rattle.transducer_core.specs.Merging.{as_lists};
 
 use edge_tables::kind_rows::KindRows;
@@ -27,26 +27,4 @@ pub(crate) fn children(alloc: Global, rows: &Vec<KindRows>) -> Result<Vec<Vec<u8
         lists.push(copied(alloc, &row.children)?)?;
     }
     Ok(lists)
-}
-
-/// 256 times each kind.
-fn scaled(alloc: Global, kinds: &Vec<u8>) -> Result<Vec<u16>, NoMemory>
-    ensures { IfOk result (λ row. row.items ≡ map (λ n. 256 * n) kinds.now.items) }
-{
-    let mut row = Vec::with_capacity(alloc, kinds.len())?;
-    for kind in kinds {
-        row.push(u16::from(*kind) * 256)?;
-    }
-    Ok(row)
-}
-
-/// 256 times the kind of each child of each kind.
-pub(crate) fn scaled_lists(alloc: Global, lists: &Vec<Vec<u8>>) -> Result<Vec<Vec<u16>>, NoMemory>
-    ensures { IfOk result (λ rows. as_lists rows ≡ map (λ v. map (λ n. 256 * n) v.items) lists.now.items) }
-{
-    let mut rows = Vec::with_capacity(alloc, lists.len())?;
-    for kinds in lists {
-        rows.push(scaled(alloc, kinds)?)?;
-    }
-    Ok(rows)
 }

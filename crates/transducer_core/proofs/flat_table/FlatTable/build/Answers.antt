@@ -1,18 +1,20 @@
-use Rattle.std.proofs.Common.{◌*◌, map, subst, sym, ap, ◌∙◌}
+use Rattle.std.proofs.Common.{List, ◌*◌, length, map, subst, sym, ap, ◌∙◌, arith}
+use Rattle.std.proofs.lemmas.List.{length-map}
 use Rattle.addressing.specs.Tables.{Tables, KindTables}
+use Rattle.edge_tables.specs.Views.{as_kind_tables}
 use Rattle.transducer_core.specs.FlatTables.{lists_in, kind_rows, IsFlat}
 use Rattle.transducer_core.specs.Merged.{IsMerged, AreSpread}
 use Rattle.transducer_core.specs.Merging.{AreSmall}
 use Rattle.transducer_core.specs.Words.{contact_words, part_words}
-use Rattle.transducer_core.proofs.FlatCounts.{written_contacts, written_parts, written_types, written_children, scaled, short_children, small_contacts, small_parts}
+use Rattle.transducer_core.proofs.FlatCounts.{written_contacts, written_parts, written_types, written_children, written_kinds, scaled, short_children, small_contacts, small_parts}
 use Rattle.transducer_core.proofs.FlatMade.{Holds, flat_is}
 use Rattle.transducer_core.proofs.flat_table.FlatTable.build.Goals as goal
 
-pub spread-requires : goal.spread-requires
-spread-requires c = record {
-  short = short_children c.args.tables.now c.in_ok-scaled_lists.field-0 c.rows-rows.ensures.coherent
-      (c.in_ok-scaled_lists.ensures ∙ scaled c.in_ok-children.children.items ∙ ap (map (map (λ n. 256 * n))) (c.in_ok-children.ensures ∙ written_children c.rows-rows.result.now.items ∙ ap (map (λ (k : KindTables). k.children)) c.rows-rows.ensures.lists));
-}
+pub kind_cells-requires-clause-few : goal.kind_cells-requires-clause-few
+kind_cells-requires-clause-few c = omega (arith, c.rows-rows.ensures.coherent.at_most_16_kinds, ap (λ (l : List KindTables). length l) c.rows-rows.ensures.lists, length-map c.rows-rows.result.now.items as_kind_tables)
+
+pub kind_cells-requires-clause-short : goal.kind_cells-requires-clause-short
+kind_cells-requires-clause-short c = short_children c.args.tables.now c.rows-rows.result.now.items c.rows-rows.ensures.coherent c.rows-rows.ensures.lists
 
 pub merge-requires : goal.merge-requires
 merge-requires c =
@@ -34,8 +36,8 @@ invariant_of-result c =
     let contacts = subst (λ rows. IsMerged rows c.in_ok-contacts.contacts.starts.items c.in_ok-contacts.contacts.words.items c.in_ok-contacts.contacts.count) contacts_are c.in_ok-contacts.ensures in
     let parts = subst (λ rows. IsMerged rows c.in_ok-parts.parts.starts.items c.in_ok-parts.parts.words.items c.in_ok-parts.parts.count) parts_are c.in_ok-parts.ensures in
     let kinds : AreSpread (kind_rows t) c.in_ok-child_kinds.child_kinds.items =
-    subst (λ rows. AreSpread rows c.in_ok-child_kinds.child_kinds.items) (c.in_ok-scaled_lists.ensures ∙ scaled c.in_ok-children.children.items ∙ ap (map (map (λ n. 256 * n))) children_are) c.in_ok-child_kinds.ensures in
-    let f = lists_in c.in_ok-copied.field-0 c.in_ok-copied_lists.field-0 c.in_ok-types.field-0 c.in_ok-children.children c.in_ok-contacts.contacts c.in_ok-parts.parts in
+    subst (λ rows. AreSpread rows c.in_ok-child_kinds.child_kinds.items) (written_kinds c.rows-rows.result.now.items ∙ ap (λ (ks : List KindTables). map (λ (k : KindTables). map (λ n. 256 * n) k.children) ks) c.rows-rows.ensures.lists ∙ sym (scaled c.args.tables.now.kinds)) c.in_ok-child_kinds.ensures in
+    let f = lists_in c.in_ok-copied.field-0 c.in_ok-copied_lists.field-0 c.in_ok-types.field-0 c.in_ok-children.field-0 c.in_ok-contacts.contacts c.in_ok-parts.parts in
     let held : Holds t f c.in_ok-contacts.contacts.count c.in_ok-parts.parts.count = record {
       coherent = c.rows-rows.ensures.coherent;
       mates = c.in_ok-copied.ensures ∙ c.mates.ensures;
@@ -55,7 +57,7 @@ returns-clause-tables c =
     let parts_are = written_parts c.rows-rows.result.now.items ∙ ap (map (λ (k : KindTables). map part_words k.parts)) c.rows-rows.ensures.lists in
     let children_are = c.in_ok-children.ensures ∙ written_children c.rows-rows.result.now.items ∙ ap (map (λ (k : KindTables). k.children)) c.rows-rows.ensures.lists in
     let types_are = c.in_ok-types.ensures ∙ written_types c.rows-rows.result.now.items ∙ ap (map (λ (k : KindTables). k.types)) c.rows-rows.ensures.lists in
-    let f = lists_in c.in_ok-copied.field-0 c.in_ok-copied_lists.field-0 c.in_ok-types.field-0 c.in_ok-children.children c.in_ok-contacts.contacts c.in_ok-parts.parts in
+    let f = lists_in c.in_ok-copied.field-0 c.in_ok-copied_lists.field-0 c.in_ok-types.field-0 c.in_ok-children.field-0 c.in_ok-contacts.contacts c.in_ok-parts.parts in
     flat_is t f c.in_ok-contacts.contacts.count c.in_ok-parts.parts.count (record {
       coherent = c.rows-rows.ensures.coherent;
       mates = c.in_ok-copied.ensures ∙ c.mates.ensures;
