@@ -10,7 +10,7 @@ use Rattle.edge_tables.specs.Views.{as_contact, as_child_edge, as_kind_tables}
 use Rattle.addressing.specs.Coherent.{IsCoherent}
 use Rattle.addressing.specs.Contact.{Contact, ChildEdge}
 use Rattle.addressing.specs.Search.{IsAmong}
-use Rattle.addressing.specs.Tables.{Tables, KindTables, kind_tables, child_kinds, part_count}
+use Rattle.addressing.specs.Tables.{Tables, KindTables, kind_tables, part_count}
 use Rattle.addressing.proofs.Lists.{AllByRecursion-from}
 use Rattle.addressing.proofs.Ranges.{among-place, image-at, among-flat_map, slice_get-image}
 use Rattle.addressing.proofs.TableBounds.{some_within, part_count-within}
@@ -38,14 +38,6 @@ written_parts (r ∷ rows) = λ i. inner r.parts.items i ∷ written_parts rows 
     inner : (vs : List (Vec written.ChildEdge Global)) → map (λ v. part_words (map as_child_edge v.items)) vs ≡ map part_words (map (λ v. map as_child_edge v.items) vs)
     inner [] = refl
     inner (v ∷ vs) = ap (λ l. part_words (map as_child_edge v.items) ∷ l) (inner vs)
-
-pub written_types : (rows : List KindRows) → map (λ r. r.types.items) rows ≡ map (λ (k : KindTables). k.types) (map as_kind_tables rows)
-written_types [] = refl
-written_types (r ∷ rows) = ap (λ l. r.types.items ∷ l) (written_types rows)
-
-pub written_children : (rows : List KindRows) → map (λ r. r.children.items) rows ≡ map (λ (k : KindTables). k.children) (map as_kind_tables rows)
-written_children [] = refl
-written_children (r ∷ rows) = ap (λ l. r.children.items ∷ l) (written_children rows)
 
 -- ---- they are few and short
 pub scaled : (ks : List KindTables) → map (map (λ n. 256 * n)) (map (λ (k : KindTables). k.children) ks) ≡ map (λ (k : KindTables). map (λ n. 256 * n) k.children) ks

@@ -28,7 +28,7 @@ unfolding parts_of
 parts_at t k e h = rw (some_within (kind_tables t k).parts e h).1 refl
 
 -- ---- an entry of a block
-stands_entry : (words : List ℕ) (s : ℕ) (block : List ℕ) (e w : ℕ) → Stands words s block → slice_get block e ≡ Some w → slice_get words (s + e) ≡ Some w
+pub stands_entry : (words : List ℕ) (s : ℕ) (block : List ℕ) (e w : ℕ) → Stands words s block → slice_get block e ≡ Some w → slice_get words (s + e) ≡ Some w
 stands_entry words s block e w h is =
     rw (h.words_are, h.start_is) (slice_get-append_right h.front (block ++ h.rest) e ∙ slice_get-append_left block h.rest e (slice_get_within block e w is) ∙ is)
 

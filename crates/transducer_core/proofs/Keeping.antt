@@ -2,14 +2,13 @@
 use Rattle.std.proofs.Common.{◌≡◌, inl, inr, ℕ, zero, suc, ◌+◌, ◌*◌, ◌-◌, ◌<◌, ◌≤◌, get_or, List, [], ◌∷◌, ◌++◌, length, take, drop, Some, refl, sym, ap, ◌∙◌, arith, append_assoc, length-append}
 use Rattle.std.specs.List.{slice_get, concat}
 use Rattle.std.proofs.lemmas.Option.{slice_get-get_or}
-use Rattle.std.proofs.Math.Seq.{drop-append_seam, take-append_seam}
+use Rattle.std.proofs.Math.Seq.{take-append_seam}
 use Rattle.addressing.specs.Search.{IsAmong}
 use Rattle.addressing.proofs.Ranges.{among-append, place-among}
 use Rattle.transducer_core.specs.Merged.{Stands}
-use Rattle.transducer_core.specs.Merging.{ends_of, AreKept, StandsLast, IsPlaced, ArePlaced, AllStand, AreShort}
-use Rattle.transducer_core.specs.Once.{AreOnce}
+use Rattle.transducer_core.specs.Merging.{ends_of, AreKept, StandsLast, IsPlaced, ArePlaced, AllStand}
 use Rattle.transducer_core.proofs.Once.{once_known, once_fresh}
-use Rattle.transducer_core.proofs.Standing.{concat-append, append-none, take_at, stands_at, room_at, stands_last, Stands-more, AllStand-more, AllStand-push, block_read}
+use Rattle.transducer_core.proofs.Standing.{concat-append, append-none, take_at, stands_at, room_at, Stands-more, AllStand-more, AllStand-push, block_read}
 
 pub ends_length : (from : ℕ) (kept : List (List ℕ)) → length (ends_of from kept) ≡ length kept
 ends_length from [] = refl
@@ -21,12 +20,12 @@ ends_push from (x ∷ xs) b =
     let e : from + length x + length (concat xs) + length b ≡ from + length (x ++ concat xs) + length b = omega (arith, length-append x (concat xs)) in
     ap (λ (l : List ℕ). (from + length x) ∷ l) (ends_push (from + length x) xs b ∙ ap (λ (n : ℕ). ends_of (from + length x) xs ++ n ∷ []) e)
 
-record EndsAt (from : ℕ) (kept : List (List ℕ)) (i e : ℕ) : Type 0 where
-  block : List ℕ
-  at : slice_get kept i ≡ Some block
-  is : e ≡ from + length (concat (take i kept)) + length block
+pub record EndsAt (from : ℕ) (kept : List (List ℕ)) (i e : ℕ) : Type 0 where
+  pub block : List ℕ
+  pub at : slice_get kept i ≡ Some block
+  pub is : e ≡ from + length (concat (take i kept)) + length block
 
-ends_at : (from : ℕ) (kept : List (List ℕ)) (i e : ℕ) → slice_get (ends_of from kept) i ≡ Some e → EndsAt from kept i e
+pub ends_at : (from : ℕ) (kept : List (List ℕ)) (i e : ℕ) → slice_get (ends_of from kept) i ≡ Some e → EndsAt from kept i e
 ends_at from [] i e h = absurd cc
 ends_at from (b ∷ bs) zero e h = let same : from + length b ≡ e = cc in record { block = b; at = refl; is = omega (arith, same) }
 ends_at from (b ∷ bs) (suc i) e h =
@@ -96,6 +95,16 @@ past_more kept block words begin last i e past l other =
           ];
     }
 
+-- ---- one more
+pub kept_more : (kept : List (List ℕ)) (block words ends longer ends' : List ℕ) (n : ℕ) → AreKept kept words ends → longer ≡ words ++ block → n ≡ length longer → ends' ≡ ends ++ n ∷ [] → AreKept (kept ++ block ∷ []) longer ends'
+kept_more kept block words ends longer ends' n h longer_is n_is ends_is =
+    let here : longer ≡ concat kept ++ block = longer_is ∙ ap (λ (w : List ℕ). w ++ block) h.words_are in
+    let size : n ≡ 0 + length (concat kept) + length block = omega (arith, n_is, ap (λ (l : List ℕ). length l) here, length-append (concat kept) block) in
+    record {
+      words_are = here ∙ ap (λ (w : List ℕ). concat kept ++ w) (sym (append-none block)) ∙ sym (concat-append kept (block ∷ []));
+      ends_are = ends_is ∙ ap (λ (l : List ℕ). l ++ n ∷ []) h.ends_are ∙ ap (λ (m : ℕ). ends_of 0 kept ++ m ∷ []) size ∙ sym (ends_push 0 kept block);
+    }
+
 -- ---- the last block, kept or not
 pub kept_known : (kept : List (List ℕ)) (block words ends cut : List ℕ) (last start : ℕ) → StandsLast kept block words ends last → cut ≡ take last words → Stands (concat kept) start block → IsAmong block kept → IsPlaced kept block cut ends start
 kept_known kept block words ends cut last start h cut_is stands among =
@@ -113,13 +122,9 @@ kept_known kept block words ends cut last start h cut_is stands among =
 pub kept_fresh : (kept : List (List ℕ)) (block words ends longer : List ℕ) (last : ℕ) → StandsLast kept block words ends last → longer ≡ ends ++ length words ∷ [] → (IsAmong block kept → ⊥) → IsPlaced kept block words longer last
 kept_fresh kept block words ends longer last h longer_is fresh =
     let none = append-none block in
-    let size : length words ≡ 0 + length (concat kept) + length block = omega (arith, ap (λ (l : List ℕ). length l) h.words_are, length-append (concat kept) block) in
     record {
       more = block ∷ [];
-      kept_are = record {
-        words_are = h.words_are ∙ ap (λ (w : List ℕ). concat kept ++ w) (sym none) ∙ sym (concat-append kept (block ∷ []));
-        ends_are = longer_is ∙ ap (λ (l : List ℕ). l ++ length words ∷ []) h.ends_are ∙ ap (λ (n : ℕ). ends_of 0 kept ++ n ∷ []) size ∙ sym (ends_push 0 kept block);
-      };
+      kept_are = kept_more kept block (concat kept) ends words longer (length words) (record { words_are = refl; ends_are = h.ends_are }) h.words_are refl longer_is;
       stands = last_stands kept block words ends last h;
       few = omega arith;
       short = omega (arith, ap (λ (w : List ℕ). length w) none);

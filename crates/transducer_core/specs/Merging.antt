@@ -1,13 +1,8 @@
 -- Blocks while they are merged.
-use Rattle.std.specs.Prelude.{◌≡◌, ◌+◌, ◌*◌, ◌≤◌, ℕ, List, [], ◌∷◌, ◌++◌, map, length, Vec}
-use Rattle.std.specs.Global.{Global}
+use Rattle.std.specs.Prelude.{◌≡◌, ◌+◌, ◌*◌, ◌≤◌, ℕ, List, [], ◌∷◌, ◌++◌, length}
 use Rattle.std.specs.List.{concat, AllByRecursion}
 use Rattle.transducer_core.specs.Merged.{Stands}
 use Rattle.transducer_core.specs.Once.{AreOnce}
-
--- the lists that the vectors hold
-abbrev pub as_lists : Vec (Vec ℕ Global) Global → List (List ℕ)
-as_lists v = map (λ w. w.items) v.items
 
 -- where blocks end that stand in a row from this place on
 abbrev pub ends_of : ℕ → List (List ℕ) → List ℕ

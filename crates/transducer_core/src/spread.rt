@@ -9,7 +9,7 @@ use tile_shape::no_memory::NoMemory;
 use tile_shape::step::Step;
 
 /// What stands behind a row.
-const BLANKS: [u16; 256] = [0; 256];
+const BLANKS: &[u16; 256] = &[0; 256];
 
 /// Where a number of a row stands.
 #[inline]
@@ -36,8 +36,8 @@ pub(crate) fn fill_row(list: &mut Vec<u16>, count: usize) -> Result<(), NoMemory
     requires short { count ≤ 256 }
     ensures { OnOk result ((blanks : List ℕ) × (list.new.items ≡ list.old.items ++ blanks) × (count + length blanks ≡ 256)) }
 {
-    let blanks = BLANKS;
-    list.extend_from_slice(&blanks.as_slice()[count..])?;
+    let blanks = BLANKS.as_slice();
+    list.extend_from_slice(&blanks[count..])?;
     Ok(())
 }
 

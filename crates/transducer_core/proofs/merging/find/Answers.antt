@@ -1,4 +1,4 @@
-use Rattle.std.proofs.Common.{◌≡◌, List, ℕ, Some, sym, ap, ◌∙◌, arith, length, take}
+use Rattle.std.proofs.Common.{◌≡◌, List, ℕ, Some, ap, arith, length}
 use Rattle.std.specs.List.{slice_get}
 use Rattle.std.proofs.lemmas.List.{take_all}
 use Rattle.transducer_core.proofs.Keeping.{look, found, past_more, ends_length, read_index}

@@ -1,5 +1,4 @@
-use Rattle.std.proofs.Common.{◌≡◌, ◌∷◌, [], ◌++◌, sym, ap, ◌∙◌, subst, List, ℕ, length}
-use Rattle.transducer_core.specs.Merging.{StandsLast, IsPlaced}
+use Rattle.std.proofs.Common.{◌∷◌, [], ◌++◌, ap, ◌∙◌, ℕ}
 use Rattle.transducer_core.proofs.Keeping.{kept_known, kept_fresh}
 use Rattle.transducer_core.proofs.merging.keep.Goals as goal
 

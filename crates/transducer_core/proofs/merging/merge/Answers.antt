@@ -1,4 +1,4 @@
-use Rattle.std.proofs.Common.{◌≡◌, ◌+◌, ◌*◌, ◌<◌, List, ℕ, ◌∷◌, [], ◌++◌, ◌≤◌, length, map, take, ap, ◌∙◌, sym, refl, arith, length-append}
+use Rattle.std.proofs.Common.{◌≡◌, ◌+◌, List, ℕ, ◌∷◌, [], ◌++◌, ◌≤◌, length, map, take, ap, ◌∙◌, refl, arith, length-append}
 use Rattle.std.specs.List.{concat, flat_map}
 use Rattle.std.proofs.lemmas.List.{take_all, length-map}
 use Rattle.transducer_core.specs.Merging.{AreShort}

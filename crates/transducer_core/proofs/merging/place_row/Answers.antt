@@ -1,9 +1,7 @@
-use Rattle.std.proofs.Common.{◌≡◌, List, ℕ, ◌∷◌, [], ◌++◌, ◌≤◌, length, take, ap, ◌∙◌, sym, arith, length-append}
-use Rattle.std.specs.List.{concat}
+use Rattle.std.proofs.Common.{List, ℕ, ◌++◌, ◌≤◌, length, take, ap, ◌∙◌, arith, length-append}
 use Rattle.std.proofs.lemmas.List.{take_all, length-take}
 use Rattle.addressing.proofs.Lists.{AllByRecursion-among}
 use Rattle.addressing.proofs.Ranges.{place-among}
-use Rattle.transducer_core.specs.Merging.{AreKept, ArePlaced}
 use Rattle.transducer_core.specs.RowBlocks.{blocks_of}
 use Rattle.transducer_core.proofs.Keeping.{placed_none, placed_more, words_short, last_of_row}
 use Rattle.transducer_core.proofs.Standing

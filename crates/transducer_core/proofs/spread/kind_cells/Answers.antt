@@ -1,4 +1,4 @@
-use Rattle.std.proofs.Common.{◌≡◌, ◌*◌, ◌≤◌, ◌<◌, ◌++◌, List, ℕ, length, map, take, ap, ◌∙◌, arith, length-append}
+use Rattle.std.proofs.Common.{◌≡◌, ◌*◌, ◌<◌, List, ℕ, length, map, take, ap, arith, length-append}
 use Rattle.std.proofs.lemmas.List.{length-take, length-map}
 use Rattle.transducer_core.proofs.Standing
 use Rattle.transducer_core.proofs.Strides

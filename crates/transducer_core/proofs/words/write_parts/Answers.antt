@@ -1,5 +1,4 @@
-use Rattle.std.proofs.Common.{◌≡◌, ◌-◌, ◌∷◌, [], ◌++◌, List, ℕ, length, map, reverse, take, Some, sym, ap, ◌∙◌, arith, append_assoc}
-use Rattle.std.specs.List.{slice_get}
+use Rattle.std.proofs.Common.{◌-◌, ◌∷◌, [], ◌++◌, List, ℕ, map, take, sym, ap, ◌∙◌, arith, append_assoc}
 use Rattle.std.proofs.lemmas.List.{length-map}
 use Rattle.addressing.proofs.Ranges.{slice_get-image}
 use Rattle.edge_tables.specs.Views.{as_child_edge}
