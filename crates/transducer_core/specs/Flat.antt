@@ -9,13 +9,15 @@ use Rattle.transducer_core.specs.Words.{contact_of_word, part_of_word}
 abbrev pub lists_of : Tables → List (List ℕ)
 lists_of t = t.mates ∷ (t.subs ++ (map (λ (k : KindTables). k.types) t.kinds ++ map (λ (k : KindTables). k.children) t.kinds))
 
--- and back from such lists: there are as many subdivisions as mates, and as many lists of types as of children
+-- and back from such lists: the first has the mates
 abbrev pub mates_in : List (List ℕ) → List ℕ
 mates_in lists = get_or lists 0 []
 
+-- behind it are as many subdivisions as there are mates
 abbrev pub subs_in : List (List ℕ) → List (List ℕ)
 subs_in lists = take (length (mates_in lists)) (drop 1 lists)
 
+-- and then the kinds' lists, of which one half has the types and the other the children
 abbrev pub sides_in : List (List ℕ) → List (List ℕ)
 sides_in lists = drop (length (mates_in lists)) (drop 1 lists)
 

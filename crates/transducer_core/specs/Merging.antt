@@ -1,20 +1,20 @@
--- Blocks while they are merged.
+-- Lists one behind the other, and blocks while they are merged.
 use Rattle.std.specs.Prelude.{◌≡◌, ◌+◌, ◌*◌, ◌≤◌, ℕ, List, [], ◌∷◌, ◌++◌, length}
 use Rattle.std.specs.List.{concat, AllByRecursion}
 use Rattle.transducer_core.specs.Merged.{Stands}
 use Rattle.transducer_core.specs.Once.{AreOnce}
 
--- where blocks end that stand in a row from this place on
+-- where lists end that stand one behind the other, from this place on
 abbrev pub ends_of : ℕ → List (List ℕ) → List ℕ
 ends_of from [] = []
 ends_of from (b ∷ bs) = (from + length b) ∷ ends_of (from + length b) bs
 
--- the words are these blocks in a row, which end at these places
+-- the words are these lists, one behind the other, and each ends where it is said to
 pub record AreKept (kept : List (List ℕ)) (words ends : List ℕ) : Type 0 where
   pub words_are : words ≡ concat kept
   pub ends_are : ends ≡ ends_of 0 kept
 
--- one more block stands behind them, of which no end is written
+-- and one more block behind them, of which no end is written
 pub record StandsLast (kept : List (List ℕ)) (block words ends : List ℕ) (last : ℕ) : Type 0 where
   pub words_are : words ≡ concat kept ++ block
   pub ends_are : ends ≡ ends_of 0 kept

@@ -25,7 +25,7 @@ use tile_shape::no_memory::NoMemory;
 
 /// Contact tables in flat lists, which contracts see as those tables. The contact block of a child is what its edges are, the part
 /// block of an edge the child edges that are its parts, in order; equal blocks are kept once. Where the block of a number of a
-/// kind begins stands at 256 times the kind and the number.
+/// kind begins stands at 256 times the kind and the number. The other lists of the tables stand one behind the other.
 #[derive(Drop)]
 pub struct FlatTable {
     lists: Joined,

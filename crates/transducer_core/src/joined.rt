@@ -24,7 +24,8 @@ fn add(joined: &mut Joined, list: &Vec<u8>) -> Result<(), NoMemory>
     Ok(())
 }
 
-/// The mates, the types into which each type is cut, the types of the edges of each kind, and the kinds of its children.
+/// The mates, the types into which each type is cut, the types of the edges of each kind, and then the kinds of the children of
+/// each, one behind the other.
 pub(crate) fn join(alloc: Global, tables: &Tables) -> Result<Joined, NoMemory>
     ensures { IfOk result (λ joined. AreKept (lists_of tables.now) joined.items.items joined.ends.items) }
 {

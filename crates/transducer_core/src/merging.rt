@@ -42,7 +42,7 @@ fn same_words(a: &[u32], b: &[u32]) -> bool
     a == b
 }
 
-/// Where a block equal to the last one stands before it.
+/// Where an earlier block stands that is equal to the last, which has no end yet; None where there is none.
 fn find(words: &[u32], ends: &[u16], last: usize) -> Option<u16>
     requires there { (kept : List (List ℕ)) × (block : List ℕ) × StandsLast kept block words.now ends.now last }
     requires room { length words.now < 2 ^ 16 }
