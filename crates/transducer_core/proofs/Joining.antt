@@ -8,7 +8,7 @@ use Rattle.addressing.specs.Coherent.{IsCoherent}
 use Rattle.addressing.specs.Tables.{Tables, KindTables, kind_tables, type_of, parts_of, part_count, subs_of, child_type_of}
 use Rattle.addressing.proofs.Ranges.{slice_get-append_left, slice_get-image}
 use Rattle.addressing.proofs.TableBounds.{some_of, some_within, type_bounds}
-use Rattle.transducer_core.specs.Flat.{lists_of, mates_in, subs_in, sides_in, types_in, children_in, pieces}
+use Rattle.transducer_core.specs.Flat.{lists_of, subs_in, sides_in, types_in, children_in, pieces}
 use Rattle.transducer_core.specs.Merged.{Stands}
 use Rattle.transducer_core.specs.Merging.{ends_of, AreKept}
 use Rattle.transducer_core.proofs.FlatLooks.{kind_at, stands_entry}
@@ -31,9 +31,6 @@ pieces_are lists items ends h = ap (λ (l : List ℕ). pieces l 0 ends) h.words_
 
 abbrev sides_of : Tables → List (List ℕ)
 sides_of t = map (λ (k : KindTables). k.types) t.kinds ++ map (λ (k : KindTables). k.children) t.kinds
-
-pub mates_back : (t : Tables) → mates_in (lists_of t) ≡ t.mates
-mates_back t = refl
 
 pub subs_back : (t : Tables) → IsCoherent t → subs_in (lists_of t) ≡ t.subs
 subs_back t coherent = ap (λ (n : ℕ). take n (t.subs ++ sides_of t)) (sym coherent.sub_each) ∙ take-append_seam t.subs (sides_of t)

@@ -41,9 +41,6 @@ pub record IsPast (kept : List (List ℕ)) (block : List ℕ) (begin i : ℕ) : 
   pub begin_is : begin ≡ length (concat (take i kept))
   pub fresh : IsAmong block (take i kept) → ⊥
 
-pub past_none : (kept : List (List ℕ)) (block : List ℕ) → IsPast kept block 0 0
-past_none kept block = record { begin_is = refl; fresh = λ i. elim i [ ] }
-
 -- an earlier block and the last, as they are read
 pub record Look (kept : List (List ℕ)) (block words : List ℕ) (begin last i e : ℕ) : Type 0 where
   pub earlier : List ℕ

@@ -46,9 +46,6 @@ room_at l i b e =
     let r = stands_at l i b e in
     omega (arith, r.start_is, ap length r.words_are, length-append r.front (b ++ r.rest), length-append b r.rest)
 
-pub stands_last : (l : List (List ℕ)) (b : List ℕ) → Stands (concat (l ++ b ∷ [])) (length (concat l)) b
-stands_last l b = record { front = concat l; rest = []; words_are = concat-append l (b ∷ []); start_is = refl }
-
 pub block_read : (words : List ℕ) (s n : ℕ) (block : List ℕ) → Stands words s block → n ≡ length block → take n (drop s words) ≡ block
 block_read words s n block h size = rw (h.words_are, h.start_is, size, drop-append_seam h.front (block ++ h.rest)) (take-append_seam block h.rest)
 
