@@ -18,6 +18,7 @@ mod Searches
 mod Ended
 mod Outcomes
 mod BoxTests
+mod Insides
 mod NewEdges
 mod EachCorner
 mod Keeping

@@ -2,6 +2,7 @@ pub mod Border
 pub mod Packed
 pub mod Windows
 pub mod NewEdges
+pub mod Inside
 pub mod Admitted
 pub mod Crossed
 pub mod SearchLaws

@@ -15,6 +15,7 @@ mod cross;
 mod ends;
 mod finish;
 mod found_tile;
+mod inside;
 mod laws;
 mod lifted;
 mod new_edges;
