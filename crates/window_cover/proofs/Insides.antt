@@ -1,7 +1,7 @@
 -- Whole numbers that have the sign of a real one, and points that lie in a window.
 use Rattle.std.specs.Ordering.{int_cmp, is_gt}
 use Rattle.std.specs.declared.cmp.Ordering.TheVariants.{Greater}
-use Rattle.std.proofs.Common.{arith, ℕ, ℤ, ◌≡◌, ◌^◌, ◌<◌, ◌≤◌, pos, neg_ℤ, ◌*ℤ◌, ◌+ℤ◌, ◌<ℤ◌, Bool, true, false, ◌&&◌, ◌||◌, refl, sym, ◌∙◌, ap, ap₂, subst}
+use Rattle.std.proofs.Common.{arith, ℕ, ℤ, ◌≡◌, ◌^◌, ◌<◌, pos, neg_ℤ, ◌*ℤ◌, ◌+ℤ◌, ◌<ℤ◌, Bool, true, ◌&&◌, ◌||◌, refl, sym, ◌∙◌, ap, ap₂, subst}
 use Rattle.std.proofs.lemmas.Int.{ints}
 use Rattle.ordered_ring.specs.Ring.{difference}
 use Rattle.ordered_ring.specs.Sign.{Signed}
@@ -11,10 +11,9 @@ use Rattle.ordered_plane.specs.BoxTest.{Depths, meets_both}
 use Rattle.cyclo_points.specs.declared.order.Order.{Order}
 use Rattle.cyclo_points.specs.declared.order.Order.TheVariants.{Four, Six, Eight, Ten}
 use Rattle.cyclo_points.specs.declared.point.Point.{Point}
-use Rattle.cyclo_points.specs.declared.real.Real.{Real}
 use Rattle.cyclo_points.specs.Order.{points_of}
 use Rattle.cyclo_points.specs.Point.{point_in, Within}
-use Rattle.cyclo_points.specs.Real.{RealOf, number, real_in}
+use Rattle.cyclo_points.specs.Real.{RealOf, number}
 use Rattle.cyclo_points.proofs.Reals.{sign_at, number-add, number-difference}
 use Rattle.cyclo_points.proofs.Sizes.{within_product}
 use Rattle.cyclo_points.proofs.Within.{whole_is}

@@ -21,6 +21,7 @@ mod BoxTests
 mod Insides
 mod NewEdges
 mod EachCorner
+mod TurnedVertices
 mod Keeping
 mod OwnLines
 mod NewOpen

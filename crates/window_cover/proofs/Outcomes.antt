@@ -33,3 +33,8 @@ no_memory-on r (Ok y) fault is h why = inr refl
 no_memory-on (Ok x) (Err e) fault is h why = cc
 no_memory-on (Err x) (Err e) fault is h (inl none) = let one : fault ≡ NoMemory = cc in inl (ap (λ y. Err y) (h ∙ one))
 no_memory-on (Err x) (Err e) fault is h (inr k) = cc
+
+-- want of memory is allowed within the limits
+pub only_no_memory : {V : Type 0} (s : Result V CoverFault) → IsErrAnd s (λ e. e ≡ NoMemory) → (s ≡ Err NoMemory) ⊎ IsOk s
+only_no_memory (Ok y) why = inr refl
+only_no_memory (Err e) why = inl (ap (λ y. Err y) why)

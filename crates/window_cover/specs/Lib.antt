@@ -4,6 +4,7 @@ pub mod Windows
 pub mod NewEdges
 pub mod Inside
 pub mod Admitted
+pub mod Outlines
 pub mod Crossed
 pub mod SearchLaws
 pub mod Limits

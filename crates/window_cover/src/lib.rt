@@ -8,7 +8,6 @@
 
 mod admit;
 mod border;
-mod corners;
 pub mod cover;
 pub mod cover_fault;
 mod cross;
@@ -21,6 +20,7 @@ mod lifted;
 mod new_edges;
 pub mod open_edge;
 mod order_key;
+mod outlines;
 mod search_laws;
 mod start;
 mod step;

@@ -50,7 +50,7 @@ by_keys-requires-clause-found c =
     (mixed c.args.self.found _ _ c.as_slice.result.now c.in_ok-keys.ensures c.sort_unstable.ensures.permutation c.as_slice.ensures.value).keys
 
 -- what follows of the tiles that the keys give
-module _ (c : goal.After-drop-self-inside-5) where
+module _ (c : goal.After-drop-self-inside-6) where
   abbrev found : List Found
   found = c.args.self.found
 
