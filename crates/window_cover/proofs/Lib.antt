@@ -7,12 +7,14 @@ mod Opening
 mod Borders
 mod Unpacked
 mod SamePoints
+mod Lifting
 mod Keyed
 mod KeyOrder
 mod Distinct
 mod Shuffled
 mod Sorted
 mod Finished
+mod Arranged
 mod EachOrder
 mod Searches
 mod Ended

@@ -16,5 +16,6 @@ pub mod Right
 pub mod Stepping
 pub mod Keys
 pub mod Lifted
+pub mod Covered
 pub mod Checked
 pub mod Beyond

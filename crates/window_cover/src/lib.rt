@@ -10,6 +10,7 @@ mod admit;
 mod border;
 pub mod cover;
 pub mod cover_fault;
+pub mod covered_tiles;
 mod cross;
 mod ends;
 mod finish;

@@ -13,7 +13,7 @@ use Rattle.window_cover.specs.Found.{CoverValue}
 use Rattle.window_cover.specs.Kept.{found_in, AreKept}
 use Rattle.window_cover.specs.NewEdges.{AreNew}
 use Rattle.window_cover.specs.SearchLaws.{HasSearchLaws}
-use Rattle.window_cover.proofs.Outcomes.{on_ok-err, if_ok-err, if_err-is, no_memory-on, only_no_memory}
+use Rattle.window_cover.proofs.Outcomes.{on_ok-err, if_ok-err, if_err-is, no_memory-on, only_memory}
 use Rattle.window_cover.proofs.StartState.{kind_exists, edges_new, right-first, one_tile, its_window}
 use Rattle.window_cover.proofs.StartLimits.{not_beyond_start, answered_first, cause_first}
 use Rattle.window_cover.proofs.cover.Cover.start.Goals as goal
@@ -68,7 +68,7 @@ pub returns-in_err-outlines-clause-centre_found : goal.returns-in_err-outlines-c
 returns-in_err-outlines-clause-centre_found c = on_ok-err _ c.from_residual-in_err-outlines.result c.from_residual-in_err-outlines.ensures.0
 
 pub returns-in_err-outlines-clause-answered : goal.returns-in_err-outlines-clause-answered
-returns-in_err-outlines-clause-answered c = λ within. only_no_memory c.from_residual-in_err-outlines.result c.from_residual-in_err-outlines.ensures.1
+returns-in_err-outlines-clause-answered c = λ within. only_memory c.from_residual-in_err-outlines.result c.from_residual-in_err-outlines.ensures.1
 
 pub returns-in_err-admit-clause-frame : goal.returns-in_err-admit-clause-frame
 returns-in_err-admit-clause-frame c = c.contain.ensures.frame
