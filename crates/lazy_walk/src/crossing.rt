@@ -1,5 +1,5 @@
 //! Crossing edges in a frame that grows.
-ghost use Rattle.std.specs.Prelude.{◌≡◌, ◌↔◌, ◌<◌, ◌≤◌, ℕ, length, IsSome, IsErr, IfOk, IfErr};
+ghost use Rattle.std.specs.Prelude.{◌≡◌, ◌↔◌, ◌<◌, ◌≤◌, ℕ, length, IsSome, IsErr, IfOk, IfErr, OnErr};
 ghost use Rattle.addressing.specs.Across.{IsAcross};
 ghost use Rattle.addressing.specs.Address.{depth};
 ghost use Rattle.addressing.specs.Tables.{type_of};
@@ -88,6 +88,7 @@ impl Frame {
             → IsBoundaryEdge (tiling_of machine.now) (lifted_at (tiling_of machine.now) self.old (address_of tile.old) n) edge }
         ensures limit_exactly { IsErr result ↔ IsBoundaryEdge (tiling_of machine.now) (lifted_at (tiling_of machine.now) self.old (address_of tile.old) 64) edge }
         ensures limit_tile { IfErr result (λ limit. address_of limit.addr ≡ lifted_at (tiling_of machine.now) self.old (address_of tile.old) 64) }
+        ensures deepest_at_limit { OnErr result (length self.new.digits ≡ 64) }
         ensures limit_edge { IfErr result (λ limit. limit.edge ≡ edge) }
     {
         grown_fits_law();

@@ -1,0 +1,157 @@
+-- Tiles found, by the names that they have at depth 64, and crossings of their open edges.
+use Rattle.std.proofs.Common.{◌≡◌, ℕ, ◌<◌, ◌≤◌, List, ◌++◌, [], length, drop, map, Some, slice_get, sym, ap, ◌∙◌, subst, arith, take_all, append-nil}
+use Rattle.std.proofs.Math.ListN.{length-map}
+use Rattle.std.proofs.Math.Seq.{drop-length}
+use Rattle.addressing.specs.Address.{Address, depth, Fits}
+use Rattle.addressing.specs.Search.{IsAmong}
+use Rattle.addressing.specs.Tables.{child_kinds}
+use Rattle.addressing.proofs.Lists.{AllByRecursion-among}
+use Rattle.addressing.proofs.Ranges.{place-among, slice_get-image, BelowAt, below-at}
+use Rattle.cyclo_points.specs.Order.{NumberOf, points_of, is_refused}
+use Rattle.cyclo_points.specs.Motion.{motion_in}
+use Rattle.dissection.specs.Accepted.{AcceptedRule, NamesTile}
+use Rattle.dissection.specs.Across.{IsTileAcross}
+use Rattle.dissection.specs.OnBoundary.{IsOnBoundary}
+use Rattle.dissection.specs.Polygons.{tile_polygon}
+use Rattle.dissection.specs.TileEdges.{tile_at}
+use Rattle.edge_to_edge.specs.Contacts.{tables_of}
+use Rattle.frames.specs.Frame.{at_level, frame_tiles, IsTileOf, lifted_in}
+use Rattle.lazy_walk.specs.Ancestors.{full}
+use Rattle.lazy_walk.specs.Boundary.{IsBoundaryEdge}
+use Rattle.lazy_walk.specs.Frames.{FrameValue, whole, at_depth, IsFrameOf, GrowsTo, lifted_at}
+use Rattle.lazy_walk.proofs.Ancestors.{level-at}
+use Rattle.lazy_walk.proofs.Lifting.{IsTileOf-later}
+use Rattle.lazy_walk.proofs.Walks.{StillFits, at_depth-depth, later, whole-fits, GrowsTo-is}
+use Rattle.rule_model.specs.declared.rule.Rule.{Rule}
+use Rattle.rule_model.specs.Tiling.{Tiling, tiling_of, children}
+use Rattle.substitution.specs.Motion.{Motion}
+use Rattle.substitution.specs.Points.{Points}
+use Rattle.substitution.specs.RuleParts.{edge_count}
+use Rattle.substitution.specs.Supertile.{Placed}
+use Rattle.tile_place.specs.Crossed.{IsOnlyAcross}
+use Rattle.tile_place.proofs.Plane.{IsSettled, its_rule}
+use Rattle.windows.specs.FrameCover.{IsWindowOn}
+use Rattle.windows.specs.FramePatch.{in_frame, line_of}
+use Rattle.windows.specs.FrameSearch.{IsGrownCrossing}
+use Rattle.windows.specs.OpenEdges.{NumberedEdge}
+use Rattle.windows.specs.Outlines.{edges}
+use Rattle.window_cover.specs.Found.{Found, address_found, CoverValue}
+use Rattle.window_cover.specs.Right.{name_of, state_of, IsFound, IsRight}
+use Rattle.window_cover.specs.SearchLaws.{HasSearchLaws}
+use Rattle.window_cover.specs.Windows.{box_of}
+use Rattle.window_cover.proofs.NewOpen.{outline-edges}
+
+one_some : {A : Type 0} {x y : A} → Some x ≡ Some y → x ≡ y
+one_some e = cc (e)
+
+-- digits that reach to the frame's end have none behind
+lifted-self : (f a : Address) → depth a ≡ depth f → lifted_in f a ≡ a
+lifted-self f a e = λ i. record { kind = a.kind; digits = same i }
+  where
+    none : drop (depth a) f.digits ≡ []
+    none = ap (λ n. drop n f.digits) e ∙ drop-length f.digits
+
+    same : a.digits ++ drop (depth a) f.digits ≡ a.digits
+    same = ap (λ ds. a.digits ++ ds) none ∙ append-nil a.digits
+
+module _ (m : Rule) (settled : IsSettled m) (fits : StillFits (children (tiling_of m))) (L : HasSearchLaws (points_of m.order)) (f : FrameValue) (is : IsFrameOf (tiling_of m) f) where
+  abbrev t : Tiling
+  t = tiling_of m
+
+  abbrev P : Points
+  P = points_of m.order
+
+  abbrev T : AcceptedRule P
+  T = its_rule m settled
+
+  abbrev F : Address
+  F = full t f
+
+  abbrev kinds : List (List ℕ)
+  kinds = child_kinds (tables_of P T.rule)
+
+  to_full : GrowsTo t f (at_depth t 64 f)
+  to_full = later t f 64 is is.at_most_64 (omega arith)
+
+  pub names : NamesTile P T.rule F
+  names = subst (λ k. Fits k F) (sym settled.same_child_kinds) (whole-fits t fits (at_depth t 64 f) to_full.is_frame)
+
+  pub deep : depth F ≡ 64
+  deep = at_depth-depth t f 64 (omega (arith, is.holds_base, is.at_most_64))
+
+  by_tables : (g a : Address) → IsTileOf (children t) g a → IsTileOf kinds g a
+  by_tables g a of = subst (λ k. IsTileOf k g a) (sym settled.same_child_kinds) of
+
+  pub tile-full : (a : Address) → IsTileOf (children t) (whole f) a → IsTileOf kinds F a
+  tile-full a of = by_tables F a (IsTileOf-later t f (at_depth t 64 f) a to_full is of)
+
+  pub whole-level : at_level F (depth F) ≡ F
+  whole-level = λ i. record { kind = F.kind; digits = take_all (depth F) F.digits (omega arith) i }
+
+  -- a tile of the frame by its own address and the motion that stands beside it
+  pub name-is : (a : Address) (g : Motion (NumberOf m.order)) → IsTileOf (children t) (whole f) a → IsAmong (record { address = lifted_in F a; motion = g }) (frame_tiles P T.rule F)
+      → ◌≡◌ {A = Placed (NumberOf m.order)} (record { address = lifted_in F a; motion = g }) (in_frame P T.rule F a)
+  name-is a g of among =
+      let x : Placed (NumberOf m.order) = record { address = lifted_in F a; motion = g } in
+      let at = (L.named T F names (is_refused m.order) (depth F) (omega arith) x).0 (among, L.at_depth T F names x among) in
+      let own : lifted_in F a ≡ at.0 = ap (λ (y : Placed (NumberOf m.order)). y.address) at.3 ∙ lifted-self F at.0 at.2 in
+      let again = (L.renamed T F names (depth F) (omega arith) a (subst (λ y. IsTileOf kinds y a) (sym whole-level) (tile-full a of))).1 in
+      at.3 ∙ ap (in_frame P T.rule F) (sym own ∙ ap (λ y. lifted_in y a) (sym whole-level)) ∙ again
+
+  level-own : at_level F (length f.digits) ≡ whole f
+  level-own = level-at t f is (length f.digits) (omega arith) is.at_most_64 ∙ ap whole (sym is.its_digits)
+
+  module _ (g : FrameValue) (h : GrowsTo t f g) where
+    pub level-grown : at_level F (length g.digits) ≡ whole g
+    level-grown = level-at t f is (length g.digits) h.no_shallower h.is_frame.at_most_64 ∙ ap whole (sym (GrowsTo-is t f g h))
+
+    pub grown : (a b : Address) (e back : ℕ) → IsTileOf (children t) (whole f) a → e < edge_count T.rule a.kind → IsOnlyAcross t (lifted_in (whole g) a) e b back
+        → ((n : ℕ) → length f.digits ≤ n → n < length g.digits → IsBoundaryEdge t (lifted_at t f a n) e) → IsGrownCrossing P T F (length f.digits) (length g.digits) a e b back
+    grown a b e back of edge x least = record {
+      frame = names;
+      not_below = h.no_shallower;
+      within = omega (arith, h.is_frame.at_most_64, deep);
+      tile = subst (λ y. IsTileOf kinds y a) (sym level-own) (by_tables (whole f) a of);
+      edge_exists = edge;
+      across = subst (λ y. IsTileAcross P T.rule (tile_at P T.rule (lifted_in y a)) e (tile_at P T.rule b) back) (sym level-grown) x.across;
+      least = λ k l j. let on = least k l j in
+          (on.own, on.part, subst (λ y. IsOnBoundary P T.rule (tile_at P T.rule (lifted_in y a)) e on.own on.part) (sym (level-at t f is k l (omega (arith, j, h.is_frame.at_most_64)))) on.lies);
+    }
+
+  module _ (c : CoverValue) (right : IsRight t f c) where
+    pub window-on : IsWindowOn P T F (box_of t c.window)
+    window-on = record { frame = names; wide = omega (arith, right.window.some_width); high = omega (arith, right.window.some_height) }
+
+    pub its_found : (i : ℕ) (x : Found) → slice_get c.found i ≡ Some x → IsFound t f x
+    its_found i x at = AllByRecursion-among (IsFound t f) x c.found (place-among x c.found i at) right.found
+
+    -- the name of a tile found of a number
+    pub found-at : (i : ℕ) (x : Found) → slice_get c.found i ≡ Some x → slice_get (state_of t f c).found i ≡ Some (in_frame P T.rule F (address_found x))
+    found-at i x at =
+        let its = slice_get-image (name_of t f) x c.found i at in
+        its ∙ ap (λ y. Some y) (name-is (address_found x) (motion_in m.order x.motion) (its_found i x at).of_frame
+        (AllByRecursion-among (λ (y : Placed (NumberOf m.order)). IsAmong y (frame_tiles P T.rule F)) (name_of t f x) (state_of t f c).found (place-among (name_of t f x) (state_of t f c).found i its) right.state.of_patch))
+
+    kind-exists : (x : Found) → IsFound t f x → x.kind < length T.rule.kinds
+    kind-exists x found = subst (λ n. x.kind < n) (length-map T.rule.kinds _) found.of_frame.fits.kind_exists
+
+    -- an open edge is one of its tile
+    edge-below : (o : NumberedEdge P.real) → IsAmong o (state_of t f c).open_edges → (x : Found) → slice_get c.found o.tile ≡ Some x
+        → BelowAt (line_of P T.rule (name_of t f x)) (edge_count T.rule x.kind) o.edge o.line
+    edge-below o among x at =
+        let names_of = (state_of t f c).found in
+        let outline = λ (y : Placed (NumberOf m.order)). tile_polygon P T.rule (λ z. z) y in
+        let it = (L.open_numbers (box_of t c.window) (map outline names_of) o among).0 in
+        let its = slice_get-image outline (name_of t f x) names_of o.tile (slice_get-image (name_of t f) x c.found o.tile at) in
+        let polygon : it.polygon ≡ outline (name_of t f x) = one_some (sym it.tile_at ∙ its) in
+        below-at (line_of P T.rule (name_of t f x)) (edge_count T.rule x.kind) o.edge o.line
+        (ap (λ es. slice_get es o.edge) (sym (outline-edges P T L.numbered (name_of t f x) (kind-exists x (its_found o.tile x at))) ∙ ap edges (sym polygon)) ∙ it.edge_at)
+
+    pub edge-exists : (o : NumberedEdge P.real) → IsAmong o (state_of t f c).open_edges → (x : Found) → slice_get c.found o.tile ≡ Some x → o.edge < edge_count T.rule x.kind
+    edge-exists o among x at = (edge-below o among x at).in_range
+
+    pub name-at : (i : ℕ) (x : Found) → slice_get c.found i ≡ Some x → name_of t f x ≡ in_frame P T.rule F (address_found x)
+    name-at i x at = one_some (sym (slice_get-image (name_of t f) x c.found i at) ∙ found-at i x at)
+
+    pub line-is : (o : NumberedEdge P.real) → IsAmong o (state_of t f c).open_edges → (x : Found) → slice_get c.found o.tile ≡ Some x → line_of P T.rule (in_frame P T.rule F (address_found x)) o.edge ≡ o.line
+    line-is o among x at = ap (λ y. line_of P T.rule y o.edge) (sym (name-at o.tile x at)) ∙ sym (edge-below o among x at).is

@@ -1,0 +1,75 @@
+-- What a search for the tiles of a window hands on, from step to step and at its end.
+use Rattle.std.proofs.Common.{◌≡◌, ◌⊎◌, inl, inr, ℕ, List, [], ◌∷◌, None, Result, Ok, Err, IsOk, find, refl, sym, ap, ◌∙◌, subst}
+use Rattle.std.specs.Result.{IsErrAnd}
+use Rattle.addressing.specs.Address.{Address}
+use Rattle.cyclo_points.specs.Order.{points_of, is_refused}
+use Rattle.cyclo_points.specs.Point.{point_in}
+use Rattle.frames.specs.Contain.{values_outward}
+use Rattle.plane_geom.specs.declared.window.Window.{Window}
+use Rattle.addressing.specs.Tables.{child_kinds}
+use Rattle.rule_model.specs.declared.rule.Rule.{Rule}
+use Rattle.rule_model.specs.Accepted.{IsAccepted}
+use Rattle.rule_model.specs.Tiling.{Tiling, tiling_of, contacts, children}
+use Rattle.rule_model.specs.Usable.{IsUsable}
+use Rattle.tile_shape.specs.Usable.{AreUsable}
+use Rattle.window_cover.specs.Checked.{IsChecked}
+use Rattle.lazy_walk.specs.Frames.{FrameValue, GrowsTo}
+use Rattle.lazy_walk.proofs.Ancestors.{full-later}
+use Rattle.windows.specs.EnoughDepth.{IsNotBeyond}
+use Rattle.windows.specs.FramePatch.{growing_frame}
+use Rattle.window_cover.specs.declared.cover_fault.CoverFault.{CoverFault}
+use Rattle.window_cover.specs.declared.cover_fault.CoverFault.TheVariants.{DepthLimit, CoordLimit, TooManyTiles, NoMemory}
+use Rattle.window_cover.specs.Beyond.{IsNotBeyondEnough}
+use Rattle.window_cover.specs.Border.{Waiting, first_of}
+use Rattle.window_cover.specs.Causes.{HasCause}
+use Rattle.window_cover.specs.Windows.{TileOf, box_of}
+
+-- ---- outcomes
+abbrev failed : (T : Type 0) → CoverFault → Result T CoverFault
+failed T e = Err e
+
+err_same : {T : Type 0} {x y : CoverFault} → failed T x ≡ failed T y → x ≡ y
+err_same e = cc (e)
+
+-- where a call can only fail for want of memory, so it is handed on
+pub no_memory : {T U : Type 0} (s : Result U CoverFault) (r : Result T CoverFault) (e : CoverFault) → s ≡ Err e → IsErrAnd r (λ x. x ≡ e) → (s ≡ Err NoMemory) ⊎ IsOk s → (r ≡ Err NoMemory) ⊎ IsOk r
+no_memory s (Ok x) e q h m = inr refl
+no_memory s (Err x) e q h (inl m) = inl (ap Err (h ∙ err_same (sym q ∙ m)))
+no_memory s (Err x) e q h (inr m) = absurd (cc (subst IsOk q m))
+
+-- the only fault is want of memory
+pub only_memory : {T : Type 0} (r : Result T CoverFault) → IsErrAnd r (λ x. x ≡ NoMemory) → (r ≡ Err NoMemory) ⊎ IsOk r
+only_memory (Ok x) h = inr refl
+only_memory (Err x) h = inl (ap Err h)
+
+pub none-open : (border : List Waiting) → first_of border ≡ None → border ≡ []
+none-open [] e = refl
+none-open (o ∷ os) e = absurd (cc e)
+
+-- ---- what a machine says of its rule
+pub checked_of : (m inside : Rule) (kinds : List (List ℕ)) → inside ≡ m → IsAccepted m → IsUsable m → child_kinds (contacts (tiling_of m)) ≡ children (tiling_of m)
+    → kinds ≡ children (tiling_of inside) → AreUsable kinds → IsChecked m
+checked_of m inside kinds e accepted usable same k h = record {
+  accepted = accepted;
+  usable = usable;
+  uses_usable = subst AreUsable (k ∙ ap (λ (r : Rule). children (tiling_of r)) e) h;
+  same_child_kinds = same;
+}
+
+-- ---- a frame that grew from another
+module _ (t : Tiling) (f g : FrameValue) (grows : GrowsTo t f g) where
+  pub beyond-before : (w : Window) (m n : ℕ) → IsNotBeyondEnough t g w m n → IsNotBeyondEnough t f w m n
+  beyond-before w m n h =
+      subst (λ (a : Address). IsNotBeyond (points_of t.order).real (TileOf t) (growing_frame (points_of t.order) (is_refused t.order) t.rule a) (box_of t w) m n) (full-later t f g grows) h
+
+  pub beyond-later : (w : Window) (m n : ℕ) → IsNotBeyondEnough t f w m n → IsNotBeyondEnough t g w m n
+  beyond-later w m n h =
+      subst (λ (a : Address). IsNotBeyond (points_of t.order).real (TileOf t) (growing_frame (points_of t.order) (is_refused t.order) t.rule a) (box_of t w) m n) (sym (full-later t f g grows)) h
+
+  pub cause-before : (now : FrameValue) (w : Window) (fault : CoverFault) → HasCause t g now w fault → HasCause t f now w fault
+  cause-before now w (DepthLimit addr edge) h = h
+  cause-before now w (CoordLimit value) (inl e) =
+      inl (ap (λ (a : Address). find (is_refused t.order) (values_outward (points_of t.order) t.rule a (point_in t.order w.centre) 0 65)) (sym (full-later t f g grows)) ∙ e)
+  cause-before now w (CoordLimit value) (inr e) = inr e
+  cause-before now w TooManyTiles h = h
+  cause-before now w NoMemory h = tt

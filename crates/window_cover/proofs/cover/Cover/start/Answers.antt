@@ -1,0 +1,251 @@
+use Rattle.std.proofs.Common.{◌≡◌, inl, inr, List, [], length, refl, sym, ap, ap₂, ◌∙◌, subst, arith}
+use Rattle.cyclo_points.specs.declared.point.Point.{Point}
+use Rattle.cyclo_points.specs.Order.{points_of}
+use Rattle.lazy_walk.proofs.Walks.{StillFits}
+use Rattle.rule_model.specs.declared.rule.Rule.{Rule}
+use Rattle.rule_model.specs.Tiling.{tiling_of, children}
+use Rattle.tile_place.proofs.Plane.{IsSettled}
+use Rattle.tile_shape.specs.Usable.{AreUsable}
+use Rattle.window_cover.specs.declared.cover_fault.CoverFault.TheVariants.{CoordLimit}
+use Rattle.window_cover.specs.Admitted.{AreCorners}
+use Rattle.window_cover.specs.Causes.{HasCause}
+use Rattle.window_cover.specs.Found.{CoverValue}
+use Rattle.window_cover.specs.Kept.{found_in, AreKept}
+use Rattle.window_cover.specs.NewEdges.{AreNew}
+use Rattle.window_cover.specs.SearchLaws.{HasSearchLaws}
+use Rattle.window_cover.proofs.Outcomes.{on_ok-err, if_ok-err, if_err-is, no_memory-on}
+use Rattle.window_cover.proofs.StartState.{kind_exists, edges_new, right-first, one_tile, its_window}
+use Rattle.window_cover.proofs.StartLimits.{not_beyond_start, answered_first, cause_first}
+use Rattle.window_cover.proofs.cover.Cover.start.Goals as goal
+
+pub contain-requires-clause-frame : goal.contain-requires-clause-frame
+contain-requires-clause-frame c = c.requires.frame
+
+pub contain-requires-clause-point_within : goal.contain-requires-clause-point_within
+contain-requires-clause-point_within c = c.requires.window_fits.centre_within
+
+pub returns-in_err-tile-clause-frame : goal.returns-in_err-tile-clause-frame
+returns-in_err-tile-clause-frame c = c.contain.ensures.frame
+
+pub returns-in_err-tile-clause-right : goal.returns-in_err-tile-clause-right
+returns-in_err-tile-clause-right c = if_ok-err _ c.from_residual.result c.from_residual.ensures.0
+
+pub returns-in_err-tile-clause-its_window : goal.returns-in_err-tile-clause-its_window
+returns-in_err-tile-clause-its_window c = if_ok-err _ c.from_residual.result c.from_residual.ensures.0
+
+pub returns-in_err-tile-clause-one_tile : goal.returns-in_err-tile-clause-one_tile
+returns-in_err-tile-clause-one_tile c = if_ok-err _ c.from_residual.result c.from_residual.ensures.0
+
+pub returns-in_err-tile-clause-not_beyond : goal.returns-in_err-tile-clause-not_beyond
+returns-in_err-tile-clause-not_beyond c =
+    let m = c.args.machine.now in
+    let t = tiling_of m in
+    let f = c.args.frame.now in
+    let settled : IsSettled m = record { accepted = c.checked-checked.ensures.accepted; usable = c.checked-checked.ensures.usable; same_child_kinds = c.checked-checked.ensures.same_child_kinds } in
+    let fits : StillFits (children t) = λ base start n h. c.grown_fits_law.ensures (children t) base start n
+    (subst AreUsable (c.uses.ensures ∙ ap (λ (r : Rule). children (tiling_of r)) c.checked-checked.ensures.rule) c.kinds-usable.ensures.limits) h in
+    let same_order = c.order-order.ensures.order ∙ ap (λ (r : Rule). r.order) c.checked-checked.ensures.rule in
+    let L : HasSearchLaws (points_of m.order) = subst (λ o. HasSearchLaws (points_of o)) same_order c.search_laws.ensures in
+    let k = c.contain.new.self in
+    let w = c.args.window.now in
+    not_beyond_start m settled fits L f c.requires.frame k c.contain.ensures.frame w c.requires.window_fits c.contain.ensures.least
+
+pub returns-in_err-admit-clause-frame : goal.returns-in_err-admit-clause-frame
+returns-in_err-admit-clause-frame c = c.contain.ensures.frame
+
+pub returns-in_err-admit-clause-right : goal.returns-in_err-admit-clause-right
+returns-in_err-admit-clause-right c = if_ok-err _ c.from_residual-in_err-admit.result c.from_residual-in_err-admit.ensures.0
+
+pub returns-in_err-admit-clause-its_window : goal.returns-in_err-admit-clause-its_window
+returns-in_err-admit-clause-its_window c = if_ok-err _ c.from_residual-in_err-admit.result c.from_residual-in_err-admit.ensures.0
+
+pub returns-in_err-admit-clause-one_tile : goal.returns-in_err-admit-clause-one_tile
+returns-in_err-admit-clause-one_tile c = if_ok-err _ c.from_residual-in_err-admit.result c.from_residual-in_err-admit.ensures.0
+
+pub returns-in_err-admit-clause-not_beyond : goal.returns-in_err-admit-clause-not_beyond
+returns-in_err-admit-clause-not_beyond c =
+    let m = c.args.machine.now in
+    let t = tiling_of m in
+    let f = c.args.frame.now in
+    let settled : IsSettled m = record { accepted = c.checked-checked.ensures.accepted; usable = c.checked-checked.ensures.usable; same_child_kinds = c.checked-checked.ensures.same_child_kinds } in
+    let fits : StillFits (children t) = λ base start n h. c.grown_fits_law.ensures (children t) base start n
+    (subst AreUsable (c.uses.ensures ∙ ap (λ (r : Rule). children (tiling_of r)) c.checked-checked.ensures.rule) c.kinds-usable.ensures.limits) h in
+    let same_order = c.order-order.ensures.order ∙ ap (λ (r : Rule). r.order) c.checked-checked.ensures.rule in
+    let L : HasSearchLaws (points_of m.order) = subst (λ o. HasSearchLaws (points_of o)) same_order c.search_laws.ensures in
+    let k = c.contain.new.self in
+    let w = c.args.window.now in
+    not_beyond_start m settled fits L f c.requires.frame k c.contain.ensures.frame w c.requires.window_fits c.contain.ensures.least
+
+pub returns-in_err-tile-clause-answered : goal.returns-in_err-tile-clause-answered
+returns-in_err-tile-clause-answered c = λ within. let e = c.in_err-tile.ensures.found_exactly.1 within.centre_found in cc (e)
+
+pub returns-in_err-tile-clause-cause : goal.returns-in_err-tile-clause-cause
+returns-in_err-tile-clause-cause c = if_err-is (HasCause (tiling_of c.args.machine.now) c.args.frame.now c.contain.new.self c.args.window.now) c.from_residual.result (CoordLimit c.in_err-tile.field-0.0.value) c.from_residual.ensures.1 (inl c.in_err-tile.ensures.limit)
+
+pub returns-in_err-admit-clause-answered : goal.returns-in_err-admit-clause-answered
+returns-in_err-admit-clause-answered c =
+    let m = c.args.machine.now in
+    let t = tiling_of m in
+    let f = c.args.frame.now in
+    let settled : IsSettled m = record { accepted = c.checked-checked.ensures.accepted; usable = c.checked-checked.ensures.usable; same_child_kinds = c.checked-checked.ensures.same_child_kinds } in
+    let fits : StillFits (children t) = λ base start n h. c.grown_fits_law.ensures (children t) base start n
+    (subst AreUsable (c.uses.ensures ∙ ap (λ (r : Rule). children (tiling_of r)) c.checked-checked.ensures.rule) c.kinds-usable.ensures.limits) h in
+    let same_order = c.order-order.ensures.order ∙ ap (λ (r : Rule). r.order) c.checked-checked.ensures.rule in
+    let L : HasSearchLaws (points_of m.order) = subst (λ o. HasSearchLaws (points_of o)) same_order c.search_laws.ensures in
+    let k = c.contain.new.self in
+    let w = c.args.window.now in
+    let tile = c.in_ok-tile.tile in
+    let c0 : CoverValue = record { window = w; found = found_in c.new-2.result.items c.new.result.items; border = c.new-3.result } in
+    let none : length c0.found ≡ 0 = ap (λ xs. length (found_in c.new-2.result.items xs)) c.new.ensures.items in
+    λ within. no_memory-on c.admit.result c.from_residual-in_err-admit.result c.in_err-admit.field-0.0 c.in_err-admit.was c.from_residual-in_err-admit.ensures.1 (answered_first m settled fits L f c.requires.frame k c.contain.ensures.frame w c.requires.window_fits c.contain.ensures.least tile c.in_ok-tile.ensures.stands c.in_ok-tile.ensures.only_tile c0 none within c.admit.result c.admit.ensures.cause)
+
+pub returns-in_err-admit-clause-cause : goal.returns-in_err-admit-clause-cause
+returns-in_err-admit-clause-cause c =
+    let m = c.args.machine.now in
+    let t = tiling_of m in
+    let f = c.args.frame.now in
+    let settled : IsSettled m = record { accepted = c.checked-checked.ensures.accepted; usable = c.checked-checked.ensures.usable; same_child_kinds = c.checked-checked.ensures.same_child_kinds } in
+    let fits : StillFits (children t) = λ base start n h. c.grown_fits_law.ensures (children t) base start n
+    (subst AreUsable (c.uses.ensures ∙ ap (λ (r : Rule). children (tiling_of r)) c.checked-checked.ensures.rule) c.kinds-usable.ensures.limits) h in
+    let same_order = c.order-order.ensures.order ∙ ap (λ (r : Rule). r.order) c.checked-checked.ensures.rule in
+    let L : HasSearchLaws (points_of m.order) = subst (λ o. HasSearchLaws (points_of o)) same_order c.search_laws.ensures in
+    let k = c.contain.new.self in
+    let w = c.args.window.now in
+    let tile = c.in_ok-tile.tile in
+    let c0 : CoverValue = record { window = w; found = found_in c.new-2.result.items c.new.result.items; border = c.new-3.result } in
+    let none : length c0.found ≡ 0 = ap (λ xs. length (found_in c.new-2.result.items xs)) c.new.ensures.items in
+    if_err-is (HasCause t f k w) c.from_residual-in_err-admit.result c.in_err-admit.field-0.0 c.from_residual-in_err-admit.ensures.1 (cause_first m settled fits L f c.requires.frame k c.contain.ensures.frame w c.requires.window_fits c.contain.ensures.least tile c.in_ok-tile.ensures.stands c.in_ok-tile.ensures.only_tile c0 none c.in_err-admit.field-0.0 c.in_err-admit.ensures.cause)
+
+pub invariant_of-cover : goal.invariant_of-cover
+invariant_of-cover c =
+    let m = c.args.machine.now in
+    let found = ap length c.new.ensures.items in
+    let border = ap length c.new-3.ensures in
+    record { spans = subst (AreKept c.new-2.result.items) (sym c.new.ensures.items) tt; few_tiles = omega (arith, found); few_open = omega (arith, found, border) }
+
+pub admit-requires-clause-exists : goal.admit-requires-clause-exists
+admit-requires-clause-exists c =
+    let m = c.args.machine.now in
+    let t = tiling_of m in
+    let f = c.args.frame.now in
+    let settled : IsSettled m = record { accepted = c.checked-checked.ensures.accepted; usable = c.checked-checked.ensures.usable; same_child_kinds = c.checked-checked.ensures.same_child_kinds } in
+    let fits : StillFits (children t) = λ base start n h. c.grown_fits_law.ensures (children t) base start n
+    (subst AreUsable (c.uses.ensures ∙ ap (λ (r : Rule). children (tiling_of r)) c.checked-checked.ensures.rule) c.kinds-usable.ensures.limits) h in
+    let same_order = c.order-order.ensures.order ∙ ap (λ (r : Rule). r.order) c.checked-checked.ensures.rule in
+    let L : HasSearchLaws (points_of m.order) = subst (λ o. HasSearchLaws (points_of o)) same_order c.search_laws.ensures in
+    let k = c.contain.new.self in
+    let w = c.args.window.now in
+    let tile = c.in_ok-tile.tile in
+    let c0 : CoverValue = record { window = w; found = found_in c.new-2.result.items c.new.result.items; border = c.new-3.result } in
+    let none : length c0.found ≡ 0 = ap (λ xs. length (found_in c.new-2.result.items xs)) c.new.ensures.items in
+    kind_exists m settled fits L f c.requires.frame k c.contain.ensures.frame w c.requires.window_fits tile c.in_ok-tile.ensures.stands c.in_ok-tile.ensures.only_tile c.contain.ensures.least
+
+pub admit-requires-clause-turn_below : goal.admit-requires-clause-turn_below
+admit-requires-clause-turn_below c = c.in_ok-tile.ensures.stands.turn_below
+
+pub admit-requires-clause-in_order : goal.admit-requires-clause-in_order
+admit-requires-clause-in_order c = c.in_ok-tile.ensures.stands.in_order
+
+pub admit-requires-clause-window : goal.admit-requires-clause-window
+admit-requires-clause-window c = c.requires.window_fits
+
+pub admit-requires-clause-new : goal.admit-requires-clause-new
+admit-requires-clause-new c =
+    let m = c.args.machine.now in
+    let t = tiling_of m in
+    let f = c.args.frame.now in
+    let settled : IsSettled m = record { accepted = c.checked-checked.ensures.accepted; usable = c.checked-checked.ensures.usable; same_child_kinds = c.checked-checked.ensures.same_child_kinds } in
+    let fits : StillFits (children t) = λ base start n h. c.grown_fits_law.ensures (children t) base start n
+    (subst AreUsable (c.uses.ensures ∙ ap (λ (r : Rule). children (tiling_of r)) c.checked-checked.ensures.rule) c.kinds-usable.ensures.limits) h in
+    let same_order = c.order-order.ensures.order ∙ ap (λ (r : Rule). r.order) c.checked-checked.ensures.rule in
+    let L : HasSearchLaws (points_of m.order) = subst (λ o. HasSearchLaws (points_of o)) same_order c.search_laws.ensures in
+    let k = c.contain.new.self in
+    let w = c.args.window.now in
+    let tile = c.in_ok-tile.tile in
+    let c0 : CoverValue = record { window = w; found = found_in c.new-2.result.items c.new.result.items; border = c.new-3.result } in
+    let none : length c0.found ≡ 0 = ap (λ xs. length (found_in c.new-2.result.items xs)) c.new.ensures.items in
+    subst (λ b. (corners : List Point) → AreCorners t tile.kind tile.motion corners → AreNew corners b) (sym c.new-3.ensures) (edges_new m settled fits L f c.requires.frame k c.contain.ensures.frame w c.requires.window_fits tile c.in_ok-tile.ensures.stands c.in_ok-tile.ensures.only_tile c.contain.ensures.least)
+
+pub returns-clause-frame : goal.returns-clause-frame
+returns-clause-frame c = c.contain.ensures.frame
+
+pub returns-clause-right : goal.returns-clause-right
+returns-clause-right c =
+    let m = c.args.machine.now in
+    let t = tiling_of m in
+    let f = c.args.frame.now in
+    let settled : IsSettled m = record { accepted = c.checked-checked.ensures.accepted; usable = c.checked-checked.ensures.usable; same_child_kinds = c.checked-checked.ensures.same_child_kinds } in
+    let fits : StillFits (children t) = λ base start n h. c.grown_fits_law.ensures (children t) base start n
+    (subst AreUsable (c.uses.ensures ∙ ap (λ (r : Rule). children (tiling_of r)) c.checked-checked.ensures.rule) c.kinds-usable.ensures.limits) h in
+    let same_order = c.order-order.ensures.order ∙ ap (λ (r : Rule). r.order) c.checked-checked.ensures.rule in
+    let L : HasSearchLaws (points_of m.order) = subst (λ o. HasSearchLaws (points_of o)) same_order c.search_laws.ensures in
+    let k = c.contain.new.self in
+    let w = c.args.window.now in
+    let tile = c.in_ok-tile.tile in
+    let c0 : CoverValue = record { window = w; found = found_in c.new-2.result.items c.new.result.items; border = c.new-3.result } in
+    let none : length c0.found ≡ 0 = ap (λ xs. length (found_in c.new-2.result.items xs)) c.new.ensures.items in
+    let empty : c0 ≡ record { window = w; found = []; border = [] } = ap₂ (λ xs b. record { window = w; found = found_in c.new-2.result.items xs; border = b }) c.new.ensures.items c.new-3.ensures in
+    right-first m settled fits L f c.requires.frame k c.contain.ensures.frame w c.requires.window_fits tile c.in_ok-tile.ensures.stands c.in_ok-tile.ensures.only_tile c.contain.ensures.least c0 c.admit.new.self empty c.in_ok-admit.ensures.admitted
+
+pub returns-clause-its_window : goal.returns-clause-its_window
+returns-clause-its_window c =
+    let m = c.args.machine.now in
+    let t = tiling_of m in
+    let f = c.args.frame.now in
+    let settled : IsSettled m = record { accepted = c.checked-checked.ensures.accepted; usable = c.checked-checked.ensures.usable; same_child_kinds = c.checked-checked.ensures.same_child_kinds } in
+    let fits : StillFits (children t) = λ base start n h. c.grown_fits_law.ensures (children t) base start n
+    (subst AreUsable (c.uses.ensures ∙ ap (λ (r : Rule). children (tiling_of r)) c.checked-checked.ensures.rule) c.kinds-usable.ensures.limits) h in
+    let same_order = c.order-order.ensures.order ∙ ap (λ (r : Rule). r.order) c.checked-checked.ensures.rule in
+    let L : HasSearchLaws (points_of m.order) = subst (λ o. HasSearchLaws (points_of o)) same_order c.search_laws.ensures in
+    let k = c.contain.new.self in
+    let w = c.args.window.now in
+    let tile = c.in_ok-tile.tile in
+    let c0 : CoverValue = record { window = w; found = found_in c.new-2.result.items c.new.result.items; border = c.new-3.result } in
+    let none : length c0.found ≡ 0 = ap (λ xs. length (found_in c.new-2.result.items xs)) c.new.ensures.items in
+    let empty : c0 ≡ record { window = w; found = []; border = [] } = ap₂ (λ xs b. record { window = w; found = found_in c.new-2.result.items xs; border = b }) c.new.ensures.items c.new-3.ensures in
+    its_window m settled fits L f c.requires.frame k c.contain.ensures.frame w c.requires.window_fits tile c.in_ok-tile.ensures.stands c.in_ok-tile.ensures.only_tile c.contain.ensures.least c0 c.admit.new.self empty c.in_ok-admit.ensures.admitted
+
+pub returns-clause-one_tile : goal.returns-clause-one_tile
+returns-clause-one_tile c =
+    let m = c.args.machine.now in
+    let t = tiling_of m in
+    let f = c.args.frame.now in
+    let settled : IsSettled m = record { accepted = c.checked-checked.ensures.accepted; usable = c.checked-checked.ensures.usable; same_child_kinds = c.checked-checked.ensures.same_child_kinds } in
+    let fits : StillFits (children t) = λ base start n h. c.grown_fits_law.ensures (children t) base start n
+    (subst AreUsable (c.uses.ensures ∙ ap (λ (r : Rule). children (tiling_of r)) c.checked-checked.ensures.rule) c.kinds-usable.ensures.limits) h in
+    let same_order = c.order-order.ensures.order ∙ ap (λ (r : Rule). r.order) c.checked-checked.ensures.rule in
+    let L : HasSearchLaws (points_of m.order) = subst (λ o. HasSearchLaws (points_of o)) same_order c.search_laws.ensures in
+    let k = c.contain.new.self in
+    let w = c.args.window.now in
+    let tile = c.in_ok-tile.tile in
+    let c0 : CoverValue = record { window = w; found = found_in c.new-2.result.items c.new.result.items; border = c.new-3.result } in
+    let none : length c0.found ≡ 0 = ap (λ xs. length (found_in c.new-2.result.items xs)) c.new.ensures.items in
+    let empty : c0 ≡ record { window = w; found = []; border = [] } = ap₂ (λ xs b. record { window = w; found = found_in c.new-2.result.items xs; border = b }) c.new.ensures.items c.new-3.ensures in
+    one_tile m settled fits L f c.requires.frame k c.contain.ensures.frame w c.requires.window_fits tile c.in_ok-tile.ensures.stands c.in_ok-tile.ensures.only_tile c.contain.ensures.least c0 c.admit.new.self empty c.in_ok-admit.ensures.admitted
+
+pub returns-clause-not_beyond : goal.returns-clause-not_beyond
+returns-clause-not_beyond c =
+    let m = c.args.machine.now in
+    let t = tiling_of m in
+    let f = c.args.frame.now in
+    let settled : IsSettled m = record { accepted = c.checked-checked.ensures.accepted; usable = c.checked-checked.ensures.usable; same_child_kinds = c.checked-checked.ensures.same_child_kinds } in
+    let fits : StillFits (children t) = λ base start n h. c.grown_fits_law.ensures (children t) base start n
+    (subst AreUsable (c.uses.ensures ∙ ap (λ (r : Rule). children (tiling_of r)) c.checked-checked.ensures.rule) c.kinds-usable.ensures.limits) h in
+    let same_order = c.order-order.ensures.order ∙ ap (λ (r : Rule). r.order) c.checked-checked.ensures.rule in
+    let L : HasSearchLaws (points_of m.order) = subst (λ o. HasSearchLaws (points_of o)) same_order c.search_laws.ensures in
+    let k = c.contain.new.self in
+    let w = c.args.window.now in
+    not_beyond_start m settled fits L f c.requires.frame k c.contain.ensures.frame w c.requires.window_fits c.contain.ensures.least
+
+pub returns-clause-answered : goal.returns-clause-answered
+returns-clause-answered c = λ within. inr refl
+
+-- ---- the values looked at for the centre
+pub returns-in_err-tile-clause-centre_found : goal.returns-in_err-tile-clause-centre_found
+returns-in_err-tile-clause-centre_found c = on_ok-err _ c.from_residual.result c.from_residual.ensures.0
+
+pub returns-in_err-admit-clause-centre_found : goal.returns-in_err-admit-clause-centre_found
+returns-in_err-admit-clause-centre_found c = on_ok-err _ c.from_residual-in_err-admit.result c.from_residual-in_err-admit.ensures.0
+
+pub returns-clause-centre_found : goal.returns-clause-centre_found
+returns-clause-centre_found c = c.in_ok-tile.ensures.found_exactly.0 refl

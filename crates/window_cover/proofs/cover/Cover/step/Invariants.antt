@@ -1,0 +1,4 @@
+use Rattle.window_cover.proofs.cover.Cover.step.Given as goal
+
+abbrev pub ghosts-counted_step : goal.ghosts-counted_step
+ghosts-counted_step a = record { name = a.blank.name; parts = a.blank.parts }

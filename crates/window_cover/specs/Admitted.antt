@@ -1,0 +1,51 @@
+-- A new tile taken in.
+use Rattle.std.specs.Prelude.{◌≡◌, ℕ, ◌<◌, ◌≤◌, ◌^◌, true, false, List, [], ◌∷◌, ◌++◌, length}
+use Rattle.substitution.specs.Motion.{moved}
+use Rattle.substitution.specs.RuleParts.{edge_count, vertex}
+use Rattle.cyclo_points.specs.declared.motion.Motion.{Motion}
+use Rattle.cyclo_points.specs.declared.point.Point.{Point}
+use Rattle.cyclo_points.specs.Motion.{motion_in}
+use Rattle.cyclo_points.specs.Order.{points_of, is_refused}
+use Rattle.cyclo_points.specs.Point.{point_in, IsOf, IsWithin}
+use Rattle.rule_model.specs.Tiling.{Tiling}
+use Rattle.tile_place.specs.declared.placed_tile.PlacedTile.{PlacedTile}
+use Rattle.tile_shape.specs.Views.{address_of}
+use Rattle.window_cover.specs.declared.cover_fault.CoverFault.{CoverFault}
+use Rattle.window_cover.specs.declared.cover_fault.CoverFault.TheVariants.{DepthLimit, CoordLimit, TooManyTiles, NoMemory}
+use Rattle.window_cover.specs.Found.{Found, CoverValue}
+use Rattle.window_cover.specs.Limits.{most_tiles}
+use Rattle.window_cover.specs.NewEdges.{start_at, left_open, opened}
+
+-- a corner of a tile: where the motion takes vertex number e of the kind
+pub record IsCorner (t : Tiling) (kind : ℕ) (m : Motion) (e : ℕ) (p : Point) : Type 0 where
+  pub place : point_in t.order p ≡ moved (points_of t.order) (motion_in t.order m) (vertex (points_of t.order) t.rule kind e)
+  pub within : IsWithin (2 ^ 25) p
+  pub in_order : IsOf t.order p
+
+-- these are the corners of a tile, one for each edge
+pub record AreCorners (t : Tiling) (kind : ℕ) (m : Motion) (corners : List Point) : Type 0 where
+  pub count : length corners ≡ edge_count t.rule kind
+  pub each : (e : ℕ) → e < length corners → IsCorner t kind m e (start_at corners e)
+
+-- the tile as it is found
+abbrev pub found_as : PlacedTile → Found
+found_as tile = record { kind = tile.kind; motion = tile.motion; digits = (address_of tile.addr).digits }
+
+-- the tile is found, as one of no more than the limit and with no refused shift; the open edges that its edges meet are closed, and those of its own that
+-- meet the window and none of these are open
+pub record IsAdmitted (t : Tiling) (c d : CoverValue) (tile : PlacedTile) : Type 0 where
+  pub unrefused : is_refused t.order (point_in t.order tile.motion.shift) ≡ false
+  pub shift_within : IsWithin (2 ^ 24) tile.motion.shift
+  pub room : length c.found < most_tiles
+  pub same_window : d.window ≡ c.window
+  pub found : d.found ≡ c.found ++ found_as tile ∷ []
+  pub corners : List Point
+  pub are_corners : AreCorners t tile.kind tile.motion corners
+  pub border : d.border ≡ left_open corners (length corners) c.border ++ opened t.order c.window (length c.found) corners (length corners) c.border
+
+-- why it isn't: its shift is refused, or there are as many as the limit already
+abbrev pub IsNotAdmitted : Tiling → CoverValue → PlacedTile → CoverFault → Type 0
+IsNotAdmitted t c tile (DepthLimit addr edge) = ⊥
+IsNotAdmitted t c tile (CoordLimit value) = (value ≡ tile.motion.shift) × (is_refused t.order (point_in t.order tile.motion.shift) ≡ true)
+IsNotAdmitted t c tile TooManyTiles = most_tiles ≤ length c.found
+IsNotAdmitted t c tile NoMemory = Unit {0}

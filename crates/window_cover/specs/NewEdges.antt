@@ -1,0 +1,66 @@
+-- The edges of a new tile against those that are open.
+use Rattle.std.specs.Prelude.{◌≡◌, ℕ, zero, suc, ◌<◌, Bool, false, not, ◌&&◌, cond, nat_lt, List, [], ◌∷◌, ◌++◌, length, get_or}
+use Rattle.std.specs.List.{filter}
+use Rattle.ordered_plane.specs.BoxTest.{box_test}
+use Rattle.addressing.specs.Search.{some_below}
+use Rattle.substitution.specs.Plane.{plane_point}
+use Rattle.cyclo_points.specs.declared.order.Order.{Order}
+use Rattle.cyclo_points.specs.declared.point.Point.{Point}
+use Rattle.cyclo_points.specs.Order.{points_of}
+use Rattle.cyclo_points.specs.Point.{point_in}
+use Rattle.plane_geom.specs.declared.window.Window.{Window}
+use Rattle.rule_model.specs.Usable.{origin}
+use Rattle.window_cover.specs.declared.ends.Ends.{Ends}
+use Rattle.window_cover.specs.Border.{Waiting, have_same_ends, has_ends}
+use Rattle.window_cover.specs.Packed.{ends_of}
+use Rattle.window_cover.specs.Windows.{window_box}
+
+-- the edge traversed backwards
+abbrev pub reversed : Ends → Ends
+reversed k = record { start_low = k.end_low; start_high = k.end_high; end_low = k.start_low; end_high = k.start_high }
+
+-- of f 0, f 1, .. f (n - 1) those whose numbers pass
+abbrev pub chosen_below : {A : Type 0} → (ℕ → Bool) → (ℕ → A) → ℕ → List A
+chosen_below p f zero = []
+chosen_below p f (suc n) = chosen_below p f n ++ cond (p n) (f n ∷ []) []
+
+-- where edge number e of a tile with these corners starts and ends
+abbrev pub start_at : List Point → ℕ → Point
+start_at corners e = get_or corners e origin
+
+abbrev pub end_at : List Point → ℕ → Point
+end_at corners e = get_or corners (cond (nat_lt (suc e) (length corners)) (suc e) 0) origin
+
+abbrev pub ends_at : List Point → ℕ → Ends
+ends_at corners e = ends_of (start_at corners e) (end_at corners e)
+
+-- whether the edge between two points meets the window
+unfoldable pub meets_window : Order → Window → Point → Point → Bool
+meets_window o w a b = box_test (points_of o).real (plane_point (points_of o) (point_in o a)) (plane_point (points_of o) (point_in o b)) (window_box o w)
+
+-- edge number e of tile number i, open
+abbrev pub waiting_at : ℕ → List Point → ℕ → Waiting
+waiting_at i corners e = record { ends = ends_at corners e; edge = record { tile = i; edge = e } }
+
+-- whether the edge with these ends meets one of these edges
+abbrev pub closes : Ends → List Waiting → Bool
+closes k waiting = has_ends (reversed k) waiting
+
+-- the edges that the one with these ends doesn't meet
+abbrev pub without : Ends → List Waiting → List Waiting
+without k waiting = filter (λ o. not (have_same_ends (reversed k) o.ends)) waiting
+
+-- the edges that none of the first n edges of the tile meets
+abbrev pub left_open : List Point → ℕ → List Waiting → List Waiting
+left_open corners n waiting = filter (λ o. not (some_below n (λ e. have_same_ends (reversed (ends_at corners e)) o.ends))) waiting
+
+-- of its own first n edges those that meet the window and none that is open
+abbrev pub opened : Order → Window → ℕ → List Point → ℕ → List Waiting → List Waiting
+opened o w i corners n waiting =
+    chosen_below (λ e. meets_window o w (start_at corners e) (end_at corners e) && not (closes (ends_at corners e) waiting)) (waiting_at i corners) n
+
+-- the edges of a tile have different ends, none is another traversed backwards, and none is open
+pub record AreNew (corners : List Point) (waiting : List Waiting) : Type 0 where
+  pub apart : (e f : ℕ) → e < length corners → f < length corners → (¬ e ≡ f) → have_same_ends (ends_at corners e) (ends_at corners f) ≡ false
+  pub no_return : (e f : ℕ) → e < length corners → f < length corners → have_same_ends (reversed (ends_at corners e)) (ends_at corners f) ≡ false
+  pub fresh : (e : ℕ) → e < length corners → has_ends (ends_at corners e) waiting ≡ false

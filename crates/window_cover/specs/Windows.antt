@@ -1,0 +1,63 @@
+-- Windows on the frame of a base tile, and the tiles of the frame that meet them.
+use Rattle.std.specs.Prelude.{ℕ, ◌≤◌, ◌^◌, List, length}
+use Rattle.ordered_plane.specs.Box.{OpenBox}
+use Rattle.addressing.specs.Search.{IsAmong}
+use Rattle.substitution.specs.Plane.{box_at}
+use Rattle.substitution.specs.Supertile.{Placed}
+use Rattle.cyclo_points.specs.declared.order.Order.{Order}
+use Rattle.cyclo_points.specs.Order.{NumberOf, points_of}
+use Rattle.cyclo_points.specs.Point.{point_in, IsWithin}
+use Rattle.dissection.specs.Polygons.{tile_polygon}
+use Rattle.frames.specs.Frame.{frame_tiles}
+use Rattle.plane_geom.specs.declared.window.Window.{Window}
+use Rattle.rule_model.specs.Tiling.{Tiling}
+use Rattle.lazy_walk.specs.Ancestors.{full}
+use Rattle.lazy_walk.specs.Frames.{FrameValue, whole}
+use Rattle.windows.specs.FramePatch.{frame_patch}
+use Rattle.windows.specs.FrameWindow.{AreAllThatMeet, IsLeastDepth}
+use Rattle.windows.specs.Outlines.{Polygon}
+use Rattle.windows.specs.Meeting.{PolygonMeetsBox}
+use Rattle.windows.specs.Patch.{Covers}
+
+-- half extents are 1 to 4,096, and the centre's coefficients at most 2^22
+pub record IsWindow (w : Window) : Type 0 where
+  pub some_width : 1 ≤ w.w
+  pub some_height : 1 ≤ w.h
+  pub width_fits : w.w ≤ 4096
+  pub height_fits : w.h ≤ 4096
+  pub centre_within : IsWithin (2 ^ 22) w.centre
+
+-- the open box round the centre
+abbrev pub window_box : (o : Order) → Window → OpenBox (points_of o).real.ops.carrier
+window_box o w = box_at (points_of o) (point_in o w.centre) w.w w.h
+
+abbrev pub box_of : (t : Tiling) → Window → OpenBox (points_of t.order).real.ops.carrier
+box_of t w = window_box t.order w
+
+-- a tile, by its address and its motion
+abbrev pub TileOf : Tiling → Type 0
+TileOf t = Placed (NumberOf t.order)
+
+-- the polygon of a tile in its place
+abbrev pub polygon_of : (t : Tiling) → TileOf t → Polygon (points_of t.order).real
+polygon_of t x = tile_polygon (points_of t.order) t.rule (λ z. z) x
+
+-- some test point in the window belongs to the tile
+abbrev pub MeetsWindow : (t : Tiling) → Window → TileOf t → Type 0
+MeetsWindow t w x = PolygonMeetsBox (points_of t.order).real (box_of t w) (polygon_of t x)
+
+-- the tile is one of the frame's, at the depth that the frame has
+abbrev pub IsOfFrame : (t : Tiling) → FrameValue → TileOf t → Type 0
+IsOfFrame t f x = IsAmong x (frame_tiles (points_of t.order) t.rule (whole f))
+
+-- these are the tiles of the frame, at the depth that it has, that meet the window, each once
+abbrev pub AreDrawn : (t : Tiling) → FrameValue → Window → List (TileOf t) → Type 0
+AreDrawn t f w tiles = AreAllThatMeet (points_of t.order).real (TileOf t) (frame_patch (points_of t.order) t.rule (whole f)) (box_of t w) tiles
+
+-- each test point in the window belongs to exactly one of these tiles of the frame
+abbrev pub CoverWindow : (t : Tiling) → FrameValue → Window → List (TileOf t) → Type 0
+CoverWindow t f w tiles = Covers (points_of t.order).real (TileOf t) (frame_patch (points_of t.order) t.rule (whole f)) (box_of t w) tiles
+
+-- n is the least depth, from that of the frame to 64, that is enough: the frame's polygon there holds the centre, and none of its edges meets the window
+abbrev pub IsLeastEnough : (t : Tiling) → FrameValue → Window → ℕ → Type 0
+IsLeastEnough t f w n = IsLeastDepth (points_of t.order) t.rule (full t f) (box_of t w) (length f.digits) n

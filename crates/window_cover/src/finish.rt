@@ -1,0 +1,88 @@
+//! The tiles found, in order.
+ghost use Rattle.std.specs.Prelude.{◌≡◌, ◌<◌, ◌≤◌, ◌^◌, All, [], length, map, slice_get, IfOk, IfSome};
+ghost use Rattle.std.specs.List.{AllByRecursion, AllZip};
+ghost use Rattle.rule_model.specs.declared.rule.Rule.{Rule};
+ghost use Rattle.rule_model.specs.Tiling.{tiling_of};
+ghost use Rattle.tile_place.specs.Searched.{placed_in};
+ghost use Rattle.lazy_walk.specs.Standing.{Stands};
+ghost use Rattle.window_cover.specs.Checked.{IsChecked};
+ghost use Rattle.window_cover.specs.Found.{Found};
+ghost use Rattle.window_cover.specs.InOrder.{AreInOrder};
+ghost use Rattle.window_cover.specs.Keys.{HasKey, key_of, keys_from};
+ghost use Rattle.window_cover.specs.Lifted.{IsNumbered};
+ghost use Rattle.window_cover.specs.Right.{IsRight};
+ghost use Rattle.window_cover.specs.Windows.{AreDrawn, CoverWindow};
+
+use crate::cover::Cover;
+use crate::laws::end_laws;
+use crate::order_key::OrderKey;
+use lazy_walk::frame::Frame;
+use seeded_growth::laws::grown_fits_law;
+use std::alloc::Global;
+use tile_place::placed_tile::PlacedTile;
+use tile_shape::no_memory::NoMemory;
+
+impl Cover {
+    /// The tiles found, lifted to the frame's depth, in the order of their shifts, turns and kinds.
+    pub fn finish(self, alloc: Global, frame: &Frame) -> Result<Vec<PlacedTile>, NoMemory>
+        requires none_open { self.border ≡ [] }
+        requires right { (r : Rule) × IsChecked r × IsRight (tiling_of r) frame.now self }
+        ensures drawn { IfOk result (λ tiles. (r : Rule) → IsChecked r → IsRight (tiling_of r) frame.now self
+            → AreDrawn (tiling_of r) frame.now self.window (map (placed_in r.order) tiles.items)) }
+        ensures covered { IfOk result (λ tiles. (r : Rule) → IsChecked r → IsRight (tiling_of r) frame.now self
+            → CoverWindow (tiling_of r) frame.now self.window (map (placed_in r.order) tiles.items)) }
+        ensures stand { IfOk result (λ tiles. (r : Rule) → IsChecked r → IsRight (tiling_of r) frame.now self
+            → All (Stands (tiling_of r) frame.now) tiles.items) }
+        ensures in_order { IfOk result (λ tiles. AreInOrder tiles.items) }
+        ensures as_many { IfOk result (λ tiles. length tiles.items ≡ length self.found) }
+    {
+        end_laws();
+        grown_fits_law();
+        let mut keys = self.keys(alloc)?;
+        keys.sort_unstable();
+        self.by_keys(alloc, frame, keys.as_slice())
+    }
+
+    /// The keys of the tiles found, in the order found.
+    fn keys(&self, alloc: Global) -> Result<Vec<OrderKey>, NoMemory>
+        requires few { length self.now.found < 2 ^ 32 }
+        requires fit { AllByRecursion HasKey self.now.found }
+        ensures { IfOk result (λ keys. keys.items ≡ keys_from 0 self.now.found) }
+    {
+        let count = self.found.len();
+        let mut keys = Vec::with_capacity(alloc, count)?;
+        for number in 0..count {
+            keys.push(self.key(number))?;
+        }
+        Ok(keys)
+    }
+
+    /// The key of the tile found of a number.
+    fn key(&self, number: usize) -> OrderKey
+        requires few { number < 2 ^ 32 }
+        requires found { number < length self.now.found }
+        requires fits { IfSome (slice_get self.now.found number) HasKey }
+        ensures { IfSome (slice_get self.now.found number) (λ x. result ≡ key_of x.motion x.kind number) }
+    {
+        let tile = &self.found[number];
+        OrderKey::of(&tile.motion, tile.kind, number as u32)
+    }
+
+    /// The tiles found that these keys number, in their order, lifted to the frame's depth.
+    fn by_keys(
+        &self,
+        alloc: Global,
+        frame: &Frame,
+        keys: &[OrderKey],
+    ) -> Result<Vec<PlacedTile>, NoMemory>
+        requires found { AllByRecursion (λ (k : OrderKey). k.number < length self.now.found) keys.now }
+        requires no_deeper { AllByRecursion (λ (x : Found). length x.digits ≤ length frame.now.digits) self.now.found }
+        ensures { IfOk result (λ tiles. AllZip (IsNumbered frame.now self.now.found) keys.now tiles.items) }
+    {
+        let mut tiles = Vec::with_capacity(alloc, keys.len())?;
+        for key in keys {
+            tiles.push(self.lifted(frame, key.number as usize))?;
+        }
+        Ok(tiles)
+    }
+}

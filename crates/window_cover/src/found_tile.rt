@@ -1,0 +1,13 @@
+//! A tile found.
+use cyclo_points::motion::Motion;
+
+/// A tile found: where it lies, and where its digits stand in the list of all digits.
+#[derive(Clone, Copy, Debug)]
+pub(crate) struct FoundTile {
+    pub(crate) motion: Motion,
+    /// Where its digits begin.
+    pub(crate) first: usize,
+    pub(crate) kind: u8,
+    /// How many digits it has.
+    pub(crate) depth: u8,
+}

@@ -1,0 +1,38 @@
+//! The laws on which the tiles of a window rest, for the points of every order.
+ghost use Rattle.cyclo_points.specs.Order.{PointsLaw, points_of};
+ghost use Rattle.cyclo_points.specs.declared.order.Order.{Order};
+ghost use Rattle.windows.specs.FrameCover.{FrameFinishLaw};
+ghost use Rattle.windows.specs.FrameLaws.{FramePatchLaw};
+ghost use Rattle.windows.specs.Laws.{OutlineLaw};
+
+use cyclo_points::order::Order;
+use cyclo_points::points_law;
+use windows::cover_laws::frame_search_law;
+use windows::frame_laws::frame_patch_law;
+use windows::patch_laws::outline_law;
+
+/// The laws of the end of a search, for every order.
+pub(crate) fn end_laws()
+    ensures points { (o : Order) → PointsLaw o }
+    ensures patch { (o : Order) → FramePatchLaw (points_of o) }
+    ensures known { (o : Order) → OutlineLaw (points_of o) }
+    ensures finish { (o : Order) → FrameFinishLaw (points_of o) }
+{
+    end_laws_of(Order::Four);
+    end_laws_of(Order::Six);
+    end_laws_of(Order::Eight);
+    end_laws_of(Order::Ten);
+}
+
+/// The laws of the end of a search.
+fn end_laws_of(order: Order)
+    ensures points { PointsLaw order }
+    ensures patch { FramePatchLaw (points_of order) }
+    ensures known { OutlineLaw (points_of order) }
+    ensures finish { FrameFinishLaw (points_of order) }
+{
+    points_law(order);
+    frame_patch_law(order);
+    outline_law(order);
+    frame_search_law(order);
+}

@@ -1,0 +1,58 @@
+//! The tile at the centre of a window.
+ghost use Rattle.std.specs.Prelude.{◌≡◌, ◌⊎◌, ◌≤◌, ℕ, None, length, IsOk, Err, IfOk, IfErr, OnOk};
+ghost use Rattle.rule_model.specs.Tiling.{tiling_of};
+ghost use Rattle.cyclo_points.specs.Point.{point_in};
+ghost use Rattle.lazy_walk.specs.Containing.{first_refused_outward};
+ghost use Rattle.lazy_walk.specs.Frames.{IsFrameOf, GrowsTo};
+ghost use Rattle.window_cover.specs.declared.cover_fault.CoverFault.TheVariants.{NoMemory};
+ghost use Rattle.window_cover.specs.Windows.{IsWindow, IsLeastEnough};
+ghost use Rattle.window_cover.specs.Limits.{IsWithinLimits};
+ghost use Rattle.window_cover.specs.Causes.{HasCause};
+ghost use Rattle.window_cover.specs.Right.{IsRight};
+
+use crate::border::Border;
+use crate::cover::Cover;
+use crate::cover_fault::CoverFault;
+use crate::search_laws::search_laws;
+use lazy_walk::frame::Frame;
+use plane_geom::window::Window;
+use seeded_growth::laws::grown_fits_law;
+use std::alloc::Global;
+use tile_place::machine::Machine;
+
+impl Cover {
+    /// The tile that holds the centre of the window, with its open edges. The frame grows until it holds the
+    /// centre. A refusal has one of the causes that [`cover`](crate::tiles_of_window::cover) names.
+    pub fn start(
+        alloc: Global,
+        machine: &Machine,
+        frame: &mut Frame,
+        window: &Window,
+    ) -> Result<Cover, CoverFault>
+        requires frame { IsFrameOf (tiling_of machine.now) frame.old }
+        requires window_fits { IsWindow window.now }
+        ensures frame { GrowsTo (tiling_of machine.now) frame.old frame.new }
+        ensures right { IfOk result (λ cover. IsRight (tiling_of machine.now) frame.new cover) }
+        ensures its_window { IfOk result (λ cover. cover.window ≡ window.now) }
+        ensures one_tile { IfOk result (λ cover. length cover.found ≡ 1) }
+        ensures centre_found { OnOk result (first_refused_outward (tiling_of machine.now) frame.old (point_in machine.now.order window.now.centre) ≡ None) }
+        ensures not_beyond { (n : ℕ) → IsLeastEnough (tiling_of machine.now) frame.old window.now n → length frame.new.digits ≤ n }
+        ensures answered { IsWithinLimits (tiling_of machine.now) frame.old window.now → (result ≡ Err NoMemory) ⊎ IsOk result }
+        ensures cause { IfErr result (λ fault. HasCause (tiling_of machine.now) frame.old frame.new window.now fault) }
+    {
+        let checked = machine.checked();
+        let order = checked.order();
+        search_laws(order);
+        grown_fits_law();
+        let _usable = checked.uses().kinds();
+        let tile = frame.contain(machine, &window.centre)?;
+        let mut cover = Cover {
+            window: *window,
+            found: Vec::new(alloc),
+            digits: Vec::new(alloc),
+            border: Border::new(alloc),
+        };
+        cover.admit(machine, &tile)?;
+        Ok(cover)
+    }
+}

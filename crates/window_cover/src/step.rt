@@ -1,0 +1,105 @@
+//! From tile to tile, across the first open edge.
+ghost use Rattle.std.specs.Prelude.{◌≡◌, ◌⊎◌, ◌<◌, ◌≤◌, ℕ, suc, length, IsOk, Err, Some, IfOk, IfErr, OnOk};
+ghost use Rattle.rule_model.specs.Tiling.{tiling_of};
+ghost use Rattle.lazy_walk.specs.Frames.{FrameValue, IsFrameOf, GrowsTo};
+ghost use Rattle.window_cover.specs.declared.cover_fault.CoverFault.TheVariants.{NoMemory};
+ghost use Rattle.window_cover.specs.Border.{first_of};
+ghost use Rattle.window_cover.specs.Windows.{IsLeastEnough};
+ghost use Rattle.window_cover.specs.Limits.{IsWithinLimits};
+ghost use Rattle.window_cover.specs.Causes.{HasCause};
+ghost use Rattle.window_cover.specs.Right.{IsRight};
+ghost use Rattle.window_cover.specs.Stepping.{StepsTo};
+
+use crate::cover::Cover;
+use crate::cover_fault::CoverFault;
+use crate::cross::cross;
+use crate::open_edge::OpenEdge;
+use crate::search_laws::search_laws;
+use edge_tables::steps::Steps;
+use lazy_walk::frame::Frame;
+use seeded_growth::laws::grown_fits_law;
+use std::marker::Brand;
+use std::sync::ledger::{Blank, Ledger};
+use tile_place::machine::Machine;
+
+/// One step, with look-ups counted on a ledger of this name.
+fn counted_step<L: Ledger>(
+    cover: &mut Cover,
+    machine: &Machine,
+    frame: &mut Frame,
+    first: OpenEdge,
+    blank: Blank,
+) -> Result<(), CoverFault>
+    requires name { blank.name ≡ L.name }
+    requires parts { blank.parts ≡ L.parts }
+    requires some { 0 < blank.parts }
+    requires right { IsRight (tiling_of machine.now) frame.old cover.old }
+    requires is_first { first_of cover.old.border ≡ Some first }
+    ensures frame { GrowsTo (tiling_of machine.now) frame.old frame.new }
+    ensures steps_to { OnOk result (StepsTo (tiling_of machine.now) frame.old frame.new cover.old cover.new) }
+    ensures right { OnOk result (IsRight (tiling_of machine.now) frame.new cover.new) }
+    ensures cause { IfErr result (λ fault. HasCause (tiling_of machine.now) frame.old frame.new cover.old.window fault) }
+{
+    let mut steps = Steps::<L>::new(blank);
+    cover.advance(machine, frame, first, &mut steps)
+}
+
+impl Cover {
+    /// Crosses the first open edge. The frame grows to the least depth at which that edge is not on the boundary, and
+    /// exactly one tile more is found, the one across: the open edges that it meets are closed, and those of its own
+    /// that meet the window and have no tile found across them are open. A refusal has one of the causes that
+    /// [`cover`](crate::tiles_of_window::cover) names.
+    pub fn step(self, machine: &Machine, frame: &mut Frame) -> Result<Cover, CoverFault>
+        requires right { IsRight (tiling_of machine.now) frame.old self }
+        requires some_open { 0 < length self.border }
+        ensures frame { GrowsTo (tiling_of machine.now) frame.old frame.new }
+        ensures steps_to { IfOk result (λ next. StepsTo (tiling_of machine.now) frame.old frame.new self next) }
+        ensures right { IfOk result (λ next. IsRight (tiling_of machine.now) frame.new next) }
+        ensures cause { IfErr result (λ fault. HasCause (tiling_of machine.now) frame.old frame.new self.window fault) }
+    {
+        let mut next = self;
+        match next.first_open() {
+            Some(first) => {
+                counted_step::<Brand>(&mut next, machine, frame, first, Blank::new(1))?;
+                Ok(next)
+            }
+            None => Ok(next),
+        }
+    }
+
+    /// The same in place, with look-ups counted.
+    pub(crate) fn advance<L: Ledger>(
+        &mut self,
+        machine: &Machine,
+        frame: &mut Frame,
+        first: OpenEdge,
+        steps: &mut Steps<L>,
+    ) -> Result<(), CoverFault>
+        requires right { IsRight (tiling_of machine.now) frame.old self.old }
+        requires is_first { first_of self.old.border ≡ Some first }
+        ensures frame { GrowsTo (tiling_of machine.now) frame.old frame.new }
+        ensures steps_to { OnOk result (StepsTo (tiling_of machine.now) frame.old frame.new self.old self.new) }
+        ensures right { OnOk result (IsRight (tiling_of machine.now) frame.new self.new) }
+        ensures one_more { OnOk result (length self.new.found ≡ suc (length self.old.found)) }
+        // From whatever frame of this base and start number the search began.
+        ensures not_beyond { (f : FrameValue) (n : ℕ) → GrowsTo (tiling_of machine.now) f frame.old → IsLeastEnough (tiling_of machine.now) f self.old.window n
+            → length frame.old.digits ≤ n → length frame.new.digits ≤ n }
+        ensures within { (f : FrameValue) → GrowsTo (tiling_of machine.now) f frame.old → IsWithinLimits (tiling_of machine.now) f self.old.window
+            → (result ≡ Err NoMemory) ⊎ IsOk result }
+        ensures cause { IfErr result (λ fault. HasCause (tiling_of machine.now) frame.old frame.new self.old.window fault) }
+    {
+        let checked = machine.checked();
+        search_laws(checked.order());
+        grown_fits_law();
+        let _usable = checked.uses().kinds();
+        self.border.pass();
+        let mut tile = self.tile(first.tile as usize);
+        match cross(machine, frame, &mut tile, first.edge, steps) {
+            Ok(()) => self.admit(machine, &tile),
+            Err(limit) => Err(CoverFault::DepthLimit {
+                addr: limit.addr,
+                edge: limit.edge,
+            }),
+        }
+    }
+}
