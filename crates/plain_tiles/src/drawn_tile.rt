@@ -9,7 +9,9 @@ use cyclo_points::coordinates::{x, y};
 use cyclo_points::order::Order;
 use cyclo_points::point::Point;
 use cyclo_points::thousandths::floor_thousandths;
+use plane_geom::box_edges::edge_meets_box;
 use plane_geom::polygons::member;
+use plane_geom::window::Window;
 use std::alloc::Global;
 use tile_place::machine::Machine;
 use tile_place::placed_tile::PlacedTile;
@@ -79,6 +81,40 @@ impl DrawnTile {
             && spot.x <= self.high.x
             && self.low.y <= spot.y
             && spot.y <= self.high.y
+    }
+
+    /// Whether the box round the vertices comes to a window, whose centre lies at this spot.
+    fn is_by(&self, centre: Spot, window: &Window) -> bool {
+        let w = i128::from(window.w).wrapping_mul(1000);
+        let h = i128::from(window.h).wrapping_mul(1000);
+        self.low.x <= centre.x.wrapping_add(w)
+            && centre.x.wrapping_sub(w) <= self.high.x
+            && self.low.y <= centre.y.wrapping_add(h)
+            && centre.y.wrapping_sub(h) <= self.high.y
+    }
+
+    /// Whether the tile meets a window: an edge of it does, or it holds the centre.
+    pub fn meets(&self, order: Order, window: &Window) -> bool {
+        let centre = match Spot::of(order, &window.centre) {
+            Some(centre) if self.is_by(centre, window) => centre,
+            _ => return false,
+        };
+        self.holds(order, &window.centre, centre) || self.has_edge_in(order, window)
+    }
+
+    /// Whether an edge of the tile meets a window.
+    fn has_edge_in(&self, order: Order, window: &Window) -> bool {
+        if !near(&window.centre) {
+            return false;
+        }
+        let mut before = self.corners[self.corners.len() - 1];
+        for corner in self.corners.as_slice() {
+            if near(&before) && near(corner) && edge_meets_box(order, &before, corner, window) {
+                return true;
+            }
+            before = *corner;
+        }
+        false
     }
 
     /// Whether the tile holds a point, which lies at this spot.

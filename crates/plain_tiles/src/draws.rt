@@ -1,4 +1,7 @@
-//! Numbers, edges and addresses that are drawn.
+//! Numbers, windows, edges and addresses that are drawn.
+use cyclo_points::order::Order;
+use cyclo_points::point::Point;
+use plane_geom::window::Window;
 use tile_place::machine::Machine;
 use tile_shape::address::Address;
 use tile_shape::step::Step;
@@ -17,6 +20,30 @@ impl Draws {
             .wrapping_mul(6364136223846793005)
             .wrapping_add(1442695040888963407);
         (self.state >> 33).checked_rem(n).unwrap_or(0)
+    }
+
+    /// A number from -n to n.
+    fn round_0(&mut self, n: u32) -> i64 {
+        let n = i64::from(n);
+        let wide = u64::try_from(n.wrapping_mul(2).wrapping_add(1)).unwrap_or(1);
+        i64::try_from(self.below(wide)).unwrap_or(0).wrapping_sub(n)
+    }
+
+    /// A window whose half extents are 1 to 6. The coefficients of its centre are at most so far from 0.
+    pub fn window(&mut self, order: Order, far: u32) -> Window {
+        let mut c = [self.round_0(far), self.round_0(far), 0, 0];
+        match order {
+            Order::Four | Order::Six => {}
+            Order::Eight | Order::Ten => {
+                c[2] = self.round_0(far);
+                c[3] = self.round_0(far);
+            }
+        }
+        Window {
+            centre: Point { c },
+            w: u16::try_from(self.below(6)).unwrap_or(0).wrapping_add(1),
+            h: u16::try_from(self.below(6)).unwrap_or(0).wrapping_add(1),
+        }
     }
 
     /// An edge of a kind, and where another can be had not the one that was come by.

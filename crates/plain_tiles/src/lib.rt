@@ -1,7 +1,7 @@
 //! The plain program of the trials: whole supertiles and frames, listed tile by tile, and walks there and back.
 //!
 //! All addresses of a supertile are listed, each tile is placed by its address alone, and each is asked whether it
-//! holds a point; what the engine finds by searching is compared with that. Walks are drawn, and walked back by
+//! holds a point or meets a window; what the engine finds by searching is compared with that. Walks are drawn, and walked back by
 //! the edges that lead back. The crates of trials and the program `rule_library` stand on it. It claims nothing of
 //! its own: its contracts say only what the calls that it tries ask for.
 #![tactic(auto)]
@@ -16,3 +16,4 @@ pub mod points;
 pub mod small;
 pub mod supertile;
 pub mod walks;
+pub mod window_tiles;

@@ -8,6 +8,7 @@ use cyclo_points::point::Point;
 /// Whether a point isn't refused.
 pub fn near(p: &Point) -> bool
     ensures limit { IsTrue result → IsWithin (2 ^ 24) p.now }
+    ensures crossed { IsTrue result → IsWithin (2 ^ 25) p.now }
     ensures moved { IsTrue result → IsWithin (2 ^ 38) p.now }
     ensures turned { IsTrue result → IsWithin (2 ^ 40) p.now }
 {
