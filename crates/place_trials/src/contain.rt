@@ -1,23 +1,46 @@
 //! The tile of a frame that holds a point: rows worked out by hand, and points compared with a list of all
 //! tiles of the frame at each depth.
-use crate::calls::close;
-use crate::frame_tiles::{begun, holder, tiles};
+ghost use Rattle.std.specs.Prelude.{IfSome};
+ghost use Rattle.lazy_walk.specs.Frames.{IsFrameOf};
+ghost use Rattle.rule_model.specs.Tiling.{tiling_of};
+
 use builtin_rules::builtin::builtin;
 use builtin_rules::name::Name;
 use cyclo_points::motion::Motion;
 use cyclo_points::order::Order;
 use cyclo_points::point::Point;
+use lazy_walk::frame::Frame;
+use plain_tiles::drawn_tile::{DrawnTile, drawn_tiles, holders};
+use plain_tiles::frame_tiles::{begun, frame_tiles};
+use plain_tiles::placing::copy;
+use plain_tiles::small::close;
 use std::alloc::Global;
 use std::test::Fail;
 use tile_place::coord_limit::CoordLimit;
 use tile_place::machine::Machine;
 use tile_place::placed_tile::PlacedTile;
 use tile_shape::address::Address;
+use tile_shape::no_memory::NoMemory;
 use tile_shape::reading::read_address;
 use tile_shape::step::Step;
 
+/// The start number of all frames.
+const START: u64 = 42;
+
 /// The greatest depth of which all tiles are listed.
 const DEEPEST: u8 = 3;
+
+/// The frame of a base that has grown to a depth, where there is one.
+fn grown(machine: &Machine, base: &Address, depth: u8) -> Option<Frame>
+    ensures { IfSome result (IsFrameOf (tiling_of machine.now)) }
+{
+    if depth > 64 {
+        return None;
+    }
+    let mut frame = begun(machine, base, START)?;
+    frame.grow_to(machine, depth);
+    Some(frame)
+}
 
 /// What is contained in the frame of a base that has grown to a depth, and the depth then; None where the
 /// call's conditions aren't met.
@@ -27,11 +50,10 @@ fn contain(
     depth: u8,
     point: &Point,
 ) -> Option<(Result<PlacedTile, CoordLimit>, u8)> {
-    if depth > 64 || !close(point) {
+    if !close(point) {
         return None;
     }
-    let mut frame = begun(machine, base)?;
-    frame.grow_to(machine, depth);
+    let mut frame = grown(machine, base, depth)?;
     let contained = frame.contain(machine, point);
     Some((contained, frame.depth()))
 }
@@ -141,17 +163,33 @@ const NAMES: [Name; 5] = [
     Name::HalfHex,
 ];
 
+/// The tiles of a base's frame at each depth.
+fn lists(
+    alloc: Global,
+    machine: &Machine,
+    base: &Address,
+) -> Result<Vec<Vec<DrawnTile>>, NoMemory> {
+    let mut lists = Vec::new(alloc);
+    for depth in 0..=DEEPEST {
+        if let Some(frame) = grown(machine, base, depth) {
+            let tiles = frame_tiles(alloc, machine, &frame)?;
+            lists.push(drawn_tiles(alloc, machine, tiles)?)?;
+        }
+    }
+    Ok(lists)
+}
+
 /// The least depth from this one on at which a tile of the list holds a point, and that tile.
 fn least(
-    machine: &Machine,
-    lists: &[Vec<PlacedTile>],
+    order: Order,
+    lists: &[Vec<DrawnTile>],
     from: u8,
     point: &Point,
 ) -> Option<(PlacedTile, u8)> {
     for depth in from..=DEEPEST {
         let tiles = lists.get(usize::from(depth))?;
-        if let Some(tile) = holder(machine, tiles.as_slice(), point) {
-            return Some((tile, depth));
+        if let (1, Some(tile)) = holders(order, tiles.as_slice(), point) {
+            return Some((copy(tile), depth));
         }
     }
     None
@@ -162,15 +200,13 @@ fn contains_each_point_at_the_least_depth(rt: HostRuntime) -> Result<(), Fail> {
     for name in NAMES {
         let machine = Machine::new(rt.alloc(), builtin(rt.alloc(), name)?)?;
         let base = Address::new(0);
-        let mut lists = Vec::new(rt.alloc());
-        for depth in 0..=DEEPEST {
-            lists.push(tiles(rt.alloc(), &machine, &base, depth)?)?;
-        }
-        let points = points(rt.alloc(), machine.checked().order())?;
+        let order = machine.checked().order();
+        let lists = lists(rt.alloc(), &machine, &base)?;
+        let points = points(rt.alloc(), order)?;
         let mut found: u32 = 0;
         for from in 0..=DEEPEST {
             for point in points.as_slice() {
-                if let Some((tile, depth)) = least(&machine, lists.as_slice(), from, point) {
+                if let Some((tile, depth)) = least(order, lists.as_slice(), from, point) {
                     let contained = contain(&machine, &base, from, point);
                     assert_eq!(rt; contained, Some((Ok(tile), depth)), "{name:?} {point}");
                     found = found.saturating_add(1);

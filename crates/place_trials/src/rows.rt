@@ -1,9 +1,9 @@
 //! Points of the chair's supertiles, worked out by hand.
-use crate::calls::locate;
 use builtin_rules::builtin::builtin;
 use builtin_rules::name::Name;
 use cyclo_points::motion::Motion;
 use cyclo_points::point::Point;
+use plain_tiles::located::locate;
 use std::test::Fail;
 use tile_place::locate_fault::LocateFault;
 use tile_place::machine::Machine;

@@ -1,4 +1,5 @@
 //! What comes of a rule file.
+use crate::trials::trials;
 use builtin_rules::builtin::builtin;
 use builtin_rules::name::Name;
 use dissect_check::check::check;
@@ -42,9 +43,9 @@ fn is_read_back(alloc: Global, rule: &Checked, text: &str) -> Result<bool, NoMem
 }
 
 /// The line of an accepted rule.
-fn accepted(alloc: Global, rule: &Checked, bytes: &[u8]) -> Result<String, NoMemory> {
+fn accepted(alloc: Global, rule: Checked, bytes: &[u8]) -> Result<String, NoMemory> {
     let text = write_rule(alloc, rule.rule())?;
-    let back = if is_read_back(alloc, rule, text.as_str())? {
+    let back = if is_read_back(alloc, &rule, text.as_str())? {
         "the same when it is read back"
     } else {
         "ANOTHER when it is read back"
@@ -57,13 +58,16 @@ fn accepted(alloc: Global, rule: &Checked, bytes: &[u8]) -> Result<String, NoMem
     } else {
         ""
     };
-    Ok(format!(in alloc; "accepted order {order} kinds {kinds} types {types}, {back}{layout}")?)
+    let tried = trials(alloc, rule)?;
+    Ok(format!(in alloc;
+        "accepted order {order} kinds {kinds} types {types}, {back}{layout}, {tried}"
+    )?)
 }
 
 /// The line of a file.
 pub fn outcome(alloc: Global, bytes: &[u8]) -> Result<String, NoMemory> {
     match checked(alloc, bytes) {
-        Ok(rule) => accepted(alloc, &rule, bytes),
+        Ok(rule) => accepted(alloc, rule, bytes),
         Err(Refused::TooLong) => Ok(format!(in alloc; "refused TooLong")?),
         Err(Refused::Text(fault)) => Ok(format!(in alloc; "refused {fault}")?),
         Err(Refused::Check(fault)) => Ok(format!(in alloc; "refused {fault}")?),

@@ -1,8 +1,11 @@
-//! Points of tiles: middles of edges, and points inside.
-use crate::calls::near;
+//! Points of tiles: vertices, middles of edges, and points inside.
+use crate::drawn_tile::DrawnTile;
+use crate::small::near;
 use cyclo_points::order::Order;
 use cyclo_points::point::Point;
 use cyclo_points::rotation::turn;
+use std::alloc::Global;
+use tile_shape::no_memory::NoMemory;
 
 /// The sum, coefficient by coefficient.
 fn sum(p: &Point, q: &Point) -> Point {
@@ -29,7 +32,7 @@ fn difference(p: &Point, q: &Point) -> Point {
 }
 
 /// The middle of two points, where it is a point of the ring.
-pub(crate) fn middle(p: &Point, q: &Point) -> Option<Point> {
+pub fn middle(p: &Point, q: &Point) -> Option<Point> {
     let twice = sum(p, q);
     if (twice.c[0] | twice.c[1] | twice.c[2] | twice.c[3]) & 1 != 0 {
         return None;
@@ -64,7 +67,32 @@ fn shrunk(order: Order, p: &Point) -> Option<Point> {
 }
 
 /// A point inside the triangle of p, q and r: p + w (q - p) + w (r - p), w between 0 and 1/2.
-pub(crate) fn inside(order: Order, p: &Point, q: &Point, r: &Point) -> Option<Point> {
+fn inside(order: Order, p: &Point, q: &Point, r: &Point) -> Option<Point> {
     let sides = sum(&difference(q, p), &difference(r, p));
     Some(sum(p, &shrunk(order, &sides)?))
+}
+
+/// The vertices of all tiles, the middles of their edges, and points inside, where these are points of the ring:
+/// each once, in order.
+pub fn points(alloc: Global, order: Order, tiles: &[DrawnTile]) -> Result<Vec<Point>, NoMemory> {
+    let mut points = Vec::new(alloc);
+    for drawn in tiles {
+        let corners = drawn.corners();
+        if let (Some(first), Some(last)) = (corners.first(), corners.last()) {
+            let mut before = last;
+            for corner in corners {
+                points.push(*corner)?;
+                if let Some(point) = middle(before, corner) {
+                    points.push(point)?;
+                }
+                if let Some(point) = inside(order, first, before, corner) {
+                    points.push(point)?;
+                }
+                before = corner;
+            }
+        }
+    }
+    points.sort_unstable();
+    points.dedup();
+    Ok(points)
 }

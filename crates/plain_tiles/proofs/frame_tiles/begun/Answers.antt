@@ -3,7 +3,7 @@ use Rattle.addressing.specs.Address.{Fits}
 use Rattle.rule_model.specs.declared.rule.Rule.{Rule}
 use Rattle.rule_model.specs.Tiling.{tiling_of, children}
 use Rattle.tile_shape.specs.Views.{address_of}
-use Rattle.place_trials.proofs.frame_tiles.begun.Goals as goal
+use Rattle.plain_tiles.proofs.frame_tiles.begun.Goals as goal
 
 pub returns : goal.returns
 returns c =

@@ -1,0 +1,47 @@
+//! All tiles of a frame, listed as their definition says: those of the supertile, each moved so that the base
+//! stands on its prototile.
+ghost use Rattle.std.specs.Prelude.{IfSome};
+ghost use Rattle.lazy_walk.specs.Frames.{IsFrameOf};
+ghost use Rattle.rule_model.specs.Tiling.{tiling_of};
+
+use crate::placing::back;
+use crate::supertile::tiles;
+use cyclo_points::motion::Motion;
+use lazy_walk::frame::Frame;
+use std::alloc::Global;
+use tile_place::machine::Machine;
+use tile_place::placed_tile::PlacedTile;
+use tile_shape::address::Address;
+use tile_shape::no_memory::NoMemory;
+
+/// The frame of a base with a start number, where the base fits.
+pub fn begun(machine: &Machine, base: &Address, start: u64) -> Option<Frame>
+    ensures { IfSome result (IsFrameOf (tiling_of machine.now)) }
+{
+    if !machine.checked().uses().fits(base) {
+        return None;
+    }
+    Some(Frame::new(base.copy(), start))
+}
+
+/// The base's address in its frame.
+fn whole(frame: &Frame) -> Address {
+    let mut whole = Address::new(frame.base().kind);
+    for digit in frame.digits().as_slice() {
+        let _ = whole.push_coarse(*digit);
+    }
+    whole
+}
+
+/// The tiles of the frame at the depth that it has: those of its supertile, moved so that the base stands on its
+/// prototile.
+pub fn frame_tiles(
+    alloc: Global,
+    machine: &Machine,
+    frame: &Frame,
+) -> Result<Vec<PlacedTile>, NoMemory> {
+    let whole = whole(frame);
+    let top = whole.digits.last().map_or(whole.kind, |digit| digit.parent);
+    let back = back(machine, &whole).unwrap_or(Motion::default());
+    tiles(alloc, machine, top, frame.depth(), &back)
+}

@@ -1,0 +1,83 @@
+//! What the engine finds by a rule, against the plain program of the trials.
+ghost use Rattle.std.specs.Prelude.{◌≡◌, ◌<◌};
+
+use edge_tables::steps::Steps;
+use plain_tiles::counts::Counts;
+use plain_tiles::located::located;
+use plain_tiles::walks::walks;
+use plain_tiles::window_tiles::windows;
+use rule_model::checked::Checked;
+use std::alloc::Global;
+use std::marker::Brand;
+use std::sync::ledger::{Blank, Ledger};
+use tile_place::machine::Machine;
+use tile_shape::no_memory::NoMemory;
+
+/// The greatest number of tiles of a supertile that is listed: all of depth 4 of a rule with nine children.
+const MOST_TILES: u64 = 6561;
+
+/// The greatest number of tiles of a frame that is listed for a window.
+const MOST_IN_FRAME: u64 = 1100;
+
+/// How many walks are drawn.
+const WALKS: u32 = 100;
+
+/// How many windows are drawn.
+const WINDOWS: u32 = 30;
+
+/// What is located, and how walks come out.
+fn counted<L: Ledger>(
+    alloc: Global,
+    machine: &Machine,
+    blank: Blank,
+) -> Result<(Counts, Counts), NoMemory>
+    requires name { blank.name ≡ L.name }
+    requires parts { blank.parts ≡ L.parts }
+    requires some { 0 < blank.parts }
+{
+    let mut steps = Steps::<L>::new(blank);
+    let points = located(alloc, machine, MOST_TILES)?;
+    let walks = walks(alloc, machine, WALKS, &mut steps)?;
+    Ok((points, walks))
+}
+
+/// What came out as wanted, or how often something else did.
+fn described(
+    alloc: Global,
+    counts: Counts,
+    wanted: &str,
+    otherwise: &str,
+) -> Result<String, NoMemory> {
+    let Counts { right, differ } = counts;
+    if differ == 0 {
+        Ok(format!(in alloc; "{right} {wanted}")?)
+    } else {
+        Ok(format!(in alloc; "{differ} {otherwise}")?)
+    }
+}
+
+/// What comes of the trials of an accepted rule.
+pub fn trials(alloc: Global, rule: Checked) -> Result<String, NoMemory> {
+    let machine = Machine::new(alloc, rule)?;
+    let (points, walks) = counted::<Brand>(alloc, &machine, Blank::new(1))?;
+    let (windows, _) = windows(alloc, &machine, WINDOWS, MOST_IN_FRAME)?;
+    let located = described(
+        alloc,
+        points,
+        "points located as listed",
+        "points located OTHERWISE than listed",
+    )?;
+    let walked = described(
+        alloc,
+        walks,
+        "walks lead back",
+        "walks lead ELSEWHERE than back",
+    )?;
+    let covered = described(
+        alloc,
+        windows,
+        "windows covered as listed",
+        "windows covered OTHERWISE than listed",
+    )?;
+    Ok(format!(in alloc; "{located}, {walked}, {covered}")?)
+}
