@@ -1,0 +1,125 @@
+//! The search step by step.
+ghost use Rattle.std.specs.Prelude.{IfSome};
+ghost use Rattle.rule_model.specs.Tiling.{tiling_of};
+ghost use Rattle.lazy_walk.specs.Frames.{IsFrameOf};
+ghost use Rattle.window_cover.specs.Right.{IsRight};
+
+use crate::given::tile;
+use builtin_rules::builtin::builtin;
+use builtin_rules::name::Name;
+use cyclo_points::point::Point;
+use lazy_walk::frame::Frame;
+use plain_tiles::frame_tiles::begun;
+use plain_tiles::window_tiles::is_window;
+use plane_geom::window::Window;
+use std::alloc::Global;
+use std::test::Fail;
+use tile_place::machine::Machine;
+use tile_place::placed_tile::PlacedTile;
+use tile_shape::address::Address;
+use window_cover::cover::Cover;
+use window_cover::open_edge::OpenEdge;
+
+/// How many tiles are found, how many edges are open, and the first of these.
+#[derive(Clone, Copy, Debug, PartialEq, Eq)]
+struct Seen {
+    tiles: u32,
+    open_edges: u32,
+    first_open: Option<OpenEdge>,
+}
+
+impl Seen {
+    /// What is seen of a search.
+    fn of(cover: &Cover) -> Seen {
+        Seen {
+            tiles: cover.tiles(),
+            open_edges: cover.open_edges(),
+            first_open: cover.first_open(),
+        }
+    }
+}
+
+/// The tiles of a search that is at its end.
+fn finished(
+    alloc: Global,
+    machine: &Machine,
+    frame: &Frame,
+    cover: Cover,
+) -> Option<Vec<PlacedTile>>
+    requires right { IsRight (tiling_of machine.now) frame.now cover }
+{
+    let checked = machine.checked();
+    let uses = checked.uses();
+    let _usable = uses.kinds();
+    if cover.open_edges() != 0 {
+        return None;
+    }
+    cover.finish(alloc, frame).ok()
+}
+
+/// One step of a search, from a tile that has open edges.
+fn stepped(machine: &Machine, frame: &mut Frame, cover: Cover) -> Option<Cover>
+    requires right { IsRight (tiling_of machine.now) frame.old cover }
+    ensures right { IfSome result (IsRight (tiling_of machine.now) frame.new) }
+{
+    if cover.open_edges() == 0 {
+        return None;
+    }
+    match cover.step(machine, frame) {
+        Ok(next) => Some(next),
+        Err(_) => None,
+    }
+}
+
+/// What is seen of the search for a window at its start and after one step, and the tiles then, where it is at its
+/// end.
+fn searched(
+    alloc: Global,
+    machine: &Machine,
+    frame: &mut Frame,
+    window: &Window,
+) -> Option<(Seen, Seen, Vec<PlacedTile>)>
+    requires frame { IsFrameOf (tiling_of machine.now) frame.old }
+{
+    if !is_window(window) {
+        return None;
+    }
+    let started = match Cover::start(alloc, machine, frame, window) {
+        Ok(started) => started,
+        Err(_) => return None,
+    };
+    let before = Seen::of(&started);
+    let next = stepped(machine, frame, started)?;
+    let after = Seen::of(&next);
+    let tiles = finished(alloc, machine, frame, next)?;
+    Some((before, after, tiles))
+}
+
+#[test]
+fn one_step(rt: HostRuntime) -> Result<(), Fail> {
+    let machine = Machine::new(rt.alloc(), builtin(rt.alloc(), Name::Chair)?)?;
+    let window = Window {
+        centre: Point { c: [1, 1, 0, 0] },
+        w: 2,
+        h: 1,
+    };
+    let mut frame = begun(&machine, &Address::new(0), 42).expect(&rt, "a frame");
+    let found = searched(rt.alloc(), &machine, &mut frame, &window);
+    let before = Seen {
+        tiles: 1,
+        open_edges: 2,
+        first_open: Some(OpenEdge { tile: 0, edge: 1 }),
+    };
+    let after = Seen {
+        tiles: 2,
+        open_edges: 0,
+        first_open: None,
+    };
+    let wanted = vec![in rt.alloc();
+        tile(&machine, b"0:3/0", 0, [0; 4]),
+        tile(&machine, b"0:1/0", 1, [3, 1, 0, 0]),
+    ]?;
+    assert_eq!(rt; found, Some((before, after, wanted)));
+    assert_eq!(rt; frame.depth(), 1);
+    Ok(())
+}
