@@ -1,5 +1,5 @@
 //! What is found of a window, and what is open.
-ghost use Rattle.std.specs.Prelude.{◌≡◌, ◌<◌, Some, length, slice_get};
+ghost use Rattle.std.specs.Prelude.{◌≡◌, ◌<◌, ◌≤◌, Some, length, slice_get};
 ghost use Rattle.window_cover.specs.Admitted.{found_as};
 ghost use Rattle.window_cover.specs.Border.{first_of};
 
@@ -8,6 +8,7 @@ use crate::found_tile::FoundTile;
 use crate::open_edge::OpenEdge;
 use crate::outlines::Outlines;
 use arrayvec::ArrayVec;
+use cyclo_points::motion::Motion;
 use cyclo_points::point::Point;
 use plane_geom::window::Window;
 use std::marker::Model;
@@ -64,20 +65,39 @@ impl Cover {
         self.border.first()
     }
 
-    /// The tile found of a number, with the digits that it had then.
-    pub(crate) fn tile(&self, number: usize) -> PlacedTile
+    /// Puts the tile found of a number, with the digits that it had then, in the place of another.
+    pub(crate) fn put_tile(&self, number: usize, tile: &mut PlacedTile)
         requires found { number < length self.now.found }
-        ensures as_found { slice_get self.now.found number ≡ Some (found_as result) }
-        ensures its_kind { result.addr.kind ≡ result.kind }
+        ensures as_found { slice_get self.now.found number ≡ Some (found_as tile.new) }
+        ensures its_kind { tile.new.addr.kind ≡ tile.new.kind }
     {
-        let tile = &self.found[number];
-        let mut addr = Address::new(tile.kind);
-        let own = &self.digits[tile.first..tile.first + tile.depth as usize];
-        let _ = addr.digits.try_extend_from_slice(own);
-        PlacedTile {
-            kind: tile.kind,
-            motion: tile.motion,
-            addr,
-        }
+        let found = &self.found[number];
+        tile.kind = found.kind;
+        tile.motion = found.motion;
+        put_address(
+            &mut tile.addr,
+            found.kind,
+            &self.digits[found.first..found.first + found.depth as usize],
+        );
     }
+}
+
+/// A tile that stands for none.
+pub(crate) fn no_tile() -> PlacedTile {
+    PlacedTile {
+        kind: 0,
+        motion: Motion::default(),
+        addr: Address::new(0),
+    }
+}
+
+/// Puts a kind and digits in the place of those of an address.
+fn put_address(addr: &mut Address, kind: u8, digits: &[Step])
+    requires at_most_64 { length digits.now ≤ 64 }
+    ensures kind { addr.new.kind ≡ kind }
+    ensures digits { addr.new.digits.items ≡ digits.now }
+{
+    addr.kind = kind;
+    addr.digits.clear();
+    let _ = addr.digits.try_extend_from_slice(digits);
 }

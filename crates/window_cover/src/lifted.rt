@@ -3,7 +3,7 @@ ghost use Rattle.std.specs.Prelude.{◌≡◌, ◌<◌, ◌≤◌, ◌++◌, dro
 ghost use Rattle.tile_shape.specs.Views.{step_of};
 ghost use Rattle.window_cover.specs.Covered.{placed_as};
 
-use crate::cover::Cover;
+use crate::cover::{Cover, no_tile};
 use tile_place::placed_tile::PlacedTile;
 use tile_shape::address::Address;
 use tile_shape::step::Step;
@@ -16,7 +16,8 @@ impl Cover {
         requires at_most_64 { length above.now ≤ 64 }
         ensures { IfSome (slice_get self.now.found number) (λ x. result ≡ placed_as (map step_of above.now) x) }
     {
-        let mut tile = self.tile(number);
+        let mut tile = no_tile();
+        self.put_tile(number, &mut tile);
         put_behind(&mut tile.addr, above);
         tile
     }

@@ -10,7 +10,7 @@ ghost use Rattle.window_cover.specs.Causes.{HasCause};
 ghost use Rattle.window_cover.specs.Right.{IsRight};
 ghost use Rattle.window_cover.specs.Stepping.{StepsTo};
 
-use crate::cover::Cover;
+use crate::cover::{Cover, no_tile};
 use crate::cover_fault::CoverFault;
 use crate::cross::cross;
 use crate::open_edge::OpenEdge;
@@ -21,6 +21,7 @@ use seeded_growth::laws::grown_fits_law;
 use std::marker::Brand;
 use std::sync::ledger::{Blank, Ledger};
 use tile_place::machine::Machine;
+use tile_place::placed_tile::PlacedTile;
 
 /// One step, with look-ups counted on a ledger of this name.
 fn counted_step<L: Ledger>(
@@ -41,7 +42,7 @@ fn counted_step<L: Ledger>(
     ensures cause { IfErr result (λ fault. HasCause (tiling_of machine.now) frame.old frame.new cover.old.window fault) }
 {
     let mut steps = Steps::<L>::new(blank);
-    cover.advance(machine, frame, first, &mut steps)
+    cover.advance(machine, frame, first, &mut no_tile(), &mut steps)
 }
 
 impl Cover {
@@ -67,12 +68,13 @@ impl Cover {
         }
     }
 
-    /// The same in place, with look-ups counted.
+    /// The same in place, with look-ups counted. In the end `tile` is the one that is found.
     pub(crate) fn advance<L: Ledger>(
         &mut self,
         machine: &Machine,
         frame: &mut Frame,
         first: OpenEdge,
+        tile: &mut PlacedTile,
         steps: &mut Steps<L>,
     ) -> Result<(), CoverFault>
         requires right { IsRight (tiling_of machine.now) frame.old self.old }
@@ -93,9 +95,9 @@ impl Cover {
         grown_fits_law();
         let _usable = checked.uses().kinds();
         self.border.pass();
-        let mut tile = self.tile(first.tile as usize);
-        match cross(machine, frame, &mut tile, first.edge, steps) {
-            Ok(()) => self.admit(machine, &tile),
+        self.put_tile(first.tile as usize, tile);
+        match cross(machine, frame, tile, first.edge, steps) {
+            Ok(()) => self.admit(machine, tile),
             Err(limit) => Err(CoverFault::DepthLimit {
                 addr: limit.addr,
                 edge: limit.edge,

@@ -13,7 +13,7 @@ ghost use Rattle.window_cover.specs.Causes.{HasCause};
 ghost use Rattle.window_cover.specs.InOrder.{AreInOrder};
 ghost use Rattle.window_cover.specs.Right.{IsRight};
 
-use crate::cover::Cover;
+use crate::cover::{Cover, no_tile};
 use crate::cover_fault::CoverFault;
 use crate::covered_tiles::CoveredTiles;
 use crate::laws::end_laws;
@@ -124,8 +124,9 @@ fn searched<L: Ledger>(
 {
     let mut steps = Steps::<L>::new(blank);
     let mut cover = Cover::start(alloc, machine, frame, window)?;
+    let mut tile = no_tile();
     while let Some(first) = cover.first_open() {
-        cover.advance(machine, frame, first, &mut steps)?;
+        cover.advance(machine, frame, first, &mut tile, &mut steps)?;
     }
     Ok(cover)
 }

@@ -37,8 +37,8 @@ invariant_of-self g c = subst (λ b. IsKept c.self.inside.digits.items c.self.in
 pub overflow_cast-first : goal.overflow_cast-first
 overflow_cast-first g c = search rules
 
-pub tile-tile-requires : goal.tile-tile-requires
-tile-tile-requires g c =
+pub put_tile-requires : goal.put_tile-requires
+put_tile-requires g c =
     let m = c.args.machine.now in
     let t = tiling_of m in
     let f = c.args.frame.now in
@@ -56,7 +56,7 @@ pub cross-requires-clause-frame : goal.cross-requires-clause-frame
 cross-requires-clause-frame g c = c.requires.right.frame
 
 pub cross-requires-clause-its_kind : goal.cross-requires-clause-its_kind
-cross-requires-clause-its_kind g c = c.tile-tile.ensures.its_kind
+cross-requires-clause-its_kind g c = c.put_tile.ensures.its_kind
 
 pub cross-requires-clause-of_frame : goal.cross-requires-clause-of_frame
 cross-requires-clause-of_frame g c =
@@ -71,10 +71,10 @@ cross-requires-clause-of_frame g c =
     let inside = c.self.inside in
     let same : ◌≡◌ {A = CoverValue} (record { window = inside.window; found = found_in inside.digits.items inside.found.items; border = c.pass.new.self; outlines = inside.outlines }) v =
     ap (λ (b : List Waiting). record { window = inside.window; found = found_in inside.digits.items inside.found.items; border = b; outlines = inside.outlines }) c.pass.ensures ∙ c.self.view_is in
-    let x = found_as c.tile-tile.result in
-    let at : slice_get v.found c.args.first.tile ≡ Some x = subst (λ (y : CoverValue). slice_get y.found c.args.first.tile ≡ Some x) same c.tile-tile.ensures.as_found in
+    let x = found_as c.put_tile.new.tile in
+    let at : slice_get v.found c.args.first.tile ≡ Some x = subst (λ (y : CoverValue). slice_get y.found c.args.first.tile ≡ Some x) same c.put_tile.ensures.as_found in
     let it = its_found m settled fits L f c.requires.right.frame v c.requires.right c.args.first.tile x at in
-    let a_is : address_found x ≡ address_of c.tile-tile.result.addr = sym (λ i. record { kind = c.tile-tile.ensures.its_kind i; digits = (address_of c.tile-tile.result.addr).digits }) in
+    let a_is : address_found x ≡ address_of c.put_tile.new.tile.addr = sym (λ i. record { kind = c.put_tile.ensures.its_kind i; digits = (address_of c.put_tile.new.tile.addr).digits }) in
     subst (IsTileOf (children t) (whole f)) a_is it.of_frame
 
 pub cross-requires-clause-edge_exists : goal.cross-requires-clause-edge_exists
@@ -90,11 +90,11 @@ cross-requires-clause-edge_exists g c =
     let inside = c.self.inside in
     let same : ◌≡◌ {A = CoverValue} (record { window = inside.window; found = found_in inside.digits.items inside.found.items; border = c.pass.new.self; outlines = inside.outlines }) v =
     ap (λ (b : List Waiting). record { window = inside.window; found = found_in inside.digits.items inside.found.items; border = b; outlines = inside.outlines }) c.pass.ensures ∙ c.self.view_is in
-    let x = found_as c.tile-tile.result in
-    let at : slice_get v.found c.args.first.tile ≡ Some x = subst (λ (y : CoverValue). slice_get y.found c.args.first.tile ≡ Some x) same c.tile-tile.ensures.as_found in
+    let x = found_as c.put_tile.new.tile in
+    let at : slice_get v.found c.args.first.tile ≡ Some x = subst (λ (y : CoverValue). slice_get y.found c.args.first.tile ≡ Some x) same c.put_tile.ensures.as_found in
     let it = its_found m settled fits L f c.requires.right.frame v c.requires.right c.args.first.tile x at in
-    let a_is : address_found x ≡ address_of c.tile-tile.result.addr = sym (λ i. record { kind = c.tile-tile.ensures.its_kind i; digits = (address_of c.tile-tile.result.addr).digits }) in
-    subst (λ n. IsSome (type_of (contacts t) n c.args.first.edge)) (sym c.tile-tile.ensures.its_kind) (edge-there m settled fits L f v c.requires.right c.args.first c.requires.is_first x at)
+    let a_is : address_found x ≡ address_of c.put_tile.new.tile.addr = sym (λ i. record { kind = c.put_tile.ensures.its_kind i; digits = (address_of c.put_tile.new.tile.addr).digits }) in
+    subst (λ n. IsSome (type_of (contacts t) n c.args.first.edge)) (sym c.put_tile.ensures.its_kind) (edge-there m settled fits L f v c.requires.right c.args.first c.requires.is_first x at)
 
 pub cross-requires-clause-turn_below : goal.cross-requires-clause-turn_below
 cross-requires-clause-turn_below g c =
@@ -109,10 +109,10 @@ cross-requires-clause-turn_below g c =
     let inside = c.self.inside in
     let same : ◌≡◌ {A = CoverValue} (record { window = inside.window; found = found_in inside.digits.items inside.found.items; border = c.pass.new.self; outlines = inside.outlines }) v =
     ap (λ (b : List Waiting). record { window = inside.window; found = found_in inside.digits.items inside.found.items; border = b; outlines = inside.outlines }) c.pass.ensures ∙ c.self.view_is in
-    let x = found_as c.tile-tile.result in
-    let at : slice_get v.found c.args.first.tile ≡ Some x = subst (λ (y : CoverValue). slice_get y.found c.args.first.tile ≡ Some x) same c.tile-tile.ensures.as_found in
+    let x = found_as c.put_tile.new.tile in
+    let at : slice_get v.found c.args.first.tile ≡ Some x = subst (λ (y : CoverValue). slice_get y.found c.args.first.tile ≡ Some x) same c.put_tile.ensures.as_found in
     let it = its_found m settled fits L f c.requires.right.frame v c.requires.right c.args.first.tile x at in
-    let a_is : address_found x ≡ address_of c.tile-tile.result.addr = sym (λ i. record { kind = c.tile-tile.ensures.its_kind i; digits = (address_of c.tile-tile.result.addr).digits }) in
+    let a_is : address_found x ≡ address_of c.put_tile.new.tile.addr = sym (λ i. record { kind = c.put_tile.ensures.its_kind i; digits = (address_of c.put_tile.new.tile.addr).digits }) in
     it.turn_below
 
 pub cross-requires-clause-shift_within : goal.cross-requires-clause-shift_within
@@ -128,10 +128,10 @@ cross-requires-clause-shift_within g c =
     let inside = c.self.inside in
     let same : ◌≡◌ {A = CoverValue} (record { window = inside.window; found = found_in inside.digits.items inside.found.items; border = c.pass.new.self; outlines = inside.outlines }) v =
     ap (λ (b : List Waiting). record { window = inside.window; found = found_in inside.digits.items inside.found.items; border = b; outlines = inside.outlines }) c.pass.ensures ∙ c.self.view_is in
-    let x = found_as c.tile-tile.result in
-    let at : slice_get v.found c.args.first.tile ≡ Some x = subst (λ (y : CoverValue). slice_get y.found c.args.first.tile ≡ Some x) same c.tile-tile.ensures.as_found in
+    let x = found_as c.put_tile.new.tile in
+    let at : slice_get v.found c.args.first.tile ≡ Some x = subst (λ (y : CoverValue). slice_get y.found c.args.first.tile ≡ Some x) same c.put_tile.ensures.as_found in
     let it = its_found m settled fits L f c.requires.right.frame v c.requires.right c.args.first.tile x at in
-    let a_is : address_found x ≡ address_of c.tile-tile.result.addr = sym (λ i. record { kind = c.tile-tile.ensures.its_kind i; digits = (address_of c.tile-tile.result.addr).digits }) in
+    let a_is : address_found x ≡ address_of c.put_tile.new.tile.addr = sym (λ i. record { kind = c.put_tile.ensures.its_kind i; digits = (address_of c.put_tile.new.tile.addr).digits }) in
     it.shift_within
 
 pub cross-requires-clause-in_order : goal.cross-requires-clause-in_order
@@ -147,10 +147,10 @@ cross-requires-clause-in_order g c =
     let inside = c.self.inside in
     let same : ◌≡◌ {A = CoverValue} (record { window = inside.window; found = found_in inside.digits.items inside.found.items; border = c.pass.new.self; outlines = inside.outlines }) v =
     ap (λ (b : List Waiting). record { window = inside.window; found = found_in inside.digits.items inside.found.items; border = b; outlines = inside.outlines }) c.pass.ensures ∙ c.self.view_is in
-    let x = found_as c.tile-tile.result in
-    let at : slice_get v.found c.args.first.tile ≡ Some x = subst (λ (y : CoverValue). slice_get y.found c.args.first.tile ≡ Some x) same c.tile-tile.ensures.as_found in
+    let x = found_as c.put_tile.new.tile in
+    let at : slice_get v.found c.args.first.tile ≡ Some x = subst (λ (y : CoverValue). slice_get y.found c.args.first.tile ≡ Some x) same c.put_tile.ensures.as_found in
     let it = its_found m settled fits L f c.requires.right.frame v c.requires.right c.args.first.tile x at in
-    let a_is : address_found x ≡ address_of c.tile-tile.result.addr = sym (λ i. record { kind = c.tile-tile.ensures.its_kind i; digits = (address_of c.tile-tile.result.addr).digits }) in
+    let a_is : address_found x ≡ address_of c.put_tile.new.tile.addr = sym (λ i. record { kind = c.put_tile.ensures.its_kind i; digits = (address_of c.put_tile.new.tile.addr).digits }) in
     it.in_order
 
 pub admit-requires-clause-exists : goal.admit-requires-clause-exists
@@ -166,10 +166,10 @@ admit-requires-clause-exists g c =
     let inside = c.self.inside in
     let same : ◌≡◌ {A = CoverValue} (record { window = inside.window; found = found_in inside.digits.items inside.found.items; border = c.pass.new.self; outlines = inside.outlines }) v =
     ap (λ (b : List Waiting). record { window = inside.window; found = found_in inside.digits.items inside.found.items; border = b; outlines = inside.outlines }) c.pass.ensures ∙ c.self.view_is in
-    let x = found_as c.tile-tile.result in
-    let at : slice_get v.found c.args.first.tile ≡ Some x = subst (λ (y : CoverValue). slice_get y.found c.args.first.tile ≡ Some x) same c.tile-tile.ensures.as_found in
+    let x = found_as c.put_tile.new.tile in
+    let at : slice_get v.found c.args.first.tile ≡ Some x = subst (λ (y : CoverValue). slice_get y.found c.args.first.tile ≡ Some x) same c.put_tile.ensures.as_found in
     let it = its_found m settled fits L f c.requires.right.frame v c.requires.right c.args.first.tile x at in
-    let a_is : address_found x ≡ address_of c.tile-tile.result.addr = sym (λ i. record { kind = c.tile-tile.ensures.its_kind i; digits = (address_of c.tile-tile.result.addr).digits }) in
+    let a_is : address_found x ≡ address_of c.put_tile.new.tile.addr = sym (λ i. record { kind = c.put_tile.ensures.its_kind i; digits = (address_of c.put_tile.new.tile.addr).digits }) in
     let k = c.cross.new.frame in
     let tile = c.cross.new.tile in
     let h : GrowsTo t f k = c.in-Ok.ensures.frame in
@@ -198,10 +198,10 @@ admit-requires-clause-new g c =
     let inside = c.self.inside in
     let same : ◌≡◌ {A = CoverValue} (record { window = inside.window; found = found_in inside.digits.items inside.found.items; border = c.pass.new.self; outlines = inside.outlines }) v =
     ap (λ (b : List Waiting). record { window = inside.window; found = found_in inside.digits.items inside.found.items; border = b; outlines = inside.outlines }) c.pass.ensures ∙ c.self.view_is in
-    let x = found_as c.tile-tile.result in
-    let at : slice_get v.found c.args.first.tile ≡ Some x = subst (λ (y : CoverValue). slice_get y.found c.args.first.tile ≡ Some x) same c.tile-tile.ensures.as_found in
+    let x = found_as c.put_tile.new.tile in
+    let at : slice_get v.found c.args.first.tile ≡ Some x = subst (λ (y : CoverValue). slice_get y.found c.args.first.tile ≡ Some x) same c.put_tile.ensures.as_found in
     let it = its_found m settled fits L f c.requires.right.frame v c.requires.right c.args.first.tile x at in
-    let a_is : address_found x ≡ address_of c.tile-tile.result.addr = sym (λ i. record { kind = c.tile-tile.ensures.its_kind i; digits = (address_of c.tile-tile.result.addr).digits }) in
+    let a_is : address_found x ≡ address_of c.put_tile.new.tile.addr = sym (λ i. record { kind = c.put_tile.ensures.its_kind i; digits = (address_of c.put_tile.new.tile.addr).digits }) in
     let k = c.cross.new.frame in
     let tile = c.cross.new.tile in
     let h : GrowsTo t f k = c.in-Ok.ensures.frame in
@@ -224,10 +224,10 @@ returns-in-Ok-clause-steps_to g c =
     let inside = c.self.inside in
     let same : ◌≡◌ {A = CoverValue} (record { window = inside.window; found = found_in inside.digits.items inside.found.items; border = c.pass.new.self; outlines = inside.outlines }) v =
     ap (λ (b : List Waiting). record { window = inside.window; found = found_in inside.digits.items inside.found.items; border = b; outlines = inside.outlines }) c.pass.ensures ∙ c.self.view_is in
-    let x = found_as c.tile-tile.result in
-    let at : slice_get v.found c.args.first.tile ≡ Some x = subst (λ (y : CoverValue). slice_get y.found c.args.first.tile ≡ Some x) same c.tile-tile.ensures.as_found in
+    let x = found_as c.put_tile.new.tile in
+    let at : slice_get v.found c.args.first.tile ≡ Some x = subst (λ (y : CoverValue). slice_get y.found c.args.first.tile ≡ Some x) same c.put_tile.ensures.as_found in
     let it = its_found m settled fits L f c.requires.right.frame v c.requires.right c.args.first.tile x at in
-    let a_is : address_found x ≡ address_of c.tile-tile.result.addr = sym (λ i. record { kind = c.tile-tile.ensures.its_kind i; digits = (address_of c.tile-tile.result.addr).digits }) in
+    let a_is : address_found x ≡ address_of c.put_tile.new.tile.addr = sym (λ i. record { kind = c.put_tile.ensures.its_kind i; digits = (address_of c.put_tile.new.tile.addr).digits }) in
     let k = c.cross.new.frame in
     let tile = c.cross.new.tile in
     let h : GrowsTo t f k = c.in-Ok.ensures.frame in
@@ -248,10 +248,10 @@ returns-in-Ok-clause-right g c =
     let inside = c.self.inside in
     let same : ◌≡◌ {A = CoverValue} (record { window = inside.window; found = found_in inside.digits.items inside.found.items; border = c.pass.new.self; outlines = inside.outlines }) v =
     ap (λ (b : List Waiting). record { window = inside.window; found = found_in inside.digits.items inside.found.items; border = b; outlines = inside.outlines }) c.pass.ensures ∙ c.self.view_is in
-    let x = found_as c.tile-tile.result in
-    let at : slice_get v.found c.args.first.tile ≡ Some x = subst (λ (y : CoverValue). slice_get y.found c.args.first.tile ≡ Some x) same c.tile-tile.ensures.as_found in
+    let x = found_as c.put_tile.new.tile in
+    let at : slice_get v.found c.args.first.tile ≡ Some x = subst (λ (y : CoverValue). slice_get y.found c.args.first.tile ≡ Some x) same c.put_tile.ensures.as_found in
     let it = its_found m settled fits L f c.requires.right.frame v c.requires.right c.args.first.tile x at in
-    let a_is : address_found x ≡ address_of c.tile-tile.result.addr = sym (λ i. record { kind = c.tile-tile.ensures.its_kind i; digits = (address_of c.tile-tile.result.addr).digits }) in
+    let a_is : address_found x ≡ address_of c.put_tile.new.tile.addr = sym (λ i. record { kind = c.put_tile.ensures.its_kind i; digits = (address_of c.put_tile.new.tile.addr).digits }) in
     let k = c.cross.new.frame in
     let tile = c.cross.new.tile in
     let h : GrowsTo t f k = c.in-Ok.ensures.frame in
@@ -272,10 +272,10 @@ returns-in-Ok-clause-one_more g c =
     let inside = c.self.inside in
     let same : ◌≡◌ {A = CoverValue} (record { window = inside.window; found = found_in inside.digits.items inside.found.items; border = c.pass.new.self; outlines = inside.outlines }) v =
     ap (λ (b : List Waiting). record { window = inside.window; found = found_in inside.digits.items inside.found.items; border = b; outlines = inside.outlines }) c.pass.ensures ∙ c.self.view_is in
-    let x = found_as c.tile-tile.result in
-    let at : slice_get v.found c.args.first.tile ≡ Some x = subst (λ (y : CoverValue). slice_get y.found c.args.first.tile ≡ Some x) same c.tile-tile.ensures.as_found in
+    let x = found_as c.put_tile.new.tile in
+    let at : slice_get v.found c.args.first.tile ≡ Some x = subst (λ (y : CoverValue). slice_get y.found c.args.first.tile ≡ Some x) same c.put_tile.ensures.as_found in
     let it = its_found m settled fits L f c.requires.right.frame v c.requires.right c.args.first.tile x at in
-    let a_is : address_found x ≡ address_of c.tile-tile.result.addr = sym (λ i. record { kind = c.tile-tile.ensures.its_kind i; digits = (address_of c.tile-tile.result.addr).digits }) in
+    let a_is : address_found x ≡ address_of c.put_tile.new.tile.addr = sym (λ i. record { kind = c.put_tile.ensures.its_kind i; digits = (address_of c.put_tile.new.tile.addr).digits }) in
     let k = c.cross.new.frame in
     let tile = c.cross.new.tile in
     let h : GrowsTo t f k = c.in-Ok.ensures.frame in
@@ -296,10 +296,10 @@ returns-in-Ok-clause-not_beyond g c =
     let inside = c.self.inside in
     let same : ◌≡◌ {A = CoverValue} (record { window = inside.window; found = found_in inside.digits.items inside.found.items; border = c.pass.new.self; outlines = inside.outlines }) v =
     ap (λ (b : List Waiting). record { window = inside.window; found = found_in inside.digits.items inside.found.items; border = b; outlines = inside.outlines }) c.pass.ensures ∙ c.self.view_is in
-    let x = found_as c.tile-tile.result in
-    let at : slice_get v.found c.args.first.tile ≡ Some x = subst (λ (y : CoverValue). slice_get y.found c.args.first.tile ≡ Some x) same c.tile-tile.ensures.as_found in
+    let x = found_as c.put_tile.new.tile in
+    let at : slice_get v.found c.args.first.tile ≡ Some x = subst (λ (y : CoverValue). slice_get y.found c.args.first.tile ≡ Some x) same c.put_tile.ensures.as_found in
     let it = its_found m settled fits L f c.requires.right.frame v c.requires.right c.args.first.tile x at in
-    let a_is : address_found x ≡ address_of c.tile-tile.result.addr = sym (λ i. record { kind = c.tile-tile.ensures.its_kind i; digits = (address_of c.tile-tile.result.addr).digits }) in
+    let a_is : address_found x ≡ address_of c.put_tile.new.tile.addr = sym (λ i. record { kind = c.put_tile.ensures.its_kind i; digits = (address_of c.put_tile.new.tile.addr).digits }) in
     let k = c.cross.new.frame in
     let tile = c.cross.new.tile in
     let h : GrowsTo t f k = c.in-Ok.ensures.frame in
@@ -319,10 +319,10 @@ returns-in-Ok-clause-within g c =
     let inside = c.self.inside in
     let same : ◌≡◌ {A = CoverValue} (record { window = inside.window; found = found_in inside.digits.items inside.found.items; border = c.pass.new.self; outlines = inside.outlines }) v =
     ap (λ (b : List Waiting). record { window = inside.window; found = found_in inside.digits.items inside.found.items; border = b; outlines = inside.outlines }) c.pass.ensures ∙ c.self.view_is in
-    let x = found_as c.tile-tile.result in
-    let at : slice_get v.found c.args.first.tile ≡ Some x = subst (λ (y : CoverValue). slice_get y.found c.args.first.tile ≡ Some x) same c.tile-tile.ensures.as_found in
+    let x = found_as c.put_tile.new.tile in
+    let at : slice_get v.found c.args.first.tile ≡ Some x = subst (λ (y : CoverValue). slice_get y.found c.args.first.tile ≡ Some x) same c.put_tile.ensures.as_found in
     let it = its_found m settled fits L f c.requires.right.frame v c.requires.right c.args.first.tile x at in
-    let a_is : address_found x ≡ address_of c.tile-tile.result.addr = sym (λ i. record { kind = c.tile-tile.ensures.its_kind i; digits = (address_of c.tile-tile.result.addr).digits }) in
+    let a_is : address_found x ≡ address_of c.put_tile.new.tile.addr = sym (λ i. record { kind = c.put_tile.ensures.its_kind i; digits = (address_of c.put_tile.new.tile.addr).digits }) in
     let k = c.cross.new.frame in
     let tile = c.cross.new.tile in
     let h : GrowsTo t f k = c.in-Ok.ensures.frame in
@@ -343,10 +343,10 @@ returns-in-Ok-clause-cause g c =
     let inside = c.self.inside in
     let same : ◌≡◌ {A = CoverValue} (record { window = inside.window; found = found_in inside.digits.items inside.found.items; border = c.pass.new.self; outlines = inside.outlines }) v =
     ap (λ (b : List Waiting). record { window = inside.window; found = found_in inside.digits.items inside.found.items; border = b; outlines = inside.outlines }) c.pass.ensures ∙ c.self.view_is in
-    let x = found_as c.tile-tile.result in
-    let at : slice_get v.found c.args.first.tile ≡ Some x = subst (λ (y : CoverValue). slice_get y.found c.args.first.tile ≡ Some x) same c.tile-tile.ensures.as_found in
+    let x = found_as c.put_tile.new.tile in
+    let at : slice_get v.found c.args.first.tile ≡ Some x = subst (λ (y : CoverValue). slice_get y.found c.args.first.tile ≡ Some x) same c.put_tile.ensures.as_found in
     let it = its_found m settled fits L f c.requires.right.frame v c.requires.right c.args.first.tile x at in
-    let a_is : address_found x ≡ address_of c.tile-tile.result.addr = sym (λ i. record { kind = c.tile-tile.ensures.its_kind i; digits = (address_of c.tile-tile.result.addr).digits }) in
+    let a_is : address_found x ≡ address_of c.put_tile.new.tile.addr = sym (λ i. record { kind = c.put_tile.ensures.its_kind i; digits = (address_of c.put_tile.new.tile.addr).digits }) in
     let k = c.cross.new.frame in
     let tile = c.cross.new.tile in
     let h : GrowsTo t f k = c.in-Ok.ensures.frame in
@@ -370,10 +370,10 @@ returns-in-Err-clause-not_beyond g c =
     let inside = c.self.inside in
     let same : ◌≡◌ {A = CoverValue} (record { window = inside.window; found = found_in inside.digits.items inside.found.items; border = c.pass.new.self; outlines = inside.outlines }) v =
     ap (λ (b : List Waiting). record { window = inside.window; found = found_in inside.digits.items inside.found.items; border = b; outlines = inside.outlines }) c.pass.ensures ∙ c.self.view_is in
-    let x = found_as c.tile-tile.result in
-    let at : slice_get v.found c.args.first.tile ≡ Some x = subst (λ (y : CoverValue). slice_get y.found c.args.first.tile ≡ Some x) same c.tile-tile.ensures.as_found in
+    let x = found_as c.put_tile.new.tile in
+    let at : slice_get v.found c.args.first.tile ≡ Some x = subst (λ (y : CoverValue). slice_get y.found c.args.first.tile ≡ Some x) same c.put_tile.ensures.as_found in
     let it = its_found m settled fits L f c.requires.right.frame v c.requires.right c.args.first.tile x at in
-    let a_is : address_found x ≡ address_of c.tile-tile.result.addr = sym (λ i. record { kind = c.tile-tile.ensures.its_kind i; digits = (address_of c.tile-tile.result.addr).digits }) in
+    let a_is : address_found x ≡ address_of c.put_tile.new.tile.addr = sym (λ i. record { kind = c.put_tile.ensures.its_kind i; digits = (address_of c.put_tile.new.tile.addr).digits }) in
     let on : IsBoundaryEdge t (lifted_in (full t f) (address_found x)) c.args.first.edge = subst (λ a. IsBoundaryEdge t (lifted_in (full t f) a) c.args.first.edge) (sym a_is) (c.in-Err.ensures.limit_exactly.0 refl) in
     λ f0 n grows enough below. absurd (not_enough m settled fits L f v c.requires.right c.args.first c.requires.is_first x at on f0 n grows enough)
 
@@ -390,10 +390,10 @@ returns-in-Err-clause-within g c =
     let inside = c.self.inside in
     let same : ◌≡◌ {A = CoverValue} (record { window = inside.window; found = found_in inside.digits.items inside.found.items; border = c.pass.new.self; outlines = inside.outlines }) v =
     ap (λ (b : List Waiting). record { window = inside.window; found = found_in inside.digits.items inside.found.items; border = b; outlines = inside.outlines }) c.pass.ensures ∙ c.self.view_is in
-    let x = found_as c.tile-tile.result in
-    let at : slice_get v.found c.args.first.tile ≡ Some x = subst (λ (y : CoverValue). slice_get y.found c.args.first.tile ≡ Some x) same c.tile-tile.ensures.as_found in
+    let x = found_as c.put_tile.new.tile in
+    let at : slice_get v.found c.args.first.tile ≡ Some x = subst (λ (y : CoverValue). slice_get y.found c.args.first.tile ≡ Some x) same c.put_tile.ensures.as_found in
     let it = its_found m settled fits L f c.requires.right.frame v c.requires.right c.args.first.tile x at in
-    let a_is : address_found x ≡ address_of c.tile-tile.result.addr = sym (λ i. record { kind = c.tile-tile.ensures.its_kind i; digits = (address_of c.tile-tile.result.addr).digits }) in
+    let a_is : address_found x ≡ address_of c.put_tile.new.tile.addr = sym (λ i. record { kind = c.put_tile.ensures.its_kind i; digits = (address_of c.put_tile.new.tile.addr).digits }) in
     let on : IsBoundaryEdge t (lifted_in (full t f) (address_found x)) c.args.first.edge = subst (λ a. IsBoundaryEdge t (lifted_in (full t f) a) c.args.first.edge) (sym a_is) (c.in-Err.ensures.limit_exactly.0 refl) in
     λ f0 grows within. absurd (not_within m settled fits L f v c.requires.right c.args.first c.requires.is_first x at on f0 grows within)
 
@@ -410,9 +410,9 @@ returns-in-Err-clause-cause g c =
     let inside = c.self.inside in
     let same : ◌≡◌ {A = CoverValue} (record { window = inside.window; found = found_in inside.digits.items inside.found.items; border = c.pass.new.self; outlines = inside.outlines }) v =
     ap (λ (b : List Waiting). record { window = inside.window; found = found_in inside.digits.items inside.found.items; border = b; outlines = inside.outlines }) c.pass.ensures ∙ c.self.view_is in
-    let x = found_as c.tile-tile.result in
-    let at : slice_get v.found c.args.first.tile ≡ Some x = subst (λ (y : CoverValue). slice_get y.found c.args.first.tile ≡ Some x) same c.tile-tile.ensures.as_found in
+    let x = found_as c.put_tile.new.tile in
+    let at : slice_get v.found c.args.first.tile ≡ Some x = subst (λ (y : CoverValue). slice_get y.found c.args.first.tile ≡ Some x) same c.put_tile.ensures.as_found in
     let it = its_found m settled fits L f c.requires.right.frame v c.requires.right c.args.first.tile x at in
-    let a_is : address_found x ≡ address_of c.tile-tile.result.addr = sym (λ i. record { kind = c.tile-tile.ensures.its_kind i; digits = (address_of c.tile-tile.result.addr).digits }) in
+    let a_is : address_found x ≡ address_of c.put_tile.new.tile.addr = sym (λ i. record { kind = c.put_tile.ensures.its_kind i; digits = (address_of c.put_tile.new.tile.addr).digits }) in
     let on : IsBoundaryEdge t (lifted_in (full t f) (address_found x)) c.args.first.edge = subst (λ a. IsBoundaryEdge t (lifted_in (full t f) a) c.args.first.edge) (sym a_is) (c.in-Err.ensures.limit_exactly.0 refl) in
     depth_limit m settled fits L f v c.requires.right c.args.first c.requires.is_first x at on c.cross.new.frame c.in-Err.ensures.frame c.in-Err.ensures.deepest_at_limit c.in-Err.limit.addr (c.in-Err.ensures.limit_tile ∙ ap (lifted_in (full t f)) (sym a_is)) c.in-Err.limit.edge c.in-Err.ensures.limit_edge

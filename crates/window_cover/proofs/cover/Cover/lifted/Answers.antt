@@ -7,7 +7,7 @@ use Rattle.window_cover.proofs.cover.Cover.lifted.Goals as goal
 
 pub returns : goal.returns
 returns c =
-    let before = c.tile-tile.result in
+    let before = c.put_tile.new.tile in
     let after : PlacedTile = record { kind = before.kind; motion = before.motion; addr = c.put_behind.new.addr } in
-    subst (λ o. IfSome o (λ x. ◌≡◌ {A = PlacedTile} after (placed_as (map step_of c.args.above.now) x))) (sym c.tile-tile.ensures.as_found)
-    (placed-is before after c.args.above.now c.tile-tile.ensures.its_kind refl refl c.put_behind.ensures.kind c.put_behind.ensures.digits)
+    subst (λ o. IfSome o (λ x. ◌≡◌ {A = PlacedTile} after (placed_as (map step_of c.args.above.now) x))) (sym c.put_tile.ensures.as_found)
+    (placed-is before after c.args.above.now c.put_tile.ensures.its_kind refl refl c.put_behind.ensures.kind c.put_behind.ensures.digits)
