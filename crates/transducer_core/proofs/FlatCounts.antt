@@ -10,14 +10,13 @@ use Rattle.edge_tables.specs.Views.{as_contact, as_child_edge, as_kind_tables}
 use Rattle.addressing.specs.Coherent.{IsCoherent}
 use Rattle.addressing.specs.Contact.{Contact, ChildEdge}
 use Rattle.addressing.specs.Search.{IsAmong}
-use Rattle.addressing.specs.Tables.{Tables, KindTables, kind_tables, child_kinds, part_count}
-use Rattle.addressing.proofs.Lists.{AllByRecursion-from, IsAmong-map}
-use Rattle.addressing.proofs.Ranges.{among-place, image-at, among-flat_map}
+use Rattle.addressing.specs.Tables.{Tables, KindTables, kind_tables, part_count}
+use Rattle.addressing.proofs.Lists.{AllByRecursion-from}
+use Rattle.addressing.proofs.Ranges.{among-place, image-at, among-flat_map, slice_get-image}
 use Rattle.addressing.proofs.TableBounds.{some_within, part_count-within}
 use Rattle.transducer_core.specs.Blocks.{contact_blocks, part_blocks}
-use Rattle.transducer_core.specs.FlatTables.{kind_rows}
 use Rattle.transducer_core.specs.Merged.{IsMerged}
-use Rattle.transducer_core.specs.Merging.{as_lists, AreShort, AreSmall}
+use Rattle.transducer_core.specs.Merging.{AreShort, AreSmall}
 use Rattle.transducer_core.specs.Once.{AreOnce, HasDifferent}
 use Rattle.transducer_core.specs.Words.{word_of_contact, contact_of_word, word_of_part, part_of_word, contact_words, part_words}
 use Rattle.transducer_core.proofs.FlatMade.{kind_is, contacts_is, parts_is, child_is, type_is, contact_block_back, part_block_back}
@@ -40,27 +39,21 @@ written_parts (r ∷ rows) = λ i. inner r.parts.items i ∷ written_parts rows 
     inner [] = refl
     inner (v ∷ vs) = ap (λ l. part_words (map as_child_edge v.items) ∷ l) (inner vs)
 
-pub written_types : (rows : List KindRows) → map (λ r. r.types.items) rows ≡ map (λ (k : KindTables). k.types) (map as_kind_tables rows)
-written_types [] = refl
-written_types (r ∷ rows) = ap (λ l. r.types.items ∷ l) (written_types rows)
-
-pub written_children : (rows : List KindRows) → map (λ r. r.children.items) rows ≡ map (λ (k : KindTables). k.children) (map as_kind_tables rows)
-written_children [] = refl
-written_children (r ∷ rows) = ap (λ l. r.children.items ∷ l) (written_children rows)
-
 -- ---- they are few and short
-pub scaled : (vs : List (Vec ℕ Global)) → map (λ v. map (λ n. 256 * n) v.items) vs ≡ map (map (λ n. 256 * n)) (map (λ v. v.items) vs)
+pub scaled : (ks : List KindTables) → map (map (λ n. 256 * n)) (map (λ (k : KindTables). k.children) ks) ≡ map (λ (k : KindTables). map (λ n. 256 * n) k.children) ks
 scaled [] = refl
-scaled (v ∷ vs) = ap (λ l. map (λ n. 256 * n) v.items ∷ l) (scaled vs)
+scaled (k ∷ ks) = ap (λ l. map (λ n. 256 * n) k.children ∷ l) (scaled ks)
 
-pub short_children : (t : Tables) (lists : Vec (Vec ℕ Global) Global) → IsCoherent t → as_lists lists ≡ kind_rows t → AllByRecursion (λ row. length row.items ≤ 256) lists.items
-short_children t lists coherent are = AllByRecursion-from (λ row. length row.items ≤ 256) lists.items (λ x i.
-    let place = among-place x.items (as_lists lists) (IsAmong-map (λ v. v.items) x lists.items i) in
-    let at : slice_get (kind_rows t) place.0 ≡ Some x.items = rw (← are) place.1 in
-    let scaled = image-at (map (λ n. 256 * n)) x.items (child_kinds t) place.0 at in
-    let row = image-at (λ (k : KindTables). k.children) scaled.source t.kinds place.0 scaled.at in
-    let same = kind_is t place.0 row.source row.at in
-    omega (arith, coherent.at_most_16_children place.0 (slice_get_within t.kinds place.0 row.source row.at), ap (λ (k : KindTables). length k.children) same, ap (λ l. length l) row.image, ap (λ l. length l) scaled.image, length-map scaled.source (λ n. 256 * n)))
+pub written_kinds : (rows : List KindRows) → map (λ r. map (λ n. 256 * n) r.children.items) rows ≡ map (λ (k : KindTables). map (λ n. 256 * n) k.children) (map as_kind_tables rows)
+written_kinds [] = refl
+written_kinds (r ∷ rows) = ap (λ l. map (λ n. 256 * n) r.children.items ∷ l) (written_kinds rows)
+
+pub short_children : (t : Tables) (rows : List KindRows) → IsCoherent t → map as_kind_tables rows ≡ t.kinds → AllByRecursion (λ r. length r.children.items ≤ 256) rows
+short_children t rows coherent are = AllByRecursion-from (λ r. length r.children.items ≤ 256) rows (λ x i.
+    let place = among-place x rows i in
+    let at : slice_get t.kinds place.0 ≡ Some (as_kind_tables x) = rw (← are) (slice_get-image as_kind_tables x rows place.0 place.1) in
+    let same = kind_is t place.0 (as_kind_tables x) at in
+    omega (arith, coherent.at_most_16_children place.0 (slice_get_within t.kinds place.0 (as_kind_tables x) at), ap (λ (k : KindTables). length k.children) same))
 
 block_length : (t : Tables) (k c : ℕ) (block : List Contact) → IsCoherent t → k < length t.kinds → slice_get (kind_tables t k).contacts c ≡ Some block → length block ≤ 16
 block_length t k c block coherent inside is =

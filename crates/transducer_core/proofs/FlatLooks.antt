@@ -28,7 +28,7 @@ unfolding parts_of
 parts_at t k e h = rw (some_within (kind_tables t k).parts e h).1 refl
 
 -- ---- an entry of a block
-stands_entry : (words : List ℕ) (s : ℕ) (block : List ℕ) (e w : ℕ) → Stands words s block → slice_get block e ≡ Some w → slice_get words (s + e) ≡ Some w
+pub stands_entry : (words : List ℕ) (s : ℕ) (block : List ℕ) (e w : ℕ) → Stands words s block → slice_get block e ≡ Some w → slice_get words (s + e) ≡ Some w
 stands_entry words s block e w h is =
     rw (h.words_are, h.start_is) (slice_get-append_right h.front (block ++ h.rest) e ∙ slice_get-append_left block h.rest e (slice_get_within block e w is) ∙ is)
 
@@ -49,7 +49,7 @@ has_contact t k c e x starts words h is =
     let b = h k c (map contact_words (kind_tables t k).contacts) (contact_words (contacts_of t k c)) row block in
     record { start = b.start; start_at = b.start_at; word_at = stands_entry words b.start (contact_words (contacts_of t k c)) e (word_of_contact x) b.stands (slice_get-image word_of_contact x (contacts_of t k c) e is) }
 
-reversed : {A : Type 0} (xs : List A) (own p : ℕ) (x : A) → own + (p + 1) ≡ length xs → slice_get xs own ≡ Some x → slice_get (reverse xs) p ≡ Some x
+pub reversed : {A : Type 0} (xs : List A) (own p : ℕ) (x : A) → own + (p + 1) ≡ length xs → slice_get xs own ≡ Some x → slice_get (reverse xs) p ≡ Some x
 reversed xs own p x count is =
     let inside : p < length xs = omega arith in
     let there = slice_get-get_or (reverse xs) p x (omega (arith, length-reverse xs)) in

@@ -1,22 +1,25 @@
 -- The tables that flat lists hold.
-use Rattle.std.proofs.Common.{◌≡◌, ℕ, zero, suc, ◌+◌, ◌*◌, ◌<◌, ◌≤◌, List, [], ◌∷◌, ◌++◌, length, map, reverse, take, drop, get_or, Some, IsSome, refl, sym, ap, ◌∙◌, arith, Vec, Global}
+use Rattle.std.proofs.Common.{◌≡◌, ℕ, zero, suc, ◌+◌, ◌*◌, ◌<◌, ◌≤◌, List, [], ◌∷◌, ◌++◌, length, map, reverse, take, drop, get_or, Some, refl, sym, ap, ◌∙◌, arith}
 use Rattle.std.specs.List.{slice_get}
 use Rattle.std.proofs.lemmas.Option.{slice_get_within, get_or_from_slice_get}
 use Rattle.std.proofs.lemmas.List.{length-map, length-reverse, reverse-reverse, take_all, map-append}
-use Rattle.std.proofs.Math.Seq.{drop-append_seam, take-append_seam}
 use Rattle.addressing.specs.Coherent.{IsCoherent}
 use Rattle.addressing.specs.Contact.{Contact, ChildEdge}
 use Rattle.addressing.specs.Search.{below}
-use Rattle.addressing.specs.Tables.{Tables, KindTables, kind_tables, type_of, child_kind_of, contacts_of, parts_of, contact_of, part_of, part_count, subs_of, child_type_of}
-use Rattle.addressing.proofs.Ranges.{slice_get-below, length-below, slice_get-image}
-use Rattle.addressing.proofs.TableBounds.{some_within, some_of, type_bounds}
+use Rattle.addressing.specs.Tables.{Tables, KindTables, kind_tables, type_of, child_kind_of, contacts_of, parts_of, contact_of, part_of, subs_of, child_type_of}
+use Rattle.addressing.proofs.Ranges.{slice_get-image}
+use Rattle.addressing.proofs.TableBounds.{some_within}
 use Rattle.addressing.proofs.Traces.{reverse_cons}
-use Rattle.transducer_core.specs.Flat.{Lists, flat_tables, flat_kind, flat_contacts, flat_parts}
-use Rattle.transducer_core.specs.Merged.{Stands, IsMerged}
+use Rattle.transducer_core.specs.declared.joined.Joined.{Joined}
+use Rattle.transducer_core.specs.declared.merging.Merged.{Merged}
+use Rattle.transducer_core.specs.Flat.{Lists, lists_of, mates_in, subs_in, types_in, children_in, flat_tables, flat_kind, flat_contacts, flat_parts}
+use Rattle.transducer_core.specs.FlatTables.{lists_in}
+use Rattle.transducer_core.specs.Merged.{IsMerged}
 use Rattle.transducer_core.specs.Words.{word_of_contact, contact_of_word, word_of_part, part_of_word, contact_words, part_words}
 use Rattle.transducer_core.proofs.FlatLooks.{kind_at, contact_back, part_entry_back}
-use Rattle.transducer_core.specs.Merging.{as_lists}
-use Rattle.transducer_core.proofs.Standing.{take_at, mapped_at, read_at}
+use Rattle.transducer_core.specs.Merging.{AreKept}
+use Rattle.transducer_core.proofs.Joining.{pieces_are, subs_back, types_back, children_back}
+use Rattle.transducer_core.proofs.Standing.{take_at, block_read}
 
 -- ---- a list by its places
 below_take : {A : Type 0} (f : ℕ → A) (xs : List A) (n : ℕ) → n ≤ length xs → ((k : ℕ) (x : A) → slice_get xs k ≡ Some x → f k ≡ x) → below f n ≡ take n xs
@@ -38,9 +41,6 @@ map-reversed : {A B : Type 0} (f : A → B) (xs : List A) → map f (reverse xs)
 map-reversed f [] = refl
 map-reversed f (x ∷ xs) =
     ap (map f) (reverse_cons x xs) ∙ map-append f (reverse xs) (x ∷ []) ∙ ap (λ l. l ++ f x ∷ []) (map-reversed f xs) ∙ sym (reverse_cons (f x) (map f xs))
-
-block_read : (words : List ℕ) (s n : ℕ) (block : List ℕ) → Stands words s block → n ≡ length block → take n (drop s words) ≡ block
-block_read words s n block h size = rw (h.words_are, h.start_is, size, drop-append_seam h.front (block ++ h.rest)) (take-append_seam block h.rest)
 
 pub contact_block_back : (t : Tables) (k c : ℕ) → IsCoherent t → map contact_of_word (contact_words (contacts_of t k c)) ≡ contacts_of t k c
 unfolding contact_of
@@ -146,71 +146,19 @@ module _ (t : Tables) (f : Lists) (m n : ℕ) (h : Holds t f m n) where
       let kinds = below_all (flat_kind f) t.kinds (length f.types) size kind_made in
       λ i. record { mates = h.mates i; subs = h.subs i; kinds = kinds i }
 
--- ---- into how many parts an edge is cut, by such lists
-pub record Counted (f : Lists) (k e : ℕ) : Type 0 where
-  pub kind_inside : k < length f.types
-  pub edge_inside : e < length (get_or f.types k [])
-  pub type_inside : get_or (get_or f.types k []) e 0 < length f.subs
-  pub count : length (get_or f.subs (get_or (get_or f.types k []) e 0) []) ≡ part_count (flat_tables f) k e
-  pub few : length (get_or f.subs (get_or (get_or f.types k []) e 0) []) ≤ 8
-
-kinds_count : (f : Lists) → length (flat_tables f).kinds ≡ length f.types
-unfolding flat_tables
-kinds_count f = length-below (flat_kind f) (length f.types)
-
-kind_held : (f : Lists) (k : ℕ) → k < length f.types → kind_tables (flat_tables f) k ≡ flat_kind f k
-unfolding flat_tables kind_tables
-kind_held f k h = rw (slice_get-below (flat_kind f) (length f.types) k h) refl
-
-subs_held : (f : Lists) → (flat_tables f).subs ≡ f.subs
-unfolding flat_tables
-subs_held f = refl
-
-type_found : (t : Tables) (k e ty : ℕ) → type_of t k e ≡ Some ty → slice_get (kind_tables t k).types e ≡ Some ty
-unfolding type_of
-type_found t k e ty is = is
-
-pub counted : (f : Lists) (k e : ℕ) → IsCoherent (flat_tables f) → IsSome (type_of (flat_tables f) k e) → Counted f k e
-unfolding part_count
-counted f k e coherent h =
-    let t = flat_tables f in
-    let b = type_bounds t k e h in
-    let inside : k < length f.types = omega (arith, b.0, kinds_count f) in
-    let types : (kind_tables t k).types ≡ get_or f.types k [] = ap (λ (r : KindTables). r.types) (kind_held f k inside) in
-    let ty = some_of (type_of t k e) h in
-    let own : get_or (get_or f.types k []) e 0 ≡ ty.0 = rw (← types) (get_or_from_slice_get (kind_tables t k).types e ty.0 0 (type_found t k e ty.0 ty.1)) in
-    let exists : ty.0 < length t.subs = omega (arith, coherent.type_exists k e ty.0 ty.1, coherent.sub_each) in
-    let count : length (parts_of t k e) ≡ length (subs_of t ty.0) = sym (length-map (parts_of t k e) (child_type_of t k)) ∙ ap (λ l. length l) (coherent.part_types k e ty.0 ty.1) ∙ length-map (subs_of t ty.0) Some in
-    let subs : get_or f.subs ty.0 [] ≡ subs_of t ty.0 = ap (λ (l : List (List ℕ)). get_or l ty.0 []) (sym (subs_held f)) ∙ subs_are t ty.0 exists in
-    record {
-      kind_inside = inside;
-      edge_inside = omega (arith, b.1, ap (λ l. length l) types);
-      type_inside = omega (arith, own, exists, ap (λ l. length l) (subs_held f));
-      count = rw own (ap (λ l. length l) subs ∙ sym count);
-      few = rw (own, subs) (coherent.at_most_8_parts ty.0);
-    }
-
--- read in the vectors
-pub record CountRead (types subs : Vec (Vec ℕ Global) Global) (t : Tables) (k e : ℕ) (row : Vec ℕ Global) : Type 0 where
-  pub edge : e < length row.items
-  pub type_inside : (ty : ℕ) → ty ≡ get_or row.items e ty → ty < length subs.items
-  pub count : (ty : ℕ) → ty ≡ get_or row.items e ty → (list : Vec ℕ Global) → list ≡ get_or subs.items ty list → length list.items ≡ part_count t k e
-
-pub count_read : (f : Lists) (types subs : Vec (Vec ℕ Global) Global) (k e : ℕ) (row : Vec ℕ Global) → f.types ≡ as_lists types → f.subs ≡ as_lists subs → Counted f k e → row ≡ get_or types.items k row
-    → CountRead types subs (flat_tables f) k e row
-count_read f types subs k e row types_are subs_are' n is =
-    let inside : k < length types.items = omega (arith, n.kind_inside, ap (λ l. length l) types_are, length-map types.items (λ v. v.items)) in
-    let own : get_or f.types k [] ≡ row.items = rw types_are (get_or_from_slice_get (as_lists types) k row.items [] (mapped_at (λ v. v.items) types.items k row inside is)) in
-    let edge : e < length row.items = omega (arith, n.edge_inside, ap (λ l. length l) own) in
-    record {
-      edge = edge;
-      type_inside = λ ty here. omega (arith, the_type own edge ty here, n.type_inside, ap (λ l. length l) subs_are', length-map subs.items (λ v. v.items));
-      count = λ ty here list there.
-          let same = the_type own edge ty here in
-          let in_subs : ty < length subs.items = omega (arith, same, n.type_inside, ap (λ l. length l) subs_are', length-map subs.items (λ v. v.items)) in
-          let held : get_or f.subs ty [] ≡ list.items = rw subs_are' (get_or_from_slice_get (as_lists subs) ty list.items [] (mapped_at (λ v. v.items) subs.items ty list in_subs there)) in
-          ap (λ l. length l) (sym held) ∙ ap (λ (x : ℕ). length (get_or f.subs x [])) (sym same) ∙ n.count;
-    }
-  where
-    the_type : get_or f.types k [] ≡ row.items → e < length row.items → (ty : ℕ) → ty ≡ get_or row.items e ty → get_or (get_or f.types k []) e 0 ≡ ty
-    the_type own edge ty here = rw own (get_or_from_slice_get row.items e ty 0 (read_at row.items e ty edge here))
+-- the tables that the fields hold
+pub made : (t : Tables) (joined : Joined) (contacts parts : Merged) → IsCoherent t → AreKept (lists_of t) joined.items.items joined.ends.items
+    → IsMerged (map (λ (k : KindTables). map contact_words k.contacts) t.kinds) contacts.starts.items contacts.words.items contacts.count
+    → IsMerged (map (λ (k : KindTables). map part_words k.parts) t.kinds) parts.starts.items parts.words.items parts.count
+    → flat_tables (lists_in joined contacts parts) ≡ t
+made t joined contacts parts coherent lists contacts_at parts_at =
+    let read = pieces_are (lists_of t) joined.items.items joined.ends.items lists in
+    flat_is t (lists_in joined contacts parts) contacts.count parts.count (record {
+      coherent = coherent;
+      mates = ap mates_in read;
+      subs = ap subs_in read ∙ subs_back t coherent;
+      types = ap types_in read ∙ types_back t coherent;
+      children = ap children_in read ∙ children_back t coherent;
+      contacts = contacts_at;
+      parts = parts_at;
+    })

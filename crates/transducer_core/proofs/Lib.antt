@@ -5,6 +5,8 @@ mod FlatCounts
 mod FlatLooks
 mod FlatMade
 mod Halfway
+mod Joining
+mod Keeping
 mod Once
 mod Rising
 mod Standing

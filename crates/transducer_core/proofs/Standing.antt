@@ -1,7 +1,8 @@
 -- Blocks, one behind the other.
-use Rattle.std.proofs.Common.{◌≡◌, ℕ, zero, suc, ◌+◌, ◌<◌, ◌≤◌, List, [], ◌∷◌, ◌++◌, length, map, take, Some, refl, sym, ap, ◌∙◌, arith, append_assoc, length-append, get_or, Vec, Global}
+use Rattle.std.proofs.Common.{◌≡◌, ℕ, zero, suc, ◌+◌, ◌<◌, ◌≤◌, List, [], ◌∷◌, ◌++◌, length, map, take, drop, Some, refl, sym, ap, ◌∙◌, arith, append_assoc, length-append, get_or}
 use Rattle.std.proofs.lemmas.Option.{slice_get-map, slice_get_read, get_or_from_slice_get, slice_get_within}
-use Rattle.std.proofs.lemmas.List.{take_more, map-append}
+use Rattle.std.proofs.lemmas.List.{take_more}
+use Rattle.std.proofs.Math.Seq.{drop-append_seam, take-append_seam}
 use Rattle.std.specs.List.{slice_get, concat, flat_map, AllByRecursion}
 use Rattle.addressing.proofs.Lists.{AllByRecursion-among}
 use Rattle.addressing.proofs.Ranges.{place-among}
@@ -27,9 +28,6 @@ read_at xs i v h is = slice_get_read xs (length xs) i v refl h is
 pub take_at : {A : Type 0} (l : List A) (i : ℕ) (b : A) → slice_get l i ≡ Some b → take (i + 1) l ≡ take i l ++ b ∷ []
 take_at l i b e = rw (get_or_from_slice_get l i b b e) at (take_more l i b (slice_get_within l i b e))
 
-pub pushed_lists : (new old : List (Vec ℕ Global)) (w : Vec ℕ Global) (b : List ℕ) → new ≡ old ++ w ∷ [] → w.items ≡ b → map (λ v. v.items) new ≡ map (λ v. v.items) old ++ b ∷ []
-pushed_lists new old w b is same = ap (map (λ v. v.items)) is ∙ map-append (λ v. v.items) old (w ∷ []) ∙ ap (λ (x : List ℕ). map (λ v. v.items) old ++ x ∷ []) same
-
 -- a block of those in a row
 pub stands_at : (l : List (List ℕ)) (i : ℕ) (b : List ℕ) → slice_get l i ≡ Some b → Stands (concat l) (length (concat (take i l))) b
 stands_at [] i b e = absurd cc
@@ -48,8 +46,8 @@ room_at l i b e =
     let r = stands_at l i b e in
     omega (arith, r.start_is, ap length r.words_are, length-append r.front (b ++ r.rest), length-append b r.rest)
 
-pub stands_last : (l : List (List ℕ)) (b : List ℕ) → Stands (concat (l ++ b ∷ [])) (length (concat l)) b
-stands_last l b = record { front = concat l; rest = []; words_are = concat-append l (b ∷ []); start_is = refl }
+pub block_read : (words : List ℕ) (s n : ℕ) (block : List ℕ) → Stands words s block → n ≡ length block → take n (drop s words) ≡ block
+block_read words s n block h size = rw (h.words_are, h.start_is, size, drop-append_seam h.front (block ++ h.rest)) (take-append_seam block h.rest)
 
 -- more behind them change nothing
 pub Stands-more : (words more : List ℕ) (s : ℕ) (b : List ℕ) → Stands words s b → Stands (words ++ more) s b

@@ -1,9 +1,36 @@
 -- Contact tables in flat lists.
-use Rattle.std.specs.Prelude.{ℕ, ◌+◌, ◌*◌, List, [], length, map, reverse, take, drop, get_or}
+use Rattle.std.specs.Prelude.{ℕ, ◌+◌, ◌-◌, ◌*◌, ◌/◌, List, [], ◌∷◌, ◌++◌, length, map, reverse, take, drop, get_or}
 use Rattle.addressing.specs.Contact.{Contact, ChildEdge}
 use Rattle.addressing.specs.Search.{below}
 use Rattle.addressing.specs.Tables.{Tables, KindTables}
 use Rattle.transducer_core.specs.Words.{contact_of_word, part_of_word}
+
+-- the lists of tables: the mates, the subdivision of each type, the types of the edges of each kind, and the kinds of its children
+abbrev pub lists_of : Tables → List (List ℕ)
+lists_of t = t.mates ∷ (t.subs ++ (map (λ (k : KindTables). k.types) t.kinds ++ map (λ (k : KindTables). k.children) t.kinds))
+
+-- and back from such lists: the first has the mates
+abbrev pub mates_in : List (List ℕ) → List ℕ
+mates_in lists = get_or lists 0 []
+
+-- behind it are as many subdivisions as there are mates
+abbrev pub subs_in : List (List ℕ) → List (List ℕ)
+subs_in lists = take (length (mates_in lists)) (drop 1 lists)
+
+-- and then the kinds' lists, of which one half has the types and the other the children
+abbrev pub sides_in : List (List ℕ) → List (List ℕ)
+sides_in lists = drop (length (mates_in lists)) (drop 1 lists)
+
+abbrev pub types_in : List (List ℕ) → List (List ℕ)
+types_in lists = take (length (sides_in lists) / 2) (sides_in lists)
+
+abbrev pub children_in : List (List ℕ) → List (List ℕ)
+children_in lists = drop (length (sides_in lists) / 2) (sides_in lists)
+
+-- the lists that stand one behind the other, from one place on, where each ends
+abbrev pub pieces : List ℕ → ℕ → List ℕ → List (List ℕ)
+pieces items from [] = []
+pieces items from (e ∷ es) = take (e - from) (drop from items) ∷ pieces items e es
 
 -- the lists of a flat table: mates, subdivisions, the types and the children of each kind; where each block begins, and the words of the blocks
 pub record Lists : Type 0 where

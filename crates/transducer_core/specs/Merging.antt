@@ -1,12 +1,33 @@
--- Blocks while they are merged.
-use Rattle.std.specs.Prelude.{◌≤◌, ℕ, List, [], ◌∷◌, map, length, Vec}
-use Rattle.std.specs.Global.{Global}
-use Rattle.std.specs.List.{AllByRecursion}
+-- Lists one behind the other, and blocks while they are merged.
+use Rattle.std.specs.Prelude.{◌≡◌, ◌+◌, ◌*◌, ◌≤◌, ℕ, List, [], ◌∷◌, ◌++◌, length}
+use Rattle.std.specs.List.{concat, AllByRecursion}
 use Rattle.transducer_core.specs.Merged.{Stands}
+use Rattle.transducer_core.specs.Once.{AreOnce}
 
--- the lists that the vectors hold
-abbrev pub as_lists : Vec (Vec ℕ Global) Global → List (List ℕ)
-as_lists v = map (λ w. w.items) v.items
+-- where lists end that stand one behind the other, from this place on
+abbrev pub ends_of : ℕ → List (List ℕ) → List ℕ
+ends_of from [] = []
+ends_of from (b ∷ bs) = (from + length b) ∷ ends_of (from + length b) bs
+
+-- the words are these lists, one behind the other, and each ends where it is said to
+pub record AreKept (kept : List (List ℕ)) (words ends : List ℕ) : Type 0 where
+  pub words_are : words ≡ concat kept
+  pub ends_are : ends ≡ ends_of 0 kept
+
+-- and one more block behind them, of which no end is written
+pub record StandsLast (kept : List (List ℕ)) (block words ends : List ℕ) (last : ℕ) : Type 0 where
+  pub words_are : words ≡ concat kept ++ block
+  pub ends_are : ends ≡ ends_of 0 kept
+  pub last_is : last ≡ length (concat kept)
+
+-- the block is kept, if it wasn't before, and stands at its place
+pub record IsPlaced (kept : List (List ℕ)) (block words ends : List ℕ) (start : ℕ) : Type 0 where
+  pub more : List (List ℕ)
+  pub kept_are : AreKept (kept ++ more) words ends
+  pub stands : Stands words start block
+  pub few : length more ≤ 1
+  pub short : length (concat more) ≤ length block
+  pub once : (all : List (List ℕ)) → AreOnce all kept → AreOnce (all ++ block ∷ []) (kept ++ more)
 
 -- each block stands at its place
 abbrev pub AllStand : List ℕ → List ℕ → List (List ℕ) → Type 0
@@ -14,6 +35,17 @@ AllStand words [] [] = Unit {0}
 AllStand words [] (b ∷ bs) = ⊥
 AllStand words (s ∷ ss) [] = ⊥
 AllStand words (s ∷ ss) (b ∷ bs) = Stands words s b × AllStand words ss bs
+
+-- so are the blocks of a row, of which the places are written behind others
+pub record ArePlaced (kept row : List (List ℕ)) (words ends before after : List ℕ) : Type 0 where
+  pub places : List ℕ
+  pub places_are : after ≡ before ++ places
+  pub stand : AllStand words places row
+  pub more : List (List ℕ)
+  pub kept_are : AreKept (kept ++ more) words ends
+  pub few : length more ≤ length row
+  pub short : length (concat more) ≤ 16 * length row
+  pub once : (all : List (List ℕ)) → AreOnce all kept → AreOnce (all ++ row) (kept ++ more)
 
 -- blocks are short; rows of them are few and short, and so are their blocks
 abbrev pub AreShort : List (List ℕ) → Type 0

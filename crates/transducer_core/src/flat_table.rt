@@ -9,14 +9,13 @@ ghost use Rattle.transducer_core.specs.Merged.{AllBegin, AreSpread};
 ghost use Rattle.transducer_core.specs.Once.{HasDifferent};
 
 use crate::blocks::Blocks;
+use crate::joined::{Joined, join};
 use crate::merging::{Merged, merge};
 use crate::mirror::mirror;
-use crate::spread::{cell, spread};
-use crate::table_lists::{children, scaled_lists, types};
+use crate::spread::{cell, kind_cells};
 use crate::words::{Which, contact_in, part_in};
 use edge_tables::child_edge::ChildEdge;
 use edge_tables::contact::Contact;
-use edge_tables::lists::{copied, copied_lists};
 use edge_tables::steps::Steps;
 use edge_tables::tables::Tables;
 use std::alloc::Global;
@@ -26,13 +25,10 @@ use tile_shape::no_memory::NoMemory;
 
 /// Contact tables in flat lists, which contracts see as those tables. The contact block of a child is what its edges are, the part
 /// block of an edge the child edges that are its parts, in order; equal blocks are kept once. Where the block of a number of a
-/// kind begins stands at 256 times the kind and the number.
+/// kind begins stands at 256 times the kind and the number. The other lists of the tables stand one behind the other.
 #[derive(Drop)]
 pub struct FlatTable {
-    mates: Vec<u8>,
-    subs: Vec<Vec<u8>>,
-    types: Vec<Vec<u8>>,
-    children: Vec<Vec<u8>>,
+    lists: Joined,
     child_kinds: Vec<u16>,
     contacts: Merged,
     parts: Merged,
@@ -45,9 +41,9 @@ impl Model for FlatTable {
 
     ghost Value = { TheTables };
 
-    ghost view = { λ f. flat_tables (lists_in f.mates f.subs f.types f.children f.contacts f.parts) };
+    ghost view = { λ f. flat_tables (lists_in f.lists f.contacts f.parts) };
 
-    ghost invariant = { λ f. IsFlat (flat_tables (lists_in f.mates f.subs f.types f.children f.contacts f.parts)) f.child_kinds f.contacts f.parts };
+    ghost invariant = { λ f. IsFlat (flat_tables (lists_in f.lists f.contacts f.parts)) f.lists f.child_kinds f.contacts f.parts };
 }
 
 impl FlatTable {
@@ -57,15 +53,12 @@ impl FlatTable {
         ensures coherent { IsCoherent tables.now }
     {
         let rows = tables.rows();
-        let children = children(alloc, rows)?;
-        let child_kinds = spread(alloc, &scaled_lists(alloc, &children)?)?;
+        let lists = join(alloc, tables)?;
+        let child_kinds = kind_cells(alloc, rows)?;
         let contacts = merge(alloc, rows, Which::Contacts)?;
         let parts = merge(alloc, rows, Which::Parts)?;
         Ok(FlatTable {
-            mates: copied(alloc, tables.mates())?,
-            subs: copied_lists(alloc, tables.subs())?,
-            types: types(alloc, rows)?,
-            children,
+            lists,
             child_kinds,
             contacts,
             parts,
@@ -116,14 +109,19 @@ impl FlatTable {
         self.child_kinds.as_slice()
     }
 
-    /// Into how many parts an edge is cut: as many as its type.
+    /// Into how many parts an edge is cut: as many as its type. Behind the mates there are as many subdivisions, and then the types
+    /// of the edges of each kind.
     fn part_count(&self, kind: u8, edge: u8) -> u8
         requires exists { IsSome (type_of self.now kind edge) }
         ensures { result ≡ part_count self.now kind edge }
     {
-        let types = &self.types[kind as usize];
-        let ty = types[edge as usize];
-        self.subs[ty as usize].len() as u8
+        let ends = self.lists.ends.as_slice();
+        let types = ends[0];
+        let begin = ends[types + usize::from(kind)];
+        let ty = usize::from(self.lists.items[begin + usize::from(edge)]);
+        let low = ends[ty];
+        let high = ends[ty + 1];
+        (high - low) as u8
     }
 
     /// How many different contact blocks there are.

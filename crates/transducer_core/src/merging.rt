@@ -1,14 +1,14 @@
 //! Blocks of words put one behind the other, equal ones once.
-ghost use Rattle.std.specs.Prelude.{◌≡◌, ◌↔◌, ◌^◌, ◌<◌, ◌≤◌, ℕ, true, List, [], ◌∷◌, ◌++◌, length, map, OnOk, IfOk};
+ghost use Rattle.std.specs.Prelude.{◌≡◌, ◌↔◌, ◌^◌, ◌<◌, ◌≤◌, ℕ, true, List, length, map, OnOk, IfOk, IfSome, IfNone};
 ghost use Rattle.std.specs.List.{concat};
+ghost use Rattle.addressing.specs.Search.{IsAmong};
 ghost use Rattle.transducer_core.specs.Merged.{Stands, IsMerged};
-ghost use Rattle.transducer_core.specs.Merging.{as_lists, AllStand, AreShort, AreSmall};
-ghost use Rattle.transducer_core.specs.Once.{AreOnce};
+ghost use Rattle.transducer_core.specs.Merging.{AreKept, StandsLast, IsPlaced, ArePlaced, AreShort, AreSmall};
 ghost use Rattle.transducer_core.specs.RowBlocks.{blocks_of};
 
 use crate::blocks::Blocks;
-use crate::spread::spread;
-use crate::words::{Which, block_count, block_words};
+use crate::spread::fill_row;
+use crate::words::{Which, block_count, write_block};
 use edge_tables::kind_rows::KindRows;
 use std::alloc::Global;
 use tile_shape::no_memory::NoMemory;
@@ -35,64 +35,77 @@ impl Merged {
 }
 
 /// Whether two blocks are the same.
-fn same_words(a: &Vec<u32>, b: &Vec<u32>) -> bool
-    ensures { (result ≡ true) ↔ (a.now.items ≡ b.now.items) }
+#[inline]
+fn same_words(a: &[u32], b: &[u32]) -> bool
+    ensures { (result ≡ true) ↔ (a.now ≡ b.now) }
 {
     a == b
 }
 
-/// Keeps a block if no equal one is kept, and answers where it stands when those that are kept stand in a row.
-fn place(kept: &mut Vec<Vec<u32>>, block: Vec<u32>) -> Result<u16, NoMemory>
-    requires room { length (concat (as_lists kept.old)) < 2 ^ 16 }
-    ensures stands { IfOk result (λ start. Stands (concat (as_lists kept.new)) start block.items) }
-    ensures grown { OnOk result ((more : List (List ℕ)) × (as_lists kept.new ≡ as_lists kept.old ++ more) × (length (concat more) ≤ length block.items) × (length more ≤ 1)) }
-    ensures once { OnOk result ((all : List (List ℕ)) → AreOnce all (as_lists kept.old) → AreOnce (all ++ block.items ∷ []) (as_lists kept.new)) }
+/// Where an earlier block stands that is equal to the last, which has no end yet; None where there is none.
+fn find(words: &[u32], ends: &[u16], last: usize) -> Option<u16>
+    requires there { (kept : List (List ℕ)) × (block : List ℕ) × StandsLast kept block words.now ends.now last }
+    requires room { length words.now < 2 ^ 16 }
+    ensures stands { IfSome result (λ start. (kept : List (List ℕ)) (block : List ℕ) → StandsLast kept block words.now ends.now last → Stands (concat kept) start block × IsAmong block kept) }
+    ensures none { IfNone result ((kept : List (List ℕ)) (block : List ℕ) → StandsLast kept block words.now ends.now last → IsAmong block kept → ⊥) }
 {
-    let mut start = 0usize;
-    let known = kept.as_slice();
-    for earlier in known {
-        if same_words(earlier, &block) {
-            return Ok(start as u16);
+    let mut begin = 0usize;
+    for end in ends {
+        let end = usize::from(*end);
+        if same_words(&words[begin..end], &words[last..]) {
+            return Some(begin as u16);
         }
-        start += earlier.len();
+        begin = end;
     }
-    kept.push(block)?;
-    Ok(start as u16)
+    None
 }
 
-/// Keeps each block of a kind, and answers where they stand.
+/// Blocks that are kept, in a row, and where each ends.
+#[derive(Drop)]
+struct Kept {
+    words: Vec<u32>,
+    ends: Vec<u16>,
+}
+
+/// Keeps the last block if no equal one is kept, and answers where it stands.
+fn keep(kept: &mut Kept, last: usize) -> Result<u16, NoMemory>
+    requires there { (blocks : List (List ℕ)) × (block : List ℕ) × StandsLast blocks block kept.old.words.items kept.old.ends.items last }
+    requires room { length kept.old.words.items < 2 ^ 16 }
+    ensures { IfOk result (λ start. (blocks : List (List ℕ)) (block : List ℕ) → StandsLast blocks block kept.old.words.items kept.old.ends.items last
+        → IsPlaced blocks block kept.new.words.items kept.new.ends.items start) }
+{
+    match find(kept.words.as_slice(), kept.ends.as_slice(), last) {
+        Some(start) => {
+            kept.words.truncate(last);
+            Ok(start)
+        }
+        None => {
+            kept.ends.push(kept.words.len() as u16)?;
+            Ok(last as u16)
+        }
+    }
+}
+
+/// Keeps each block of a kind, and writes where they stand behind the other starts.
 fn place_row(
-    alloc: Global,
-    kept: &mut Vec<Vec<u32>>,
+    kept: &mut Kept,
+    starts: &mut Vec<u16>,
     row: &KindRows,
     which: Which,
-) -> Result<Vec<u16>, NoMemory>
+) -> Result<(), NoMemory>
     requires few { length (blocks_of which row.now) ≤ 16 }
     requires short { AreShort (blocks_of which row.now) }
-    requires room { length (concat (as_lists kept.old)) ≤ 2 ^ 15 }
-    ensures stand { IfOk result (λ starts. AllStand (concat (as_lists kept.new)) starts.items (blocks_of which row.now)) }
-    ensures grown { OnOk result ((more : List (List ℕ)) × (as_lists kept.new ≡ as_lists kept.old ++ more) × (length (concat more) ≤ 256) × (length more ≤ 16)) }
-    ensures few { IfOk result (λ starts. length starts.items ≤ 16) }
-    ensures once { OnOk result ((all : List (List ℕ)) → AreOnce all (as_lists kept.old) → AreOnce (all ++ blocks_of which row.now) (as_lists kept.new)) }
+    requires room { length kept.old.words.items ≤ 2 ^ 15 }
+    requires kept { (blocks : List (List ℕ)) × AreKept blocks kept.old.words.items kept.old.ends.items }
+    ensures { OnOk result ((blocks : List (List ℕ)) → AreKept blocks kept.old.words.items kept.old.ends.items
+        → ArePlaced blocks (blocks_of which row.now) kept.new.words.items kept.new.ends.items starts.old.items starts.new.items) }
 {
-    let count = block_count(row, which);
-    let mut starts = Vec::with_capacity(alloc, count)?;
-    for number in 0..count {
-        let block = block_words(alloc, row, which, number)?;
-        starts.push(place(kept, block)?)?;
+    for number in 0..block_count(row, which) {
+        let last = kept.words.len();
+        write_block(&mut kept.words, row, which, number)?;
+        starts.push(keep(kept, last)?)?;
     }
-    Ok(starts)
-}
-
-/// The blocks in a row.
-fn joined(alloc: Global, blocks: &Vec<Vec<u32>>) -> Result<Vec<u32>, NoMemory>
-    ensures { IfOk result (λ words. words.items ≡ concat (as_lists blocks.now)) }
-{
-    let mut words = Vec::new(alloc);
-    for block in blocks {
-        words.extend_from_slice(block)?;
-    }
-    Ok(words)
+    Ok(())
 }
 
 /// The blocks of all kinds, equal ones once.
@@ -100,14 +113,20 @@ pub(crate) fn merge(alloc: Global, rows: &Vec<KindRows>, which: Which) -> Result
     requires small { AreSmall (map (blocks_of which) rows.now.items) }
     ensures { IfOk result (λ merged. IsMerged (map (blocks_of which) rows.now.items) merged.starts.items merged.words.items merged.count) }
 {
-    let mut kept = Vec::with_capacity(alloc, 16)?;
-    let mut starts = Vec::new(alloc);
+    let mut starts = Vec::with_capacity(alloc, 256 * rows.len())?;
+    let mut kept = Kept {
+        words: Vec::with_capacity(alloc, 64)?,
+        ends: Vec::with_capacity(alloc, 32)?,
+    };
     for row in rows {
-        starts.push(place_row(alloc, &mut kept, row, which)?)?;
+        place_row(&mut kept, &mut starts, row, which)?;
+        fill_row(&mut starts, block_count(row, which))?;
     }
+    let Kept { words, ends } = kept;
+    let count = ends.len() as u16;
     Ok(Merged {
-        starts: spread(alloc, &starts)?,
-        words: joined(alloc, &kept)?,
-        count: kept.len() as u16,
+        starts,
+        words,
+        count,
     })
 }

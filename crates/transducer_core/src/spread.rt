@@ -1,15 +1,15 @@
 //! Rows in one list with a fixed stride.
-ghost use Rattle.std.specs.Prelude.{◌≡◌, ◌+◌, ◌*◌, ◌^◌, ◌<◌, ◌≤◌, length, IfOk};
+ghost use Rattle.std.specs.Prelude.{◌≡◌, ◌+◌, ◌*◌, ◌^◌, ◌<◌, ◌≤◌, ◌++◌, ℕ, List, length, map, OnOk, IfOk};
 ghost use Rattle.std.specs.List.{AllByRecursion};
 ghost use Rattle.transducer_core.specs.Merged.{AreSpread};
-ghost use Rattle.transducer_core.specs.Merging.{as_lists};
 
+use edge_tables::kind_rows::KindRows;
 use std::alloc::Global;
 use tile_shape::no_memory::NoMemory;
 use tile_shape::step::Step;
 
 /// What stands behind a row.
-const BLANKS: [u16; 256] = [0; 256];
+const BLANKS: &[u16; 256] = &[0; 256];
 
 /// Where a number of a row stands.
 #[inline]
@@ -31,17 +31,36 @@ pub(crate) fn digit_at(at: usize) -> Step
     }
 }
 
-/// The rows in one list, each 256 long.
-pub(crate) fn spread(alloc: Global, rows: &Vec<Vec<u16>>) -> Result<Vec<u16>, NoMemory>
-    requires short { AllByRecursion (λ row. length row.items ≤ 256) rows.now.items }
-    ensures { IfOk result (λ flat. AreSpread (as_lists rows.now) flat.items) }
+/// Fills up a row of this many entries that stands last in a list, to 256.
+pub(crate) fn fill_row(list: &mut Vec<u16>, count: usize) -> Result<(), NoMemory>
+    requires short { count ≤ 256 }
+    ensures { OnOk result ((blanks : List ℕ) × (list.new.items ≡ list.old.items ++ blanks) × (count + length blanks ≡ 256)) }
 {
-    let blanks = BLANKS;
-    let blanks = blanks.as_slice();
-    let mut flat = Vec::with_capacity(alloc, 256)?;
+    let blanks = BLANKS.as_slice();
+    list.extend_from_slice(&blanks[count..])?;
+    Ok(())
+}
+
+/// Writes 256 times each kind behind others.
+fn push_kinds(list: &mut Vec<u16>, kinds: &Vec<u8>) -> Result<(), NoMemory>
+    ensures { OnOk result (list.new.items ≡ list.old.items ++ map (λ n. 256 * n) kinds.now.items) }
+{
+    for kind in kinds {
+        list.push(u16::from(*kind) * 256)?;
+    }
+    Ok(())
+}
+
+/// 256 times the kind of each child of each kind, each kind's in a row of 256.
+pub(crate) fn kind_cells(alloc: Global, rows: &Vec<KindRows>) -> Result<Vec<u16>, NoMemory>
+    requires few { length rows.now.items ≤ 16 }
+    requires short { AllByRecursion (λ r. length r.children.items ≤ 256) rows.now.items }
+    ensures { IfOk result (λ flat. AreSpread (map (λ r. map (λ n. 256 * n) r.children.items) rows.now.items) flat.items) }
+{
+    let mut flat = Vec::with_capacity(alloc, 256 * rows.len())?;
     for row in rows {
-        flat.extend_from_slice(row)?;
-        flat.extend_from_slice(&blanks[row.len()..])?;
+        push_kinds(&mut flat, &row.children)?;
+        fill_row(&mut flat, row.children.len())?;
     }
     Ok(flat)
 }

@@ -1,5 +1,5 @@
 //! Entries of tables, and their blocks, as words.
-ghost use Rattle.std.specs.Prelude.{◌≡◌, ◌<◌, length, map, slice_get, Some, IfOk};
+ghost use Rattle.std.specs.Prelude.{◌≡◌, ◌<◌, ◌++◌, ℕ, List, length, map, slice_get, Some, OnOk};
 ghost use Rattle.edge_tables.specs.Views.{as_contact, as_child_edge};
 ghost use Rattle.transducer_core.specs.RowBlocks.{blocks_of};
 ghost use Rattle.transducer_core.specs.Words.{word_of_contact, contact_of_word, word_of_part, part_of_word, contact_words, part_words};
@@ -7,7 +7,6 @@ ghost use Rattle.transducer_core.specs.Words.{word_of_contact, contact_of_word, 
 use edge_tables::child_edge::ChildEdge;
 use edge_tables::contact::Contact;
 use edge_tables::kind_rows::KindRows;
-use std::alloc::Global;
 use tile_shape::no_memory::NoMemory;
 
 /// What an edge of a child is, as a word.
@@ -59,27 +58,26 @@ pub(crate) enum Which {
     Parts,
 }
 
-/// A contact block as words.
-fn contact_block(alloc: Global, block: &Vec<Contact>) -> Result<Vec<u32>, NoMemory>
-    ensures { IfOk result (λ words. words.items ≡ contact_words (map as_contact block.now.items)) }
+/// Writes a contact block as words behind others.
+fn write_contacts(words: &mut Vec<u32>, block: &Vec<Contact>) -> Result<(), NoMemory>
+    ensures { OnOk result (words.new.items ≡ words.old.items ++ contact_words (map as_contact block.now.items)) }
 {
-    let mut words = Vec::with_capacity(alloc, block.len())?;
     for contact in block {
         words.push(contact_word(*contact))?;
     }
-    Ok(words)
+    Ok(())
 }
 
-/// A part block as words, backwards.
-fn part_block(alloc: Global, block: &Vec<ChildEdge>) -> Result<Vec<u32>, NoMemory>
-    ensures { IfOk result (λ words. words.items ≡ part_words (map as_child_edge block.now.items)) }
+/// Writes a part block as words behind others, backwards.
+fn write_parts(words: &mut Vec<u32>, block: &Vec<ChildEdge>) -> Result<(), NoMemory>
+    ensures { OnOk result (words.new.items ≡ words.old.items ++ part_words (map as_child_edge block.now.items)) }
 {
-    let mut words = Vec::with_capacity(alloc, block.len())?;
-    for part in block {
-        words.push(part_word(*part))?;
+    let count = block.len();
+    for done in 0..count {
+        let part = block[count - 1 - done];
+        words.push(part_word(part))?;
     }
-    words.as_mut_slice().reverse();
-    Ok(words)
+    Ok(())
 }
 
 /// How many blocks of a kind there are.
@@ -92,24 +90,24 @@ pub(crate) fn block_count(row: &KindRows, which: Which) -> usize
     }
 }
 
-/// A block of a kind as words.
-pub(crate) fn block_words(
-    alloc: Global,
+/// Writes a block of a kind as words behind others.
+pub(crate) fn write_block(
+    words: &mut Vec<u32>,
     row: &KindRows,
     which: Which,
     number: usize,
-) -> Result<Vec<u32>, NoMemory>
+) -> Result<(), NoMemory>
     requires { number < length (blocks_of which row.now) }
-    ensures { IfOk result (λ words. slice_get (blocks_of which row.now) number ≡ Some words.items) }
+    ensures { OnOk result ((block : List ℕ) × (slice_get (blocks_of which row.now) number ≡ Some block) × (words.new.items ≡ words.old.items ++ block)) }
 {
     match which {
         Which::Contacts => {
             let block = &row.contacts[number];
-            contact_block(alloc, block)
+            write_contacts(words, block)
         }
         Which::Parts => {
             let block = &row.parts[number];
-            part_block(alloc, block)
+            write_parts(words, block)
         }
     }
 }

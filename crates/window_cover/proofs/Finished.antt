@@ -59,7 +59,8 @@ use Rattle.window_cover.specs.Lifted.{IsLifted}
 use Rattle.window_cover.specs.Right.{name_of, state_of, IsEdgeWaiting, IsFound, IsRight}
 use Rattle.window_cover.specs.Windows.{TileOf, box_of, AreDrawn, CoverWindow}
 use Rattle.window_cover.proofs.Distinct.{distinct-by}
-use Rattle.window_cover.proofs.Keyed.{none, tile_of, IsKey}
+use Rattle.window_cover.specs.Covered.{none, tile_of}
+use Rattle.window_cover.proofs.Keyed.{IsKey}
 use Rattle.window_cover.proofs.KeyOrder.{numbers_of}
 use Rattle.window_cover.proofs.SamePoints.{point_in-exact}
 use Rattle.window_cover.proofs.Shuffled.{AreShuffled, keyed-distinct, permuted-members}

@@ -1,9 +1,9 @@
 -- The keys of tiles found, and the tiles that keys number.
-use Rattle.std.proofs.Common.{◌≡◌, ℕ, zero, suc, ◌+◌, ◌<◌, List, [], ◌∷◌, ◌++◌, length, map, take, get_or, slice_get, Bool, false, nat_eq, IfSome, refl, sym, ap, ap₂, subst, ◌∙◌, arith, take-suc}
-use Rattle.std.specs.List.{AllZip, AllByRecursion, IsDistinct}
+use Rattle.std.proofs.Common.{◌≡◌, ℕ, zero, suc, ◌+◌, ◌<◌, List, [], ◌∷◌, ◌++◌, length, map, take, get_or, slice_get, Bool, false, nat_eq, IfSome, refl, sym, ap, ap₂, subst, ◌∙◌, arith}
+use Rattle.std.specs.List.{AllByRecursion, IsDistinct}
 use Rattle.std.proofs.lemmas.Bool.Decides.{nat_tests}
-use Rattle.std.proofs.lemmas.Slice.Zip.{all_zipped_more}
 use Rattle.window_cover.specs.declared.order_key.OrderKey.{OrderKey}
+use Rattle.window_cover.specs.Covered.{none, tile_of}
 use Rattle.window_cover.specs.Found.{Found}
 use Rattle.window_cover.specs.Keys.{key_of, keys_from}
 
@@ -15,19 +15,7 @@ keys-more n m zero (x ∷ xs) key e l h = let same : m ≡ n = omega (arith, e) 
 keys-more n m (suc k) (x ∷ xs) key e l h =
     ap (λ (ks : List OrderKey). key_of x.motion x.kind n ∷ ks) (keys-more (suc n) m k xs key (omega (arith, e)) (omega arith) h)
 
-pub zip-more : {A B : Type 0} (R : A → B → Type 0) (xs : List A) (ys : List B) (k : ℕ) (y : B) (d : A) → AllZip R (take k xs) ys → k < length xs → R (get_or xs k d) y
-    → AllZip R (take (suc k) xs) (ys ++ y ∷ [])
-zip-more R xs ys k y d h l r = subst (λ zs. AllZip R zs (ys ++ y ∷ [])) (sym (take-suc xs k d l)) (all_zipped_more R (take k xs) ys (get_or xs k d) y h r)
-
 -- ---- by number
--- a tile that stands for none
-abbrev pub none : Found
-none = record { kind = 0; motion = record { turn = 0; shift = record { c = [] } }; digits = [] }
-
--- the tile of a key
-abbrev pub tile_of : List Found → OrderKey → Found
-tile_of found key = get_or found key.number none
-
 -- a key is the one of its tile, which is there
 pub record IsKey (found : List Found) (key : OrderKey) : Type 0 where
   pub below : key.number < length found

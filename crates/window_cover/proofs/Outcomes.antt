@@ -33,3 +33,17 @@ no_memory-on r (Ok y) fault is h why = inr refl
 no_memory-on (Ok x) (Err e) fault is h why = cc
 no_memory-on (Err x) (Err e) fault is h (inl none) = let one : fault ≡ NoMemory = cc in inl (ap (λ y. Err y) (h ∙ one))
 no_memory-on (Err x) (Err e) fault is h (inr k) = cc
+
+-- the only fault is want of memory
+pub only_memory : {V : Type 0} (s : Result V CoverFault) → IsErrAnd s (λ e. e ≡ NoMemory) → (s ≡ Err NoMemory) ⊎ IsOk s
+only_memory (Ok y) why = inr refl
+only_memory (Err e) why = inl (ap (λ y. Err y) why)
+
+-- what holds of an answer gives what follows from it
+pub if_ok-each : {A E : Type 0} (Q R : A → Type 0) (r : Result A E) → IfOk r Q → ((x : A) → Q x → R x) → IfOk r R
+if_ok-each Q R (Ok x) q h = h x q
+if_ok-each Q R (Err e) q h = tt
+
+pub on_ok-is : {T E : Type 0} (P : Type 0) (r : Result T E) → IsOk r → OnOk r P → P
+on_ok-is P (Ok x) h p = p
+on_ok-is P (Err e) h p = cc

@@ -1,6 +1,5 @@
 -- What a search for the tiles of a window hands on, from step to step and at its end.
-use Rattle.std.proofs.Common.{◌≡◌, ◌⊎◌, inl, inr, ℕ, List, [], ◌∷◌, None, Result, Ok, Err, IsOk, find, refl, sym, ap, ◌∙◌, subst}
-use Rattle.std.specs.Result.{IsErrAnd}
+use Rattle.std.proofs.Common.{◌≡◌, inl, inr, ℕ, List, [], ◌∷◌, None, find, refl, sym, ap, ◌∙◌, subst}
 use Rattle.addressing.specs.Address.{Address}
 use Rattle.cyclo_points.specs.Order.{points_of, is_refused}
 use Rattle.cyclo_points.specs.Point.{point_in}
@@ -23,24 +22,6 @@ use Rattle.window_cover.specs.Beyond.{IsNotBeyondEnough}
 use Rattle.window_cover.specs.Border.{Waiting, first_of}
 use Rattle.window_cover.specs.Causes.{HasCause}
 use Rattle.window_cover.specs.Windows.{TileOf, box_of}
-
--- ---- outcomes
-abbrev failed : (T : Type 0) → CoverFault → Result T CoverFault
-failed T e = Err e
-
-err_same : {T : Type 0} {x y : CoverFault} → failed T x ≡ failed T y → x ≡ y
-err_same e = cc (e)
-
--- where a call can only fail for want of memory, so it is handed on
-pub no_memory : {T U : Type 0} (s : Result U CoverFault) (r : Result T CoverFault) (e : CoverFault) → s ≡ Err e → IsErrAnd r (λ x. x ≡ e) → (s ≡ Err NoMemory) ⊎ IsOk s → (r ≡ Err NoMemory) ⊎ IsOk r
-no_memory s (Ok x) e q h m = inr refl
-no_memory s (Err x) e q h (inl m) = inl (ap Err (h ∙ err_same (sym q ∙ m)))
-no_memory s (Err x) e q h (inr m) = absurd (cc (subst IsOk q m))
-
--- the only fault is want of memory
-pub only_memory : {T : Type 0} (r : Result T CoverFault) → IsErrAnd r (λ x. x ≡ NoMemory) → (r ≡ Err NoMemory) ⊎ IsOk r
-only_memory (Ok x) h = inr refl
-only_memory (Err x) h = inl (ap Err h)
 
 pub none-open : (border : List Waiting) → first_of border ≡ None → border ≡ []
 none-open [] e = refl

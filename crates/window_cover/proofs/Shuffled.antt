@@ -18,7 +18,8 @@ use Rattle.window_cover.specs.declared.order_key.OrderKey.{OrderKey}
 use Rattle.window_cover.specs.Found.{Found}
 use Rattle.window_cover.specs.Keys.{keys_from}
 use Rattle.window_cover.proofs.Distinct.{distinct-place}
-use Rattle.window_cover.proofs.Keyed.{none, tile_of, IsKey, same_number, keys-tiles, keys-are, keys-distinct}
+use Rattle.window_cover.specs.Covered.{none, tile_of}
+use Rattle.window_cover.proofs.Keyed.{IsKey, same_number, keys-tiles, keys-are, keys-distinct}
 
 -- ---- members
 among-contains : {A : Type 0} (x : A) (xs : List A) → IsAmong x xs → Contains xs x

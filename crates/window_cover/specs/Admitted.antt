@@ -38,6 +38,7 @@ pub record IsAdmitted (t : Tiling) (c d : CoverValue) (tile : PlacedTile) : Type
   pub shift_within : IsWithin (2 ^ 24) tile.motion.shift
   pub room : length c.found < most_tiles
   pub same_window : d.window ≡ c.window
+  pub same_outlines : d.outlines ≡ c.outlines
   pub found : d.found ≡ c.found ++ found_as tile ∷ []
   pub corners : List Point
   pub are_corners : AreCorners t tile.kind tile.motion corners

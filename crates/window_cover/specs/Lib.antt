@@ -2,7 +2,9 @@ pub mod Border
 pub mod Packed
 pub mod Windows
 pub mod NewEdges
+pub mod Inside
 pub mod Admitted
+pub mod Outlines
 pub mod Crossed
 pub mod SearchLaws
 pub mod Limits
@@ -14,5 +16,6 @@ pub mod Right
 pub mod Stepping
 pub mod Keys
 pub mod Lifted
+pub mod Covered
 pub mod Checked
 pub mod Beyond

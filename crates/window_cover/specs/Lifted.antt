@@ -1,10 +1,9 @@
 -- Tiles found, lifted to the depth of a frame.
-use Rattle.std.specs.Prelude.{◌≡◌, List, slice_get, IfSome}
+use Rattle.std.specs.Prelude.{◌≡◌}
 use Rattle.frames.specs.Frame.{lifted_in}
 use Rattle.tile_place.specs.declared.placed_tile.PlacedTile.{PlacedTile}
 use Rattle.tile_shape.specs.Views.{address_of}
 use Rattle.lazy_walk.specs.Frames.{FrameValue, whole}
-use Rattle.window_cover.specs.declared.order_key.OrderKey.{OrderKey}
 use Rattle.window_cover.specs.Found.{Found, address_found}
 
 -- the tile is the one found, with the frame's digits behind its own
@@ -13,7 +12,3 @@ pub record IsLifted (f : FrameValue) (x : Found) (tile : PlacedTile) : Type 0 wh
   pub kind_named : tile.addr.kind ≡ x.kind
   pub same_motion : tile.motion ≡ x.motion
   pub its_address : address_of tile.addr ≡ lifted_in (whole f) (address_found x)
-
--- the tile is the one found that has the key's number
-abbrev pub IsNumbered : FrameValue → List Found → OrderKey → PlacedTile → Type 0
-IsNumbered f found key tile = IfSome (slice_get found key.number) (λ x. IsLifted f x tile)

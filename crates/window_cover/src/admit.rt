@@ -8,8 +8,8 @@ ghost use Rattle.rule_model.specs.Views.{rule_of};
 ghost use Rattle.window_cover.specs.Windows.{IsWindow};
 ghost use Rattle.window_cover.specs.NewEdges.{AreNew};
 ghost use Rattle.window_cover.specs.Admitted.{AreCorners, IsAdmitted, IsNotAdmitted};
+ghost use Rattle.window_cover.specs.Outlines.{AreOutlines};
 
-use crate::corners::corners_of;
 use crate::cover::Cover;
 use crate::cover_fault::CoverFault;
 use crate::found_tile::FoundTile;
@@ -24,6 +24,7 @@ pub(crate) const MOST_TILES: usize = 200000;
 impl Cover {
     /// Takes a new tile in, if its shift is not refused and it is not one too many.
     pub(crate) fn admit(&mut self, machine: &Machine, tile: &PlacedTile) -> Result<(), CoverFault>
+        requires outlines { AreOutlines (tiling_of machine.now) self.old.outlines }
         requires exists { tile.now.kind < length (rule_of machine.now).kinds }
         requires turn_below { tile.now.motion.turn < (points_of machine.now.order).order }
         requires in_order { IsOf machine.now.order tile.now.motion.shift }
@@ -50,12 +51,13 @@ impl Cover {
             depth: tile.addr.depth(),
         })?;
         let order = machine.checked().order();
-        let corners = corners_of(machine, tile.kind, &tile.motion);
+        self.outlines
+            .put_corners(machine, tile.kind, &tile.motion, &mut self.corners);
         meet_edges(
             &mut self.border,
             order,
             &self.window,
-            corners.as_slice(),
+            self.corners.as_slice(),
             number as u32,
         )?;
         Ok(())

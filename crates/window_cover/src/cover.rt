@@ -6,6 +6,9 @@ ghost use Rattle.window_cover.specs.Border.{first_of};
 use crate::border::Border;
 use crate::found_tile::FoundTile;
 use crate::open_edge::OpenEdge;
+use crate::outlines::Outlines;
+use arrayvec::ArrayVec;
+use cyclo_points::point::Point;
 use plane_geom::window::Window;
 use std::marker::Model;
 use tile_place::placed_tile::PlacedTile;
@@ -22,6 +25,10 @@ pub struct Cover {
     /// The digits of all of them, one tile's behind the other's.
     pub(crate) digits: Vec<Step>,
     pub(crate) border: Border,
+    /// The vertices of the kinds, turned.
+    pub(crate) outlines: Outlines,
+    /// Room for the corners of the tile that is taken in.
+    pub(crate) corners: ArrayVec<Point, 12>,
 }
 
 impl Model for Cover {
@@ -30,7 +37,7 @@ impl Model for Cover {
 
     ghost Value = { CoverValue };
 
-    ghost view = { λ c. record { window = c.window; found = found_in c.digits.items c.found.items; border = c.border } };
+    ghost view = { λ c. record { window = c.window; found = found_in c.digits.items c.found.items; border = c.border; outlines = c.outlines } };
 
     ghost invariant = { λ c. IsKept c.digits.items c.found.items c.border };
 }

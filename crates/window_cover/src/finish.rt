@@ -1,6 +1,6 @@
 //! The tiles found, in order.
 ghost use Rattle.std.specs.Prelude.{◌≡◌, ◌<◌, ◌≤◌, ◌^◌, All, [], length, map, slice_get, IfOk, IfSome};
-ghost use Rattle.std.specs.List.{AllByRecursion, AllZip};
+ghost use Rattle.std.specs.List.{AllByRecursion};
 ghost use Rattle.rule_model.specs.declared.rule.Rule.{Rule};
 ghost use Rattle.rule_model.specs.Tiling.{tiling_of};
 ghost use Rattle.tile_place.specs.Searched.{placed_in};
@@ -9,13 +9,15 @@ ghost use Rattle.window_cover.specs.Checked.{IsChecked};
 ghost use Rattle.window_cover.specs.Found.{Found};
 ghost use Rattle.window_cover.specs.InOrder.{AreInOrder};
 ghost use Rattle.window_cover.specs.Keys.{HasKey, key_of, keys_from};
-ghost use Rattle.window_cover.specs.Lifted.{IsNumbered};
 ghost use Rattle.window_cover.specs.Right.{IsRight};
 ghost use Rattle.window_cover.specs.Windows.{AreDrawn, CoverWindow};
 
+use crate::border::Border;
 use crate::cover::Cover;
+use crate::covered_tiles::CoveredTiles;
 use crate::laws::end_laws;
 use crate::order_key::OrderKey;
+use arrayvec::ArrayVec;
 use lazy_walk::frame::Frame;
 use seeded_growth::laws::grown_fits_law;
 use std::alloc::Global;
@@ -36,11 +38,32 @@ impl Cover {
         ensures in_order { IfOk result (λ tiles. AreInOrder tiles.items) }
         ensures as_many { IfOk result (λ tiles. length tiles.items ≡ length self.found) }
     {
+        let tiles = self.arranged(alloc, frame)?;
+        tiles.listed(alloc)
+    }
+
+    /// The same, with no more kept of each tile than is known of it.
+    pub fn arranged(self, alloc: Global, frame: &Frame) -> Result<CoveredTiles, NoMemory>
+        requires none_open { self.border ≡ [] }
+        requires right { (r : Rule) × IsChecked r × IsRight (tiling_of r) frame.now self }
+        ensures drawn { IfOk result (λ tiles. (r : Rule) → IsChecked r → IsRight (tiling_of r) frame.now self
+            → AreDrawn (tiling_of r) frame.now self.window (map (placed_in r.order) tiles)) }
+        ensures covered { IfOk result (λ tiles. (r : Rule) → IsChecked r → IsRight (tiling_of r) frame.now self
+            → CoverWindow (tiling_of r) frame.now self.window (map (placed_in r.order) tiles)) }
+        ensures stand { IfOk result (λ tiles. (r : Rule) → IsChecked r → IsRight (tiling_of r) frame.now self
+            → All (Stands (tiling_of r) frame.now) tiles) }
+        ensures in_order { IfOk result (λ tiles. AreInOrder tiles) }
+        ensures as_many { IfOk result (λ tiles. length tiles ≡ length self.found) }
+    {
         end_laws();
         grown_fits_law();
         let mut keys = self.keys(alloc)?;
         keys.sort_unstable();
-        self.by_keys(alloc, frame, keys.as_slice())
+        let mut above = ArrayVec::new();
+        let _ = above.try_extend_from_slice(frame.digits().as_slice());
+        let mut cover = self;
+        cover.border = Border::new(alloc);
+        Ok(CoveredTiles { cover, keys, above })
     }
 
     /// The keys of the tiles found, in the order found.
@@ -66,23 +89,5 @@ impl Cover {
     {
         let tile = &self.found[number];
         OrderKey::of(&tile.motion, tile.kind, number as u32)
-    }
-
-    /// The tiles found that these keys number, in their order, lifted to the frame's depth.
-    fn by_keys(
-        &self,
-        alloc: Global,
-        frame: &Frame,
-        keys: &[OrderKey],
-    ) -> Result<Vec<PlacedTile>, NoMemory>
-        requires found { AllByRecursion (λ (k : OrderKey). k.number < length self.now.found) keys.now }
-        requires no_deeper { AllByRecursion (λ (x : Found). length x.digits ≤ length frame.now.digits) self.now.found }
-        ensures { IfOk result (λ tiles. AllZip (IsNumbered frame.now self.now.found) keys.now tiles.items) }
-    {
-        let mut tiles = Vec::with_capacity(alloc, keys.len())?;
-        for key in keys {
-            tiles.push(self.lifted(frame, key.number as usize))?;
-        }
-        Ok(tiles)
     }
 }

@@ -8,18 +8,20 @@
 
 mod admit;
 mod border;
-mod corners;
 pub mod cover;
 pub mod cover_fault;
+pub mod covered_tiles;
 mod cross;
 mod ends;
 mod finish;
 mod found_tile;
+mod inside;
 mod laws;
 mod lifted;
 mod new_edges;
 pub mod open_edge;
 mod order_key;
+mod outlines;
 mod search_laws;
 mod start;
 mod step;

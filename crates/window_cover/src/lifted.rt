@@ -1,28 +1,34 @@
-//! The tiles found, in the frame as it stands.
-ghost use Rattle.std.specs.Prelude.{◌≡◌, ◌<◌, ◌≤◌, length, slice_get, IfSome};
-ghost use Rattle.window_cover.specs.Lifted.{IsLifted};
+//! The tiles found, in a frame that has grown.
+ghost use Rattle.std.specs.Prelude.{◌≡◌, ◌<◌, ◌≤◌, ◌++◌, drop, length, map, slice_get, IfSome};
+ghost use Rattle.tile_shape.specs.Views.{step_of};
+ghost use Rattle.window_cover.specs.Covered.{placed_as};
 
 use crate::cover::Cover;
-use lazy_walk::frame::Frame;
 use tile_place::placed_tile::PlacedTile;
 use tile_shape::address::Address;
+use tile_shape::step::Step;
 
 impl Cover {
-    /// The tile found of a number, lifted to the frame's depth.
-    pub(crate) fn lifted(&self, frame: &Frame, number: usize) -> PlacedTile
+    /// The tile found of a number, with these digits of a frame behind its own.
+    pub(crate) fn lifted(&self, above: &[Step], number: usize) -> PlacedTile
         requires found { number < length self.now.found }
-        requires no_deeper { IfSome (slice_get self.now.found number) (λ x. length x.digits ≤ length frame.now.digits) }
-        ensures { IfSome (slice_get self.now.found number) (λ x. IsLifted frame.now x result) }
+        requires no_deeper { IfSome (slice_get self.now.found number) (λ x. length x.digits ≤ length above.now) }
+        requires at_most_64 { length above.now ≤ 64 }
+        ensures { IfSome (slice_get self.now.found number) (λ x. result ≡ placed_as (map step_of above.now) x) }
     {
-        let tile = &self.found[number];
-        let mut addr = Address::new(tile.kind);
-        let own = &self.digits[tile.first..tile.first + tile.depth as usize];
-        let _ = addr.digits.try_extend_from_slice(own);
-        frame.raise(&mut addr);
-        PlacedTile {
-            kind: tile.kind,
-            motion: tile.motion,
-            addr,
-        }
+        let mut tile = self.tile(number);
+        put_behind(&mut tile.addr, above);
+        tile
     }
+}
+
+/// Puts digits behind those of an address, from its depth up.
+fn put_behind(addr: &mut Address, above: &[Step])
+    requires no_deeper { length addr.old.digits.items ≤ length above.now }
+    requires at_most_64 { length above.now ≤ 64 }
+    ensures kind { addr.new.kind ≡ addr.old.kind }
+    ensures digits { addr.new.digits.items ≡ addr.old.digits.items ++ drop (length addr.old.digits.items) above.now }
+{
+    let behind = &above[addr.digits.len()..];
+    let _ = addr.digits.try_extend_from_slice(behind);
 }

@@ -7,6 +7,7 @@ ghost use Rattle.window_cover.specs.NewEdges.{meets_window, closes, without, lef
 
 use crate::border::Border;
 use crate::ends::Ends;
+use crate::inside::is_inside;
 use crate::open_edge::OpenEdge;
 use cyclo_points::order::Order;
 use cyclo_points::point::Point;
@@ -33,13 +34,23 @@ fn meet_edge(
         (record { ends = ends_of start.now end.now; edge = edge } ∷ []) []) }
     ensures one_more { length border.new ≤ length border.old + 1 }
 {
-    points_law(order);
-    divisors_law(order);
     let ends = Ends::of(start, end);
-    if !border.close(&ends.reversed()) && edge_meets_box(order, start, end, window) {
+    if !border.close(&ends.reversed()) && meets(order, window, start, end) {
         border.add(ends, edge)?;
     }
     Ok(())
+}
+
+/// Whether the edge between two points meets the window. Most start plainly inside.
+fn meets(order: Order, window: &Window, start: &Point, end: &Point) -> bool
+    requires start_within { IsWithin (2 ^ 25) start.now }
+    requires end_within { IsWithin (2 ^ 25) end.now }
+    requires centre_within { IsWithin (2 ^ 25) window.now.centre }
+    ensures { result ≡ meets_window order window.now start.now end.now }
+{
+    points_law(order);
+    divisors_law(order);
+    is_inside(order, window, start) || edge_meets_box(order, start, end, window)
 }
 
 /// Closes the open edges that the edges of a new tile meet, and opens those of its own that meet the window

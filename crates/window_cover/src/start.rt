@@ -13,7 +13,9 @@ ghost use Rattle.window_cover.specs.Right.{IsRight};
 use crate::border::Border;
 use crate::cover::Cover;
 use crate::cover_fault::CoverFault;
+use crate::outlines::Outlines;
 use crate::search_laws::search_laws;
+use arrayvec::ArrayVec;
 use lazy_walk::frame::Frame;
 use plane_geom::window::Window;
 use seeded_growth::laws::grown_fits_law;
@@ -46,11 +48,14 @@ impl Cover {
         grown_fits_law();
         let _usable = checked.uses().kinds();
         let tile = frame.contain(machine, &window.centre)?;
+        let outlines = Outlines::new(alloc, machine)?;
         let mut cover = Cover {
             window: *window,
             found: Vec::new(alloc),
             digits: Vec::new(alloc),
             border: Border::new(alloc),
+            outlines,
+            corners: ArrayVec::new(),
         };
         cover.admit(machine, &tile)?;
         Ok(cover)

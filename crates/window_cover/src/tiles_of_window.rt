@@ -15,6 +15,7 @@ ghost use Rattle.window_cover.specs.Right.{IsRight};
 
 use crate::cover::Cover;
 use crate::cover_fault::CoverFault;
+use crate::covered_tiles::CoveredTiles;
 use crate::laws::end_laws;
 use edge_tables::steps::Steps;
 use lazy_walk::frame::Frame;
@@ -59,6 +60,35 @@ pub fn cover(
     ensures answered { IsWithinLimits (tiling_of machine.now) frame.old window.now → (result ≡ Err NoMemory) ⊎ IsOk result }
     ensures cause { IfErr result (λ fault. HasCause (tiling_of machine.now) frame.old frame.new window.now fault) }
 {
+    let tiles = covered_tiles(alloc, machine, frame, window)?;
+    Ok(tiles.listed(alloc)?)
+}
+
+/// The tiles that [`cover`] lists, to be had one at a time, in a fourth of the memory.
+pub fn covered_tiles(
+    alloc: Global,
+    machine: &Machine,
+    frame: &mut Frame,
+    window: &Window,
+) -> Result<CoveredTiles, CoverFault>
+    requires frame { IsFrameOf (tiling_of machine.now) frame.old }
+    requires window_fits { IsWindow window.now }
+
+    ensures frame { GrowsTo (tiling_of machine.now) frame.old frame.new }
+
+    // Exactly the tiles of the frame that meet the window, each once and in its place, at the least enough depth; they
+    // cover the window.
+    ensures drawn { IfOk result (λ tiles. AreDrawn (tiling_of machine.now) frame.new window.now (map (placed_in machine.now.order) tiles)) }
+    ensures stand { IfOk result (λ tiles. All (Stands (tiling_of machine.now) frame.new) tiles) }
+    ensures in_order { IfOk result (λ tiles. AreInOrder tiles) }
+    ensures least { OnOk result (IsLeastEnough (tiling_of machine.now) frame.old window.now (length frame.new.digits)) }
+    ensures covered { IfOk result (λ tiles. CoverWindow (tiling_of machine.now) frame.new window.now (map (placed_in machine.now.order) tiles)) }
+
+    // Ok comes exactly within the limits, but for want of memory, and each fault only for its cause.
+    ensures within { OnOk result (IsWithinLimits (tiling_of machine.now) frame.old window.now) }
+    ensures answered { IsWithinLimits (tiling_of machine.now) frame.old window.now → (result ≡ Err NoMemory) ⊎ IsOk result }
+    ensures cause { IfErr result (λ fault. HasCause (tiling_of machine.now) frame.old frame.new window.now fault) }
+{
     end_laws();
     grown_fits_law();
     let checked = machine.checked();
@@ -67,7 +97,7 @@ pub fn cover(
     frame_window_law(order);
     let _usable = checked.uses().kinds();
     let cover = searched::<Brand>(alloc, machine, frame, window, Blank::new(1))?;
-    Ok(cover.finish(alloc, frame)?)
+    Ok(cover.arranged(alloc, frame)?)
 }
 
 /// The state of the search at its end, with look-ups counted on a ledger of this name.

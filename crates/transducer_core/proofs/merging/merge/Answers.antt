@@ -1,17 +1,32 @@
-use Rattle.std.proofs.Common.{◌≡◌, ◌+◌, List, ℕ, ◌∷◌, [], ◌++◌, ◌≤◌, length, map, take, ap, ◌∙◌, arith, length-append}
+use Rattle.std.proofs.Common.{◌≡◌, ◌+◌, List, ℕ, ◌∷◌, [], ◌++◌, ◌≤◌, length, map, take, ap, ◌∙◌, refl, arith, length-append}
 use Rattle.std.specs.List.{concat, flat_map}
-use Rattle.std.proofs.lemmas.List.{take_all, length-map, map-append}
-use Rattle.addressing.proofs.Lists.{AllByRecursion-append}
-use Rattle.transducer_core.specs.Merging.{as_lists, AreShort}
+use Rattle.std.proofs.lemmas.List.{take_all, length-map}
+use Rattle.transducer_core.specs.Merging.{AreShort}
 use Rattle.transducer_core.specs.RowBlocks.{blocks_of}
+use Rattle.transducer_core.proofs.Keeping.{words_grown, ends_length}
+use Rattle.transducer_core.proofs.Once.{once_none}
 use Rattle.transducer_core.proofs.Standing
+use Rattle.transducer_core.proofs.Strides
 use Rattle.transducer_core.proofs.merging.merge.Goals as goal
+
+pub loop-row-init : goal.loop-row-init
+loop-row-init c = record {
+  blocks = [];
+  kept_are = record { words_are = c.in_ok-with_capacity.ensures.items; ends_are = c.in_ok-with_capacity-2.ensures.items };
+  places = [];
+  stand = tt;
+  spread = Strides.spread_none c.in_ok-starts.starts.items;
+  size = omega (arith, ap (λ (l : List ℕ). length l) c.in_ok-starts.ensures.items);
+  rows = refl;
+  few_words = omega arith;
+  few = omega arith;
+  once = once_none;
+}
 
 pub place_row-requires-clause-few : goal.place_row-requires-clause-few
 place_row-requires-clause-few c =
     let at = Standing.mapped_at (blocks_of c.args.which) c.args.rows.now.items c.loop-row.row-index c.row-item.result (rw (← c.deref-row-items.ensures.value) c.loop-row-test.true) (rw (← c.deref-row-items.ensures.value) c.row-item.is) in
-    let few = Standing.of_row (λ (row : List (List ℕ)). length row ≤ 16) (map (blocks_of c.args.which) c.args.rows.now.items) c.loop-row.row-index (blocks_of c.args.which c.row-item.result) at c.requires.small.few_in_each in
-    few
+    Standing.of_row (λ (row : List (List ℕ)). length row ≤ 16) (map (blocks_of c.args.which) c.args.rows.now.items) c.loop-row.row-index (blocks_of c.args.which c.row-item.result) at c.requires.small.few_in_each
 
 pub place_row-requires-clause-short : goal.place_row-requires-clause-short
 place_row-requires-clause-short c =
@@ -20,44 +35,68 @@ place_row-requires-clause-short c =
 
 pub place_row-requires-clause-room : goal.place_row-requires-clause-room
 place_row-requires-clause-room c =
-    let at = length-map c.args.rows.now.items (blocks_of c.args.which) in
-    omega (arith, c.loop-row.invariant.few_words, c.requires.small.few, at, c.loop-row-test.true, c.deref-row-items.ensures.len, ap length c.deref-row-items.ensures.value)
+    let count = length-map c.args.rows.now.items (blocks_of c.args.which) in
+    omega (arith, c.loop-row.invariant.few_words, ap (λ (l : List ℕ). length l) c.loop-row.invariant.kept_are.words_are, c.requires.small.few, count, c.loop-row-test.true, c.deref-row-items.ensures.len, ap (λ l. length l) c.deref-row-items.ensures.value)
+
+pub fill_row-requires : goal.fill_row-requires
+fill_row-requires c =
+    let at = Standing.mapped_at (blocks_of c.args.which) c.args.rows.now.items c.loop-row.row-index c.row-item.result (rw (← c.deref-row-items.ensures.value) c.loop-row-test.true) (rw (← c.deref-row-items.ensures.value) c.row-item.is) in
+    let few = Standing.of_row (λ (row : List (List ℕ)). length row ≤ 16) (map (blocks_of c.args.which) c.args.rows.now.items) c.loop-row.row-index (blocks_of c.args.which c.row-item.result) at c.requires.small.few_in_each in
+    record { short = omega (arith, few, c.block_count.ensures) }
 
 pub loop-row-preserved : goal.loop-row-preserved
 loop-row-preserved c =
+    let rows : List (List (List ℕ)) = map (blocks_of c.args.which) c.args.rows.now.items in
+    let row : List (List ℕ) = blocks_of c.args.which c.row-item.result in
+    let done : List (List (List ℕ)) = take c.loop-row.row-index rows in
     let at = Standing.mapped_at (blocks_of c.args.which) c.args.rows.now.items c.loop-row.row-index c.row-item.result (rw (← c.deref-row-items.ensures.value) c.loop-row-test.true) (rw (← c.deref-row-items.ensures.value) c.row-item.is) in
-    let next = Standing.take_at (map (blocks_of c.args.which) c.args.rows.now.items) c.loop-row.row-index (blocks_of c.args.which c.row-item.result) at in
-    let grown = c.in_ok-place_row.ensures.grown in
-    let words : concat (as_lists c.place_row.new.kept) ≡ concat (as_lists c.loop-row.kept) ++ concat grown.0 = ap concat grown.1 ∙ Standing.concat-append (as_lists c.loop-row.kept) grown.0 in
-    let before : Standing.RowsStand (concat (as_lists c.place_row.new.kept)) (map (λ v. v.items) c.loop-row.starts.items) (take c.loop-row.row-index (map (blocks_of c.args.which) c.args.rows.now.items)) =
-    rw words (Standing.RowsStand-more (concat (as_lists c.loop-row.kept)) (concat grown.0) (map (λ v. v.items) c.loop-row.starts.items) (take c.loop-row.row-index (map (blocks_of c.args.which) c.args.rows.now.items)) c.loop-row.invariant.stand) in
-    let starts = ap (map (λ v. v.items)) c.in_ok-push.ensures.items ∙ map-append (λ v. v.items) c.loop-row.starts.items (c.in_ok-place_row.field-0 ∷ []) in
-    let few : length c.in_ok-place_row.field-0.items ≤ 256 = omega (arith, c.in_ok-place_row.ensures.few) in
-    let now = c.in_ok-place_row.ensures.once (flat_map (λ (row : List (List ℕ)). row) (take c.loop-row.row-index (map (blocks_of c.args.which) c.args.rows.now.items))) c.loop-row.invariant.once in
-    let none = Standing.append-none (blocks_of c.args.which c.row-item.result) in
-    let all : flat_map (λ (row : List (List ℕ)). row) (take (c.loop-row.row-index + 1) (map (blocks_of c.args.which) c.args.rows.now.items)) ≡ flat_map (λ (row : List (List ℕ)). row) (take c.loop-row.row-index (map (blocks_of c.args.which) c.args.rows.now.items)) ++ blocks_of c.args.which c.row-item.result =
-    ap (flat_map (λ (row : List (List ℕ)). row)) next ∙ Standing.flat_map-append (take c.loop-row.row-index (map (blocks_of c.args.which) c.args.rows.now.items)) (blocks_of c.args.which c.row-item.result ∷ []) ∙ ap (λ x. flat_map (λ (row : List (List ℕ)). row) (take c.loop-row.row-index (map (blocks_of c.args.which) c.args.rows.now.items)) ++ x) none in
+    let next = Standing.take_at rows c.loop-row.row-index row at in
+    let few = Standing.of_row (λ (r : List (List ℕ)). length r ≤ 16) rows c.loop-row.row-index row at c.requires.small.few_in_each in
+    let i = c.loop-row.invariant in
+    let p = c.in_ok-place_row.ensures i.blocks i.kept_are in
+    let pad = c.in_ok-fill_row.ensures in
+    let grown = words_grown i.blocks p.more c.loop-row.kept.words.items c.place_row.new.kept.ends.items c.place_row.new.kept.words.items i.kept_are.words_are p.kept_are in
+    let before : Standing.RowsStand c.place_row.new.kept.words.items i.places done = rw grown (Standing.RowsStand-more c.loop-row.kept.words.items (concat p.more) i.places done i.stand) in
+    let count = Standing.AllStand-length c.place_row.new.kept.words.items p.places row p.stand in
+    let none = Standing.append-none row in
+    let all : flat_map (λ (r : List (List ℕ)). r) (take (c.loop-row.row-index + 1) rows) ≡ flat_map (λ (r : List (List ℕ)). r) done ++ row =
+    ap (flat_map (λ (r : List (List ℕ)). r)) next ∙ Standing.flat_map-append done (row ∷ []) ∙ ap (λ (x : List (List ℕ)). flat_map (λ (r : List (List ℕ)). r) done ++ x) none in
     record {
-      stand = rw (starts, next) (Standing.RowsStand-push (concat (as_lists c.place_row.new.kept)) (map (λ v. v.items) c.loop-row.starts.items) (take c.loop-row.row-index (map (blocks_of c.args.which) c.args.rows.now.items)) c.in_ok-place_row.field-0.items (blocks_of c.args.which c.row-item.result) before c.in_ok-place_row.ensures.stand);
-      short = rw c.in_ok-push.ensures.items (AllByRecursion-append (λ v. length v.items ≤ 256) c.loop-row.starts.items (c.in_ok-place_row.field-0 ∷ []) c.loop-row.invariant.short (few, tt));
-      few_words = omega (arith, ap length words, length-append (concat (as_lists c.loop-row.kept)) (concat grown.0), grown.2, c.loop-row.invariant.few_words);
-      few = omega (arith, ap length grown.1, length-append (as_lists c.loop-row.kept) grown.0, grown.3, c.loop-row.invariant.few);
-      once = rw all now;
+      blocks = i.blocks ++ p.more;
+      kept_are = p.kept_are;
+      places = i.places ++ p.places ∷ [];
+      stand = rw next (Standing.RowsStand-push c.place_row.new.kept.words.items i.places done p.places row before p.stand);
+      spread = Strides.spread_grown i.places p.places c.loop-row.starts.items c.place_row.new.starts.items c.fill_row.new.list.items pad.0 p.places_are pad.1 (omega (arith, i.size, i.rows)) i.spread;
+      size = omega (
+        arith,
+        ap (λ (l : List ℕ). length l) p.places_are,
+        ap (λ (l : List ℕ). length l) pad.1,
+        length-append c.loop-row.starts.items p.places,
+        length-append c.place_row.new.starts.items pad.0,
+        pad.2,
+        count,
+        c.block_count.ensures,
+        i.size,
+      );
+      rows = omega (arith, length-append i.places (p.places ∷ []), i.rows);
+      few_words = omega (arith, ap (λ (l : List ℕ). length l) (Standing.concat-append i.blocks p.more), length-append (concat i.blocks) (concat p.more), p.short, few, i.few_words);
+      few = omega (arith, length-append i.blocks p.more, p.few, few, i.few);
+      once = rw all (p.once (flat_map (λ (r : List (List ℕ)). r) done) i.once);
     }
 
-pub overflow_cast-result : goal.overflow_cast-result
-overflow_cast-result c =
+pub overflow_cast-count : goal.overflow_cast-count
+overflow_cast-count c =
     let count = length-map c.args.rows.now.items (blocks_of c.args.which) in
-    let kept = length-map c.loop-row.kept.items (λ v. v.items) in
-    omega (arith, c.loop-row.invariant.few, c.requires.small.few, count, kept, c.loop-row.auto.row-index-end, c.deref-row-items.ensures.len, ap length c.deref-row-items.ensures.value, c.len.ensures)
+    let ends = ends_length 0 c.loop-row.invariant.blocks in
+    omega (arith, c.loop-row.invariant.few, ends, ap (λ (l : List ℕ). length l) c.loop-row.invariant.kept_are.ends_are, c.requires.small.few, count, c.loop-row.auto.row-index-end, c.deref-row-items.ensures.len, ap (λ l. length l) c.deref-row-items.ensures.value, c.len-count.ensures)
 
 pub returns : goal.returns
 returns c =
+    let rows : List (List (List ℕ)) = map (blocks_of c.args.which) c.args.rows.now.items in
     let count = length-map c.args.rows.now.items (blocks_of c.args.which) in
-    let kept = length-map c.loop-row.kept.items (λ v. v.items) in
-    let whole = take_all c.loop-row.row-index (map (blocks_of c.args.which) c.args.rows.now.items) (omega (arith, count, ap length c.deref-row-items.ensures.value, c.loop-row-test.false)) in
-    let stand = rw whole at c.loop-row.invariant.stand in
-    let once = rw whole at c.loop-row.invariant.once in
-    let words = c.in_ok-joined.ensures in
-    Standing.merged_of (map (blocks_of c.args.which) c.args.rows.now.items) (map (λ v. v.items) c.loop-row.starts.items) c.in_ok-spread.field-0.items c.in_ok-joined.field-0.items (as_lists c.loop-row.kept) c.len.result
-    (rw (c.in_ok-joined.ensures) stand) c.in_ok-spread.ensures once c.in_ok-joined.ensures (omega (arith, kept, c.len.ensures))
+    let i = c.loop-row.invariant in
+    let whole = take_all c.loop-row.row-index rows (omega (arith, count, ap (λ l. length l) c.deref-row-items.ensures.value, c.loop-row-test.false)) in
+    let stand = rw whole at i.stand in
+    let once = rw whole at i.once in
+    Standing.merged_of rows i.places c.loop-row.starts.items c.loop-row.kept.words.items i.blocks c.len-count.result
+    stand i.spread once i.kept_are.words_are (omega (arith, ends_length 0 i.blocks, ap (λ (l : List ℕ). length l) i.kept_are.ends_are, c.len-count.ensures))

@@ -3,26 +3,16 @@ use Rattle.window_cover.specs.Packed.{ends_of}
 use Rattle.window_cover.specs.declared.ends.Ends.{Ends}
 use Rattle.window_cover.specs.Border.{has_ends}
 use Rattle.window_cover.specs.NewEdges.{reversed, meets_window}
-use Rattle.window_cover.proofs.BoxTests.{meets_window-is}
 use Rattle.window_cover.proofs.Outcomes.{on_ok-err}
 use Rattle.window_cover.proofs.NewEdges.{stays_fresh, met-opened, met-closed, met-passed, no_longer}
 use Rattle.window_cover.proofs.new_edges.meet_edge.Goals as goal
-use Rattle.window_cover.proofs.new_edges.meet_edge.Goals.{else-not-close-via-then-not-close+else-edge_meets_box, else-not-close-via-else-not-close}
+use Rattle.window_cover.proofs.new_edges.meet_edge.Goals.{else-not-close-via-then-not-close+else-meets, else-not-close-via-else-not-close}
 
 pub of-ends-requires-clause-start_within : goal.of-ends-requires-clause-start_within
 of-ends-requires-clause-start_within c = c.requires.start_within
 
 pub of-ends-requires-clause-end_within : goal.of-ends-requires-clause-end_within
 of-ends-requires-clause-end_within c = c.requires.end_within
-
-pub edge_meets_box-requires-clause-a_within : goal.edge_meets_box-requires-clause-a_within
-edge_meets_box-requires-clause-a_within c = c.requires.start_within
-
-pub edge_meets_box-requires-clause-b_within : goal.edge_meets_box-requires-clause-b_within
-edge_meets_box-requires-clause-b_within c = c.requires.end_within
-
-pub edge_meets_box-requires-clause-centre_within : goal.edge_meets_box-requires-clause-centre_within
-edge_meets_box-requires-clause-centre_within c = c.requires.centre_within
 
 pub add-requires : goal.add-requires
 add-requires c = record {
@@ -42,10 +32,9 @@ returns-in_err-add-clause-one_more c =
 
 pub returns-in_ok-add-clause-met : goal.returns-in_ok-add-clause-met
 returns-in_ok-add-clause-met c =
-    let same = meets_window-is c.args.order c.points_law.ensures c.divisors_law.ensures c.args.window.now c.args.start.now c.args.end.now c.edge_meets_box.result c.edge_meets_box.ensures.exact in
     met-opened _ c.reversed.result c.args.edge c.args.border.now c.close.new.self c.close.result (meets_window c.args.order c.args.window.now c.args.start.now c.args.end.now)
     (c.reversed.ensures ∙ ap reversed c.of-ends.ensures) c.close.ensures.found c.close.ensures.closed c.add.new.self
-    c.if-not-close.true (sym same ∙ c.if-edge_meets_box.true)
+    c.if-not-close.true (sym c.meets.ensures ∙ c.if-meets.true)
     (c.in_ok-add.ensures.added ∙ ap (λ (k : Ends). c.close.new.self ++ record { ends = k; edge = c.args.edge } ∷ []) c.of-ends.ensures)
 
 pub returns-in_ok-add-clause-one_more : goal.returns-in_ok-add-clause-one_more
@@ -60,9 +49,8 @@ returns-else-not-close-clause-met c =
     let meets = meets_window c.args.order c.args.window.now c.args.start.now c.args.end.now in
     let n = ends_of c.args.start.now c.args.end.now in
     elim c.else-not-close.branch [
-      | else-not-close-via-then-not-close+else-edge_meets_box w ↦
-          let same = meets_window-is c.args.order c.points_law.ensures c.divisors_law.ensures c.args.window.now c.args.start.now c.args.end.now w.edge_meets_box.result w.edge_meets_box.ensures.exact in
-          met-passed n c.reversed.result c.args.edge c.args.border.now c.close.new.self c.close.result meets k c.close.ensures.found c.close.ensures.closed (sym same ∙ w.if-edge_meets_box.false)
+      | else-not-close-via-then-not-close+else-meets w ↦
+          met-passed n c.reversed.result c.args.edge c.args.border.now c.close.new.self c.close.result meets k c.close.ensures.found c.close.ensures.closed (sym w.meets.ensures ∙ w.if-meets.false)
       | else-not-close-via-else-not-close w ↦
           met-closed n c.reversed.result c.args.edge c.args.border.now c.close.new.self c.close.result meets k c.close.ensures.found c.close.ensures.closed w.if-not-close.false
     ]

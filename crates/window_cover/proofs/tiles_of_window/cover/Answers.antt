@@ -1,73 +1,35 @@
-use Rattle.std.proofs.Common.{◌≡◌, map, ap, ◌∙◌, subst}
-use Rattle.cyclo_points.specs.Order.{points_of}
-use Rattle.rule_model.specs.declared.rule.Rule.{Rule}
+use Rattle.std.proofs.Common.{All, map, sym, subst}
 use Rattle.rule_model.specs.Tiling.{tiling_of}
 use Rattle.tile_place.specs.Searched.{placed_in}
-use Rattle.windows.specs.FrameCover.{FrameEndsLaw}
-use Rattle.windows.specs.FrameWindow.{LeastLaw}
+use Rattle.lazy_walk.specs.Standing.{Stands}
+use Rattle.window_cover.specs.Causes.{HasCause}
 use Rattle.window_cover.specs.Windows.{AreDrawn, CoverWindow}
-use Rattle.window_cover.proofs.Ended.{not-beyond, ended-least, ended-within}
-use Rattle.window_cover.proofs.Finished.{laws_of}
-use Rattle.window_cover.proofs.Outcomes.{if_err-is}
-use Rattle.window_cover.proofs.Searches.{no_memory, only_memory, checked_of}
+use Rattle.window_cover.proofs.Outcomes.{if_err-is, if_err-no_memory, no_memory-on, only_memory}
 use Rattle.window_cover.proofs.tiles_of_window.cover.Goals as goal
 
-pub finish-requires-clause-right : goal.finish-requires-clause-right
-finish-requires-clause-right c =
-    let m = c.args.machine.now in
-    let checked = checked_of m _ _ c.checked-checked.ensures.rule c.checked-checked.ensures.accepted c.checked-checked.ensures.usable c.checked-checked.ensures.same_child_kinds c.uses.ensures c.kinds-usable.ensures.limits in
-    (m, checked, c.in_ok-cover.ensures.right)
+pub returns-in_err-tiles-clause-answered : goal.returns-in_err-tiles-clause-answered
+returns-in_err-tiles-clause-answered c = λ h.
+    no_memory-on c.covered_tiles.result c.from_residual.result c.in_err-tiles.field-0.0 c.in_err-tiles.was c.from_residual.ensures.1 (c.covered_tiles.ensures.answered h)
 
-pub returns-in_err-cover-clause-answered : goal.returns-in_err-cover-clause-answered
-returns-in_err-cover-clause-answered c = λ h. no_memory c.searched.result c.from_residual.result c.in_err-cover.field-0.0 c.in_err-cover.was c.from_residual.ensures.1 (c.searched.ensures.answered h)
+pub returns-in_err-tiles-clause-cause : goal.returns-in_err-tiles-clause-cause
+returns-in_err-tiles-clause-cause c = if_err-is _ c.from_residual.result c.in_err-tiles.field-0.0 c.from_residual.ensures.1 c.in_err-tiles.ensures.cause
 
-pub returns-in_err-cover-clause-cause : goal.returns-in_err-cover-clause-cause
-returns-in_err-cover-clause-cause c = if_err-is _ c.from_residual.result c.in_err-cover.field-0.0 c.from_residual.ensures.1 c.in_err-cover.ensures.cause
+pub returns-in_err-listed-clause-answered : goal.returns-in_err-listed-clause-answered
+returns-in_err-listed-clause-answered c = λ h. only_memory c.from_residual-in_err-listed.result c.from_residual-in_err-listed.ensures.1
 
-pub returns-in_err-finish-clause-answered : goal.returns-in_err-finish-clause-answered
-returns-in_err-finish-clause-answered c = λ h. only_memory c.from_residual-in_err-finish.result c.from_residual-in_err-finish.ensures.1
+pub returns-in_err-listed-clause-cause : goal.returns-in_err-listed-clause-cause
+returns-in_err-listed-clause-cause c =
+    if_err-no_memory (HasCause (tiling_of c.args.machine.now) c.args.frame.now c.covered_tiles.new.frame c.args.window.now) c.from_residual-in_err-listed.result c.from_residual-in_err-listed.ensures.1 tt
 
 pub returns-clause-drawn : goal.returns-clause-drawn
 returns-clause-drawn c =
     let m = c.args.machine.now in
-    let checked = checked_of m _ _ c.checked-checked.ensures.rule c.checked-checked.ensures.accepted c.checked-checked.ensures.usable c.checked-checked.ensures.same_child_kinds c.uses.ensures c.kinds-usable.ensures.limits in
-    subst (λ w. AreDrawn (tiling_of m) c.searched.new.frame w (map (placed_in m.order) c.in_ok-finish.field-0.items)) c.in_ok-cover.ensures.its_window
-    (c.in_ok-finish.ensures.drawn m checked c.in_ok-cover.ensures.right)
+    subst (λ ts. AreDrawn (tiling_of m) c.covered_tiles.new.frame c.args.window.now (map (placed_in m.order) ts)) (sym c.in_ok-listed.ensures) c.in_ok-tiles.ensures.drawn
 
 pub returns-clause-stand : goal.returns-clause-stand
-returns-clause-stand c =
-    let m = c.args.machine.now in
-    let checked = checked_of m _ _ c.checked-checked.ensures.rule c.checked-checked.ensures.accepted c.checked-checked.ensures.usable c.checked-checked.ensures.same_child_kinds c.uses.ensures c.kinds-usable.ensures.limits in
-    c.in_ok-finish.ensures.stand m checked c.in_ok-cover.ensures.right
+returns-clause-stand c = subst (All (Stands (tiling_of c.args.machine.now) c.covered_tiles.new.frame)) (sym c.in_ok-listed.ensures) c.in_ok-tiles.ensures.stand
 
 pub returns-clause-covered : goal.returns-clause-covered
 returns-clause-covered c =
     let m = c.args.machine.now in
-    let checked = checked_of m _ _ c.checked-checked.ensures.rule c.checked-checked.ensures.accepted c.checked-checked.ensures.usable c.checked-checked.ensures.same_child_kinds c.uses.ensures c.kinds-usable.ensures.limits in
-    subst (λ w. CoverWindow (tiling_of m) c.searched.new.frame w (map (placed_in m.order) c.in_ok-finish.field-0.items)) c.in_ok-cover.ensures.its_window
-    (c.in_ok-finish.ensures.covered m checked c.in_ok-cover.ensures.right)
-
-pub returns-clause-least : goal.returns-clause-least
-returns-clause-least c =
-    let m = c.args.machine.now in
-    let checked = checked_of m _ _ c.checked-checked.ensures.rule c.checked-checked.ensures.accepted c.checked-checked.ensures.usable c.checked-checked.ensures.same_child_kinds c.uses.ensures c.kinds-usable.ensures.limits in
-    let laws = laws_of m checked c.end_laws.ensures.points c.end_laws.ensures.patch c.end_laws.ensures.known c.end_laws.ensures.finish c.grown_fits_law.ensures in
-    let least : LeastLaw (points_of m.order) = subst (λ o. LeastLaw (points_of o)) (c.order-order.ensures.order ∙ ap (λ (r : Rule). r.order) c.checked-checked.ensures.rule) c.frame_window_law.ensures.least in
-    let beyond = not-beyond m laws least c.args.frame.now c.searched.new.frame c.searched.ensures.frame c.args.window.now c.in_ok-cover.cover c.in_ok-cover.ensures.right c.in_ok-cover.ensures.not_beyond c.requires.frame.at_most_64 in
-    ended-least m laws c.args.frame.now c.searched.new.frame c.searched.ensures.frame c.args.window.now c.in_ok-cover.cover c.in_ok-cover.ensures.right c.in_ok-cover.ensures.its_window
-    c.in_ok-cover.ensures.none_open beyond c.requires.frame.at_most_64
-
-pub returns-clause-within : goal.returns-clause-within
-returns-clause-within c =
-    let m = c.args.machine.now in
-    let checked = checked_of m _ _ c.checked-checked.ensures.rule c.checked-checked.ensures.accepted c.checked-checked.ensures.usable c.checked-checked.ensures.same_child_kinds c.uses.ensures c.kinds-usable.ensures.limits in
-    let laws = laws_of m checked c.end_laws.ensures.points c.end_laws.ensures.patch c.end_laws.ensures.known c.end_laws.ensures.finish c.grown_fits_law.ensures in
-    let least : LeastLaw (points_of m.order) = subst (λ o. LeastLaw (points_of o)) (c.order-order.ensures.order ∙ ap (λ (r : Rule). r.order) c.checked-checked.ensures.rule) c.frame_window_law.ensures.least in
-    let beyond = not-beyond m laws least c.args.frame.now c.searched.new.frame c.searched.ensures.frame c.args.window.now c.in_ok-cover.cover c.in_ok-cover.ensures.right c.in_ok-cover.ensures.not_beyond c.requires.frame.at_most_64 in
-    let same : c.order-order.result ≡ m.order = c.order-order.ensures.order ∙ ap (λ (r : Rule). r.order) c.checked-checked.ensures.rule in
-    let ends : FrameEndsLaw (points_of m.order) = subst (λ o. FrameEndsLaw (points_of o)) same c.frame_limits_law.ensures.end in
-    record {
-      centre_found = c.in_ok-cover.ensures.centre_found;
-      drawn_within = ended-within m laws c.args.frame.now c.searched.new.frame c.searched.ensures.frame c.args.window.now c.in_ok-cover.cover c.in_ok-cover.ensures.right c.in_ok-cover.ensures.its_window
-          c.in_ok-cover.ensures.none_open beyond c.requires.frame.at_most_64 ends;
-    }
+    subst (λ ts. CoverWindow (tiling_of m) c.covered_tiles.new.frame c.args.window.now (map (placed_in m.order) ts)) (sym c.in_ok-listed.ensures) c.in_ok-tiles.ensures.covered

@@ -4,15 +4,15 @@ use Rattle.lazy_walk.proofs.Walks.{GrowsTo-then}
 use Rattle.window_cover.specs.Windows.{IsLeastEnough}
 use Rattle.window_cover.specs.Causes.{HasCause}
 use Rattle.window_cover.specs.Limits.{IsWithinLimits}
-use Rattle.window_cover.proofs.Outcomes.{on_ok-err, if_err-is}
-use Rattle.window_cover.proofs.Searches.{no_memory, none-open, cause-before}
+use Rattle.window_cover.proofs.Outcomes.{on_ok-err, if_err-is, no_memory-on}
+use Rattle.window_cover.proofs.Searches.{none-open, cause-before}
 use Rattle.window_cover.proofs.tiles_of_window.searched.Goals as goal
 
 pub returns-in_err-cover-clause-centre_found : goal.returns-in_err-cover-clause-centre_found
 returns-in_err-cover-clause-centre_found g c = on_ok-err _ c.from_residual.result c.from_residual.ensures.0
 
 pub returns-in_err-cover-clause-answered : goal.returns-in_err-cover-clause-answered
-returns-in_err-cover-clause-answered g c = λ h. no_memory c.start.result c.from_residual.result c.in_err-cover.field-0.0 c.in_err-cover.was c.from_residual.ensures.1 (c.start.ensures.answered h)
+returns-in_err-cover-clause-answered g c = λ h. no_memory-on c.start.result c.from_residual.result c.in_err-cover.field-0.0 c.in_err-cover.was c.from_residual.ensures.1 (c.start.ensures.answered h)
 
 pub loop-first-preserved : goal.loop-first-preserved
 loop-first-preserved g c =
@@ -32,7 +32,7 @@ returns-in_err-advance-clause-centre_found g c = on_ok-err _ c.from_residual-in_
 
 pub returns-in_err-advance-clause-answered : goal.returns-in_err-advance-clause-answered
 returns-in_err-advance-clause-answered g c = λ h.
-    no_memory c.advance.result c.from_residual-in_err-advance.result c.in_err-advance.field-0.0 c.in_err-advance.was c.from_residual-in_err-advance.ensures.1
+    no_memory-on c.advance.result c.from_residual-in_err-advance.result c.in_err-advance.field-0.0 c.in_err-advance.was c.from_residual-in_err-advance.ensures.1
     (c.advance.ensures.within c.args.frame.now c.loop-first.invariant.grows
     (subst (IsWithinLimits (tiling_of c.args.machine.now) c.args.frame.now) (sym c.loop-first.invariant.its_window) h))
 

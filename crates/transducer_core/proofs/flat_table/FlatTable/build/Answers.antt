@@ -1,18 +1,20 @@
-use Rattle.std.proofs.Common.{◌*◌, map, subst, sym, ap, ◌∙◌}
+use Rattle.std.proofs.Common.{List, ◌*◌, length, map, subst, sym, ap, ◌∙◌, arith}
+use Rattle.std.proofs.lemmas.List.{length-map}
 use Rattle.addressing.specs.Tables.{Tables, KindTables}
-use Rattle.transducer_core.specs.FlatTables.{lists_in, kind_rows, IsFlat}
+use Rattle.edge_tables.specs.Views.{as_kind_tables}
+use Rattle.transducer_core.specs.FlatTables.{kind_rows, IsFlat}
 use Rattle.transducer_core.specs.Merged.{IsMerged, AreSpread}
 use Rattle.transducer_core.specs.Merging.{AreSmall}
 use Rattle.transducer_core.specs.Words.{contact_words, part_words}
-use Rattle.transducer_core.proofs.FlatCounts.{written_contacts, written_parts, written_types, written_children, scaled, short_children, small_contacts, small_parts}
-use Rattle.transducer_core.proofs.FlatMade.{Holds, flat_is}
+use Rattle.transducer_core.proofs.FlatCounts.{written_contacts, written_parts, written_kinds, scaled, short_children, small_contacts, small_parts}
+use Rattle.transducer_core.proofs.FlatMade.{made}
 use Rattle.transducer_core.proofs.flat_table.FlatTable.build.Goals as goal
 
-pub spread-requires : goal.spread-requires
-spread-requires c = record {
-  short = short_children c.args.tables.now c.in_ok-scaled_lists.field-0 c.rows-rows.ensures.coherent
-      (c.in_ok-scaled_lists.ensures ∙ scaled c.in_ok-children.children.items ∙ ap (map (map (λ n. 256 * n))) (c.in_ok-children.ensures ∙ written_children c.rows-rows.result.now.items ∙ ap (map (λ (k : KindTables). k.children)) c.rows-rows.ensures.lists));
-}
+pub kind_cells-requires-clause-few : goal.kind_cells-requires-clause-few
+kind_cells-requires-clause-few c = omega (arith, c.rows-rows.ensures.coherent.at_most_16_kinds, ap (λ (l : List KindTables). length l) c.rows-rows.ensures.lists, length-map c.rows-rows.result.now.items as_kind_tables)
+
+pub kind_cells-requires-clause-short : goal.kind_cells-requires-clause-short
+kind_cells-requires-clause-short c = short_children c.args.tables.now c.rows-rows.result.now.items c.rows-rows.ensures.coherent c.rows-rows.ensures.lists
 
 pub merge-requires : goal.merge-requires
 merge-requires c =
@@ -27,41 +29,21 @@ merge-requires-2 c =
 pub invariant_of-result : goal.invariant_of-result
 invariant_of-result c =
     let t = c.args.tables.now in
+    let coherent = c.rows-rows.ensures.coherent in
     let contacts_are = written_contacts c.rows-rows.result.now.items ∙ ap (map (λ (k : KindTables). map contact_words k.contacts)) c.rows-rows.ensures.lists in
     let parts_are = written_parts c.rows-rows.result.now.items ∙ ap (map (λ (k : KindTables). map part_words k.parts)) c.rows-rows.ensures.lists in
-    let children_are = c.in_ok-children.ensures ∙ written_children c.rows-rows.result.now.items ∙ ap (map (λ (k : KindTables). k.children)) c.rows-rows.ensures.lists in
-    let types_are = c.in_ok-types.ensures ∙ written_types c.rows-rows.result.now.items ∙ ap (map (λ (k : KindTables). k.types)) c.rows-rows.ensures.lists in
     let contacts = subst (λ rows. IsMerged rows c.in_ok-contacts.contacts.starts.items c.in_ok-contacts.contacts.words.items c.in_ok-contacts.contacts.count) contacts_are c.in_ok-contacts.ensures in
     let parts = subst (λ rows. IsMerged rows c.in_ok-parts.parts.starts.items c.in_ok-parts.parts.words.items c.in_ok-parts.parts.count) parts_are c.in_ok-parts.ensures in
     let kinds : AreSpread (kind_rows t) c.in_ok-child_kinds.child_kinds.items =
-    subst (λ rows. AreSpread rows c.in_ok-child_kinds.child_kinds.items) (c.in_ok-scaled_lists.ensures ∙ scaled c.in_ok-children.children.items ∙ ap (map (map (λ n. 256 * n))) children_are) c.in_ok-child_kinds.ensures in
-    let f = lists_in c.in_ok-copied.field-0 c.in_ok-copied_lists.field-0 c.in_ok-types.field-0 c.in_ok-children.children c.in_ok-contacts.contacts c.in_ok-parts.parts in
-    let held : Holds t f c.in_ok-contacts.contacts.count c.in_ok-parts.parts.count = record {
-      coherent = c.rows-rows.ensures.coherent;
-      mates = c.in_ok-copied.ensures ∙ c.mates.ensures;
-      subs = c.in_ok-copied_lists.ensures ∙ c.subs.ensures;
-      types = types_are;
-      children = children_are;
-      contacts = contacts;
-      parts = parts;
-    } in
-    subst (λ (u : Tables). IsFlat u c.in_ok-child_kinds.child_kinds c.in_ok-contacts.contacts c.in_ok-parts.parts) (sym (flat_is t f c.in_ok-contacts.contacts.count c.in_ok-parts.parts.count held))
-    (record { coherent = c.rows-rows.ensures.coherent; kinds_at = kinds; contacts_at = contacts; parts_at = parts })
+    subst (λ rows. AreSpread rows c.in_ok-child_kinds.child_kinds.items) (written_kinds c.rows-rows.result.now.items ∙ ap (λ (ks : List KindTables). map (λ (k : KindTables). map (λ n. 256 * n) k.children) ks) c.rows-rows.ensures.lists ∙ sym (scaled t.kinds)) c.in_ok-child_kinds.ensures in
+    let view = made t c.in_ok-lists.lists c.in_ok-contacts.contacts c.in_ok-parts.parts coherent c.in_ok-lists.ensures contacts parts in
+    subst (λ (u : Tables). IsFlat u c.in_ok-lists.lists c.in_ok-child_kinds.child_kinds c.in_ok-contacts.contacts c.in_ok-parts.parts) (sym view)
+    (record { coherent = coherent; lists_at = c.in_ok-lists.ensures; kinds_at = kinds; contacts_at = contacts; parts_at = parts })
 
 pub returns-clause-tables : goal.returns-clause-tables
 returns-clause-tables c =
-    let t = c.args.tables.now in
     let contacts_are = written_contacts c.rows-rows.result.now.items ∙ ap (map (λ (k : KindTables). map contact_words k.contacts)) c.rows-rows.ensures.lists in
     let parts_are = written_parts c.rows-rows.result.now.items ∙ ap (map (λ (k : KindTables). map part_words k.parts)) c.rows-rows.ensures.lists in
-    let children_are = c.in_ok-children.ensures ∙ written_children c.rows-rows.result.now.items ∙ ap (map (λ (k : KindTables). k.children)) c.rows-rows.ensures.lists in
-    let types_are = c.in_ok-types.ensures ∙ written_types c.rows-rows.result.now.items ∙ ap (map (λ (k : KindTables). k.types)) c.rows-rows.ensures.lists in
-    let f = lists_in c.in_ok-copied.field-0 c.in_ok-copied_lists.field-0 c.in_ok-types.field-0 c.in_ok-children.children c.in_ok-contacts.contacts c.in_ok-parts.parts in
-    flat_is t f c.in_ok-contacts.contacts.count c.in_ok-parts.parts.count (record {
-      coherent = c.rows-rows.ensures.coherent;
-      mates = c.in_ok-copied.ensures ∙ c.mates.ensures;
-      subs = c.in_ok-copied_lists.ensures ∙ c.subs.ensures;
-      types = types_are;
-      children = children_are;
-      contacts = subst (λ rows. IsMerged rows c.in_ok-contacts.contacts.starts.items c.in_ok-contacts.contacts.words.items c.in_ok-contacts.contacts.count) contacts_are c.in_ok-contacts.ensures;
-      parts = subst (λ rows. IsMerged rows c.in_ok-parts.parts.starts.items c.in_ok-parts.parts.words.items c.in_ok-parts.parts.count) parts_are c.in_ok-parts.ensures;
-    })
+    made c.args.tables.now c.in_ok-lists.lists c.in_ok-contacts.contacts c.in_ok-parts.parts c.rows-rows.ensures.coherent c.in_ok-lists.ensures
+    (subst (λ rows. IsMerged rows c.in_ok-contacts.contacts.starts.items c.in_ok-contacts.contacts.words.items c.in_ok-contacts.contacts.count) contacts_are c.in_ok-contacts.ensures)
+    (subst (λ rows. IsMerged rows c.in_ok-parts.parts.starts.items c.in_ok-parts.parts.words.items c.in_ok-parts.parts.count) parts_are c.in_ok-parts.ensures)

@@ -6,5 +6,5 @@ use Rattle.transducer_core.proofs.flat_table.FlatTable.contact_blocks.Goals as g
 
 pub returns : goal.returns
 returns c =
-    let flat = subst (λ (t : Tables). IsFlat t c.self.inside.child_kinds c.self.inside.contacts c.self.inside.parts) c.self.view_is c.self.invariant in
+    let flat = subst (λ (t : Tables). IsFlat t c.self.inside.lists c.self.inside.child_kinds c.self.inside.contacts c.self.inside.parts) c.self.view_is c.self.invariant in
     different_contacts c.args.self.now c.self.inside.contacts.starts.items c.self.inside.contacts.words.items c.self.inside.contacts.count flat.coherent flat.contacts_at

@@ -1,39 +1,77 @@
-use Rattle.std.proofs.Common.{subst, sym, ap, IsSome, arith}
-use Rattle.std.proofs.lemmas.List.{length-map}
-use Rattle.addressing.specs.Tables.{Tables, type_of, part_count}
-use Rattle.transducer_core.specs.FlatTables.{lists_in}
-use Rattle.transducer_core.specs.Merging.{as_lists}
-use Rattle.transducer_core.proofs.FlatMade.{counted, count_read}
+use Rattle.std.proofs.Common.{◌+◌, List, ℕ, Some, get_or, subst, sym, ap, ◌∙◌, arith}
+use Rattle.addressing.specs.Tables.{Tables}
+use Rattle.transducer_core.specs.Flat.{lists_of}
+use Rattle.transducer_core.specs.FlatTables.{IsFlat}
+use Rattle.transducer_core.specs.Merging.{AreKept}
+use Rattle.transducer_core.proofs.Joining.{count_read}
+use Rattle.transducer_core.proofs.Standing.{read_at}
 use Rattle.transducer_core.proofs.flat_table.FlatTable.part_count.Goals as goal
 
-pub index-types-requires : goal.index-types-requires
-index-types-requires c =
-    let f = lists_in c.self.inside.mates c.self.inside.subs c.self.inside.types c.self.inside.children c.self.inside.contacts c.self.inside.parts in
-    let n = counted f c.args.kind c.args.edge c.self.invariant.coherent (subst (λ (t : Tables). IsSome (type_of t c.args.kind c.args.edge)) (sym c.self.view_is) c.requires.exists) in
-    omega (arith, n.kind_inside, length-map c.self.inside.types.items (λ v. v.items))
+pub bounds-ends-types : goal.bounds-ends-types
+bounds-ends-types c =
+    let flat = subst (λ (t : Tables). IsFlat t c.self.inside.lists c.self.inside.child_kinds c.self.inside.contacts c.self.inside.parts) c.self.view_is c.self.invariant in
+    let lists : AreKept (lists_of c.args.self.now) c.self.inside.lists.items.items c.as_slice-ends.result.now =
+    subst (λ (l : List ℕ). AreKept (lists_of c.args.self.now) c.self.inside.lists.items.items l) (sym c.as_slice-ends.ensures.value) flat.lists_at in
+    let r = count_read c.args.self.now c.self.inside.lists.items.items c.as_slice-ends.result.now c.args.kind c.args.edge flat.coherent lists c.requires.exists in
+    omega (arith, r.number, c.from.ensures)
 
-pub index-ty-requires : goal.index-ty-requires
-index-ty-requires c =
-    let f = lists_in c.self.inside.mates c.self.inside.subs c.self.inside.types c.self.inside.children c.self.inside.contacts c.self.inside.parts in
-    let n = counted f c.args.kind c.args.edge c.self.invariant.coherent (subst (λ (t : Tables). IsSome (type_of t c.args.kind c.args.edge)) (sym c.self.view_is) c.requires.exists) in
-    omega (arith, (count_read f c.self.inside.types c.self.inside.subs c.args.kind c.args.edge c.index-types.result.now (λ i. as_lists c.self.inside.types) (λ i. as_lists c.self.inside.subs) n c.index-types.ensures).edge)
+pub overflow_add-begin-2 : goal.overflow_add-begin-2
+overflow_add-begin-2 c =
+    let flat = subst (λ (t : Tables). IsFlat t c.self.inside.lists c.self.inside.child_kinds c.self.inside.contacts c.self.inside.parts) c.self.view_is c.self.invariant in
+    let lists : AreKept (lists_of c.args.self.now) c.self.inside.lists.items.items c.as_slice-ends.result.now =
+    subst (λ (l : List ℕ). AreKept (lists_of c.args.self.now) c.self.inside.lists.items.items l) (sym c.as_slice-ends.ensures.value) flat.lists_at in
+    let r = count_read c.args.self.now c.self.inside.lists.items.items c.as_slice-ends.result.now c.args.kind c.args.edge flat.coherent lists c.requires.exists in
+    rw (c.from.ensures, c.from-2.ensures) (omega (arith, r.place, c.self.inside.lists.items.ok, c.self.inside.lists.items.small))
 
 pub index-requires : goal.index-requires
 index-requires c =
-    let f = lists_in c.self.inside.mates c.self.inside.subs c.self.inside.types c.self.inside.children c.self.inside.contacts c.self.inside.parts in
-    let n = counted f c.args.kind c.args.edge c.self.invariant.coherent (subst (λ (t : Tables). IsSome (type_of t c.args.kind c.args.edge)) (sym c.self.view_is) c.requires.exists) in
-    omega (arith, (count_read f c.self.inside.types c.self.inside.subs c.args.kind c.args.edge c.index-types.result.now (λ i. as_lists c.self.inside.types) (λ i. as_lists c.self.inside.subs) n c.index-types.ensures).type_inside c.index-ty.result.now c.index-ty.ensures)
+    let flat = subst (λ (t : Tables). IsFlat t c.self.inside.lists c.self.inside.child_kinds c.self.inside.contacts c.self.inside.parts) c.self.view_is c.self.invariant in
+    let lists : AreKept (lists_of c.args.self.now) c.self.inside.lists.items.items c.as_slice-ends.result.now =
+    subst (λ (l : List ℕ). AreKept (lists_of c.args.self.now) c.self.inside.lists.items.items l) (sym c.as_slice-ends.ensures.value) flat.lists_at in
+    let r = count_read c.args.self.now c.self.inside.lists.items.items c.as_slice-ends.result.now c.args.kind c.args.edge flat.coherent lists c.requires.exists in
+    rw (c.from.ensures, c.from-2.ensures) (omega (arith, r.place, c.self.inside.lists.items.ok))
+
+pub bounds-ends-ty : goal.bounds-ends-ty
+bounds-ends-ty c =
+    let flat = subst (λ (t : Tables). IsFlat t c.self.inside.lists c.self.inside.child_kinds c.self.inside.contacts c.self.inside.parts) c.self.view_is c.self.invariant in
+    let lists : AreKept (lists_of c.args.self.now) c.self.inside.lists.items.items c.as_slice-ends.result.now =
+    subst (λ (l : List ℕ). AreKept (lists_of c.args.self.now) c.self.inside.lists.items.items l) (sym c.as_slice-ends.ensures.value) flat.lists_at in
+    let r = count_read c.args.self.now c.self.inside.lists.items.items c.as_slice-ends.result.now c.args.kind c.args.edge flat.coherent lists c.requires.exists in
+    let read = read_at c.self.inside.lists.items.items (get_or c.as_slice-ends.result.now (get_or c.as_slice-ends.result.now 0 0 + c.args.kind) 0 + c.args.edge) c.index.result.now r.place (rw (c.from.ensures, c.from-2.ensures) at c.index.ensures) ∙ ap Some (sym c.from-ty.ensures) in
+    omega (arith, r.type_in c.from-ty.result read)
+
+pub bounds-ends-ty-2 : goal.bounds-ends-ty-2
+bounds-ends-ty-2 c =
+    let flat = subst (λ (t : Tables). IsFlat t c.self.inside.lists c.self.inside.child_kinds c.self.inside.contacts c.self.inside.parts) c.self.view_is c.self.invariant in
+    let lists : AreKept (lists_of c.args.self.now) c.self.inside.lists.items.items c.as_slice-ends.result.now =
+    subst (λ (l : List ℕ). AreKept (lists_of c.args.self.now) c.self.inside.lists.items.items l) (sym c.as_slice-ends.ensures.value) flat.lists_at in
+    let r = count_read c.args.self.now c.self.inside.lists.items.items c.as_slice-ends.result.now c.args.kind c.args.edge flat.coherent lists c.requires.exists in
+    let read = read_at c.self.inside.lists.items.items (get_or c.as_slice-ends.result.now (get_or c.as_slice-ends.result.now 0 0 + c.args.kind) 0 + c.args.edge) c.index.result.now r.place (rw (c.from.ensures, c.from-2.ensures) at c.index.ensures) ∙ ap Some (sym c.from-ty.ensures) in
+    r.type_in c.from-ty.result read
+
+pub overflow_sub-result : goal.overflow_sub-result
+overflow_sub-result c =
+    let flat = subst (λ (t : Tables). IsFlat t c.self.inside.lists c.self.inside.child_kinds c.self.inside.contacts c.self.inside.parts) c.self.view_is c.self.invariant in
+    let lists : AreKept (lists_of c.args.self.now) c.self.inside.lists.items.items c.as_slice-ends.result.now =
+    subst (λ (l : List ℕ). AreKept (lists_of c.args.self.now) c.self.inside.lists.items.items l) (sym c.as_slice-ends.ensures.value) flat.lists_at in
+    let r = count_read c.args.self.now c.self.inside.lists.items.items c.as_slice-ends.result.now c.args.kind c.args.edge flat.coherent lists c.requires.exists in
+    let read = read_at c.self.inside.lists.items.items (get_or c.as_slice-ends.result.now (get_or c.as_slice-ends.result.now 0 0 + c.args.kind) 0 + c.args.edge) c.index.result.now r.place (rw (c.from.ensures, c.from-2.ensures) at c.index.ensures) ∙ ap Some (sym c.from-ty.ensures) in
+    omega (arith, r.count c.from-ty.result read)
 
 pub overflow_cast-result : goal.overflow_cast-result
 overflow_cast-result c =
-    let f = lists_in c.self.inside.mates c.self.inside.subs c.self.inside.types c.self.inside.children c.self.inside.contacts c.self.inside.parts in
-    let n = counted f c.args.kind c.args.edge c.self.invariant.coherent (subst (λ (t : Tables). IsSome (type_of t c.args.kind c.args.edge)) (sym c.self.view_is) c.requires.exists) in
-    let r = count_read f c.self.inside.types c.self.inside.subs c.args.kind c.args.edge c.index-types.result.now (λ i. as_lists c.self.inside.types) (λ i. as_lists c.self.inside.subs) n c.index-types.ensures in
-    omega (arith, r.count c.index-ty.result.now c.index-ty.ensures c.index.result.now c.index.ensures, n.few, n.count, c.len.ensures)
+    let flat = subst (λ (t : Tables). IsFlat t c.self.inside.lists c.self.inside.child_kinds c.self.inside.contacts c.self.inside.parts) c.self.view_is c.self.invariant in
+    let lists : AreKept (lists_of c.args.self.now) c.self.inside.lists.items.items c.as_slice-ends.result.now =
+    subst (λ (l : List ℕ). AreKept (lists_of c.args.self.now) c.self.inside.lists.items.items l) (sym c.as_slice-ends.ensures.value) flat.lists_at in
+    let r = count_read c.args.self.now c.self.inside.lists.items.items c.as_slice-ends.result.now c.args.kind c.args.edge flat.coherent lists c.requires.exists in
+    let read = read_at c.self.inside.lists.items.items (get_or c.as_slice-ends.result.now (get_or c.as_slice-ends.result.now 0 0 + c.args.kind) 0 + c.args.edge) c.index.result.now r.place (rw (c.from.ensures, c.from-2.ensures) at c.index.ensures) ∙ ap Some (sym c.from-ty.ensures) in
+    omega (arith, r.count c.from-ty.result read, r.few)
 
 pub returns : goal.returns
 returns c =
-    let f = lists_in c.self.inside.mates c.self.inside.subs c.self.inside.types c.self.inside.children c.self.inside.contacts c.self.inside.parts in
-    let n = counted f c.args.kind c.args.edge c.self.invariant.coherent (subst (λ (t : Tables). IsSome (type_of t c.args.kind c.args.edge)) (sym c.self.view_is) c.requires.exists) in
-    let r = count_read f c.self.inside.types c.self.inside.subs c.args.kind c.args.edge c.index-types.result.now (λ i. as_lists c.self.inside.types) (λ i. as_lists c.self.inside.subs) n c.index-types.ensures in
-    omega (arith, c.len.ensures, r.count c.index-ty.result.now c.index-ty.ensures c.index.result.now c.index.ensures, ap (λ (t : Tables). part_count t c.args.kind c.args.edge) c.self.view_is)
+    let flat = subst (λ (t : Tables). IsFlat t c.self.inside.lists c.self.inside.child_kinds c.self.inside.contacts c.self.inside.parts) c.self.view_is c.self.invariant in
+    let lists : AreKept (lists_of c.args.self.now) c.self.inside.lists.items.items c.as_slice-ends.result.now =
+    subst (λ (l : List ℕ). AreKept (lists_of c.args.self.now) c.self.inside.lists.items.items l) (sym c.as_slice-ends.ensures.value) flat.lists_at in
+    let r = count_read c.args.self.now c.self.inside.lists.items.items c.as_slice-ends.result.now c.args.kind c.args.edge flat.coherent lists c.requires.exists in
+    let read = read_at c.self.inside.lists.items.items (get_or c.as_slice-ends.result.now (get_or c.as_slice-ends.result.now 0 0 + c.args.kind) 0 + c.args.edge) c.index.result.now r.place (rw (c.from.ensures, c.from-2.ensures) at c.index.ensures) ∙ ap Some (sym c.from-ty.ensures) in
+    omega (arith, r.count c.from-ty.result read)

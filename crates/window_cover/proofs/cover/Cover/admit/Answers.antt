@@ -13,6 +13,7 @@ use Rattle.window_cover.specs.Admitted.{IsNotAdmitted, found_as}
 use Rattle.window_cover.specs.Found.{CoverValue}
 use Rattle.window_cover.specs.Kept.{IsKept}
 use Rattle.window_cover.specs.NewEdges.{AreNew, left_open, opened}
+use Rattle.window_cover.specs.Outlines.{AreOutlines}
 use Rattle.window_cover.proofs.Outcomes.{on_ok-err, if_err-no_memory}
 use Rattle.window_cover.proofs.Keeping.{kept-more, kept-one_more, found-one_more}
 use Rattle.window_cover.proofs.cover.Cover.admit.Goals as goal
@@ -54,17 +55,20 @@ as_slice-requires-2 c = search rules
 pub overflow_cast-number : goal.overflow_cast-number
 overflow_cast-number c = search rules
 
-pub corners_of-corners-requires-clause-exists : goal.corners_of-corners-requires-clause-exists
-corners_of-corners-requires-clause-exists c = c.requires.exists
+pub put_corners-requires-clause-right : goal.put_corners-requires-clause-right
+put_corners-requires-clause-right c = subst (λ (v : CoverValue). AreOutlines (tiling_of c.args.machine.now) v.outlines) (sym c.self.view_is) c.requires.outlines
 
-pub corners_of-corners-requires-clause-turn_below : goal.corners_of-corners-requires-clause-turn_below
-corners_of-corners-requires-clause-turn_below c = c.requires.turn_below
+pub put_corners-requires-clause-exists : goal.put_corners-requires-clause-exists
+put_corners-requires-clause-exists c = c.requires.exists
 
-pub corners_of-corners-requires-clause-shift_within : goal.corners_of-corners-requires-clause-shift_within
-corners_of-corners-requires-clause-shift_within c = c.refused.ensures.within c.if-refused.false
+pub put_corners-requires-clause-turn_below : goal.put_corners-requires-clause-turn_below
+put_corners-requires-clause-turn_below c = c.requires.turn_below
 
-pub corners_of-corners-requires-clause-in_order : goal.corners_of-corners-requires-clause-in_order
-corners_of-corners-requires-clause-in_order c = c.requires.in_order
+pub put_corners-requires-clause-shift_within : goal.put_corners-requires-clause-shift_within
+put_corners-requires-clause-shift_within c = c.refused.ensures.within c.if-refused.false
+
+pub put_corners-requires-clause-in_order : goal.put_corners-requires-clause-in_order
+put_corners-requires-clause-in_order c = c.requires.in_order
 
 pub invariant_of-self : goal.invariant_of-self
 invariant_of-self c = subst (λ ds. IsKept ds c.self.inside.found.items c.self.inside.border) (sym c.in_err-extend_from_slice.ensures.items) c.self.invariant
@@ -75,12 +79,12 @@ invariant_of-self-in_err-push c =
     (kept-more c.self.inside.digits.items c.extend_from_slice.new.self.items c.as_slice.result.now c.in_ok-extend_from_slice.ensures.items c.self.inside.found.items c.self.inside.border c.self.invariant)
 
 pub meet_edges-requires-clause-at_most_12 : goal.meet_edges-requires-clause-at_most_12
-meet_edges-requires-clause-at_most_12 c = subst (λ ps. length ps ≤ 12) (sym c.as_slice-2.ensures.value) c.corners_of-corners.ensures.at_most_12
+meet_edges-requires-clause-at_most_12 c = subst (λ ps. length ps ≤ 12) (sym c.as_slice-2.ensures.value) c.put_corners.ensures.at_most_12
 
 pub meet_edges-requires-clause-within : goal.meet_edges-requires-clause-within
 meet_edges-requires-clause-within c =
     subst (λ (ps : List Point). (k : ℕ) (d : Point) → k < length ps → IsWithin (2 ^ 25) (get_or ps k d)) (sym c.as_slice-2.ensures.value)
-    (λ k d h. subst (IsWithin (2 ^ 25)) (get_or_default c.corners_of-corners.result.items k origin d h) (c.corners_of-corners.ensures.corners.each k h).within)
+    (λ k d h. subst (IsWithin (2 ^ 25)) (get_or_default c.put_corners.new.corners.items k origin d h) (c.put_corners.ensures.corners.each k h).within)
 
 pub meet_edges-requires-clause-centre_within : goal.meet_edges-requires-clause-centre_within
 meet_edges-requires-clause-centre_within c =
@@ -89,7 +93,7 @@ meet_edges-requires-clause-centre_within c =
 pub meet_edges-requires-clause-new : goal.meet_edges-requires-clause-new
 meet_edges-requires-clause-new c =
     subst (λ ps. AreNew ps c.self.inside.border) (sym c.as_slice-2.ensures.value)
-    (subst (λ (v : CoverValue). AreNew c.corners_of-corners.result.items v.border) (sym c.self.view_is) (c.requires.new c.corners_of-corners.result.items c.corners_of-corners.ensures.corners))
+    (subst (λ (v : CoverValue). AreNew c.put_corners.new.corners.items v.border) (sym c.self.view_is) (c.requires.new c.put_corners.new.corners.items c.put_corners.ensures.corners))
 
 pub invariant_of-self-in_err-meet_edges : goal.invariant_of-self-in_err-meet_edges
 invariant_of-self-in_err-meet_edges c =
@@ -127,19 +131,20 @@ returns-clause-admitted c =
     let more = c.in_ok-extend_from_slice.ensures.items ∙ ap (λ l. c.self.inside.digits.items ++ l) c.as_slice.ensures.value in
     let o = c.args.machine.now.order in
     let w = c.self.inside.window in
-    let ps = c.corners_of-corners.result.items in
+    let ps = c.put_corners.new.corners.items in
     let after = λ (v : CoverValue) (cs : List Point) (i : ℕ) (b : Order). left_open cs (length cs) v.border ++ opened b v.window i cs (length cs) v.border in
     record {
       unrefused = sym (c.refused.ensures.in_order o c.requires.in_order) ∙ c.if-refused.false;
       shift_within = c.refused.ensures.within c.if-refused.false;
       room = omega (arith, count, seen, c.if-number-ge-MOST_TILES.false);
       same_window = ap (λ (v : CoverValue). v.window) c.self.view_is;
+      same_outlines = ap (λ (v : CoverValue). v.outlines) c.self.view_is;
       found = found-one_more c.self.inside.digits.items c.extend_from_slice.new.self.items own more tile first c.depth.ensures.digits c.depth.ensures.at_most_64 c.self.inside.found.items c.push.new.self.items c.in_ok-push.ensures.items c.self.invariant.spans
           ∙ ap (λ (v : CoverValue). v.found ++ found_as c.args.tile.now ∷ []) c.self.view_is;
       corners = ps;
-      are_corners = c.corners_of-corners.ensures.corners;
+      are_corners = c.put_corners.ensures.corners;
       border = c.in_ok-meet_edges.ensures.met
-          ∙ ap₂ (λ cs b. after (record { window = w; found = []; border = c.self.inside.border }) cs c.len-number.result b) c.as_slice-2.ensures.value (c.order-order.ensures.order ∙ ap (λ (r : Rule). r.order) c.checked.ensures.rule)
-          ∙ ap (λ i. after (record { window = w; found = []; border = c.self.inside.border }) ps i o) (count ∙ sym seen)
+          ∙ ap₂ (λ cs b. after (record { window = w; found = []; border = c.self.inside.border; outlines = [] }) cs c.len-number.result b) c.as_slice-2.ensures.value (c.order-order.ensures.order ∙ ap (λ (r : Rule). r.order) c.checked.ensures.rule)
+          ∙ ap (λ i. after (record { window = w; found = []; border = c.self.inside.border; outlines = [] }) ps i o) (count ∙ sym seen)
           ∙ ap (λ (v : CoverValue). after v ps (length c.args.self.now.found) o) c.self.view_is;
     }

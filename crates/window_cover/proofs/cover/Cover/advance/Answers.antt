@@ -48,8 +48,8 @@ tile-tile-requires g c =
     (subst AreUsable (c.uses.ensures ∙ ap (λ (r : Rule). children (tiling_of r)) c.checked-checked.ensures.rule) c.kinds-usable.ensures.limits) h in
     let L : HasSearchLaws (points_of m.order) = subst (λ o. HasSearchLaws (points_of o)) (c.order.ensures.order ∙ ap (λ (r : Rule). r.order) c.checked-checked.ensures.rule) c.search_laws.ensures in
     let inside = c.self.inside in
-    let same : ◌≡◌ {A = CoverValue} (record { window = inside.window; found = found_in inside.digits.items inside.found.items; border = c.pass.new.self }) v =
-    ap (λ (b : List Waiting). record { window = inside.window; found = found_in inside.digits.items inside.found.items; border = b }) c.pass.ensures ∙ c.self.view_is in
+    let same : ◌≡◌ {A = CoverValue} (record { window = inside.window; found = found_in inside.digits.items inside.found.items; border = c.pass.new.self; outlines = inside.outlines }) v =
+    ap (λ (b : List Waiting). record { window = inside.window; found = found_in inside.digits.items inside.found.items; border = b; outlines = inside.outlines }) c.pass.ensures ∙ c.self.view_is in
     record { found = subst (λ (y : CoverValue). c.args.first.tile < length y.found) (sym same) (tile-there m L f v c.requires.right c.args.first c.requires.is_first) }
 
 pub cross-requires-clause-frame : goal.cross-requires-clause-frame
@@ -69,8 +69,8 @@ cross-requires-clause-of_frame g c =
     (subst AreUsable (c.uses.ensures ∙ ap (λ (r : Rule). children (tiling_of r)) c.checked-checked.ensures.rule) c.kinds-usable.ensures.limits) h in
     let L : HasSearchLaws (points_of m.order) = subst (λ o. HasSearchLaws (points_of o)) (c.order.ensures.order ∙ ap (λ (r : Rule). r.order) c.checked-checked.ensures.rule) c.search_laws.ensures in
     let inside = c.self.inside in
-    let same : ◌≡◌ {A = CoverValue} (record { window = inside.window; found = found_in inside.digits.items inside.found.items; border = c.pass.new.self }) v =
-    ap (λ (b : List Waiting). record { window = inside.window; found = found_in inside.digits.items inside.found.items; border = b }) c.pass.ensures ∙ c.self.view_is in
+    let same : ◌≡◌ {A = CoverValue} (record { window = inside.window; found = found_in inside.digits.items inside.found.items; border = c.pass.new.self; outlines = inside.outlines }) v =
+    ap (λ (b : List Waiting). record { window = inside.window; found = found_in inside.digits.items inside.found.items; border = b; outlines = inside.outlines }) c.pass.ensures ∙ c.self.view_is in
     let x = found_as c.tile-tile.result in
     let at : slice_get v.found c.args.first.tile ≡ Some x = subst (λ (y : CoverValue). slice_get y.found c.args.first.tile ≡ Some x) same c.tile-tile.ensures.as_found in
     let it = its_found m settled fits L f c.requires.right.frame v c.requires.right c.args.first.tile x at in
@@ -88,8 +88,8 @@ cross-requires-clause-edge_exists g c =
     (subst AreUsable (c.uses.ensures ∙ ap (λ (r : Rule). children (tiling_of r)) c.checked-checked.ensures.rule) c.kinds-usable.ensures.limits) h in
     let L : HasSearchLaws (points_of m.order) = subst (λ o. HasSearchLaws (points_of o)) (c.order.ensures.order ∙ ap (λ (r : Rule). r.order) c.checked-checked.ensures.rule) c.search_laws.ensures in
     let inside = c.self.inside in
-    let same : ◌≡◌ {A = CoverValue} (record { window = inside.window; found = found_in inside.digits.items inside.found.items; border = c.pass.new.self }) v =
-    ap (λ (b : List Waiting). record { window = inside.window; found = found_in inside.digits.items inside.found.items; border = b }) c.pass.ensures ∙ c.self.view_is in
+    let same : ◌≡◌ {A = CoverValue} (record { window = inside.window; found = found_in inside.digits.items inside.found.items; border = c.pass.new.self; outlines = inside.outlines }) v =
+    ap (λ (b : List Waiting). record { window = inside.window; found = found_in inside.digits.items inside.found.items; border = b; outlines = inside.outlines }) c.pass.ensures ∙ c.self.view_is in
     let x = found_as c.tile-tile.result in
     let at : slice_get v.found c.args.first.tile ≡ Some x = subst (λ (y : CoverValue). slice_get y.found c.args.first.tile ≡ Some x) same c.tile-tile.ensures.as_found in
     let it = its_found m settled fits L f c.requires.right.frame v c.requires.right c.args.first.tile x at in
@@ -107,8 +107,8 @@ cross-requires-clause-turn_below g c =
     (subst AreUsable (c.uses.ensures ∙ ap (λ (r : Rule). children (tiling_of r)) c.checked-checked.ensures.rule) c.kinds-usable.ensures.limits) h in
     let L : HasSearchLaws (points_of m.order) = subst (λ o. HasSearchLaws (points_of o)) (c.order.ensures.order ∙ ap (λ (r : Rule). r.order) c.checked-checked.ensures.rule) c.search_laws.ensures in
     let inside = c.self.inside in
-    let same : ◌≡◌ {A = CoverValue} (record { window = inside.window; found = found_in inside.digits.items inside.found.items; border = c.pass.new.self }) v =
-    ap (λ (b : List Waiting). record { window = inside.window; found = found_in inside.digits.items inside.found.items; border = b }) c.pass.ensures ∙ c.self.view_is in
+    let same : ◌≡◌ {A = CoverValue} (record { window = inside.window; found = found_in inside.digits.items inside.found.items; border = c.pass.new.self; outlines = inside.outlines }) v =
+    ap (λ (b : List Waiting). record { window = inside.window; found = found_in inside.digits.items inside.found.items; border = b; outlines = inside.outlines }) c.pass.ensures ∙ c.self.view_is in
     let x = found_as c.tile-tile.result in
     let at : slice_get v.found c.args.first.tile ≡ Some x = subst (λ (y : CoverValue). slice_get y.found c.args.first.tile ≡ Some x) same c.tile-tile.ensures.as_found in
     let it = its_found m settled fits L f c.requires.right.frame v c.requires.right c.args.first.tile x at in
@@ -126,8 +126,8 @@ cross-requires-clause-shift_within g c =
     (subst AreUsable (c.uses.ensures ∙ ap (λ (r : Rule). children (tiling_of r)) c.checked-checked.ensures.rule) c.kinds-usable.ensures.limits) h in
     let L : HasSearchLaws (points_of m.order) = subst (λ o. HasSearchLaws (points_of o)) (c.order.ensures.order ∙ ap (λ (r : Rule). r.order) c.checked-checked.ensures.rule) c.search_laws.ensures in
     let inside = c.self.inside in
-    let same : ◌≡◌ {A = CoverValue} (record { window = inside.window; found = found_in inside.digits.items inside.found.items; border = c.pass.new.self }) v =
-    ap (λ (b : List Waiting). record { window = inside.window; found = found_in inside.digits.items inside.found.items; border = b }) c.pass.ensures ∙ c.self.view_is in
+    let same : ◌≡◌ {A = CoverValue} (record { window = inside.window; found = found_in inside.digits.items inside.found.items; border = c.pass.new.self; outlines = inside.outlines }) v =
+    ap (λ (b : List Waiting). record { window = inside.window; found = found_in inside.digits.items inside.found.items; border = b; outlines = inside.outlines }) c.pass.ensures ∙ c.self.view_is in
     let x = found_as c.tile-tile.result in
     let at : slice_get v.found c.args.first.tile ≡ Some x = subst (λ (y : CoverValue). slice_get y.found c.args.first.tile ≡ Some x) same c.tile-tile.ensures.as_found in
     let it = its_found m settled fits L f c.requires.right.frame v c.requires.right c.args.first.tile x at in
@@ -145,8 +145,8 @@ cross-requires-clause-in_order g c =
     (subst AreUsable (c.uses.ensures ∙ ap (λ (r : Rule). children (tiling_of r)) c.checked-checked.ensures.rule) c.kinds-usable.ensures.limits) h in
     let L : HasSearchLaws (points_of m.order) = subst (λ o. HasSearchLaws (points_of o)) (c.order.ensures.order ∙ ap (λ (r : Rule). r.order) c.checked-checked.ensures.rule) c.search_laws.ensures in
     let inside = c.self.inside in
-    let same : ◌≡◌ {A = CoverValue} (record { window = inside.window; found = found_in inside.digits.items inside.found.items; border = c.pass.new.self }) v =
-    ap (λ (b : List Waiting). record { window = inside.window; found = found_in inside.digits.items inside.found.items; border = b }) c.pass.ensures ∙ c.self.view_is in
+    let same : ◌≡◌ {A = CoverValue} (record { window = inside.window; found = found_in inside.digits.items inside.found.items; border = c.pass.new.self; outlines = inside.outlines }) v =
+    ap (λ (b : List Waiting). record { window = inside.window; found = found_in inside.digits.items inside.found.items; border = b; outlines = inside.outlines }) c.pass.ensures ∙ c.self.view_is in
     let x = found_as c.tile-tile.result in
     let at : slice_get v.found c.args.first.tile ≡ Some x = subst (λ (y : CoverValue). slice_get y.found c.args.first.tile ≡ Some x) same c.tile-tile.ensures.as_found in
     let it = its_found m settled fits L f c.requires.right.frame v c.requires.right c.args.first.tile x at in
@@ -164,8 +164,8 @@ admit-requires-clause-exists g c =
     (subst AreUsable (c.uses.ensures ∙ ap (λ (r : Rule). children (tiling_of r)) c.checked-checked.ensures.rule) c.kinds-usable.ensures.limits) h in
     let L : HasSearchLaws (points_of m.order) = subst (λ o. HasSearchLaws (points_of o)) (c.order.ensures.order ∙ ap (λ (r : Rule). r.order) c.checked-checked.ensures.rule) c.search_laws.ensures in
     let inside = c.self.inside in
-    let same : ◌≡◌ {A = CoverValue} (record { window = inside.window; found = found_in inside.digits.items inside.found.items; border = c.pass.new.self }) v =
-    ap (λ (b : List Waiting). record { window = inside.window; found = found_in inside.digits.items inside.found.items; border = b }) c.pass.ensures ∙ c.self.view_is in
+    let same : ◌≡◌ {A = CoverValue} (record { window = inside.window; found = found_in inside.digits.items inside.found.items; border = c.pass.new.self; outlines = inside.outlines }) v =
+    ap (λ (b : List Waiting). record { window = inside.window; found = found_in inside.digits.items inside.found.items; border = b; outlines = inside.outlines }) c.pass.ensures ∙ c.self.view_is in
     let x = found_as c.tile-tile.result in
     let at : slice_get v.found c.args.first.tile ≡ Some x = subst (λ (y : CoverValue). slice_get y.found c.args.first.tile ≡ Some x) same c.tile-tile.ensures.as_found in
     let it = its_found m settled fits L f c.requires.right.frame v c.requires.right c.args.first.tile x at in
@@ -196,8 +196,8 @@ admit-requires-clause-new g c =
     (subst AreUsable (c.uses.ensures ∙ ap (λ (r : Rule). children (tiling_of r)) c.checked-checked.ensures.rule) c.kinds-usable.ensures.limits) h in
     let L : HasSearchLaws (points_of m.order) = subst (λ o. HasSearchLaws (points_of o)) (c.order.ensures.order ∙ ap (λ (r : Rule). r.order) c.checked-checked.ensures.rule) c.search_laws.ensures in
     let inside = c.self.inside in
-    let same : ◌≡◌ {A = CoverValue} (record { window = inside.window; found = found_in inside.digits.items inside.found.items; border = c.pass.new.self }) v =
-    ap (λ (b : List Waiting). record { window = inside.window; found = found_in inside.digits.items inside.found.items; border = b }) c.pass.ensures ∙ c.self.view_is in
+    let same : ◌≡◌ {A = CoverValue} (record { window = inside.window; found = found_in inside.digits.items inside.found.items; border = c.pass.new.self; outlines = inside.outlines }) v =
+    ap (λ (b : List Waiting). record { window = inside.window; found = found_in inside.digits.items inside.found.items; border = b; outlines = inside.outlines }) c.pass.ensures ∙ c.self.view_is in
     let x = found_as c.tile-tile.result in
     let at : slice_get v.found c.args.first.tile ≡ Some x = subst (λ (y : CoverValue). slice_get y.found c.args.first.tile ≡ Some x) same c.tile-tile.ensures.as_found in
     let it = its_found m settled fits L f c.requires.right.frame v c.requires.right c.args.first.tile x at in
@@ -222,8 +222,8 @@ returns-in-Ok-clause-steps_to g c =
     (subst AreUsable (c.uses.ensures ∙ ap (λ (r : Rule). children (tiling_of r)) c.checked-checked.ensures.rule) c.kinds-usable.ensures.limits) h in
     let L : HasSearchLaws (points_of m.order) = subst (λ o. HasSearchLaws (points_of o)) (c.order.ensures.order ∙ ap (λ (r : Rule). r.order) c.checked-checked.ensures.rule) c.search_laws.ensures in
     let inside = c.self.inside in
-    let same : ◌≡◌ {A = CoverValue} (record { window = inside.window; found = found_in inside.digits.items inside.found.items; border = c.pass.new.self }) v =
-    ap (λ (b : List Waiting). record { window = inside.window; found = found_in inside.digits.items inside.found.items; border = b }) c.pass.ensures ∙ c.self.view_is in
+    let same : ◌≡◌ {A = CoverValue} (record { window = inside.window; found = found_in inside.digits.items inside.found.items; border = c.pass.new.self; outlines = inside.outlines }) v =
+    ap (λ (b : List Waiting). record { window = inside.window; found = found_in inside.digits.items inside.found.items; border = b; outlines = inside.outlines }) c.pass.ensures ∙ c.self.view_is in
     let x = found_as c.tile-tile.result in
     let at : slice_get v.found c.args.first.tile ≡ Some x = subst (λ (y : CoverValue). slice_get y.found c.args.first.tile ≡ Some x) same c.tile-tile.ensures.as_found in
     let it = its_found m settled fits L f c.requires.right.frame v c.requires.right c.args.first.tile x at in
@@ -246,8 +246,8 @@ returns-in-Ok-clause-right g c =
     (subst AreUsable (c.uses.ensures ∙ ap (λ (r : Rule). children (tiling_of r)) c.checked-checked.ensures.rule) c.kinds-usable.ensures.limits) h in
     let L : HasSearchLaws (points_of m.order) = subst (λ o. HasSearchLaws (points_of o)) (c.order.ensures.order ∙ ap (λ (r : Rule). r.order) c.checked-checked.ensures.rule) c.search_laws.ensures in
     let inside = c.self.inside in
-    let same : ◌≡◌ {A = CoverValue} (record { window = inside.window; found = found_in inside.digits.items inside.found.items; border = c.pass.new.self }) v =
-    ap (λ (b : List Waiting). record { window = inside.window; found = found_in inside.digits.items inside.found.items; border = b }) c.pass.ensures ∙ c.self.view_is in
+    let same : ◌≡◌ {A = CoverValue} (record { window = inside.window; found = found_in inside.digits.items inside.found.items; border = c.pass.new.self; outlines = inside.outlines }) v =
+    ap (λ (b : List Waiting). record { window = inside.window; found = found_in inside.digits.items inside.found.items; border = b; outlines = inside.outlines }) c.pass.ensures ∙ c.self.view_is in
     let x = found_as c.tile-tile.result in
     let at : slice_get v.found c.args.first.tile ≡ Some x = subst (λ (y : CoverValue). slice_get y.found c.args.first.tile ≡ Some x) same c.tile-tile.ensures.as_found in
     let it = its_found m settled fits L f c.requires.right.frame v c.requires.right c.args.first.tile x at in
@@ -270,8 +270,8 @@ returns-in-Ok-clause-one_more g c =
     (subst AreUsable (c.uses.ensures ∙ ap (λ (r : Rule). children (tiling_of r)) c.checked-checked.ensures.rule) c.kinds-usable.ensures.limits) h in
     let L : HasSearchLaws (points_of m.order) = subst (λ o. HasSearchLaws (points_of o)) (c.order.ensures.order ∙ ap (λ (r : Rule). r.order) c.checked-checked.ensures.rule) c.search_laws.ensures in
     let inside = c.self.inside in
-    let same : ◌≡◌ {A = CoverValue} (record { window = inside.window; found = found_in inside.digits.items inside.found.items; border = c.pass.new.self }) v =
-    ap (λ (b : List Waiting). record { window = inside.window; found = found_in inside.digits.items inside.found.items; border = b }) c.pass.ensures ∙ c.self.view_is in
+    let same : ◌≡◌ {A = CoverValue} (record { window = inside.window; found = found_in inside.digits.items inside.found.items; border = c.pass.new.self; outlines = inside.outlines }) v =
+    ap (λ (b : List Waiting). record { window = inside.window; found = found_in inside.digits.items inside.found.items; border = b; outlines = inside.outlines }) c.pass.ensures ∙ c.self.view_is in
     let x = found_as c.tile-tile.result in
     let at : slice_get v.found c.args.first.tile ≡ Some x = subst (λ (y : CoverValue). slice_get y.found c.args.first.tile ≡ Some x) same c.tile-tile.ensures.as_found in
     let it = its_found m settled fits L f c.requires.right.frame v c.requires.right c.args.first.tile x at in
@@ -294,8 +294,8 @@ returns-in-Ok-clause-not_beyond g c =
     (subst AreUsable (c.uses.ensures ∙ ap (λ (r : Rule). children (tiling_of r)) c.checked-checked.ensures.rule) c.kinds-usable.ensures.limits) h in
     let L : HasSearchLaws (points_of m.order) = subst (λ o. HasSearchLaws (points_of o)) (c.order.ensures.order ∙ ap (λ (r : Rule). r.order) c.checked-checked.ensures.rule) c.search_laws.ensures in
     let inside = c.self.inside in
-    let same : ◌≡◌ {A = CoverValue} (record { window = inside.window; found = found_in inside.digits.items inside.found.items; border = c.pass.new.self }) v =
-    ap (λ (b : List Waiting). record { window = inside.window; found = found_in inside.digits.items inside.found.items; border = b }) c.pass.ensures ∙ c.self.view_is in
+    let same : ◌≡◌ {A = CoverValue} (record { window = inside.window; found = found_in inside.digits.items inside.found.items; border = c.pass.new.self; outlines = inside.outlines }) v =
+    ap (λ (b : List Waiting). record { window = inside.window; found = found_in inside.digits.items inside.found.items; border = b; outlines = inside.outlines }) c.pass.ensures ∙ c.self.view_is in
     let x = found_as c.tile-tile.result in
     let at : slice_get v.found c.args.first.tile ≡ Some x = subst (λ (y : CoverValue). slice_get y.found c.args.first.tile ≡ Some x) same c.tile-tile.ensures.as_found in
     let it = its_found m settled fits L f c.requires.right.frame v c.requires.right c.args.first.tile x at in
@@ -317,8 +317,8 @@ returns-in-Ok-clause-within g c =
     (subst AreUsable (c.uses.ensures ∙ ap (λ (r : Rule). children (tiling_of r)) c.checked-checked.ensures.rule) c.kinds-usable.ensures.limits) h in
     let L : HasSearchLaws (points_of m.order) = subst (λ o. HasSearchLaws (points_of o)) (c.order.ensures.order ∙ ap (λ (r : Rule). r.order) c.checked-checked.ensures.rule) c.search_laws.ensures in
     let inside = c.self.inside in
-    let same : ◌≡◌ {A = CoverValue} (record { window = inside.window; found = found_in inside.digits.items inside.found.items; border = c.pass.new.self }) v =
-    ap (λ (b : List Waiting). record { window = inside.window; found = found_in inside.digits.items inside.found.items; border = b }) c.pass.ensures ∙ c.self.view_is in
+    let same : ◌≡◌ {A = CoverValue} (record { window = inside.window; found = found_in inside.digits.items inside.found.items; border = c.pass.new.self; outlines = inside.outlines }) v =
+    ap (λ (b : List Waiting). record { window = inside.window; found = found_in inside.digits.items inside.found.items; border = b; outlines = inside.outlines }) c.pass.ensures ∙ c.self.view_is in
     let x = found_as c.tile-tile.result in
     let at : slice_get v.found c.args.first.tile ≡ Some x = subst (λ (y : CoverValue). slice_get y.found c.args.first.tile ≡ Some x) same c.tile-tile.ensures.as_found in
     let it = its_found m settled fits L f c.requires.right.frame v c.requires.right c.args.first.tile x at in
@@ -341,8 +341,8 @@ returns-in-Ok-clause-cause g c =
     (subst AreUsable (c.uses.ensures ∙ ap (λ (r : Rule). children (tiling_of r)) c.checked-checked.ensures.rule) c.kinds-usable.ensures.limits) h in
     let L : HasSearchLaws (points_of m.order) = subst (λ o. HasSearchLaws (points_of o)) (c.order.ensures.order ∙ ap (λ (r : Rule). r.order) c.checked-checked.ensures.rule) c.search_laws.ensures in
     let inside = c.self.inside in
-    let same : ◌≡◌ {A = CoverValue} (record { window = inside.window; found = found_in inside.digits.items inside.found.items; border = c.pass.new.self }) v =
-    ap (λ (b : List Waiting). record { window = inside.window; found = found_in inside.digits.items inside.found.items; border = b }) c.pass.ensures ∙ c.self.view_is in
+    let same : ◌≡◌ {A = CoverValue} (record { window = inside.window; found = found_in inside.digits.items inside.found.items; border = c.pass.new.self; outlines = inside.outlines }) v =
+    ap (λ (b : List Waiting). record { window = inside.window; found = found_in inside.digits.items inside.found.items; border = b; outlines = inside.outlines }) c.pass.ensures ∙ c.self.view_is in
     let x = found_as c.tile-tile.result in
     let at : slice_get v.found c.args.first.tile ≡ Some x = subst (λ (y : CoverValue). slice_get y.found c.args.first.tile ≡ Some x) same c.tile-tile.ensures.as_found in
     let it = its_found m settled fits L f c.requires.right.frame v c.requires.right c.args.first.tile x at in
@@ -368,8 +368,8 @@ returns-in-Err-clause-not_beyond g c =
     (subst AreUsable (c.uses.ensures ∙ ap (λ (r : Rule). children (tiling_of r)) c.checked-checked.ensures.rule) c.kinds-usable.ensures.limits) h in
     let L : HasSearchLaws (points_of m.order) = subst (λ o. HasSearchLaws (points_of o)) (c.order.ensures.order ∙ ap (λ (r : Rule). r.order) c.checked-checked.ensures.rule) c.search_laws.ensures in
     let inside = c.self.inside in
-    let same : ◌≡◌ {A = CoverValue} (record { window = inside.window; found = found_in inside.digits.items inside.found.items; border = c.pass.new.self }) v =
-    ap (λ (b : List Waiting). record { window = inside.window; found = found_in inside.digits.items inside.found.items; border = b }) c.pass.ensures ∙ c.self.view_is in
+    let same : ◌≡◌ {A = CoverValue} (record { window = inside.window; found = found_in inside.digits.items inside.found.items; border = c.pass.new.self; outlines = inside.outlines }) v =
+    ap (λ (b : List Waiting). record { window = inside.window; found = found_in inside.digits.items inside.found.items; border = b; outlines = inside.outlines }) c.pass.ensures ∙ c.self.view_is in
     let x = found_as c.tile-tile.result in
     let at : slice_get v.found c.args.first.tile ≡ Some x = subst (λ (y : CoverValue). slice_get y.found c.args.first.tile ≡ Some x) same c.tile-tile.ensures.as_found in
     let it = its_found m settled fits L f c.requires.right.frame v c.requires.right c.args.first.tile x at in
@@ -388,8 +388,8 @@ returns-in-Err-clause-within g c =
     (subst AreUsable (c.uses.ensures ∙ ap (λ (r : Rule). children (tiling_of r)) c.checked-checked.ensures.rule) c.kinds-usable.ensures.limits) h in
     let L : HasSearchLaws (points_of m.order) = subst (λ o. HasSearchLaws (points_of o)) (c.order.ensures.order ∙ ap (λ (r : Rule). r.order) c.checked-checked.ensures.rule) c.search_laws.ensures in
     let inside = c.self.inside in
-    let same : ◌≡◌ {A = CoverValue} (record { window = inside.window; found = found_in inside.digits.items inside.found.items; border = c.pass.new.self }) v =
-    ap (λ (b : List Waiting). record { window = inside.window; found = found_in inside.digits.items inside.found.items; border = b }) c.pass.ensures ∙ c.self.view_is in
+    let same : ◌≡◌ {A = CoverValue} (record { window = inside.window; found = found_in inside.digits.items inside.found.items; border = c.pass.new.self; outlines = inside.outlines }) v =
+    ap (λ (b : List Waiting). record { window = inside.window; found = found_in inside.digits.items inside.found.items; border = b; outlines = inside.outlines }) c.pass.ensures ∙ c.self.view_is in
     let x = found_as c.tile-tile.result in
     let at : slice_get v.found c.args.first.tile ≡ Some x = subst (λ (y : CoverValue). slice_get y.found c.args.first.tile ≡ Some x) same c.tile-tile.ensures.as_found in
     let it = its_found m settled fits L f c.requires.right.frame v c.requires.right c.args.first.tile x at in
@@ -408,8 +408,8 @@ returns-in-Err-clause-cause g c =
     (subst AreUsable (c.uses.ensures ∙ ap (λ (r : Rule). children (tiling_of r)) c.checked-checked.ensures.rule) c.kinds-usable.ensures.limits) h in
     let L : HasSearchLaws (points_of m.order) = subst (λ o. HasSearchLaws (points_of o)) (c.order.ensures.order ∙ ap (λ (r : Rule). r.order) c.checked-checked.ensures.rule) c.search_laws.ensures in
     let inside = c.self.inside in
-    let same : ◌≡◌ {A = CoverValue} (record { window = inside.window; found = found_in inside.digits.items inside.found.items; border = c.pass.new.self }) v =
-    ap (λ (b : List Waiting). record { window = inside.window; found = found_in inside.digits.items inside.found.items; border = b }) c.pass.ensures ∙ c.self.view_is in
+    let same : ◌≡◌ {A = CoverValue} (record { window = inside.window; found = found_in inside.digits.items inside.found.items; border = c.pass.new.self; outlines = inside.outlines }) v =
+    ap (λ (b : List Waiting). record { window = inside.window; found = found_in inside.digits.items inside.found.items; border = b; outlines = inside.outlines }) c.pass.ensures ∙ c.self.view_is in
     let x = found_as c.tile-tile.result in
     let at : slice_get v.found c.args.first.tile ≡ Some x = subst (λ (y : CoverValue). slice_get y.found c.args.first.tile ≡ Some x) same c.tile-tile.ensures.as_found in
     let it = its_found m settled fits L f c.requires.right.frame v c.requires.right c.args.first.tile x at in

@@ -13,7 +13,7 @@ use Rattle.window_cover.specs.Found.{CoverValue}
 use Rattle.window_cover.specs.Kept.{found_in, AreKept}
 use Rattle.window_cover.specs.NewEdges.{AreNew}
 use Rattle.window_cover.specs.SearchLaws.{HasSearchLaws}
-use Rattle.window_cover.proofs.Outcomes.{on_ok-err, if_ok-err, if_err-is, no_memory-on}
+use Rattle.window_cover.proofs.Outcomes.{on_ok-err, if_ok-err, if_err-is, no_memory-on, only_memory}
 use Rattle.window_cover.proofs.StartState.{kind_exists, edges_new, right-first, one_tile, its_window}
 use Rattle.window_cover.proofs.StartLimits.{not_beyond_start, answered_first, cause_first}
 use Rattle.window_cover.proofs.cover.Cover.start.Goals as goal
@@ -49,6 +49,26 @@ returns-in_err-tile-clause-not_beyond c =
     let k = c.contain.new.self in
     let w = c.args.window.now in
     not_beyond_start m settled fits L f c.requires.frame k c.contain.ensures.frame w c.requires.window_fits c.contain.ensures.least
+
+pub returns-in_err-outlines-clause-not_beyond : goal.returns-in_err-outlines-clause-not_beyond
+returns-in_err-outlines-clause-not_beyond c =
+    let m = c.args.machine.now in
+    let t = tiling_of m in
+    let f = c.args.frame.now in
+    let settled : IsSettled m = record { accepted = c.checked-checked.ensures.accepted; usable = c.checked-checked.ensures.usable; same_child_kinds = c.checked-checked.ensures.same_child_kinds } in
+    let fits : StillFits (children t) = λ base start n h. c.grown_fits_law.ensures (children t) base start n
+    (subst AreUsable (c.uses.ensures ∙ ap (λ (r : Rule). children (tiling_of r)) c.checked-checked.ensures.rule) c.kinds-usable.ensures.limits) h in
+    let same_order = c.order-order.ensures.order ∙ ap (λ (r : Rule). r.order) c.checked-checked.ensures.rule in
+    let L : HasSearchLaws (points_of m.order) = subst (λ o. HasSearchLaws (points_of o)) same_order c.search_laws.ensures in
+    let k = c.contain.new.self in
+    let w = c.args.window.now in
+    not_beyond_start m settled fits L f c.requires.frame k c.contain.ensures.frame w c.requires.window_fits c.contain.ensures.least
+
+pub returns-in_err-outlines-clause-centre_found : goal.returns-in_err-outlines-clause-centre_found
+returns-in_err-outlines-clause-centre_found c = on_ok-err _ c.from_residual-in_err-outlines.result c.from_residual-in_err-outlines.ensures.0
+
+pub returns-in_err-outlines-clause-answered : goal.returns-in_err-outlines-clause-answered
+returns-in_err-outlines-clause-answered c = λ within. only_memory c.from_residual-in_err-outlines.result c.from_residual-in_err-outlines.ensures.1
 
 pub returns-in_err-admit-clause-frame : goal.returns-in_err-admit-clause-frame
 returns-in_err-admit-clause-frame c = c.contain.ensures.frame
@@ -95,8 +115,8 @@ returns-in_err-admit-clause-answered c =
     let k = c.contain.new.self in
     let w = c.args.window.now in
     let tile = c.in_ok-tile.tile in
-    let c0 : CoverValue = record { window = w; found = found_in c.new-2.result.items c.new.result.items; border = c.new-3.result } in
-    let none : length c0.found ≡ 0 = ap (λ xs. length (found_in c.new-2.result.items xs)) c.new.ensures.items in
+    let c0 : CoverValue = record { window = w; found = found_in c.new-3.result.items c.new-2.result.items; border = c.new-4.result; outlines = c.in_ok-outlines.outlines } in
+    let none : length c0.found ≡ 0 = ap (λ xs. length (found_in c.new-3.result.items xs)) c.new-2.ensures.items in
     λ within. no_memory-on c.admit.result c.from_residual-in_err-admit.result c.in_err-admit.field-0.0 c.in_err-admit.was c.from_residual-in_err-admit.ensures.1 (answered_first m settled fits L f c.requires.frame k c.contain.ensures.frame w c.requires.window_fits c.contain.ensures.least tile c.in_ok-tile.ensures.stands c.in_ok-tile.ensures.only_tile c0 none within c.admit.result c.admit.ensures.cause)
 
 pub returns-in_err-admit-clause-cause : goal.returns-in_err-admit-clause-cause
@@ -112,16 +132,16 @@ returns-in_err-admit-clause-cause c =
     let k = c.contain.new.self in
     let w = c.args.window.now in
     let tile = c.in_ok-tile.tile in
-    let c0 : CoverValue = record { window = w; found = found_in c.new-2.result.items c.new.result.items; border = c.new-3.result } in
-    let none : length c0.found ≡ 0 = ap (λ xs. length (found_in c.new-2.result.items xs)) c.new.ensures.items in
+    let c0 : CoverValue = record { window = w; found = found_in c.new-3.result.items c.new-2.result.items; border = c.new-4.result; outlines = c.in_ok-outlines.outlines } in
+    let none : length c0.found ≡ 0 = ap (λ xs. length (found_in c.new-3.result.items xs)) c.new-2.ensures.items in
     if_err-is (HasCause t f k w) c.from_residual-in_err-admit.result c.in_err-admit.field-0.0 c.from_residual-in_err-admit.ensures.1 (cause_first m settled fits L f c.requires.frame k c.contain.ensures.frame w c.requires.window_fits c.contain.ensures.least tile c.in_ok-tile.ensures.stands c.in_ok-tile.ensures.only_tile c0 none c.in_err-admit.field-0.0 c.in_err-admit.ensures.cause)
 
 pub invariant_of-cover : goal.invariant_of-cover
 invariant_of-cover c =
     let m = c.args.machine.now in
-    let found = ap length c.new.ensures.items in
-    let border = ap length c.new-3.ensures in
-    record { spans = subst (AreKept c.new-2.result.items) (sym c.new.ensures.items) tt; few_tiles = omega (arith, found); few_open = omega (arith, found, border) }
+    let found = ap length c.new-2.ensures.items in
+    let border = ap length c.new-4.ensures in
+    record { spans = subst (AreKept c.new-3.result.items) (sym c.new-2.ensures.items) tt; few_tiles = omega (arith, found); few_open = omega (arith, found, border) }
 
 pub admit-requires-clause-exists : goal.admit-requires-clause-exists
 admit-requires-clause-exists c =
@@ -136,8 +156,8 @@ admit-requires-clause-exists c =
     let k = c.contain.new.self in
     let w = c.args.window.now in
     let tile = c.in_ok-tile.tile in
-    let c0 : CoverValue = record { window = w; found = found_in c.new-2.result.items c.new.result.items; border = c.new-3.result } in
-    let none : length c0.found ≡ 0 = ap (λ xs. length (found_in c.new-2.result.items xs)) c.new.ensures.items in
+    let c0 : CoverValue = record { window = w; found = found_in c.new-3.result.items c.new-2.result.items; border = c.new-4.result; outlines = c.in_ok-outlines.outlines } in
+    let none : length c0.found ≡ 0 = ap (λ xs. length (found_in c.new-3.result.items xs)) c.new-2.ensures.items in
     kind_exists m settled fits L f c.requires.frame k c.contain.ensures.frame w c.requires.window_fits tile c.in_ok-tile.ensures.stands c.in_ok-tile.ensures.only_tile c.contain.ensures.least
 
 pub admit-requires-clause-turn_below : goal.admit-requires-clause-turn_below
@@ -162,9 +182,9 @@ admit-requires-clause-new c =
     let k = c.contain.new.self in
     let w = c.args.window.now in
     let tile = c.in_ok-tile.tile in
-    let c0 : CoverValue = record { window = w; found = found_in c.new-2.result.items c.new.result.items; border = c.new-3.result } in
-    let none : length c0.found ≡ 0 = ap (λ xs. length (found_in c.new-2.result.items xs)) c.new.ensures.items in
-    subst (λ b. (corners : List Point) → AreCorners t tile.kind tile.motion corners → AreNew corners b) (sym c.new-3.ensures) (edges_new m settled fits L f c.requires.frame k c.contain.ensures.frame w c.requires.window_fits tile c.in_ok-tile.ensures.stands c.in_ok-tile.ensures.only_tile c.contain.ensures.least)
+    let c0 : CoverValue = record { window = w; found = found_in c.new-3.result.items c.new-2.result.items; border = c.new-4.result; outlines = c.in_ok-outlines.outlines } in
+    let none : length c0.found ≡ 0 = ap (λ xs. length (found_in c.new-3.result.items xs)) c.new-2.ensures.items in
+    subst (λ b. (corners : List Point) → AreCorners t tile.kind tile.motion corners → AreNew corners b) (sym c.new-4.ensures) (edges_new m settled fits L f c.requires.frame k c.contain.ensures.frame w c.requires.window_fits tile c.in_ok-tile.ensures.stands c.in_ok-tile.ensures.only_tile c.contain.ensures.least)
 
 pub returns-clause-frame : goal.returns-clause-frame
 returns-clause-frame c = c.contain.ensures.frame
@@ -182,10 +202,10 @@ returns-clause-right c =
     let k = c.contain.new.self in
     let w = c.args.window.now in
     let tile = c.in_ok-tile.tile in
-    let c0 : CoverValue = record { window = w; found = found_in c.new-2.result.items c.new.result.items; border = c.new-3.result } in
-    let none : length c0.found ≡ 0 = ap (λ xs. length (found_in c.new-2.result.items xs)) c.new.ensures.items in
-    let empty : c0 ≡ record { window = w; found = []; border = [] } = ap₂ (λ xs b. record { window = w; found = found_in c.new-2.result.items xs; border = b }) c.new.ensures.items c.new-3.ensures in
-    right-first m settled fits L f c.requires.frame k c.contain.ensures.frame w c.requires.window_fits tile c.in_ok-tile.ensures.stands c.in_ok-tile.ensures.only_tile c.contain.ensures.least c0 c.admit.new.self empty c.in_ok-admit.ensures.admitted
+    let c0 : CoverValue = record { window = w; found = found_in c.new-3.result.items c.new-2.result.items; border = c.new-4.result; outlines = c.in_ok-outlines.outlines } in
+    let none : length c0.found ≡ 0 = ap (λ xs. length (found_in c.new-3.result.items xs)) c.new-2.ensures.items in
+    let empty : c0 ≡ record { window = w; found = []; border = []; outlines = c.in_ok-outlines.outlines } = ap₂ (λ xs b. record { window = w; found = found_in c.new-3.result.items xs; border = b; outlines = c.in_ok-outlines.outlines }) c.new-2.ensures.items c.new-4.ensures in
+    right-first m settled fits L f c.requires.frame k c.contain.ensures.frame w c.requires.window_fits tile c.in_ok-tile.ensures.stands c.in_ok-tile.ensures.only_tile c.contain.ensures.least c0 c.admit.new.self c.in_ok-outlines.outlines c.in_ok-outlines.ensures empty c.in_ok-admit.ensures.admitted
 
 pub returns-clause-its_window : goal.returns-clause-its_window
 returns-clause-its_window c =
@@ -200,10 +220,10 @@ returns-clause-its_window c =
     let k = c.contain.new.self in
     let w = c.args.window.now in
     let tile = c.in_ok-tile.tile in
-    let c0 : CoverValue = record { window = w; found = found_in c.new-2.result.items c.new.result.items; border = c.new-3.result } in
-    let none : length c0.found ≡ 0 = ap (λ xs. length (found_in c.new-2.result.items xs)) c.new.ensures.items in
-    let empty : c0 ≡ record { window = w; found = []; border = [] } = ap₂ (λ xs b. record { window = w; found = found_in c.new-2.result.items xs; border = b }) c.new.ensures.items c.new-3.ensures in
-    its_window m settled fits L f c.requires.frame k c.contain.ensures.frame w c.requires.window_fits tile c.in_ok-tile.ensures.stands c.in_ok-tile.ensures.only_tile c.contain.ensures.least c0 c.admit.new.self empty c.in_ok-admit.ensures.admitted
+    let c0 : CoverValue = record { window = w; found = found_in c.new-3.result.items c.new-2.result.items; border = c.new-4.result; outlines = c.in_ok-outlines.outlines } in
+    let none : length c0.found ≡ 0 = ap (λ xs. length (found_in c.new-3.result.items xs)) c.new-2.ensures.items in
+    let empty : c0 ≡ record { window = w; found = []; border = []; outlines = c.in_ok-outlines.outlines } = ap₂ (λ xs b. record { window = w; found = found_in c.new-3.result.items xs; border = b; outlines = c.in_ok-outlines.outlines }) c.new-2.ensures.items c.new-4.ensures in
+    its_window m settled fits L f c.requires.frame k c.contain.ensures.frame w c.requires.window_fits tile c.in_ok-tile.ensures.stands c.in_ok-tile.ensures.only_tile c.contain.ensures.least c0 c.admit.new.self c.in_ok-outlines.outlines c.in_ok-outlines.ensures empty c.in_ok-admit.ensures.admitted
 
 pub returns-clause-one_tile : goal.returns-clause-one_tile
 returns-clause-one_tile c =
@@ -218,10 +238,10 @@ returns-clause-one_tile c =
     let k = c.contain.new.self in
     let w = c.args.window.now in
     let tile = c.in_ok-tile.tile in
-    let c0 : CoverValue = record { window = w; found = found_in c.new-2.result.items c.new.result.items; border = c.new-3.result } in
-    let none : length c0.found ≡ 0 = ap (λ xs. length (found_in c.new-2.result.items xs)) c.new.ensures.items in
-    let empty : c0 ≡ record { window = w; found = []; border = [] } = ap₂ (λ xs b. record { window = w; found = found_in c.new-2.result.items xs; border = b }) c.new.ensures.items c.new-3.ensures in
-    one_tile m settled fits L f c.requires.frame k c.contain.ensures.frame w c.requires.window_fits tile c.in_ok-tile.ensures.stands c.in_ok-tile.ensures.only_tile c.contain.ensures.least c0 c.admit.new.self empty c.in_ok-admit.ensures.admitted
+    let c0 : CoverValue = record { window = w; found = found_in c.new-3.result.items c.new-2.result.items; border = c.new-4.result; outlines = c.in_ok-outlines.outlines } in
+    let none : length c0.found ≡ 0 = ap (λ xs. length (found_in c.new-3.result.items xs)) c.new-2.ensures.items in
+    let empty : c0 ≡ record { window = w; found = []; border = []; outlines = c.in_ok-outlines.outlines } = ap₂ (λ xs b. record { window = w; found = found_in c.new-3.result.items xs; border = b; outlines = c.in_ok-outlines.outlines }) c.new-2.ensures.items c.new-4.ensures in
+    one_tile m settled fits L f c.requires.frame k c.contain.ensures.frame w c.requires.window_fits tile c.in_ok-tile.ensures.stands c.in_ok-tile.ensures.only_tile c.contain.ensures.least c0 c.admit.new.self c.in_ok-outlines.outlines c.in_ok-outlines.ensures empty c.in_ok-admit.ensures.admitted
 
 pub returns-clause-not_beyond : goal.returns-clause-not_beyond
 returns-clause-not_beyond c =

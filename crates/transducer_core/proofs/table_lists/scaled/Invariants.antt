@@ -1,5 +1,0 @@
-use Rattle.std.proofs.Common.{◌≡◌, ◌*◌, map, take}
-use Rattle.transducer_core.proofs.table_lists.scaled.Given as goal
-
-abbrev pub invariant-loop-kind : goal.invariant-loop-kind
-invariant-loop-kind l = l.row.items ≡ map (λ n. 256 * n) (take l.kind-index l.kinds.items)

@@ -1,0 +1,37 @@
+-- The tiles of a window in order, each with the digits of a frame behind its own.
+use Rattle.std.specs.Prelude.{◌<◌, ◌≤◌, List, [], ◌++◌, map, drop, length, get_or}
+use Rattle.std.specs.List.{AllByRecursion}
+use Rattle.addressing.specs.Address as theory
+use Rattle.tile_shape.specs.declared.step.Step.{Step}
+use Rattle.tile_place.specs.declared.placed_tile.PlacedTile.{PlacedTile}
+use Rattle.window_cover.specs.declared.order_key.OrderKey.{OrderKey}
+use Rattle.window_cover.specs.Found.{Found}
+
+-- a tile that stands for none
+abbrev pub none : Found
+none = record { kind = 0; motion = record { turn = 0; shift = record { c = [] } }; digits = [] }
+
+-- the tile of a key
+abbrev pub tile_of : List Found → OrderKey → Found
+tile_of found key = get_or found key.number none
+
+-- a digit as the program has it
+abbrev pub digit_of : theory.Step → Step
+digit_of s = record { child = s.child; parent = s.parent }
+
+-- a tile found, with the digits of a frame, from its depth up, behind its own
+abbrev pub placed_as : List theory.Step → Found → PlacedTile
+placed_as above x = record {
+  kind = x.kind;
+  motion = x.motion;
+  addr = record { kind = x.kind; digits = record { items = map digit_of (x.digits ++ drop (length x.digits) above) } };
+}
+
+-- the tiles of these keys
+abbrev pub tiles_of : List theory.Step → List Found → List OrderKey → List PlacedTile
+tiles_of above found keys = map (λ k. placed_as above (tile_of found k)) keys
+
+-- each key numbers a tile, and none is deeper than the frame
+pub record AreCovered (above : List theory.Step) (found : List Found) (keys : List OrderKey) : Type 0 where
+  pub numbered : AllByRecursion (λ (k : OrderKey). k.number < length found) keys
+  pub no_deeper : AllByRecursion (λ (x : Found). length x.digits ≤ length above) found
