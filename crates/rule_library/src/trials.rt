@@ -20,10 +20,10 @@ const MOST_TILES: u64 = 6561;
 const MOST_IN_FRAME: u64 = 1100;
 
 /// How many walks are drawn.
-const WALKS: u32 = 100;
+const WALKS: u32 = 1000;
 
 /// How many windows are drawn.
-const WINDOWS: u32 = 30;
+const WINDOWS: u32 = 100;
 
 /// What is located, and how walks come out.
 fn counted<L: Ledger>(
