@@ -1,6 +1,7 @@
 //! What the engine finds by a rule, against the plain program of the trials.
 ghost use Rattle.std.specs.Prelude.{◌≡◌, ◌<◌};
 
+use crate::crossed::crossed;
 use edge_tables::steps::Steps;
 use plain_tiles::counts::Counts;
 use plain_tiles::located::located;
@@ -25,20 +26,21 @@ const WALKS: u32 = 1000;
 /// How many windows are drawn.
 const WINDOWS: u32 = 100;
 
-/// What is located, and how walks come out.
+/// What is located and crossed, and how walks come out.
 fn counted<L: Ledger>(
     alloc: Global,
     machine: &Machine,
     blank: Blank,
-) -> Result<(Counts, Counts), NoMemory>
+) -> Result<(Counts, Counts, Counts), NoMemory>
     requires name { blank.name ≡ L.name }
     requires parts { blank.parts ≡ L.parts }
     requires some { 0 < blank.parts }
 {
     let mut steps = Steps::<L>::new(blank);
     let points = located(alloc, machine, MOST_TILES)?;
+    let edges = crossed(alloc, machine, MOST_TILES, &mut steps)?;
     let walks = walks(alloc, machine, WALKS, &mut steps)?;
-    Ok((points, walks))
+    Ok((points, edges, walks))
 }
 
 /// What came out as wanted, or how often something else did.
@@ -59,13 +61,19 @@ fn described(
 /// What comes of the trials of an accepted rule.
 pub fn trials(alloc: Global, rule: Checked) -> Result<String, NoMemory> {
     let machine = Machine::new(alloc, rule)?;
-    let (points, walks) = counted::<Brand>(alloc, &machine, Blank::new(1))?;
+    let (points, edges, walks) = counted::<Brand>(alloc, &machine, Blank::new(1))?;
     let (windows, _) = windows(alloc, &machine, WINDOWS, MOST_IN_FRAME)?;
     let located = described(
         alloc,
         points,
         "points located as listed",
         "points located OTHERWISE than listed",
+    )?;
+    let crossed = described(
+        alloc,
+        edges,
+        "edges crossed as listed",
+        "edges crossed OTHERWISE than listed",
     )?;
     let walked = described(
         alloc,
@@ -79,5 +87,5 @@ pub fn trials(alloc: Global, rule: Checked) -> Result<String, NoMemory> {
         "windows covered as listed",
         "windows covered OTHERWISE than listed",
     )?;
-    Ok(format!(in alloc; "{located}, {walked}, {covered}")?)
+    Ok(format!(in alloc; "{located}, {crossed}, {walked}, {covered}")?)
 }

@@ -1,0 +1,143 @@
+//! What is across each edge of whole supertiles, against a list of all edges by their two ends.
+use cyclo_points::motion::Motion;
+use edge_tables::steps::Steps;
+use plain_tiles::counts::Counts;
+use plain_tiles::drawn_tile::{DrawnTile, drawn_tiles};
+use plain_tiles::supertile::{tile_count, tiles};
+use std::alloc::Global;
+use std::collections::BTreeMap;
+use std::sync::ledger::Ledger;
+use tile_place::machine::Machine;
+use tile_shape::address::Address;
+use tile_shape::no_memory::NoMemory;
+
+/// The greatest depth of which all tiles are listed.
+const DEEPEST: u8 = 4;
+
+/// The two ends of an edge.
+#[derive(Clone, Copy, Debug, PartialEq, Eq, PartialOrd, Ord)]
+struct Ends {
+    start: [i64; 4],
+    end: [i64; 4],
+}
+
+impl Ends {
+    /// The ends of the edge of this number of a tile; None where there is no such edge.
+    fn of(drawn: &DrawnTile, edge: u8) -> Option<Ends> {
+        let corners = drawn.corners();
+        let start = corners.get(usize::from(edge))?;
+        let end = match corners.get(usize::from(edge) + 1) {
+            Some(end) => end,
+            None => corners.first()?,
+        };
+        Some(Ends {
+            start: start.c,
+            end: end.c,
+        })
+    }
+
+    /// The ends of the same edge traversed backwards.
+    fn reversed(&self) -> Ends {
+        Ends {
+            start: self.end,
+            end: self.start,
+        }
+    }
+}
+
+/// An edge of a tile of a list.
+#[derive(Clone, Copy, Debug)]
+struct Side {
+    tile: usize,
+    edge: u8,
+}
+
+/// All edges of all tiles by their ends, and how often two have the same.
+fn sides(alloc: Global, tiles: &[DrawnTile]) -> Result<(BTreeMap<Ends, Side>, u32), NoMemory> {
+    let mut sides = BTreeMap::new(alloc);
+    let mut doubled: u32 = 0;
+    for (tile, drawn) in tiles.iter().enumerate() {
+        for edge in 0..12 {
+            if let Some(ends) = Ends::of(drawn, edge) {
+                if sides.insert(ends, Side { tile, edge })?.is_some() {
+                    doubled = doubled.saturating_add(1);
+                }
+            }
+        }
+    }
+    Ok((sides, doubled))
+}
+
+/// Whether an edge is crossed to the tile of the list across it, or is Outside where there is none.
+fn is_crossed<L: Ledger>(
+    machine: &Machine,
+    tiles: &[DrawnTile],
+    addr: &Address,
+    edge: u8,
+    wanted: Option<&Side>,
+    steps: &mut Steps<L>,
+) -> bool {
+    let checked = machine.checked();
+    if !checked.uses().fits(addr) || edge >= checked.tables().edges(addr.kind) {
+        return false;
+    }
+    match (machine.cross(addr, edge, steps), wanted) {
+        (Ok(there), Some(side)) => match tiles.get(side.tile) {
+            Some(other) => other.tile.addr == there.addr && side.edge == there.edge,
+            None => false,
+        },
+        (Err(_), None) => true,
+        _ => false,
+    }
+}
+
+/// The edges of all tiles of a supertile: which are crossed as their ends say, and which otherwise.
+fn crossed_in<L: Ledger>(
+    alloc: Global,
+    machine: &Machine,
+    kind: u8,
+    depth: u8,
+    steps: &mut Steps<L>,
+) -> Result<Counts, NoMemory> {
+    let listed = tiles(alloc, machine, kind, depth, &Motion::default())?;
+    let tiles = drawn_tiles(alloc, machine, listed)?;
+    let (sides, doubled) = sides(alloc, tiles.as_slice())?;
+    let mut counts = Counts {
+        right: 0,
+        differ: doubled,
+    };
+    for drawn in tiles.as_slice() {
+        for edge in 0..12 {
+            if let Some(ends) = Ends::of(drawn, edge) {
+                let wanted = sides.get(&ends.reversed());
+                counts.count(is_crossed(
+                    machine,
+                    tiles.as_slice(),
+                    &drawn.tile.addr,
+                    edge,
+                    wanted,
+                    steps,
+                ));
+            }
+        }
+    }
+    Ok(counts)
+}
+
+/// The same of the supertiles of all kinds up to depth 4 that have at most so many tiles.
+pub fn crossed<L: Ledger>(
+    alloc: Global,
+    machine: &Machine,
+    most: u64,
+    steps: &mut Steps<L>,
+) -> Result<Counts, NoMemory> {
+    let mut counts = Counts::default();
+    for kind in 0..machine.checked().uses().kinds() {
+        for depth in 0..=DEEPEST {
+            if tile_count(machine, kind, depth) <= most {
+                counts.add(crossed_in(alloc, machine, kind, depth, steps)?);
+            }
+        }
+    }
+    Ok(counts)
+}
