@@ -1,9 +1,9 @@
 //! The tile at the centre of a window.
-ghost use Rattle.std.specs.Prelude.{◌≡◌, ◌⊎◌, ◌≤◌, ℕ, None, length, IsOk, Err, IfOk, IfErr, OnOk};
+ghost use Rattle.std.specs.Prelude.{◌≡◌, ◌⊎◌, ◌<◌, ◌≤◌, ℕ, None, length, IsOk, Err, IfOk, IfErr, OnOk};
 ghost use Rattle.rule_model.specs.Tiling.{tiling_of};
 ghost use Rattle.cyclo_points.specs.Point.{point_in};
-ghost use Rattle.lazy_walk.specs.Containing.{first_refused_outward};
-ghost use Rattle.lazy_walk.specs.Frames.{IsFrameOf, GrowsTo};
+ghost use Rattle.lazy_walk.specs.Containing.{first_refused_outward, FrameHolds};
+ghost use Rattle.lazy_walk.specs.Frames.{at_depth, IsFrameOf, GrowsTo};
 ghost use Rattle.window_cover.specs.declared.cover_fault.CoverFault.TheVariants.{NoMemory};
 ghost use Rattle.window_cover.specs.Windows.{IsWindow, IsLeastEnough};
 ghost use Rattle.window_cover.specs.Limits.{IsWithinLimits};
@@ -38,6 +38,9 @@ impl Cover {
         ensures its_window { IfOk result (λ cover. cover.window ≡ window.now) }
         ensures one_tile { IfOk result (λ cover. length cover.found ≡ 1) }
         ensures centre_found { OnOk result (first_refused_outward (tiling_of machine.now) frame.old (point_in machine.now.order window.now.centre) ≡ None) }
+        // The new depth is the least, not below the old, at which the frame holds the centre.
+        ensures least { (n : ℕ) → length frame.old.digits ≤ n → n < length frame.new.digits
+            → ¬ FrameHolds (tiling_of machine.now) (at_depth (tiling_of machine.now) n frame.old) (point_in machine.now.order window.now.centre) }
         ensures not_beyond { (n : ℕ) → IsLeastEnough (tiling_of machine.now) frame.old window.now n → length frame.new.digits ≤ n }
         ensures answered { IsWithinLimits (tiling_of machine.now) frame.old window.now → (result ≡ Err NoMemory) ⊎ IsOk result }
         ensures cause { IfErr result (λ fault. HasCause (tiling_of machine.now) frame.old frame.new window.now fault) }
