@@ -27,4 +27,6 @@ pub mod Divisors
 pub mod RealProducts
 pub mod CoordinateReadings
 pub mod Undoing
+pub mod Roots
 pub mod Floors
+pub mod Thetas

@@ -14,6 +14,8 @@ ghost use Rattle.ordered_ring.specs.Divisor.{DividesWhole};
 ghost use Rattle.cyclo_points.specs.Motion.{motion_cmp};
 ghost use Rattle.cyclo_points.specs.Order.{PointsLaw, points_of};
 ghost use Rattle.cyclo_points.specs.Placement.{PlacementLaw};
+ghost use Rattle.cyclo_points.specs.Real.{RealOf};
+ghost use Rattle.cyclo_points.specs.Thousandths.{IsFloorThousandths, thousandths};
 
 pub mod arithmetic;
 pub mod coordinates;
@@ -50,6 +52,12 @@ pub fn placement_law(order: Order)
 /// point.
 pub fn divisors_law(order: Order)
     ensures { DividesWhole (points_of order).real }
+{}
+
+/// The law that a number of coordinates in whole thousandths is the greatest whole number not above a thousand
+/// times it.
+pub fn thousandths_law(order: Order)
+    ensures { (r : RealOf order) → IsFloorThousandths order r (thousandths order r) }
 {}
 
 /// The law of the order of motions: by turn, and those of one turn by shift.

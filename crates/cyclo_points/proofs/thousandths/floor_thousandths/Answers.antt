@@ -5,9 +5,10 @@ use Rattle.std.proofs.lemmas.Int.{ints}
 use Rattle.cyclo_points.specs.declared.order.Order.{Order}
 use Rattle.cyclo_points.specs.Point.{Within}
 use Rattle.cyclo_points.specs.Real.{number, real_in}
-use Rattle.cyclo_points.specs.Thousandths.{IsFloorThousandths}
+use Rattle.cyclo_points.specs.Thousandths.{IsFloorThousandths, thousandths}
 use Rattle.cyclo_points.proofs.Reals.{reading, sign_at}
 use Rattle.cyclo_points.proofs.Floors.{above-by_parts, by_parts-above, one_floor}
+use Rattle.cyclo_points.proofs.Thetas.{thousandths-is_floor}
 use Rattle.cyclo_points.proofs.thousandths.floor_thousandths.Goals as goal
 
 -- x is the floor of s θ, where s is 1000 b, and y is 1000 a more
@@ -39,3 +40,9 @@ returns-clause-floor c =
 
 pub returns-clause-only : goal.returns-clause-only
 returns-clause-only c = λ f h. one_floor c.args.order (real_in c.args.order c.args.r.now) f _ h (returns-clause-floor c)
+
+pub returns-clause-value : goal.returns-clause-value
+returns-clause-value c =
+    let order = c.args.order in
+    let r = real_in order c.args.r.now in
+    one_floor order r _ (thousandths order r) (returns-clause-floor c) (thousandths-is_floor order r)

@@ -1,0 +1,6 @@
+pub mod Drawable
+pub mod Lines
+pub mod ListText
+pub mod CensusText
+pub mod SvgText
+pub mod LayerText

@@ -1,0 +1,136 @@
+//! A line in fixed storage.
+ghost use Rattle.std.specs.Prelude.{◌≡◌, ◌+◌, ◌<◌, ◌≤◌, [], ◌∷◌, ◌++◌, length};
+ghost use Rattle.std.specs.Fmt.{decimal, signed_decimal};
+ghost use Rattle.cyclo_points.specs.Text.{motion_text};
+ghost use Rattle.layer_api.specs.declared.line.TheConstants.{LINE_ROOM};
+ghost use Rattle.tile_shape.specs.Text.{address_text};
+ghost use Rattle.tile_shape.specs.Views.{address_of};
+
+use crate::backwards::{write_point, write_signed, write_small, write_steps};
+use cyclo_points::motion::Motion;
+use itoa::write_digits;
+use std::marker::Model;
+use tile_shape::address::Address;
+
+/// How many bytes a line has room for.
+pub const LINE_ROOM: usize = 1536;
+
+/// A line in fixed storage that is written from its end to its beginning: what is put stands before what was put
+/// earlier. So the figures of a number are written as division gives them, the last one first.
+#[derive(Drop)]
+pub struct Line {
+    bytes: [u8; LINE_ROOM],
+    /// Where the line begins.
+    start: usize,
+}
+
+impl Model for Line {
+    ghost use Rattle.std.specs.Prelude.{ℕ, List, ◌≤◌, drop};
+
+    ghost Value = { List ℕ };
+
+    ghost view = { λ l. drop l.start l.bytes };
+
+    ghost invariant = { λ l. l.start ≤ 1536 };
+}
+
+impl Line {
+    /// An empty line.
+    pub fn new() -> Line
+        ensures { result ≡ [] }
+    {
+        Line {
+            bytes: [0; LINE_ROOM],
+            start: LINE_ROOM,
+        }
+    }
+
+    /// Empties the line.
+    #[inline]
+    pub fn clear(&mut self)
+        ensures { self.new ≡ [] }
+    {
+        self.start = LINE_ROOM;
+    }
+
+    /// Puts a byte.
+    #[inline]
+    pub fn put(&mut self, byte: u8)
+        requires room { length self.old < LINE_ROOM }
+        ensures { self.new ≡ byte ∷ self.old }
+    {
+        self.start -= 1;
+        self.bytes[self.start] = byte;
+    }
+
+    /// Puts a text.
+    #[inline]
+    pub fn put_text(&mut self, text: &[u8])
+        requires room { length text.now + length self.old ≤ LINE_ROOM }
+        ensures { self.new ≡ text.now ++ self.old }
+    {
+        let end = self.start;
+        self.start -= text.len();
+        self.bytes[self.start..end].copy_from_slice(text);
+    }
+
+    /// Puts a number in decimal.
+    #[inline]
+    pub fn put_number(&mut self, number: u64)
+        requires room { length self.old + 20 ≤ LINE_ROOM }
+        ensures number { self.new ≡ decimal number ++ self.old }
+        ensures at_most { length self.new ≤ length self.old + 20 }
+    {
+        self.start = write_digits(number, &mut self.bytes, self.start);
+    }
+
+    /// Puts a number below 256 in decimal.
+    #[inline]
+    pub fn put_small(&mut self, number: u8)
+        requires room { length self.old + 3 ≤ LINE_ROOM }
+        ensures number { self.new ≡ decimal number ++ self.old }
+        ensures at_most { length self.new ≤ length self.old + 3 }
+    {
+        self.start = write_small(number, &mut self.bytes, self.start);
+    }
+
+    /// Puts a signed number in decimal.
+    #[inline]
+    pub fn put_signed(&mut self, number: i64)
+        requires room { length self.old + 21 ≤ LINE_ROOM }
+        ensures number { self.new ≡ signed_decimal number ++ self.old }
+        ensures at_most { length self.new ≤ length self.old + 21 }
+    {
+        self.start = write_signed(number, &mut self.bytes, self.start);
+    }
+
+    /// Puts a motion: its turn and its shift, with a blank between.
+    pub fn put_motion(&mut self, motion: &Motion)
+        requires room { length self.old + 91 ≤ LINE_ROOM }
+        ensures motion { self.new ≡ motion_text motion.now ++ self.old }
+        ensures at_most { length self.new ≤ length self.old + 91 }
+    {
+        let shift = write_point(&motion.shift, &mut self.bytes, self.start) - 1;
+        self.bytes[shift] = b' ';
+        self.start = write_small(motion.turn, &mut self.bytes, shift);
+    }
+
+    /// Puts the text of an address.
+    pub fn put_address(&mut self, addr: &Address)
+        requires room { length self.old + 516 ≤ LINE_ROOM }
+        ensures address { self.new ≡ address_text (address_of addr.now) ++ self.old }
+        ensures at_most { length self.new ≤ length self.old + 516 }
+    {
+        let digits = write_steps(addr.digits.as_slice(), &mut self.bytes, self.start) - 1;
+        self.bytes[digits] = b':';
+        self.start = write_small(addr.kind, &mut self.bytes, digits);
+    }
+
+    /// The bytes of the line.
+    #[inline]
+    pub fn as_bytes(&self) -> &[u8]
+        ensures { result.now ≡ self.now }
+    {
+        &self.bytes[self.start..]
+    }
+}

@@ -1,0 +1,11 @@
+//! A part of a tile drawn.
+use cyclo_points::motion::Motion;
+use tile_shape::address::Address;
+
+/// A part of a tile drawn, a tile of the tiling at its place: its kind, the motion of its prototile, and its address.
+#[derive(Debug, Drop, PartialEq, Eq)]
+pub struct Part {
+    pub kind: u8,
+    pub motion: Motion,
+    pub addr: Address,
+}

@@ -1,0 +1,115 @@
+//! The list of tiles.
+ghost use Rattle.std.specs.Prelude.{◌≡◌, ◌+◌, ◌≤◌, ◌++◌, length, IsFalse};
+ghost use Rattle.layer_api.specs.declared.format.Format.TheVariants.{List as Listing};
+ghost use Rattle.layer_api.specs.declared.line.TheConstants.{LINE_ROOM};
+ghost use Rattle.layer_api.specs.ListText.{part_text, tile_line, list_text};
+
+use cyclo_points::order::Order;
+use cyclo_points::point::Point;
+use layer_api::drawn::Drawn;
+use layer_api::format::Format;
+use layer_api::layer::Layer;
+use layer_api::line::Line;
+use layer_api::part::Part;
+use layer_api::view::View;
+use std::alloc::Global;
+use tile_shape::no_memory::NoMemory;
+
+/// Lists the tiles, one a line: `kind turn shift address`, and for a whole tile both its halves, with ` + ` between.
+/// It keeps the lines alone, each written as its tile is put.
+#[derive(Drop)]
+pub struct ListLayer {
+    view: View,
+    begun: bool,
+    ended: bool,
+    text: Vec<u8>,
+    /// Where a line is written before it is appended.
+    line: Line,
+}
+
+impl ListLayer {
+    /// A layer that hasn't begun. It takes no memory.
+    pub fn new(alloc: Global) -> ListLayer
+        ensures not_begun { IsFalse (⟦<ListLayer as Layer>⟧.begun result) }
+        ensures not_ended { IsFalse (⟦<ListLayer as Layer>⟧.ended result) }
+    {
+        ListLayer {
+            view: View {
+                order: Order::Four,
+                centre: Point { c: [0; 4] },
+                w: 0,
+                h: 0,
+                kinds: 0,
+            },
+            begun: false,
+            ended: false,
+            text: Vec::new(alloc),
+            line: Line::new(),
+        }
+    }
+}
+
+impl Layer for ListLayer {
+    ghost form = { λ _. Listing };
+
+    ghost seen = { λ s. s.view };
+
+    ghost begun = { λ s. s.begun };
+
+    ghost ended = { λ s. s.ended };
+
+    ghost draws = { λ s tiles. s.text.items ≡ list_text tiles };
+
+    fn format(&self) -> Format {
+        Format::List
+    }
+
+    fn begin(&mut self, view: View) {
+        self.view = view;
+        self.begun = true;
+        self.ended = false;
+        self.text.clear();
+    }
+
+    fn put(&mut self, tile: &Drawn) -> Result<(), NoMemory> {
+        self.line.clear();
+        put_line(&mut self.line, tile);
+        self.text.extend_from_slice(self.line.as_bytes())?;
+        Ok(())
+    }
+
+    fn end(&mut self) -> Result<(), NoMemory> {
+        self.ended = true;
+        Ok(())
+    }
+
+    fn bytes(&self) -> &[u8] {
+        self.text.as_slice()
+    }
+}
+
+/// Puts the line of a tile into an empty line.
+fn put_line(line: &mut Line, tile: &Drawn)
+    requires { length line.old ≡ 0 }
+    ensures { line.new ≡ tile_line tile.now }
+{
+    line.put(b'\n');
+    if let Some(second) = &tile.second {
+        put_part(line, second);
+        line.put_text(b" + ");
+    }
+    put_part(line, &tile.first);
+}
+
+/// Puts a part: its kind, its motion and its address.
+fn put_part(line: &mut Line, part: &Part)
+    requires room { length line.old + 612 ≤ LINE_ROOM }
+    ensures part { line.new ≡ part_text part.now ++ line.old }
+    ensures at_most { length line.new ≤ length line.old + 612 }
+{
+    line.put_address(&part.addr);
+    line.put(b' ');
+    line.put_motion(&part.motion);
+    line.put(b' ');
+    line.put_small(part.kind);
+}

@@ -1,0 +1,244 @@
+//! The three texts.
+ghost use Rattle.layer_api.specs.Drawable.{IsDrawable, IsView};
+
+use crate::tiles::{draw_chairs, joined, part, view, whole};
+use cyclo_points::order::Order;
+use layer_api::drawn::Drawn;
+use layer_api::layer::Layer;
+use layer_api::view::View;
+use layer_list::census_layer::CensusLayer;
+use layer_list::list_layer::ListLayer;
+use layer_svg::svg_layer::SvgLayer;
+use std::alloc::Global;
+use std::test::Fail;
+use tile_shape::no_memory::NoMemory;
+
+/// The picture of two chairs.
+pub(crate) const CHAIRS_SVG: &str =
+    "<svg xmlns=\"http://www.w3.org/2000/svg\" version=\"1.1\" viewBox=\"-1.0 -1.000000 2 2.000000\">
+<g transform=\"scale(0.0005 -0.001)\" fill=\"none\" stroke=\"black\" stroke-width=\"40\">
+<path class=\"k0\" d=\"M0 0L0 1000L-2000 1000L-2000 0L-2000 -1000L0 -1000L2000 -1000L2000 0Z\"/>
+<path class=\"k0\" d=\"M2000 1000L0 1000L0 0L2000 0L4000 0L4000 1000L4000 2000L2000 2000Z\"/>
+</g>
+</svg>
+";
+
+/// Their list.
+pub(crate) const CHAIRS_LIST: &str = "0 0 0,0,0,0 0:3/0\n0 1 3,1,0,0 0:1/0\n";
+
+/// Their census.
+pub(crate) const CHAIRS_CENSUS: &str = "0 2\nall 2\n";
+
+/// Two chairs, drawn twice by each layer.
+#[test]
+fn chairs(rt: HostRuntime) -> Result<(), Fail> {
+    let alloc = rt.alloc();
+    let mut svg = SvgLayer::new(alloc);
+    let mut list = ListLayer::new(alloc);
+    let mut census = CensusLayer::new(alloc);
+    for _ in 0..2u8 {
+        assert!(rt; draw_chairs(&mut svg).is_ok());
+        assert_eq!(rt; svg.bytes(), CHAIRS_SVG.as_bytes());
+        assert!(rt; draw_chairs(&mut list).is_ok());
+        assert_eq!(rt; list.bytes(), CHAIRS_LIST.as_bytes());
+        assert!(rt; draw_chairs(&mut census).is_ok());
+        assert_eq!(rt; census.bytes(), CHAIRS_CENSUS.as_bytes());
+    }
+    Ok(())
+}
+
+/// The picture of one tile.
+fn svg_of(alloc: Global, view: View, tile: &Drawn) -> Result<Vec<u8>, NoMemory>
+    requires view { IsView view }
+    requires drawable { IsDrawable view.order tile.now }
+{
+    let mut layer = SvgLayer::new(alloc);
+    layer.begin(view);
+    layer.put(tile)?;
+    layer.end()?;
+    Ok(layer.bytes().to_vec(alloc)?)
+}
+
+/// The list of one tile.
+fn list_of(alloc: Global, view: View, tile: &Drawn) -> Result<Vec<u8>, NoMemory>
+    requires view { IsView view }
+    requires drawable { IsDrawable view.order tile.now }
+{
+    let mut layer = ListLayer::new(alloc);
+    layer.begin(view);
+    layer.put(tile)?;
+    layer.end()?;
+    Ok(layer.bytes().to_vec(alloc)?)
+}
+
+/// Whether a text was made, and is this one.
+fn is_text(text: Result<Vec<u8>, NoMemory>, wanted: &str) -> bool {
+    match text {
+        Ok(text) => text.as_slice() == wanted.as_bytes(),
+        Err(NoMemory) => false,
+    }
+}
+
+/// The vertices of a kite of order ten.
+const KITE: [[i8; 4]; 4] = [[0, 0, 0, 0], [1, 0, 1, -1], [1, 0, 1, 0], [0, 1, 0, 1]];
+
+/// A kite of two halves: coordinates of either sign, rounded down.
+#[test]
+fn kite(rt: HostRuntime) -> Result<(), Fail> {
+    let alloc = rt.alloc();
+    let kite = joined(
+        Order::Ten,
+        &KITE,
+        part(0, 0, [0; 4], &[(2, 0)]),
+        part(1, 1, [0; 4], &[(1, 0)]),
+    );
+    let text = list_of(alloc, view(Order::Ten, &[0; 4], (1, 1), 4), &kite);
+    assert!(rt; is_text(text, "0 0 0,0,0,0 0:2/0 + 1 1 0,0,0,0 1:1/0\n"));
+    let text = svg_of(alloc, view(Order::Ten, &[1, 0, 1, 0], (4096, 3), 4), &kite);
+    assert!(rt;
+        is_text(
+            text,
+            "<svg xmlns=\"http://www.w3.org/2000/svg\" version=\"1.1\" viewBox=\"-2048.0 -1.763355 4096 3.526710\">
+<g transform=\"scale(0.0005 -0.000587785)\" fill=\"none\" stroke=\"black\" stroke-width=\"40\">
+<path class=\"k0\" d=\"M-2619 -1619L618 -1619L0 0L-1619 1000Z\"/>
+</g>
+</svg>
+"
+        )
+    );
+    Ok(())
+}
+
+/// The vertices of a triangle of order eight.
+const TRIANGLE: [[i8; 4]; 3] = [[0, 0, 0, 0], [0, 1, 0, -1], [0, 1, 0, 0]];
+
+/// A triangle of order eight, and an address of numbers with three figures.
+#[test]
+fn triangle(rt: HostRuntime) -> Result<(), Fail> {
+    let alloc = rt.alloc();
+    let far = part(
+        1,
+        255,
+        [-9223372036854775808, 9223372036854775807, 10, -1],
+        &[(255, 100), (9, 10), (0, 0)],
+    );
+    let triangle = whole(Order::Eight, &TRIANGLE, far);
+    let text = list_of(
+        alloc,
+        view(Order::Eight, &[3, -2, 5, 7], (7, 4096), 3),
+        &triangle,
+    );
+    assert!(rt;
+        is_text(
+            text,
+            "1 255 -9223372036854775808,9223372036854775807,10,-1 1:255/100,9/10,0/0\n"
+        )
+    );
+    let text = svg_of(
+        alloc,
+        view(Order::Eight, &[3, -2, 5, 7], (7, 4096), 3),
+        &triangle,
+    );
+    assert!(rt;
+        is_text(
+            text,
+            "<svg xmlns=\"http://www.w3.org/2000/svg\" version=\"1.1\" viewBox=\"-3.5 -2896.310272 7 5792.620544\">
+<g transform=\"scale(0.0005 -0.000707107)\" fill=\"none\" stroke=\"black\" stroke-width=\"40\">
+<path class=\"k1\" d=\"M6727 -12072L9556 -12072L8142 -11072Z\"/>
+</g>
+</svg>
+"
+        )
+    );
+    Ok(())
+}
+
+/// The vertices of a half hexagon.
+const HALF_HEX: [[i8; 4]; 5] = [
+    [1, 0, 0, 0],
+    [2, 0, 0, 0],
+    [1, 1, 0, 0],
+    [0, 1, 0, 0],
+    [0, 0, 0, 0],
+];
+
+/// A half hexagon of order six, and an address of 64 digits.
+#[test]
+fn half_hexagon(rt: HostRuntime) -> Result<(), Fail> {
+    let alloc = rt.alloc();
+    let half = whole(Order::Six, &HALF_HEX, part(0, 0, [0; 4], &[(1, 0); 64]));
+    let text = svg_of(alloc, view(Order::Six, &[1, 1, 0, 0], (1, 1), 1), &half);
+    assert!(rt;
+        is_text(
+            text,
+            "<svg xmlns=\"http://www.w3.org/2000/svg\" version=\"1.1\" viewBox=\"-0.5 -0.866025 1 1.732050\">
+<g transform=\"scale(0.0005 -0.000866025)\" fill=\"none\" stroke=\"black\" stroke-width=\"40\">
+<path class=\"k0\" d=\"M-1000 -1000L1000 -1000L0 0L-2000 0L-3000 -1000Z\"/>
+</g>
+</svg>
+"
+        )
+    );
+    let text = list_of(alloc, view(Order::Six, &[1, 1, 0, 0], (1, 1), 1), &half);
+    assert!(rt;
+        is_text(
+            text,
+            "0 0 0,0,0,0 0:1/0,1/0,1/0,1/0,1/0,1/0,1/0,1/0,1/0,1/0,1/0,1/0,1/0,1/0,1/0,1/0,1/0,1/0,1/0,1/0,1/0,1/0,1/0,1/0,1/0,1/0,1/0,1/0,1/0,1/0,1/0,1/0,1/0,1/0,1/0,1/0,1/0,1/0,1/0,1/0,1/0,1/0,1/0,1/0,1/0,1/0,1/0,1/0,1/0,1/0,1/0,1/0,1/0,1/0,1/0,1/0,1/0,1/0,1/0,1/0,1/0,1/0,1/0,1/0\n"
+        )
+    );
+    Ok(())
+}
+
+/// Views without a tile: a head and a tail, no line, and a census of nothing.
+#[test]
+fn no_tile(rt: HostRuntime) -> Result<(), Fail> {
+    let alloc = rt.alloc();
+    let seen = view(Order::Four, &[0; 4], (65535, 1), 2);
+    let mut svg = SvgLayer::new(alloc);
+    svg.begin(seen);
+    assert!(rt; svg.end().is_ok());
+    assert_eq!(rt;
+        svg.bytes(),
+        b"<svg xmlns=\"http://www.w3.org/2000/svg\" version=\"1.1\" viewBox=\"-32767.5 -1.000000 65535 2.000000\">
+<g transform=\"scale(0.0005 -0.001)\" fill=\"none\" stroke=\"black\" stroke-width=\"40\">
+</g>
+</svg>
+"
+            .as_slice()
+    );
+    let mut list = ListLayer::new(alloc);
+    list.begin(seen);
+    assert!(rt; list.end().is_ok());
+    assert_eq!(rt; list.bytes(), b"".as_slice());
+    let mut census = CensusLayer::new(alloc);
+    census.begin(seen);
+    assert!(rt; census.end().is_ok());
+    assert_eq!(rt; census.bytes(), b"0 0\n1 0\nall 0\n".as_slice());
+    Ok(())
+}
+
+/// A class that is no kind is counted among all alone.
+#[test]
+fn class_that_is_no_kind(rt: HostRuntime) -> Result<(), Fail> {
+    let alloc = rt.alloc();
+    let mut census = CensusLayer::new(alloc);
+    census.begin(view(Order::Ten, &[0; 4], (1, 1), 2));
+    assert!(rt;
+        census
+            .put(&whole(Order::Ten, &KITE, part(1, 0, [0; 4], &[])))
+            .is_ok()
+    );
+    assert!(rt;
+        census
+            .put(&whole(Order::Ten, &KITE, part(255, 0, [0; 4], &[])))
+            .is_ok()
+    );
+    assert!(rt;
+        census
+            .put(&whole(Order::Ten, &KITE, part(1, 0, [0; 4], &[])))
+            .is_ok()
+    );
+    assert!(rt; census.end().is_ok());
+    assert_eq!(rt; census.bytes(), b"0 0\n1 2\nall 3\n".as_slice());
+    Ok(())
+}
