@@ -12,10 +12,8 @@ use Rattle.cyclo_points.specs.Order.{points_of}
 use Rattle.cyclo_points.specs.Point.{point_in, IsOf, IsWithin}
 use Rattle.rule_model.specs.declared.rule.Rule.{Rule}
 use Rattle.rule_model.specs.Tiling.{Tiling, tiling_of}
-use Rattle.rule_model.specs.Usable.{origin}
 use Rattle.rule_model.specs.Views.{rule_of}
 use Rattle.window_cover.specs.Admitted.{IsCorner}
-use Rattle.window_cover.specs.NewEdges.{start_at}
 use Rattle.window_cover.specs.Outlines.{IsTurned}
 
 pub get_or-map : {A B : Type 0} (f : A → B) (xs : List A) (i : ℕ) (d : A) (e : B) → i < length xs → get_or (map f xs) i e ≡ f (get_or xs i d)
@@ -42,12 +40,12 @@ pub corner-of : (t : Tiling) (kind : ℕ) (motion : Motion) (e : ℕ) (v p : Poi
 corner-of t kind motion e v p turned of sum within in_order =
     record { place = sum ∙ ap (λ z. (points_of t.order).ring.add z (point_in t.order motion.shift)) turned.place; within = within; in_order = in_order }
 
--- one point more
-pub one-more : (Q : ℕ → Point → Type 0) (ps qs : List Point) (p : Point) (i : ℕ) → length ps ≡ i → qs ≡ ps ++ p ∷ []
-    → ((e : ℕ) → e < i → Q e (start_at ps e)) → Q i p → (e : ℕ) → e < i + 1 → Q e (start_at qs e)
-one-more Q ps qs p i count is before last e below = elim (cases_lt e i) [
-  | inl h ↦ subst (Q e) (sym (ap (λ xs. start_at xs e) is ∙ get_or-append ps (p ∷ []) origin e (omega (arith, h, count)))) (before e h)
+-- one more
+pub one-more : {A : Type 0} (d : A) (Q : ℕ → A → Type 0) (ps qs : List A) (p : A) (i : ℕ) → length ps ≡ i → qs ≡ ps ++ p ∷ []
+    → ((e : ℕ) → e < i → Q e (get_or ps e d)) → Q i p → (e : ℕ) → e < i + 1 → Q e (get_or qs e d)
+one-more {A} d Q ps qs p i count is before last e below = elim (cases_lt e i) [
+  | inl h ↦ subst (Q e) (sym (ap (λ (xs : List A). get_or xs e d) is ∙ get_or-append ps (p ∷ []) d e (omega (arith, h, count)))) (before e h)
   | inr h ↦ let same : e ≡ i = omega (arith, h, below) in
-      subst (λ n. Q n (start_at qs n)) (sym same)
-      (subst (Q i) (sym (ap (λ xs. start_at xs i) is ∙ ap (start_at (ps ++ p ∷ [])) (sym count) ∙ get_or-append_seam ps p [] origin)) last)
+      subst (λ n. Q n (get_or qs n d)) (sym same)
+      (subst (Q i) (sym (ap (λ (xs : List A). get_or xs i d) is ∙ ap (λ n. get_or (ps ++ p ∷ []) n d) (sym count) ∙ get_or-append_seam ps p [] d)) last)
 ]

@@ -1,13 +1,10 @@
 -- The tiles found of a window, lifted and in order, are the answer.
-use Rattle.std.proofs.Common.{◌≡◌, inl, inr, ℕ, ◌-◌, ◌^◌, ◌<◌, ◌≤◌, ℤ, pos, List, [], ◌∷◌, ◌++◌, length, map, get_or, refl, sym, ap, ap₂, ◌∙◌, subst, arith}
+use Rattle.std.proofs.Common.{◌≡◌, inl, inr, ℕ, ◌-◌, ◌<◌, ◌≤◌, ℤ, pos, List, [], ◌∷◌, ◌++◌, length, map, get_or, refl, sym, ap, ap₂, ◌∙◌, subst, arith}
 use Rattle.std.specs.List.{AllByRecursion, AllZip}
 use Rattle.std.proofs.lemmas.List.{length-map}
-use Rattle.std.proofs.lemmas.List.Sorted.{IsPermutation-map, length_permutation}
-use Rattle.std.proofs.lemmas.Option.{slice_get-get_or}
-use Rattle.std.proofs.lemmas.Slice.Zip.{AllZip-long}
+use Rattle.std.proofs.lemmas.List.Sorted.{IsPermutation-map}
 use Rattle.addressing.specs.Address.{Address, depth, Fits}
 use Rattle.addressing.specs.Search.{IsAmong}
-use Rattle.addressing.proofs.Ranges.{place-among}
 use Rattle.addressing.proofs.Lists.{AllByRecursion-among, AllByRecursion-from, AllByRecursion-map, IsAmong-map}
 use Rattle.substitution.specs.Motion.{Motion, moved}
 use Rattle.substitution.specs.Plane.{plane_point}
@@ -54,18 +51,15 @@ use Rattle.window_cover.specs.Beyond.{IsNotBeyondEnough}
 use Rattle.window_cover.specs.Limits.{most_tiles}
 use Rattle.window_cover.specs.Checked.{IsChecked}
 use Rattle.window_cover.specs.Found.{Found, address_found, CoverValue}
-use Rattle.window_cover.specs.Keys.{HasKey}
 use Rattle.window_cover.specs.Lifted.{IsLifted}
 use Rattle.window_cover.specs.Right.{name_of, state_of, IsEdgeWaiting, IsFound, IsRight}
 use Rattle.window_cover.specs.Windows.{TileOf, box_of, AreDrawn, CoverWindow}
 use Rattle.window_cover.proofs.Distinct.{distinct-by}
-use Rattle.window_cover.specs.Covered.{none, tile_of}
-use Rattle.window_cover.proofs.Keyed.{IsKey}
+use Rattle.window_cover.specs.Covered.{tile_of}
 use Rattle.window_cover.proofs.KeyOrder.{numbers_of}
 use Rattle.window_cover.proofs.SamePoints.{point_in-exact}
 use Rattle.window_cover.proofs.Shuffled.{AreShuffled, keyed-distinct, permuted-members}
-use Rattle.window_cover.proofs.Sorted.{numbers_placed, lifted-numbers, IsKeyed}
-use Rattle.window_cover.proofs.EachOrder.{order-fits}
+use Rattle.window_cover.proofs.Sorted.{numbers_placed, lifted-numbers}
 
 map-same : {A B : Type 0} (f g : A → B) (xs : List A) → ((x : A) → IsAmong x xs → f x ≡ g x) → map f xs ≡ map g xs
 map-same f g [] h = refl
@@ -87,13 +81,6 @@ zip-each R Q [] [] z h = tt
 zip-each R Q [] (y ∷ ys) z h = absurd z
 zip-each R Q (x ∷ xs) [] z h = absurd z
 zip-each R Q (x ∷ xs) (y ∷ ys) z h = (h x y (inl refl) z.0, zip-each R Q xs ys z.1 (λ u v i. h u v (inr i)))
-
-zip-keys : {A B C : Type 0} (Q : A → Type 0) (R : B → C → Type 0) (S : A → C → Type 0) (g : A → B) (ks : List A) (ys : List C) → AllByRecursion Q ks → AllZip R (map g ks) ys
-    → ((k : A) (y : C) → Q k → R (g k) y → S k y) → AllZip S ks ys
-zip-keys Q R S g [] [] q z h = tt
-zip-keys Q R S g [] (y ∷ ys) q z h = absurd z
-zip-keys Q R S g (k ∷ ks) [] q z h = absurd z
-zip-keys Q R S g (k ∷ ks) (y ∷ ys) q z h = (h k y q.0 z.0, zip-keys Q R S g ks ys q.1 z.1 h)
 
 none-waiting : {A B : Type 0} (R : A → B → Type 0) (xs : List A) (ys : List B) → AllZip R xs ys → xs ≡ [] → ys ≡ []
 none-waiting R [] [] z e = refl
@@ -176,7 +163,7 @@ module _ (m : Rule) (laws : HasLaws m) (f : FrameValue) (c : CoverValue) (right 
     name-among : IsAmong (name x) (frame_tiles P (rule_of m) wide)
     name-among = AllByRecursion-among (λ u. IsAmong u (frame_tiles P (rule_of m) wide)) (name x) (map name c.found) (IsAmong-map name x c.found i) right.state.of_patch
 
-    pub no_deeper : depth (address_found x) ≤ length f.digits
+    no_deeper : depth (address_found x) ≤ length f.digits
     no_deeper = its.of_frame.no_deeper
 
     at_wide : lifted_tile wide (at_frame x) ≡ name x
@@ -207,13 +194,6 @@ module _ (m : Rule) (laws : HasLaws m) (f : FrameValue) (c : CoverValue) (right 
       turn_below = subst (λ (g : Moved). g.turn < P.order) (sym l.same_motion) its.turn_below;
       in_order = subst (λ (g : Moved). IsOf m.order g.shift) (sym l.same_motion) its.in_order;
     }
-
-    -- its numbers are small enough for a key
-    pub has-key : HasKey x
-    has-key = record { within = its.shift_within; turn_fits = let l = its.turn_below in let k = order-fits m.order in omega (arith, l, k) }
-
-    pub kind-fits : x.kind < 2 ^ 8
-    kind-fits = let l = its.of_frame.fits.kind_exists in let k = laws.checked.uses_usable.at_most_16_kinds in omega (arith, l, k)
 
   -- tiles found are known by the numbers of their order
   numbers-tell : (x y : Found) → IsAmong x c.found → IsAmong y c.found → numbers_of x ≡ numbers_of y → name x ≡ name y
@@ -279,16 +259,8 @@ module _ (m : Rule) (laws : HasLaws m) (f : FrameValue) (c : CoverValue) (right 
 
     -- ---- the tiles themselves
     module _ (tiles : List PlacedTile) (zip : AllZip (IsLifted f) ys tiles) where
-      pub as-many : length tiles ≡ length c.found
-      as-many = AllZip-long (IsLifted f) ys tiles zip ∙ length_permutation c.found ys mixed.tiles
-
       pub all-stand : AllByRecursion (Stands t f) tiles
       all-stand = zip-each (IsLifted f) (Stands t f) ys tiles zip (λ x a i l. found-stands x (from-found x i) a l)
-
-      pub all-keyed : AllZip (IsKeyed f) ks tiles
-      all-keyed = zip-keys (IsKey c.found) (IsLifted f) (IsKeyed f) (tile_of c.found) ks tiles mixed.keys zip (λ k a h l.
-          let i : IsAmong (tile_of c.found k) c.found = place-among (tile_of c.found k) c.found k.number (slice_get-get_or c.found k.number none h.below) in
-          record { tile = tile_of c.found k; lifted = l; has_key = has-key (tile_of c.found k) i; kind_fits = kind-fits (tile_of c.found k) i; key = h.is })
 
       pub numbers-distinct : AreDistinct (map numbers_placed tiles)
       numbers-distinct =

@@ -87,9 +87,9 @@ module _ (x y : Found) (hx : HasKey x) (hy : HasKey y) where
   cmp_at k = int_cmp (coefficient x.motion.shift k) (coefficient y.motion.shift k)
 
   -- the two words are compared as the six numbers
-  numbers-cmp : (i j : ℕ) (kind : x.kind < 2 ^ 8) (its : y.kind < 2 ^ 8) → slice_cmp int_cmp (numbers_of x) (numbers_of y)
+  numbers-cmp : (i j : ℕ) → slice_cmp int_cmp (numbers_of x) (numbers_of y)
       ≡ ordering_then (nat_cmp (key_of x.motion x.kind i).high (key_of y.motion y.kind j).high) (nat_cmp (key_of x.motion x.kind i).low (key_of y.motion y.kind j).low)
-  numbers-cmp i j kind its = ap₂ spread (pos-cmp x.motion.turn y.motion.turn) (pos-cmp x.kind y.kind) ∙ sym (ap₂ ordering_then high low ∙ joined)
+  numbers-cmp i j = ap₂ spread (pos-cmp x.motion.turn y.motion.turn) (pos-cmp x.kind y.kind) ∙ sym (ap₂ ordering_then high low ∙ joined)
     where
       turns : Ordering
       turns = nat_cmp x.motion.turn y.motion.turn
@@ -105,7 +105,7 @@ module _ (x y : Found) (hx : HasKey x) (hy : HasKey y) where
 
       low : nat_cmp (key_of x.motion x.kind i).low (key_of y.motion y.kind j).low ≡ ordering_then (ordering_then (ordering_then (cmp_at 2) (cmp_at 3)) turns) kinds
       low =
-          parts-cmp (2 ^ 8) _ x.kind _ y.kind kind its
+          parts-cmp (2 ^ 8) _ x.kind _ y.kind hx.kind_fits hy.kind_fits
           ∙ ap (λ o. ordering_then o kinds) (parts-cmp (2 ^ 4) _ x.motion.turn _ y.motion.turn hx.turn_fits hy.turn_fits
           ∙ ap (λ o. ordering_then o turns) (pair-cmp _ _ _ _ hx.within.at_2 hx.within.at_3 hy.within.at_2 hy.within.at_3))
 
@@ -130,22 +130,31 @@ reversed Less n e h = absurd (cc e)
 reversed Equal n e h = absurd (h refl)
 reversed Greater n e h = refl
 
--- of two tiles that are not numbered the same, the one whose key isn't after the other's comes first
-pub comes-first : (x y : Found) (a b : OrderKey) → HasKey x → HasKey y → x.kind < 2 ^ 8 → y.kind < 2 ^ 8 → a ≡ key_of x.motion x.kind a.number → b ≡ key_of y.motion y.kind b.number
-    → is_lt (key_cmp b a) ≡ false → (numbers_of x ≡ numbers_of y → ⊥) → slice_cmp int_cmp (numbers_of x) (numbers_of y) ≡ Less
-comes-first x y a b hx hy kx ky ea eb up apart =
-    (lists_total int_cmp_total).antisymm (numbers_of x) (numbers_of y) ∙ reversed o number not_less (λ e. apart (sym (exact (numbers_of y) (numbers_of x) e)))
-  where
-    o : Ordering
-    o = slice_cmp int_cmp (numbers_of y) (numbers_of x)
+not_first : (o n : Ordering) → is_lt (ordering_then o n) ≡ false → o ≡ Less → ⊥
+not_first Less n e h = cc e
+not_first Equal n e h = cc h
+not_first Greater n e h = cc h
 
-    number : Ordering
-    number = nat_cmp b.number a.number
+-- two tiles, the first of which has a key that isn't after the other's
+module _ (x y : Found) (a b : OrderKey) (hx : HasKey x) (hy : HasKey y) (ea : a ≡ key_of x.motion x.kind a.number) (eb : b ≡ key_of y.motion y.kind b.number) (up : is_lt (key_cmp b a) ≡ false) where
+  abbrev o : Ordering
+  o = slice_cmp int_cmp (numbers_of y) (numbers_of x)
 
-    words : o ≡ ordering_then (nat_cmp b.high a.high) (nat_cmp b.low a.low)
-    words =
-        numbers-cmp y x hy hx b.number a.number ky kx
-        ∙ ap₂ (λ (k l : OrderKey). ordering_then (nat_cmp k.high l.high) (nat_cmp k.low l.low)) (sym eb) (sym ea)
+  abbrev number : Ordering
+  number = nat_cmp b.number a.number
 
-    not_less : is_lt (ordering_then o number) ≡ false
-    not_less = ap is_lt (ap (λ p. ordering_then p number) words ∙ then-assoc (nat_cmp b.high a.high) (nat_cmp b.low a.low) number) ∙ up
+  words : o ≡ ordering_then (nat_cmp b.high a.high) (nat_cmp b.low a.low)
+  words =
+      numbers-cmp y x hy hx b.number a.number
+      ∙ ap₂ (λ (k l : OrderKey). ordering_then (nat_cmp k.high l.high) (nat_cmp k.low l.low)) (sym eb) (sym ea)
+
+  not_less : is_lt (ordering_then o number) ≡ false
+  not_less = ap is_lt (ap (λ p. ordering_then p number) words ∙ then-assoc (nat_cmp b.high a.high) (nat_cmp b.low a.low) number) ∙ up
+
+  -- the second doesn't come before the first
+  pub not_after : slice_cmp int_cmp (numbers_of y) (numbers_of x) ≡ Less → ⊥
+  not_after e = not_first o number not_less e
+
+  -- and comes after it, where they are not numbered the same
+  pub comes-first : (numbers_of x ≡ numbers_of y → ⊥) → slice_cmp int_cmp (numbers_of x) (numbers_of y) ≡ Less
+  comes-first apart = (lists_total int_cmp_total).antisymm (numbers_of x) (numbers_of y) ∙ reversed o number not_less (λ e. apart (sym (exact (numbers_of y) (numbers_of x) e)))

@@ -17,6 +17,7 @@ mod Finished
 mod Arranged
 mod EachOrder
 mod Searches
+mod Brought
 mod Ended
 mod Outcomes
 mod BoxTests
@@ -24,6 +25,7 @@ mod Insides
 mod NewEdges
 mod EachCorner
 mod TurnedVertices
+mod GluedPlaces
 mod Keeping
 mod OwnLines
 mod NewOpen

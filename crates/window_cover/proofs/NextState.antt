@@ -42,6 +42,7 @@ use Rattle.window_cover.specs.Crossed.{IsCrossedTo}
 use Rattle.window_cover.specs.Found.{Found, address_found, CoverValue}
 use Rattle.window_cover.specs.NewEdges.{AreNew, left_open, opened}
 use Rattle.window_cover.specs.Outlines.{AreOutlines}
+use Rattle.window_cover.specs.Gluings.{AreGluings}
 use Rattle.window_cover.specs.Right.{name_of, state_of, growing, IsEdgeWaiting, IsFound, IsRight}
 use Rattle.window_cover.specs.SearchLaws.{HasSearchLaws}
 use Rattle.window_cover.specs.Stepping.{StepsTo}
@@ -212,4 +213,5 @@ module _ (m : Rule) (settled : IsSettled m) (fits : StillFits (children (tiling_
           (subst (IsRightState P.real (TileOf t) (growing t f) (box_of t c.window)) (sym state-is) next));
       border = border_is;
       outlines = subst (AreOutlines t) (sym new.same_outlines) right.outlines;
+      gluings = subst (AreGluings t) (sym new.same_gluings) right.gluings;
     }

@@ -39,6 +39,7 @@ pub record IsAdmitted (t : Tiling) (c d : CoverValue) (tile : PlacedTile) : Type
   pub room : length c.found < most_tiles
   pub same_window : d.window ≡ c.window
   pub same_outlines : d.outlines ≡ c.outlines
+  pub same_gluings : d.gluings ≡ c.gluings
   pub found : d.found ≡ c.found ++ found_as tile ∷ []
   pub corners : List Point
   pub are_corners : AreCorners t tile.kind tile.motion corners

@@ -21,3 +21,9 @@ abbrev pub AreInOrder : List PlacedTile → Type 0
 AreInOrder [] = Unit {0}
 AreInOrder (a ∷ []) = Unit {0}
 AreInOrder (a ∷ b ∷ tiles) = ComesBefore a b × AreInOrder (b ∷ tiles)
+
+-- none of these tiles comes before the one in front of it
+abbrev pub AreSorted : List PlacedTile → Type 0
+AreSorted [] = Unit {0}
+AreSorted (a ∷ []) = Unit {0}
+AreSorted (a ∷ b ∷ tiles) = (¬ ComesBefore b a) × AreSorted (b ∷ tiles)

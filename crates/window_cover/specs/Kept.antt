@@ -7,6 +7,7 @@ use Rattle.tile_shape.specs.Views.{step_of}
 use Rattle.window_cover.specs.declared.found_tile.FoundTile.{FoundTile}
 use Rattle.window_cover.specs.Border.{Waiting}
 use Rattle.window_cover.specs.Found.{Found}
+use Rattle.window_cover.specs.Keys.{FitsKey}
 use Rattle.window_cover.specs.Limits.{most_tiles}
 
 -- its own digits among all
@@ -21,8 +22,9 @@ found_in all xs = map (λ (x : FoundTile). record { kind = x.kind; motion = x.mo
 abbrev pub AreKept : List Step → List FoundTile → Type 0
 AreKept all xs = AllByRecursion (λ (x : FoundTile). (x.first + x.depth ≤ length all) × (x.depth ≤ 64)) xs
 
--- so it is; the tiles are no more than the limit, and the open edges no more than twelve for each
+-- so it is; each tile has a key; the tiles are no more than the limit, and the open edges no more than twelve for each
 pub record IsKept (all : List Step) (xs : List FoundTile) (border : List Waiting) : Type 0 where
   pub spans : AreKept all xs
+  pub keyed : AllByRecursion (λ (x : FoundTile). FitsKey x.motion x.kind) xs
   pub few_tiles : length xs ≤ most_tiles
   pub few_open : length border ≤ 12 * length xs

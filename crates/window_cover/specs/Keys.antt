@@ -26,7 +26,11 @@ abbrev pub keys_from : ℕ → List Found → List OrderKey
 keys_from n [] = []
 keys_from n (x ∷ xs) = key_of x.motion x.kind n ∷ keys_from (suc n) xs
 
--- the numbers of the tile are small enough for a key
-pub record HasKey (x : Found) : Type 0 where
-  pub within : IsWithin (2 ^ 24) x.motion.shift
-  pub turn_fits : x.motion.turn < 16
+-- the numbers of a tile are small enough for a key
+pub record FitsKey (m : Motion) (kind : ℕ) : Type 0 where
+  pub within : IsWithin (2 ^ 24) m.shift
+  pub turn_fits : m.turn < 16
+  pub kind_fits : kind < 2 ^ 8
+
+abbrev pub HasKey : Found → Type 0
+HasKey x = FitsKey x.motion x.kind

@@ -5,6 +5,7 @@ pub mod NewEdges
 pub mod Inside
 pub mod Admitted
 pub mod Outlines
+pub mod Gluings
 pub mod Crossed
 pub mod SearchLaws
 pub mod Limits

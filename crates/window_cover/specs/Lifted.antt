@@ -1,10 +1,15 @@
 -- Tiles found, lifted to the depth of a frame.
-use Rattle.std.specs.Prelude.{◌≡◌}
+use Rattle.std.specs.Prelude.{◌≡◌, ◌≤◌, length}
+use Rattle.addressing.specs.Address.{depth}
 use Rattle.frames.specs.Frame.{lifted_in}
 use Rattle.tile_place.specs.declared.placed_tile.PlacedTile.{PlacedTile}
 use Rattle.tile_shape.specs.Views.{address_of}
 use Rattle.lazy_walk.specs.Frames.{FrameValue, whole}
 use Rattle.window_cover.specs.Found.{Found, address_found}
+
+-- the tile found is no deeper than the frame
+abbrev pub CanBeLifted : FrameValue → Found → Type 0
+CanBeLifted f x = depth (address_found x) ≤ length f.digits
 
 -- the tile is the one found, with the frame's digits behind its own
 pub record IsLifted (f : FrameValue) (x : Found) (tile : PlacedTile) : Type 0 where

@@ -5,6 +5,7 @@ ghost use Rattle.window_cover.specs.Border.{first_of};
 
 use crate::border::Border;
 use crate::found_tile::FoundTile;
+use crate::gluings::Gluings;
 use crate::open_edge::OpenEdge;
 use crate::outlines::Outlines;
 use arrayvec::ArrayVec;
@@ -28,6 +29,8 @@ pub struct Cover {
     pub(crate) border: Border,
     /// The vertices of the kinds, turned.
     pub(crate) outlines: Outlines,
+    /// The motions that glue their edges.
+    pub(crate) gluings: Gluings,
     /// Room for the corners of the tile that is taken in.
     pub(crate) corners: ArrayVec<Point, 12>,
 }
@@ -38,7 +41,7 @@ impl Model for Cover {
 
     ghost Value = { CoverValue };
 
-    ghost view = { λ c. record { window = c.window; found = found_in c.digits.items c.found.items; border = c.border; outlines = c.outlines } };
+    ghost view = { λ c. record { window = c.window; found = found_in c.digits.items c.found.items; border = c.border; outlines = c.outlines; gluings = c.gluings } };
 
     ghost invariant = { λ c. IsKept c.digits.items c.found.items c.border };
 }

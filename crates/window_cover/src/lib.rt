@@ -15,6 +15,7 @@ mod cross;
 mod ends;
 mod finish;
 mod found_tile;
+mod gluings;
 mod inside;
 mod laws;
 mod lifted;

@@ -48,9 +48,6 @@ fn finished(
 ) -> Option<Vec<PlacedTile>>
     requires right { IsRight (tiling_of machine.now) frame.now cover }
 {
-    let checked = machine.checked();
-    let uses = checked.uses();
-    let _usable = uses.kinds();
     if cover.open_edges() != 0 {
         return None;
     }

@@ -6,17 +6,15 @@ use Rattle.tile_place.specs.Searched.{placed_in}
 use Rattle.windows.specs.FrameCover.{FrameEndsLaw}
 use Rattle.windows.specs.FrameWindow.{LeastLaw}
 use Rattle.window_cover.specs.Windows.{AreDrawn, CoverWindow}
+use Rattle.window_cover.proofs.Arranged.{right-lifted}
 use Rattle.window_cover.proofs.Ended.{not-beyond, ended-least, ended-within}
 use Rattle.window_cover.proofs.Finished.{laws_of}
 use Rattle.window_cover.proofs.Outcomes.{if_err-is, no_memory-on, only_memory}
 use Rattle.window_cover.proofs.Searches.{checked_of}
 use Rattle.window_cover.proofs.tiles_of_window.covered_tiles.Goals as goal
 
-pub arranged-requires-clause-right : goal.arranged-requires-clause-right
-arranged-requires-clause-right c =
-    let m = c.args.machine.now in
-    let checked = checked_of m _ _ c.checked-checked.ensures.rule c.checked-checked.ensures.accepted c.checked-checked.ensures.usable c.checked-checked.ensures.same_child_kinds c.uses.ensures c.kinds-usable.ensures.limits in
-    (m, checked, c.in_ok-cover.ensures.right)
+pub arranged-requires-clause-no_deeper : goal.arranged-requires-clause-no_deeper
+arranged-requires-clause-no_deeper c = right-lifted (tiling_of c.args.machine.now) c.searched.new.frame c.in_ok-cover.cover c.in_ok-cover.ensures.right
 
 pub returns-in_err-cover-clause-answered : goal.returns-in_err-cover-clause-answered
 returns-in_err-cover-clause-answered c = λ h. no_memory-on c.searched.result c.from_residual.result c.in_err-cover.field-0.0 c.in_err-cover.was c.from_residual.ensures.1 (c.searched.ensures.answered h)
@@ -39,6 +37,12 @@ returns-clause-stand c =
     let m = c.args.machine.now in
     let checked = checked_of m _ _ c.checked-checked.ensures.rule c.checked-checked.ensures.accepted c.checked-checked.ensures.usable c.checked-checked.ensures.same_child_kinds c.uses.ensures c.kinds-usable.ensures.limits in
     c.in_ok-arranged.ensures.stand m checked c.in_ok-cover.ensures.right
+
+pub returns-clause-in_order : goal.returns-clause-in_order
+returns-clause-in_order c =
+    let m = c.args.machine.now in
+    let checked = checked_of m _ _ c.checked-checked.ensures.rule c.checked-checked.ensures.accepted c.checked-checked.ensures.usable c.checked-checked.ensures.same_child_kinds c.uses.ensures c.kinds-usable.ensures.limits in
+    c.in_ok-arranged.ensures.in_order m checked c.in_ok-cover.ensures.right
 
 pub returns-clause-covered : goal.returns-clause-covered
 returns-clause-covered c =

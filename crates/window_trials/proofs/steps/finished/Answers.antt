@@ -1,9 +1,10 @@
-use Rattle.std.proofs.Common.{◌≡◌, ◌∷◌, [], List, length, refl, sym, ap, ◌∙◌, subst}
-use Rattle.rule_model.specs.declared.rule.Rule.{Rule}
-use Rattle.rule_model.specs.Tiling.{tiling_of, children}
-use Rattle.tile_shape.specs.Usable.{AreUsable}
+use Rattle.std.proofs.Common.{◌≡◌, ◌∷◌, [], List, length, refl, sym, ◌∙◌}
+use Rattle.std.proofs.lemmas.List.Elements.{All-from_recursion}
+use Rattle.addressing.proofs.Lists.{AllByRecursion-each}
+use Rattle.rule_model.specs.Tiling.{tiling_of}
 use Rattle.window_cover.specs.Border.{Waiting}
-use Rattle.window_cover.specs.Checked.{IsChecked}
+use Rattle.window_cover.specs.Lifted.{CanBeLifted}
+use Rattle.window_cover.specs.Right.{IsFound}
 use Rattle.window_trials.proofs.steps.finished.Goals as goal
 
 -- where no edge is counted, none is open
@@ -14,12 +15,8 @@ none_open (o ∷ os) e = absurd (cc e)
 pub finish-requires-clause-none_open : goal.finish-requires-clause-none_open
 finish-requires-clause-none_open c = none_open c.args.cover.border (sym c.open_edges.ensures ∙ c.if-open_edges-ne0.false)
 
-pub finish-requires-clause-right : goal.finish-requires-clause-right
-finish-requires-clause-right c =
-    let checked : IsChecked c.args.machine.now = record {
-      accepted = c.checked-checked.ensures.accepted;
-      usable = c.checked-checked.ensures.usable;
-      uses_usable = subst AreUsable (c.uses-uses.ensures ∙ ap (λ (r : Rule). children (tiling_of r)) c.checked-checked.ensures.rule) c.kinds-usable.ensures.limits;
-      same_child_kinds = c.checked-checked.ensures.same_child_kinds;
-    } in
-    (c.args.machine.now, checked, c.requires.right)
+pub finish-requires-clause-no_deeper : goal.finish-requires-clause-no_deeper
+finish-requires-clause-no_deeper c =
+    let f = c.args.frame.now in
+    let found = c.args.cover.found in
+    All-from_recursion (CanBeLifted f) found (AllByRecursion-each (IsFound (tiling_of c.args.machine.now) f) (CanBeLifted f) found (λ x h. h.of_frame.no_deeper) c.requires.right.found)

@@ -12,8 +12,10 @@ use Rattle.window_cover.specs.declared.found_tile.FoundTile.{FoundTile}
 use Rattle.window_cover.specs.Admitted.{IsNotAdmitted, found_as}
 use Rattle.window_cover.specs.Found.{CoverValue}
 use Rattle.window_cover.specs.Kept.{IsKept}
+use Rattle.window_cover.specs.Keys.{FitsKey}
 use Rattle.window_cover.specs.NewEdges.{AreNew, left_open, opened}
 use Rattle.window_cover.specs.Outlines.{AreOutlines}
+use Rattle.window_cover.proofs.EachOrder.{order-fits}
 use Rattle.window_cover.proofs.Outcomes.{on_ok-err, if_err-no_memory}
 use Rattle.window_cover.proofs.Keeping.{kept-more, kept-one_more, found-one_more}
 use Rattle.window_cover.proofs.cover.Cover.admit.Goals as goal
@@ -104,8 +106,11 @@ invariant_of-self-in_err-meet_edges c =
     let own = c.args.tile.now.addr.digits.items in
     let tile : FoundTile = record { motion = c.args.tile.now.motion; first = c.len-first.result; kind = c.args.tile.now.kind; depth = c.depth.result } in
     let more = c.in_ok-extend_from_slice.ensures.items ∙ ap (λ l. c.self.inside.digits.items ++ l) c.as_slice.ensures.value in
+    let turn = c.requires.turn_below in
+    let turns = order-fits c.args.machine.now.order in
+    let key : FitsKey c.args.tile.now.motion c.args.tile.now.kind = record { within = c.refused.ensures.within c.if-refused.false; turn_fits = omega (arith, turn, turns); kind_fits = search rules } in
     kept-one_more c.self.inside.digits.items c.extend_from_slice.new.self.items own more tile first c.depth.ensures.digits c.depth.ensures.at_most_64 c.self.inside.found.items c.push.new.self.items c.in_ok-push.ensures.items
-    c.self.inside.border c.meet_edges.new.border c.self.invariant (omega (arith, count, c.if-number-ge-MOST_TILES.false)) c.meet_edges.ensures.at_most_12_more
+    key c.self.inside.border c.meet_edges.new.border c.self.invariant (omega (arith, count, c.if-number-ge-MOST_TILES.false)) c.meet_edges.ensures.at_most_12_more
 
 pub invariant_of-self-2 : goal.invariant_of-self-2
 invariant_of-self-2 c =
@@ -116,8 +121,11 @@ invariant_of-self-2 c =
     let own = c.args.tile.now.addr.digits.items in
     let tile : FoundTile = record { motion = c.args.tile.now.motion; first = c.len-first.result; kind = c.args.tile.now.kind; depth = c.depth.result } in
     let more = c.in_ok-extend_from_slice.ensures.items ∙ ap (λ l. c.self.inside.digits.items ++ l) c.as_slice.ensures.value in
+    let turn = c.requires.turn_below in
+    let turns = order-fits c.args.machine.now.order in
+    let key : FitsKey c.args.tile.now.motion c.args.tile.now.kind = record { within = c.refused.ensures.within c.if-refused.false; turn_fits = omega (arith, turn, turns); kind_fits = search rules } in
     kept-one_more c.self.inside.digits.items c.extend_from_slice.new.self.items own more tile first c.depth.ensures.digits c.depth.ensures.at_most_64 c.self.inside.found.items c.push.new.self.items c.in_ok-push.ensures.items
-    c.self.inside.border c.meet_edges.new.border c.self.invariant (omega (arith, count, c.if-number-ge-MOST_TILES.false)) c.meet_edges.ensures.at_most_12_more
+    key c.self.inside.border c.meet_edges.new.border c.self.invariant (omega (arith, count, c.if-number-ge-MOST_TILES.false)) c.meet_edges.ensures.at_most_12_more
 
 pub returns-clause-admitted : goal.returns-clause-admitted
 returns-clause-admitted c =
@@ -139,12 +147,13 @@ returns-clause-admitted c =
       room = omega (arith, count, seen, c.if-number-ge-MOST_TILES.false);
       same_window = ap (λ (v : CoverValue). v.window) c.self.view_is;
       same_outlines = ap (λ (v : CoverValue). v.outlines) c.self.view_is;
+      same_gluings = ap (λ (v : CoverValue). v.gluings) c.self.view_is;
       found = found-one_more c.self.inside.digits.items c.extend_from_slice.new.self.items own more tile first c.depth.ensures.digits c.depth.ensures.at_most_64 c.self.inside.found.items c.push.new.self.items c.in_ok-push.ensures.items c.self.invariant.spans
           ∙ ap (λ (v : CoverValue). v.found ++ found_as c.args.tile.now ∷ []) c.self.view_is;
       corners = ps;
       are_corners = c.put_corners.ensures.corners;
       border = c.in_ok-meet_edges.ensures.met
-          ∙ ap₂ (λ cs b. after (record { window = w; found = []; border = c.self.inside.border; outlines = [] }) cs c.len-number.result b) c.as_slice-2.ensures.value (c.order-order.ensures.order ∙ ap (λ (r : Rule). r.order) c.checked.ensures.rule)
-          ∙ ap (λ i. after (record { window = w; found = []; border = c.self.inside.border; outlines = [] }) ps i o) (count ∙ sym seen)
+          ∙ ap₂ (λ cs b. after (record { window = w; found = []; border = c.self.inside.border; outlines = []; gluings = c.self.inside.gluings }) cs c.len-number.result b) c.as_slice-2.ensures.value (c.order-order.ensures.order ∙ ap (λ (r : Rule). r.order) c.checked.ensures.rule)
+          ∙ ap (λ i. after (record { window = w; found = []; border = c.self.inside.border; outlines = []; gluings = c.self.inside.gluings }) ps i o) (count ∙ sym seen)
           ∙ ap (λ (v : CoverValue). after v ps (length c.args.self.now.found) o) c.self.view_is;
     }

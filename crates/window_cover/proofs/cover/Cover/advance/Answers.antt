@@ -1,13 +1,8 @@
 use Rattle.std.proofs.Common.{rules, ◌≡◌, suc, ◌<◌, Some, IsSome, OnOk, IfErr, List, length, slice_get, refl, sym, ap, ◌∙◌, subst, add-one}
-use Rattle.cyclo_points.specs.Order.{points_of}
 use Rattle.frames.specs.Frame.{IsTileOf}
 use Rattle.addressing.specs.Tables.{type_of}
 use Rattle.lazy_walk.specs.Frames.{whole, GrowsTo}
-use Rattle.lazy_walk.proofs.Walks.{StillFits}
-use Rattle.rule_model.specs.declared.rule.Rule.{Rule}
 use Rattle.rule_model.specs.Tiling.{tiling_of, contacts, children}
-use Rattle.tile_place.proofs.Plane.{IsSettled}
-use Rattle.tile_shape.specs.Usable.{AreUsable}
 use Rattle.tile_shape.specs.Views.{address_of}
 use Rattle.cyclo_points.specs.declared.point.Point.{Point}
 use Rattle.frames.specs.Frame.{lifted_in}
@@ -17,19 +12,51 @@ use Rattle.window_cover.specs.Admitted.{AreCorners, IsAdmitted, IsNotAdmitted, f
 use Rattle.window_cover.specs.Border.{Waiting}
 use Rattle.window_cover.specs.Crossed.{IsCrossedTo}
 use Rattle.window_cover.specs.Found.{address_found, CoverValue}
+use Rattle.window_cover.specs.Gluings.{AreGluings}
 use Rattle.window_cover.specs.Kept.{found_in, IsKept}
 use Rattle.window_cover.specs.NewEdges.{AreNew}
-use Rattle.window_cover.specs.Right.{IsRight}
-use Rattle.window_cover.specs.SearchLaws.{HasSearchLaws}
+use Rattle.window_cover.specs.Right.{IsFound, IsRight}
 use Rattle.window_cover.specs.Stepping.{StepsTo}
 use Rattle.window_cover.specs.Windows.{IsWindow}
+use Rattle.window_cover.proofs.Brought.{Brings, brought}
 use Rattle.window_cover.proofs.FirstEdge.{edge-there, tile-there}
 use Rattle.window_cover.proofs.Names.{its_found}
 use Rattle.window_cover.proofs.NextState.{kind_exists, edges_new, right-next, steps_to, one_more}
 use Rattle.window_cover.proofs.Outcomes.{on_ok-each}
 use Rattle.window_cover.proofs.StepLimits.{not_beyond_next, within_next, cause_next}
 use Rattle.window_cover.proofs.StepStops.{not_enough, not_within, depth_limit}
+use Rattle.window_cover.proofs.cover.Cover.advance.Given.{Over}
+use Rattle.window_cover.proofs.cover.Cover.advance.Goals.{After-put_tile}
 use Rattle.window_cover.proofs.cover.Cover.advance.Goals as goal
+
+-- what the rule and the laws bring
+brings : (g : Over) (c : After-put_tile g) → Brings c.args.machine.now
+brings g c = brought c.args.machine.now _ _ _ c.checked-checked.ensures.rule c.checked-checked.ensures.accepted c.checked-checked.ensures.usable c.checked-checked.ensures.same_child_kinds
+    c.uses.ensures c.kinds-usable.ensures.limits c.order.ensures.order c.search_laws.ensures c.grown_fits_law.ensures
+
+-- what is found stays when closed edges are passed
+passed : (g : Over) (c : After-put_tile g) → ◌≡◌ {A = CoverValue} (record {
+  window = c.self.inside.window;
+  found = found_in c.self.inside.digits.items c.self.inside.found.items;
+  border = c.pass.new.self;
+  outlines = c.self.inside.outlines;
+  gluings = c.self.inside.gluings;
+}) c.args.self.now
+passed g c =
+    let inside = c.self.inside in
+    ap (λ (b : List Waiting). record { window = inside.window; found = found_in inside.digits.items inside.found.items; border = b; outlines = inside.outlines; gluings = inside.gluings }) c.pass.ensures ∙ c.self.view_is
+
+-- the tile of the first open edge, as it was found
+at_first : (g : Over) (c : After-put_tile g) → slice_get c.args.self.now.found c.args.first.tile ≡ Some (found_as c.put_tile.new.tile)
+at_first g c = subst (λ (y : CoverValue). slice_get y.found c.args.first.tile ≡ Some (found_as c.put_tile.new.tile)) (passed g c) c.put_tile.ensures.as_found
+
+is_found : (g : Over) (c : After-put_tile g) → IsFound (tiling_of c.args.machine.now) c.args.frame.now (found_as c.put_tile.new.tile)
+is_found g c =
+    let B = brings g c in
+    its_found c.args.machine.now B.settled B.fits B.laws c.args.frame.now c.requires.right.frame c.args.self.now c.requires.right c.args.first.tile (found_as c.put_tile.new.tile) (at_first g c)
+
+its_address : (g : Over) (c : After-put_tile g) → address_found (found_as c.put_tile.new.tile) ≡ address_of c.put_tile.new.tile.addr
+its_address g c = sym (λ i. record { kind = c.put_tile.ensures.its_kind i; digits = (address_of c.put_tile.new.tile.addr).digits })
 
 pub invariant_of-self : goal.invariant_of-self
 invariant_of-self g c = subst (λ b. IsKept c.self.inside.digits.items c.self.inside.found.items b) (sym c.pass.ensures) c.self.invariant
@@ -43,14 +70,15 @@ put_tile-requires g c =
     let t = tiling_of m in
     let f = c.args.frame.now in
     let v = c.args.self.now in
-    let settled : IsSettled m = record { accepted = c.checked-checked.ensures.accepted; usable = c.checked-checked.ensures.usable; same_child_kinds = c.checked-checked.ensures.same_child_kinds } in
-    let fits : StillFits (children t) = λ base start n h. c.grown_fits_law.ensures (children t) base start n
-    (subst AreUsable (c.uses.ensures ∙ ap (λ (r : Rule). children (tiling_of r)) c.checked-checked.ensures.rule) c.kinds-usable.ensures.limits) h in
-    let L : HasSearchLaws (points_of m.order) = subst (λ o. HasSearchLaws (points_of o)) (c.order.ensures.order ∙ ap (λ (r : Rule). r.order) c.checked-checked.ensures.rule) c.search_laws.ensures in
+    let B = brought m _ _ _ c.checked-checked.ensures.rule c.checked-checked.ensures.accepted c.checked-checked.ensures.usable c.checked-checked.ensures.same_child_kinds c.uses.ensures c.kinds-usable.ensures.limits
+    c.order.ensures.order c.search_laws.ensures c.grown_fits_law.ensures in
     let inside = c.self.inside in
-    let same : ◌≡◌ {A = CoverValue} (record { window = inside.window; found = found_in inside.digits.items inside.found.items; border = c.pass.new.self; outlines = inside.outlines }) v =
-    ap (λ (b : List Waiting). record { window = inside.window; found = found_in inside.digits.items inside.found.items; border = b; outlines = inside.outlines }) c.pass.ensures ∙ c.self.view_is in
-    record { found = subst (λ (y : CoverValue). c.args.first.tile < length y.found) (sym same) (tile-there m L f v c.requires.right c.args.first c.requires.is_first) }
+    let same : ◌≡◌ {A = CoverValue} (record { window = inside.window; found = found_in inside.digits.items inside.found.items; border = c.pass.new.self; outlines = inside.outlines; gluings = inside.gluings }) v =
+    ap (λ (b : List Waiting). record { window = inside.window; found = found_in inside.digits.items inside.found.items; border = b; outlines = inside.outlines; gluings = inside.gluings }) c.pass.ensures ∙ c.self.view_is in
+    record { found = subst (λ (y : CoverValue). c.args.first.tile < length y.found) (sym same) (tile-there m B.laws f v c.requires.right c.args.first c.requires.is_first) }
+
+pub cross-requires-clause-gluings : goal.cross-requires-clause-gluings
+cross-requires-clause-gluings g c = subst (λ (y : CoverValue). AreGluings (tiling_of c.args.machine.now) y.gluings) (sym c.self.view_is) c.requires.right.gluings
 
 pub cross-requires-clause-frame : goal.cross-requires-clause-frame
 cross-requires-clause-frame g c = c.requires.right.frame
@@ -63,18 +91,9 @@ cross-requires-clause-of_frame g c =
     let m = c.args.machine.now in
     let t = tiling_of m in
     let f = c.args.frame.now in
-    let v = c.args.self.now in
-    let settled : IsSettled m = record { accepted = c.checked-checked.ensures.accepted; usable = c.checked-checked.ensures.usable; same_child_kinds = c.checked-checked.ensures.same_child_kinds } in
-    let fits : StillFits (children t) = λ base start n h. c.grown_fits_law.ensures (children t) base start n
-    (subst AreUsable (c.uses.ensures ∙ ap (λ (r : Rule). children (tiling_of r)) c.checked-checked.ensures.rule) c.kinds-usable.ensures.limits) h in
-    let L : HasSearchLaws (points_of m.order) = subst (λ o. HasSearchLaws (points_of o)) (c.order.ensures.order ∙ ap (λ (r : Rule). r.order) c.checked-checked.ensures.rule) c.search_laws.ensures in
-    let inside = c.self.inside in
-    let same : ◌≡◌ {A = CoverValue} (record { window = inside.window; found = found_in inside.digits.items inside.found.items; border = c.pass.new.self; outlines = inside.outlines }) v =
-    ap (λ (b : List Waiting). record { window = inside.window; found = found_in inside.digits.items inside.found.items; border = b; outlines = inside.outlines }) c.pass.ensures ∙ c.self.view_is in
-    let x = found_as c.put_tile.new.tile in
-    let at : slice_get v.found c.args.first.tile ≡ Some x = subst (λ (y : CoverValue). slice_get y.found c.args.first.tile ≡ Some x) same c.put_tile.ensures.as_found in
-    let it = its_found m settled fits L f c.requires.right.frame v c.requires.right c.args.first.tile x at in
-    let a_is : address_found x ≡ address_of c.put_tile.new.tile.addr = sym (λ i. record { kind = c.put_tile.ensures.its_kind i; digits = (address_of c.put_tile.new.tile.addr).digits }) in
+    let p = (goal.at.cross-requires-clause-of_frame g c).After-put_tile in
+    let it = is_found g p in
+    let a_is = its_address g p in
     subst (IsTileOf (children t) (whole f)) a_is it.of_frame
 
 pub cross-requires-clause-edge_exists : goal.cross-requires-clause-edge_exists
@@ -83,74 +102,28 @@ cross-requires-clause-edge_exists g c =
     let t = tiling_of m in
     let f = c.args.frame.now in
     let v = c.args.self.now in
-    let settled : IsSettled m = record { accepted = c.checked-checked.ensures.accepted; usable = c.checked-checked.ensures.usable; same_child_kinds = c.checked-checked.ensures.same_child_kinds } in
-    let fits : StillFits (children t) = λ base start n h. c.grown_fits_law.ensures (children t) base start n
-    (subst AreUsable (c.uses.ensures ∙ ap (λ (r : Rule). children (tiling_of r)) c.checked-checked.ensures.rule) c.kinds-usable.ensures.limits) h in
-    let L : HasSearchLaws (points_of m.order) = subst (λ o. HasSearchLaws (points_of o)) (c.order.ensures.order ∙ ap (λ (r : Rule). r.order) c.checked-checked.ensures.rule) c.search_laws.ensures in
-    let inside = c.self.inside in
-    let same : ◌≡◌ {A = CoverValue} (record { window = inside.window; found = found_in inside.digits.items inside.found.items; border = c.pass.new.self; outlines = inside.outlines }) v =
-    ap (λ (b : List Waiting). record { window = inside.window; found = found_in inside.digits.items inside.found.items; border = b; outlines = inside.outlines }) c.pass.ensures ∙ c.self.view_is in
+    let p = (goal.at.cross-requires-clause-edge_exists g c).After-put_tile in
+    let B = brings g p in
     let x = found_as c.put_tile.new.tile in
-    let at : slice_get v.found c.args.first.tile ≡ Some x = subst (λ (y : CoverValue). slice_get y.found c.args.first.tile ≡ Some x) same c.put_tile.ensures.as_found in
-    let it = its_found m settled fits L f c.requires.right.frame v c.requires.right c.args.first.tile x at in
-    let a_is : address_found x ≡ address_of c.put_tile.new.tile.addr = sym (λ i. record { kind = c.put_tile.ensures.its_kind i; digits = (address_of c.put_tile.new.tile.addr).digits }) in
-    subst (λ n. IsSome (type_of (contacts t) n c.args.first.edge)) (sym c.put_tile.ensures.its_kind) (edge-there m settled fits L f v c.requires.right c.args.first c.requires.is_first x at)
+    let at = at_first g p in
+    subst (λ n. IsSome (type_of (contacts t) n c.args.first.edge)) (sym c.put_tile.ensures.its_kind) (edge-there m B.settled B.fits B.laws f v c.requires.right c.args.first c.requires.is_first x at)
 
 pub cross-requires-clause-turn_below : goal.cross-requires-clause-turn_below
 cross-requires-clause-turn_below g c =
-    let m = c.args.machine.now in
-    let t = tiling_of m in
-    let f = c.args.frame.now in
-    let v = c.args.self.now in
-    let settled : IsSettled m = record { accepted = c.checked-checked.ensures.accepted; usable = c.checked-checked.ensures.usable; same_child_kinds = c.checked-checked.ensures.same_child_kinds } in
-    let fits : StillFits (children t) = λ base start n h. c.grown_fits_law.ensures (children t) base start n
-    (subst AreUsable (c.uses.ensures ∙ ap (λ (r : Rule). children (tiling_of r)) c.checked-checked.ensures.rule) c.kinds-usable.ensures.limits) h in
-    let L : HasSearchLaws (points_of m.order) = subst (λ o. HasSearchLaws (points_of o)) (c.order.ensures.order ∙ ap (λ (r : Rule). r.order) c.checked-checked.ensures.rule) c.search_laws.ensures in
-    let inside = c.self.inside in
-    let same : ◌≡◌ {A = CoverValue} (record { window = inside.window; found = found_in inside.digits.items inside.found.items; border = c.pass.new.self; outlines = inside.outlines }) v =
-    ap (λ (b : List Waiting). record { window = inside.window; found = found_in inside.digits.items inside.found.items; border = b; outlines = inside.outlines }) c.pass.ensures ∙ c.self.view_is in
-    let x = found_as c.put_tile.new.tile in
-    let at : slice_get v.found c.args.first.tile ≡ Some x = subst (λ (y : CoverValue). slice_get y.found c.args.first.tile ≡ Some x) same c.put_tile.ensures.as_found in
-    let it = its_found m settled fits L f c.requires.right.frame v c.requires.right c.args.first.tile x at in
-    let a_is : address_found x ≡ address_of c.put_tile.new.tile.addr = sym (λ i. record { kind = c.put_tile.ensures.its_kind i; digits = (address_of c.put_tile.new.tile.addr).digits }) in
+    let p = (goal.at.cross-requires-clause-turn_below g c).After-put_tile in
+    let it = is_found g p in
     it.turn_below
 
 pub cross-requires-clause-shift_within : goal.cross-requires-clause-shift_within
 cross-requires-clause-shift_within g c =
-    let m = c.args.machine.now in
-    let t = tiling_of m in
-    let f = c.args.frame.now in
-    let v = c.args.self.now in
-    let settled : IsSettled m = record { accepted = c.checked-checked.ensures.accepted; usable = c.checked-checked.ensures.usable; same_child_kinds = c.checked-checked.ensures.same_child_kinds } in
-    let fits : StillFits (children t) = λ base start n h. c.grown_fits_law.ensures (children t) base start n
-    (subst AreUsable (c.uses.ensures ∙ ap (λ (r : Rule). children (tiling_of r)) c.checked-checked.ensures.rule) c.kinds-usable.ensures.limits) h in
-    let L : HasSearchLaws (points_of m.order) = subst (λ o. HasSearchLaws (points_of o)) (c.order.ensures.order ∙ ap (λ (r : Rule). r.order) c.checked-checked.ensures.rule) c.search_laws.ensures in
-    let inside = c.self.inside in
-    let same : ◌≡◌ {A = CoverValue} (record { window = inside.window; found = found_in inside.digits.items inside.found.items; border = c.pass.new.self; outlines = inside.outlines }) v =
-    ap (λ (b : List Waiting). record { window = inside.window; found = found_in inside.digits.items inside.found.items; border = b; outlines = inside.outlines }) c.pass.ensures ∙ c.self.view_is in
-    let x = found_as c.put_tile.new.tile in
-    let at : slice_get v.found c.args.first.tile ≡ Some x = subst (λ (y : CoverValue). slice_get y.found c.args.first.tile ≡ Some x) same c.put_tile.ensures.as_found in
-    let it = its_found m settled fits L f c.requires.right.frame v c.requires.right c.args.first.tile x at in
-    let a_is : address_found x ≡ address_of c.put_tile.new.tile.addr = sym (λ i. record { kind = c.put_tile.ensures.its_kind i; digits = (address_of c.put_tile.new.tile.addr).digits }) in
+    let p = (goal.at.cross-requires-clause-shift_within g c).After-put_tile in
+    let it = is_found g p in
     it.shift_within
 
 pub cross-requires-clause-in_order : goal.cross-requires-clause-in_order
 cross-requires-clause-in_order g c =
-    let m = c.args.machine.now in
-    let t = tiling_of m in
-    let f = c.args.frame.now in
-    let v = c.args.self.now in
-    let settled : IsSettled m = record { accepted = c.checked-checked.ensures.accepted; usable = c.checked-checked.ensures.usable; same_child_kinds = c.checked-checked.ensures.same_child_kinds } in
-    let fits : StillFits (children t) = λ base start n h. c.grown_fits_law.ensures (children t) base start n
-    (subst AreUsable (c.uses.ensures ∙ ap (λ (r : Rule). children (tiling_of r)) c.checked-checked.ensures.rule) c.kinds-usable.ensures.limits) h in
-    let L : HasSearchLaws (points_of m.order) = subst (λ o. HasSearchLaws (points_of o)) (c.order.ensures.order ∙ ap (λ (r : Rule). r.order) c.checked-checked.ensures.rule) c.search_laws.ensures in
-    let inside = c.self.inside in
-    let same : ◌≡◌ {A = CoverValue} (record { window = inside.window; found = found_in inside.digits.items inside.found.items; border = c.pass.new.self; outlines = inside.outlines }) v =
-    ap (λ (b : List Waiting). record { window = inside.window; found = found_in inside.digits.items inside.found.items; border = b; outlines = inside.outlines }) c.pass.ensures ∙ c.self.view_is in
-    let x = found_as c.put_tile.new.tile in
-    let at : slice_get v.found c.args.first.tile ≡ Some x = subst (λ (y : CoverValue). slice_get y.found c.args.first.tile ≡ Some x) same c.put_tile.ensures.as_found in
-    let it = its_found m settled fits L f c.requires.right.frame v c.requires.right c.args.first.tile x at in
-    let a_is : address_found x ≡ address_of c.put_tile.new.tile.addr = sym (λ i. record { kind = c.put_tile.ensures.its_kind i; digits = (address_of c.put_tile.new.tile.addr).digits }) in
+    let p = (goal.at.cross-requires-clause-in_order g c).After-put_tile in
+    let it = is_found g p in
     it.in_order
 
 pub admit-requires-clause-exists : goal.admit-requires-clause-exists
@@ -159,22 +132,16 @@ admit-requires-clause-exists g c =
     let t = tiling_of m in
     let f = c.args.frame.now in
     let v = c.args.self.now in
-    let settled : IsSettled m = record { accepted = c.checked-checked.ensures.accepted; usable = c.checked-checked.ensures.usable; same_child_kinds = c.checked-checked.ensures.same_child_kinds } in
-    let fits : StillFits (children t) = λ base start n h. c.grown_fits_law.ensures (children t) base start n
-    (subst AreUsable (c.uses.ensures ∙ ap (λ (r : Rule). children (tiling_of r)) c.checked-checked.ensures.rule) c.kinds-usable.ensures.limits) h in
-    let L : HasSearchLaws (points_of m.order) = subst (λ o. HasSearchLaws (points_of o)) (c.order.ensures.order ∙ ap (λ (r : Rule). r.order) c.checked-checked.ensures.rule) c.search_laws.ensures in
-    let inside = c.self.inside in
-    let same : ◌≡◌ {A = CoverValue} (record { window = inside.window; found = found_in inside.digits.items inside.found.items; border = c.pass.new.self; outlines = inside.outlines }) v =
-    ap (λ (b : List Waiting). record { window = inside.window; found = found_in inside.digits.items inside.found.items; border = b; outlines = inside.outlines }) c.pass.ensures ∙ c.self.view_is in
+    let p = (goal.at.admit-requires-clause-exists g c).After-put_tile in
+    let B = brings g p in
     let x = found_as c.put_tile.new.tile in
-    let at : slice_get v.found c.args.first.tile ≡ Some x = subst (λ (y : CoverValue). slice_get y.found c.args.first.tile ≡ Some x) same c.put_tile.ensures.as_found in
-    let it = its_found m settled fits L f c.requires.right.frame v c.requires.right c.args.first.tile x at in
-    let a_is : address_found x ≡ address_of c.put_tile.new.tile.addr = sym (λ i. record { kind = c.put_tile.ensures.its_kind i; digits = (address_of c.put_tile.new.tile.addr).digits }) in
+    let at = at_first g p in
+    let a_is = its_address g p in
     let k = c.cross.new.frame in
     let tile = c.cross.new.tile in
     let h : GrowsTo t f k = c.in-Ok.ensures.frame in
     let crossed : IsCrossedTo t f k (address_found x) x.motion c.args.first.edge tile = subst (λ a. IsCrossedTo t f k a x.motion c.args.first.edge tile) (sym a_is) c.in-Ok.ensures.crossed in
-    kind_exists m settled fits L f k h v c.requires.right c.args.first c.requires.is_first x at tile crossed
+    kind_exists m B.settled B.fits B.laws f k h v c.requires.right c.args.first c.requires.is_first x at tile crossed
 
 pub admit-requires-clause-turn_below : goal.admit-requires-clause-turn_below
 admit-requires-clause-turn_below g c = c.in-Ok.ensures.crossed.turn_below
@@ -191,22 +158,17 @@ admit-requires-clause-new g c =
     let t = tiling_of m in
     let f = c.args.frame.now in
     let v = c.args.self.now in
-    let settled : IsSettled m = record { accepted = c.checked-checked.ensures.accepted; usable = c.checked-checked.ensures.usable; same_child_kinds = c.checked-checked.ensures.same_child_kinds } in
-    let fits : StillFits (children t) = λ base start n h. c.grown_fits_law.ensures (children t) base start n
-    (subst AreUsable (c.uses.ensures ∙ ap (λ (r : Rule). children (tiling_of r)) c.checked-checked.ensures.rule) c.kinds-usable.ensures.limits) h in
-    let L : HasSearchLaws (points_of m.order) = subst (λ o. HasSearchLaws (points_of o)) (c.order.ensures.order ∙ ap (λ (r : Rule). r.order) c.checked-checked.ensures.rule) c.search_laws.ensures in
-    let inside = c.self.inside in
-    let same : ◌≡◌ {A = CoverValue} (record { window = inside.window; found = found_in inside.digits.items inside.found.items; border = c.pass.new.self; outlines = inside.outlines }) v =
-    ap (λ (b : List Waiting). record { window = inside.window; found = found_in inside.digits.items inside.found.items; border = b; outlines = inside.outlines }) c.pass.ensures ∙ c.self.view_is in
+    let p = (goal.at.admit-requires-clause-new g c).After-put_tile in
+    let B = brings g p in
+    let same = passed g p in
     let x = found_as c.put_tile.new.tile in
-    let at : slice_get v.found c.args.first.tile ≡ Some x = subst (λ (y : CoverValue). slice_get y.found c.args.first.tile ≡ Some x) same c.put_tile.ensures.as_found in
-    let it = its_found m settled fits L f c.requires.right.frame v c.requires.right c.args.first.tile x at in
-    let a_is : address_found x ≡ address_of c.put_tile.new.tile.addr = sym (λ i. record { kind = c.put_tile.ensures.its_kind i; digits = (address_of c.put_tile.new.tile.addr).digits }) in
+    let at = at_first g p in
+    let a_is = its_address g p in
     let k = c.cross.new.frame in
     let tile = c.cross.new.tile in
     let h : GrowsTo t f k = c.in-Ok.ensures.frame in
     let crossed : IsCrossedTo t f k (address_found x) x.motion c.args.first.edge tile = subst (λ a. IsCrossedTo t f k a x.motion c.args.first.edge tile) (sym a_is) c.in-Ok.ensures.crossed in
-    subst (λ (y : CoverValue). (corners : List Point) → AreCorners t tile.kind tile.motion corners → AreNew corners y.border) (sym same) (edges_new m settled fits L f k h v c.requires.right c.args.first c.requires.is_first x at tile crossed)
+    subst (λ (y : CoverValue). (corners : List Point) → AreCorners t tile.kind tile.motion corners → AreNew corners y.border) (sym same) (edges_new m B.settled B.fits B.laws f k h v c.requires.right c.args.first c.requires.is_first x at tile crossed)
 
 pub returns-in-Ok-clause-frame : goal.returns-in-Ok-clause-frame
 returns-in-Ok-clause-frame g c = c.in-Ok.ensures.frame
@@ -217,23 +179,18 @@ returns-in-Ok-clause-steps_to g c =
     let t = tiling_of m in
     let f = c.args.frame.now in
     let v = c.args.self.now in
-    let settled : IsSettled m = record { accepted = c.checked-checked.ensures.accepted; usable = c.checked-checked.ensures.usable; same_child_kinds = c.checked-checked.ensures.same_child_kinds } in
-    let fits : StillFits (children t) = λ base start n h. c.grown_fits_law.ensures (children t) base start n
-    (subst AreUsable (c.uses.ensures ∙ ap (λ (r : Rule). children (tiling_of r)) c.checked-checked.ensures.rule) c.kinds-usable.ensures.limits) h in
-    let L : HasSearchLaws (points_of m.order) = subst (λ o. HasSearchLaws (points_of o)) (c.order.ensures.order ∙ ap (λ (r : Rule). r.order) c.checked-checked.ensures.rule) c.search_laws.ensures in
-    let inside = c.self.inside in
-    let same : ◌≡◌ {A = CoverValue} (record { window = inside.window; found = found_in inside.digits.items inside.found.items; border = c.pass.new.self; outlines = inside.outlines }) v =
-    ap (λ (b : List Waiting). record { window = inside.window; found = found_in inside.digits.items inside.found.items; border = b; outlines = inside.outlines }) c.pass.ensures ∙ c.self.view_is in
+    let p = (goal.at.returns-in-Ok-clause-steps_to g c).After-put_tile in
+    let B = brings g p in
+    let same = passed g p in
     let x = found_as c.put_tile.new.tile in
-    let at : slice_get v.found c.args.first.tile ≡ Some x = subst (λ (y : CoverValue). slice_get y.found c.args.first.tile ≡ Some x) same c.put_tile.ensures.as_found in
-    let it = its_found m settled fits L f c.requires.right.frame v c.requires.right c.args.first.tile x at in
-    let a_is : address_found x ≡ address_of c.put_tile.new.tile.addr = sym (λ i. record { kind = c.put_tile.ensures.its_kind i; digits = (address_of c.put_tile.new.tile.addr).digits }) in
+    let at = at_first g p in
+    let a_is = its_address g p in
     let k = c.cross.new.frame in
     let tile = c.cross.new.tile in
     let h : GrowsTo t f k = c.in-Ok.ensures.frame in
     let crossed : IsCrossedTo t f k (address_found x) x.motion c.args.first.edge tile = subst (λ a. IsCrossedTo t f k a x.motion c.args.first.edge tile) (sym a_is) c.in-Ok.ensures.crossed in
     let admitted : OnOk c.admit.result (IsAdmitted t v c.admit.new.self tile) = subst (λ y. OnOk c.admit.result (IsAdmitted t y c.admit.new.self tile)) same c.admit.ensures.admitted in
-    on_ok-each _ (StepsTo t f k v c.admit.new.self) c.admit.result (λ n. steps_to m settled fits L f k h v c.requires.right c.args.first c.requires.is_first x at tile crossed c.admit.new.self n) admitted
+    on_ok-each _ (StepsTo t f k v c.admit.new.self) c.admit.result (λ n. steps_to m B.settled B.fits B.laws f k h v c.requires.right c.args.first c.requires.is_first x at tile crossed c.admit.new.self n) admitted
 
 pub returns-in-Ok-clause-right : goal.returns-in-Ok-clause-right
 returns-in-Ok-clause-right g c =
@@ -241,23 +198,18 @@ returns-in-Ok-clause-right g c =
     let t = tiling_of m in
     let f = c.args.frame.now in
     let v = c.args.self.now in
-    let settled : IsSettled m = record { accepted = c.checked-checked.ensures.accepted; usable = c.checked-checked.ensures.usable; same_child_kinds = c.checked-checked.ensures.same_child_kinds } in
-    let fits : StillFits (children t) = λ base start n h. c.grown_fits_law.ensures (children t) base start n
-    (subst AreUsable (c.uses.ensures ∙ ap (λ (r : Rule). children (tiling_of r)) c.checked-checked.ensures.rule) c.kinds-usable.ensures.limits) h in
-    let L : HasSearchLaws (points_of m.order) = subst (λ o. HasSearchLaws (points_of o)) (c.order.ensures.order ∙ ap (λ (r : Rule). r.order) c.checked-checked.ensures.rule) c.search_laws.ensures in
-    let inside = c.self.inside in
-    let same : ◌≡◌ {A = CoverValue} (record { window = inside.window; found = found_in inside.digits.items inside.found.items; border = c.pass.new.self; outlines = inside.outlines }) v =
-    ap (λ (b : List Waiting). record { window = inside.window; found = found_in inside.digits.items inside.found.items; border = b; outlines = inside.outlines }) c.pass.ensures ∙ c.self.view_is in
+    let p = (goal.at.returns-in-Ok-clause-right g c).After-put_tile in
+    let B = brings g p in
+    let same = passed g p in
     let x = found_as c.put_tile.new.tile in
-    let at : slice_get v.found c.args.first.tile ≡ Some x = subst (λ (y : CoverValue). slice_get y.found c.args.first.tile ≡ Some x) same c.put_tile.ensures.as_found in
-    let it = its_found m settled fits L f c.requires.right.frame v c.requires.right c.args.first.tile x at in
-    let a_is : address_found x ≡ address_of c.put_tile.new.tile.addr = sym (λ i. record { kind = c.put_tile.ensures.its_kind i; digits = (address_of c.put_tile.new.tile.addr).digits }) in
+    let at = at_first g p in
+    let a_is = its_address g p in
     let k = c.cross.new.frame in
     let tile = c.cross.new.tile in
     let h : GrowsTo t f k = c.in-Ok.ensures.frame in
     let crossed : IsCrossedTo t f k (address_found x) x.motion c.args.first.edge tile = subst (λ a. IsCrossedTo t f k a x.motion c.args.first.edge tile) (sym a_is) c.in-Ok.ensures.crossed in
     let admitted : OnOk c.admit.result (IsAdmitted t v c.admit.new.self tile) = subst (λ y. OnOk c.admit.result (IsAdmitted t y c.admit.new.self tile)) same c.admit.ensures.admitted in
-    on_ok-each _ (IsRight t k c.admit.new.self) c.admit.result (λ n. right-next m settled fits L f k h v c.requires.right c.args.first c.requires.is_first x at tile crossed c.admit.new.self n) admitted
+    on_ok-each _ (IsRight t k c.admit.new.self) c.admit.result (λ n. right-next m B.settled B.fits B.laws f k h v c.requires.right c.args.first c.requires.is_first x at tile crossed c.admit.new.self n) admitted
 
 pub returns-in-Ok-clause-one_more : goal.returns-in-Ok-clause-one_more
 returns-in-Ok-clause-one_more g c =
@@ -265,23 +217,18 @@ returns-in-Ok-clause-one_more g c =
     let t = tiling_of m in
     let f = c.args.frame.now in
     let v = c.args.self.now in
-    let settled : IsSettled m = record { accepted = c.checked-checked.ensures.accepted; usable = c.checked-checked.ensures.usable; same_child_kinds = c.checked-checked.ensures.same_child_kinds } in
-    let fits : StillFits (children t) = λ base start n h. c.grown_fits_law.ensures (children t) base start n
-    (subst AreUsable (c.uses.ensures ∙ ap (λ (r : Rule). children (tiling_of r)) c.checked-checked.ensures.rule) c.kinds-usable.ensures.limits) h in
-    let L : HasSearchLaws (points_of m.order) = subst (λ o. HasSearchLaws (points_of o)) (c.order.ensures.order ∙ ap (λ (r : Rule). r.order) c.checked-checked.ensures.rule) c.search_laws.ensures in
-    let inside = c.self.inside in
-    let same : ◌≡◌ {A = CoverValue} (record { window = inside.window; found = found_in inside.digits.items inside.found.items; border = c.pass.new.self; outlines = inside.outlines }) v =
-    ap (λ (b : List Waiting). record { window = inside.window; found = found_in inside.digits.items inside.found.items; border = b; outlines = inside.outlines }) c.pass.ensures ∙ c.self.view_is in
+    let p = (goal.at.returns-in-Ok-clause-one_more g c).After-put_tile in
+    let B = brings g p in
+    let same = passed g p in
     let x = found_as c.put_tile.new.tile in
-    let at : slice_get v.found c.args.first.tile ≡ Some x = subst (λ (y : CoverValue). slice_get y.found c.args.first.tile ≡ Some x) same c.put_tile.ensures.as_found in
-    let it = its_found m settled fits L f c.requires.right.frame v c.requires.right c.args.first.tile x at in
-    let a_is : address_found x ≡ address_of c.put_tile.new.tile.addr = sym (λ i. record { kind = c.put_tile.ensures.its_kind i; digits = (address_of c.put_tile.new.tile.addr).digits }) in
+    let at = at_first g p in
+    let a_is = its_address g p in
     let k = c.cross.new.frame in
     let tile = c.cross.new.tile in
     let h : GrowsTo t f k = c.in-Ok.ensures.frame in
     let crossed : IsCrossedTo t f k (address_found x) x.motion c.args.first.edge tile = subst (λ a. IsCrossedTo t f k a x.motion c.args.first.edge tile) (sym a_is) c.in-Ok.ensures.crossed in
     let admitted : OnOk c.admit.result (IsAdmitted t v c.admit.new.self tile) = subst (λ y. OnOk c.admit.result (IsAdmitted t y c.admit.new.self tile)) same c.admit.ensures.admitted in
-    on_ok-each _ (length c.admit.new.self.found ≡ suc (length v.found)) c.admit.result (λ n. one_more m settled fits L f k h v c.requires.right c.args.first c.requires.is_first x at tile crossed c.admit.new.self n ∙ add-one (length v.found)) admitted
+    on_ok-each _ (length c.admit.new.self.found ≡ suc (length v.found)) c.admit.result (λ n. one_more m B.settled B.fits B.laws f k h v c.requires.right c.args.first c.requires.is_first x at tile crossed c.admit.new.self n ∙ add-one (length v.found)) admitted
 
 pub returns-in-Ok-clause-not_beyond : goal.returns-in-Ok-clause-not_beyond
 returns-in-Ok-clause-not_beyond g c =
@@ -289,22 +236,16 @@ returns-in-Ok-clause-not_beyond g c =
     let t = tiling_of m in
     let f = c.args.frame.now in
     let v = c.args.self.now in
-    let settled : IsSettled m = record { accepted = c.checked-checked.ensures.accepted; usable = c.checked-checked.ensures.usable; same_child_kinds = c.checked-checked.ensures.same_child_kinds } in
-    let fits : StillFits (children t) = λ base start n h. c.grown_fits_law.ensures (children t) base start n
-    (subst AreUsable (c.uses.ensures ∙ ap (λ (r : Rule). children (tiling_of r)) c.checked-checked.ensures.rule) c.kinds-usable.ensures.limits) h in
-    let L : HasSearchLaws (points_of m.order) = subst (λ o. HasSearchLaws (points_of o)) (c.order.ensures.order ∙ ap (λ (r : Rule). r.order) c.checked-checked.ensures.rule) c.search_laws.ensures in
-    let inside = c.self.inside in
-    let same : ◌≡◌ {A = CoverValue} (record { window = inside.window; found = found_in inside.digits.items inside.found.items; border = c.pass.new.self; outlines = inside.outlines }) v =
-    ap (λ (b : List Waiting). record { window = inside.window; found = found_in inside.digits.items inside.found.items; border = b; outlines = inside.outlines }) c.pass.ensures ∙ c.self.view_is in
+    let p = (goal.at.returns-in-Ok-clause-not_beyond g c).After-put_tile in
+    let B = brings g p in
     let x = found_as c.put_tile.new.tile in
-    let at : slice_get v.found c.args.first.tile ≡ Some x = subst (λ (y : CoverValue). slice_get y.found c.args.first.tile ≡ Some x) same c.put_tile.ensures.as_found in
-    let it = its_found m settled fits L f c.requires.right.frame v c.requires.right c.args.first.tile x at in
-    let a_is : address_found x ≡ address_of c.put_tile.new.tile.addr = sym (λ i. record { kind = c.put_tile.ensures.its_kind i; digits = (address_of c.put_tile.new.tile.addr).digits }) in
+    let at = at_first g p in
+    let a_is = its_address g p in
     let k = c.cross.new.frame in
     let tile = c.cross.new.tile in
     let h : GrowsTo t f k = c.in-Ok.ensures.frame in
     let crossed : IsCrossedTo t f k (address_found x) x.motion c.args.first.edge tile = subst (λ a. IsCrossedTo t f k a x.motion c.args.first.edge tile) (sym a_is) c.in-Ok.ensures.crossed in
-    not_beyond_next m settled fits L f k h v c.requires.right c.args.first c.requires.is_first x at tile crossed
+    not_beyond_next m B.settled B.fits B.laws f k h v c.requires.right c.args.first c.requires.is_first x at tile crossed
 
 pub returns-in-Ok-clause-within : goal.returns-in-Ok-clause-within
 returns-in-Ok-clause-within g c =
@@ -312,23 +253,18 @@ returns-in-Ok-clause-within g c =
     let t = tiling_of m in
     let f = c.args.frame.now in
     let v = c.args.self.now in
-    let settled : IsSettled m = record { accepted = c.checked-checked.ensures.accepted; usable = c.checked-checked.ensures.usable; same_child_kinds = c.checked-checked.ensures.same_child_kinds } in
-    let fits : StillFits (children t) = λ base start n h. c.grown_fits_law.ensures (children t) base start n
-    (subst AreUsable (c.uses.ensures ∙ ap (λ (r : Rule). children (tiling_of r)) c.checked-checked.ensures.rule) c.kinds-usable.ensures.limits) h in
-    let L : HasSearchLaws (points_of m.order) = subst (λ o. HasSearchLaws (points_of o)) (c.order.ensures.order ∙ ap (λ (r : Rule). r.order) c.checked-checked.ensures.rule) c.search_laws.ensures in
-    let inside = c.self.inside in
-    let same : ◌≡◌ {A = CoverValue} (record { window = inside.window; found = found_in inside.digits.items inside.found.items; border = c.pass.new.self; outlines = inside.outlines }) v =
-    ap (λ (b : List Waiting). record { window = inside.window; found = found_in inside.digits.items inside.found.items; border = b; outlines = inside.outlines }) c.pass.ensures ∙ c.self.view_is in
+    let p = (goal.at.returns-in-Ok-clause-within g c).After-put_tile in
+    let B = brings g p in
+    let same = passed g p in
     let x = found_as c.put_tile.new.tile in
-    let at : slice_get v.found c.args.first.tile ≡ Some x = subst (λ (y : CoverValue). slice_get y.found c.args.first.tile ≡ Some x) same c.put_tile.ensures.as_found in
-    let it = its_found m settled fits L f c.requires.right.frame v c.requires.right c.args.first.tile x at in
-    let a_is : address_found x ≡ address_of c.put_tile.new.tile.addr = sym (λ i. record { kind = c.put_tile.ensures.its_kind i; digits = (address_of c.put_tile.new.tile.addr).digits }) in
+    let at = at_first g p in
+    let a_is = its_address g p in
     let k = c.cross.new.frame in
     let tile = c.cross.new.tile in
     let h : GrowsTo t f k = c.in-Ok.ensures.frame in
     let crossed : IsCrossedTo t f k (address_found x) x.motion c.args.first.edge tile = subst (λ a. IsCrossedTo t f k a x.motion c.args.first.edge tile) (sym a_is) c.in-Ok.ensures.crossed in
     let why : IfErr c.admit.result (IsNotAdmitted t v tile) = subst (λ y. IfErr c.admit.result (IsNotAdmitted t y tile)) same c.admit.ensures.cause in
-    λ f0 grows within. within_next m settled fits L f k h v c.requires.right c.args.first c.requires.is_first x at tile crossed f0 grows within c.admit.result why
+    λ f0 grows within. within_next m B.settled B.fits B.laws f k h v c.requires.right c.args.first c.requires.is_first x at tile crossed f0 grows within c.admit.result why
 
 pub returns-in-Ok-clause-cause : goal.returns-in-Ok-clause-cause
 returns-in-Ok-clause-cause g c =
@@ -336,23 +272,18 @@ returns-in-Ok-clause-cause g c =
     let t = tiling_of m in
     let f = c.args.frame.now in
     let v = c.args.self.now in
-    let settled : IsSettled m = record { accepted = c.checked-checked.ensures.accepted; usable = c.checked-checked.ensures.usable; same_child_kinds = c.checked-checked.ensures.same_child_kinds } in
-    let fits : StillFits (children t) = λ base start n h. c.grown_fits_law.ensures (children t) base start n
-    (subst AreUsable (c.uses.ensures ∙ ap (λ (r : Rule). children (tiling_of r)) c.checked-checked.ensures.rule) c.kinds-usable.ensures.limits) h in
-    let L : HasSearchLaws (points_of m.order) = subst (λ o. HasSearchLaws (points_of o)) (c.order.ensures.order ∙ ap (λ (r : Rule). r.order) c.checked-checked.ensures.rule) c.search_laws.ensures in
-    let inside = c.self.inside in
-    let same : ◌≡◌ {A = CoverValue} (record { window = inside.window; found = found_in inside.digits.items inside.found.items; border = c.pass.new.self; outlines = inside.outlines }) v =
-    ap (λ (b : List Waiting). record { window = inside.window; found = found_in inside.digits.items inside.found.items; border = b; outlines = inside.outlines }) c.pass.ensures ∙ c.self.view_is in
+    let p = (goal.at.returns-in-Ok-clause-cause g c).After-put_tile in
+    let B = brings g p in
+    let same = passed g p in
     let x = found_as c.put_tile.new.tile in
-    let at : slice_get v.found c.args.first.tile ≡ Some x = subst (λ (y : CoverValue). slice_get y.found c.args.first.tile ≡ Some x) same c.put_tile.ensures.as_found in
-    let it = its_found m settled fits L f c.requires.right.frame v c.requires.right c.args.first.tile x at in
-    let a_is : address_found x ≡ address_of c.put_tile.new.tile.addr = sym (λ i. record { kind = c.put_tile.ensures.its_kind i; digits = (address_of c.put_tile.new.tile.addr).digits }) in
+    let at = at_first g p in
+    let a_is = its_address g p in
     let k = c.cross.new.frame in
     let tile = c.cross.new.tile in
     let h : GrowsTo t f k = c.in-Ok.ensures.frame in
     let crossed : IsCrossedTo t f k (address_found x) x.motion c.args.first.edge tile = subst (λ a. IsCrossedTo t f k a x.motion c.args.first.edge tile) (sym a_is) c.in-Ok.ensures.crossed in
     let why : IfErr c.admit.result (IsNotAdmitted t v tile) = subst (λ y. IfErr c.admit.result (IsNotAdmitted t y tile)) same c.admit.ensures.cause in
-    cause_next m settled fits L f k h v c.requires.right c.args.first c.requires.is_first x at tile crossed c.admit.result why
+    cause_next m B.settled B.fits B.laws f k h v c.requires.right c.args.first c.requires.is_first x at tile crossed c.admit.result why
 
 pub returns-in-Err-clause-frame : goal.returns-in-Err-clause-frame
 returns-in-Err-clause-frame g c = c.in-Err.ensures.frame
@@ -363,19 +294,13 @@ returns-in-Err-clause-not_beyond g c =
     let t = tiling_of m in
     let f = c.args.frame.now in
     let v = c.args.self.now in
-    let settled : IsSettled m = record { accepted = c.checked-checked.ensures.accepted; usable = c.checked-checked.ensures.usable; same_child_kinds = c.checked-checked.ensures.same_child_kinds } in
-    let fits : StillFits (children t) = λ base start n h. c.grown_fits_law.ensures (children t) base start n
-    (subst AreUsable (c.uses.ensures ∙ ap (λ (r : Rule). children (tiling_of r)) c.checked-checked.ensures.rule) c.kinds-usable.ensures.limits) h in
-    let L : HasSearchLaws (points_of m.order) = subst (λ o. HasSearchLaws (points_of o)) (c.order.ensures.order ∙ ap (λ (r : Rule). r.order) c.checked-checked.ensures.rule) c.search_laws.ensures in
-    let inside = c.self.inside in
-    let same : ◌≡◌ {A = CoverValue} (record { window = inside.window; found = found_in inside.digits.items inside.found.items; border = c.pass.new.self; outlines = inside.outlines }) v =
-    ap (λ (b : List Waiting). record { window = inside.window; found = found_in inside.digits.items inside.found.items; border = b; outlines = inside.outlines }) c.pass.ensures ∙ c.self.view_is in
+    let p = (goal.at.returns-in-Err-clause-not_beyond g c).After-put_tile in
+    let B = brings g p in
     let x = found_as c.put_tile.new.tile in
-    let at : slice_get v.found c.args.first.tile ≡ Some x = subst (λ (y : CoverValue). slice_get y.found c.args.first.tile ≡ Some x) same c.put_tile.ensures.as_found in
-    let it = its_found m settled fits L f c.requires.right.frame v c.requires.right c.args.first.tile x at in
-    let a_is : address_found x ≡ address_of c.put_tile.new.tile.addr = sym (λ i. record { kind = c.put_tile.ensures.its_kind i; digits = (address_of c.put_tile.new.tile.addr).digits }) in
+    let at = at_first g p in
+    let a_is = its_address g p in
     let on : IsBoundaryEdge t (lifted_in (full t f) (address_found x)) c.args.first.edge = subst (λ a. IsBoundaryEdge t (lifted_in (full t f) a) c.args.first.edge) (sym a_is) (c.in-Err.ensures.limit_exactly.0 refl) in
-    λ f0 n grows enough below. absurd (not_enough m settled fits L f v c.requires.right c.args.first c.requires.is_first x at on f0 n grows enough)
+    λ f0 n grows enough below. absurd (not_enough m B.settled B.fits B.laws f v c.requires.right c.args.first c.requires.is_first x at on f0 n grows enough)
 
 pub returns-in-Err-clause-within : goal.returns-in-Err-clause-within
 returns-in-Err-clause-within g c =
@@ -383,19 +308,13 @@ returns-in-Err-clause-within g c =
     let t = tiling_of m in
     let f = c.args.frame.now in
     let v = c.args.self.now in
-    let settled : IsSettled m = record { accepted = c.checked-checked.ensures.accepted; usable = c.checked-checked.ensures.usable; same_child_kinds = c.checked-checked.ensures.same_child_kinds } in
-    let fits : StillFits (children t) = λ base start n h. c.grown_fits_law.ensures (children t) base start n
-    (subst AreUsable (c.uses.ensures ∙ ap (λ (r : Rule). children (tiling_of r)) c.checked-checked.ensures.rule) c.kinds-usable.ensures.limits) h in
-    let L : HasSearchLaws (points_of m.order) = subst (λ o. HasSearchLaws (points_of o)) (c.order.ensures.order ∙ ap (λ (r : Rule). r.order) c.checked-checked.ensures.rule) c.search_laws.ensures in
-    let inside = c.self.inside in
-    let same : ◌≡◌ {A = CoverValue} (record { window = inside.window; found = found_in inside.digits.items inside.found.items; border = c.pass.new.self; outlines = inside.outlines }) v =
-    ap (λ (b : List Waiting). record { window = inside.window; found = found_in inside.digits.items inside.found.items; border = b; outlines = inside.outlines }) c.pass.ensures ∙ c.self.view_is in
+    let p = (goal.at.returns-in-Err-clause-within g c).After-put_tile in
+    let B = brings g p in
     let x = found_as c.put_tile.new.tile in
-    let at : slice_get v.found c.args.first.tile ≡ Some x = subst (λ (y : CoverValue). slice_get y.found c.args.first.tile ≡ Some x) same c.put_tile.ensures.as_found in
-    let it = its_found m settled fits L f c.requires.right.frame v c.requires.right c.args.first.tile x at in
-    let a_is : address_found x ≡ address_of c.put_tile.new.tile.addr = sym (λ i. record { kind = c.put_tile.ensures.its_kind i; digits = (address_of c.put_tile.new.tile.addr).digits }) in
+    let at = at_first g p in
+    let a_is = its_address g p in
     let on : IsBoundaryEdge t (lifted_in (full t f) (address_found x)) c.args.first.edge = subst (λ a. IsBoundaryEdge t (lifted_in (full t f) a) c.args.first.edge) (sym a_is) (c.in-Err.ensures.limit_exactly.0 refl) in
-    λ f0 grows within. absurd (not_within m settled fits L f v c.requires.right c.args.first c.requires.is_first x at on f0 grows within)
+    λ f0 grows within. absurd (not_within m B.settled B.fits B.laws f v c.requires.right c.args.first c.requires.is_first x at on f0 grows within)
 
 pub returns-in-Err-clause-cause : goal.returns-in-Err-clause-cause
 returns-in-Err-clause-cause g c =
@@ -403,16 +322,10 @@ returns-in-Err-clause-cause g c =
     let t = tiling_of m in
     let f = c.args.frame.now in
     let v = c.args.self.now in
-    let settled : IsSettled m = record { accepted = c.checked-checked.ensures.accepted; usable = c.checked-checked.ensures.usable; same_child_kinds = c.checked-checked.ensures.same_child_kinds } in
-    let fits : StillFits (children t) = λ base start n h. c.grown_fits_law.ensures (children t) base start n
-    (subst AreUsable (c.uses.ensures ∙ ap (λ (r : Rule). children (tiling_of r)) c.checked-checked.ensures.rule) c.kinds-usable.ensures.limits) h in
-    let L : HasSearchLaws (points_of m.order) = subst (λ o. HasSearchLaws (points_of o)) (c.order.ensures.order ∙ ap (λ (r : Rule). r.order) c.checked-checked.ensures.rule) c.search_laws.ensures in
-    let inside = c.self.inside in
-    let same : ◌≡◌ {A = CoverValue} (record { window = inside.window; found = found_in inside.digits.items inside.found.items; border = c.pass.new.self; outlines = inside.outlines }) v =
-    ap (λ (b : List Waiting). record { window = inside.window; found = found_in inside.digits.items inside.found.items; border = b; outlines = inside.outlines }) c.pass.ensures ∙ c.self.view_is in
+    let p = (goal.at.returns-in-Err-clause-cause g c).After-put_tile in
+    let B = brings g p in
     let x = found_as c.put_tile.new.tile in
-    let at : slice_get v.found c.args.first.tile ≡ Some x = subst (λ (y : CoverValue). slice_get y.found c.args.first.tile ≡ Some x) same c.put_tile.ensures.as_found in
-    let it = its_found m settled fits L f c.requires.right.frame v c.requires.right c.args.first.tile x at in
-    let a_is : address_found x ≡ address_of c.put_tile.new.tile.addr = sym (λ i. record { kind = c.put_tile.ensures.its_kind i; digits = (address_of c.put_tile.new.tile.addr).digits }) in
+    let at = at_first g p in
+    let a_is = its_address g p in
     let on : IsBoundaryEdge t (lifted_in (full t f) (address_found x)) c.args.first.edge = subst (λ a. IsBoundaryEdge t (lifted_in (full t f) a) c.args.first.edge) (sym a_is) (c.in-Err.ensures.limit_exactly.0 refl) in
-    depth_limit m settled fits L f v c.requires.right c.args.first c.requires.is_first x at on c.cross.new.frame c.in-Err.ensures.frame c.in-Err.ensures.deepest_at_limit c.in-Err.limit.addr (c.in-Err.ensures.limit_tile ∙ ap (lifted_in (full t f)) (sym a_is)) c.in-Err.limit.edge c.in-Err.ensures.limit_edge
+    depth_limit m B.settled B.fits B.laws f v c.requires.right c.args.first c.requires.is_first x at on c.cross.new.frame c.in-Err.ensures.frame c.in-Err.ensures.deepest_at_limit c.in-Err.limit.addr (c.in-Err.ensures.limit_tile ∙ ap (lifted_in (full t f)) (sym a_is)) c.in-Err.limit.edge c.in-Err.ensures.limit_edge

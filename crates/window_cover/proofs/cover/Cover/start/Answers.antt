@@ -1,22 +1,32 @@
-use Rattle.std.proofs.Common.{◌≡◌, inl, inr, List, [], length, refl, sym, ap, ap₂, ◌∙◌, subst, arith}
+use Rattle.std.specs.List.{AllByRecursion}
+use Rattle.std.proofs.Common.{◌≡◌, inl, inr, ℕ, ◌≤◌, List, [], length, refl, sym, ap, ap₂, subst, arith}
 use Rattle.cyclo_points.specs.declared.point.Point.{Point}
-use Rattle.cyclo_points.specs.Order.{points_of}
-use Rattle.lazy_walk.proofs.Walks.{StillFits}
-use Rattle.rule_model.specs.declared.rule.Rule.{Rule}
-use Rattle.rule_model.specs.Tiling.{tiling_of, children}
-use Rattle.tile_place.proofs.Plane.{IsSettled}
-use Rattle.tile_shape.specs.Usable.{AreUsable}
+use Rattle.rule_model.specs.Tiling.{tiling_of}
 use Rattle.window_cover.specs.declared.cover_fault.CoverFault.TheVariants.{CoordLimit}
+use Rattle.window_cover.specs.declared.found_tile.FoundTile.{FoundTile}
 use Rattle.window_cover.specs.Admitted.{AreCorners}
 use Rattle.window_cover.specs.Causes.{HasCause}
 use Rattle.window_cover.specs.Found.{CoverValue}
 use Rattle.window_cover.specs.Kept.{found_in, AreKept}
+use Rattle.window_cover.specs.Keys.{FitsKey}
 use Rattle.window_cover.specs.NewEdges.{AreNew}
-use Rattle.window_cover.specs.SearchLaws.{HasSearchLaws}
+use Rattle.window_cover.specs.Windows.{IsLeastEnough}
+use Rattle.window_cover.proofs.Brought.{Brings, brought}
 use Rattle.window_cover.proofs.Outcomes.{on_ok-err, if_ok-err, if_err-is, no_memory-on, only_memory}
 use Rattle.window_cover.proofs.StartState.{kind_exists, edges_new, right-first, one_tile, its_window}
 use Rattle.window_cover.proofs.StartLimits.{not_beyond_start, answered_first, cause_first}
+use Rattle.window_cover.proofs.cover.Cover.start.Goals.{After-contain}
 use Rattle.window_cover.proofs.cover.Cover.start.Goals as goal
+
+-- what the rule and the laws bring
+brings : (c : After-contain) → Brings c.args.machine.now
+brings c = brought c.args.machine.now _ _ _ c.checked-checked.ensures.rule c.checked-checked.ensures.accepted c.checked-checked.ensures.usable c.checked-checked.ensures.same_child_kinds
+    c.uses.ensures c.kinds-usable.ensures.limits c.order-order.ensures.order c.search_laws.ensures c.grown_fits_law.ensures
+
+not_beyond : (c : After-contain) (n : ℕ) → IsLeastEnough (tiling_of c.args.machine.now) c.args.frame.now c.args.window.now n → length c.contain.new.self.digits ≤ n
+not_beyond c =
+    let B = brings c in
+    not_beyond_start c.args.machine.now B.settled B.fits B.laws c.args.frame.now c.requires.frame c.contain.new.self c.contain.ensures.frame c.args.window.now c.requires.window_fits c.contain.ensures.least
 
 pub contain-requires-clause-frame : goal.contain-requires-clause-frame
 contain-requires-clause-frame c = c.requires.frame
@@ -37,38 +47,25 @@ pub returns-in_err-tile-clause-one_tile : goal.returns-in_err-tile-clause-one_ti
 returns-in_err-tile-clause-one_tile c = if_ok-err _ c.from_residual.result c.from_residual.ensures.0
 
 pub returns-in_err-tile-clause-not_beyond : goal.returns-in_err-tile-clause-not_beyond
-returns-in_err-tile-clause-not_beyond c =
-    let m = c.args.machine.now in
-    let t = tiling_of m in
-    let f = c.args.frame.now in
-    let settled : IsSettled m = record { accepted = c.checked-checked.ensures.accepted; usable = c.checked-checked.ensures.usable; same_child_kinds = c.checked-checked.ensures.same_child_kinds } in
-    let fits : StillFits (children t) = λ base start n h. c.grown_fits_law.ensures (children t) base start n
-    (subst AreUsable (c.uses.ensures ∙ ap (λ (r : Rule). children (tiling_of r)) c.checked-checked.ensures.rule) c.kinds-usable.ensures.limits) h in
-    let same_order = c.order-order.ensures.order ∙ ap (λ (r : Rule). r.order) c.checked-checked.ensures.rule in
-    let L : HasSearchLaws (points_of m.order) = subst (λ o. HasSearchLaws (points_of o)) same_order c.search_laws.ensures in
-    let k = c.contain.new.self in
-    let w = c.args.window.now in
-    not_beyond_start m settled fits L f c.requires.frame k c.contain.ensures.frame w c.requires.window_fits c.contain.ensures.least
+returns-in_err-tile-clause-not_beyond c = not_beyond (goal.at.returns-in_err-tile-clause-not_beyond c).After-contain
 
 pub returns-in_err-outlines-clause-not_beyond : goal.returns-in_err-outlines-clause-not_beyond
-returns-in_err-outlines-clause-not_beyond c =
-    let m = c.args.machine.now in
-    let t = tiling_of m in
-    let f = c.args.frame.now in
-    let settled : IsSettled m = record { accepted = c.checked-checked.ensures.accepted; usable = c.checked-checked.ensures.usable; same_child_kinds = c.checked-checked.ensures.same_child_kinds } in
-    let fits : StillFits (children t) = λ base start n h. c.grown_fits_law.ensures (children t) base start n
-    (subst AreUsable (c.uses.ensures ∙ ap (λ (r : Rule). children (tiling_of r)) c.checked-checked.ensures.rule) c.kinds-usable.ensures.limits) h in
-    let same_order = c.order-order.ensures.order ∙ ap (λ (r : Rule). r.order) c.checked-checked.ensures.rule in
-    let L : HasSearchLaws (points_of m.order) = subst (λ o. HasSearchLaws (points_of o)) same_order c.search_laws.ensures in
-    let k = c.contain.new.self in
-    let w = c.args.window.now in
-    not_beyond_start m settled fits L f c.requires.frame k c.contain.ensures.frame w c.requires.window_fits c.contain.ensures.least
+returns-in_err-outlines-clause-not_beyond c = not_beyond (goal.at.returns-in_err-outlines-clause-not_beyond c).After-contain
 
 pub returns-in_err-outlines-clause-centre_found : goal.returns-in_err-outlines-clause-centre_found
 returns-in_err-outlines-clause-centre_found c = on_ok-err _ c.from_residual-in_err-outlines.result c.from_residual-in_err-outlines.ensures.0
 
 pub returns-in_err-outlines-clause-answered : goal.returns-in_err-outlines-clause-answered
 returns-in_err-outlines-clause-answered c = λ within. only_memory c.from_residual-in_err-outlines.result c.from_residual-in_err-outlines.ensures.1
+
+pub returns-in_err-gluings-clause-not_beyond : goal.returns-in_err-gluings-clause-not_beyond
+returns-in_err-gluings-clause-not_beyond c = not_beyond (goal.at.returns-in_err-gluings-clause-not_beyond c).After-contain
+
+pub returns-in_err-gluings-clause-centre_found : goal.returns-in_err-gluings-clause-centre_found
+returns-in_err-gluings-clause-centre_found c = on_ok-err _ c.from_residual-in_err-gluings.result c.from_residual-in_err-gluings.ensures.0
+
+pub returns-in_err-gluings-clause-answered : goal.returns-in_err-gluings-clause-answered
+returns-in_err-gluings-clause-answered c = λ within. only_memory c.from_residual-in_err-gluings.result c.from_residual-in_err-gluings.ensures.1
 
 pub returns-in_err-admit-clause-frame : goal.returns-in_err-admit-clause-frame
 returns-in_err-admit-clause-frame c = c.contain.ensures.frame
@@ -83,18 +80,7 @@ pub returns-in_err-admit-clause-one_tile : goal.returns-in_err-admit-clause-one_
 returns-in_err-admit-clause-one_tile c = if_ok-err _ c.from_residual-in_err-admit.result c.from_residual-in_err-admit.ensures.0
 
 pub returns-in_err-admit-clause-not_beyond : goal.returns-in_err-admit-clause-not_beyond
-returns-in_err-admit-clause-not_beyond c =
-    let m = c.args.machine.now in
-    let t = tiling_of m in
-    let f = c.args.frame.now in
-    let settled : IsSettled m = record { accepted = c.checked-checked.ensures.accepted; usable = c.checked-checked.ensures.usable; same_child_kinds = c.checked-checked.ensures.same_child_kinds } in
-    let fits : StillFits (children t) = λ base start n h. c.grown_fits_law.ensures (children t) base start n
-    (subst AreUsable (c.uses.ensures ∙ ap (λ (r : Rule). children (tiling_of r)) c.checked-checked.ensures.rule) c.kinds-usable.ensures.limits) h in
-    let same_order = c.order-order.ensures.order ∙ ap (λ (r : Rule). r.order) c.checked-checked.ensures.rule in
-    let L : HasSearchLaws (points_of m.order) = subst (λ o. HasSearchLaws (points_of o)) same_order c.search_laws.ensures in
-    let k = c.contain.new.self in
-    let w = c.args.window.now in
-    not_beyond_start m settled fits L f c.requires.frame k c.contain.ensures.frame w c.requires.window_fits c.contain.ensures.least
+returns-in_err-admit-clause-not_beyond c = not_beyond (goal.at.returns-in_err-admit-clause-not_beyond c).After-contain
 
 pub returns-in_err-tile-clause-answered : goal.returns-in_err-tile-clause-answered
 returns-in_err-tile-clause-answered c = λ within. let e = c.in_err-tile.ensures.found_exactly.1 within.centre_found in cc (e)
@@ -105,60 +91,44 @@ returns-in_err-tile-clause-cause c = if_err-is (HasCause (tiling_of c.args.machi
 pub returns-in_err-admit-clause-answered : goal.returns-in_err-admit-clause-answered
 returns-in_err-admit-clause-answered c =
     let m = c.args.machine.now in
-    let t = tiling_of m in
     let f = c.args.frame.now in
-    let settled : IsSettled m = record { accepted = c.checked-checked.ensures.accepted; usable = c.checked-checked.ensures.usable; same_child_kinds = c.checked-checked.ensures.same_child_kinds } in
-    let fits : StillFits (children t) = λ base start n h. c.grown_fits_law.ensures (children t) base start n
-    (subst AreUsable (c.uses.ensures ∙ ap (λ (r : Rule). children (tiling_of r)) c.checked-checked.ensures.rule) c.kinds-usable.ensures.limits) h in
-    let same_order = c.order-order.ensures.order ∙ ap (λ (r : Rule). r.order) c.checked-checked.ensures.rule in
-    let L : HasSearchLaws (points_of m.order) = subst (λ o. HasSearchLaws (points_of o)) same_order c.search_laws.ensures in
     let k = c.contain.new.self in
     let w = c.args.window.now in
+    let B = brings (goal.at.returns-in_err-admit-clause-answered c).After-contain in
     let tile = c.in_ok-tile.tile in
-    let c0 : CoverValue = record { window = w; found = found_in c.new-3.result.items c.new-2.result.items; border = c.new-4.result; outlines = c.in_ok-outlines.outlines } in
-    let none : length c0.found ≡ 0 = ap (λ xs. length (found_in c.new-3.result.items xs)) c.new-2.ensures.items in
-    λ within. no_memory-on c.admit.result c.from_residual-in_err-admit.result c.in_err-admit.field-0.0 c.in_err-admit.was c.from_residual-in_err-admit.ensures.1 (answered_first m settled fits L f c.requires.frame k c.contain.ensures.frame w c.requires.window_fits c.contain.ensures.least tile c.in_ok-tile.ensures.stands c.in_ok-tile.ensures.only_tile c0 none within c.admit.result c.admit.ensures.cause)
+    let c0 : CoverValue = record { window = w; found = found_in c.new-4.result.items c.new-3.result.items; border = c.new-5.result; outlines = c.in_ok-outlines.outlines; gluings = c.in_ok-gluings.gluings } in
+    let none : length c0.found ≡ 0 = ap (λ xs. length (found_in c.new-4.result.items xs)) c.new-3.ensures.items in
+    λ within. no_memory-on c.admit.result c.from_residual-in_err-admit.result c.in_err-admit.field-0.0 c.in_err-admit.was c.from_residual-in_err-admit.ensures.1 (answered_first m B.settled B.fits B.laws f c.requires.frame k c.contain.ensures.frame w c.requires.window_fits c.contain.ensures.least tile c.in_ok-tile.ensures.stands c.in_ok-tile.ensures.only_tile c0 none within c.admit.result c.admit.ensures.cause)
 
 pub returns-in_err-admit-clause-cause : goal.returns-in_err-admit-clause-cause
 returns-in_err-admit-clause-cause c =
     let m = c.args.machine.now in
     let t = tiling_of m in
     let f = c.args.frame.now in
-    let settled : IsSettled m = record { accepted = c.checked-checked.ensures.accepted; usable = c.checked-checked.ensures.usable; same_child_kinds = c.checked-checked.ensures.same_child_kinds } in
-    let fits : StillFits (children t) = λ base start n h. c.grown_fits_law.ensures (children t) base start n
-    (subst AreUsable (c.uses.ensures ∙ ap (λ (r : Rule). children (tiling_of r)) c.checked-checked.ensures.rule) c.kinds-usable.ensures.limits) h in
-    let same_order = c.order-order.ensures.order ∙ ap (λ (r : Rule). r.order) c.checked-checked.ensures.rule in
-    let L : HasSearchLaws (points_of m.order) = subst (λ o. HasSearchLaws (points_of o)) same_order c.search_laws.ensures in
     let k = c.contain.new.self in
     let w = c.args.window.now in
+    let B = brings (goal.at.returns-in_err-admit-clause-cause c).After-contain in
     let tile = c.in_ok-tile.tile in
-    let c0 : CoverValue = record { window = w; found = found_in c.new-3.result.items c.new-2.result.items; border = c.new-4.result; outlines = c.in_ok-outlines.outlines } in
-    let none : length c0.found ≡ 0 = ap (λ xs. length (found_in c.new-3.result.items xs)) c.new-2.ensures.items in
-    if_err-is (HasCause t f k w) c.from_residual-in_err-admit.result c.in_err-admit.field-0.0 c.from_residual-in_err-admit.ensures.1 (cause_first m settled fits L f c.requires.frame k c.contain.ensures.frame w c.requires.window_fits c.contain.ensures.least tile c.in_ok-tile.ensures.stands c.in_ok-tile.ensures.only_tile c0 none c.in_err-admit.field-0.0 c.in_err-admit.ensures.cause)
+    let c0 : CoverValue = record { window = w; found = found_in c.new-4.result.items c.new-3.result.items; border = c.new-5.result; outlines = c.in_ok-outlines.outlines; gluings = c.in_ok-gluings.gluings } in
+    let none : length c0.found ≡ 0 = ap (λ xs. length (found_in c.new-4.result.items xs)) c.new-3.ensures.items in
+    if_err-is (HasCause t f k w) c.from_residual-in_err-admit.result c.in_err-admit.field-0.0 c.from_residual-in_err-admit.ensures.1 (cause_first m B.settled B.fits B.laws f c.requires.frame k c.contain.ensures.frame w c.requires.window_fits c.contain.ensures.least tile c.in_ok-tile.ensures.stands c.in_ok-tile.ensures.only_tile c0 none c.in_err-admit.field-0.0 c.in_err-admit.ensures.cause)
 
 pub invariant_of-cover : goal.invariant_of-cover
 invariant_of-cover c =
     let m = c.args.machine.now in
-    let found = ap length c.new-2.ensures.items in
-    let border = ap length c.new-4.ensures in
-    record { spans = subst (AreKept c.new-3.result.items) (sym c.new-2.ensures.items) tt; few_tiles = omega (arith, found); few_open = omega (arith, found, border) }
+    let found = ap length c.new-3.ensures.items in
+    let border = ap length c.new-5.ensures in
+    record { spans = subst (AreKept c.new-4.result.items) (sym c.new-3.ensures.items) tt; keyed = subst (AllByRecursion (λ (y : FoundTile). FitsKey y.motion y.kind)) (sym c.new-3.ensures.items) tt; few_tiles = omega (arith, found); few_open = omega (arith, found, border) }
 
 pub admit-requires-clause-exists : goal.admit-requires-clause-exists
 admit-requires-clause-exists c =
     let m = c.args.machine.now in
-    let t = tiling_of m in
     let f = c.args.frame.now in
-    let settled : IsSettled m = record { accepted = c.checked-checked.ensures.accepted; usable = c.checked-checked.ensures.usable; same_child_kinds = c.checked-checked.ensures.same_child_kinds } in
-    let fits : StillFits (children t) = λ base start n h. c.grown_fits_law.ensures (children t) base start n
-    (subst AreUsable (c.uses.ensures ∙ ap (λ (r : Rule). children (tiling_of r)) c.checked-checked.ensures.rule) c.kinds-usable.ensures.limits) h in
-    let same_order = c.order-order.ensures.order ∙ ap (λ (r : Rule). r.order) c.checked-checked.ensures.rule in
-    let L : HasSearchLaws (points_of m.order) = subst (λ o. HasSearchLaws (points_of o)) same_order c.search_laws.ensures in
     let k = c.contain.new.self in
     let w = c.args.window.now in
+    let B = brings (goal.at.admit-requires-clause-exists c).After-contain in
     let tile = c.in_ok-tile.tile in
-    let c0 : CoverValue = record { window = w; found = found_in c.new-3.result.items c.new-2.result.items; border = c.new-4.result; outlines = c.in_ok-outlines.outlines } in
-    let none : length c0.found ≡ 0 = ap (λ xs. length (found_in c.new-3.result.items xs)) c.new-2.ensures.items in
-    kind_exists m settled fits L f c.requires.frame k c.contain.ensures.frame w c.requires.window_fits tile c.in_ok-tile.ensures.stands c.in_ok-tile.ensures.only_tile c.contain.ensures.least
+    kind_exists m B.settled B.fits B.laws f c.requires.frame k c.contain.ensures.frame w c.requires.window_fits tile c.in_ok-tile.ensures.stands c.in_ok-tile.ensures.only_tile c.contain.ensures.least
 
 pub admit-requires-clause-turn_below : goal.admit-requires-clause-turn_below
 admit-requires-clause-turn_below c = c.in_ok-tile.ensures.stands.turn_below
@@ -174,17 +144,11 @@ admit-requires-clause-new c =
     let m = c.args.machine.now in
     let t = tiling_of m in
     let f = c.args.frame.now in
-    let settled : IsSettled m = record { accepted = c.checked-checked.ensures.accepted; usable = c.checked-checked.ensures.usable; same_child_kinds = c.checked-checked.ensures.same_child_kinds } in
-    let fits : StillFits (children t) = λ base start n h. c.grown_fits_law.ensures (children t) base start n
-    (subst AreUsable (c.uses.ensures ∙ ap (λ (r : Rule). children (tiling_of r)) c.checked-checked.ensures.rule) c.kinds-usable.ensures.limits) h in
-    let same_order = c.order-order.ensures.order ∙ ap (λ (r : Rule). r.order) c.checked-checked.ensures.rule in
-    let L : HasSearchLaws (points_of m.order) = subst (λ o. HasSearchLaws (points_of o)) same_order c.search_laws.ensures in
     let k = c.contain.new.self in
     let w = c.args.window.now in
+    let B = brings (goal.at.admit-requires-clause-new c).After-contain in
     let tile = c.in_ok-tile.tile in
-    let c0 : CoverValue = record { window = w; found = found_in c.new-3.result.items c.new-2.result.items; border = c.new-4.result; outlines = c.in_ok-outlines.outlines } in
-    let none : length c0.found ≡ 0 = ap (λ xs. length (found_in c.new-3.result.items xs)) c.new-2.ensures.items in
-    subst (λ b. (corners : List Point) → AreCorners t tile.kind tile.motion corners → AreNew corners b) (sym c.new-4.ensures) (edges_new m settled fits L f c.requires.frame k c.contain.ensures.frame w c.requires.window_fits tile c.in_ok-tile.ensures.stands c.in_ok-tile.ensures.only_tile c.contain.ensures.least)
+    subst (λ b. (corners : List Point) → AreCorners t tile.kind tile.motion corners → AreNew corners b) (sym c.new-5.ensures) (edges_new m B.settled B.fits B.laws f c.requires.frame k c.contain.ensures.frame w c.requires.window_fits tile c.in_ok-tile.ensures.stands c.in_ok-tile.ensures.only_tile c.contain.ensures.least)
 
 pub returns-clause-frame : goal.returns-clause-frame
 returns-clause-frame c = c.contain.ensures.frame
@@ -192,70 +156,41 @@ returns-clause-frame c = c.contain.ensures.frame
 pub returns-clause-right : goal.returns-clause-right
 returns-clause-right c =
     let m = c.args.machine.now in
-    let t = tiling_of m in
     let f = c.args.frame.now in
-    let settled : IsSettled m = record { accepted = c.checked-checked.ensures.accepted; usable = c.checked-checked.ensures.usable; same_child_kinds = c.checked-checked.ensures.same_child_kinds } in
-    let fits : StillFits (children t) = λ base start n h. c.grown_fits_law.ensures (children t) base start n
-    (subst AreUsable (c.uses.ensures ∙ ap (λ (r : Rule). children (tiling_of r)) c.checked-checked.ensures.rule) c.kinds-usable.ensures.limits) h in
-    let same_order = c.order-order.ensures.order ∙ ap (λ (r : Rule). r.order) c.checked-checked.ensures.rule in
-    let L : HasSearchLaws (points_of m.order) = subst (λ o. HasSearchLaws (points_of o)) same_order c.search_laws.ensures in
     let k = c.contain.new.self in
     let w = c.args.window.now in
+    let B = brings (goal.at.returns-clause-right c).After-contain in
     let tile = c.in_ok-tile.tile in
-    let c0 : CoverValue = record { window = w; found = found_in c.new-3.result.items c.new-2.result.items; border = c.new-4.result; outlines = c.in_ok-outlines.outlines } in
-    let none : length c0.found ≡ 0 = ap (λ xs. length (found_in c.new-3.result.items xs)) c.new-2.ensures.items in
-    let empty : c0 ≡ record { window = w; found = []; border = []; outlines = c.in_ok-outlines.outlines } = ap₂ (λ xs b. record { window = w; found = found_in c.new-3.result.items xs; border = b; outlines = c.in_ok-outlines.outlines }) c.new-2.ensures.items c.new-4.ensures in
-    right-first m settled fits L f c.requires.frame k c.contain.ensures.frame w c.requires.window_fits tile c.in_ok-tile.ensures.stands c.in_ok-tile.ensures.only_tile c.contain.ensures.least c0 c.admit.new.self c.in_ok-outlines.outlines c.in_ok-outlines.ensures empty c.in_ok-admit.ensures.admitted
+    let c0 : CoverValue = record { window = w; found = found_in c.new-4.result.items c.new-3.result.items; border = c.new-5.result; outlines = c.in_ok-outlines.outlines; gluings = c.in_ok-gluings.gluings } in
+    let empty : c0 ≡ record { window = w; found = []; border = []; outlines = c.in_ok-outlines.outlines; gluings = c.in_ok-gluings.gluings } = ap₂ (λ xs b. record { window = w; found = found_in c.new-4.result.items xs; border = b; outlines = c.in_ok-outlines.outlines; gluings = c.in_ok-gluings.gluings }) c.new-3.ensures.items c.new-5.ensures in
+    right-first m B.settled B.fits B.laws f c.requires.frame k c.contain.ensures.frame w c.requires.window_fits tile c.in_ok-tile.ensures.stands c.in_ok-tile.ensures.only_tile c.contain.ensures.least c0 c.admit.new.self c.in_ok-outlines.outlines c.in_ok-outlines.ensures c.in_ok-gluings.gluings c.in_ok-gluings.ensures empty c.in_ok-admit.ensures.admitted
 
 pub returns-clause-its_window : goal.returns-clause-its_window
 returns-clause-its_window c =
     let m = c.args.machine.now in
-    let t = tiling_of m in
     let f = c.args.frame.now in
-    let settled : IsSettled m = record { accepted = c.checked-checked.ensures.accepted; usable = c.checked-checked.ensures.usable; same_child_kinds = c.checked-checked.ensures.same_child_kinds } in
-    let fits : StillFits (children t) = λ base start n h. c.grown_fits_law.ensures (children t) base start n
-    (subst AreUsable (c.uses.ensures ∙ ap (λ (r : Rule). children (tiling_of r)) c.checked-checked.ensures.rule) c.kinds-usable.ensures.limits) h in
-    let same_order = c.order-order.ensures.order ∙ ap (λ (r : Rule). r.order) c.checked-checked.ensures.rule in
-    let L : HasSearchLaws (points_of m.order) = subst (λ o. HasSearchLaws (points_of o)) same_order c.search_laws.ensures in
     let k = c.contain.new.self in
     let w = c.args.window.now in
+    let B = brings (goal.at.returns-clause-its_window c).After-contain in
     let tile = c.in_ok-tile.tile in
-    let c0 : CoverValue = record { window = w; found = found_in c.new-3.result.items c.new-2.result.items; border = c.new-4.result; outlines = c.in_ok-outlines.outlines } in
-    let none : length c0.found ≡ 0 = ap (λ xs. length (found_in c.new-3.result.items xs)) c.new-2.ensures.items in
-    let empty : c0 ≡ record { window = w; found = []; border = []; outlines = c.in_ok-outlines.outlines } = ap₂ (λ xs b. record { window = w; found = found_in c.new-3.result.items xs; border = b; outlines = c.in_ok-outlines.outlines }) c.new-2.ensures.items c.new-4.ensures in
-    its_window m settled fits L f c.requires.frame k c.contain.ensures.frame w c.requires.window_fits tile c.in_ok-tile.ensures.stands c.in_ok-tile.ensures.only_tile c.contain.ensures.least c0 c.admit.new.self c.in_ok-outlines.outlines c.in_ok-outlines.ensures empty c.in_ok-admit.ensures.admitted
+    let c0 : CoverValue = record { window = w; found = found_in c.new-4.result.items c.new-3.result.items; border = c.new-5.result; outlines = c.in_ok-outlines.outlines; gluings = c.in_ok-gluings.gluings } in
+    let empty : c0 ≡ record { window = w; found = []; border = []; outlines = c.in_ok-outlines.outlines; gluings = c.in_ok-gluings.gluings } = ap₂ (λ xs b. record { window = w; found = found_in c.new-4.result.items xs; border = b; outlines = c.in_ok-outlines.outlines; gluings = c.in_ok-gluings.gluings }) c.new-3.ensures.items c.new-5.ensures in
+    its_window m B.settled B.fits B.laws f c.requires.frame k c.contain.ensures.frame w c.requires.window_fits tile c.in_ok-tile.ensures.stands c.in_ok-tile.ensures.only_tile c.contain.ensures.least c0 c.admit.new.self c.in_ok-outlines.outlines c.in_ok-outlines.ensures c.in_ok-gluings.gluings c.in_ok-gluings.ensures empty c.in_ok-admit.ensures.admitted
 
 pub returns-clause-one_tile : goal.returns-clause-one_tile
 returns-clause-one_tile c =
     let m = c.args.machine.now in
-    let t = tiling_of m in
     let f = c.args.frame.now in
-    let settled : IsSettled m = record { accepted = c.checked-checked.ensures.accepted; usable = c.checked-checked.ensures.usable; same_child_kinds = c.checked-checked.ensures.same_child_kinds } in
-    let fits : StillFits (children t) = λ base start n h. c.grown_fits_law.ensures (children t) base start n
-    (subst AreUsable (c.uses.ensures ∙ ap (λ (r : Rule). children (tiling_of r)) c.checked-checked.ensures.rule) c.kinds-usable.ensures.limits) h in
-    let same_order = c.order-order.ensures.order ∙ ap (λ (r : Rule). r.order) c.checked-checked.ensures.rule in
-    let L : HasSearchLaws (points_of m.order) = subst (λ o. HasSearchLaws (points_of o)) same_order c.search_laws.ensures in
     let k = c.contain.new.self in
     let w = c.args.window.now in
+    let B = brings (goal.at.returns-clause-one_tile c).After-contain in
     let tile = c.in_ok-tile.tile in
-    let c0 : CoverValue = record { window = w; found = found_in c.new-3.result.items c.new-2.result.items; border = c.new-4.result; outlines = c.in_ok-outlines.outlines } in
-    let none : length c0.found ≡ 0 = ap (λ xs. length (found_in c.new-3.result.items xs)) c.new-2.ensures.items in
-    let empty : c0 ≡ record { window = w; found = []; border = []; outlines = c.in_ok-outlines.outlines } = ap₂ (λ xs b. record { window = w; found = found_in c.new-3.result.items xs; border = b; outlines = c.in_ok-outlines.outlines }) c.new-2.ensures.items c.new-4.ensures in
-    one_tile m settled fits L f c.requires.frame k c.contain.ensures.frame w c.requires.window_fits tile c.in_ok-tile.ensures.stands c.in_ok-tile.ensures.only_tile c.contain.ensures.least c0 c.admit.new.self c.in_ok-outlines.outlines c.in_ok-outlines.ensures empty c.in_ok-admit.ensures.admitted
+    let c0 : CoverValue = record { window = w; found = found_in c.new-4.result.items c.new-3.result.items; border = c.new-5.result; outlines = c.in_ok-outlines.outlines; gluings = c.in_ok-gluings.gluings } in
+    let empty : c0 ≡ record { window = w; found = []; border = []; outlines = c.in_ok-outlines.outlines; gluings = c.in_ok-gluings.gluings } = ap₂ (λ xs b. record { window = w; found = found_in c.new-4.result.items xs; border = b; outlines = c.in_ok-outlines.outlines; gluings = c.in_ok-gluings.gluings }) c.new-3.ensures.items c.new-5.ensures in
+    one_tile m B.settled B.fits B.laws f c.requires.frame k c.contain.ensures.frame w c.requires.window_fits tile c.in_ok-tile.ensures.stands c.in_ok-tile.ensures.only_tile c.contain.ensures.least c0 c.admit.new.self c.in_ok-outlines.outlines c.in_ok-outlines.ensures c.in_ok-gluings.gluings c.in_ok-gluings.ensures empty c.in_ok-admit.ensures.admitted
 
 pub returns-clause-not_beyond : goal.returns-clause-not_beyond
-returns-clause-not_beyond c =
-    let m = c.args.machine.now in
-    let t = tiling_of m in
-    let f = c.args.frame.now in
-    let settled : IsSettled m = record { accepted = c.checked-checked.ensures.accepted; usable = c.checked-checked.ensures.usable; same_child_kinds = c.checked-checked.ensures.same_child_kinds } in
-    let fits : StillFits (children t) = λ base start n h. c.grown_fits_law.ensures (children t) base start n
-    (subst AreUsable (c.uses.ensures ∙ ap (λ (r : Rule). children (tiling_of r)) c.checked-checked.ensures.rule) c.kinds-usable.ensures.limits) h in
-    let same_order = c.order-order.ensures.order ∙ ap (λ (r : Rule). r.order) c.checked-checked.ensures.rule in
-    let L : HasSearchLaws (points_of m.order) = subst (λ o. HasSearchLaws (points_of o)) same_order c.search_laws.ensures in
-    let k = c.contain.new.self in
-    let w = c.args.window.now in
-    not_beyond_start m settled fits L f c.requires.frame k c.contain.ensures.frame w c.requires.window_fits c.contain.ensures.least
+returns-clause-not_beyond c = not_beyond (goal.at.returns-clause-not_beyond c).After-contain
 
 pub returns-clause-answered : goal.returns-clause-answered
 returns-clause-answered c = λ within. inr refl

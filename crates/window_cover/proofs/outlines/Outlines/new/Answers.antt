@@ -2,6 +2,7 @@ use Rattle.std.proofs.Common.{◌≡◌, ◌*◌, ◌+◌, ◌<◌, [], ◌∷�
 use Rattle.std.proofs.Math.ListN.{length-map}
 use Rattle.rule_model.specs.declared.rule.Rule.{Rule}
 use Rattle.rule_model.specs.Tiling.{tiling_of, children}
+use Rattle.rule_model.specs.Usable.{origin}
 use Rattle.window_cover.specs.Outlines.{IsVertexAt}
 use Rattle.window_cover.proofs.EachCorner.{one-more}
 use Rattle.window_cover.proofs.outlines.Outlines.new.Goals as goal
@@ -11,7 +12,7 @@ loop-place-preserved c =
     let more = c.in_ok-push.ensures.items in
     record {
       count = ap length more ∙ length-append c.loop-place.vertices.items (c.vertex_at.result ∷ []) ∙ ap (λ n. n + 1) c.loop-place.invariant.count;
-      each = one-more (IsVertexAt (tiling_of c.args.machine.now)) c.loop-place.vertices.items c.push.new.self.items c.vertex_at.result c.loop-place.place c.loop-place.invariant.count more
+      each = one-more origin (IsVertexAt (tiling_of c.args.machine.now)) c.loop-place.vertices.items c.push.new.self.items c.vertex_at.result c.loop-place.place c.loop-place.invariant.count more
           c.loop-place.invariant.each c.vertex_at.ensures;
     }
 

@@ -59,7 +59,7 @@ loop-number-preserved c =
     (c.add.ensures.in_order m.order turned.in_order c.requires.in_order) in
     record {
       count = c.push.ensures.len ∙ ap (λ n. n + 1) c.loop-number.invariant.count;
-      each = one-more (IsCorner t k c.args.motion.now) c.loop-number.corners.items c.push.new.self.items c.add.result e c.loop-number.invariant.count c.push.ensures.items c.loop-number.invariant.each corner;
+      each = one-more origin (IsCorner t k c.args.motion.now) c.loop-number.corners.items c.push.new.self.items c.add.result e c.loop-number.invariant.count c.push.ensures.items c.loop-number.invariant.each corner;
     }
 
 pub returns-clause-corners : goal.returns-clause-corners
