@@ -40,7 +40,14 @@ pub fn check_line<R: Abort + AllocGlobal>(
     let mut source = SteadySource::new(Vec::new(alloc));
     let mut sink = SteadySink::new(alloc, 600)?;
     let mut notes = SteadySink::new(alloc, 700)?;
-    let status = run(alloc, &words, &mut source, &mut sink, &mut notes);
+    let status = run(
+        alloc,
+        &words,
+        &mut source,
+        &mut sink,
+        &mut notes,
+        Vec::new(alloc),
+    );
     assert_eq!(rt; status.code(), code, "{line}");
     assert_eq!(rt; sink.taken(), line_of(alloc, text)?.as_bytes(), "{line}");
     assert_eq!(rt; notes.taken(), line_of(alloc, note)?.as_bytes(), "{line}");

@@ -53,7 +53,14 @@ fn trickled<R: Abort + AllocGlobal>(
         faults: 0,
     };
     let mut notes = SteadySink::new(alloc, 700)?;
-    let status = run(alloc, &words, &mut source, &mut sink, &mut notes);
+    let status = run(
+        alloc,
+        &words,
+        &mut source,
+        &mut sink,
+        &mut notes,
+        Vec::new(alloc),
+    );
     assert_eq!(rt; sink.bytes.as_slice(), want, "{good_calls}");
     let note = if status == Status::Done {
         ""
@@ -83,7 +90,14 @@ fn sinks_that_fail(rt: HostRuntime) -> Result<(), Fail> {
         good_calls: 3,
         faults: 0,
     };
-    let status = run(alloc, &words, &mut source, &mut sink, &mut notes);
+    let status = run(
+        alloc,
+        &words,
+        &mut source,
+        &mut sink,
+        &mut notes,
+        Vec::new(alloc),
+    );
     assert!(&rt; status == Status::BadWords { place: 1 });
     assert_eq!(rt; notes.bytes.as_slice(), b"2 B".as_slice());
     Ok(())

@@ -368,7 +368,14 @@ fn check_file<R: Abort + AllocGlobal>(
     let mut source = MemSource::new(file.into_bytes(), 100, Vec::new(alloc));
     let mut sink = SteadySink::new(alloc, 600)?;
     let mut notes = SteadySink::new(alloc, 700)?;
-    let status = run(alloc, &words, &mut source, &mut sink, &mut notes);
+    let status = run(
+        alloc,
+        &words,
+        &mut source,
+        &mut sink,
+        &mut notes,
+        Vec::new(alloc),
+    );
     assert_eq!(rt; status.code(), code, "{line}");
     assert_eq!(rt; sink.taken(), line_of(alloc, text)?.as_bytes(), "{line}");
     assert_eq!(rt;
@@ -409,7 +416,14 @@ fn rows_of_files(rt: HostRuntime) -> Result<(), Fail> {
     let mut source = MemSource::new(vec![in alloc; 255]?, 1, Vec::new(alloc));
     let mut sink = SteadySink::new(alloc, 600)?;
     let mut notes = SteadySink::new(alloc, 700)?;
-    run(alloc, &words, &mut source, &mut sink, &mut notes);
+    run(
+        alloc,
+        &words,
+        &mut source,
+        &mut sink,
+        &mut notes,
+        Vec::new(alloc),
+    );
     assert_eq!(rt; notes.taken(), b"3 RuleRefused NotToml\n".as_slice());
     Ok(())
 }
@@ -423,7 +437,14 @@ fn failing_at<R: Abort + AllocGlobal>(rt: &R, call: u64) -> Result<Status, Fail>
     let mut source = MemSource::new(bytes, 16, vec![in alloc; call]?);
     let mut sink = SteadySink::new(alloc, 600)?;
     let mut notes = SteadySink::new(alloc, 700)?;
-    let status = run(alloc, &words, &mut source, &mut sink, &mut notes);
+    let status = run(
+        alloc,
+        &words,
+        &mut source,
+        &mut sink,
+        &mut notes,
+        Vec::new(alloc),
+    );
     let done = status == Status::Done;
     let text = if done {
         "accepted order 4 kinds 1 types 1\n"

@@ -1,18 +1,20 @@
 -- From what a call answers to its clauses.
-use Rattle.std.proofs.Common.{◌≡◌, ◌⊎◌, inl, inr, ℕ, Bool, true, false, List, [], Result, Ok, Err, IfErr, IsErrOf, refl, sym, subst, ◌∙◌}
+use Rattle.std.proofs.Common.{◌≡◌, ◌⊎◌, inl, inr, ℕ, Bool, true, false, List, [], Some, None, Result, Ok, Err, IfErr, IsErrOf, refl, sym, subst, ◌∙◌}
 use Rattle.std.specs.declared.option.Option.{Option}
+use Rattle.layer_api.specs.declared.format.Format.{Format}
 use Rattle.rule_model.specs.Tiling.{Tiling}
 use Rattle.tile_app.specs.declared.status.Status.{Status}
-use Rattle.tile_app.specs.declared.status.Status.TheVariants.{Done, BadWords, ReadFault, RuleTooLong, RuleRefused, BadAddress, NoEdge, Outside, DepthLimit, CoordLimit, WriteFault, NoMemory}
+use Rattle.tile_app.specs.declared.status.Status.TheVariants.{Done, BadWords, NoLayer, ReadFault, RuleTooLong, RuleRefused, BadAddress, NoEdge, Outside, DepthLimit, CoordLimit, TooManyTiles, WriteFault, NoMemory}
 use Rattle.tile_app.specs.declared.words.Command.{Command}
-use Rattle.tile_app.specs.declared.words.Command.TheVariants.{Place, Neighbour, Walk, Check}
-use Rattle.tile_app.specs.Answer.{OfCommand, IsPrinted, HasAnswer, Refuses, Prints, CanBeAnswered}
+use Rattle.tile_app.specs.declared.words.Command.TheVariants.{Place, Neighbour, Walk, Draw, Check}
+use Rattle.tile_app.specs.Answer.{OfCommand, IsPrinted, HasAnswer, Refuses, Prints, CanBeAnswered, IsLimitOf, IsBeyondLimits}
 use Rattle.tile_app.specs.Asked.{OfRequest, IsAsked, WasFileIn}
-use Rattle.tile_app.specs.Causes.{Causes, IsRefused}
+use Rattle.tile_app.specs.Causes.{Causes, IsExact, IsRefused}
 use Rattle.tile_app.specs.Request.{Request, Names, HasRuleFault}
-use Rattle.tile_app.specs.Status.{IsCutShort, IsRefusal, OrNoMemory}
-use Rattle.tile_app.specs.Words.{command_of, reads_file}
-use Rattle.tile_app.proofs.OneAnswer.{Laws, reading_or_wrong, outcome_of, refused_at_done, one_answer}
+use Rattle.tile_app.specs.Layers.{HaveLayers, lacking, reads_file}
+use Rattle.tile_app.specs.Status.{IsCutShort, IsLimit, IsRefusal, OrNoMemory}
+use Rattle.tile_app.specs.Words.{command_of}
+use Rattle.tile_app.proofs.OneAnswer.{Laws, reading_or_wrong, reading_has, has_or_lacks, outcome_of, refused_at_done, AreOne, one_answer, limit_beyond}
 use Rattle.tile_app.proofs.Requested.{same_request, same_too_long}
 
 -- what is printed is an answer
@@ -20,6 +22,7 @@ can : (c : Command) (words : List (List ℕ)) (t : Tiling) (text : List ℕ) →
 can Place words t text p = record { address = p.address; tile = p.tile; within = p.within }
 can Neighbour words t text p = record { address = p.address; edge = p.edge; gives = p.gives; inside = p.inside }
 can Walk words t text p = record { base = p.base; tile = p.tile; walked = p.walked }
+can Draw words t text p = record { base = p.base; window = p.window; gives = p.gives; within = p.within }
 can Check words t text p = tt
 
 can_be_answered : (r : Request) (text : List ℕ) → Prints r text → CanBeAnswered r
@@ -28,22 +31,34 @@ can_be_answered r text p = record { command = p.command; tiling = p.tiling; asks
 err_is : {T : Type 0} (s u : Status) → (let o : Result T Status = Err s in o) ≡ Err u → s ≡ u
 err_is s u e = cc
 
-module _ (words : List (List ℕ)) (left rest : Option (List ℕ)) where
+-- Done is no limit
+done_is_none : (c : Command) → IsLimitOf c Done → ⊥
+done_is_none Draw h = h
+done_is_none Place h = h
+done_is_none Neighbour h = h
+done_is_none Walk h = h
+done_is_none Check h = h
+
+module _ (words : List (List ℕ)) (handed : List Format) (left rest : Option (List ℕ)) where
   -- ---- from a command to its request
-  module _ (command : Command) (t : Tiling) (right : command_of words ≡ Ok command) (asked : OfRequest words left rest (λ r. Names r t)) where
-    of_command : (P : Command → List (List ℕ) → Tiling → Type 0) → P command words t → OfRequest words left rest (OfCommand P)
+  module _ (command : Command) (t : Tiling) (right : command_of words ≡ Ok command) (have : HaveLayers words handed) (asked : OfRequest words handed left rest (λ r. Names r t)) where
+    of_command : (P : Command → List (List ℕ) → Tiling → Type 0) → P command words t → OfRequest words handed left rest (OfCommand P)
     of_command P h = (
       asked.0,
       asked.1,
       record {
         command = command;
         tiling = t;
-        asks = record { right = subst (λ ws. command_of ws ≡ Ok command) (sym asked.1.by_words) right; names = asked.2 };
+        asks = record {
+          right = subst (λ ws. command_of ws ≡ Ok command) (sym asked.1.by_words) right;
+          layers = subst (HaveLayers asked.0.words) (sym asked.1.by_layers) (subst (λ ws. HaveLayers ws handed) (sym asked.1.by_words) have);
+          names = asked.2;
+        };
         holds = subst (λ ws. P command ws t) (sym asked.1.by_words) h;
       },
     )
 
-    pub prints_asked : (text : List ℕ) → IsPrinted command words t text → OfRequest words left rest (λ r. Prints r text)
+    pub prints_asked : (text : List ℕ) → IsPrinted command words t text → OfRequest words handed left rest (λ r. Prints r text)
     prints_asked text h = of_command (λ c ws s. IsPrinted c ws s text) h
 
     -- and the source isn't read any more
@@ -54,9 +69,10 @@ module _ (words : List (List ℕ)) (left rest : Option (List ℕ)) where
         none Place k = k
         none Neighbour k = k
         none Walk k = k
+        none Draw k = k
         none Check k = k
 
-    pub refused_asked : (s : Status) → OrNoMemory (Refuses command words t) s → IsRefused words left rest s
+    pub refused_asked : (s : Status) → OrNoMemory (Refuses command words t) s → IsRefused words handed left rest s
     refused_asked Done h = of_command (λ c ws u. Refuses c ws u Done) h
     refused_asked (BadWords place) h = absurd (no_words command h)
       where
@@ -64,7 +80,16 @@ module _ (words : List (List ℕ)) (left rest : Option (List ℕ)) where
         no_words Place k = k
         no_words Neighbour k = k
         no_words Walk k = k
+        no_words Draw k = k
         no_words Check k = k
+    refused_asked (NoLayer format) h = absurd (no_layer command h)
+      where
+        no_layer : (c : Command) → Refuses c words t (NoLayer format) → ⊥
+        no_layer Place k = k
+        no_layer Neighbour k = k
+        no_layer Walk k = k
+        no_layer Draw k = k
+        no_layer Check k = k
     refused_asked ReadFault h = absurd (no_read_fault h)
     refused_asked RuleTooLong h = absurd (no_file command h)
       where
@@ -72,6 +97,7 @@ module _ (words : List (List ℕ)) (left rest : Option (List ℕ)) where
         no_file Place k = k
         no_file Neighbour k = k
         no_file Walk k = k
+        no_file Draw k = k
         no_file Check k = k
     refused_asked (RuleRefused fault) h = absurd (no_rule command h)
       where
@@ -79,11 +105,12 @@ module _ (words : List (List ℕ)) (left rest : Option (List ℕ)) where
         no_rule Place k = k
         no_rule Neighbour k = k
         no_rule Walk k = k
+        no_rule Draw k = k
         no_rule Check k = k
-    refused_asked NoMemory h = (command, right)
+    refused_asked NoMemory h = ((command, right), have)
     refused_asked s h = of_command (λ c ws u. Refuses c ws u s) h
 
-    pub refused_if_asked : {T : Type 0} (answer : Result T Status) → IfErr answer (OrNoMemory (Refuses command words t)) → IfErr answer (IsRefused words left rest)
+    pub refused_if_asked : {T : Type 0} (answer : Result T Status) → IfErr answer (OrNoMemory (Refuses command words t)) → IfErr answer (IsRefused words handed left rest)
     refused_if_asked (Ok x) h = h
     refused_if_asked (Err s) h = refused_asked s h
 
@@ -92,63 +119,101 @@ module _ (words : List (List ℕ)) (left rest : Option (List ℕ)) where
     no_read_fault_if_asked (Err s) h e = no_read_fault (subst (OrNoMemory (Refuses command words t)) (err_is s ReadFault e) h)
 
   -- ---- from a request that was asked to the one that is asked
-  module _ (r : Request) (h : IsAsked words left r) where
+  module _ (r : Request) (h : IsAsked words handed left r) where
     -- of a command
-    of_asked : (P : Command → List (List ℕ) → Tiling → Type 0) → OfRequest words left rest (OfCommand P) → OfCommand P r
-    of_asked P k = subst (OfCommand P) (same_request words left rest r k.0 h k.1 k.2.asks.names.not_too_long) k.2
+    of_asked : (P : Command → List (List ℕ) → Tiling → Type 0) → OfRequest words handed left rest (OfCommand P) → OfCommand P r
+    of_asked P k = subst (OfCommand P) (same_request words handed left rest r k.0 h k.1 k.2.asks.names.not_too_long) k.2
 
-    caused : (s : Status) → IsRefusal s → IsRefused words left rest s → IsCutShort s ⊎ Causes r s
+    caused : (s : Status) → IsRefusal s → IsRefused words handed left rest s → IsCutShort s ⊎ Causes r s
     caused Done i k = absurd i
     caused (BadWords place) i k = inr (subst (λ ws. command_of ws ≡ Err place) (k.1.by_words ∙ sym h.by_words) k.2)
+    caused (NoLayer format) i k =
+        inr (subst (λ hs. lacking r.words hs ≡ Some format) (k.1.by_layers ∙ sym h.by_layers) (subst (λ ws. lacking ws k.0.handed ≡ Some format) (k.1.by_words ∙ sym h.by_words) k.2))
     caused ReadFault i k = inl tt
-    caused RuleTooLong i k = inr (same_too_long words left rest r k.0 h k.1 k.2)
-    caused (RuleRefused fault) i k = inr (subst (λ q. HasRuleFault q fault) (same_request words left rest r k.1.0 h k.1.1 k.1.2.not_too_long) k.1.2)
+    caused RuleTooLong i k = inr (same_too_long words handed left rest r k.0 h k.1 k.2)
+    caused (RuleRefused fault) i k = inr (subst (λ q. HasRuleFault q fault) (same_request words handed left rest r k.1.0 h k.1.1 k.1.2.not_too_long) k.1.2)
     caused (BadAddress fault) i k = inr (of_asked (λ c ws t. Refuses c ws t (BadAddress fault)) k)
     caused (NoEdge edge edges) i k = inr (of_asked (λ c ws t. Refuses c ws t (NoEdge edge edges)) k)
     caused (Outside edge part) i k = inr (of_asked (λ c ws t. Refuses c ws t (Outside edge part)) k)
     caused (DepthLimit addr edge) i k = inr (of_asked (λ c ws t. Refuses c ws t (DepthLimit addr edge)) k)
     caused (CoordLimit value) i k = inr (of_asked (λ c ws t. Refuses c ws t (CoordLimit value)) k)
+    caused TooManyTiles i k = inr (of_asked (λ c ws t. Refuses c ws t TooManyTiles) k)
     caused WriteFault i k = absurd i
     caused NoMemory i k = inl tt
 
-    printed : {Q : List ℕ → Type 0} → OfRequest words left rest (λ q. (text : List ℕ) × Prints q text × Q text) → CanBeAnswered r
+    printed : {Q : List ℕ → Type 0} → OfRequest words handed left rest (λ q. (text : List ℕ) × Prints q text × Q text) → CanBeAnswered r
     printed k = of_asked HasAnswer (k.0, k.1, can_be_answered k.0 k.2.0 k.2.1)
 
     -- ---- a status, with what a call says of it
     module _ (laws : Laws) where
-      by_refusal : (s u : Status) → IsRefusal s → IsRefused words left rest s → Causes r u → (s ≡ u) ⊎ IsCutShort s
-      by_refusal s u i k q = elim (caused s i k) [
+      -- where a status has to come it is the answer
+      is_one : (s u : Status) → AreOne r s u → IsExact r u → s ≡ u
+      is_one s u (inl e) exact = e
+      is_one s u (inr l) exact = absurd (exact l.0 l.1 l.3)
+
+      by_refusal : (s u : Status) → IsRefusal s → IsRefused words handed left rest s → Causes r u → IsExact r u → (s ≡ u) ⊎ IsCutShort s
+      by_refusal s u i k q exact = elim (caused s i k) [
         | inl c ↦ inr c
-        | inr c ↦ inl (one_answer r laws s u (outcome_of r s c) (outcome_of r u q))
+        | inr c ↦ inl (is_one s u (one_answer r laws s u (outcome_of r s c) (outcome_of r u q)) exact)
       ]
 
       -- where there is a cause it is found
-      pub refused_when : {Q R : List ℕ → Type 0} (s u : Status) → (s ≡ Done → OfRequest words left rest (λ q. (text : List ℕ) × Prints q text × Q text))
-          → (s ≡ WriteFault → OfRequest words left rest (λ q. (text : List ℕ) × Prints q text × R text)) → (IsRefusal s → IsRefused words left rest s)
-          → Causes r u → (s ≡ u) ⊎ IsCutShort s
-      refused_when Done u done part refused q = inl (one_answer r laws Done u (printed (done refl)) (outcome_of r u q))
-      refused_when WriteFault u done part refused q = absurd (refused_at_done r u q (one_answer r laws Done u (printed (part refl)) (outcome_of r u q)))
-      refused_when s u done part refused q = by_refusal s u tt (refused tt) q
+      pub refused_when : {Q R : List ℕ → Type 0} (s u : Status) → (s ≡ Done → OfRequest words handed left rest (λ q. (text : List ℕ) × Prints q text × Q text))
+          → (s ≡ WriteFault → OfRequest words handed left rest (λ q. (text : List ℕ) × Prints q text × R text)) → (IsRefusal s → IsRefused words handed left rest s)
+          → Causes r u → IsExact r u → (s ≡ u) ⊎ IsCutShort s
+      refused_when Done u done part refused q exact = inl (is_one Done u (one_answer r laws Done u (printed (done refl)) (outcome_of r u q)) exact)
+      refused_when WriteFault u done part refused q exact =
+          absurd (refused_at_done r u q (is_one Done u (one_answer r laws Done u (printed (part refl)) (outcome_of r u q)) exact))
+      refused_when s u done part refused q exact = by_refusal s u tt (refused tt) q exact
+
+      -- beyond the limits of a window one of them comes
+      pub beyond_limits : {Q R : List ℕ → Type 0} (s : Status) → (s ≡ Done → OfRequest words handed left rest (λ q. (text : List ℕ) × Prints q text × Q text))
+          → (s ≡ WriteFault → OfRequest words handed left rest (λ q. (text : List ℕ) × Prints q text × R text)) → (IsRefusal s → IsRefused words handed left rest s)
+          → IsBeyondLimits r → IsLimit s ⊎ IsCutShort s
+      beyond_limits Done done part refused b = absurd (limit_beyond r laws Done (printed (done refl)) b)
+      beyond_limits WriteFault done part refused b = absurd (limit_beyond r laws Done (printed (part refl)) b)
+      beyond_limits s done part refused b = elim (caused s tt (refused tt)) [
+        | inl c ↦ inr c
+        | inr c ↦ inl (limit_beyond r laws s (outcome_of r s c) b)
+      ]
 
       -- where there is an answer it is printed, unless a source or the sink failed or memory was wanted
-      pub complete : (s : Status) → (IsRefusal s → IsRefused words left rest s) → CanBeAnswered r → (s ≡ WriteFault → ⊥) → (s ≡ ReadFault → ⊥) → (s ≡ Done) ⊎ (s ≡ NoMemory)
+      pub complete : (s : Status) → (IsRefusal s → IsRefused words handed left rest s) → CanBeAnswered r → (s ≡ WriteFault → ⊥) → (s ≡ ReadFault → ⊥) → (s ≡ Done) ⊎ (s ≡ NoMemory)
       complete Done refused p sink source = inl refl
       complete WriteFault refused p sink source = absurd (sink refl)
       complete ReadFault refused p sink source = absurd (source refl)
       complete NoMemory refused p sink source = inr refl
       complete s refused p sink source = elim (caused s tt (refused tt)) [
         | inl c ↦ absurd c
-        | inr c ↦ inl (one_answer r laws s Done (outcome_of r s c) p)
+        | inr c ↦ inl (is_one s Done (one_answer r laws s Done (outcome_of r s c) p) (λ command right. done_is_none command))
       ]
 
 -- ---- words that aren't right ask this of any source, which isn't read
-pub wrong_words : (words : List (List ℕ)) (left : Option (List ℕ)) (place : ℕ) → command_of words ≡ Err place → OfRequest words left left (λ r. command_of r.words ≡ Err place)
-wrong_words words left place e = (
-  record { words = words; file = [] },
-  record { by_words = refl; from_source = subst (λ b. WasFileIn b left left []) (sym (reads_none (reads_file words) (λ f. reading_or_wrong words place f e))) refl },
+reads_none : (b : Bool) → (b ≡ true → ⊥) → b ≡ false
+reads_none true f = absurd (f refl)
+reads_none false f = refl
+
+pub wrong_words : (words : List (List ℕ)) (handed : List Format) (left : Option (List ℕ)) (place : ℕ) → command_of words ≡ Err place
+    → OfRequest words handed left left (λ r. command_of r.words ≡ Err place)
+wrong_words words handed left place e = (
+  record { words = words; handed = handed; file = [] },
+  record {
+    by_words = refl;
+    by_layers = refl;
+    from_source = subst (λ b. WasFileIn b left left []) (sym (reads_none (reads_file words handed) (λ f. reading_or_wrong words handed place f e))) refl;
+  },
   e,
 )
-  where
-    reads_none : (b : Bool) → (b ≡ true → ⊥) → b ≡ false
-    reads_none true f = absurd (f refl)
-    reads_none false f = refl
+
+-- and so do right words one of whose formats has no layer
+pub no_layer : (words : List (List ℕ)) (handed : List Format) (left : Option (List ℕ)) (format : Format) → lacking words handed ≡ Some format
+    → OfRequest words handed left left (λ r. lacking r.words r.handed ≡ Some format)
+no_layer words handed left format e = (
+  record { words = words; handed = handed; file = [] },
+  record {
+    by_words = refl;
+    by_layers = refl;
+    from_source = subst (λ b. WasFileIn b left left []) (sym (reads_none (reads_file words handed) (λ f. has_or_lacks format (lacking words handed) (reading_has words handed f) e))) refl;
+  },
+  e,
+)

@@ -6,9 +6,9 @@ use Rattle.std.specs.Option.{option_map_or}
 use Rattle.std.specs.Str.{bytes_eq}
 use Rattle.std.proofs.lemmas.Slice.Eq.{bytes_eq-Decides}
 use Rattle.tile_app.specs.declared.words.Command.{Command}
-use Rattle.tile_app.specs.declared.words.Command.TheVariants.{Place, Neighbour, Walk, Check}
+use Rattle.tile_app.specs.declared.words.Command.TheVariants.{Place, Neighbour, Walk, Draw, Check}
 use Rattle.tile_app.specs.declared.words.Key.{Key}
-use Rattle.tile_app.specs.declared.words.Key.TheVariants.{Rule, Addr, Edge, Seed, Grow, Path}
+use Rattle.tile_app.specs.declared.words.Key.TheVariants.{Rule, Addr, Edge, Seed, Grow, Path, At, Half, Layers}
 use Rattle.tile_shape.specs.Decimal.{number_up_to}
 use Rattle.tile_app.specs.Choices.{choice_in}
 use Rattle.tile_app.specs.Commands.{key_text, command_named, keys_of, required_keys, has_form, IsAboutTile}
@@ -47,7 +47,8 @@ value_name key word value e = at_test (nat_lt (position_or_len is_equals word) (
 key_of_text : List ℕ → Option Key
 key_of_text text =
     cond (bytes_eq text (codes "rule")) (Some Rule) (cond (bytes_eq text (codes "addr")) (Some Addr) (cond (bytes_eq text (codes "edge")) (Some Edge)
-    (cond (bytes_eq text (codes "seed")) (Some Seed) (cond (bytes_eq text (codes "grow")) (Some Grow) (cond (bytes_eq text (codes "path")) (Some Path) None)))))
+    (cond (bytes_eq text (codes "seed")) (Some Seed) (cond (bytes_eq text (codes "grow")) (Some Grow) (cond (bytes_eq text (codes "path")) (Some Path)
+    (cond (bytes_eq text (codes "at")) (Some At) (cond (bytes_eq text (codes "half")) (Some Half) (cond (bytes_eq text (codes "layers")) (Some Layers) None))))))))
 
 key_text-tells : (j k : Key) → key_text j ≡ key_text k → j ≡ k
 unfolding key_of_text
@@ -60,6 +61,9 @@ key_text-tells j k e = some_is j k (sym (named j) ∙ ap key_of_text e ∙ named
     named Seed = refl
     named Grow = refl
     named Path = refl
+    named At = refl
+    named Half = refl
+    named Layers = refl
 
     some_is : (j k : Key) → Some j ≡ Some k → j ≡ k
     some_is j k e = cc
@@ -122,16 +126,22 @@ name_gives_nothing name command e key value g = at_place (bytes_eq name (codes "
     at_check true f h = nothing_in (codes "check") ((bytes_eq-Decides _ _).0 f) refl
     at_check false f h = absurd (cc h)
 
-    at_walk : (b : Bool) → bytes_eq name (codes "walk") ≡ b → cond b (Some Walk) (cond (bytes_eq name (codes "check")) (Some Check) None) ≡ Some command → has_form key value ≡ true
-    at_walk true f h = nothing_in (codes "walk") ((bytes_eq-Decides _ _).0 f) refl
-    at_walk false f h = at_check (bytes_eq name (codes "check")) refl h
+    at_draw : (b : Bool) → bytes_eq name (codes "draw") ≡ b → cond b (Some Draw) (cond (bytes_eq name (codes "check")) (Some Check) None) ≡ Some command → has_form key value ≡ true
+    at_draw true f h = nothing_in (codes "draw") ((bytes_eq-Decides _ _).0 f) refl
+    at_draw false f h = at_check (bytes_eq name (codes "check")) refl h
 
-    at_neighbour : (b : Bool) → bytes_eq name (codes "neighbour") ≡ b → cond b (Some Neighbour) (cond (bytes_eq name (codes "walk")) (Some Walk) (cond (bytes_eq name (codes "check")) (Some Check) None)) ≡ Some command → has_form key value ≡ true
+    at_walk : (b : Bool) → bytes_eq name (codes "walk") ≡ b → cond b (Some Walk) (cond (bytes_eq name (codes "draw")) (Some Draw) (cond (bytes_eq name (codes "check")) (Some Check) None)) ≡ Some command → has_form key value ≡ true
+    at_walk true f h = nothing_in (codes "walk") ((bytes_eq-Decides _ _).0 f) refl
+    at_walk false f h = at_draw (bytes_eq name (codes "draw")) refl h
+
+    at_neighbour : (b : Bool) → bytes_eq name (codes "neighbour") ≡ b
+        → cond b (Some Neighbour) (cond (bytes_eq name (codes "walk")) (Some Walk) (cond (bytes_eq name (codes "draw")) (Some Draw) (cond (bytes_eq name (codes "check")) (Some Check) None))) ≡ Some command → has_form key value ≡ true
     at_neighbour true f h = nothing_in (codes "neighbour") ((bytes_eq-Decides _ _).0 f) refl
     at_neighbour false f h = at_walk (bytes_eq name (codes "walk")) refl h
 
     at_place : (b : Bool) → bytes_eq name (codes "place") ≡ b
-        → cond b (Some Place) (cond (bytes_eq name (codes "neighbour")) (Some Neighbour) (cond (bytes_eq name (codes "walk")) (Some Walk) (cond (bytes_eq name (codes "check")) (Some Check) None))) ≡ Some command → has_form key value ≡ true
+        → cond b (Some Place) (cond (bytes_eq name (codes "neighbour")) (Some Neighbour) (cond (bytes_eq name (codes "walk")) (Some Walk) (cond (bytes_eq name (codes "draw")) (Some Draw) (cond (bytes_eq name (codes "check")) (Some Check) None)))) ≡ Some command
+        → has_form key value ≡ true
     at_place true f h = nothing_in (codes "place") ((bytes_eq-Decides _ _).0 f) refl
     at_place false f h = at_neighbour (bytes_eq name (codes "neighbour")) refl h
 
@@ -165,6 +175,7 @@ pub GivesRule-right : (command : Command) (words : List (List ℕ)) → command_
 GivesRule-right Place words e = let h = Gives-right Place words e in rule_given words h.forms (both_true _ _ h.required).0
 GivesRule-right Neighbour words e = let h = Gives-right Neighbour words e in rule_given words h.forms (both_true _ _ h.required).0
 GivesRule-right Walk words e = let h = Gives-right Walk words e in rule_given words h.forms (both_true _ _ h.required).0
+GivesRule-right Draw words e = let h = Gives-right Draw words e in rule_given words h.forms (both_true _ _ h.required).0
 GivesRule-right Check words e = let h = Gives-right Check words e in rule_given words h.forms (both_true _ _ h.required).0
 
 pub rule_is_choice : (words : List (List ℕ)) (text : List ℕ) → GivesRule words → value_given Rule words ≡ Some text → is_some (choice_in text) ≡ true
@@ -184,6 +195,9 @@ GivesText-right Neighbour words e about =
 GivesText-right Walk words e about =
     let h = Gives-right Walk words e in
     some_value (value_given Addr words) (both_true _ _ (both_true _ _ h.required).1).0
+GivesText-right Draw words e about =
+    let h = Gives-right Draw words e in
+    some_value (value_given Addr words) (both_true _ _ (both_true _ _ h.required).1).0
 GivesText-right Check words e about = absurd about
 
 -- and for `neighbour` the number of an edge
@@ -201,6 +215,40 @@ GivesEdge-right words e =
 
 pub edge_is_number : (words : List (List ℕ)) (text : List ℕ) → GivesEdge words → value_given Edge words ≡ Some text → is_some (number_up_to 255 text) ≡ true
 edge_is_number words text h e = let same : h.text ≡ text = some_is h.text text (sym h.is_text ∙ e) in subst (λ t. is_some (number_up_to 255 t) ≡ true) same h.is_number
+  where
+    some_is : (x y : List ℕ) → Some x ≡ Some y → x ≡ y
+    some_is x y f = cc
+
+-- for `draw` a centre and half extents
+pub record GivesValue (words : List (List ℕ)) (key : Key) : Type 0 where
+  pub text : List ℕ
+  pub is_text : value_given key words ≡ Some text
+  pub right : has_form key text ≡ true
+
+value_right : (words : List (List ℕ)) (key : Key) → HaveForms words → is_some (value_given key words) ≡ true → GivesValue words key
+value_right words key h e = let text = some_value (value_given key words) e in record { text = text.0; is_text = text.1; right = h key text.0 text.1 }
+
+module _ (words : List (List ℕ)) (e : command_of words ≡ Ok Draw) where
+  abbrev given : Key → Bool
+  given key = is_some (value_given key words)
+
+  behind_rule : given Addr && (given At && (given Half && (given Layers && true))) ≡ true
+  behind_rule = (both_true (given Rule) (given Addr && (given At && (given Half && (given Layers && true)))) (Gives-right Draw words e).required).1
+
+  behind_addr : given At && (given Half && (given Layers && true)) ≡ true
+  behind_addr = (both_true (given Addr) (given At && (given Half && (given Layers && true))) behind_rule).1
+
+  behind_at : given Half && (given Layers && true) ≡ true
+  behind_at = (both_true (given At) (given Half && (given Layers && true)) behind_addr).1
+
+  pub at-right : GivesValue words At
+  at-right = value_right words At (Gives-right Draw words e).forms (both_true (given At) (given Half && (given Layers && true)) behind_addr).0
+
+  pub half-right : GivesValue words Half
+  half-right = value_right words Half (Gives-right Draw words e).forms (both_true (given Half) (given Layers && true) behind_at).0
+
+pub form_is_right : (words : List (List ℕ)) (key : Key) (text : List ℕ) → GivesValue words key → value_given key words ≡ Some text → has_form key text ≡ true
+form_is_right words key text h e = let same : h.text ≡ text = some_is h.text text (sym h.is_text ∙ e) in subst (λ t. has_form key t ≡ true) same h.right
   where
     some_is : (x y : List ℕ) → Some x ≡ Some y → x ≡ y
     some_is x y f = cc

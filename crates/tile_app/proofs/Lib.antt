@@ -4,6 +4,10 @@ pub mod Read
 pub mod Tilings
 pub mod Faults
 pub mod Pieces
+pub mod Commas
+pub mod Formats
+pub mod Drawing
+mod Placed
 mod AddressBytes
 mod Frames
 mod Walking

@@ -1,11 +1,14 @@
 -- A request has one answer: the cause of one status is no cause of another.
-use Rattle.std.proofs.Common.{◌≡◌, ◌⊎◌, inl, inr, ℕ, ◌<◌, ◌≤◌, true, List, length, Some, None, Result, Ok, Err, is_ok, refl, sym, ap, ap₂, ◌∙◌, subst, ℤ, arith}
+use Rattle.std.proofs.Common.{◌≡◌, ◌⊎◌, inl, inr, ℕ, ◌<◌, ◌≤◌, true, List, length, Some, None, Result, Ok, Err, is_ok, is_none, refl, sym, ap, ap₂, ◌∙◌, subst, ℤ, arith}
 use Rattle.std.specs.declared.option.Option.{Option}
 use Rattle.addressing.specs.Address.{Address, Fits}
 use Rattle.addressing.specs.Tables.{Tables}
 use Rattle.cyclo_points.specs.declared.point.Point.{Point}
 use Rattle.cyclo_points.specs.Order.{coefficients}
+use Rattle.layer_api.specs.declared.format.Format.{Format}
+use Rattle.plane_geom.specs.declared.window.Window.{Window}
 use Rattle.rule_model.specs.Tiling.{Tiling, contacts, children}
+use Rattle.window_cover.specs.Limits.{IsWithinLimits}
 use Rattle.tile_place.specs.Crossed.{LiesOnBoundary}
 use Rattle.tile_place.specs.Placing.{first_refused}
 use Rattle.tile_shape.specs.declared.address_fault.AddressFault.{AddressFault}
@@ -14,15 +17,15 @@ use Rattle.tile_shape.specs.Text.{HasShortNumbers, address_text}
 use Rattle.tile_shape.specs.Usable.{AreUsable}
 use Rattle.tile_app.specs.declared.rule_fault.RuleFault.{RuleFault}
 use Rattle.tile_app.specs.declared.status.Status.{Status}
-use Rattle.tile_app.specs.declared.status.Status.TheVariants.{Done, BadWords, RuleTooLong, RuleRefused, BadAddress, NoEdge, Outside, DepthLimit, CoordLimit}
+use Rattle.tile_app.specs.declared.status.Status.TheVariants.{Done, BadWords, NoLayer, RuleTooLong, RuleRefused, BadAddress, NoEdge, Outside, DepthLimit, CoordLimit, TooManyTiles}
 use Rattle.tile_app.specs.declared.words.Command.{Command}
-use Rattle.tile_app.specs.declared.words.Command.TheVariants.{Place, Neighbour, Walk, Check}
-use Rattle.tile_app.specs.Answer.{OfCommand, HasAnswer, Refuses, CanBeAnswered}
+use Rattle.tile_app.specs.declared.words.Command.TheVariants.{Place, Neighbour, Walk, Draw, Check}
+use Rattle.tile_app.specs.Answer.{OfCommand, HasAnswer, Refuses, CanBeAnswered, IsLimitOf, IsBeyond, IsBeyondLimits}
 use Rattle.tile_app.specs.Causes.{Causes}
 use Rattle.tile_app.specs.Neighbour.{GivesEdge, CanBeCrossed, HasNoEdge, LiesOutside}
 use Rattle.tile_place.specs.Crossed.{edges_of}
 use Rattle.lazy_walk.specs.Paths.{CanBeWalked, IsStoppedAt, LacksEdge}
-use Rattle.tile_app.specs.Walk.{CanWalk, WalksToNoEdge, WalksToLimit, frame_at, path_given}
+use Rattle.tile_app.specs.Walk.{CanWalk, WalksToNoEdge, WalksToLimit, frame_given, frame_at, path_given}
 use Rattle.tile_shape.specs.declared.address.Address as program
 use Rattle.tile_shape.specs.Views.{address_of}
 use Rattle.tile_app.proofs.OnePath.{walked_or_halted, halts_once, stopped_halts, lacking_halts, edge_is_below}
@@ -30,7 +33,10 @@ use Rattle.tile_app.proofs.SameAddress.{same_program_address}
 use Rattle.tile_app.specs.Place.{CanBePlaced, PassesLimit}
 use Rattle.tile_app.specs.Request.{Request, Asks, tiling_asked}
 use Rattle.tile_app.specs.Tile.{GivesTile, GivesNoTile}
-use Rattle.tile_app.specs.Words.{command_of, reads_file}
+use Rattle.tile_app.specs.Draw.{GivesWindow, PassesLimits}
+use Rattle.tile_app.specs.Layers.{HaveLayers, lacking, lacking_for, reads_file}
+use Rattle.tile_app.specs.Status.{IsLimit}
+use Rattle.tile_app.specs.Words.{command_of}
 use Rattle.tile_app.proofs.Faults.{OneText, fault_once}
 use Rattle.tile_app.proofs.Requested.{some_is}
 use Rattle.tile_app.proofs.Tilings.{AcceptedAreUsable, named_is_usable}
@@ -218,21 +224,82 @@ module _ (laws : Laws) (words : List (List ℕ)) (t : Tiling) (usable : AreUsabl
   walk_once (DepthLimit a e) u h k = absurd k
   walk_once s u h k = absurd h
 
+  -- `draw`: a window is within the limits of its frame or isn't
+  within_or_not : (a b : Address) (v w : Window) → GivesWindow words t a v → GivesWindow words t b w → IsWithinLimits t (frame_given words a) v → (IsWithinLimits t (frame_given words b) w → ⊥) → ⊥
+  within_or_not a b v w p q h k =
+      k (subst (λ x. IsWithinLimits t (frame_given words b) x) (some_is v w (sym p.given ∙ q.given))
+      (subst (λ c. IsWithinLimits t (frame_given words c) v) (same_tile a b p.tile q.tile) h))
+
+  -- the two are the same, or both are limits of the command's window
+  abbrev AreAlike : Command → Status → Status → Type 0
+  AreAlike c s u = (s ≡ u) ⊎ (IsLimitOf c s × IsLimitOf c u)
+
+  draw_once : (s u : Status) → IsFor words t Draw s → IsFor words t Draw u → AreAlike Draw s u
+  draw_once Done Done h k = inl refl
+  draw_once Done (BadAddress f) h k = absurd (tile_or_none h.base f h.gives.tile k)
+  draw_once Done (DepthLimit a e) h k = absurd (within_or_not h.base k.base h.window k.window h.gives k.gives h.within k.beyond)
+  draw_once Done (CoordLimit v) h k = absurd (within_or_not h.base k.base h.window k.window h.gives k.gives h.within k.beyond)
+  draw_once Done TooManyTiles h k = absurd (within_or_not h.base k.base h.window k.window h.gives k.gives h.within k.beyond)
+  draw_once Done u h k = absurd k
+  draw_once (BadAddress f) Done h k = absurd (tile_or_none k.base f k.gives.tile h)
+  draw_once (BadAddress f) (BadAddress g) h k = inl (ap (λ x. BadAddress x) (same_fault f g h k))
+  draw_once (BadAddress f) (DepthLimit a e) h k = absurd (tile_or_none k.base f k.gives.tile h)
+  draw_once (BadAddress f) (CoordLimit v) h k = absurd (tile_or_none k.base f k.gives.tile h)
+  draw_once (BadAddress f) TooManyTiles h k = absurd (tile_or_none k.base f k.gives.tile h)
+  draw_once (BadAddress f) u h k = absurd k
+  draw_once (DepthLimit a e) Done h k = absurd (within_or_not k.base h.base k.window h.window k.gives h.gives k.within h.beyond)
+  draw_once (DepthLimit a e) (BadAddress f) h k = absurd (tile_or_none h.base f h.gives.tile k)
+  draw_once (DepthLimit a e) (DepthLimit b g) h k = inr (tt, tt)
+  draw_once (DepthLimit a e) (CoordLimit v) h k = inr (tt, tt)
+  draw_once (DepthLimit a e) TooManyTiles h k = inr (tt, tt)
+  draw_once (DepthLimit a e) u h k = absurd k
+  draw_once (CoordLimit v) Done h k = absurd (within_or_not k.base h.base k.window h.window k.gives h.gives k.within h.beyond)
+  draw_once (CoordLimit v) (BadAddress f) h k = absurd (tile_or_none h.base f h.gives.tile k)
+  draw_once (CoordLimit v) (DepthLimit a e) h k = inr (tt, tt)
+  draw_once (CoordLimit v) (CoordLimit w) h k = inr (tt, tt)
+  draw_once (CoordLimit v) TooManyTiles h k = inr (tt, tt)
+  draw_once (CoordLimit v) u h k = absurd k
+  draw_once TooManyTiles Done h k = absurd (within_or_not k.base h.base k.window h.window k.gives h.gives k.within h.beyond)
+  draw_once TooManyTiles (BadAddress f) h k = absurd (tile_or_none h.base f h.gives.tile k)
+  draw_once TooManyTiles (DepthLimit a e) h k = inr (tt, tt)
+  draw_once TooManyTiles (CoordLimit v) h k = inr (tt, tt)
+  draw_once TooManyTiles TooManyTiles h k = inl refl
+  draw_once TooManyTiles u h k = absurd k
+  draw_once s u h k = absurd h
+
+  -- beyond the limits one of them comes
+  draw_beyond : (s : Status) → IsFor words t Draw s → PassesLimits words t → IsLimit s
+  draw_beyond Done h k = absurd (within_or_not h.base k.base h.window k.window h.gives k.gives h.within k.beyond)
+  draw_beyond (BadAddress f) h k = absurd (tile_or_none k.base f k.gives.tile h)
+  draw_beyond (DepthLimit a e) h k = tt
+  draw_beyond (CoordLimit v) h k = tt
+  draw_beyond TooManyTiles h k = tt
+  draw_beyond s h k = absurd h
+
   check_once : (s u : Status) → IsFor words t Check s → IsFor words t Check u → s ≡ u
   check_once Done Done h k = refl
   check_once Done u h k = absurd k
   check_once s u h k = absurd h
 
-  command_once : (c : Command) (s u : Status) → IsFor words t c s → IsFor words t c u → s ≡ u
-  command_once Place s u h k = place_once s u h k
-  command_once Neighbour s u h k = neighbour_once s u h k
-  command_once Walk s u h k = walk_once s u h k
-  command_once Check s u h k = check_once s u h k
+  command_once : (c : Command) (s u : Status) → IsFor words t c s → IsFor words t c u → AreAlike c s u
+  command_once Place s u h k = inl (place_once s u h k)
+  command_once Neighbour s u h k = inl (neighbour_once s u h k)
+  command_once Walk s u h k = inl (walk_once s u h k)
+  command_once Draw s u h k = draw_once s u h k
+  command_once Check s u h k = inl (check_once s u h k)
+
+  command_beyond : (c : Command) (s : Status) → IsFor words t c s → IsBeyond c words t → IsLimit s
+  command_beyond Draw s h k = draw_beyond s h k
+  command_beyond Place s h k = absurd k
+  command_beyond Neighbour s h k = absurd k
+  command_beyond Walk s h k = absurd k
+  command_beyond Check s h k = absurd k
 
 -- ---- words and rule files
 -- a status for which no command is asked
 abbrev IsEarly : Request → Status → Type 0
 IsEarly r (BadWords place) = Causes r (BadWords place)
+IsEarly r (NoLayer format) = Causes r (NoLayer format)
 IsEarly r RuleTooLong = Causes r RuleTooLong
 IsEarly r (RuleRefused fault) = Causes r (RuleRefused fault)
 IsEarly r status = ⊥
@@ -240,8 +307,22 @@ IsEarly r status = ⊥
 right_or_wrong : (r : Request) (c : Command) (place : ℕ) → command_of r.words ≡ Ok c → command_of r.words ≡ Err place → ⊥
 right_or_wrong r c place e f = absurd (cc (e, f))
 
-pub reading_or_wrong : (words : List (List ℕ)) (place : ℕ) → reads_file words ≡ true → command_of words ≡ Err place → ⊥
-reading_or_wrong words place f e = let g = (both_true (is_ok (command_of words)) _ f).0 in absurd (cc (subst (λ o. is_ok o ≡ true) e g))
+pub reading_or_wrong : (words : List (List ℕ)) (handed : List Format) (place : ℕ) → reads_file words handed ≡ true → command_of words ≡ Err place → ⊥
+reading_or_wrong words handed place f e = let g = (both_true (is_ok (command_of words)) _ f).0 in absurd (cc (subst (λ o. is_ok o ≡ true) e g))
+
+none_is : (o : Option Format) → is_none o ≡ true → o ≡ None
+none_is None e = refl
+none_is (Some f) e = absurd (cc e)
+
+-- where a file is read no layer lacks
+pub reading_has : (words : List (List ℕ)) (handed : List Format) → reads_file words handed ≡ true → HaveLayers words handed
+reading_has words handed f = none_is (lacking words handed) (both_true _ _ (both_true (is_ok (command_of words)) _ f).1).0
+
+pub has_or_lacks : (format : Format) (o : Option Format) → o ≡ None → o ≡ Some format → ⊥
+has_or_lacks format o e f = absurd (cc (e, f))
+
+pub lacking_or_wrong : (words : List (List ℕ)) (handed : List Format) (place : ℕ) (format : Format) → command_of words ≡ Err place → lacking words handed ≡ Some format → ⊥
+lacking_or_wrong words handed place format e f = has_or_lacks format (lacking words handed) (ap (lacking_for words handed) e) f
 
 long_or_not : (m n : ℕ) → m < n → n ≤ m → ⊥
 long_or_not m n l k = omega arith
@@ -264,14 +345,22 @@ command_is c d o e f = cc
 module _ (r : Request) where
   early_once : (s u : Status) → IsEarly r s → IsEarly r u → s ≡ u
   early_once (BadWords p) (BadWords q) h k = ap (λ n. BadWords n) (place_is p q (command_of r.words) h k)
-  early_once (BadWords p) RuleTooLong h k = absurd (reading_or_wrong r.words p k.0 h)
+  early_once (BadWords p) (NoLayer f) h k = absurd (lacking_or_wrong r.words r.handed p f h k)
+  early_once (BadWords p) RuleTooLong h k = absurd (reading_or_wrong r.words r.handed p k.0 h)
   early_once (BadWords p) (RuleRefused x) h k = absurd (right_or_wrong r k.right.0 p k.right.1 h)
   early_once (BadWords p) u h k = absurd k
-  early_once RuleTooLong (BadWords q) h k = absurd (reading_or_wrong r.words q h.0 k)
+  early_once (NoLayer f) (BadWords q) h k = absurd (lacking_or_wrong r.words r.handed q f k h)
+  early_once (NoLayer f) (NoLayer g) h k = ap (λ x. NoLayer x) (some_is f g (sym h ∙ k))
+  early_once (NoLayer f) RuleTooLong h k = absurd (has_or_lacks f (lacking r.words r.handed) (reading_has r.words r.handed k.0) h)
+  early_once (NoLayer f) (RuleRefused x) h k = absurd (has_or_lacks f (lacking r.words r.handed) k.layers h)
+  early_once (NoLayer f) u h k = absurd k
+  early_once RuleTooLong (BadWords q) h k = absurd (reading_or_wrong r.words r.handed q h.0 k)
+  early_once RuleTooLong (NoLayer f) h k = absurd (has_or_lacks f (lacking r.words r.handed) (reading_has r.words r.handed h.0) k)
   early_once RuleTooLong RuleTooLong h k = refl
   early_once RuleTooLong (RuleRefused x) h k = absurd (long_or_not _ (length r.file) h.1 k.not_too_long)
   early_once RuleTooLong u h k = absurd k
   early_once (RuleRefused x) (BadWords q) h k = absurd (right_or_wrong r h.right.0 q h.right.1 k)
+  early_once (RuleRefused x) (NoLayer f) h k = absurd (has_or_lacks f (lacking r.words r.handed) h.layers k)
   early_once (RuleRefused x) RuleTooLong h k = absurd (long_or_not _ (length r.file) k.1 h.not_too_long)
   early_once (RuleRefused x) (RuleRefused y) h k = ap (λ z. RuleRefused z) (fault_is x y (tiling_asked r) h.first k.first)
   early_once (RuleRefused x) u h k = absurd k
@@ -279,6 +368,7 @@ module _ (r : Request) where
 
   early_or_asks : (s : Status) (c : Command) (t : Tiling) → IsEarly r s → Asks r c t → ⊥
   early_or_asks (BadWords p) c t h k = right_or_wrong r c p k.right h
+  early_or_asks (NoLayer f) c t h k = has_or_lacks f (lacking r.words r.handed) k.layers h
   early_or_asks RuleTooLong c t h k = long_or_not _ (length r.file) h.1 k.names.not_too_long
   early_or_asks (RuleRefused x) c t h k = either t x (tiling_asked r) k.names.chosen h.first
   early_or_asks s c t h k = h
@@ -299,6 +389,7 @@ module _ (r : Request) where
       none Place words t k = k
       none Neighbour words t k = k
       none Walk words t k = k
+      none Draw words t k = k
       none Check words t k = k
 
   pub outcome_of : (s : Status) → Causes r s → Outcome s
@@ -311,23 +402,41 @@ module _ (r : Request) where
   early_or_command : (s : Status) → Outcome s → IsEarly r s ⊎ IsOfCommand s
   early_or_command Done h = inr h
   early_or_command (BadWords p) h = inl h
+  early_or_command (NoLayer f) h = inl h
   early_or_command RuleTooLong h = inl h
   early_or_command (RuleRefused x) h = inl h
   early_or_command s h = inr h
 
-  asked_once : (laws : Laws) (s u : Status) → IsOfCommand s → IsOfCommand u → s ≡ u
-  asked_once laws s u h k =
-      let same_command : h.command ≡ k.command = command_is h.command k.command (command_of r.words) h.asks.right k.asks.right in
-      let same_tiling : h.tiling ≡ k.tiling = tiling_is h.tiling k.tiling (tiling_asked r) h.asks.names.chosen k.asks.names.chosen in
-      let moved : IsFor r.words k.tiling k.command s =
-      subst (λ t. IsFor r.words t k.command s) same_tiling (subst (λ c. IsFor r.words h.tiling c s) same_command h.holds) in
-      command_once laws r.words k.tiling (named_is_usable laws.usable r k.tiling k.asks.names.chosen) k.command s u moved k.holds
+  -- one command and one tiling are asked
+  for_asked : (c : Command) (t : Tiling) (s : Status) → Asks r c t → IsOfCommand s → IsFor r.words t c s
+  for_asked c t s k h =
+      subst (λ x. IsFor r.words x c s) (tiling_is h.tiling t (tiling_asked r) h.asks.names.chosen k.names.chosen)
+      (subst (λ d. IsFor r.words h.tiling d s) (command_is h.command c (command_of r.words) h.asks.right k.right) h.holds)
 
-  pub one_answer : (laws : Laws) (s u : Status) → Outcome s → Outcome u → s ≡ u
+  -- the two are the same, or both are limits of the window that is asked for
+  abbrev pub AreOne : Status → Status → Type 0
+  AreOne s u = (s ≡ u) ⊎ ((c : Command) × (command_of r.words ≡ Ok c) × IsLimitOf c s × IsLimitOf c u)
+
+  asked_once : (laws : Laws) (s u : Status) → IsOfCommand s → IsOfCommand u → AreOne s u
+  asked_once laws s u h k =
+      elim (command_once laws r.words k.tiling (named_is_usable laws.usable r k.tiling k.asks.names.chosen) k.command s u (for_asked k.command k.tiling s k.asks h) k.holds) [
+        | inl e ↦ inl e
+        | inr l ↦ inr (k.command, k.asks.right, l.0, l.1)
+      ]
+
+  -- beyond the limits of a window one of them comes
+  pub limit_beyond : (laws : Laws) (s : Status) → Outcome s → IsBeyondLimits r → IsLimit s
+  limit_beyond laws s h k =
+      elim (early_or_command s h) [
+        | inl e ↦ absurd (early_or_asks s k.command k.tiling e k.asks)
+        | inr e ↦ command_beyond laws r.words k.tiling (named_is_usable laws.usable r k.tiling k.asks.names.chosen) k.command s (for_asked k.command k.tiling s k.asks e) k.holds
+      ]
+
+  pub one_answer : (laws : Laws) (s u : Status) → Outcome s → Outcome u → AreOne s u
   one_answer laws s u h k =
       elim (early_or_command s h) [
         | inl e ↦ elim (early_or_command u k) [
-          | inl f ↦ early_once s u e f
+          | inl f ↦ inl (early_once s u e f)
           | inr f ↦ absurd (early_or_asks s f.command f.tiling e f.asks)
         ]
         | inr e ↦ elim (early_or_command u k) [

@@ -2,11 +2,12 @@
 use Rattle.std.proofs.Common.{◌≡◌, ℕ, ◌<◌, ◌≤◌, Bool, true, false, IsTrue, List, [], ◌∷◌, ◌++◌, length, Some, None, IfSome, refl, sym, ap, ap₂, ◌∙◌, subst, arith}
 use Rattle.std.proofs.lemmas.List.{length-append, append-nil as append_nil}
 use Rattle.std.specs.declared.option.Option.{Option}
+use Rattle.layer_api.specs.declared.format.Format.{Format}
 use Rattle.rule_text.specs.Limits.{longest_file}
 use Rattle.tile_io.specs.Left.{Gives}
 use Rattle.tile_app.specs.Asked.{IsFileIn, WasFileIn, IsAsked, WasAsked}
 use Rattle.tile_app.specs.Request.{Request, HasTooLongFile}
-use Rattle.tile_app.specs.Words.{reads_file}
+use Rattle.tile_app.specs.Layers.{reads_file}
 
 pub some_is : {A : Type 0} (x y : A) → Some x ≡ Some y → x ≡ y
 some_is x y e = cc
@@ -21,10 +22,11 @@ same_file : (b : Bool) (left rest : Option (List ℕ)) (file other : List ℕ) �
 same_file true left rest file other h k l = all_read file other left rest h k.given (k.to_the_end l)
 same_file false left rest file other h k l = k ∙ sym h
 
-pub same_request : (words : List (List ℕ)) (left rest : Option (List ℕ)) (r q : Request) → IsAsked words left r → WasAsked words left rest q → length q.file ≤ longest_file → q ≡ r
-same_request words left rest r q h k l =
-    ap₂ (λ (w : List (List ℕ)) (f : List ℕ). (let s : Request = record { words = w; file = f } in s)) (k.by_words ∙ sym h.by_words)
-    (same_file (reads_file words) left rest r.file q.file h.in_source k.from_source l)
+pub same_request : (words : List (List ℕ)) (handed : List Format) (left rest : Option (List ℕ)) (r q : Request) → IsAsked words handed left r → WasAsked words handed left rest q → length q.file ≤ longest_file → q ≡ r
+same_request words handed left rest r q h k l =
+    ap₂ (λ (w : List (List ℕ)) (f : List ℕ). (let s : Request = record { words = w; handed = q.handed; file = f } in s)) (k.by_words ∙ sym h.by_words)
+    (same_file (reads_file words handed) left rest r.file q.file h.in_source k.from_source l)
+    ∙ ap (λ (hs : List Format). (let s : Request = record { words = r.words; handed = hs; file = r.file } in s)) (k.by_layers ∙ sym h.by_layers)
 
 -- ---- of a file that is too long a part was read, which is too long
 longer : (bytes rest piece : List ℕ) → bytes ≡ piece ++ rest → longest_file < length piece → longest_file < length bytes
@@ -39,8 +41,8 @@ too_long_file : (b : Bool) (left rest : Option (List ℕ)) (file other : List �
 too_long_file true left rest file other h k l = gives_longer file other left rest h k.given l
 too_long_file false left rest file other h k l = subst (λ (xs : List ℕ). longest_file < length xs) (k ∙ sym h) l
 
-pub same_too_long : (words : List (List ℕ)) (left rest : Option (List ℕ)) (r q : Request) → IsAsked words left r → WasAsked words left rest q → HasTooLongFile q → HasTooLongFile r
-same_too_long words left rest r q h k l = (
-  subst (λ ws. IsTrue (reads_file ws)) (k.by_words ∙ sym h.by_words) l.0,
-  too_long_file (reads_file words) left rest r.file q.file h.in_source k.from_source l.1,
+pub same_too_long : (words : List (List ℕ)) (handed : List Format) (left rest : Option (List ℕ)) (r q : Request) → IsAsked words handed left r → WasAsked words handed left rest q → HasTooLongFile q → HasTooLongFile r
+same_too_long words handed left rest r q h k l = (
+  subst (λ hs. IsTrue (reads_file r.words hs)) (k.by_layers ∙ sym h.by_layers) (subst (λ ws. IsTrue (reads_file ws q.handed)) (k.by_words ∙ sym h.by_words) l.0),
+  too_long_file (reads_file words handed) left rest r.file q.file h.in_source k.from_source l.1,
 )

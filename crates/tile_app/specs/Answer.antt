@@ -3,11 +3,13 @@ use Rattle.std.specs.Prelude.{◌≡◌, ℕ, List}
 use Rattle.rule_model.specs.Tiling.{Tiling}
 use Rattle.tile_app.specs.declared.status.Status.{Status}
 use Rattle.tile_app.specs.declared.words.Command.{Command}
-use Rattle.tile_app.specs.declared.words.Command.TheVariants.{Place, Neighbour, Walk, Check}
+use Rattle.tile_app.specs.declared.words.Command.TheVariants.{Place, Neighbour, Walk, Draw, Check}
 use Rattle.tile_app.specs.Check.{check_line}
+use Rattle.tile_app.specs.Draw.{CanDraw, PrintsDraw, PassesLimits, DrawRefuses}
 use Rattle.tile_app.specs.Neighbour.{CanBeCrossed, PrintsNeighbour, NeighbourRefuses}
 use Rattle.tile_app.specs.Place.{CanBePlaced, PrintsPlace, PlaceRefuses}
 use Rattle.tile_app.specs.Request.{Request, Asks}
+use Rattle.tile_app.specs.Status.{IsLimit}
 use Rattle.tile_app.specs.Walk.{CanWalk, PrintsWalk, WalkRefuses}
 
 -- the command prints this text for these words and this tiling
@@ -15,6 +17,7 @@ abbrev pub IsPrinted : Command → List (List ℕ) → Tiling → List ℕ → T
 IsPrinted Place = PrintsPlace
 IsPrinted Neighbour = PrintsNeighbour
 IsPrinted Walk = PrintsWalk
+IsPrinted Draw = PrintsDraw
 IsPrinted Check = λ words t text. text ≡ check_line t
 
 -- the command has something to print for these words and this tiling
@@ -22,6 +25,7 @@ abbrev pub HasAnswer : Command → List (List ℕ) → Tiling → Type 0
 HasAnswer Place = CanBePlaced
 HasAnswer Neighbour = CanBeCrossed
 HasAnswer Walk = CanWalk
+HasAnswer Draw = CanDraw
 HasAnswer Check = λ words t. Unit {0}
 
 -- the command refuses these words for this tiling with this status, for its cause
@@ -29,7 +33,18 @@ abbrev pub Refuses : Command → List (List ℕ) → Tiling → Status → Type 
 Refuses Place = PlaceRefuses
 Refuses Neighbour = NeighbourRefuses
 Refuses Walk = WalkRefuses
+Refuses Draw = DrawRefuses
 Refuses Check = λ words t status. ⊥
+
+-- the status is one of the limits of the command's window, of which several may be passed: `draw` alone has one
+abbrev pub IsLimitOf : Command → Status → Type 0
+IsLimitOf Draw status = IsLimit status
+IsLimitOf command status = ⊥
+
+-- the command passes a limit for these words and this tiling
+abbrev pub IsBeyond : Command → List (List ℕ) → Tiling → Type 0
+IsBeyond Draw = PassesLimits
+IsBeyond command = λ words t. ⊥
 
 -- right words ask a command of a tiling, and this holds of the command, of the words and of the tiling
 pub record OfCommand (P : Command → List (List ℕ) → Tiling → Type 0) (r : Request) : Type 0 where
@@ -45,3 +60,7 @@ Prints r text = OfCommand (λ command words t. IsPrinted command words t text) r
 -- there is a text that answers the request
 abbrev pub CanBeAnswered : Request → Type 0
 CanBeAnswered r = OfCommand HasAnswer r
+
+-- the request is for a window that isn't within its limits
+abbrev pub IsBeyondLimits : Request → Type 0
+IsBeyondLimits r = OfCommand IsBeyond r

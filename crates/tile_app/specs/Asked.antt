@@ -1,10 +1,11 @@
--- The request of a call: its words, and what its source has left, or had and gave.
+-- The request of a call: its words, the formats of the layers handed in, and what its source has left, or had and gave.
 use Rattle.std.specs.Prelude.{◌≡◌, ℕ, ◌+◌, ◌≤◌, Bool, true, false, List, [], length, Some, IfSome}
 use Rattle.std.specs.declared.option.Option.{Option}
+use Rattle.layer_api.specs.declared.format.Format.{Format}
 use Rattle.rule_text.specs.Limits.{longest_file}
 use Rattle.tile_io.specs.Left.{Gives}
 use Rattle.tile_app.specs.Request.{Request}
-use Rattle.tile_app.specs.Words.{reads_file}
+use Rattle.tile_app.specs.Layers.{reads_file}
 
 -- the file in a source that has these bytes left: all of them, where a file is read
 abbrev pub IsFileIn : Bool → Option (List ℕ) → List ℕ → Type 0
@@ -23,16 +24,18 @@ abbrev pub WasFileIn : Bool → Option (List ℕ) → Option (List ℕ) → List
 WasFileIn true left rest file = WasRead left rest file
 WasFileIn false left rest file = file ≡ []
 
--- the words ask this of a source that has these bytes left
-pub record IsAsked (words : List (List ℕ)) (left : Option (List ℕ)) (r : Request) : Type 0 where
+-- the words, with layers of these formats, ask this of a source that has these bytes left
+pub record IsAsked (words : List (List ℕ)) (handed : List Format) (left : Option (List ℕ)) (r : Request) : Type 0 where
   pub by_words : r.words ≡ words
-  pub in_source : IsFileIn (reads_file words) left r.file
+  pub by_layers : r.handed ≡ handed
+  pub in_source : IsFileIn (reads_file words handed) left r.file
 
--- the words asked this of a source that had some bytes left and now has the rest
-pub record WasAsked (words : List (List ℕ)) (left rest : Option (List ℕ)) (r : Request) : Type 0 where
+-- they asked this of a source that had some bytes left and now has the rest
+pub record WasAsked (words : List (List ℕ)) (handed : List Format) (left rest : Option (List ℕ)) (r : Request) : Type 0 where
   pub by_words : r.words ≡ words
-  pub from_source : WasFileIn (reads_file words) left rest r.file
+  pub by_layers : r.handed ≡ handed
+  pub from_source : WasFileIn (reads_file words handed) left rest r.file
 
--- what the words asked of such a source has this property
-abbrev pub OfRequest : List (List ℕ) → Option (List ℕ) → Option (List ℕ) → (Request → Type 0) → Type 0
-OfRequest words left rest P = (r : Request) × WasAsked words left rest r × P r
+-- what they asked of such a source has this property
+abbrev pub OfRequest : List (List ℕ) → List Format → Option (List ℕ) → Option (List ℕ) → (Request → Type 0) → Type 0
+OfRequest words handed left rest P = (r : Request) × WasAsked words handed left rest r × P r

@@ -3,11 +3,13 @@ use Rattle.std.specs.Prelude.{ℕ, Bool, true, List, [], ◌∷◌, codes, Some,
 use Rattle.std.specs.declared.option.Option.{Option}
 use Rattle.std.specs.Str.{bytes_eq}
 use Rattle.tile_app.specs.declared.words.Command.{Command}
-use Rattle.tile_app.specs.declared.words.Command.TheVariants.{Place, Neighbour, Walk, Check}
+use Rattle.tile_app.specs.declared.words.Command.TheVariants.{Place, Neighbour, Walk, Draw, Check}
 use Rattle.tile_app.specs.declared.words.Key.{Key}
-use Rattle.tile_app.specs.declared.words.Key.TheVariants.{Rule, Addr, Edge, Seed, Grow, Path}
+use Rattle.tile_app.specs.declared.words.Key.TheVariants.{Rule, Addr, Edge, Seed, Grow, Path, At, Half, Layers}
 use Rattle.tile_app.specs.Choices.{choice_in}
+use Rattle.tile_app.specs.FormatWords.{formats_in}
 use Rattle.tile_app.specs.PathWords.{path_in}
+use Rattle.tile_app.specs.WindowWords.{at_in, half_in}
 use Rattle.tile_shape.specs.Decimal.{number_up_to}
 
 -- the greatest start number
@@ -22,6 +24,9 @@ key_text Edge = codes "edge"
 key_text Seed = codes "seed"
 key_text Grow = codes "grow"
 key_text Path = codes "path"
+key_text At = codes "at"
+key_text Half = codes "half"
+key_text Layers = codes "layers"
 
 -- the command that a word names
 abbrev pub command_named : List ℕ → Option Command
@@ -29,6 +34,7 @@ command_named word =
     if bytes_eq word (codes "place") then Some Place else
     if bytes_eq word (codes "neighbour") then Some Neighbour else
     if bytes_eq word (codes "walk") then Some Walk else
+    if bytes_eq word (codes "draw") then Some Draw else
     if bytes_eq word (codes "check") then Some Check else None
 
 -- the keys of a command
@@ -36,6 +42,7 @@ abbrev pub keys_of : Command → List Key
 keys_of Place = Rule ∷ Addr ∷ []
 keys_of Neighbour = Rule ∷ Addr ∷ Edge ∷ []
 keys_of Walk = Rule ∷ Addr ∷ Seed ∷ Grow ∷ Path ∷ []
+keys_of Draw = Rule ∷ Addr ∷ At ∷ Half ∷ Layers ∷ Seed ∷ []
 keys_of Check = Rule ∷ []
 
 -- the keys that a command can't do without
@@ -43,10 +50,11 @@ abbrev pub required_keys : Command → List Key
 required_keys Place = Rule ∷ Addr ∷ []
 required_keys Neighbour = Rule ∷ Addr ∷ Edge ∷ []
 required_keys Walk = Rule ∷ Addr ∷ []
+required_keys Draw = Rule ∷ Addr ∷ At ∷ Half ∷ Layers ∷ []
 required_keys Check = Rule ∷ []
 
 -- whether a value has the form of its key: a rule is one of the names known or `-`, an address any text, an edge a number from 0 to 255, a start number one
--- of 64 bits, a depth at most 64, and a path numbers of edges joined by commas
+-- of 64 bits, a depth at most 64, a path numbers of edges, a centre four coefficients, half extents two numbers from 1, and layers formats, joined by commas
 abbrev pub has_form : Key → List ℕ → Bool
 has_form Rule value = is_some (choice_in value)
 has_form Addr value = true
@@ -54,10 +62,14 @@ has_form Edge value = is_some (number_up_to 255 value)
 has_form Seed value = is_some (number_up_to most_seed value)
 has_form Grow value = is_some (number_up_to 64 value)
 has_form Path value = is_some (path_in value)
+has_form At value = is_some (at_in value)
+has_form Half value = is_some (half_in value)
+has_form Layers value = is_some (formats_in value)
 
 -- a command that asks about a tile, by its address
 abbrev pub IsAboutTile : Command → Type 0
 IsAboutTile Place = Unit {0}
 IsAboutTile Neighbour = Unit {0}
 IsAboutTile Walk = Unit {0}
+IsAboutTile Draw = Unit {0}
 IsAboutTile Check = ⊥

@@ -2,8 +2,11 @@ pub mod Tilings
 pub mod RuleFiles
 pub mod Choices
 pub mod PathWords
+pub mod WindowWords
+pub mod FormatWords
 pub mod Commands
 pub mod Words
+pub mod Layers
 pub mod Request
 pub mod Asked
 pub mod Text
@@ -11,6 +14,8 @@ pub mod Tile
 pub mod Place
 pub mod Neighbour
 pub mod Walk
+pub mod DrawnTile
+pub mod Draw
 pub mod Check
 pub mod Answer
 pub mod RuleFaultText

@@ -9,7 +9,8 @@ use Rattle.tile_shape.specs.FaultText.{address_fault_text}
 use Rattle.tile_shape.specs.Text.{address_text}
 use Rattle.tile_shape.specs.Views.{address_of}
 use Rattle.tile_app.specs.declared.status.Status.{Status}
-use Rattle.tile_app.specs.declared.status.Status.TheVariants.{Done, BadWords, ReadFault, RuleTooLong, RuleRefused, BadAddress, NoEdge, Outside, DepthLimit, CoordLimit, WriteFault, NoMemory}
+use Rattle.tile_app.specs.declared.status.Status.TheVariants.{Done, BadWords, NoLayer, ReadFault, RuleTooLong, RuleRefused, BadAddress, NoEdge, Outside, DepthLimit, CoordLimit, TooManyTiles, WriteFault, NoMemory}
+use Rattle.tile_app.specs.FormatWords.{format_text}
 use Rattle.tile_app.specs.RuleFaultText.{rule_fault_text}
 use Rattle.tile_app.specs.Status.{code_of}
 use Rattle.tile_app.specs.Text.{newline}
@@ -18,6 +19,7 @@ use Rattle.tile_app.specs.Text.{newline}
 abbrev pub status_text : Status → List ℕ
 status_text Done = codes "Done"
 status_text (BadWords place) = codes "BadWords " ++ decimal place
+status_text (NoLayer format) = codes "NoLayer " ++ format_text format
 status_text ReadFault = codes "ReadFault"
 status_text RuleTooLong = codes "RuleTooLong"
 status_text (RuleRefused fault) = codes "RuleRefused " ++ rule_fault_text fault
@@ -26,6 +28,7 @@ status_text (NoEdge edge edges) = codes "NoEdge " ++ decimal edge ++ blank ∷ d
 status_text (Outside edge part) = codes "Outside " ++ decimal edge ++ blank ∷ decimal part
 status_text (DepthLimit addr edge) = codes "DepthLimit " ++ address_text (address_of addr) ++ blank ∷ decimal edge
 status_text (CoordLimit value) = codes "CoordLimit " ++ point_text value
+status_text TooManyTiles = codes "TooManyTiles"
 status_text WriteFault = codes "WriteFault"
 status_text NoMemory = codes "NoMemory"
 

@@ -5,7 +5,7 @@ use Rattle.rule_text.specs.declared.text_fault.TextFault.TheVariants as text
 use Rattle.tile_app.specs.declared.rule_fault.RuleFault.{RuleFault}
 use Rattle.tile_app.specs.declared.rule_fault.RuleFault.TheVariants.{Text, Check}
 use Rattle.tile_app.specs.declared.status.Status.{Status}
-use Rattle.tile_app.specs.declared.status.Status.TheVariants.{Done, BadWords, ReadFault, RuleTooLong, RuleRefused, BadAddress, NoEdge, Outside, DepthLimit, CoordLimit, WriteFault, NoMemory}
+use Rattle.tile_app.specs.declared.status.Status.TheVariants.{Done, BadWords, NoLayer, ReadFault, RuleTooLong, RuleRefused, BadAddress, NoEdge, Outside, DepthLimit, CoordLimit, TooManyTiles, WriteFault, NoMemory}
 
 -- the exit code of the program
 abbrev pub code_of : Status → ℕ
@@ -16,11 +16,13 @@ code_of (RuleRefused fault) = 3
 code_of (BadAddress fault) = 4
 code_of (DepthLimit addr edge) = 5
 code_of (CoordLimit value) = 6
+code_of TooManyTiles = 7
 code_of (Outside edge part) = 8
 code_of ReadFault = 9
 code_of WriteFault = 10
 code_of NoMemory = 11
 code_of (NoEdge edge edges) = 12
+code_of (NoLayer format) = 14
 
 -- every refusal but a fault of the sink
 abbrev pub IsRefusal : Status → Type 0
@@ -33,6 +35,13 @@ abbrev pub IsCutShort : Status → Type 0
 IsCutShort ReadFault = Unit {0}
 IsCutShort NoMemory = Unit {0}
 IsCutShort _ = ⊥
+
+-- one of the limits of a window
+abbrev pub IsLimit : Status → Type 0
+IsLimit (DepthLimit addr edge) = Unit {0}
+IsLimit (CoordLimit value) = Unit {0}
+IsLimit TooManyTiles = Unit {0}
+IsLimit _ = ⊥
 
 -- memory was wanted, or there is this cause of the status
 abbrev pub OrNoMemory : (Status → Type 0) → Status → Type 0

@@ -7,9 +7,11 @@ use Rattle.dissect_check.specs.declared.check_fault.CheckFault.{CheckFault}
 use Rattle.dissect_check.specs.declared.check_fault.CheckFault.TheVariants as check
 use Rattle.tile_app.specs.declared.rule_fault.RuleFault.TheVariants.{Text, Check}
 use Rattle.tile_app.specs.declared.status.Status.{Status}
-use Rattle.tile_app.specs.declared.status.Status.TheVariants.{ReadFault, RuleTooLong, RuleRefused, NoEdge, DepthLimit, NoMemory}
+use Rattle.tile_app.specs.declared.status.Status.TheVariants.{ReadFault, RuleTooLong, RuleRefused, NoEdge, DepthLimit, CoordLimit, TooManyTiles, NoMemory}
 use Rattle.lazy_walk.specs.declared.path_fault.PathFault.{PathFault}
 use Rattle.lazy_walk.specs.declared.path_fault.PathFault.TheVariants as walking
+use Rattle.window_cover.specs.declared.cover_fault.CoverFault.{CoverFault}
+use Rattle.window_cover.specs.declared.cover_fault.CoverFault.TheVariants as covering
 
 -- of a reading to the end
 abbrev pub status_of_reading : ReadAllFault → Status
@@ -31,3 +33,10 @@ status_of_check e = RuleRefused (Check e)
 abbrev pub status_of_path : PathFault → Status
 status_of_path (walking.NoEdge edge edges) = NoEdge edge edges
 status_of_path (walking.DepthLimit limit) = DepthLimit limit.addr limit.edge
+
+-- of a window
+abbrev pub status_of_cover : CoverFault → Status
+status_of_cover (covering.DepthLimit addr edge) = DepthLimit addr edge
+status_of_cover (covering.CoordLimit value) = CoordLimit value
+status_of_cover covering.TooManyTiles = TooManyTiles
+status_of_cover covering.NoMemory = NoMemory

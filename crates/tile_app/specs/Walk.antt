@@ -40,9 +40,13 @@ grow_given words = number_given 64 Grow words
 abbrev pub path_given : List (List ℕ) → List ℕ
 path_given words = option_map_or (λ path. path) (option_and_then path_in (value_given Path words)) []
 
+-- the frame of a base, before it grows
+abbrev pub frame_given : List (List ℕ) → Address → FrameValue
+frame_given words base = record { base = base; start = seed_given words; digits = base.digits }
+
 -- the address of the base in its frame of a depth, which names the frame's supertile
 abbrev pub frame_at : List (List ℕ) → Tiling → Address → ℕ → Address
-frame_at words t base n = whole (at_depth t n (record { base = base; start = seed_given words; digits = base.digits }))
+frame_at words t base n = whole (at_depth t n (frame_given words base))
 
 -- the number of the edge that leads back, or `-` for the base
 abbrev pub back_text : Option ℕ → List ℕ

@@ -1,5 +1,5 @@
 -- The words of a command line: a command, and behind it `key=value` words, in any order, each key of the command at most once.
-use Rattle.std.specs.Prelude.{◌≡◌, ℕ, Bool, false, not, ◌&&◌, List, [], ◌∷◌, ◌++◌, map, length, string_bytes, Some, None, Ok, Err, is_some, is_ok, nat_lt, nat_eq, if◌then◌else◌}
+use Rattle.std.specs.Prelude.{◌≡◌, ℕ, Bool, false, not, ◌&&◌, List, [], ◌∷◌, ◌++◌, map, length, string_bytes, Some, None, Ok, Err, is_some, nat_lt, nat_eq, if◌then◌else◌}
 use Rattle.std.specs.declared.option.Option.{Option}
 use Rattle.std.specs.declared.result.Result.{Result}
 use Rattle.std.specs.declared.string.String.{String}
@@ -10,7 +10,7 @@ use Rattle.tile_app.specs.declared.rule_choice.RuleChoice.{RuleChoice}
 use Rattle.tile_app.specs.declared.words.Command.{Command}
 use Rattle.tile_app.specs.declared.words.Key.{Key}
 use Rattle.tile_app.specs.declared.words.Key.TheVariants.{Rule}
-use Rattle.tile_app.specs.Choices.{choice_in, is_file}
+use Rattle.tile_app.specs.Choices.{choice_in}
 use Rattle.tile_app.specs.Commands.{key_text, command_named, keys_of, required_keys, has_form, IsAboutTile}
 
 -- the words as their bytes
@@ -55,10 +55,6 @@ AreRight words = (command : Command) × (command_of words ≡ Ok command)
 -- the rule that the words choose
 abbrev pub choice_given : List (List ℕ) → Option RuleChoice
 choice_given words = option_and_then choice_in (value_given Rule words)
-
--- the words are right, and have a rule file read
-abbrev pub reads_file : List (List ℕ) → Bool
-reads_file words = is_ok (command_of words) && option_map_or is_file (choice_given words) false
 
 -- the words are right and have a command that asks about a tile
 abbrev pub AskAboutTile : List (List ℕ) → Type 0

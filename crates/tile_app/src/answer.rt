@@ -1,14 +1,17 @@
 //! The text that answers a request, or why there is none.
-ghost use Rattle.std.specs.Prelude.{◌≡◌, false, Ok, IfOk, IfErr, IsErrOf, string_bytes};
+ghost use Rattle.std.specs.Prelude.{◌≡◌, false, map, Ok, IfOk, IfErr, IsErrOf};
 ghost use Rattle.rule_model.specs.Tiling.{tiling_of};
 ghost use Rattle.tile_io.specs.Causes.{Rose};
 ghost use Rattle.tile_app.specs.Answer.{IsPrinted, Prints, Refuses};
 ghost use Rattle.tile_app.specs.Asked.{OfRequest};
 ghost use Rattle.tile_app.specs.Causes.{IsRefused};
+ghost use Rattle.tile_app.specs.Layers.{HaveLayers, reads_file};
 ghost use Rattle.tile_app.specs.Status.{OrNoMemory};
-ghost use Rattle.tile_app.specs.Words.{texts, command_of, reads_file};
+ghost use Rattle.tile_app.specs.Words.{texts, command_of};
 
 use crate::check::check_text;
+use crate::draw::draw_text;
+use crate::layers::lacking;
 use crate::neighbour::neighbour_text;
 use crate::place::place_text;
 use crate::rule_given::rule_given;
@@ -16,6 +19,7 @@ use crate::status::Status;
 use crate::walk::walk_text;
 use crate::words::{Command, command_of};
 use edge_tables::steps::Steps;
+use layer_api::layer::Layer;
 use rule_model::checked::Checked;
 use std::alloc::Global;
 use std::sync::ledger::Ledger;
@@ -23,49 +27,59 @@ use tile_io::source::Source;
 use tile_place::machine::Machine;
 
 /// What a command prints for right words and a checked rule, or its refusal.
-fn command_text<L: Ledger>(
+fn command_text<D: Layer, L: Ledger>(
     alloc: Global,
     command: Command,
     checked: Checked,
     words: &[String],
+    layers: &mut [D],
     steps: &mut Steps<L>,
-) -> Result<String, Status>
+) -> Result<Vec<u8>, Status>
     requires right { command_of (texts words.now) ≡ Ok command }
-    ensures printed { IfOk result (λ text. IsPrinted command (texts words.now) (tiling_of checked) (string_bytes text)) }
+    requires have_layers { HaveLayers (texts words.now) (map D.form layers.old) }
+    ensures printed { IfOk result (λ text. IsPrinted command (texts words.now) (tiling_of checked) text.items) }
     ensures refused { IfErr result (OrNoMemory (Refuses command (texts words.now) (tiling_of checked))) }
 {
     match command {
-        Command::Check => Ok(check_text(alloc, &checked)?),
-        Command::Place => place_text(alloc, &checked, words),
+        Command::Check => Ok(check_text(alloc, &checked)?.into_bytes()),
+        Command::Place => Ok(place_text(alloc, &checked, words)?.into_bytes()),
         Command::Neighbour => {
             let machine = Machine::new(alloc, checked)?;
-            neighbour_text(alloc, &machine, words, steps)
+            Ok(neighbour_text(alloc, &machine, words, steps)?.into_bytes())
         }
         Command::Walk => {
             let machine = Machine::new(alloc, checked)?;
-            walk_text(alloc, &machine, words, steps)
+            Ok(walk_text(alloc, &machine, words, steps)?.into_bytes())
+        }
+        Command::Draw => {
+            let machine = Machine::new(alloc, checked)?;
+            draw_text(alloc, &machine, words, layers)
         }
     }
 }
 
 /// The whole text that answers the request, or its refusal. The source is read where the words choose
-/// the rule of a file.
-pub fn answer_text<R: Source, L: Ledger>(
+/// the rule of a file, and each format that they ask for has a layer.
+pub fn answer_text<R: Source, D: Layer, L: Ledger>(
     alloc: Global,
     words: &[String],
     source: &mut R,
+    layers: &mut [D],
     steps: &mut Steps<L>,
-) -> Result<String, Status>
-    ensures printed { IfOk result (λ text. OfRequest (texts words.now) (R.left source.old) (R.left source.new)
-        (λ r. Prints r (string_bytes text))) }
-    ensures refused { IfErr result (IsRefused (texts words.now) (R.left source.old) (R.left source.new)) }
+) -> Result<Vec<u8>, Status>
+    ensures printed { IfOk result (λ text. OfRequest (texts words.now) (map D.form layers.old) (R.left source.old) (R.left source.new)
+        (λ r. Prints r text.items)) }
+    ensures refused { IfErr result (IsRefused (texts words.now) (map D.form layers.old) (R.left source.old) (R.left source.new)) }
     ensures read_fault { IsErrOf result Status.ReadFault → Rose (R.faults source.old) (R.faults source.new) }
-    ensures untouched { reads_file (texts words.now) ≡ false → source.new ≡ source.old }
+    ensures untouched { reads_file (texts words.now) (map D.form layers.old) ≡ false → source.new ≡ source.old }
 {
     let command = match command_of(words) {
         Ok(command) => command,
         Err(place) => return Err(Status::BadWords { place }),
     };
+    if let Some(format) = lacking(command, words, layers) {
+        return Err(Status::NoLayer { format });
+    }
     let checked = rule_given(alloc, words, source)?;
-    command_text(alloc, command, checked, words, steps)
+    command_text(alloc, command, checked, words, layers, steps)
 }

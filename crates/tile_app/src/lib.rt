@@ -6,7 +6,11 @@
 
 mod answer;
 mod check;
+mod draw;
+mod drawn_tile;
 mod fault_words;
+mod format_words;
+mod layers;
 mod line;
 mod neighbour;
 mod note;
@@ -20,4 +24,5 @@ pub mod run;
 pub mod status;
 mod tile;
 mod walk;
+mod window_words;
 pub mod words;

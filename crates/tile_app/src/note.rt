@@ -5,6 +5,7 @@ ghost use Rattle.tile_app.specs.Notes.{status_text, note_of, IsNoted};
 ghost use Rattle.cyclo_points.specs.Text.{blank};
 
 use crate::fault_words::{put_address_fault, put_rule_fault};
+use crate::format_words::format_text;
 use crate::line::{LINE_ROOM, put_address, put_number, put_numbered, put_point, put_word};
 use crate::status::Status;
 use arrayvec::ArrayString;
@@ -21,6 +22,10 @@ fn put_status(line: &mut ArrayString<LINE_ROOM>, status: &Status)
     match status {
         Status::Done => put_word(line, "Done"),
         Status::BadWords { place } => put_numbered(line, "BadWords", *place as u64),
+        Status::NoLayer { format } => {
+            put_word(line, "NoLayer");
+            put_word(line, format_text(*format));
+        }
         Status::ReadFault => put_word(line, "ReadFault"),
         Status::RuleTooLong => put_word(line, "RuleTooLong"),
         Status::RuleRefused { fault } => {
@@ -48,6 +53,7 @@ fn put_status(line: &mut ArrayString<LINE_ROOM>, status: &Status)
             put_word(line, "CoordLimit");
             put_point(line, value);
         }
+        Status::TooManyTiles => put_word(line, "TooManyTiles"),
         Status::WriteFault => put_word(line, "WriteFault"),
         Status::NoMemory => put_word(line, "NoMemory"),
     }

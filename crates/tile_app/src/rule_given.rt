@@ -1,14 +1,16 @@
 //! The rule that the words choose, checked.
 ghost use Rattle.std.specs.Prelude.{◌≡◌, ◌≤◌, ℕ, List, false, length, Ok, IfOk, IfErr, IsErrOf};
+ghost use Rattle.layer_api.specs.declared.format.Format.{Format};
 ghost use Rattle.rule_text.specs.Limits.{longest_file};
 ghost use Rattle.tile_io.specs.Causes.{Rose};
 ghost use Rattle.tile_app.specs.Asked.{OfRequest, WasRead};
 ghost use Rattle.tile_app.specs.Causes.{IsRefused};
+ghost use Rattle.tile_app.specs.Layers.{HaveLayers, reads_file};
 ghost use Rattle.tile_app.specs.Reading.{IsFileRefused, IsReadingRefused};
 ghost use Rattle.tile_app.specs.Request.{Names};
 ghost use Rattle.tile_app.specs.RuleFiles.{tiling_in_file};
 ghost use Rattle.rule_model.specs.Tiling.{tiling_of};
-ghost use Rattle.tile_app.specs.Words.{texts, reads_file, AreRight};
+ghost use Rattle.tile_app.specs.Words.{texts, AreRight};
 
 use crate::rule_choice::{RuleChoice, choice_in};
 use crate::status::Status;
@@ -49,11 +51,14 @@ pub fn rule_given<R: Source>(
     source: &mut R,
 ) -> Result<Checked, Status>
     requires { AreRight (texts words.now) }
-    ensures asked { IfOk result (λ checked. OfRequest (texts words.now) (R.left source.old) (R.left source.new)
-        (λ r. Names r (tiling_of checked))) }
-    ensures refused { IfErr result (IsRefused (texts words.now) (R.left source.old) (R.left source.new)) }
+    // With layers of whatever formats, where no layer lacks.
+    ensures asked { (handed : List Format) → HaveLayers (texts words.now) handed
+        → IfOk result (λ checked. OfRequest (texts words.now) handed (R.left source.old) (R.left source.new) (λ r. Names r (tiling_of checked))) }
+    ensures refused { (handed : List Format) → HaveLayers (texts words.now) handed
+        → IfErr result (IsRefused (texts words.now) handed (R.left source.old) (R.left source.new)) }
     ensures read_fault { IsErrOf result Status.ReadFault → Rose (R.faults source.old) (R.faults source.new) }
-    ensures untouched { reads_file (texts words.now) ≡ false → source.new ≡ source.old }
+    ensures untouched { (handed : List Format) → HaveLayers (texts words.now) handed
+        → reads_file (texts words.now) handed ≡ false → source.new ≡ source.old }
 {
     let text = Key::Rule.value_given(words).unwrap();
     match choice_in(text).unwrap() {

@@ -1,21 +1,23 @@
 //! The top call: all that the program does.
-ghost use Rattle.std.specs.Prelude.{◌≡◌, ◌⊎◌, ◌<◌, ℕ, List, false};
+ghost use Rattle.std.specs.Prelude.{◌≡◌, ◌⊎◌, ◌<◌, ℕ, List, false, map};
 ghost use Rattle.tile_io.specs.Causes.{Rose};
 ghost use Rattle.tile_io.specs.Taken.{Takes, TakesProperPrefix};
 ghost use Rattle.tile_app.specs.declared.status.Status.{Status};
-ghost use Rattle.tile_app.specs.Answer.{Prints, CanBeAnswered};
+ghost use Rattle.tile_app.specs.Answer.{Prints, CanBeAnswered, IsBeyondLimits};
 ghost use Rattle.tile_app.specs.Asked.{OfRequest, IsAsked};
-ghost use Rattle.tile_app.specs.Causes.{Causes, IsRefused};
+ghost use Rattle.tile_app.specs.Causes.{Causes, IsExact, IsRefused};
+ghost use Rattle.tile_app.specs.Layers.{reads_file};
 ghost use Rattle.tile_app.specs.Notes.{note_of, IsNoted};
 ghost use Rattle.tile_app.specs.Request.{Request};
-ghost use Rattle.tile_app.specs.Status.{IsCutShort, IsRefusal};
-ghost use Rattle.tile_app.specs.Words.{texts, reads_file};
+ghost use Rattle.tile_app.specs.Status.{IsCutShort, IsLimit, IsRefusal};
+ghost use Rattle.tile_app.specs.Words.{texts};
 
 use crate::answer::answer_text;
 use crate::note::write_note;
 use crate::status::Status;
 use dissect_check::laws::accepted_children_law;
 use edge_tables::steps::Steps;
+use layer_api::layer::Layer;
 use std::alloc::Global;
 use std::marker::Brand;
 use std::sync::ledger::{Blank, Ledger};
@@ -27,32 +29,33 @@ use tile_shape::laws::{short_numbers_law, text_law};
 
 /// Writes the text that answers the request, built whole before the first byte is written. The steps
 /// of the crossings are counted on a counter made here, which nobody reads.
-fn answer<R: Source, W: Sink, L: Ledger>(
+fn answer<R: Source, W: Sink, D: Layer, L: Ledger>(
     alloc: Global,
     words: &[String],
     source: &mut R,
     sink: &mut W,
+    layers: &mut [D],
     blank: Blank,
 ) -> Status
     requires name { blank.name ≡ L.name }
     requires parts { blank.parts ≡ L.parts }
     requires some { 0 < blank.parts }
-    ensures done { result ≡ Status.Done → OfRequest (texts words.now) (R.left source.old) (R.left source.new)
+    ensures done { result ≡ Status.Done → OfRequest (texts words.now) (map D.form layers.old) (R.left source.old) (R.left source.new)
         (λ r. (text : List ℕ) × Prints r text × Takes (W.taken sink.old) (W.taken sink.new) text) }
     ensures write_fault { result ≡ Status.WriteFault → Rose (W.faults sink.old) (W.faults sink.new) }
-    ensures part { result ≡ Status.WriteFault → OfRequest (texts words.now) (R.left source.old) (R.left source.new)
+    ensures part { result ≡ Status.WriteFault → OfRequest (texts words.now) (map D.form layers.old) (R.left source.old) (R.left source.new)
         (λ r. (text : List ℕ) × Prints r text × TakesProperPrefix (W.taken sink.old) (W.taken sink.new) text) }
-    ensures refused { IsRefusal result → IsRefused (texts words.now) (R.left source.old) (R.left source.new) result }
+    ensures refused { IsRefusal result → IsRefused (texts words.now) (map D.form layers.old) (R.left source.old) (R.left source.new) result }
     ensures read_fault { result ≡ Status.ReadFault → Rose (R.faults source.old) (R.faults source.new) }
     ensures nothing_written { IsRefusal result → sink.new ≡ sink.old }
-    ensures untouched { reads_file (texts words.now) ≡ false → source.new ≡ source.old }
+    ensures untouched { reads_file (texts words.now) (map D.form layers.old) ≡ false → source.new ≡ source.old }
 {
     let mut steps = Steps::<L>::new(blank);
-    let text = match answer_text(alloc, words, source, &mut steps) {
+    let text = match answer_text(alloc, words, source, layers, &mut steps) {
         Ok(text) => text,
         Err(status) => return status,
     };
-    match write_all(sink, text.as_bytes()) {
+    match write_all(sink, text.as_slice()) {
         Ok(()) => Status::Done,
         Err(Failed) => Status::WriteFault,
     }
@@ -63,38 +66,48 @@ fn answer<R: Source, W: Sink, L: Ledger>(
 /// notes changes no status.
 ///
 /// A rule file has at most 1,048,576 bytes, and is read from the source to its end, where the words
-/// are right and have `rule=-`. The clauses speak of the request, which is the words and this file.
+/// are right, no layer lacks, and they have `rule=-`. The clauses speak of the request, which is the
+/// words, the formats of the layers, and this file.
+///
+/// `draw` draws each format named through the first layer that has it. All layers are dropped in the end,
+/// used or not.
 pub fn run<R: Source, W: Sink, N: Sink>(
     alloc: Global,
     words: &Vec<String>,
     source: &mut R,
     sink: &mut W,
     notes: &mut N,
+    mut layers: Vec<Box<dyn Layer>>,
 ) -> Status
     // What is printed is by cases of the command: for `place` the kind, and the motion by which the
-    // tile lies in its supertile; for `neighbour` the one tile and edge across the edge; for `check`
-    // that the rule is accepted. The rule file, where one is read, was read to its end.
+    // tile lies in its supertile; for `neighbour` the one tile and edge across the edge; for `walk` the
+    // tiles of the path; for `draw` the layers' texts of exactly the tiles that meet the window, each
+    // once, disjoint and covering it; for `check` that the rule is accepted. The rule file, where one is
+    // read, was read to its end.
     ensures done { result ≡ Status.Done
-        → OfRequest (texts words.now.items) (R.left source.old) (R.left source.new)
+        → OfRequest (texts words.now.items) (map (λ d. form d) layers.items) (R.left source.old) (R.left source.new)
         (λ r. (text : List ℕ) × Prints r text × Takes (W.taken sink.old) (W.taken sink.new) text) }
 
     // A refusal comes only for its cause, by the table `Causes`, and where there is a cause it comes,
-    // but that the source may fail, and memory be wanted.
-    ensures refused { IsRefusal result → IsRefused (texts words.now.items) (R.left source.old) (R.left source.new) result }
-    ensures refused_when { (r : Request) (status : Status) → IsAsked (texts words.now.items) (R.left source.old) r
-        → Causes r status → (result ≡ status) ⊎ IsCutShort result }
+    // but that the source may fail, and memory be wanted. Of the limits of a window several may be
+    // passed: beyond them one of the three comes.
+    ensures refused { IsRefusal result → IsRefused (texts words.now.items) (map (λ d. form d) layers.items) (R.left source.old) (R.left source.new) result }
+    ensures refused_when { (r : Request) (status : Status) → IsAsked (texts words.now.items) (map (λ d. form d) layers.items) (R.left source.old) r
+        → Causes r status → IsExact r status → (result ≡ status) ⊎ IsCutShort result }
+    ensures beyond_limits { (r : Request) → IsAsked (texts words.now.items) (map (λ d. form d) layers.items) (R.left source.old) r
+        → IsBeyondLimits r → IsLimit result ⊎ IsCutShort result }
 
     // Where a source or a sink is to blame, it failed; and what was written is a part.
     ensures read_fault { result ≡ Status.ReadFault → Rose (R.faults source.old) (R.faults source.new) }
     ensures write_fault { result ≡ Status.WriteFault → Rose (W.faults sink.old) (W.faults sink.new) }
     ensures part { result ≡ Status.WriteFault
-        → OfRequest (texts words.now.items) (R.left source.old) (R.left source.new)
+        → OfRequest (texts words.now.items) (map (λ d. form d) layers.items) (R.left source.old) (R.left source.new)
         (λ r. (text : List ℕ) × Prints r text × TakesProperPrefix (W.taken sink.old) (W.taken sink.new) text) }
 
     // What stays untouched, and when the call succeeds.
     ensures nothing_written { IsRefusal result → sink.new ≡ sink.old }
-    ensures source_untouched { reads_file (texts words.now.items) ≡ false → source.new ≡ source.old }
-    ensures complete { (r : Request) → IsAsked (texts words.now.items) (R.left source.old) r → CanBeAnswered r
+    ensures source_untouched { reads_file (texts words.now.items) (map (λ d. form d) layers.items) ≡ false → source.new ≡ source.old }
+    ensures complete { (r : Request) → IsAsked (texts words.now.items) (map (λ d. form d) layers.items) (R.left source.old) r → CanBeAnswered r
         → ¬ Rose (W.faults sink.old) (W.faults sink.new) → ¬ Rose (R.faults source.old) (R.faults source.new)
         → (result ≡ Status.Done) ⊎ (result ≡ Status.NoMemory) }
 
@@ -109,7 +122,14 @@ pub fn run<R: Source, W: Sink, N: Sink>(
     text_law();
     short_numbers_law();
     accepted_children_law();
-    let status = answer::<R, W, Brand>(alloc, words.as_slice(), source, sink, Blank::new(1));
+    let status = answer::<R, W, Box<dyn Layer>, Brand>(
+        alloc,
+        words.as_slice(),
+        source,
+        sink,
+        layers.as_mut_slice(),
+        Blank::new(1),
+    );
     write_note(notes, &status);
     status
 }

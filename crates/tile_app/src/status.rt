@@ -5,6 +5,7 @@ ghost use Rattle.tile_app.specs.Status.{code_of};
 use crate::rule_fault::RuleFault;
 use cyclo_points::point::Point;
 use dissect_check::check_fault::CheckFault;
+use layer_api::format::Format;
 use lazy_walk::path_fault::PathFault;
 use rule_text::text_fault::TextFault;
 use std::alloc::AllocError;
@@ -14,6 +15,7 @@ use tile_shape::address::Address;
 use tile_shape::address_fault::AddressFault;
 use tile_shape::no_memory::NoMemory;
 use transducer_core::outside::Outside;
+use window_cover::cover_fault::CoverFault;
 
 /// How a call of `run` ended.
 #[derive(Debug, Drop, PartialEq, Eq)]
@@ -23,6 +25,8 @@ pub enum Status {
     /// The words aren't right: the number, from 0, of the first wrong word, or the number of words
     /// where a required key is missing.
     BadWords { place: usize },
+    /// No layer handed in has this format, the first such of those named.
+    NoLayer { format: Format },
     /// A call of the source failed.
     ReadFault,
     /// The source holds more than 1,048,576 bytes, the most that a rule file may have.
@@ -35,11 +39,14 @@ pub enum Status {
     NoEdge { edge: u8, edges: u8 },
     /// The edge lies on this edge of the supertile, in this part of it.
     Outside { edge: u8, part: u8 },
-    /// An edge of a walk is on the boundary of its frame at depth 64: the tile, and its edge.
+    /// An edge is on the boundary of the frame at depth 64, one of a walk or one that meets a window: the
+    /// tile, and its edge.
     DepthLimit { addr: Address, edge: u8 },
-    /// A coefficient passes 2^24 in absolute value: the first value, from coarse to fine, of which
-    /// one does.
+    /// A value has a coefficient above 2^24 in absolute value: of a tile placed, the first such value from
+    /// coarse to fine; of a window, one looked at for its centre, or the shift of a tile that meets it.
     CoordLimit { value: Point },
+    /// More than 200,000 tiles meet the window.
+    TooManyTiles,
     /// The sink failed: it took a proper prefix of the text.
     WriteFault,
     /// No memory was left, or the rule file's tables would take more than the engine allows.
@@ -58,11 +65,13 @@ impl Status {
             Status::BadAddress { .. } => 4,
             Status::DepthLimit { .. } => 5,
             Status::CoordLimit { .. } => 6,
+            Status::TooManyTiles => 7,
             Status::Outside { .. } => 8,
             Status::ReadFault => 9,
             Status::WriteFault => 10,
             Status::NoMemory => 11,
             Status::NoEdge { .. } => 12,
+            Status::NoLayer { .. } => 14,
         }
     }
 }
@@ -176,6 +185,21 @@ impl From<PathFault> for Status {
                 addr: limit.addr,
                 edge: limit.edge,
             },
+        }
+    }
+}
+
+impl From<CoverFault> for Status {
+    ghost use Rattle.tile_app.specs.Turned.{status_of_cover};
+
+    ghost from_gives = { λ fault status. status ≡ status_of_cover fault };
+
+    fn from(fault: CoverFault) -> Status {
+        match fault {
+            CoverFault::DepthLimit { addr, edge } => Status::DepthLimit { addr, edge },
+            CoverFault::CoordLimit { value } => Status::CoordLimit { value },
+            CoverFault::TooManyTiles => Status::TooManyTiles,
+            CoverFault::NoMemory => Status::NoMemory,
         }
     }
 }

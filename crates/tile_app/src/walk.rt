@@ -28,7 +28,7 @@ use tile_place::placed_tile::PlacedTile;
 use tile_shape::decimal::read_number;
 
 /// The start number that the words give, or 0.
-fn seed_given(words: &[String]) -> u64
+pub fn seed_given(words: &[String]) -> u64
     ensures { result ≡ seed_given (texts words.now) }
 {
     match Key::Seed.value_given(words) {

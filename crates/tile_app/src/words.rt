@@ -5,9 +5,11 @@ ghost use Rattle.std.specs.List.{list_all};
 ghost use Rattle.tile_app.specs.Commands.{key_text, command_named, keys_of, required_keys, has_form};
 ghost use Rattle.tile_app.specs.Words.{texts, value_in, value_given, is_right, command_of};
 
+use crate::format_words::formats_in;
 use crate::number::number_up_to_255;
 use crate::path_word::path_in;
 use crate::rule_choice::choice_in;
+use crate::window_words::{at_in, half_in};
 use tile_shape::decimal::read_number;
 
 /// A command of the program.
@@ -19,6 +21,8 @@ pub enum Command {
     Neighbour,
     /// Walks along a path, in a frame that grows, and prints the tiles.
     Walk,
+    /// Draws the tiles of a window.
+    Draw,
     /// Prints that a rule is accepted.
     Check,
 }
@@ -38,6 +42,12 @@ pub enum Key {
     Grow,
     /// Numbers of edges that are crossed, one after the other.
     Path,
+    /// The centre of a window, by four coefficients.
+    At,
+    /// Half a window's width and half its height.
+    Half,
+    /// The formats of what is drawn.
+    Layers,
 }
 
 impl Command {
@@ -51,6 +61,8 @@ impl Command {
             Some(Command::Neighbour)
         } else if word == "walk" {
             Some(Command::Walk)
+        } else if word == "draw" {
+            Some(Command::Draw)
         } else if word == "check" {
             Some(Command::Check)
         } else {
@@ -66,6 +78,14 @@ impl Command {
             Command::Place => &[Key::Rule, Key::Addr],
             Command::Neighbour => &[Key::Rule, Key::Addr, Key::Edge],
             Command::Walk => &[Key::Rule, Key::Addr, Key::Seed, Key::Grow, Key::Path],
+            Command::Draw => &[
+                Key::Rule,
+                Key::Addr,
+                Key::At,
+                Key::Half,
+                Key::Layers,
+                Key::Seed,
+            ],
             Command::Check => &[Key::Rule],
         }
     }
@@ -78,6 +98,7 @@ impl Command {
             Command::Place => &[Key::Rule, Key::Addr],
             Command::Neighbour => &[Key::Rule, Key::Addr, Key::Edge],
             Command::Walk => &[Key::Rule, Key::Addr],
+            Command::Draw => &[Key::Rule, Key::Addr, Key::At, Key::Half, Key::Layers],
             Command::Check => &[Key::Rule],
         }
     }
@@ -95,6 +116,9 @@ impl Key {
             Key::Seed => "seed",
             Key::Grow => "grow",
             Key::Path => "path",
+            Key::At => "at",
+            Key::Half => "half",
+            Key::Layers => "layers",
         }
     }
 
@@ -109,6 +133,9 @@ impl Key {
             Key::Seed => read_number(value.as_bytes(), u64::MAX).is_some(),
             Key::Grow => read_number(value.as_bytes(), 64).is_some(),
             Key::Path => path_in(value).is_some(),
+            Key::At => at_in(value).is_some(),
+            Key::Half => half_in(value).is_some(),
+            Key::Layers => formats_in(value).is_some(),
         }
     }
 

@@ -1,11 +1,15 @@
 //! The program `tiling`: its words, the standard streams, and the exit status.
 //!
-//! It hands the words behind the program's name and the standard streams to `run`, and ends with
-//! the status's code. Words that aren't UTF-8 end it with 1, and want of memory for them with 11;
-//! nothing is written in either case.
+//! It hands the words behind the program's name, the standard streams, and a layer of each format to
+//! `run`, and ends with the status's code. Words that aren't UTF-8 end it with 1, and want of memory for
+//! them or for the layers with 11; nothing is written in either case.
 #![tactic(auto)]
 
-use std::alloc::AllocError;
+use layer_api::layer::Layer;
+use layer_list::census_layer::CensusLayer;
+use layer_list::list_layer::ListLayer;
+use layer_svg::svg_layer::SvgLayer;
+use std::alloc::{AllocError, AllocFailed};
 use std::env::Env;
 use std::process::ExitCode;
 use std::{env, io};
@@ -13,47 +17,66 @@ use tile_app::run::run;
 use tile_io::std_sink::StdSink;
 use tile_io::std_source::StdSource;
 
-/// Why the words could not be had.
+/// Why the call could not begin.
 #[derive(Clone, Copy, Debug, PartialEq, Eq)]
-enum NoWords {
+enum NotBegun {
+    /// The words aren't text.
     NotText,
+    /// There is no memory for the words or the layers.
     NoMemory,
 }
 
-impl NoWords {
+impl NotBegun {
     /// The exit status.
     fn code(self) -> u8 {
         match self {
-            NoWords::NotText => 1,
-            NoWords::NoMemory => 11,
+            NotBegun::NotText => 1,
+            NotBegun::NoMemory => 11,
         }
     }
 }
 
+impl<T: Drop> From<AllocFailed<T>> for NotBegun {
+    fn from(_error: AllocFailed<T>) -> NotBegun {
+        NotBegun::NoMemory
+    }
+}
+
 /// The words behind the program's name.
-fn words<R: Env + AllocGlobal>(rt: &R) -> Result<Vec<String>, NoWords> {
+fn words<R: Env + AllocGlobal>(rt: &R) -> Result<Vec<String>, NotBegun> {
     let args = match env::args(rt) {
         Ok(args) => args,
         Err(e) => {
             return Err(match e.kind() {
-                io::ErrorKind::OutOfMemory => NoWords::NoMemory,
-                _ => NoWords::NotText,
+                io::ErrorKind::OutOfMemory => NotBegun::NoMemory,
+                _ => NotBegun::NotText,
             });
         }
     };
     args.skip(1)
         .collect(rt.alloc())
-        .map_err(|_error: AllocError| NoWords::NoMemory)
+        .map_err(|_error: AllocError| NotBegun::NoMemory)
 }
 
-fn main(rt: HostRuntime) -> ExitCode {
-    let words = match words(&rt) {
-        Ok(words) => words,
-        Err(no_words) => return ExitCode::from(no_words.code()),
-    };
+/// Makes the layers, does all that the words ask for over the standard streams, and answers the exit
+/// status.
+fn program(rt: &HostRuntime) -> Result<u8, NotBegun> {
+    let words = words(rt)?;
+    let alloc = rt.alloc();
+    let mut layers: Vec<Box<dyn Layer>> = Vec::new(alloc);
+    layers.push(Box::new(alloc, SvgLayer::new(alloc))?)?;
+    layers.push(Box::new(alloc, ListLayer::new(alloc))?)?;
+    layers.push(Box::new(alloc, CensusLayer::new(alloc))?)?;
     let mut source = StdSource::new(rt.stdin());
     let mut sink = StdSink::new(rt.stdout());
     let mut notes = StdSink::new(rt.stderr());
-    let status = run(rt.alloc(), &words, &mut source, &mut sink, &mut notes);
-    ExitCode::from(status.code())
+    let status = run(alloc, &words, &mut source, &mut sink, &mut notes, layers);
+    Ok(status.code())
+}
+
+fn main(rt: HostRuntime) -> ExitCode {
+    match program(&rt) {
+        Ok(code) => ExitCode::from(code),
+        Err(not_begun) => ExitCode::from(not_begun.code()),
+    }
 }

@@ -1,6 +1,7 @@
 use Rattle.std.proofs.Common.{◌∷◌, ◌++◌, codes, sym, ap, ◌∙◌}
 use Rattle.cyclo_points.specs.Text.{point_text, blank}
 use Rattle.tile_shape.specs.FaultText.{address_fault_text}
+use Rattle.tile_app.specs.FormatWords.{format_text}
 use Rattle.tile_app.specs.Notes.{status_text}
 use Rattle.tile_app.specs.RuleFaultText.{rule_fault_text}
 use Rattle.std.specs.Fmt.{decimal}
@@ -28,3 +29,8 @@ pub returns-in-DepthLimit-clause-status : goal.returns-in-DepthLimit-clause-stat
 returns-in-DepthLimit-clause-status c =
     three_words c.args.line.now.bytes _ _ _ (codes "DepthLimit") (address_text (address_of c.in-DepthLimit.addr)) (decimal c.in-DepthLimit.edge) c.put_word-in-DepthLimit.ensures c.put_address.ensures.address
     (c.put_number-in-DepthLimit.ensures.number ∙ ap (λ n. c.put_address.new.line.bytes ++ blank ∷ decimal n) c.from-in-DepthLimit.ensures) ∙ ap (λ s. c.args.line.now.bytes ++ blank ∷ status_text s) (sym c.in-DepthLimit.is)
+
+pub returns-in-NoLayer-clause-status : goal.returns-in-NoLayer-clause-status
+returns-in-NoLayer-clause-status c =
+    two_words c.args.line.now.bytes _ _ (codes "NoLayer") (format_text c.in-NoLayer.format) c.put_word-in-NoLayer.ensures (c.put_word-in-NoLayer-2.ensures ∙ ap (λ w. c.put_word-in-NoLayer.new.line.bytes ++ blank ∷ w) c.format_text.ensures)
+    ∙ ap (λ s. c.args.line.now.bytes ++ blank ∷ status_text s) (sym c.in-NoLayer.is)

@@ -17,19 +17,19 @@ unwrap-requires g c =
     search (rules, h, e)
 
 pub returns-in_ok-builtin-in-Builtin-clause-asked : goal.returns-in_ok-builtin-in-Builtin-clause-asked
-returns-in_ok-builtin-in-Builtin-clause-asked g c =
-    asked_builtin (texts c.args.words.now) (g.R.Source.left c.args.source.now) c.in-Builtin.name c.in_ok-builtin-in-Builtin.field-0
+returns-in_ok-builtin-in-Builtin-clause-asked g c = λ handed have.
+    asked_builtin (texts c.args.words.now) handed (g.R.Source.left c.args.source.now) c.in-Builtin.name c.in_ok-builtin-in-Builtin.field-0
     (ap (option_and_then choice_in) (sym c.value_given.ensures ∙ ap (option_map (λ v. v.now)) c.unwrap-text.ensures) ∙ sym c.choice_in.ensures ∙ c.unwrap.ensures ∙ ap (λ x. Some x) c.in-Builtin.is)
     c.in_ok-builtin-in-Builtin.ensures
 
 pub returns-in-File-clause-asked : goal.returns-in-File-clause-asked
-returns-in-File-clause-asked g c =
-    asked_file (texts c.args.words.now) (g.R.Source.left c.args.source.now) (g.R.Source.left c.rule_read.new.source) c.requires
+returns-in-File-clause-asked g c = λ handed have.
+    asked_file (texts c.args.words.now) handed have (g.R.Source.left c.args.source.now) (g.R.Source.left c.rule_read.new.source) c.requires
     (ap (option_and_then choice_in) (sym c.value_given.ensures ∙ ap (option_map (λ v. v.now)) c.unwrap-text.ensures) ∙ sym c.choice_in.ensures ∙ c.unwrap.ensures ∙ ap (λ x. Some x) c.in-File.is)
     c.rule_read.result c.rule_read.ensures.accepted
 
 pub returns-in-File-clause-refused : goal.returns-in-File-clause-refused
-returns-in-File-clause-refused g c =
-    refused_file (texts c.args.words.now) (g.R.Source.left c.args.source.now) (g.R.Source.left c.rule_read.new.source) c.requires
+returns-in-File-clause-refused g c = λ handed have.
+    refused_file (texts c.args.words.now) handed have (g.R.Source.left c.args.source.now) (g.R.Source.left c.rule_read.new.source) c.requires
     (ap (option_and_then choice_in) (sym c.value_given.ensures ∙ ap (option_map (λ v. v.now)) c.unwrap-text.ensures) ∙ sym c.choice_in.ensures ∙ c.unwrap.ensures ∙ ap (λ x. Some x) c.in-File.is)
     c.rule_read.result c.rule_read.ensures.refused

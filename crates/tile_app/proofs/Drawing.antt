@@ -1,0 +1,133 @@
+-- The window that the words give, why its drawing is refused, and that its tiles, within the limits, can be drawn.
+use Rattle.std.proofs.Common.{◌≡◌, ◌⊎◌, inl, inr, ◌<◌, ◌≤◌, ◌^◌, ◌*◌, ℕ, ℤ, false, List, map, length, Option, Some, None, Result, Ok, Err, IsOk, refl, sym, ap, ap₂, ◌∙◌, subst, arith}
+use Rattle.std.specs.Prelude.{All}
+use Rattle.std.proofs.lemmas.List.{length-map}
+use Rattle.std.proofs.lemmas.List.Elements.{All-from_recursion, recursion_from_All}
+use Rattle.addressing.specs.Address.{Address}
+use Rattle.addressing.specs.Search.{IsAmong}
+use Rattle.addressing.proofs.Lists.{AllByRecursion-among, AllByRecursion-from, IsAmong-map}
+use Rattle.cyclo_points.specs.Order.{points_of, is_refused}
+use Rattle.cyclo_points.proofs.Refusal.{within-some_beyond, some_beyond-refused}
+use Rattle.frames.specs.Frame.{at_level}
+use Rattle.lazy_walk.specs.Ancestors.{full}
+use Rattle.lazy_walk.specs.Frames.{FrameValue, whole, at_depth, IsFrameOf, GrowsTo}
+use Rattle.lazy_walk.specs.Standing.{Stands}
+use Rattle.lazy_walk.proofs.Ancestors.{level-at}
+use Rattle.lazy_walk.proofs.Walks.{GrowsTo-is}
+use Rattle.plane_geom.specs.declared.window.Window.{Window}
+use Rattle.rule_model.specs.Tiling.{Tiling, children}
+use Rattle.tile_place.specs.declared.placed_tile.PlacedTile.{PlacedTile}
+use Rattle.tile_place.specs.Searched.{placed_in}
+use Rattle.window_cover.specs.Limits.{IsWithinLimits}
+use Rattle.window_cover.specs.Windows.{TileOf, box_of, AreDrawn, IsLeastEnough}
+use Rattle.windows.specs.FramePatch.{frame_patch}
+use Rattle.windows.specs.FrameWindow.{AreAllThatMeet}
+use Rattle.std.specs.Option.{option_map, option_and_then}
+use Rattle.cyclo_points.specs.declared.order.Order.{Order}
+use Rattle.cyclo_points.specs.declared.point.Point.{Point}
+use Rattle.cyclo_points.specs.Point.{point_in, quad_of, IsOf}
+use Rattle.cyclo_points.specs.Reduced.{combination}
+use Rattle.layer_api.specs.declared.format.Format.{Format}
+use Rattle.window_cover.specs.declared.cover_fault.CoverFault.{CoverFault}
+use Rattle.window_cover.specs.declared.cover_fault.CoverFault.TheVariants.{DepthLimit, CoordLimit, TooManyTiles, NoMemory}
+use Rattle.window_cover.specs.Causes.{HasCause}
+use Rattle.tile_app.specs.declared.words.Command.{Command}
+use Rattle.tile_app.specs.declared.words.Command.TheVariants.{Draw}
+use Rattle.tile_app.specs.declared.window_words.HalfExtents.{HalfExtents}
+use Rattle.tile_app.specs.Draw.{reduced, at_given, half_given, window_given, GivesWindow, EndsDrawing, DrawRefuses}
+use Rattle.tile_app.specs.DrawnTile.{point_of, CanBeDrawn}
+use Rattle.tile_app.specs.FormatWords.{first_lacking}
+use Rattle.tile_app.specs.Layers.{HaveLayers, formats_given, lacking_for}
+use Rattle.tile_app.specs.Status.{OrNoMemory}
+use Rattle.tile_app.specs.Tile.{GivesTile}
+use Rattle.tile_app.specs.Turned.{status_of_cover}
+use Rattle.tile_app.specs.Walk.{frame_given}
+use Rattle.tile_app.specs.Words.{command_of}
+use Rattle.tile_app.proofs.Asking.{coefficients_of}
+
+module _ (t : Tiling) (f g : FrameValue) (w : Window) (is_frame : IsFrameOf t f) (grown : GrowsTo t f g) (within : IsWithinLimits t f w) (least : IsLeastEnough t f w (length g.digits))
+    (tiles : List PlacedTile) (drawn : AreDrawn t g w (map (placed_in t.order) tiles)) where
+  -- the least enough depth is one
+  same_depth : within.drawn_within.depth ≡ length g.digits
+  same_depth =
+      let h = within.drawn_within.least in
+      let a = h.least (length g.digits) least.not_below least.within least.holds in
+      let b = least.least within.drawn_within.depth h.not_below h.within h.holds in
+      omega (arith, a, b)
+
+  its_frame : at_level (full t f) within.drawn_within.depth ≡ whole g
+  its_frame =
+      ap (at_level (full t f)) same_depth ∙ level-at t f is_frame (length g.digits) grown.no_shallower grown.is_frame.at_most_64 ∙ ap whole (sym (GrowsTo-is t f g grown))
+
+  -- so the tiles that the limits speak of are those drawn
+  same_tiles : AreDrawn t g w within.drawn_within.drawn
+  same_tiles =
+      subst (λ (a : Address). AreAllThatMeet (points_of t.order).real (TileOf t) (frame_patch (points_of t.order) t.rule a) (box_of t w) within.drawn_within.drawn) its_frame within.drawn_within.all_that_meet
+
+  unrefused : (x : TileOf t) → IsAmong x (map (placed_in t.order) tiles) → is_refused t.order x.motion.shift ≡ false
+  unrefused x i =
+      let here = AllByRecursion-among (λ y. IsAmong y (frame_patch (points_of t.order) t.rule (whole g)).tiles) x (map (placed_in t.order) tiles) i drawn.of_patch in
+      AllByRecursion-among (λ (y : TileOf t). is_refused t.order y.motion.shift ≡ false) x within.drawn_within.drawn ((same_tiles.meeting x here).0 ((drawn.meeting x here).1 i)) within.drawn_within.none_refused
+
+  drawable : (x : PlacedTile) → IsAmong x tiles → Stands t g x → CanBeDrawn t x
+  drawable x i stands = record {
+    exists = subst (λ n. x.kind < n) (length-map t.rule.kinds _) (subst (λ k. k < length (children t)) (sym stands.its_kind) stands.of_frame.fits.kind_exists);
+    turn_below = stands.turn_below;
+    in_order = stands.in_order;
+    within = within-some_beyond x.motion.shift (some_beyond-refused t.order x.motion.shift stands.in_order ∙ unrefused (placed_in t.order x) (IsAmong-map (placed_in t.order) x tiles i));
+  }
+
+  pub can_be_drawn : All (Stands t g) tiles → All (CanBeDrawn t) tiles
+  can_be_drawn stand =
+      All-from_recursion (CanBeDrawn t) tiles (AllByRecursion-from (CanBeDrawn t) tiles (λ x i. drawable x i (AllByRecursion-among (Stands t g) x tiles i (recursion_from_All (Stands t g) tiles stand))))
+
+-- ---- the window
+pub reduced-is : (o : Order) (p q : Point) → length q.c ≡ 4 → IsOf o q → point_in o q ≡ combination (points_of o) (quad_of p) → q ≡ reduced o p
+reduced-is o p q four of e = ap (λ (c : List ℤ). (let s : Point = record { c = c } in s)) (coefficients_of o q four of) ∙ ap (point_of o) e
+
+pub window-is : (o : Order) (words : List (List ℕ)) (p q : Point) (half : HalfExtents) → at_given words ≡ Some p → half_given words ≡ Some half → q ≡ reduced o p
+    → window_given o words ≡ Some (record { centre = q; w = half.w; h = half.h })
+window-is o words p q half at h e =
+    ap₂ (λ x y. option_and_then (λ a. option_map (λ (b : HalfExtents). (let v : Window = record { centre = reduced o a; w = b.w; h = b.h } in v)) y) x) at h
+    ∙ ap (λ c. Some (let v : Window = record { centre = c; w = half.w; h = half.h } in v)) (sym e)
+
+pub gives_window : (words : List (List ℕ)) (t : Tiling) (a : Address) (w : Window) (o : Order) → o ≡ t.order → GivesTile words t a → window_given o words ≡ Some w → GivesWindow words t a w
+gives_window words t a w o same tile given = record { tile = tile; given = subst (λ q. window_given q words ≡ Some w) same given }
+
+-- ---- where no layer lacks, none lacks of those that `draw` asks for
+pub none-lacks : (words : List (List ℕ)) (handed : List Format) → command_of words ≡ Ok Draw → HaveLayers words handed → first_lacking handed (formats_given words) ≡ None
+none-lacks words handed right have = sym (ap (lacking_for words handed) right) ∙ have
+
+-- ---- why it is refused
+fault-or_ok : {T : Type 0} (r : Result T CoverFault) (fault : CoverFault) → r ≡ Err fault → (r ≡ Err NoMemory) ⊎ IsOk r → fault ≡ NoMemory
+fault-or_ok r fault e (inl f) = some_fault fault NoMemory (sym e ∙ f)
+  where
+    some_fault : {T : Type 0} (x y : CoverFault) → (let o : Result T CoverFault = Err x in o) ≡ Err y → x ≡ y
+    some_fault x y e = cc
+fault-or_ok r fault e (inr f) = absurd (no_ok r fault e f)
+  where
+    no_ok : {T : Type 0} (r : Result T CoverFault) (x : CoverFault) → r ≡ Err x → IsOk r → ⊥
+    no_ok (Ok y) x e f = absurd (cc e)
+    no_ok (Err y) x e f = absurd (cc f)
+
+module _ (words : List (List ℕ)) (t : Tiling) (a : Address) (w : Window) (gives : GivesWindow words t a w) (f g : FrameValue) (is : f ≡ frame_given words a) (grown : GrowsTo t f g) where
+  ends : (fault : CoverFault) → HasCause t f g w fault → (IsWithinLimits t f w → ⊥) → EndsDrawing words t fault
+  ends fault cause beyond = record {
+    base = a;
+    window = w;
+    gives = gives;
+    beyond = λ h. beyond (subst (λ x. IsWithinLimits t x w) (sym is) h);
+    frame = g;
+    grown = subst (λ x. GrowsTo t x g) is grown;
+    cause = subst (λ x. HasCause t x g w fault) is cause;
+  }
+
+  pub cover_refused : (fault : CoverFault) → HasCause t f g w fault → (IsWithinLimits t f w → fault ≡ NoMemory) → OrNoMemory (DrawRefuses words t) (status_of_cover fault)
+  cover_refused (DepthLimit addr edge) cause only = ends (DepthLimit addr edge) cause (λ h. absurd (cc (only h)))
+  cover_refused (CoordLimit value) cause only = ends (CoordLimit value) cause (λ h. absurd (cc (only h)))
+  cover_refused TooManyTiles cause only = ends TooManyTiles cause (λ h. absurd (cc (only h)))
+  cover_refused NoMemory cause only = tt
+
+  pub refused_if_err : {T : Type 0} (r : Result T CoverFault) (fault : CoverFault) → r ≡ Err fault → HasCause t f g w fault → (IsWithinLimits t f w → (r ≡ Err NoMemory) ⊎ IsOk r)
+      → OrNoMemory (DrawRefuses words t) (status_of_cover fault)
+  refused_if_err r fault e cause answered = cover_refused fault cause (λ h. fault-or_ok r fault e (answered h))

@@ -1,0 +1,93 @@
+//! Windows in words.
+ghost use Rattle.std.specs.Prelude.{◌≡◌, ◌≤◌, ◌^◌, [], ◌∷◌, IfSome};
+ghost use Rattle.cyclo_points.specs.Point.{Within, IsWithin};
+ghost use Rattle.tile_app.specs.WindowWords.{coefficient_in, extent_in, point_of_pieces, extents_of_pieces, at_in, half_in, FitWindow};
+
+use cyclo_points::point::Point;
+use tile_shape::decimal::read_number;
+
+/// The greatest coefficient of a centre, in absolute value.
+const MOST_COEFFICIENT: u64 = 1048576;
+
+/// The greatest half extent.
+const MOST_EXTENT: u64 = 4096;
+
+/// Half a width and half a height.
+#[derive(Clone, Copy, Debug, PartialEq, Eq)]
+pub struct HalfExtents {
+    pub w: u16,
+    pub h: u16,
+}
+
+/// The signed number that a text is.
+fn coefficient_in(text: &str) -> Option<i64>
+    ensures number { result ≡ coefficient_in text.now }
+    ensures within { IfSome result (Within (2 ^ 20)) }
+{
+    match text.as_bytes() {
+        [b'-', figures @ ..] => match read_number(figures, MOST_COEFFICIENT)? {
+            0 => None,
+            number => Some(-(number as i64)),
+        },
+        [] => None,
+        figures => Some(read_number(figures, MOST_COEFFICIENT)? as i64),
+    }
+}
+
+/// The half extent that a text is: a number from 1.
+fn extent_in(text: &str) -> Option<u16>
+    ensures number { result ≡ extent_in text.now }
+    ensures some { IfSome result (λ n. 1 ≤ n) }
+    ensures at_most { IfSome result (λ n. n ≤ 4096) }
+{
+    match read_number(text.as_bytes(), MOST_EXTENT)? {
+        0 => None,
+        number => Some(number as u16),
+    }
+}
+
+/// The point of four coefficients.
+fn point_of_texts(first: &str, second: &str, third: &str, fourth: &str) -> Option<Point>
+    ensures point { result ≡ point_of_pieces (first.now ∷ second.now ∷ third.now ∷ fourth.now ∷ []) }
+    ensures within { IfSome result (λ p. IsWithin (2 ^ 20) p) }
+{
+    Some(Point {
+        c: [
+            coefficient_in(first)?,
+            coefficient_in(second)?,
+            coefficient_in(third)?,
+            coefficient_in(fourth)?,
+        ],
+    })
+}
+
+/// The point that a text is: four coefficients, joined by commas.
+pub fn at_in(text: &str) -> Option<Point>
+    ensures point { result ≡ at_in text.now }
+    ensures within { IfSome result (λ p. IsWithin (2 ^ 20) p) }
+{
+    let (first, rest) = text.split_once(',')?;
+    let (second, rest) = rest.split_once(',')?;
+    let (third, fourth) = rest.split_once(',')?;
+    point_of_texts(first, second, third, fourth)
+}
+
+/// Two half extents.
+fn extents_of_texts(width: &str, height: &str) -> Option<HalfExtents>
+    ensures half { result ≡ extents_of_pieces (width.now ∷ height.now ∷ []) }
+    ensures fit { IfSome result FitWindow }
+{
+    Some(HalfExtents {
+        w: extent_in(width)?,
+        h: extent_in(height)?,
+    })
+}
+
+/// The half extents that a text is: two, joined by a comma.
+pub fn half_in(text: &str) -> Option<HalfExtents>
+    ensures half { result ≡ half_in text.now }
+    ensures fit { IfSome result FitWindow }
+{
+    let (width, height) = text.split_once(',')?;
+    extents_of_texts(width, height)
+}
