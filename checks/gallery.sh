@@ -6,8 +6,8 @@
 top=$(cd "$(dirname "$0")/.." && pwd) || exit 1
 program=${TILING:-$top/crates/tiling/out/tiling}
 python=${PYTHON:-python3}
-[ -x "$program" ] || { echo "gallery: skipped, since there is no program $program"; exit 0; }
 case $program in /*) ;; *) program=$PWD/$program ;; esac
+[ -x "$program" ] || { echo "gallery: skipped, since there is no program $program"; exit 0; }
 if ! "$python" -c 'import tomllib' 2> /dev/null; then
     echo "gallery: skipped, since there is no Python 3.11 or later"
     exit 0

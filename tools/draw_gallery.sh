@@ -7,6 +7,7 @@ top=$(cd "$(dirname "$0")/.." && pwd) || exit 1
 to=$(cd "${1:-$top}" && pwd) || exit 1
 python=${PYTHON:-python3}
 program=${TILING:-$top/tiling}
+case $program in /*) ;; *) program=$PWD/$program ;; esac
 mkdir -p "$to/docs/gallery/drawn" || exit 1
 cd "$top" || exit 1
 work=$(mktemp -d) || exit 1
