@@ -1,6 +1,7 @@
 #!/bin/sh
-# Draws every picture of the documents anew, and compares each with the file in the repository: the same text, and
-# numbers that differ by no more than rounding. Ends with 1 where one differs, is missing, or is drawn by nothing.
+# Draws every picture that scripts make from rule files anew, and compares each with the file in the repository: the
+# same text, and numbers that differ by no more than rounding. Ends with 1 where one differs, is missing, or is drawn by
+# nothing. gallery.sh does so for those that the program draws.
 top=$(cd "$(dirname "$0")/.." && pwd) || exit 1
 python=${PYTHON:-python3}
 if ! "$python" -c 'import tomllib' 2> /dev/null; then
@@ -21,7 +22,7 @@ bad, count = 0, 0
 
 
 def names(root, folder):
-    return set(os.listdir(os.path.join(root, folder)))
+    return {name for name in os.listdir(os.path.join(root, folder)) if name.endswith(".svg")}
 
 
 def text(root, folder, name):

@@ -139,4 +139,5 @@ def main(top, program):
     sys.exit(1 if wrong or not paths else 0)
 
 
-main(*sys.argv[1:])
+if __name__ == "__main__":
+    main(*sys.argv[1:])

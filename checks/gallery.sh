@@ -1,0 +1,50 @@
+#!/bin/sh
+# Draws the gallery anew with the program and compares it with docs/gallery, byte for byte: each picture of
+# docs/gallery/drawn and the page docs/gallery/tilings.html. Each file of rules/ has its picture, each picture is XML, and
+# the command of README.md draws the picture above it. Ends with 1 where one differs, is missing, or is drawn by nothing.
+# The program is the one that TILING names, or crates/tiling/out/tiling.
+top=$(cd "$(dirname "$0")/.." && pwd) || exit 1
+program=${TILING:-$top/crates/tiling/out/tiling}
+python=${PYTHON:-python3}
+case $program in /*) ;; *) program=$PWD/$program ;; esac
+[ -x "$program" ] || { echo "gallery: skipped, since there is no program $program"; exit 0; }
+if ! "$python" -c 'import tomllib' 2> /dev/null; then
+    echo "gallery: skipped, since there is no Python 3.11 or later"
+    exit 0
+fi
+work=$(mktemp -d) || exit 1
+trap 'rm -rf "$work"' EXIT
+TILING=$program PYTHON=$python "$top/tools/draw_gallery.sh" "$work" || { echo "gallery: tools/draw_gallery.sh failed" >&2; exit 1; }
+here=$top/docs/gallery
+there=$work/docs/gallery
+count=0
+bad=0
+fault() {
+    echo "gallery: $*" >&2
+    bad=$((bad + 1))
+}
+
+for file in "$here"/drawn/* "$there"/drawn/*; do
+    name=${file##*/}
+    [ "$file" = "$here/drawn/$name" ] || [ ! -f "$here/drawn/$name" ] || continue
+    count=$((count + 1))
+    cmp -s "$here/drawn/$name" "$there/drawn/$name" || fault "drawn/$name isn't what the program draws, or one is missing"
+    [ -f "$top/rules/${name%.svg}.toml" ] || fault "drawn/$name is the picture of no file of rules/"
+    "$python" -c 'import sys, xml.etree.ElementTree as tree; tree.parse(sys.argv[1])' "$file" 2> /dev/null || fault "drawn/$name is no XML"
+done
+for file in "$top"/rules/*.toml; do
+    name=$(basename "$file" .toml)
+    [ -f "$here/drawn/$name.svg" ] || fault "rules/$name.toml has no picture"
+done
+count=$((count + 1))
+cmp -s "$here/tilings.html" "$there/tilings.html" || fault "tilings.html isn't what tools/draw_page.py makes"
+
+# the command of the README, which gives the picture no title
+command=$(sed -n 's/^    \$ \(\.\/tiling draw .*> penrose_p2.svg\)$/\1/p' "$top/README.md")
+cp -r "$top/tools" "$top/rules" "$work" && ln -s "$program" "$work/tiling" || exit 1
+(cd "$work" && sh -c "$command")
+count=$((count + 1))
+sed '/^<title>tiling /d' "$here/drawn/penrose_p2.svg" | cmp -s - "$work/penrose_p2.svg" || fault "the command of README.md draws another picture"
+
+echo "gallery: $count drawn and compared, $bad differ"
+[ $bad -eq 0 ]

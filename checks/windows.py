@@ -1,0 +1,280 @@
+"""Windows of every rule file, found as their definition says, against what the program draws.
+
+Points are lists of whole coefficients of the powers of ζ, and a comparison of coordinates is one of whole numbers. The
+frame grows by words made here; the tiles are found from the top, by which supertiles meet the window: no search across
+edges, no table and no code of the engine is used.
+"""
+import concurrent.futures
+import functools
+import os
+import random
+import subprocess
+import sys
+import tomllib
+
+sys.dont_write_bytecode = True
+from supertiles import Ring, address  # noqa: E402
+
+WINDOWS = 30  # of each rule
+DEEPEST = 64
+GREATEST = 2**24  # of the coefficients of a shift
+REFUSED = {5: b"5 DepthLimit ", 6: b"6 CoordLimit ", 7: b"7 TooManyTiles"}
+
+
+def words_of(seed):
+    """The growth words: the stream 54 of the generator PCG-XSH-RR 64/32."""
+    increment, mask = (54 << 1) | 1, 2**64 - 1
+    state = ((increment + seed) * 6364136223846793005 + increment) & mask
+    while True:
+        word = (((state >> 18) ^ state) >> 27) & 0xFFFFFFFF
+        turn = state >> 59
+        yield ((word >> turn) | (word << (32 - turn))) & 0xFFFFFFFF
+        state = (state * 6364136223846793005 + increment) & mask
+
+
+def minus(u, v):
+    return u[0] - v[0], u[1] - v[1]
+
+
+class Plane:
+    """Twice the coordinates X and Y of a point, each as (a, b), which stands for a + b√d.
+
+    X is twice the real part, and Y the imaginary part over that of ζ."""
+
+    FORMS = {
+        4: (0, lambda p: (4 * p[0], 0), lambda p: (2 * p[1], 0)),
+        6: (0, lambda p: (4 * p[0] + 2 * p[1], 0), lambda p: (2 * p[1], 0)),
+        8: (2, lambda p: (4 * p[0], 2 * (p[1] - p[3])), lambda p: (2 * (p[1] + p[3]), 2 * p[2])),
+        10: (
+            5,
+            lambda p: (4 * p[0] + p[1] - p[2] + p[3], p[1] + p[2] - p[3]),
+            lambda p: (2 * p[1] + p[2] + p[3], p[2] + p[3]),
+        ),
+    }
+
+    def __init__(self, order):
+        self.root, self.x, self.y = self.FORMS[order]
+
+    def at(self, p):
+        return self.x(p), self.y(p)
+
+    def sign(self, u):
+        a, b = u
+        if a >= 0 and b >= 0:
+            return int(a > 0 or b > 0)
+        if a <= 0 and b <= 0:
+            return -1
+        more = a * a - b * b * self.root
+        return (more > 0) - (more < 0) if a > 0 else (more < 0) - (more > 0)
+
+    def is_less(self, u, v):
+        return self.sign(minus(v, u)) > 0
+
+    def turn(self, p, q, r):
+        """The sign of the turn from p by q to r."""
+        ax, ay, bx, by = (minus(s[i], p[i]) for s in (q, r) for i in (0, 1))
+        return self.sign(minus(self.product(ax, by), self.product(ay, bx)))
+
+    def product(self, u, v):
+        return u[0] * v[0] + u[1] * v[1] * self.root, u[0] * v[1] + u[1] * v[0]
+
+
+class Box:
+    """The open box of a window."""
+
+    def __init__(self, plane, centre, half):
+        self.plane, self.centre = plane, plane.at(centre)
+        (x, y), (w, h) = self.centre, half
+        self.low = (x[0] - 2 * w, x[1]), (y[0] - 2 * h, y[1])
+        self.high = (x[0] + 2 * w, x[1]), (y[0] + 2 * h, y[1])
+        self.corners = [(self.low[0], self.low[1]), (self.high[0], self.low[1]), self.high, (self.low[0], self.high[1])]
+
+    def meets_edge(self, p, q):
+        """Whether a point of the edge is in the box: no line of a side of the box has the edge beyond it, and the edge's
+        own line has corners of the box on both sides."""
+        less = self.plane.is_less
+        for i in (0, 1):
+            if not (less(self.low[i], p[i]) or less(self.low[i], q[i])):
+                return False
+            if not (less(p[i], self.high[i]) or less(q[i], self.high[i])):
+                return False
+        sides = [self.plane.turn(p, q, corner) for corner in self.corners]
+        return max(sides) > 0 > min(sides)
+
+    def meets_one_of(self, outline):
+        return any(self.meets_edge(p, q) for p, q in zip(outline, outline[1:] + outline[:1]))
+
+    def has_centre_in(self, outline):
+        """Whether the centre, which is on no edge, is inside the outline."""
+        inside, less = False, self.plane.is_less
+        for p, q in zip(outline, outline[1:] + outline[:1]):
+            if less(self.centre[1], p[1]) != less(self.centre[1], q[1]):
+                upward = less(p[1], q[1])
+                inside ^= (self.plane.turn(p, q, self.centre) > 0) == upward
+        return inside
+
+    def meets(self, outline):
+        return self.meets_one_of(outline) or self.has_centre_in(outline)
+
+
+class Tiling:
+    """A rule file's numbers, its supertiles' outlines, and who uses a kind."""
+
+    def __init__(self, rule):
+        self.ring, self.kinds = Ring(rule["order"]), rule["kind"]
+        self.plane, self.factor = Plane(rule["order"]), self.point(rule["lambda"])
+        self.uses = [
+            [(parent, n) for parent, kind in enumerate(self.kinds) for n, child in enumerate(kind["children"]) if child[0] == own]
+            for own in range(len(self.kinds))
+        ]
+        self.power = functools.lru_cache(None)(self.power)
+        self.corners = functools.lru_cache(None)(self.corners)
+
+    def point(self, coefficients):
+        return tuple(coefficients[: self.ring.size])
+
+    def power(self, level):
+        """The inflation factor to the level."""
+        return (1,) + (0,) * (self.ring.size - 1) if level == 0 else self.ring.times(self.power(level - 1), self.factor)
+
+    def corners(self, kind, level, turn):
+        """The vertices of a supertile, turned."""
+        grown = [self.ring.times(self.power(level), self.point(vertex)) for vertex in self.kinds[kind]["vertices"]]
+        return [self.ring.turned(turn, vertex) for vertex in grown]
+
+    def outline(self, kind, level, motion):
+        turn, shift = motion
+        return [self.plane.at(tuple(a + b for a, b in zip(v, shift))) for v in self.corners(kind, level, turn)]
+
+    def child(self, kind, number, level):
+        """The kind of a child and its motion in a supertile of that level."""
+        own, turn, *shift = self.kinds[kind]["children"][number]
+        return own, (turn, self.ring.times(self.power(level - 1), self.point(shift)))
+
+    def composed(self, outer, inner):
+        around = self.ring.turned(outer[0], inner[1])
+        return (outer[0] + inner[0]) % self.ring.order, tuple(a + b for a, b in zip(around, outer[1]))
+
+    def inverse(self, motion):
+        back = -motion[0] % self.ring.order
+        return back, tuple(-a for a in self.ring.turned(back, motion[1]))
+
+
+class Frame:
+    """A base whose supertile grows: the digits from fine to coarse, and where the base lies in the supertile."""
+
+    def __init__(self, tiling, kind, digits, seed):
+        self.tiling, self.kind, self.top, self.words = tiling, kind, kind, words_of(seed)
+        self.digits, self.base = [], (0, (0,) * tiling.ring.size)
+        for child, parent in digits:
+            self.add(child, parent)
+
+    def add(self, child, parent):
+        self.digits.append((child, parent))
+        own, motion = self.tiling.child(parent, child, len(self.digits))
+        assert own == self.top
+        self.base, self.top = self.tiling.composed(motion, self.base), parent
+
+    def grow(self):
+        uses = self.tiling.uses[self.top]
+        parent, child = uses[next(self.words) % len(uses)]
+        self.add(child, parent)
+
+    def is_enough(self, box):
+        outline = self.tiling.outline(self.top, len(self.digits), self.tiling.inverse(self.base))
+        return not box.meets_one_of(outline) and box.has_centre_in(outline)
+
+    def tiles(self, box):
+        """The tiles that meet the box, found from the top: (kind, turn, shift, digits)."""
+        found, left = [], [(self.top, self.tiling.inverse(self.base), ())]
+        while left:
+            kind, motion, digits = left.pop()
+            level = len(self.digits) - len(digits)
+            if not box.meets(self.tiling.outline(kind, level, motion)):
+                continue
+            if level == 0:
+                found.append((kind, *motion, digits))
+                continue
+            for number in range(len(self.tiling.kinds[kind]["children"])):
+                own, inner = self.tiling.child(kind, number, level)
+                left.append((own, self.tiling.composed(motion, inner), ((number, kind), *digits)))
+        return found
+
+
+def drawn_base(tiling, drawn):
+    """A kind and digits, from the top down by drawn children, or one child of its own kind again and again: such a base
+    often lies at the border of each of its supertiles."""
+    kind, digits = drawn.randrange(len(tiling.kinds)), ()
+    depth = drawn.choice((0, 0, 1, 2, 3, 5, 8, 21, DEEPEST))
+    same = [number for number, child in enumerate(tiling.kinds[kind]["children"]) if child[0] == kind]
+    if same and drawn.randrange(4) == 0:
+        return kind, ((drawn.choice(same), kind),) * depth
+    for _ in range(depth):
+        child = drawn.randrange(len(tiling.kinds[kind]["children"]))
+        digits = ((child, kind), *digits)
+        kind = tiling.kinds[kind]["children"][child][0]
+    return kind, digits
+
+
+def trial(tiling, drawn):
+    """The words of a call, and the text that it must print; None where its window is beyond the limits."""
+    kind, digits = drawn_base(tiling, drawn)
+    seed, far = drawn.randrange(2**64), drawn.choice((1, 6, 6, 6, 40, 3000))
+    centre = [drawn.randint(-far, far) if i < tiling.ring.size else 0 for i in range(4)]
+    half = drawn.randint(1, 5), drawn.randint(1, 5)
+    frame, box = Frame(tiling, kind, digits, seed), Box(tiling.plane, tiling.point(centre), half)
+    base, at = address((kind, digits)), ",".join(map(str, centre))
+    words = [f"seed={seed}", f"addr={base}", f"at={at}", f"half={half[0]},{half[1]}", "layers=list,census"]
+    while not frame.is_enough(box):
+        if len(frame.digits) == DEEPEST:
+            return words, None
+        frame.grow()
+    tiles = [(shift + (0,) * (4 - len(shift)), turn, own, below) for own, turn, shift, below in frame.tiles(box)]
+    if any(abs(a) > GREATEST for shift, *_ in tiles for a in shift):
+        return words, None
+    lines = [f"{k} {turn} {','.join(map(str, shift))} {address((k, below))}" for shift, turn, k, below in sorted(tiles)]
+    counts = [f"{k} {sum(1 for tile in tiles if tile[2] == k)}" for k in range(len(tiling.kinds))]
+    return words, "\n".join([*lines, *counts, f"all {len(tiles)}", ""])
+
+
+def is_right(ran, wanted):
+    """Whether the call did as wanted. A value beyond the limits may have been looked at on the way, and is named."""
+    if ran.returncode == 0:
+        return ran.stdout.decode() == wanted
+    named = ran.returncode in REFUSED and ran.stdout == b"" and ran.stderr.startswith(REFUSED[ran.returncode])
+    if wanted is None or not named:
+        return named
+    return ran.returncode == 6 and any(abs(int(a)) > GREATEST for a in ran.stderr.split()[2].split(b","))
+
+
+def compared(program, path):
+    """How many windows of the rule of a file were compared, how many of them were refused, and those that differ."""
+    with open(path, "rb") as file:
+        text = file.read()
+    tiling, drawn = Tiling(tomllib.loads(text.decode())), random.Random(os.path.basename(path))
+    refused, wrong = 0, []
+    for _ in range(WINDOWS):
+        words, wanted = trial(tiling, drawn)
+        ran = subprocess.run([program, "draw", "rule=-", *words], input=text, capture_output=True)
+        refused += ran.returncode != 0
+        if not is_right(ran, wanted):
+            told = ran.stdout.decode() if ran.returncode == 0 else ran.stderr.decode()
+            wrong.append(f"{os.path.basename(path)}: draw {' '.join(words)}: {told!r} in place of {wanted!r}")
+    return WINDOWS, refused, wrong
+
+
+def main(top, program):
+    rules = os.path.join(top, "rules")
+    paths = sorted(os.path.join(rules, name) for name in os.listdir(rules) if name.endswith(".toml"))
+    with concurrent.futures.ProcessPoolExecutor(os.cpu_count()) as pool:
+        results = list(pool.map(compared, [program] * len(paths), paths))
+    wrong = [line for *_, lines in results for line in lines]
+    for line in wrong[:20]:
+        print(f"windows: {line[:1500]}", file=sys.stderr)
+    windows, refused = sum(count for count, *_ in results), sum(count for _, count, _ in results)
+    print(f"windows: {len(paths)} rules, {windows} windows compared, {refused} of them refused, {len(wrong)} differ")
+    sys.exit(1 if wrong or not paths or refused * 2 > windows else 0)
+
+
+if __name__ == "__main__":
+    main(*sys.argv[1:])

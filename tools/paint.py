@@ -1,0 +1,189 @@
+#!/usr/bin/env python3
+"""Colours what the command `draw` prints: reads its picture and its list, and writes the picture in colours.
+
+    ./tiling draw .. layers=svg,list | python3 tools/paint.py [OPTION..] > PICTURE.svg      (Python 3.11 or later)
+
+    --colour kind|turn|child|plain   by the tile's kind, by its turn, by its number as a child, or all alike
+    --level N                        with `child`: the digit of that number from 0, the finest; 0 where it isn't given
+    --rule FILE.toml                 the rule's file: the two halves of a glued tile get one colour
+    --whole                          with --rule: no line along glue edges, so that two halves look like one tile
+    --palette NAME                   the colours: day, earth, sea, rose, stone or turns
+    --width N                        pixels; 800 where it isn't given
+    --title TEXT                     what the picture shows
+
+The shapes are those of the program, to the digit. Path i gets the classes kK and tT (its kind and its turn) and, as its
+title, the address that stands in line i of the list; a style sheet can colour it anew. A line has the same width at any
+size."""
+import re
+import sys
+
+sys.dont_write_bytecode = True
+from rule_file import Trouble, load  # noqa: E402
+
+HEAD = re.compile(r'<svg xmlns="[^"]*" version="1.1" viewBox="(\S+ \S+) (\S+) (\S+)">')
+GROUP = re.compile(r'<g transform="scale\((\S+) (\S+)\)" fill="none" stroke="black" stroke-width="40">')
+PATH = re.compile(r'<path class="k(\d+)" d="M([^"]*)Z"/>')
+LINE = re.compile(r"(\d+) (\d+) (\S+) ((\d+):\S*)")
+PALETTES = {
+    "day": ["#4a7fb5", "#ecc06a", "#8fae5d", "#b5536b", "#8d78b8", "#e3885a"],
+    "earth": ["#e9c46a", "#b5651d", "#7a8f52", "#f1e3c6", "#8c4a3c", "#c9a27c"],
+    "sea": ["#1f5f7a", "#8ecae6", "#f2e9d8", "#3a9a9c", "#f4b860", "#d0ebf2"],
+    "rose": ["#8e3b5e", "#f2b8c6", "#f7e7dc", "#d9708f", "#5b4a78", "#c9b6d8"],
+    "stone": ["#e4ddd0", "#a9b4a6", "#6f7f80", "#c9b79c", "#8a7a6a", "#d5d9d2"],
+    "turns": ["#3a6378", "#2a7f86", "#2a9d8f", "#8ab17d", "#babb74", "#e9c46a", "#efb366", "#f4a261", "#ee8959", "#e76f51"],
+}
+WORDS = {"colour": ("kind", "turn", "child", "plain"), "palette": tuple(PALETTES)}
+
+
+class Tile:
+    """A tile drawn: its kind and turn, its address, and its corners as the texts `x y`."""
+
+    def __init__(self, path, line):
+        self.kind, self.turn, self.name = int(line[1]), int(line[2]), line[4]
+        self.corners = path[2].split("L")
+        self.digits = [int(digit.partition("/")[0]) for digit in self.name.partition(":")[2].split(",") if digit]
+        if path[1] != line[1]:
+            raise Trouble("a line of the list is of another kind than its path")
+
+    def sides(self):
+        return list(zip(self.corners, self.corners[1:] + self.corners[:1]))
+
+
+class Drawn:
+    """What `draw` printed: the box of the picture, the scale of its numbers, and its tiles."""
+
+    def __init__(self, text):
+        lines = text.split("\n")
+        head, group = HEAD.fullmatch(lines[0]), GROUP.fullmatch(lines[1]) if len(lines) > 1 else None
+        if not head or not group or "</svg>" not in lines:
+            raise Trouble("this isn't what `./tiling draw .. layers=svg,list` prints")
+        end = lines.index("</svg>")
+        self.box, self.wide, self.high = f"{head[1]} {head[2]} {head[3]}", float(head[2]), float(head[3])
+        self.scale = f"{group[1]} {group[2]}"
+        paths = [PATH.fullmatch(line) for line in lines[2 : end - 1]]
+        listed = [LINE.fullmatch(line) for line in lines[end + 1 : end + 1 + len(paths)]]
+        if not all(paths) or not all(listed) or len(listed) < len(paths):
+            raise Trouble("the list is missing: the layers have to be svg,list, in this order")
+        self.tiles = [Tile(path, line) for path, line in zip(paths, listed)]
+
+
+class Halves:
+    """Which tiles are halves of one glued tile. `first` is for each kind the lesser kind of the two, or the kind itself;
+    `more` is for a kind how much further the half of the lesser kind is turned, as it is seen in the picture."""
+
+    def __init__(self, rule, drawn):
+        self.types = set(rule.glue) | {rule.mates[glue] for glue in rule.glue}
+        self.first = list(range(len(rule.kinds)))
+        for glue in rule.glue:
+            halves = [k for k, kind in enumerate(rule.kinds) if {glue, rule.mates[glue]} & set(kind.edges)]
+            for k in halves:
+                self.first[k] = min(halves)
+        self.order, self.more, self.rule = rule.order, {}, rule
+        glued = {side: tile for tile in drawn.tiles for number, side in enumerate(tile.sides()) if self.is_glued(tile, number)}
+        for side, tile in glued.items():
+            other = glued.get(side[::-1])
+            if other and other.kind < tile.kind:
+                self.more[tile.kind] = other.turn - tile.turn
+
+    def is_glued(self, tile, number):
+        return self.rule.kinds[tile.kind].edges[number] in self.types
+
+    def turn(self, tile):
+        return (tile.turn + self.more.get(tile.kind, 0)) % self.order
+
+
+def outline(drawn, halves):
+    """The lines of the picture, each once, without those between two halves, as the text of one path."""
+    seen, text, last = set(), "", None
+    for tile in drawn.tiles:
+        for number, side in enumerate(tile.sides()):
+            if halves and halves.is_glued(tile, number) or side in seen or side[::-1] in seen:
+                continue
+            seen.add(side)
+            text += f"L{side[1]}" if side[0] == last else f"M{side[0]}L{side[1]}"
+            last = side[1]
+    return text
+
+
+def class_of(tile, options, halves):
+    """The class by which a tile is coloured: kK, tT, or where neither says it, cN."""
+    if options["colour"] == "child":
+        return f"c{tile.digits[options['level']] if options['level'] < len(tile.digits) else 0}"
+    if options["colour"] == "turn":
+        return f"c{halves.turn(tile)}" if halves else f"t{tile.turn}"
+    return f"k{tile.kind}"
+
+
+def fills(classes, options, halves, palette):
+    """The rules of the style sheet: a colour for each class that is there."""
+    turns = max((int(name[1:]) for name in classes), default=0) + 1
+    for name in sorted(classes):
+        place = int(name[1:])
+        if options["colour"] == "plain":
+            place = 0
+        elif options["colour"] == "turn":
+            place = place * len(palette) // turns
+        elif options["colour"] == "kind" and halves:
+            place = sorted(set(halves.first)).index(halves.first[place])
+        colour = palette[place % len(palette)]
+        yield f".{name}{{fill:{colour};stroke:{colour}}}"
+
+
+def escaped(text):
+    return text.replace("&", "&amp;").replace("<", "&lt;").replace(">", "&gt;")
+
+
+def paint(drawn, options):
+    """The picture in colours as the text of an SVG file."""
+    halves = Halves(load(options["rule"]), drawn) if options["rule"] else None
+    palette = PALETTES[options["palette"] or ("turns" if options["colour"] == "turn" else "day")]
+    classes = [class_of(tile, options, halves) for tile in drawn.tiles]
+    high = round(options["width"] * drawn.high / drawn.wide)
+    body = [f'<svg xmlns="http://www.w3.org/2000/svg" version="1.1" viewBox="{drawn.box}" width="{options["width"]}" height="{high}">']
+    body += [f"<title>{escaped(options['title'])}</title>"] if options["title"] else []
+    body += ["<style>path{stroke-width:20;stroke-linejoin:round} .l{fill:none;stroke:#222;stroke-width:40}"]
+    body += ["@supports (vector-effect:non-scaling-stroke){path{vector-effect:non-scaling-stroke;stroke-width:1} .l{stroke-width:1.1}}"]
+    body += [*fills(set(classes), options, halves, palette), "</style>", f'<g transform="scale({drawn.scale})">']
+    for tile, name in zip(drawn.tiles, classes):
+        more = f" {name}" if name[0] == "c" else ""
+        body.append(f'<path class="k{tile.kind} t{tile.turn}{more}" d="M{"L".join(tile.corners)}Z"><title>{tile.name}</title></path>')
+    body.append(f'<path class="l" d="{outline(drawn, halves if options["whole"] else None)}"/>')
+    return "\n".join(body + ["</g>", "</svg>", ""])
+
+
+def given(words):
+    """The options of a call."""
+    options = {"colour": "kind", "level": 0, "rule": None, "whole": False, "palette": None, "width": 800, "title": None}
+    while words:
+        option, words = words[0].removeprefix("--"), words[1:]
+        if option == "whole":
+            options["whole"] = True
+            continue
+        if option not in options or not words:
+            raise Trouble(__doc__)
+        value, words = words[0], words[1:]
+        if option in WORDS and value not in WORDS[option]:
+            raise Trouble(f"'{value}' is none of {', '.join(WORDS[option])}")
+        if option in ("level", "width"):
+            if not re.fullmatch(r"\d{1,5}", value):
+                raise Trouble(f"'{value}' is no number")
+            value = int(value)
+        options[option] = value
+    if options["whole"] and not options["rule"]:
+        raise Trouble("--whole needs --rule FILE.toml, since the picture doesn't say which edges are glued")
+    return options
+
+
+def main(words):
+    options = given(words)
+    try:
+        print(paint(Drawn(sys.stdin.read()), options), end="")
+    except IndexError as fault:
+        raise Trouble(f"{options['rule']} isn't the rule that was drawn ({fault})") from fault
+
+
+if __name__ == "__main__":
+    try:
+        main(sys.argv[1:])
+    except Trouble as trouble:
+        sys.exit(f"paint.py: {trouble}")
