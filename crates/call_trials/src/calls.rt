@@ -1,4 +1,6 @@
 //! A call of the top call by a line of words, compared with what is wanted.
+use layer_api::layer::Layer;
+use layer_list::list_layer::ListLayer;
 use std::alloc::{AllocError, Global};
 use std::process::Abort;
 use std::test::Fail;
@@ -24,6 +26,17 @@ pub fn line_of(alloc: Global, text: &str) -> Result<String, AllocError> {
     } else {
         format!(in alloc; "{text}\n")
     }
+}
+
+// The words that draw two chairs, by a rule that stands for its name or for a file, and what is drawn.
+pub const CHAIRS: &str = "seed=42 addr=0: at=1,1,0,0 half=2,1 layers=list";
+pub const CHAIRS_LIST: &str = "0 0 0,0,0,0 0:3/0\n0 1 3,1,0,0 0:1/0\n";
+
+// A layer that lists tiles, alone.
+pub fn one_list(alloc: Global) -> Result<Vec<Box<dyn Layer>>, Fail> {
+    let mut layers: Vec<Box<dyn Layer>> = Vec::new(alloc);
+    layers.push(Box::new(alloc, ListLayer::new(alloc))?)?;
+    Ok(layers)
 }
 
 // Runs a line of words, and compares what comes of it: the lines printed and noted, without their

@@ -1,7 +1,7 @@
 //! A sink that fails in mid-stream, as the sink and as the notes.
 ghost use Rattle.std.specs.Prelude.{Some};
 
-use crate::calls::words_of;
+use crate::calls::{CHAIRS, CHAIRS_LIST, one_list, words_of};
 use std::process::Abort;
 use std::test::Fail;
 use tile_app::run::run;
@@ -36,15 +36,16 @@ impl Sink for Trickle {
     }
 }
 
-// Places a tile into a sink that fails once `good_calls` calls took `most` bytes each.
+// Runs a line of words into a sink that fails once `good_calls` calls took `most` bytes each.
 fn trickled<R: Abort + AllocGlobal>(
     rt: &R,
+    line: &str,
     most: usize,
     good_calls: usize,
     want: &[u8],
 ) -> Result<Status, Fail> {
     let alloc = rt.alloc();
-    let words = words_of(alloc, "place rule=chair addr=0:1/0,2/0")?;
+    let words = words_of(alloc, line)?;
     let mut source = SteadySource::new(Vec::new(alloc));
     let mut sink = Trickle {
         bytes: Vec::new(alloc),
@@ -53,33 +54,42 @@ fn trickled<R: Abort + AllocGlobal>(
         faults: 0,
     };
     let mut notes = SteadySink::new(alloc, 700)?;
-    let status = run(
-        alloc,
-        &words,
-        &mut source,
-        &mut sink,
-        &mut notes,
-        Vec::new(alloc),
-    );
-    assert_eq!(rt; sink.bytes.as_slice(), want, "{good_calls}");
+    let layers = one_list(alloc)?;
+    let status = run(alloc, &words, &mut source, &mut sink, &mut notes, layers);
+    assert_eq!(rt; sink.bytes.as_slice(), want, "{line} {good_calls}");
     let note = if status == Status::Done {
         ""
     } else {
         "10 WriteFault\n"
     };
-    assert_eq!(rt; notes.taken(), note.as_bytes(), "{good_calls}");
+    assert_eq!(rt; notes.taken(), note.as_bytes(), "{line} {good_calls}");
     Ok(status)
+}
+
+// Runs a line of words into sinks of one byte a call that fail at each call in turn, and then into one that doesn't.
+fn fails_at_each_call<R: Abort + AllocGlobal>(rt: &R, line: &str, text: &[u8]) -> Result<(), Fail> {
+    for good_calls in 0..text.len() {
+        let status = trickled(rt, line, 1, good_calls, &text[..good_calls])?;
+        assert!(rt; status == Status::WriteFault, "{line} {good_calls}");
+    }
+    let status = trickled(rt, line, 1, text.len(), text)?;
+    assert!(rt; status == Status::Done, "{line}");
+    Ok(())
 }
 
 #[test]
 fn sinks_that_fail(rt: HostRuntime) -> Result<(), Fail> {
-    let line = b"0 1 7,1,0,0\n".as_slice();
-    for good_calls in 0..line.len() {
-        let status = trickled(&rt, 1, good_calls, &line[..good_calls])?;
-        assert!(&rt; status == Status::WriteFault, "{good_calls}");
-    }
-    assert!(&rt; trickled(&rt, 1, line.len(), line)? == Status::Done);
-    assert!(&rt; trickled(&rt, 4, 1, b"0 1 ")? == Status::WriteFault);
+    let place = "place rule=chair addr=0:1/0,2/0";
+    fails_at_each_call(&rt, place, b"0 1 7,1,0,0\n".as_slice())?;
+    let draw = format!(in rt.alloc(); "draw rule=chair {CHAIRS}")?;
+    fails_at_each_call(&rt, draw.as_str(), CHAIRS_LIST.as_bytes())?;
+    let status = trickled(&rt, place, 4, 1, b"0 1 ")?;
+    assert!(&rt; status == Status::WriteFault);
+    Ok(())
+}
+
+#[test]
+fn notes_that_fail(rt: HostRuntime) -> Result<(), Fail> {
     let alloc = rt.alloc();
     let words = words_of(alloc, "place")?;
     let mut source = SteadySource::new(Vec::new(alloc));

@@ -1,7 +1,7 @@
 //! Rule files read from the source: what is printed, and each refusal, on rows typed from outside.
 ghost use Rattle.std.specs.Prelude.{◌≤◌};
 
-use crate::calls::{line_of, words_of};
+use crate::calls::{CHAIRS, CHAIRS_LIST, line_of, one_list, words_of};
 use std::alloc::{AllocError, Global};
 use std::process::Abort;
 use std::test::Fail;
@@ -428,43 +428,47 @@ fn rows_of_files(rt: HostRuntime) -> Result<(), Fail> {
     Ok(())
 }
 
-// Checks the chair from a source of 16 bytes a call that fails at one call, or where that number is
-// 0 at none: how it ended.
-fn failing_at<R: Abort + AllocGlobal>(rt: &R, call: u64) -> Result<Status, Fail> {
+// Runs a line of words over the chair's file, from a source of 16 bytes a call that fails at one call, or where that
+// number is 0 at none: how it ended.
+fn failing_at<R: Abort + AllocGlobal>(
+    rt: &R,
+    line: &str,
+    text: &str,
+    call: u64,
+) -> Result<Status, Fail> {
     let alloc = rt.alloc();
-    let words = words_of(alloc, "check rule=-")?;
+    let words = words_of(alloc, line)?;
     let bytes = CHAIR.as_bytes().to_vec(alloc)?;
     let mut source = MemSource::new(bytes, 16, vec![in alloc; call]?);
     let mut sink = SteadySink::new(alloc, 600)?;
     let mut notes = SteadySink::new(alloc, 700)?;
-    let status = run(
-        alloc,
-        &words,
-        &mut source,
-        &mut sink,
-        &mut notes,
-        Vec::new(alloc),
-    );
+    let layers = one_list(alloc)?;
+    let status = run(alloc, &words, &mut source, &mut sink, &mut notes, layers);
     let done = status == Status::Done;
-    let text = if done {
-        "accepted order 4 kinds 1 types 1\n"
-    } else {
-        ""
-    };
-    assert_eq!(rt; sink.taken(), text.as_bytes(), "{call}");
+    let text = if done { text } else { "" };
+    assert_eq!(rt; sink.taken(), text.as_bytes(), "{line} {call}");
     let note = if done { "" } else { "9 ReadFault\n" };
-    assert_eq!(rt; notes.taken(), note.as_bytes(), "{call}");
+    assert_eq!(rt; notes.taken(), note.as_bytes(), "{line} {call}");
     Ok(status)
 }
 
 #[test]
 fn a_source_that_fails(rt: HostRuntime) -> Result<(), Fail> {
+    let draw = format!(in rt.alloc(); "draw rule=- {CHAIRS}")?;
+    let rows = [
+        ("check rule=-", "accepted order 4 kinds 1 types 1\n"),
+        (draw.as_str(), CHAIRS_LIST),
+    ];
     // so many calls give the bytes, and one more the end
     let calls = (CHAIR.len() as u64).div_ceil(16) + 1;
-    for call in 1..=calls {
-        assert_eq!(rt; failing_at(&rt, call)?, Status::ReadFault, "{call}");
+    for (line, text) in rows {
+        for call in 1..=calls {
+            let status = failing_at(&rt, line, text, call)?;
+            assert_eq!(rt; status, Status::ReadFault, "{line} {call}");
+        }
+        let status = failing_at(&rt, line, text, calls + 1)?;
+        assert_eq!(rt; status, Status::Done, "{line}");
+        assert_eq!(rt; failing_at(&rt, line, text, 0)?, Status::Done, "{line}");
     }
-    assert_eq!(rt; failing_at(&rt, calls + 1)?, Status::Done);
-    assert_eq!(rt; failing_at(&rt, 0)?, Status::Done);
     Ok(())
 }

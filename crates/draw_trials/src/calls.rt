@@ -11,8 +11,11 @@ use tile_app::run::run;
 use tile_io::steady_sink::SteadySink;
 use tile_io::steady_source::SteadySource;
 
+/// All formats, as the program hands them in.
+pub const ALL: [Format; 3] = [Format::Svg, Format::List, Format::Census];
+
 // The words of a line, parted by blanks.
-pub fn words_of(alloc: Global, line: &str) -> Result<Vec<String>, AllocError> {
+fn words_of(alloc: Global, line: &str) -> Result<Vec<String>, AllocError> {
     let mut words = Vec::new(alloc);
     for word in line.split(' ') {
         words.push(word.to_string(alloc)?)?;
@@ -45,7 +48,7 @@ pub fn check_call<R: Abort + AllocGlobal>(
     let alloc = rt.alloc();
     let words = words_of(alloc, line)?;
     let mut source = SteadySource::new(Vec::new(alloc));
-    let mut sink = SteadySink::new(alloc, 4000)?;
+    let mut sink = SteadySink::new(alloc, text.len().saturating_add(4000))?;
     let mut notes = SteadySink::new(alloc, 700)?;
     let status = run(alloc, &words, &mut source, &mut sink, &mut notes, layers);
     assert_eq!(rt; status.code(), code, "{line}");

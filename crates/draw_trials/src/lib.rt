@@ -1,10 +1,15 @@
 //! Trials of drawing by `run`, through layers handed in, with values from outside; also through a layer that
-//! refuses, and without a layer for a format. There is no other code here.
+//! refuses, and without a layer for a format. Windows that are drawn, and windows that graze edges and vertices, are
+//! compared with lists of all tiles of the frame. There is no other code here.
 #![tactic(auto)]
 
 #[cfg(test)]
 mod calls;
 #[cfg(test)]
+mod listed;
+#[cfg(test)]
 mod refusing;
 #[cfg(test)]
 mod rows;
+#[cfg(test)]
+mod windows;

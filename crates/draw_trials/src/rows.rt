@@ -1,11 +1,8 @@
 //! Lines of words with what is drawn and noted.
-use crate::calls::{check_call, layers_of};
+use crate::calls::{ALL, check_call, layers_of};
 use layer_api::format::Format;
 use std::alloc::{AllocError, Global};
 use std::test::Fail;
-
-/// All formats, as the program hands them in.
-const ALL: [Format; 3] = [Format::Svg, Format::List, Format::Census];
 
 /// The picture of two chairs.
 const CHAIRS_SVG: &str =
@@ -18,13 +15,27 @@ const CHAIRS_SVG: &str =
 ";
 
 /// Their list.
-const CHAIRS_LIST: &str = "0 0 0,0,0,0 0:3/0\n0 1 3,1,0,0 0:1/0\n";
+pub const CHAIRS_LIST: &str = "0 0 0,0,0,0 0:3/0\n0 1 3,1,0,0 0:1/0\n";
 
-/// Their census.
+/// The picture of three half hexagons.
+const HALF_HEXES_SVG: &str =
+    "<svg xmlns=\"http://www.w3.org/2000/svg\" version=\"1.1\" viewBox=\"-0.5 -0.866025 1 1.732050\">
+<g transform=\"scale(0.0005 -0.000866025)\" fill=\"none\" stroke=\"black\" stroke-width=\"40\">
+<path class=\"k0\" d=\"M-1000 -1000L1000 -1000L0 0L-2000 0L-3000 -1000Z\"/>
+<path class=\"k0\" d=\"M-1000 1000L-3000 1000L-2000 0L0 0L1000 1000Z\"/>
+<path class=\"k0\" d=\"M2000 0L1000 1000L0 0L1000 -1000L3000 -1000Z\"/>
+</g>
+</svg>
+";
+
+/// Their list.
+const HALF_HEXES_LIST: &str = "0 0 0,0,0,0 0:0/0\n0 3 1,2,0,0 0:2/0\n0 2 3,0,0,0 0:1/0\n";
+
+/// The census of the chairs.
 const CHAIRS_CENSUS: &str = "0 2\nall 2\n";
 
 // Words, the exit code that is wanted, the text, and the note.
-const ROWS: [(&str, u8, &str, &str); 9] = [
+const ROWS: [(&str, u8, &str, &str); 17] = [
     (
         "draw rule=chair seed=42 addr=0: at=1,1,0,0 half=2,1 layers=list",
         0,
@@ -46,8 +57,59 @@ const ROWS: [(&str, u8, &str, &str); 9] = [
     (
         "draw rule=halfhex addr=0:0/0 at=1,1,0,0 half=1,1 layers=list",
         0,
-        "0 0 0,0,0,0 0:0/0\n0 3 1,2,0,0 0:2/0\n0 2 3,0,0,0 0:1/0\n",
+        HALF_HEXES_LIST,
         "",
+    ),
+    (
+        "draw rule=halfhex addr=0:0/0 at=1,1,0,0 half=1,1 layers=svg",
+        0,
+        HALF_HEXES_SVG,
+        "",
+    ),
+    // the same centres, of which the last two coefficients are reduced
+    (
+        "draw rule=chair seed=42 addr=0: at=-4,1048576,-5,1048575 half=2,1 layers=list",
+        0,
+        CHAIRS_LIST,
+        "",
+    ),
+    (
+        "draw rule=halfhex addr=0:0/0 at=7,-3,4,2 half=1,1 layers=list",
+        0,
+        HALF_HEXES_LIST,
+        "",
+    ),
+    // sides along the border of the supertile, which only touch it
+    (
+        "draw rule=chair addr=0:0/0 at=1,1,0,0 half=2,1 layers=list",
+        0,
+        "0 0 0,0,0,0 0:0/0\n0 0 1,1,0,0 0:1/0\n",
+        "",
+    ),
+    // the largest window
+    (
+        "draw rule=chair addr=0: at=0,0,0,0 half=4096,4096 layers=svg,list,census",
+        7,
+        "",
+        "7 TooManyTiles\n",
+    ),
+    (
+        "draw rule=p3 addr=0: at=0,0,0,0 half=4096,4096 layers=census",
+        7,
+        "",
+        "7 TooManyTiles\n",
+    ),
+    (
+        "draw rule=chair addr=0: at=1,1,0,0 half=1,4097 layers=census",
+        2,
+        "",
+        "2 BadWords 4\n",
+    ),
+    (
+        "draw rule=chair addr=0: at=1,1,0,1048577 half=1,1 layers=census",
+        2,
+        "",
+        "2 BadWords 3\n",
     ),
     (
         "draw rule=chair addr=0:0/0,0/0,0/0,0/0,0/0,0/0,0/0,0/0,0/0,0/0,0/0,0/0,0/0,0/0,0/0,0/0,0/0,0/0,0/0,0/0,1/0,0/0 at=0,0,0,0 half=4000,4000 layers=census",

@@ -1,72 +1,17 @@
-//! A layer that refuses at one of its calls, and is unchanged by the call that it refuses.
+//! A layer that refuses at one of its calls: the drawing ends there.
 use crate::texts::CHAIRS_LIST;
 use crate::tiles::draw_chairs;
-use layer_api::drawn::Drawn;
-use layer_api::format::Format;
 use layer_api::layer::Layer;
-use layer_api::view::View;
 use layer_list::list_layer::ListLayer;
+use refusing_layer::refusing::Refusing;
 use std::test::Fail;
-use tile_shape::no_memory::NoMemory;
-
-/// A list that refuses the call of a number, of all calls of `put` and `end`, which count from 1.
-#[derive(Drop)]
-struct Refusing {
-    list: ListLayer,
-    calls: u32,
-    refused: u32,
-}
-
-impl Layer for Refusing {
-    ghost form = { λ s. ⟦<ListLayer as Layer>⟧.form s.list };
-
-    ghost seen = { λ s. ⟦<ListLayer as Layer>⟧.seen s.list };
-
-    ghost begun = { λ s. ⟦<ListLayer as Layer>⟧.begun s.list };
-
-    ghost ended = { λ s. ⟦<ListLayer as Layer>⟧.ended s.list };
-
-    ghost draws = { λ s tiles. ⟦<ListLayer as Layer>⟧.draws s.list tiles };
-
-    fn format(&self) -> Format {
-        self.list.format()
-    }
-
-    fn begin(&mut self, view: View) {
-        self.list.begin(view)
-    }
-
-    fn put(&mut self, tile: &Drawn) -> Result<(), NoMemory> {
-        self.calls = self.calls.saturating_add(1);
-        if self.calls == self.refused {
-            return Err(NoMemory);
-        }
-        self.list.put(tile)
-    }
-
-    fn end(&mut self) -> Result<(), NoMemory> {
-        self.calls = self.calls.saturating_add(1);
-        if self.calls == self.refused {
-            return Err(NoMemory);
-        }
-        self.list.end()
-    }
-
-    fn bytes(&self) -> &[u8] {
-        self.list.bytes()
-    }
-}
 
 /// Each call refused in turn, and none.
 #[test]
 fn each_call_refused(rt: HostRuntime) -> Result<(), Fail> {
     let alloc = rt.alloc();
     for refused in 1..5u32 {
-        let mut layer = Refusing {
-            list: ListLayer::new(alloc),
-            calls: 0,
-            refused,
-        };
+        let mut layer = Refusing::new(ListLayer::new(alloc), refused);
         let drawn = draw_chairs(&mut layer);
         assert_eq!(rt; drawn.is_ok(), refused == 4);
         if drawn.is_ok() {

@@ -10,6 +10,7 @@ pub mod counts;
 pub mod drawn_tile;
 pub mod draws;
 pub mod frame_tiles;
+pub mod least_frame;
 pub mod located;
 pub mod placing;
 pub mod points;
