@@ -28,11 +28,7 @@ fn put_address(text: &mut String, addr: &Address) -> Result<(), AllocError> {
 }
 
 // The line of each tile, and then how many there are of each kind and in all.
-fn text_of(
-    alloc: Global,
-    machine: &Machine,
-    tiles: &[PlacedTile],
-) -> Result<String, AllocError> {
+fn text_of(alloc: Global, machine: &Machine, tiles: &[PlacedTile]) -> Result<String, AllocError> {
     let mut text = String::new(alloc);
     for tile in tiles {
         let kind = tile.kind;
