@@ -30,6 +30,7 @@ pub fn line_of(alloc: Global, text: &str) -> Result<String, AllocError> {
 
 // The words that draw two chairs, by a rule that stands for its name or for a file, and what is drawn.
 pub const CHAIRS: &str = "seed=42 addr=0: at=1,1,0,0 half=2,1 layers=list";
+
 pub const CHAIRS_LIST: &str = "0 0 0,0,0,0 0:3/0\n0 1 3,1,0,0 0:1/0\n";
 
 // A layer that lists tiles, alone.
@@ -53,14 +54,8 @@ pub fn check_line<R: Abort + AllocGlobal>(
     let mut source = SteadySource::new(Vec::new(alloc));
     let mut sink = SteadySink::new(alloc, 600)?;
     let mut notes = SteadySink::new(alloc, 700)?;
-    let status = run(
-        alloc,
-        &words,
-        &mut source,
-        &mut sink,
-        &mut notes,
-        Vec::new(alloc),
-    );
+    let layers = Vec::new(alloc);
+    let status = run(alloc, &words, &mut source, &mut sink, &mut notes, layers);
     assert_eq!(rt; status.code(), code, "{line}");
     assert_eq!(rt; sink.taken(), line_of(alloc, text)?.as_bytes(), "{line}");
     assert_eq!(rt; notes.taken(), line_of(alloc, note)?.as_bytes(), "{line}");

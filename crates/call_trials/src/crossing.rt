@@ -76,14 +76,8 @@ fn cross<R: Abort + AllocGlobal>(
     let mut source = SteadySource::new(Vec::new(alloc));
     let mut sink = SteadySink::new(alloc, 600)?;
     let mut notes = SteadySink::new(alloc, 700)?;
-    let status = run(
-        alloc,
-        &words,
-        &mut source,
-        &mut sink,
-        &mut notes,
-        Vec::new(alloc),
-    );
+    let layers = Vec::new(alloc);
+    let status = run(alloc, &words, &mut source, &mut sink, &mut notes, layers);
     if status == Status::Done {
         let text = str::from_utf8(sink.taken()).unwrap_or("");
         let (across, back) = text.trim_end().split_once(' ').unwrap_or(("", ""));

@@ -100,14 +100,8 @@ fn notes_that_fail(rt: HostRuntime) -> Result<(), Fail> {
         good_calls: 3,
         faults: 0,
     };
-    let status = run(
-        alloc,
-        &words,
-        &mut source,
-        &mut sink,
-        &mut notes,
-        Vec::new(alloc),
-    );
+    let layers = Vec::new(alloc);
+    let status = run(alloc, &words, &mut source, &mut sink, &mut notes, layers);
     assert!(&rt; status == Status::BadWords { place: 1 });
     assert_eq!(rt; notes.bytes.as_slice(), b"2 B".as_slice());
     Ok(())

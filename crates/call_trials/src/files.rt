@@ -368,14 +368,8 @@ fn check_file<R: Abort + AllocGlobal>(
     let mut source = MemSource::new(file.into_bytes(), 100, Vec::new(alloc));
     let mut sink = SteadySink::new(alloc, 600)?;
     let mut notes = SteadySink::new(alloc, 700)?;
-    let status = run(
-        alloc,
-        &words,
-        &mut source,
-        &mut sink,
-        &mut notes,
-        Vec::new(alloc),
-    );
+    let layers = Vec::new(alloc);
+    let status = run(alloc, &words, &mut source, &mut sink, &mut notes, layers);
     assert_eq!(rt; status.code(), code, "{line}");
     assert_eq!(rt; sink.taken(), line_of(alloc, text)?.as_bytes(), "{line}");
     assert_eq!(rt;
@@ -416,14 +410,8 @@ fn rows_of_files(rt: HostRuntime) -> Result<(), Fail> {
     let mut source = MemSource::new(vec![in alloc; 255]?, 1, Vec::new(alloc));
     let mut sink = SteadySink::new(alloc, 600)?;
     let mut notes = SteadySink::new(alloc, 700)?;
-    run(
-        alloc,
-        &words,
-        &mut source,
-        &mut sink,
-        &mut notes,
-        Vec::new(alloc),
-    );
+    let layers = Vec::new(alloc);
+    run(alloc, &words, &mut source, &mut sink, &mut notes, layers);
     assert_eq!(rt; notes.taken(), b"3 RuleRefused NotToml\n".as_slice());
     Ok(())
 }

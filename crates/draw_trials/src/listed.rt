@@ -11,7 +11,7 @@ use tile_place::placed_tile::PlacedTile;
 use tile_shape::address::Address;
 
 /// The greatest number of tiles of a frame that is listed.
-const MOST_TILES: u64 = 500;
+const MOST_TILES: u64 = 1100;
 
 // Puts an address: the kind, and the child and the parent of each digit.
 fn put_address(text: &mut String, addr: &Address) -> Result<(), AllocError> {
@@ -28,11 +28,7 @@ fn put_address(text: &mut String, addr: &Address) -> Result<(), AllocError> {
 }
 
 // The line of each tile, and then how many there are of each kind and in all.
-fn text_of(
-    alloc: Global,
-    machine: &Machine,
-    tiles: &[PlacedTile],
-) -> Result<String, AllocError> {
+fn text_of(alloc: Global, machine: &Machine, tiles: &[PlacedTile]) -> Result<String, AllocError> {
     let mut text = String::new(alloc);
     for tile in tiles {
         let kind = tile.kind;

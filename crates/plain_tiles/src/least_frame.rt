@@ -27,17 +27,12 @@ fn has_edge(tile: &DrawnTile, start: &Point, end: &Point) -> bool {
 }
 
 /// Whether an edge meets a window, and no tile has an edge from its end to its start.
-fn is_open(
-    order: Order,
-    tiles: &[DrawnTile],
-    window: &Window,
-    start: &Point,
-    end: &Point,
-) -> bool {
+fn is_open(order: Order, tiles: &[DrawnTile], window: &Window, start: &Point, end: &Point) -> bool {
     if !near(start) || !near(end) || !near(&window.centre) {
         return true;
     }
-    edge_meets_box(order, start, end, window) && !tiles.iter().any(|tile| has_edge(tile, end, start))
+    edge_meets_box(order, start, end, window)
+        && !tiles.iter().any(|tile| has_edge(tile, end, start))
 }
 
 /// Whether the tiles of a frame reach round a window: one holds the centre, and each of their edges that meets the
