@@ -98,7 +98,7 @@ fn first_wrong<L: Ledger>(alloc: Global, blank: Blank) -> Result<Option<usize>, 
     let mut steps = Steps::<L>::new(blank);
     let checked = check(alloc, rule(alloc, &CHAIR)?)?;
     let transducer = Transducer::compile(alloc, checked.tables())?;
-    for (row, (runs, edge, wanted)) in ROWS.iter().enumerate() {
+    for (row, (runs, edge, wanted)) in (&ROWS).iter().enumerate() {
         let addr = address(runs);
         let (answer, home) = match across(&checked, &transducer, &addr, *edge, &mut steps) {
             Some((answer, home)) => (Some(answer), home),
