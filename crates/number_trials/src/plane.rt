@@ -424,14 +424,10 @@ fn first_other_of_one(rows: &[(Order, Call, i32)]) -> Option<usize> {
 
 #[test]
 fn plane(rt: HostRuntime) {
-    let first = [
-        first_other(Order::Four, &IN_EACH_ORDER),
-        first_other(Order::Six, &IN_EACH_ORDER),
-        first_other(Order::Eight, &IN_EACH_ORDER),
-        first_other(Order::Ten, &IN_EACH_ORDER),
-        first_other_of_one(&IN_ONE_ORDER),
-    ];
-    assert_eq!(rt; first, [None; 5]);
+    for order in [Order::Four, Order::Six, Order::Eight, Order::Ten] {
+        assert_eq!(rt; first_other(order, &IN_EACH_ORDER), None);
+    }
+    assert_eq!(rt; first_other_of_one(&IN_ONE_ORDER), None);
 }
 
 #[test]
