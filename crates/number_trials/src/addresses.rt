@@ -62,29 +62,44 @@ const REFUSED: [(&str, AddressFault); 20] = [
     ("0:0/0,0/256", AddressFault::UnknownKind { level: 2 }),
 ];
 
+/// The number of the first text that isn't refused for the fault beside it.
+fn first_not_refused(uses: &Uses, rows: &[(&str, AddressFault)]) -> Option<usize> {
+    for (row, (text, fault)) in rows.iter().enumerate() {
+        if read_address(uses, text.as_bytes()).err().as_ref() != Some(fault) {
+            return Some(row);
+        }
+    }
+    None
+}
+
 #[test]
 fn refused_texts(rt: HostRuntime) -> Result<(), Fail> {
     let uses = one_kind(rt.alloc())?;
-    for (text, fault) in &REFUSED {
-        let read = read_address(&uses, text.as_bytes());
-        assert_eq!(rt; read.err().as_ref(), Some(fault), "{text}");
-    }
+    assert_eq!(rt; first_not_refused(&uses, &REFUSED), None);
     Ok(())
+}
+
+/// The depth of the address that is read.
+fn depth_read(uses: &Uses, text: &[u8]) -> Result<u8, AddressFault> {
+    Ok(read_address(uses, text)?.depth())
+}
+
+/// What is read of a text of 64 digits, of one of 65, and of that with a comma behind it.
+fn read_deep(alloc: Global) -> Result<[Result<u8, AddressFault>; 3], Fail> {
+    let uses = one_kind(alloc)?;
+    let mut text = deep(alloc, 64)?;
+    let most = depth_read(&uses, &text);
+    text.extend_from_slice(b",0/0")?;
+    let more = depth_read(&uses, &text);
+    text.push(b',')?;
+    Ok([most, more, depth_read(&uses, &text)])
 }
 
 #[test]
 fn texts_of_64_digits_and_more(rt: HostRuntime) -> Result<(), Fail> {
-    let uses = one_kind(rt.alloc())?;
-    let mut text = deep(rt.alloc(), 64)?;
-    assert_eq!(rt; read_address(&uses, &text).map(|addr| addr.depth()), Ok(64));
-    text.extend_from_slice(b",0/0")?;
-    assert_eq!(rt;
-        read_address(&uses, &text).err(),
-        Some(AddressFault::TooDeep)
-    );
-    text.push(b',')?;
     let behind = AddressFault::BadText { place: 262 };
-    assert_eq!(rt; read_address(&uses, &text).err(), Some(behind));
+    let wanted = [Ok(64), Err(AddressFault::TooDeep), Err(behind)];
+    assert_eq!(rt; read_deep(rt.alloc())?, wanted);
     Ok(())
 }
 
@@ -105,12 +120,18 @@ const PRINTED: [(AddressFault, &str); 4] = [
     (AddressFault::WrongChild { level: 10 }, "WrongChild 10"),
 ];
 
+/// Whether an address is written and printed as its row says.
+fn is_written(alloc: Global, row: &Row) -> Result<bool, Fail> {
+    let (kind, digits, text) = row;
+    let addr = address(*kind, digits);
+    let printed = format!(in alloc; "{addr}")?;
+    Ok(write_address(&addr).as_slice() == text.as_bytes() && printed.as_str() == *text)
+}
+
 #[test]
 fn written_texts(rt: HostRuntime) -> Result<(), Fail> {
-    for (kind, digits, text) in &TEXTS {
-        let addr = address(*kind, digits);
-        assert_eq!(rt; write_address(&addr).as_slice(), text.as_bytes());
-        assert_eq!(rt; format!(in rt.alloc(); "{addr}")?.as_str(), *text);
+    for row in &TEXTS {
+        assert!(rt; is_written(rt.alloc(), row)?);
     }
     for (fault, text) in &PRINTED {
         assert_eq!(rt; format!(in rt.alloc(); "{fault}")?.as_str(), *text);
@@ -118,52 +139,85 @@ fn written_texts(rt: HostRuntime) -> Result<(), Fail> {
     Ok(())
 }
 
-#[test]
-fn longest_text(rt: HostRuntime) -> Result<(), Fail> {
-    let mut longest = Vec::new(rt.alloc());
+/// How long the longest text is, where it is what is written.
+fn longest_written(alloc: Global) -> Result<Option<usize>, Fail> {
+    let mut longest = Vec::new(alloc);
     longest.extend_from_slice(b"255:255/255")?;
     for _ in 0..63 {
         longest.extend_from_slice(b",255/255")?;
     }
-    let addr = address(255, &[(255, 255); 64]);
-    assert_eq!(rt; write_address(&addr).as_slice(), longest.as_slice());
-    assert_eq!(rt; longest.len(), 515);
+    let written = write_address(&address(255, &[(255, 255); 64]));
+    if written.as_slice() != longest.as_slice() {
+        return Ok(None);
+    }
+    Ok(Some(longest.len()))
+}
+
+#[test]
+fn longest_text(rt: HostRuntime) -> Result<(), Fail> {
+    assert_eq!(rt; longest_written(rt.alloc())?, Some(515));
     Ok(())
+}
+
+/// The kind at a level, where there is such a level.
+fn kind_there(addr: &Address, level: u8) -> Option<u8> {
+    if level <= addr.depth() {
+        Some(addr.kind_at(level))
+    } else {
+        None
+    }
+}
+
+/// Whether an address of depth 2 is read, and the one without digits.
+fn is_read(uses: &Uses, addr: &Address) -> bool {
+    read_address(uses, b"0:1/0,2/0") == Ok(addr.copy())
+        && read_address(uses, b"0:") == Ok(address(0, &[]))
+        && addr.depth() == 2
+        && kind_there(addr, 2) == Some(0)
+}
+
+/// Whether an address of depth 2 is written and read, and one whose child is unknown isn't.
+fn is_read_back(uses: &Uses, addr: &Address) -> bool {
+    let wrong = AddressFault::WrongChild { level: 0 };
+    written_and_read(uses, addr) == Ok(addr.copy())
+        && written_and_read(uses, &address(0, &[(4, 0)])) == Err(wrong)
+}
+
+/// Whether the uses of the one kind are four, and an address of depth 2 fits them, and not one with a fifth child.
+fn is_one_kind(uses: &Uses, addr: &Address) -> bool {
+    uses.kinds() == 1
+        && uses.child_kind(0, 3) == Some(0)
+        && uses.child_kind(0, 4) == None
+        && uses.fits(addr)
+        && !uses.fits(&address(0, &[(1, 0), (2, 0), (4, 0)]))
 }
 
 #[test]
 fn addresses(rt: HostRuntime) -> Result<(), Fail> {
     let uses = one_kind(rt.alloc())?;
     let addr = address(0, &[(1, 0), (2, 0)]);
-    assert_eq!(rt; read_address(&uses, b"0:1/0,2/0"), Ok(addr.copy()));
-    assert_eq!(rt; read_address(&uses, b"0:"), Ok(address(0, &[])));
-    assert_eq!(rt; written_and_read(&uses, &addr), Ok(addr.copy()));
-    assert_eq!(rt; addr.depth(), 2);
-    if 2 <= addr.depth() {
-        assert_eq!(rt; addr.kind_at(2), 0);
-    }
-    assert_eq!(rt; uses.kinds(), 1);
-    assert_eq!(rt; uses.child_kind(0, 3), Some(0));
-    assert_eq!(rt; uses.child_kind(0, 4), None);
-    assert!(rt; uses.fits(&addr));
-    let misfit = address(0, &[(1, 0), (2, 0), (4, 0)]);
-    assert!(rt; !uses.fits(&misfit));
-    let wrong = Some(AddressFault::WrongChild { level: 0 });
-    assert_eq!(rt;
-        written_and_read(&uses, &address(0, &[(4, 0)])).err(),
-        wrong
-    );
+    let found = [
+        is_read(&uses, &addr),
+        is_read_back(&uses, &addr),
+        is_one_kind(&uses, &addr),
+    ];
+    assert_eq!(rt; found, [true; 3]);
     Ok(())
+}
+
+/// The depth of an address of 64 digits, what comes of one more, and the depth after it.
+fn one_more() -> (u8, Result<(), Full>, u8) {
+    let mut full = address(3, &[(7, 0); 64]);
+    let depth = full.depth();
+    let step = Step {
+        child: 0,
+        parent: 0,
+    };
+    let more = full.push_coarse(step);
+    (depth, more, full.depth())
 }
 
 #[test]
 fn no_room_at_64_digits(rt: HostRuntime) {
-    let mut full = address(3, &[(7, 0); 64]);
-    assert_eq!(rt; full.depth(), 64);
-    let one_more = full.push_coarse(Step {
-        child: 0,
-        parent: 0,
-    });
-    assert_eq!(rt; one_more, Err(Full));
-    assert_eq!(rt; full.depth(), 64);
+    assert_eq!(rt; one_more(), (64, Err(Full), 64));
 }

@@ -402,16 +402,32 @@ const IN_ONE_ORDER: [(Order, Call, i32); 34] = [
     ),
 ];
 
+/// The number of the first question that has another answer in an order.
+fn first_other(order: Order, rows: &[(Call, i32)]) -> Option<usize> {
+    for (row, (call, wanted)) in rows.iter().enumerate() {
+        if answer(order, call) != Some(*wanted) {
+            return Some(row);
+        }
+    }
+    None
+}
+
+/// The number of the first question of one order that has another answer.
+fn first_other_of_one(rows: &[(Order, Call, i32)]) -> Option<usize> {
+    for (row, (order, call, wanted)) in rows.iter().enumerate() {
+        if answer(*order, call) != Some(*wanted) {
+            return Some(row);
+        }
+    }
+    None
+}
+
 #[test]
 fn plane(rt: HostRuntime) {
     for order in [Order::Four, Order::Six, Order::Eight, Order::Ten] {
-        for (row, (call, wanted)) in IN_EACH_ORDER.iter().enumerate() {
-            assert_eq!(rt; answer(order, call), Some(*wanted), "{order:?} {row}");
-        }
+        assert_eq!(rt; first_other(order, &IN_EACH_ORDER), None);
     }
-    for (row, (order, call, wanted)) in IN_ONE_ORDER.iter().enumerate() {
-        assert_eq!(rt; answer(*order, call), Some(*wanted), "row {row}");
-    }
+    assert_eq!(rt; first_other_of_one(&IN_ONE_ORDER), None);
 }
 
 #[test]

@@ -354,44 +354,60 @@ const ORDERS: [(Order, u8); 4] = [
     (Order::Ten, 10),
 ];
 
-#[test]
-fn points_and_motions(rt: HostRuntime) {
-    for (row, (call, wanted)) in ROWS.iter().enumerate() {
-        assert_eq!(rt; given(call), Some(motion(wanted)), "row {row}");
-    }
-    points_law(Order::Ten);
-    placement_law(Order::Eight);
-    divisors_law(Order::Six);
-}
-
-#[test]
-fn turns_go_round(rt: HostRuntime) {
-    let one = Point { c: ONE };
-    let p = Point { c: [3, -5, 0, 0] };
-    for (order, n) in ORDERS {
-        assert_eq!(rt; order.n(), n);
-        for k in 0..n {
-            let next = turned(order, (k + 1) % n, &p);
-            let again = turned(order, k, &p).and_then(|q| turned(order, 1, &q));
-            assert!(rt; next.is_some());
-            assert_eq!(rt; again, next, "{order:?} {k}");
-            let power = turned(order, k, &one).and_then(|q| conjugate(order, &q));
-            assert_eq!(rt; power, turned(order, (n - k) % n, &one), "{order:?} {k}");
+/// The number of the first call that gives something else.
+fn first_other(rows: &[(Call, Moved)]) -> Option<usize> {
+    for (row, (call, wanted)) in rows.iter().enumerate() {
+        if given(call) != Some(motion(wanted)) {
+            return Some(row);
         }
     }
+    None
 }
 
-#[test]
-fn refusals(rt: HostRuntime) {
+/// Whether each turn and one more is the next, and the conjugate of each power of ζ the power back.
+fn goes_round(order: Order, n: u8) -> bool {
+    let one = Point { c: ONE };
+    let p = Point { c: [3, -5, 0, 0] };
+    for k in 0..n {
+        let next = turned(order, (k + 1) % n, &p);
+        let again = turned(order, k, &p).and_then(|q| turned(order, 1, &q));
+        let power = turned(order, k, &one).and_then(|q| conjugate(order, &q));
+        if next.is_none() || again != next || power != turned(order, (n - k) % n, &one) {
+            return false;
+        }
+    }
+    order.n() == n
+}
+
+/// The number of the first coefficient at whose bound a point is refused, or past which it isn't.
+fn first_beyond() -> Option<usize> {
     let limit = 1 << 24;
     for i in 0..4 {
         let mut p = Point {
             c: [limit, -limit, limit, -limit],
         };
-        assert!(rt; !refused(&p));
+        let within = !refused(&p);
         p.c[i] = limit + 1;
-        assert!(rt; refused(&p), "{i}");
+        let above = refused(&p);
         p.c[i] = -limit - 1;
-        assert!(rt; refused(&p), "{i}");
+        if !(within && above && refused(&p)) {
+            return Some(i);
+        }
+    }
+    None
+}
+
+#[test]
+fn points_and_motions(rt: HostRuntime) {
+    points_law(Order::Ten);
+    placement_law(Order::Eight);
+    divisors_law(Order::Six);
+    assert_eq!(rt; [first_other(&ROWS), first_beyond()], [None, None]);
+}
+
+#[test]
+fn turns_go_round(rt: HostRuntime) {
+    for (order, n) in &ORDERS {
+        assert!(rt; goes_round(*order, *n));
     }
 }

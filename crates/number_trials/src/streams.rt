@@ -39,14 +39,22 @@ const WRITTEN: [(usize, usize, u64, &str); 17] = [
     (5, 1, 6, "tiles"),
 ];
 
+/// Whether a sink takes what its row says.
+fn is_taken(alloc: Global, row: &(usize, usize, u64, &str)) -> Result<bool, Fail> {
+    let (room, a_call, failing, wanted) = row;
+    if *a_call == 0 {
+        return Ok(false);
+    }
+    let fails = [*failing].to_vec(alloc)?;
+    let mut sink = MemSink::new(alloc, *room, *a_call, fails)?;
+    let result = write_all(&mut sink, b"tiles");
+    Ok(result.is_ok() == (wanted.len() == 5) && sink.taken() == wanted.as_bytes())
+}
+
 #[test]
 fn written_until_a_call_fails(rt: HostRuntime) -> Result<(), Fail> {
-    for (room, a_call, failing, wanted) in &WRITTEN {
-        let fails = [*failing].to_vec(rt.alloc())?;
-        let mut sink = MemSink::new(rt.alloc(), *room, *a_call, fails)?;
-        let result = write_all(&mut sink, b"tiles");
-        assert_eq!(rt; result.is_ok(), wanted.len() == 5);
-        assert_eq!(rt; sink.taken(), wanted.as_bytes());
+    for row in &WRITTEN {
+        assert!(rt; is_taken(rt.alloc(), row)?);
     }
     Ok(())
 }
@@ -122,18 +130,28 @@ fn sinks_in_memory(rt: HostRuntime) -> Result<(), Fail> {
     Ok(())
 }
 
-#[test]
-fn sinks_of_std(rt: HostRuntime) -> Result<(), Fail> {
+/// What comes of four pieces that are written to a sink over four bytes.
+fn over_four_bytes() -> [Result<usize, Failed>; 4] {
     let mut sink = StdSink::new(Cursor::new([0; 4]));
-    assert_eq!(rt; sink.write(b"")?, 0);
-    assert_eq!(rt; sink.write(b"tiles")?, 4);
-    assert_eq!(rt; sink.write(b"")?, 0);
-    assert_eq!(rt; sink.write(b"s"), Err(Failed));
-    let mut out = Vec::new(rt.alloc());
+    let nothing = sink.write(b"");
+    let four = sink.write(b"tiles");
+    let nothing_more = sink.write(b"");
+    [nothing, four, nothing_more, sink.write(b"s")]
+}
+
+/// What is written to a sink over a vector.
+fn over_a_vector(alloc: Global) -> Result<Vec<u8>, Fail> {
+    let mut out = Vec::new(alloc);
     let mut sink = StdSink::new(&mut out);
     write_all(&mut sink, b"tiles")?;
     drop(sink);
-    assert_eq!(rt; out.as_slice(), b"tiles".as_slice());
+    Ok(out)
+}
+
+#[test]
+fn sinks_of_std(rt: HostRuntime) -> Result<(), Fail> {
+    assert_eq!(rt; over_four_bytes(), [Ok(0), Ok(4), Ok(0), Err(Failed)]);
+    assert_eq!(rt; over_a_vector(rt.alloc())?.as_slice(), b"tiles".as_slice());
     Ok(())
 }
 
@@ -169,20 +187,28 @@ const READ: [(usize, u64, Result<&str, ReadAllFault>, &str); 13] = [
     (usize::MAX, 0, Ok("tiles"), ""),
 ];
 
+/// Whether the reading of a row ends as it says.
+fn is_read(
+    alloc: Global,
+    row: &(usize, u64, Result<&str, ReadAllFault>, &str),
+) -> Result<bool, Fail> {
+    let (most, failing, wanted, rest) = row;
+    let fails = [*failing].to_vec(alloc)?;
+    let mut source = MemSource::new(b"tiles".to_vec(alloc)?, 2, fails);
+    match (read_all(alloc, &mut source, *most), wanted) {
+        (Ok(read), Ok(bytes)) => Ok(read.as_slice() == bytes.as_bytes()),
+        (Err(fault), Err(other)) => {
+            let read = read_all(alloc, &mut source, 5)?;
+            Ok(fault == *other && read.as_slice() == rest.as_bytes())
+        }
+        _ => Ok(false),
+    }
+}
+
 #[test]
 fn read_to_the_end(rt: HostRuntime) -> Result<(), Fail> {
-    for (most, failing, wanted, rest) in &READ {
-        let fails = [*failing].to_vec(rt.alloc())?;
-        let mut source = MemSource::new(b"tiles".to_vec(rt.alloc())?, 2, fails);
-        match (read_all(rt.alloc(), &mut source, *most), wanted) {
-            (Ok(read), Ok(bytes)) => assert_eq!(rt; read.as_slice(), bytes.as_bytes()),
-            (Err(fault), Err(other)) => {
-                assert_eq!(rt; fault, *other);
-                let read = read_all(rt.alloc(), &mut source, 5)?;
-                assert_eq!(rt; read.as_slice(), rest.as_bytes());
-            }
-            (result, wanted) => assert_eq!(rt; result.is_ok(), wanted.is_ok()),
-        }
+    for row in &READ {
+        assert!(rt; is_read(rt.alloc(), row)?);
     }
     Ok(())
 }
@@ -202,21 +228,27 @@ fn read_whole(
     read_all(alloc, source, most)
 }
 
+/// How much is read of so many bytes, and the fault where one fewer is asked for.
+fn read_long(alloc: Global, length: usize) -> Result<(usize, Option<ReadAllFault>), Fail> {
+    let mut source = SteadySource::new(vec![in alloc; 7u8; length]?);
+    let read = read_whole(alloc, &mut source, length)?;
+    let count = read.len();
+    if length == 0 {
+        return Ok((count, None));
+    }
+    let mut source = SteadySource::new(read);
+    Ok((count, read_whole(alloc, &mut source, length - 1).err()))
+}
+
 #[test]
 fn read_longer_than_a_piece(rt: HostRuntime) -> Result<(), Fail> {
     let mut over_std = StdSource::new(b"tiles".as_slice());
     let read = read_all(rt.alloc(), &mut over_std, 5)?;
     assert_eq!(rt; read.as_slice(), b"tiles".as_slice());
-    for length in [0, 1, 4095, 4096, 4097, 8192, 10000] {
-        let bytes = vec![in rt.alloc(); 7u8; length]?;
-        let mut source = SteadySource::new(bytes);
-        let read = read_whole(rt.alloc(), &mut source, length)?;
-        assert_eq!(rt; read.len(), length);
-        if length > 0 {
-            let mut source = SteadySource::new(read);
-            let refused = read_whole(rt.alloc(), &mut source, length - 1);
-            assert_eq!(rt; refused.err(), Some(ReadAllFault::TooLong));
-        }
+    assert_eq!(rt; read_long(rt.alloc(), 0)?, (0, None));
+    for length in [1, 4095, 4096, 4097, 8192, 10000] {
+        let wanted = (length, Some(ReadAllFault::TooLong));
+        assert_eq!(rt; read_long(rt.alloc(), length)?, wanted);
     }
     Ok(())
 }

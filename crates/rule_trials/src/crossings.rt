@@ -98,7 +98,7 @@ fn first_wrong<L: Ledger>(alloc: Global, blank: Blank) -> Result<Option<usize>, 
     let mut steps = Steps::<L>::new(blank);
     let checked = check(alloc, rule(alloc, &CHAIR)?)?;
     let transducer = Transducer::compile(alloc, checked.tables())?;
-    for (row, (runs, edge, wanted)) in ROWS.iter().enumerate() {
+    for (row, (runs, edge, wanted)) in (&ROWS).iter().enumerate() {
         let addr = address(runs);
         let (answer, home) = match across(&checked, &transducer, &addr, *edge, &mut steps) {
             Some((answer, home)) => (Some(answer), home),
@@ -116,21 +116,26 @@ fn first_wrong<L: Ledger>(alloc: Global, blank: Blank) -> Result<Option<usize>, 
 }
 
 /// Rules, and how many different contact blocks and part blocks their tables have.
-const BLOCKS: [(Given, u16, u16); 5] = [
-    (CHAIR, 4, 8),
-    (HALF_RHOMBS, 10, 10),
-    (HALF_KITES, 10, 9),
-    (HALF_SQUARES, 17, 10),
-    (HALF_HEX, 4, 5),
+const BLOCKS: [(Given, (u16, u16)); 5] = [
+    (CHAIR, (4, 8)),
+    (HALF_RHOMBS, (10, 10)),
+    (HALF_KITES, (10, 9)),
+    (HALF_SQUARES, (17, 10)),
+    (HALF_HEX, (4, 5)),
 ];
+
+/// How many different contact blocks and part blocks the tables of a rule have.
+fn blocks_of(alloc: Global, given: &Given) -> Result<(u16, u16), Fail> {
+    let checked = check(alloc, rule(alloc, given)?)?;
+    let transducer = Transducer::compile(alloc, checked.tables())?;
+    let flat = transducer.flat();
+    Ok((flat.contact_blocks(), flat.part_blocks()))
+}
 
 #[test]
 fn blocks(rt: HostRuntime) -> Result<(), Fail> {
-    for (given, contacts, parts) in &BLOCKS {
-        let checked = check(rt.alloc(), rule(rt.alloc(), given)?)?;
-        let transducer = Transducer::compile(rt.alloc(), checked.tables())?;
-        assert_eq!(rt; transducer.flat().contact_blocks(), *contacts);
-        assert_eq!(rt; transducer.flat().part_blocks(), *parts);
+    for (given, wanted) in &BLOCKS {
+        assert_eq!(rt; blocks_of(rt.alloc(), given)?, *wanted);
     }
     Ok(())
 }

@@ -145,19 +145,43 @@ fn mate_there(tables: &Tables, kind: u8, edge: u8) -> Option<u8> {
     Some(tables.mate(tables.edge_type(kind, edge)))
 }
 
+/// Whether the built-in rule of a name is as its rows say.
+fn is_built_in(alloc: Global, name: Name, rows: &[Row]) -> Result<bool, Fail> {
+    let right = right_in(alloc, &builtin(alloc, name)?, rows)?;
+    let kinds = rule_of(alloc, name)?.kinds.len();
+    Ok(right == Some(rows.len()) && kinds == rows.len())
+}
+
+/// Whether a rule as typed, and the built-in rule of its name, are as its rows say.
+fn is_described(
+    alloc: Global,
+    given: &Given,
+    name: Option<Name>,
+    rows: &[Row],
+) -> Result<bool, Fail> {
+    let right = right_in(alloc, &check(alloc, rule(alloc, given)?)?, rows)?;
+    let built_in = match name {
+        Some(name) => is_built_in(alloc, name, rows)?,
+        None => true,
+    };
+    Ok(right == Some(rows.len()) && built_in)
+}
+
+/// How many kinds a copy of the square's tables has, and the mates of its last edge and of one behind it.
+fn copied(alloc: Global) -> Result<[Option<u8>; 3], Fail> {
+    let checked = check(alloc, rule(alloc, &shapes::TYPED_SQUARE)?)?;
+    let tables = checked.tables().copy(alloc)?;
+    Ok([
+        Some(tables.kinds()),
+        mate_there(&tables, 0, 3),
+        mate_there(&tables, 0, 4),
+    ])
+}
+
 #[test]
 fn each_rule_is_as_described(rt: HostRuntime) -> Result<(), Fail> {
-    let alloc = rt.alloc();
-    for (given, name, rows) in ROWS.iter() {
-        let checked = check(alloc, rule(alloc, given)?)?;
-        assert_eq!(&rt; right_in(alloc, &checked, rows)?, Some(rows.len()));
-        if let Some(name) = name {
-            assert_eq!(&rt;
-                right_in(alloc, &builtin(alloc, *name)?, rows)?,
-                Some(rows.len())
-            );
-            assert_eq!(&rt; rule_of(alloc, *name)?.kinds.len(), rows.len());
-        }
+    for (given, name, rows) in &ROWS {
+        assert!(rt; is_described(rt.alloc(), given, *name, rows)?);
     }
     Ok(())
 }
@@ -165,10 +189,6 @@ fn each_rule_is_as_described(rt: HostRuntime) -> Result<(), Fail> {
 #[test]
 fn mates_of_a_copy(rt: HostRuntime) -> Result<(), Fail> {
     coherence_law();
-    let checked = check(rt.alloc(), rule(rt.alloc(), &shapes::TYPED_SQUARE)?)?;
-    let tables = checked.tables().copy(rt.alloc())?;
-    assert_eq!(rt; tables.kinds(), 1);
-    assert_eq!(rt; mate_there(&tables, 0, 3), Some(1));
-    assert_eq!(rt; mate_there(&tables, 0, 4), None);
+    assert_eq!(rt; copied(rt.alloc())?, [Some(1), Some(1), None]);
     Ok(())
 }

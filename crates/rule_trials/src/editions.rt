@@ -1,16 +1,14 @@
 //! Rules of either edition: the factors that each takes, and the numbers of order six.
-use crate::given::{Given, Quad, rule_of};
+use crate::given::{Given, Quad, first_not_refused, first_of_others};
 use crate::shapes::{
     BISECTED, CHAIR, CHAIR_KIND, HALF_HEX, HALF_KITES, HALF_RHOMBS, HALF_SQUARE_KIND, HALF_SQUARES,
     HALVED, LEG_AND_HYPOTENUSE, RIGHT_KIND, RIGHT_TRIANGLE, SQUARE, TABLE, TRAPEZOID,
     TRAPEZOID_CHILDREN, TURNED_SQUARE, TWO,
 };
 use cyclo_points::order::Order;
-use dissect_check::check::check;
 use dissect_check::check_fault::CheckFault;
 use dissect_check::what::What;
 use rule_model::edition::Edition;
-use std::alloc::{AllocError, Global};
 use std::test::Fail;
 
 /// Rules that both editions take.
@@ -63,7 +61,7 @@ const NEITHER: [Given; 5] = [
 ];
 
 /// Rules of order six with a number beyond its limit.
-const BEYOND_LIMITS: [(Given, What); 3] = [
+const BEYOND_LIMITS: [(Given, CheckFault); 3] = [
     // in order six the last two coefficients are 0
     (
         Given(
@@ -73,7 +71,7 @@ const BEYOND_LIMITS: [(Given, What); 3] = [
             &HALVED,
             &[(&TRAPEZOID, &[0, 0, 0, 0, 0], &TRAPEZOID_CHILDREN)],
         ),
-        What::Factor,
+        CheckFault::TooMany { what: What::Factor },
     ),
     (
         Given(
@@ -83,7 +81,9 @@ const BEYOND_LIMITS: [(Given, What); 3] = [
             &HALVED,
             &[(&OFF_THE_LATTICE, &[0, 0, 0, 0, 0], &TRAPEZOID_CHILDREN)],
         ),
-        What::Vertex { kind: 0 },
+        CheckFault::TooMany {
+            what: What::Vertex { kind: 0 },
+        },
     ),
     // and a turn is below 6
     (
@@ -94,7 +94,9 @@ const BEYOND_LIMITS: [(Given, What); 3] = [
             &HALVED,
             &[(&TRAPEZOID, &[0, 0, 0, 0, 0], &[(0, 6, [1, 0, 0, 0])])],
         ),
-        What::Child { kind: 0 },
+        CheckFault::TooMany {
+            what: What::Child { kind: 0 },
+        },
     ),
 ];
 
@@ -115,70 +117,44 @@ const TURNED_BACK: Given = Given(
     &[HALF_SQUARE_KIND],
 );
 
-/// The fault for which a rule is refused in an edition, if it is.
-fn fault(alloc: Global, edition: Edition, given: &Given) -> Result<Option<CheckFault>, AllocError> {
-    Ok(check(alloc, rule_of(alloc, edition, given)?).err())
-}
+/// What comes of rules in an edition.
+const TAKEN: [(Edition, &[Given], Option<CheckFault>); 6] = [
+    (Edition::One, &BOTH, None),
+    (Edition::Two, &BOTH, None),
+    (Edition::One, &TWO_ALONE, Some(CheckFault::WrongFactor)),
+    (Edition::Two, &TWO_ALONE, None),
+    (Edition::One, &NEITHER, Some(CheckFault::WrongFactor)),
+    (Edition::Two, &NEITHER, Some(CheckFault::WrongFactor)),
+];
+
+/// What is refused in an edition.
+const REFUSED: [(Edition, &[(Given, CheckFault)]); 3] = [
+    (Edition::One, &BEYOND_LIMITS),
+    (Edition::Two, &BEYOND_LIMITS),
+    (Edition::Two, &[(TURNED_BACK, LOOSE)]),
+];
+
+const LOOSE: CheckFault = CheckFault::ChildEdgeLoose {
+    kind: 0,
+    child: 0,
+    edge: 1,
+};
 
 #[test]
 fn taken(rt: HostRuntime) -> Result<(), Fail> {
-    for (row, given) in BOTH.iter().enumerate() {
-        assert_eq!(rt; fault(rt.alloc(), Edition::One, given)?, None, "row {row}");
-        assert_eq!(rt; fault(rt.alloc(), Edition::Two, given)?, None, "row {row}");
-    }
-    for (row, given) in TWO_ALONE.iter().enumerate() {
-        let wanted = Some(CheckFault::WrongFactor);
+    for (edition, rules, wanted) in &TAKEN {
         assert_eq!(rt;
-            fault(rt.alloc(), Edition::One, given)?,
-            wanted,
-            "row {row}"
+            first_of_others(rt.alloc(), *edition, rules, *wanted)?,
+            None
         );
-        assert_eq!(rt; fault(rt.alloc(), Edition::Two, given)?, None, "row {row}");
     }
     Ok(())
 }
 
 #[test]
 fn not_taken(rt: HostRuntime) -> Result<(), Fail> {
-    for (row, given) in NEITHER.iter().enumerate() {
-        let wanted = Some(CheckFault::WrongFactor);
-        assert_eq!(rt;
-            fault(rt.alloc(), Edition::One, given)?,
-            wanted,
-            "row {row}"
-        );
-        assert_eq!(rt;
-            fault(rt.alloc(), Edition::Two, given)?,
-            wanted,
-            "row {row}"
-        );
+    for (edition, rows) in &REFUSED {
+        assert_eq!(rt; first_not_refused(rt.alloc(), *edition, rows)?, None);
     }
-    for (row, (given, what)) in BEYOND_LIMITS.iter().enumerate() {
-        let wanted = Some(CheckFault::TooMany { what: *what });
-        assert_eq!(rt;
-            fault(rt.alloc(), Edition::One, given)?,
-            wanted,
-            "limit {row}"
-        );
-        assert_eq!(rt;
-            fault(rt.alloc(), Edition::Two, given)?,
-            wanted,
-            "limit {row}"
-        );
-    }
-    Ok(())
-}
-
-#[test]
-fn turned_the_other_way(rt: HostRuntime) -> Result<(), Fail> {
-    let wanted = CheckFault::ChildEdgeLoose {
-        kind: 0,
-        child: 0,
-        edge: 1,
-    };
-    assert_eq!(rt;
-        fault(rt.alloc(), Edition::Two, &TURNED_BACK)?,
-        Some(wanted)
-    );
     Ok(())
 }

@@ -1,6 +1,8 @@
 //! Rules typed as tables of numbers.
 use cyclo_points::order::Order;
 use cyclo_points::point::Point;
+use dissect_check::check::check;
+use dissect_check::check_fault::CheckFault;
 use rule_model::child::Child;
 use rule_model::edition::Edition;
 use rule_model::kind_row::KindRow;
@@ -99,4 +101,38 @@ pub fn rule(alloc: Global, given: &Given) -> Result<Rule, AllocError> {
         Edition::One
     };
     rule_of(alloc, edition, given)
+}
+
+/// The fault for which a rule is refused in an edition, if it is.
+fn fault(alloc: Global, edition: Edition, given: &Given) -> Result<Option<CheckFault>, AllocError> {
+    Ok(check(alloc, rule_of(alloc, edition, given)?).err())
+}
+
+/// The number of the first rule of which something else comes in an edition than of all of them.
+pub fn first_of_others(
+    alloc: Global,
+    edition: Edition,
+    rules: &[Given],
+    wanted: Option<CheckFault>,
+) -> Result<Option<usize>, AllocError> {
+    for (row, given) in rules.iter().enumerate() {
+        if fault(alloc, edition, given)? != wanted {
+            return Ok(Some(row));
+        }
+    }
+    Ok(None)
+}
+
+/// The number of the first rule that isn't refused in an edition for the fault beside it.
+pub fn first_not_refused(
+    alloc: Global,
+    edition: Edition,
+    rows: &[(Given, CheckFault)],
+) -> Result<Option<usize>, AllocError> {
+    for (row, (given, wanted)) in rows.iter().enumerate() {
+        if fault(alloc, edition, given)? != Some(*wanted) {
+            return Ok(Some(row));
+        }
+    }
+    Ok(None)
 }

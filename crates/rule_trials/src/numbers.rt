@@ -63,25 +63,43 @@ fn glue_there(rule: &Rule, i: usize) -> Option<usize> {
     }
 }
 
-#[test]
-fn reads_the_chair(rt: HostRuntime) -> Result<(), Fail> {
-    let rule = rule(rt.alloc(), &CHAIR)?;
-    assert_eq!(rt;
-        vertex_there(&rule, 0, 7),
-        (Some(Point { c: [2, 1, 0, 0] }), 8)
-    );
-    assert_eq!(rt; vertex_there(&rule, 0, 8), (None, 8));
-    assert_eq!(rt; edge_there(&rule, 0, 7), (Some(0), 8));
-    assert_eq!(rt; edge_there(&rule, 1, 0), (None, 0));
+/// Whether the last vertex is read, and none behind it.
+fn reads_vertices(rule: &Rule) -> bool {
+    vertex_there(rule, 0, 7) == (Some(Point { c: [2, 1, 0, 0] }), 8)
+        && vertex_there(rule, 0, 8) == (None, 8)
+}
+
+/// Whether the last edge is read, and none of a second kind.
+fn reads_edges(rule: &Rule) -> bool {
+    edge_there(rule, 0, 7) == (Some(0), 8) && edge_there(rule, 1, 0) == (None, 0)
+}
+
+/// Whether the last child is read, and none behind it.
+fn reads_children(rule: &Rule) -> bool {
     let last = Child {
         kind: 0,
         turn: 3,
         shift: Point { c: [0, 4, 0, 0] },
     };
-    assert_eq!(rt; child_there(&rule, 0, 3), (Some(last), 4));
-    assert_eq!(rt; child_there(&rule, 0, 4), (None, 4));
-    assert_eq!(rt; type_there(&rule, 0, 1), Some((0, 0)));
-    assert_eq!(rt; type_there(&rule, 0, 2), None);
-    assert_eq!(rt; glue_there(&rule, 0), None);
+    child_there(rule, 0, 3) == (Some(last), 4) && child_there(rule, 0, 4) == (None, 4)
+}
+
+/// Whether the second part of the edge type is read, none behind it, and no glue type.
+fn reads_types(rule: &Rule) -> bool {
+    type_there(rule, 0, 1) == Some((0, 0))
+        && type_there(rule, 0, 2) == None
+        && glue_there(rule, 0) == None
+}
+
+#[test]
+fn reads_the_chair(rt: HostRuntime) -> Result<(), Fail> {
+    let rule = rule(rt.alloc(), &CHAIR)?;
+    let read = [
+        reads_vertices(&rule),
+        reads_edges(&rule),
+        reads_children(&rule),
+        reads_types(&rule),
+    ];
+    assert_eq!(rt; read, [true; 4]);
     Ok(())
 }

@@ -1,16 +1,16 @@
-//! Rules that are accepted, and rules that are refused, each for the cause named.
-use crate::given::{Given, Kind, Placed, Quad, kind_row, rule};
+//! Rules that are refused, each for the cause named.
+use crate::given::{Given, Kind, Placed, Quad, first_not_refused, kind_row, rule};
 use crate::shapes::{
-    CHAIR, CHAIR_CHILDREN, CHAIR_KIND, CHAIR_VERTICES, GOLDEN, HALF_KITES, HALF_RHOMBS,
-    HALF_SQUARES, HALVED, LEG_AND_HYPOTENUSE, RHOMB_KINDS, RHOMB_TYPES, RIGHT_KIND, RIGHT_TRIANGLE,
-    RIGHT_VERTICES, ROOT, SQUARE, SQUARE_KIND, TABLE, THICK_KIND, THICK_MIRRORED, THIN,
-    THIN_CHILDREN, THIN_MIRRORED, TWO,
+    CHAIR, CHAIR_CHILDREN, CHAIR_KIND, CHAIR_VERTICES, GOLDEN, HALVED, LEG_AND_HYPOTENUSE,
+    RHOMB_KINDS, RHOMB_TYPES, RIGHT_KIND, RIGHT_VERTICES, ROOT, SQUARE_KIND, THICK_KIND,
+    THICK_MIRRORED, THIN, THIN_CHILDREN, THIN_MIRRORED, TWO,
 };
 use cyclo_points::order::Order;
 use dissect_check::check::{acceptance_law, check};
 use dissect_check::check_fault::CheckFault;
 use dissect_check::laws::{accepted_children_law, clauses_law};
 use dissect_check::what::What;
+use rule_model::edition::Edition;
 use rule_model::rule::Rule;
 use std::alloc::{AllocError, Global};
 use std::test::Fail;
@@ -18,39 +18,35 @@ use std::test::Fail;
 /// The edges of the chair.
 const EIGHT: [u8; 8] = [0, 0, 0, 0, 0, 0, 0, 0];
 
-/// Rules that are accepted.
-const ACCEPTED: [Given; 7] = [
-    CHAIR,
-    SQUARE,
-    TABLE,
-    RIGHT_TRIANGLE,
-    HALF_RHOMBS,
-    HALF_KITES,
-    HALF_SQUARES,
-];
-
 /// Rules with a number beyond its limit.
-const BEYOND_LIMITS: [(Given, What); 10] = [
-    (Given(Order::Four, TWO, &[], &HALVED, &[]), What::Kinds),
+const BEYOND_LIMITS: [(Given, CheckFault); 10] = [
+    (
+        Given(Order::Four, TWO, &[], &HALVED, &[]),
+        CheckFault::TooMany { what: What::Kinds },
+    ),
     (
         Given(Order::Four, TWO, &[], &[], &[CHAIR_KIND]),
-        What::Types,
+        CheckFault::TooMany { what: What::Types },
     ),
     (
         Given(Order::Four, [65, 0, 0, 0], &[], &HALVED, &[CHAIR_KIND]),
-        What::Factor,
+        CheckFault::TooMany { what: What::Factor },
     ),
     (
         Given(Order::Four, TWO, &[5], &HALVED, &[CHAIR_KIND]),
-        What::Glue,
+        CheckFault::TooMany { what: What::Glue },
     ),
     (
         Given(Order::Four, TWO, &[], &[(1, &[0, 0])], &[CHAIR_KIND]),
-        What::Mate { ty: 0 },
+        CheckFault::TooMany {
+            what: What::Mate { ty: 0 },
+        },
     ),
     (
         Given(Order::Four, TWO, &[], &[(0, &[])], &[CHAIR_KIND]),
-        What::Parts { ty: 0 },
+        CheckFault::TooMany {
+            what: What::Parts { ty: 0 },
+        },
     ),
     (
         Given(
@@ -64,7 +60,9 @@ const BEYOND_LIMITS: [(Given, What); 10] = [
                 &CHAIR_CHILDREN,
             )],
         ),
-        What::Edges { kind: 0 },
+        CheckFault::TooMany {
+            what: What::Edges { kind: 0 },
+        },
     ),
     // in order four a point has no third coefficient
     (
@@ -75,7 +73,9 @@ const BEYOND_LIMITS: [(Given, What); 10] = [
             &HALVED,
             &[(&OFF_THE_LATTICE, &EIGHT, &CHAIR_CHILDREN)],
         ),
-        What::Vertex { kind: 0 },
+        CheckFault::TooMany {
+            what: What::Vertex { kind: 0 },
+        },
     ),
     // a turn of order four is below 4
     (
@@ -86,7 +86,9 @@ const BEYOND_LIMITS: [(Given, What); 10] = [
             &HALVED,
             &[(&CHAIR_VERTICES, &EIGHT, &TURNED_TOO_FAR)],
         ),
-        What::Child { kind: 0 },
+        CheckFault::TooMany {
+            what: What::Child { kind: 0 },
+        },
     ),
     (
         Given(
@@ -96,7 +98,9 @@ const BEYOND_LIMITS: [(Given, What); 10] = [
             &HALVED,
             &[(&CHAIR_VERTICES, &EIGHT, &[UNMOVED; 17])],
         ),
-        What::Child { kind: 0 },
+        CheckFault::TooMany {
+            what: What::Child { kind: 0 },
+        },
     ),
 ];
 
@@ -478,11 +482,6 @@ const PENTAGRAM: Kind = (
     &THIN_CHILDREN,
 );
 
-/// The fault for which a rule is refused, if it is.
-fn fault(alloc: Global, given: &Given) -> Result<Option<CheckFault>, AllocError> {
-    Ok(check(alloc, rule(alloc, given)?).err())
-}
-
 /// The chair in sixteen kinds, each made of the next.
 fn sixteen(alloc: Global) -> Result<Rule, AllocError> {
     let mut rule = rule(alloc, &CHAIR)?;
@@ -497,11 +496,18 @@ fn sixteen(alloc: Global) -> Result<Rule, AllocError> {
     Ok(rule)
 }
 
+/// What comes of the chair in sixteen kinds, and with one more.
+fn sixteen_and_one_more(alloc: Global) -> Result<[Option<CheckFault>; 2], AllocError> {
+    let mut more = sixteen(alloc)?;
+    more.kinds.push(kind_row(alloc, &CHAIR_KIND)?)?;
+    Ok([
+        check(alloc, sixteen(alloc)?).err(),
+        check(alloc, more).err(),
+    ])
+}
+
 #[test]
-fn accepted(rt: HostRuntime) -> Result<(), Fail> {
-    for (row, given) in ACCEPTED.iter().enumerate() {
-        assert_eq!(rt; fault(rt.alloc(), given)?, None, "row {row}");
-    }
+fn laws(rt: HostRuntime) -> Result<(), Fail> {
     acceptance_law(&rule(rt.alloc(), &CHAIR)?);
     clauses_law();
     accepted_children_law();
@@ -510,23 +516,15 @@ fn accepted(rt: HostRuntime) -> Result<(), Fail> {
 
 #[test]
 fn refused(rt: HostRuntime) -> Result<(), Fail> {
-    for (row, (given, what)) in BEYOND_LIMITS.iter().enumerate() {
-        let wanted = CheckFault::TooMany { what: *what };
-        assert_eq!(rt; fault(rt.alloc(), given)?, Some(wanted), "limit {row}");
-    }
-    for (row, (given, wanted)) in REFUSED.iter().enumerate() {
-        assert_eq!(rt; fault(rt.alloc(), given)?, Some(*wanted), "row {row}");
-    }
+    let beyond = first_not_refused(rt.alloc(), Edition::One, &BEYOND_LIMITS)?;
+    let others = first_not_refused(rt.alloc(), Edition::One, &REFUSED)?;
+    assert_eq!(rt; [beyond, others], [None, None]);
     Ok(())
 }
 
 #[test]
 fn sixteen_kinds_and_one_more(rt: HostRuntime) -> Result<(), Fail> {
-    let rule = sixteen(rt.alloc())?;
-    assert_eq!(rt; check(rt.alloc(), rule).err(), None);
-    let mut rule = sixteen(rt.alloc())?;
-    rule.kinds.push(kind_row(rt.alloc(), &CHAIR_KIND)?)?;
     let wanted = CheckFault::TooMany { what: What::Kinds };
-    assert_eq!(rt; check(rt.alloc(), rule).err(), Some(wanted));
+    assert_eq!(rt; sixteen_and_one_more(rt.alloc())?, [None, Some(wanted)]);
     Ok(())
 }
