@@ -1,5 +1,5 @@
 -- From what a call answers to its clauses.
-use Rattle.std.proofs.Common.{◌≡◌, ◌⊎◌, inl, inr, ℕ, Bool, true, false, List, [], Some, None, Result, Ok, Err, IfErr, IsErrOf, refl, sym, subst, ◌∙◌}
+use Rattle.std.proofs.Common.{◌≡◌, ◌⊎◌, inl, inr, ℕ, Bool, true, false, List, [], Some, None, Result, Ok, Err, IfOk, IfErr, IsErrOf, is_ok, refl, sym, subst, ◌∙◌}
 use Rattle.std.specs.declared.option.Option.{Option}
 use Rattle.layer_api.specs.declared.format.Format.{Format}
 use Rattle.rule_model.specs.Tiling.{Tiling}
@@ -30,6 +30,24 @@ can_be_answered r text p = record { command = p.command; tiling = p.tiling; asks
 
 err_is : {T : Type 0} (s u : Status) → (let o : Result T Status = Err s in o) ≡ Err u → s ≡ u
 err_is s u e = cc
+
+-- the bytes of a text say what the text says, and so does its refusal
+module _ {A B : Type 0} (f : A → List ℕ) (g : B → List ℕ) where
+  pub bytes-printed : (P : List ℕ → Type 0) (a : Result A Status) (b : Result B Status) → is_ok b ≡ is_ok a → IfOk a (λ x. IfOk b (λ y. g y ≡ f x)) → IfOk a (λ x. P (f x)) → IfOk b (λ y. P (g y))
+  bytes-printed P (Ok x) (Ok y) e k h = subst P (sym k) h
+  bytes-printed P (Ok x) (Err u) e k h = absurd (cc e)
+  bytes-printed P (Err s) (Ok y) e k h = absurd (cc e)
+  bytes-printed P (Err s) (Err u) e k h = h
+
+pub bytes-refused : {A B : Type 0} (P : Status → Type 0) (a : Result A Status) (b : Result B Status) → is_ok b ≡ is_ok a → IfErr a (λ s. IfErr b (λ u. u ≡ s)) → IfErr a P → IfErr b P
+bytes-refused P (Ok x) (Ok y) e k h = h
+bytes-refused P (Ok x) (Err u) e k h = absurd (cc e)
+bytes-refused P (Err s) (Ok y) e k h = absurd (cc e)
+bytes-refused P (Err s) (Err u) e k h = subst P (sym k) h
+
+-- equal words ask the same
+pub same_asked : (words other : List (List ℕ)) (handed : List Format) (left : Option (List ℕ)) (r : Request) → words ≡ other → IsAsked other handed left r → IsAsked words handed left r
+same_asked words other handed left r e h = subst (λ ws. IsAsked ws handed left r) (sym e) h
 
 -- Done is no limit
 done_is_none : (c : Command) → IsLimitOf c Done → ⊥
