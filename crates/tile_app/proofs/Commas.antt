@@ -8,7 +8,7 @@ use Rattle.tile_shape.specs.Decimal.{is_figure, continued, begins_right, number_
 use Rattle.tile_shape.specs.Text.{comma}
 use Rattle.tile_app.specs.declared.window_words.HalfExtents.{HalfExtents}
 use Rattle.tile_app.specs.PathWords.{pieces}
-use Rattle.tile_app.specs.WindowWords.{most_coefficient, most_extent, minus, negative, coefficient_in, extent_in, point_of_pieces, extents_of_pieces}
+use Rattle.tile_app.specs.WindowWords.{most_coefficient, most_extent, minus, negative, coefficient_in, extent_in, point_of_coefficients, point_of_pieces, extents_of_pieces}
 
 -- the text has no comma
 abbrev pub NoComma : List ℕ → Type 0
@@ -130,17 +130,6 @@ and_then-none : {A B : Type 0} (o : Option A) → option_and_then (λ x. (let r 
 and_then-none None = refl
 and_then-none (Some x) = refl
 
-pub extents_no_width : (a b : List ℕ) → extent_in a ≡ None → extents a b ≡ None
-extents_no_width a b e = ap (option_and_then (λ w. option_map (λ h. (let x : HalfExtents = record { w = w; h = h } in x)) (extent_in b))) e
-
-pub extents_no_height : (a b : List ℕ) (w : ℕ) → extent_in a ≡ Some w → extent_in b ≡ None → extents a b ≡ None
-extents_no_height a b w e f =
-    ap (option_and_then (λ w. option_map (λ h. (let x : HalfExtents = record { w = w; h = h } in x)) (extent_in b))) e ∙ ap (option_map (λ h. (let x : HalfExtents = record { w = w; h = h } in x))) f
-
-pub extents_both : (a b : List ℕ) (w h : ℕ) → extent_in a ≡ Some w → extent_in b ≡ Some h → extents a b ≡ Some (record { w = w; h = h })
-extents_both a b w h e f =
-    ap (option_and_then (λ w. option_map (λ h. (let x : HalfExtents = record { w = w; h = h } in x)) (extent_in b))) e ∙ ap (option_map (λ h. (let x : HalfExtents = record { w = w; h = h } in x))) f
-
 pub half_one : (text : List ℕ) → NoComma text → extents_of_pieces (pieces [] text) ≡ None
 half_one text none = ap extents_of_pieces (pieces_last [] text none)
 
@@ -164,9 +153,13 @@ pub at_one : (text : List ℕ) → NoComma text → point_of_pieces (pieces [] t
 at_one text none = ap point_of_pieces (pieces_last [] text none)
 
 -- the first piece, and the others
-pub at_next : (front : List (List ℕ)) (text a rest : List ℕ) → text ≡ a ++ comma ∷ rest → NoComma a → point_of_pieces (front ++ pieces [] text) ≡ point_of_pieces ((front ++ a ∷ []) ++ pieces [] rest)
+at_next : (front : List (List ℕ)) (text a rest : List ℕ) → text ≡ a ++ comma ∷ rest → NoComma a → point_of_pieces (front ++ pieces [] text) ≡ point_of_pieces ((front ++ a ∷ []) ++ pieces [] rest)
 at_next front text a rest e none =
     ap (λ xs. point_of_pieces (front ++ pieces [] xs)) e ∙ ap (λ ps. point_of_pieces (front ++ ps)) (pieces_at [] a rest none) ∙ ap point_of_pieces (sym (append_assoc front (a ∷ []) (pieces [] rest)))
+
+pub at_found : (front : List (List ℕ)) (text : List ℕ) (r : Option (Bor (List ℕ) × Bor (List ℕ))) (x : Bor (List ℕ) × Bor (List ℕ)) → IsSplitOnceResult comma text r → r ≡ Some x
+    → point_of_pieces (front ++ pieces [] text) ≡ point_of_pieces ((front ++ x.0.now ∷ []) ++ pieces [] x.1.now)
+at_found front text r x h e = let p = found_some text r x h e in at_next front text x.0.now x.1.now p.0 p.1
 
 pub at_two : (a text : List ℕ) → NoComma text → point_of_pieces (a ∷ pieces [] text) ≡ None
 at_two a text none = ap (λ ps. point_of_pieces (a ∷ ps)) (pieces_last [] text none)
@@ -181,8 +174,8 @@ at_four a b c d = elim (comma_or_none d) [
   | inl more ↦ too_many more
 ]
   where
-    -- a point whose last coefficient is none
-    no_fourth : (x y z : Option ℤ) → option_and_then (λ a0. option_and_then (λ a1. option_and_then (λ a2. (let o : Option Point = None in o)) z) y) x ≡ None
+    -- there is no point without its last coefficient
+    no_fourth : (x y z : Option ℤ) → point_of_coefficients x y z None ≡ None
     no_fourth None y z = refl
     no_fourth (Some a0) None z = refl
     no_fourth (Some a0) (Some a1) None = refl
@@ -193,9 +186,5 @@ at_four a b c d = elim (comma_or_none d) [
         let f = first_piece [] h.behind in
         ap (λ xs. point_of_pieces (a ∷ (b ∷ (c ∷ pieces [] xs)))) h.split ∙ ap (λ ps. point_of_pieces (a ∷ (b ∷ (c ∷ ps)))) (pieces_at [] h.before h.behind h.none)
         ∙ ap (λ ps. point_of_pieces (a ∷ (b ∷ (c ∷ (h.before ∷ ps))))) f.2
-        ∙ sym (ap (λ o. option_and_then (λ a0. option_and_then (λ a1. option_and_then (λ a2. option_map (λ a3. (let p : Point = record { c = a0 ∷ a1 ∷ a2 ∷ a3 ∷ [] } in p)) o) (coefficient_in c)) (coefficient_in b)) (coefficient_in a)) (coefficient-none d h)
+        ∙ sym (ap (point_of_coefficients (coefficient_in a) (coefficient_in b) (coefficient_in c)) (coefficient-none d h)
         ∙ no_fourth (coefficient_in a) (coefficient_in b) (coefficient_in c))
-
--- the point of four coefficients, where all are there
-abbrev pub built : Option ℤ → Option ℤ → Option ℤ → Option ℤ → Option Point
-built x y z w = option_and_then (λ a0. option_and_then (λ a1. option_and_then (λ a2. option_map (λ a3. record { c = a0 ∷ a1 ∷ a2 ∷ a3 ∷ [] }) w) z) y) x

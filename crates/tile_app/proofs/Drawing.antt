@@ -39,6 +39,7 @@ use Rattle.tile_app.specs.DrawnTile.{point_of, CanBeDrawn}
 use Rattle.tile_app.specs.FormatWords.{first_lacking}
 use Rattle.tile_app.specs.Layers.{HaveLayers, formats_given, lacking_for}
 use Rattle.tile_app.specs.Status.{OrNoMemory}
+use Rattle.tile_app.specs.Tile.{GivesTile}
 use Rattle.tile_app.specs.Turned.{status_of_cover}
 use Rattle.tile_app.specs.Walk.{frame_given}
 use Rattle.tile_app.specs.Words.{command_of}
@@ -89,6 +90,9 @@ pub window-is : (o : Order) (words : List (List ℕ)) (p q : Point) (half : Half
 window-is o words p q half at h e =
     ap₂ (λ x y. option_and_then (λ a. option_map (λ (b : HalfExtents). (let v : Window = record { centre = reduced o a; w = b.w; h = b.h } in v)) y) x) at h
     ∙ ap (λ c. Some (let v : Window = record { centre = c; w = half.w; h = half.h } in v)) (sym e)
+
+pub gives_window : (words : List (List ℕ)) (t : Tiling) (a : Address) (w : Window) (o : Order) → o ≡ t.order → GivesTile words t a → window_given o words ≡ Some w → GivesWindow words t a w
+gives_window words t a w o same tile given = record { tile = tile; given = subst (λ q. window_given q words ≡ Some w) same given }
 
 -- ---- where no layer lacks, none lacks of those that `draw` asks for
 pub none-lacks : (words : List (List ℕ)) (handed : List Format) → command_of words ≡ Ok Draw → HaveLayers words handed → first_lacking handed (formats_given words) ≡ None

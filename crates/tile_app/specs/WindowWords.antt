@@ -33,24 +33,20 @@ coefficient_in (byte ∷ bytes) =
 abbrev pub extent_in : List ℕ → Option ℕ
 extent_in text = option_and_then (λ n. if nat_le 1 n then Some n else None) (number_up_to most_extent text)
 
--- the point of four coefficients
+-- the point of four coefficients, where there are all four
+abbrev pub point_of_coefficients : Option ℤ → Option ℤ → Option ℤ → Option ℤ → Option Point
+point_of_coefficients x y z w = option_and_then (λ a. option_and_then (λ b. option_and_then (λ c. option_map (λ d. record { c = a ∷ b ∷ c ∷ d ∷ [] }) w) z) y) x
+
+-- the point that four pieces are, as coefficients
 abbrev pub point_of_pieces : List (List ℕ) → Option Point
-point_of_pieces (a ∷ b ∷ c ∷ d ∷ []) =
-    option_and_then (λ a0. option_and_then (λ a1. option_and_then (λ a2. option_map (λ a3. record { c = a0 ∷ a1 ∷ a2 ∷ a3 ∷ [] }) (coefficient_in d)) (coefficient_in c)) (coefficient_in b)) (coefficient_in a)
+point_of_pieces (a ∷ b ∷ c ∷ d ∷ []) = point_of_coefficients (coefficient_in a) (coefficient_in b) (coefficient_in c) (coefficient_in d)
 point_of_pieces _ = None
 
 -- the point that a text is: four coefficients, joined by commas; in orders four and six it is still to be reduced
 abbrev pub at_in : List ℕ → Option Point
 at_in text = point_of_pieces (pieces [] text)
 
--- half extents of a window are 1 to 4,096
-pub record FitWindow (half : HalfExtents) : Type 0 where
-  pub some_width : 1 ≤ half.w
-  pub some_height : 1 ≤ half.h
-  pub width_fits : half.w ≤ 4096
-  pub height_fits : half.h ≤ 4096
-
--- two half extents
+-- the half extents that two pieces are
 abbrev pub extents_of_pieces : List (List ℕ) → Option HalfExtents
 extents_of_pieces (a ∷ b ∷ []) = option_and_then (λ w. option_map (λ h. record { w = w; h = h }) (extent_in b)) (extent_in a)
 extents_of_pieces _ = None
@@ -58,3 +54,10 @@ extents_of_pieces _ = None
 -- the half extents that a text is: two, joined by a comma
 abbrev pub half_in : List ℕ → Option HalfExtents
 half_in text = extents_of_pieces (pieces [] text)
+
+-- half extents of a window are 1 to 4,096
+pub record FitWindow (half : HalfExtents) : Type 0 where
+  pub some_width : 1 ≤ half.w
+  pub some_height : 1 ≤ half.h
+  pub width_fits : half.w ≤ 4096
+  pub height_fits : half.h ≤ 4096

@@ -104,7 +104,7 @@ fn draw<D: Layer>(
     let mut drawn = blank();
     for place in 0..tiles.len() {
         let tile = tiles.tile(place);
-        fill(&mut drawn, machine, &tile);
+        fill(&mut drawn, machine, tile);
         layer.put(&drawn)?;
     }
     layer.end()

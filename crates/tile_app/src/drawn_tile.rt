@@ -58,22 +58,18 @@ fn put_vertices(
 }
 
 /// Makes a tile drawn the one of this tile, in its place.
-pub fn fill(drawn: &mut Drawn, machine: &Machine, tile: &PlacedTile)
-    requires can { CanBeDrawn (tiling_of machine.now) tile.now }
-    ensures tile { drawn.new ≡ drawn_of (tiling_of machine.now) tile.now }
+pub fn fill(drawn: &mut Drawn, machine: &Machine, tile: PlacedTile)
+    requires can { CanBeDrawn (tiling_of machine.now) tile }
+    ensures tile { drawn.new ≡ drawn_of (tiling_of machine.now) tile }
     ensures drawable { IsDrawable machine.now.order drawn.new }
 {
     drawn.class = tile.kind;
     drawn.outline.clear();
     put_vertices(&mut drawn.outline, machine, tile.kind, &tile.motion);
-    drawn.first.kind = tile.kind;
-    drawn.first.motion = tile.motion;
-    drawn.first.addr.kind = tile.addr.kind;
-    drawn.first.addr.digits.clear();
-    let _ = drawn
-        .first
-        .addr
-        .digits
-        .try_extend_from_slice(tile.addr.digits.as_slice());
+    drawn.first = Part {
+        kind: tile.kind,
+        motion: tile.motion,
+        addr: tile.addr,
+    };
     drawn.second = None;
 }

@@ -1,7 +1,7 @@
 //! Windows in words.
-ghost use Rattle.std.specs.Prelude.{◌≡◌, ◌≤◌, ◌^◌, IfSome};
+ghost use Rattle.std.specs.Prelude.{◌≡◌, ◌≤◌, ◌^◌, [], ◌∷◌, IfSome};
 ghost use Rattle.cyclo_points.specs.Point.{Within, IsWithin};
-ghost use Rattle.tile_app.specs.WindowWords.{coefficient_in, extent_in, at_in, half_in, FitWindow};
+ghost use Rattle.tile_app.specs.WindowWords.{coefficient_in, extent_in, point_of_pieces, extents_of_pieces, at_in, half_in, FitWindow};
 
 use cyclo_points::point::Point;
 use tile_shape::decimal::read_number;
@@ -46,14 +46,11 @@ fn extent_in(text: &str) -> Option<u16>
     }
 }
 
-/// The point that a text is: four coefficients, joined by commas.
-pub fn at_in(text: &str) -> Option<Point>
-    ensures point { result ≡ at_in text.now }
+/// The point of four coefficients.
+fn point_of_texts(first: &str, second: &str, third: &str, fourth: &str) -> Option<Point>
+    ensures point { result ≡ point_of_pieces (first.now ∷ second.now ∷ third.now ∷ fourth.now ∷ []) }
     ensures within { IfSome result (λ p. IsWithin (2 ^ 20) p) }
 {
-    let (first, rest) = text.split_once(',')?;
-    let (second, rest) = rest.split_once(',')?;
-    let (third, fourth) = rest.split_once(',')?;
     Some(Point {
         c: [
             coefficient_in(first)?,
@@ -64,14 +61,33 @@ pub fn at_in(text: &str) -> Option<Point>
     })
 }
 
+/// The point that a text is: four coefficients, joined by commas.
+pub fn at_in(text: &str) -> Option<Point>
+    ensures point { result ≡ at_in text.now }
+    ensures within { IfSome result (λ p. IsWithin (2 ^ 20) p) }
+{
+    let (first, rest) = text.split_once(',')?;
+    let (second, rest) = rest.split_once(',')?;
+    let (third, fourth) = rest.split_once(',')?;
+    point_of_texts(first, second, third, fourth)
+}
+
+/// Two half extents.
+fn extents_of_texts(width: &str, height: &str) -> Option<HalfExtents>
+    ensures half { result ≡ extents_of_pieces (width.now ∷ height.now ∷ []) }
+    ensures fit { IfSome result FitWindow }
+{
+    Some(HalfExtents {
+        w: extent_in(width)?,
+        h: extent_in(height)?,
+    })
+}
+
 /// The half extents that a text is: two, joined by a comma.
 pub fn half_in(text: &str) -> Option<HalfExtents>
     ensures half { result ≡ half_in text.now }
     ensures fit { IfSome result FitWindow }
 {
     let (width, height) = text.split_once(',')?;
-    Some(HalfExtents {
-        w: extent_in(width)?,
-        h: extent_in(height)?,
-    })
+    extents_of_texts(width, height)
 }

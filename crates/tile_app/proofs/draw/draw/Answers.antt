@@ -22,7 +22,7 @@ loop-place-preserved g c =
       seen = put.seen ∙ before.seen;
       form = put.form ∙ before.form;
       draws = subst (g.D.Layer.draws c.put.new.self) (sym (ap (map f) (take_more tiles i tile below) ∙ map-append f (take i tiles) (get_or tiles i tile ∷ []) ∙ ap (λ x. map f (take i tiles) ++ x ∷ []) last))
-          (put.ok _ before.draws);
+          (put.ok (map f (take i tiles)) before.draws);
     }
 
 pub fill-requires : goal.fill-requires

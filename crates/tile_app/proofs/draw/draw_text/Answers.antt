@@ -1,4 +1,5 @@
-use Rattle.std.proofs.Common.{◌≡◌, ◌^◌, length, map, Some, sym, ap, ap₂, ◌∙◌, subst, lit≤}
+use Rattle.std.proofs.Common.{◌≡◌, ◌^◌, length, map, sym, ap, ap₂, ◌∙◌, subst, lit≤}
+use Rattle.std.proofs.lemmas.Result.{err_from_is_err_and}
 use Rattle.cyclo_points.specs.Point.{IsOf}
 use Rattle.cyclo_points.proofs.Within.{point_wider}
 use Rattle.layer_api.specs.Drawable.{IsView}
@@ -8,11 +9,11 @@ use Rattle.rule_model.specs.declared.rule.Rule.{Rule}
 use Rattle.tile_shape.specs.Views.{address_of}
 use Rattle.window_cover.specs.Limits.{IsWithinLimits}
 use Rattle.window_cover.specs.Windows.{IsLeastEnough}
-use Rattle.tile_app.specs.Draw.{window_given, texts_of}
+use Rattle.tile_app.specs.Draw.{texts_of}
 use Rattle.tile_app.specs.DrawnTile.{drawn_of}
 use Rattle.tile_app.specs.FormatWords.{first_lacking}
 use Rattle.tile_app.specs.Words.{texts}
-use Rattle.tile_app.proofs.Drawing.{none-lacks, refused_if_err, can_be_drawn}
+use Rattle.tile_app.proofs.Drawing.{gives_window, none-lacks, refused_if_err, can_be_drawn}
 use Rattle.tile_app.proofs.Frames.{begun}
 use Rattle.tile_app.proofs.draw.draw_text.Goals as goal
 
@@ -36,6 +37,25 @@ texts_of-requires-clause-can g c =
     let is_frame = c.new-frame.ensures.is_frame (tiling_of c.args.machine.now) c.in_ok-address.ensures.given.accepted.fits in
     can_be_drawn (tiling_of c.args.machine.now) c.new-frame.result c.covered_tiles.new.frame c.window_given-window.result is_frame x.frame x.within x.least c.in_ok-tiles.tiles x.drawn x.stand
 
+pub returns-in_err-tiles-clause-refused : goal.returns-in_err-tiles-clause-refused
+returns-in_err-tiles-clause-refused g c =
+    let words = texts c.args.words.now in
+    let t = tiling_of c.args.machine.now in
+    let a = address_of c.in_ok-address.address in
+    let f = c.new-frame.result in
+    let w = c.window_given-window.result in
+    let same = c.order.ensures.order ∙ ap (λ (r : Rule). r.order) c.checked.ensures.rule in
+    let is = begun words a f c.new-frame.ensures.base (c.new-frame.ensures.start ∙ c.seed_given.ensures) c.new-frame.ensures.digits in
+    let gives = gives_window words t a w c.order.result same c.in_ok-address.ensures.given c.window_given-window.ensures.given in
+    let p = err_from_is_err_and c.from_residual-in_err-tiles.result c.from_residual-in_err-tiles.ensures.1 in
+    rw (p.1, p.2) (refused_if_err words t a w gives f c.covered_tiles.new.frame is c.covered_tiles.ensures.frame c.covered_tiles.result c.in_err-tiles.field-0.0 c.in_err-tiles.was
+        c.in_err-tiles.ensures.cause c.covered_tiles.ensures.answered)
+
+pub returns-in_err-texts_of-clause-refused : goal.returns-in_err-texts_of-clause-refused
+returns-in_err-texts_of-clause-refused g c =
+    let p = err_from_is_err_and c.from_residual-in_err-texts_of.result c.from_residual-in_err-texts_of.ensures.1 in
+    rw (p.1, p.2) tt
+
 pub returns-clause-printed : goal.returns-clause-printed
 returns-clause-printed g c =
     let words = texts c.args.words.now in
@@ -50,7 +70,7 @@ returns-clause-printed g c =
     record {
       base = a;
       window = w;
-      gives = record { tile = c.in_ok-address.ensures.given; given = subst (λ o. window_given o words ≡ Some w) same c.window_given-window.ensures.given };
+      gives = gives_window words t a w c.order.result same c.in_ok-address.ensures.given c.window_given-window.ensures.given;
       within = subst (λ y. IsWithinLimits t y w) is x.within;
       frame = h;
       grown = subst (λ y. GrowsTo t y h) is x.frame;
