@@ -1,5 +1,5 @@
 -- From what a call answers to its clauses.
-use Rattle.std.proofs.Common.{◌≡◌, ◌⊎◌, inl, inr, ℕ, Bool, true, false, List, [], Some, None, Result, Ok, Err, IfOk, IfErr, IsErrOf, is_ok, refl, sym, subst, ◌∙◌}
+use Rattle.std.proofs.Common.{◌≡◌, ◌⊎◌, inl, inr, ℕ, Bool, true, false, List, [], map, Some, None, Result, Ok, Err, IfOk, IfErr, IsErrOf, is_ok, refl, sym, subst, ◌∙◌}
 use Rattle.std.specs.declared.option.Option.{Option}
 use Rattle.layer_api.specs.declared.format.Format.{Format}
 use Rattle.rule_model.specs.Tiling.{Tiling}
@@ -45,9 +45,11 @@ bytes-refused P (Ok x) (Err u) e k h = absurd (cc e)
 bytes-refused P (Err s) (Ok y) e k h = absurd (cc e)
 bytes-refused P (Err s) (Err u) e k h = subst P (sym k) h
 
--- equal words ask the same
-pub same_asked : (words other : List (List ℕ)) (handed : List Format) (left : Option (List ℕ)) (r : Request) → words ≡ other → IsAsked other handed left r → IsAsked words handed left r
-same_asked words other handed left r e h = subst (λ ws. IsAsked ws handed left r) (sym e) h
+-- equal words, with equal layers, ask the same
+pub same_asked : {D : Type 0} (form : D → Format) (words other : List (List ℕ)) (layers had : List D) (left : Option (List ℕ)) (r : Request) → IsAsked other (map form had) left r
+    → words ≡ other → layers ≡ had → IsAsked words (map form layers) left r
+same_asked form words other layers had left r h e f =
+    subst (λ ds. IsAsked words (map form ds) left r) (sym f) (subst (λ ws. IsAsked ws (map form had) left r) (sym e) h)
 
 -- Done is no limit
 done_is_none : (c : Command) → IsLimitOf c Done → ⊥
