@@ -1,5 +1,5 @@
 -- From what a call answers to its clauses.
-use Rattle.std.proofs.Common.{◌≡◌, ◌⊎◌, inl, inr, ℕ, Bool, true, false, List, [], Some, None, Result, Ok, Err, IfErr, IsErrOf, refl, sym, subst, ◌∙◌}
+use Rattle.std.proofs.Common.{◌≡◌, ◌⊎◌, inl, inr, ℕ, Bool, true, false, List, [], map, Some, None, Result, Ok, Err, IfOk, IfErr, IsErrOf, is_ok, refl, sym, subst, ◌∙◌}
 use Rattle.std.specs.declared.option.Option.{Option}
 use Rattle.layer_api.specs.declared.format.Format.{Format}
 use Rattle.rule_model.specs.Tiling.{Tiling}
@@ -9,7 +9,7 @@ use Rattle.tile_app.specs.declared.words.Command.{Command}
 use Rattle.tile_app.specs.declared.words.Command.TheVariants.{Place, Neighbour, Walk, Draw, Check}
 use Rattle.tile_app.specs.Answer.{OfCommand, IsPrinted, HasAnswer, Refuses, Prints, CanBeAnswered, IsLimitOf, IsBeyondLimits}
 use Rattle.tile_app.specs.Asked.{OfRequest, IsAsked, WasFileIn}
-use Rattle.tile_app.specs.Causes.{Causes, IsExact, IsRefused}
+use Rattle.tile_app.specs.Causes.{Causes, IsNoLimit, IsRefused}
 use Rattle.tile_app.specs.Request.{Request, Names, HasRuleFault}
 use Rattle.tile_app.specs.Layers.{HaveLayers, lacking, reads_file}
 use Rattle.tile_app.specs.Status.{IsCutShort, IsLimit, IsRefusal, OrNoMemory}
@@ -30,6 +30,26 @@ can_be_answered r text p = record { command = p.command; tiling = p.tiling; asks
 
 err_is : {T : Type 0} (s u : Status) → (let o : Result T Status = Err s in o) ≡ Err u → s ≡ u
 err_is s u e = cc
+
+-- the bytes of a text say what the text says, and so does its refusal
+module _ {A B : Type 0} (f : A → List ℕ) (g : B → List ℕ) where
+  pub bytes-printed : (P : List ℕ → Type 0) (a : Result A Status) (b : Result B Status) → is_ok b ≡ is_ok a → IfOk a (λ x. IfOk b (λ y. g y ≡ f x)) → IfOk a (λ x. P (f x)) → IfOk b (λ y. P (g y))
+  bytes-printed P (Ok x) (Ok y) e k h = subst P (sym k) h
+  bytes-printed P (Ok x) (Err u) e k h = absurd (cc e)
+  bytes-printed P (Err s) (Ok y) e k h = absurd (cc e)
+  bytes-printed P (Err s) (Err u) e k h = h
+
+pub bytes-refused : {A B : Type 0} (P : Status → Type 0) (a : Result A Status) (b : Result B Status) → is_ok b ≡ is_ok a → IfErr a (λ s. IfErr b (λ u. u ≡ s)) → IfErr a P → IfErr b P
+bytes-refused P (Ok x) (Ok y) e k h = h
+bytes-refused P (Ok x) (Err u) e k h = absurd (cc e)
+bytes-refused P (Err s) (Ok y) e k h = absurd (cc e)
+bytes-refused P (Err s) (Err u) e k h = subst P (sym k) h
+
+-- equal words, with equal layers, ask the same
+pub same_asked : {D : Type 0} (form : D → Format) (words other : List (List ℕ)) (layers had : List D) (left : Option (List ℕ)) (r : Request) → IsAsked other (map form had) left r
+    → words ≡ other → layers ≡ had → IsAsked words (map form layers) left r
+same_asked form words other layers had left r h e f =
+    subst (λ ds. IsAsked words (map form ds) left r) (sym f) (subst (λ ws. IsAsked ws (map form had) left r) (sym e) h)
 
 -- Done is no limit
 done_is_none : (c : Command) → IsLimitOf c Done → ⊥
@@ -147,24 +167,24 @@ module _ (words : List (List ℕ)) (handed : List Format) (left rest : Option (L
     -- ---- a status, with what a call says of it
     module _ (laws : Laws) where
       -- where a status has to come it is the answer
-      is_one : (s u : Status) → AreOne r s u → IsExact r u → s ≡ u
-      is_one s u (inl e) exact = e
-      is_one s u (inr l) exact = absurd (exact l.0 l.1 l.3)
+      is_one : (s u : Status) → AreOne r s u → IsNoLimit r u → s ≡ u
+      is_one s u (inl e) no_limit = e
+      is_one s u (inr l) no_limit = absurd (no_limit l.0 l.1 l.3)
 
-      by_refusal : (s u : Status) → IsRefusal s → IsRefused words handed left rest s → Causes r u → IsExact r u → (s ≡ u) ⊎ IsCutShort s
-      by_refusal s u i k q exact = elim (caused s i k) [
+      by_refusal : (s u : Status) → IsRefusal s → IsRefused words handed left rest s → Causes r u → IsNoLimit r u → (s ≡ u) ⊎ IsCutShort s
+      by_refusal s u i k q no_limit = elim (caused s i k) [
         | inl c ↦ inr c
-        | inr c ↦ inl (is_one s u (one_answer r laws s u (outcome_of r s c) (outcome_of r u q)) exact)
+        | inr c ↦ inl (is_one s u (one_answer r laws s u (outcome_of r s c) (outcome_of r u q)) no_limit)
       ]
 
       -- where there is a cause it is found
       pub refused_when : {Q R : List ℕ → Type 0} (s u : Status) → (s ≡ Done → OfRequest words handed left rest (λ q. (text : List ℕ) × Prints q text × Q text))
           → (s ≡ WriteFault → OfRequest words handed left rest (λ q. (text : List ℕ) × Prints q text × R text)) → (IsRefusal s → IsRefused words handed left rest s)
-          → Causes r u → IsExact r u → (s ≡ u) ⊎ IsCutShort s
-      refused_when Done u done part refused q exact = inl (is_one Done u (one_answer r laws Done u (printed (done refl)) (outcome_of r u q)) exact)
-      refused_when WriteFault u done part refused q exact =
-          absurd (refused_at_done r u q (is_one Done u (one_answer r laws Done u (printed (part refl)) (outcome_of r u q)) exact))
-      refused_when s u done part refused q exact = by_refusal s u tt (refused tt) q exact
+          → Causes r u → IsNoLimit r u → (s ≡ u) ⊎ IsCutShort s
+      refused_when Done u done part refused q no_limit = inl (is_one Done u (one_answer r laws Done u (printed (done refl)) (outcome_of r u q)) no_limit)
+      refused_when WriteFault u done part refused q no_limit =
+          absurd (refused_at_done r u q (is_one Done u (one_answer r laws Done u (printed (part refl)) (outcome_of r u q)) no_limit))
+      refused_when s u done part refused q no_limit = by_refusal s u tt (refused tt) q no_limit
 
       -- beyond the limits of a window one of them comes
       pub beyond_limits : {Q R : List ℕ → Type 0} (s : Status) → (s ≡ Done → OfRequest words handed left rest (λ q. (text : List ℕ) × Prints q text × Q text))

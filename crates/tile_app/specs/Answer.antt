@@ -36,12 +36,12 @@ Refuses Walk = WalkRefuses
 Refuses Draw = DrawRefuses
 Refuses Check = λ words t status. ⊥
 
--- the status is one of the limits of the command's window, of which several may be passed: `draw` alone has one
+-- the status is one of the limits of the command's window: `draw` alone has a window
 abbrev pub IsLimitOf : Command → Status → Type 0
 IsLimitOf Draw status = IsLimit status
 IsLimitOf command status = ⊥
 
--- the command passes a limit for these words and this tiling
+-- the command's window, for these words and this tiling, passes a limit
 abbrev pub IsBeyond : Command → List (List ℕ) → Tiling → Type 0
 IsBeyond Draw = PassesLimits
 IsBeyond command = λ words t. ⊥

@@ -21,12 +21,13 @@ Causes r RuleTooLong = HasTooLongFile r
 Causes r (RuleRefused fault) = HasRuleFault r fault
 Causes r status = OfCommand (λ command words t. Refuses command words t status) r
 
--- A cause of this status makes it come. Of the limits of a window several may be passed: then one of them comes, and which one isn't said.
-abbrev pub IsExact : Request → Status → Type 0
-IsExact r status = (command : Command) → command_of r.words ≡ Ok command → IsLimitOf command status → ⊥
+-- The status is none of the limits of a window that the request asks for: it comes wherever it has a cause. Of those limits several may be passed, and then one of
+-- them comes; which one isn't said.
+abbrev pub IsNoLimit : Request → Status → Type 0
+IsNoLimit r status = (command : Command) → command_of r.words ≡ Ok command → IsLimitOf command status → ⊥
 
--- Why a call is refused, of these words, layers of these formats, and a source that had some bytes left and now has the rest: by what was asked; where the
--- source fails, it was to be read; memory is wanted for right words alone, and where no layer lacks; and a rule file isn't called faulty for want of memory
+-- Why a call is refused, of these words, layers of these formats, and a source that had some bytes left and now has the rest: by what was asked. Where the
+-- source fails, it was to be read; memory is wanted only for right words each of whose formats has a layer; and a rule file isn't called faulty for want of memory.
 abbrev pub IsRefused : List (List ℕ) → List Format → Option (List ℕ) → Option (List ℕ) → Status → Type 0
 IsRefused words handed left rest ReadFault = IsTrue (reads_file words handed)
 IsRefused words handed left rest NoMemory = AreRight words × HaveLayers words handed

@@ -36,7 +36,8 @@ pub record Asks (r : Request) (command : Command) (t : Tiling) : Type 0 where
 abbrev pub HasTooLongFile : Request → Type 0
 HasTooLongFile r = IsTrue (reads_file r.words r.handed) × (longest_file < length r.file)
 
--- the words are right and have a file read, which isn't too long but stands for no accepted rule: this is its first fault
+-- the words are right, each format that they ask for has a layer handed in, and they have a file read, which isn't too long but stands for no accepted rule: this is
+-- its first fault
 pub record HasRuleFault (r : Request) (fault : RuleFault) : Type 0 where
   pub right : AreRight r.words
   pub layers : HaveLayers r.words r.handed

@@ -36,14 +36,14 @@ IsCutShort ReadFault = Unit {0}
 IsCutShort NoMemory = Unit {0}
 IsCutShort _ = ⊥
 
--- one of the limits of a window
+-- of a window: too great a depth, too large a coefficient, or too many tiles
 abbrev pub IsLimit : Status → Type 0
 IsLimit (DepthLimit addr edge) = Unit {0}
 IsLimit (CoordLimit value) = Unit {0}
 IsLimit TooManyTiles = Unit {0}
 IsLimit _ = ⊥
 
--- memory was wanted, or there is this cause of the status
+-- the status is want of memory, or it has this cause
 abbrev pub OrNoMemory : (Status → Type 0) → Status → Type 0
 OrNoMemory P NoMemory = Unit {0}
 OrNoMemory P status = P status

@@ -1,5 +1,5 @@
 //! The text that answers a request, or why there is none.
-ghost use Rattle.std.specs.Prelude.{◌≡◌, false, map, Ok, IfOk, IfErr, IsErrOf};
+ghost use Rattle.std.specs.Prelude.{◌≡◌, false, map, Ok, IfOk, IfErr, IsErrOf, is_ok, string_bytes};
 ghost use Rattle.rule_model.specs.Tiling.{tiling_of};
 ghost use Rattle.tile_io.specs.Causes.{Rose};
 ghost use Rattle.tile_app.specs.Answer.{IsPrinted, Prints, Refuses};
@@ -26,6 +26,18 @@ use std::sync::ledger::Ledger;
 use tile_io::source::Source;
 use tile_place::machine::Machine;
 
+/// The bytes of a text, where there is one.
+fn bytes_of(text: Result<String, Status>) -> Result<Vec<u8>, Status>
+    ensures whether { is_ok result ≡ is_ok text }
+    ensures bytes { IfOk text (λ t. IfOk result (λ bytes. bytes.items ≡ string_bytes t)) }
+    ensures refusal { IfErr text (λ s. IfErr result (λ status. status ≡ s)) }
+{
+    match text {
+        Ok(text) => Ok(text.into_bytes()),
+        Err(status) => Err(status),
+    }
+}
+
 /// What a command prints for right words and a checked rule, or its refusal.
 fn command_text<D: Layer, L: Ledger>(
     alloc: Global,
@@ -42,14 +54,14 @@ fn command_text<D: Layer, L: Ledger>(
 {
     match command {
         Command::Check => Ok(check_text(alloc, &checked)?.into_bytes()),
-        Command::Place => Ok(place_text(alloc, &checked, words)?.into_bytes()),
+        Command::Place => bytes_of(place_text(alloc, &checked, words)),
         Command::Neighbour => {
             let machine = Machine::new(alloc, checked)?;
-            Ok(neighbour_text(alloc, &machine, words, steps)?.into_bytes())
+            bytes_of(neighbour_text(alloc, &machine, words, steps))
         }
         Command::Walk => {
             let machine = Machine::new(alloc, checked)?;
-            Ok(walk_text(alloc, &machine, words, steps)?.into_bytes())
+            bytes_of(walk_text(alloc, &machine, words, steps))
         }
         Command::Draw => {
             let machine = Machine::new(alloc, checked)?;

@@ -5,7 +5,7 @@ ghost use Rattle.tile_io.specs.Taken.{Takes, TakesProperPrefix};
 ghost use Rattle.tile_app.specs.declared.status.Status.{Status};
 ghost use Rattle.tile_app.specs.Answer.{Prints, CanBeAnswered, IsBeyondLimits};
 ghost use Rattle.tile_app.specs.Asked.{OfRequest, IsAsked};
-ghost use Rattle.tile_app.specs.Causes.{Causes, IsExact, IsRefused};
+ghost use Rattle.tile_app.specs.Causes.{Causes, IsNoLimit, IsRefused};
 ghost use Rattle.tile_app.specs.Layers.{reads_file};
 ghost use Rattle.tile_app.specs.Notes.{note_of, IsNoted};
 ghost use Rattle.tile_app.specs.Request.{Request};
@@ -65,12 +65,22 @@ fn answer<R: Source, W: Sink, D: Layer, L: Ledger>(
 /// writes what they ask for to the sink. A refusal writes its one line to the notes; a fault of the
 /// notes changes no status.
 ///
-/// A rule file has at most 1,048,576 bytes, and is read from the source to its end, where the words
-/// are right, no layer lacks, and they have `rule=-`. The clauses speak of the request, which is the
-/// words, the formats of the layers, and this file.
+/// - `words` are those behind the program's name: a command, and then `key=value` words in any order.
+/// - `source` has the rule file, of at most 1,048,576 bytes. It is read to its end where the words are
+///   right, each format that they name has a layer, and they have `rule=-`, and else left as it was.
+/// - `sink` takes the text, which is built whole before its first byte is written.
+/// - `notes` take the line of a refusal.
+/// - `layers` are what `draw` draws through, each format named through the first layer that has it. All
+///   are dropped in the end, used or not.
+/// - `alloc` gives all memory.
 ///
-/// `draw` draws each format named through the first layer that has it. All layers are dropped in the end,
-/// used or not.
+/// The clauses speak of the request, which is the words, the formats of the layers, and the rule file.
+/// It is tested in this order: the words (`BadWords`), the layers (`NoLayer`), the source and the rule
+/// file (`ReadFault`, `RuleTooLong`, `RuleRefused`), the address (`BadAddress`), and then what the command
+/// refuses: `place` a value (`CoordLimit`), `neighbour` an edge (`NoEdge`, `Outside`), `walk` an edge of
+/// its path (`NoEdge`, `DepthLimit`), `draw` its window (`DepthLimit`, `CoordLimit`, `TooManyTiles`), and
+/// `check` nothing more. In place of any answer but the first two `NoMemory` may come, and in place of
+/// `Done` also `WriteFault`. What each refusal tells stands at `Status`.
 pub fn run<R: Source, W: Sink, N: Sink>(
     alloc: Global,
     words: &Vec<String>,
@@ -93,7 +103,7 @@ pub fn run<R: Source, W: Sink, N: Sink>(
     // passed: beyond them one of the three comes.
     ensures refused { IsRefusal result → IsRefused (texts words.now.items) (map (λ d. form d) layers.items) (R.left source.old) (R.left source.new) result }
     ensures refused_when { (r : Request) (status : Status) → IsAsked (texts words.now.items) (map (λ d. form d) layers.items) (R.left source.old) r
-        → Causes r status → IsExact r status → (result ≡ status) ⊎ IsCutShort result }
+        → Causes r status → IsNoLimit r status → (result ≡ status) ⊎ IsCutShort result }
     ensures beyond_limits { (r : Request) → IsAsked (texts words.now.items) (map (λ d. form d) layers.items) (R.left source.old) r
         → IsBeyondLimits r → IsLimit result ⊎ IsCutShort result }
 

@@ -49,7 +49,8 @@ pub enum Status {
     TooManyTiles,
     /// The sink failed: it took a proper prefix of the text.
     WriteFault,
-    /// No memory was left, or the rule file's tables would take more than the engine allows.
+    /// No memory was left, a layer took no more, or the rule file's tables would take more than the engine
+    /// allows.
     NoMemory,
 }
 

@@ -13,7 +13,7 @@ returns-in-Some-clause-refused g c = no_layer (texts c.args.words.now) (map g.D.
 
 pub returns-clause-printed : goal.returns-clause-printed
 returns-clause-printed g c =
-    let have = sym c.lacking.ensures ∙ c.in-None.is in
+    let have = sym c.lacking.ensures ∙ c.in_default.is in
     IfOk-weaker c.command_text.result _ _
     (λ text h. prints_asked (texts c.args.words.now) (map g.D.Layer.form c.args.layers.now) _ _ c.in-Ok.command (tiling_of c.in_ok-checked.checked) (sym c.command_of.ensures ∙ c.in-Ok.is) have
     (c.in_ok-checked.ensures.asked (map g.D.Layer.form c.args.layers.now) have) text.items h)
@@ -21,12 +21,12 @@ returns-clause-printed g c =
 
 pub returns-clause-refused : goal.returns-clause-refused
 returns-clause-refused g c =
-    let have = sym c.lacking.ensures ∙ c.in-None.is in
+    let have = sym c.lacking.ensures ∙ c.in_default.is in
     refused_if_asked (texts c.args.words.now) (map g.D.Layer.form c.args.layers.now) _ _ c.in-Ok.command (tiling_of c.in_ok-checked.checked) (sym c.command_of.ensures ∙ c.in-Ok.is) have
     (c.in_ok-checked.ensures.asked (map g.D.Layer.form c.args.layers.now) have) c.command_text.result c.command_text.ensures.refused
 
 pub returns-clause-read_fault : goal.returns-clause-read_fault
 returns-clause-read_fault g c = λ e.
-    let have = sym c.lacking.ensures ∙ c.in-None.is in
+    let have = sym c.lacking.ensures ∙ c.in_default.is in
     absurd (no_read_fault_if_asked (texts c.args.words.now) (map g.D.Layer.form c.args.layers.now) _ _ c.in-Ok.command (tiling_of c.in_ok-checked.checked) (sym c.command_of.ensures ∙ c.in-Ok.is) have
     (c.in_ok-checked.ensures.asked (map g.D.Layer.form c.args.layers.now) have) c.command_text.result c.command_text.ensures.refused e)
