@@ -1,5 +1,5 @@
 -- The window that the words give, why its drawing is refused, and that its tiles, within the limits, can be drawn.
-use Rattle.std.proofs.Common.{◌≡◌, ◌⊎◌, inl, inr, ◌<◌, ◌≤◌, ◌^◌, ◌*◌, ℕ, ℤ, false, List, map, length, Option, Some, None, Result, Ok, Err, IsOk, refl, sym, ap, ap₂, ◌∙◌, subst, arith}
+use Rattle.std.proofs.Common.{◌≡◌, ◌⊎◌, inl, inr, ◌<◌, ℕ, ℤ, false, List, map, length, Some, None, Result, Ok, Err, IsOk, sym, ap, ap₂, ◌∙◌, subst, arith}
 use Rattle.std.specs.Prelude.{All}
 use Rattle.std.proofs.lemmas.List.{length-map}
 use Rattle.std.proofs.lemmas.List.Elements.{All-from_recursion, recursion_from_All}
@@ -10,7 +10,7 @@ use Rattle.cyclo_points.specs.Order.{points_of, is_refused}
 use Rattle.cyclo_points.proofs.Refusal.{within-some_beyond, some_beyond-refused}
 use Rattle.frames.specs.Frame.{at_level}
 use Rattle.lazy_walk.specs.Ancestors.{full}
-use Rattle.lazy_walk.specs.Frames.{FrameValue, whole, at_depth, IsFrameOf, GrowsTo}
+use Rattle.lazy_walk.specs.Frames.{FrameValue, whole, IsFrameOf, GrowsTo}
 use Rattle.lazy_walk.specs.Standing.{Stands}
 use Rattle.lazy_walk.proofs.Ancestors.{level-at}
 use Rattle.lazy_walk.proofs.Walks.{GrowsTo-is}
@@ -31,7 +31,6 @@ use Rattle.layer_api.specs.declared.format.Format.{Format}
 use Rattle.window_cover.specs.declared.cover_fault.CoverFault.{CoverFault}
 use Rattle.window_cover.specs.declared.cover_fault.CoverFault.TheVariants.{DepthLimit, CoordLimit, TooManyTiles, NoMemory}
 use Rattle.window_cover.specs.Causes.{HasCause}
-use Rattle.tile_app.specs.declared.words.Command.{Command}
 use Rattle.tile_app.specs.declared.words.Command.TheVariants.{Draw}
 use Rattle.tile_app.specs.declared.window_words.HalfExtents.{HalfExtents}
 use Rattle.tile_app.specs.Draw.{reduced, at_given, half_given, window_given, GivesWindow, EndsDrawing, DrawRefuses}

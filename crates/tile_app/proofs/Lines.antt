@@ -1,13 +1,10 @@
--- The line of a rule accepted, from its pieces, and words put to a line.
-use Rattle.std.proofs.Common.{◌≡◌, ◌≤◌, ℕ, List, [], ◌∷◌, ◌++◌, codes, length, sym, ap, ◌∙◌, append_assoc, lit≤}
+-- The line of a rule accepted, from its pieces.
+use Rattle.std.proofs.Common.{◌≡◌, ℕ, List, [], ◌∷◌, ◌++◌, codes, length, sym, ap, ◌∙◌, append_assoc}
 use Rattle.std.specs.Fmt.{decimal}
 use Rattle.cyclo_points.specs.Order.{points_of}
-use Rattle.layer_api.specs.declared.format.Format.{Format}
-use Rattle.layer_api.specs.declared.format.Format.TheVariants.{Svg, List as Listing, Census}
 use Rattle.rule_model.specs.declared.rule.Rule.{Rule}
 use Rattle.rule_model.specs.Views.{rule_of}
 use Rattle.tile_app.specs.Check.{check_line}
-use Rattle.tile_app.specs.FormatWords.{format_text}
 use Rattle.tile_app.specs.Text.{newline}
 use Rattle.cyclo_points.specs.Text.{blank}
 use Rattle.rule_model.specs.Tiling.{tiling_of}
@@ -42,9 +39,3 @@ pub four_texts : (c : ℕ) (old a0 a1 b0 b1 c0 c1 d0 new w x y z : List ℕ) →
 four_texts c old a0 a1 b0 b1 c0 c1 d0 new w x y z e1 e2 e3 e4 e5 e6 e7 e8 =
     let all : new ≡ old ++ blank ∷ [] ++ w ++ c ∷ [] ++ x ++ c ∷ [] ++ y ++ c ∷ [] ++ z = cc in
     all ∙ simp append_assoc
-
--- the name of a format is short
-pub format_text-is_short : (format : Format) → length (format_text format) ≤ 6
-format_text-is_short Svg = lit≤ tt
-format_text-is_short Listing = lit≤ tt
-format_text-is_short Census = lit≤ tt

@@ -2,7 +2,6 @@
 use Rattle.std.proofs.Common.{◌≡◌, ◌⊎◌, inl, inr, ℕ, ◌<◌, ◌≤◌, true, List, length, Some, None, Result, Ok, Err, is_ok, is_none, refl, sym, ap, ap₂, ◌∙◌, subst, ℤ, arith}
 use Rattle.std.specs.declared.option.Option.{Option}
 use Rattle.addressing.specs.Address.{Address, Fits}
-use Rattle.addressing.specs.Tables.{Tables}
 use Rattle.cyclo_points.specs.declared.point.Point.{Point}
 use Rattle.cyclo_points.specs.Order.{coefficients}
 use Rattle.layer_api.specs.declared.format.Format.{Format}

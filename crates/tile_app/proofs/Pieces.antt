@@ -1,7 +1,7 @@
 -- A path read piece by piece.
-use Rattle.std.proofs.Common.{◌≡◌, ℕ, zero, suc, ◌+◌, ◌-◌, ◌<◌, ◌≤◌, Bool, true, false, List, [], ◌∷◌, ◌++◌, length, get_or, take, drop, Option, Some, None, nat_le, ◌==◌, cond, refl, sym, ap, ap₂, ◌∙◌, subst, arith, append_assoc, append-nil, length-append}
+use Rattle.std.proofs.Common.{◌≡◌, ℕ, zero, suc, ◌+◌, ◌-◌, ◌<◌, ◌≤◌, Bool, true, false, List, [], ◌∷◌, ◌++◌, length, get_or, take, drop, Option, Some, None, nat_le, ◌==◌, cond, refl, sym, ap, ap₂, ◌∙◌, arith, append_assoc, append-nil, length-append}
 use Rattle.std.proofs.lemmas.Bool.{leb-true, le-leb, ne_eqb}
-use Rattle.std.proofs.lemmas.List.{take_more, take_all, get_or-drop, length-drop}
+use Rattle.std.proofs.lemmas.List.{take_more, get_or-drop, length-drop}
 use Rattle.std.specs.Option.{option_map, option_and_then}
 use Rattle.tile_shape.specs.Decimal.{number_up_to}
 use Rattle.tile_shape.specs.Text.{comma}

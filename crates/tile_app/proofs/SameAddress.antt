@@ -1,6 +1,6 @@
 -- An address of the program is its kind and its digits.
-use Rattle.std.proofs.Common.{◌≡◌, ℕ, List, [], ◌∷◌, map, refl, ap, ap₂, ◌∙◌}
-use Rattle.addressing.specs.Address.{Address, Step}
+use Rattle.std.proofs.Common.{◌≡◌, List, [], ◌∷◌, map, refl, ap, ap₂}
+use Rattle.addressing.specs.Address.{Address}
 use Rattle.tile_shape.specs.declared.address.Address as program
 use Rattle.tile_shape.specs.declared.step.Step as step
 use Rattle.tile_shape.specs.Views.{address_of, step_of}

@@ -1,6 +1,5 @@
 -- A tile of a tiling as it is drawn.
-use Rattle.std.specs.Prelude.{◌≡◌, ℕ, ◌<◌, ◌^◌, List, map, None, length}
-use Rattle.addressing.specs.Address as theory
+use Rattle.std.specs.Prelude.{◌<◌, ◌^◌, map, None, length}
 use Rattle.substitution.specs.Motion.{moved}
 use Rattle.substitution.specs.RuleParts.{vertices_of}
 use Rattle.cyclo_points.specs.declared.order.Order.{Order}

@@ -4,7 +4,7 @@ use Rattle.std.specs.declared.option.Option.{Option}
 use Rattle.std.specs.Fmt.{decimal}
 use Rattle.std.specs.Option.{option_and_then}
 use Rattle.addressing.specs.Address.{Address}
-use Rattle.rule_model.specs.Tiling.{Tiling, contacts}
+use Rattle.rule_model.specs.Tiling.{Tiling}
 use Rattle.tile_place.specs.Crossed.{IsOnlyAcross, LiesOnBoundary, edges_of}
 use Rattle.tile_shape.specs.Text.{address_text}
 use Rattle.tile_app.specs.declared.status.Status.{Status}

@@ -1,4 +1,4 @@
-use Rattle.std.proofs.Common.{rules, Some, sym, ap, ◌∙◌, option_map}
+use Rattle.std.proofs.Common.{rules, sym, ap, ◌∙◌, option_map}
 use Rattle.std.specs.Option.{option_and_then}
 use Rattle.tile_app.specs.declared.words.Key.TheVariants.{At}
 use Rattle.tile_app.specs.WindowWords.{at_in}

@@ -1,4 +1,4 @@
-use Rattle.std.proofs.Common.{◌≡◌, ◌^◌, length, map, sym, ap, ap₂, ◌∙◌, subst, lit≤}
+use Rattle.std.proofs.Common.{◌^◌, length, map, sym, ap, ap₂, ◌∙◌, subst, lit≤}
 use Rattle.std.proofs.lemmas.Result.{err_from_is_err_and}
 use Rattle.cyclo_points.specs.Point.{IsOf}
 use Rattle.cyclo_points.proofs.Within.{point_wider}
@@ -49,7 +49,7 @@ returns-in_err-tiles-clause-refused g c =
     let gives = gives_window words t a w c.order.result same c.in_ok-address.ensures.given c.window_given-window.ensures.given in
     let p = err_from_is_err_and c.from_residual-in_err-tiles.result c.from_residual-in_err-tiles.ensures.1 in
     rw (p.1, p.2) (refused_if_err words t a w gives f c.covered_tiles.new.frame is c.covered_tiles.ensures.frame c.covered_tiles.result c.in_err-tiles.field-0.0 c.in_err-tiles.was
-        c.in_err-tiles.ensures.cause c.covered_tiles.ensures.answered)
+    c.in_err-tiles.ensures.cause c.covered_tiles.ensures.answered)
 
 pub returns-in_err-texts_of-clause-refused : goal.returns-in_err-texts_of-clause-refused
 returns-in_err-texts_of-clause-refused g c =

@@ -1,4 +1,4 @@
-use Rattle.std.proofs.Common.{rules, ◌≡◌, ℕ, List, true, [], ◌∷◌, sym, ap, ◌∙◌}
+use Rattle.std.proofs.Common.{rules, ◌≡◌, ℕ, List, true, [], sym, ap, ◌∙◌}
 use lib.Utf8.{scalars, encodes}
 use Rattle.tile_app.specs.FormatWords.{formats_behind}
 use Rattle.tile_app.specs.PathWords.{pieces}

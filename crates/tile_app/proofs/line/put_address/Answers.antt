@@ -1,4 +1,4 @@
-use Rattle.std.proofs.Common.{◌≡◌, Result, Ok, Err, IsOk, MatchResult, refl, subst, sym, ◌∙◌, ap, IsUtf8}
+use Rattle.std.proofs.Common.{Result, Ok, Err, IsOk, MatchResult, refl, subst, sym, ◌∙◌, IsUtf8}
 use Rattle.tile_shape.specs.Views.{address_of}
 use Rattle.tile_app.proofs.AddressBytes.{address_is_utf8}
 use Rattle.tile_app.proofs.line.put_address.Goals as goal

@@ -1,5 +1,5 @@
-use Rattle.std.proofs.Common.{◌≡◌, ◌≤◌, ◌+◌, ◌-◌, ℕ, List, [], ◌∷◌, length, take, drop, get_or, Some, None, refl, sym, ap, ◌∙◌, subst, arith}
-use Rattle.tile_app.specs.PathWords.{put, numbers, pieces, longest_path, path_in}
+use Rattle.std.proofs.Common.{[], ap, ◌∙◌, arith}
+use Rattle.tile_app.specs.PathWords.{path_in}
 use Rattle.tile_app.proofs.Pieces.{after_comma, after_other, at_end, path_refused, path_read}
 use Rattle.tile_app.proofs.path_word.path_in.Goals as goal
 use Rattle.tile_app.proofs.path_word.path_in.Goals.{then-bytes-place-eq44+else-not-put_edge, else-bytes-place-eq44}

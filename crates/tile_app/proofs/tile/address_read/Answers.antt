@@ -1,5 +1,4 @@
 use Rattle.std.proofs.Common.{rules, Some, sym, ap, ◌∙◌, option_map}
-use Rattle.rule_model.specs.Checked.{child_kinds_of}
 use Rattle.rule_model.specs.Tiling.{tiling_of}
 use Rattle.tile_shape.specs.Views.{address_of}
 use Rattle.tile_app.specs.Words.{texts}

@@ -1,6 +1,5 @@
-use Rattle.std.proofs.Common.{◌≡◌, ◌≤◌, ◌<◌, ℕ, max, length, string_bytes, List, sym, ap, ◌∙◌, subst, arith}
+use Rattle.std.proofs.Common.{◌≡◌, ◌≤◌, max, length, string_bytes, sym, ap, ◌∙◌, subst}
 use Rattle.addressing.specs.Address.{Address, depth}
-use Rattle.lazy_walk.specs.Frames.{FrameValue, whole, at_depth}
 use Rattle.lazy_walk.specs.Paths.{CanBeWalked, IsStopped}
 use Rattle.rule_model.specs.Tiling.{tiling_of}
 use Rattle.tile_shape.specs.Views.{address_of}
