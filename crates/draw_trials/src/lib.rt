@@ -6,10 +6,10 @@
 #[cfg(test)]
 mod calls;
 #[cfg(test)]
+mod drawn_windows;
+#[cfg(test)]
 mod listed;
 #[cfg(test)]
 mod refusing;
 #[cfg(test)]
 mod rows;
-#[cfg(test)]
-mod windows;
