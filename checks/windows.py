@@ -15,7 +15,7 @@ import tomllib
 sys.dont_write_bytecode = True
 from supertiles import Ring, address  # noqa: E402
 
-WINDOWS = 30  # of each rule
+WINDOWS = 50  # of each rule
 DEEPEST = 64
 GREATEST = 2**24  # of the coefficients of a shift
 REFUSED = {5: b"5 DepthLimit ", 6: b"6 CoordLimit ", 7: b"7 TooManyTiles"}
