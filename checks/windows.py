@@ -1,4 +1,4 @@
-"""Windows of every rule file, found as their definition says, against what the program draws.
+"""Windows of every rule file, found as their definition says, against what the program draws, tile by tile and glued.
 
 Points are lists of whole coefficients of the powers of ζ, and a comparison of coordinates is one of whole numbers. The
 frame grows by words made here; the tiles are found from the top, by which supertiles meet the window: no search across
@@ -6,6 +6,7 @@ edges, no table and no code of the engine is used.
 """
 import concurrent.futures
 import functools
+import math
 import os
 import random
 import subprocess
@@ -70,6 +71,12 @@ class Plane:
     def is_less(self, u, v):
         return self.sign(minus(v, u)) > 0
 
+    def thousandths(self, u):
+        """The greatest whole number up to 500 times a + b√d, rounded down by parts, which is no less: a is whole."""
+        a, b = u
+        root = math.isqrt((500 * b) ** 2 * self.root)
+        return 500 * a + (root if b >= 0 or root == 0 else -root - 1)
+
     def turn(self, p, q, r):
         """The sign of the turn from p by q to r."""
         ax, ay, bx, by = (minus(s[i], p[i]) for s in (q, r) for i in (0, 1))
@@ -122,6 +129,7 @@ class Tiling:
 
     def __init__(self, rule):
         self.ring, self.kinds = Ring(rule["order"]), rule["kind"]
+        self.glued = {ty for glue in rule["glue"] for ty in (glue, rule["type"][glue]["mate"])}
         self.plane, self.factor = Plane(rule["order"]), self.point(rule["lambda"])
         self.uses = [
             [(parent, n) for parent, kind in enumerate(self.kinds) for n, child in enumerate(kind["children"]) if child[0] == own]
@@ -150,6 +158,16 @@ class Tiling:
         """The kind of a child and its motion in a supertile of that level."""
         own, turn, *shift = self.kinds[kind]["children"][number]
         return own, (turn, self.ring.times(self.power(level - 1), self.point(shift)))
+
+    def sides(self, kind, motion):
+        """The edges of a tile, each by its ends in the plane, and whether it is glued along it."""
+        outline = self.outline(kind, 0, motion)
+        for number, side in enumerate(zip(outline, outline[1:] + outline[:1])):
+            yield side, self.kinds[kind]["edges"][number] in self.glued
+
+    def widest(self):
+        """A number of lengths that is more than a tile is wide or high."""
+        return 2 + 4 * max(sum(map(abs, vertex)) for kind in self.kinds for vertex in kind["vertices"])
 
     def composed(self, outer, inner):
         around = self.ring.turned(outer[0], inner[1])
@@ -201,6 +219,29 @@ class Frame:
         return found
 
 
+def whole_tiles(frame, tiles, centre, half):
+    """The tiles, each with the other half or None, in a frame that has grown until all other halves are in it; None where
+    one never is."""
+    tiling, wide = frame.tiling, frame.tiling.widest()
+    box = Box(tiling.plane, tiling.point(centre), (half[0] + wide, half[1] + wide))
+    while True:
+        near = {
+            side: tile for tile in frame.tiles(box) for side, glued in tiling.sides(tile[0], tile[1:3]) if glued
+        }
+        wholes = []
+        for tile in tiles:
+            sides = [side for side, glued in tiling.sides(tile[0], tile[1:3]) if glued]
+            other = near.get((sides[0][1], sides[0][0])) if sides else None
+            if sides and not other:
+                break
+            wholes.append((tile, other))
+        else:
+            return wholes
+        if len(frame.digits) == DEEPEST:
+            return None
+        frame.grow()
+
+
 def drawn_base(tiling, drawn):
     """A kind and digits, from the top down by drawn children, or one child of its own kind again and again: such a base
     often lies at the border of each of its supertiles."""
@@ -216,31 +257,81 @@ def drawn_base(tiling, drawn):
     return kind, digits
 
 
+def outline_of(tiling, first, second):
+    """The outline of a whole tile, as the picture has it."""
+    def round_of(tile):
+        """The vertices from the end of the glue edge round to its start."""
+        sides = list(tiling.sides(tile[0], tile[1:3]))
+        edge = next((number for number, (_, glued) in enumerate(sides) if glued), None) if second else len(sides) - 1
+        vertices = [side[0] for side, _ in sides]
+        return vertices[edge + 1 :] + vertices[: edge + 1]
+
+    return round_of(first) + (round_of(second)[1:-1] if second else [])
+
+
+def path_of(tiling, centre, kind, outline):
+    """The line of the picture that is this outline."""
+    middle = tiling.plane.at(tiling.point(centre))
+    numbers = [" ".join(str(tiling.plane.thousandths(minus(p[i], middle[i]))) for i in (0, 1)) for p in outline]
+    return f'<path class="k{kind}" d="M{"L".join(numbers)}Z"/>'
+
+
+def shift_of(tile):
+    """The four coefficients of a tile's shift."""
+    return tile[2] + (0,) * (4 - len(tile[2]))
+
+
+def text_of(tiling, frame, wholes, centre):
+    """The list, the census and the paths of whole tiles, each a tile and another half or None."""
+    whole = {}
+    for tile, other in wholes:
+        first, second = (tile, other) if not other or tile[0] < other[0] else (other, tile)
+        whole[shift_of(first), first[1], first[0]] = first, second
+    lines = []
+    for key in sorted(whole):
+        parts = [
+            f"{tile[0]} {tile[1]} {','.join(map(str, shift_of(tile)))} {address((tile[0], (*tile[3], *frame.digits[len(tile[3]):])))}"
+            for tile in whole[key]
+            if tile
+        ]
+        lines.append(" + ".join(parts))
+    counts = [f"{k} {sum(1 for key in whole if key[2] == k)}" for k in range(len(tiling.kinds))]
+    paths = [path_of(tiling, centre, key[2], outline_of(tiling, *whole[key])) for key in sorted(whole)]
+    return "\n".join([*lines, *counts, f"all {len(whole)}", *paths, ""])
+
+
 def trial(tiling, drawn):
-    """The words of a call, and the text that it must print; None where its window is beyond the limits."""
+    """The words of a call, and the texts that it must print without glue and with it; None where it is beyond the limits."""
     kind, digits = drawn_base(tiling, drawn)
     seed, far = drawn.randrange(2**64), drawn.choice((1, 6, 6, 6, 40, 3000))
     centre = [drawn.randint(-far, far) if i < tiling.ring.size else 0 for i in range(4)]
     half = drawn.randint(1, 5), drawn.randint(1, 5)
     frame, box = Frame(tiling, kind, digits, seed), Box(tiling.plane, tiling.point(centre), half)
     base, at = address((kind, digits)), ",".join(map(str, centre))
-    words = [f"seed={seed}", f"addr={base}", f"at={at}", f"half={half[0]},{half[1]}", "layers=list,census"]
+    words = [f"seed={seed}", f"addr={base}", f"at={at}", f"half={half[0]},{half[1]}", "layers=list,census,svg"]
     while not frame.is_enough(box):
         if len(frame.digits) == DEEPEST:
-            return words, None
+            return words, None, None
         frame.grow()
-    tiles = [(shift + (0,) * (4 - len(shift)), turn, own, below) for own, turn, shift, below in frame.tiles(box)]
-    if any(abs(a) > GREATEST for shift, *_ in tiles for a in shift):
-        return words, None
-    lines = [f"{k} {turn} {','.join(map(str, shift))} {address((k, below))}" for shift, turn, k, below in sorted(tiles)]
-    counts = [f"{k} {sum(1 for tile in tiles if tile[2] == k)}" for k in range(len(tiling.kinds))]
-    return words, "\n".join([*lines, *counts, f"all {len(tiles)}", ""])
+    tiles = [(own, turn, tuple(shift), below) for own, turn, shift, below in frame.tiles(box)]
+    if any(abs(a) > GREATEST for tile in tiles for a in tile[2]):
+        return words, None, None
+    text = text_of(tiling, frame, [(tile, None) for tile in tiles], centre)
+    wholes = whole_tiles(frame, tiles, centre, half)
+    if wholes is None or any(abs(a) > GREATEST for _, other in wholes if other for a in other[2]):
+        return words, text, None
+    return words, text, text_of(tiling, frame, wholes, centre)
+
+
+def without_frame(text):
+    """What was drawn, without the lines of the picture that aren't paths."""
+    return "\n".join(line for line in text.split("\n") if not line.startswith(("<svg", "<g", "</")))
 
 
 def is_right(ran, wanted):
     """Whether the call did as wanted. A value beyond the limits may have been looked at on the way, and is named."""
     if ran.returncode == 0:
-        return ran.stdout.decode() == wanted
+        return without_frame(ran.stdout.decode()) == wanted
     named = ran.returncode in REFUSED and ran.stdout == b"" and ran.stderr.startswith(REFUSED[ran.returncode])
     if wanted is None or not named:
         return named
@@ -254,13 +345,14 @@ def compared(program, path):
     tiling, drawn = Tiling(tomllib.loads(text.decode())), random.Random(os.path.basename(path))
     refused, wrong = 0, []
     for _ in range(WINDOWS):
-        words, wanted = trial(tiling, drawn)
-        ran = subprocess.run([program, "draw", "rule=-", *words], input=text, capture_output=True)
-        refused += ran.returncode != 0
-        if not is_right(ran, wanted):
-            told = ran.stdout.decode() if ran.returncode == 0 else ran.stderr.decode()
-            wrong.append(f"{os.path.basename(path)}: draw {' '.join(words)}: {told!r} in place of {wanted!r}")
-    return WINDOWS, refused, wrong
+        words, *texts = trial(tiling, drawn)
+        for glue, wanted in zip(("no", "yes"), texts):
+            ran = subprocess.run([program, "draw", "rule=-", *words, f"glue={glue}"], input=text, capture_output=True)
+            refused += ran.returncode != 0
+            if not is_right(ran, wanted):
+                told = ran.stdout.decode() if ran.returncode == 0 else ran.stderr.decode()
+                wrong.append(f"{os.path.basename(path)}: draw {' '.join(words)} glue={glue}: {told!r} in place of {wanted!r}")
+    return 2 * WINDOWS, refused, wrong
 
 
 def main(top, program):

@@ -29,10 +29,11 @@ picture() {
     fault=1
 }
 
-# the same, of a rule with glue: two halves look like one tile
+# the same, of a rule with glue: whole tiles, each of two halves
 whole() {
-    file=rules/$1.toml
-    picture "$@" --rule "$file" --whole
+    name=$1 rule=$2 window=$3
+    shift 3
+    picture "$name" "$rule" "$window glue=yes" "$@"
 }
 
 whole penrose_p2 p2 'seed=5 addr=0: at=700000,-300000,0,0 half=18,9'

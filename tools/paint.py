@@ -5,25 +5,22 @@
 
     --colour kind|turn|child|plain   by the tile's kind, by its turn, by its number as a child, or all alike
     --level N                        with `child`: the digit of that number from 0, the finest; 0 where it isn't given
-    --rule FILE.toml                 the rule's file: the two halves of a glued tile get one colour
-    --whole                          with --rule: no line along glue edges, so that two halves look like one tile
     --palette NAME                   the colours: day, earth, sea, rose, stone or turns
     --width N                        pixels; 800 where it isn't given
     --title TEXT                     what the picture shows
 
-The shapes are those of the program, to the digit. Path i gets the classes kK and tT (its kind and its turn) and, as its
-title, the address that stands in line i of the list; a style sheet can colour it anew. A line has the same width at any
-size."""
+A whole tile of two halves, which `draw` lists with glue=yes, has the kind, the turn and the number of its first half. The
+shapes are those of the program, to the digit. Path i gets the classes kK and tT (its kind and its turn) and, as its title,
+the address or the two addresses that stand in line i of the list; a style sheet can colour it anew. A line has the same
+width at any size."""
 import re
 import sys
-
-sys.dont_write_bytecode = True
-from rule_file import Trouble, load  # noqa: E402
 
 HEAD = re.compile(r'<svg xmlns="[^"]*" version="1.1" viewBox="(\S+ \S+) (\S+) (\S+)">')
 GROUP = re.compile(r'<g transform="scale\((\S+) (\S+)\)" fill="none" stroke="black" stroke-width="40">')
 PATH = re.compile(r'<path class="k(\d+)" d="M([^"]*)Z"/>')
-LINE = re.compile(r"(\d+) (\d+) (\S+) ((\d+):\S*)")
+PART = r"(\d+) (\d+) \S+ (\d+:\S*)"
+LINE = re.compile(rf"{PART}(?: \+ {PART})?")
 PALETTES = {
     "day": ["#4a7fb5", "#ecc06a", "#8fae5d", "#b5536b", "#8d78b8", "#e3885a"],
     "earth": ["#e9c46a", "#b5651d", "#7a8f52", "#f1e3c6", "#8c4a3c", "#c9a27c"],
@@ -35,13 +32,19 @@ PALETTES = {
 WORDS = {"colour": ("kind", "turn", "child", "plain"), "palette": tuple(PALETTES)}
 
 
+class Trouble(Exception):
+    """Why there is no picture."""
+
+
 class Tile:
-    """A tile drawn: its kind and turn, its address, and its corners as the texts `x y`."""
+    """A tile drawn: its kind and turn, its address or those of its halves, and its corners as the texts `x y`."""
 
     def __init__(self, path, line):
-        self.kind, self.turn, self.name = int(line[1]), int(line[2]), line[4]
+        self.kind, self.turn, self.name = int(line[1]), int(line[2]), line[3]
         self.corners = path[2].split("L")
         self.digits = [int(digit.partition("/")[0]) for digit in self.name.partition(":")[2].split(",") if digit]
+        if line[6]:
+            self.name = f"{line[3]} + {line[6]}"
         if path[1] != line[1]:
             raise Trouble("a line of the list is of another kind than its path")
 
@@ -67,37 +70,12 @@ class Drawn:
         self.tiles = [Tile(path, line) for path, line in zip(paths, listed)]
 
 
-class Halves:
-    """Which tiles are halves of one glued tile. `first` is for each kind the lesser kind of the two, or the kind itself;
-    `more` is for a kind how much further the half of the lesser kind is turned, as it is seen in the picture."""
-
-    def __init__(self, rule, drawn):
-        self.types = set(rule.glue) | {rule.mates[glue] for glue in rule.glue}
-        self.first = list(range(len(rule.kinds)))
-        for glue in rule.glue:
-            halves = [k for k, kind in enumerate(rule.kinds) if {glue, rule.mates[glue]} & set(kind.edges)]
-            for k in halves:
-                self.first[k] = min(halves)
-        self.order, self.more, self.rule = rule.order, {}, rule
-        glued = {side: tile for tile in drawn.tiles for number, side in enumerate(tile.sides()) if self.is_glued(tile, number)}
-        for side, tile in glued.items():
-            other = glued.get(side[::-1])
-            if other and other.kind < tile.kind:
-                self.more[tile.kind] = other.turn - tile.turn
-
-    def is_glued(self, tile, number):
-        return self.rule.kinds[tile.kind].edges[number] in self.types
-
-    def turn(self, tile):
-        return (tile.turn + self.more.get(tile.kind, 0)) % self.order
-
-
-def outline(drawn, halves):
-    """The lines of the picture, each once, without those between two halves, as the text of one path."""
+def outline(drawn):
+    """The lines of the picture, each once, as the text of one path."""
     seen, text, last = set(), "", None
     for tile in drawn.tiles:
-        for number, side in enumerate(tile.sides()):
-            if halves and halves.is_glued(tile, number) or side in seen or side[::-1] in seen:
+        for side in tile.sides():
+            if side in seen or side[::-1] in seen:
                 continue
             seen.add(side)
             text += f"L{side[1]}" if side[0] == last else f"M{side[0]}L{side[1]}"
@@ -105,16 +83,16 @@ def outline(drawn, halves):
     return text
 
 
-def class_of(tile, options, halves):
+def class_of(tile, options):
     """The class by which a tile is coloured: kK, tT, or where neither says it, cN."""
     if options["colour"] == "child":
         return f"c{tile.digits[options['level']] if options['level'] < len(tile.digits) else 0}"
     if options["colour"] == "turn":
-        return f"c{halves.turn(tile)}" if halves else f"t{tile.turn}"
+        return f"t{tile.turn}"
     return f"k{tile.kind}"
 
 
-def fills(classes, options, halves, palette):
+def fills(classes, options, palette):
     """The rules of the style sheet: a colour for each class that is there."""
     turns = max((int(name[1:]) for name in classes), default=0) + 1
     for name in sorted(classes):
@@ -123,8 +101,6 @@ def fills(classes, options, halves, palette):
             place = 0
         elif options["colour"] == "turn":
             place = place * len(palette) // turns
-        elif options["colour"] == "kind" and halves:
-            place = sorted(set(halves.first)).index(halves.first[place])
         colour = palette[place % len(palette)]
         yield f".{name}{{fill:{colour};stroke:{colour}}}"
 
@@ -135,30 +111,26 @@ def escaped(text):
 
 def paint(drawn, options):
     """The picture in colours as the text of an SVG file."""
-    halves = Halves(load(options["rule"]), drawn) if options["rule"] else None
     palette = PALETTES[options["palette"] or ("turns" if options["colour"] == "turn" else "day")]
-    classes = [class_of(tile, options, halves) for tile in drawn.tiles]
+    classes = [class_of(tile, options) for tile in drawn.tiles]
     high = round(options["width"] * drawn.high / drawn.wide)
     body = [f'<svg xmlns="http://www.w3.org/2000/svg" version="1.1" viewBox="{drawn.box}" width="{options["width"]}" height="{high}">']
     body += [f"<title>{escaped(options['title'])}</title>"] if options["title"] else []
     body += ["<style>path{stroke-width:20;stroke-linejoin:round} .l{fill:none;stroke:#222;stroke-width:40}"]
     body += ["@supports (vector-effect:non-scaling-stroke){path{vector-effect:non-scaling-stroke;stroke-width:1} .l{stroke-width:1.1}}"]
-    body += [*fills(set(classes), options, halves, palette), "</style>", f'<g transform="scale({drawn.scale})">']
+    body += [*fills(set(classes), options, palette), "</style>", f'<g transform="scale({drawn.scale})">']
     for tile, name in zip(drawn.tiles, classes):
         more = f" {name}" if name[0] == "c" else ""
         body.append(f'<path class="k{tile.kind} t{tile.turn}{more}" d="M{"L".join(tile.corners)}Z"><title>{tile.name}</title></path>')
-    body.append(f'<path class="l" d="{outline(drawn, halves if options["whole"] else None)}"/>')
+    body.append(f'<path class="l" d="{outline(drawn)}"/>')
     return "\n".join(body + ["</g>", "</svg>", ""])
 
 
 def given(words):
     """The options of a call."""
-    options = {"colour": "kind", "level": 0, "rule": None, "whole": False, "palette": None, "width": 800, "title": None}
+    options = {"colour": "kind", "level": 0, "palette": None, "width": 800, "title": None}
     while words:
         option, words = words[0].removeprefix("--"), words[1:]
-        if option == "whole":
-            options["whole"] = True
-            continue
         if option not in options or not words:
             raise Trouble(__doc__)
         value, words = words[0], words[1:]
@@ -169,17 +141,12 @@ def given(words):
                 raise Trouble(f"'{value}' is no number")
             value = int(value)
         options[option] = value
-    if options["whole"] and not options["rule"]:
-        raise Trouble("--whole needs --rule FILE.toml, since the picture doesn't say which edges are glued")
     return options
 
 
 def main(words):
     options = given(words)
-    try:
-        print(paint(Drawn(sys.stdin.read()), options), end="")
-    except IndexError as fault:
-        raise Trouble(f"{options['rule']} isn't the rule that was drawn ({fault})") from fault
+    print(paint(Drawn(sys.stdin.read()), options), end="")
 
 
 if __name__ == "__main__":

@@ -213,13 +213,20 @@ touch_below {t} {e = e} {f = f} x y coarse k l coherent (on {f = own} {s = s} {d
     touch_step t k l e f own other c.part d.part s u (xs ++ x ∷ coarse) (ys ++ y ∷ coarse) coherent is is' (h.0 ∙ parts) fits.0 fits'.0
     (touch_below x y coarse s.parent u.parent coherent rest rest' h.1 parent met fits.1 fits'.1 (coherent.outer_edge s.parent s.child e own c.part is))
 
-meets_split : {t : Tables} {xs ys : List Step} {e f : ℕ} (k l : ℕ) → IsCoherent t → IsChain t k xs → IsChain t l ys → IsSome (type_of t k e) → Splits t xs e ys f → Meets t xs e ys f
-meets_split k l coherent fits fits' edge h =
-    rw (h.split_x, h.split_y) (touch_below h.x h.y h.coarse k l coherent h.trace_x h.trace_y h.mirrored h.one_parent h.meet (rw h.split_x at fits) (rw h.split_y at fits') edge).meets
+met_split : {t : Tables} {xs ys : List Step} {e f : ℕ} (k l : ℕ) → IsCoherent t → IsChain t k xs → IsChain t l ys → IsSome (type_of t k e) → Splits t xs e ys f → Met t k e l f xs ys
+met_split k l coherent fits fits' edge h =
+    rw (h.split_x, h.split_y) (touch_below h.x h.y h.coarse k l coherent h.trace_x h.trace_y h.mirrored h.one_parent h.meet (rw h.split_x at fits) (rw h.split_y at fits') edge)
+
+met_of : {t : Tables} (a b : Address) {e f : ℕ} → IsCoherent t → Fits (child_kinds t) a → Fits (child_kinds t) b → IsSome (type_of t a.kind e) → Touches t a e b f → Met t a.kind e b.kind f a.digits b.digits
+met_of {t} a b coherent fits fits' edge touches = met_split a.kind b.kind coherent (chain_of t a fits) (chain_of t b fits') edge (splits_from touches)
 
 -- edges that touch meet
 pub Meets-of : {t : Tables} (a b : Address) {e f : ℕ} → IsCoherent t → Fits (child_kinds t) a → Fits (child_kinds t) b → IsSome (type_of t a.kind e) → Touches t a e b f → Meets t a.digits e b.digits f
-Meets-of {t} a b coherent fits fits' edge touches = meets_split a.kind b.kind coherent (chain_of t a fits) (chain_of t b fits') edge (splits_from touches)
+Meets-of a b coherent fits fits' edge touches = (met_of a b coherent fits fits' edge touches).meets
+
+-- the types of edges that touch are mates
+pub IsMated-of : {t : Tables} (a b : Address) {e f : ℕ} → IsCoherent t → Fits (child_kinds t) a → Fits (child_kinds t) b → IsSome (type_of t a.kind e) → Touches t a e b f → IsMated t a.kind e b.kind f
+IsMated-of a b coherent fits fits' edge touches = (met_of a b coherent fits fits' edge touches).mated
 
 address-eq : (a b : Address) → a.kind ≡ b.kind → a.digits ≡ b.digits → a ≡ b
 address-eq a b k d = λ i. record { kind = k i; digits = d i }

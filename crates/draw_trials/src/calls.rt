@@ -56,3 +56,16 @@ pub fn check_call<R: Abort + AllocGlobal>(
     assert_eq!(rt; notes.taken(), note.as_bytes(), "{line}");
     Ok(())
 }
+
+// What a line of words draws, or nothing where it is refused.
+pub fn text_of<R: Abort + AllocGlobal>(rt: &R, line: &str) -> Result<String, Fail> {
+    let alloc = rt.alloc();
+    let words = words_of(alloc, line)?;
+    let mut source = SteadySource::new(Vec::new(alloc));
+    let mut sink = SteadySink::new(alloc, 1_000_000)?;
+    let mut notes = SteadySink::new(alloc, 700)?;
+    let layers = layers_of(alloc, &ALL)?;
+    let status = run(alloc, &words, &mut source, &mut sink, &mut notes, layers);
+    assert_eq!(rt; status.code(), 0, "{line}");
+    Ok(str::from_utf8(sink.taken()).unwrap_or("").to_string(alloc)?)
+}

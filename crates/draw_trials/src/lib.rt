@@ -13,3 +13,5 @@ mod listed;
 mod refusing;
 #[cfg(test)]
 mod rows;
+#[cfg(test)]
+mod wholes;

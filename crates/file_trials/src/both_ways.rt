@@ -5,6 +5,7 @@ use rule_text::key::Key;
 use rule_text::place::Place;
 use rule_text::text_fault::TextFault;
 use rule_text::writing::{write_rule, written_and_read};
+use std::alloc::{AllocError, Global};
 use std::test::Fail;
 
 #[test]
@@ -20,29 +21,39 @@ fn reads_and_writes_the_chair(rt: HostRuntime) -> Result<(), Fail> {
     Ok(())
 }
 
+const VERTICES: Key = Key::Vertices { kind: 12 };
+
+const PLACE: Place = Place::InType { ty: 3 };
+
+/// Faults, and how each is printed.
+static PRINTED: [(TextFault, &str); 6] = [
+    (TextFault::NotToml, "NotToml"),
+    (TextFault::Missing { key: VERTICES }, "Missing vertices 12"),
+    (
+        TextFault::WrongType { key: Key::TypeList },
+        "WrongType type",
+    ),
+    (
+        TextFault::OutOfRange { key: Key::Lambda },
+        "OutOfRange lambda",
+    ),
+    (TextFault::UnknownKey { place: PLACE }, "UnknownKey type 3"),
+    (
+        TextFault::UnknownKey { place: Place::Top },
+        "UnknownKey top",
+    ),
+];
+
+/// Whether a fault is printed as this text.
+fn is_printed(alloc: Global, fault: &TextFault, text: &str) -> Result<bool, AllocError> {
+    let printed = format!(in alloc; "{fault}")?;
+    Ok(printed.as_str() == text)
+}
+
 #[test]
 fn prints_faults(rt: HostRuntime) -> Result<(), Fail> {
-    let key = Key::Vertices { kind: 12 };
-    let place = Place::InType { ty: 3 };
-    let rows = [
-        (TextFault::NotToml, "NotToml"),
-        (TextFault::Missing { key }, "Missing vertices 12"),
-        (
-            TextFault::WrongType { key: Key::TypeList },
-            "WrongType type",
-        ),
-        (
-            TextFault::OutOfRange { key: Key::Lambda },
-            "OutOfRange lambda",
-        ),
-        (TextFault::UnknownKey { place }, "UnknownKey type 3"),
-        (
-            TextFault::UnknownKey { place: Place::Top },
-            "UnknownKey top",
-        ),
-    ];
-    for (fault, wanted) in rows {
-        assert_eq!(rt; format!(in rt.alloc(); "{fault}")?.as_str(), wanted);
+    for (fault, text) in &PRINTED {
+        assert!(rt; is_printed(rt.alloc(), fault, text)?);
     }
     Ok(())
 }

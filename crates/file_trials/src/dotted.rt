@@ -8,7 +8,7 @@ use std::process::Abort;
 use std::test::Fail;
 
 /// What stands before many dots and what behind them, where they stand outside comments and strings.
-const COUNTED: [(&str, &str); 11] = [
+static COUNTED: [(&str, &str); 11] = [
     ("", ""),
     ("a = 1\n", "\nb = 2"),
     ("# a comment\n", ""),
@@ -25,7 +25,7 @@ const COUNTED: [(&str, &str); 11] = [
 ];
 
 /// The same, where they stand in a comment or a string.
-const NOT_COUNTED: [(&str, &str); 13] = [
+static NOT_COUNTED: [(&str, &str); 13] = [
     ("#", ""),
     ("a = 1 # \"", "\nb = '#'"),
     ("a = \"", "\""),
@@ -43,44 +43,62 @@ const NOT_COUNTED: [(&str, &str); 13] = [
 ];
 
 /// The same, where the string isn't closed.
-const NOT_CLOSED: [(&str, &str); 2] = [("a = \"", "\n"), ("a = \"\"\"\n", "\n\"\"")];
+static NOT_CLOSED: [(&str, &str); 2] = [("a = \"", "\n"), ("a = \"\"\"\n", "\n\"\"")];
 
-/// That the texts with dots between two pieces have this fault.
+/// The fault of a text with dots between two pieces.
+fn dotted_fault(
+    alloc: Global,
+    before: &str,
+    dots: &str,
+    behind: &str,
+) -> Result<Option<TextFault>, Fail> {
+    let mut text = String::from_str(alloc, before)?;
+    text.push_str(dots)?;
+    fault_of(alloc, text.as_str(), behind)
+}
+
+/// That the texts with so many dots between two pieces have this fault.
 fn assert_dotted(
     rt: &impl Abort,
     alloc: Global,
-    dots: &str,
+    count: usize,
     rows: &[(&str, &str)],
     fault: TextFault,
 ) -> Result<(), Fail> {
+    let dots = ".".repeat(alloc, count)?;
     for (before, behind) in rows {
-        let mut text = String::from_str(alloc, before)?;
-        text.push_str(dots)?;
-        let told = fault_of(alloc, text.as_str(), behind)?;
-        assert_eq!(rt; told, Some(fault), "at {before}");
+        let told = dotted_fault(alloc, before, dots.as_str(), behind)?;
+        assert!(rt; told == Some(fault), "at {before}");
     }
     Ok(())
 }
 
+/// As many dots as there may be, and one more in a comment.
+static MOST: [(&str, &str); 1] = [("", "# .")];
+
+/// Dots alone.
+static ALONE: [(&str, &str); 1] = [("", "")];
+
 #[test]
 fn bounds_dots_outside_comments_and_strings(rt: HostRuntime) -> Result<(), Fail> {
     let alloc = rt.alloc();
-    let more = ".".repeat(alloc, 200_001)?;
-    let dots = more.as_str();
-    assert_dotted(&rt, alloc, dots, &COUNTED, TextFault::NoMemory)?;
+    assert_dotted(&rt, alloc, 200_001, &COUNTED, TextFault::NoMemory)?;
     let missing = TextFault::Missing { key: Key::Format };
-    assert_dotted(&rt, alloc, dots, &NOT_COUNTED, missing)?;
-    assert_dotted(&rt, alloc, dots, &NOT_CLOSED, TextFault::NotToml)?;
-    let most = ".".repeat(alloc, 200_000)?;
-    let rows = [("", "# .")];
-    assert_dotted(&rt, alloc, most.as_str(), &rows, TextFault::NotToml)?;
-    let mebibyte = ".".repeat(alloc, 1_048_576)?;
-    let told = fault_of(alloc, mebibyte.as_str(), "")?;
-    assert_eq!(rt; told, Some(TextFault::NoMemory));
-    let mut ruled = String::from_str(alloc, "# ")?;
-    ruled.push_str(".".repeat(alloc, 300_000)?.as_str())?;
-    ruled.push_str("\n")?;
-    ruled.push_str(CHAIR)?;
-    assert!(rt; is_read_to_chair(alloc, ruled.as_str())?);
+    assert_dotted(&rt, alloc, 200_001, &NOT_COUNTED, missing)?;
+    assert_dotted(&rt, alloc, 200_001, &NOT_CLOSED, TextFault::NotToml)?;
+    assert_dotted(&rt, alloc, 200_000, &MOST, TextFault::NotToml)?;
+    assert_dotted(&rt, alloc, 1_048_576, &ALONE, TextFault::NoMemory)
+}
+
+/// Whether the chair is read behind a comment of this text.
+fn is_read_behind(alloc: Global, comment: &str) -> Result<bool, Fail> {
+    let text = format!(in alloc; "# {comment}\n{CHAIR}")?;
+    is_read_to_chair(alloc, text.as_str())
+}
+
+#[test]
+fn reads_the_chair_behind_dots(rt: HostRuntime) -> Result<(), Fail> {
+    let dots = ".".repeat(rt.alloc(), 300_000)?;
+    assert!(rt; is_read_behind(rt.alloc(), dots.as_str())?);
     Ok(())
 }

@@ -2,6 +2,7 @@
 use crate::chair_rule::{chair, is_chair, is_read_to_chair};
 use cyclo_points::order::Order;
 use rule_model::edition::Edition;
+use rule_model::rule::Rule;
 use rule_text::reading::{LONGEST_FILE, read_rule};
 use rule_text::writing::{write_rule, written_and_read};
 use std::alloc::Global;
@@ -29,7 +30,7 @@ children = [[0,3, 0,1,0,0], [0,2, 0,1,0,0]]
 ";
 
 /// A piece of the file, what stands in its place, and the edition and the order that are read.
-const READ: [(&str, &str, Edition, Order); 6] = [
+static READ: [(&str, &str, Edition, Order); 6] = [
     ("format = 2", "format = 2", Edition::Two, Order::Four),
     ("format = 2", "format = 1", Edition::One, Order::Four),
     ("order = 4", "order = 6", Edition::Two, Order::Six),
@@ -38,18 +39,29 @@ const READ: [(&str, &str, Edition, Order); 6] = [
     ("order = 4", "order = 10", Edition::Two, Order::Ten),
 ];
 
+/// Whether the half square was read, in this edition and this order.
+fn is_of(rule: &Rule, edition: Edition, order: Order) -> bool {
+    rule.edition == edition
+        && rule.order == order
+        && rule.factor.c == [1, 1, 0, 0]
+        && rule.types.len() == 2
+        && rule.kinds.len() == 1
+}
+
+/// Whether the file is read as its row says.
+fn is_read(alloc: Global, row: &(&str, &str, Edition, Order)) -> Result<bool, Fail> {
+    let (piece, other, edition, order) = row;
+    let text = HALF_SQUARE.replace(alloc, piece, other)?;
+    if text.len() > LONGEST_FILE {
+        return Ok(false);
+    }
+    Ok(is_of(&read_rule(alloc, text.as_bytes())?, *edition, *order))
+}
+
 #[test]
 fn reads_both_formats(rt: HostRuntime) -> Result<(), Fail> {
-    let alloc = rt.alloc();
-    for (piece, other, edition, order) in READ {
-        let text = HALF_SQUARE.replace(alloc, piece, other)?;
-        assert!(rt; text.len() <= LONGEST_FILE);
-        let rule = read_rule(alloc, text.as_bytes())?;
-        assert!(rt; rule.edition == edition, "at {other}");
-        assert!(rt; rule.order == order, "at {other}");
-        assert!(rt; rule.factor.c == [1, 1, 0, 0], "at {other}");
-        assert_eq!(rt; rule.types.len(), 2);
-        assert_eq!(rt; rule.kinds.len(), 1);
+    for row in &READ {
+        assert!(rt; is_read(rt.alloc(), row)?);
     }
     Ok(())
 }
@@ -66,8 +78,7 @@ fn assert_both_ways(
     assert!(rt; text.as_str().starts_with(head));
     assert!(rt; is_read_to_chair(alloc, text.as_str())?);
     let back = written_and_read(alloc, &rule)?;
-    assert!(rt; back.edition == edition);
-    assert!(rt; is_chair(&back));
+    assert!(rt; back.edition == edition && is_chair(&back));
     Ok(())
 }
 

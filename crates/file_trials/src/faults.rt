@@ -29,7 +29,21 @@ pub fn assert_faults(
     rows: &[(&str, TextFault)],
 ) -> Result<(), Fail> {
     for (tail, fault) in rows {
-        assert_eq!(rt; fault_of(alloc, head, tail)?, Some(*fault));
+        assert!(rt; fault_of(alloc, head, tail)? == Some(*fault), "at {tail}");
     }
     Ok(())
+}
+
+/// That the texts, behind these pieces, have these faults.
+pub fn assert_behind(
+    rt: &impl Abort,
+    alloc: Global,
+    pieces: &[&str],
+    rows: &[(&str, TextFault)],
+) -> Result<(), Fail> {
+    let mut head = String::new(alloc);
+    for piece in pieces {
+        head.push_str(piece)?;
+    }
+    assert_faults(rt, alloc, head.as_str(), rows)
 }

@@ -6,6 +6,7 @@ use rule_text::key::Key;
 use rule_text::place::Place;
 use rule_text::reading::{LONGEST_FILE, read_rule};
 use rule_text::text_fault::TextFault;
+use std::alloc::Global;
 use std::test::Fail;
 
 const VERTICES: Key = Key::Vertices { kind: 0 };
@@ -13,7 +14,7 @@ const VERTICES: Key = Key::Vertices { kind: 0 };
 const CHILDREN: Key = Key::Children { kind: 0 };
 
 /// A piece, what stands in its place, and the fault.
-const FAULTS: [(&str, &str, TextFault); 12] = [
+static FAULTS: [(&str, &str, TextFault); 12] = [
     ("format = 1\n", "", TextFault::Missing { key: Key::Format }),
     (
         "format = 1",
@@ -71,7 +72,7 @@ const FAULTS: [(&str, &str, TextFault); 12] = [
 ];
 
 /// A piece, and another spelling of it.
-const SPELLINGS: [(&str, &str); 11] = [
+static SPELLINGS: [(&str, &str); 11] = [
     ("\n", "\r\n"),
     ("\n", "\n\n# a line of its own\n"),
     ("order", "\"order\""),
@@ -92,14 +93,14 @@ const SPELLINGS: [(&str, &str); 11] = [
 ];
 
 /// Types and kinds, the lists in either form.
-const LISTS: [&str; 3] = [
+static LISTS: [&str; 3] = [
     "kind = [{vertices = [], edges = [], children = []}]\ntype = [{mate = 0, parts = []}]\n",
     "kind = []\n[[type]]\nmate = 0\nparts = [0, 0]\n",
     "type = []\n[[kind]]\nchildren = []\nedges = []\nvertices = []\n",
 ];
 
 /// A number, and the order that it is.
-const ORDERS: [(&str, Order); 8] = [
+static ORDERS: [(&str, Order); 8] = [
     ("4", Order::Four),
     ("+4", Order::Four),
     ("0x8", Order::Eight),
@@ -110,36 +111,62 @@ const ORDERS: [(&str, Order); 8] = [
     ("1_0", Order::Ten),
 ];
 
+/// The fault of the chair with another piece in the place of one.
+fn fault_with(alloc: Global, piece: &str, other: &str) -> Result<Option<TextFault>, Fail> {
+    let text = CHAIR.replace(alloc, piece, other)?;
+    fault_of(alloc, text.as_str(), "")
+}
+
 #[test]
 fn tells_the_fault_of_a_file(rt: HostRuntime) -> Result<(), Fail> {
-    let alloc = rt.alloc();
-    for (piece, other, fault) in FAULTS {
-        let text = CHAIR.replace(alloc, piece, other)?;
-        assert_eq!(rt; fault_of(alloc, text.as_str(), "")?, Some(fault));
+    for (piece, other, fault) in &FAULTS {
+        assert!(rt;
+            fault_with(rt.alloc(), piece, other)? == Some(*fault),
+            "at {other}"
+        );
+    }
+    Ok(())
+}
+
+/// Whether another piece stands in the place of one, and the chair is read all the same.
+fn is_spelling(alloc: Global, piece: &str, other: &str) -> Result<bool, Fail> {
+    let text = CHAIR.replace(alloc, piece, other)?;
+    Ok(text.as_str() != CHAIR && is_read_to_chair(alloc, text.as_str())?)
+}
+
+#[test]
+fn reads_each_spelling(rt: HostRuntime) -> Result<(), Fail> {
+    for (piece, other) in &SPELLINGS {
+        assert!(rt; is_spelling(rt.alloc(), piece, other)?, "at {other}");
     }
     Ok(())
 }
 
 #[test]
-fn reads_each_spelling(rt: HostRuntime) -> Result<(), Fail> {
-    let alloc = rt.alloc();
-    for (piece, other) in SPELLINGS {
-        let text = CHAIR.replace(alloc, piece, other)?;
-        assert!(rt; text.as_str() != CHAIR);
-        assert!(rt; is_read_to_chair(alloc, text.as_str())?, "at {other}");
+fn reads_lists_in_either_form(rt: HostRuntime) -> Result<(), Fail> {
+    for lists in &LISTS {
+        assert!(rt; fault_of(rt.alloc(), HEAD, lists)?.is_none());
     }
-    for lists in LISTS {
-        assert_eq!(rt; fault_of(alloc, HEAD, lists)?, None);
+    Ok(())
+}
+
+/// The order of the chair's file with this number in the place of its order.
+fn order_read(alloc: Global, number: &str) -> Result<Option<Order>, Fail> {
+    let line = format!(in alloc; "{number}\nlambda")?;
+    let text = CHAIR.replace(alloc, "4\nlambda", line.as_str())?;
+    if text.len() > LONGEST_FILE {
+        return Ok(None);
     }
-    for (number, order) in ORDERS {
-        let text = CHAIR.replace(
-            alloc,
-            "4\nlambda",
-            format!(in alloc; "{number}\nlambda")?.as_str(),
-        )?;
-        assert!(rt; text.len() <= LONGEST_FILE);
-        let rule = read_rule(alloc, text.as_bytes())?;
-        assert!(rt; rule.order == order, "at {number}");
+    Ok(Some(read_rule(alloc, text.as_bytes())?.order))
+}
+
+#[test]
+fn reads_each_number(rt: HostRuntime) -> Result<(), Fail> {
+    for (number, order) in &ORDERS {
+        assert!(rt;
+            order_read(rt.alloc(), number)? == Some(*order),
+            "at {number}"
+        );
     }
     Ok(())
 }

@@ -6,7 +6,7 @@ use std::test::Fail;
 
 const FORMAT: Key = Key::Format;
 
-const FORMAT_ROWS: [(&str, TextFault); 15] = [
+static FORMAT_ROWS: [(&str, TextFault); 15] = [
     ("", TextFault::Missing { key: FORMAT }),
     ("order = 5", TextFault::Missing { key: FORMAT }),
     ("format = \"1\"", TextFault::WrongType { key: FORMAT }),
@@ -34,7 +34,7 @@ const ORDER: Key = Key::Order;
 
 const LAMBDA: Key = Key::Lambda;
 
-const ORDER_ROWS: [(&str, TextFault); 18] = [
+static ORDER_ROWS: [(&str, TextFault); 18] = [
     ("", TextFault::Missing { key: ORDER }),
     ("lambda = 2", TextFault::Missing { key: ORDER }),
     ("order = \"4\"", TextFault::WrongType { key: ORDER }),
@@ -56,7 +56,7 @@ const ORDER_ROWS: [(&str, TextFault); 18] = [
 ];
 
 /// The orders of format 2.
-const ORDER_ROWS_OF_TWO: [(&str, TextFault); 8] = [
+static ORDER_ROWS_OF_TWO: [(&str, TextFault); 8] = [
     ("", TextFault::Missing { key: ORDER }),
     ("order = \"6\"", TextFault::WrongType { key: ORDER }),
     ("order = 5", TextFault::OutOfRange { key: ORDER }),
@@ -69,7 +69,7 @@ const ORDER_ROWS_OF_TWO: [(&str, TextFault); 8] = [
 
 const GLUE: Key = Key::Glue;
 
-const LAMBDA_ROWS: [(&str, TextFault); 18] = [
+static LAMBDA_ROWS: [(&str, TextFault); 18] = [
     ("", TextFault::Missing { key: LAMBDA }),
     ("lambda = 2", TextFault::WrongType { key: LAMBDA }),
     ("lambda = [2, 0, 0]", TextFault::WrongType { key: LAMBDA }),
@@ -124,7 +124,7 @@ const LAMBDA_ROWS: [(&str, TextFault); 18] = [
 ];
 
 /// In order eight all four coefficients are free.
-const EIGHT_ROWS: [(&str, TextFault); 3] = [
+static EIGHT_ROWS: [(&str, TextFault); 3] = [
     ("lambda = [64, 0, 1, -64]", TextFault::Missing { key: GLUE }),
     (
         "lambda = [1, 1, 65, -1]",
@@ -137,7 +137,7 @@ const EIGHT_ROWS: [(&str, TextFault); 3] = [
 ];
 
 /// In order six the last two coefficients are 0.
-const SIX_ROWS: [(&str, TextFault); 5] = [
+static SIX_ROWS: [(&str, TextFault); 5] = [
     ("lambda = [64, -64, 0, 0]", TextFault::Missing { key: GLUE }),
     (
         "lambda = [1, 1, 1, 0]",
@@ -159,7 +159,7 @@ const SIX_ROWS: [(&str, TextFault); 5] = [
 
 const TYPES: Key = Key::TypeList;
 
-const GLUE_ROWS: [(&str, TextFault); 12] = [
+static GLUE_ROWS: [(&str, TextFault); 12] = [
     ("", TextFault::Missing { key: GLUE }),
     ("glue = 1", TextFault::WrongType { key: GLUE }),
     ("glue = [[]]", TextFault::WrongType { key: GLUE }),

@@ -2,13 +2,13 @@
 use crate::faults::{HEAD, assert_faults, fault_of};
 use rule_text::key::Key;
 use rule_text::place::Place;
-use rule_text::reading::read_rule;
+use rule_text::reading::{LONGEST_FILE, read_rule};
 use rule_text::text_fault::TextFault;
 use std::alloc::Global;
 use std::test::Fail;
 
 /// No documents, whatever their keys are.
-const NO_DOCUMENTS: [&str; 23] = [
+static NO_DOCUMENTS: [&str; 23] = [
     "format",
     "format 1",
     "format =",
@@ -37,7 +37,7 @@ const NO_DOCUMENTS: [&str; 23] = [
 ];
 
 /// Documents with other line ends, with other spellings of their keys, and with further ones.
-const DOCUMENTS: [(&str, TextFault); 5] = [
+static DOCUMENTS: [(&str, TextFault); 5] = [
     ("\r\n", TextFault::Missing { key: Key::Format }),
     ("format = 1\r\n", TextFault::Missing { key: Key::Order }),
     ("\u{feff}format = 1", TextFault::Missing { key: Key::Order }),
@@ -47,6 +47,22 @@ const DOCUMENTS: [(&str, TextFault); 5] = [
         TextFault::Missing { key: Key::Order },
     ),
 ];
+
+/// A document with a further key before its lists.
+static FURTHER: [(&str, TextFault); 1] = [(
+    "name = \"x\"\nkind = []\ntype = []\n",
+    TextFault::UnknownKey { place: Place::Top },
+)];
+
+/// How many brackets open and close, and the fault.
+static NESTS: [(usize, usize, TextFault); 3] = [
+    (10_000, 0, TextFault::NotToml),
+    (5_000, 5_000, TextFault::NotToml),
+    (70, 70, TextFault::WrongType { key: Key::Format }),
+];
+
+/// Pieces that make no document where they stand 5,000 times, and what is behind them.
+static MANY: [(&str, &str); 2] = [("a = {", ""), ("a.", "a = 1")];
 
 /// The fault of a file with `opens` brackets that open behind `format = `, and `closes` that close.
 fn fault_of_nest(alloc: Global, opens: usize, closes: usize) -> Result<Option<TextFault>, Fail> {
@@ -60,34 +76,47 @@ fn fault_of_nest(alloc: Global, opens: usize, closes: usize) -> Result<Option<Te
     fault_of(alloc, text.as_str(), "")
 }
 
+/// The fault of a piece that stands 5,000 times before what is behind it.
+fn fault_of_many(alloc: Global, piece: &str, behind: &str) -> Result<Option<TextFault>, Fail> {
+    let text = piece.repeat(alloc, 5_000)?;
+    fault_of(alloc, text.as_str(), behind)
+}
+
+/// Whether bytes are no document.
+fn is_no_document(alloc: Global, bytes: &[u8]) -> bool {
+    bytes.len() <= LONGEST_FILE && read_rule(alloc, bytes).err() == Some(TextFault::NotToml)
+}
+
 #[test]
 fn refuses_what_is_no_document(rt: HostRuntime) -> Result<(), Fail> {
-    let alloc = rt.alloc();
-    let no_toml = Some(TextFault::NotToml);
-    assert_eq!(rt; read_rule(alloc, b"\xff").err(), no_toml);
-    assert_eq!(rt; read_rule(alloc, b"format = 1 # \xc3").err(), no_toml);
-    for text in NO_DOCUMENTS {
-        assert_eq!(rt; fault_of(alloc, text, "")?, no_toml);
+    assert!(rt; is_no_document(rt.alloc(), b"\xff"));
+    assert!(rt; is_no_document(rt.alloc(), b"format = 1 # \xc3"));
+    for text in &NO_DOCUMENTS {
+        assert!(rt; is_no_document(rt.alloc(), text.as_bytes()), "{text}");
     }
-    assert_faults(&rt, alloc, "", &DOCUMENTS)?;
-    assert_faults(
-        &rt,
-        alloc,
-        HEAD,
-        &[(
-            "name = \"x\"\nkind = []\ntype = []\n",
-            TextFault::UnknownKey { place: Place::Top },
-        )],
-    )?;
-    assert_eq!(rt; fault_of_nest(alloc, 10_000, 0)?, no_toml);
-    assert_eq!(rt; fault_of_nest(alloc, 5_000, 5_000)?, no_toml);
-    assert_eq!(rt;
-        fault_of_nest(alloc, 70, 70)?,
-        Some(TextFault::WrongType { key: Key::Format })
-    );
-    let tables = "a = {".repeat(alloc, 5_000)?;
-    assert_eq!(rt; fault_of(alloc, tables.as_str(), "")?, no_toml);
-    let path = "a.".repeat(alloc, 5_000)?;
-    assert_eq!(rt; fault_of(alloc, path.as_str(), "a = 1")?, no_toml);
+    Ok(())
+}
+
+#[test]
+fn tells_faults_of_documents(rt: HostRuntime) -> Result<(), Fail> {
+    assert_faults(&rt, rt.alloc(), "", &DOCUMENTS)?;
+    assert_faults(&rt, rt.alloc(), HEAD, &FURTHER)
+}
+
+#[test]
+fn refuses_what_is_nested_too_deep(rt: HostRuntime) -> Result<(), Fail> {
+    let alloc = rt.alloc();
+    for (opens, closes, fault) in &NESTS {
+        assert!(rt;
+            fault_of_nest(alloc, *opens, *closes)? == Some(*fault),
+            "{opens}"
+        );
+    }
+    for (piece, behind) in &MANY {
+        assert!(rt;
+            fault_of_many(alloc, piece, behind)? == Some(TextFault::NotToml),
+            "{piece}"
+        );
+    }
     Ok(())
 }

@@ -1,5 +1,5 @@
 //! Faults of the kinds, and of a further key at the top.
-use crate::faults::{HEAD, TYPES, assert_faults};
+use crate::faults::{HEAD, TYPES, assert_behind};
 use rule_text::key::Key;
 use rule_text::place::Place;
 use rule_text::text_fault::TextFault;
@@ -16,7 +16,7 @@ const CHILDREN: Key = Key::Children { kind: 0 };
 const PLACE: Place = Place::InKind { kind: 0 };
 
 /// Behind an empty list of types.
-const TOP_ROWS: [(&str, TextFault); 9] = [
+static TOP_ROWS: [(&str, TextFault); 9] = [
     ("", TextFault::Missing { key: LIST }),
     ("kind = 0", TextFault::WrongType { key: LIST }),
     ("kind = {}", TextFault::WrongType { key: LIST }),
@@ -29,13 +29,13 @@ const TOP_ROWS: [(&str, TextFault); 9] = [
 ];
 
 /// Behind the types.
-const LIST_ROWS: [(&str, TextFault); 2] = [
+static LIST_ROWS: [(&str, TextFault); 2] = [
     ("", TextFault::Missing { key: LIST }),
     ("[kind]", TextFault::WrongType { key: LIST }),
 ];
 
 /// Behind the header of the first kind.
-const VERTEX_ROWS: [(&str, TextFault); 14] = [
+static VERTEX_ROWS: [(&str, TextFault); 14] = [
     ("", TextFault::Missing { key: VERTICES }),
     ("name = 1\nedges = 0", TextFault::Missing { key: VERTICES }),
     ("vertices = 0", TextFault::WrongType { key: VERTICES }),
@@ -77,7 +77,7 @@ const VERTEX_ROWS: [(&str, TextFault); 14] = [
 ];
 
 /// Behind the vertices of the first kind.
-const EDGE_ROWS: [(&str, TextFault); 9] = [
+static EDGE_ROWS: [(&str, TextFault); 9] = [
     ("", TextFault::Missing { key: EDGES }),
     ("edges = {}", TextFault::WrongType { key: EDGES }),
     ("edges = [32, []]", TextFault::WrongType { key: EDGES }),
@@ -97,7 +97,7 @@ const NEXT: Key = Key::Vertices { kind: 1 };
 const TOP: Place = Place::Top;
 
 /// Behind the edges of the first kind.
-const CHILD_ROWS: [(&str, TextFault); 24] = [
+static CHILD_ROWS: [(&str, TextFault); 24] = [
     ("", TextFault::Missing { key: CHILDREN }),
     ("name = 1", TextFault::Missing { key: CHILDREN }),
     ("children = 0", TextFault::WrongType { key: CHILDREN }),
@@ -178,19 +178,24 @@ const CHILD_ROWS: [(&str, TextFault); 24] = [
     ),
 ];
 
+/// The head of the first kind, a vertex, and an edge.
+const KIND: &str = "[[kind]]\n";
+
+const ONE_VERTEX: &str = "vertices = [[0,0,0,0]]\n";
+
+const ONE_EDGE: &str = "edges = [0]\n";
+
 #[test]
 fn tells_faults_of_kinds(rt: HostRuntime) -> Result<(), Fail> {
     let alloc = rt.alloc();
-    let mut head = String::from_str(alloc, HEAD)?;
-    head.push_str("type = []\n")?;
-    assert_faults(&rt, alloc, head.as_str(), &TOP_ROWS)?;
-    let mut head = String::from_str(alloc, HEAD)?;
-    head.push_str(TYPES)?;
-    assert_faults(&rt, alloc, head.as_str(), &LIST_ROWS)?;
-    head.push_str("[[kind]]\n")?;
-    assert_faults(&rt, alloc, head.as_str(), &VERTEX_ROWS)?;
-    head.push_str("vertices = [[0,0,0,0]]\n")?;
-    assert_faults(&rt, alloc, head.as_str(), &EDGE_ROWS)?;
-    head.push_str("edges = [0]\n")?;
-    assert_faults(&rt, alloc, head.as_str(), &CHILD_ROWS)
+    assert_behind(&rt, alloc, &[HEAD, "type = []\n"], &TOP_ROWS)?;
+    assert_behind(&rt, alloc, &[HEAD, TYPES], &LIST_ROWS)?;
+    assert_behind(&rt, alloc, &[HEAD, TYPES, KIND], &VERTEX_ROWS)?;
+    assert_behind(&rt, alloc, &[HEAD, TYPES, KIND, ONE_VERTEX], &EDGE_ROWS)?;
+    assert_behind(
+        &rt,
+        alloc,
+        &[HEAD, TYPES, KIND, ONE_VERTEX, ONE_EDGE],
+        &CHILD_ROWS,
+    )
 }

@@ -1,5 +1,5 @@
 //! Faults of the types.
-use crate::faults::{HEAD, TYPES, assert_faults};
+use crate::faults::{HEAD, TYPES, assert_behind};
 use rule_text::key::Key;
 use rule_text::place::Place;
 use rule_text::text_fault::TextFault;
@@ -15,7 +15,7 @@ const PARTS: Key = Key::Parts { ty: 0 };
 
 const PLACE: Place = Place::InType { ty: 0 };
 
-const LIST_ROWS: [(&str, TextFault); 15] = [
+static LIST_ROWS: [(&str, TextFault); 15] = [
     ("", TextFault::Missing { key: LIST }),
     ("name = 1\nkind = 2", TextFault::Missing { key: LIST }),
     ("type = {}", TextFault::WrongType { key: LIST }),
@@ -43,7 +43,7 @@ const LIST_ROWS: [(&str, TextFault); 15] = [
 ];
 
 /// Behind the header of the first type.
-const ENTRY_ROWS: [(&str, TextFault); 22] = [
+static ENTRY_ROWS: [(&str, TextFault); 22] = [
     ("", TextFault::Missing { key: MATE }),
     ("name = 1\nparts = 0", TextFault::Missing { key: MATE }),
     ("mate = true", TextFault::WrongType { key: MATE }),
@@ -100,7 +100,7 @@ const NEXT_MATE: Key = Key::Mate { ty: 1 };
 const NEXT_PLACE: Place = Place::InType { ty: 1 };
 
 /// Behind the first type.
-const NEXT_ROWS: [(&str, TextFault); 3] = [
+static NEXT_ROWS: [(&str, TextFault); 3] = [
     ("", TextFault::Missing { key: KINDS }),
     (
         "[[type]]\nparts = []",
@@ -115,11 +115,7 @@ const NEXT_ROWS: [(&str, TextFault); 3] = [
 #[test]
 fn tells_faults_of_types(rt: HostRuntime) -> Result<(), Fail> {
     let alloc = rt.alloc();
-    assert_faults(&rt, alloc, HEAD, &LIST_ROWS)?;
-    let mut head = String::from_str(alloc, HEAD)?;
-    head.push_str("[[type]]\n")?;
-    assert_faults(&rt, alloc, head.as_str(), &ENTRY_ROWS)?;
-    let mut head = String::from_str(alloc, HEAD)?;
-    head.push_str(TYPES)?;
-    assert_faults(&rt, alloc, head.as_str(), &NEXT_ROWS)
+    assert_behind(&rt, alloc, &[HEAD], &LIST_ROWS)?;
+    assert_behind(&rt, alloc, &[HEAD, "[[type]]\n"], &ENTRY_ROWS)?;
+    assert_behind(&rt, alloc, &[HEAD, TYPES], &NEXT_ROWS)
 }

@@ -1,7 +1,7 @@
 //! The three texts.
 ghost use Rattle.layer_api.specs.Drawable.{IsDrawable, IsView};
 
-use crate::tiles::{draw_chairs, joined, part, view, whole};
+use crate::tiles::{drawn, joined, part, view, whole};
 use cyclo_points::order::Order;
 use layer_api::drawn::Drawn;
 use layer_api::layer::Layer;
@@ -31,56 +31,64 @@ pub(crate) const CHAIRS_CENSUS: &str = "0 2\nall 2\n";
 
 /// Two chairs, drawn twice by each layer.
 #[test]
-fn chairs(rt: HostRuntime) -> Result<(), Fail> {
+fn chairs(rt: HostRuntime) {
     let alloc = rt.alloc();
     let mut svg = SvgLayer::new(alloc);
     let mut list = ListLayer::new(alloc);
     let mut census = CensusLayer::new(alloc);
     for _ in 0..2u8 {
-        assert!(rt; draw_chairs(&mut svg).is_ok());
-        assert_eq!(rt; svg.bytes(), CHAIRS_SVG.as_bytes());
-        assert!(rt; draw_chairs(&mut list).is_ok());
-        assert_eq!(rt; list.bytes(), CHAIRS_LIST.as_bytes());
-        assert!(rt; draw_chairs(&mut census).is_ok());
-        assert_eq!(rt; census.bytes(), CHAIRS_CENSUS.as_bytes());
+        assert!(rt; drawn(&mut svg, CHAIRS_SVG) == Some(true));
+        assert!(rt; drawn(&mut list, CHAIRS_LIST) == Some(true));
+        assert!(rt; drawn(&mut census, CHAIRS_CENSUS) == Some(true));
     }
-    Ok(())
 }
 
-/// The picture of one tile.
-fn svg_of(alloc: Global, view: View, tile: &Drawn) -> Result<Vec<u8>, NoMemory>
+/// Whether a layer draws one tile as this text.
+fn draws<L: Layer>(layer: &mut L, view: View, tile: &Drawn, wanted: &str) -> Result<bool, NoMemory>
     requires view { IsView view }
     requires drawable { IsDrawable view.order tile.now }
 {
-    let mut layer = SvgLayer::new(alloc);
     layer.begin(view);
     layer.put(tile)?;
     layer.end()?;
-    Ok(layer.bytes().to_vec(alloc)?)
+    Ok(layer.bytes() == wanted.as_bytes())
 }
 
-/// The list of one tile.
-fn list_of(alloc: Global, view: View, tile: &Drawn) -> Result<Vec<u8>, NoMemory>
+/// Whether the picture of one tile is this.
+fn is_svg(alloc: Global, view: View, tile: &Drawn, wanted: &str) -> Result<bool, NoMemory>
     requires view { IsView view }
     requires drawable { IsDrawable view.order tile.now }
 {
-    let mut layer = ListLayer::new(alloc);
-    layer.begin(view);
-    layer.put(tile)?;
-    layer.end()?;
-    Ok(layer.bytes().to_vec(alloc)?)
+    draws(&mut SvgLayer::new(alloc), view, tile, wanted)
 }
 
-/// Whether a text was made, and is this one.
-fn is_text(text: Result<Vec<u8>, NoMemory>, wanted: &str) -> bool {
-    match text {
-        Ok(text) => text.as_slice() == wanted.as_bytes(),
-        Err(NoMemory) => false,
-    }
+/// Whether the list of one tile is this.
+fn is_list(alloc: Global, view: View, tile: &Drawn, wanted: &str) -> Result<bool, NoMemory>
+    requires view { IsView view }
+    requires drawable { IsDrawable view.order tile.now }
+{
+    draws(&mut ListLayer::new(alloc), view, tile, wanted)
+}
+
+/// Whether the text of a view without a tile is this.
+fn is_empty<L: Layer>(layer: &mut L, view: View, wanted: &str) -> Result<bool, NoMemory>
+    requires view { IsView view }
+{
+    layer.begin(view);
+    layer.end()?;
+    Ok(layer.bytes() == wanted.as_bytes())
 }
 
 /// The vertices of a kite of order ten.
 const KITE: [[i8; 4]; 4] = [[0, 0, 0, 0], [1, 0, 1, -1], [1, 0, 1, 0], [0, 1, 0, 1]];
+
+const KITE_SVG: &str =
+    "<svg xmlns=\"http://www.w3.org/2000/svg\" version=\"1.1\" viewBox=\"-2048.0 -1.763355 4096 3.526710\">
+<g transform=\"scale(0.0005 -0.000587785)\" fill=\"none\" stroke=\"black\" stroke-width=\"40\">
+<path class=\"k0\" d=\"M-2619 -1619L618 -1619L0 0L-1619 1000Z\"/>
+</g>
+</svg>
+";
 
 /// A kite of two halves: coordinates of either sign, rounded down.
 #[test]
@@ -92,25 +100,33 @@ fn kite(rt: HostRuntime) -> Result<(), Fail> {
         part(0, 0, [0; 4], &[(2, 0)]),
         part(1, 1, [0; 4], &[(1, 0)]),
     );
-    let text = list_of(alloc, view(Order::Ten, &[0; 4], (1, 1), 4), &kite);
-    assert!(rt; is_text(text, "0 0 0,0,0,0 0:2/0 + 1 1 0,0,0,0 1:1/0\n"));
-    let text = svg_of(alloc, view(Order::Ten, &[1, 0, 1, 0], (4096, 3), 4), &kite);
+    let seen = view(Order::Ten, &[0; 4], (1, 1), 4);
     assert!(rt;
-        is_text(
-            text,
-            "<svg xmlns=\"http://www.w3.org/2000/svg\" version=\"1.1\" viewBox=\"-2048.0 -1.763355 4096 3.526710\">
-<g transform=\"scale(0.0005 -0.000587785)\" fill=\"none\" stroke=\"black\" stroke-width=\"40\">
-<path class=\"k0\" d=\"M-2619 -1619L618 -1619L0 0L-1619 1000Z\"/>
-</g>
-</svg>
-"
-        )
+        is_list(
+            alloc,
+            seen,
+            &kite,
+            "0 0 0,0,0,0 0:2/0 + 1 1 0,0,0,0 1:1/0\n"
+        )?
     );
+    let seen = view(Order::Ten, &[1, 0, 1, 0], (4096, 3), 4);
+    assert!(rt; is_svg(alloc, seen, &kite, KITE_SVG)?);
     Ok(())
 }
 
 /// The vertices of a triangle of order eight.
 const TRIANGLE: [[i8; 4]; 3] = [[0, 0, 0, 0], [0, 1, 0, -1], [0, 1, 0, 0]];
+
+const TRIANGLE_LIST: &str =
+    "1 255 -9223372036854775808,9223372036854775807,10,-1 1:255/100,9/10,0/0\n";
+
+const TRIANGLE_SVG: &str =
+    "<svg xmlns=\"http://www.w3.org/2000/svg\" version=\"1.1\" viewBox=\"-3.5 -2896.310272 7 5792.620544\">
+<g transform=\"scale(0.0005 -0.000707107)\" fill=\"none\" stroke=\"black\" stroke-width=\"40\">
+<path class=\"k1\" d=\"M6727 -12072L9556 -12072L8142 -11072Z\"/>
+</g>
+</svg>
+";
 
 /// A triangle of order eight, and an address of numbers with three figures.
 #[test]
@@ -123,33 +139,9 @@ fn triangle(rt: HostRuntime) -> Result<(), Fail> {
         &[(255, 100), (9, 10), (0, 0)],
     );
     let triangle = whole(Order::Eight, &TRIANGLE, far);
-    let text = list_of(
-        alloc,
-        view(Order::Eight, &[3, -2, 5, 7], (7, 4096), 3),
-        &triangle,
-    );
-    assert!(rt;
-        is_text(
-            text,
-            "1 255 -9223372036854775808,9223372036854775807,10,-1 1:255/100,9/10,0/0\n"
-        )
-    );
-    let text = svg_of(
-        alloc,
-        view(Order::Eight, &[3, -2, 5, 7], (7, 4096), 3),
-        &triangle,
-    );
-    assert!(rt;
-        is_text(
-            text,
-            "<svg xmlns=\"http://www.w3.org/2000/svg\" version=\"1.1\" viewBox=\"-3.5 -2896.310272 7 5792.620544\">
-<g transform=\"scale(0.0005 -0.000707107)\" fill=\"none\" stroke=\"black\" stroke-width=\"40\">
-<path class=\"k1\" d=\"M6727 -12072L9556 -12072L8142 -11072Z\"/>
-</g>
-</svg>
-"
-        )
-    );
+    let seen = view(Order::Eight, &[3, -2, 5, 7], (7, 4096), 3);
+    assert!(rt; is_list(alloc, seen, &triangle, TRIANGLE_LIST)?);
+    assert!(rt; is_svg(alloc, seen, &triangle, TRIANGLE_SVG)?);
     Ok(())
 }
 
@@ -162,83 +154,65 @@ const HALF_HEX: [[i8; 4]; 5] = [
     [0, 0, 0, 0],
 ];
 
+const HALF_HEX_SVG: &str =
+    "<svg xmlns=\"http://www.w3.org/2000/svg\" version=\"1.1\" viewBox=\"-0.5 -0.866025 1 1.732050\">
+<g transform=\"scale(0.0005 -0.000866025)\" fill=\"none\" stroke=\"black\" stroke-width=\"40\">
+<path class=\"k0\" d=\"M-1000 -1000L1000 -1000L0 0L-2000 0L-3000 -1000Z\"/>
+</g>
+</svg>
+";
+
 /// A half hexagon of order six, and an address of 64 digits.
 #[test]
 fn half_hexagon(rt: HostRuntime) -> Result<(), Fail> {
     let alloc = rt.alloc();
     let half = whole(Order::Six, &HALF_HEX, part(0, 0, [0; 4], &[(1, 0); 64]));
-    let text = svg_of(alloc, view(Order::Six, &[1, 1, 0, 0], (1, 1), 1), &half);
+    let seen = view(Order::Six, &[1, 1, 0, 0], (1, 1), 1);
+    assert!(rt; is_svg(alloc, seen, &half, HALF_HEX_SVG)?);
     assert!(rt;
-        is_text(
-            text,
-            "<svg xmlns=\"http://www.w3.org/2000/svg\" version=\"1.1\" viewBox=\"-0.5 -0.866025 1 1.732050\">
-<g transform=\"scale(0.0005 -0.000866025)\" fill=\"none\" stroke=\"black\" stroke-width=\"40\">
-<path class=\"k0\" d=\"M-1000 -1000L1000 -1000L0 0L-2000 0L-3000 -1000Z\"/>
-</g>
-</svg>
-"
-        )
-    );
-    let text = list_of(alloc, view(Order::Six, &[1, 1, 0, 0], (1, 1), 1), &half);
-    assert!(rt;
-        is_text(
-            text,
+        is_list(
+            alloc,
+            seen,
+            &half,
             "0 0 0,0,0,0 0:1/0,1/0,1/0,1/0,1/0,1/0,1/0,1/0,1/0,1/0,1/0,1/0,1/0,1/0,1/0,1/0,1/0,1/0,1/0,1/0,1/0,1/0,1/0,1/0,1/0,1/0,1/0,1/0,1/0,1/0,1/0,1/0,1/0,1/0,1/0,1/0,1/0,1/0,1/0,1/0,1/0,1/0,1/0,1/0,1/0,1/0,1/0,1/0,1/0,1/0,1/0,1/0,1/0,1/0,1/0,1/0,1/0,1/0,1/0,1/0,1/0,1/0,1/0,1/0\n"
-        )
+        )?
     );
     Ok(())
 }
+
+const NO_TILE_SVG: &str =
+    "<svg xmlns=\"http://www.w3.org/2000/svg\" version=\"1.1\" viewBox=\"-32767.5 -1.000000 65535 2.000000\">
+<g transform=\"scale(0.0005 -0.001)\" fill=\"none\" stroke=\"black\" stroke-width=\"40\">
+</g>
+</svg>
+";
 
 /// Views without a tile: a head and a tail, no line, and a census of nothing.
 #[test]
 fn no_tile(rt: HostRuntime) -> Result<(), Fail> {
     let alloc = rt.alloc();
     let seen = view(Order::Four, &[0; 4], (65535, 1), 2);
-    let mut svg = SvgLayer::new(alloc);
-    svg.begin(seen);
-    assert!(rt; svg.end().is_ok());
-    assert_eq!(rt;
-        svg.bytes(),
-        b"<svg xmlns=\"http://www.w3.org/2000/svg\" version=\"1.1\" viewBox=\"-32767.5 -1.000000 65535 2.000000\">
-<g transform=\"scale(0.0005 -0.001)\" fill=\"none\" stroke=\"black\" stroke-width=\"40\">
-</g>
-</svg>
-"
-            .as_slice()
-    );
-    let mut list = ListLayer::new(alloc);
-    list.begin(seen);
-    assert!(rt; list.end().is_ok());
-    assert_eq!(rt; list.bytes(), b"".as_slice());
-    let mut census = CensusLayer::new(alloc);
-    census.begin(seen);
-    assert!(rt; census.end().is_ok());
-    assert_eq!(rt; census.bytes(), b"0 0\n1 0\nall 0\n".as_slice());
+    assert!(rt; is_empty(&mut SvgLayer::new(alloc), seen, NO_TILE_SVG)?);
+    assert!(rt; is_empty(&mut ListLayer::new(alloc), seen, "")?);
+    assert!(rt; is_empty(&mut CensusLayer::new(alloc), seen, "0 0\n1 0\nall 0\n")?);
     Ok(())
+}
+
+/// Whether the census of three tiles, two of kind 1 and one of a class that is no kind, is this.
+fn is_census(alloc: Global, wanted: &str) -> Result<bool, NoMemory> {
+    let mut census = CensusLayer::new(alloc);
+    let one = whole(Order::Ten, &KITE, part(1, 0, [0; 4], &[]));
+    census.begin(view(Order::Ten, &[0; 4], (1, 1), 2));
+    census.put(&one)?;
+    census.put(&whole(Order::Ten, &KITE, part(255, 0, [0; 4], &[])))?;
+    census.put(&one)?;
+    census.end()?;
+    Ok(census.bytes() == wanted.as_bytes())
 }
 
 /// A class that is no kind is counted among all alone.
 #[test]
 fn class_that_is_no_kind(rt: HostRuntime) -> Result<(), Fail> {
-    let alloc = rt.alloc();
-    let mut census = CensusLayer::new(alloc);
-    census.begin(view(Order::Ten, &[0; 4], (1, 1), 2));
-    assert!(rt;
-        census
-            .put(&whole(Order::Ten, &KITE, part(1, 0, [0; 4], &[])))
-            .is_ok()
-    );
-    assert!(rt;
-        census
-            .put(&whole(Order::Ten, &KITE, part(255, 0, [0; 4], &[])))
-            .is_ok()
-    );
-    assert!(rt;
-        census
-            .put(&whole(Order::Ten, &KITE, part(1, 0, [0; 4], &[])))
-            .is_ok()
-    );
-    assert!(rt; census.end().is_ok());
-    assert_eq!(rt; census.bytes(), b"0 0\n1 2\nall 3\n".as_slice());
+    assert!(rt; is_census(rt.alloc(), "0 0\n1 2\nall 3\n")?);
     Ok(())
 }

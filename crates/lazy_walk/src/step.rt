@@ -10,7 +10,6 @@ ghost use Rattle.lazy_walk.specs.Standing.{Stands};
 
 use crate::frame::Frame;
 use cyclo_points::motion::Motion;
-use cyclo_points::movement::compose;
 use cyclo_points::point::Point;
 use cyclo_points::points_law;
 use edge_tables::steps::Steps;
@@ -66,13 +65,11 @@ impl Frame {
     {
         grown_fits_law();
         let checked = machine.checked();
-        let order = checked.order();
-        points_law(order);
+        points_law(checked.order());
         machine.gluing_law();
         let _usable = checked.uses().kinds();
         let back = machine.cross_in_place(&mut tile.addr, edge, steps)?;
-        let glue = machine.glue_motion(tile.kind, edge, tile.addr.kind, back);
-        tile.motion = compose(order, &tile.motion, &glue);
+        tile.motion = machine.motion_across(&tile.motion, tile.kind, edge, tile.addr.kind, back);
         tile.kind = tile.addr.kind;
         Ok(back)
     }

@@ -1,5 +1,5 @@
 //! Addresses and their texts.
-use std::alloc::Global;
+use std::alloc::{AllocError, Global};
 use std::test::Fail;
 use tile_shape::address::{Address, Full};
 use tile_shape::address_fault::AddressFault;
@@ -29,7 +29,7 @@ fn address(kind: u8, digits: &[(u8, u8)]) -> Address {
 }
 
 /// So many digits `0/0` behind `0:`.
-fn deep(alloc: Global, digits: usize) -> Result<Vec<u8>, Fail> {
+fn deep(alloc: Global, digits: usize) -> Result<Vec<u8>, AllocError> {
     let mut text = Vec::new(alloc);
     text.extend_from_slice(b"0:0/0")?;
     for _ in 1..digits {
@@ -39,7 +39,7 @@ fn deep(alloc: Global, digits: usize) -> Result<Vec<u8>, Fail> {
 }
 
 /// Texts that are refused, at the first byte that can't go on or for the first misfit.
-const REFUSED: [(&str, AddressFault); 20] = [
+static REFUSED: [(&str, AddressFault); 20] = [
     ("", AddressFault::BadText { place: 0 }),
     ("x", AddressFault::BadText { place: 0 }),
     ("3", AddressFault::BadText { place: 1 }),
@@ -84,36 +84,45 @@ fn depth_read(uses: &Uses, text: &[u8]) -> Result<u8, AddressFault> {
     Ok(read_address(uses, text)?.depth())
 }
 
-/// What is read of a text of 64 digits, of one of 65, and of that with a comma behind it.
-fn read_deep(alloc: Global) -> Result<[Result<u8, AddressFault>; 3], Fail> {
-    let uses = one_kind(alloc)?;
-    let mut text = deep(alloc, 64)?;
-    let most = depth_read(&uses, &text);
-    text.extend_from_slice(b",0/0")?;
-    let more = depth_read(&uses, &text);
-    text.push(b',')?;
-    Ok([most, more, depth_read(&uses, &text)])
+/// How many digits a text has, what stands behind them, and the depth that is read or the fault.
+static DEEP: [(usize, &str, Result<u8, AddressFault>); 3] = [
+    (64, "", Ok(64)),
+    (65, "", Err(AddressFault::TooDeep)),
+    (65, ",", Err(AddressFault::BadText { place: 262 })),
+];
+
+/// Whether a text is read as its row says.
+fn is_read_deep(
+    alloc: Global,
+    uses: &Uses,
+    row: &(usize, &str, Result<u8, AddressFault>),
+) -> Result<bool, AllocError> {
+    let (digits, behind, wanted) = row;
+    let mut text = deep(alloc, *digits)?;
+    text.extend_from_slice(behind.as_bytes())?;
+    Ok(depth_read(uses, &text) == *wanted)
 }
 
 #[test]
 fn texts_of_64_digits_and_more(rt: HostRuntime) -> Result<(), Fail> {
-    let behind = AddressFault::BadText { place: 262 };
-    let wanted = [Ok(64), Err(AddressFault::TooDeep), Err(behind)];
-    assert_eq!(rt; read_deep(rt.alloc())?, wanted);
+    let uses = one_kind(rt.alloc())?;
+    for row in &DEEP {
+        assert!(rt; is_read_deep(rt.alloc(), &uses, row)?);
+    }
     Ok(())
 }
 
 /// A kind, digits from fine to coarse, and the text of that address.
 type Row = (u8, &'static [(u8, u8)], &'static str);
 
-const TEXTS: [Row; 3] = [
+static TEXTS: [Row; 3] = [
     (0, &[], "0:"),
     (0, &[(1, 0), (2, 0)], "0:1/0,2/0"),
     (9, &[(10, 99), (100, 205)], "9:10/99,100/205"),
 ];
 
 /// How each fault is printed.
-const PRINTED: [(AddressFault, &str); 4] = [
+static PRINTED: [(AddressFault, &str); 4] = [
     (AddressFault::BadText { place: 262 }, "BadText 262"),
     (AddressFault::TooDeep, "TooDeep"),
     (AddressFault::UnknownKind { level: 0 }, "UnknownKind 0"),
@@ -121,11 +130,20 @@ const PRINTED: [(AddressFault, &str); 4] = [
 ];
 
 /// Whether an address is written and printed as its row says.
-fn is_written(alloc: Global, row: &Row) -> Result<bool, Fail> {
+fn is_written(alloc: Global, row: &Row) -> Result<bool, AllocError> {
     let (kind, digits, text) = row;
     let addr = address(*kind, digits);
+    if write_address(&addr).as_slice() != text.as_bytes() {
+        return Ok(false);
+    }
     let printed = format!(in alloc; "{addr}")?;
-    Ok(write_address(&addr).as_slice() == text.as_bytes() && printed.as_str() == *text)
+    Ok(printed.as_str() == *text)
+}
+
+/// Whether a fault is printed as this text.
+fn is_printed(alloc: Global, fault: &AddressFault, text: &str) -> Result<bool, AllocError> {
+    let printed = format!(in alloc; "{fault}")?;
+    Ok(printed.as_str() == text)
 }
 
 #[test]
@@ -133,29 +151,31 @@ fn written_texts(rt: HostRuntime) -> Result<(), Fail> {
     for row in &TEXTS {
         assert!(rt; is_written(rt.alloc(), row)?);
     }
+    Ok(())
+}
+
+#[test]
+fn printed_faults(rt: HostRuntime) -> Result<(), Fail> {
     for (fault, text) in &PRINTED {
-        assert_eq!(rt; format!(in rt.alloc(); "{fault}")?.as_str(), *text);
+        assert!(rt; is_printed(rt.alloc(), fault, text)?);
     }
     Ok(())
 }
 
-/// How long the longest text is, where it is what is written.
-fn longest_written(alloc: Global) -> Result<Option<usize>, Fail> {
+/// Whether the longest text, of 515 bytes, is written.
+fn is_longest_written(alloc: Global) -> Result<bool, AllocError> {
     let mut longest = Vec::new(alloc);
     longest.extend_from_slice(b"255:255/255")?;
     for _ in 0..63 {
         longest.extend_from_slice(b",255/255")?;
     }
     let written = write_address(&address(255, &[(255, 255); 64]));
-    if written.as_slice() != longest.as_slice() {
-        return Ok(None);
-    }
-    Ok(Some(longest.len()))
+    Ok(longest.len() == 515 && written.as_slice() == longest.as_slice())
 }
 
 #[test]
 fn longest_text(rt: HostRuntime) -> Result<(), Fail> {
-    assert_eq!(rt; longest_written(rt.alloc())?, Some(515));
+    assert!(rt; is_longest_written(rt.alloc())?);
     Ok(())
 }
 
@@ -196,12 +216,9 @@ fn is_one_kind(uses: &Uses, addr: &Address) -> bool {
 fn addresses(rt: HostRuntime) -> Result<(), Fail> {
     let uses = one_kind(rt.alloc())?;
     let addr = address(0, &[(1, 0), (2, 0)]);
-    let found = [
-        is_read(&uses, &addr),
-        is_read_back(&uses, &addr),
-        is_one_kind(&uses, &addr),
-    ];
-    assert_eq!(rt; found, [true; 3]);
+    assert!(rt; is_read(&uses, &addr));
+    assert!(rt; is_read_back(&uses, &addr));
+    assert!(rt; is_one_kind(&uses, &addr));
     Ok(())
 }
 
@@ -219,5 +236,5 @@ fn one_more() -> (u8, Result<(), Full>, u8) {
 
 #[test]
 fn no_room_at_64_digits(rt: HostRuntime) {
-    assert_eq!(rt; one_more(), (64, Err(Full), 64));
+    assert!(rt; one_more() == (64, Err(Full), 64));
 }

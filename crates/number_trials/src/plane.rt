@@ -231,7 +231,7 @@ const SQUARE: [Point; 24] = [
 ];
 
 /// Questions with one answer in each order.
-const IN_EACH_ORDER: [(Call, i32); 35] = [
+static IN_EACH_ORDER: [(Call, i32); 35] = [
     (Call::Side([MIDDLE, at!(0, 1), at!(-1, 0)]), 1),
     (Call::Side([MIDDLE, at!(0, 1), at!(0, 1)]), 0),
     (Call::Side([MIDDLE, at!(0, 1), at!(1, 0)]), -1),
@@ -301,7 +301,7 @@ const ACROSS: [Point; 3] = [
 ];
 
 /// Questions of one order.
-const IN_ONE_ORDER: [(Order, Call, i32); 34] = [
+static IN_ONE_ORDER: [(Order, Call, i32); 34] = [
     // the chair holds its lower and left sides
     (Order::Four, Call::Member(&CHAIR, at!(0, 0)), 1),
     (Order::Four, Call::Member(&CHAIR, at!(1, 1)), 0),
@@ -424,8 +424,8 @@ fn first_other_of_one(rows: &[(Order, Call, i32)]) -> Option<usize> {
 
 #[test]
 fn plane(rt: HostRuntime) {
-    for order in [Order::Four, Order::Six, Order::Eight, Order::Ten] {
-        assert_eq!(rt; first_other(order, &IN_EACH_ORDER), None);
+    for order in &[Order::Four, Order::Six, Order::Eight, Order::Ten] {
+        assert_eq!(rt; first_other(*order, &IN_EACH_ORDER), None);
     }
     assert_eq!(rt; first_other_of_one(&IN_ONE_ORDER), None);
 }

@@ -19,7 +19,7 @@ use tile_io::steady_source::SteadySource;
 use tile_io::writing::write_all;
 
 /// A sink's room, how many bytes it takes a call, which call fails, and what it has taken of `tiles`.
-const WRITTEN: [(usize, usize, u64, &str); 17] = [
+static WRITTEN: [(usize, usize, u64, &str); 17] = [
     (5, 2, 1, ""),
     (5, 2, 2, "ti"),
     (5, 2, 3, "tile"),
@@ -60,7 +60,7 @@ fn written_until_a_call_fails(rt: HostRuntime) -> Result<(), Fail> {
 }
 
 /// Pieces that are written to a sink with room for five bytes, two a call, and what comes of each.
-const PIECES: [(&str, Result<usize, Failed>); 9] = [
+static PIECES: [(&str, Result<usize, Failed>); 9] = [
     ("til", Ok(2)),
     ("til", Err(Failed)),
     ("les", Ok(2)),
@@ -73,7 +73,7 @@ const PIECES: [(&str, Result<usize, Failed>); 9] = [
 ];
 
 /// The room that a source is given at each call, and what it gives.
-const ROOMS: [(usize, Option<&str>); 8] = [
+static ROOMS: [(usize, Option<&str>); 8] = [
     (4, None),
     (4, Some("ti")),
     (4, None),
@@ -84,14 +84,38 @@ const ROOMS: [(usize, Option<&str>); 8] = [
     (4, Some("")),
 ];
 
+/// The number of the first piece that is written otherwise.
+fn first_written_otherwise(sink: &mut MemSink) -> Option<usize> {
+    for (row, (piece, wanted)) in PIECES.iter().enumerate() {
+        if sink.write(piece.as_bytes()) != *wanted {
+            return Some(row);
+        }
+    }
+    None
+}
+
+/// The number of the first call that gives something else.
+fn first_given_otherwise(source: &mut MemSource) -> Option<usize> {
+    let mut buf = [0; 4];
+    for (row, (room, wanted)) in ROOMS.iter().enumerate() {
+        let room = (*room).min(4);
+        let given = match source.read(&mut buf[..room]) {
+            Ok(count) => Some(&buf[..count]),
+            Err(Failed) => None,
+        };
+        if given != wanted.map(str::as_bytes) {
+            return Some(row);
+        }
+    }
+    None
+}
+
 #[test]
 fn sink_fails_at_the_listed_calls(rt: HostRuntime) -> Result<(), Fail> {
     let fails = [2, 9].to_vec(rt.alloc())?;
     let mut sink = MemSink::new(rt.alloc(), 5, 2, fails)?;
-    for (piece, wanted) in &PIECES {
-        assert_eq!(rt; sink.write(piece.as_bytes()), *wanted);
-    }
-    assert_eq!(rt; sink.taken(), b"tiles".as_slice());
+    assert_eq!(rt; first_written_otherwise(&mut sink), None);
+    assert!(rt; sink.taken() == b"tiles".as_slice());
     Ok(())
 }
 
@@ -99,14 +123,7 @@ fn sink_fails_at_the_listed_calls(rt: HostRuntime) -> Result<(), Fail> {
 fn source_fails_at_the_listed_calls(rt: HostRuntime) -> Result<(), Fail> {
     let fails = [6, 1, 3, 0, 3].to_vec(rt.alloc())?;
     let mut source = MemSource::new(b"tiles".to_vec(rt.alloc())?, 2, fails);
-    let mut buf = [0; 4];
-    for (room, wanted) in &ROOMS {
-        let room = (*room).min(4);
-        match source.read(&mut buf[..room]) {
-            Ok(count) => assert_eq!(rt; Some(&buf[..count]), wanted.map(str::as_bytes)),
-            Err(Failed) => assert!(rt; wanted.is_none()),
-        }
-    }
+    assert_eq!(rt; first_given_otherwise(&mut source), None);
     Ok(())
 }
 
@@ -120,13 +137,16 @@ fn in_turn(sink: &mut SteadySink, first: &[u8], second: &[u8]) -> Result<(), Fai
     write_all(sink, second)
 }
 
+/// Whether a sink in memory has taken what is wanted once two pieces more are written to it.
+fn takes(sink: &mut SteadySink, first: &str, second: &str, wanted: &str) -> bool {
+    in_turn(sink, first.as_bytes(), second.as_bytes()).is_ok() && sink.taken() == wanted.as_bytes()
+}
+
 #[test]
 fn sinks_in_memory(rt: HostRuntime) -> Result<(), Fail> {
     let mut steady = SteadySink::new(rt.alloc(), 5)?;
-    in_turn(&mut steady, b"ti", b"le")?;
-    assert_eq!(rt; steady.taken(), b"tile".as_slice());
-    in_turn(&mut steady, b"up", b"s")?;
-    assert_eq!(rt; steady.taken(), b"tiles".as_slice());
+    assert!(rt; takes(&mut steady, "ti", "le", "tile"));
+    assert!(rt; takes(&mut steady, "up", "s", "tiles"));
     Ok(())
 }
 
@@ -139,70 +159,89 @@ fn over_four_bytes() -> [Result<usize, Failed>; 4] {
     [nothing, four, nothing_more, sink.write(b"s")]
 }
 
-/// What is written to a sink over a vector.
-fn over_a_vector(alloc: Global) -> Result<Vec<u8>, Fail> {
+/// Whether what is written to a sink over a vector stands there.
+fn is_over_a_vector(alloc: Global) -> Result<bool, Failed> {
     let mut out = Vec::new(alloc);
     let mut sink = StdSink::new(&mut out);
     write_all(&mut sink, b"tiles")?;
     drop(sink);
-    Ok(out)
+    Ok(out.as_slice() == b"tiles".as_slice())
 }
 
 #[test]
 fn sinks_of_std(rt: HostRuntime) -> Result<(), Fail> {
-    assert_eq!(rt; over_four_bytes(), [Ok(0), Ok(4), Ok(0), Err(Failed)]);
-    assert_eq!(rt; over_a_vector(rt.alloc())?.as_slice(), b"tiles".as_slice());
+    assert!(rt; over_four_bytes() == [Ok(0), Ok(4), Ok(0), Err(Failed)]);
+    assert!(rt; is_over_a_vector(rt.alloc())?);
     Ok(())
 }
+
+/// Whether a source gives this piece at a call that asks for two bytes.
+fn gives<S: Source>(source: &mut S, wanted: &str) -> bool {
+    let mut buf = [0; 2];
+    match source.read(&mut buf) {
+        Ok(count) => &buf[..count] == wanted.as_bytes(),
+        Err(Failed) => false,
+    }
+}
+
+/// What sources of `tiles` give, two bytes a call.
+static GIVEN: [&str; 4] = ["ti", "le", "s", ""];
 
 #[test]
 fn sources_in_pieces(rt: HostRuntime) -> Result<(), Fail> {
     let mut steady = SteadySource::new(b"tiles".to_vec(rt.alloc())?);
     let mut over_std = StdSource::new(b"tiles".as_slice());
-    for wanted in ["ti", "le", "s", ""] {
-        let mut buf = [0; 2];
-        let count = steady.read(&mut buf)?;
-        assert_eq!(rt; &buf[..count], wanted.as_bytes());
-        let count = over_std.read(&mut buf)?;
-        assert_eq!(rt; &buf[..count], wanted.as_bytes());
+    for wanted in &GIVEN {
+        assert!(rt; gives(&mut steady, wanted));
+        assert!(rt; gives(&mut over_std, wanted));
     }
     Ok(())
 }
 
-/// How many bytes are asked for, which call fails, what comes of the reading of `tiles`, two bytes a call,
-/// and what is read behind it.
-const READ: [(usize, u64, Result<&str, ReadAllFault>, &str); 13] = [
-    (5, 1, Err(ReadAllFault::Fault), "tiles"),
-    (5, 2, Err(ReadAllFault::Fault), "les"),
-    (5, 3, Err(ReadAllFault::Fault), "s"),
-    (5, 4, Err(ReadAllFault::Fault), ""),
-    (5, 5, Ok("tiles"), ""),
-    (0, 0, Err(ReadAllFault::TooLong), "iles"),
-    (1, 0, Err(ReadAllFault::TooLong), "les"),
-    (2, 0, Err(ReadAllFault::TooLong), "es"),
-    (3, 0, Err(ReadAllFault::TooLong), "s"),
-    (4, 0, Err(ReadAllFault::TooLong), ""),
-    (5, 0, Ok("tiles"), ""),
-    (6, 0, Ok("tiles"), ""),
-    (usize::MAX, 0, Ok("tiles"), ""),
+/// How many bytes are asked for, which call fails, the fault of reading `tiles`, two bytes a call, and what
+/// is read behind it; or no fault, and `tiles` is read.
+type Reading = (usize, u64, Option<ReadAllFault>, &'static str);
+
+static READ: [Reading; 13] = [
+    (5, 1, Some(ReadAllFault::Fault), "tiles"),
+    (5, 2, Some(ReadAllFault::Fault), "les"),
+    (5, 3, Some(ReadAllFault::Fault), "s"),
+    (5, 4, Some(ReadAllFault::Fault), ""),
+    (5, 5, None, ""),
+    (0, 0, Some(ReadAllFault::TooLong), "iles"),
+    (1, 0, Some(ReadAllFault::TooLong), "les"),
+    (2, 0, Some(ReadAllFault::TooLong), "es"),
+    (3, 0, Some(ReadAllFault::TooLong), "s"),
+    (4, 0, Some(ReadAllFault::TooLong), ""),
+    (5, 0, None, ""),
+    (6, 0, None, ""),
+    (usize::MAX, 0, None, ""),
 ];
 
+/// Whether `tiles` was read.
+fn is_tiles(read: &Result<Vec<u8>, ReadAllFault>) -> bool {
+    match read {
+        Ok(bytes) => bytes.as_slice() == b"tiles".as_slice(),
+        Err(_) => false,
+    }
+}
+
+/// Whether the source has this rest.
+fn leaves(alloc: Global, source: &mut MemSource, rest: &str) -> Result<bool, ReadAllFault> {
+    let read = read_all(alloc, source, 5)?;
+    Ok(read.as_slice() == rest.as_bytes())
+}
+
 /// Whether the reading of a row ends as it says.
-fn is_read(
-    alloc: Global,
-    row: &(usize, u64, Result<&str, ReadAllFault>, &str),
-) -> Result<bool, Fail> {
-    let (most, failing, wanted, rest) = row;
+fn is_read(alloc: Global, row: &Reading) -> Result<bool, Fail> {
+    let (most, failing, fault, rest) = row;
     let fails = [*failing].to_vec(alloc)?;
     let mut source = MemSource::new(b"tiles".to_vec(alloc)?, 2, fails);
-    match (read_all(alloc, &mut source, *most), wanted) {
-        (Ok(read), Ok(bytes)) => Ok(read.as_slice() == bytes.as_bytes()),
-        (Err(fault), Err(other)) => {
-            let read = read_all(alloc, &mut source, 5)?;
-            Ok(fault == *other && read.as_slice() == rest.as_bytes())
-        }
-        _ => Ok(false),
+    let read = read_all(alloc, &mut source, *most);
+    if fault.is_none() {
+        return Ok(is_tiles(&read));
     }
+    Ok(read.err() == *fault && leaves(alloc, &mut source, rest)?)
 }
 
 #[test]
@@ -240,15 +279,25 @@ fn read_long(alloc: Global, length: usize) -> Result<(usize, Option<ReadAllFault
     Ok((count, read_whole(alloc, &mut source, length - 1).err()))
 }
 
+/// Whether so many bytes are read, and are too long where one fewer is asked for.
+fn is_read_long(alloc: Global, length: usize) -> Result<bool, Fail> {
+    let fault = if length == 0 {
+        None
+    } else {
+        Some(ReadAllFault::TooLong)
+    };
+    Ok(read_long(alloc, length)? == (length, fault))
+}
+
+/// Lengths about that of a piece.
+static LENGTHS: [usize; 7] = [0, 1, 4095, 4096, 4097, 8192, 10000];
+
 #[test]
 fn read_longer_than_a_piece(rt: HostRuntime) -> Result<(), Fail> {
     let mut over_std = StdSource::new(b"tiles".as_slice());
-    let read = read_all(rt.alloc(), &mut over_std, 5)?;
-    assert_eq!(rt; read.as_slice(), b"tiles".as_slice());
-    assert_eq!(rt; read_long(rt.alloc(), 0)?, (0, None));
-    for length in [1, 4095, 4096, 4097, 8192, 10000] {
-        let wanted = (length, Some(ReadAllFault::TooLong));
-        assert_eq!(rt; read_long(rt.alloc(), length)?, wanted);
+    assert!(rt; is_tiles(&read_all(rt.alloc(), &mut over_std, 5)));
+    for length in &LENGTHS {
+        assert!(rt; is_read_long(rt.alloc(), *length)?);
     }
     Ok(())
 }

@@ -182,18 +182,19 @@ fn tried<L: Ledger>(alloc: Global, name: Name, blank: Blank) -> Result<(usize, b
     Ok((agreed, same))
 }
 
+/// The built-in rules.
+static NAMES: [Name; 5] = [
+    Name::Chair,
+    Name::P2,
+    Name::P3,
+    Name::AmmannBeenker,
+    Name::HalfHex,
+];
+
 #[test]
 fn as_the_plain_program(rt: HostRuntime) -> Result<(), Fail> {
-    let names = [
-        Name::Chair,
-        Name::P2,
-        Name::P3,
-        Name::AmmannBeenker,
-        Name::HalfHex,
-    ];
-    for name in &names {
-        let found = tried::<Brand>(rt.alloc(), *name, Blank::new(1))?;
-        assert_eq!(rt; found, (1000, true));
+    for name in &NAMES {
+        assert!(rt; tried::<Brand>(rt.alloc(), *name, Blank::new(1))? == (1000, true));
     }
     Ok(())
 }

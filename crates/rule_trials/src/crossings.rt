@@ -3,7 +3,7 @@ ghost use Rattle.std.specs.Prelude.{◌≡◌, ◌<◌};
 ghost use Rattle.rule_model.specs.Checked.{rule_contacts};
 
 use crate::given::{Given, rule};
-use crate::shapes::{CHAIR, HALF_HEX, HALF_KITES, HALF_RHOMBS, HALF_SQUARES};
+use crate::shapes::{CHAIR, HALF_HEX, HALF_KITES, HALF_RHOMBS, HALF_SQUARES, THE_CHAIR};
 use dissect_check::check::check;
 use edge_tables::steps::Steps;
 use rule_model::checked::Checked;
@@ -29,7 +29,7 @@ enum Wanted {
 }
 
 /// Tiles and edges of them, and what is across.
-const ROWS: [(Runs, u8, Wanted); 10] = [
+static ROWS: [(Runs, u8, Wanted); 10] = [
     (&[(0, 1)], 0, Wanted::Across(&[(1, 1)], 3)),
     (&[(1, 1)], 3, Wanted::Across(&[(0, 1)], 0)),
     (&[(0, 1), (1, 1)], 4, Wanted::Across(&[(1, 1), (0, 1)], 7)),
@@ -89,34 +89,47 @@ fn across<L: Ledger>(
     Some((answer, return_law(transducer, addr, edge, steps)))
 }
 
-/// The number of the first row that comes out otherwise. The way back leads home where there is a tile across.
+/// Whether a row comes out as wanted. The way back leads home where there is a tile across.
+fn is_right<L: Ledger>(
+    checked: &Checked,
+    transducer: &Transducer,
+    row: &(Runs, u8, Wanted),
+    steps: &mut Steps<L>,
+) -> bool
+    requires its_tables { transducer.now ≡ rule_contacts checked.now }
+{
+    let (runs, edge, wanted) = row;
+    let addr = address(runs);
+    let (answer, home) = match across(checked, transducer, &addr, *edge, steps) {
+        Some((answer, home)) => (Some(answer), home),
+        None => (None, None),
+    };
+    let back = match wanted {
+        Wanted::Across(_, _) => Some(Crossing { addr, edge: *edge }),
+        _ => None,
+    };
+    answer == wanted_answer(wanted) && home == back
+}
+
+/// The number of the first row that comes out otherwise.
 fn first_wrong<L: Ledger>(alloc: Global, blank: Blank) -> Result<Option<usize>, Fail>
     requires name { blank.name ≡ L.name }
     requires parts { blank.parts ≡ L.parts }
     requires some { 0 < blank.parts }
 {
     let mut steps = Steps::<L>::new(blank);
-    let checked = check(alloc, rule(alloc, &CHAIR)?)?;
+    let checked = check(alloc, rule(alloc, &THE_CHAIR)?)?;
     let transducer = Transducer::compile(alloc, checked.tables())?;
-    for (row, (runs, edge, wanted)) in (&ROWS).iter().enumerate() {
-        let addr = address(runs);
-        let (answer, home) = match across(&checked, &transducer, &addr, *edge, &mut steps) {
-            Some((answer, home)) => (Some(answer), home),
-            None => (None, None),
-        };
-        let back = match wanted {
-            Wanted::Across(_, _) => Some(Crossing { addr, edge: *edge }),
-            _ => None,
-        };
-        if answer != wanted_answer(wanted) || home != back {
-            return Ok(Some(row));
+    for (number, row) in ROWS.iter().enumerate() {
+        if !is_right(&checked, &transducer, row, &mut steps) {
+            return Ok(Some(number));
         }
     }
     Ok(None)
 }
 
 /// Rules, and how many different contact blocks and part blocks their tables have.
-const BLOCKS: [(Given, (u16, u16)); 5] = [
+static BLOCKS: [(Given, (u16, u16)); 5] = [
     (CHAIR, (4, 8)),
     (HALF_RHOMBS, (10, 10)),
     (HALF_KITES, (10, 9)),
@@ -135,7 +148,7 @@ fn blocks_of(alloc: Global, given: &Given) -> Result<(u16, u16), Fail> {
 #[test]
 fn blocks(rt: HostRuntime) -> Result<(), Fail> {
     for (given, wanted) in &BLOCKS {
-        assert_eq!(rt; blocks_of(rt.alloc(), given)?, *wanted);
+        assert!(rt; blocks_of(rt.alloc(), given)? == *wanted);
     }
     Ok(())
 }

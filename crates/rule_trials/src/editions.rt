@@ -118,7 +118,7 @@ const TURNED_BACK: Given = Given(
 );
 
 /// What comes of rules in an edition.
-const TAKEN: [(Edition, &[Given], Option<CheckFault>); 6] = [
+static TAKEN: [(Edition, &[Given], Option<CheckFault>); 6] = [
     (Edition::One, &BOTH, None),
     (Edition::Two, &BOTH, None),
     (Edition::One, &TWO_ALONE, Some(CheckFault::WrongFactor)),
@@ -128,7 +128,7 @@ const TAKEN: [(Edition, &[Given], Option<CheckFault>); 6] = [
 ];
 
 /// What is refused in an edition.
-const REFUSED: [(Edition, &[(Given, CheckFault)]); 3] = [
+static REFUSED: [(Edition, &[(Given, CheckFault)]); 3] = [
     (Edition::One, &BEYOND_LIMITS),
     (Edition::Two, &BEYOND_LIMITS),
     (Edition::Two, &[(TURNED_BACK, LOOSE)]),

@@ -1,6 +1,6 @@
 //! The numbers of the chair, each read once.
 use crate::given::rule;
-use crate::shapes::CHAIR;
+use crate::shapes::THE_CHAIR;
 use cyclo_points::point::Point;
 use rule_model::child::Child;
 use rule_model::rule::Rule;
@@ -93,13 +93,10 @@ fn reads_types(rule: &Rule) -> bool {
 
 #[test]
 fn reads_the_chair(rt: HostRuntime) -> Result<(), Fail> {
-    let rule = rule(rt.alloc(), &CHAIR)?;
-    let read = [
-        reads_vertices(&rule),
-        reads_edges(&rule),
-        reads_children(&rule),
-        reads_types(&rule),
-    ];
-    assert_eq!(rt; read, [true; 4]);
+    let rule = rule(rt.alloc(), &THE_CHAIR)?;
+    assert!(rt; reads_vertices(&rule));
+    assert!(rt; reads_edges(&rule));
+    assert!(rt; reads_children(&rule));
+    assert!(rt; reads_types(&rule));
     Ok(())
 }

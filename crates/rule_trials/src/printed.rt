@@ -43,44 +43,41 @@ fn part_there<L: Ledger>(
     Some(tables.part(kind, edge, part, steps))
 }
 
-/// An edge of a child as text, where it is the first of two that meet; a mark, where it isn't the part that
+/// Puts an edge of a child, where it is the first of two that meet; a mark, where it isn't the part that
 /// its contact says.
-fn contact_text<L: Ledger>(
-    alloc: Global,
+fn put_contact<L: Ledger>(
+    text: &mut String,
     tables: &Tables,
     kind: u8,
     here: ChildEdge,
     steps: &mut Steps<L>,
-) -> Result<String, AllocError> {
+) -> Result<(), AllocError> {
     match contact_there(tables, kind, here, steps) {
         Some(Contact::Inner { child, edge })
             if here.child < child || (here.child == child && here.edge < edge) => {
-            format!(in alloc; "{}{}-{child}{edge} ", here.child, here.edge)
+            write!(text, "{}{}-{child}{edge} ", here.child, here.edge)
         }
         Some(Contact::Outer { edge, part })
-            if part_there(tables, kind, edge, part, steps) != Some(here) => {
-            format!(in alloc; "?")
-        }
-        _ => Ok(String::new(alloc)),
+            if part_there(tables, kind, edge, part, steps) != Some(here) => text.push_str("?"),
+        _ => Ok(()),
     }
 }
 
-/// The parts of an edge, in order.
-fn parts_text<L: Ledger>(
-    alloc: Global,
+/// Puts the parts of an edge, in order.
+fn put_parts<L: Ledger>(
+    text: &mut String,
     tables: &Tables,
     kind: u8,
     edge: u8,
     steps: &mut Steps<L>,
-) -> Result<String, AllocError> {
-    let mut text = format!(in alloc; " {edge}:")?;
+) -> Result<(), AllocError> {
+    write!(text, " {edge}:")?;
     for part in 0..8 {
         if let Some(there) = part_there(tables, kind, edge, part, steps) {
-            text.push_str(&format!(in alloc; " {}{}", there.child, there.edge)?)?;
+            write!(text, " {}{}", there.child, there.edge)?;
         }
     }
-    text.push_str(";")?;
-    Ok(text)
+    text.push_str(";")
 }
 
 /// The contacts of a kind, with a counter of their own.
@@ -99,13 +96,13 @@ fn contacts_from<L: Ledger>(
     for child in 0..16 {
         for edge in 0..12 {
             let here = ChildEdge { child, edge };
-            text.push_str(&contact_text(alloc, tables, kind, here, &mut steps)?)?;
+            put_contact(&mut text, tables, kind, here, &mut steps)?;
         }
     }
     text.push_str("|")?;
     if kind < tables.kinds() {
         for edge in 0..tables.edges(kind) {
-            text.push_str(&parts_text(alloc, tables, kind, edge, &mut steps)?)?;
+            put_parts(&mut text, tables, kind, edge, &mut steps)?;
         }
     }
     Ok(text)
@@ -131,7 +128,7 @@ pub(crate) fn uses_text(alloc: Global, uses: &Uses, kind: u8) -> Result<String, 
             text.push_str(" ")?;
         }
         let step = uses.get(kind, i);
-        text.push_str(&format!(in alloc; "{}/{}", step.child, step.parent)?)?;
+        write!(text, "{}/{}", step.child, step.parent)?;
     }
     Ok(text)
 }

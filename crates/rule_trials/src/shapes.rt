@@ -37,6 +37,11 @@ pub const CHAIR_KIND: Kind = (&CHAIR_VERTICES, &[0, 0, 0, 0, 0, 0, 0, 0], &CHAIR
 
 pub const CHAIR: Given = Given(Order::Four, TWO, &[], &HALVED, &[CHAIR_KIND]);
 
+/// The same in one place, for what is made of this rule alone.
+pub static THE_CHAIR_KIND: Kind = CHAIR_KIND;
+
+pub static THE_CHAIR: Given = CHAIR;
+
 /// A square cut into four.
 pub const SQUARE_VERTICES: [Quad; 4] = [[0, 0, 0, 0], [1, 0, 0, 0], [1, 1, 0, 0], [0, 1, 0, 0]];
 
@@ -61,6 +66,8 @@ pub const TYPED_SQUARE: Given = Given(
     &FOUR_TYPES,
     &[(&SQUARE_VERTICES, &[0, 1, 2, 3], &SQUARE_CHILDREN)],
 );
+
+pub static THE_TYPED_SQUARE: Given = TYPED_SQUARE;
 
 /// The table tiling: a domino cut into four, two across between two upright ones. Its six vertices
 /// begin at the middle of a long side, from which all of it is seen.

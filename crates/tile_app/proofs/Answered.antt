@@ -22,7 +22,7 @@ can : (c : Command) (words : List (List ℕ)) (t : Tiling) (text : List ℕ) →
 can Place words t text p = record { address = p.address; tile = p.tile; within = p.within }
 can Neighbour words t text p = record { address = p.address; edge = p.edge; gives = p.gives; inside = p.inside }
 can Walk words t text p = record { base = p.base; tile = p.tile; walked = p.walked }
-can Draw words t text p = record { base = p.base; window = p.window; gives = p.gives; within = p.within }
+can Draw words t text p = record { base = p.pictures.base; window = p.window; gives = p.pictures.gives; within = p.pictures.within }
 can Check words t text p = tt
 
 can_be_answered : (r : Request) (text : List ℕ) → Prints r text → CanBeAnswered r

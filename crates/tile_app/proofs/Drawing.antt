@@ -1,5 +1,5 @@
--- The window that the words give, why its drawing is refused, and that its tiles, within the limits, can be drawn.
-use Rattle.std.proofs.Common.{◌≡◌, ◌⊎◌, inl, inr, ◌<◌, ℕ, ℤ, false, List, map, length, Some, None, Result, Ok, Err, IsOk, sym, ap, ap₂, ◌∙◌, subst, arith}
+-- The window that the words give, why its search is refused, and that its tiles, within the limits, can be drawn.
+use Rattle.std.proofs.Common.{◌≡◌, ◌⊎◌, inl, inr, ◌<◌, ◌≤◌, ◌^◌, ℕ, ℤ, false, List, map, length, Some, None, Result, Ok, Err, IsOk, sym, ap, ap₂, ◌∙◌, subst, arith}
 use Rattle.std.specs.Prelude.{All}
 use Rattle.std.proofs.lemmas.List.{length-map}
 use Rattle.std.proofs.lemmas.List.Elements.{All-from_recursion, recursion_from_All}
@@ -18,14 +18,15 @@ use Rattle.plane_geom.specs.declared.window.Window.{Window}
 use Rattle.rule_model.specs.Tiling.{Tiling, children}
 use Rattle.tile_place.specs.declared.placed_tile.PlacedTile.{PlacedTile}
 use Rattle.tile_place.specs.Searched.{placed_in}
-use Rattle.window_cover.specs.Limits.{IsWithinLimits}
+use Rattle.window_cover.specs.Limits.{most_tiles, IsWithinLimits}
 use Rattle.window_cover.specs.Windows.{TileOf, box_of, AreDrawn, IsLeastEnough}
 use Rattle.windows.specs.FramePatch.{frame_patch}
 use Rattle.windows.specs.FrameWindow.{AreAllThatMeet}
+use Rattle.windows.proofs.Members.{no-more}
 use Rattle.std.specs.Option.{option_map, option_and_then}
 use Rattle.cyclo_points.specs.declared.order.Order.{Order}
 use Rattle.cyclo_points.specs.declared.point.Point.{Point}
-use Rattle.cyclo_points.specs.Point.{point_in, quad_of, IsOf}
+use Rattle.cyclo_points.specs.Point.{point_in, quad_of, IsOf, IsWithin}
 use Rattle.cyclo_points.specs.Reduced.{combination}
 use Rattle.layer_api.specs.declared.format.Format.{Format}
 use Rattle.window_cover.specs.declared.cover_fault.CoverFault.{CoverFault}
@@ -43,6 +44,15 @@ use Rattle.tile_app.specs.Turned.{status_of_cover}
 use Rattle.tile_app.specs.Walk.{frame_given}
 use Rattle.tile_app.specs.Words.{command_of}
 use Rattle.tile_app.proofs.Asking.{coefficients_of}
+
+-- a tile that stands in the frame with a shift that isn't refused
+pub drawable_within : (t : Tiling) (g : FrameValue) (x : PlacedTile) → Stands t g x → IsWithin (2 ^ 24) x.motion.shift → CanBeDrawn t x
+drawable_within t g x stands within = record {
+  exists = subst (λ n. x.kind < n) (length-map t.rule.kinds _) (subst (λ k. k < length (children t)) (sym stands.its_kind) stands.of_frame.fits.kind_exists);
+  turn_below = stands.turn_below;
+  in_order = stands.in_order;
+  within = within;
+}
 
 module _ (t : Tiling) (f g : FrameValue) (w : Window) (is_frame : IsFrameOf t f) (grown : GrowsTo t f g) (within : IsWithinLimits t f w) (least : IsLeastEnough t f w (length g.digits))
     (tiles : List PlacedTile) (drawn : AreDrawn t g w (map (placed_in t.order) tiles)) where
@@ -69,12 +79,20 @@ module _ (t : Tiling) (f g : FrameValue) (w : Window) (is_frame : IsFrameOf t f)
       AllByRecursion-among (λ (y : TileOf t). is_refused t.order y.motion.shift ≡ false) x within.drawn_within.drawn ((same_tiles.meeting x here).0 ((drawn.meeting x here).1 i)) within.drawn_within.none_refused
 
   drawable : (x : PlacedTile) → IsAmong x tiles → Stands t g x → CanBeDrawn t x
-  drawable x i stands = record {
-    exists = subst (λ n. x.kind < n) (length-map t.rule.kinds _) (subst (λ k. k < length (children t)) (sym stands.its_kind) stands.of_frame.fits.kind_exists);
-    turn_below = stands.turn_below;
-    in_order = stands.in_order;
-    within = within-some_beyond x.motion.shift (some_beyond-refused t.order x.motion.shift stands.in_order ∙ unrefused (placed_in t.order x) (IsAmong-map (placed_in t.order) x tiles i));
-  }
+  drawable x i stands =
+      drawable_within t g x stands (within-some_beyond x.motion.shift (some_beyond-refused t.order x.motion.shift stands.in_order ∙ unrefused (placed_in t.order x) (IsAmong-map (placed_in t.order) x tiles i)))
+
+  -- and no more than the limit
+  pub at_most_limit : length tiles ≤ most_tiles
+  at_most_limit =
+      let most = no-more (map (placed_in t.order) tiles) within.drawn_within.drawn drawn.distinct among in
+      let limit = within.drawn_within.not_too_many in
+      omega (arith, most, limit, length-map tiles (placed_in t.order))
+    where
+      among : (x : TileOf t) → IsAmong x (map (placed_in t.order) tiles) → IsAmong x within.drawn_within.drawn
+      among x i =
+          let here = AllByRecursion-among (λ y. IsAmong y (frame_patch (points_of t.order) t.rule (whole g)).tiles) x (map (placed_in t.order) tiles) i drawn.of_patch in
+          (same_tiles.meeting x here).0 ((drawn.meeting x here).1 i)
 
   pub can_be_drawn : All (Stands t g) tiles → All (CanBeDrawn t) tiles
   can_be_drawn stand =
@@ -98,14 +116,14 @@ pub none-lacks : (words : List (List ℕ)) (handed : List Format) → command_of
 none-lacks words handed right have = sym (ap (lacking_for words handed) right) ∙ have
 
 -- ---- why it is refused
-fault-or_ok : {T : Type 0} (r : Result T CoverFault) (fault : CoverFault) → r ≡ Err fault → (r ≡ Err NoMemory) ⊎ IsOk r → fault ≡ NoMemory
-fault-or_ok r fault e (inl f) = some_fault fault NoMemory (sym e ∙ f)
+pub fault-or_ok : {T E : Type 0} (none : E) (r : Result T E) (fault : E) → r ≡ Err fault → (r ≡ Err none) ⊎ IsOk r → fault ≡ none
+fault-or_ok {T} {E} none r fault e (inl f) = some_fault fault none (sym e ∙ f)
   where
-    some_fault : {T : Type 0} (x y : CoverFault) → (let o : Result T CoverFault = Err x in o) ≡ Err y → x ≡ y
+    some_fault : (x y : E) → (let o : Result T E = Err x in o) ≡ Err y → x ≡ y
     some_fault x y e = cc
-fault-or_ok r fault e (inr f) = absurd (no_ok r fault e f)
+fault-or_ok {T} {E} none r fault e (inr f) = absurd (no_ok r fault e f)
   where
-    no_ok : {T : Type 0} (r : Result T CoverFault) (x : CoverFault) → r ≡ Err x → IsOk r → ⊥
+    no_ok : (r : Result T E) (x : E) → r ≡ Err x → IsOk r → ⊥
     no_ok (Ok y) x e f = absurd (cc e)
     no_ok (Err y) x e f = absurd (cc f)
 
@@ -122,11 +140,11 @@ module _ (words : List (List ℕ)) (t : Tiling) (a : Address) (w : Window) (give
   }
 
   pub cover_refused : (fault : CoverFault) → HasCause t f g w fault → (IsWithinLimits t f w → fault ≡ NoMemory) → OrNoMemory (DrawRefuses words t) (status_of_cover fault)
-  cover_refused (DepthLimit addr edge) cause only = ends (DepthLimit addr edge) cause (λ h. absurd (cc (only h)))
-  cover_refused (CoordLimit value) cause only = ends (CoordLimit value) cause (λ h. absurd (cc (only h)))
+  cover_refused (DepthLimit addr edge) cause only = inl (ends (DepthLimit addr edge) cause (λ h. absurd (cc (only h))))
+  cover_refused (CoordLimit value) cause only = inl (ends (CoordLimit value) cause (λ h. absurd (cc (only h))))
   cover_refused TooManyTiles cause only = ends TooManyTiles cause (λ h. absurd (cc (only h)))
   cover_refused NoMemory cause only = tt
 
   pub refused_if_err : {T : Type 0} (r : Result T CoverFault) (fault : CoverFault) → r ≡ Err fault → HasCause t f g w fault → (IsWithinLimits t f w → (r ≡ Err NoMemory) ⊎ IsOk r)
       → OrNoMemory (DrawRefuses words t) (status_of_cover fault)
-  refused_if_err r fault e cause answered = cover_refused fault cause (λ h. fault-or_ok r fault e (answered h))
+  refused_if_err r fault e cause answered = cover_refused fault cause (λ h. fault-or_ok NoMemory r fault e (answered h))

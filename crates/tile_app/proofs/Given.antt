@@ -8,7 +8,7 @@ use Rattle.std.proofs.lemmas.Slice.Eq.{bytes_eq-Decides}
 use Rattle.tile_app.specs.declared.words.Command.{Command}
 use Rattle.tile_app.specs.declared.words.Command.TheVariants.{Place, Neighbour, Walk, Draw, Check}
 use Rattle.tile_app.specs.declared.words.Key.{Key}
-use Rattle.tile_app.specs.declared.words.Key.TheVariants.{Rule, Addr, Edge, Seed, Grow, Path, At, Half, Layers}
+use Rattle.tile_app.specs.declared.words.Key.TheVariants.{Rule, Addr, Edge, Seed, Grow, Path, At, Half, Layers, Glue}
 use Rattle.tile_shape.specs.Decimal.{number_up_to}
 use Rattle.tile_app.specs.Choices.{choice_in}
 use Rattle.tile_app.specs.Commands.{key_text, command_named, keys_of, required_keys, has_form, IsAboutTile}
@@ -48,7 +48,8 @@ key_of_text : List ℕ → Option Key
 key_of_text text =
     cond (bytes_eq text (codes "rule")) (Some Rule) (cond (bytes_eq text (codes "addr")) (Some Addr) (cond (bytes_eq text (codes "edge")) (Some Edge)
     (cond (bytes_eq text (codes "seed")) (Some Seed) (cond (bytes_eq text (codes "grow")) (Some Grow) (cond (bytes_eq text (codes "path")) (Some Path)
-    (cond (bytes_eq text (codes "at")) (Some At) (cond (bytes_eq text (codes "half")) (Some Half) (cond (bytes_eq text (codes "layers")) (Some Layers) None))))))))
+    (cond (bytes_eq text (codes "at")) (Some At) (cond (bytes_eq text (codes "half")) (Some Half) (cond (bytes_eq text (codes "layers")) (Some Layers)
+    (cond (bytes_eq text (codes "glue")) (Some Glue) None)))))))))
 
 key_text-tells : (j k : Key) → key_text j ≡ key_text k → j ≡ k
 unfolding key_of_text
@@ -64,6 +65,7 @@ key_text-tells j k e = some_is j k (sym (named j) ∙ ap key_of_text e ∙ named
     named At = refl
     named Half = refl
     named Layers = refl
+    named Glue = refl
 
     some_is : (j k : Key) → Some j ≡ Some k → j ≡ k
     some_is j k e = cc

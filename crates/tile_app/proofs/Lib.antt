@@ -7,6 +7,10 @@ pub mod Pieces
 pub mod Commas
 pub mod Formats
 pub mod Drawing
+pub mod Gluing
+pub mod Outlines
+pub mod Pictured
+mod Prototiles
 mod Placed
 mod AddressBytes
 mod Frames

@@ -5,9 +5,11 @@ use Rattle.addressing.specs.Address.{Address, Fits}
 use Rattle.cyclo_points.specs.declared.point.Point.{Point}
 use Rattle.cyclo_points.specs.Order.{coefficients}
 use Rattle.layer_api.specs.declared.format.Format.{Format}
-use Rattle.plane_geom.specs.declared.window.Window.{Window}
+use Rattle.half_glue.specs.declared.glue_fault.GlueFault.{GlueFault}
+use Rattle.half_glue.specs.declared.glue_fault.GlueFault.TheVariants as glue
 use Rattle.rule_model.specs.Tiling.{Tiling, contacts, children}
-use Rattle.window_cover.specs.Limits.{IsWithinLimits}
+use Rattle.window_cover.specs.declared.cover_fault.CoverFault.{CoverFault}
+use Rattle.window_cover.specs.declared.cover_fault.CoverFault.TheVariants as cover
 use Rattle.tile_place.specs.Crossed.{LiesOnBoundary}
 use Rattle.tile_place.specs.Placing.{first_refused}
 use Rattle.tile_shape.specs.declared.address_fault.AddressFault.{AddressFault}
@@ -32,7 +34,8 @@ use Rattle.tile_app.proofs.SameAddress.{same_program_address}
 use Rattle.tile_app.specs.Place.{CanBePlaced, PassesLimit}
 use Rattle.tile_app.specs.Request.{Request, Asks, tiling_asked}
 use Rattle.tile_app.specs.Tile.{GivesTile, GivesNoTile}
-use Rattle.tile_app.specs.Draw.{GivesWindow, PassesLimits}
+use Rattle.tile_app.specs.Draw.{CanDraw, PassesLimits, EndsDrawing, EndsGluing, DrawRefuses}
+use Rattle.tile_app.specs.Glue.{IsWithinTheirLimits}
 use Rattle.tile_app.specs.Layers.{HaveLayers, lacking, lacking_for, reads_file}
 use Rattle.tile_app.specs.Status.{IsLimit}
 use Rattle.tile_app.specs.Words.{command_of}
@@ -223,11 +226,40 @@ module _ (laws : Laws) (words : List (List ℕ)) (t : Tiling) (usable : AreUsabl
   walk_once (DepthLimit a e) u h k = absurd k
   walk_once s u h k = absurd h
 
-  -- `draw`: a window is within the limits of its frame or isn't
-  within_or_not : (a b : Address) (v w : Window) → GivesWindow words t a v → GivesWindow words t b w → IsWithinLimits t (frame_given words a) v → (IsWithinLimits t (frame_given words b) w → ⊥) → ⊥
-  within_or_not a b v w p q h k =
-      k (subst (λ x. IsWithinLimits t (frame_given words b) x) (some_is v w (sym p.given ∙ q.given))
-      (subst (λ c. IsWithinLimits t (frame_given words c) v) (same_tile a b p.tile q.tile) h))
+  -- `draw`: a window can be drawn as the words ask, or passes the limits
+  within_or_beyond_limits : CanDraw words t → PassesLimits words t → ⊥
+  within_or_beyond_limits h k =
+      k.beyond (subst (λ x. IsWithinTheirLimits words t (frame_given words k.base) x) (some_is h.window k.window (sym h.gives.given ∙ k.gives.given))
+      (subst (λ c. IsWithinTheirLimits words t (frame_given words c) h.window) (same_tile h.base k.base h.gives.tile k.gives.tile) h.within))
+
+  -- and where the drawing or the gluing ends it passes them
+  searching_passes : (fault : CoverFault) → EndsDrawing words t fault → PassesLimits words t
+  searching_passes fault h = record { base = h.base; window = h.window; gives = h.gives; beyond = λ w. h.beyond w.within }
+
+  gluing_passes : (fault : GlueFault) → EndsGluing words t fault → PassesLimits words t
+  gluing_passes fault h = record {
+    base = h.base;
+    window = h.window;
+    gives = h.gives;
+    beyond = λ w. h.beyond (w.can_be_glued h.asked h.frame h.tiles h.grown h.least h.stand h.drawn);
+  }
+
+  either_passes : (fault : CoverFault) (other : GlueFault) → EndsDrawing words t fault ⊎ EndsGluing words t other → PassesLimits words t
+  either_passes fault other (inl h) = searching_passes fault h
+  either_passes fault other (inr h) = gluing_passes other h
+
+  -- each of the three statuses comes beyond the limits
+  depth_passes : (a : program.Address) (e : ℕ) → DrawRefuses words t (DepthLimit a e) → PassesLimits words t
+  depth_passes a e h = either_passes (cover.DepthLimit a e) (glue.DepthLimit a e) h
+
+  coord_passes : (v : Point) → DrawRefuses words t (CoordLimit v) → PassesLimits words t
+  coord_passes v h = either_passes (cover.CoordLimit v) (glue.CoordLimit v) h
+
+  many_pass : DrawRefuses words t TooManyTiles → PassesLimits words t
+  many_pass h = searching_passes cover.TooManyTiles h
+
+  passes_or_none : (f : AddressFault) → PassesLimits words t → GivesNoTile words t f → ⊥
+  passes_or_none f h k = tile_or_none h.base f h.gives.tile k
 
   -- the two are the same, or both are limits of the command's window
   abbrev AreAlike : Command → Status → Status → Type 0
@@ -236,30 +268,30 @@ module _ (laws : Laws) (words : List (List ℕ)) (t : Tiling) (usable : AreUsabl
   draw_once : (s u : Status) → IsFor words t Draw s → IsFor words t Draw u → AreAlike Draw s u
   draw_once Done Done h k = inl refl
   draw_once Done (BadAddress f) h k = absurd (tile_or_none h.base f h.gives.tile k)
-  draw_once Done (DepthLimit a e) h k = absurd (within_or_not h.base k.base h.window k.window h.gives k.gives h.within k.beyond)
-  draw_once Done (CoordLimit v) h k = absurd (within_or_not h.base k.base h.window k.window h.gives k.gives h.within k.beyond)
-  draw_once Done TooManyTiles h k = absurd (within_or_not h.base k.base h.window k.window h.gives k.gives h.within k.beyond)
+  draw_once Done (DepthLimit a e) h k = absurd (within_or_beyond_limits h (depth_passes a e k))
+  draw_once Done (CoordLimit v) h k = absurd (within_or_beyond_limits h (coord_passes v k))
+  draw_once Done TooManyTiles h k = absurd (within_or_beyond_limits h (many_pass k))
   draw_once Done u h k = absurd k
   draw_once (BadAddress f) Done h k = absurd (tile_or_none k.base f k.gives.tile h)
   draw_once (BadAddress f) (BadAddress g) h k = inl (ap (λ x. BadAddress x) (same_fault f g h k))
-  draw_once (BadAddress f) (DepthLimit a e) h k = absurd (tile_or_none k.base f k.gives.tile h)
-  draw_once (BadAddress f) (CoordLimit v) h k = absurd (tile_or_none k.base f k.gives.tile h)
-  draw_once (BadAddress f) TooManyTiles h k = absurd (tile_or_none k.base f k.gives.tile h)
+  draw_once (BadAddress f) (DepthLimit a e) h k = absurd (passes_or_none f (depth_passes a e k) h)
+  draw_once (BadAddress f) (CoordLimit v) h k = absurd (passes_or_none f (coord_passes v k) h)
+  draw_once (BadAddress f) TooManyTiles h k = absurd (passes_or_none f (many_pass k) h)
   draw_once (BadAddress f) u h k = absurd k
-  draw_once (DepthLimit a e) Done h k = absurd (within_or_not k.base h.base k.window h.window k.gives h.gives k.within h.beyond)
-  draw_once (DepthLimit a e) (BadAddress f) h k = absurd (tile_or_none h.base f h.gives.tile k)
+  draw_once (DepthLimit a e) Done h k = absurd (within_or_beyond_limits k (depth_passes a e h))
+  draw_once (DepthLimit a e) (BadAddress f) h k = absurd (passes_or_none f (depth_passes a e h) k)
   draw_once (DepthLimit a e) (DepthLimit b g) h k = inr (tt, tt)
   draw_once (DepthLimit a e) (CoordLimit v) h k = inr (tt, tt)
   draw_once (DepthLimit a e) TooManyTiles h k = inr (tt, tt)
   draw_once (DepthLimit a e) u h k = absurd k
-  draw_once (CoordLimit v) Done h k = absurd (within_or_not k.base h.base k.window h.window k.gives h.gives k.within h.beyond)
-  draw_once (CoordLimit v) (BadAddress f) h k = absurd (tile_or_none h.base f h.gives.tile k)
+  draw_once (CoordLimit v) Done h k = absurd (within_or_beyond_limits k (coord_passes v h))
+  draw_once (CoordLimit v) (BadAddress f) h k = absurd (passes_or_none f (coord_passes v h) k)
   draw_once (CoordLimit v) (DepthLimit a e) h k = inr (tt, tt)
   draw_once (CoordLimit v) (CoordLimit w) h k = inr (tt, tt)
   draw_once (CoordLimit v) TooManyTiles h k = inr (tt, tt)
   draw_once (CoordLimit v) u h k = absurd k
-  draw_once TooManyTiles Done h k = absurd (within_or_not k.base h.base k.window h.window k.gives h.gives k.within h.beyond)
-  draw_once TooManyTiles (BadAddress f) h k = absurd (tile_or_none h.base f h.gives.tile k)
+  draw_once TooManyTiles Done h k = absurd (within_or_beyond_limits k (many_pass h))
+  draw_once TooManyTiles (BadAddress f) h k = absurd (passes_or_none f (many_pass h) k)
   draw_once TooManyTiles (DepthLimit a e) h k = inr (tt, tt)
   draw_once TooManyTiles (CoordLimit v) h k = inr (tt, tt)
   draw_once TooManyTiles TooManyTiles h k = inl refl
@@ -268,8 +300,8 @@ module _ (laws : Laws) (words : List (List ℕ)) (t : Tiling) (usable : AreUsabl
 
   -- beyond the limits one of them comes
   draw_beyond : (s : Status) → IsFor words t Draw s → PassesLimits words t → IsLimit s
-  draw_beyond Done h k = absurd (within_or_not h.base k.base h.window k.window h.gives k.gives h.within k.beyond)
-  draw_beyond (BadAddress f) h k = absurd (tile_or_none k.base f k.gives.tile h)
+  draw_beyond Done h k = absurd (within_or_beyond_limits h k)
+  draw_beyond (BadAddress f) h k = absurd (passes_or_none f k h)
   draw_beyond (DepthLimit a e) h k = tt
   draw_beyond (CoordLimit v) h k = tt
   draw_beyond TooManyTiles h k = tt

@@ -1,5 +1,5 @@
 -- Vertices placed one after the other.
-use Rattle.std.proofs.Common.{◌≡◌, ℕ, ℤ, ◌+◌, ◌<◌, List, [], ◌∷◌, ◌++◌, length, get_or, map, take, sym, ap, ap₂, ◌∙◌, subst}
+use Rattle.std.proofs.Common.{◌≡◌, ℕ, ℤ, ◌+◌, ◌<◌, List, [], ◌∷◌, ◌++◌, length, get_or, map, take, sym, ap, ap₂, ◌∙◌, subst, append_assoc}
 use Rattle.std.proofs.lemmas.List.{take_more, map-append}
 use Rattle.substitution.specs.Motion.{moved}
 use Rattle.cyclo_points.specs.declared.order.Order.{Order}
@@ -8,20 +8,17 @@ use Rattle.cyclo_points.specs.declared.motion.Motion.{Motion}
 use Rattle.cyclo_points.specs.Motion.{motion_in}
 use Rattle.cyclo_points.specs.Order.{points_of}
 use Rattle.cyclo_points.specs.Point.{point_in, IsOf}
-use Rattle.tile_app.specs.DrawnTile.{point_of}
+use Rattle.tile_app.specs.DrawnTile.{point_of, placed_point}
 use Rattle.tile_app.proofs.Asking.{coefficients_of}
-
--- where a motion takes a vertex of a prototile
-abbrev pub placed_point : Order → Motion → Point → Point
-placed_point o m v = point_of o (moved (points_of o) (motion_in o m) (point_in o v))
 
 -- what a motion takes a vertex to is placed
 pub is_placed : (o q : Order) (m : Motion) (v p : Point) → o ≡ q → length p.c ≡ 4 → IsOf o p → point_in o p ≡ moved (points_of o) (motion_in o m) (point_in o v) → p ≡ placed_point q m v
 is_placed o q m v p same four of e =
     subst (λ r. p ≡ placed_point r m v) same (ap (λ (c : List ℤ). (let s : Point = record { c = c } in s)) (coefficients_of o p four of) ∙ ap (point_of o) e)
 
--- one vertex more
-pub one_more : (o : Order) (m : Motion) (vs ps qs : List Point) (i : ℕ) (p d : Point) → ps ≡ map (placed_point o m) (take i vs) → qs ≡ ps ++ p ∷ [] → i < length vs → p ≡ placed_point o m (get_or vs i d)
-    → qs ≡ map (placed_point o m) (take (i + 1) vs)
-one_more o m vs ps qs i p d before is below placed =
-    is ∙ ap₂ (λ xs x. xs ++ x ∷ []) before placed ∙ sym (map-append (placed_point o m) (take i vs) (get_or vs i d ∷ [])) ∙ ap (map (placed_point o m)) (sym (take_more vs i d below))
+-- one vertex more, behind the points that were there
+pub one_more : (o : Order) (m : Motion) (vs os ps qs : List Point) (i : ℕ) (p d : Point) → ps ≡ os ++ map (placed_point o m) (take i vs) → qs ≡ ps ++ p ∷ [] → i < length vs → p ≡ placed_point o m (get_or vs i d)
+    → qs ≡ os ++ map (placed_point o m) (take (i + 1) vs)
+one_more o m vs os ps qs i p d before is below placed =
+    is ∙ ap₂ (λ xs x. xs ++ x ∷ []) before placed ∙ append_assoc os (map (placed_point o m) (take i vs)) (placed_point o m (get_or vs i d) ∷ [])
+    ∙ ap (λ xs. os ++ xs) (sym (map-append (placed_point o m) (take i vs) (get_or vs i d ∷ [])) ∙ ap (map (placed_point o m)) (sym (take_more vs i d below)))

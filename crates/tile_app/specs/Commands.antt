@@ -1,11 +1,11 @@
 -- The commands, and the keys of each.
-use Rattle.std.specs.Prelude.{ℕ, Bool, true, List, [], ◌∷◌, codes, Some, None, is_some, if◌then◌else◌}
+use Rattle.std.specs.Prelude.{ℕ, Bool, true, ◌||◌, List, [], ◌∷◌, codes, Some, None, is_some, if◌then◌else◌}
 use Rattle.std.specs.declared.option.Option.{Option}
 use Rattle.std.specs.Str.{bytes_eq}
 use Rattle.tile_app.specs.declared.words.Command.{Command}
 use Rattle.tile_app.specs.declared.words.Command.TheVariants.{Place, Neighbour, Walk, Draw, Check}
 use Rattle.tile_app.specs.declared.words.Key.{Key}
-use Rattle.tile_app.specs.declared.words.Key.TheVariants.{Rule, Addr, Edge, Seed, Grow, Path, At, Half, Layers}
+use Rattle.tile_app.specs.declared.words.Key.TheVariants.{Rule, Addr, Edge, Seed, Grow, Path, At, Half, Layers, Glue}
 use Rattle.tile_app.specs.Choices.{choice_in}
 use Rattle.tile_app.specs.FormatWords.{formats_in}
 use Rattle.tile_app.specs.PathWords.{path_in}
@@ -27,6 +27,7 @@ key_text Path = codes "path"
 key_text At = codes "at"
 key_text Half = codes "half"
 key_text Layers = codes "layers"
+key_text Glue = codes "glue"
 
 -- the command that a word names
 abbrev pub command_named : List ℕ → Option Command
@@ -42,7 +43,7 @@ abbrev pub keys_of : Command → List Key
 keys_of Place = Rule ∷ Addr ∷ []
 keys_of Neighbour = Rule ∷ Addr ∷ Edge ∷ []
 keys_of Walk = Rule ∷ Addr ∷ Seed ∷ Grow ∷ Path ∷ []
-keys_of Draw = Rule ∷ Addr ∷ At ∷ Half ∷ Layers ∷ Seed ∷ []
+keys_of Draw = Rule ∷ Addr ∷ At ∷ Half ∷ Layers ∷ Seed ∷ Glue ∷ []
 keys_of Check = Rule ∷ []
 
 -- the keys that a command can't do without
@@ -54,7 +55,7 @@ required_keys Draw = Rule ∷ Addr ∷ At ∷ Half ∷ Layers ∷ []
 required_keys Check = Rule ∷ []
 
 -- whether a value has the form of its key: a rule is one of the names known or `-`, an address any text, an edge a number from 0 to 255, a start number one
--- of 64 bits, a depth at most 64, a path numbers of edges, a centre four coefficients, half extents two numbers from 1, and layers formats, joined by commas
+-- of 64 bits, a depth at most 64, a path numbers of edges, a centre four coefficients, half extents two numbers from 1, layers formats, joined by commas, and glue `yes` or `no`
 abbrev pub has_form : Key → List ℕ → Bool
 has_form Rule value = is_some (choice_in value)
 has_form Addr value = true
@@ -65,6 +66,7 @@ has_form Path value = is_some (path_in value)
 has_form At value = is_some (at_in value)
 has_form Half value = is_some (half_in value)
 has_form Layers value = is_some (formats_in value)
+has_form Glue value = bytes_eq value (codes "yes") || bytes_eq value (codes "no")
 
 -- a command that asks about a tile, by its address
 abbrev pub IsAboutTile : Command → Type 0

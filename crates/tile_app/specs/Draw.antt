@@ -1,5 +1,5 @@
 -- What `draw` prints, and what it refuses.
-use Rattle.std.specs.Prelude.{◌≡◌, ℕ, List, map, length, Some, All}
+use Rattle.std.specs.Prelude.{◌≡◌, ◌⊎◌, ℕ, true, List, map, length, Some, All}
 use Rattle.std.specs.declared.option.Option.{Option}
 use Rattle.std.specs.List.{flat_map}
 use Rattle.std.specs.Option.{option_map, option_and_then}
@@ -9,6 +9,10 @@ use Rattle.cyclo_points.specs.declared.point.Point.{Point}
 use Rattle.cyclo_points.specs.Order.{points_of}
 use Rattle.cyclo_points.specs.Point.{quad_of}
 use Rattle.cyclo_points.specs.Reduced.{combination}
+use Rattle.half_glue.specs.declared.glue_fault.GlueFault.{GlueFault}
+use Rattle.half_glue.specs.declared.glue_fault.GlueFault.TheVariants as glue
+use Rattle.half_glue.specs.Causes.{HasGlueCause}
+use Rattle.half_glue.specs.Limits.{CanBeGlued}
 use Rattle.layer_api.specs.declared.drawn.Drawn.{Drawn}
 use Rattle.layer_api.specs.declared.format.Format.{Format}
 use Rattle.layer_api.specs.declared.view.View.{View}
@@ -29,8 +33,10 @@ use Rattle.tile_app.specs.declared.status.Status.{Status}
 use Rattle.tile_app.specs.declared.status.Status.TheVariants.{BadAddress, DepthLimit, CoordLimit, TooManyTiles}
 use Rattle.tile_app.specs.declared.window_words.HalfExtents.{HalfExtents}
 use Rattle.tile_app.specs.declared.words.Key.TheVariants.{At, Half}
-use Rattle.tile_app.specs.DrawnTile.{point_of, drawn_of}
+use Rattle.tile_app.specs.DrawnTile.{point_of}
+use Rattle.tile_app.specs.Glue.{asks_glue, IsWithinTheirLimits}
 use Rattle.tile_app.specs.Layers.{formats_given}
+use Rattle.tile_app.specs.Pictures.{IsPictureOf}
 use Rattle.tile_app.specs.Tile.{GivesTile, GivesNoTile}
 use Rattle.tile_app.specs.Walk.{frame_given}
 use Rattle.tile_app.specs.WindowWords.{at_in, half_in}
@@ -65,18 +71,60 @@ view_of t window = record { order = t.order; centre = window.centre; w = window.
 abbrev pub texts_of : View → List Drawn → List Format → List ℕ
 texts_of view tiles formats = flat_map (λ f. layer_text f view tiles) formats
 
--- the words give a tile, and a window within the limits of its frame
+-- the words give a tile, and a window that can be drawn as they ask: within the limits of its frame, and with glue its tiles can be glued
 pub record CanDraw (words : List (List ℕ)) (t : Tiling) : Type 0 where
   pub base : Address
   pub window : Window
   pub gives : GivesWindow words t base window
-  pub within : IsWithinLimits t (frame_given words base) window
+  pub within : IsWithinTheirLimits words t (frame_given words base) window
 
--- The words give a tile, and a window within the limits of its frame. The frame has grown to the least depth that is enough for the window: not below that of
--- the tile, it holds the window's centre, and no edge of its boundary meets the window. The tiles are those of the frame that meet the window, each once, by
--- their motions in the base's frame, and in order; each test point in the window belongs to exactly one of them. And the text is that of each format named,
--- one behind the other, for the window and these tiles.
+-- The words give a tile, and a window that can be drawn as they ask. The frame has grown to the least depth that is enough for the window: not below that of the
+-- tile, it holds the window's centre, and no edge of its boundary meets the window. The tiles are those of the frame that meet the window, each once, by
+-- their motions in the base's frame, and in order; each test point in the window belongs to exactly one of them. And this is their picture: of these tiles, or
+-- with glue of the whole tiles of theirs.
+pub record Pictures (words : List (List ℕ)) (t : Tiling) (window : Window) (picture : List Drawn) : Type 0 where
+  pub base : Address
+  pub gives : GivesWindow words t base window
+  pub within : IsWithinTheirLimits words t (frame_given words base) window
+  pub frame : FrameValue
+  pub grown : GrowsTo t (frame_given words base) frame
+  pub least : IsLeastEnough t (frame_given words base) window (length frame.digits)
+  pub tiles : List PlacedTile
+  pub stand : All (Stands t frame) tiles
+  pub drawn : AreDrawn t frame window (map (placed_in t.order) tiles)
+  pub in_order : AreInOrder tiles
+  pub covered : CoverWindow t frame window (map (placed_in t.order) tiles)
+  pub is_picture : IsPictureOf (asks_glue words) t window frame tiles picture
+
+-- the text is that of each format named, one behind the other, for the window and its picture
 pub record PrintsDraw (words : List (List ℕ)) (t : Tiling) (text : List ℕ) : Type 0 where
+  pub window : Window
+  pub picture : List Drawn
+  pub pictures : Pictures words t window picture
+  pub is_text : text ≡ texts_of (view_of t window) picture (formats_given words)
+
+-- the words give a tile, and a window that can't be drawn as they ask: it isn't within the limits of its frame, or with glue its tiles can't be glued
+pub record PassesLimits (words : List (List ℕ)) (t : Tiling) : Type 0 where
+  pub base : Address
+  pub window : Window
+  pub gives : GivesWindow words t base window
+  pub beyond : IsWithinTheirLimits words t (frame_given words base) window → ⊥
+
+-- the words give a tile, and a window that isn't within the limits of its frame; and the search for the window's tiles, in the frame as it had grown then, has
+-- this cause to end
+pub record EndsDrawing (words : List (List ℕ)) (t : Tiling) (fault : CoverFault) : Type 0 where
+  pub base : Address
+  pub window : Window
+  pub gives : GivesWindow words t base window
+  pub beyond : IsWithinLimits t (frame_given words base) window → ⊥
+  pub frame : FrameValue
+  pub grown : GrowsTo t (frame_given words base) frame
+  pub cause : HasCause t (frame_given words base) frame window fault
+
+-- the words ask for whole tiles, and give a tile and a window within the limits of its frame, but not all of the window's tiles, at the least enough depth, can be
+-- glued; and the gluing, in the frame as it had grown on then, has this cause to end
+pub record EndsGluing (words : List (List ℕ)) (t : Tiling) (fault : GlueFault) : Type 0 where
+  pub asked : asks_glue words ≡ true
   pub base : Address
   pub window : Window
   pub gives : GivesWindow words t base window
@@ -88,30 +136,15 @@ pub record PrintsDraw (words : List (List ℕ)) (t : Tiling) (text : List ℕ) :
   pub stand : All (Stands t frame) tiles
   pub drawn : AreDrawn t frame window (map (placed_in t.order) tiles)
   pub in_order : AreInOrder tiles
-  pub covered : CoverWindow t frame window (map (placed_in t.order) tiles)
-  pub is_text : text ≡ texts_of (view_of t window) (map (drawn_of t) tiles) (formats_given words)
-
--- the words give a tile, and a window that isn't within the limits of its frame
-pub record PassesLimits (words : List (List ℕ)) (t : Tiling) : Type 0 where
-  pub base : Address
-  pub window : Window
-  pub gives : GivesWindow words t base window
-  pub beyond : IsWithinLimits t (frame_given words base) window → ⊥
-
--- the same, and the search for the window's tiles, in the frame as it had grown then, has this cause to end
-pub record EndsDrawing (words : List (List ℕ)) (t : Tiling) (fault : CoverFault) : Type 0 where
-  pub base : Address
-  pub window : Window
-  pub gives : GivesWindow words t base window
-  pub beyond : IsWithinLimits t (frame_given words base) window → ⊥
-  pub frame : FrameValue
-  pub grown : GrowsTo t (frame_given words base) frame
-  pub cause : HasCause t (frame_given words base) frame window fault
+  pub beyond : CanBeGlued t frame tiles → ⊥
+  pub later : FrameValue
+  pub grown_on : GrowsTo t frame later
+  pub cause : HasGlueCause t frame later tiles fault
 
 -- why `draw` refuses its words for a tiling: for each status its cause
 abbrev pub DrawRefuses : List (List ℕ) → Tiling → Status → Type 0
 DrawRefuses words t (BadAddress fault) = GivesNoTile words t fault
-DrawRefuses words t (DepthLimit addr edge) = EndsDrawing words t (cover.DepthLimit addr edge)
-DrawRefuses words t (CoordLimit value) = EndsDrawing words t (cover.CoordLimit value)
+DrawRefuses words t (DepthLimit addr edge) = EndsDrawing words t (cover.DepthLimit addr edge) ⊎ EndsGluing words t (glue.DepthLimit addr edge)
+DrawRefuses words t (CoordLimit value) = EndsDrawing words t (cover.CoordLimit value) ⊎ EndsGluing words t (glue.CoordLimit value)
 DrawRefuses words t TooManyTiles = EndsDrawing words t cover.TooManyTiles
 DrawRefuses words t _ = ⊥

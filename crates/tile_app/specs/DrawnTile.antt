@@ -1,15 +1,21 @@
--- A tile of a tiling as it is drawn.
-use Rattle.std.specs.Prelude.{◌<◌, ◌^◌, map, None, length}
+-- A tile of a tiling, and a whole tile, as they are drawn.
+use Rattle.std.specs.Prelude.{◌≡◌, ℕ, ◌<◌, ◌^◌, map, Option, None, Some, length}
+use Rattle.std.specs.Option.{option_map}
 use Rattle.substitution.specs.Motion.{moved}
 use Rattle.substitution.specs.RuleParts.{vertices_of}
 use Rattle.cyclo_points.specs.declared.order.Order.{Order}
 use Rattle.cyclo_points.specs.declared.point.Point.{Point}
+use Rattle.cyclo_points.specs.declared.motion.Motion.{Motion}
 use Rattle.cyclo_points.specs.Motion.{motion_in}
 use Rattle.cyclo_points.specs.Order.{NumberOf, points_of, coefficients}
-use Rattle.cyclo_points.specs.Point.{IsOf, IsWithin}
+use Rattle.cyclo_points.specs.Point.{point_in, IsOf, IsWithin}
+use Rattle.half_glue.specs.declared.whole_tile.WholeTile.{WholeTile}
+use Rattle.half_glue.specs.Outline.{glue_edge_of, outline_of}
+use Rattle.rule_model.specs.Glue.{IsOnlyGlueEdge}
 use Rattle.rule_model.specs.Tiling.{Tiling}
 use Rattle.tile_place.specs.declared.placed_tile.PlacedTile.{PlacedTile}
 use Rattle.layer_api.specs.declared.drawn.Drawn.{Drawn}
+use Rattle.layer_api.specs.declared.part.Part.{Part}
 
 -- a number of an order as a point of the program
 abbrev pub point_of : (o : Order) → NumberOf o → Point
@@ -24,9 +30,41 @@ drawn_of t x = record {
   second = None;
 }
 
+-- a tile as a part of what is drawn
+abbrev pub part_of : PlacedTile → Part
+part_of x = record { kind = x.kind; motion = x.motion; addr = x.addr }
+
+-- The whole tile as it is drawn: the kind of its first half is its class, the halves glued are its outline, and they are its parts.
+abbrev pub drawn_whole : Tiling → WholeTile → Drawn
+drawn_whole t w = record {
+  class = w.first.kind;
+  outline = record { items = map (point_of t.order) (outline_of t w) };
+  first = part_of w.first;
+  second = option_map part_of w.second;
+}
+
+-- where a motion takes a vertex of a prototile
+abbrev pub placed_point : Order → Motion → Point → Point
+placed_point o m v = point_of o (moved (points_of o) (motion_in o m) (point_in o v))
+
 -- a tile whose outline can be written: its kind exists, and its motion is one of the order with no refused shift
 pub record CanBeDrawn (t : Tiling) (x : PlacedTile) : Type 0 where
   pub exists : x.kind < length t.rule.kinds
   pub turn_below : x.motion.turn < (points_of t.order).order
   pub in_order : IsOf t.order x.motion.shift
   pub within : IsWithin (2 ^ 24) x.motion.shift
+
+-- a half whose outline can be written: it has one glue edge, which is the first
+pub record IsDrawableHalf (t : Tiling) (x : PlacedTile) : Type 0 where
+  pub can : CanBeDrawn t x
+  pub edge : ℕ
+  pub glue_edge : IsOnlyGlueEdge t.rule x.kind edge
+  pub first : glue_edge_of t.rule x.kind ≡ edge
+
+-- a tile alone, or two halves, that can be drawn
+abbrev pub CanBeDrawnBy : Tiling → PlacedTile → Option PlacedTile → Type 0
+CanBeDrawnBy t a None = CanBeDrawn t a
+CanBeDrawnBy t a (Some b) = IsDrawableHalf t a × IsDrawableHalf t b
+
+abbrev pub CanBeDrawnWhole : Tiling → WholeTile → Type 0
+CanBeDrawnWhole t w = CanBeDrawnBy t w.first w.second

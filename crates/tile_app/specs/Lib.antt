@@ -15,7 +15,10 @@ pub mod Place
 pub mod Neighbour
 pub mod Walk
 pub mod DrawnTile
+pub mod Glue
+pub mod Pictures
 pub mod Draw
+pub mod Pictured
 pub mod Check
 pub mod Answer
 pub mod RuleFaultText

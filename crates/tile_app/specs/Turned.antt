@@ -12,6 +12,8 @@ use Rattle.lazy_walk.specs.declared.path_fault.PathFault.{PathFault}
 use Rattle.lazy_walk.specs.declared.path_fault.PathFault.TheVariants as walking
 use Rattle.window_cover.specs.declared.cover_fault.CoverFault.{CoverFault}
 use Rattle.window_cover.specs.declared.cover_fault.CoverFault.TheVariants as covering
+use Rattle.half_glue.specs.declared.glue_fault.GlueFault.{GlueFault}
+use Rattle.half_glue.specs.declared.glue_fault.GlueFault.TheVariants as gluing
 
 -- of a reading to the end
 abbrev pub status_of_reading : ReadAllFault → Status
@@ -40,3 +42,9 @@ status_of_cover (covering.DepthLimit addr edge) = DepthLimit addr edge
 status_of_cover (covering.CoordLimit value) = CoordLimit value
 status_of_cover covering.TooManyTiles = TooManyTiles
 status_of_cover covering.NoMemory = NoMemory
+
+-- of whole tiles
+abbrev pub status_of_glue : GlueFault → Status
+status_of_glue (gluing.DepthLimit addr edge) = DepthLimit addr edge
+status_of_glue (gluing.CoordLimit value) = CoordLimit value
+status_of_glue gluing.NoMemory = NoMemory

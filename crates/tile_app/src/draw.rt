@@ -1,21 +1,23 @@
 //! The command `draw`: the tiles of a window, through the layers handed in.
-ghost use Rattle.std.specs.Prelude.{◌≡◌, ◌^◌, ◌++◌, All, map, None, Some, Ok, IfOk, IfErr, OnOk, IsTrue};
+ghost use Rattle.std.specs.Prelude.{◌≡◌, ◌^◌, ◌++◌, map, None, Some, Ok, IfOk, IfErr, OnOk, IsTrue};
 ghost use Rattle.cyclo_points.specs.Point.{IsOf, IsWithin};
 ghost use Rattle.layer_api.specs.Drawable.{IsView};
 ghost use Rattle.layer_api.specs.LayerText.{layer_text};
 ghost use Rattle.rule_model.specs.Tiling.{tiling_of};
 ghost use Rattle.window_cover.specs.Windows.{IsWindow};
 ghost use Rattle.tile_app.specs.declared.words.Command.TheVariants.{Draw};
-ghost use Rattle.tile_app.specs.Draw.{at_given, half_given, window_given, view_of, texts_of, PrintsDraw, DrawRefuses};
-ghost use Rattle.tile_app.specs.DrawnTile.{drawn_of, CanBeDrawn};
+ghost use Rattle.tile_app.specs.Draw.{at_given, half_given, window_given, view_of, texts_of, Pictures, PrintsDraw, DrawRefuses};
 ghost use Rattle.tile_app.specs.FormatWords.{is_among, first_lacking};
+ghost use Rattle.tile_app.specs.Glue.{asks_glue};
 ghost use Rattle.tile_app.specs.Layers.{HaveLayers};
+ghost use Rattle.tile_app.specs.Pictured.{picture_of, CanBePictured, Begins};
 ghost use Rattle.tile_app.specs.Status.{OrNoMemory};
 ghost use Rattle.tile_app.specs.WindowWords.{FitWindow};
 ghost use Rattle.tile_app.specs.Words.{texts, command_of};
 
-use crate::drawn_tile::{blank, fill};
+use crate::drawn_tile::blank;
 use crate::layers::{formats_given, place_of};
+use crate::picture::Picture;
 use crate::status::Status;
 use crate::tile::address_given;
 use crate::walk::seed_given;
@@ -24,6 +26,10 @@ use crate::words::Key;
 use cyclo_points::coordinates::reduce;
 use cyclo_points::order::Order;
 use cyclo_points::point::Point;
+use half_glue::given_law::given_law;
+use half_glue::glue::glue;
+use half_glue::parts_law::parts_law;
+use half_glue::whole_laws::whole_tiles_law;
 use layer_api::format::Format;
 use layer_api::layer::Layer;
 use layer_api::view::View;
@@ -32,8 +38,7 @@ use plane_geom::window::Window;
 use std::alloc::Global;
 use tile_place::machine::Machine;
 use tile_shape::no_memory::NoMemory;
-use window_cover::covered_tiles::CoveredTiles;
-use window_cover::tiles_of_window::covered_tiles;
+use window_cover::tiles_of_window::{cover, covered_tiles};
 
 /// The centre that right words give, still to be reduced.
 fn at_given(words: &[String]) -> Point
@@ -71,6 +76,41 @@ fn window_given(order: Order, words: &[String]) -> Window
     }
 }
 
+/// Whether right words ask for whole tiles.
+fn glue_given(words: &[String]) -> bool
+    ensures { result ≡ asks_glue (texts words.now) }
+{
+    match Key::Glue.value_given(words) {
+        Some(value) => value == "yes",
+        None => false,
+    }
+}
+
+/// The picture of a window: of its tiles, or where the words ask for them of the whole tiles of its tiles.
+fn pictured(
+    alloc: Global,
+    machine: &Machine,
+    words: &[String],
+    frame: &mut Frame,
+    window: &Window,
+) -> Result<Picture, Status>
+    requires begins { Begins (texts words.now) (tiling_of machine.now) frame.old window.now }
+    requires fits { IsWindow window.now }
+    ensures can { IfOk result (λ picture. CanBePictured (tiling_of machine.now) picture) }
+    ensures pictures { IfOk result (λ picture. Pictures (texts words.now) (tiling_of machine.now) window.now (picture_of (tiling_of machine.now) picture)) }
+    ensures refused { IfErr result (OrNoMemory (DrawRefuses (texts words.now) (tiling_of machine.now))) }
+{
+    if glue_given(words) {
+        given_law();
+        parts_law(machine);
+        whole_tiles_law(machine);
+        let tiles = cover(alloc, machine, frame, window)?;
+        Ok(Picture::Wholes(glue(alloc, machine, frame, &tiles)?))
+    } else {
+        Ok(Picture::Tiles(covered_tiles(alloc, machine, frame, window)?))
+    }
+}
+
 /// What is seen of the machine's tiling in a window.
 fn view_of(machine: &Machine, window: &Window) -> View
     ensures { result ≡ view_of (tiling_of machine.now) window.now }
@@ -85,71 +125,70 @@ fn view_of(machine: &Machine, window: &Window) -> View
     }
 }
 
-/// Draws tiles through a layer, from its beginning to its end.
+/// Draws a picture through a layer, from its beginning to its end.
 fn draw<D: Layer>(
     layer: &mut D,
     machine: &Machine,
     view: View,
-    tiles: &CoveredTiles,
+    picture: &Picture,
 ) -> Result<(), NoMemory>
     requires view { IsView view }
     requires its_order { view.order ≡ machine.now.order }
-    requires can { All (CanBeDrawn (tiling_of machine.now)) tiles.now }
-    ensures drawn { OnOk result (D.draws layer.new (map (drawn_of (tiling_of machine.now)) tiles.now)) }
+    requires can { CanBePictured (tiling_of machine.now) picture.now }
+    ensures drawn { OnOk result (D.draws layer.new (picture_of (tiling_of machine.now) picture.now)) }
     ensures ended { OnOk result (IsTrue (D.ended layer.new)) }
     ensures seen { D.seen layer.new ≡ view }
     ensures form { D.form layer.new ≡ D.form layer.old }
 {
     layer.begin(view);
     let mut drawn = blank();
-    for place in 0..tiles.len() {
-        let tile = tiles.tile(place);
-        fill(&mut drawn, machine, tile);
+    for place in 0..picture.len() {
+        picture.fill(&mut drawn, machine, place);
         layer.put(&drawn)?;
     }
     layer.end()
 }
 
-/// Draws tiles through the first layer of a format, and puts its text behind another.
+/// Draws a picture through the first layer of a format, and puts its text behind another.
 fn put_text<D: Layer>(
     text: &mut Vec<u8>,
     layers: &mut [D],
     format: Format,
     machine: &Machine,
     view: View,
-    tiles: &CoveredTiles,
+    picture: &Picture,
 ) -> Result<(), NoMemory>
     requires has_layer { IsTrue (is_among format (map D.form layers.old)) }
     requires view { IsView view }
     requires its_order { view.order ≡ machine.now.order }
-    requires can { All (CanBeDrawn (tiling_of machine.now)) tiles.now }
-    ensures text { OnOk result (text.new.items ≡ text.old.items ++ layer_text format view (map (drawn_of (tiling_of machine.now)) tiles.now)) }
+    requires can { CanBePictured (tiling_of machine.now) picture.now }
+    ensures text { OnOk result (text.new.items ≡ text.old.items ++ layer_text format view (picture_of (tiling_of machine.now) picture.now)) }
     ensures same_forms { OnOk result (map D.form layers.new ≡ map D.form layers.old) }
 {
     let place = place_of(layers, format).unwrap();
-    draw(&mut layers[place], machine, view, tiles)?;
+    draw(&mut layers[place], machine, view, picture)?;
     text.extend_from_slice(layers[place].bytes())?;
     Ok(())
 }
 
-/// The texts of some formats for these tiles, one behind the other.
+/// The texts of some formats for a picture, one behind the other.
 fn texts_of<D: Layer>(
     alloc: Global,
     layers: &mut [D],
     formats: &[Format],
     machine: &Machine,
     view: View,
-    tiles: &CoveredTiles,
+    picture: &Picture,
 ) -> Result<Vec<u8>, NoMemory>
     requires have_layers { first_lacking (map D.form layers.old) formats.now ≡ None }
     requires view { IsView view }
     requires its_order { view.order ≡ machine.now.order }
-    requires can { All (CanBeDrawn (tiling_of machine.now)) tiles.now }
-    ensures { IfOk result (λ text. text.items ≡ texts_of view (map (drawn_of (tiling_of machine.now)) tiles.now) formats.now) }
+    requires can { CanBePictured (tiling_of machine.now) picture.now }
+    ensures { IfOk result (λ text. text.items ≡ texts_of view (picture_of (tiling_of machine.now) picture.now) formats.now) }
 {
     let mut text = Vec::new(alloc);
     for format in formats {
-        put_text(&mut text, layers, *format, machine, view, tiles)?;
+        put_text(&mut text, layers, *format, machine, view, picture)?;
     }
     Ok(text)
 }
@@ -170,8 +209,8 @@ pub fn draw_text<D: Layer>(
     let address = address_given(machine, words)?;
     let window = window_given(machine.checked().order(), words);
     let mut frame = Frame::new(address, seed_given(words));
-    let tiles = covered_tiles(alloc, machine, &mut frame, &window)?;
+    let picture = pictured(alloc, machine, words, &mut frame, &window)?;
     let formats = formats_given(words);
     let view = view_of(machine, &window);
-    Ok(texts_of(alloc, layers, formats.as_slice(), machine, view, &tiles)?)
+    Ok(texts_of(alloc, layers, formats.as_slice(), machine, view, &picture)?)
 }

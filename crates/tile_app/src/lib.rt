@@ -16,6 +16,7 @@ mod neighbour;
 mod note;
 mod number;
 mod path_word;
+mod picture;
 mod place;
 pub mod rule_choice;
 pub mod rule_fault;

@@ -92,8 +92,8 @@ pub fn run<R: Source, W: Sink, N: Sink>(
     // What is printed is by cases of the command: for `place` the kind, and the motion by which the
     // tile lies in its supertile; for `neighbour` the one tile and edge across the edge; for `walk` the
     // tiles of the path; for `draw` the layers' texts of exactly the tiles that meet the window, each
-    // once, disjoint and covering it; for `check` that the rule is accepted. The rule file, where one is
-    // read, was read to its end.
+    // once, disjoint and covering it, or with `glue=yes` of their whole tiles, so too; for `check` that the
+    // rule is accepted. The rule file, where one is read, was read to its end.
     ensures done { result ≡ Status.Done
         → OfRequest (texts words.now.items) (map (λ d. form d) layers.items) (R.left source.old) (R.left source.new)
         (λ r. (text : List ℕ) × Prints r text × Takes (W.taken sink.old) (W.taken sink.new) text) }

@@ -5,6 +5,7 @@ ghost use Rattle.tile_app.specs.Status.{code_of};
 use crate::rule_fault::RuleFault;
 use cyclo_points::point::Point;
 use dissect_check::check_fault::CheckFault;
+use half_glue::glue_fault::GlueFault;
 use layer_api::format::Format;
 use lazy_walk::path_fault::PathFault;
 use rule_text::text_fault::TextFault;
@@ -39,11 +40,12 @@ pub enum Status {
     NoEdge { edge: u8, edges: u8 },
     /// The edge lies on this edge of the supertile, in this part of it.
     Outside { edge: u8, part: u8 },
-    /// An edge is on the boundary of the frame at depth 64, one of a walk or one that meets a window: the
-    /// tile, and its edge.
+    /// An edge is on the boundary of the frame at depth 64, one of a walk, one that meets a window, or one
+    /// along which a tile of a window is glued: the tile, and its edge.
     DepthLimit { addr: Address, edge: u8 },
     /// A value has a coefficient above 2^24 in absolute value: of a tile placed, the first such value from
-    /// coarse to fine; of a window, one looked at for its centre, or the shift of a tile that meets it.
+    /// coarse to fine; of a window, one looked at for its centre, or the shift of a tile that meets it or of
+    /// the other half of one.
     CoordLimit { value: Point },
     /// More than 200,000 tiles meet the window.
     TooManyTiles,
@@ -201,6 +203,20 @@ impl From<CoverFault> for Status {
             CoverFault::CoordLimit { value } => Status::CoordLimit { value },
             CoverFault::TooManyTiles => Status::TooManyTiles,
             CoverFault::NoMemory => Status::NoMemory,
+        }
+    }
+}
+
+impl From<GlueFault> for Status {
+    ghost use Rattle.tile_app.specs.Turned.{status_of_glue};
+
+    ghost from_gives = { λ fault status. status ≡ status_of_glue fault };
+
+    fn from(fault: GlueFault) -> Status {
+        match fault {
+            GlueFault::DepthLimit { addr, edge } => Status::DepthLimit { addr, edge },
+            GlueFault::CoordLimit { value } => Status::CoordLimit { value },
+            GlueFault::NoMemory => Status::NoMemory,
         }
     }
 }

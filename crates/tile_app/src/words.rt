@@ -48,6 +48,8 @@ pub enum Key {
     Half,
     /// The formats of what is drawn.
     Layers,
+    /// Whether halves are drawn as whole tiles.
+    Glue,
 }
 
 impl Command {
@@ -85,6 +87,7 @@ impl Command {
                 Key::Half,
                 Key::Layers,
                 Key::Seed,
+                Key::Glue,
             ],
             Command::Check => &[Key::Rule],
         }
@@ -119,6 +122,7 @@ impl Key {
             Key::At => "at",
             Key::Half => "half",
             Key::Layers => "layers",
+            Key::Glue => "glue",
         }
     }
 
@@ -136,6 +140,7 @@ impl Key {
             Key::At => at_in(value).is_some(),
             Key::Half => half_in(value).is_some(),
             Key::Layers => formats_in(value).is_some(),
+            Key::Glue => value == "yes" || value == "no",
         }
     }
 

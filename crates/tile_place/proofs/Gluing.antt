@@ -1,22 +1,28 @@
 -- What gluing says of the machine's rule.
-use Rattle.std.proofs.Common.{◌≡◌, ◌↔◌, ◌<◌, ℕ, Option, Some, None, IfSome, IsTrue, is_some, length, refl, sym, ap₂, ◌∙◌, subst}
-use Rattle.ordered_ring.specs.Ring.{difference, power}
+use Rattle.std.proofs.Common.{◌≡◌, ◌↔◌, ◌<◌, ◌+◌, ◌-◌, ◌/◌, ◌%◌, ℕ, length, pos, negsuc, [], ◌∷◌, refl, sym, ap, ap₂, ◌∙◌, subst}
+use Rattle.std.proofs.Math.Nat.{mod-lt}
+use Rattle.ordered_ring.specs.Ring.{difference}
+use Rattle.ordered_ring.proofs.Normaliser.{var, con, ring, ring_from, ◌⊕◌, ◌⊖◌, ◌⊗◌}
+use Rattle.ordered_ring.specs.Ring.{power}
 use Rattle.addressing.proofs.TableBounds.{some_of}
 use Rattle.substitution.specs.RuleParts.{edge_count, next, vertex}
 use Rattle.edge_to_edge.specs.EdgeTypes.{edge_vector}
 use Rattle.edge_to_edge.proofs.ChildEdges.{kind-with_edge}
 use Rattle.edge_to_edge.proofs.TablesOf.{type_of-found}
-use Rattle.cyclo_points.specs.declared.motion.Motion.{Motion}
 use Rattle.cyclo_points.specs.declared.order.Order.{Order}
 use Rattle.cyclo_points.specs.Order.{NumberOf, PointsLaw, points_of}
+use Rattle.dissection.specs.Glue.{TurnsOnto}
 use Rattle.dissection.specs.Laws.{GlueLaw}
-use Rattle.dissection.proofs.GlueMotions.{glues}
+use Rattle.dissection.proofs.GlueMotions.{glue_motion, glues}
 use Rattle.rule_model.specs.declared.rule.Rule.{Rule}
 use Rattle.rule_model.specs.Tiling.{tiling_of, contacts}
 use Rattle.rule_model.specs.Views.{rule_of}
 use Rattle.addressing.specs.Tables.{type_of}
 use Rattle.tile_place.specs.Crossed.{placed_tile}
-use Rattle.tile_place.specs.Glued.{IsTurnedTo, HasKindEdge, Meets, Glues, GluingLaw}
+use Rattle.tile_place.specs.EdgeTurns.{IsGreatest}
+use Rattle.tile_place.specs.Glued.{HasKindEdge, Meets, Glues, IsMotionAcross, GluingLaw}
+use Rattle.tile_place.specs.TurnedVertices.{turned_by}
+use Rattle.tile_place.proofs.GreatestTurns.{some_order, turned-twice, turned-mod, one-greatest, onto-itself, onto-reverse}
 use Rattle.tile_place.proofs.Plane.{IsSettled, its_rule, fits_tables, has_edge}
 
 -- the law over the points of an order
@@ -35,32 +41,56 @@ module _ (m : Rule) where
   pub kind_listed : (kind edge : ℕ) → HasKindEdge (tiling_of m) kind edge → kind < length (rule_of m).kinds
   kind_listed kind edge h = kind-with_edge (points_of m.order) (rule_of m) kind edge (edge_listed kind edge h)
 
-  -- the turn that was looked for, by the vectors of the edges
-  module _ (k e l f : ℕ) (own its : NumberOf m.order) (own_is : own ≡ edge_vector (points_of m.order) (rule_of m) k e) (its_is : its ≡ edge_vector (points_of m.order) (rule_of m) l f) where
-    pub turns_onto : (turn : ℕ) → IsTurnedTo m.order turn its ((points_of m.order).ring.neg own)
-        → IsTurnedTo m.order turn (edge_vector (points_of m.order) (rule_of m) l f) ((points_of m.order).ring.neg (edge_vector (points_of m.order) (rule_of m) k e))
-    turns_onto turn h = subst (λ v. IsTurnedTo m.order turn v ((points_of m.order).ring.neg (edge_vector (points_of m.order) (rule_of m) k e))) its_is
-        (subst (λ w. IsTurnedTo m.order turn its ((points_of m.order).ring.neg w)) own_is h)
+  -- two edges, by their vectors and the turns that make these greatest
+  module _ (W : PointsLaw m.order) (k e l f a b : ℕ) where
+    abbrev own : NumberOf m.order
+    own = edge_vector (points_of m.order) (rule_of m) k e
 
-    pub turned_back : (turn : ℕ) → IsTurnedTo m.order turn (edge_vector (points_of m.order) (rule_of m) l f) ((points_of m.order).ring.neg (edge_vector (points_of m.order) (rule_of m) k e))
-        → IsTurnedTo m.order turn its ((points_of m.order).ring.neg own)
-    turned_back turn h = subst (λ v. IsTurnedTo m.order turn v ((points_of m.order).ring.neg own)) (sym its_is)
-        (subst (λ w. IsTurnedTo m.order turn (edge_vector (points_of m.order) (rule_of m) l f) ((points_of m.order).ring.neg w)) (sym own_is) h)
+    abbrev its : NumberOf m.order
+    its = edge_vector (points_of m.order) (rule_of m) l f
 
-    abbrev IsNone : Option Motion → Type 0
-    IsNone x = x ≡ None → (turn : ℕ) → turn < (points_of m.order).order → ¬ IsTurnedTo m.order turn its ((points_of m.order).ring.neg own)
+    -- how the one is turned onto the reverse of the other
+    abbrev pub glue_turn : ℕ
+    glue_turn = (b + ((points_of m.order).order / 2 + (points_of m.order).order - a)) % (points_of m.order).order
 
-    pub met : (x : Option Motion) → IfSome x (λ (g : Motion). g.turn < (points_of m.order).order) → IfSome x (λ (g : Motion). IsTurnedTo m.order g.turn its ((points_of m.order).ring.neg own)) → IsNone x
-        → IsTrue (is_some x) ↔ Meets (tiling_of m) k e l f
-    met (Some g) below turned none = ((λ t. record { turn = g.turn; below = below; turns = turns_onto g.turn turned }), (λ h. refl))
-    met None below turned none = ((λ t. absurd (cc t)), (λ h. absurd (none refl h.turn h.below (turned_back h.turn h.turns))))
+    module _ (of_own : IsGreatest m.order own a) (of_its : IsGreatest m.order its b) where
+      pub one_vector : Meets (tiling_of m) k e l f → turned_by m.order a own ≡ turned_by m.order b its
+      one_vector met = one-greatest m.order W own its a b ((points_of m.order).order / 2 + met.turn) of_own of_its (onto-itself m.order W own its met.turn met.turns)
 
-    -- and the motion of that turn
-    pub glued : PointsLaw m.order → (turn : ℕ) (shift end start : NumberOf m.order) → turn < (points_of m.order).order → IsTurnedTo m.order turn its ((points_of m.order).ring.neg own)
-        → end ≡ vertex (points_of m.order) (rule_of m) k (next (rule_of m) k e) → start ≡ vertex (points_of m.order) (rule_of m) l f
-        → shift ≡ difference (points_of m.order).ring end ((points_of m.order).ring.mul (power (points_of m.order).ring (points_of m.order).zeta turn) start)
+      pub turn_below : glue_turn < (points_of m.order).order
+      turn_below = mod-lt (b + ((points_of m.order).order / 2 + (points_of m.order).order - a)) (some_order m.order)
+
+      pub turns_onto : turned_by m.order a own ≡ turned_by m.order b its → TurnsOnto (points_of m.order) (rule_of m) k e l f glue_turn
+      turns_onto same = onto-reverse m.order W own its a b of_own.below same
+
+      pub met : turned_by m.order a own ≡ turned_by m.order b its ↔ Meets (tiling_of m) k e l f
+      met = ((λ same. record { turn = glue_turn; below = turn_below; turns = turns_onto same }), one_vector)
+
+  -- the motions that such a turn gives
+  module _ (W : PointsLaw m.order) (k e l f turn : ℕ) (below : turn < (points_of m.order).order) (turns : TurnsOnto (points_of m.order) (rule_of m) k e l f turn) where
+    abbrev end_vertex : NumberOf m.order
+    end_vertex = vertex (points_of m.order) (rule_of m) k (next (rule_of m) k e)
+
+    abbrev start_vertex : NumberOf m.order
+    start_vertex = vertex (points_of m.order) (rule_of m) l f
+
+    pub glued : (end start shift : NumberOf m.order) → end ≡ turned_by m.order 0 end_vertex → start ≡ turned_by m.order turn start_vertex → shift ≡ difference (points_of m.order).ring end start
         → Glues (tiling_of m) k e l f (record { turn = turn; shift = shift })
-    glued W turn shift end start below turned end_is start_is shift_is =
+    glued end start shift end_is start_is shift_is =
         subst (λ (s : NumberOf m.order). Glues (tiling_of m) k e l f (record { turn = turn; shift = s }))
-        (sym (shift_is ∙ ap₂ (λ a b. difference (points_of m.order).ring a ((points_of m.order).ring.mul (power (points_of m.order).ring (points_of m.order).zeta turn) b)) end_is start_is))
-        (glues (points_of m.order) W (rule_of m) k e l f turn below (turns_onto turn turned))
+        (sym (shift_is ∙ ap₂ (difference (points_of m.order).ring) (end_is ∙ ring (points_of m.order).ring W.of_ring (end_vertex ∷ []) (con (pos 1) ⊗ var 0) (var 0) refl) start_is))
+        (glues (points_of m.order) W (rule_of m) k e l f turn below turns)
+
+    pub across : (at : ℕ) (s end start shift : NumberOf m.order) → end ≡ turned_by m.order at end_vertex → start ≡ turned_by m.order ((at + turn) % (points_of m.order).order) start_vertex
+        → shift ≡ difference (points_of m.order).ring ((points_of m.order).ring.add end s) start
+        → IsMotionAcross (tiling_of m) k e l f (record { turn = at; shift = s }) (record { turn = (at + turn) % (points_of m.order).order; shift = shift })
+    across at s end start shift end_is start_is shift_is = record {
+      glue = glue_motion (points_of m.order) (rule_of m) k e l f turn;
+      glues = glues (points_of m.order) W (rule_of m) k e l f turn below turns;
+      motion_is = ap (λ (v : NumberOf m.order). record { turn = (at + turn) % (points_of m.order).order; shift = v })
+          (shift_is ∙ ring_from (points_of m.order).ring W.of_ring
+          (power (points_of m.order).ring (points_of m.order).zeta at ∷ (power (points_of m.order).ring (points_of m.order).zeta turn ∷ (end_vertex ∷ (start_vertex ∷ (s ∷ (end ∷ (start ∷ [])))))))
+          ((var 5 ⊕ var 4) ⊖ var 6) (var 0 ⊗ (var 2 ⊖ var 1 ⊗ var 3) ⊕ var 4)
+          ((con (pos 1), var 5, var 0 ⊗ var 2) ∷ ((con (negsuc 0), var 6, var 0 ⊗ (var 1 ⊗ var 3)) ∷ []))
+          (end_is, (start_is ∙ turned-mod m.order W (at + turn) start_vertex ∙ turned-twice m.order W at turn start_vertex, tt)) refl);
+    }

@@ -6,8 +6,8 @@ pub mod Descent
 pub mod Example
 pub mod Plane
 pub mod SamePoint
-pub mod HalfTurn
-pub mod Vectors
+pub mod GreatestTurns
+pub mod TurnedPlaces
 pub mod Gluing
 pub mod Ahead
 pub mod Corners
@@ -18,3 +18,5 @@ pub mod Below
 pub mod Counted
 pub mod Held
 pub mod Located
+pub mod EachOrder
+pub mod KeyOrder

@@ -1,22 +1,12 @@
 -- Which edges of prototiles meet, and the motions that glue them.
 use Rattle.std.specs.Prelude.{◌≡◌, ℕ, IsSome}
-use Rattle.ordered_ring.specs.Ring.{difference, power}
 use Rattle.addressing.specs.Address.{Address, Fits}
 use Rattle.addressing.specs.Tables.{type_of}
-use Rattle.cyclo_points.specs.declared.order.Order.{Order}
-use Rattle.cyclo_points.specs.Order.{NumberOf, points_of}
+use Rattle.cyclo_points.specs.Order.{points_of}
 use Rattle.dissection.specs.Glue.{IsMet, IsGlueMotion}
 use Rattle.rule_model.specs.Tiling.{Tiling, MotionOf, contacts, children}
 use Rattle.substitution.specs.Motion.{followed}
 use Rattle.tile_place.specs.Crossed.{placed_tile, IsOnlyAcross}
-
--- a turn by ζ^k takes the vector v to w
-abbrev pub IsTurnedTo : (o : Order) → ℕ → NumberOf o → NumberOf o → Type 0
-IsTurnedTo o k v w = (points_of o).ring.mul (power (points_of o).ring (points_of o).zeta k) v ≡ w
-
--- turned by ζ^k and then shifted by v, the point p comes to q
-abbrev pub IsShift : (o : Order) → ℕ → NumberOf o → NumberOf o → NumberOf o → Type 0
-IsShift o k p q v = v ≡ difference (points_of o).ring q ((points_of o).ring.mul (power (points_of o).ring (points_of o).zeta k) p)
 
 -- a kind of the tiling has an edge of this number
 abbrev pub HasKindEdge : Tiling → ℕ → ℕ → Type 0
@@ -29,6 +19,12 @@ Meets t k e l f = IsMet (points_of t.order) t.rule k e l f
 -- moved by m, edge f of kind l runs from the end of edge e of kind k to its start
 abbrev pub Glues : (t : Tiling) → ℕ → ℕ → ℕ → ℕ → MotionOf t → Type 0
 Glues t k e l f m = IsGlueMotion (points_of t.order) t.rule k e l f m
+
+-- b is a motion that glues the edges, followed by the motion a of the tile of edge e: the motion of the tile across
+pub record IsMotionAcross (t : Tiling) (k e l f : ℕ) (a b : MotionOf t) : Type 0 where
+  pub glue : MotionOf t
+  pub glues : Glues t k e l f glue
+  pub motion_is : b ≡ followed (points_of t.order) glue a
 
 -- the motion of b is the motion m, followed by that of a
 abbrev pub LiesBeyond : (t : Tiling) → Address → MotionOf t → Address → Type 0

@@ -1,8 +1,12 @@
 pub mod Placing
 pub mod Crossed
 pub mod Glued
-pub mod Vectors
+pub mod TurnedVertices
+pub mod EdgeTurns
+pub mod Corners
+pub mod Machine
 pub mod Parts
 pub mod Searched
 pub mod Located
 pub mod Triangle
+pub mod Keys

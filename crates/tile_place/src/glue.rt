@@ -1,160 +1,73 @@
-//! Edges that meet, and the motion that glues them.
-ghost use Rattle.std.specs.Prelude.{◌≡◌, ◌↔◌, ◌<◌, ◌^◌, ℕ, IsTrue, None, IfSome};
-ghost use Rattle.std.specs.Bool.{Decides};
-ghost use Rattle.std.specs.Ordering.{int_eq};
-ghost use Rattle.substitution.specs.RuleParts.{next, vertex};
+//! Edges that meet, the motion that glues them, and the motion of the tile across.
+ghost use Rattle.std.specs.Prelude.{◌≡◌, ◌↔◌, ◌+◌, ◌<◌, ◌^◌, ℕ, IsTrue};
+ghost use Rattle.substitution.specs.RuleParts.{next};
 ghost use Rattle.edge_to_edge.specs.EdgeTypes.{edge_vector};
-ghost use Rattle.cyclo_points.specs.declared.order.Order.{Order};
 ghost use Rattle.cyclo_points.specs.Order.{points_of};
 ghost use Rattle.cyclo_points.specs.Point.{point_in, IsOf, IsWithin};
 ghost use Rattle.cyclo_points.specs.Motion.{motion_in};
+ghost use Rattle.dissection.specs.Glue.{TurnsOnto};
 ghost use Rattle.rule_model.specs.Tiling.{tiling_of};
-ghost use Rattle.rule_model.specs.Usable.{IsSmall};
 ghost use Rattle.rule_model.specs.Views.{rule_of};
-ghost use Rattle.tile_place.specs.Vectors.{vector_of};
-ghost use Rattle.tile_place.specs.Glued.{IsTurnedTo, IsShift, HasKindEdge, Meets, Glues, GluingLaw};
+ghost use Rattle.tile_place.specs.Glued.{HasKindEdge, Meets, Glues, IsMotionAcross, GluingLaw};
+ghost use Rattle.tile_place.specs.TurnedVertices.{turned_by, IsTurned};
 
+use crate::compared::is_same;
+use crate::edge_turns::next_of;
 use crate::machine::Machine;
-use crate::prototile_edge::PrototileEdge;
 use cyclo_points::arithmetic::{add, sub};
 use cyclo_points::motion::Motion;
-use cyclo_points::order::Order;
 use cyclo_points::point::Point;
 use cyclo_points::points_law;
-use cyclo_points::rotation::turn;
 use dissection::laws::glue_law;
 
-/// Whether two coefficients are the same.
-fn is_equal(a: i64, b: i64) -> bool
-    ensures { result ≡ int_eq a b }
-{
-    a == b
-}
-
-/// Whether two points of one order are the same.
-fn is_same(p: &Point, q: &Point) -> bool
-    ensures { (order : Order) → IsOf order p.now → IsOf order q.now
-        → Decides result (point_in order p.now ≡ point_in order q.now) }
-{
-    is_equal(p.c[0], q.c[0])
-        & is_equal(p.c[1], q.c[1])
-        & is_equal(p.c[2], q.c[2])
-        & is_equal(p.c[3], q.c[3])
-}
-
-/// The motion that turns a vector into `onto`, which is the reverse of `back`, and takes `start` to `end`.
-#[inline(always)]
-fn motion_onto(
-    order: Order,
-    vector: &Point,
-    onto: &Point,
-    back: &Point,
-    start: &Point,
-    end: &Point,
-) -> Option<Motion>
-    requires start_small { IsSmall order start.now }
-    requires end_small { IsSmall order end.now }
-    requires vector_within { IsWithin (2 ^ 40) vector.now }
-    requires onto_in_order { IsOf order onto.now }
-    requires back_in_order { IsOf order back.now }
-    requires reverse { point_in order onto.now ≡ (points_of order).ring.neg (point_in order back.now) }
-    ensures below { IfSome result (λ m. m.turn < (points_of order).order) }
-    ensures turned { IfSome result (λ m. IsTurnedTo order m.turn (point_in order vector.now) (point_in order onto.now)) }
-    ensures shift { IfSome result (λ m. IsShift order m.turn (point_in order start.now) (point_in order end.now) (point_in order m.shift)) }
-    ensures within { IfSome result (λ m. IsWithin (2 ^ 8) m.shift) }
-    ensures in_order { IfSome result (λ m. IsOf order m.shift) }
-    ensures none { result ≡ None → (k : ℕ) → k < (points_of order).order
-        → ¬ IsTurnedTo order k (point_in order vector.now) (point_in order onto.now) }
-{
-    points_law(order);
-    // ζ^(n/2) is -1.
-    let half = order.n() / 2;
-    for k in 0..half {
-        let turned = turn(order, k, vector);
-        if is_same(&turned, onto) {
-            return Some(Motion {
-                turn: k,
-                shift: sub(end, &turn(order, k, start)),
-            });
-        }
-        if is_same(&turned, back) {
-            return Some(Motion {
-                turn: k + half,
-                shift: add(end, &turn(order, k, start)),
-            });
-        }
-    }
-    None
-}
-
-/// The same, by order, so that the turns of each stand in code of their own.
-#[inline(always)]
-fn motion_by_order(
-    order: Order,
-    vector: &Point,
-    onto: &Point,
-    back: &Point,
-    start: &Point,
-    end: &Point,
-) -> Option<Motion>
-    requires start_small { IsSmall order start.now }
-    requires end_small { IsSmall order end.now }
-    requires vector_within { IsWithin (2 ^ 40) vector.now }
-    requires onto_in_order { IsOf order onto.now }
-    requires back_in_order { IsOf order back.now }
-    requires reverse { point_in order onto.now ≡ (points_of order).ring.neg (point_in order back.now) }
-    ensures below { IfSome result (λ m. m.turn < (points_of order).order) }
-    ensures turned { IfSome result (λ m. IsTurnedTo order m.turn (point_in order vector.now) (point_in order onto.now)) }
-    ensures shift { IfSome result (λ m. IsShift order m.turn (point_in order start.now) (point_in order end.now) (point_in order m.shift)) }
-    ensures within { IfSome result (λ m. IsWithin (2 ^ 8) m.shift) }
-    ensures in_order { IfSome result (λ m. IsOf order m.shift) }
-    ensures none { result ≡ None → (k : ℕ) → k < (points_of order).order
-        → ¬ IsTurnedTo order k (point_in order vector.now) (point_in order onto.now) }
-{
-    match order {
-        Order::Four => motion_onto(Order::Four, vector, onto, back, start, end),
-        Order::Six => motion_onto(Order::Six, vector, onto, back, start, end),
-        Order::Eight => motion_onto(Order::Eight, vector, onto, back, start, end),
-        Order::Ten => motion_onto(Order::Ten, vector, onto, back, start, end),
-    }
-}
-
-/// The motion that brings one edge onto the reverse of another.
-#[inline(always)]
-fn motion_between(order: Order, own: &PrototileEdge, its: &PrototileEdge) -> Option<Motion>
-    requires own_start { IsSmall order own.now.start }
-    requires own_end { IsSmall order own.now.end }
-    requires its_start { IsSmall order its.now.start }
-    requires its_end { IsSmall order its.now.end }
-    ensures below { IfSome result (λ m. m.turn < (points_of order).order) }
-    ensures turned { IfSome result (λ m. IsTurnedTo order m.turn (vector_of order its.now) ((points_of order).ring.neg (vector_of order own.now))) }
-    ensures shift { IfSome result (λ m. IsShift order m.turn (point_in order its.now.start) (point_in order own.now.end) (point_in order m.shift)) }
-    ensures within { IfSome result (λ m. IsWithin (2 ^ 8) m.shift) }
-    ensures in_order { IfSome result (λ m. IsOf order m.shift) }
-    ensures none { result ≡ None → (k : ℕ) → k < (points_of order).order
-        → ¬ IsTurnedTo order k (vector_of order its.now) ((points_of order).ring.neg (vector_of order own.now)) }
-{
-    points_law(order);
-    let vector = sub(&its.end, &its.start);
-    let onto = sub(&own.start, &own.end);
-    let back = sub(&own.end, &own.start);
-    motion_by_order(order, &vector, &onto, &back, &its.start, &own.end)
-}
-
 impl Machine {
-    /// An edge of a prototile.
-    fn prototile_edge(&self, kind: u8, edge: u8) -> PrototileEdge
+    /// The vertex at which an edge begins, turned by so many steps.
+    fn start_of(&self, kind: u8, edge: u8, steps: u8) -> Point
         requires exists { HasKindEdge (tiling_of self.now) kind edge }
-        ensures start { point_in self.now.order result.start
-            ≡ vertex (points_of self.now.order) (rule_of self.now) kind edge }
-        ensures end { point_in self.now.order result.end
-            ≡ vertex (points_of self.now.order) (rule_of self.now) kind (next (rule_of self.now) kind edge) }
-        ensures vector { vector_of self.now.order result
-            ≡ edge_vector (points_of self.now.order) (rule_of self.now) kind edge }
-        ensures start_small { IsSmall self.now.order result.start }
-        ensures end_small { IsSmall self.now.order result.end }
+        requires turn_below { steps < (points_of self.now.order).order }
+        ensures { IsTurned (tiling_of self.now) kind steps edge result }
     {
-        PrototileEdge::of(self.checked().rule(), usize::from(kind), usize::from(edge))
+        self.turned_vertex(kind, steps, usize::from(edge))
+    }
+
+    /// The vertex at which an edge ends, turned by so many steps.
+    fn end_of(&self, kind: u8, edge: u8, steps: u8) -> Point
+        requires exists { HasKindEdge (tiling_of self.now) kind edge }
+        requires turn_below { steps < (points_of self.now.order).order }
+        ensures { IsTurned (tiling_of self.now) kind steps (next (rule_of self.now) kind edge) result }
+    {
+        let end = next_of(self.checked().vertices(kind).len(), usize::from(edge));
+        self.turned_vertex(kind, steps, end)
+    }
+
+    /// The vector of an edge, turned by so many steps.
+    fn vector_of(&self, kind: u8, edge: u8, steps: u8) -> Point
+        requires exists { HasKindEdge (tiling_of self.now) kind edge }
+        requires turn_below { steps < (points_of self.now.order).order }
+        ensures vector { point_in self.now.order result
+            ≡ turned_by self.now.order steps (edge_vector (points_of self.now.order) (rule_of self.now) kind edge) }
+        ensures in_order { IsOf self.now.order result }
+    {
+        points_law(self.checked().order());
+        let end = self.end_of(kind, edge, steps);
+        let start = self.start_of(kind, edge, steps);
+        sub(&end, &start)
+    }
+
+    /// The turn that takes the vector of the second edge to that of the first, reversed.
+    fn glue_turn(&self, kind: u8, edge: u8, other: u8, other_edge: u8) -> u8
+        requires edge_exists { HasKindEdge (tiling_of self.now) kind edge }
+        requires other_exists { HasKindEdge (tiling_of self.now) other other_edge }
+        requires meets { Meets (tiling_of self.now) kind edge other other_edge }
+        ensures below { result < (points_of self.now.order).order }
+        ensures turns { TurnsOnto (points_of self.now.order) (rule_of self.now) kind edge other other_edge result }
+    {
+        let order = self.checked().order();
+        points_law(order);
+        let n = order.n();
+        // ζ^(n/2) is -1.
+        let back = n / 2 + n - self.edge_turn(kind, edge);
+        (self.edge_turn(other, other_edge) + back) % n
     }
 
     /// Whether two edges meet: some turn below n takes the vector of the second to that of the first, reversed.
@@ -163,9 +76,10 @@ impl Machine {
         requires other_exists { HasKindEdge (tiling_of self.now) other other_edge }
         ensures { IsTrue result ↔ Meets (tiling_of self.now) kind edge other other_edge }
     {
-        let own = self.prototile_edge(kind, edge);
-        let its = self.prototile_edge(other, other_edge);
-        motion_between(self.checked().order(), &own, &its).is_some()
+        points_law(self.checked().order());
+        let own = self.vector_of(kind, edge, self.edge_turn(kind, edge));
+        let its = self.vector_of(other, other_edge, self.edge_turn(other, other_edge));
+        is_same(&own, &its)
     }
 
     /// The motion that brings the second prototile's edge onto the reverse of the first's.
@@ -177,13 +91,44 @@ impl Machine {
         ensures shift_within { IsWithin (2 ^ 8) result.shift }
         ensures in_order { IsOf self.now.order result.shift }
     {
+        points_law(self.checked().order());
+        let turn = self.glue_turn(kind, edge, other, other_edge);
+        let end = self.end_of(kind, edge, 0);
+        let start = self.start_of(other, other_edge, turn);
+        Motion {
+            turn,
+            shift: sub(&end, &start),
+        }
+    }
+
+    /// The motion of the tile across an edge of a tile of this motion: that of the gluing, followed by the tile's.
+    pub fn motion_across(
+        &self,
+        motion: &Motion,
+        kind: u8,
+        edge: u8,
+        other: u8,
+        other_edge: u8,
+    ) -> Motion
+        requires edge_exists { HasKindEdge (tiling_of self.now) kind edge }
+        requires other_exists { HasKindEdge (tiling_of self.now) other other_edge }
+        requires meets { Meets (tiling_of self.now) kind edge other other_edge }
+        requires turn_below { motion.now.turn < (points_of self.now.order).order }
+        requires shift_within { IsWithin (2 ^ 24) motion.now.shift }
+        requires in_order { IsOf self.now.order motion.now.shift }
+        ensures across { IsMotionAcross (tiling_of self.now) kind edge other other_edge (motion_in self.now.order motion.now) (motion_in self.now.order result) }
+        ensures turn_below { result.turn < (points_of self.now.order).order }
+        ensures bounded { (k : ℕ) → IsWithin k motion.now.shift → IsWithin (k + 2 ^ 8) result.shift }
+        ensures in_order { IsOf self.now.order result.shift }
+    {
         let order = self.checked().order();
         points_law(order);
-        let own = self.prototile_edge(kind, edge);
-        let its = self.prototile_edge(other, other_edge);
-        match motion_between(order, &own, &its) {
-            Some(motion) => motion,
-            None => Motion::default(),
+        let turn = (motion.turn + self.glue_turn(kind, edge, other, other_edge)) % order.n();
+        let end = self.end_of(kind, edge, motion.turn);
+        let start = self.start_of(other, other_edge, turn);
+        Motion {
+            turn,
+            shift: sub(&add(&end, &motion.shift), &start),
         }
     }
 

@@ -7,20 +7,25 @@
 //! for every rule that is accepted. After `Machine::new` no call takes memory.
 #![tactic(auto)]
 
+mod compared;
 pub mod coord_limit;
+mod edge_turns;
 mod glue;
 mod hold;
 mod locate;
 pub mod locate_fault;
 mod look;
 pub mod machine;
+pub mod order_key;
 mod outline;
 mod part;
 pub mod place;
 pub mod placed_tile;
 mod powers;
-mod prototile_edge;
 mod search;
 mod seen;
+mod small_point;
 #[cfg(test)]
 mod tests;
+mod tile_corners;
+mod turned_vertices;

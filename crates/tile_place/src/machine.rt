@@ -1,22 +1,31 @@
 //! The machine of a checked rule.
-ghost use Rattle.std.specs.Prelude.{◌≡◌, ◌+◌, ◌*◌, ◌<◌, ◌≤◌, ◌^◌, ℕ, IsSome, IsOk, None, Some, IfOk, IfErr, OnErr, Err};
+ghost use Rattle.std.specs.Prelude.{◌≡◌, ◌+◌, ◌*◌, ◌<◌, ◌≤◌, ◌^◌, ℕ, length, IsSome, IsOk, None, Some, IfOk, IfErr, OnErr, Err};
 ghost use Rattle.addressing.specs.Address.{Address as TheAddress, depth, Fits};
 ghost use Rattle.addressing.specs.Tables.{child_kinds, type_of};
 ghost use Rattle.addressing.specs.Touch.{Touches};
 ghost use Rattle.addressing.specs.Across.{IsAcross, LiesOn};
+ghost use Rattle.substitution.specs.RuleParts.{edge_count};
+ghost use Rattle.edge_to_edge.specs.EdgeTypes.{edge_vector};
 ghost use Rattle.cyclo_points.specs.Order.{points_of};
 ghost use Rattle.cyclo_points.specs.Point.{point_in, IsOf, IsWithin};
 ghost use Rattle.cyclo_points.specs.Motion.{motion_in};
 ghost use Rattle.rule_model.specs.Accepted.{IsAccepted};
 ghost use Rattle.rule_model.specs.Tiling.{tiling_of, contacts, children, IsPlaced};
 ghost use Rattle.rule_model.specs.Usable.{IsUsable};
+ghost use Rattle.rule_model.specs.Views.{rule_of};
 ghost use Rattle.tile_shape.specs.Views.{address_of};
 ghost use Rattle.tile_place.specs.Crossed.{IsOnlyAcross, LiesOnBoundary};
+ghost use Rattle.tile_place.specs.EdgeTurns.{IsGreatest};
+ghost use Rattle.tile_place.specs.Glued.{HasKindEdge};
 ghost use Rattle.tile_place.specs.Placing.{first_refused};
+ghost use Rattle.tile_place.specs.TurnedVertices.{IsTurned};
 
 use crate::coord_limit::CoordLimit;
+use crate::edge_turns::EdgeTurns;
 use crate::place::place;
+use crate::turned_vertices::TurnedVertices;
 use cyclo_points::motion::Motion;
+use cyclo_points::point::Point;
 use dissection::laws::{across_law, boundary_law};
 use edge_tables::steps::Steps;
 use rule_model::checked::Checked;
@@ -29,24 +38,26 @@ use transducer_core::crossing::{Crossing, put_digits};
 use transducer_core::outside::Outside;
 use transducer_core::transducer::Transducer;
 
-/// A checked rule with the transducer of its contact tables. Contracts see it as the rule, which
-/// determines both.
+/// A checked rule with the transducer of its contact tables, and with its kinds' vertices turned and the turns of
+/// their edges, from which motions come. Contracts see it as the rule, which determines all of them.
 #[derive(Drop)]
 pub struct Machine {
     checked: Checked,
     transducer: Transducer,
+    vertices: TurnedVertices,
+    edges: EdgeTurns,
 }
 
 impl Model for Machine {
-    ghost use Rattle.std.specs.Prelude.{◌≡◌};
     ghost use Rattle.rule_model.specs.declared.rule.Rule.{Rule};
-    ghost use Rattle.rule_model.specs.Tiling.{tiling_of, contacts};
+    ghost use Rattle.rule_model.specs.Tiling.{tiling_of};
+    ghost use Rattle.tile_place.specs.Machine.{HasTables};
 
     ghost Value = { Rule };
 
     ghost view = { λ m. m.checked };
 
-    ghost invariant = { λ m. m.transducer ≡ contacts (tiling_of m.checked) };
+    ghost invariant = { λ m. HasTables (tiling_of m.checked) m.transducer m.vertices m.edges };
 }
 
 impl Machine {
@@ -55,9 +66,13 @@ impl Machine {
         ensures its_rule { IfOk result (λ machine. machine ≡ checked) }
     {
         let transducer = Transducer::compile(alloc, checked.tables())?;
+        let vertices = TurnedVertices::new(alloc, &checked)?;
+        let edges = EdgeTurns::new(alloc, &checked, &vertices)?;
         Ok(Machine {
             checked,
             transducer,
+            vertices,
+            edges,
         })
     }
 
@@ -71,6 +86,24 @@ impl Machine {
         let _accepted = self.checked.rule();
         let _same_child_kinds = self.checked.tables();
         &self.checked
+    }
+
+    /// A vertex of a kind, turned by so many steps.
+    pub(crate) fn turned_vertex(&self, kind: u8, steps: u8, number: usize) -> Point
+        requires exists { kind < length (rule_of self.now).kinds }
+        requires turn_below { steps < (points_of self.now.order).order }
+        requires vertex_exists { number < edge_count (rule_of self.now) kind }
+        ensures { IsTurned (tiling_of self.now) kind steps number result }
+    {
+        self.vertices.at(kind, steps, number)
+    }
+
+    /// The turn by which the vector of an edge is greatest.
+    pub(crate) fn edge_turn(&self, kind: u8, edge: u8) -> u8
+        requires exists { HasKindEdge (tiling_of self.now) kind edge }
+        ensures { IsGreatest self.now.order (edge_vector (points_of self.now.order) (rule_of self.now) kind edge) result }
+    {
+        self.edges.at(kind, edge)
     }
 
     /// The motion that stands beside the address of a tile in the list of its supertile's tiles, as

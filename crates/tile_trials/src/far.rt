@@ -143,20 +143,19 @@ fn counted<L: Ledger>(alloc: Global, name: Name, blank: Blank) -> Result<(u32, u
     Ok((glued, outside))
 }
 
+/// The built-in rules.
+static NAMES: [Name; 5] = [
+    Name::Chair,
+    Name::P2,
+    Name::P3,
+    Name::AmmannBeenker,
+    Name::HalfHex,
+];
+
 #[test]
 fn far_up(rt: HostRuntime) -> Result<(), Fail> {
-    for name in [
-        Name::Chair,
-        Name::P2,
-        Name::P3,
-        Name::AmmannBeenker,
-        Name::HalfHex,
-    ] {
-        assert_eq!(rt;
-            counted::<Brand>(rt.alloc(), name, Blank::new(1))?,
-            (1000, 0),
-            "{name:?}"
-        );
+    for name in &NAMES {
+        assert!(rt; counted::<Brand>(rt.alloc(), *name, Blank::new(1))? == (1000, 0));
     }
     Ok(())
 }

@@ -24,7 +24,7 @@ use transducer_core::crossing::Crossing;
 /// cut into as many as the Fibonacci numbers say: 3, 8, 21, 55 and 2, 5, 13, 34, with two mirrored kinds of
 /// each. A rhomb of Ammann and Beenker is cut into 3 rhombs and 4 halves of squares, and each of the two
 /// halves of a square into 2 and 3.
-const NAMES: [(Name, u64); 5] = [
+static NAMES: [(Name, u64); 5] = [
     (Name::Chair, 8 * (4 + 16 + 64 + 256)),
     (Name::P2, 2 * 3 * (3 + 8 + 21 + 55 + 2 + 5 + 13 + 34)),
     (Name::P3, 2 * 3 * (3 + 8 + 21 + 55 + 2 + 5 + 13 + 34)),
@@ -189,9 +189,8 @@ fn counted<L: Ledger>(alloc: Global, name: Name, blank: Blank) -> Result<(u64, u
 
 #[test]
 fn whole_supertiles(rt: HostRuntime) -> Result<(), Fail> {
-    for (name, edges) in NAMES {
-        let counts = counted::<Brand>(rt.alloc(), name, Blank::new(1))?;
-        assert_eq!(rt; counts, (0, edges), "{name:?}");
+    for (name, edges) in &NAMES {
+        assert!(rt; counted::<Brand>(rt.alloc(), *name, Blank::new(1))? == (0, *edges));
     }
     Ok(())
 }

@@ -16,7 +16,7 @@ use Rattle.tile_place.specs.declared.placed_tile.PlacedTile.{PlacedTile}
 use Rattle.tile_place.specs.Searched.{placed_in}
 use Rattle.lazy_walk.specs.Frames.{FrameValue}
 use Rattle.lazy_walk.specs.Standing.{Stands}
-use Rattle.window_cover.specs.declared.order_key.OrderKey.{OrderKey}
+use Rattle.tile_place.specs.declared.order_key.OrderKey.{OrderKey}
 use Rattle.window_cover.specs.Checked.{IsChecked}
 use Rattle.window_cover.specs.Covered.{none, tile_of, placed_as, tiles_of, AreCovered}
 use Rattle.window_cover.specs.Found.{Found, CoverValue}
@@ -27,7 +27,7 @@ use Rattle.window_cover.specs.Right.{IsFound, IsRight}
 use Rattle.window_cover.specs.Windows.{AreDrawn, CoverWindow}
 use Rattle.window_cover.proofs.Finished.{HasLaws, all-stand, numbers-distinct, drawn, covered}
 use Rattle.window_cover.proofs.Keyed.{IsKey}
-use Rattle.window_cover.proofs.KeyOrder.{key_cmp}
+use Rattle.tile_place.proofs.KeyOrder.{key_cmp}
 use Rattle.window_cover.proofs.Lifting.{zip-placed}
 use Rattle.window_cover.proofs.Shuffled.{AreShuffled, shuffled}
 use Rattle.window_cover.proofs.Sorted.{IsKeyed, in-order, in-sorted}

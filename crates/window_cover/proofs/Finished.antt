@@ -46,7 +46,7 @@ use Rattle.windows.specs.FrameWindow.{AreAllThatMeet, IsWindowWithin}
 use Rattle.windows.specs.Patch.{Covers}
 use Rattle.windows.specs.Laws.{OutlineLaw}
 use Rattle.windows.proofs.Members.{same_whole}
-use Rattle.window_cover.specs.declared.order_key.OrderKey.{OrderKey}
+use Rattle.tile_place.specs.declared.order_key.OrderKey.{OrderKey}
 use Rattle.window_cover.specs.Beyond.{IsNotBeyondEnough}
 use Rattle.window_cover.specs.Limits.{most_tiles}
 use Rattle.window_cover.specs.Checked.{IsChecked}
@@ -56,10 +56,9 @@ use Rattle.window_cover.specs.Right.{name_of, state_of, IsEdgeWaiting, IsFound, 
 use Rattle.window_cover.specs.Windows.{TileOf, box_of, AreDrawn, CoverWindow}
 use Rattle.window_cover.proofs.Distinct.{distinct-by}
 use Rattle.window_cover.specs.Covered.{tile_of}
-use Rattle.window_cover.proofs.KeyOrder.{numbers_of}
 use Rattle.window_cover.proofs.SamePoints.{point_in-exact}
 use Rattle.window_cover.proofs.Shuffled.{AreShuffled, keyed-distinct, permuted-members}
-use Rattle.window_cover.proofs.Sorted.{numbers_placed, lifted-numbers}
+use Rattle.window_cover.proofs.Sorted.{numbers_of, numbers_placed, lifted-numbers}
 
 map-same : {A B : Type 0} (f g : A → B) (xs : List A) → ((x : A) → IsAmong x xs → f x ≡ g x) → map f xs ≡ map g xs
 map-same f g [] h = refl

@@ -8,7 +8,8 @@ use Rattle.tile_shape.specs.declared.step.Step.{Step}
 use Rattle.tile_shape.specs.Views.{step_of}
 use Rattle.window_cover.specs.declared.found_tile.FoundTile.{FoundTile}
 use Rattle.window_cover.specs.Border.{Waiting}
-use Rattle.window_cover.specs.Keys.{FitsKey, HasKey}
+use Rattle.tile_place.specs.Keys.{FitsKey}
+use Rattle.window_cover.specs.Keys.{HasKey}
 use Rattle.window_cover.specs.Kept.{digits_in, found_in, AreKept, IsKept}
 use Rattle.window_cover.specs.Limits.{most_tiles}
 

@@ -2,10 +2,11 @@
 use Rattle.std.proofs.Common.{◌≡◌, ℕ, zero, suc, ◌+◌, ◌<◌, List, [], ◌∷◌, ◌++◌, length, map, take, get_or, slice_get, Bool, false, nat_eq, IfSome, refl, sym, ap, ap₂, subst, ◌∙◌, arith}
 use Rattle.std.specs.List.{AllByRecursion, IsDistinct}
 use Rattle.std.proofs.lemmas.Bool.Decides.{nat_tests}
-use Rattle.window_cover.specs.declared.order_key.OrderKey.{OrderKey}
+use Rattle.tile_place.specs.declared.order_key.OrderKey.{OrderKey}
 use Rattle.window_cover.specs.Covered.{none, tile_of}
 use Rattle.window_cover.specs.Found.{Found}
-use Rattle.window_cover.specs.Keys.{key_of, keys_from}
+use Rattle.tile_place.specs.Keys.{key_of}
+use Rattle.window_cover.specs.Keys.{keys_from}
 
 -- ---- one more
 pub keys-more : (n m k : ℕ) (xs : List Found) (key : OrderKey) → m ≡ n + k → k < length xs → IfSome (slice_get xs k) (λ x. key ≡ key_of x.motion x.kind m)

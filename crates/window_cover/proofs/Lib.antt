@@ -9,13 +9,11 @@ mod Unpacked
 mod SamePoints
 mod Lifting
 mod Keyed
-mod KeyOrder
 mod Distinct
 mod Shuffled
 mod Sorted
 mod Finished
 mod Arranged
-mod EachOrder
 mod Searches
 mod Brought
 mod Ended
@@ -23,9 +21,6 @@ mod Outcomes
 mod BoxTests
 mod Insides
 mod NewEdges
-mod EachCorner
-mod TurnedVertices
-mod GluedPlaces
 mod Keeping
 mod OwnLines
 mod NewOpen

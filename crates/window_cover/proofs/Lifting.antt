@@ -7,7 +7,7 @@ use Rattle.lazy_walk.specs.Frames.{FrameValue}
 use Rattle.tile_place.specs.declared.placed_tile.PlacedTile.{PlacedTile}
 use Rattle.tile_shape.specs.declared.step.Step.{Step}
 use Rattle.tile_shape.specs.Views.{step_of}
-use Rattle.window_cover.specs.declared.order_key.OrderKey.{OrderKey}
+use Rattle.tile_place.specs.declared.order_key.OrderKey.{OrderKey}
 use Rattle.window_cover.specs.Admitted.{found_as}
 use Rattle.window_cover.specs.Covered.{tile_of, digit_of, placed_as, tiles_of}
 use Rattle.window_cover.specs.Found.{Found}

@@ -31,7 +31,7 @@ use Rattle.windows.specs.Patch.{Patch, IsDissected}
 use Rattle.windows.specs.FramePatch.{line_of}
 use Rattle.windows.specs.FrameLaws.{LinesLaw, NumberedLaw}
 use Rattle.windows.proofs.Reverses.{reverse-turned}
-use Rattle.window_cover.specs.Admitted.{AreCorners}
+use Rattle.tile_place.specs.Corners.{AreCorners}
 use Rattle.window_cover.specs.Border.{Waiting, have_same_ends}
 use Rattle.window_cover.specs.NewEdges.{reversed, chosen_below, start_at, end_at, ends_at, meets_window, waiting_at, closes, left_open, opened, AreNew}
 use Rattle.window_cover.specs.Right.{IsEdgeWaiting}

@@ -36,13 +36,12 @@ use Rattle.windows.specs.PatchWindow.{PatchWindow, LiesAcross}
 use Rattle.windows.specs.SearchState.{SearchState, IsRightState, stepped}
 use Rattle.windows.specs.SearchSteps.{IsStep}
 use Rattle.window_cover.specs.declared.open_edge.OpenEdge.{OpenEdge}
-use Rattle.window_cover.specs.Admitted.{AreCorners, IsAdmitted, found_as}
+use Rattle.tile_place.specs.Corners.{AreCorners}
+use Rattle.window_cover.specs.Admitted.{IsAdmitted, found_as}
 use Rattle.window_cover.specs.Border.{Waiting, first_of}
 use Rattle.window_cover.specs.Crossed.{IsCrossedTo}
 use Rattle.window_cover.specs.Found.{Found, address_found, CoverValue}
 use Rattle.window_cover.specs.NewEdges.{AreNew, left_open, opened}
-use Rattle.window_cover.specs.Outlines.{AreOutlines}
-use Rattle.window_cover.specs.Gluings.{AreGluings}
 use Rattle.window_cover.specs.Right.{name_of, state_of, growing, IsEdgeWaiting, IsFound, IsRight}
 use Rattle.window_cover.specs.SearchLaws.{HasSearchLaws}
 use Rattle.window_cover.specs.Stepping.{StepsTo}
@@ -212,6 +211,4 @@ module _ (m : Rule) (settled : IsSettled m) (fits : StillFits (children (tiling_
           (subst (λ y. IsRightState P.real (TileOf t) (growing_frame P (is_refused m.order) T.rule y) (box_of t c.window) (state_of t g d)) (sym (full-later t f g h))
           (subst (IsRightState P.real (TileOf t) (growing t f) (box_of t c.window)) (sym state-is) next));
       border = border_is;
-      outlines = subst (AreOutlines t) (sym new.same_outlines) right.outlines;
-      gluings = subst (AreGluings t) (sym new.same_gluings) right.gluings;
     }

@@ -14,7 +14,7 @@ use Rattle.addressing.proofs.Ranges.{among-place, place-among, slice_get-image}
 use Rattle.windows.specs.AnyOrder.{HaveSameMembers}
 use Rattle.windows.specs.Distinct.{AreDistinct}
 use Rattle.windows.proofs.Members.{among-map}
-use Rattle.window_cover.specs.declared.order_key.OrderKey.{OrderKey}
+use Rattle.tile_place.specs.declared.order_key.OrderKey.{OrderKey}
 use Rattle.window_cover.specs.Found.{Found}
 use Rattle.window_cover.specs.Keys.{keys_from}
 use Rattle.window_cover.proofs.Distinct.{distinct-place}

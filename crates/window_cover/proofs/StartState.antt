@@ -36,11 +36,10 @@ use Rattle.windows.specs.EnoughDepth.{IsNotBeyond}
 use Rattle.windows.specs.GrowingPatch.{IsOfDepth}
 use Rattle.windows.specs.OpenEdges.{open_edges_of}
 use Rattle.windows.specs.SearchState.{SearchState, IsRightState, started}
-use Rattle.window_cover.specs.Admitted.{AreCorners, IsAdmitted, found_as}
+use Rattle.tile_place.specs.Corners.{AreCorners}
+use Rattle.window_cover.specs.Admitted.{IsAdmitted, found_as}
 use Rattle.window_cover.specs.Found.{Found, address_found, CoverValue}
 use Rattle.window_cover.specs.NewEdges.{AreNew, left_open, opened}
-use Rattle.window_cover.specs.Outlines.{AreOutlines}
-use Rattle.window_cover.specs.Gluings.{GluingTable, AreGluings}
 use Rattle.window_cover.specs.Right.{name_of, state_of, growing, IsEdgeWaiting, IsFound, IsRight}
 use Rattle.window_cover.specs.SearchLaws.{HasSearchLaws}
 use Rattle.window_cover.specs.Windows.{TileOf, IsWindow, box_of}
@@ -124,9 +123,7 @@ module _ (m : Rule) (settled : IsSettled m) (fits : StillFits (children (tiling_
       × (is_refused m.order own.motion.shift ≡ false → IsRightState P.real (TileOf t) (growing t f) (box_of t w) (started P.real (TileOf t) (growing t f) (box_of t w) (length g.digits) u))
   begun = L.start T F (is_refused m.order) p w.w w.h window-on (length f.digits) (length g.digits) least_holding own own_among holder.here.holds
 
-  module _ (c d : CoverValue) (outlines : List Point) (are : AreOutlines t outlines) (gluings : GluingTable) (glue : AreGluings t gluings)
-      (empty : c ≡ record { window = w; found = []; border = []; outlines = outlines; gluings = gluings })
-      (new : IsAdmitted t c d tile) where
+  module _ (c d : CoverValue) (empty : c ≡ record { window = w; found = []; border = [] }) (new : IsAdmitted t c d tile) where
     first : IsRightState P.real (TileOf t) (growing t f) (box_of t w) (started P.real (TileOf t) (growing t f) (box_of t w) (length g.digits) u)
     first = begun.1 new.unrefused
 
@@ -181,6 +178,4 @@ module _ (m : Rule) (settled : IsSettled m) (fits : StillFits (children (tiling_
           (subst (λ y. IsRightState P.real (TileOf t) (growing_frame P (is_refused m.order) T.rule y) (box_of t w) (state_of t g d)) (sym (full-later t f g h))
           (subst (IsRightState P.real (TileOf t) (growing t f) (box_of t w)) (sym state-is) first));
       border = border_is;
-      outlines = subst (AreOutlines t) (sym (new.same_outlines ∙ ap (λ (y : CoverValue). y.outlines) empty)) are;
-      gluings = subst (AreGluings t) (sym (new.same_gluings ∙ ap (λ (y : CoverValue). y.gluings) empty)) glue;
     }

@@ -1,31 +1,17 @@
 -- A new tile taken in.
 use Rattle.std.specs.Prelude.{◌≡◌, ℕ, ◌<◌, ◌≤◌, ◌^◌, true, false, List, [], ◌∷◌, ◌++◌, length}
-use Rattle.substitution.specs.Motion.{moved}
-use Rattle.substitution.specs.RuleParts.{edge_count, vertex}
-use Rattle.cyclo_points.specs.declared.motion.Motion.{Motion}
 use Rattle.cyclo_points.specs.declared.point.Point.{Point}
-use Rattle.cyclo_points.specs.Motion.{motion_in}
-use Rattle.cyclo_points.specs.Order.{points_of, is_refused}
-use Rattle.cyclo_points.specs.Point.{point_in, IsOf, IsWithin}
+use Rattle.cyclo_points.specs.Order.{is_refused}
+use Rattle.cyclo_points.specs.Point.{point_in, IsWithin}
 use Rattle.rule_model.specs.Tiling.{Tiling}
 use Rattle.tile_place.specs.declared.placed_tile.PlacedTile.{PlacedTile}
+use Rattle.tile_place.specs.Corners.{AreCorners}
 use Rattle.tile_shape.specs.Views.{address_of}
 use Rattle.window_cover.specs.declared.cover_fault.CoverFault.{CoverFault}
 use Rattle.window_cover.specs.declared.cover_fault.CoverFault.TheVariants.{DepthLimit, CoordLimit, TooManyTiles, NoMemory}
 use Rattle.window_cover.specs.Found.{Found, CoverValue}
 use Rattle.window_cover.specs.Limits.{most_tiles}
-use Rattle.window_cover.specs.NewEdges.{start_at, left_open, opened}
-
--- a corner of a tile: where the motion takes vertex number e of the kind
-pub record IsCorner (t : Tiling) (kind : ℕ) (m : Motion) (e : ℕ) (p : Point) : Type 0 where
-  pub place : point_in t.order p ≡ moved (points_of t.order) (motion_in t.order m) (vertex (points_of t.order) t.rule kind e)
-  pub within : IsWithin (2 ^ 25) p
-  pub in_order : IsOf t.order p
-
--- these are the corners of a tile, one for each edge
-pub record AreCorners (t : Tiling) (kind : ℕ) (m : Motion) (corners : List Point) : Type 0 where
-  pub count : length corners ≡ edge_count t.rule kind
-  pub each : (e : ℕ) → e < length corners → IsCorner t kind m e (start_at corners e)
+use Rattle.window_cover.specs.NewEdges.{left_open, opened}
 
 -- the tile as it is found
 abbrev pub found_as : PlacedTile → Found
@@ -38,8 +24,6 @@ pub record IsAdmitted (t : Tiling) (c d : CoverValue) (tile : PlacedTile) : Type
   pub shift_within : IsWithin (2 ^ 24) tile.motion.shift
   pub room : length c.found < most_tiles
   pub same_window : d.window ≡ c.window
-  pub same_outlines : d.outlines ≡ c.outlines
-  pub same_gluings : d.gluings ≡ c.gluings
   pub found : d.found ≡ c.found ++ found_as tile ∷ []
   pub corners : List Point
   pub are_corners : AreCorners t tile.kind tile.motion corners

@@ -4,7 +4,7 @@ use Rattle.std.specs.List.{AllByRecursion}
 use Rattle.addressing.specs.Address as theory
 use Rattle.tile_shape.specs.declared.step.Step.{Step}
 use Rattle.tile_place.specs.declared.placed_tile.PlacedTile.{PlacedTile}
-use Rattle.window_cover.specs.declared.order_key.OrderKey.{OrderKey}
+use Rattle.tile_place.specs.declared.order_key.OrderKey.{OrderKey}
 use Rattle.window_cover.specs.Found.{Found}
 
 -- a tile that stands for none

@@ -2,11 +2,9 @@
 use Rattle.std.specs.Prelude.{ℕ, List, map}
 use Rattle.addressing.specs.Address.{Step, Address}
 use Rattle.cyclo_points.specs.declared.motion.Motion.{Motion}
-use Rattle.cyclo_points.specs.declared.point.Point.{Point}
 use Rattle.plane_geom.specs.declared.window.Window.{Window}
 use Rattle.window_cover.specs.declared.open_edge.OpenEdge.{OpenEdge}
 use Rattle.window_cover.specs.Border.{Waiting}
-use Rattle.window_cover.specs.Gluings.{GluingTable}
 
 -- a tile found: its kind, its motion in the base's frame, and the digits that it had when it was found
 pub record Found : Type 0 where
@@ -18,14 +16,11 @@ pub record Found : Type 0 where
 abbrev pub address_found : Found → Address
 address_found x = record { kind = x.kind; digits = x.digits }
 
--- the window, the tiles in the order found, the open edges by tile and then edge, each with its ends, the vertices of all kinds, turned by all numbers of steps, and
--- the motions that glue their edges
+-- the window, the tiles in the order found, and the open edges by tile and then edge, each with its ends
 pub record CoverValue : Type 0 where
   pub window : Window
   pub found : List Found
   pub border : List Waiting
-  pub outlines : List Point
-  pub gluings : GluingTable
 
 -- the open edges
 abbrev pub open_edges : CoverValue → List OpenEdge

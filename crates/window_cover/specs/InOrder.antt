@@ -1,16 +1,10 @@
 -- The order of the tiles of a window.
-use Rattle.std.specs.Prelude.{◌≡◌, ℕ, ℤ, pos, List, [], ◌∷◌}
+use Rattle.std.specs.Prelude.{◌≡◌, List, [], ◌∷◌}
 use Rattle.std.specs.Ordering.{int_cmp}
 use Rattle.std.specs.Cmp.Lexicographic.{slice_cmp}
 use Rattle.std.specs.declared.cmp.Ordering.TheVariants.{Less}
-use Rattle.cyclo_points.specs.declared.motion.Motion.{Motion}
-use Rattle.cyclo_points.specs.Point.{coefficient}
+use Rattle.tile_place.specs.Keys.{order_numbers}
 use Rattle.tile_place.specs.declared.placed_tile.PlacedTile.{PlacedTile}
-
--- the four coefficients of the shift, the turn, the kind
-abbrev pub order_numbers : Motion → ℕ → List ℤ
-order_numbers m kind =
-    coefficient m.shift 0 ∷ coefficient m.shift 1 ∷ coefficient m.shift 2 ∷ coefficient m.shift 3 ∷ pos m.turn ∷ pos kind ∷ []
 
 -- one comes before the other
 abbrev pub ComesBefore : PlacedTile → PlacedTile → Type 0

@@ -7,7 +7,7 @@ use Rattle.tile_shape.specs.Views.{step_of}
 use Rattle.window_cover.specs.declared.found_tile.FoundTile.{FoundTile}
 use Rattle.window_cover.specs.Border.{Waiting}
 use Rattle.window_cover.specs.Found.{Found}
-use Rattle.window_cover.specs.Keys.{FitsKey}
+use Rattle.tile_place.specs.Keys.{FitsKey}
 use Rattle.window_cover.specs.Limits.{most_tiles}
 
 -- its own digits among all

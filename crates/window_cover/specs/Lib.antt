@@ -4,8 +4,6 @@ pub mod Windows
 pub mod NewEdges
 pub mod Inside
 pub mod Admitted
-pub mod Outlines
-pub mod Gluings
 pub mod Crossed
 pub mod SearchLaws
 pub mod Limits

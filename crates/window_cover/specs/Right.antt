@@ -18,8 +18,6 @@ use Rattle.window_cover.specs.Border.{Waiting}
 use Rattle.window_cover.specs.Packed.{ends_of}
 use Rattle.window_cover.specs.Found.{Found, address_found, CoverValue}
 use Rattle.window_cover.specs.Limits.{most_tiles}
-use Rattle.window_cover.specs.Outlines.{AreOutlines}
-use Rattle.window_cover.specs.Gluings.{AreGluings}
 use Rattle.window_cover.specs.Windows.{TileOf, box_of, IsWindow}
 
 -- the tiles of the frame as they come while it grows to depth 64; growth changes no name there
@@ -70,5 +68,3 @@ pub record IsRight (t : Tiling) (f : FrameValue) (c : CoverValue) : Type 0 where
   pub not_too_many : length c.found ≤ most_tiles
   pub state : IsRightState (points_of t.order).real (TileOf t) (growing t f) (box_of t c.window) (state_of t f c)
   pub border : AllZip (IsEdgeWaiting t) c.border (state_of t f c).open_edges
-  pub outlines : AreOutlines t c.outlines
-  pub gluings : AreGluings t c.gluings

@@ -5,10 +5,10 @@ ghost use Rattle.cyclo_points.specs.Order.{points_of};
 ghost use Rattle.cyclo_points.specs.Point.{IsOf};
 ghost use Rattle.rule_model.specs.Tiling.{tiling_of};
 ghost use Rattle.rule_model.specs.Views.{rule_of};
+ghost use Rattle.tile_place.specs.Corners.{AreCorners};
 ghost use Rattle.window_cover.specs.Windows.{IsWindow};
 ghost use Rattle.window_cover.specs.NewEdges.{AreNew};
-ghost use Rattle.window_cover.specs.Admitted.{AreCorners, IsAdmitted, IsNotAdmitted};
-ghost use Rattle.window_cover.specs.Outlines.{AreOutlines};
+ghost use Rattle.window_cover.specs.Admitted.{IsAdmitted, IsNotAdmitted};
 
 use crate::cover::Cover;
 use crate::cover_fault::CoverFault;
@@ -24,7 +24,6 @@ pub(crate) const MOST_TILES: usize = 200000;
 impl Cover {
     /// Takes a new tile in, if its shift is not refused and it is not one too many.
     pub(crate) fn admit(&mut self, machine: &Machine, tile: &PlacedTile) -> Result<(), CoverFault>
-        requires outlines { AreOutlines (tiling_of machine.now) self.old.outlines }
         requires exists { tile.now.kind < length (rule_of machine.now).kinds }
         requires turn_below { tile.now.motion.turn < (points_of machine.now.order).order }
         requires in_order { IsOf machine.now.order tile.now.motion.shift }
@@ -51,8 +50,7 @@ impl Cover {
             depth: tile.addr.depth(),
         })?;
         let order = machine.checked().order();
-        self.outlines
-            .put_corners(machine, tile.kind, &tile.motion, &mut self.corners);
+        machine.put_corners(tile.kind, &tile.motion, &mut self.corners);
         meet_edges(
             &mut self.border,
             order,

@@ -5,9 +5,7 @@ ghost use Rattle.window_cover.specs.Border.{first_of};
 
 use crate::border::Border;
 use crate::found_tile::FoundTile;
-use crate::gluings::Gluings;
 use crate::open_edge::OpenEdge;
-use crate::outlines::Outlines;
 use arrayvec::ArrayVec;
 use cyclo_points::motion::Motion;
 use cyclo_points::point::Point;
@@ -27,10 +25,6 @@ pub struct Cover {
     /// The digits of all of them, one tile's behind the other's.
     pub(crate) digits: Vec<Step>,
     pub(crate) border: Border,
-    /// The vertices of the kinds, turned.
-    pub(crate) outlines: Outlines,
-    /// The motions that glue their edges.
-    pub(crate) gluings: Gluings,
     /// Room for the corners of the tile that is taken in.
     pub(crate) corners: ArrayVec<Point, 12>,
 }
@@ -41,7 +35,7 @@ impl Model for Cover {
 
     ghost Value = { CoverValue };
 
-    ghost view = { λ c. record { window = c.window; found = found_in c.digits.items c.found.items; border = c.border; outlines = c.outlines; gluings = c.gluings } };
+    ghost view = { λ c. record { window = c.window; found = found_in c.digits.items c.found.items; border = c.border } };
 
     ghost invariant = { λ c. IsKept c.digits.items c.found.items c.border };
 }

@@ -2,10 +2,10 @@
 ghost use Rattle.std.specs.Prelude.{◌≡◌, ◌<◌, Some, length, slice_get, IfOk};
 
 use crate::cover::Cover;
-use crate::order_key::OrderKey;
 use arrayvec::ArrayVec;
 use std::alloc::Global;
 use std::marker::Model;
+use tile_place::order_key::OrderKey;
 use tile_place::placed_tile::PlacedTile;
 use tile_shape::no_memory::NoMemory;
 use tile_shape::step::Step;

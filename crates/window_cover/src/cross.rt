@@ -9,10 +9,7 @@ ghost use Rattle.lazy_walk.specs.Frames.{whole, IsFrameOf, GrowsTo, lifted_at};
 ghost use Rattle.rule_model.specs.Tiling.{tiling_of, contacts, children};
 ghost use Rattle.tile_shape.specs.Views.{address_of};
 ghost use Rattle.window_cover.specs.Crossed.{IsCrossedTo};
-ghost use Rattle.window_cover.specs.Gluings.{AreGluings};
 
-use crate::gluings::Gluings;
-use cyclo_points::movement::compose;
 use edge_tables::steps::Steps;
 use lazy_walk::depth_limit::DepthLimit;
 use lazy_walk::frame::Frame;
@@ -25,13 +22,11 @@ use tile_place::placed_tile::PlacedTile;
 /// becomes the one across, in its place.
 pub(crate) fn cross<L: Ledger>(
     machine: &Machine,
-    gluings: &Gluings,
     frame: &mut Frame,
     tile: &mut PlacedTile,
     edge: u8,
     steps: &mut Steps<L>,
 ) -> Result<(), DepthLimit>
-    requires gluings { AreGluings (tiling_of machine.now) gluings.now }
     requires frame { IsFrameOf (tiling_of machine.now) frame.old }
     requires its_kind { tile.old.addr.kind ≡ tile.old.kind }
     requires of_frame { IsTileOf (children (tiling_of machine.now)) (whole frame.old) (address_of tile.old.addr) }
@@ -47,13 +42,11 @@ pub(crate) fn cross<L: Ledger>(
     ensures deepest_at_limit { OnErr result (length frame.new.digits ≡ 64) }
 {
     let checked = machine.checked();
-    let order = checked.order();
     grown_fits_law();
     machine.gluing_law();
     let _usable = checked.uses().kinds();
     let back = frame.cross_grow_in_place(machine, &mut tile.addr, edge, steps)?;
-    let glue = gluings.glue_motion(machine, tile.kind, edge, tile.addr.kind, back);
-    tile.motion = compose(order, &tile.motion, &glue);
+    tile.motion = machine.motion_across(&tile.motion, tile.kind, edge, tile.addr.kind, back);
     tile.kind = tile.addr.kind;
     Ok(())
 }

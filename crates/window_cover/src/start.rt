@@ -13,8 +13,6 @@ ghost use Rattle.window_cover.specs.Right.{IsRight};
 use crate::border::Border;
 use crate::cover::Cover;
 use crate::cover_fault::CoverFault;
-use crate::gluings::Gluings;
-use crate::outlines::Outlines;
 use crate::search_laws::search_laws;
 use arrayvec::ArrayVec;
 use lazy_walk::frame::Frame;
@@ -52,15 +50,11 @@ impl Cover {
         grown_fits_law();
         let _usable = checked.uses().kinds();
         let tile = frame.contain(machine, &window.centre)?;
-        let outlines = Outlines::new(alloc, machine)?;
-        let gluings = Gluings::new(alloc, machine)?;
         let mut cover = Cover {
             window: *window,
             found: Vec::new(alloc),
             digits: Vec::new(alloc),
             border: Border::new(alloc),
-            outlines,
-            gluings,
             corners: ArrayVec::new(),
         };
         cover.admit(machine, &tile)?;

@@ -96,7 +96,7 @@ impl Cover {
         let _usable = checked.uses().kinds();
         self.border.pass();
         self.put_tile(first.tile as usize, tile);
-        match cross(machine, &self.gluings, frame, tile, first.edge, steps) {
+        match cross(machine, frame, tile, first.edge, steps) {
             Ok(()) => self.admit(machine, tile),
             Err(limit) => Err(CoverFault::DepthLimit {
                 addr: limit.addr,

@@ -1,6 +1,6 @@
-use Rattle.std.proofs.Common.{◌≡◌, true, false, map, take}
+use Rattle.std.proofs.Common.{◌≡◌, true, false, take}
 use Rattle.rule_model.specs.Tiling.{tiling_of}
-use Rattle.tile_app.specs.DrawnTile.{drawn_of}
+use Rattle.tile_app.specs.Pictured.{picture_of}
 use Rattle.tile_app.proofs.draw.draw.Given as goal
 
 -- the layer has begun with the view, and draws the tiles before
@@ -10,5 +10,5 @@ invariant-loop-place g l = record {
   going : g.D.Layer.ended l.layer ≡ false;
   seen : g.D.Layer.seen l.layer ≡ l.fn.view;
   form : g.D.Layer.form l.layer ≡ g.D.Layer.form l.fn.layer;
-  draws : g.D.Layer.draws l.layer (map (drawn_of (tiling_of l.machine)) (take l.place l.tiles));
+  draws : g.D.Layer.draws l.layer (take l.place (picture_of (tiling_of l.machine) l.picture));
 }

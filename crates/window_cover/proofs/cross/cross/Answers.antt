@@ -28,8 +28,8 @@ returns-in_err-back-clause-limit_exactly g c = (λ h. c.in_err-back.ensures.limi
 pub returns-clause-limit_exactly : goal.returns-clause-limit_exactly
 returns-clause-limit_exactly g c = (λ h. c.in_ok-back.ensures.limit_exactly.0 h, λ k. c.in_ok-back.ensures.limit_exactly.1 k)
 
-pub glue_motion-glue-requires-clause-meets : goal.glue_motion-glue-requires-clause-meets
-glue_motion-glue-requires-clause-meets g c =
+pub motion_across-tile-requires-clause-meets : goal.motion_across-tile-requires-clause-meets
+motion_across-tile-requires-clause-meets g c =
     let m = c.args.machine.now in
     let fits : StillFits (children (tiling_of m)) = λ base start n h. c.grown_fits_law.ensures (children (tiling_of m)) base start n
     (subst AreUsable (c.uses.ensures ∙ ap (λ (r : Rule). children (tiling_of r)) c.checked-checked.ensures.rule) c.kinds-usable.ensures.limits) h in
@@ -38,18 +38,20 @@ glue_motion-glue-requires-clause-meets g c =
     subst (λ k. Meets (tiling_of m) k c.args.edge c.cross_grow_in_place.new.tile.kind c.in_ok-back.back) c.requires.its_kind
     (c.gluing_law.ensures a (address_of c.cross_grow_in_place.new.tile) c.args.edge c.in_ok-back.back own c.requires.edge_exists c.in_ok-back.ensures.only_tile_across).0
 
-pub compose-tile-requires-clause-f_within : goal.compose-tile-requires-clause-f_within
-compose-tile-requires-clause-f_within g c = point_wider (2 ^ 24) (2 ^ 38) _ (omega arith) c.requires.shift_within
+pub motion_across-tile-requires-clause-turn_below : goal.motion_across-tile-requires-clause-turn_below
+motion_across-tile-requires-clause-turn_below g c = c.requires.turn_below
 
-pub compose-tile-requires-clause-g_within : goal.compose-tile-requires-clause-g_within
-compose-tile-requires-clause-g_within g c = point_wider (2 ^ 8) (2 ^ 38) _ (omega arith) c.glue_motion-glue.ensures.shift_within
+pub motion_across-tile-requires-clause-shift_within : goal.motion_across-tile-requires-clause-shift_within
+motion_across-tile-requires-clause-shift_within g c = c.requires.shift_within
+
+pub motion_across-tile-requires-clause-in_order : goal.motion_across-tile-requires-clause-in_order
+motion_across-tile-requires-clause-in_order g c = c.requires.in_order
 
 pub returns-clause-crossed : goal.returns-clause-crossed
 returns-clause-crossed g c =
     let m = c.args.machine.now in
     let b = address_of c.cross_grow_in_place.new.tile in
-    let same : c.order-order.result ≡ m.order = c.order-order.ensures.order ∙ ap (λ (r : Rule). r.order) c.checked-checked.ensures.rule in
-    let glue = motion_in m.order c.glue_motion-glue.result in
+    let across = c.motion_across-tile.ensures.across in
     record {
       back = c.in_ok-back.back;
       its_kind = refl;
@@ -57,9 +59,9 @@ returns-clause-crossed g c =
       at_depth = c.in_ok-back.ensures.at_new_depth;
       only_tile_across = c.in_ok-back.ensures.only_tile_across;
       least = c.in_ok-back.ensures.least;
-      glue = glue;
-      glues = subst (λ k. Glues (tiling_of m) k c.args.edge b.kind c.in_ok-back.back glue) (sym c.requires.its_kind) c.glue_motion-glue.ensures.glues;
-      motion_is = subst (λ o. motion_in o c.compose-tile.result ≡ followed (points_of o) (motion_in o c.glue_motion-glue.result) (motion_in o c.args.tile.now.motion)) same c.compose-tile.ensures.followed_by;
-      turn_below = subst (λ o. c.compose-tile.result.turn < (points_of o).order) same c.compose-tile.ensures.turn_below;
-      in_order = subst (λ o. IsOf o c.compose-tile.result.shift) same (c.compose-tile.ensures.in_order (subst (λ o. IsOf o c.args.tile.now.motion.shift) (sym same) c.requires.in_order));
+      glue = across.glue;
+      glues = subst (λ k. Glues (tiling_of m) k c.args.edge b.kind c.in_ok-back.back across.glue) (sym c.requires.its_kind) across.glues;
+      motion_is = across.motion_is;
+      turn_below = c.motion_across-tile.ensures.turn_below;
+      in_order = c.motion_across-tile.ensures.in_order;
     }

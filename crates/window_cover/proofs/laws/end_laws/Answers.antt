@@ -2,7 +2,7 @@ use Rattle.cyclo_points.specs.Order.{PointsLaw, points_of}
 use Rattle.windows.specs.FrameCover.{FrameFinishLaw}
 use Rattle.windows.specs.FrameLaws.{FramePatchLaw}
 use Rattle.windows.specs.Laws.{OutlineLaw}
-use Rattle.window_cover.proofs.EachOrder.{each-order}
+use Rattle.tile_place.proofs.EachOrder.{each-order}
 use Rattle.window_cover.proofs.laws.end_laws.Goals as goal
 
 pub returns-clause-points : goal.returns-clause-points

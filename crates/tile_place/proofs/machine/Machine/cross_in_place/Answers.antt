@@ -36,33 +36,33 @@ lies_of t u a e (Err o) same h = subst (λ (t : Tables). LiesOn t a e o.edge o.p
 
 pub step_across_in_place-requires-clause-fits : goal.step_across_in_place-requires-clause-fits
 step_across_in_place-requires-clause-fits g c =
-    let same = same_tables c.self.inside.transducer c.self.inside.checked c.args.self.now c.self.invariant c.self.view_is in
+    let same = same_tables c.self.inside.transducer c.self.inside.checked c.args.self.now c.self.invariant.tables_are c.self.view_is in
     subst (λ u. Fits u (address_of c.args.addr.now)) (sym (same_kinds c.self.inside.transducer c.args.self.now same c.checked.ensures.same_child_kinds)) c.requires.fits
 
 pub returns-clause-across : goal.returns-clause-across
 returns-clause-across g c =
-    let same = same_tables c.self.inside.transducer c.self.inside.checked c.args.self.now c.self.invariant c.self.view_is in
+    let same = same_tables c.self.inside.transducer c.self.inside.checked c.args.self.now c.self.invariant.tables_are c.self.view_is in
     across_of c.self.inside.transducer (contacts (tiling_of c.args.self.now)) (address_of c.args.addr.now) (address_of c.step_across_in_place.new.addr) c.args.edge c.step_across_in_place.result same c.step_across_in_place.ensures.across
 
 pub returns-clause-answer_fits : goal.returns-clause-answer_fits
 returns-clause-answer_fits g c =
-    let same = same_tables c.self.inside.transducer c.self.inside.checked c.args.self.now c.self.invariant c.self.view_is in
+    let same = same_tables c.self.inside.transducer c.self.inside.checked c.args.self.now c.self.invariant.tables_are c.self.view_is in
     fits_of c.self.inside.transducer (children (tiling_of c.args.self.now)) c.args.addr.now c.step_across_in_place.new.addr c.args.edge c.step_across_in_place.result
     (same_kinds c.self.inside.transducer c.args.self.now same c.checked.ensures.same_child_kinds) c.requires.fits c.step_across_in_place.ensures.across c.step_across_in_place.ensures.unchanged
 
 pub returns-clause-on_boundary : goal.returns-clause-on_boundary
 returns-clause-on_boundary g c =
-    let same = same_tables c.self.inside.transducer c.self.inside.checked c.args.self.now c.self.invariant c.self.view_is in
+    let same = same_tables c.self.inside.transducer c.self.inside.checked c.args.self.now c.self.invariant.tables_are c.self.view_is in
     lies_of c.self.inside.transducer (contacts (tiling_of c.args.self.now)) (address_of c.args.addr.now) c.args.edge c.step_across_in_place.result same c.step_across_in_place.ensures.on_boundary
 
 pub returns-clause-boundary_when : goal.returns-clause-boundary_when
 returns-clause-boundary_when g c own part lies =
-    let same = same_tables c.self.inside.transducer c.self.inside.checked c.args.self.now c.self.invariant c.self.view_is in
+    let same = same_tables c.self.inside.transducer c.self.inside.checked c.args.self.now c.self.invariant.tables_are c.self.view_is in
     c.step_across_in_place.ensures.boundary_when own part (subst (λ (t : Tables). LiesOn t (address_of c.args.addr.now) c.args.edge own part) (sym same) lies)
 
 pub returns-clause-across_when : goal.returns-clause-across_when
 returns-clause-across_when g c b f fits touches =
-    let same = same_tables c.self.inside.transducer c.self.inside.checked c.args.self.now c.self.invariant c.self.view_is in
+    let same = same_tables c.self.inside.transducer c.self.inside.checked c.args.self.now c.self.invariant.tables_are c.self.view_is in
     c.step_across_in_place.ensures.across_when b f
     (subst (λ u. Fits u b) (sym (same_kinds c.self.inside.transducer c.args.self.now same c.checked.ensures.same_child_kinds)) fits)
     (subst (λ (t : Tables). Touches t (address_of c.args.addr.now) c.args.edge b f) (sym same) touches)
@@ -73,7 +73,7 @@ of_order L order inside now is same law = subst L (is ∙ ap (λ (r : Rule). r.o
 
 pub returns-clause-only_tile_across : goal.returns-clause-only_tile_across
 returns-clause-only_tile_across g c =
-    let same = same_tables c.self.inside.transducer c.self.inside.checked c.args.self.now c.self.invariant c.self.view_is in
+    let same = same_tables c.self.inside.transducer c.self.inside.checked c.args.self.now c.self.invariant.tables_are c.self.view_is in
     let settled : IsSettled c.args.self.now = record { accepted = c.checked.ensures.accepted; usable = c.checked.ensures.usable; same_child_kinds = c.checked.ensures.same_child_kinds } in
     only_across c.args.self.now settled (address_of c.args.addr.now) c.args.edge c.requires.fits c.requires.edge_exists
     (of_order OnlyTilesLaw c.order-order.result c.checked.result.now c.args.self.now c.order-order.ensures.order c.checked.ensures.rule c.across_law.ensures) (address_of c.step_across_in_place.new.addr) c.step_across_in_place.result
@@ -81,7 +81,7 @@ returns-clause-only_tile_across g c =
 
 pub returns-clause-leads_back : goal.returns-clause-leads_back
 returns-clause-leads_back g c =
-    let same = same_tables c.self.inside.transducer c.self.inside.checked c.args.self.now c.self.invariant c.self.view_is in
+    let same = same_tables c.self.inside.transducer c.self.inside.checked c.args.self.now c.self.invariant.tables_are c.self.view_is in
     let settled : IsSettled c.args.self.now = record { accepted = c.checked.ensures.accepted; usable = c.checked.ensures.usable; same_child_kinds = c.checked.ensures.same_child_kinds } in
     way_back c.args.self.now settled (address_of c.args.addr.now) c.args.edge c.requires.fits c.requires.edge_exists
     (of_order OnlyTilesLaw c.order-order.result c.checked.result.now c.args.self.now c.order-order.ensures.order c.checked.ensures.rule c.across_law.ensures) (address_of c.step_across_in_place.new.addr) c.step_across_in_place.result
@@ -89,7 +89,7 @@ returns-clause-leads_back g c =
 
 pub returns-clause-outside_on_boundary : goal.returns-clause-outside_on_boundary
 returns-clause-outside_on_boundary g c =
-    let same = same_tables c.self.inside.transducer c.self.inside.checked c.args.self.now c.self.invariant c.self.view_is in
+    let same = same_tables c.self.inside.transducer c.self.inside.checked c.args.self.now c.self.invariant.tables_are c.self.view_is in
     let settled : IsSettled c.args.self.now = record { accepted = c.checked.ensures.accepted; usable = c.checked.ensures.usable; same_child_kinds = c.checked.ensures.same_child_kinds } in
     lies_on_boundary c.args.self.now settled (address_of c.args.addr.now) c.args.edge c.requires.fits c.requires.edge_exists
     (of_order BoundariesLaw c.order-order.result c.checked.result.now c.args.self.now c.order-order.ensures.order c.checked.ensures.rule c.boundary_law.ensures) c.step_across_in_place.result
@@ -97,7 +97,7 @@ returns-clause-outside_on_boundary g c =
 
 pub returns-clause-boundary_is_outside : goal.returns-clause-boundary_is_outside
 returns-clause-boundary_is_outside g c own part on =
-    let same = same_tables c.self.inside.transducer c.self.inside.checked c.args.self.now c.self.invariant c.self.view_is in
+    let same = same_tables c.self.inside.transducer c.self.inside.checked c.args.self.now c.self.invariant.tables_are c.self.view_is in
     let settled : IsSettled c.args.self.now = record { accepted = c.checked.ensures.accepted; usable = c.checked.ensures.usable; same_child_kinds = c.checked.ensures.same_child_kinds } in
     let lies = boundary_lies c.args.self.now settled (address_of c.args.addr.now) c.args.edge c.requires.fits c.requires.edge_exists
     (of_order BoundariesLaw c.order-order.result c.checked.result.now c.args.self.now c.order-order.ensures.order c.checked.ensures.rule c.boundary_law.ensures) own part on in

@@ -12,10 +12,9 @@ use Rattle.window_cover.specs.declared.found_tile.FoundTile.{FoundTile}
 use Rattle.window_cover.specs.Admitted.{IsNotAdmitted, found_as}
 use Rattle.window_cover.specs.Found.{CoverValue}
 use Rattle.window_cover.specs.Kept.{IsKept}
-use Rattle.window_cover.specs.Keys.{FitsKey}
+use Rattle.tile_place.specs.Keys.{FitsKey}
 use Rattle.window_cover.specs.NewEdges.{AreNew, left_open, opened}
-use Rattle.window_cover.specs.Outlines.{AreOutlines}
-use Rattle.window_cover.proofs.EachOrder.{order-fits}
+use Rattle.tile_place.proofs.EachOrder.{order-fits}
 use Rattle.window_cover.proofs.Outcomes.{on_ok-err, if_err-no_memory}
 use Rattle.window_cover.proofs.Keeping.{kept-more, kept-one_more, found-one_more}
 use Rattle.window_cover.proofs.cover.Cover.admit.Goals as goal
@@ -56,9 +55,6 @@ as_slice-requires-2 c = search rules
 
 pub overflow_cast-number : goal.overflow_cast-number
 overflow_cast-number c = search rules
-
-pub put_corners-requires-clause-right : goal.put_corners-requires-clause-right
-put_corners-requires-clause-right c = subst (λ (v : CoverValue). AreOutlines (tiling_of c.args.machine.now) v.outlines) (sym c.self.view_is) c.requires.outlines
 
 pub put_corners-requires-clause-exists : goal.put_corners-requires-clause-exists
 put_corners-requires-clause-exists c = c.requires.exists
@@ -146,14 +142,12 @@ returns-clause-admitted c =
       shift_within = c.refused.ensures.within c.if-refused.false;
       room = omega (arith, count, seen, c.if-number-ge-MOST_TILES.false);
       same_window = ap (λ (v : CoverValue). v.window) c.self.view_is;
-      same_outlines = ap (λ (v : CoverValue). v.outlines) c.self.view_is;
-      same_gluings = ap (λ (v : CoverValue). v.gluings) c.self.view_is;
       found = found-one_more c.self.inside.digits.items c.extend_from_slice.new.self.items own more tile first c.depth.ensures.digits c.depth.ensures.at_most_64 c.self.inside.found.items c.push.new.self.items c.in_ok-push.ensures.items c.self.invariant.spans
           ∙ ap (λ (v : CoverValue). v.found ++ found_as c.args.tile.now ∷ []) c.self.view_is;
       corners = ps;
       are_corners = c.put_corners.ensures.corners;
       border = c.in_ok-meet_edges.ensures.met
-          ∙ ap₂ (λ cs b. after (record { window = w; found = []; border = c.self.inside.border; outlines = []; gluings = c.self.inside.gluings }) cs c.len-number.result b) c.as_slice-2.ensures.value (c.order-order.ensures.order ∙ ap (λ (r : Rule). r.order) c.checked.ensures.rule)
-          ∙ ap (λ i. after (record { window = w; found = []; border = c.self.inside.border; outlines = []; gluings = c.self.inside.gluings }) ps i o) (count ∙ sym seen)
+          ∙ ap₂ (λ cs b. after (record { window = w; found = []; border = c.self.inside.border }) cs c.len-number.result b) c.as_slice-2.ensures.value (c.order-order.ensures.order ∙ ap (λ (r : Rule). r.order) c.checked.ensures.rule)
+          ∙ ap (λ i. after (record { window = w; found = []; border = c.self.inside.border }) ps i o) (count ∙ sym seen)
           ∙ ap (λ (v : CoverValue). after v ps (length c.args.self.now.found) o) c.self.view_is;
     }

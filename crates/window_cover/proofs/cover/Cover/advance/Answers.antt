@@ -8,11 +8,11 @@ use Rattle.cyclo_points.specs.declared.point.Point.{Point}
 use Rattle.frames.specs.Frame.{lifted_in}
 use Rattle.lazy_walk.specs.Ancestors.{full}
 use Rattle.lazy_walk.specs.Boundary.{IsBoundaryEdge}
-use Rattle.window_cover.specs.Admitted.{AreCorners, IsAdmitted, IsNotAdmitted, found_as}
+use Rattle.tile_place.specs.Corners.{AreCorners}
+use Rattle.window_cover.specs.Admitted.{IsAdmitted, IsNotAdmitted, found_as}
 use Rattle.window_cover.specs.Border.{Waiting}
 use Rattle.window_cover.specs.Crossed.{IsCrossedTo}
 use Rattle.window_cover.specs.Found.{address_found, CoverValue}
-use Rattle.window_cover.specs.Gluings.{AreGluings}
 use Rattle.window_cover.specs.Kept.{found_in, IsKept}
 use Rattle.window_cover.specs.NewEdges.{AreNew}
 use Rattle.window_cover.specs.Right.{IsFound, IsRight}
@@ -39,12 +39,10 @@ passed : (g : Over) (c : After-put_tile g) → ◌≡◌ {A = CoverValue} (recor
   window = c.self.inside.window;
   found = found_in c.self.inside.digits.items c.self.inside.found.items;
   border = c.pass.new.self;
-  outlines = c.self.inside.outlines;
-  gluings = c.self.inside.gluings;
 }) c.args.self.now
 passed g c =
     let inside = c.self.inside in
-    ap (λ (b : List Waiting). record { window = inside.window; found = found_in inside.digits.items inside.found.items; border = b; outlines = inside.outlines; gluings = inside.gluings }) c.pass.ensures ∙ c.self.view_is
+    ap (λ (b : List Waiting). record { window = inside.window; found = found_in inside.digits.items inside.found.items; border = b }) c.pass.ensures ∙ c.self.view_is
 
 -- the tile of the first open edge, as it was found
 at_first : (g : Over) (c : After-put_tile g) → slice_get c.args.self.now.found c.args.first.tile ≡ Some (found_as c.put_tile.new.tile)
@@ -73,12 +71,9 @@ put_tile-requires g c =
     let B = brought m _ _ _ c.checked-checked.ensures.rule c.checked-checked.ensures.accepted c.checked-checked.ensures.usable c.checked-checked.ensures.same_child_kinds c.uses.ensures c.kinds-usable.ensures.limits
     c.order.ensures.order c.search_laws.ensures c.grown_fits_law.ensures in
     let inside = c.self.inside in
-    let same : ◌≡◌ {A = CoverValue} (record { window = inside.window; found = found_in inside.digits.items inside.found.items; border = c.pass.new.self; outlines = inside.outlines; gluings = inside.gluings }) v =
-    ap (λ (b : List Waiting). record { window = inside.window; found = found_in inside.digits.items inside.found.items; border = b; outlines = inside.outlines; gluings = inside.gluings }) c.pass.ensures ∙ c.self.view_is in
+    let same : ◌≡◌ {A = CoverValue} (record { window = inside.window; found = found_in inside.digits.items inside.found.items; border = c.pass.new.self }) v =
+    ap (λ (b : List Waiting). record { window = inside.window; found = found_in inside.digits.items inside.found.items; border = b }) c.pass.ensures ∙ c.self.view_is in
     record { found = subst (λ (y : CoverValue). c.args.first.tile < length y.found) (sym same) (tile-there m B.laws f v c.requires.right c.args.first c.requires.is_first) }
-
-pub cross-requires-clause-gluings : goal.cross-requires-clause-gluings
-cross-requires-clause-gluings g c = subst (λ (y : CoverValue). AreGluings (tiling_of c.args.machine.now) y.gluings) (sym c.self.view_is) c.requires.right.gluings
 
 pub cross-requires-clause-frame : goal.cross-requires-clause-frame
 cross-requires-clause-frame g c = c.requires.right.frame

@@ -4,11 +4,11 @@ use Rattle.cyclo_points.specs.declared.point.Point.{Point}
 use Rattle.rule_model.specs.Tiling.{tiling_of}
 use Rattle.window_cover.specs.declared.cover_fault.CoverFault.TheVariants.{CoordLimit}
 use Rattle.window_cover.specs.declared.found_tile.FoundTile.{FoundTile}
-use Rattle.window_cover.specs.Admitted.{AreCorners}
+use Rattle.tile_place.specs.Corners.{AreCorners}
 use Rattle.window_cover.specs.Causes.{HasCause}
 use Rattle.window_cover.specs.Found.{CoverValue}
 use Rattle.window_cover.specs.Kept.{found_in, AreKept}
-use Rattle.window_cover.specs.Keys.{FitsKey}
+use Rattle.tile_place.specs.Keys.{FitsKey}
 use Rattle.window_cover.specs.NewEdges.{AreNew}
 use Rattle.window_cover.specs.Windows.{IsLeastEnough}
 use Rattle.window_cover.proofs.Brought.{Brings, brought}
@@ -49,24 +49,6 @@ returns-in_err-tile-clause-one_tile c = if_ok-err _ c.from_residual.result c.fro
 pub returns-in_err-tile-clause-not_beyond : goal.returns-in_err-tile-clause-not_beyond
 returns-in_err-tile-clause-not_beyond c = not_beyond (goal.at.returns-in_err-tile-clause-not_beyond c).After-contain
 
-pub returns-in_err-outlines-clause-not_beyond : goal.returns-in_err-outlines-clause-not_beyond
-returns-in_err-outlines-clause-not_beyond c = not_beyond (goal.at.returns-in_err-outlines-clause-not_beyond c).After-contain
-
-pub returns-in_err-outlines-clause-centre_found : goal.returns-in_err-outlines-clause-centre_found
-returns-in_err-outlines-clause-centre_found c = on_ok-err _ c.from_residual-in_err-outlines.result c.from_residual-in_err-outlines.ensures.0
-
-pub returns-in_err-outlines-clause-answered : goal.returns-in_err-outlines-clause-answered
-returns-in_err-outlines-clause-answered c = λ within. only_memory c.from_residual-in_err-outlines.result c.from_residual-in_err-outlines.ensures.1
-
-pub returns-in_err-gluings-clause-not_beyond : goal.returns-in_err-gluings-clause-not_beyond
-returns-in_err-gluings-clause-not_beyond c = not_beyond (goal.at.returns-in_err-gluings-clause-not_beyond c).After-contain
-
-pub returns-in_err-gluings-clause-centre_found : goal.returns-in_err-gluings-clause-centre_found
-returns-in_err-gluings-clause-centre_found c = on_ok-err _ c.from_residual-in_err-gluings.result c.from_residual-in_err-gluings.ensures.0
-
-pub returns-in_err-gluings-clause-answered : goal.returns-in_err-gluings-clause-answered
-returns-in_err-gluings-clause-answered c = λ within. only_memory c.from_residual-in_err-gluings.result c.from_residual-in_err-gluings.ensures.1
-
 pub returns-in_err-admit-clause-frame : goal.returns-in_err-admit-clause-frame
 returns-in_err-admit-clause-frame c = c.contain.ensures.frame
 
@@ -96,8 +78,8 @@ returns-in_err-admit-clause-answered c =
     let w = c.args.window.now in
     let B = brings (goal.at.returns-in_err-admit-clause-answered c).After-contain in
     let tile = c.in_ok-tile.tile in
-    let c0 : CoverValue = record { window = w; found = found_in c.new-4.result.items c.new-3.result.items; border = c.new-5.result; outlines = c.in_ok-outlines.outlines; gluings = c.in_ok-gluings.gluings } in
-    let none : length c0.found ≡ 0 = ap (λ xs. length (found_in c.new-4.result.items xs)) c.new-3.ensures.items in
+    let c0 : CoverValue = record { window = w; found = found_in c.new-2.result.items c.new.result.items; border = c.new-3.result } in
+    let none : length c0.found ≡ 0 = ap (λ xs. length (found_in c.new-2.result.items xs)) c.new.ensures.items in
     λ within. no_memory-on c.admit.result c.from_residual-in_err-admit.result c.in_err-admit.field-0.0 c.in_err-admit.was c.from_residual-in_err-admit.ensures.1 (answered_first m B.settled B.fits B.laws f c.requires.frame k c.contain.ensures.frame w c.requires.window_fits c.contain.ensures.least tile c.in_ok-tile.ensures.stands c.in_ok-tile.ensures.only_tile c0 none within c.admit.result c.admit.ensures.cause)
 
 pub returns-in_err-admit-clause-cause : goal.returns-in_err-admit-clause-cause
@@ -109,16 +91,16 @@ returns-in_err-admit-clause-cause c =
     let w = c.args.window.now in
     let B = brings (goal.at.returns-in_err-admit-clause-cause c).After-contain in
     let tile = c.in_ok-tile.tile in
-    let c0 : CoverValue = record { window = w; found = found_in c.new-4.result.items c.new-3.result.items; border = c.new-5.result; outlines = c.in_ok-outlines.outlines; gluings = c.in_ok-gluings.gluings } in
-    let none : length c0.found ≡ 0 = ap (λ xs. length (found_in c.new-4.result.items xs)) c.new-3.ensures.items in
+    let c0 : CoverValue = record { window = w; found = found_in c.new-2.result.items c.new.result.items; border = c.new-3.result } in
+    let none : length c0.found ≡ 0 = ap (λ xs. length (found_in c.new-2.result.items xs)) c.new.ensures.items in
     if_err-is (HasCause t f k w) c.from_residual-in_err-admit.result c.in_err-admit.field-0.0 c.from_residual-in_err-admit.ensures.1 (cause_first m B.settled B.fits B.laws f c.requires.frame k c.contain.ensures.frame w c.requires.window_fits c.contain.ensures.least tile c.in_ok-tile.ensures.stands c.in_ok-tile.ensures.only_tile c0 none c.in_err-admit.field-0.0 c.in_err-admit.ensures.cause)
 
 pub invariant_of-cover : goal.invariant_of-cover
 invariant_of-cover c =
     let m = c.args.machine.now in
-    let found = ap length c.new-3.ensures.items in
-    let border = ap length c.new-5.ensures in
-    record { spans = subst (AreKept c.new-4.result.items) (sym c.new-3.ensures.items) tt; keyed = subst (AllByRecursion (λ (y : FoundTile). FitsKey y.motion y.kind)) (sym c.new-3.ensures.items) tt; few_tiles = omega (arith, found); few_open = omega (arith, found, border) }
+    let found = ap length c.new.ensures.items in
+    let border = ap length c.new-3.ensures in
+    record { spans = subst (AreKept c.new-2.result.items) (sym c.new.ensures.items) tt; keyed = subst (AllByRecursion (λ (y : FoundTile). FitsKey y.motion y.kind)) (sym c.new.ensures.items) tt; few_tiles = omega (arith, found); few_open = omega (arith, found, border) }
 
 pub admit-requires-clause-exists : goal.admit-requires-clause-exists
 admit-requires-clause-exists c =
@@ -148,7 +130,7 @@ admit-requires-clause-new c =
     let w = c.args.window.now in
     let B = brings (goal.at.admit-requires-clause-new c).After-contain in
     let tile = c.in_ok-tile.tile in
-    subst (λ b. (corners : List Point) → AreCorners t tile.kind tile.motion corners → AreNew corners b) (sym c.new-5.ensures) (edges_new m B.settled B.fits B.laws f c.requires.frame k c.contain.ensures.frame w c.requires.window_fits tile c.in_ok-tile.ensures.stands c.in_ok-tile.ensures.only_tile c.contain.ensures.least)
+    subst (λ b. (corners : List Point) → AreCorners t tile.kind tile.motion corners → AreNew corners b) (sym c.new-3.ensures) (edges_new m B.settled B.fits B.laws f c.requires.frame k c.contain.ensures.frame w c.requires.window_fits tile c.in_ok-tile.ensures.stands c.in_ok-tile.ensures.only_tile c.contain.ensures.least)
 
 pub returns-clause-frame : goal.returns-clause-frame
 returns-clause-frame c = c.contain.ensures.frame
@@ -161,9 +143,9 @@ returns-clause-right c =
     let w = c.args.window.now in
     let B = brings (goal.at.returns-clause-right c).After-contain in
     let tile = c.in_ok-tile.tile in
-    let c0 : CoverValue = record { window = w; found = found_in c.new-4.result.items c.new-3.result.items; border = c.new-5.result; outlines = c.in_ok-outlines.outlines; gluings = c.in_ok-gluings.gluings } in
-    let empty : c0 ≡ record { window = w; found = []; border = []; outlines = c.in_ok-outlines.outlines; gluings = c.in_ok-gluings.gluings } = ap₂ (λ xs b. record { window = w; found = found_in c.new-4.result.items xs; border = b; outlines = c.in_ok-outlines.outlines; gluings = c.in_ok-gluings.gluings }) c.new-3.ensures.items c.new-5.ensures in
-    right-first m B.settled B.fits B.laws f c.requires.frame k c.contain.ensures.frame w c.requires.window_fits tile c.in_ok-tile.ensures.stands c.in_ok-tile.ensures.only_tile c.contain.ensures.least c0 c.admit.new.self c.in_ok-outlines.outlines c.in_ok-outlines.ensures c.in_ok-gluings.gluings c.in_ok-gluings.ensures empty c.in_ok-admit.ensures.admitted
+    let c0 : CoverValue = record { window = w; found = found_in c.new-2.result.items c.new.result.items; border = c.new-3.result } in
+    let empty : c0 ≡ record { window = w; found = []; border = [] } = ap₂ (λ xs b. record { window = w; found = found_in c.new-2.result.items xs; border = b }) c.new.ensures.items c.new-3.ensures in
+    right-first m B.settled B.fits B.laws f c.requires.frame k c.contain.ensures.frame w c.requires.window_fits tile c.in_ok-tile.ensures.stands c.in_ok-tile.ensures.only_tile c.contain.ensures.least c0 c.admit.new.self empty c.in_ok-admit.ensures.admitted
 
 pub returns-clause-its_window : goal.returns-clause-its_window
 returns-clause-its_window c =
@@ -173,9 +155,9 @@ returns-clause-its_window c =
     let w = c.args.window.now in
     let B = brings (goal.at.returns-clause-its_window c).After-contain in
     let tile = c.in_ok-tile.tile in
-    let c0 : CoverValue = record { window = w; found = found_in c.new-4.result.items c.new-3.result.items; border = c.new-5.result; outlines = c.in_ok-outlines.outlines; gluings = c.in_ok-gluings.gluings } in
-    let empty : c0 ≡ record { window = w; found = []; border = []; outlines = c.in_ok-outlines.outlines; gluings = c.in_ok-gluings.gluings } = ap₂ (λ xs b. record { window = w; found = found_in c.new-4.result.items xs; border = b; outlines = c.in_ok-outlines.outlines; gluings = c.in_ok-gluings.gluings }) c.new-3.ensures.items c.new-5.ensures in
-    its_window m B.settled B.fits B.laws f c.requires.frame k c.contain.ensures.frame w c.requires.window_fits tile c.in_ok-tile.ensures.stands c.in_ok-tile.ensures.only_tile c.contain.ensures.least c0 c.admit.new.self c.in_ok-outlines.outlines c.in_ok-outlines.ensures c.in_ok-gluings.gluings c.in_ok-gluings.ensures empty c.in_ok-admit.ensures.admitted
+    let c0 : CoverValue = record { window = w; found = found_in c.new-2.result.items c.new.result.items; border = c.new-3.result } in
+    let empty : c0 ≡ record { window = w; found = []; border = [] } = ap₂ (λ xs b. record { window = w; found = found_in c.new-2.result.items xs; border = b }) c.new.ensures.items c.new-3.ensures in
+    its_window m B.settled B.fits B.laws f c.requires.frame k c.contain.ensures.frame w c.requires.window_fits tile c.in_ok-tile.ensures.stands c.in_ok-tile.ensures.only_tile c.contain.ensures.least c0 c.admit.new.self empty c.in_ok-admit.ensures.admitted
 
 pub returns-clause-one_tile : goal.returns-clause-one_tile
 returns-clause-one_tile c =
@@ -185,9 +167,9 @@ returns-clause-one_tile c =
     let w = c.args.window.now in
     let B = brings (goal.at.returns-clause-one_tile c).After-contain in
     let tile = c.in_ok-tile.tile in
-    let c0 : CoverValue = record { window = w; found = found_in c.new-4.result.items c.new-3.result.items; border = c.new-5.result; outlines = c.in_ok-outlines.outlines; gluings = c.in_ok-gluings.gluings } in
-    let empty : c0 ≡ record { window = w; found = []; border = []; outlines = c.in_ok-outlines.outlines; gluings = c.in_ok-gluings.gluings } = ap₂ (λ xs b. record { window = w; found = found_in c.new-4.result.items xs; border = b; outlines = c.in_ok-outlines.outlines; gluings = c.in_ok-gluings.gluings }) c.new-3.ensures.items c.new-5.ensures in
-    one_tile m B.settled B.fits B.laws f c.requires.frame k c.contain.ensures.frame w c.requires.window_fits tile c.in_ok-tile.ensures.stands c.in_ok-tile.ensures.only_tile c.contain.ensures.least c0 c.admit.new.self c.in_ok-outlines.outlines c.in_ok-outlines.ensures c.in_ok-gluings.gluings c.in_ok-gluings.ensures empty c.in_ok-admit.ensures.admitted
+    let c0 : CoverValue = record { window = w; found = found_in c.new-2.result.items c.new.result.items; border = c.new-3.result } in
+    let empty : c0 ≡ record { window = w; found = []; border = [] } = ap₂ (λ xs b. record { window = w; found = found_in c.new-2.result.items xs; border = b }) c.new.ensures.items c.new-3.ensures in
+    one_tile m B.settled B.fits B.laws f c.requires.frame k c.contain.ensures.frame w c.requires.window_fits tile c.in_ok-tile.ensures.stands c.in_ok-tile.ensures.only_tile c.contain.ensures.least c0 c.admit.new.self empty c.in_ok-admit.ensures.admitted
 
 pub returns-clause-not_beyond : goal.returns-clause-not_beyond
 returns-clause-not_beyond c = not_beyond (goal.at.returns-clause-not_beyond c).After-contain

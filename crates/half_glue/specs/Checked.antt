@@ -1,0 +1,29 @@
+-- What a machine brings for gluing: its rule, and the laws of its tiling.
+use Rattle.std.specs.Prelude.{◌≡◌, ℕ}
+use Rattle.addressing.specs.Address.{Address, Fits}
+use Rattle.addressing.specs.Tables.{child_kinds}
+use Rattle.cyclo_points.specs.Order.{PointsLaw, points_of}
+use Rattle.dissection.specs.Laws.{AcrossLaw, BoundaryLaw, CrossingLaw}
+use Rattle.frames.specs.Growth.{grown_by}
+use Rattle.rule_model.specs.declared.rule.Rule.{Rule}
+use Rattle.rule_model.specs.Accepted.{IsAccepted}
+use Rattle.rule_model.specs.Tiling.{tiling_of, contacts, children}
+use Rattle.rule_model.specs.Usable.{IsUsable}
+use Rattle.seeded_growth.specs.Words.{word}
+use Rattle.tile_shape.specs.Usable.{AreUsable}
+use Rattle.tile_shape.specs.UsesInOrder.{uses_in_order}
+use Rattle.windows.specs.FrameSearch.{KnownLaw}
+
+-- the rule is accepted, its numbers exist, each of its kinds has a use, and its contact tables have its child kinds; with grown digits addresses still fit; and
+-- the laws of points, of crossings, and of the names of tiles
+pub record HasGlueLaws (m : Rule) : Type 0 where
+  pub accepted : IsAccepted m
+  pub usable : IsUsable m
+  pub uses_usable : AreUsable (children (tiling_of m))
+  pub same_child_kinds : child_kinds (contacts (tiling_of m)) ≡ children (tiling_of m)
+  pub still_fits : (base : Address) (start n : ℕ) → Fits (children (tiling_of m)) base → Fits (children (tiling_of m)) (grown_by (uses_in_order (children (tiling_of m))) (word start) n base)
+  pub points : PointsLaw m.order
+  pub across : AcrossLaw (points_of m.order)
+  pub boundary : BoundaryLaw (points_of m.order)
+  pub crossing : CrossingLaw (points_of m.order)
+  pub known : KnownLaw (points_of m.order)

@@ -1,0 +1,50 @@
+-- Whole tiles of tiles that cover a window.
+use Rattle.std.specs.Prelude.{◌≡◌, List, map, IsTrue, All}
+use Rattle.std.specs.List.{flat_map}
+use Rattle.ordered_plane.specs.Plane.{TestPoint, IsTestPoint}
+use Rattle.ordered_plane.specs.Crossing.{member}
+use Rattle.ordered_plane.specs.Box.{OpenBox, in_box}
+use Rattle.substitution.specs.Supertile.{Placed}
+use Rattle.cyclo_points.specs.Order.{NumberOf, points_of}
+use Rattle.dissection.specs.Sums.{number_of}
+use Rattle.rule_model.specs.Tiling.{Tiling}
+use Rattle.tile_place.specs.Searched.{placed_in}
+use Rattle.tile_place.specs.declared.placed_tile.PlacedTile.{PlacedTile}
+use Rattle.windows.specs.Distinct.{AreDistinct}
+use Rattle.windows.specs.FramePatch.{frame_patch}
+use Rattle.windows.specs.Patch.{Covers}
+use Rattle.lazy_walk.specs.Frames.{FrameValue, whole, IsFrameOf, GrowsTo}
+use Rattle.lazy_walk.specs.Standing.{Stands}
+use Rattle.half_glue.specs.declared.whole_tile.WholeTile.{WholeTile}
+use Rattle.half_glue.specs.InOrder.{AreInOrder}
+use Rattle.half_glue.specs.Outline.{parts_of, polygon_of_whole}
+use Rattle.half_glue.specs.WholeTiles.{IsWholeTile, AreWholeTilesOf}
+
+-- the box in which whole tiles of a tiling are to cover all
+abbrev pub BoxOf : Tiling → Type 0
+BoxOf t = OpenBox (points_of t.order).real.ops.carrier
+
+-- each test point in the box belongs to exactly one of these tiles of a frame
+abbrev pub TilesCover : (t : Tiling) → FrameValue → BoxOf t → List PlacedTile → Type 0
+TilesCover t f box tiles = Covers (points_of t.order).real (Placed (NumberOf t.order)) (frame_patch (points_of t.order) t.rule (whole f)) box (map (placed_in t.order) tiles)
+
+-- each test point in the box belongs to exactly one of these whole tiles
+abbrev pub WholesCover : (t : Tiling) → BoxOf t → List WholeTile → Type 0
+WholesCover t box wholes =
+    (p : TestPoint (points_of t.order).real.ops.carrier) → IsTestPoint (points_of t.order).real p → IsTrue (in_box (points_of t.order).real box p)
+    → number_of (λ w. member (points_of t.order).real (polygon_of_whole t w) p) wholes ≡ 1
+
+-- whole tiles of tiles that cover a window cover it, in each frame that the tiles' frame may become
+abbrev pub WholesCoverLaw : Tiling → Type 0
+WholesCoverLaw t =
+    (f g : FrameValue) (box : BoxOf t) (tiles : List PlacedTile) (wholes : List WholeTile)
+    → IsFrameOf t f → GrowsTo t f g → All (Stands t f) tiles → TilesCover t f box tiles
+    → AreWholeTilesOf t g tiles wholes → AreInOrder wholes → WholesCover t box wholes
+
+-- the parts of these whole tiles, one whole tile after the other
+abbrev pub all_parts : (t : Tiling) → List WholeTile → List (Placed (NumberOf t.order))
+all_parts t wholes = flat_map (λ w. map (placed_in t.order) (parts_of w)) wholes
+
+-- whole tiles in order share no part, and none has a part twice
+abbrev pub PartsOnceLaw : Tiling → Type 0
+PartsOnceLaw t = (f : FrameValue) (wholes : List WholeTile) → All (IsWholeTile t f) wholes → AreInOrder wholes → AreDistinct (all_parts t wholes)

@@ -1,0 +1,28 @@
+-- Tiles that are given to be glued.
+use Rattle.std.specs.Prelude.{◌≡◌, ◌<◌, ◌^◌, List, All}
+use Rattle.substitution.specs.Supertile.{Placed}
+use Rattle.cyclo_points.specs.Order.{NumberOf, points_of}
+use Rattle.cyclo_points.specs.Point.{IsOf, IsWithin}
+use Rattle.cyclo_points.specs.Motion.{motion_in}
+use Rattle.frames.specs.Frame.{IsTileOf, StandsInFrame, lifted_in}
+use Rattle.rule_model.specs.Tiling.{Tiling, children}
+use Rattle.tile_place.specs.declared.placed_tile.PlacedTile.{PlacedTile}
+use Rattle.tile_shape.specs.Views.{address_of}
+use Rattle.lazy_walk.specs.Frames.{FrameValue, whole}
+
+-- the tile, lifted to the depth of the frame, with its motion
+abbrev pub lifted_tile : (t : Tiling) → FrameValue → PlacedTile → Placed (NumberOf t.order)
+lifted_tile t f x = record { address = lifted_in (whole f) (address_of x.addr); motion = motion_in t.order x.motion }
+
+-- the tile is of the frame, has its motion there, and no refused shift
+pub record IsGiven (t : Tiling) (f : FrameValue) (x : PlacedTile) : Type 0 where
+  pub its_kind : x.kind ≡ x.addr.kind
+  pub of_frame : IsTileOf (children t) (whole f) (address_of x.addr)
+  pub in_frame : StandsInFrame (points_of t.order) t.rule (whole f) (lifted_in (whole f) (address_of x.addr)) (motion_in t.order x.motion)
+  pub turn_below : x.motion.turn < (points_of t.order).order
+  pub in_order : IsOf t.order x.motion.shift
+  pub within : IsWithin (2 ^ 24) x.motion.shift
+
+-- so it is with each of these
+abbrev pub AreGiven : Tiling → FrameValue → List PlacedTile → Type 0
+AreGiven t f tiles = All (IsGiven t f) tiles

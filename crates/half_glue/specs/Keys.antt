@@ -1,0 +1,52 @@
+-- Keys of tiles and of whole tiles.
+use Rattle.std.specs.Prelude.{ℕ, zero, suc, Bool, true, not, cond, List, [], ◌∷◌, ◌++◌, get_or}
+use Rattle.std.specs.List.Sorted.{IsPermutation, IsSorted}
+use Rattle.std.specs.declared.cmp.Ordering.{Ordering}
+use Rattle.tile_place.specs.Keys.{key_of, FitsKey, are_level}
+use Rattle.tile_place.specs.contracts.order_key.OrderKeyOrd.TheImpl as key_ord
+use Rattle.tile_place.specs.declared.order_key.OrderKey.{OrderKey}
+use Rattle.tile_place.specs.declared.placed_tile.PlacedTile.{PlacedTile}
+use Rattle.half_glue.specs.declared.whole_tile.WholeTile.{WholeTile}
+
+-- the order by which keys are sorted
+abbrev pub key_order : OrderKey → OrderKey → Ordering
+key_order = (key_ord.ghosts).cmp
+
+-- the numbers of the tile are small enough for a key
+abbrev pub HasKey : PlacedTile → Type 0
+HasKey x = FitsKey x.motion x.kind
+
+-- the keys of things, each by a tile of it, of numbers from n on
+abbrev pub keys_by : {A : Type 0} → (A → PlacedTile) → ℕ → List A → List OrderKey
+keys_by tile n [] = []
+keys_by tile n (x ∷ xs) = key_of (tile x).motion (tile x).kind n ∷ keys_by tile (suc n) xs
+
+-- those of tiles
+abbrev pub own_keys : List PlacedTile → List OrderKey
+own_keys tiles = keys_by (λ x. x) 0 tiles
+
+-- and of whole tiles, by their first halves
+abbrev pub first_keys : List WholeTile → List OrderKey
+first_keys wholes = keys_by (λ w. w.first) 0 wholes
+
+-- these are the keys of tiles, in order
+pub record AreKeysOf (tiles : List PlacedTile) (keys : List OrderKey) : Type 0 where
+  pub same : IsPermutation (own_keys tiles) keys
+  pub sorted : IsSorted key_order keys
+
+abbrev pub no_key : OrderKey
+no_key = record { high = 0; low = 0; number = 0 }
+
+-- whether the key at a place isn't level with the one before
+unfoldable pub is_new : List OrderKey → ℕ → Bool
+is_new ks zero = true
+is_new ks (suc i) = not (are_level (get_or ks (suc i) no_key) (get_or ks i no_key))
+
+-- of the first n numbers those at which p holds, by f
+abbrev pub chosen_below : {A : Type 0} → (ℕ → Bool) → (ℕ → A) → ℕ → List A
+chosen_below p f zero = []
+chosen_below {A} p f (suc n) = chosen_below p f n ++ cond (p n) (f n ∷ []) []
+
+-- the whole tile of the key at a place
+abbrev pub whole_at : List WholeTile → WholeTile → List OrderKey → ℕ → WholeTile
+whole_at made blank ks i = get_or made (get_or ks i no_key).number blank

@@ -1,0 +1,16 @@
+pub mod Given
+pub mod WholeTiles
+pub mod InOrder
+pub mod Depth
+pub mod Limits
+pub mod Causes
+pub mod Keys
+pub mod Checked
+pub mod Sides
+pub mod Found
+pub mod Pairs
+pub mod Lifted
+pub mod Arranged
+pub mod Outline
+pub mod Covering
+pub mod Parts

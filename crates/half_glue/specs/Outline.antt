@@ -1,0 +1,81 @@
+-- Outlines of whole tiles.
+use Rattle.std.specs.Prelude.{◌≡◌, ℕ, suc, ◌-◌, List, [], ◌∷◌, ◌++◌, length, map, take, drop, find, Option, None, Some, unwrap_or}
+use Rattle.ordered_plane.specs.Plane.{TestPoint}
+use Rattle.ordered_plane.specs.Crossing.{count}
+use Rattle.addressing.specs.Search.{below}
+use Rattle.substitution.specs.Motion.{moved}
+use Rattle.substitution.specs.Plane.{plane_point}
+use Rattle.substitution.specs.Rule.{Rule}
+use Rattle.substitution.specs.RuleParts.{vertices_of, edge_count, edge_type}
+use Rattle.cyclo_points.specs.Motion.{motion_in}
+use Rattle.cyclo_points.specs.Order.{NumberOf, points_of}
+use Rattle.dissection.specs.Polygons.{tile_polygon}
+use Rattle.dissection.specs.Sums.{sum_over}
+use Rattle.rule_model.specs.Glue.{is_glued, IsOnlyGlueEdge}
+use Rattle.rule_model.specs.Tiling.{Tiling}
+use Rattle.tile_place.specs.Searched.{placed_in}
+use Rattle.tile_place.specs.declared.placed_tile.PlacedTile.{PlacedTile}
+use Rattle.windows.specs.Outlines.{Polygon}
+use Rattle.lazy_walk.specs.Frames.{FrameValue, IsFrameOf}
+use Rattle.half_glue.specs.declared.whole_tile.WholeTile.{WholeTile}
+use Rattle.half_glue.specs.WholeTiles.{IsWholeTile}
+
+-- the first edge of a kind along which it is glued, and 0 where there is none
+abbrev pub glue_edge_of : {A : Type 0} → Rule A → ℕ → ℕ
+glue_edge_of r k = unwrap_or (find (λ e. is_glued r (edge_type r k e)) (below (λ e. e) (edge_count r k))) 0
+
+-- a list, begun with what stands behind number e, and ended with number e
+abbrev pub begun_behind : {A : Type 0} → ℕ → List A → List A
+begun_behind e xs = drop (suc e) xs ++ take (suc e) xs
+
+-- a list without its first and its last entry
+abbrev pub inner_of : {A : Type 0} → List A → List A
+inner_of xs = drop 1 (take (length xs - 1) xs)
+
+-- Of two polygons, edge e of the first is glued to edge f of the second: the first one's vertices from the end of e round to its start, and then those of
+-- the second one that aren't on f, in its order.
+abbrev pub glued : {A : Type 0} → ℕ → List A → ℕ → List A → List A
+glued e vs f ws = begun_behind e vs ++ inner_of (begun_behind f ws)
+
+-- the vertices of a tile in its place, in their order
+abbrev pub vertices_in_place : (t : Tiling) → PlacedTile → List (NumberOf t.order)
+vertices_in_place t x = map (moved (points_of t.order) (motion_in t.order x.motion)) (vertices_of t.rule x.kind)
+
+-- the outline of a tile alone, and of two halves
+abbrev pub outline_by : (t : Tiling) → PlacedTile → Option PlacedTile → List (NumberOf t.order)
+outline_by t a None = vertices_in_place t a
+outline_by t a (Some b) = glued (glue_edge_of t.rule a.kind) (vertices_in_place t a) (glue_edge_of t.rule b.kind) (vertices_in_place t b)
+
+-- the vertices of a whole tile's outline
+abbrev pub outline_of : (t : Tiling) → WholeTile → List (NumberOf t.order)
+outline_of t w = outline_by t w.first w.second
+
+-- its parts
+abbrev pub parts_by : PlacedTile → Option PlacedTile → List PlacedTile
+parts_by a None = a ∷ []
+parts_by a (Some b) = a ∷ b ∷ []
+
+abbrev pub parts_of : WholeTile → List PlacedTile
+parts_of w = parts_by w.first w.second
+
+-- the outline as a polygon of the plane
+abbrev pub polygon_of_whole : (t : Tiling) → WholeTile → Polygon (points_of t.order).real
+polygon_of_whole t w = map (plane_point (points_of t.order)) (outline_of t w)
+
+-- the polygon of a tile in its place
+abbrev pub polygon_of_part : (t : Tiling) → PlacedTile → Polygon (points_of t.order).real
+polygon_of_part t x = tile_polygon (points_of t.order) t.rule (λ z. z) (placed_in t.order x)
+
+-- at each test point the outline counts as its parts do together
+abbrev pub CountsAsParts : Tiling → WholeTile → Type 0
+CountsAsParts t w =
+    (p : TestPoint (points_of t.order).real.ops.carrier)
+    → count (points_of t.order).real (polygon_of_whole t w) p ≡ sum_over (λ x. count (points_of t.order).real (polygon_of_part t x) p) (parts_of w)
+
+-- so it is with each whole tile of a frame
+abbrev pub WholesCountLaw : Tiling → Type 0
+WholesCountLaw t = (f : FrameValue) (w : WholeTile) → IsFrameOf t f → IsWholeTile t f w → CountsAsParts t w
+
+-- the only glue edge of a kind is the first one
+abbrev pub FirstGlueEdgeLaw : Tiling → Type 0
+FirstGlueEdgeLaw t = (kind e : ℕ) → IsOnlyGlueEdge t.rule kind e → glue_edge_of t.rule kind ≡ e

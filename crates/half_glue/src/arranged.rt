@@ -1,0 +1,133 @@
+//! Whole tiles in order, each once.
+ghost use Rattle.std.specs.Prelude.{◌≡◌, ◌<◌, ◌^◌, ◌++◌, All, length, IfOk};
+ghost use Rattle.lazy_walk.specs.Frames.{FrameValue};
+ghost use Rattle.half_glue.specs.Found.{tile_of};
+ghost use Rattle.half_glue.specs.InOrder.{AreInOrder};
+ghost use Rattle.half_glue.specs.Keys.{HasKey, first_keys, is_new, whole_at, chosen_below};
+ghost use Rattle.half_glue.specs.Arranged.{AreArranged};
+ghost use Rattle.half_glue.specs.Lifted.{IsNoDeeper, lifted_to, whole_of, wholes_of};
+ghost use Rattle.half_glue.specs.Pairs.{ArePresent};
+ghost use Rattle.tile_place.specs.declared.order_key.OrderKey as key;
+ghost use Rattle.half_glue.specs.declared.whole_tile.WholeTile as whole;
+
+use crate::pairs::{Pair, Pairs};
+use crate::whole_tile::WholeTile;
+use lazy_walk::frame::Frame;
+use std::alloc::Global;
+use tile_place::order_key::OrderKey;
+use tile_place::placed_tile::PlacedTile;
+use tile_shape::no_memory::NoMemory;
+
+/// The whole tiles of pairs, in the order of their first halves. Those with one first half come once.
+pub(crate) fn arranged(
+    alloc: Global,
+    frame: &Frame,
+    tiles: &[PlacedTile],
+    made: &Pairs,
+) -> Result<Vec<WholeTile>, NoMemory>
+    requires few { length made.now.pairs.items < 2 ^ 32 }
+    requires numbered { All (ArePresent (length (tiles.now ++ made.now.crossed.items))) made.now.pairs.items }
+    requires fit { All HasKey (tiles.now ++ made.now.crossed.items) }
+    requires no_deeper { All (IsNoDeeper frame.now) (tiles.now ++ made.now.crossed.items) }
+    ensures in_order { IfOk result (λ wholes. AreInOrder wholes.items) }
+    ensures same { IfOk result (λ wholes. AreArranged (wholes_of frame.now (tiles.now ++ made.now.crossed.items) made.now.pairs.items) wholes.items) }
+{
+    let mut keys = keys(alloc, tiles, made)?;
+    keys.sort_unstable();
+    picked(alloc, frame, tiles, made, keys.as_slice())
+}
+
+/// The keys of the first halves of pairs, in the order of the pairs.
+fn keys(alloc: Global, tiles: &[PlacedTile], made: &Pairs) -> Result<Vec<OrderKey>, NoMemory>
+    requires few { length made.now.pairs.items < 2 ^ 32 }
+    requires numbered { All (ArePresent (length (tiles.now ++ made.now.crossed.items))) made.now.pairs.items }
+    requires fit { All HasKey (tiles.now ++ made.now.crossed.items) }
+    ensures { IfOk result (λ keys. (f : FrameValue) → keys.items ≡ first_keys (wholes_of f (tiles.now ++ made.now.crossed.items) made.now.pairs.items)) }
+{
+    let count = made.pairs.len();
+    let mut keys = Vec::with_capacity(alloc, count)?;
+    for number in 0..count {
+        let first = tile_of(tiles, made.crossed.as_slice(), made.pairs[number].first);
+        keys.push(OrderKey::of(&first.motion, first.kind, number as u32))?;
+    }
+    Ok(keys)
+}
+
+/// The whole tiles of those keys that aren't level with the key before.
+fn picked(
+    alloc: Global,
+    frame: &Frame,
+    tiles: &[PlacedTile],
+    made: &Pairs,
+    keys: &[OrderKey],
+) -> Result<Vec<WholeTile>, NoMemory>
+    requires keyed { All (λ (k : key.OrderKey). k.number < length made.now.pairs.items) keys.now }
+    requires numbered { All (ArePresent (length (tiles.now ++ made.now.crossed.items))) made.now.pairs.items }
+    requires no_deeper { All (IsNoDeeper frame.now) (tiles.now ++ made.now.crossed.items) }
+    ensures { IfOk result (λ wholes. (blank : whole.WholeTile) → wholes.items
+        ≡ chosen_below (is_new keys.now) (whole_at (wholes_of frame.now (tiles.now ++ made.now.crossed.items) made.now.pairs.items) blank keys.now) (length keys.now)) }
+{
+    let count = keys.len();
+    let mut wholes = Vec::with_capacity(alloc, count)?;
+    for place in 0..count {
+        if is_new(keys, place) {
+            let number = keys[place].number;
+            let pair = made.pairs[number as usize];
+            wholes.push(whole(frame, tiles, made.crossed.as_slice(), pair))?;
+        }
+    }
+    Ok(wholes)
+}
+
+/// Whether the key at a place isn't level with the key before.
+fn is_new(keys: &[OrderKey], place: usize) -> bool
+    requires below { place < length keys.now }
+    ensures { result ≡ is_new keys.now place }
+{
+    if place == 0 {
+        return true;
+    }
+    let key = keys[place];
+    let before = keys[place - 1];
+    !key.is_level(&before)
+}
+
+/// The whole tile of a pair, each tile of it lifted to the frame's depth.
+fn whole(frame: &Frame, tiles: &[PlacedTile], crossed: &[PlacedTile], pair: Pair) -> WholeTile
+    requires present { ArePresent (length (tiles.now ++ crossed.now)) pair }
+    requires no_deeper { All (IsNoDeeper frame.now) (tiles.now ++ crossed.now) }
+    ensures { result ≡ whole_of frame.now (tiles.now ++ crossed.now) pair }
+{
+    WholeTile {
+        first: lifted(frame, tile_of(tiles, crossed, pair.first)),
+        second: match pair.second {
+            Some(second) => Some(lifted(frame, tile_of(tiles, crossed, second))),
+            None => None,
+        },
+    }
+}
+
+/// A tile lifted to the frame's depth.
+fn lifted(frame: &Frame, tile: &PlacedTile) -> PlacedTile
+    requires no_deeper { IsNoDeeper frame.now tile.now }
+    ensures { result ≡ lifted_to frame.now tile.now }
+{
+    PlacedTile {
+        kind: tile.kind,
+        motion: tile.motion,
+        addr: frame.lift(&tile.addr),
+    }
+}
+
+/// The tile of a number: first those given have numbers, and then those crossed to.
+fn tile_of<'a>(tiles: &'a [PlacedTile], crossed: &'a [PlacedTile], number: u32) -> &'a PlacedTile
+    requires below { number < length (tiles.now ++ crossed.now) }
+    ensures { result.now ≡ tile_of (tiles.now ++ crossed.now) number }
+{
+    let place = number as usize;
+    if place < tiles.len() {
+        &tiles[place]
+    } else {
+        &crossed[place - tiles.len()]
+    }
+}

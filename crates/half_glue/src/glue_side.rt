@@ -1,0 +1,93 @@
+//! The glue edges of a rule's kinds.
+ghost use Rattle.std.specs.Prelude.{◌≡◌, ◌<◌, length, IfOk, IfSome};
+ghost use Rattle.rule_model.specs.Glue.{IsGlueEdge};
+ghost use Rattle.rule_model.specs.Tiling.{tiling_of};
+ghost use Rattle.half_glue.specs.Sides.{IsOtherSide, IsSideOf, AreSides, are_mates};
+
+use crate::glue_laws::glue_laws;
+use cyclo_points::motion::Motion;
+use std::alloc::Global;
+use tile_place::machine::Machine;
+use tile_shape::no_memory::NoMemory;
+
+/// The kind of the other half, and the motion that brings its glue edge onto the reverse of this half's.
+#[derive(Clone, Copy, Debug)]
+pub(crate) struct OtherSide {
+    pub(crate) kind: u8,
+    pub(crate) glue: Motion,
+}
+
+/// The glue edge of a kind, and what lies across it.
+#[derive(Clone, Copy, Debug)]
+pub(crate) struct GlueSide {
+    pub(crate) edge: u8,
+    pub(crate) other: Option<OtherSide>,
+}
+
+/// The glue edge of each kind of a rule that has one.
+pub(crate) fn glue_sides(
+    alloc: Global,
+    machine: &Machine,
+) -> Result<Vec<Option<GlueSide>>, NoMemory>
+    ensures { IfOk result (λ sides. AreSides (tiling_of machine.now) sides.items) }
+{
+    glue_laws(machine);
+    let count = machine.checked().rule().kind_count();
+    let mut sides = Vec::with_capacity(alloc, count)?;
+    for kind in 0..count {
+        sides.push(glue_side(machine, kind as u8))?;
+    }
+    Ok(sides)
+}
+
+/// The glue edge of a kind.
+fn glue_side(machine: &Machine, kind: u8) -> Option<GlueSide>
+    requires exists { kind < length (tiling_of machine.now).rule.kinds }
+    ensures { IsSideOf (tiling_of machine.now) kind result }
+{
+    match machine.checked().glue_edge(kind) {
+        Some(edge) => Some(GlueSide {
+            edge,
+            other: other_side(machine, kind, edge),
+        }),
+        None => None,
+    }
+}
+
+/// The other half of a kind.
+fn other_side(machine: &Machine, kind: u8, edge: u8) -> Option<OtherSide>
+    requires exists { kind < length (tiling_of machine.now).rule.kinds }
+    requires glue_edge { IsGlueEdge (tiling_of machine.now).rule kind edge }
+    ensures { IfSome result (IsOtherSide (tiling_of machine.now) kind edge) }
+{
+    glue_laws(machine);
+    for other in 0..machine.checked().rule().kind_count() {
+        let other = other as u8;
+        if let Some(back) = machine.checked().glue_edge(other) {
+            if are_mates(machine, kind, edge, other, back)
+                && machine.meets(kind, edge, other, back)
+            {
+                return Some(OtherSide {
+                    kind: other,
+                    glue: machine.glue_motion(kind, edge, other, back),
+                });
+            }
+        }
+    }
+    None
+}
+
+/// Whether the type of one edge is the mate of another's.
+fn are_mates(machine: &Machine, kind: u8, edge: u8, other: u8, back: u8) -> bool
+    requires exists { kind < length (tiling_of machine.now).rule.kinds }
+    requires glue_edge { IsGlueEdge (tiling_of machine.now).rule kind edge }
+    requires other_exists { other < length (tiling_of machine.now).rule.kinds }
+    requires other_glue_edge { IsGlueEdge (tiling_of machine.now).rule other back }
+    ensures { result ≡ are_mates (tiling_of machine.now).rule kind edge other back }
+{
+    glue_laws(machine);
+    let rule = machine.checked().rule();
+    let own = rule.edge_type(usize::from(kind), usize::from(edge));
+    let its = rule.edge_type(usize::from(other), usize::from(back));
+    its == rule.mate(own)
+}

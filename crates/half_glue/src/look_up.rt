@@ -1,0 +1,61 @@
+//! Tiles by their places.
+ghost use Rattle.std.specs.Prelude.{◌≡◌, ◌<◌, ◌≤◌, ◌^◌, ℕ, All, length, None, IfOk, IfSome};
+ghost use Rattle.std.specs.List.{Contains};
+ghost use Rattle.std.specs.List.Sorted.{IsPermutation, IsSorted};
+ghost use Rattle.cyclo_points.specs.Point.{IsWithin};
+ghost use Rattle.tile_place.specs.Keys.{key_of};
+ghost use Rattle.half_glue.specs.Keys.{HasKey, own_keys, key_order};
+
+use cyclo_points::motion::Motion;
+use std::alloc::Global;
+use tile_place::order_key::OrderKey;
+use tile_place::placed_tile::PlacedTile;
+use tile_shape::no_memory::NoMemory;
+
+/// The keys of tiles, in order.
+pub(crate) fn sorted_keys(alloc: Global, tiles: &[PlacedTile]) -> Result<Vec<OrderKey>, NoMemory>
+    requires few { length tiles.now ≤ 200000 }
+    requires fit { All HasKey tiles.now }
+    ensures same { IfOk result (λ keys. IsPermutation (own_keys tiles.now) keys.items) }
+    ensures sorted { IfOk result (λ keys. IsSorted key_order keys.items) }
+{
+    let mut keys = keys(alloc, tiles)?;
+    keys.sort_unstable();
+    Ok(keys)
+}
+
+/// The keys of tiles, in the order of the tiles.
+fn keys(alloc: Global, tiles: &[PlacedTile]) -> Result<Vec<OrderKey>, NoMemory>
+    requires few { length tiles.now ≤ 200000 }
+    requires fit { All HasKey tiles.now }
+    ensures { IfOk result (λ keys. keys.items ≡ own_keys tiles.now) }
+{
+    let count = tiles.len();
+    let mut keys = Vec::with_capacity(alloc, count)?;
+    for number in 0..count {
+        let tile = &tiles[number];
+        keys.push(OrderKey::of(&tile.motion, tile.kind, number as u32))?;
+    }
+    Ok(keys)
+}
+
+/// The number of a tile of this kind at this place, by keys in order.
+pub(crate) fn number_of(keys: &[OrderKey], motion: &Motion, kind: u8) -> Option<u32>
+    requires within { IsWithin (2 ^ 24) motion.now.shift }
+    requires turn_fits { motion.now.turn < 16 }
+    requires sorted { IsSorted key_order keys.now }
+    ensures found { IfSome result (λ number. Contains keys.now (key_of motion.now kind number)) }
+    ensures none { result ≡ None → (number : ℕ) → ¬ Contains keys.now (key_of motion.now kind number) }
+{
+    let sought = OrderKey::of(motion, kind, 0);
+    let place = match keys.binary_search(&sought) {
+        Ok(place) => place,
+        Err(place) => place,
+    };
+    let key = keys.get(place)?;
+    if key.is_level(&sought) {
+        Some(key.number)
+    } else {
+        None
+    }
+}

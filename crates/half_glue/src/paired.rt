@@ -1,0 +1,65 @@
+//! The whole tiles of tiles given, by numbers.
+ghost use Rattle.std.specs.Prelude.{◌≡◌, ◌⊎◌, ◌≤◌, length, Err, IsOk, IfOk, IfErr, OnOk};
+ghost use Rattle.rule_model.specs.Tiling.{tiling_of};
+ghost use Rattle.lazy_walk.specs.Frames.{IsFrameOf, GrowsTo};
+ghost use Rattle.half_glue.specs.declared.glue_fault.GlueFault.TheVariants.{NoMemory};
+ghost use Rattle.half_glue.specs.Causes.{HasGlueCause};
+ghost use Rattle.half_glue.specs.Depth.{IsLeastForGlue};
+ghost use Rattle.half_glue.specs.Given.{AreGiven};
+ghost use Rattle.half_glue.specs.Limits.{CanBeGlued};
+ghost use Rattle.half_glue.specs.Pairs.{ArePairsOf};
+
+use crate::glue_fault::GlueFault;
+use crate::glue_laws::glue_laws;
+use crate::glue_side::glue_sides;
+use crate::half::other_half;
+use crate::look_up::sorted_keys;
+use crate::pairs::{Pairs, put};
+use edge_tables::steps::Steps;
+use lazy_walk::frame::Frame;
+use std::alloc::Global;
+use std::sync::ledger::Ledger;
+use tile_place::machine::Machine;
+use tile_place::placed_tile::PlacedTile;
+
+/// The whole tiles of tiles given, which are taken in their order. The frame grows to the least depth at which the
+/// glue edges of all of them are inside.
+pub(crate) fn paired<L: Ledger>(
+    alloc: Global,
+    machine: &Machine,
+    frame: &mut Frame,
+    tiles: &[PlacedTile],
+    steps: &mut Steps<L>,
+) -> Result<Pairs, GlueFault>
+    requires frame { IsFrameOf (tiling_of machine.now) frame.old }
+    requires few { length tiles.now ≤ 200000 }
+    requires given { AreGiven (tiling_of machine.now) frame.old tiles.now }
+    ensures frame { GrowsTo (tiling_of machine.now) frame.old frame.new }
+    ensures paired { IfOk result (λ made. ArePairsOf (tiling_of machine.now) frame.new tiles.now made.crossed.items made.pairs.items) }
+    ensures least { OnOk result (IsLeastForGlue (tiling_of machine.now) frame.old tiles.now (length frame.new.digits)) }
+    ensures within { OnOk result (CanBeGlued (tiling_of machine.now) frame.old tiles.now) }
+    ensures answered { CanBeGlued (tiling_of machine.now) frame.old tiles.now → (result ≡ Err NoMemory) ⊎ IsOk result }
+    ensures cause { IfErr result (λ fault. HasGlueCause (tiling_of machine.now) frame.old frame.new tiles.now fault) }
+{
+    glue_laws(machine);
+    let sides = glue_sides(alloc, machine)?;
+    let keys = sorted_keys(alloc, tiles)?;
+    let count = tiles.len();
+    let mut made = Pairs {
+        pairs: Vec::with_capacity(alloc, count)?,
+        crossed: Vec::new(alloc),
+    };
+    for number in 0..count {
+        let found = other_half(
+            machine,
+            frame,
+            sides.as_slice(),
+            keys.as_slice(),
+            tiles,
+            number,
+            steps,
+        )?;
+        put(&mut made, tiles, number, found)?;
+    }
+    Ok(made)
+}

@@ -1,0 +1,80 @@
+//! Halves in pairs.
+ghost use Rattle.std.specs.Prelude.{◌≡◌, ◌<◌, ◌≤◌, ◌++◌, length, OnOk};
+ghost use Rattle.half_glue.specs.Found.{IsNumbered};
+ghost use Rattle.half_glue.specs.Pairs.{pair_of, added_pairs, added_tiles};
+
+use crate::half::Found;
+use tile_place::placed_tile::PlacedTile;
+use tile_shape::no_memory::NoMemory;
+
+/// A whole tile by the numbers of its tiles: first those given have numbers, and then those crossed to.
+#[derive(Clone, Copy, Debug)]
+pub(crate) struct Pair {
+    /// The tile alone, or the half of the lesser kind.
+    pub(crate) first: u32,
+    /// The other half.
+    pub(crate) second: Option<u32>,
+}
+
+/// Whole tiles, and the tiles crossed to.
+#[derive(Drop)]
+pub(crate) struct Pairs {
+    pub(crate) pairs: Vec<Pair>,
+    pub(crate) crossed: Vec<PlacedTile>,
+}
+
+/// Puts the whole tile of a tile given to the others. Where the other half is given too, the half of the lesser kind
+/// brings it.
+pub(crate) fn put(
+    made: &mut Pairs,
+    tiles: &[PlacedTile],
+    number: usize,
+    found: Found,
+) -> Result<(), NoMemory>
+    requires few { length tiles.now ≤ 200000 }
+    requires below { number < length tiles.now }
+    requires few_crossed { length made.old.crossed.items ≤ number }
+    requires numbered { IsNumbered tiles.now found }
+    ensures pairs { OnOk result (made.new.pairs.items ≡ made.old.pairs.items ++ added_pairs tiles.now number (length made.old.crossed.items) found) }
+    ensures crossed { OnOk result (made.new.crossed.items ≡ made.old.crossed.items ++ added_tiles found) }
+{
+    let own = number as u32;
+    match found {
+        Found::Alone => made.pairs.push(Pair {
+            first: own,
+            second: None,
+        })?,
+        Found::Given(other) => {
+            if tiles[number].kind < tiles[other as usize].kind {
+                made.pairs.push(Pair {
+                    first: own,
+                    second: Some(other),
+                })?;
+            }
+        }
+        Found::Crossed(other) => {
+            let its = (tiles.len() + made.crossed.len()) as u32;
+            let pair = pair_of(tiles[number].kind, own, other.kind, its);
+            made.pairs.push(pair)?;
+            made.crossed.push(other)?;
+        }
+    }
+    Ok(())
+}
+
+/// Two halves, that of the lesser kind first.
+fn pair_of(kind: u8, number: u32, other_kind: u8, other: u32) -> Pair
+    ensures { result ≡ pair_of kind number other_kind other }
+{
+    if kind < other_kind {
+        Pair {
+            first: number,
+            second: Some(other),
+        }
+    } else {
+        Pair {
+            first: other,
+            second: Some(number),
+        }
+    }
+}

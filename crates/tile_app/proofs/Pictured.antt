@@ -1,0 +1,71 @@
+-- The picture of a window's tiles, and that of their whole tiles.
+use Rattle.std.proofs.Common.{◌≡◌, ℕ, true, false, List, map, length, get_or, refl, sym, subst}
+use Rattle.std.specs.Prelude.{All}
+use Rattle.half_glue.specs.declared.whole_tile.WholeTile.{WholeTile}
+use Rattle.half_glue.specs.Covering.{WholesCoverLaw}
+use Rattle.half_glue.specs.Depth.{IsLeastForGlue}
+use Rattle.half_glue.specs.InOrder as glued
+use Rattle.half_glue.specs.Limits.{CanBeGlued}
+use Rattle.half_glue.specs.Outline.{WholesCountLaw}
+use Rattle.half_glue.specs.WholeTiles.{AreWholeTilesOf}
+use Rattle.layer_api.specs.declared.drawn.Drawn.{Drawn}
+use Rattle.lazy_walk.specs.Frames.{FrameValue, GrowsTo}
+use Rattle.lazy_walk.specs.Standing.{Stands}
+use Rattle.plane_geom.specs.declared.window.Window.{Window}
+use Rattle.rule_model.specs.Tiling.{Tiling}
+use Rattle.tile_place.specs.declared.placed_tile.PlacedTile.{PlacedTile}
+use Rattle.tile_place.specs.Searched.{placed_in}
+use Rattle.window_cover.specs.InOrder.{AreInOrder}
+use Rattle.window_cover.specs.Limits.{IsWithinLimits}
+use Rattle.window_cover.specs.Windows.{box_of, AreDrawn, CoverWindow, IsLeastEnough}
+use Rattle.tile_app.specs.Draw.{Pictures}
+use Rattle.tile_app.specs.DrawnTile.{drawn_of, drawn_whole}
+use Rattle.tile_app.specs.Glue.{asks_glue, CanBeGluedInWindow, IsWithinTheirLimits}
+use Rattle.tile_app.specs.Pictured.{Begins}
+use Rattle.tile_app.specs.Pictures.{IsPictureOf, AreDrawnWhole}
+use Rattle.tile_app.proofs.Gluing.{glued-in_window}
+
+module _ (words : List (List ℕ)) (t : Tiling) (w : Window) (f g : FrameValue) (begins : Begins words t f w) (grown : GrowsTo t f g) (within : IsWithinLimits t f w) (least : IsLeastEnough t f w (length g.digits))
+    (tiles : List PlacedTile) (stand : All (Stands t g) tiles) (drawn : AreDrawn t g w (map (placed_in t.order) tiles)) (in_order : AreInOrder tiles) (covered : CoverWindow t g w (map (placed_in t.order) tiles)) where
+  pictures : (picture : List Drawn) → (asks_glue words ≡ true → CanBeGluedInWindow t f w) → IsPictureOf (asks_glue words) t w g tiles picture → Pictures words t w picture
+  pictures picture can_be_glued is_picture = record {
+    base = begins.base;
+    gives = begins.gives;
+    within = subst (λ y. IsWithinTheirLimits words t y w) begins.begun (record { within = within; can_be_glued = can_be_glued });
+    frame = g;
+    grown = subst (λ y. GrowsTo t y g) begins.begun grown;
+    least = subst (λ y. IsLeastEnough t y w (length g.digits)) begins.begun least;
+    tiles = tiles;
+    stand = stand;
+    drawn = drawn;
+    in_order = in_order;
+    covered = covered;
+    is_picture = is_picture;
+  }
+
+  -- without glue the window's tiles
+  pub pictures-tiles : asks_glue words ≡ false → Pictures words t w (map (drawn_of t) tiles)
+  pictures-tiles asked =
+      pictures (map (drawn_of t) tiles) (λ e. absurd (cc (asked, e))) (subst (λ b. IsPictureOf b t w g tiles (map (drawn_of t) tiles)) (sym asked) refl)
+
+  -- and with glue the whole tiles of theirs, by the laws of whole tiles
+  module _ (asked : asks_glue words ≡ true) (counts : WholesCountLaw t) (covering : WholesCoverLaw t) (h : FrameValue) (grown_on : GrowsTo t g h) (depth : IsLeastForGlue t g tiles (length h.digits))
+      (can : CanBeGlued t g tiles) (wholes : List WholeTile) (whole_tiles : AreWholeTilesOf t h tiles wholes) (ordered : glued.AreInOrder wholes) where
+    are-whole : AreDrawnWhole t w g tiles (map (drawn_whole t) wholes)
+    are-whole = record {
+      can_be_glued = can;
+      glued_frame = h;
+      grown = grown_on;
+      least = depth;
+      wholes = wholes;
+      whole_tiles = whole_tiles;
+      in_order = ordered;
+      count_as_parts = λ i d l. counts h (get_or wholes i d) grown_on.is_frame (whole_tiles.whole i d l);
+      cover = covering g h (box_of t w) tiles wholes grown.is_frame grown_on stand covered whole_tiles ordered;
+      is_picture = refl;
+    }
+
+    pub pictures-wholes : Pictures words t w (map (drawn_whole t) wholes)
+    pictures-wholes =
+        pictures (map (drawn_whole t) wholes) (λ _. glued-in_window t f g w grown least tiles stand drawn can)
+        (subst (λ b. IsPictureOf b t w g tiles (map (drawn_whole t) wholes)) (sym asked) are-whole)

@@ -1,0 +1,42 @@
+-- The vertices of all kinds, turned by all numbers of steps below the order, in one list.
+use Rattle.std.specs.Prelude.{◌≡◌, ℕ, ◌+◌, ◌*◌, ◌<◌, ◌≤◌, ◌^◌, List, length, get_or}
+use Rattle.ordered_ring.specs.Ring.{power}
+use Rattle.substitution.specs.RuleParts.{edge_count, vertex}
+use Rattle.cyclo_points.specs.declared.order.Order.{Order}
+use Rattle.cyclo_points.specs.declared.point.Point.{Point}
+use Rattle.cyclo_points.specs.Order.{NumberOf, points_of}
+use Rattle.cyclo_points.specs.Point.{point_in, IsOf, IsWithin}
+use Rattle.rule_model.specs.Tiling.{Tiling}
+use Rattle.rule_model.specs.Usable.{origin}
+use Rattle.tile_place.specs.declared.small_point.SmallPoint.{SmallPoint}
+
+-- a number, turned by ζ^k
+abbrev pub turned_by : (o : Order) → ℕ → NumberOf o → NumberOf o
+turned_by o k z = (points_of o).ring.mul (power (points_of o).ring (points_of o).zeta k) z
+
+-- vertex number e of a kind, turned by so many steps
+pub record IsTurned (t : Tiling) (kind steps e : ℕ) (p : Point) : Type 0 where
+  pub place : point_in t.order p ≡ turned_by t.order steps (vertex (points_of t.order) t.rule kind e)
+  pub within : IsWithin (2 ^ 7) p
+  pub in_order : IsOf t.order p
+
+-- a point with short coefficients
+abbrev pub widened : SmallPoint → Point
+widened s = record { c = s.c }
+
+-- places for so many vertices of each kind, so many turns of each, and the points
+pub record TurnedTable : Type 0 where
+  pub sides : ℕ
+  pub turns : ℕ
+  pub points : List Point
+
+-- where vertex number e of a kind stands, turned by so many steps
+abbrev pub place_of : TurnedTable → ℕ → ℕ → ℕ → ℕ
+place_of x kind steps e = (kind * x.turns + steps) * x.sides + e
+
+-- each vertex of each kind stands there, by each turn
+pub record AreTurned (t : Tiling) (x : TurnedTable) : Type 0 where
+  pub hold : (k : ℕ) → k < length t.rule.kinds → edge_count t.rule k ≤ x.sides
+  pub turns : x.turns ≡ (points_of t.order).order
+  pub count : length x.points ≡ length t.rule.kinds * x.turns * x.sides
+  pub each : (k s e : ℕ) → k < length t.rule.kinds → s < x.turns → e < edge_count t.rule k → IsTurned t k s e (get_or x.points (place_of x k s e) origin)

@@ -1,0 +1,43 @@
+//! Comparisons of points by their coefficients.
+ghost use Rattle.std.specs.Prelude.{◌≡◌};
+ghost use Rattle.std.specs.Bool.{Decides};
+ghost use Rattle.std.specs.Cmp.Lexicographic.{slice_cmp};
+ghost use Rattle.std.specs.Ordering.{int_cmp, int_eq, is_gt};
+ghost use Rattle.cyclo_points.specs.declared.order.Order.{Order};
+ghost use Rattle.cyclo_points.specs.Point.{point_in, IsOf};
+
+use cyclo_points::point::Point;
+
+/// Whether two coefficients are the same.
+fn is_equal(a: i64, b: i64) -> bool
+    ensures { result ≡ int_eq a b }
+{
+    a == b
+}
+
+/// Whether two points of one order are the same.
+pub(crate) fn is_same(p: &Point, q: &Point) -> bool
+    ensures { (order : Order) → IsOf order p.now → IsOf order q.now
+        → Decides result (point_in order p.now ≡ point_in order q.now) }
+{
+    is_equal(p.c[0], q.c[0])
+        & is_equal(p.c[1], q.c[1])
+        & is_equal(p.c[2], q.c[2])
+        & is_equal(p.c[3], q.c[3])
+}
+
+/// Whether a point has a greater coefficient than another at the first place where they differ.
+pub(crate) fn is_above(p: &Point, q: &Point) -> bool
+    ensures { result ≡ is_gt (slice_cmp int_cmp p.now.c q.now.c) }
+{
+    if p.c[0] != q.c[0] {
+        return p.c[0] > q.c[0];
+    }
+    if p.c[1] != q.c[1] {
+        return p.c[1] > q.c[1];
+    }
+    if p.c[2] != q.c[2] {
+        return p.c[2] > q.c[2];
+    }
+    p.c[3] > q.c[3]
+}

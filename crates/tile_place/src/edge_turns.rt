@@ -1,0 +1,139 @@
+//! The turns of edges.
+ghost use Rattle.std.specs.Prelude.{◌≡◌, ◌+◌, ◌*◌, ◌<◌, suc, length, get_or, cond, nat_lt, IfOk};
+ghost use Rattle.substitution.specs.RuleParts.{edge_count, next};
+ghost use Rattle.edge_to_edge.specs.EdgeTypes.{edge_vector};
+ghost use Rattle.cyclo_points.specs.Order.{points_of, coefficients};
+ghost use Rattle.rule_model.specs.Tiling.{tiling_of};
+ghost use Rattle.rule_model.specs.Views.{rule_of};
+ghost use Rattle.tile_place.specs.EdgeTurns.{IsGreatest, AreGreatest};
+ghost use Rattle.tile_place.specs.TurnedVertices.{turned_by, AreTurned};
+
+use crate::compared::is_above;
+use crate::turned_vertices::TurnedVertices;
+use cyclo_points::arithmetic::sub;
+use cyclo_points::point::Point;
+use cyclo_points::points_law;
+use rule_model::checked::Checked;
+use std::alloc::Global;
+use std::marker::Model;
+use tile_shape::no_memory::NoMemory;
+
+/// For each edge of each kind the turn by which its vector is greatest. Edges of which one is turned onto the other
+/// have one greatest vector.
+#[derive(Drop)]
+pub(crate) struct EdgeTurns {
+    /// How many places for edges each kind has.
+    sides: u8,
+    /// The turns, by kind and edge.
+    turns: Vec<u8>,
+}
+
+impl Model for EdgeTurns {
+    ghost use Rattle.tile_place.specs.EdgeTurns.{EdgeTable};
+
+    ghost Value = { EdgeTable };
+
+    ghost view = { λ x. record { sides = x.sides; turns = x.turns.items } };
+}
+
+impl EdgeTurns {
+    /// The turns of the edges of a rule, of whose kinds these are the vertices.
+    #[inline(never)]
+    pub(crate) fn new(
+        alloc: Global,
+        checked: &Checked,
+        vertices: &TurnedVertices,
+    ) -> Result<EdgeTurns, NoMemory>
+        requires vertices { AreTurned (tiling_of checked.now) vertices.now }
+        ensures { IfOk result (λ turns. AreGreatest (tiling_of checked.now) turns) }
+    {
+        let sides = vertices.sides();
+        let count = usize::from(checked.uses().kinds()) * usize::from(sides);
+        let mut turns = Vec::with_capacity(alloc, count)?;
+        for place in 0..count {
+            let kind = (place / usize::from(sides)) as u8;
+            let edge = place % usize::from(sides);
+            turns.push(turn_if_edge(checked, vertices, kind, edge))?;
+        }
+        Ok(EdgeTurns { sides, turns })
+    }
+
+    /// The turn of an edge.
+    pub(crate) fn at(&self, kind: u8, edge: u8) -> u8
+        requires exists { kind * self.now.sides + edge < length self.now.turns }
+        ensures { result ≡ get_or self.now.turns (kind * self.now.sides + edge) 0 }
+    {
+        self.turns[usize::from(kind) * usize::from(self.sides) + usize::from(edge)]
+    }
+}
+
+/// The turn by which the vector of an edge is greatest, or 0 where there is no such edge.
+fn turn_if_edge(checked: &Checked, vertices: &TurnedVertices, kind: u8, edge: usize) -> u8
+    requires vertices { AreTurned (tiling_of checked.now) vertices.now }
+    requires exists { kind < length (rule_of checked.now).kinds }
+    ensures { edge < edge_count (rule_of checked.now) kind
+        → IsGreatest checked.now.order (edge_vector (points_of checked.now.order) (rule_of checked.now) kind edge) result }
+{
+    let edges = checked.vertices(kind).len();
+    if edge < edges {
+        greatest_turn(checked, vertices, kind, edge, next_of(edges, edge))
+    } else {
+        0
+    }
+}
+
+/// The turn by which the vector of an edge is greatest, which ends at this vertex.
+fn greatest_turn(
+    checked: &Checked,
+    vertices: &TurnedVertices,
+    kind: u8,
+    edge: usize,
+    end: usize,
+) -> u8
+    requires vertices { AreTurned (tiling_of checked.now) vertices.now }
+    requires exists { kind < length (rule_of checked.now).kinds }
+    requires edge_exists { edge < edge_count (rule_of checked.now) kind }
+    requires end { end ≡ next (rule_of checked.now) kind edge }
+    ensures { IsGreatest checked.now.order (edge_vector (points_of checked.now.order) (rule_of checked.now) kind edge) result }
+{
+    let mut best = 0;
+    for steps in 1..checked.order().n() {
+        let vector = turned_vector(checked, vertices, kind, steps, edge, end);
+        let greatest = turned_vector(checked, vertices, kind, best, edge, end);
+        if is_above(&vector, &greatest) {
+            best = steps;
+        }
+    }
+    best
+}
+
+/// The vector of an edge, which ends at this vertex, turned by so many steps.
+fn turned_vector(
+    checked: &Checked,
+    vertices: &TurnedVertices,
+    kind: u8,
+    steps: u8,
+    edge: usize,
+    end: usize,
+) -> Point
+    requires vertices { AreTurned (tiling_of checked.now) vertices.now }
+    requires exists { kind < length (rule_of checked.now).kinds }
+    requires turn_below { steps < (points_of checked.now.order).order }
+    requires edge_exists { edge < edge_count (rule_of checked.now) kind }
+    requires end { end ≡ next (rule_of checked.now) kind edge }
+    ensures { result.c ≡ coefficients checked.now.order (turned_by checked.now.order steps (edge_vector (points_of checked.now.order) (rule_of checked.now) kind edge)) }
+{
+    points_law(checked.order());
+    let to = vertices.at(kind, steps, end);
+    let from = vertices.at(kind, steps, edge);
+    sub(&to, &from)
+}
+
+/// The vertex at which an edge of so many ends: the next one, and the first behind the last.
+pub(crate) fn next_of(edges: usize, edge: usize) -> usize
+    requires exists { edge < edges }
+    ensures { result ≡ cond (nat_lt (suc edge) edges) (suc edge) 0 }
+{
+    let behind = edge + 1;
+    if behind < edges { behind } else { 0 }
+}

@@ -1,0 +1,32 @@
+//! Corners of tiles.
+ghost use Rattle.std.specs.Prelude.{◌<◌, ◌≤◌, ◌^◌, length};
+ghost use Rattle.substitution.specs.RuleParts.{edge_count};
+ghost use Rattle.cyclo_points.specs.Order.{points_of};
+ghost use Rattle.cyclo_points.specs.Point.{IsOf, IsWithin};
+ghost use Rattle.rule_model.specs.Tiling.{tiling_of};
+ghost use Rattle.rule_model.specs.Views.{rule_of};
+ghost use Rattle.tile_place.specs.Corners.{AreCorners};
+
+use crate::machine::Machine;
+use arrayvec::ArrayVec;
+use cyclo_points::arithmetic::add;
+use cyclo_points::motion::Motion;
+use cyclo_points::point::Point;
+
+impl Machine {
+    /// Puts into `corners` where a motion takes the vertices of a kind.
+    pub fn put_corners(&self, kind: u8, motion: &Motion, corners: &mut ArrayVec<Point, 12>)
+        requires exists { kind < length (rule_of self.now).kinds }
+        requires turn_below { motion.now.turn < (points_of self.now.order).order }
+        requires shift_within { IsWithin (2 ^ 24) motion.now.shift }
+        requires in_order { IsOf self.now.order motion.now.shift }
+        ensures corners { AreCorners (tiling_of self.now) kind motion.now corners.new.items }
+        ensures at_most_12 { length corners.new.items ≤ 12 }
+    {
+        corners.clear();
+        for number in 0..self.checked().vertices(kind).len() {
+            let turned = self.turned_vertex(kind, motion.turn, number);
+            corners.push(add(&turned, &motion.shift));
+        }
+    }
+}

@@ -1,9 +1,0 @@
-use Rattle.std.proofs.Common.{ℕ, ◌<◌, ◌≤◌, IsSome}
-use Rattle.addressing.specs.Tables.{type_of}
-use Rattle.window_cover.proofs.gluings.most_edges.Given as goal
-
-abbrev pub invariant-loop-kind : goal.invariant-loop-kind
-invariant-loop-kind l = record {
-  each : (k e : ℕ) → k < l.kind → IsSome (type_of l.tables k e) → e < l.most;
-  few : l.most ≤ 255;
-}
