@@ -13,10 +13,11 @@ fn has_path<R: Abort + AllocGlobal>(rt: &R, tile: &str, path: &str) -> Result<bo
     Ok(text.as_str().split('\n').any(|line| line == path))
 }
 
-/// A kite: its tip, and three vertices φ from it, 36° apart. X is a length, Y one over sin 36°.
+/// A kite: its tip, and three vertices φ from it, 36° apart. X counts half lengths, Y sines of 36°, both in
+/// thousandths.
 #[test]
 fn kite(rt: HostRuntime) -> Result<(), Fail> {
-    let path = "<path class=\"k0\" d=\"M0 0L1618 0L1309 1618L500 2618Z\"/>";
+    let path = "<path class=\"k0\" d=\"M0 0L3236 0L2618 1618L1000 2618Z\"/>";
     assert!(rt; has_path(&rt, "rule=p2 addr=0:", path)?);
     Ok(())
 }
@@ -24,7 +25,7 @@ fn kite(rt: HostRuntime) -> Result<(), Fail> {
 /// A dart: its inner corner, and three vertices 1 from it, at 0°, 108° and 216°.
 #[test]
 fn dart(rt: HostRuntime) -> Result<(), Fail> {
-    let path = "<path class=\"k2\" d=\"M0 0L1000 0L-310 1618L-810 -1000Z\"/>";
+    let path = "<path class=\"k2\" d=\"M0 0L2000 0L-619 1618L-1619 -1000Z\"/>";
     assert!(rt; has_path(&rt, "rule=p2 addr=2:", path)?);
     Ok(())
 }
@@ -32,7 +33,7 @@ fn dart(rt: HostRuntime) -> Result<(), Fail> {
 /// A thin rhomb: sides of 1 with 36° between them.
 #[test]
 fn thin_rhomb(rt: HostRuntime) -> Result<(), Fail> {
-    let path = "<path class=\"k0\" d=\"M809 1000L0 0L1000 0L1809 1000Z\"/>";
+    let path = "<path class=\"k0\" d=\"M1618 1000L0 0L2000 0L3618 1000Z\"/>";
     assert!(rt; has_path(&rt, "rule=p3 addr=0:", path)?);
     Ok(())
 }
@@ -40,15 +41,15 @@ fn thin_rhomb(rt: HostRuntime) -> Result<(), Fail> {
 /// A thick rhomb: sides of 1 with 108° between them.
 #[test]
 fn thick_rhomb(rt: HostRuntime) -> Result<(), Fail> {
-    let path = "<path class=\"k2\" d=\"M-310 1618L0 0L1000 0L690 1618Z\"/>";
+    let path = "<path class=\"k2\" d=\"M-619 1618L0 0L2000 0L1381 1618Z\"/>";
     assert!(rt; has_path(&rt, "rule=p3 addr=2:", path)?);
     Ok(())
 }
 
-/// A square with a diagonal along the axis; X is a length, Y one over sin 45°.
+/// A square with a diagonal along the axis; X counts half lengths, Y sines of 45°, both in thousandths.
 #[test]
 fn square(rt: HostRuntime) -> Result<(), Fail> {
-    let path = "<path class=\"k1\" d=\"M1414 0L707 1000L0 0L707 -1000Z\"/>";
+    let path = "<path class=\"k1\" d=\"M2828 0L1414 1000L0 0L1414 -1000Z\"/>";
     assert!(rt; has_path(&rt, "rule=ab addr=1:", path)?);
     Ok(())
 }
