@@ -48,6 +48,18 @@ impl Growth {
         }
     }
 
+    /// The next word.
+    pub fn next_word(&mut self) -> u32
+        requires few_taken { self.old.taken < 2 ^ 32 }
+        ensures next { result ≡ word self.old.start self.old.taken }
+        ensures one_word { self.new.taken ≡ self.old.taken + 1 }
+        ensures same_start { self.new.start ≡ self.old.start }
+    {
+        let word = self.generator.next_word();
+        self.taken += 1;
+        word
+    }
+
     /// The digit that the next word chooses on top of a kind: one of the kind's uses.
     pub fn next_digit(&mut self, uses: &Uses, kind: u8) -> Step
         requires exists { kind < length uses.now }
@@ -57,8 +69,7 @@ impl Growth {
         ensures one_word { self.new.taken ≡ self.old.taken + 1 }
         ensures same_start { self.new.start ≡ self.old.start }
     {
-        let word = self.generator.next_word();
-        self.taken += 1;
+        let word = self.next_word();
         let count = u32::from(uses.count(kind));
         uses.get(kind, (word % count) as u16)
     }
