@@ -3,7 +3,6 @@ pub mod Values
 pub mod Start
 pub mod Finer
 pub mod Descent
-pub mod Example
 pub mod Plane
 pub mod SamePoint
 pub mod GreatestTurns

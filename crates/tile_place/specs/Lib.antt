@@ -8,5 +8,4 @@ pub mod Machine
 pub mod Parts
 pub mod Searched
 pub mod Located
-pub mod Triangle
 pub mod Keys

@@ -25,7 +25,5 @@ mod powers;
 mod search;
 mod seen;
 mod small_point;
-#[cfg(test)]
-mod tests;
 mod tile_corners;
 mod turned_vertices;
