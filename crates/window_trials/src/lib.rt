@@ -1,7 +1,8 @@
-//! Trials of the search for the tiles of a window, on the built-in rules.
+//! Trials of the search for the tiles of a window, and of gluing, on the built-in rules.
 //!
 //! `cover` is tried on windows that were worked out by hand, and compared with a list of all tiles of the
-//! frame, each asked whether it meets the window; `Cover` is tried step by step. There is no other code here.
+//! frame, each asked whether it meets the window; `Cover` is tried step by step. `glue` is tried on a half whose other
+//! half isn't given. There is no other code here.
 #![tactic(auto)]
 
 #[cfg(test)]
@@ -14,3 +15,5 @@ mod rows;
 mod steps;
 #[cfg(test)]
 mod touching;
+#[cfg(test)]
+mod whole_tiles;

@@ -1,0 +1,70 @@
+//! A half glued to its other half, which isn't given.
+ghost use Rattle.std.specs.Prelude.{◌≡◌, ◌^◌, All, true};
+ghost use Rattle.cyclo_points.specs.Point.{IsWithin};
+ghost use Rattle.rule_model.specs.Tiling.{tiling_of};
+ghost use Rattle.lazy_walk.specs.Frames.{IsFrameOf};
+ghost use Rattle.lazy_walk.specs.Standing.{Stands};
+
+use crate::given::tile;
+use builtin_rules::builtin::builtin;
+use builtin_rules::name::Name;
+use cyclo_points::arithmetic::refused;
+use half_glue::given_law::given_law;
+use half_glue::glue::glue;
+use half_glue::glue_fault::GlueFault;
+use half_glue::whole_tile::WholeTile;
+use lazy_walk::frame::Frame;
+use plain_tiles::frame_tiles::begun;
+use std::alloc::Global;
+use std::test::Fail;
+use tile_place::machine::Machine;
+use tile_place::placed_tile::PlacedTile;
+
+/// Whether no tile has a refused shift.
+fn none_refused(tiles: &[PlacedTile]) -> bool
+    ensures { result ≡ true → All (λ x. IsWithin (2 ^ 24) x.motion.shift) tiles.now }
+{
+    for number in 0..tiles.len() {
+        let tile = &tiles[number];
+        if refused(&tile.motion.shift) {
+            return false;
+        }
+    }
+    true
+}
+
+/// The whole tiles of tiles of the frame, where these are few and none is refused.
+fn glued(
+    alloc: Global,
+    machine: &Machine,
+    frame: &mut Frame,
+    tiles: &Vec<PlacedTile>,
+) -> Option<Result<Vec<WholeTile>, GlueFault>>
+    requires frame { IsFrameOf (tiling_of machine.now) frame.old }
+    requires stand { All (Stands (tiling_of machine.now) frame.old) tiles.now.items }
+{
+    given_law();
+    if tiles.len() > 200000 || !none_refused(tiles.as_slice()) {
+        return None;
+    }
+    Some(glue(alloc, machine, frame, tiles))
+}
+
+// A half kite in the corner of a supertile, and its mirror image: a kite.
+#[test]
+fn kite(rt: HostRuntime) -> Result<(), Fail> {
+    let alloc = rt.alloc();
+    let machine = Machine::new(alloc, builtin(alloc, Name::P2)?)?;
+    let half = tile(&machine, b"0:2/0", 0, [0; 4]);
+    let whole = WholeTile {
+        first: tile(&machine, b"0:2/0", 0, [0; 4]),
+        second: Some(tile(&machine, b"1:1/0", 1, [0; 4])),
+    };
+    let mut found = None;
+    if let Some(mut frame) = begun(&machine, &half.addr, 42) {
+        let tiles = vec![in alloc; frame.base_tile(&machine)]?;
+        found = glued(alloc, &machine, &mut frame, &tiles);
+    }
+    assert_eq!(rt; found, Some(Ok(vec![in alloc; whole]?)));
+    Ok(())
+}
