@@ -12,3 +12,5 @@ mod failing;
 mod files;
 #[cfg(test)]
 mod rows;
+#[cfg(test)]
+mod scripts;

@@ -4,7 +4,7 @@ use std::alloc::{AllocError, Global};
 use std::test::Fail;
 
 // Words, the exit code that is wanted, the line printed, and the line noted.
-const ROWS: [(&str, u8, &str, &str); 63] = [
+const ROWS: [(&str, u8, &str, &str); 73] = [
     ("place rule=chair addr=0:", 0, "0 0 0,0,0,0", ""),
     ("place rule=chair addr=0:1/0,2/0", 0, "0 1 7,1,0,0", ""),
     ("place addr=0:1/0,2/0 rule=chair", 0, "0 1 7,1,0,0", ""),
@@ -203,6 +203,16 @@ const ROWS: [(&str, u8, &str, &str); 63] = [
         "2 BadWords 3",
     ),
     ("neighbour rule=chair edge= addr=0:", 2, "", "2 BadWords 2"),
+    ("calc", 2, "", "2 BadWords 1"),
+    ("calc rule=-", 2, "", "2 BadWords 1"),
+    ("calc rule=chair addr=0:", 2, "", "2 BadWords 2"),
+    ("calc rule=chair", 0, "", ""),
+    ("drill rule=chair", 2, "", "2 BadWords 2"),
+    ("drill n=1", 2, "", "2 BadWords 2"),
+    ("drill rule=chair n=0", 2, "", "2 BadWords 2"),
+    ("drill rule=chair n=01", 2, "", "2 BadWords 2"),
+    ("drill rule=chair n=201", 2, "", "2 BadWords 2"),
+    ("drill rule=chair n=1 addr=0:", 2, "", "2 BadWords 3"),
 ];
 
 // What stands before an address of kind 0, and then its digits, each so many times.

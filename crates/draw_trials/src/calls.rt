@@ -57,15 +57,26 @@ pub fn check_call<R: Abort + AllocGlobal>(
     Ok(())
 }
 
-// What a line of words draws, or nothing where it is refused.
-pub fn text_of<R: Abort + AllocGlobal>(rt: &R, line: &str) -> Result<String, Fail> {
-    let alloc = rt.alloc();
+// Runs a line of words with layers: the exit code, and what is printed.
+pub fn run_line(
+    alloc: Global,
+    line: &str,
+    layers: Vec<Box<dyn Layer>>,
+    room: usize,
+) -> Result<(u8, String), Fail> {
     let words = words_of(alloc, line)?;
     let mut source = SteadySource::new(Vec::new(alloc));
-    let mut sink = SteadySink::new(alloc, 1_000_000)?;
+    let mut sink = SteadySink::new(alloc, room)?;
     let mut notes = SteadySink::new(alloc, 700)?;
-    let layers = layers_of(alloc, &ALL)?;
     let status = run(alloc, &words, &mut source, &mut sink, &mut notes, layers);
-    assert_eq!(rt; status.code(), 0, "{line}");
-    Ok(str::from_utf8(sink.taken()).unwrap_or("").to_string(alloc)?)
+    let text = str::from_utf8(sink.taken()).unwrap_or("").to_string(alloc)?;
+    Ok((status.code(), text))
+}
+
+// What a line of words draws.
+pub fn text_of<R: Abort + AllocGlobal>(rt: &R, line: &str) -> Result<String, Fail> {
+    let alloc = rt.alloc();
+    let (code, text) = run_line(alloc, line, layers_of(alloc, &ALL)?, 1_000_000)?;
+    assert_eq!(rt; code, 0, "{line}");
+    Ok(text)
 }

@@ -1,16 +1,18 @@
 -- From what a call answers to its clauses.
-use Rattle.std.proofs.Common.{◌≡◌, ◌⊎◌, inl, inr, ℕ, Bool, true, false, List, [], map, Some, Result, Ok, Err, IfOk, IfErr, IsErrOf, is_ok, refl, sym, subst, ◌∙◌}
+use Rattle.std.proofs.Common.{◌≡◌, ◌⊎◌, inl, inr, ℕ, Bool, true, false, List, [], map, Some, Result, Ok, Err, IfOk, IfErr, is_ok, refl, sym, subst, ◌∙◌}
 use Rattle.std.specs.declared.option.Option.{Option}
 use Rattle.layer_api.specs.declared.format.Format.{Format}
 use Rattle.rule_model.specs.Tiling.{Tiling}
+use Rattle.tile_app.specs.declared.script_fault.ScriptFault.TheVariants as script
 use Rattle.tile_app.specs.declared.status.Status.{Status}
-use Rattle.tile_app.specs.declared.status.Status.TheVariants.{Done, BadWords, NoLayer, ReadFault, RuleTooLong, RuleRefused, BadAddress, NoEdge, Outside, DepthLimit, CoordLimit, TooManyTiles, WriteFault, NoMemory}
+use Rattle.tile_app.specs.declared.status.Status.TheVariants.{Done, BadWords, NoLayer, ReadFault, RuleTooLong, RuleRefused, BadAddress, NoEdge, Outside, DepthLimit, CoordLimit, TooManyTiles, BadScript, WriteFault, NoMemory}
+use Rattle.tile_app.specs.declared.rule_fault.RuleFault.{RuleFault}
 use Rattle.tile_app.specs.declared.words.Command.{Command}
-use Rattle.tile_app.specs.declared.words.Command.TheVariants.{Place, Neighbour, Walk, Draw, Check}
+use Rattle.tile_app.specs.declared.words.Command.TheVariants.{Place, Neighbour, Walk, Draw, Check, Calc, Drill}
 use Rattle.tile_app.specs.Answer.{OfCommand, IsPrinted, HasAnswer, Refuses, Prints, CanBeAnswered, IsLimitOf, IsBeyondLimits}
-use Rattle.tile_app.specs.Asked.{OfRequest, IsAsked, WasFileIn}
+use Rattle.tile_app.specs.Asked.{OfRequest, IsAsked, WasFileIn, WasAsked}
 use Rattle.tile_app.specs.Causes.{Causes, IsNoLimit, IsRefused}
-use Rattle.tile_app.specs.Request.{Request, Names, HasRuleFault}
+use Rattle.tile_app.specs.Request.{Request, Names, HasRuleFault, request_of}
 use Rattle.tile_app.specs.Layers.{HaveLayers, lacking, reads_file}
 use Rattle.tile_app.specs.Status.{IsCutShort, IsLimit, IsRefusal, OrNoMemory}
 use Rattle.tile_app.specs.Words.{command_of}
@@ -18,15 +20,17 @@ use Rattle.tile_app.proofs.OneAnswer.{Laws, reading_or_wrong, reading_has, has_o
 use Rattle.tile_app.proofs.Requested.{same_request, same_too_long}
 
 -- what is printed is an answer
-can : (c : Command) (words : List (List ℕ)) (t : Tiling) (text : List ℕ) → IsPrinted c words t text → HasAnswer c words t
-can Place words t text p = record { address = p.address; tile = p.tile; within = p.within }
-can Neighbour words t text p = record { address = p.address; edge = p.edge; gives = p.gives; inside = p.inside }
-can Walk words t text p = record { base = p.base; tile = p.tile; walked = p.walked }
-can Draw words t text p = record { base = p.pictures.base; window = p.window; gives = p.pictures.gives; within = p.pictures.within }
-can Check words t text p = tt
+can : (c : Command) (r : Request) (t : Tiling) (text : List ℕ) → IsPrinted c r t text → HasAnswer c r t
+can Place r t text p = record { address = p.address; tile = p.tile; within = p.within }
+can Neighbour r t text p = record { address = p.address; edge = p.edge; gives = p.gives; inside = p.inside }
+can Walk r t text p = record { base = p.base; tile = p.tile; walked = p.walked }
+can Draw r t text p = record { base = p.pictures.base; window = p.window; gives = p.pictures.gives; within = p.pictures.within }
+can Check r t text p = tt
+can Calc r t text p = (text, p)
+can Drill r t text p = tt
 
 can_be_answered : (r : Request) (text : List ℕ) → Prints r text → CanBeAnswered r
-can_be_answered r text p = record { command = p.command; tiling = p.tiling; asks = p.asks; holds = can p.command r.words p.tiling text p.holds }
+can_be_answered r text p = record { command = p.command; tiling = p.tiling; asks = p.asks; holds = can p.command r p.tiling text p.holds }
 
 err_is : {T : Type 0} (s u : Status) → (let o : Result T Status = Err s in o) ≡ Err u → s ≡ u
 err_is s u e = cc
@@ -58,90 +62,92 @@ done_is_none Place h = h
 done_is_none Neighbour h = h
 done_is_none Walk h = h
 done_is_none Check h = h
+done_is_none Calc h = h
+done_is_none Drill h = h
 
 module _ (words : List (List ℕ)) (handed : List Format) (left rest : Option (List ℕ)) where
   -- ---- from a command to its request
-  module _ (command : Command) (t : Tiling) (right : command_of words ≡ Ok command) (have : HaveLayers words handed) (asked : OfRequest words handed left rest (λ r. Names r t)) where
-    of_command : (P : Command → List (List ℕ) → Tiling → Type 0) → P command words t → OfRequest words handed left rest (OfCommand P)
-    of_command P h = (
-      asked.0,
-      asked.1,
-      record {
-        command = command;
-        tiling = t;
-        asks = record {
-          right = subst (λ ws. command_of ws ≡ Ok command) (sym asked.1.by_words) right;
-          layers = subst (HaveLayers asked.0.words) (sym asked.1.by_layers) (subst (λ ws. HaveLayers ws handed) (sym asked.1.by_words) have);
-          names = asked.2;
-        };
-        holds = subst (λ ws. P command ws t) (sym asked.1.by_words) h;
-      },
-    )
+  module _ (command : Command) (t : Tiling) (right : command_of words ≡ Ok command) (have : HaveLayers words handed) (file : List ℕ)
+      (asked : WasAsked words handed left rest (request_of words handed file)) (names : Names (request_of words handed file) t) where
+    of_command : (P : Command → Request → Tiling → Type 0) → P command (request_of words handed file) t → OfRequest words handed left rest (OfCommand P)
+    of_command P h = (request_of words handed file, asked, record { command = command; tiling = t; asks = record { right = right; layers = have; names = names }; holds = h })
 
-    pub prints_asked : (text : List ℕ) → IsPrinted command words t text → OfRequest words handed left rest (λ r. Prints r text)
-    prints_asked text h = of_command (λ c ws s. IsPrinted c ws s text) h
+    pub prints_asked : (text : List ℕ) → IsPrinted command (request_of words handed file) t text → OfRequest words handed left rest (λ r. Prints r text)
+    prints_asked text h = of_command (λ c q s. IsPrinted c q s text) h
 
-    -- and the source isn't read any more
-    pub no_read_fault : OrNoMemory (Refuses command words t) ReadFault → ⊥
-    no_read_fault h = none command h
-      where
-        none : (c : Command) → Refuses c words t ReadFault → ⊥
-        none Place k = k
-        none Neighbour k = k
-        none Walk k = k
-        none Draw k = k
-        none Check k = k
+    -- no command refuses words, layers or files, and none reads the source any more
+    no_words : (place : ℕ) (c : Command) → Refuses c (request_of words handed file) t (BadWords place) → ⊥
+    no_words place Place k = k
+    no_words place Neighbour k = k
+    no_words place Walk k = k
+    no_words place Draw k = k
+    no_words place Check k = k
+    no_words place Calc k = k
+    no_words place Drill k = k
 
-    pub refused_asked : (s : Status) → OrNoMemory (Refuses command words t) s → IsRefused words handed left rest s
-    refused_asked Done h = of_command (λ c ws u. Refuses c ws u Done) h
-    refused_asked (BadWords place) h = absurd (no_words command h)
-      where
-        no_words : (c : Command) → Refuses c words t (BadWords place) → ⊥
-        no_words Place k = k
-        no_words Neighbour k = k
-        no_words Walk k = k
-        no_words Draw k = k
-        no_words Check k = k
-    refused_asked (NoLayer format) h = absurd (no_layer command h)
-      where
-        no_layer : (c : Command) → Refuses c words t (NoLayer format) → ⊥
-        no_layer Place k = k
-        no_layer Neighbour k = k
-        no_layer Walk k = k
-        no_layer Draw k = k
-        no_layer Check k = k
-    refused_asked ReadFault h = absurd (no_read_fault h)
-    refused_asked RuleTooLong h = absurd (no_file command h)
-      where
-        no_file : (c : Command) → Refuses c words t RuleTooLong → ⊥
-        no_file Place k = k
-        no_file Neighbour k = k
-        no_file Walk k = k
-        no_file Draw k = k
-        no_file Check k = k
-    refused_asked (RuleRefused fault) h = absurd (no_rule command h)
-      where
-        no_rule : (c : Command) → Refuses c words t (RuleRefused fault) → ⊥
-        no_rule Place k = k
-        no_rule Neighbour k = k
-        no_rule Walk k = k
-        no_rule Draw k = k
-        no_rule Check k = k
-    refused_asked NoMemory h = ((command, right), have)
-    refused_asked s h = of_command (λ c ws u. Refuses c ws u s) h
+    no_layer_lacks : (format : Format) (c : Command) → Refuses c (request_of words handed file) t (NoLayer format) → ⊥
+    no_layer_lacks format Place k = k
+    no_layer_lacks format Neighbour k = k
+    no_layer_lacks format Walk k = k
+    no_layer_lacks format Draw k = k
+    no_layer_lacks format Check k = k
+    no_layer_lacks format Calc k = k
+    no_layer_lacks format Drill k = k
 
-    pub refused_if_asked : {T : Type 0} (answer : Result T Status) → IfErr answer (OrNoMemory (Refuses command words t)) → IfErr answer (IsRefused words handed left rest)
-    refused_if_asked (Ok x) h = h
-    refused_if_asked (Err s) h = refused_asked s h
+    no_read_fault : (c : Command) → Refuses c (request_of words handed file) t ReadFault → ⊥
+    no_read_fault Place k = k
+    no_read_fault Neighbour k = k
+    no_read_fault Walk k = k
+    no_read_fault Draw k = k
+    no_read_fault Check k = k
+    no_read_fault Calc k = k
+    no_read_fault Drill k = k
 
-    pub no_read_fault_if_asked : {T : Type 0} (answer : Result T Status) → IfErr answer (OrNoMemory (Refuses command words t)) → IsErrOf answer ReadFault → ⊥
-    no_read_fault_if_asked (Ok x) h e = absurd (cc e)
-    no_read_fault_if_asked (Err s) h e = no_read_fault (subst (OrNoMemory (Refuses command words t)) (err_is s ReadFault e) h)
+    no_long_rule : (c : Command) → Refuses c (request_of words handed file) t RuleTooLong → ⊥
+    no_long_rule Place k = k
+    no_long_rule Neighbour k = k
+    no_long_rule Walk k = k
+    no_long_rule Draw k = k
+    no_long_rule Check k = k
+    no_long_rule Calc k = k
+    no_long_rule Drill k = k
+
+    no_long_script : (c : Command) → Refuses c (request_of words handed file) t (BadScript script.TooLong) → ⊥
+    no_long_script Place k = k
+    no_long_script Neighbour k = k
+    no_long_script Walk k = k
+    no_long_script Draw k = k
+    no_long_script Check k = k
+    no_long_script Calc k = k
+    no_long_script Drill k = k
+
+    no_rule : (fault : RuleFault) (c : Command) → Refuses c (request_of words handed file) t (RuleRefused fault) → ⊥
+    no_rule fault Place k = k
+    no_rule fault Neighbour k = k
+    no_rule fault Walk k = k
+    no_rule fault Draw k = k
+    no_rule fault Check k = k
+    no_rule fault Calc k = k
+    no_rule fault Drill k = k
+
+    pub command_refused : (s : Status) → OrNoMemory (Refuses command (request_of words handed file) t) s → IsRefused words handed left rest s
+    command_refused Done h = of_command (λ c q u. Refuses c q u Done) h
+    command_refused (BadWords place) h = absurd (no_words place command h)
+    command_refused (NoLayer format) h = absurd (no_layer_lacks format command h)
+    command_refused ReadFault h = absurd (no_read_fault command h)
+    command_refused RuleTooLong h = absurd (no_long_rule command h)
+    command_refused (RuleRefused fault) h = absurd (no_rule fault command h)
+    command_refused (BadScript script.TooLong) h = absurd (no_long_script command h)
+    command_refused NoMemory h = ((command, right), have)
+    command_refused s h = of_command (λ c q u. Refuses c q u s) h
+
+    pub reads_no_more : OrNoMemory (Refuses command (request_of words handed file) t) ReadFault → ⊥
+    reads_no_more h = no_read_fault command h
 
   -- ---- from a request that was asked to the one that is asked
   module _ (r : Request) (h : IsAsked words handed left r) where
     -- of a command
-    of_asked : (P : Command → List (List ℕ) → Tiling → Type 0) → OfRequest words handed left rest (OfCommand P) → OfCommand P r
+    of_asked : (P : Command → Request → Tiling → Type 0) → OfRequest words handed left rest (OfCommand P) → OfCommand P r
     of_asked P k = subst (OfCommand P) (same_request words handed left rest r k.0 h k.1 k.2.asks.names.not_too_long) k.2
 
     caused : (s : Status) → IsRefusal s → IsRefused words handed left rest s → IsCutShort s ⊎ Causes r s
@@ -150,14 +156,16 @@ module _ (words : List (List ℕ)) (handed : List Format) (left rest : Option (L
     caused (NoLayer format) i k =
         inr (subst (λ hs. lacking r.words hs ≡ Some format) (k.1.by_layers ∙ sym h.by_layers) (subst (λ ws. lacking ws k.0.handed ≡ Some format) (k.1.by_words ∙ sym h.by_words) k.2))
     caused ReadFault i k = inl tt
-    caused RuleTooLong i k = inr (same_too_long words handed left rest r k.0 h k.1 k.2)
+    caused RuleTooLong i k = inr (same_too_long words handed left rest r k.0 h k.1 k.2.0, subst (λ ws. command_of ws ≡ Ok Calc → ⊥) (k.1.by_words ∙ sym h.by_words) k.2.1)
+    caused (BadScript script.TooLong) i k = inr (same_too_long words handed left rest r k.0 h k.1 k.2.0, subst (λ ws. command_of ws ≡ Ok Calc) (k.1.by_words ∙ sym h.by_words) k.2.1)
+    caused (BadScript (script.Calc fault)) i k = inr (of_asked (λ c q t. Refuses c q t (BadScript (script.Calc fault))) k)
     caused (RuleRefused fault) i k = inr (subst (λ q. HasRuleFault q fault) (same_request words handed left rest r k.1.0 h k.1.1 k.1.2.not_too_long) k.1.2)
-    caused (BadAddress fault) i k = inr (of_asked (λ c ws t. Refuses c ws t (BadAddress fault)) k)
-    caused (NoEdge edge edges) i k = inr (of_asked (λ c ws t. Refuses c ws t (NoEdge edge edges)) k)
-    caused (Outside edge part) i k = inr (of_asked (λ c ws t. Refuses c ws t (Outside edge part)) k)
-    caused (DepthLimit addr edge) i k = inr (of_asked (λ c ws t. Refuses c ws t (DepthLimit addr edge)) k)
-    caused (CoordLimit value) i k = inr (of_asked (λ c ws t. Refuses c ws t (CoordLimit value)) k)
-    caused TooManyTiles i k = inr (of_asked (λ c ws t. Refuses c ws t TooManyTiles) k)
+    caused (BadAddress fault) i k = inr (of_asked (λ c q t. Refuses c q t (BadAddress fault)) k)
+    caused (NoEdge edge edges) i k = inr (of_asked (λ c q t. Refuses c q t (NoEdge edge edges)) k)
+    caused (Outside edge part) i k = inr (of_asked (λ c q t. Refuses c q t (Outside edge part)) k)
+    caused (DepthLimit addr edge) i k = inr (of_asked (λ c q t. Refuses c q t (DepthLimit addr edge)) k)
+    caused (CoordLimit value) i k = inr (of_asked (λ c q t. Refuses c q t (CoordLimit value)) k)
+    caused TooManyTiles i k = inr (of_asked (λ c q t. Refuses c q t TooManyTiles) k)
     caused WriteFault i k = absurd i
     caused NoMemory i k = inl tt
 

@@ -2,16 +2,19 @@
 use Rattle.std.proofs.Common.{◌≡◌, ℕ, Bool, true, false, cond, not, ◌&&◌, ◌||◌, List, [], ◌∷◌, ◌++◌, length, codes, Some, None, Ok, Err, is_some, nat_lt, refl, sym, ap, ap₂, ◌∙◌, subst, append_assoc}
 use Rattle.std.specs.declared.option.Option.{Option}
 use Rattle.std.specs.List.{list_all, list_any, before_first, after_first, position_or_len}
-use Rattle.std.specs.Option.{option_map_or}
+use Rattle.std.specs.Option.{option_map, option_map_or}
 use Rattle.std.specs.Str.{bytes_eq}
 use Rattle.std.proofs.lemmas.Slice.Eq.{bytes_eq-Decides}
 use Rattle.tile_app.specs.declared.words.Command.{Command}
-use Rattle.tile_app.specs.declared.words.Command.TheVariants.{Place, Neighbour, Walk, Draw, Check}
+use Rattle.tile_app.specs.declared.words.Command.TheVariants.{Place, Neighbour, Walk, Draw, Check, Calc, Drill}
 use Rattle.tile_app.specs.declared.words.Key.{Key}
-use Rattle.tile_app.specs.declared.words.Key.TheVariants.{Rule, Addr, Edge, Seed, Grow, Path, At, Half, Layers, Glue}
+use Rattle.tile_app.specs.declared.words.Key.TheVariants.{Rule, Addr, Edge, Seed, Grow, Path, At, Half, Layers, Glue, Count}
 use Rattle.tile_shape.specs.Decimal.{number_up_to}
+use Rattle.builtin_rules.specs.declared.name.Name.{Name}
+use Rattle.tile_app.specs.declared.rule_choice.RuleChoice.TheVariants.{Builtin, File}
 use Rattle.tile_app.specs.Choices.{choice_in}
-use Rattle.tile_app.specs.Commands.{key_text, command_named, keys_of, required_keys, has_form, IsAboutTile}
+use Rattle.tile_app.specs.Commands.{key_text, command_named, keys_of, required_keys, is_rule_for, has_form, IsAboutTile}
+use Rattle.tile_app.specs.Tilings.{name_in}
 use Rattle.tile_app.specs.Words.{is_equals, value_in, value_given, is_right, wrong_place, command_of}
 use Rattle.std.proofs.lemmas.Bool.{and_parts as both_true}
 use Rattle.std.proofs.lemmas.List.{append-nil as append_nil}
@@ -49,7 +52,7 @@ key_of_text text =
     cond (bytes_eq text (codes "rule")) (Some Rule) (cond (bytes_eq text (codes "addr")) (Some Addr) (cond (bytes_eq text (codes "edge")) (Some Edge)
     (cond (bytes_eq text (codes "seed")) (Some Seed) (cond (bytes_eq text (codes "grow")) (Some Grow) (cond (bytes_eq text (codes "path")) (Some Path)
     (cond (bytes_eq text (codes "at")) (Some At) (cond (bytes_eq text (codes "half")) (Some Half) (cond (bytes_eq text (codes "layers")) (Some Layers)
-    (cond (bytes_eq text (codes "glue")) (Some Glue) None)))))))))
+    (cond (bytes_eq text (codes "glue")) (Some Glue) (cond (bytes_eq text (codes "n")) (Some Count) None))))))))))
 
 key_text-tells : (j k : Key) → key_text j ≡ key_text k → j ≡ k
 unfolding key_of_text
@@ -66,13 +69,14 @@ key_text-tells j k e = some_is j k (sym (named j) ∙ ap key_of_text e ∙ named
     named Half = refl
     named Layers = refl
     named Glue = refl
+    named Count = refl
 
     some_is : (j k : Key) → Some j ≡ Some k → j ≡ k
     some_is j k e = cc
 
 -- ---- the values that are given have the forms of their keys
-abbrev pub HaveForms : List (List ℕ) → Type 0
-HaveForms words = (key : Key) (value : List ℕ) → value_given key words ≡ Some value → has_form key value ≡ true
+abbrev pub HaveForms : Command → List (List ℕ) → Type 0
+HaveForms command words = (key : Key) (value : List ℕ) → value_given key words ≡ Some value → has_form command key value ≡ true
 
 some_key : (test : Key → Bool) (keys : List Key) → list_any test keys ≡ true → (k : Key) × (test k ≡ true)
 some_key test [] e = absurd (cc e)
@@ -83,69 +87,56 @@ some_key test (k ∷ ks) e = at_test (test k) refl e (some_key test ks)
     at_test false f g rest = rest g
 
 -- the word that makes the test true gives the key a value of its form
-form_of_value : (given : Bool) (key : Key) (o : Option (List ℕ)) → option_map_or (λ v. not given && has_form key v) o false ≡ true → (v : List ℕ) × (o ≡ Some v) × (has_form key v ≡ true)
-form_of_value given key None e = absurd (cc e)
-form_of_value given key (Some v) e = (v, refl, (both_true _ _ e).1)
+form_of_value : (command : Command) (given : Bool) (key : Key) (o : Option (List ℕ)) → option_map_or (λ v. not given && has_form command key v) o false ≡ true → (v : List ℕ) × (o ≡ Some v) × (has_form command key v ≡ true)
+form_of_value command given key None e = absurd (cc e)
+form_of_value command given key (Some v) e = (v, refl, (both_true _ _ e).1)
 
-have_forms : (command : Command) (before : List (List ℕ)) (word : List ℕ) → HaveForms before → is_right command before word ≡ true → HaveForms (before ++ word ∷ [])
+have_forms : (command : Command) (before : List (List ℕ)) (word : List ℕ) → HaveForms command before → is_right command before word ≡ true → HaveForms command (before ++ word ∷ [])
 have_forms command before word h r key value e = at_value (value_given key before) refl (sym (value_given-append key before word) ∙ e)
   where
     some_value_is : (u v : List ℕ) → Some u ≡ Some v → u ≡ v
     some_value_is u v f = cc
 
-    from_word : (k : Key) (v : List ℕ) → value_in k word ≡ Some v → has_form k v ≡ true → value_in key word ≡ Some value → has_form key value ≡ true
+    from_word : (k : Key) (v : List ℕ) → value_in k word ≡ Some v → has_form command k v ≡ true → value_in key word ≡ Some value → has_form command key value ≡ true
     from_word k v f g i =
         let same : k ≡ key = key_text-tells k key (sym (value_name k word v f) ∙ value_name key word value i) in
         let at_key : value_in key word ≡ Some v = subst (λ j. value_in j word ≡ Some v) same f in
-        ap₂ has_form (sym same) (some_value_is value v (sym i ∙ at_key)) ∙ g
+        ap₂ (has_form command) (sym same) (some_value_is value v (sym i ∙ at_key)) ∙ g
 
-    at_value : (o : Option (List ℕ)) → value_given key before ≡ o → option_map_or Some o (value_in key word) ≡ Some value → has_form key value ≡ true
+    at_value : (o : Option (List ℕ)) → value_given key before ≡ o → option_map_or Some o (value_in key word) ≡ Some value → has_form command key value ≡ true
     at_value (Some v) f g = h key value (f ∙ g)
     at_value None f g =
-        let k = some_key (λ j. option_map_or (λ v. not (is_some (value_given j before)) && has_form j v) (value_in j word) false) (keys_of command) r in
-        let v = form_of_value (is_some (value_given k.0 before)) k.0 (value_in k.0 word) k.1 in
+        let k = some_key (λ j. option_map_or (λ v. not (is_some (value_given j before)) && has_form command j v) (value_in j word) false) (keys_of command) r in
+        let v = form_of_value command (is_some (value_given k.0 before)) k.0 (value_in k.0 word) k.1 in
         from_word k.0 v.0 v.1 v.2 g
 
 -- ---- right words to their end
 pub record Gives (command : Command) (words : List (List ℕ)) : Type 0 where
   pub required : list_all (λ key. is_some (value_given key words)) (required_keys command) ≡ true
-  pub forms : HaveForms words
+  pub forms : HaveForms command words
 
-gives : (command : Command) (before after : List (List ℕ)) → HaveForms before → wrong_place command before after ≡ None → Gives command (before ++ after)
+gives : (command : Command) (before after : List (List ℕ)) → HaveForms command before → wrong_place command before after ≡ None → Gives command (before ++ after)
 gives command before [] h e = subst (Gives command) (sym (append_nil before)) (record { required = (test_of_none _ _ _ e).0; forms = h })
 gives command before (word ∷ after) h e =
     subst (Gives command) (append_assoc before (word ∷ []) after)
     (gives command (before ++ word ∷ []) after (have_forms command before word h (test_of_none _ _ _ e).0) (test_of_none _ _ _ e).1)
 
 -- a command's name gives nothing
-name_gives_nothing : (name : List ℕ) (command : Command) → command_named name ≡ Some command → HaveForms (name ∷ [])
-name_gives_nothing name command e key value g = at_place (bytes_eq name (codes "place")) refl e
+name_gives_nothing : (name : List ℕ) (command : Command) → command_named name ≡ Some command → HaveForms command (name ∷ [])
+name_gives_nothing name command e key value g =
+    at (codes "place") Place _ refl (at (codes "neighbour") Neighbour _ refl (at (codes "walk") Walk _ refl (at (codes "draw") Draw _ refl
+    (at (codes "check") Check _ refl (at (codes "calc") Calc _ refl (at (codes "drill") Drill None refl (λ h. absurd (cc h)))))))) e
   where
-    nothing_in : (w : List ℕ) → name ≡ w → value_given key (w ∷ []) ≡ None → has_form key value ≡ true
+    nothing_in : (w : List ℕ) → name ≡ w → value_given key (w ∷ []) ≡ None → has_form command key value ≡ true
     nothing_in w f h = absurd (cc (sym (subst (λ v. value_given key (v ∷ []) ≡ Some value) f g) ∙ h))
 
-    at_check : (b : Bool) → bytes_eq name (codes "check") ≡ b → cond b (Some Check) None ≡ Some command → has_form key value ≡ true
-    at_check true f h = nothing_in (codes "check") ((bytes_eq-Decides _ _).0 f) refl
-    at_check false f h = absurd (cc h)
-
-    at_draw : (b : Bool) → bytes_eq name (codes "draw") ≡ b → cond b (Some Draw) (cond (bytes_eq name (codes "check")) (Some Check) None) ≡ Some command → has_form key value ≡ true
-    at_draw true f h = nothing_in (codes "draw") ((bytes_eq-Decides _ _).0 f) refl
-    at_draw false f h = at_check (bytes_eq name (codes "check")) refl h
-
-    at_walk : (b : Bool) → bytes_eq name (codes "walk") ≡ b → cond b (Some Walk) (cond (bytes_eq name (codes "draw")) (Some Draw) (cond (bytes_eq name (codes "check")) (Some Check) None)) ≡ Some command → has_form key value ≡ true
-    at_walk true f h = nothing_in (codes "walk") ((bytes_eq-Decides _ _).0 f) refl
-    at_walk false f h = at_draw (bytes_eq name (codes "draw")) refl h
-
-    at_neighbour : (b : Bool) → bytes_eq name (codes "neighbour") ≡ b
-        → cond b (Some Neighbour) (cond (bytes_eq name (codes "walk")) (Some Walk) (cond (bytes_eq name (codes "draw")) (Some Draw) (cond (bytes_eq name (codes "check")) (Some Check) None))) ≡ Some command → has_form key value ≡ true
-    at_neighbour true f h = nothing_in (codes "neighbour") ((bytes_eq-Decides _ _).0 f) refl
-    at_neighbour false f h = at_walk (bytes_eq name (codes "walk")) refl h
-
-    at_place : (b : Bool) → bytes_eq name (codes "place") ≡ b
-        → cond b (Some Place) (cond (bytes_eq name (codes "neighbour")) (Some Neighbour) (cond (bytes_eq name (codes "walk")) (Some Walk) (cond (bytes_eq name (codes "draw")) (Some Draw) (cond (bytes_eq name (codes "check")) (Some Check) None)))) ≡ Some command
-        → has_form key value ≡ true
-    at_place true f h = nothing_in (codes "place") ((bytes_eq-Decides _ _).0 f) refl
-    at_place false f h = at_neighbour (bytes_eq name (codes "neighbour")) refl h
+    at : (w : List ℕ) (c : Command) (rest : Option Command) → value_given key (w ∷ []) ≡ None → (rest ≡ Some command → has_form command key value ≡ true)
+        → cond (bytes_eq name w) (Some c) rest ≡ Some command → has_form command key value ≡ true
+    at w c rest none go h = of (bytes_eq name w) refl h
+      where
+        of : (b : Bool) → bytes_eq name w ≡ b → cond b (Some c) rest ≡ Some command → has_form command key value ≡ true
+        of true f k = nothing_in w ((bytes_eq-Decides _ _).0 f) none
+        of false f k = go k
 
 pub Gives-right : (command : Command) (words : List (List ℕ)) → command_of words ≡ Ok command → Gives command words
 Gives-right command [] e = absurd (cc e)
@@ -164,24 +155,49 @@ some_value : (o : Option (List ℕ)) → is_some o ≡ true → (v : List ℕ) �
 some_value None e = absurd (cc e)
 some_value (Some v) e = (v, refl)
 
+-- a rule for a command is a choice
+named_is_choice : (text : List ℕ) → is_some (name_in text) ≡ true → is_some (choice_in text) ≡ true
+named_is_choice text e = of (bytes_eq text (codes "-"))
+  where
+    mapped : (o : Option Name) → is_some o ≡ true → is_some (option_map Builtin o) ≡ true
+    mapped None f = absurd (cc f)
+    mapped (Some name) f = refl
+
+    of : (b : Bool) → is_some (cond b (Some File) (option_map Builtin (name_in text))) ≡ true
+    of true = refl
+    of false = mapped (name_in text) e
+
+rule_is_choice : (command : Command) (text : List ℕ) → is_rule_for command text ≡ true → is_some (choice_in text) ≡ true
+rule_is_choice Place text e = e
+rule_is_choice Neighbour text e = e
+rule_is_choice Walk text e = e
+rule_is_choice Draw text e = e
+rule_is_choice Check text e = e
+rule_is_choice Calc text e = named_is_choice text e
+rule_is_choice Drill text e = e
+
 -- what right words give: a rule
 pub record GivesRule (words : List (List ℕ)) : Type 0 where
   pub rule : List ℕ
   pub is_rule : value_given Rule words ≡ Some rule
-  pub has_form : has_form Rule rule ≡ true
+  pub is_choice : is_some (choice_in rule) ≡ true
 
-rule_given : (words : List (List ℕ)) → HaveForms words → is_some (value_given Rule words) ≡ true → GivesRule words
-rule_given words h e = let rule = some_value (value_given Rule words) e in record { rule = rule.0; is_rule = rule.1; has_form = h Rule rule.0 rule.1 }
+rule_given : (command : Command) (words : List (List ℕ)) → HaveForms command words → is_some (value_given Rule words) ≡ true → GivesRule words
+rule_given command words h e =
+    let rule = some_value (value_given Rule words) e in
+    record { rule = rule.0; is_rule = rule.1; is_choice = rule_is_choice command rule.0 (h Rule rule.0 rule.1) }
 
 pub GivesRule-right : (command : Command) (words : List (List ℕ)) → command_of words ≡ Ok command → GivesRule words
-GivesRule-right Place words e = let h = Gives-right Place words e in rule_given words h.forms (both_true _ _ h.required).0
-GivesRule-right Neighbour words e = let h = Gives-right Neighbour words e in rule_given words h.forms (both_true _ _ h.required).0
-GivesRule-right Walk words e = let h = Gives-right Walk words e in rule_given words h.forms (both_true _ _ h.required).0
-GivesRule-right Draw words e = let h = Gives-right Draw words e in rule_given words h.forms (both_true _ _ h.required).0
-GivesRule-right Check words e = let h = Gives-right Check words e in rule_given words h.forms (both_true _ _ h.required).0
+GivesRule-right Place words e = let h = Gives-right Place words e in rule_given Place words h.forms (both_true _ _ h.required).0
+GivesRule-right Neighbour words e = let h = Gives-right Neighbour words e in rule_given Neighbour words h.forms (both_true _ _ h.required).0
+GivesRule-right Walk words e = let h = Gives-right Walk words e in rule_given Walk words h.forms (both_true _ _ h.required).0
+GivesRule-right Draw words e = let h = Gives-right Draw words e in rule_given Draw words h.forms (both_true _ _ h.required).0
+GivesRule-right Check words e = let h = Gives-right Check words e in rule_given Check words h.forms (both_true _ _ h.required).0
+GivesRule-right Calc words e = let h = Gives-right Calc words e in rule_given Calc words h.forms (both_true _ _ h.required).0
+GivesRule-right Drill words e = let h = Gives-right Drill words e in rule_given Drill words h.forms (both_true _ _ h.required).0
 
-pub rule_is_choice : (words : List (List ℕ)) (text : List ℕ) → GivesRule words → value_given Rule words ≡ Some text → is_some (choice_in text) ≡ true
-rule_is_choice words text h e = let same : h.rule ≡ text = some_is h.rule text (sym h.is_rule ∙ e) in subst (λ t. is_some (choice_in t) ≡ true) same h.has_form
+pub given_is_choice : (words : List (List ℕ)) (text : List ℕ) → GivesRule words → value_given Rule words ≡ Some text → is_some (choice_in text) ≡ true
+given_is_choice words text h e = let same : h.rule ≡ text = some_is h.rule text (sym h.is_rule ∙ e) in subst (λ t. is_some (choice_in t) ≡ true) same h.is_choice
   where
     some_is : (x y : List ℕ) → Some x ≡ Some y → x ≡ y
     some_is x y f = cc
@@ -201,6 +217,8 @@ GivesText-right Draw words e about =
     let h = Gives-right Draw words e in
     some_value (value_given Addr words) (both_true _ _ (both_true _ _ h.required).1).0
 GivesText-right Check words e about = absurd about
+GivesText-right Calc words e about = absurd about
+GivesText-right Drill words e about = absurd about
 
 -- and for `neighbour` the number of an edge
 pub record GivesEdge (words : List (List ℕ)) : Type 0 where
@@ -221,14 +239,14 @@ edge_is_number words text h e = let same : h.text ≡ text = some_is h.text text
     some_is : (x y : List ℕ) → Some x ≡ Some y → x ≡ y
     some_is x y f = cc
 
--- for `draw` a centre and half extents
-pub record GivesValue (words : List (List ℕ)) (key : Key) : Type 0 where
+-- a value of a key, of the key's form; for `draw` a centre and half extents
+pub record GivesValue (command : Command) (words : List (List ℕ)) (key : Key) : Type 0 where
   pub text : List ℕ
   pub is_text : value_given key words ≡ Some text
-  pub right : has_form key text ≡ true
+  pub right : has_form command key text ≡ true
 
-value_right : (words : List (List ℕ)) (key : Key) → HaveForms words → is_some (value_given key words) ≡ true → GivesValue words key
-value_right words key h e = let text = some_value (value_given key words) e in record { text = text.0; is_text = text.1; right = h key text.0 text.1 }
+pub value_right : (command : Command) (words : List (List ℕ)) (key : Key) → HaveForms command words → is_some (value_given key words) ≡ true → GivesValue command words key
+value_right command words key h e = let text = some_value (value_given key words) e in record { text = text.0; is_text = text.1; right = h key text.0 text.1 }
 
 module _ (words : List (List ℕ)) (e : command_of words ≡ Ok Draw) where
   abbrev given : Key → Bool
@@ -243,14 +261,14 @@ module _ (words : List (List ℕ)) (e : command_of words ≡ Ok Draw) where
   behind_at : given Half && (given Layers && true) ≡ true
   behind_at = (both_true (given At) (given Half && (given Layers && true)) behind_addr).1
 
-  pub at-right : GivesValue words At
-  at-right = value_right words At (Gives-right Draw words e).forms (both_true (given At) (given Half && (given Layers && true)) behind_addr).0
+  pub at-right : GivesValue Draw words At
+  at-right = value_right Draw words At (Gives-right Draw words e).forms (both_true (given At) (given Half && (given Layers && true)) behind_addr).0
 
-  pub half-right : GivesValue words Half
-  half-right = value_right words Half (Gives-right Draw words e).forms (both_true (given Half) (given Layers && true) behind_at).0
+  pub half-right : GivesValue Draw words Half
+  half-right = value_right Draw words Half (Gives-right Draw words e).forms (both_true (given Half) (given Layers && true) behind_at).0
 
-pub form_is_right : (words : List (List ℕ)) (key : Key) (text : List ℕ) → GivesValue words key → value_given key words ≡ Some text → has_form key text ≡ true
-form_is_right words key text h e = let same : h.text ≡ text = some_is h.text text (sym h.is_text ∙ e) in subst (λ t. has_form key t ≡ true) same h.right
+pub form_is_right : (command : Command) (words : List (List ℕ)) (key : Key) (text : List ℕ) → GivesValue command words key → value_given key words ≡ Some text → has_form command key text ≡ true
+form_is_right command words key text h e = let same : h.text ≡ text = some_is h.text text (sym h.is_text ∙ e) in subst (λ t. has_form command key t ≡ true) same h.right
   where
     some_is : (x y : List ℕ) → Some x ≡ Some y → x ≡ y
     some_is x y f = cc

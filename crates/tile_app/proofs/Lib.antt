@@ -20,6 +20,8 @@ mod OnePath
 mod OneAnswer
 pub mod Answered
 pub mod Given
+pub mod Counted
+pub mod Drilled
 pub mod Asking
 pub mod Edges
 pub mod Lines

@@ -2,6 +2,8 @@
 use Rattle.std.proofs.Common.{◌≡◌, ◌⊎◌, inl, inr, ℕ, ◌<◌, ◌≤◌, true, List, length, Some, None, Result, Ok, Err, is_ok, is_none, refl, sym, ap, ap₂, ◌∙◌, subst, ℤ, arith}
 use Rattle.std.specs.declared.option.Option.{Option}
 use Rattle.addressing.specs.Address.{Address, Fits}
+use Rattle.addr_calc.specs.declared.calc_fault.CalcFault.{CalcFault}
+use Rattle.addr_calc.specs.Script.{Outcome as ScriptOutcome, IsAnswer}
 use Rattle.cyclo_points.specs.declared.point.Point.{Point}
 use Rattle.cyclo_points.specs.Order.{coefficients}
 use Rattle.layer_api.specs.declared.format.Format.{Format}
@@ -17,10 +19,11 @@ use Rattle.tile_shape.specs.Refused.{IsFaultOf}
 use Rattle.tile_shape.specs.Text.{HasShortNumbers, address_text}
 use Rattle.tile_shape.specs.Usable.{AreUsable}
 use Rattle.tile_app.specs.declared.rule_fault.RuleFault.{RuleFault}
+use Rattle.tile_app.specs.declared.script_fault.ScriptFault.TheVariants as script
 use Rattle.tile_app.specs.declared.status.Status.{Status}
-use Rattle.tile_app.specs.declared.status.Status.TheVariants.{Done, BadWords, NoLayer, RuleTooLong, RuleRefused, BadAddress, NoEdge, Outside, DepthLimit, CoordLimit, TooManyTiles}
+use Rattle.tile_app.specs.declared.status.Status.TheVariants.{Done, BadWords, NoLayer, RuleTooLong, RuleRefused, BadAddress, NoEdge, Outside, DepthLimit, CoordLimit, TooManyTiles, BadScript}
 use Rattle.tile_app.specs.declared.words.Command.{Command}
-use Rattle.tile_app.specs.declared.words.Command.TheVariants.{Place, Neighbour, Walk, Draw, Check}
+use Rattle.tile_app.specs.declared.words.Command.TheVariants.{Place, Neighbour, Walk, Draw, Check, Calc, Drill}
 use Rattle.tile_app.specs.Answer.{OfCommand, HasAnswer, Refuses, CanBeAnswered, IsLimitOf, IsBeyond, IsBeyondLimits}
 use Rattle.tile_app.specs.Causes.{Causes}
 use Rattle.tile_app.specs.Neighbour.{GivesEdge, CanBeCrossed, HasNoEdge, LiesOutside}
@@ -32,7 +35,7 @@ use Rattle.tile_shape.specs.Views.{address_of}
 use Rattle.tile_app.proofs.OnePath.{walked_or_halted, halts_once, stopped_halts, lacking_halts, edge_is_below}
 use Rattle.tile_app.proofs.SameAddress.{same_program_address}
 use Rattle.tile_app.specs.Place.{CanBePlaced, PassesLimit}
-use Rattle.tile_app.specs.Request.{Request, Asks, tiling_asked}
+use Rattle.tile_app.specs.Request.{Request, Asks, tiling_asked, HasTooLongFile, HasRuleFault}
 use Rattle.tile_app.specs.Tile.{GivesTile, GivesNoTile}
 use Rattle.tile_app.specs.Draw.{CanDraw, PassesLimits, EndsDrawing, EndsGluing, DrawRefuses}
 use Rattle.tile_app.specs.Glue.{IsWithinTheirLimits}
@@ -48,21 +51,28 @@ use Rattle.std.proofs.lemmas.Bool.{and_parts as both_true}
 abbrev pub FitsAreShort : Type 0
 FitsAreShort = (children : List (List ℕ)) (a : Address) → AreUsable children → Fits children a → HasShortNumbers a
 
+abbrev pub OneOutcome : Type 0
+OneOutcome = (t : Tiling) (script : List ℕ) (one other : ScriptOutcome) → AreUsable (children t) → IsAnswer t script one → IsAnswer t script other → one ≡ other
+
 pub record Laws : Type 0 where
   pub one_text : OneText
   pub short : FitsAreShort
   pub usable : AcceptedAreUsable
+  pub one_outcome : OneOutcome
 
 -- a point is its coefficients
 same_point : (p q : Point) → p.c ≡ q.c → p ≡ q
 same_point p q e = ap (λ (c : List ℤ). (let s : Point = record { c = c } in s)) e
 
 -- a command has something to print, where all is done, or the cause of a refusal
-abbrev IsFor : List (List ℕ) → Tiling → Command → Status → Type 0
-IsFor words t c Done = HasAnswer c words t
-IsFor words t c status = Refuses c words t status
+abbrev IsFor : Request → Tiling → Command → Status → Type 0
+IsFor r t c Done = HasAnswer c r t
+IsFor r t c status = Refuses c r t status
 
-module _ (laws : Laws) (words : List (List ℕ)) (t : Tiling) (usable : AreUsable (children t)) where
+module _ (laws : Laws) (r : Request) (t : Tiling) (usable : AreUsable (children t)) where
+  abbrev words : List (List ℕ)
+  words = r.words
+
   -- ---- one tile or one fault is given
   same_tile : (a b : Address) → GivesTile words t a → GivesTile words t b → a ≡ b
   same_tile a b p q =
@@ -127,7 +137,7 @@ module _ (laws : Laws) (words : List (List ℕ)) (t : Tiling) (usable : AreUsabl
       ap₂ Outside (sym one.0) (sym one.1)
 
   -- ---- a command has one answer
-  place_once : (s u : Status) → IsFor words t Place s → IsFor words t Place u → s ≡ u
+  place_once : (s u : Status) → IsFor r t Place s → IsFor r t Place u → s ≡ u
   place_once Done Done h k = refl
   place_once Done (BadAddress f) h k = absurd (tile_or_none h.address f h.tile k)
   place_once Done (CoordLimit v) h k = absurd (within_or_beyond v h k)
@@ -142,7 +152,7 @@ module _ (laws : Laws) (words : List (List ℕ)) (t : Tiling) (usable : AreUsabl
   place_once (CoordLimit v) u h k = absurd k
   place_once s u h k = absurd h
 
-  neighbour_once : (s u : Status) → IsFor words t Neighbour s → IsFor words t Neighbour u → s ≡ u
+  neighbour_once : (s u : Status) → IsFor r t Neighbour s → IsFor r t Neighbour u → s ≡ u
   neighbour_once Done Done h k = refl
   neighbour_once Done (BadAddress f) h k = absurd (tile_or_none h.address f h.gives.tile k)
   neighbour_once Done (NoEdge e es) h k = absurd (edge_or_none h.address h.edge e es h.gives h.inside.exists k)
@@ -203,7 +213,7 @@ module _ (laws : Laws) (words : List (List ℕ)) (t : Tiling) (usable : AreUsabl
       let beyond : es ≤ e = x.beyond in
       omega (arith, below, count, beyond, one.1)
 
-  walk_once : (s u : Status) → IsFor words t Walk s → IsFor words t Walk u → s ≡ u
+  walk_once : (s u : Status) → IsFor r t Walk s → IsFor r t Walk u → s ≡ u
   walk_once Done Done h k = refl
   walk_once Done (BadAddress f) h k = absurd (tile_or_none h.base f h.tile k)
   walk_once Done (NoEdge e es) h k = absurd (walked_or_lacking e es h k)
@@ -265,7 +275,7 @@ module _ (laws : Laws) (words : List (List ℕ)) (t : Tiling) (usable : AreUsabl
   abbrev AreAlike : Command → Status → Status → Type 0
   AreAlike c s u = (s ≡ u) ⊎ (IsLimitOf c s × IsLimitOf c u)
 
-  draw_once : (s u : Status) → IsFor words t Draw s → IsFor words t Draw u → AreAlike Draw s u
+  draw_once : (s u : Status) → IsFor r t Draw s → IsFor r t Draw u → AreAlike Draw s u
   draw_once Done Done h k = inl refl
   draw_once Done (BadAddress f) h k = absurd (tile_or_none h.base f h.gives.tile k)
   draw_once Done (DepthLimit a e) h k = absurd (within_or_beyond_limits h (depth_passes a e k))
@@ -299,7 +309,7 @@ module _ (laws : Laws) (words : List (List ℕ)) (t : Tiling) (usable : AreUsabl
   draw_once s u h k = absurd h
 
   -- beyond the limits one of them comes
-  draw_beyond : (s : Status) → IsFor words t Draw s → PassesLimits words t → IsLimit s
+  draw_beyond : (s : Status) → IsFor r t Draw s → PassesLimits words t → IsLimit s
   draw_beyond Done h k = absurd (within_or_beyond_limits h k)
   draw_beyond (BadAddress f) h k = absurd (passes_or_none f k h)
   draw_beyond (DepthLimit a e) h k = tt
@@ -307,32 +317,58 @@ module _ (laws : Laws) (words : List (List ℕ)) (t : Tiling) (usable : AreUsabl
   draw_beyond TooManyTiles h k = tt
   draw_beyond s h k = absurd h
 
-  check_once : (s u : Status) → IsFor words t Check s → IsFor words t Check u → s ≡ u
+  check_once : (s u : Status) → IsFor r t Check s → IsFor r t Check u → s ≡ u
   check_once Done Done h k = refl
   check_once Done u h k = absurd k
   check_once s u h k = absurd h
 
-  command_once : (c : Command) (s u : Status) → IsFor words t c s → IsFor words t c u → AreAlike c s u
+  -- `calc`: a script has one outcome
+  calc_or_refused : (fault : CalcFault) → IsFor r t Calc Done → IsFor r t Calc (BadScript (script.Calc fault)) → ⊥
+  calc_or_refused fault h k = let e = laws.one_outcome t r.file (Ok h.0) (Err fault) usable h.1 k in absurd (cc e)
+
+  err_is : (f g : CalcFault) → (let o : ScriptOutcome = Err f in o) ≡ Err g → f ≡ g
+  err_is f g e = cc
+
+  calc_once : (s u : Status) → IsFor r t Calc s → IsFor r t Calc u → s ≡ u
+  calc_once Done Done h k = refl
+  calc_once Done (BadScript (script.Calc f)) h k = absurd (calc_or_refused f h k)
+  calc_once Done u h k = absurd k
+  calc_once (BadScript (script.Calc f)) Done h k = absurd (calc_or_refused f k h)
+  calc_once (BadScript (script.Calc f)) (BadScript (script.Calc g)) h k = ap (λ x. BadScript (script.Calc x)) (err_is f g (laws.one_outcome t r.file (Err f) (Err g) usable h k))
+  calc_once (BadScript (script.Calc f)) u h k = absurd k
+  calc_once s u h k = absurd h
+
+  drill_once : (s u : Status) → IsFor r t Drill s → IsFor r t Drill u → s ≡ u
+  drill_once Done Done h k = refl
+  drill_once Done u h k = absurd k
+  drill_once s u h k = absurd h
+
+  command_once : (c : Command) (s u : Status) → IsFor r t c s → IsFor r t c u → AreAlike c s u
   command_once Place s u h k = inl (place_once s u h k)
   command_once Neighbour s u h k = inl (neighbour_once s u h k)
   command_once Walk s u h k = inl (walk_once s u h k)
   command_once Draw s u h k = draw_once s u h k
   command_once Check s u h k = inl (check_once s u h k)
+  command_once Calc s u h k = inl (calc_once s u h k)
+  command_once Drill s u h k = inl (drill_once s u h k)
 
-  command_beyond : (c : Command) (s : Status) → IsFor words t c s → IsBeyond c words t → IsLimit s
+  command_beyond : (c : Command) (s : Status) → IsFor r t c s → IsBeyond c r t → IsLimit s
   command_beyond Draw s h k = draw_beyond s h k
   command_beyond Place s h k = absurd k
   command_beyond Neighbour s h k = absurd k
   command_beyond Walk s h k = absurd k
   command_beyond Check s h k = absurd k
+  command_beyond Calc s h k = absurd k
+  command_beyond Drill s h k = absurd k
 
--- ---- words and rule files
+-- ---- words and files
 -- a status for which no command is asked
 abbrev IsEarly : Request → Status → Type 0
 IsEarly r (BadWords place) = Causes r (BadWords place)
 IsEarly r (NoLayer format) = Causes r (NoLayer format)
 IsEarly r RuleTooLong = Causes r RuleTooLong
 IsEarly r (RuleRefused fault) = Causes r (RuleRefused fault)
+IsEarly r (BadScript script.TooLong) = Causes r (BadScript script.TooLong)
 IsEarly r status = ⊥
 
 right_or_wrong : (r : Request) (c : Command) (place : ℕ) → command_of r.words ≡ Ok c → command_of r.words ≡ Err place → ⊥
@@ -374,33 +410,54 @@ command_is : (c d : Command) (o : Result Command ℕ) → o ≡ Ok c → o ≡ O
 command_is c d o e f = cc
 
 module _ (r : Request) where
+  -- a file that is too long is read, for right words each of whose formats has a layer
+  wrong_or_long : (p : ℕ) → command_of r.words ≡ Err p → HasTooLongFile r → ⊥
+  wrong_or_long p h k = reading_or_wrong r.words r.handed p k.0 h
+
+  lacking_or_long : (f : Format) → lacking r.words r.handed ≡ Some f → HasTooLongFile r → ⊥
+  lacking_or_long f h k = has_or_lacks f (lacking r.words r.handed) (reading_has r.words r.handed k.0) h
+
+  refused_or_long : (x : RuleFault) → HasRuleFault r x → HasTooLongFile r → ⊥
+  refused_or_long x h k = long_or_not _ (length r.file) k.1 h.not_too_long
+
   early_once : (s u : Status) → IsEarly r s → IsEarly r u → s ≡ u
   early_once (BadWords p) (BadWords q) h k = ap (λ n. BadWords n) (place_is p q (command_of r.words) h k)
   early_once (BadWords p) (NoLayer f) h k = absurd (lacking_or_wrong r.words r.handed p f h k)
-  early_once (BadWords p) RuleTooLong h k = absurd (reading_or_wrong r.words r.handed p k.0 h)
+  early_once (BadWords p) RuleTooLong h k = absurd (wrong_or_long p h k.0)
   early_once (BadWords p) (RuleRefused x) h k = absurd (right_or_wrong r k.right.0 p k.right.1 h)
+  early_once (BadWords p) (BadScript script.TooLong) h k = absurd (wrong_or_long p h k.0)
   early_once (BadWords p) u h k = absurd k
   early_once (NoLayer f) (BadWords q) h k = absurd (lacking_or_wrong r.words r.handed q f k h)
   early_once (NoLayer f) (NoLayer g) h k = ap (λ x. NoLayer x) (some_is f g (sym h ∙ k))
-  early_once (NoLayer f) RuleTooLong h k = absurd (has_or_lacks f (lacking r.words r.handed) (reading_has r.words r.handed k.0) h)
+  early_once (NoLayer f) RuleTooLong h k = absurd (lacking_or_long f h k.0)
   early_once (NoLayer f) (RuleRefused x) h k = absurd (has_or_lacks f (lacking r.words r.handed) k.layers h)
+  early_once (NoLayer f) (BadScript script.TooLong) h k = absurd (lacking_or_long f h k.0)
   early_once (NoLayer f) u h k = absurd k
-  early_once RuleTooLong (BadWords q) h k = absurd (reading_or_wrong r.words r.handed q h.0 k)
-  early_once RuleTooLong (NoLayer f) h k = absurd (has_or_lacks f (lacking r.words r.handed) (reading_has r.words r.handed h.0) k)
+  early_once RuleTooLong (BadWords q) h k = absurd (wrong_or_long q k h.0)
+  early_once RuleTooLong (NoLayer f) h k = absurd (lacking_or_long f k h.0)
   early_once RuleTooLong RuleTooLong h k = refl
-  early_once RuleTooLong (RuleRefused x) h k = absurd (long_or_not _ (length r.file) h.1 k.not_too_long)
+  early_once RuleTooLong (RuleRefused x) h k = absurd (refused_or_long x k h.0)
+  early_once RuleTooLong (BadScript script.TooLong) h k = absurd (h.1 k.1)
   early_once RuleTooLong u h k = absurd k
   early_once (RuleRefused x) (BadWords q) h k = absurd (right_or_wrong r h.right.0 q h.right.1 k)
   early_once (RuleRefused x) (NoLayer f) h k = absurd (has_or_lacks f (lacking r.words r.handed) h.layers k)
-  early_once (RuleRefused x) RuleTooLong h k = absurd (long_or_not _ (length r.file) k.1 h.not_too_long)
+  early_once (RuleRefused x) RuleTooLong h k = absurd (refused_or_long x h k.0)
   early_once (RuleRefused x) (RuleRefused y) h k = ap (λ z. RuleRefused z) (fault_is x y (tiling_asked r) h.first k.first)
+  early_once (RuleRefused x) (BadScript script.TooLong) h k = absurd (refused_or_long x h k.0)
   early_once (RuleRefused x) u h k = absurd k
+  early_once (BadScript script.TooLong) (BadWords q) h k = absurd (wrong_or_long q k h.0)
+  early_once (BadScript script.TooLong) (NoLayer f) h k = absurd (lacking_or_long f k h.0)
+  early_once (BadScript script.TooLong) RuleTooLong h k = absurd (k.1 h.1)
+  early_once (BadScript script.TooLong) (RuleRefused x) h k = absurd (refused_or_long x k h.0)
+  early_once (BadScript script.TooLong) (BadScript script.TooLong) h k = refl
+  early_once (BadScript script.TooLong) u h k = absurd k
   early_once s u h k = absurd h
 
   early_or_asks : (s : Status) (c : Command) (t : Tiling) → IsEarly r s → Asks r c t → ⊥
   early_or_asks (BadWords p) c t h k = right_or_wrong r c p k.right h
   early_or_asks (NoLayer f) c t h k = has_or_lacks f (lacking r.words r.handed) k.layers h
-  early_or_asks RuleTooLong c t h k = long_or_not _ (length r.file) h.1 k.names.not_too_long
+  early_or_asks RuleTooLong c t h k = long_or_not _ (length r.file) h.0.1 k.names.not_too_long
+  early_or_asks (BadScript script.TooLong) c t h k = long_or_not _ (length r.file) h.0.1 k.names.not_too_long
   early_or_asks (RuleRefused x) c t h k = either t x (tiling_asked r) k.names.chosen h.first
   early_or_asks s c t h k = h
 
@@ -411,17 +468,19 @@ module _ (r : Request) where
 
   -- it is an early one, or that of a command
   abbrev IsOfCommand : Status → Type 0
-  IsOfCommand s = OfCommand (λ c words t. IsFor words t c s) r
+  IsOfCommand s = OfCommand (λ c q t. IsFor q t c s) r
 
   no_cause : Causes r Done → ⊥
-  no_cause h = none h.command r.words h.tiling h.holds
+  no_cause h = none h.command h.tiling h.holds
     where
-      none : (c : Command) (words : List (List ℕ)) (t : Tiling) → Refuses c words t Done → ⊥
-      none Place words t k = k
-      none Neighbour words t k = k
-      none Walk words t k = k
-      none Draw words t k = k
-      none Check words t k = k
+      none : (c : Command) (t : Tiling) → Refuses c r t Done → ⊥
+      none Place t k = k
+      none Neighbour t k = k
+      none Walk t k = k
+      none Draw t k = k
+      none Check t k = k
+      none Calc t k = k
+      none Drill t k = k
 
   pub outcome_of : (s : Status) → Causes r s → Outcome s
   outcome_of Done h = absurd (no_cause h)
@@ -436,13 +495,14 @@ module _ (r : Request) where
   early_or_command (NoLayer f) h = inl h
   early_or_command RuleTooLong h = inl h
   early_or_command (RuleRefused x) h = inl h
+  early_or_command (BadScript script.TooLong) h = inl h
   early_or_command s h = inr h
 
   -- one command and one tiling are asked
-  for_asked : (c : Command) (t : Tiling) (s : Status) → Asks r c t → IsOfCommand s → IsFor r.words t c s
+  for_asked : (c : Command) (t : Tiling) (s : Status) → Asks r c t → IsOfCommand s → IsFor r t c s
   for_asked c t s k h =
-      subst (λ x. IsFor r.words x c s) (tiling_is h.tiling t (tiling_asked r) h.asks.names.chosen k.names.chosen)
-      (subst (λ d. IsFor r.words h.tiling d s) (command_is h.command c (command_of r.words) h.asks.right k.right) h.holds)
+      subst (λ x. IsFor r x c s) (tiling_is h.tiling t (tiling_asked r) h.asks.names.chosen k.names.chosen)
+      (subst (λ d. IsFor r h.tiling d s) (command_is h.command c (command_of r.words) h.asks.right k.right) h.holds)
 
   -- the two are the same, or both are limits of the window that is asked for
   abbrev pub AreOne : Status → Status → Type 0
@@ -450,7 +510,7 @@ module _ (r : Request) where
 
   asked_once : (laws : Laws) (s u : Status) → IsOfCommand s → IsOfCommand u → AreOne s u
   asked_once laws s u h k =
-      elim (command_once laws r.words k.tiling (named_is_usable laws.usable r k.tiling k.asks.names.chosen) k.command s u (for_asked k.command k.tiling s k.asks h) k.holds) [
+      elim (command_once laws r k.tiling (named_is_usable laws.usable r k.tiling k.asks.names.chosen) k.command s u (for_asked k.command k.tiling s k.asks h) k.holds) [
         | inl e ↦ inl e
         | inr l ↦ inr (k.command, k.asks.right, l.0, l.1)
       ]
@@ -460,7 +520,7 @@ module _ (r : Request) where
   limit_beyond laws s h k =
       elim (early_or_command s h) [
         | inl e ↦ absurd (early_or_asks s k.command k.tiling e k.asks)
-        | inr e ↦ command_beyond laws r.words k.tiling (named_is_usable laws.usable r k.tiling k.asks.names.chosen) k.command s (for_asked k.command k.tiling s k.asks e) k.holds
+        | inr e ↦ command_beyond laws r k.tiling (named_is_usable laws.usable r k.tiling k.asks.names.chosen) k.command s (for_asked k.command k.tiling s k.asks e) k.holds
       ]
 
   pub one_answer : (laws : Laws) (s u : Status) → Outcome s → Outcome u → AreOne s u

@@ -1,79 +1,72 @@
--- From a rule that is given to the request that asks for it.
-use Rattle.std.proofs.Common.{◌≡◌, ℕ, ◌≤◌, Bool, true, false, is_ok, is_none, ◌&&◌, List, [], length, Some, None, Result, Ok, Err, IfOk, IfErr, refl, sym, ap, ap₂, ◌∙◌, subst, lit≤}
-use Rattle.std.proofs.lemmas.Result.{IfOk-weaker}
+-- From a file that is read, and a rule that is chosen with it, to the request that asks for them.
+use Rattle.std.proofs.Common.{◌≡◌, ℕ, ◌<◌, ◌≤◌, true, is_ok, is_none, ◌&&◌, List, length, Some, Result, Ok, Err, IfErr, sym, ap, ap₂, ◌∙◌, subst, refl}
 use Rattle.std.specs.declared.option.Option.{Option}
-use Rattle.std.specs.Option.{option_map, option_map_or}
-use Rattle.rule_model.specs.declared.rule.Rule.{Rule}
+use Rattle.std.specs.Option.{option_map}
 use Rattle.layer_api.specs.declared.format.Format.{Format}
 use Rattle.rule_text.specs.Limits.{longest_file}
-use Rattle.builtin_rules.specs.declared.name.Name.{Name}
-use Rattle.builtin_rules.specs.Named.{named, IsWritten}
 use Rattle.tile_app.specs.declared.rule_choice.RuleChoice.{RuleChoice}
-use Rattle.tile_app.specs.declared.rule_choice.RuleChoice.TheVariants.{Builtin, File}
 use Rattle.tile_app.specs.declared.rule_fault.RuleFault.{RuleFault}
 use Rattle.tile_app.specs.declared.status.Status.{Status}
-use Rattle.tile_app.specs.declared.status.Status.TheVariants.{ReadFault, RuleTooLong, RuleRefused, NoMemory}
-use Rattle.tile_app.specs.Choices.{is_file, tiling_chosen}
-use Rattle.tile_app.specs.Reading.{IsReadingRefused}
-use Rattle.tile_app.specs.Asked.{WasRead, WasFileIn, WasAsked, OfRequest}
+use Rattle.tile_app.specs.declared.status.Status.TheVariants.{ReadFault, RuleRefused, NoMemory}
+use Rattle.tile_app.specs.declared.words.Command.{Command}
+use Rattle.tile_app.specs.declared.words.Command.TheVariants.{Place, Neighbour, Walk, Draw, Check, Calc, Drill}
+use Rattle.tile_app.specs.Choices.{tiling_chosen}
+use Rattle.tile_app.specs.Reading.{too_long_for, IsReadingRefused, IsChoiceRefused}
+use Rattle.tile_app.specs.Asked.{WasRead, WasFileIn, WasAsked}
 use Rattle.tile_app.specs.Causes.{IsRefused}
-use Rattle.tile_app.specs.Request.{Names, HasRuleFault}
-use Rattle.tile_app.specs.RuleFiles.{tiling_in_file}
-use Rattle.rule_model.specs.Tiling.{Tiling, tiling_of}
-use Rattle.tile_app.specs.Layers.{HaveLayers, lacking, reads_file}
-use Rattle.tile_app.specs.Words.{command_of, choice_given, AreRight}
-use Rattle.tile_app.proofs.Tilings.{tiling_is}
+use Rattle.tile_app.specs.Request.{Names, HasRuleFault, HasTooLongFile, request_of}
+use Rattle.rule_model.specs.Tiling.{Tiling}
+use Rattle.tile_app.specs.Layers.{HaveLayers, lacking, has_file, has_file_in, reads_file}
+use Rattle.tile_app.specs.Words.{command_of, choice_given}
 
--- ---- whether a file is read
-chooses_no_file : (b c : Bool) (name : Name) (o : Option RuleChoice) → o ≡ Some (Builtin name) → b && (c && option_map_or is_file o false) ≡ false
-chooses_no_file b c name None e = absurd (cc e)
-chooses_no_file b c name (Some File) e = absurd (cc e)
-chooses_no_file true true name (Some (Builtin n)) e = refl
-chooses_no_file true false name (Some (Builtin n)) e = refl
-chooses_no_file false c name (Some (Builtin n)) e = refl
+module _ (words : List (List ℕ)) (handed : List Format) (command : Command) (choice : RuleChoice)
+    (right : command_of words ≡ Ok command) (have : HaveLayers words handed) (chosen : choice_given words ≡ Some choice) where
+  -- whether a file is read
+  pub reads_is : reads_file words handed ≡ has_file command choice
+  reads_is =
+      ap₂ (λ o p. is_ok o && (is_none (lacking words handed) && has_file_in o p)) right chosen ∙ ap (λ l. is_none l && has_file command choice) have
 
-reads_no_file : (words : List (List ℕ)) (handed : List Format) (name : Name) → choice_given words ≡ Some (Builtin name) → reads_file words handed ≡ false
-reads_no_file words handed name e = chooses_no_file (is_ok (command_of words)) (is_none (lacking words handed)) name (choice_given words) e
+  module _ (left rest : Option (List ℕ)) where
+    -- the file that was read makes the request
+    pub was_asked : (file : List ℕ) → WasFileIn (has_file command choice) left rest file → WasAsked words handed left rest (request_of words handed file)
+    was_asked file h = record { by_words = refl; by_layers = refl; from_source = subst (λ b. WasFileIn b left rest file) (sym reads_is) h }
 
-reads_a_file : (words : List (List ℕ)) (handed : List Format) → AreRight words → HaveLayers words handed → choice_given words ≡ Some File → reads_file words handed ≡ true
-reads_a_file words handed right have e =
-    ap₂ (λ o p. is_ok o && (is_none (lacking words handed) && option_map_or is_file p false)) right.1 e ∙ ap (λ o. is_none o && true) have
+    was_read : has_file command choice ≡ true → (file : List ℕ) → WasRead left rest file → WasAsked words handed left rest (request_of words handed file)
+    was_read e file h = was_asked file (subst (λ b. WasFileIn b left rest file) (sym e) h)
 
--- ---- a built-in rule
-pub asked_builtin : (words : List (List ℕ)) (handed : List Format) (left : Option (List ℕ)) (name : Name) (checked : Rule) → choice_given words ≡ Some (Builtin name) → IsWritten (named name) checked
-    → OfRequest words handed left left (λ r. Names r (tiling_of checked))
-asked_builtin words handed left name checked e is = (
-  record { words = words; handed = handed; file = [] },
-  record { by_words = refl; by_layers = refl; from_source = subst (λ b. WasFileIn b left left []) (sym (reads_no_file words handed name e)) refl },
-  record {
-    not_too_long = lit≤ tt;
-    chosen = ap (option_map (tiling_chosen [])) e ∙ ap (λ (t : Tiling). (let o : Option (Result Tiling RuleFault) = Some (Ok t) in o)) (sym (tiling_is name checked is));
-  },
-)
+    -- the reading was refused
+    too_long : has_file command choice ≡ true → (file : List ℕ) → longest_file < length file → HasTooLongFile (request_of words handed file)
+    too_long e file l = (reads_is ∙ e, l)
 
--- ---- the rule of a file
-module _ (words : List (List ℕ)) (handed : List Format) (have : HaveLayers words handed) (left rest : Option (List ℕ)) (right : AreRight words) (e : choice_given words ≡ Some File) where
-  was_asked : (file : List ℕ) → WasRead left rest file → WasAsked words handed left rest (record { words = words; handed = handed; file = file })
-  was_asked file h = record { by_words = refl; by_layers = refl; from_source = subst (λ b. WasFileIn b left rest file) (sym (reads_a_file words handed right have e)) h }
+    too_long_refused : (c : Command) → command_of words ≡ Ok c → has_file command choice ≡ true → (file : List ℕ) → WasRead left rest file → longest_file < length file
+        → IsRefused words handed left rest (too_long_for c)
+    too_long_refused Place is e file h l = (request_of words handed file, was_read e file h, (too_long e file l, λ f. absurd (cc (is, f))))
+    too_long_refused Neighbour is e file h l = (request_of words handed file, was_read e file h, (too_long e file l, λ f. absurd (cc (is, f))))
+    too_long_refused Walk is e file h l = (request_of words handed file, was_read e file h, (too_long e file l, λ f. absurd (cc (is, f))))
+    too_long_refused Draw is e file h l = (request_of words handed file, was_read e file h, (too_long e file l, λ f. absurd (cc (is, f))))
+    too_long_refused Check is e file h l = (request_of words handed file, was_read e file h, (too_long e file l, λ f. absurd (cc (is, f))))
+    too_long_refused Calc is e file h l = (request_of words handed file, was_read e file h, (too_long e file l, is))
+    too_long_refused Drill is e file h l = (request_of words handed file, was_read e file h, (too_long e file l, λ f. absurd (cc (is, f))))
 
-  names : (file : List ℕ) (t : Tiling) → length file ≤ longest_file → tiling_in_file file ≡ Ok t → Names (record { words = words; handed = handed; file = file }) t
-  names file t l f = record { not_too_long = l; chosen = ap (option_map (tiling_chosen file)) e ∙ ap (λ x. Some x) f }
+    pub reading_refused : has_file command choice ≡ true → (s : Status) → IsReadingRefused command left rest s → IsRefused words handed left rest s
+    reading_refused e NoMemory h = ((command, right), have)
+    reading_refused e ReadFault h = reads_is ∙ e
+    reading_refused e s h = subst (IsRefused words handed left rest) (sym h.0) (too_long_refused command right e h.1 h.2 h.3)
 
-  has_fault : (file : List ℕ) (fault : RuleFault) → length file ≤ longest_file → tiling_in_file file ≡ Err fault → HasRuleFault (record { words = words; handed = handed; file = file }) fault
-  has_fault file fault l f = record { right = right; layers = have; not_too_long = l; first = ap (option_map (tiling_chosen file)) e ∙ ap (λ x. Some x) f }
+    -- the rule that is chosen with it
+    module _ (file : List ℕ) (l : length file ≤ longest_file) where
+      pub names : (t : Tiling) → tiling_chosen file choice ≡ Ok t → Names (request_of words handed file) t
+      names t f = record { not_too_long = l; chosen = ap (option_map (tiling_chosen file)) chosen ∙ ap (λ x. Some x) f }
 
-  pub asked_file : (answer : Result Rule Status)
-      → IfOk answer (λ checked. (file : List ℕ) × WasRead left rest file × (length file ≤ longest_file) × (tiling_in_file file ≡ Ok (tiling_of checked)))
-      → IfOk answer (λ checked. OfRequest words handed left rest (λ r. Names r (tiling_of checked)))
-  asked_file answer h = IfOk-weaker answer _ _ (λ checked k. (record { words = words; handed = handed; file = k.0 }, was_asked k.0 k.1, names k.0 (tiling_of checked) k.2 k.3)) h
+      has_fault : (fault : RuleFault) → tiling_chosen file choice ≡ Err fault → HasRuleFault (request_of words handed file) fault
+      has_fault fault f = record { right = (command, right); layers = have; not_too_long = l; first = ap (option_map (tiling_chosen file)) chosen ∙ ap (λ x. Some x) f }
 
-  reading_refused : (s : Status) → IsReadingRefused left rest s → IsRefused words handed left rest s
-  reading_refused NoMemory h = (right, have)
-  reading_refused ReadFault h = reads_a_file words handed right have e
-  reading_refused RuleTooLong h = (record { words = words; handed = handed; file = h.0 }, was_asked h.0 h.1, (reads_a_file words handed right have e, h.2))
-  reading_refused (RuleRefused fault) h = (h.4, (record { words = words; handed = handed; file = h.0 }, was_asked h.0 h.1, has_fault h.0 fault h.2 h.3))
-  reading_refused s h = absurd h
+      pub choice_refused : WasFileIn (has_file command choice) left rest file → (s : Status) → IsChoiceRefused file choice s → IsRefused words handed left rest s
+      choice_refused w NoMemory h = ((command, right), have)
+      choice_refused w (RuleRefused fault) h = (h.1, (request_of words handed file, was_asked file w, has_fault fault h.0))
+      choice_refused w s h = absurd h
 
-  pub refused_file : (answer : Result Rule Status) → IfErr answer (IsReadingRefused left rest) → IfErr answer (IsRefused words handed left rest)
-  refused_file (Ok checked) h = h
-  refused_file (Err s) h = reading_refused s h
+-- the refusal of an answer, by that of its status
+pub refused_by : {T : Type 0} (P Q : Status → Type 0) → ((s : Status) → P s → Q s) → (answer : Result T Status) → IfErr answer P → IfErr answer Q
+refused_by P Q f (Ok x) h = h
+refused_by P Q f (Err s) h = f s h

@@ -3,59 +3,67 @@ use Rattle.std.specs.Prelude.{◌≡◌, ℕ, List}
 use Rattle.rule_model.specs.Tiling.{Tiling}
 use Rattle.tile_app.specs.declared.status.Status.{Status}
 use Rattle.tile_app.specs.declared.words.Command.{Command}
-use Rattle.tile_app.specs.declared.words.Command.TheVariants.{Place, Neighbour, Walk, Draw, Check}
+use Rattle.tile_app.specs.declared.words.Command.TheVariants.{Place, Neighbour, Walk, Draw, Check, Calc, Drill}
+use Rattle.tile_app.specs.Calc.{CanCalculate, PrintsCalc, CalcRefuses}
 use Rattle.tile_app.specs.Check.{check_line}
 use Rattle.tile_app.specs.Draw.{CanDraw, PrintsDraw, PassesLimits, DrawRefuses}
+use Rattle.tile_app.specs.Drill.{PrintsDrill}
 use Rattle.tile_app.specs.Neighbour.{CanBeCrossed, PrintsNeighbour, NeighbourRefuses}
 use Rattle.tile_app.specs.Place.{CanBePlaced, PrintsPlace, PlaceRefuses}
 use Rattle.tile_app.specs.Request.{Request, Asks}
 use Rattle.tile_app.specs.Status.{IsLimit}
 use Rattle.tile_app.specs.Walk.{CanWalk, PrintsWalk, WalkRefuses}
 
--- the command prints this text for these words and this tiling
-abbrev pub IsPrinted : Command → List (List ℕ) → Tiling → List ℕ → Type 0
-IsPrinted Place = PrintsPlace
-IsPrinted Neighbour = PrintsNeighbour
-IsPrinted Walk = PrintsWalk
-IsPrinted Draw = PrintsDraw
-IsPrinted Check = λ words t text. text ≡ check_line t
+-- the command prints this text for a request and a tiling
+abbrev pub IsPrinted : Command → Request → Tiling → List ℕ → Type 0
+IsPrinted Place r = PrintsPlace r.words
+IsPrinted Neighbour r = PrintsNeighbour r.words
+IsPrinted Walk r = PrintsWalk r.words
+IsPrinted Draw r = PrintsDraw r.words
+IsPrinted Check r = λ t text. text ≡ check_line t
+IsPrinted Calc r = PrintsCalc r.file
+IsPrinted Drill r = PrintsDrill r.words
 
--- the command has something to print for these words and this tiling
-abbrev pub HasAnswer : Command → List (List ℕ) → Tiling → Type 0
-HasAnswer Place = CanBePlaced
-HasAnswer Neighbour = CanBeCrossed
-HasAnswer Walk = CanWalk
-HasAnswer Draw = CanDraw
-HasAnswer Check = λ words t. Unit {0}
+-- the command has something to print for a request and a tiling
+abbrev pub HasAnswer : Command → Request → Tiling → Type 0
+HasAnswer Place r = CanBePlaced r.words
+HasAnswer Neighbour r = CanBeCrossed r.words
+HasAnswer Walk r = CanWalk r.words
+HasAnswer Draw r = CanDraw r.words
+HasAnswer Check r = λ t. Unit {0}
+HasAnswer Calc r = CanCalculate r.file
+HasAnswer Drill r = λ t. Unit {0}
 
--- the command refuses these words for this tiling with this status, for its cause
-abbrev pub Refuses : Command → List (List ℕ) → Tiling → Status → Type 0
-Refuses Place = PlaceRefuses
-Refuses Neighbour = NeighbourRefuses
-Refuses Walk = WalkRefuses
-Refuses Draw = DrawRefuses
-Refuses Check = λ words t status. ⊥
+-- the command refuses a request for a tiling with this status, for its cause
+abbrev pub Refuses : Command → Request → Tiling → Status → Type 0
+Refuses Place r = PlaceRefuses r.words
+Refuses Neighbour r = NeighbourRefuses r.words
+Refuses Walk r = WalkRefuses r.words
+Refuses Draw r = DrawRefuses r.words
+Refuses Check r = λ t status. ⊥
+Refuses Calc r = CalcRefuses r.file
+Refuses Drill r = λ t status. ⊥
 
--- the status is one of the limits of the command's window: `draw` alone has a window
+-- the status is one of the limits of the command's window: `draw` alone has one
 abbrev pub IsLimitOf : Command → Status → Type 0
 IsLimitOf Draw status = IsLimit status
 IsLimitOf command status = ⊥
 
--- the command's window, for these words and this tiling, passes a limit
-abbrev pub IsBeyond : Command → List (List ℕ) → Tiling → Type 0
-IsBeyond Draw = PassesLimits
-IsBeyond command = λ words t. ⊥
+-- the command's window, for a request and a tiling, passes a limit
+abbrev pub IsBeyond : Command → Request → Tiling → Type 0
+IsBeyond Draw r = PassesLimits r.words
+IsBeyond command r = λ t. ⊥
 
--- right words ask a command of a tiling, and this holds of the command, of the words and of the tiling
-pub record OfCommand (P : Command → List (List ℕ) → Tiling → Type 0) (r : Request) : Type 0 where
+-- right words ask a command of a tiling, and this holds of the command, of the request and of the tiling
+pub record OfCommand (P : Command → Request → Tiling → Type 0) (r : Request) : Type 0 where
   pub command : Command
   pub tiling : Tiling
   pub asks : Asks r command tiling
-  pub holds : P command r.words tiling
+  pub holds : P command r tiling
 
 -- the request is answered by this text
 abbrev pub Prints : Request → List ℕ → Type 0
-Prints r text = OfCommand (λ command words t. IsPrinted command words t text) r
+Prints r text = OfCommand (λ command q t. IsPrinted command q t text) r
 
 -- there is a text that answers the request
 abbrev pub CanBeAnswered : Request → Type 0

@@ -12,8 +12,8 @@ abbrev pub IsFileIn : Bool → Option (List ℕ) → List ℕ → Type 0
 IsFileIn true left file = left ≡ Some file
 IsFileIn false left file = file ≡ []
 
--- the file that was read of a source that had some bytes left and now has the rest: to the end where the bytes are told, or, of a file that is too long for a
--- rule file, the longest such file and one byte more
+-- the file that was read of a source that had some bytes left and now has the rest: to the end where the bytes are told, or, of a file that is too long, the
+-- longest file that isn't and one byte more
 pub record WasRead (left rest : Option (List ℕ)) (file : List ℕ) : Type 0 where
   pub given : Gives left rest file
   pub to_the_end : length file ≤ longest_file → IfSome rest (λ bytes. bytes ≡ [])

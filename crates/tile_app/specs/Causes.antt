@@ -2,24 +2,26 @@
 use Rattle.std.specs.Prelude.{◌≡◌, ℕ, IsTrue, List, Some, Ok, Err}
 use Rattle.std.specs.declared.option.Option.{Option}
 use Rattle.layer_api.specs.declared.format.Format.{Format}
+use Rattle.tile_app.specs.declared.script_fault.ScriptFault.TheVariants as script
 use Rattle.tile_app.specs.declared.status.Status.{Status}
-use Rattle.tile_app.specs.declared.status.Status.TheVariants.{BadWords, NoLayer, ReadFault, RuleTooLong, RuleRefused, NoMemory}
+use Rattle.tile_app.specs.declared.status.Status.TheVariants.{BadWords, NoLayer, ReadFault, RuleTooLong, RuleRefused, BadScript, NoMemory}
 use Rattle.tile_app.specs.declared.words.Command.{Command}
 use Rattle.tile_app.specs.Answer.{OfCommand, Refuses, IsLimitOf}
 use Rattle.tile_app.specs.Asked.{OfRequest}
-use Rattle.tile_app.specs.Request.{Request, HasTooLongFile, HasRuleFault}
+use Rattle.tile_app.specs.Request.{Request, HasTooLongRule, HasTooLongScript, HasRuleFault}
 use Rattle.tile_app.specs.Layers.{lacking, HaveLayers, reads_file}
 use Rattle.tile_app.specs.Status.{IsTrueFault}
 use Rattle.tile_app.specs.Words.{command_of, AreRight}
 
--- What of a request causes a status, in the order of the tests: the words, the layers, the rule file, and then what its command refuses (`PlaceRefuses`,
--- `NeighbourRefuses`, `WalkRefuses`, `DrawRefuses`; `check` refuses nothing more).
+-- What of a request causes a status, in the order of the tests: the words, the layers, the file, and then what its command refuses (`PlaceRefuses`,
+-- `NeighbourRefuses`, `WalkRefuses`, `DrawRefuses`, `CalcRefuses`; `check` and `drill` refuse nothing more).
 abbrev pub Causes : Request → Status → Type 0
 Causes r (BadWords place) = command_of r.words ≡ Err place
 Causes r (NoLayer format) = lacking r.words r.handed ≡ Some format
-Causes r RuleTooLong = HasTooLongFile r
+Causes r RuleTooLong = HasTooLongRule r
 Causes r (RuleRefused fault) = HasRuleFault r fault
-Causes r status = OfCommand (λ command words t. Refuses command words t status) r
+Causes r (BadScript script.TooLong) = HasTooLongScript r
+Causes r status = OfCommand (λ command q t. Refuses command q t status) r
 
 -- The status is none of the limits of a window that the request asks for: it comes wherever it has a cause. Of those limits several may be passed, and then one of
 -- them comes; which one isn't said.

@@ -1,12 +1,14 @@
 -- The commands, and the keys of each.
-use Rattle.std.specs.Prelude.{ℕ, Bool, true, ◌||◌, List, [], ◌∷◌, codes, Some, None, is_some, if◌then◌else◌}
+use Rattle.std.specs.Prelude.{ℕ, Bool, true, ◌||◌, List, [], ◌∷◌, codes, Some, None, is_some, nat_le, if◌then◌else◌}
 use Rattle.std.specs.declared.option.Option.{Option}
+use Rattle.std.specs.Option.{option_and_then}
 use Rattle.std.specs.Str.{bytes_eq}
 use Rattle.tile_app.specs.declared.words.Command.{Command}
-use Rattle.tile_app.specs.declared.words.Command.TheVariants.{Place, Neighbour, Walk, Draw, Check}
+use Rattle.tile_app.specs.declared.words.Command.TheVariants.{Place, Neighbour, Walk, Draw, Check, Calc, Drill}
 use Rattle.tile_app.specs.declared.words.Key.{Key}
-use Rattle.tile_app.specs.declared.words.Key.TheVariants.{Rule, Addr, Edge, Seed, Grow, Path, At, Half, Layers, Glue}
+use Rattle.tile_app.specs.declared.words.Key.TheVariants.{Rule, Addr, Edge, Seed, Grow, Path, At, Half, Layers, Glue, Count}
 use Rattle.tile_app.specs.Choices.{choice_in}
+use Rattle.tile_app.specs.Tilings.{name_in}
 use Rattle.tile_app.specs.FormatWords.{formats_in}
 use Rattle.tile_app.specs.PathWords.{path_in}
 use Rattle.tile_app.specs.WindowWords.{at_in, half_in}
@@ -28,6 +30,7 @@ key_text At = codes "at"
 key_text Half = codes "half"
 key_text Layers = codes "layers"
 key_text Glue = codes "glue"
+key_text Count = codes "n"
 
 -- the command that a word names
 abbrev pub command_named : List ℕ → Option Command
@@ -36,7 +39,9 @@ command_named word =
     if bytes_eq word (codes "neighbour") then Some Neighbour else
     if bytes_eq word (codes "walk") then Some Walk else
     if bytes_eq word (codes "draw") then Some Draw else
-    if bytes_eq word (codes "check") then Some Check else None
+    if bytes_eq word (codes "check") then Some Check else
+    if bytes_eq word (codes "calc") then Some Calc else
+    if bytes_eq word (codes "drill") then Some Drill else None
 
 -- the keys of a command
 abbrev pub keys_of : Command → List Key
@@ -45,6 +50,8 @@ keys_of Neighbour = Rule ∷ Addr ∷ Edge ∷ []
 keys_of Walk = Rule ∷ Addr ∷ Seed ∷ Grow ∷ Path ∷ []
 keys_of Draw = Rule ∷ Addr ∷ At ∷ Half ∷ Layers ∷ Seed ∷ Glue ∷ []
 keys_of Check = Rule ∷ []
+keys_of Calc = Rule ∷ []
+keys_of Drill = Rule ∷ Count ∷ Seed ∷ []
 
 -- the keys that a command can't do without
 abbrev pub required_keys : Command → List Key
@@ -53,20 +60,37 @@ required_keys Neighbour = Rule ∷ Addr ∷ Edge ∷ []
 required_keys Walk = Rule ∷ Addr ∷ []
 required_keys Draw = Rule ∷ Addr ∷ At ∷ Half ∷ Layers ∷ []
 required_keys Check = Rule ∷ []
+required_keys Calc = Rule ∷ []
+required_keys Drill = Rule ∷ Count ∷ []
 
--- whether a value has the form of its key: a rule is one of the names known or `-`, an address any text, an edge a number from 0 to 255, a start number one
--- of 64 bits, a depth at most 64, a path numbers of edges, a centre four coefficients, half extents two numbers from 1, layers formats, joined by commas, and glue `yes` or `no`
-abbrev pub has_form : Key → List ℕ → Bool
-has_form Rule value = is_some (choice_in value)
-has_form Addr value = true
-has_form Edge value = is_some (number_up_to 255 value)
-has_form Seed value = is_some (number_up_to most_seed value)
-has_form Grow value = is_some (number_up_to 64 value)
-has_form Path value = is_some (path_in value)
-has_form At value = is_some (at_in value)
-has_form Half value = is_some (half_in value)
-has_form Layers value = is_some (formats_in value)
-has_form Glue value = bytes_eq value (codes "yes") || bytes_eq value (codes "no")
+-- the most windows of a drill
+abbrev pub most_windows : ℕ
+most_windows = 200
+
+-- the number of windows that a text is: 1 to 200
+abbrev pub windows_in : List ℕ → Option ℕ
+windows_in text = option_and_then (λ n. if nat_le 1 n then Some n else None) (number_up_to most_windows text)
+
+-- whether a text is a rule for a command: one of the names known, or `-`, but for `calc`, which has a script read where the others may have a rule file
+abbrev pub is_rule_for : Command → List ℕ → Bool
+is_rule_for Calc value = is_some (name_in value)
+is_rule_for command value = is_some (choice_in value)
+
+-- whether a value has the form of its key for a command: a rule is one that the command takes, an address any text, an edge a number from 0 to 255, a start number
+-- one of 64 bits, a depth at most 64, a path numbers of edges, a centre four coefficients, half extents two numbers from 1, layers formats, joined by commas, glue
+-- `yes` or `no`, and a number of windows 1 to 200
+abbrev pub has_form : Command → Key → List ℕ → Bool
+has_form command Rule value = is_rule_for command value
+has_form command Addr value = true
+has_form command Edge value = is_some (number_up_to 255 value)
+has_form command Seed value = is_some (number_up_to most_seed value)
+has_form command Grow value = is_some (number_up_to 64 value)
+has_form command Path value = is_some (path_in value)
+has_form command At value = is_some (at_in value)
+has_form command Half value = is_some (half_in value)
+has_form command Layers value = is_some (formats_in value)
+has_form command Glue value = bytes_eq value (codes "yes") || bytes_eq value (codes "no")
+has_form command Count value = is_some (windows_in value)
 
 -- a command that asks about a tile, by its address
 abbrev pub IsAboutTile : Command → Type 0
@@ -75,3 +99,5 @@ IsAboutTile Neighbour = Unit {0}
 IsAboutTile Walk = Unit {0}
 IsAboutTile Draw = Unit {0}
 IsAboutTile Check = ⊥
+IsAboutTile Calc = ⊥
+IsAboutTile Drill = ⊥

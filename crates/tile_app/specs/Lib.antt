@@ -20,8 +20,11 @@ pub mod Pictures
 pub mod Draw
 pub mod Pictured
 pub mod Check
+pub mod Calc
+pub mod Drill
 pub mod Answer
 pub mod RuleFaultText
+pub mod ScriptFaultText
 pub mod Status
 pub mod Causes
 pub mod Notes

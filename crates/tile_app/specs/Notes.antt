@@ -9,9 +9,10 @@ use Rattle.tile_shape.specs.FaultText.{address_fault_text}
 use Rattle.tile_shape.specs.Text.{address_text}
 use Rattle.tile_shape.specs.Views.{address_of}
 use Rattle.tile_app.specs.declared.status.Status.{Status}
-use Rattle.tile_app.specs.declared.status.Status.TheVariants.{Done, BadWords, NoLayer, ReadFault, RuleTooLong, RuleRefused, BadAddress, NoEdge, Outside, DepthLimit, CoordLimit, TooManyTiles, WriteFault, NoMemory}
+use Rattle.tile_app.specs.declared.status.Status.TheVariants.{Done, BadWords, NoLayer, ReadFault, RuleTooLong, RuleRefused, BadAddress, NoEdge, Outside, DepthLimit, CoordLimit, TooManyTiles, BadScript, WriteFault, NoMemory}
 use Rattle.tile_app.specs.FormatWords.{format_text}
 use Rattle.tile_app.specs.RuleFaultText.{rule_fault_text}
+use Rattle.tile_app.specs.ScriptFaultText.{script_fault_text}
 use Rattle.tile_app.specs.Status.{code_of}
 use Rattle.tile_app.specs.Text.{newline}
 
@@ -29,6 +30,7 @@ status_text (Outside edge part) = codes "Outside " ++ decimal edge ++ blank ∷ 
 status_text (DepthLimit addr edge) = codes "DepthLimit " ++ address_text (address_of addr) ++ blank ∷ decimal edge
 status_text (CoordLimit value) = codes "CoordLimit " ++ point_text value
 status_text TooManyTiles = codes "TooManyTiles"
+status_text (BadScript fault) = codes "BadScript " ++ script_fault_text fault
 status_text WriteFault = codes "WriteFault"
 status_text NoMemory = codes "NoMemory"
 

@@ -1,12 +1,28 @@
--- What the reading of a rule file is refused for.
-use Rattle.std.specs.Prelude.{◌≡◌, ℕ, ◌<◌, ◌≤◌, List, length, Err}
+-- What the reading of a file is refused for, and the rule that is chosen with it.
+use Rattle.std.specs.Prelude.{◌≡◌, ℕ, ◌<◌, List, length, Err}
 use Rattle.std.specs.declared.option.Option.{Option}
 use Rattle.rule_text.specs.Limits.{longest_file}
+use Rattle.tile_app.specs.declared.rule_choice.RuleChoice.{RuleChoice}
+use Rattle.tile_app.specs.declared.script_fault.ScriptFault.TheVariants as script
 use Rattle.tile_app.specs.declared.status.Status.{Status}
-use Rattle.tile_app.specs.declared.status.Status.TheVariants.{ReadFault, RuleTooLong, RuleRefused, NoMemory}
+use Rattle.tile_app.specs.declared.status.Status.TheVariants.{ReadFault, RuleTooLong, RuleRefused, BadScript, NoMemory}
+use Rattle.tile_app.specs.declared.words.Command.{Command}
+use Rattle.tile_app.specs.declared.words.Command.TheVariants.{Calc}
 use Rattle.tile_app.specs.Asked.{WasRead}
+use Rattle.tile_app.specs.Choices.{tiling_chosen}
 use Rattle.tile_app.specs.RuleFiles.{tiling_in_file}
 use Rattle.tile_app.specs.Status.{IsTrueFault}
+
+-- that a file is too long: the script of `calc`, or a rule file
+abbrev pub too_long_for : Command → Status
+too_long_for Calc = BadScript script.TooLong
+too_long_for command = RuleTooLong
+
+-- why the reading of a command's file is refused, from a source that had some bytes left and now has the rest
+abbrev pub IsReadingRefused : Command → Option (List ℕ) → Option (List ℕ) → Status → Type 0
+IsReadingRefused command left rest NoMemory = Unit {0}
+IsReadingRefused command left rest ReadFault = Unit {0}
+IsReadingRefused command left rest status = (status ≡ too_long_for command) × (file : List ℕ) × WasRead left rest file × (longest_file < length file)
 
 -- why the bytes of a rule file are refused
 abbrev pub IsFileRefused : List ℕ → Status → Type 0
@@ -14,10 +30,8 @@ IsFileRefused file NoMemory = Unit {0}
 IsFileRefused file (RuleRefused fault) = (tiling_in_file file ≡ Err fault) × IsTrueFault fault
 IsFileRefused file _ = ⊥
 
--- why the reading of a rule file is refused, from a source that had some bytes left and now has the rest
-abbrev pub IsReadingRefused : Option (List ℕ) → Option (List ℕ) → Status → Type 0
-IsReadingRefused left rest NoMemory = Unit {0}
-IsReadingRefused left rest ReadFault = Unit {0}
-IsReadingRefused left rest RuleTooLong = (file : List ℕ) × WasRead left rest file × (longest_file < length file)
-IsReadingRefused left rest (RuleRefused fault) = (file : List ℕ) × WasRead left rest file × (length file ≤ longest_file) × (tiling_in_file file ≡ Err fault) × IsTrueFault fault
-IsReadingRefused left rest _ = ⊥
+-- why a rule that is chosen is refused, with the file that was read
+abbrev pub IsChoiceRefused : List ℕ → RuleChoice → Status → Type 0
+IsChoiceRefused file choice NoMemory = Unit {0}
+IsChoiceRefused file choice (RuleRefused fault) = (tiling_chosen file choice ≡ Err fault) × IsTrueFault fault
+IsChoiceRefused file choice _ = ⊥

@@ -5,7 +5,7 @@ use Rattle.rule_text.specs.declared.text_fault.TextFault.TheVariants as text
 use Rattle.tile_app.specs.declared.rule_fault.RuleFault.{RuleFault}
 use Rattle.tile_app.specs.declared.rule_fault.RuleFault.TheVariants.{Text, Check}
 use Rattle.tile_app.specs.declared.status.Status.{Status}
-use Rattle.tile_app.specs.declared.status.Status.TheVariants.{Done, BadWords, NoLayer, ReadFault, RuleTooLong, RuleRefused, BadAddress, NoEdge, Outside, DepthLimit, CoordLimit, TooManyTiles, WriteFault, NoMemory}
+use Rattle.tile_app.specs.declared.status.Status.TheVariants.{Done, BadWords, NoLayer, ReadFault, RuleTooLong, RuleRefused, BadAddress, NoEdge, Outside, DepthLimit, CoordLimit, TooManyTiles, BadScript, WriteFault, NoMemory}
 
 -- the exit code of the program
 abbrev pub code_of : Status → ℕ
@@ -22,6 +22,7 @@ code_of ReadFault = 9
 code_of WriteFault = 10
 code_of NoMemory = 11
 code_of (NoEdge edge edges) = 12
+code_of (BadScript fault) = 13
 code_of (NoLayer format) = 14
 
 -- every refusal but a fault of the sink

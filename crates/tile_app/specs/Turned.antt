@@ -1,25 +1,20 @@
 -- The statuses that the faults of calls below turn into.
-use Rattle.tile_io.specs.declared.read_all_fault.ReadAllFault.{ReadAllFault}
-use Rattle.tile_io.specs.declared.read_all_fault.ReadAllFault.TheVariants as reading
 use Rattle.rule_text.specs.declared.text_fault.TextFault.{TextFault}
 use Rattle.rule_text.specs.declared.text_fault.TextFault.TheVariants as text
 use Rattle.dissect_check.specs.declared.check_fault.CheckFault.{CheckFault}
 use Rattle.dissect_check.specs.declared.check_fault.CheckFault.TheVariants as check
 use Rattle.tile_app.specs.declared.rule_fault.RuleFault.TheVariants.{Text, Check}
+use Rattle.tile_app.specs.declared.script_fault.ScriptFault.TheVariants.{Calc}
 use Rattle.tile_app.specs.declared.status.Status.{Status}
-use Rattle.tile_app.specs.declared.status.Status.TheVariants.{ReadFault, RuleTooLong, RuleRefused, NoEdge, DepthLimit, CoordLimit, TooManyTiles, NoMemory}
+use Rattle.tile_app.specs.declared.status.Status.TheVariants.{RuleRefused, NoEdge, DepthLimit, CoordLimit, TooManyTiles, BadScript, NoMemory}
 use Rattle.lazy_walk.specs.declared.path_fault.PathFault.{PathFault}
 use Rattle.lazy_walk.specs.declared.path_fault.PathFault.TheVariants as walking
 use Rattle.window_cover.specs.declared.cover_fault.CoverFault.{CoverFault}
 use Rattle.window_cover.specs.declared.cover_fault.CoverFault.TheVariants as covering
 use Rattle.half_glue.specs.declared.glue_fault.GlueFault.{GlueFault}
 use Rattle.half_glue.specs.declared.glue_fault.GlueFault.TheVariants as gluing
-
--- of a reading to the end
-abbrev pub status_of_reading : ReadAllFault → Status
-status_of_reading reading.TooLong = RuleTooLong
-status_of_reading reading.Fault = ReadFault
-status_of_reading reading.NoMemory = NoMemory
+use Rattle.addr_calc.specs.declared.calc_fault.CalcFault.{CalcFault}
+use Rattle.addr_calc.specs.declared.calc_fault.CalcFault.TheVariants as calculating
 
 -- of the text of a rule file
 abbrev pub status_of_text : TextFault → Status
@@ -48,3 +43,8 @@ abbrev pub status_of_glue : GlueFault → Status
 status_of_glue (gluing.DepthLimit addr edge) = DepthLimit addr edge
 status_of_glue (gluing.CoordLimit value) = CoordLimit value
 status_of_glue gluing.NoMemory = NoMemory
+
+-- of a script
+abbrev pub status_of_calc : CalcFault → Status
+status_of_calc calculating.NoMemory = NoMemory
+status_of_calc e = BadScript (Calc e)

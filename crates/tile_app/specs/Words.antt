@@ -35,7 +35,7 @@ value_given key (word ∷ words) = option_map_or Some (value_in key word) (value
 -- whether a word is right behind the words before it: it gives a key of the command, that none of them gives, a value of the key's form
 abbrev pub is_right : Command → List (List ℕ) → List ℕ → Bool
 is_right command before word =
-    list_any (λ key. option_map_or (λ value. not (is_some (value_given key before)) && has_form key value) (value_in key word) false) (keys_of command)
+    list_any (λ key. option_map_or (λ value. not (is_some (value_given key before)) && has_form command key value) (value_in key word) false) (keys_of command)
 
 -- the number of the first word behind `before` that isn't right; where all are, that of the end if a required key is missing
 abbrev pub wrong_place : Command → List (List ℕ) → List (List ℕ) → Option ℕ

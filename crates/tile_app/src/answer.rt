@@ -1,20 +1,25 @@
 //! The text that answers a request, or why there is none.
-ghost use Rattle.std.specs.Prelude.{◌≡◌, false, map, Ok, IfOk, IfErr, IsErrOf, is_ok, string_bytes};
+ghost use Rattle.std.specs.Prelude.{◌≡◌, ◌≤◌, false, length, map, Ok, IfOk, IfErr, IsErrOf, is_ok, string_bytes};
 ghost use Rattle.rule_model.specs.Tiling.{tiling_of};
+ghost use Rattle.rule_text.specs.Limits.{longest_file};
 ghost use Rattle.tile_io.specs.Causes.{Rose};
 ghost use Rattle.tile_app.specs.Answer.{IsPrinted, Prints, Refuses};
 ghost use Rattle.tile_app.specs.Asked.{OfRequest};
 ghost use Rattle.tile_app.specs.Causes.{IsRefused};
 ghost use Rattle.tile_app.specs.Layers.{HaveLayers, reads_file};
+ghost use Rattle.tile_app.specs.Request.{request_of};
 ghost use Rattle.tile_app.specs.Status.{OrNoMemory};
 ghost use Rattle.tile_app.specs.Words.{texts, command_of};
 
+use crate::calc::calc_text;
 use crate::check::check_text;
 use crate::draw::draw_text;
+use crate::drill::drill_text;
+use crate::file_given::file_given;
 use crate::layers::lacking;
 use crate::neighbour::neighbour_text;
 use crate::place::place_text;
-use crate::rule_given::rule_given;
+use crate::rule_given::{choice_given, rule_chosen};
 use crate::status::Status;
 use crate::walk::walk_text;
 use crate::words::{Command, command_of};
@@ -38,19 +43,21 @@ fn bytes_of(text: Result<String, Status>) -> Result<Vec<u8>, Status>
     }
 }
 
-/// What a command prints for right words and a checked rule, or its refusal.
+/// What a command prints for right words, a checked rule and the file that was read, or its refusal.
 fn command_text<D: Layer, L: Ledger>(
     alloc: Global,
     command: Command,
     checked: Checked,
     words: &[String],
+    file: &[u8],
     layers: &mut [D],
     steps: &mut Steps<L>,
 ) -> Result<Vec<u8>, Status>
     requires right { command_of (texts words.now) ≡ Ok command }
     requires have_layers { HaveLayers (texts words.now) (map D.form layers.old) }
-    ensures printed { IfOk result (λ text. IsPrinted command (texts words.now) (tiling_of checked) text.items) }
-    ensures refused { IfErr result (OrNoMemory (Refuses command (texts words.now) (tiling_of checked))) }
+    requires at_most_a_mebibyte { length file.now ≤ longest_file }
+    ensures printed { IfOk result (λ text. IsPrinted command (request_of (texts words.now) (map D.form layers.old) file.now) (tiling_of checked) text.items) }
+    ensures refused { IfErr result (OrNoMemory (Refuses command (request_of (texts words.now) (map D.form layers.old) file.now) (tiling_of checked))) }
 {
     match command {
         Command::Check => Ok(check_text(alloc, &checked)?.into_bytes()),
@@ -67,11 +74,19 @@ fn command_text<D: Layer, L: Ledger>(
             let machine = Machine::new(alloc, checked)?;
             draw_text(alloc, &machine, words, layers)
         }
+        Command::Calc => {
+            let machine = Machine::new(alloc, checked)?;
+            calc_text(alloc, &machine, file)
+        }
+        Command::Drill => {
+            let machine = Machine::new(alloc, checked)?;
+            bytes_of(drill_text(alloc, &machine, words))
+        }
     }
 }
 
-/// The whole text that answers the request, or its refusal. The source is read where the words choose
-/// the rule of a file, and each format that they ask for has a layer.
+/// The whole text that answers the request, or its refusal. The source is read where the words are right, each
+/// format that they ask for has a layer, and they choose the rule of a file or have a script read.
 pub fn answer_text<R: Source, D: Layer, L: Ledger>(
     alloc: Global,
     words: &[String],
@@ -92,6 +107,16 @@ pub fn answer_text<R: Source, D: Layer, L: Ledger>(
     if let Some(format) = lacking(command, words, layers) {
         return Err(Status::NoLayer { format });
     }
-    let checked = rule_given(alloc, words, source)?;
-    command_text(alloc, command, checked, words, layers, steps)
+    let choice = choice_given(words);
+    let file = file_given(alloc, command, choice, source)?;
+    let checked = rule_chosen(alloc, choice, file.as_slice())?;
+    command_text(
+        alloc,
+        command,
+        checked,
+        words,
+        file.as_slice(),
+        layers,
+        steps,
+    )
 }

@@ -1,14 +1,18 @@
 //! Faults as words of a line.
 ghost use Rattle.std.specs.Prelude.{◌≡◌, ◌+◌, ◌≤◌, ◌∷◌, ◌++◌, codes, decimal, length};
 ghost use Rattle.arrayvec.specs.ArrayString.{array_string_len};
+ghost use Rattle.addr_calc.specs.FaultText as scripts;
 ghost use Rattle.dissect_check.specs.FaultText as checks;
 ghost use Rattle.rule_text.specs.FaultText as texts;
 ghost use Rattle.tile_shape.specs.FaultText as addresses;
 ghost use Rattle.tile_app.specs.RuleFaultText.{rule_fault_text};
+ghost use Rattle.tile_app.specs.ScriptFaultText.{script_fault_text};
 ghost use Rattle.cyclo_points.specs.Text.{blank};
 
-use crate::line::{LINE_ROOM, put_number, put_numbered, put_word};
+use crate::line::{LINE_ROOM, put_number, put_numbered, put_point, put_word};
 use crate::rule_fault::RuleFault;
+use crate::script_fault::ScriptFault;
+use addr_calc::calc_fault::CalcFault;
 use arrayvec::ArrayString;
 use dissect_check::check_fault::CheckFault;
 use dissect_check::what::What;
@@ -172,5 +176,64 @@ pub fn put_rule_fault(line: &mut ArrayString<LINE_ROOM>, fault: RuleFault)
     match fault {
         RuleFault::Text(fault) => put_text_fault(line, fault),
         RuleFault::Check(fault) => put_check_fault(line, fault),
+    }
+}
+
+/// Puts the fault of a line of a script.
+fn put_calc_fault(line: &mut ArrayString<LINE_ROOM>, fault: CalcFault)
+    requires room { array_string_len line.old + 140 ≤ LINE_ROOM }
+    ensures fault { line.new.bytes ≡ line.old.bytes ++ blank ∷ scripts.calc_fault_text fault }
+    ensures at_most { array_string_len line.new ≤ array_string_len line.old + 140 }
+{
+    match fault {
+        CalcFault::BadLine {
+            line: number,
+            place,
+        } => {
+            put_numbered(line, "BadLine", u64::from(number));
+            put_number(line, u64::from(place));
+        }
+        CalcFault::UnknownName { line: number } => put_numbered(
+            line,
+            "UnknownName",
+            u64::from(number),
+        ),
+        CalcFault::Address {
+            line: number,
+            fault,
+        } => {
+            put_numbered(line, "Address", u64::from(number));
+            put_address_fault(line, fault);
+        }
+        CalcFault::NoEdge { line: number } => put_numbered(line, "NoEdge", u64::from(number)),
+        CalcFault::Outside {
+            line: number,
+            edge,
+            part,
+        } => {
+            put_numbered(line, "Outside", u64::from(number));
+            put_number(line, u64::from(edge));
+            put_number(line, u64::from(part));
+        }
+        CalcFault::CoordLimit {
+            line: number,
+            value,
+        } => {
+            put_numbered(line, "CoordLimit", u64::from(number));
+            put_point(line, &value);
+        }
+        CalcFault::NoMemory => put_word(line, "NoMemory"),
+    }
+}
+
+/// Puts why a script is refused.
+pub fn put_script_fault(line: &mut ArrayString<LINE_ROOM>, fault: ScriptFault)
+    requires room { array_string_len line.old + 140 ≤ LINE_ROOM }
+    ensures fault { line.new.bytes ≡ line.old.bytes ++ blank ∷ script_fault_text fault }
+    ensures at_most { array_string_len line.new ≤ array_string_len line.old + 140 }
+{
+    match fault {
+        ScriptFault::TooLong => put_word(line, "TooLong"),
+        ScriptFault::Calc(fault) => put_calc_fault(line, fault),
     }
 }

@@ -5,10 +5,13 @@
 #![tactic(auto)]
 
 mod answer;
+mod calc;
 mod check;
 mod draw;
 mod drawn_tile;
+mod drill;
 mod fault_words;
+mod file_given;
 mod format_words;
 mod layers;
 mod line;
@@ -22,7 +25,9 @@ pub mod rule_choice;
 pub mod rule_fault;
 mod rule_given;
 pub mod run;
+pub mod script_fault;
 pub mod status;
+mod summary;
 mod tile;
 mod walk;
 mod window_words;

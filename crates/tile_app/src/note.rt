@@ -4,7 +4,7 @@ ghost use Rattle.arrayvec.specs.ArrayString.{array_string_len};
 ghost use Rattle.tile_app.specs.Notes.{status_text, note_of, IsNoted};
 ghost use Rattle.cyclo_points.specs.Text.{blank};
 
-use crate::fault_words::{put_address_fault, put_rule_fault};
+use crate::fault_words::{put_address_fault, put_rule_fault, put_script_fault};
 use crate::format_words::format_text;
 use crate::line::{LINE_ROOM, put_address, put_number, put_numbered, put_point, put_word};
 use crate::status::Status;
@@ -54,6 +54,10 @@ fn put_status(line: &mut ArrayString<LINE_ROOM>, status: &Status)
             put_point(line, value);
         }
         Status::TooManyTiles => put_word(line, "TooManyTiles"),
+        Status::BadScript { fault } => {
+            put_word(line, "BadScript");
+            put_script_fault(line, *fault);
+        }
         Status::WriteFault => put_word(line, "WriteFault"),
         Status::NoMemory => put_word(line, "NoMemory"),
     }

@@ -15,7 +15,7 @@ pub enum RuleChoice {
 }
 
 /// The built-in rule that a text names.
-fn name_in(text: &str) -> Option<Name>
+pub fn name_in(text: &str) -> Option<Name>
     ensures { result ≡ name_in text.now }
 {
     match text {

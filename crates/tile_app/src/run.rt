@@ -15,6 +15,7 @@ ghost use Rattle.tile_app.specs.Words.{texts};
 use crate::answer::answer_text;
 use crate::note::write_note;
 use crate::status::Status;
+use addr_calc::laws::one_answer_law;
 use dissect_check::laws::accepted_children_law;
 use edge_tables::steps::Steps;
 use layer_api::layer::Layer;
@@ -61,25 +62,26 @@ fn answer<R: Source, W: Sink, D: Layer, L: Ledger>(
     }
 }
 
-/// Does all that the program does: reads the words, and the rule file where they ask for it, and
-/// writes what they ask for to the sink. A refusal writes its one line to the notes; a fault of the
-/// notes changes no status.
+/// Does all that the program does: reads the words, and the rule file or the script where they ask for
+/// it, and writes what they ask for to the sink. A refusal writes its one line to the notes; a fault of
+/// the notes changes no status.
 ///
 /// - `words` are those behind the program's name: a command, and then `key=value` words in any order.
-/// - `source` has the rule file, of at most 1,048,576 bytes. It is read to its end where the words are
-///   right, each format that they name has a layer, and they have `rule=-`, and else left as it was.
+/// - `source` has the rule file, or the script of `calc`, of at most 1,048,576 bytes. It is read to its
+///   end where the words are right, each format that they name has a layer, and they have `rule=-` or the
+///   command `calc`, and else left as it was.
 /// - `sink` takes the text, which is built whole before its first byte is written.
 /// - `notes` take the line of a refusal.
 /// - `layers` are what `draw` draws through, each format named through the first layer that has it. All
 ///   are dropped in the end, used or not.
 /// - `alloc` gives all memory.
 ///
-/// The clauses speak of the request, which is the words, the formats of the layers, and the rule file.
-/// It is tested in this order: the words (`BadWords`), the layers (`NoLayer`), the source and the rule
-/// file (`ReadFault`, `RuleTooLong`, `RuleRefused`), the address (`BadAddress`), and then what the command
-/// refuses: `place` a value (`CoordLimit`), `neighbour` an edge (`NoEdge`, `Outside`), `walk` an edge of
-/// its path (`NoEdge`, `DepthLimit`), `draw` its window (`DepthLimit`, `CoordLimit`, `TooManyTiles`), and
-/// `check` nothing more. In place of any answer but the first two `NoMemory` may come, and in place of
+/// The clauses speak of the request, which is the words, the formats of the layers, and the file that was
+/// read. It is tested in this order: the words (`BadWords`), the layers (`NoLayer`), the source and the
+/// file (`ReadFault`, `RuleTooLong`, `BadScript`, `RuleRefused`), the address (`BadAddress`), and then what
+/// the command refuses: `place` a value (`CoordLimit`), `neighbour` an edge (`NoEdge`, `Outside`), `walk`
+/// an edge of its path (`NoEdge`, `DepthLimit`), `draw` its window (`DepthLimit`, `CoordLimit`,
+/// `TooManyTiles`), `calc` a line of its script (`BadScript`), and `check` and `drill` nothing more. In place of any answer but the first two `NoMemory` may come, and in place of
 /// `Done` also `WriteFault`. What each refusal tells stands at `Status`.
 pub fn run<R: Source, W: Sink, N: Sink>(
     alloc: Global,
@@ -93,7 +95,8 @@ pub fn run<R: Source, W: Sink, N: Sink>(
     // tile lies in its supertile; for `neighbour` the one tile and edge across the edge; for `walk` the
     // tiles of the path; for `draw` the layers' texts of exactly the tiles that meet the window, each
     // once, disjoint and covering it, or with `glue=yes` of their whole tiles, so too; for `check` that the
-    // rule is accepted. The rule file, where one is read, was read to its end.
+    // rule is accepted; for `calc` what its script prints; for `drill` the summary of its windows. The
+    // file, where one is read, was read to its end.
     ensures done { result ≡ Status.Done
         → OfRequest (texts words.now.items) (map (λ d. form d) layers.items) (R.left source.old) (R.left source.new)
         (λ r. (text : List ℕ) × Prints r text × Takes (W.taken sink.old) (W.taken sink.new) text) }
@@ -127,11 +130,12 @@ pub fn run<R: Source, W: Sink, N: Sink>(
     ensures not_noted { result ≡ Status.Done → notes.new ≡ notes.old }
 {
     // Laws, whose calls do nothing, by which a request has one answer, so that where a cause holds its
-    // status comes: no two addresses that fit have one text, and the child kinds of an accepted rule are
-    // a table that addresses can fit.
+    // status comes: no two addresses that fit have one text, the child kinds of an accepted rule are a
+    // table that addresses can fit, and a script has one outcome.
     text_law();
     short_numbers_law();
     accepted_children_law();
+    one_answer_law();
     let status = answer::<R, W, Box<dyn Layer>, Brand>(
         alloc,
         words.as_slice(),

@@ -3,6 +3,8 @@ ghost use Rattle.std.specs.Prelude.{◌≡◌};
 ghost use Rattle.tile_app.specs.Status.{code_of};
 
 use crate::rule_fault::RuleFault;
+use crate::script_fault::ScriptFault;
+use addr_calc::calc_fault::CalcFault;
 use cyclo_points::point::Point;
 use dissect_check::check_fault::CheckFault;
 use half_glue::glue_fault::GlueFault;
@@ -10,7 +12,6 @@ use layer_api::format::Format;
 use lazy_walk::path_fault::PathFault;
 use rule_text::text_fault::TextFault;
 use std::alloc::AllocError;
-use tile_io::read_all_fault::ReadAllFault;
 use tile_place::coord_limit::CoordLimit;
 use tile_shape::address::Address;
 use tile_shape::address_fault::AddressFault;
@@ -30,7 +31,7 @@ pub enum Status {
     NoLayer { format: Format },
     /// A call of the source failed.
     ReadFault,
-    /// The source holds more than 1,048,576 bytes, the most that a rule file may have.
+    /// The rule file holds more than 1,048,576 bytes, the most that it may have.
     RuleTooLong,
     /// The rule file stands for no rule, or for one that isn't accepted: its first fault.
     RuleRefused { fault: RuleFault },
@@ -49,6 +50,8 @@ pub enum Status {
     CoordLimit { value: Point },
     /// More than 200,000 tiles meet the window.
     TooManyTiles,
+    /// The script is too long, or a line of it has a fault: the first such line, and its first fault.
+    BadScript { fault: ScriptFault },
     /// The sink failed: it took a proper prefix of the text.
     WriteFault,
     /// No memory was left, a layer took no more, or the rule file's tables would take more than the engine
@@ -74,6 +77,7 @@ impl Status {
             Status::WriteFault => 10,
             Status::NoMemory => 11,
             Status::NoEdge { .. } => 12,
+            Status::BadScript { .. } => 13,
             Status::NoLayer { .. } => 14,
         }
     }
@@ -96,20 +100,6 @@ impl From<NoMemory> for Status {
 
     fn from(_error: NoMemory) -> Status {
         Status::NoMemory
-    }
-}
-
-impl From<ReadAllFault> for Status {
-    ghost use Rattle.tile_app.specs.Turned.{status_of_reading};
-
-    ghost from_gives = { λ fault status. status ≡ status_of_reading fault };
-
-    fn from(fault: ReadAllFault) -> Status {
-        match fault {
-            ReadAllFault::TooLong => Status::RuleTooLong,
-            ReadAllFault::Fault => Status::ReadFault,
-            ReadAllFault::NoMemory => Status::NoMemory,
-        }
     }
 }
 
@@ -217,6 +207,21 @@ impl From<GlueFault> for Status {
             GlueFault::DepthLimit { addr, edge } => Status::DepthLimit { addr, edge },
             GlueFault::CoordLimit { value } => Status::CoordLimit { value },
             GlueFault::NoMemory => Status::NoMemory,
+        }
+    }
+}
+
+impl From<CalcFault> for Status {
+    ghost use Rattle.tile_app.specs.Turned.{status_of_calc};
+
+    ghost from_gives = { λ fault status. status ≡ status_of_calc fault };
+
+    fn from(fault: CalcFault) -> Status {
+        match fault {
+            CalcFault::NoMemory => Status::NoMemory,
+            _ => Status::BadScript {
+                fault: ScriptFault::Calc(fault),
+            },
         }
     }
 }

@@ -1,6 +1,7 @@
 //! Windows in words.
 ghost use Rattle.std.specs.Prelude.{◌≡◌, ◌≤◌, ◌^◌, [], ◌∷◌, IfSome};
 ghost use Rattle.cyclo_points.specs.Point.{Within, IsWithin};
+ghost use Rattle.tile_app.specs.Commands.{windows_in};
 ghost use Rattle.tile_app.specs.WindowWords.{coefficient_in, extent_in, point_of_pieces, extents_of_pieces, at_in, half_in, FitWindow};
 
 use cyclo_points::point::Point;
@@ -11,6 +12,9 @@ const MOST_COEFFICIENT: u64 = 1048576;
 
 /// The greatest half extent.
 const MOST_EXTENT: u64 = 4096;
+
+/// The most windows of a drill.
+const MOST_WINDOWS: u64 = 200;
 
 /// Half a width and half a height.
 #[derive(Clone, Copy, Debug, PartialEq, Eq)]
@@ -90,4 +94,16 @@ pub fn half_in(text: &str) -> Option<HalfExtents>
 {
     let (width, height) = text.split_once(',')?;
     extents_of_texts(width, height)
+}
+
+/// The number of windows that a text is: 1 to 200.
+pub fn windows_in(text: &str) -> Option<u8>
+    ensures number { result ≡ windows_in text.now }
+    ensures some { IfSome result (λ n. 1 ≤ n) }
+    ensures at_most { IfSome result (λ n. n ≤ 200) }
+{
+    match read_number(text.as_bytes(), MOST_WINDOWS)? {
+        0 => None,
+        number => Some(number as u8),
+    }
 }

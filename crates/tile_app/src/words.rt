@@ -2,14 +2,14 @@
 ghost use Rattle.std.specs.Prelude.{◌≡◌, is_some};
 ghost use Rattle.std.specs.Option.{option_map};
 ghost use Rattle.std.specs.List.{list_all};
-ghost use Rattle.tile_app.specs.Commands.{key_text, command_named, keys_of, required_keys, has_form};
+ghost use Rattle.tile_app.specs.Commands.{key_text, command_named, keys_of, required_keys, is_rule_for, has_form};
 ghost use Rattle.tile_app.specs.Words.{texts, value_in, value_given, is_right, command_of};
 
 use crate::format_words::formats_in;
 use crate::number::number_up_to_255;
 use crate::path_word::path_in;
-use crate::rule_choice::choice_in;
-use crate::window_words::{at_in, half_in};
+use crate::rule_choice::{choice_in, name_in};
+use crate::window_words::{at_in, half_in, windows_in};
 use tile_shape::decimal::read_number;
 
 /// A command of the program.
@@ -25,6 +25,10 @@ pub enum Command {
     Draw,
     /// Prints that a rule is accepted.
     Check,
+    /// Computes with addresses, by a script that is read.
+    Calc,
+    /// Covers windows made from a start number, and prints a summary.
+    Drill,
 }
 
 /// A key of a word `key=value`.
@@ -50,6 +54,8 @@ pub enum Key {
     Layers,
     /// Whether halves are drawn as whole tiles.
     Glue,
+    /// How many windows are covered.
+    Count,
 }
 
 impl Command {
@@ -67,6 +73,10 @@ impl Command {
             Some(Command::Draw)
         } else if word == "check" {
             Some(Command::Check)
+        } else if word == "calc" {
+            Some(Command::Calc)
+        } else if word == "drill" {
+            Some(Command::Drill)
         } else {
             None
         }
@@ -89,7 +99,8 @@ impl Command {
                 Key::Seed,
                 Key::Glue,
             ],
-            Command::Check => &[Key::Rule],
+            Command::Check | Command::Calc => &[Key::Rule],
+            Command::Drill => &[Key::Rule, Key::Count, Key::Seed],
         }
     }
 
@@ -102,7 +113,18 @@ impl Command {
             Command::Neighbour => &[Key::Rule, Key::Addr, Key::Edge],
             Command::Walk => &[Key::Rule, Key::Addr],
             Command::Draw => &[Key::Rule, Key::Addr, Key::At, Key::Half, Key::Layers],
-            Command::Check => &[Key::Rule],
+            Command::Check | Command::Calc => &[Key::Rule],
+            Command::Drill => &[Key::Rule, Key::Count],
+        }
+    }
+
+    /// Whether a text is a rule for it: `calc` has a script read where the others may have a rule file.
+    fn is_rule(self, value: &str) -> bool
+        ensures { result ≡ is_rule_for self value.now }
+    {
+        match self {
+            Command::Calc => name_in(value).is_some(),
+            _ => choice_in(value).is_some(),
         }
     }
 }
@@ -123,15 +145,16 @@ impl Key {
             Key::Half => "half",
             Key::Layers => "layers",
             Key::Glue => "glue",
+            Key::Count => "n",
         }
     }
 
-    /// Whether a value has the key's form.
-    fn has_form(self, value: &str) -> bool
-        ensures { result ≡ has_form self value.now }
+    /// Whether a value has the key's form for a command.
+    fn has_form(self, command: Command, value: &str) -> bool
+        ensures { result ≡ has_form command self value.now }
     {
         match self {
-            Key::Rule => choice_in(value).is_some(),
+            Key::Rule => command.is_rule(value),
             Key::Addr => true,
             Key::Edge => number_up_to_255(value).is_some(),
             Key::Seed => read_number(value.as_bytes(), u64::MAX).is_some(),
@@ -141,6 +164,7 @@ impl Key {
             Key::Half => half_in(value).is_some(),
             Key::Layers => formats_in(value).is_some(),
             Key::Glue => value == "yes" || value == "no",
+            Key::Count => windows_in(value).is_some(),
         }
     }
 
@@ -175,7 +199,7 @@ fn is_right(command: Command, before: &[String], word: &str) -> bool
 {
     for key in command.keys() {
         if let Some(value) = key.value_in(word) {
-            return key.value_given(before).is_none() && key.has_form(value);
+            return key.value_given(before).is_none() && key.has_form(command, value);
         }
     }
     false

@@ -1,5 +1,6 @@
 use Rattle.std.proofs.Common.{rules, sym, ap, ◌∙◌, option_map}
 use Rattle.std.specs.Option.{option_and_then}
+use Rattle.tile_app.specs.declared.words.Command.TheVariants.{Draw}
 use Rattle.tile_app.specs.declared.words.Key.TheVariants.{At}
 use Rattle.tile_app.specs.WindowWords.{at_in}
 use Rattle.tile_app.specs.Words.{texts}
@@ -12,7 +13,7 @@ unwrap-text-requires c = let k = at-right (texts c.args.words.now) c.requires.ri
 pub unwrap-requires : goal.unwrap-requires
 unwrap-requires c =
     let given = sym c.value_given.ensures ∙ ap (option_map (λ v. v.now)) c.unwrap-text.ensures in
-    let h = form_is_right (texts c.args.words.now) At c.unwrap-text.result.now (at-right (texts c.args.words.now) c.requires.right) given in
+    let h = form_is_right Draw (texts c.args.words.now) At c.unwrap-text.result.now (at-right (texts c.args.words.now) c.requires.right) given in
     let e = c.at_in.ensures.point in
     search (rules, h, e)
 

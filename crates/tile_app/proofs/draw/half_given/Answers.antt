@@ -1,5 +1,6 @@
 use Rattle.std.proofs.Common.{rules, sym, ap, ◌∙◌, option_map}
 use Rattle.std.specs.Option.{option_and_then}
+use Rattle.tile_app.specs.declared.words.Command.TheVariants.{Draw}
 use Rattle.tile_app.specs.declared.words.Key.TheVariants.{Half}
 use Rattle.tile_app.specs.WindowWords.{half_in}
 use Rattle.tile_app.specs.Words.{texts}
@@ -12,7 +13,7 @@ unwrap-text-requires c = let k = half-right (texts c.args.words.now) c.requires.
 pub unwrap-requires : goal.unwrap-requires
 unwrap-requires c =
     let given = sym c.value_given.ensures ∙ ap (option_map (λ v. v.now)) c.unwrap-text.ensures in
-    let h = form_is_right (texts c.args.words.now) Half c.unwrap-text.result.now (half-right (texts c.args.words.now) c.requires.right) given in
+    let h = form_is_right Draw (texts c.args.words.now) Half c.unwrap-text.result.now (half-right (texts c.args.words.now) c.requires.right) given in
     let e = c.half_in.ensures.half in
     search (rules, h, e)
 

@@ -4,6 +4,7 @@ use Rattle.tile_shape.specs.FaultText.{address_fault_text}
 use Rattle.tile_app.specs.FormatWords.{format_text}
 use Rattle.tile_app.specs.Notes.{status_text}
 use Rattle.tile_app.specs.RuleFaultText.{rule_fault_text}
+use Rattle.tile_app.specs.ScriptFaultText.{script_fault_text}
 use Rattle.std.specs.Fmt.{decimal}
 use Rattle.tile_shape.specs.Text.{address_text}
 use Rattle.tile_shape.specs.Views.{address_of}
@@ -34,3 +35,8 @@ pub returns-in-NoLayer-clause-status : goal.returns-in-NoLayer-clause-status
 returns-in-NoLayer-clause-status c =
     two_words c.args.line.now.bytes _ _ (codes "NoLayer") (format_text c.in-NoLayer.format) c.put_word-in-NoLayer.ensures (c.put_word-in-NoLayer-2.ensures ∙ ap (λ w. c.put_word-in-NoLayer.new.line.bytes ++ blank ∷ w) c.format_text.ensures)
     ∙ ap (λ s. c.args.line.now.bytes ++ blank ∷ status_text s) (sym c.in-NoLayer.is)
+
+pub returns-in-BadScript-clause-status : goal.returns-in-BadScript-clause-status
+returns-in-BadScript-clause-status c =
+    two_words c.args.line.now.bytes _ _ (codes "BadScript") (script_fault_text c.in-BadScript.fault) c.put_word-in-BadScript.ensures c.put_script_fault.ensures.fault
+    ∙ ap (λ s. c.args.line.now.bytes ++ blank ∷ status_text s) (sym c.in-BadScript.is)

@@ -1,0 +1,7 @@
+pub mod Levels
+pub mod Faults
+pub mod OneAnswer
+pub mod Names
+pub mod Printing
+pub mod Tables
+pub mod Scripts

@@ -1,0 +1,76 @@
+use Rattle.std.proofs.Common.{◌<◌, Some, refl, sym, ap, ◌∙◌, subst}
+use Rattle.addressing.specs.Address.{Fits}
+use Rattle.addressing.specs.Tables.{child_kinds}
+use Rattle.rule_model.specs.Tiling.{tiling_of, children, contacts}
+use Rattle.tile_place.specs.Crossed.{edges_of}
+use Rattle.tile_shape.specs.Views.{address_of}
+use Rattle.addr_calc.specs.Bindings.{bind}
+use Rattle.addr_calc.specs.Calculation.{AllFit}
+use Rattle.addr_calc.specs.Printed.{across_line}
+use Rattle.addr_calc.proofs.Names.{bind_fits}
+use Rattle.addr_calc.proofs.Tables.{kind_in_tables, edges_counted, edge_has_type, ok_or_err, outside_is}
+use Rattle.addr_calc.proofs.calculation.Calculation.across.Goals as goal
+
+pub edges-requires : goal.edges-requires
+edges-requires g c = record {
+  exists = kind_in_tables c.tables.result.now (children (tiling_of c.args.machine.now)) c.in-Some.address.now.kind
+      (ap child_kinds (c.tables.ensures.contacts ∙ ap (λ m. contacts (tiling_of m)) c.checked.ensures.rule) ∙ c.checked.ensures.same_child_kinds)
+      (c.requires.all_fit c.args.name.number (address_of c.in-Some.address.now) (sym c.in-Some.ensures)).kind_exists;
+}
+
+pub cross_in_place-requires : goal.cross_in_place-requires
+cross_in_place-requires g c =
+    let t = tiling_of c.args.machine.now in
+    let kind = c.in-Some.address.now.kind in
+    let edge = c.args.edge in
+    let count = edges_counted c.tables.result.now t kind c.edges.result (c.tables.ensures.contacts ∙ ap (λ m. contacts (tiling_of m)) c.checked.ensures.rule) c.edges.ensures.count in
+    record {
+      fits = subst (Fits (children t)) (sym c.put_digits.ensures.seen) (c.requires.all_fit c.args.name.number (address_of c.in-Some.address.now) (sym c.in-Some.ensures));
+      edge_exists = edge_has_type (contacts t) c.put_digits.new.there.kind edge
+          (subst (λ k. edge < edges_of t k) (sym c.put_digits.ensures.kind) (subst (λ n. edge < n) count c.if-edge-edges.false));
+    }
+
+pub returns-in-Err-clause-refused : goal.returns-in-Err-clause-refused
+returns-in-Err-clause-refused g c =
+    let t = tiling_of c.args.machine.now in
+    let kind = c.in-Some.address.now.kind in
+    let edge = c.args.edge in
+    let count = edges_counted c.tables.result.now t kind c.edges.result (c.tables.ensures.contacts ∙ ap (λ m. contacts (tiling_of m)) c.checked.ensures.rule) c.edges.ensures.count in (
+      refl,
+      record {
+        address = address_of c.put_digits.new.there;
+        bound = sym c.in-Some.ensures ∙ ap (λ a. Some a) (sym c.put_digits.ensures.seen);
+        exists = subst (λ k. edge < edges_of t k) (sym c.put_digits.ensures.kind) (subst (λ n. edge < n) count c.if-edge-edges.false);
+        along = c.in-Err.ensures.outside_on_boundary;
+        alone = λ top other on. outside_is _ _ top other c.in-Err.is (c.cross_in_place.ensures.boundary_is_outside top other on);
+      },
+    )
+
+pub returns-in_ok-print_across-in-Ok-clause-done : goal.returns-in_ok-print_across-in-Ok-clause-done
+returns-in_ok-print_across-in-Ok-clause-done g c =
+    let t = tiling_of c.args.machine.now in
+    let kind = c.in-Some.address.now.kind in
+    let x = address_of c.cross_in_place.new.addr in
+    let back = c.in-Ok.back in
+    let edge = c.args.edge in
+    let other = c.args.other.number in
+    let count = edges_counted c.tables.result.now t kind c.edges.result (c.tables.ensures.contacts ∙ ap (λ m. contacts (tiling_of m)) c.checked.ensures.rule) c.edges.ensures.count in
+    let after = c.bind.ensures ∙ ap (λ names. bind names other x) c.in_ok-print_across-in-Ok.ensures.names in
+    record {
+      printed = across_line other x back;
+      does = record {
+        address = address_of c.put_digits.new.there;
+        bound = sym c.in-Some.ensures ∙ ap (λ a. Some a) (sym c.put_digits.ensures.seen);
+        exists = subst (λ k. edge < edges_of t k) (sym c.put_digits.ensures.kind) (subst (λ n. edge < n) count c.if-edge-edges.false);
+        on_none = λ top part lies. ok_or_err _ _ _ c.in-Ok.is (c.cross_in_place.ensures.boundary_is_outside top part lies);
+        across = x;
+        back = back;
+        only_across = c.in-Ok.ensures.only_tile_across;
+        leads_back = c.in-Ok.ensures.leads_back;
+        binds = after;
+        line = refl;
+      };
+      text = c.in_ok-print_across-in-Ok.ensures.printed;
+      number = c.in_ok-print_across-in-Ok.ensures.number;
+      all_fit = λ fit. subst (AllFit t) (sym after) (bind_fits t c.args.self.now.names other x c.in-Ok.ensures.answer_fits fit);
+    }

@@ -1,0 +1,7 @@
+use Rattle.addr_calc.specs.Bindings.{none_bound}
+use Rattle.addr_calc.specs.Parts.{parts, newline}
+use Rattle.addr_calc.proofs.OneAnswer.{comes_once}
+use Rattle.addr_calc.proofs.laws.one_answer_law.Goals as goal
+
+pub returns : goal.returns
+returns c = λ t script one other usable h k. comes_once c.text_law.ensures c.short_numbers_law.ensures t usable none_bound 1 (parts newline script) one other h k

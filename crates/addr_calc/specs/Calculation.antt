@@ -1,0 +1,28 @@
+-- One line more in the state of a script that is run.
+use Rattle.std.specs.Prelude.{◌≡◌, ℕ, ◌+◌, List, ◌++◌}
+use Rattle.addressing.specs.Address.{Address, Fits}
+use Rattle.rule_model.specs.Tiling.{Tiling, children}
+use Rattle.addr_calc.specs.Bindings.{Bindings, IsBound}
+use Rattle.addr_calc.specs.declared.calculation.Calculation.{Calculation}
+use Rattle.addr_calc.specs.Does.{Does, Runs}
+use Rattle.addr_calc.specs.Statement.{Statement}
+
+-- each address that is bound is that of a tile of the tiling
+abbrev pub AllFit : Tiling → Bindings → Type 0
+AllFit t names = (name : ℕ) (a : Address) → IsBound names name a → Fits (children t) a
+
+-- a statement was done: the names are bound as it says, and what it prints stands behind what was printed before
+pub record WasDone (t : Tiling) (statement : Statement) (before after : Calculation) : Type 0 where
+  pub printed : List ℕ
+  pub does : Does t before.names statement after.names printed
+  pub text : after.text.items ≡ before.text.items ++ printed
+  pub number : after.number ≡ before.number
+  pub all_fit : AllFit t before.names → AllFit t after.names
+
+-- a line was run, and counted
+pub record WasRun (t : Tiling) (line : List ℕ) (before after : Calculation) : Type 0 where
+  pub printed : List ℕ
+  pub runs : Runs t before.names line after.names printed
+  pub text : after.text.items ≡ before.text.items ++ printed
+  pub number : after.number ≡ before.number + 1
+  pub all_fit : AllFit t before.names → AllFit t after.names

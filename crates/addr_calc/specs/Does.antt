@@ -1,0 +1,79 @@
+-- What a statement does: the names as they are bound after it, and what it prints.
+use Rattle.std.specs.Prelude.{◌≡◌, ℕ, ◌<◌, List, [], Option, None, Ok}
+use Rattle.addressing.specs.Address.{Address}
+use Rattle.rule_model.specs.Tiling.{Tiling, MotionOf, IsPlaced, children}
+use Rattle.tile_place.specs.Crossed.{IsOnlyAcross, LiesOnBoundary, edges_of}
+use Rattle.tile_place.specs.Placing.{first_refused}
+use Rattle.tile_shape.specs.Accepted.{IsAcceptedAddress}
+use Rattle.tile_shape.specs.Text.{address_text}
+use Rattle.addr_calc.specs.Bindings.{Bindings, IsBound, bind}
+use Rattle.addr_calc.specs.Level.{IsCommonLevel}
+use Rattle.addr_calc.specs.Statement.{Statement}
+use Rattle.addr_calc.specs.Statement.Statement.{Nothing, Let, Show, Place, Across, Common}
+use Rattle.addr_calc.specs.Reading.{statement_in}
+use Rattle.addr_calc.specs.Printed.{show_line, place_line, across_line, common_line}
+
+-- the name is bound to the address of this text, a tile of the tiling
+pub record Binds (t : Tiling) (names : Bindings) (name : ℕ) (text : List ℕ) (after : Bindings) (printed : List ℕ) : Type 0 where
+  pub address : Address
+  pub accepted : IsAcceptedAddress (children t) address
+  pub its_text : text ≡ address_text address
+  pub binds : after ≡ bind names name address
+  pub silent : printed ≡ []
+
+-- the address of the name is printed
+pub record Shows (names : Bindings) (name : ℕ) (after : Bindings) (printed : List ℕ) : Type 0 where
+  pub address : Address
+  pub bound : IsBound names name address
+  pub keeps : after ≡ names
+  pub line : printed ≡ show_line name address
+
+-- none of the tile's Horner values is refused, and its kind and the motion by which it lies in its supertile are printed
+pub record Places (t : Tiling) (names : Bindings) (name : ℕ) (after : Bindings) (printed : List ℕ) : Type 0 where
+  pub address : Address
+  pub bound : IsBound names name address
+  pub within : first_refused t address.digits ≡ None
+  pub motion : MotionOf t
+  pub placed : IsPlaced t address motion
+  pub keeps : after ≡ names
+  pub line : printed ≡ place_line t.order name address.kind motion
+
+-- The tile has the edge, which isn't on the boundary of the supertile; and the other name is bound to the one tile across it: both tiles placed in their common
+-- supertile, it is the only tile across the edge. Its address is printed, and the edge there that leads back.
+pub record Crosses (t : Tiling) (names : Bindings) (name edge other : ℕ) (after : Bindings) (printed : List ℕ) : Type 0 where
+  pub address : Address
+  pub bound : IsBound names name address
+  pub exists : edge < edges_of t address.kind
+  pub on_none : (top part : ℕ) → LiesOnBoundary t address edge top part → ⊥
+  pub across : Address
+  pub back : ℕ
+  pub only_across : IsOnlyAcross t address edge across back
+  pub leads_back : IsOnlyAcross t across back address edge
+  pub binds : after ≡ bind names other across
+  pub line : printed ≡ across_line other across back
+
+-- the least level from which the two addresses agree is printed, or that there is none
+pub record Compares (names : Bindings) (one other : ℕ) (after : Bindings) (printed : List ℕ) : Type 0 where
+  pub address : Address
+  pub bound : IsBound names one address
+  pub second : Address
+  pub second_bound : IsBound names other second
+  pub level : Option ℕ
+  pub common : IsCommonLevel address second level
+  pub keeps : after ≡ names
+  pub line : printed ≡ common_line one other level
+
+-- what each statement does
+abbrev pub Does : Tiling → Bindings → Statement → Bindings → List ℕ → Type 0
+Does t names Nothing after printed = (after ≡ names) × (printed ≡ [])
+Does t names (Let name text) after printed = Binds t names name text after printed
+Does t names (Show name) after printed = Shows names name after printed
+Does t names (Place name) after printed = Places t names name after printed
+Does t names (Across name edge other) after printed = Crosses t names name edge other after printed
+Does t names (Common one other) after printed = Compares names one other after printed
+
+-- a line that can be run, by its text
+pub record Runs (t : Tiling) (names : Bindings) (text : List ℕ) (after : Bindings) (printed : List ℕ) : Type 0 where
+  pub statement : Statement
+  pub is_statement : statement_in text ≡ Ok statement
+  pub does : Does t names statement after printed

@@ -1,0 +1,12 @@
+pub mod Parts
+pub mod Statement
+pub mod Reading
+pub mod Bindings
+pub mod Level
+pub mod Printed
+pub mod Does
+pub mod Refuses
+pub mod Script
+pub mod FaultText
+pub mod Views
+pub mod Calculation

@@ -1,0 +1,34 @@
+-- The lines that a script prints.
+use Rattle.std.specs.Prelude.{ℕ, ◌+◌, List, [], ◌∷◌, ◌++◌, Option, Some, None, codes, decimal}
+use Rattle.addressing.specs.Address.{Address}
+use Rattle.cyclo_points.specs.Order.{NumberOf}
+use Rattle.cyclo_points.specs.Text.{number_text, blank}
+use Rattle.cyclo_points.specs.declared.order.Order.{Order}
+use Rattle.substitution.specs.Motion.{Motion}
+use Rattle.tile_shape.specs.Text.{address_text}
+use Rattle.addr_calc.specs.Parts.{newline}
+
+-- the letter of a name
+abbrev pub letter : ℕ → ℕ
+letter name = 97 + name
+
+-- a name, as `name address`
+abbrev pub show_line : ℕ → Address → List ℕ
+show_line name a = letter name ∷ blank ∷ address_text a ++ newline ∷ []
+
+-- a tile placed, as `name kind turn shift`
+abbrev pub place_line : (o : Order) → ℕ → ℕ → Motion (NumberOf o) → List ℕ
+place_line o name kind m = letter name ∷ blank ∷ decimal kind ++ blank ∷ decimal m.turn ++ blank ∷ number_text o m.shift ++ newline ∷ []
+
+-- a tile across an edge, and the edge there that leads back, as `name address edge`
+abbrev pub across_line : ℕ → Address → ℕ → List ℕ
+across_line name a edge = letter name ∷ blank ∷ address_text a ++ blank ∷ decimal edge ++ newline ∷ []
+
+-- a level, or `none`
+abbrev pub level_text : Option ℕ → List ℕ
+level_text None = codes "none"
+level_text (Some level) = decimal level
+
+-- two names, as `name name level`
+abbrev pub common_line : ℕ → ℕ → Option ℕ → List ℕ
+common_line one other level = letter one ∷ blank ∷ letter other ∷ blank ∷ level_text level ++ newline ∷ []

@@ -1,0 +1,68 @@
+-- The faults of a line. Each says that those before it don't hold, so that a line has one: it has not the form of a statement; a name that it reads isn't bound; its text is no
+-- address; the tile hasn't the edge; the edge is on the boundary of the supertile; a Horner value is refused.
+use Rattle.std.specs.Prelude.{◌≡◌, ◌⊎◌, ℕ, ◌<◌, ◌≤◌, List, Some, Ok, Err}
+use Rattle.addressing.specs.Address.{Address}
+use Rattle.cyclo_points.specs.Order.{NumberOf, coefficients}
+use Rattle.cyclo_points.specs.declared.point.Point.{Point}
+use Rattle.rule_model.specs.Tiling.{Tiling, children}
+use Rattle.tile_place.specs.Crossed.{LiesOnBoundary, edges_of}
+use Rattle.tile_place.specs.Placing.{first_refused}
+use Rattle.tile_shape.specs.Accepted.{IsAcceptedAddress}
+use Rattle.tile_shape.specs.declared.address_fault.AddressFault.{AddressFault}
+use Rattle.tile_shape.specs.Refused.{IsFaultOf}
+use Rattle.tile_shape.specs.Text.{address_text}
+use Rattle.addr_calc.specs.Bindings.{Bindings, IsBound, IsUnbound}
+use Rattle.addr_calc.specs.declared.calc_fault.CalcFault.{CalcFault}
+use Rattle.addr_calc.specs.declared.calc_fault.CalcFault.TheVariants.{BadLine, UnknownName, Address as BadAddress, NoEdge, Outside, CoordLimit}
+use Rattle.addr_calc.specs.Statement.{Statement}
+use Rattle.addr_calc.specs.Statement.Statement.{Let, Show, Place, Across, Common}
+use Rattle.addr_calc.specs.Reading.{statement_in}
+
+-- a name that the statement reads isn't bound
+abbrev pub ReadsUnbound : Bindings → Statement → Type 0
+ReadsUnbound names (Show name) = IsUnbound names name
+ReadsUnbound names (Place name) = IsUnbound names name
+ReadsUnbound names (Across name edge other) = IsUnbound names name
+ReadsUnbound names (Common one other) = IsUnbound names one ⊎ IsUnbound names other
+ReadsUnbound names _ = ⊥
+
+-- the text is that of no tile of the tiling, and has this fault: the first in the order of the faults of addresses
+pub record IsNoAddress (t : Tiling) (text : List ℕ) (fault : AddressFault) : Type 0 where
+  pub none : (a : Address) → IsAcceptedAddress (children t) a → text ≡ address_text a → ⊥
+  pub first : IsFaultOf (children t) text fault
+
+-- the tile of the name hasn't the edge
+pub record LacksEdge (t : Tiling) (names : Bindings) (name edge : ℕ) : Type 0 where
+  pub address : Address
+  pub bound : IsBound names name address
+  pub beyond : edges_of t address.kind ≤ edge
+
+-- the edge of the tile of the name lies along this edge of the polygon of its supertile, on this part of it, and along no other
+pub record LiesOutside (t : Tiling) (names : Bindings) (name own edge part : ℕ) : Type 0 where
+  pub address : Address
+  pub bound : IsBound names name address
+  pub exists : own < edges_of t address.kind
+  pub along : LiesOnBoundary t address own edge part
+  pub alone : (top other : ℕ) → LiesOnBoundary t address own top other → (top ≡ edge) × (other ≡ part)
+
+-- this point is the first Horner value of the tile of the name that is refused
+pub record PassesLimit (t : Tiling) (names : Bindings) (name : ℕ) (value : Point) : Type 0 where
+  pub address : Address
+  pub bound : IsBound names name address
+  pub number : NumberOf t.order
+  pub first : first_refused t address.digits ≡ Some number
+  pub is_value : value.c ≡ coefficients t.order number
+
+-- a statement is refused by this fault, which has the number of its line; want of memory is no fault
+abbrev pub Refuses : Tiling → Bindings → Statement → ℕ → CalcFault → Type 0
+Refuses t names statement number (UnknownName at) = (at ≡ number) × ReadsUnbound names statement
+Refuses t names (Let name text) number (BadAddress at fault) = (at ≡ number) × IsNoAddress t text fault
+Refuses t names (Across name edge other) number (NoEdge at) = (at ≡ number) × LacksEdge t names name edge
+Refuses t names (Across name edge other) number (Outside at own part) = (at ≡ number) × LiesOutside t names name edge own part
+Refuses t names (Place name) number (CoordLimit at value) = (at ≡ number) × PassesLimit t names name value
+Refuses t names statement number _ = ⊥
+
+-- the fault of a line, by its number and its text
+abbrev pub HasFault : Tiling → Bindings → ℕ → List ℕ → CalcFault → Type 0
+HasFault t names number text (BadLine at place) = (at ≡ number) × (statement_in text ≡ Err place)
+HasFault t names number text fault = (statement : Statement) × (statement_in text ≡ Ok statement) × Refuses t names statement number fault

@@ -1,0 +1,49 @@
+-- The text that a script prints, or the fault of its first line that has one.
+use Rattle.std.specs.Prelude.{◌≡◌, ◌⊎◌, ℕ, ◌+◌, List, [], ◌∷◌, ◌++◌, Result, Ok, Err, Vec}
+use Rattle.rule_model.specs.Tiling.{Tiling}
+use Rattle.addr_calc.specs.Bindings.{Bindings, none_bound}
+use Rattle.addr_calc.specs.declared.calc_fault.CalcFault.{CalcFault}
+use Rattle.addr_calc.specs.declared.calc_fault.CalcFault.TheVariants.{NoMemory}
+use Rattle.addr_calc.specs.Does.{Runs}
+use Rattle.addr_calc.specs.Parts.{parts, newline}
+use Rattle.addr_calc.specs.Refuses.{HasFault}
+
+-- a text, or a fault
+abbrev pub Outcome : Type 0
+Outcome = Result (List ℕ) CalcFault
+
+-- an outcome with text before it; before a fault there is no text
+abbrev pub put_before : List ℕ → Outcome → Outcome
+put_before text (Ok rest) = Ok (text ++ rest)
+put_before text (Err fault) = Err fault
+
+-- What comes of lines from a line number on: nothing is printed where there are none; the first has a fault, and that is it; or it can be run, and what it prints
+-- stands before what comes of those behind it, which see the names as it leaves them bound.
+abbrev pub ComesOf : Tiling → Bindings → ℕ → List (List ℕ) → Outcome → Type 0
+ComesOf t names number [] outcome = outcome ≡ Ok []
+ComesOf t names number (line ∷ lines) outcome =
+    ((fault : CalcFault) × HasFault t names number line fault × (outcome ≡ Err fault))
+    ⊎ ((after : Bindings) × (printed : List ℕ) × (rest : Outcome) × Runs t names line after printed × ComesOf t after (number + 1) lines rest × (outcome ≡ put_before printed rest))
+
+-- what comes of a script: its lines stand between newlines, are counted from 1, and begin with no name bound
+abbrev pub IsAnswer : Tiling → List ℕ → Outcome → Type 0
+IsAnswer t script outcome = ComesOf t none_bound 1 (parts newline script) outcome
+
+-- memory was wanted, or there was this cause
+abbrev pub OrNoMemory : (CalcFault → Type 0) → CalcFault → Type 0
+OrNoMemory P NoMemory = Unit {0}
+OrNoMemory P fault = P fault
+
+-- an answer is want of memory, or this one
+abbrev pub IsOrNoMemory : Outcome → Outcome → Type 0
+IsOrNoMemory (Err NoMemory) outcome = Unit {0}
+IsOrNoMemory answer outcome = answer ≡ outcome
+
+-- the answer of the program: the bytes of a text, or a fault
+abbrev pub outcome_of : {A : Type 0} → Result (Vec ℕ A) CalcFault → Outcome
+outcome_of (Ok text) = Ok text.items
+outcome_of (Err fault) = Err fault
+
+-- how many bytes a script may have
+abbrev pub longest_script : ℕ
+longest_script = 1048576

@@ -1,0 +1,36 @@
+-- The program's values as those of the definitions, and what its readers of words answer.
+use Rattle.std.specs.Prelude.{◌≡◌, ℕ, List, [], Option, Some, None, option_map, Result, Ok, Err}
+use Rattle.std.specs.Borrow.{Bor}
+use Rattle.cyclo_points.specs.Text.{blank}
+use Rattle.addr_calc.specs.declared.statement.Statement.{Statement as Asked}
+use Rattle.addr_calc.specs.declared.statement.Statement.TheVariants as asked
+use Rattle.addr_calc.specs.Parts.{parts}
+use Rattle.addr_calc.specs.Statement.{Statement}
+use Rattle.addr_calc.specs.Statement.Statement.{Nothing, Let, Show, Place, Across, Common}
+
+-- the statement, each name by its number
+abbrev pub statement_of : Asked → Statement
+statement_of asked.Nothing = Nothing
+statement_of (asked.Let name text) = Let name.number text.now
+statement_of (asked.Show name) = Show name.number
+statement_of (asked.Place name) = Place name.number
+statement_of (asked.Across name edge other) = Across name.number edge other.number
+statement_of (asked.Common one other) = Common one.number other.number
+
+-- the parts of what stands behind a mark, where there is a mark
+abbrev pub parts_behind : ℕ → Option (List ℕ) → List (List ℕ)
+parts_behind mark None = []
+parts_behind mark (Some rest) = parts mark rest
+
+-- the words of what is left of a line
+abbrev pub words_left : Option (Bor (List ℕ)) → List (List ℕ)
+words_left left = parts_behind blank (option_map (λ rest. rest.now) left)
+
+-- any word
+abbrev pub any_in : List ℕ → Option (List ℕ)
+any_in word = Some word
+
+-- what a reader of the program answers, as seen, is what reading the words gives
+abbrev pub AnswersAs : {X Y : Type 0} → (X → Y) → Result X ℕ → Result Y ℕ → Type 0
+AnswersAs seen (Ok x) read = read ≡ Ok (seen x)
+AnswersAs seen (Err place) read = read ≡ Err place

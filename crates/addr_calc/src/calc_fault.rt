@@ -1,0 +1,66 @@
+//! Why a script is refused.
+ghost use Rattle.std.specs.Prelude.{Some};
+ghost use Rattle.addr_calc.specs.FaultText.{calc_fault_text};
+
+use cyclo_points::point::Point;
+use std::alloc::{AllocError, AllocFailed};
+use std::fmt;
+use tile_shape::address_fault::AddressFault;
+
+/// The fault of a line of a script. Lines are counted from 1, empty ones and comments too.
+#[derive(Clone, Copy, Debug, PartialEq, Eq)]
+pub enum CalcFault {
+    /// The line has not the form of its command. The place is the number, from 0, of the first word that hasn't
+    /// its form or is one too many, or the number of words where one is missing.
+    BadLine { line: u32, place: u8 },
+    /// A name that the line reads isn't bound.
+    UnknownName { line: u32 },
+    /// The text is no address.
+    Address { line: u32, fault: AddressFault },
+    /// The tile hasn't that edge.
+    NoEdge { line: u32 },
+    /// The edge lies on this edge of the supertile, in this part of it.
+    Outside { line: u32, edge: u8, part: u8 },
+    /// On the way to the tile this value, the first such, is out of bounds.
+    CoordLimit { line: u32, value: Point },
+    /// There was no memory for the text.
+    NoMemory,
+}
+
+impl fmt::Display for CalcFault {
+    ghost output = { λ fault. Some (calc_fault_text fault) };
+
+    fn fmt<W: fmt::Write>(&self, f: &mut fmt::Formatter<W>) -> fmt::Result {
+        match self {
+            CalcFault::BadLine { line, place } => write!(f, "BadLine {line} {place}"),
+            CalcFault::UnknownName { line } => write!(f, "UnknownName {line}"),
+            CalcFault::Address { line, fault } => write!(f, "Address {line} {fault}"),
+            CalcFault::NoEdge { line } => write!(f, "NoEdge {line}"),
+            CalcFault::Outside { line, edge, part } => write!(f, "Outside {line} {edge} {part}"),
+            CalcFault::CoordLimit { line, value } => write!(f, "CoordLimit {line} {value}"),
+            CalcFault::NoMemory => f.write_str("NoMemory"),
+        }
+    }
+}
+
+impl From<AllocError> for CalcFault {
+    ghost use Rattle.std.specs.Prelude.{◌≡◌};
+    ghost use Rattle.addr_calc.specs.declared.calc_fault.CalcFault.TheVariants.{NoMemory};
+
+    ghost from_gives = { λ _ fault. fault ≡ NoMemory };
+
+    fn from(_error: AllocError) -> CalcFault {
+        CalcFault::NoMemory
+    }
+}
+
+impl<T: Drop> From<AllocFailed<T>> for CalcFault {
+    ghost use Rattle.std.specs.Prelude.{◌≡◌};
+    ghost use Rattle.addr_calc.specs.declared.calc_fault.CalcFault.TheVariants.{NoMemory};
+
+    ghost from_gives = { λ _ fault. fault ≡ NoMemory };
+
+    fn from(_error: AllocFailed<T>) -> CalcFault {
+        CalcFault::NoMemory
+    }
+}

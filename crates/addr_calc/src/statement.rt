@@ -1,0 +1,165 @@
+//! What a line of a script asks for.
+ghost use Rattle.std.specs.Prelude.{◌∷◌};
+ghost use Rattle.tile_shape.specs.Decimal.{number_up_to};
+ghost use Rattle.addr_calc.specs.Reading.{name_in, text_in, first_word, no_word, let_in, show_in, place_in, across_in, common_in, command_in, statement_in};
+ghost use Rattle.addr_calc.specs.Statement.{Statement as TheStatement};
+ghost use Rattle.addr_calc.specs.Views.{AnswersAs, any_in, words_left, statement_of};
+
+use crate::cut::cut;
+use crate::name::Name;
+use tile_shape::decimal::read_number;
+
+/// What a line asks for.
+#[derive(Clone, Copy)]
+pub enum Statement<'a> {
+    /// Nothing: the line is empty or a comment.
+    Nothing,
+    /// To bind a name to the address of this text.
+    Let { name: Name, text: &'a [u8] },
+    /// To print the address of a name.
+    Show { name: Name },
+    /// To print where the tile of a name lies.
+    Place { name: Name },
+    /// To cross this edge of the tile of a name, and to bind the other name to the tile across.
+    Across { name: Name, edge: u8, other: Name },
+    /// To print the level from which on the addresses of two names agree.
+    Common { one: Name, other: Name },
+}
+
+/// The statement of a line, or the number, from 0, of the first word that hasn't its form or is one too many; where a
+/// word is missing it is the number of words. Words are divided by single blanks.
+#[tactic(auto, unfolding(crate::specs::Reading::statement_in))]
+pub fn statement_in(line: &[u8]) -> Result<Statement<'_>, u8>
+    ensures { AnswersAs statement_of result (statement_in line.now) }
+{
+    match line {
+        [] | [b'#', ..] => Ok(Statement::Nothing),
+        _ => {
+            let (command, words) = cut(line, b' ');
+            command_in(command, words)
+        }
+    }
+}
+
+/// The statement of a command and the words behind it.
+#[tactic(auto, unfolding(crate::specs::Reading::command_in))]
+fn command_in<'a>(command: &[u8], words: Option<&'a [u8]>) -> Result<Statement<'a>, u8>
+    ensures { AnswersAs statement_of result (command_in (command.now ∷ words_left words.entry)) }
+{
+    if command == b"let".as_slice() {
+        let_in(words)
+    } else if command == b"show".as_slice() {
+        show_in(words)
+    } else if command == b"place".as_slice() {
+        place_in(words)
+    } else if command == b"across".as_slice() {
+        across_in(words)
+    } else if command == b"common".as_slice() {
+        common_in(words)
+    } else {
+        Err(0)
+    }
+}
+
+/// `let name address`.
+#[tactic(auto, unfolding(crate::specs::Reading::let_in))]
+fn let_in(words: Option<&[u8]>) -> Result<Statement<'_>, u8>
+    ensures { AnswersAs statement_of result (let_in (words_left words.entry)) }
+{
+    let (name, words) = name_at(1, words)?;
+    let (text, words) = text_at(2, words)?;
+    end_at(3, words)?;
+    Ok(Statement::Let { name, text })
+}
+
+/// `show name`.
+#[tactic(auto, unfolding(crate::specs::Reading::show_in))]
+fn show_in(words: Option<&[u8]>) -> Result<Statement<'_>, u8>
+    ensures { AnswersAs statement_of result (show_in (words_left words.entry)) }
+{
+    let (name, words) = name_at(1, words)?;
+    end_at(2, words)?;
+    Ok(Statement::Show { name })
+}
+
+/// `place name`.
+#[tactic(auto, unfolding(crate::specs::Reading::place_in))]
+fn place_in(words: Option<&[u8]>) -> Result<Statement<'_>, u8>
+    ensures { AnswersAs statement_of result (place_in (words_left words.entry)) }
+{
+    let (name, words) = name_at(1, words)?;
+    end_at(2, words)?;
+    Ok(Statement::Place { name })
+}
+
+/// `across name edge name`.
+#[tactic(auto, unfolding(crate::specs::Reading::across_in))]
+fn across_in(words: Option<&[u8]>) -> Result<Statement<'_>, u8>
+    ensures { AnswersAs statement_of result (across_in (words_left words.entry)) }
+{
+    let (name, words) = name_at(1, words)?;
+    let (edge, words) = edge_at(2, words)?;
+    let (other, words) = name_at(3, words)?;
+    end_at(4, words)?;
+    Ok(Statement::Across { name, edge, other })
+}
+
+/// `common name name`.
+#[tactic(auto, unfolding(crate::specs::Reading::common_in))]
+fn common_in(words: Option<&[u8]>) -> Result<Statement<'_>, u8>
+    ensures { AnswersAs statement_of result (common_in (words_left words.entry)) }
+{
+    let (one, words) = name_at(1, words)?;
+    let (other, words) = name_at(2, words)?;
+    end_at(3, words)?;
+    Ok(Statement::Common { one, other })
+}
+
+/// The name that the first word is, the word of this place, and the words behind it.
+fn name_at(place: u8, words: Option<&[u8]>) -> Result<(Name, Option<&[u8]>), u8>
+    ensures { AnswersAs (λ found. (found.0.number, words_left found.1)) result (first_word name_in place (words_left words.entry)) }
+{
+    let (word, words) = word_at(place, words)?;
+    let name = Name::named(word).ok_or(place)?;
+    Ok((name, words))
+}
+
+/// The number of an edge that the first word is.
+fn edge_at(place: u8, words: Option<&[u8]>) -> Result<(u8, Option<&[u8]>), u8>
+    ensures { AnswersAs (λ found. (found.0, words_left found.1)) result (first_word (number_up_to 255) place (words_left words.entry)) }
+{
+    let (word, words) = word_at(place, words)?;
+    let number = read_number(word, 255).ok_or(place)?;
+    Ok((number as u8, words))
+}
+
+/// The first word, where it isn't empty.
+fn text_at(place: u8, words: Option<&[u8]>) -> Result<(&[u8], Option<&[u8]>), u8>
+    ensures { AnswersAs (λ found. (found.0.now, words_left found.1)) result (first_word text_in place (words_left words.entry)) }
+{
+    let (word, words) = word_at(place, words)?;
+    if word.is_empty() {
+        return Err(place);
+    }
+    Ok((word, words))
+}
+
+/// The first word, whatever it is.
+fn word_at(place: u8, words: Option<&[u8]>) -> Result<(&[u8], Option<&[u8]>), u8>
+    ensures { AnswersAs (λ found. (found.0.now, words_left found.1)) result (first_word any_in place (words_left words.entry)) }
+{
+    match words {
+        Some(text) => Ok(cut(text, b' ')),
+        None => Err(place),
+    }
+}
+
+/// That no word is left: one is too many, and has this place.
+fn end_at(place: u8, words: Option<&[u8]>) -> Result<(), u8>
+    ensures { (s : TheStatement) → AnswersAs (λ _. s) result (no_word s place (words_left words.entry)) }
+{
+    match words {
+        Some(_) => Err(place),
+        None => Ok(()),
+    }
+}

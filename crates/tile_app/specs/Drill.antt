@@ -1,0 +1,106 @@
+-- What `drill` prints: a summary of windows that are made from the start number, each covered in a fresh frame. It refuses nothing.
+use Rattle.std.specs.Prelude.{◌≡◌, ◌⊎◌, ℕ, zero, suc, ◌+◌, ◌*◌, ◌%◌, max, ℤ, pos, ◌-ℤ◌, Some, List, [], ◌∷◌, ◌++◌, codes, length, map, All}
+use Rattle.std.specs.declared.option.Option.{Option}
+use Rattle.std.specs.Fmt.{decimal}
+use Rattle.std.specs.Option.{option_and_then}
+use Rattle.cyclo_points.specs.declared.order.Order.{Order}
+use Rattle.cyclo_points.specs.declared.point.Point.{Point}
+use Rattle.lazy_walk.specs.Frames.{FrameValue, GrowsTo}
+use Rattle.lazy_walk.specs.Standing.{Stands}
+use Rattle.plane_geom.specs.declared.window.Window.{Window}
+use Rattle.rule_model.specs.Tiling.{Tiling}
+use Rattle.seeded_growth.specs.Words.{word}
+use Rattle.tile_place.specs.declared.placed_tile.PlacedTile.{PlacedTile}
+use Rattle.tile_place.specs.Searched.{placed_in}
+use Rattle.window_cover.specs.InOrder.{AreInOrder}
+use Rattle.window_cover.specs.Limits.{IsWithinLimits}
+use Rattle.window_cover.specs.Windows.{AreDrawn, IsLeastEnough}
+use Rattle.tile_app.specs.declared.summary.Summary.{Summary}
+use Rattle.tile_app.specs.declared.words.Key.TheVariants.{Count}
+use Rattle.tile_app.specs.Commands.{windows_in}
+use Rattle.tile_app.specs.Draw.{reduced}
+use Rattle.tile_app.specs.Text.{newline}
+use Rattle.tile_app.specs.Walk.{seed_given}
+use Rattle.tile_app.specs.Words.{value_given}
+
+-- how many windows the words ask for
+abbrev pub count_given : List (List ℕ) → Option ℕ
+count_given words = option_and_then windows_in (value_given Count words)
+
+-- what a word of the start number's stream is as a coefficient, -32 to 31, and as a half extent, 1 to 64
+abbrev pub coefficient_of : ℕ → ℤ
+coefficient_of w = pos (w % 64) -ℤ pos 32
+
+abbrev pub extent_of : ℕ → ℕ
+extent_of w = 1 + w % 64
+
+-- the point whose coefficients are made of four words, from word number j on; in orders four and six it is still to be reduced
+abbrev pub centre_from : ℕ → ℕ → Point
+centre_from start j = record {
+  c = coefficient_of (word start j) ∷ coefficient_of (word start (j + 1)) ∷ coefficient_of (word start (j + 2)) ∷ coefficient_of (word start (j + 3)) ∷ [];
+}
+
+-- the window that is made of six words, from word number j on: its centre of four, and its half extents of the next two
+abbrev pub window_from : Order → ℕ → ℕ → Window
+window_from o start j = record {
+  centre = reduced o (centre_from start j);
+  w = extent_of (word start (j + 4));
+  h = extent_of (word start (j + 5));
+}
+
+-- window number i, from 0: each has six words of its own
+abbrev pub window_of : Order → ℕ → ℕ → Window
+window_of o start i = window_from o start (6 * i)
+
+-- the frame in which each window is covered, before it grows: that of the base `0:` and the start number
+abbrev pub fresh_frame : ℕ → FrameValue
+fresh_frame start = record { base = record { kind = 0; digits = [] }; start = start; digits = [] }
+
+-- A window within the limits of its frame: this many tiles meet it, each counted once, in the frame grown to this depth, the least that is enough for it.
+pub record IsCovered (t : Tiling) (frame : FrameValue) (window : Window) (count depth : ℕ) : Type 0 where
+  pub within : IsWithinLimits t frame window
+  pub later : FrameValue
+  pub grown : GrowsTo t frame later
+  pub its_depth : depth ≡ length later.digits
+  pub least : IsLeastEnough t frame window depth
+  pub tiles : List PlacedTile
+  pub stand : All (Stands t later) tiles
+  pub drawn : AreDrawn t later window (map (placed_in t.order) tiles)
+  pub in_order : AreInOrder tiles
+  pub its_count : count ≡ length tiles
+
+-- the summary of no window
+abbrev pub none_covered : Summary
+none_covered = record { tiles = 0; largest = 0; depth = 0; refused = 0 }
+
+-- with a window more, of so many tiles and of this depth, or one that isn't within its limits
+abbrev pub with_window : ℕ → ℕ → Summary → Summary
+with_window count depth s = record { tiles = s.tiles + count; largest = max s.largest count; depth = max s.depth depth; refused = s.refused }
+
+abbrev pub with_refused : Summary → Summary
+with_refused s = record { tiles = s.tiles; largest = s.largest; depth = s.depth; refused = s.refused + 1 }
+
+-- a window is added to the summary of those before it: it is covered in its frame, or it isn't within its limits
+abbrev pub Adds : Tiling → FrameValue → Window → Summary → Summary → Type 0
+Adds t frame window before after =
+    ((count depth : ℕ) × IsCovered t frame window count depth × (after ≡ with_window count depth before))
+    ⊎ ((IsWithinLimits t frame window → ⊥) × (after ≡ with_refused before))
+
+-- the summary of the first n windows, each in a fresh frame
+abbrev pub IsSummary : Tiling → ℕ → ℕ → Summary → Type 0
+IsSummary t start zero s = s ≡ none_covered
+IsSummary t start (suc i) s = (before : Summary) × IsSummary t start i before × Adds t (fresh_frame start) (window_of t.order start i) before s
+
+-- five lines: the number of windows, and those of the summary
+abbrev pub summary_text : ℕ → Summary → List ℕ
+summary_text n s =
+    codes "windows " ++ decimal n ++ newline ∷ codes "tiles " ++ decimal s.tiles ++ newline ∷ codes "largest " ++ decimal s.largest
+    ++ newline ∷ codes "depth " ++ decimal s.depth ++ newline ∷ codes "refused " ++ decimal s.refused ++ newline ∷ []
+
+-- the words give a number of windows, and the text is the summary of so many windows of their start number
+pub record PrintsDrill (words : List (List ℕ)) (t : Tiling) (text : List ℕ) : Type 0 where
+  pub count : ℕ
+  pub given : count_given words ≡ Some count
+  pub summary : Summary
+  pub is_summary : IsSummary t (seed_given words) count summary
+  pub is_text : text ≡ summary_text count summary

@@ -1,0 +1,171 @@
+//! The command `drill`: a summary of windows that are made from the start number.
+ghost use Rattle.std.specs.Prelude.{◌≡◌, ◌+◌, ◌*◌, ◌<◌, ◌≤◌, ◌^◌, Some, Ok, IfOk, IfErr, OnOk, string_bytes};
+ghost use Rattle.cyclo_points.specs.Point.{Within, IsWithin};
+ghost use Rattle.lazy_walk.specs.Frames.{IsFrameOf};
+ghost use Rattle.rule_model.specs.Tiling.{tiling_of};
+ghost use Rattle.seeded_growth.specs.Words.{word};
+ghost use Rattle.window_cover.specs.Limits.{most_tiles};
+ghost use Rattle.window_cover.specs.Windows.{IsWindow};
+ghost use Rattle.tile_app.specs.declared.words.Command.TheVariants.{Drill};
+ghost use Rattle.tile_app.specs.Drill.{count_given, coefficient_of, extent_of, centre_from, window_from, fresh_frame, Adds, IsSummary, PrintsDrill};
+ghost use Rattle.tile_app.specs.Words.{texts, command_of};
+
+use crate::status::Status;
+use crate::summary::Summary;
+use crate::walk::seed_given;
+use crate::window_words::windows_in;
+use crate::words::Key;
+use cyclo_points::coordinates::reduce;
+use cyclo_points::order::Order;
+use cyclo_points::point::Point;
+use lazy_walk::frame::Frame;
+use plane_geom::window::Window;
+use seeded_growth::growth::Growth;
+use std::alloc::Global;
+use tile_place::machine::Machine;
+use tile_shape::address::Address;
+use tile_shape::no_memory::NoMemory;
+use window_cover::cover_fault::CoverFault;
+use window_cover::tiles_of_window::covered_tiles;
+
+/// How many windows right words ask for.
+fn count_given(words: &[String]) -> u8
+    requires right { command_of (texts words.now) ≡ Ok Drill }
+    ensures given { count_given (texts words.now) ≡ Some result }
+    ensures at_most_200 { result ≤ 200 }
+{
+    let text = Key::Count.value_given(words).unwrap();
+    windows_in(text).unwrap()
+}
+
+/// The next word of a stream as a coefficient of a centre.
+fn next_coefficient(growth: &mut Growth) -> i64
+    requires few_taken { growth.old.taken < 2 ^ 32 }
+    ensures number { result ≡ coefficient_of (word growth.old.start growth.old.taken) }
+    ensures within { Within 32 result }
+    ensures one_word { growth.new.taken ≡ growth.old.taken + 1 }
+    ensures same_start { growth.new.start ≡ growth.old.start }
+{
+    i64::from(growth.next_word() % 64) - 32
+}
+
+/// The next word of a stream as a half extent.
+fn next_extent(growth: &mut Growth) -> u16
+    requires few_taken { growth.old.taken < 2 ^ 32 }
+    ensures number { result ≡ extent_of (word growth.old.start growth.old.taken) }
+    ensures some { 1 ≤ result }
+    ensures at_most_64 { result ≤ 64 }
+    ensures one_word { growth.new.taken ≡ growth.old.taken + 1 }
+    ensures same_start { growth.new.start ≡ growth.old.start }
+{
+    1 + (growth.next_word() % 64) as u16
+}
+
+/// The next four words of a stream as a centre, still to be reduced.
+fn next_centre(growth: &mut Growth) -> Point
+    requires few_taken { growth.old.taken + 4 ≤ 2 ^ 32 }
+    ensures centre { result ≡ centre_from growth.old.start growth.old.taken }
+    ensures within { IsWithin 32 result }
+    ensures four_words { growth.new.taken ≡ growth.old.taken + 4 }
+    ensures same_start { growth.new.start ≡ growth.old.start }
+{
+    let a0 = next_coefficient(growth);
+    let a1 = next_coefficient(growth);
+    let a2 = next_coefficient(growth);
+    let a3 = next_coefficient(growth);
+    Point {
+        c: [a0, a1, a2, a3],
+    }
+}
+
+/// The next six words of a stream as a window.
+fn next_window(order: Order, growth: &mut Growth) -> Window
+    requires few_taken { growth.old.taken + 6 ≤ 2 ^ 32 }
+    ensures window { result ≡ window_from order growth.old.start growth.old.taken }
+    ensures fits { IsWindow result }
+    ensures six_words { growth.new.taken ≡ growth.old.taken + 6 }
+    ensures same_start { growth.new.start ≡ growth.old.start }
+{
+    let centre = next_centre(growth);
+    let width = next_extent(growth);
+    let height = next_extent(growth);
+    Window {
+        centre: reduce(order, &centre),
+        w: width,
+        h: height,
+    }
+}
+
+/// The frame of the base `0:`, before it grows.
+fn fresh_frame(machine: &Machine, start: u64) -> Frame
+    ensures fresh { result ≡ fresh_frame start }
+    ensures is_frame { IsFrameOf (tiling_of machine.now) result }
+{
+    let _some_kind = machine.checked();
+    Frame::new(Address::new(0), start)
+}
+
+/// Adds a window to a summary: its tiles and the depth of its frame, which grows as they are found, or that it is
+/// refused.
+fn add_window(
+    alloc: Global,
+    machine: &Machine,
+    frame: &mut Frame,
+    window: &Window,
+    summary: &mut Summary,
+) -> Result<(), NoMemory>
+    requires frame { IsFrameOf (tiling_of machine.now) frame.old }
+    requires window_fits { IsWindow window.now }
+    requires few_tiles { summary.old.tiles + most_tiles < 2 ^ 32 }
+    requires few_refused { summary.old.refused < 255 }
+    ensures adds { OnOk result (Adds (tiling_of machine.now) frame.old window.now summary.old summary.new) }
+    ensures most_tiles_more { summary.new.tiles ≤ summary.old.tiles + most_tiles }
+    ensures one_refused_more { summary.new.refused ≤ summary.old.refused + 1 }
+{
+    match covered_tiles(alloc, machine, frame, window) {
+        Ok(tiles) => {
+            let count = tiles.len() as u32;
+            summary.add(count, frame.depth());
+        }
+        Err(fault) => match fault {
+            CoverFault::NoMemory => return Err(NoMemory),
+            _ => summary.add_refused(),
+        },
+    }
+    Ok(())
+}
+
+/// The summary of the first windows of a start number.
+fn summed(alloc: Global, machine: &Machine, start: u64, count: u8) -> Result<Summary, NoMemory>
+    requires at_most_200 { count ≤ 200 }
+    ensures { IfOk result (λ summary. IsSummary (tiling_of machine.now) start count summary) }
+{
+    let order = machine.checked().order();
+    let mut summary = Summary::new();
+    let mut growth = Growth::new(start);
+    for _number in 0..count {
+        let window = next_window(order, &mut growth);
+        let mut frame = fresh_frame(machine, start);
+        add_window(alloc, machine, &mut frame, &window, &mut summary)?;
+    }
+    Ok(summary)
+}
+
+/// What `drill` prints for right words; want of memory alone keeps it from that.
+pub fn drill_text(alloc: Global, machine: &Machine, words: &[String]) -> Result<String, Status>
+    requires right { command_of (texts words.now) ≡ Ok Drill }
+    ensures printed { IfOk result (λ text. PrintsDrill (texts words.now) (tiling_of machine.now) (string_bytes text)) }
+    ensures refused { IfErr result (λ status. status ≡ Status.NoMemory) }
+{
+    let count = count_given(words);
+    let summary = summed(alloc, machine, seed_given(words), count)?;
+    let Summary {
+        tiles,
+        largest,
+        depth,
+        refused,
+    } = summary;
+    Ok(format!(in alloc;
+        "windows {count}\ntiles {tiles}\nlargest {largest}\ndepth {depth}\nrefused {refused}\n"
+    )?)
+}
