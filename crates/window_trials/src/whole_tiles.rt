@@ -1,5 +1,5 @@
 //! A half glued to its other half, which isn't given.
-ghost use Rattle.std.specs.Prelude.{◌≡◌, ◌^◌, All, true};
+ghost use Rattle.std.specs.Prelude.{◌≡◌, ◌^◌, All, IfOk, true};
 ghost use Rattle.cyclo_points.specs.Point.{IsWithin};
 ghost use Rattle.rule_model.specs.Tiling.{tiling_of};
 ghost use Rattle.lazy_walk.specs.Frames.{IsFrameOf};
@@ -15,7 +15,7 @@ use half_glue::glue_fault::GlueFault;
 use half_glue::whole_tile::WholeTile;
 use lazy_walk::frame::Frame;
 use plain_tiles::frame_tiles::begun;
-use std::alloc::Global;
+use std::alloc::{AllocError, Global};
 use std::test::Fail;
 use tile_place::machine::Machine;
 use tile_place::placed_tile::PlacedTile;
@@ -50,6 +50,20 @@ fn glued(
     Some(glue(alloc, machine, frame, tiles))
 }
 
+/// The base tile of a frame, alone.
+fn base_alone(
+    alloc: Global,
+    machine: &Machine,
+    frame: &Frame,
+) -> Result<Vec<PlacedTile>, AllocError>
+    requires frame { IsFrameOf (tiling_of machine.now) frame.now }
+    ensures stand { IfOk result (λ tiles. All (Stands (tiling_of machine.now) frame.now) tiles.items) }
+{
+    let mut tiles = Vec::new(alloc);
+    tiles.push(frame.base_tile(machine))?;
+    Ok(tiles)
+}
+
 // A half kite in the corner of a supertile, and its mirror image: a kite.
 #[test]
 fn kite(rt: HostRuntime) -> Result<(), Fail> {
@@ -62,7 +76,7 @@ fn kite(rt: HostRuntime) -> Result<(), Fail> {
     };
     let mut found = None;
     if let Some(mut frame) = begun(&machine, &half.addr, 42) {
-        let tiles = vec![in alloc; frame.base_tile(&machine)]?;
+        let tiles = base_alone(alloc, &machine, &frame)?;
         found = glued(alloc, &machine, &mut frame, &tiles);
     }
     assert_eq!(rt; found, Some(Ok(vec![in alloc; whole]?)));
