@@ -1,4 +1,5 @@
-"""Windows of every rule file, found as their definition says, against what the program draws, tile by tile and glued.
+"""Windows of every rule file, found as their definition says, against what the program draws, tile by tile and glued, and
+against the sums of `drill`.
 
 Points are lists of whole coefficients of the powers of ζ, and a comparison of coordinates is one of whole numbers. The
 frame grows by words made here; the tiles are found from the top, by which supertiles meet the window: no search across
@@ -17,6 +18,7 @@ sys.dont_write_bytecode = True
 from supertiles import Ring, address  # noqa: E402
 
 WINDOWS = 50  # of each rule
+DRILLED = 5  # windows of a drill of each rule
 DEEPEST = 64
 GREATEST = 2**24  # of the coefficients of a shift
 REFUSED = {5: b"5 DepthLimit ", 6: b"6 CoordLimit ", 7: b"7 TooManyTiles"}
@@ -338,6 +340,40 @@ def is_right(ran, wanted):
     return ran.returncode == 6 and any(abs(int(a)) > GREATEST for a in ran.stderr.split()[2].split(b","))
 
 
+def reduced(order, a):
+    """The point of four coefficients, by the powers of ζ that the order has."""
+    if order == 4:
+        return [a[0] - a[2], a[1] - a[3], 0, 0]
+    if order == 6:
+        return [a[0] - a[2] - a[3], a[1] + a[2], 0, 0]
+    return a
+
+
+def count_of(frame, box):
+    """How many tiles meet the box, in the frame grown to it; None where it is beyond the limits."""
+    while not frame.is_enough(box):
+        if len(frame.digits) == DEEPEST:
+            return None
+        frame.grow()
+    tiles = frame.tiles(box)
+    return None if any(abs(a) > GREATEST for tile in tiles for a in tile[2]) else len(tiles)
+
+
+def drilled(tiling, seed):
+    """What `drill` must print of the first windows of a start number."""
+    words, counts, depths = words_of(seed), [], []
+    for _ in range(DRILLED):
+        six = [next(words) % 64 for _ in range(6)]
+        centre = reduced(tiling.ring.order, [word - 32 for word in six[:4]])
+        frame, box = Frame(tiling, 0, (), seed), Box(tiling.plane, tiling.point(centre), (six[4] + 1, six[5] + 1))
+        counts.append(count_of(frame, box))
+        depths.append(len(frame.digits))
+    met = [count for count in counts if count is not None]
+    depth = max((depth for count, depth in zip(counts, depths) if count is not None), default=0)
+    lines = [f"windows {DRILLED}", f"tiles {sum(met)}", f"largest {max(met, default=0)}", f"depth {depth}"]
+    return "\n".join([*lines, f"refused {DRILLED - len(met)}", ""])
+
+
 def compared(program, path):
     """How many windows of the rule of a file were compared, how many of them were refused, and those that differ."""
     with open(path, "rb") as file:
@@ -352,7 +388,13 @@ def compared(program, path):
             if not is_right(ran, wanted):
                 told = ran.stdout.decode() if ran.returncode == 0 else ran.stderr.decode()
                 wrong.append(f"{os.path.basename(path)}: draw {' '.join(words)} glue={glue}: {told!r} in place of {wanted!r}")
-    return 2 * WINDOWS, refused, wrong
+    seed = drawn.randrange(2**64)
+    words = ["drill", "rule=-", f"n={DRILLED}", f"seed={seed}"]
+    ran = subprocess.run([program, *words], input=text, capture_output=True)
+    wanted = drilled(tiling, seed)
+    if ran.stdout.decode() != wanted:
+        wrong.append(f"{os.path.basename(path)}: {' '.join(words)}: {ran.stdout!r} {ran.stderr!r} in place of {wanted!r}")
+    return 2 * WINDOWS + DRILLED, refused, wrong
 
 
 def main(top, program):
