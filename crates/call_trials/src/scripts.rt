@@ -1,5 +1,6 @@
 //! Scripts for `calc`, and what comes of them.
 use crate::calls::words_of;
+use std::alloc::Global;
 use std::process::Abort;
 use std::test::Fail;
 use tile_app::run::run;
