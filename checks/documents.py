@@ -79,7 +79,7 @@ def call(words, given=b""):
 
 def is_runnable(name, command):
     """Whether a command is one of the program or of a script of the repository, and can be run here."""
-    if not re.match(r"(\./tiling|python3 tools/\w+\.py|sed '[^']*' rules/\w+\.toml \| \./tiling)\b", command):
+    if not re.match(r"(\./tiling|python3 tools/\w+\.py|sed '[^']*' rules/\w+\.toml \| \./tiling|printf '[^']*' \| \./tiling)\b", command):
         tally.skipped.append(f"{name}: $ {command}")
         return False
     if "python3" in command and tomllib is None:
