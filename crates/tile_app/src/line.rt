@@ -44,6 +44,16 @@ pub fn put_numbered(line: &mut ArrayString<LINE_ROOM>, word: &str, number: u64)
     put_number(line, number);
 }
 
+/// Puts a word and two numbers, each behind a blank.
+pub fn put_pair(line: &mut ArrayString<LINE_ROOM>, word: &str, first: u8, second: u8)
+    requires room { array_string_len line.old + length word.now + 43 ≤ LINE_ROOM }
+    ensures pair { line.new.bytes ≡ line.old.bytes ++ blank ∷ (word.now ++ blank ∷ decimal first ++ blank ∷ decimal second) }
+    ensures at_most { array_string_len line.new ≤ array_string_len line.old + length word.now + 43 }
+{
+    put_numbered(line, word, u64::from(first));
+    put_number(line, u64::from(second));
+}
+
 /// Puts a signed number, in decimal.
 fn put_signed(line: &mut ArrayString<LINE_ROOM>, number: i64)
     requires room { array_string_len line.old + 20 ≤ LINE_ROOM }

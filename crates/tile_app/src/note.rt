@@ -6,7 +6,9 @@ ghost use Rattle.cyclo_points.specs.Text.{blank};
 
 use crate::fault_words::{put_address_fault, put_rule_fault, put_script_fault};
 use crate::format_words::format_text;
-use crate::line::{LINE_ROOM, put_address, put_number, put_numbered, put_point, put_word};
+use crate::line::{
+    LINE_ROOM, put_address, put_number, put_numbered, put_pair, put_point, put_word,
+};
 use crate::status::Status;
 use arrayvec::ArrayString;
 use itoa::Buffer;
@@ -36,14 +38,8 @@ fn put_status(line: &mut ArrayString<LINE_ROOM>, status: &Status)
             put_word(line, "BadAddress");
             put_address_fault(line, *fault);
         }
-        Status::NoEdge { edge, edges } => {
-            put_numbered(line, "NoEdge", u64::from(*edge));
-            put_number(line, u64::from(*edges));
-        }
-        Status::Outside { edge, part } => {
-            put_numbered(line, "Outside", u64::from(*edge));
-            put_number(line, u64::from(*part));
-        }
+        Status::NoEdge { edge, edges } => put_pair(line, "NoEdge", *edge, *edges),
+        Status::Outside { edge, part } => put_pair(line, "Outside", *edge, *part),
         Status::DepthLimit { addr, edge } => {
             put_word(line, "DepthLimit");
             put_address(line, addr);

@@ -29,7 +29,7 @@ returns-in-CoordLimit-clause-status c =
 pub returns-in-DepthLimit-clause-status : goal.returns-in-DepthLimit-clause-status
 returns-in-DepthLimit-clause-status c =
     three_words c.args.line.now.bytes _ _ _ (codes "DepthLimit") (address_text (address_of c.in-DepthLimit.addr)) (decimal c.in-DepthLimit.edge) c.put_word-in-DepthLimit.ensures c.put_address.ensures.address
-    (c.put_number-in-DepthLimit.ensures.number ∙ ap (λ n. c.put_address.new.line.bytes ++ blank ∷ decimal n) c.from-in-DepthLimit.ensures) ∙ ap (λ s. c.args.line.now.bytes ++ blank ∷ status_text s) (sym c.in-DepthLimit.is)
+    (c.put_number.ensures.number ∙ ap (λ n. c.put_address.new.line.bytes ++ blank ∷ decimal n) c.from.ensures) ∙ ap (λ s. c.args.line.now.bytes ++ blank ∷ status_text s) (sym c.in-DepthLimit.is)
 
 pub returns-in-NoLayer-clause-status : goal.returns-in-NoLayer-clause-status
 returns-in-NoLayer-clause-status c =
