@@ -43,7 +43,35 @@ fn bytes_of(text: Result<String, Status>) -> Result<Vec<u8>, Status>
     }
 }
 
-/// What a command prints for right words, a checked rule and the file that was read, or its refusal.
+/// What a command prints for right words, the machine of a checked rule and the file that was read, or its refusal.
+fn machine_text<D: Layer, L: Ledger>(
+    alloc: Global,
+    command: Command,
+    machine: &Machine,
+    words: &[String],
+    file: &[u8],
+    layers: &mut [D],
+    steps: &mut Steps<L>,
+) -> Result<Vec<u8>, Status>
+    requires right { command_of (texts words.now) ≡ Ok command }
+    requires have_layers { HaveLayers (texts words.now) (map D.form layers.old) }
+    requires at_most_a_mebibyte { length file.now ≤ longest_file }
+    ensures printed { IfOk result (λ text. IsPrinted command (request_of (texts words.now) (map D.form layers.old) file.now) (tiling_of machine.now) text.items) }
+    ensures refused { IfErr result (OrNoMemory (Refuses command (request_of (texts words.now) (map D.form layers.old) file.now) (tiling_of machine.now))) }
+{
+    match command {
+        Command::Check => Ok(check_text(alloc, machine.checked())?.into_bytes()),
+        Command::Place => bytes_of(place_text(alloc, machine.checked(), words)),
+        Command::Neighbour => bytes_of(neighbour_text(alloc, machine, words, steps)),
+        Command::Walk => bytes_of(walk_text(alloc, machine, words, steps)),
+        Command::Draw => draw_text(alloc, machine, words, layers),
+        Command::Calc => calc_text(alloc, machine, file),
+        Command::Drill => bytes_of(drill_text(alloc, machine, words)),
+    }
+}
+
+/// What a command prints for right words, a checked rule and the file that was read, or its refusal. No machine is made
+/// for the commands that cross no edge.
 fn command_text<D: Layer, L: Ledger>(
     alloc: Global,
     command: Command,
@@ -62,25 +90,9 @@ fn command_text<D: Layer, L: Ledger>(
     match command {
         Command::Check => Ok(check_text(alloc, &checked)?.into_bytes()),
         Command::Place => bytes_of(place_text(alloc, &checked, words)),
-        Command::Neighbour => {
+        _ => {
             let machine = Machine::new(alloc, checked)?;
-            bytes_of(neighbour_text(alloc, &machine, words, steps))
-        }
-        Command::Walk => {
-            let machine = Machine::new(alloc, checked)?;
-            bytes_of(walk_text(alloc, &machine, words, steps))
-        }
-        Command::Draw => {
-            let machine = Machine::new(alloc, checked)?;
-            draw_text(alloc, &machine, words, layers)
-        }
-        Command::Calc => {
-            let machine = Machine::new(alloc, checked)?;
-            calc_text(alloc, &machine, file)
-        }
-        Command::Drill => {
-            let machine = Machine::new(alloc, checked)?;
-            bytes_of(drill_text(alloc, &machine, words))
+            machine_text(alloc, command, &machine, words, file, layers, steps)
         }
     }
 }
