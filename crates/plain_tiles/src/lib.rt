@@ -6,6 +6,7 @@
 //! its own: its contracts say only what the calls that it tries ask for.
 #![tactic(auto)]
 
+pub mod built_in;
 pub mod counts;
 pub mod drawn_tile;
 pub mod draws;

@@ -2,62 +2,18 @@
 ghost use Rattle.std.specs.Prelude.{◌≡◌, ◌<◌};
 
 use crate::placed::{across, followed, glue_motion};
-use builtin_rules::builtin::builtin;
 use builtin_rules::name::Name;
 use cyclo_points::motion::Motion;
 use edge_tables::steps::Steps;
+use plain_tiles::built_in::{NAMES, machine_of};
+use plain_tiles::draws::Draws;
 use std::alloc::Global;
 use std::marker::Brand;
 use std::sync::ledger::{Blank, Ledger};
 use std::test::Fail;
 use tile_place::machine::Machine;
 use tile_shape::address::Address;
-use tile_shape::step::Step;
 use transducer_core::crossing::Crossing;
-
-#[derive(Drop)]
-/// Numbers drawn one after another, by a linear congruence.
-struct Draws {
-    state: u64,
-}
-
-impl Draws {
-    /// A number below n, or 0 where there is none.
-    fn below(&mut self, n: u64) -> u64 {
-        self.state = self
-            .state
-            .wrapping_mul(6364136223846793005)
-            .wrapping_add(1442695040888963407);
-        (self.state >> 33).checked_rem(n).unwrap_or(0)
-    }
-}
-
-/// A digit above this kind, drawn of its uses.
-fn drawn_digit(machine: &Machine, kind: u8, draws: &mut Draws) -> Option<Step> {
-    let uses = machine.checked().uses();
-    if kind >= uses.kinds() {
-        return None;
-    }
-    let count = uses.count(kind);
-    let number = u16::try_from(draws.below(u64::from(count))).ok()?;
-    if number >= count {
-        return None;
-    }
-    Some(uses.get(kind, number))
-}
-
-/// An address of 64 digits.
-fn drawn_address(machine: &Machine, draws: &mut Draws) -> Option<Address> {
-    let kinds = machine.checked().uses().kinds();
-    let mut kind = u8::try_from(draws.below(u64::from(kinds))).ok()?;
-    let mut addr = Address::new(kind);
-    for _ in 0..64 {
-        let digit = drawn_digit(machine, kind, draws)?;
-        addr.push_coarse(digit).ok()?;
-        kind = digit.parent;
-    }
-    Some(addr)
-}
 
 /// The address in the ancestor at this level.
 fn below(addr: &Address, level: usize) -> Address {
@@ -109,12 +65,12 @@ fn counted<L: Ledger>(alloc: Global, name: Name, blank: Blank) -> Result<(u32, u
     requires some { 0 < blank.parts }
 {
     let mut steps = Steps::<L>::new(blank);
-    let machine = Machine::new(alloc, builtin(alloc, name)?)?;
+    let machine = machine_of(alloc, name)?;
     let mut draws = Draws { state: 42 };
     let mut glued: u32 = 0;
     let mut outside: u32 = 0;
     for _ in 0..1000 {
-        if let Some(addr) = drawn_address(&machine, &mut draws) {
+        if let Some(addr) = draws.address(&machine, 64, true) {
             let edge = u8::try_from(draws.below(3)).unwrap_or(0);
             match across(&machine, &addr, edge, &mut steps) {
                 Some(
@@ -143,19 +99,10 @@ fn counted<L: Ledger>(alloc: Global, name: Name, blank: Blank) -> Result<(u32, u
     Ok((glued, outside))
 }
 
-/// The built-in rules.
-static NAMES: [Name; 5] = [
-    Name::Chair,
-    Name::P2,
-    Name::P3,
-    Name::AmmannBeenker,
-    Name::HalfHex,
-];
-
 #[test]
 fn far_up(rt: HostRuntime) -> Result<(), Fail> {
-    for name in &NAMES {
-        assert!(rt; counted::<Brand>(rt.alloc(), *name, Blank::new(1))? == (1000, 0));
+    for name in NAMES {
+        assert!(rt; counted::<Brand>(rt.alloc(), name, Blank::new(1))? == (1000, 0));
     }
     Ok(())
 }

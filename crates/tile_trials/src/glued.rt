@@ -1,14 +1,13 @@
 //! Gluing motions of edges that meet, worked out by hand from where neighbours lie, and edges that don't meet.
 use crate::placed::glue_motion;
-use builtin_rules::builtin::builtin;
 use builtin_rules::name::Name;
 use cyclo_points::motion::Motion;
 use cyclo_points::order::Order;
 use cyclo_points::point::Point;
 use dissection::laws::{crossing_law, dissection_law, multiples_law, no_return_law, touch_law};
+use plain_tiles::built_in::machine_of;
 use std::alloc::Global;
 use std::test::Fail;
-use tile_place::machine::Machine;
 
 /// A rule, a kind and an edge, another kind and edge, and the turn and the shift of a motion.
 type Row = (Name, [u8; 4], Option<(u8, [i64; 4])>);
@@ -27,7 +26,7 @@ static ROWS: [Row; 6] = [
 /// Whether two edges are glued as their row says.
 fn is_glued(alloc: Global, row: &Row) -> Result<bool, Fail> {
     let (name, [kind, edge, other, other_edge], wanted) = row;
-    let machine = Machine::new(alloc, builtin(alloc, *name)?)?;
+    let machine = machine_of(alloc, *name)?;
     machine.gluing_law();
     let wanted = wanted.map(|(turn, c)| Motion {
         turn,

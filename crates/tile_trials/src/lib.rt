@@ -1,17 +1,38 @@
-//! Trials of crossing and gluing: whole supertiles, listed as their definition says, against the machine.
+//! Trials of placing, crossing, gluing, walking and searching, on the built-in rules.
 //!
-//! Each built-in rule's supertiles are listed by recursion on the depth, and every edge of every tile is
-//! compared with what `cross` answers; addresses of 64 digits are crossed, and the motions of the two
-//! tiles compared. There is no other code here.
+//! What the machine answers is compared with rows that were worked out by hand, and with lists: of whole supertiles, by
+//! recursion on the depth, each edge of each tile by its ends; of supertiles and frames, each tile placed by its address
+//! and asked whether it holds a point or meets a window. Addresses of 64 digits are crossed, walks are walked there and
+//! back, and the search for a window is tried step by step. There is no other code here.
 #![tactic(auto)]
 
 #[cfg(test)]
+mod contain;
+#[cfg(test)]
+mod covered;
+#[cfg(test)]
+mod drawn_windows;
+#[cfg(test)]
 mod far;
 #[cfg(test)]
+mod given;
+#[cfg(test)]
 mod glued;
+#[cfg(test)]
+mod held_points;
+#[cfg(test)]
+mod located;
 #[cfg(test)]
 mod placed;
 #[cfg(test)]
 mod sides;
 #[cfg(test)]
+mod steps;
+#[cfg(test)]
 mod supertiles;
+#[cfg(test)]
+mod touching;
+#[cfg(test)]
+mod walks;
+#[cfg(test)]
+mod whole_tiles;

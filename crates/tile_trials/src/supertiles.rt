@@ -3,11 +3,11 @@ ghost use Rattle.std.specs.Prelude.{◌≡◌, ◌<◌};
 
 use crate::placed::{across, followed, glue_motion, times};
 use crate::sides::{Side, sides};
-use builtin_rules::builtin::builtin;
 use builtin_rules::name::Name;
 use cyclo_points::motion::Motion;
 use cyclo_points::point::Point;
 use edge_tables::steps::Steps;
+use plain_tiles::built_in::machine_of;
 use rule_model::rule::Rule;
 use std::alloc::Global;
 use std::marker::Brand;
@@ -183,7 +183,7 @@ fn counted<L: Ledger>(alloc: Global, name: Name, blank: Blank) -> Result<(u64, u
     requires some { 0 < blank.parts }
 {
     let mut steps = Steps::<L>::new(blank);
-    let machine = Machine::new(alloc, builtin(alloc, name)?)?;
+    let machine = machine_of(alloc, name)?;
     compare(alloc, &machine, 4, &mut steps)
 }
 

@@ -4,15 +4,15 @@ ghost use Rattle.rule_model.specs.Tiling.{tiling_of};
 ghost use Rattle.lazy_walk.specs.Frames.{IsFrameOf};
 ghost use Rattle.window_cover.specs.Right.{IsRight};
 
-use crate::given::tile;
-use builtin_rules::builtin::builtin;
+use crate::given::listed;
 use builtin_rules::name::Name;
 use cyclo_points::point::Point;
 use lazy_walk::frame::Frame;
+use plain_tiles::built_in::machine_of;
 use plain_tiles::frame_tiles::begun;
 use plain_tiles::window_tiles::is_window;
 use plane_geom::window::Window;
-use std::alloc::Global;
+use std::alloc::{AllocError, Global};
 use std::test::Fail;
 use tile_place::machine::Machine;
 use tile_place::placed_tile::PlacedTile;
@@ -21,7 +21,7 @@ use window_cover::cover::Cover;
 use window_cover::open_edge::OpenEdge;
 
 /// How many tiles are found, how many edges are open, and the first of these.
-#[derive(Clone, Copy, Debug, PartialEq, Eq)]
+#[derive(Clone, Copy)]
 struct Seen {
     tiles: u32,
     open_edges: u32,
@@ -68,8 +68,7 @@ fn stepped(machine: &Machine, frame: &mut Frame, cover: Cover) -> Option<Cover>
     }
 }
 
-/// What is seen of the search for a window at its start and after one step, and the tiles then, where it is at its
-/// end.
+/// What is seen of the search for a window at its start and after one step, where it is at its end then.
 fn searched(
     alloc: Global,
     machine: &Machine,
@@ -92,31 +91,45 @@ fn searched(
     Some((before, after, tiles))
 }
 
+/// What is seen of a search as a text: the tiles, the open edges, and the tile and number of the first of these.
+fn seen_text(alloc: Global, seen: &Seen) -> Result<String, AllocError> {
+    match seen.first_open {
+        Some(edge) => format!(in alloc;
+            "{} {} {} {}\n",
+            seen.tiles, seen.open_edges, edge.tile, edge.edge
+        ),
+        None => format!(in alloc; "{} {}\n", seen.tiles, seen.open_edges),
+    }
+}
+
+/// The same of a search for a window from the chair's base of no digits, before and after one step, its tiles, and the
+/// depth.
+fn told(alloc: Global, machine: &Machine, window: &Window) -> Result<String, AllocError> {
+    let mut frame = match begun(machine, &Address::new(0), 42) {
+        Some(frame) => frame,
+        None => return Ok(String::new(alloc)),
+    };
+    match searched(alloc, machine, &mut frame, window) {
+        Some((before, after, tiles)) => {
+            let first = seen_text(alloc, &before)?;
+            let second = seen_text(alloc, &after)?;
+            let tiles = listed(alloc, tiles.as_slice())?;
+            format!(in alloc; "{first}{second}{tiles}depth {}", frame.depth())
+        }
+        None => Ok(String::new(alloc)),
+    }
+}
+
 #[test]
 fn one_step(rt: HostRuntime) -> Result<(), Fail> {
-    let machine = Machine::new(rt.alloc(), builtin(rt.alloc(), Name::Chair)?)?;
+    let machine = machine_of(rt.alloc(), Name::Chair)?;
     let window = Window {
         centre: Point { c: [1, 1, 0, 0] },
         w: 2,
         h: 1,
     };
-    let mut frame = begun(&machine, &Address::new(0), 42).expect(&rt, "a frame");
-    let found = searched(rt.alloc(), &machine, &mut frame, &window);
-    let before = Seen {
-        tiles: 1,
-        open_edges: 2,
-        first_open: Some(OpenEdge { tile: 0, edge: 1 }),
-    };
-    let after = Seen {
-        tiles: 2,
-        open_edges: 0,
-        first_open: None,
-    };
-    let wanted = vec![in rt.alloc();
-        tile(&machine, b"0:3/0", 0, [0; 4]),
-        tile(&machine, b"0:1/0", 1, [3, 1, 0, 0]),
-    ]?;
-    assert_eq!(rt; found, Some((before, after, wanted)));
-    assert_eq!(rt; frame.depth(), 1);
+    let text = told(rt.alloc(), &machine, &window)?;
+    let wanted = "1 2 0 1\n2 0\n0 0 0,0,0,0 0:3/0\n0 1 3,1,0,0 0:1/0\ndepth 1";
+    assert_eq!(rt; text.as_str(), wanted);
     Ok(())
 }

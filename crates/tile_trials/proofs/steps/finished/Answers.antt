@@ -5,7 +5,7 @@ use Rattle.rule_model.specs.Tiling.{tiling_of}
 use Rattle.window_cover.specs.Border.{Waiting}
 use Rattle.window_cover.specs.Lifted.{CanBeLifted}
 use Rattle.window_cover.specs.Right.{IsFound}
-use Rattle.window_trials.proofs.steps.finished.Goals as goal
+use Rattle.tile_trials.proofs.steps.finished.Goals as goal
 
 -- where no edge is counted, none is open
 none_open : (waiting : List Waiting) → length waiting ≡ 0 → waiting ≡ []

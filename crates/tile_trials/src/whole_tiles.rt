@@ -5,8 +5,7 @@ ghost use Rattle.rule_model.specs.Tiling.{tiling_of};
 ghost use Rattle.lazy_walk.specs.Frames.{IsFrameOf};
 ghost use Rattle.lazy_walk.specs.Standing.{Stands};
 
-use crate::given::tile;
-use builtin_rules::builtin::builtin;
+use crate::given::tile_text;
 use builtin_rules::name::Name;
 use cyclo_points::arithmetic::refused;
 use half_glue::given_law::given_law;
@@ -14,11 +13,14 @@ use half_glue::glue::glue;
 use half_glue::glue_fault::GlueFault;
 use half_glue::whole_tile::WholeTile;
 use lazy_walk::frame::Frame;
+use plain_tiles::built_in::machine_of;
 use plain_tiles::frame_tiles::begun;
 use std::alloc::{AllocError, Global};
 use std::test::Fail;
 use tile_place::machine::Machine;
 use tile_place::placed_tile::PlacedTile;
+use tile_shape::address::Address;
+use tile_shape::reading::read_address;
 
 /// Whether no tile has a refused shift.
 fn none_refused(tiles: &[PlacedTile]) -> bool
@@ -64,21 +66,37 @@ fn base_alone(
     Ok(tiles)
 }
 
+/// Whole tiles as lines, the second half behind the first.
+fn wholes_text(alloc: Global, wholes: &[WholeTile]) -> Result<String, AllocError> {
+    let mut text = String::new(alloc);
+    for whole in wholes {
+        let first = &whole.first;
+        text.push_str(tile_text(alloc, first)?.as_str())?;
+        if let Some(second) = &whole.second {
+            text.push_str(" + ")?;
+            text.push_str(tile_text(alloc, second)?.as_str())?;
+        }
+    }
+    Ok(text)
+}
+
+/// The whole tile of the base tile of an address.
+fn told(alloc: Global, machine: &Machine, text: &[u8]) -> Result<String, AllocError> {
+    let base = read_address(machine.checked().uses(), text).unwrap_or(Address::new(255));
+    if let Some(mut frame) = begun(machine, &base, 42) {
+        let tiles = base_alone(alloc, machine, &frame)?;
+        if let Some(Ok(wholes)) = glued(alloc, machine, &mut frame, &tiles) {
+            return wholes_text(alloc, wholes.as_slice());
+        }
+    }
+    Ok(String::new(alloc))
+}
+
 // A half kite in the corner of a supertile, and its mirror image: a kite.
 #[test]
 fn kite(rt: HostRuntime) -> Result<(), Fail> {
-    let alloc = rt.alloc();
-    let machine = Machine::new(alloc, builtin(alloc, Name::P2)?)?;
-    let half = tile(&machine, b"0:2/0", 0, [0; 4]);
-    let whole = WholeTile {
-        first: tile(&machine, b"0:2/0", 0, [0; 4]),
-        second: Some(tile(&machine, b"1:1/0", 1, [0; 4])),
-    };
-    let mut found = None;
-    if let Some(mut frame) = begun(&machine, &half.addr, 42) {
-        let tiles = base_alone(alloc, &machine, &frame)?;
-        found = glued(alloc, &machine, &mut frame, &tiles);
-    }
-    assert_eq!(rt; found, Some(Ok(vec![in alloc; whole]?)));
+    let machine = machine_of(rt.alloc(), Name::P2)?;
+    let text = told(rt.alloc(), &machine, b"0:2/0")?;
+    assert_eq!(rt; text.as_str(), "0 0 0,0,0,0 0:2/0 + 1 1 0,0,0,0 1:1/0");
     Ok(())
 }

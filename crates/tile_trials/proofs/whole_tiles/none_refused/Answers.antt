@@ -2,7 +2,7 @@ use Rattle.std.proofs.Common.{◌≡◌, ◌+◌, ◌^◌, List, [], ◌∷◌, 
 use Rattle.std.proofs.lemmas.List.Elements.{All-push}
 use Rattle.cyclo_points.specs.Point.{IsWithin}
 use Rattle.tile_place.specs.declared.placed_tile.PlacedTile.{PlacedTile}
-use Rattle.window_trials.proofs.whole_tiles.none_refused.Goals as goal
+use Rattle.tile_trials.proofs.whole_tiles.none_refused.Goals as goal
 
 pub loop-number-preserved : goal.loop-number-preserved
 loop-number-preserved c =

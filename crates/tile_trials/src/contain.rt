@@ -4,25 +4,23 @@ ghost use Rattle.std.specs.Prelude.{IfSome};
 ghost use Rattle.lazy_walk.specs.Frames.{IsFrameOf};
 ghost use Rattle.rule_model.specs.Tiling.{tiling_of};
 
-use builtin_rules::builtin::builtin;
+use crate::given::{deep, tile_text};
 use builtin_rules::name::Name;
-use cyclo_points::motion::Motion;
 use cyclo_points::order::Order;
 use cyclo_points::point::Point;
 use lazy_walk::frame::Frame;
+use plain_tiles::built_in::{NAMES, machine_of};
+use plain_tiles::counts::Counts;
 use plain_tiles::drawn_tile::{DrawnTile, drawn_tiles, holders};
 use plain_tiles::frame_tiles::{begun, frame_tiles};
-use plain_tiles::placing::copy;
 use plain_tiles::small::close;
-use std::alloc::Global;
+use std::alloc::{AllocError, Global};
 use std::test::Fail;
 use tile_place::coord_limit::CoordLimit;
 use tile_place::machine::Machine;
 use tile_place::placed_tile::PlacedTile;
 use tile_shape::address::Address;
 use tile_shape::no_memory::NoMemory;
-use tile_shape::reading::read_address;
-use tile_shape::step::Step;
 
 /// The start number of all frames.
 const START: u64 = 42;
@@ -79,89 +77,71 @@ fn points(alloc: Global, order: Order) -> Result<Vec<Point>, Fail> {
     Ok(points)
 }
 
-/// A base, a point, and what is contained: the address of a tile, its turn and its shift; or the first value
-/// that is refused.
-#[derive(Drop)]
-enum Wanted {
-    Tile(&'static [u8], u8, [i64; 4]),
-    CoordLimit([i64; 4]),
-}
-
-/// What is wanted, as an answer.
-fn answer(machine: &Machine, wanted: &Wanted) -> Result<PlacedTile, CoordLimit> {
-    match wanted {
-        Wanted::Tile(text, turn, shift) => {
-            let addr = read_address(machine.checked().uses(), text).unwrap_or(Address::new(255));
-            let motion = Motion {
-                turn: *turn,
-                shift: Point { c: *shift },
-            };
-            Ok(PlacedTile {
-                kind: addr.kind,
-                motion,
-                addr,
-            })
-        }
-        Wanted::CoordLimit(value) => Err(CoordLimit {
-            value: Point { c: *value },
-        }),
+/// What is contained, as a text: a tile's kind, turn, shift and address, or the first value that is refused; and the depth
+/// then.
+fn told(
+    alloc: Global,
+    machine: &Machine,
+    base: &Address,
+    depth: u8,
+    point: &Point,
+) -> Result<String, AllocError> {
+    let (contained, depth) = match contain(machine, base, depth, point) {
+        Some(found) => found,
+        None => return "no frame".to_string(alloc),
+    };
+    match contained {
+        Ok(tile) => text_at(alloc, &tile, depth),
+        Err(CoordLimit { value }) => format!(in alloc; "CoordLimit {value} at {depth}"),
     }
 }
 
+/// A tile and a depth, as a text.
+fn text_at(alloc: Global, tile: &PlacedTile, depth: u8) -> Result<String, AllocError> {
+    let tile = tile_text(alloc, tile)?;
+    format!(in alloc; "{tile} at {depth}")
+}
+
 /// Points of the chair's frames whose base has no digit, what is contained, and the depth after it.
-const ROWS: [([i64; 4], Wanted, u8); 2] = [
-    ([1, 1, 0, 0], Wanted::Tile(b"0:1/0", 1, [3, 1, 0, 0]), 1),
-    ([0, 0, 0, 0], Wanted::Tile(b"0:", 0, [0, 0, 0, 0]), 0),
+static ROWS: [([i64; 4], &str); 2] = [
+    ([1, 1, 0, 0], "0 1 3,1,0,0 0:1/0 at 1"),
+    ([0, 0, 0, 0], "0 0 0,0,0,0 0: at 0"),
 ];
 
 #[test]
 fn contains_points_of_the_chair(rt: HostRuntime) -> Result<(), Fail> {
-    let machine = Machine::new(rt.alloc(), builtin(rt.alloc(), Name::Chair)?)?;
-    for (point, wanted, depth) in ROWS {
-        let contained = contain(&machine, &Address::new(0), 0, &Point { c: point });
-        assert_eq!(rt; contained, Some((answer(&machine, &wanted), depth)));
+    let machine = machine_of(rt.alloc(), Name::Chair)?;
+    for (c, wanted) in ROWS.iter() {
+        let text = told(rt.alloc(), &machine, &Address::new(0), 0, &Point { c: *c })?;
+        assert_eq!(rt; text.as_str(), *wanted);
     }
     Ok(())
-}
-
-/// An address of the chair's kind with this digit at the fine end and 63 digits of child 0.
-fn deep(child: u8) -> Address {
-    let mut addr = Address::new(0);
-    for number in 0..64 {
-        let child = if number == 0 { child } else { 0 };
-        let _ = addr.push_coarse(Step { child, parent: 0 });
-    }
-    addr
 }
 
 #[test]
 fn contains_at_depth_64(rt: HostRuntime) -> Result<(), Fail> {
-    let machine = Machine::new(rt.alloc(), builtin(rt.alloc(), Name::Chair)?)?;
-    let inside = contain(&machine, &deep(3), 0, &Point { c: [1, 1, 0, 0] });
-    let tile = PlacedTile {
-        kind: 0,
-        motion: Motion {
-            turn: 1,
-            shift: Point { c: [3, 1, 0, 0] },
-        },
-        addr: deep(1),
-    };
-    assert_eq!(rt; inside, Some((Ok(tile), 64)));
+    let alloc = rt.alloc();
+    let machine = machine_of(alloc, Name::Chair)?;
+    let inside = told(
+        alloc,
+        &machine,
+        &deep(&[3], 64),
+        0,
+        &Point { c: [1, 1, 0, 0] },
+    )?;
+    let wanted = format!(in alloc; "0 1 3,1,0,0 {} at 64", deep(&[1], 64))?;
+    assert_eq!(rt; inside.as_str(), wanted.as_str());
     // the point is beside the corner of every ancestor, and the second vertex of that of level 24 is refused
-    let beside = contain(&machine, &deep(0), 0, &Point { c: [-1, 0, 0, 0] });
-    let refused = answer(&machine, &Wanted::CoordLimit([16777216, 33554432, 0, 0]));
-    assert_eq!(rt; beside, Some((refused, 64)));
+    let beside = told(
+        alloc,
+        &machine,
+        &deep(&[], 64),
+        0,
+        &Point { c: [-1, 0, 0, 0] },
+    )?;
+    assert_eq!(rt; beside.as_str(), "CoordLimit 16777216,33554432,0,0 at 64");
     Ok(())
 }
-
-/// The built-in rules.
-const NAMES: [Name; 5] = [
-    Name::Chair,
-    Name::P2,
-    Name::P3,
-    Name::AmmannBeenker,
-    Name::HalfHex,
-];
 
 /// The tiles of a base's frame at each depth.
 fn lists(
@@ -180,42 +160,58 @@ fn lists(
 }
 
 /// The least depth from this one on at which a tile of the list holds a point, and that tile.
-fn least(
+fn least<'a>(
     order: Order,
-    lists: &[Vec<DrawnTile>],
+    lists: &'a [Vec<DrawnTile>],
     from: u8,
     point: &Point,
-) -> Option<(PlacedTile, u8)> {
+) -> Option<(&'a PlacedTile, u8)> {
     for depth in from..=DEEPEST {
         let tiles = lists.get(usize::from(depth))?;
         if let (1, Some(tile)) = holders(order, tiles.as_slice(), point) {
-            return Some((copy(tile), depth));
+            return Some((tile, depth));
         }
     }
     None
 }
 
+/// Whether a point is contained in no frame of a depth that is listed.
+fn lies_deeper(machine: &Machine, base: &Address, from: u8, point: &Point) -> bool {
+    match contain(machine, base, from, point) {
+        Some((_, depth)) => depth > DEEPEST,
+        None => true,
+    }
+}
+
+/// How many points round the base of a frame are contained at the least depth in the tile that is listed there; and how
+/// many otherwise, those among them that lie deeper than is listed and are found less deep.
+fn counted(alloc: Global, machine: &Machine) -> Result<Counts, Fail> {
+    let base = Address::new(0);
+    let order = machine.checked().order();
+    let lists = lists(alloc, machine, &base)?;
+    let points = points(alloc, order)?;
+    let mut counts = Counts::default();
+    for from in 0..=DEEPEST {
+        for point in points.as_slice() {
+            if let Some((tile, depth)) = least(order, lists.as_slice(), from, point) {
+                let wanted = text_at(alloc, tile, depth)?;
+                let text = told(alloc, machine, &base, from, point)?;
+                counts.count(text.as_str() == wanted.as_str());
+            } else if !lies_deeper(machine, &base, from, point) {
+                counts.count(false);
+            }
+        }
+    }
+    Ok(counts)
+}
+
 #[test]
 fn contains_each_point_at_the_least_depth(rt: HostRuntime) -> Result<(), Fail> {
     for name in NAMES {
-        let machine = Machine::new(rt.alloc(), builtin(rt.alloc(), name)?)?;
-        let base = Address::new(0);
-        let order = machine.checked().order();
-        let lists = lists(rt.alloc(), &machine, &base)?;
-        let points = points(rt.alloc(), order)?;
-        let mut found: u32 = 0;
-        for from in 0..=DEEPEST {
-            for point in points.as_slice() {
-                if let Some((tile, depth)) = least(order, lists.as_slice(), from, point) {
-                    let contained = contain(&machine, &base, from, point);
-                    assert_eq!(rt; contained, Some((Ok(tile), depth)), "{name:?} {point}");
-                    found = found.saturating_add(1);
-                } else if let Some((_, depth)) = contain(&machine, &base, from, point) {
-                    assert!(rt; depth > DEEPEST, "{name:?} {point}");
-                }
-            }
-        }
-        assert!(rt; found >= 30, "{name:?} {found}");
+        let machine = machine_of(rt.alloc(), name)?;
+        let counts = counted(rt.alloc(), &machine)?;
+        assert_eq!(rt; counts.differ, 0, "{name:?}");
+        assert!(rt; counts.right >= 30, "{name:?} {counts:?}");
     }
     Ok(())
 }

@@ -1,9 +1,9 @@
 //! Walks through frames that grow, there and back: many short ones, and a long one of each rule.
 ghost use Rattle.std.specs.Prelude.{◌≡◌, ◌<◌};
 
-use builtin_rules::builtin::builtin;
 use builtin_rules::name::Name;
 use edge_tables::steps::Steps;
+use plain_tiles::built_in::{NAMES, machine_of};
 use plain_tiles::counts::Counts;
 use plain_tiles::draws::Draws;
 use plain_tiles::walks::{walked, walks};
@@ -11,16 +11,6 @@ use std::alloc::Global;
 use std::marker::Brand;
 use std::sync::ledger::{Blank, Ledger};
 use std::test::Fail;
-use tile_place::machine::Machine;
-
-/// The built-in rules.
-const NAMES: [Name; 5] = [
-    Name::Chair,
-    Name::P2,
-    Name::P3,
-    Name::AmmannBeenker,
-    Name::HalfHex,
-];
 
 /// How 1,000 walks come out, and the depth to which a frame grows for a walk of 1,000 edges.
 fn counted<L: Ledger>(alloc: Global, name: Name, blank: Blank) -> Result<(Counts, Option<u8>), Fail>
@@ -29,7 +19,7 @@ fn counted<L: Ledger>(alloc: Global, name: Name, blank: Blank) -> Result<(Counts
     requires some { 0 < blank.parts }
 {
     let mut steps = Steps::<L>::new(blank);
-    let machine = Machine::new(alloc, builtin(alloc, name)?)?;
+    let machine = machine_of(alloc, name)?;
     let counts = walks(alloc, &machine, 1000, &mut steps)?;
     let mut draws = Draws { state: 7 };
     let depth = walked(alloc, &machine, 0, 1000, &mut draws, &mut steps)?;

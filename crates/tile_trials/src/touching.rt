@@ -1,8 +1,8 @@
 //! Windows round vertices, middles of edges and points on them: their sides run through vertices, along edges and
 //! through corners of tiles that they only touch.
-use crate::random::{MOST_TILES, NAMES};
-use builtin_rules::builtin::builtin;
+use crate::drawn_windows::MOST_TILES;
 use cyclo_points::point::Point;
+use plain_tiles::built_in::{NAMES, machine_of};
 use plain_tiles::counts::Counts;
 use plain_tiles::draws::Draws;
 use plain_tiles::placing::corners;
@@ -60,7 +60,7 @@ fn counted(alloc: Global, machine: &Machine, base: &Address) -> Result<Counts, N
 #[test]
 fn windows_that_touch(rt: HostRuntime) -> Result<(), Fail> {
     for name in NAMES {
-        let machine = Machine::new(rt.alloc(), builtin(rt.alloc(), name)?)?;
+        let machine = machine_of(rt.alloc(), name)?;
         let mut draws = Draws { state: 3 };
         let base = draws.address(&machine, 2, true).unwrap_or(Address::new(0));
         let counts = counted(rt.alloc(), &machine, &base)?;

@@ -1,19 +1,8 @@
 //! Windows that are drawn, against a list of all tiles of the frame.
-use builtin_rules::builtin::builtin;
-use builtin_rules::name::Name;
+use plain_tiles::built_in::{NAMES, machine_of};
 use plain_tiles::counts::Counts;
 use plain_tiles::window_tiles::windows;
 use std::test::Fail;
-use tile_place::machine::Machine;
-
-/// The built-in rules.
-pub(crate) const NAMES: [Name; 5] = [
-    Name::Chair,
-    Name::P2,
-    Name::P3,
-    Name::AmmannBeenker,
-    Name::HalfHex,
-];
 
 /// The greatest number of tiles of a frame that is listed.
 pub(crate) const MOST_TILES: u64 = 1100;
@@ -25,7 +14,7 @@ fn drawn_windows(rt: HostRuntime) -> Result<(), Fail> {
         differ: 0,
     };
     for name in NAMES {
-        let machine = Machine::new(rt.alloc(), builtin(rt.alloc(), name)?)?;
+        let machine = machine_of(rt.alloc(), name)?;
         let (counts, tiles) = windows(rt.alloc(), &machine, 100, MOST_TILES)?;
         assert_eq!(rt; counts, wanted, "{name:?}");
         assert!(rt; tiles >= 400, "{name:?} {tiles}");

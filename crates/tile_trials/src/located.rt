@@ -1,11 +1,10 @@
 //! What is located, against a list of all tiles of supertiles of depth up to 4: at the vertices of each tile, at
 //! the middles of its edges and at points inside, where these are points of the ring.
-use builtin_rules::builtin::builtin;
 use builtin_rules::name::Name;
+use plain_tiles::built_in::machine_of;
 use plain_tiles::counts::Counts;
 use plain_tiles::located::located;
 use std::test::Fail;
-use tile_place::machine::Machine;
 
 /// The built-in rules, each with the number of points of all its supertiles. A chair's supertile of depth d, whose
 /// long sides are 2n = 2^(d + 1), has 3n² + 4n + 1 of them.
@@ -20,7 +19,7 @@ const NAMES: [(Name, u32); 5] = [
 #[test]
 fn locates_each_tile_of_supertiles(rt: HostRuntime) -> Result<(), Fail> {
     for (name, points) in NAMES {
-        let machine = Machine::new(rt.alloc(), builtin(rt.alloc(), name)?)?;
+        let machine = machine_of(rt.alloc(), name)?;
         let counts = located(rt.alloc(), &machine, u64::MAX)?;
         let wanted = Counts {
             right: points,

@@ -1,0 +1,22 @@
+//! The machines of the built-in rules.
+use builtin_rules::builtin::builtin;
+use builtin_rules::name::Name;
+use std::alloc::Global;
+use tile_place::machine::Machine;
+use tile_shape::no_memory::NoMemory;
+
+/// The built-in rules.
+pub const NAMES: [Name; 5] = [
+    Name::Chair,
+    Name::P2,
+    Name::P3,
+    Name::AmmannBeenker,
+    Name::HalfHex,
+];
+
+/// The machine of a built-in rule, in a box: a trial that holds it drops one value, which is proved far sooner than the
+/// drop of all its parts.
+pub fn machine_of(alloc: Global, name: Name) -> Result<Box<Machine>, NoMemory> {
+    let machine = Machine::new(alloc, builtin(alloc, name)?)?;
+    Ok(Box::new(alloc, machine)?)
+}
