@@ -1,0 +1,383 @@
+-- The search for nodes, over plain variables.
+use Rattle.std.proofs.Common.{◌≡◌, ◌⊎◌, inl, inr, ℕ, zero, suc, ◌+◌, ◌-◌, ◌*◌, ◌<◌, ◌≤◌, Bool, true, false, List, [], ◌∷◌, ◌++◌, length, take, set, get_or, Option, Some, None, IsSome, refl, sym, ap, ◌∙◌, subst, arith, append_assoc, length-set, length-append}
+use Rattle.std.proofs.Math.ListN.{replicate}
+use Rattle.std.specs.List.{flat_map, slice_get}
+use Rattle.std.proofs.lemmas.Bool.{cases_eq}
+use Rattle.std.proofs.lemmas.Grind.{flat_map-append}
+use Rattle.std.proofs.lemmas.List.{take_more, take-append-le}
+use Rattle.std.proofs.lemmas.Option.{slice_get-get_or}
+use Rattle.addressing.specs.Contact.{Contact, ChildEdge, inner, outer}
+use Rattle.addressing.specs.Search.{below, IsAmong}
+use Rattle.addressing.specs.Tables.{Tables, kind_tables, child_kind_of, contact_of, contacts_of, part_of, part_count}
+use Rattle.addressing.specs.Coherent.{IsCoherent}
+use Rattle.addressing.proofs.Lists.{IsAmong-append_left, IsAmong-append_right, IsAmong-flat_map}
+use Rattle.addressing.proofs.Ranges.{among-append, among-flat_map, IsAmong-below}
+use Rattle.addressing.proofs.TableBounds.{type_bounds, contact_bounds}
+use Rattle.addressing.proofs.Mated.{IsMated, inner_mated, same_parts, across_part}
+use Rattle.transducer_core.specs.Once.{HasNoneTwice}
+use Rattle.pair_machine.specs.Nodes.{Node, RowPair, IsNode, IsOfChildren, first, further, both_of, row_of}
+use Rattle.pair_machine.specs.Numbers.{number_of}
+use Rattle.pair_machine.specs.Searching.{of_both, children_node, contact_node, child_nodes, kind_nodes, first_nodes, row_nodes, IsSmall, unseen, IsSeen, Covers}
+use Rattle.pair_machine.proofs.Leaving.{row-among, edge_there}
+use Rattle.pair_machine.proofs.Levels.{child_of}
+use Rattle.pair_machine.proofs.Keeping.{slice_get-set_same, slice_get-set_other, append-none, below-more}
+
+-- ---- numbers tell nodes
+one_left : (k x y d e : ℕ) → d < 12 → e < 12 → x * 12 + d ≡ y * 12 + e → (x ≡ y) × (d ≡ e)
+one_left k x y d e hd he h = (omega (arith, hd, he, h), omega (arith, hd, he, h))
+
+one_sixteen : (x y d e : ℕ) → d < 16 → e < 16 → x * 16 + d ≡ y * 16 + e → (x ≡ y) × (d ≡ e)
+one_sixteen x y d e hd he h = (omega (arith, hd, he, h), omega (arith, hd, he, h))
+
+node-eq : (m n : Node) → m.kind ≡ n.kind → m.edge ≡ n.edge → m.other ≡ n.other → m.back ≡ n.back → m ≡ n
+node-eq m n k e o b = λ i. record { kind = k i; edge = e i; other = o i; back = b i }
+
+pub number_one : (bound : ℕ) (m n : Node) → IsSmall bound m → IsSmall bound n → number_of m ≡ number_of n → m ≡ n
+number_one bound m n h k same =
+    let a = one_left 0 ((m.kind * 12 + m.edge) * 16 + m.other) ((n.kind * 12 + n.edge) * 16 + n.other) m.back n.back h.back k.back same in
+    let b = one_sixteen (m.kind * 12 + m.edge) (n.kind * 12 + n.edge) m.other n.other h.other k.other a.0 in
+    let c = one_left 0 m.kind n.kind m.edge n.edge h.edge k.edge b.0 in
+    node-eq m n c.0 c.1 b.1 a.1
+
+-- ---- marks
+unseen_set : (bs : List Bool) (i : ℕ) → slice_get bs i ≡ Some false → suc (unseen (set bs i true)) ≡ unseen bs
+unseen_set [] i h = absurd cc
+unseen_set (true ∷ bs) zero h = absurd cc
+unseen_set (false ∷ bs) zero h = refl
+unseen_set (true ∷ bs) (suc i) h = unseen_set bs i h
+unseen_set (false ∷ bs) (suc i) h = ap suc (unseen_set bs i h)
+
+distinct_more : (ns : List Node) (n : Node) → HasNoneTwice ns → (IsAmong n ns → ⊥) → HasNoneTwice (ns ++ n ∷ [])
+distinct_more [] n h new = (λ i. elim i [ ], tt)
+distinct_more (m ∷ ns) n h new = (
+  λ i. elim (among-append m ns (n ∷ []) i) [ inl j ↦ h.0 j | inr j ↦ elim j [ inl e ↦ new (inl (sym e)) | inr k ↦ elim k [ ] ] ],
+  distinct_more ns n h.1 (λ i. new (inr i)),
+)
+
+pub none_seen : (seen : List Bool) → unseen seen ≡ length seen → ((i : ℕ) → slice_get seen i ≡ Some true → ⊥) → IsSeen [] seen
+none_seen seen all unmarked = record {
+  small = λ n i. elim i [ ];
+  marked = λ n i. elim i [ ];
+  only = λ i h. elim (unmarked i h) [ ];
+  distinct = tt;
+  count = omega (arith, all);
+}
+
+pub unseen_none : (n : ℕ) → unseen (replicate n false) ≡ length (replicate n false)
+unseen_none zero = refl
+unseen_none (suc n) = ap suc (unseen_none n)
+
+pub unmarked_none : (n i : ℕ) → slice_get (replicate n false) i ≡ Some true → ⊥
+unmarked_none zero i h = cc
+unmarked_none (suc n) zero h = cc
+unmarked_none (suc n) (suc i) h = unmarked_none n i h
+
+pub none_seen_at : (seen : List Bool) (n : ℕ) → seen ≡ replicate n false → IsSeen [] seen
+none_seen_at seen n is = rw is (none_seen (replicate n false) (unseen_none n) (unmarked_none n))
+
+-- the mark that is read
+pub mark_read : (seen : List Bool) (i j : ℕ) (value b : Bool) → i < length seen → j ≡ i → value ≡ get_or seen j value → value ≡ b → slice_get seen i ≡ Some b
+mark_read seen i j value b inside at read is = slice_get-get_or seen i value inside ∙ ap (λ (k : ℕ). Some (get_or seen k value)) (sym at) ∙ ap Some (sym read ∙ is)
+
+-- a node that is there already
+pub add_old : (list : List Node) (seen : List Bool) (n : Node) → IsSeen list seen → IsSmall (length seen) n → slice_get seen (number_of n) ≡ Some true → Covers list (length seen) list seen (n ∷ [])
+add_old list seen n h small marked =
+    let m = h.only (number_of n) marked in
+    let same = number_one (length seen) m.0 n (h.small m.0 m.1) small m.2 in
+    record {
+      seen_now = h;
+      rest = [];
+      grown = sym (append-none list);
+      all = λ p i. elim i [ inl e ↦ subst (λ (q : Node). IsAmong q list) (same ∙ sym e) m.1 | inr j ↦ elim j [ ] ];
+      only = λ p i. inl i;
+      size_kept = refl;
+    }
+
+-- a new node
+pub add_new : (list : List Node) (seen : List Bool) (n : Node) → IsSeen list seen → IsSmall (length seen) n → slice_get seen (number_of n) ≡ Some false
+    → Covers list (length seen) (list ++ n ∷ []) (set seen (number_of n) true) (n ∷ [])
+add_new list seen n h small fresh = record {
+  seen_now = record {
+    small = λ m i. subst (λ (b : ℕ). IsSmall b m) (sym size) (elim (among-append m list (n ∷ []) i) [ inl j ↦ h.small m j | inr j ↦ elim j [ inl e ↦ subst (IsSmall (length seen)) (sym e) small | inr k ↦ elim k [ ] ] ]);
+    marked = λ m i. elim (cases_eq (number_of m) (number_of n)) [
+      | inl same ↦ ap (slice_get (set seen (number_of n) true)) same ∙ slice_get-set_same seen (number_of n) true small.number
+      | inr other ↦ slice_get-set_other seen (number_of n) (number_of m) true other ∙ (elim (among-append m list (n ∷ []) i) [ inl j ↦ h.marked m j | inr j ↦ elim j [ inl e ↦ elim (other (ap number_of e)) [ ] | inr k ↦ elim k [ ] ] ])
+    ];
+    only = λ i is. elim (cases_eq i (number_of n)) [
+      | inl same ↦ (n, IsAmong-append_right n list (n ∷ []) (inl refl), sym same)
+      | inr other ↦ let m = h.only i (sym (slice_get-set_other seen (number_of n) i true other) ∙ is) in (m.0, IsAmong-append_left m.0 list (n ∷ []) m.1, m.2)
+    ];
+    distinct = distinct_more list n h.distinct (λ i. not_both (h.marked n i));
+    count = omega (arith, length-append list (n ∷ []), size, h.count, unseen_set seen (number_of n) fresh);
+  };
+  rest = n ∷ [];
+  grown = refl;
+  all = λ m i. IsAmong-append_right m list (n ∷ []) i;
+  only = λ m i. among-append m list (n ∷ []) i;
+  size_kept = size;
+}
+  where
+    size : length (set seen (number_of n) true) ≡ length seen
+    size = length-set seen (number_of n) true
+
+    not_both : slice_get seen (number_of n) ≡ Some true → ⊥
+    not_both marked = let two : Some true ≡ Some false = sym marked ∙ fresh in cc
+
+-- ---- one after the other
+pub covers_none : (list : List Node) (seen : List Bool) → IsSeen list seen → Covers list (length seen) list seen []
+covers_none list seen h = record {
+  seen_now = h;
+  rest = [];
+  grown = sym (append-none list);
+  all = λ n i. elim i [ ];
+  only = λ n i. inl i;
+  size_kept = refl;
+}
+
+pub kept_in : {old new : List Node} {size : ℕ} {seen : List Bool} {cs : List Node} (n : Node) → Covers old size new seen cs → IsAmong n old → IsAmong n new
+kept_in {old} n h i = subst (IsAmong n) (sym h.grown) (IsAmong-append_left n old h.rest i)
+
+pub covers_more : (old mid new : List Node) (size : ℕ) (seen seen' : List Bool) (xs ys : List Node) → Covers old size mid seen xs → Covers mid (length seen) new seen' ys → Covers old size new seen' (xs ++ ys)
+covers_more old mid new size seen seen' xs ys h k = record {
+  seen_now = k.seen_now;
+  rest = h.rest ++ k.rest;
+  grown = k.grown ∙ ap (λ (l : List Node). l ++ k.rest) h.grown ∙ append_assoc old h.rest k.rest;
+  all = λ n i. elim (among-append n xs ys i) [ inl j ↦ kept_in n k (h.all n j) | inr j ↦ k.all n j ];
+  only = λ n i. elim (k.only n i) [
+    | inl j ↦ elim (h.only n j) [ inl a ↦ inl a | inr b ↦ inr (IsAmong-append_left n xs ys b) ]
+    | inr j ↦ inr (IsAmong-append_right n xs ys j)
+  ];
+  size_kept = k.size_kept ∙ h.size_kept;
+}
+
+pub covers_as : (old new : List Node) (size : ℕ) (seen : List Bool) (xs ys : List Node) → xs ≡ ys → Covers old size new seen xs → Covers old size new seen ys
+covers_as old new size seen xs ys same h = subst (Covers old size new seen) same h
+
+-- ---- the nodes of a loop, one more
+pub child_nodes-more : (t : Tables) (k a n : ℕ) → child_nodes t k a (n + 1) ≡ child_nodes t k a n ++ contact_node t k a n (contact_of t k a n)
+unfolding child_nodes
+child_nodes-more t k a n = rw (below-more n, flat_map-append (λ e. contact_node t k a e (contact_of t k a e)) (below (λ e. e) n) (n ∷ []), append-none (contact_node t k a n (contact_of t k a n))) refl
+
+pub kind_nodes-more : (t : Tables) (k n : ℕ) → kind_nodes t k (n + 1) ≡ kind_nodes t k n ++ child_nodes t k n (length (contacts_of t k n))
+unfolding kind_nodes
+kind_nodes-more t k n = rw (below-more n, flat_map-append (λ a. child_nodes t k a (length (contacts_of t k a))) (below (λ a. a) n) (n ∷ []), append-none (child_nodes t k n (length (contacts_of t k n)))) refl
+
+pub first_nodes-more : (t : Tables) (n : ℕ) → first_nodes t (n + 1) ≡ first_nodes t n ++ kind_nodes t n (length (kind_tables t n).children)
+unfolding first_nodes
+first_nodes-more t n = rw (below-more n, flat_map-append (λ k. kind_nodes t k (length (kind_tables t k).children)) (below (λ k. k) n) (n ∷ []), append-none (kind_nodes t n (length (kind_tables t n).children))) refl
+
+pub row_nodes-more : (t : Tables) (n : Node) (row : List RowPair) (i : ℕ) (d r : RowPair) → i < length row → get_or row i d ≡ r
+    → row_nodes t n (take (i + 1) row) ≡ row_nodes t n (take i row) ++ children_node t n.kind r.mine n.other r.theirs
+unfolding row_nodes
+row_nodes-more t n row i d r h at =
+    rw (take_more row i d h, at, flat_map-append (λ (r : RowPair). children_node t n.kind r.mine n.other r.theirs) (take i row) (r ∷ []), append-none (children_node t n.kind r.mine n.other r.theirs)) refl
+
+pub child_nodes-none : (t : Tables) (k a : ℕ) → child_nodes t k a 0 ≡ []
+unfolding child_nodes
+child_nodes-none t k a = refl
+
+pub kind_nodes-none : (t : Tables) (k : ℕ) → kind_nodes t k 0 ≡ []
+unfolding kind_nodes
+kind_nodes-none t k = refl
+
+pub first_nodes-none : (t : Tables) → first_nodes t 0 ≡ []
+unfolding first_nodes
+first_nodes-none t = refl
+
+pub row_nodes-none : (t : Tables) (n : Node) → row_nodes t n [] ≡ []
+unfolding row_nodes
+row_nodes-none t n = refl
+
+-- ---- which they are
+of_both-among : (o : Option ℕ) (e : ℕ) (u : Option ℕ) (f : ℕ) (n : Node) → IsAmong n (of_both o e u f) → (o ≡ Some n.kind) × (n.edge ≡ e) × (u ≡ Some n.other) × (n.back ≡ f)
+of_both-among None e u f n i = elim i [ ]
+of_both-among (Some k) e None f n i = elim i [ ]
+of_both-among (Some k) e (Some l) f n (inl is) =
+    (ap (λ (m : Node). Some m.kind) (sym is), ap (λ (m : Node). m.edge) is, ap (λ (m : Node). Some m.other) (sym is), ap (λ (m : Node). m.back) is)
+of_both-among (Some k) e (Some l) f n (inr i) = elim i [ ]
+
+pub children-among : (t : Tables) (k : ℕ) (x : ChildEdge) (l : ℕ) (y : ChildEdge) (n : Node) → IsAmong n (children_node t k x l y) → IsOfChildren t k x l y n
+children-among t k x l y n i =
+    let r = of_both-among (child_kind_of t k x.child) x.edge (child_kind_of t l y.child) y.edge n i in
+    record { kind = r.0; edge = r.1; other = r.2; back = r.3 }
+
+pub among-children : (t : Tables) (k : ℕ) (x : ChildEdge) (l : ℕ) (y : ChildEdge) (n : Node) → IsOfChildren t k x l y n → IsAmong n (children_node t k x l y)
+among-children t k x l y n h = rw (h.kind, h.other) (inl (λ i. record { kind = n.kind; edge = h.edge i; other = n.other; back = h.back i }))
+
+contact-among : (t : Tables) (k a e : ℕ) (o : Option Contact) (n : Node) → contact_of t k a e ≡ o → IsAmong n (contact_node t k a e o) → IsNode t n
+contact-among t k a e None n is i = elim i [ ]
+contact-among t k a e (Some (inner b f)) n is i = first k a e b f is (children-among t k (record { child = a; edge = e }) k (record { child = b; edge = f }) n i)
+contact-among t k a e (Some (outer f p)) n is i = elim i [ ]
+
+pub first-node : (t : Tables) (size : ℕ) (n : Node) → IsAmong n (first_nodes t size) → IsNode t n
+unfolding first_nodes kind_nodes child_nodes
+first-node t size n i =
+    let a = among-flat_map (λ k. kind_nodes t k (length (kind_tables t k).children)) n (below (λ k. k) size) i in
+    let b = among-flat_map (λ c. child_nodes t a.piece c (length (contacts_of t a.piece c))) n (below (λ c. c) (length (kind_tables t a.piece).children)) a.inside in
+    let c = among-flat_map (λ e. contact_node t a.piece b.piece e (contact_of t a.piece b.piece e)) n (below (λ e. e) (length (contacts_of t a.piece b.piece))) b.inside in
+    contact-among t a.piece b.piece c.piece (contact_of t a.piece b.piece c.piece) n refl c.inside
+
+pub node-first : (t : Tables) (n : Node) (k a e b f : ℕ) → IsCoherent t → contact_of t k a e ≡ Some (inner b f) → IsOfChildren t k (record { child = a; edge = e }) k (record { child = b; edge = f }) n
+    → IsAmong n (first_nodes t (length t.kinds))
+unfolding first_nodes kind_nodes child_nodes
+node-first t n k a e b f coherent met of =
+    let bounds = contact_bounds t k a e (rw met refl) in
+    let here : IsAmong n (contact_node t k a e (contact_of t k a e)) = rw met (among-children t k (record { child = a; edge = e }) k (record { child = b; edge = f }) n of) in
+    let in_child : IsAmong n (child_nodes t k a (length (contacts_of t k a))) =
+    IsAmong-flat_map (λ e. contact_node t k a e (contact_of t k a e)) e n (below (λ e. e) (length (contacts_of t k a))) (IsAmong-below (λ e. e) (length (contacts_of t k a)) e bounds.2) here in
+    let in_kind : IsAmong n (kind_nodes t k (length (kind_tables t k).children)) =
+    IsAmong-flat_map (λ a. child_nodes t k a (length (contacts_of t k a))) a n (below (λ a. a) (length (kind_tables t k).children))
+    (IsAmong-below (λ a. a) (length (kind_tables t k).children) a (omega (arith, bounds.1, coherent.contacts_each k))) in_child in
+    IsAmong-flat_map (λ k. kind_nodes t k (length (kind_tables t k).children)) k n (below (λ k. k) (length t.kinds)) (IsAmong-below (λ k. k) (length t.kinds) k bounds.0) in_kind
+
+pub row-node : (t : Tables) (m n : Node) → IsNode t m → IsAmong n (row_nodes t m (row_of t m)) → IsNode t n
+unfolding row_nodes
+row-node t m n node i =
+    let r = among-flat_map (λ (r : RowPair). children_node t m.kind r.mine m.other r.theirs) n (row_of t m) i in
+    further m r.piece node r.among (children-among t m.kind r.piece.mine m.other r.piece.theirs n r.inside)
+
+pub node-row : (t : Tables) (m n : Node) (pair : RowPair) → IsAmong pair (row_of t m) → IsOfChildren t m.kind pair.mine m.other pair.theirs n → IsAmong n (row_nodes t m (row_of t m))
+unfolding row_nodes
+node-row t m n pair i of = IsAmong-flat_map (λ (r : RowPair). children_node t m.kind r.mine m.other r.theirs) pair n (row_of t m) i (among-children t m.kind pair.mine m.other pair.theirs n of)
+
+-- ---- nodes have mated edges
+pub node_mated : (t : Tables) (n : Node) → IsCoherent t → IsNode t n → IsMated t n.kind n.edge n.other n.back
+node_mated t n coherent (first k a e b f met of) =
+    let edge = edge_there t k a n.kind e coherent of.kind (rw met refl) in
+    let m = inner_mated t k a n.kind e b f coherent of.kind edge met in
+    let same : m.0 ≡ n.other = let two : Some m.0 ≡ Some n.other = sym m.1 ∙ of.other in cc in
+    mated_as t n e f of.edge of.back (subst (λ (l : ℕ). IsMated t n.kind e l f) same m.2)
+  where
+    mated_as : (t : Tables) (n : Node) (e f : ℕ) → n.edge ≡ e → n.back ≡ f → IsMated t n.kind e n.other f → IsMated t n.kind n.edge n.other n.back
+    mated_as t n e f x y h = rw (x, y) h
+node_mated t n coherent (further m pair node i of) =
+    let above = node_mated t m coherent node in
+    let r = row-among t m pair i in
+    let on = (coherent.outer_part m.kind pair.mine.child pair.mine.edge m.edge r.part).1 r.mine in
+    let its : r.across + (r.part + 1) ≡ part_count t m.other m.back = r.mirrored ∙ same_parts t m.kind m.edge m.other m.back coherent above in
+    let a = across_part t m.kind m.edge m.other m.back pair.mine.child n.kind pair.mine.edge r.part r.across coherent above of.kind on its in
+    let one : a.below ≡ pair.theirs = let two : Some a.below ≡ Some pair.theirs = sym a.below_is ∙ r.theirs in cc in
+    let kind : child_kind_of t m.other pair.theirs.child ≡ Some a.kind = subst (λ (ce : ChildEdge). child_kind_of t m.other ce.child ≡ Some a.kind) one a.kind_is in
+    let kinds : a.kind ≡ n.other = let two : Some a.kind ≡ Some n.other = sym kind ∙ of.other in cc in
+    let mated' : IsMated t n.kind pair.mine.edge a.kind pair.theirs.edge = subst (λ (ce : ChildEdge). IsMated t n.kind pair.mine.edge a.kind ce.edge) one a.mated in
+    let mated : IsMated t n.kind pair.mine.edge n.other pair.theirs.edge = subst (λ (l : ℕ). IsMated t n.kind pair.mine.edge l pair.theirs.edge) kinds mated' in
+    rw (of.edge, of.back) mated
+
+pub node_small : (t : Tables) (n : Node) (size : ℕ) → IsCoherent t → size ≡ length t.kinds * 2304 → IsNode t n → IsSmall size n
+node_small t n size coherent is node =
+    let m = node_mated t n coherent node in
+    let mine = type_bounds t n.kind n.edge (rw m.own_is refl) in
+    let theirs = type_bounds t n.other n.back (rw m.other_is refl) in
+    let a = coherent.at_most_12_edges n.kind mine.0 in
+    let b = coherent.at_most_12_edges n.other theirs.0 in
+    let few = coherent.at_most_16_kinds in
+    record {
+      number = omega (arith, mine, theirs, a, b, few, is);
+      edge = omega (arith, mine, a);
+      other = omega (arith, theirs, few);
+      back = omega (arith, theirs, b);
+    }
+
+-- ---- children that there are
+pub contact_child : (t : Tables) (k a e : ℕ) → IsCoherent t → IsSome (contact_of t k a e) → IsSome (child_kind_of t k a)
+contact_child t k a e coherent there =
+    let bounds = contact_bounds t k a e there in
+    rw (child_of t k a coherent bounds.1).1 refl
+
+pub other_child : (t : Tables) (k a e b f : ℕ) → IsCoherent t → contact_of t k a e ≡ Some (inner b f) → IsSome (child_kind_of t k b)
+other_child t k a e b f coherent met = contact_child t k b f coherent (rw (coherent.points_back k a e b f met) refl)
+
+pub mine_child : (t : Tables) (n : Node) (r : RowPair) → IsCoherent t → IsAmong r (row_of t n) → IsSome (child_kind_of t n.kind r.mine.child)
+mine_child t n r coherent i =
+    let row = row-among t n r i in
+    contact_child t n.kind r.mine.child r.mine.edge coherent (rw ((coherent.outer_part n.kind r.mine.child r.mine.edge n.edge row.part).1 row.mine) refl)
+
+pub their_child : (t : Tables) (n : Node) (r : RowPair) → IsCoherent t → IsAmong r (row_of t n) → IsSome (child_kind_of t n.other r.theirs.child)
+their_child t n r coherent i =
+    let row = row-among t n r i in
+    contact_child t n.other r.theirs.child r.theirs.edge coherent (rw ((coherent.outer_part n.other r.theirs.child r.theirs.edge n.back row.across).1 row.theirs) refl)
+
+pub small_first : (t : Tables) (size k a e b f ka kb : ℕ) → IsCoherent t → size ≡ length t.kinds * 2304 → contact_of t k a e ≡ Some (inner b f)
+    → child_kind_of t k a ≡ Some ka → child_kind_of t k b ≡ Some kb → IsSmall size (record { kind = ka; edge = e; other = kb; back = f })
+small_first t size k a e b f ka kb coherent is met mine theirs =
+    node_small t (record { kind = ka; edge = e; other = kb; back = f }) size coherent is (first k a e b f met (record { kind = mine; edge = refl; other = theirs; back = refl }))
+
+pub small_further : (t : Tables) (size : ℕ) (m : Node) (r : RowPair) (k l : ℕ) → IsCoherent t → size ≡ length t.kinds * 2304 → IsNode t m → IsAmong r (row_of t m)
+    → child_kind_of t m.kind r.mine.child ≡ Some k → child_kind_of t m.other r.theirs.child ≡ Some l → IsSmall size (record { kind = k; edge = r.mine.edge; other = l; back = r.theirs.edge })
+small_further t size m r k l coherent is node i mine theirs =
+    node_small t (record { kind = k; edge = r.mine.edge; other = l; back = r.theirs.edge }) size coherent is (further m r node i (record { kind = mine; edge = refl; other = theirs; back = refl }))
+
+pub child_inner : (t : Tables) (k a n b f ka kb : ℕ) → contact_of t k a n ≡ Some (inner b f) → child_kind_of t k a ≡ Some ka → child_kind_of t k b ≡ Some kb
+    → child_nodes t k a n ++ (record { kind = ka; edge = n; other = kb; back = f }) ∷ [] ≡ child_nodes t k a (n + 1)
+child_inner t k a n b f ka kb met mine theirs = rw (child_nodes-more t k a n, met, mine, theirs) refl
+
+pub child_outer : (t : Tables) (k a n f p : ℕ) → contact_of t k a n ≡ Some (outer f p) → child_nodes t k a n ≡ child_nodes t k a (n + 1)
+child_outer t k a n f p met = rw (child_nodes-more t k a n, met, append-none (child_nodes t k a n)) refl
+
+-- ---- a row, part by part
+unfoldable pub row_upto : Tables → Node → ℕ → List RowPair
+row_upto t n i = flat_map (λ p. both_of (part_of t n.kind n.edge p) (part_of t n.other n.back (part_count t n.kind n.edge - 1 - p))) (below (λ p. p) i)
+
+pub row_upto-none : (t : Tables) (n : Node) → row_upto t n 0 ≡ []
+unfolding row_upto
+row_upto-none t n = refl
+
+pub row_upto-all : (t : Tables) (n : Node) → row_upto t n (part_count t n.kind n.edge) ≡ row_of t n
+unfolding row_upto row_of
+row_upto-all t n = refl
+
+pub row_upto-more : (t : Tables) (n : Node) (p : ℕ) (x y : ChildEdge) → part_of t n.kind n.edge p ≡ Some x → part_of t n.other n.back (part_count t n.kind n.edge - 1 - p) ≡ Some y
+    → row_upto t n (p + 1) ≡ row_upto t n p ++ (record { mine = x; theirs = y }) ∷ []
+unfolding row_upto
+row_upto-more t n p x y hx hy =
+    rw (below-more p, flat_map-append (λ p. both_of (part_of t n.kind n.edge p) (part_of t n.other n.back (part_count t n.kind n.edge - 1 - p))) (below (λ p. p) p) (p ∷ []), hx, hy) refl
+
+-- ---- the loop over all nodes
+pub among-take_more : (list : List Node) (i : ℕ) (d m : Node) → i < length list → IsAmong m (take (i + 1) list) → IsAmong m (take i list) ⊎ (m ≡ get_or list i d)
+among-take_more list i d m h j =
+    let k : IsAmong m (take i list ++ get_or list i d ∷ []) = rw (take_more list i d h) at j in
+    elim (among-append m (take i list) (get_or list i d ∷ []) k) [ inl a ↦ inl a | inr b ↦ elim b [ inl e ↦ inr e | inr n ↦ elim n [ ] ] ]
+
+pub take-grown : (old rest new : List Node) (i : ℕ) → new ≡ old ++ rest → i ≤ length old → take i new ≡ take i old
+take-grown old rest new i grown le = rw grown (take-append-le i old rest le)
+
+pub get_or-grown : (old rest : List Node) (i : ℕ) (d : Node) → i < length old → get_or (old ++ rest) i d ≡ get_or old i d
+get_or-grown [] rest i d h = absurd (omega arith)
+get_or-grown (x ∷ xs) rest zero d h = refl
+get_or-grown (x ∷ xs) rest (suc i) d h = get_or-grown xs rest i d (omega arith)
+
+-- all rows below the next node, and its own
+pub rows_more : (t : Tables) (old new : List Node) (size : ℕ) (seen : List Bool) (next : ℕ) (node d : Node) → next < length old → get_or old next d ≡ node
+    → Covers old size new seen (row_nodes t node (row_of t node))
+    → ((m n : Node) → IsAmong m (take next old) → IsAmong n (row_nodes t m (row_of t m)) → IsAmong n old)
+    → (m n : Node) → IsAmong m (take (next + 1) new) → IsAmong n (row_nodes t m (row_of t m)) → IsAmong n new
+rows_more t old new size seen next node d h at covers before m n i j =
+    let same : take (next + 1) new ≡ take (next + 1) old = take-grown old covers.rest new (next + 1) covers.grown (omega arith) in
+    elim (among-take_more old next d m h (rw same at i)) [
+      | inl k ↦ kept_in n covers (before m n k j)
+      | inr e ↦ covers.all n (subst (λ (x : Node). IsAmong n (row_nodes t x (row_of t x))) (e ∙ at) j)
+    ]
+
+pub covers_length : (old new : List Node) (size : ℕ) (seen : List Bool) (cs : List Node) → Covers old size new seen cs → length old ≤ length new
+covers_length old new size seen cs h = omega (arith, ap length h.grown, length-append old h.rest)
+
+pub covers_nodes : (t : Tables) (old new : List Node) (size : ℕ) (seen : List Bool) (cs : List Node) → Covers old size new seen cs → ((n : Node) → IsAmong n cs → IsNode t n)
+    → ((n : Node) → IsAmong n old → IsNode t n) → (n : Node) → IsAmong n new → IsNode t n
+covers_nodes t old new size seen cs h are before n i = elim (h.only n i) [ inl j ↦ before n j | inr j ↦ are n j ]
+
+pub seen_few : (list : List Node) (seen : List Bool) (kinds : ℕ) → IsSeen list seen → length seen ≡ kinds * 2304 → kinds ≤ 16 → length list ≤ 36864
+seen_few list seen kinds h size few = omega (arith, h.count, size, few)
+
+-- at the end each node is there
+pub all_found : (t : Tables) (list : List Node) (next : ℕ) → IsCoherent t → length list ≤ next → ((n : Node) → IsAmong n (first_nodes t (length t.kinds)) → IsAmong n list)
+    → ((m n : Node) → IsAmong m (take next list) → IsAmong n (row_nodes t m (row_of t m)) → IsAmong n list) → (n : Node) → IsNode t n → IsAmong n list
+all_found t list next coherent end firsts rows n (first k a e b f met of) = firsts n (node-first t n k a e b f coherent met of)
+all_found t list next coherent end firsts rows n (further m pair node i of) =
+    let here = all_found t list next coherent end firsts rows m node in
+    rows m n (rw (take_all list next end) here) (node-row t m n pair i of)
+  where
+    take_all : (xs : List Node) (n : ℕ) → length xs ≤ n → take n xs ≡ xs
+    take_all [] zero h = refl
+    take_all [] (suc n) h = refl
+    take_all (x ∷ xs) zero h = absurd (omega arith)
+    take_all (x ∷ xs) (suc n) h = ap (λ (l : List Node). x ∷ l) (take_all xs n (omega arith))

@@ -1,0 +1,274 @@
+-- One level of the reading, over plain variables.
+use Rattle.std.proofs.Common.{◌≡◌, inl, inr, ℕ, zero, suc, ◌+◌, ◌-◌, ◌<◌, ◌≤◌, Bool, true, false, ◌&&◌, List, [], ◌∷◌, ◌++◌, length, map, drop, get_or, Option, Some, None, IsSome, refl, sym, ap, ◌∙◌, subst, arith, eqb, eq-eqb, append_assoc}
+use Rattle.std.specs.List.{flat_map, slice_get}
+use Rattle.std.proofs.lemmas.Bool.{eqb-true, and_parts}
+use Rattle.std.proofs.lemmas.Grind.{flat_map-append}
+use Rattle.std.specs.Cmp.Lexicographic.{pointwise}
+use Rattle.addressing.specs.Address.{Step, Address, Fits, top_from}
+use Rattle.addressing.specs.Contact.{Contact, inner}
+use Rattle.addressing.specs.Search.{below, IsAmong}
+use Rattle.addressing.specs.Tables.{Tables, kind_tables, child_kinds, child_kind_of, contact_of, contacts_of}
+use Rattle.addressing.specs.Coherent.{IsCoherent}
+use Rattle.addressing.proofs.Lists.{IsAmong-append_left, IsAmong-append_right, IsAmong-flat_map}
+use Rattle.addressing.proofs.Ranges.{among-append, among-flat_map, IsAmong-below, among-below}
+use Rattle.addressing.proofs.TableBounds.{contact_bounds, some_within}
+use Rattle.std.proofs.Math.ListN.{get_or-map}
+use Rattle.std.proofs.lemmas.List.{length-map, drop_more}
+use Rattle.tile_shape.specs.declared.step.Step as program
+use Rattle.tile_shape.specs.Views.{step_of}
+use Rattle.addressing.proofs.Chains.{IsChain, IsChain-drop, level_kind}
+use Rattle.addressing.proofs.FineTouch.{Meets-unique}
+use Rattle.pair_machine.specs.Between.{Pair, IsBetween}
+use Rattle.pair_machine.specs.Kept.{IsKept, IsFunctional, listed_upto}
+use Rattle.pair_machine.specs.Nodes.{Node, RowPair, IsNode, first, further, row_of}
+use Rattle.pair_machine.specs.Reading.{same_steps, met_by, between_children, left_of, node_of, first_pairs, step_pairs, pairs_read}
+use Rattle.pair_machine.proofs.Leaving.{row-among, left-among, between-among, read_meets, read_touches, first-among, same_steps-true, same_steps-same}
+use Rattle.pair_machine.proofs.Keeping.{two, between_upto, between_more, listed-none, listed-more, listed-among, among-listed, entry_at, no_entry, append-none, functional_less, kept_same, listed_kept, kept_listed, listed_in_order}
+
+-- ---- edges are below 12
+pub child_of : (t : Tables) (k c : ℕ) → IsCoherent t → c < length (kind_tables t k).contacts → (kind : ℕ) × (child_kind_of t k c ≡ Some kind)
+unfolding child_kind_of
+child_of t k c coherent h = some_within (kind_tables t k).children c (omega (arith, h, coherent.contacts_each k))
+
+pub child_edge_small : (t : Tables) (k c e : ℕ) → IsCoherent t → IsSome (contact_of t k c e) → e < 12
+child_edge_small t k c e coherent there =
+    let bounds = contact_bounds t k c e there in
+    let kind = child_of t k c coherent bounds.1 in
+    let same = coherent.contact_each k c kind.0 kind.1 in
+    let few = coherent.at_most_12_edges kind.0 (coherent.child_exists k c kind.0 kind.1) in
+    omega (arith, bounds.2, same, few)
+
+pub row_edge_small : (t : Tables) (n : Node) (r : RowPair) → IsCoherent t → IsAmong r (row_of t n) → r.mine.edge < 12
+row_edge_small t n r coherent i =
+    let row = row-among t n r i in
+    let on = (coherent.outer_part n.kind r.mine.child r.mine.edge n.edge row.part).1 row.mine in
+    child_edge_small t n.kind r.mine.child r.mine.edge coherent (rw on refl)
+
+-- ---- the contacts of two children
+between_upto-among : (t : Tables) (k a b n e f : ℕ) → n ≤ length (contacts_of t k a) → IsAmong (two e f) (between_upto t k a b n) → contact_of t k a e ≡ Some (inner b f)
+unfolding between_upto between_children
+between_upto-among t k a b n e f le i =
+    let r = among-flat_map (λ g. met_by g b (contact_of t k a g)) (two e f) (below (λ g. g) n) i in
+    let range = among-below (λ g. g) n r.piece r.among in
+    between-among t k a b e f (IsAmong-flat_map (λ g. met_by g b (contact_of t k a g)) r.piece (two e f) (below (λ g. g) (length (contacts_of t k a)))
+    (subst (λ (m : ℕ). IsAmong m (below (λ g. g) (length (contacts_of t k a)))) (sym range.is) (IsAmong-below (λ g. g) (length (contacts_of t k a)) range.number (omega (arith, range.in_range, le)))) r.inside)
+
+between_functional : (t : Tables) (k a b n : ℕ) → n ≤ length (contacts_of t k a) → IsFunctional (between_upto t k a b n)
+between_functional t k a b n le = λ e f g i j.
+    let x = between_upto-among t k a b n e f le i in
+    let y = between_upto-among t k a b n e g le j in
+    cc
+
+pub meet_more : (t : Tables) (k a b n : ℕ) (c : Contact) (now new : List (Option ℕ)) → contact_of t k a n ≡ Some c → IsKept now (between_upto t k a b n)
+    → ((ps : List Pair) → IsKept now ps → IsFunctional (ps ++ met_by n b (Some c)) → IsKept new (ps ++ met_by n b (Some c)))
+    → IsKept new (between_upto t k a b (n + 1))
+meet_more t k a b n c now new is kept more =
+    let bounds = contact_bounds t k a n (rw is refl) in
+    let e = between_more t k a b n c is in
+    subst (IsKept new) (sym e) (more (between_upto t k a b n) kept (subst IsFunctional e (between_functional t k a b (n + 1) (omega (arith, bounds.2)))))
+
+-- ---- the rows of the pairs above
+abbrev rest_of : Tables → Step → Step → Pair → List Pair
+rest_of t x y p = left_of (row_of t (node_of x y p)) x.child y.child
+
+rest-more : (t : Tables) (x y : Step) (table : List (Option ℕ)) (n back : ℕ) → get_or table n None ≡ Some back
+    → flat_map (λ p. left_of (row_of t (node_of x y p)) x.child y.child) (listed_upto table (n + 1))
+    ≡ flat_map (λ p. left_of (row_of t (node_of x y p)) x.child y.child) (listed_upto table n) ++ left_of (row_of t (node_of x y (two n back))) x.child y.child
+rest-more t x y table n back is =
+    rw (listed-more table n, entry_at table n back is, flat_map-append (λ p. left_of (row_of t (node_of x y p)) x.child y.child) (listed_upto table n) (two n back ∷ []), append-none (left_of (row_of t (node_of x y (two n back))) x.child y.child)) refl
+
+listed_less : (table : List (Option ℕ)) (n : ℕ) (p : Pair) → n ≤ 12 → IsAmong p (listed_upto table n) → IsAmong p (listed_upto table 12)
+listed_less table n p le i = let h = listed-among table n p.mine p.theirs i in among-listed table 12 p.mine p.theirs (omega (arith, h.0, le)) h.1
+
+step_less : (t : Tables) (x y : Step) (fresh : Bool) (ps qs : List Pair) → ((p : Pair) → IsAmong p ps → IsAmong p qs) → (p : Pair) → IsAmong p (step_pairs t x y fresh ps) → IsAmong p (step_pairs t x y fresh qs)
+step_less t x y fresh ps qs sub p i = elim (among-append p (first_pairs t x y fresh) (flat_map (λ p. left_of (row_of t (node_of x y p)) x.child y.child) ps) i) [
+  | inl j ↦ IsAmong-append_left p (first_pairs t x y fresh) (flat_map (λ p. left_of (row_of t (node_of x y p)) x.child y.child) qs) j
+  | inr j ↦
+      let r = among-flat_map (λ p. left_of (row_of t (node_of x y p)) x.child y.child) p ps j in
+      IsAmong-append_right p (first_pairs t x y fresh) (flat_map (λ p. left_of (row_of t (node_of x y p)) x.child y.child) qs)
+      (IsAmong-flat_map (λ p. left_of (row_of t (node_of x y p)) x.child y.child) r.piece p qs (sub r.piece r.among) r.inside)
+]
+
+pub read_more : (t : Tables) (x y : Step) (fresh : Bool) (table now new : List (Option ℕ)) (n back : ℕ) → n < 12 → get_or table n None ≡ Some back
+    → IsFunctional (step_pairs t x y fresh (listed_upto table 12)) → IsKept now (step_pairs t x y fresh (listed_upto table n))
+    → ((ps : List Pair) → IsKept now ps → IsFunctional (ps ++ left_of (row_of t (node_of x y (two n back))) x.child y.child) → IsKept new (ps ++ left_of (row_of t (node_of x y (two n back))) x.child y.child))
+    → IsKept new (step_pairs t x y fresh (listed_upto table (n + 1)))
+read_more t x y fresh table now new n back small is functional kept more =
+    let e : step_pairs t x y fresh (listed_upto table (n + 1)) ≡ step_pairs t x y fresh (listed_upto table n) ++ left_of (row_of t (node_of x y (two n back))) x.child y.child =
+    rw (rest-more t x y table n back is) (sym (append_assoc (first_pairs t x y fresh) (flat_map (λ p. left_of (row_of t (node_of x y p)) x.child y.child) (listed_upto table n)) (left_of (row_of t (node_of x y (two n back))) x.child y.child))) in
+    let less : IsFunctional (step_pairs t x y fresh (listed_upto table (n + 1))) =
+    functional_less (step_pairs t x y fresh (listed_upto table (n + 1))) (step_pairs t x y fresh (listed_upto table 12))
+    (step_less t x y fresh (listed_upto table (n + 1)) (listed_upto table 12) (λ p. listed_less table (n + 1) p (omega arith))) functional in
+    subst (IsKept new) (sym e) (more (step_pairs t x y fresh (listed_upto table n)) kept (subst IsFunctional e less))
+
+pub read_skip : (t : Tables) (x y : Step) (fresh : Bool) (table now : List (Option ℕ)) (n : ℕ) → get_or table n None ≡ None
+    → IsKept now (step_pairs t x y fresh (listed_upto table n)) → IsKept now (step_pairs t x y fresh (listed_upto table (n + 1)))
+read_skip t x y fresh table now n is kept =
+    let e : listed_upto table (n + 1) ≡ listed_upto table n = rw (listed-more table n, no_entry n table is, append-none (listed_upto table n)) refl in
+    subst (λ (l : List Pair). IsKept now (step_pairs t x y fresh l)) (sym e) kept
+
+pub read_node_there : (table : List (Option ℕ)) (n back : ℕ) → n < 12 → get_or table n None ≡ Some back → IsAmong (two n back) (listed_upto table 12)
+read_node_there table n back small is = among-listed table 12 n back small (entry_at table n back is)
+
+-- ---- the pairs that are read are those of nodes
+first_node : (t : Tables) (k l e f : ℕ) (x y : Step) → x.parent ≡ y.parent → contact_of t x.parent x.child e ≡ Some (inner y.child f)
+    → child_kind_of t x.parent x.child ≡ Some k → child_kind_of t y.parent y.child ≡ Some l → IsNode t (record { kind = k; edge = e; other = l; back = f })
+first_node t k l e f x y parent met fits fits' =
+    let other : child_kind_of t x.parent y.child ≡ Some l = rw parent fits' in
+    first x.parent x.child e y.child f met (record { kind = fits; edge = refl; other = other; back = refl })
+
+pub read_node : (t : Tables) (xs ys : List Step) (k l e f : ℕ) → IsCoherent t → IsChain t k xs → IsChain t l ys
+    → IsAmong (two e f) (pairs_read t xs ys) → IsNode t (record { kind = k; edge = e; other = l; back = f })
+read_node t [] ys k l e f coherent fits fits' i = elim i [ ]
+read_node t (x ∷ xs) [] k l e f coherent fits fits' i = elim i [ ]
+read_node t (x ∷ xs) (y ∷ ys) k l e f coherent fits fits' i =
+    elim (among-append (two e f) (first_pairs t x y (eqb x.parent y.parent && same_steps xs ys)) (flat_map (λ p. left_of (row_of t (node_of x y p)) x.child y.child) (pairs_read t xs ys)) i) [
+      | inl j ↦
+          let r = first-among t x y (eqb x.parent y.parent && same_steps xs ys) (two e f) j in
+          let tests = and_parts (eqb x.parent y.parent) (same_steps xs ys) r.0 in
+          first_node t k l e f x y (eqb-true x.parent y.parent tests.0) (between-among t x.parent x.child y.child e f r.1) fits.0 fits'.0
+      | inr j ↦
+          let r = among-flat_map (λ p. left_of (row_of t (node_of x y p)) x.child y.child) (two e f) (pairs_read t xs ys) j in
+          let row = left-among t (node_of x y r.piece) x.child y.child e f r.inside in
+          further (node_of x y r.piece) (record { mine = record { child = x.child; edge = e }; theirs = record { child = y.child; edge = f } })
+          (read_node t xs ys x.parent y.parent r.piece.mine r.piece.theirs coherent fits.1 fits'.1 r.among) row
+          (record { kind = fits.0; edge = refl; other = fits'.0; back = refl })
+    ]
+
+pub read_functional : (t : Tables) (xs ys : List Step) (k l : ℕ) → IsCoherent t → IsChain t k xs → IsChain t l ys → IsFunctional (pairs_read t xs ys)
+read_functional t xs ys k l coherent fits fits' = λ e f g i j.
+    (Meets-unique l l coherent (read_meets t xs ys k l e f coherent fits fits' i).meets (read_meets t xs ys k l e g coherent fits fits' j).meets fits' fits').edges
+
+-- ---- one level down
+pub record Readable (t : Tables) (x y : Step) (xs ys : List Step) (fresh : Bool) (table : List (Option ℕ)) : Type 0 where
+  pub nodes : (p : Pair) → IsAmong p (listed_upto table 12) → IsNode t (node_of x y p)
+  pub functional : IsFunctional (step_pairs t x y fresh (listed_upto table 12))
+  pub more : (new : List (Option ℕ)) → IsKept new (step_pairs t x y fresh (listed_upto table 12)) → IsKept new (pairs_read t (x ∷ xs) (y ∷ ys))
+
+pub readable : (t : Tables) (k l : ℕ) (x y : Step) (xs ys : List Step) (fresh : Bool) (table : List (Option ℕ)) → IsCoherent t → IsChain t k (x ∷ xs) → IsChain t l (y ∷ ys)
+    → fresh ≡ (eqb x.parent y.parent && same_steps xs ys) → IsKept table (pairs_read t xs ys) → Readable t x y xs ys fresh table
+readable t k l x y xs ys fresh table coherent fits fits' same kept =
+    let down = listed_kept table (pairs_read t xs ys) kept in
+    let up = kept_listed table (pairs_read t xs ys) kept in
+    let to : (p : Pair) → IsAmong p (step_pairs t x y fresh (listed_upto table 12)) → IsAmong p (pairs_read t (x ∷ xs) (y ∷ ys)) = λ p i.
+    subst (λ (b : Bool). IsAmong p (step_pairs t x y b (pairs_read t xs ys))) same (step_less t x y fresh (listed_upto table 12) (pairs_read t xs ys) down p i) in
+    let from : (p : Pair) → IsAmong p (pairs_read t (x ∷ xs) (y ∷ ys)) → IsAmong p (step_pairs t x y fresh (listed_upto table 12)) = λ p i.
+    step_less t x y fresh (pairs_read t xs ys) (listed_upto table 12) up p (subst (λ (b : Bool). IsAmong p (step_pairs t x y b (pairs_read t xs ys))) (sym same) i) in
+    record {
+      nodes = λ p i. read_node t xs ys x.parent y.parent p.mine p.theirs coherent fits.1 fits'.1 (down p i);
+      functional = functional_less (step_pairs t x y fresh (listed_upto table 12)) (pairs_read t (x ∷ xs) (y ∷ ys)) to (read_functional t (x ∷ xs) (y ∷ ys) k l coherent fits fits');
+      more = λ new h. kept_same new (step_pairs t x y fresh (listed_upto table 12)) (pairs_read t (x ∷ xs) (y ∷ ys)) to from h;
+    }
+
+-- ---- where a level begins
+pub start_fresh : (t : Tables) (x y : Step) (fresh : Bool) (above now : List (Option ℕ)) → fresh ≡ true → IsKept now (between_children t x.parent x.child y.child)
+    → IsKept now (step_pairs t x y fresh (listed_upto above 0))
+start_fresh t x y fresh above now is kept = rw (is, listed-none above, append-none (between_children t x.parent x.child y.child)) kept
+
+pub start_plain : (t : Tables) (x y : Step) (fresh : Bool) (above now : List (Option ℕ)) → fresh ≡ false → IsKept now [] → IsKept now (step_pairs t x y fresh (listed_upto above 0))
+start_plain t x y fresh above now is kept = rw (is, listed-none above) kept
+
+-- ---- the digits at a level
+pub digits_at : (xs ys : List program.Step) (level : ℕ) (d : program.Step) → ys ≡ xs → 0 < level → level ≤ length xs
+    → drop (level - 1) (map step_of xs) ≡ step_of (get_or ys (level - 1) d) ∷ drop level (map step_of xs)
+digits_at xs ys level d same some within =
+    let more : level - 1 + 1 ≡ level = omega arith in
+    let inside : level - 1 < length (map step_of xs) = omega (arith, length-map xs step_of) in
+    let here : get_or (map step_of xs) (level - 1) (step_of d) ≡ step_of (get_or ys (level - 1) d) = rw same (get_or-map step_of xs (level - 1) d) in
+    drop_more (map step_of xs) (level - 1) (step_of d) inside ∙ rw (here, more) refl
+
+-- ---- at the end
+pub chain_from_drop : (t : Tables) (k : ℕ) (ds : List Step) (i : ℕ) → IsChain t k ds → i ≤ length ds → IsChain t (level_kind k ds i) (drop i ds)
+chain_from_drop t k ds i fits h = IsChain-drop t k ds i fits h
+
+-- ---- a level of the loop
+abbrev pub digit : List program.Step → ℕ → Step
+digit xs level = step_of (get_or xs (level - 1) (record { child = 0; parent = 0 }))
+
+pub record AtLevel (t : Tables) (xs ys us vs : List program.Step) (level : ℕ) (fresh : Bool) (table : List (Option ℕ)) : Type 0 where
+  pub split_x : drop (level - 1) (map step_of xs) ≡ digit us level ∷ drop level (map step_of xs)
+  pub split_y : drop (level - 1) (map step_of ys) ≡ digit vs level ∷ drop level (map step_of ys)
+  pub child : IsSome (child_kind_of t (digit us level).parent (digit us level).child)
+  pub readable_here : Readable t (digit us level) (digit vs level) (drop level (map step_of xs)) (drop level (map step_of ys)) fresh table
+
+pub at_level : (t : Tables) (k l : ℕ) (xs ys us vs : List program.Step) (level : ℕ) (same fresh : Bool) (table : List (Option ℕ)) → IsCoherent t
+    → IsChain t k (map step_of xs) → IsChain t l (map step_of ys) → length xs ≡ length ys → us ≡ xs → vs ≡ ys → 0 < level → level ≤ length xs
+    → same ≡ same_steps (drop level (map step_of xs)) (drop level (map step_of ys))
+    → fresh ≡ (eqb (digit us level).parent (digit vs level).parent && same)
+    → IsKept table (pairs_read t (drop level (map step_of xs)) (drop level (map step_of ys)))
+    → AtLevel t xs ys us vs level fresh table
+at_level t k l xs ys us vs level same fresh table coherent fits fits' depths own own' some within same_is fresh_is kept =
+    let sx = digits_at xs us level (record { child = 0; parent = 0 }) own some within in
+    let sy = digits_at ys vs level (record { child = 0; parent = 0 }) own' some (omega (arith, depths, within)) in
+    let cx : IsChain t (level_kind k (map step_of xs) (level - 1)) (digit us level ∷ drop level (map step_of xs)) =
+    subst (IsChain t (level_kind k (map step_of xs) (level - 1))) sx (chain_from_drop t k (map step_of xs) (level - 1) fits (omega (arith, length-map xs step_of, within))) in
+    let cy : IsChain t (level_kind l (map step_of ys) (level - 1)) (digit vs level ∷ drop level (map step_of ys)) =
+    subst (IsChain t (level_kind l (map step_of ys) (level - 1))) sy (chain_from_drop t l (map step_of ys) (level - 1) fits' (omega (arith, length-map ys step_of, depths, within))) in
+    record {
+      split_x = sx;
+      split_y = sy;
+      child = rw cx.0 refl;
+      readable_here = readable t (level_kind k (map step_of xs) (level - 1)) (level_kind l (map step_of ys) (level - 1)) (digit us level) (digit vs level) (drop level (map step_of xs)) (drop level (map step_of ys))
+          fresh table coherent cx cy (fresh_is ∙ ap (λ (b : Bool). eqb (digit us level).parent (digit vs level).parent && b) same_is) kept;
+    }
+
+pub kept_below : (t : Tables) (xs ys us vs : List program.Step) (level : ℕ) (fresh : Bool) (table new : List (Option ℕ)) → AtLevel t xs ys us vs level fresh table
+    → IsKept new (step_pairs t (digit us level) (digit vs level) fresh (listed_upto table 12))
+    → IsKept new (pairs_read t (drop (level - 1) (map step_of xs)) (drop (level - 1) (map step_of ys)))
+kept_below t xs ys us vs level fresh table new h kept = rw (h.split_x, h.split_y) (h.readable_here.more new kept)
+
+pub same_below : (t : Tables) (xs ys us vs : List program.Step) (level : ℕ) (same fresh next : Bool) (table : List (Option ℕ)) → AtLevel t xs ys us vs level fresh table
+    → same ≡ same_steps (drop level (map step_of xs)) (drop level (map step_of ys))
+    → fresh ≡ (eqb (digit us level).parent (digit vs level).parent && same)
+    → next ≡ (eqb (digit us level).child (digit vs level).child && fresh)
+    → next ≡ same_steps (drop (level - 1) (map step_of xs)) (drop (level - 1) (map step_of ys))
+same_below t xs ys us vs level same fresh next table h same_is fresh_is next_is =
+    rw (h.split_x, h.split_y)
+    (next_is ∙ ap (λ (b : Bool). eqb (digit us level).child (digit vs level).child && b) (fresh_is ∙ ap (λ (b : Bool). eqb (digit us level).parent (digit vs level).parent && b) same_is))
+
+-- nothing is read at the top
+pub drop_all : {A : Type 0} (xs : List A) (n : ℕ) → n ≡ length xs → drop n xs ≡ []
+drop_all [] zero h = refl
+drop_all [] (suc n) h = refl
+drop_all (x ∷ xs) zero h = absurd (omega arith)
+drop_all (x ∷ xs) (suc n) h = drop_all xs n (omega arith)
+
+-- ---- the kind on top
+pub top_read : (kind : ℕ) (ds : List Step) → slice_get (kind ∷ map (λ (d : Step). d.parent) ds) (length ds) ≡ Some (top_from kind ds)
+top_read kind [] = refl
+top_read kind (d ∷ ds) = top_read d.parent ds
+
+-- ---- equal digits
+pub pointwise-steps : (xs ys : List program.Step)
+    → pointwise (λ (a b : program.Step). eqb a.child b.child && eqb a.parent b.parent) xs ys ≡ same_steps (map step_of xs) (map step_of ys)
+pointwise-steps [] [] = refl
+pointwise-steps [] (y ∷ ys) = refl
+pointwise-steps (x ∷ xs) [] = refl
+pointwise-steps (x ∷ xs) (y ∷ ys) =
+    and_three (eqb x.child y.child) (eqb x.parent y.parent) (pointwise (λ (a b : program.Step). eqb a.child b.child && eqb a.parent b.parent) xs ys)
+    ∙ ap (λ (b : Bool). eqb x.child y.child && (eqb x.parent y.parent && b)) (pointwise-steps xs ys)
+  where
+    and_three : (a b c : Bool) → ((a && b) && c) ≡ (a && (b && c))
+    and_three true b c = refl
+    and_three false b c = refl
+
+pub same_address : (a b : Address) (r : Bool) → r ≡ (eqb a.kind b.kind && same_steps a.digits b.digits) → (r ≡ true → a ≡ b) × (a ≡ b → r ≡ true)
+same_address a b r is = (
+  λ yes. let two : (eqb a.kind b.kind && same_steps a.digits b.digits) ≡ true = sym is ∙ yes in
+      let parts = and_parts (eqb a.kind b.kind) (same_steps a.digits b.digits) two in
+      address-eq (eqb-true a.kind b.kind parts.0) (same_steps-true a.digits b.digits parts.1),
+  λ same. is ∙ subst (λ (x : Address). (eqb a.kind x.kind && same_steps a.digits x.digits) ≡ true) same (rw (eq-eqb a.kind a.kind refl, same_steps-same a.digits) refl),
+)
+  where
+    address-eq : a.kind ≡ b.kind → a.digits ≡ b.digits → a ≡ b
+    address-eq k d = λ i. record { kind = k i; digits = d i }
+
+-- ---- the list at the end
+pub between_of : (t : Tables) (a b : Address) (table : List (Option ℕ)) → IsCoherent t → Fits (child_kinds t) a → Fits (child_kinds t) b → IsKept table (pairs_read t a.digits b.digits)
+    → IsBetween t a b (listed_upto table 12)
+between_of t a b table coherent fits fits' kept = record {
+  in_order = listed_in_order table 12;
+  touching = λ e f.
+      let read = read_touches t a b e f coherent fits fits' in
+      (λ i. read.0 (listed_kept table (pairs_read t a.digits b.digits) kept (two e f) i), λ h. kept_listed table (pairs_read t a.digits b.digits) kept (two e f) (read.1 h));
+}

@@ -1,0 +1,34 @@
+-- What a machine holds.
+use Rattle.std.specs.Prelude.{◌≡◌, ◌↔◌, ◌≤◌, ◌⊎◌, ℕ, List, ◌++◌, length, Some, slice_get}
+use Rattle.addressing.specs.Coherent.{IsCoherent}
+use Rattle.addressing.specs.Search.{IsAmong}
+use Rattle.addressing.specs.Tables.{Tables}
+use Rattle.transducer_core.specs.Once.{HasNoneTwice}
+use Rattle.pair_machine.specs.Nodes.{Node, RowPair, IsNode, IsRow, row_of}
+use Rattle.pair_machine.specs.Numbers.{number_of}
+
+-- the row of a node is found by its number
+pub record IsFound (numbers : List ℕ) (rows : List (List RowPair)) (n : Node) (row : List RowPair) : Type 0 where
+  pub place : ℕ
+  pub numbered : slice_get numbers (number_of n) ≡ Some place
+  pub there : slice_get rows place ≡ Some row
+
+-- all nodes and all rows, each once, and each row by the number of its node
+pub record IsMachine (t : Tables) (nodes : List Node) (numbers : List ℕ) (rows : List (List RowPair)) : Type 0 where
+  pub coherent : IsCoherent t
+  pub nodes_once : HasNoneTwice nodes
+  pub nodes_all : (n : Node) → IsAmong n nodes ↔ IsNode t n
+  pub nodes_few : length nodes ≤ 36864
+  pub rows_once : HasNoneTwice rows
+  pub rows_all : (row : List RowPair) → IsAmong row rows ↔ IsRow t row
+  pub rows_few : length rows ≤ length nodes
+  pub found : (n : Node) → IsNode t n → IsFound numbers rows n (row_of t n)
+
+-- the row stands at that place in the rows, each of which stands there once, and at most it joined them
+pub record IsKeptOnce (old new : List (List RowPair)) (row : List RowPair) (place : ℕ) : Type 0 where
+  pub rest : List (List RowPair)
+  pub grown : new ≡ old ++ rest
+  pub at_most_one : length rest ≤ 1
+  pub there : slice_get new place ≡ Some row
+  pub once : HasNoneTwice new
+  pub only : (r : List RowPair) → IsAmong r new → IsAmong r old ⊎ (r ≡ row)

@@ -1,0 +1,217 @@
+//! The machine that tells by which edges two tiles meet.
+ghost use Rattle.std.specs.Prelude.{◌≡◌, ◌≢◌, ◌↔◌, ◌≤◌, ◌<◌, ◌&&◌, ◌==◌, ℕ, List, [], length, map, Some, IsSome, IfOk, IsTrue};
+ghost use Rattle.edge_tables.specs.Views.{as_contact};
+ghost use Rattle.addressing.specs.Address.{Fits, Step as TheStep};
+ghost use Rattle.addressing.specs.Coherent.{IsCoherent};
+ghost use Rattle.addressing.specs.Search.{IsAmong};
+ghost use Rattle.addressing.specs.Tables.{child_kinds, child_kind_of};
+ghost use Rattle.tile_shape.specs.Views.{address_of, step_of};
+ghost use Rattle.pair_machine.specs.Between.{Pair, HaveCommon, IsBetween};
+ghost use Rattle.pair_machine.specs.Kept.{IsKept, IsFunctional, listed_upto};
+ghost use Rattle.pair_machine.specs.Nodes.{IsNode, IsRow, IsNumber, row_of as the_row_of};
+ghost use Rattle.pair_machine.specs.Reading.{between_children, node_of, step_pairs, pairs_read};
+ghost use Rattle.pair_machine.specs.Verdicts.{IsVerdict, pairs_of};
+ghost use Rattle.pair_machine.specs.Views.{as_node, as_row_pair};
+
+use crate::looks::contact;
+use crate::node::Node;
+use crate::nodes::nodes_of;
+use crate::partners::Partners;
+use crate::row::{RowPair, row_of};
+use crate::rows::keep;
+use crate::verdict::Verdict;
+use edge_tables::tables::Tables;
+use std::alloc::Global;
+use std::marker::Model;
+use tile_shape::address::Address;
+use tile_shape::no_memory::NoMemory;
+use tile_shape::step::Step;
+
+/// The machine of contact tables, which contracts see as those tables.
+#[derive(Drop)]
+pub struct PairMachine {
+    tables: Tables,
+    nodes: Vec<Node>,
+    numbers: Vec<u16>,
+    rows: Vec<Vec<RowPair>>,
+}
+
+impl Model for PairMachine {
+    ghost use Rattle.std.specs.Prelude.{map};
+    ghost use Rattle.addressing.specs.Tables.{Tables as TheTables};
+    ghost use Rattle.pair_machine.specs.Machine.{IsMachine};
+    ghost use Rattle.pair_machine.specs.Views.{as_node, as_row_pair};
+
+    ghost Value = { TheTables };
+
+    ghost view = { λ m. m.tables };
+
+    ghost invariant = { λ m. IsMachine m.tables (map as_node m.nodes.items) m.numbers.items (map (λ row. map as_row_pair row.items) m.rows.items) };
+}
+
+impl PairMachine {
+    /// The machine of these tables, of which it keeps a copy.
+    pub fn compile(alloc: Global, tables: &Tables) -> Result<PairMachine, NoMemory>
+        ensures tables { IfOk result (λ machine. machine ≡ tables.now) }
+    {
+        let nodes = nodes_of(alloc, tables)?;
+        let mut numbers = vec![in alloc; 0u16; tables.kinds() as usize * 2304]?;
+        let mut rows = Vec::new(alloc);
+        for node in &nodes {
+            let row = row_of(alloc, tables, *node)?;
+            let place = keep(&mut rows, row)?;
+            numbers[node.number()] = place as u16;
+        }
+        Ok(PairMachine {
+            tables: tables.copy(alloc)?,
+            nodes,
+            numbers,
+            rows,
+        })
+    }
+
+    /// How many nodes there are.
+    pub fn nodes(&self) -> u32
+        ensures number { IsNumber (IsNode self.now) result }
+        ensures at_most_36864 { result ≤ 36864 }
+    {
+        self.nodes.len() as u32
+    }
+
+    /// How many rows there are, equal ones counted once.
+    pub fn rows(&self) -> u32
+        ensures number { IsNumber (IsRow self.now) result }
+    {
+        self.rows.len() as u32
+    }
+
+    /// The row of a node.
+    fn row(&self, node: Node) -> &Vec<RowPair>
+        requires node { IsNode self.now (as_node node) }
+        ensures row { map as_row_pair result.now.items ≡ the_row_of self.now (as_node node) }
+        ensures coherent { IsCoherent self.now }
+    {
+        &self.rows[self.numbers[node.number()] as usize]
+    }
+
+    /// What is left of the pairs above, when two digits are read.
+    fn read_digits(&self, above: &Partners, fresh: bool, x: Step, y: Step) -> Partners
+        requires child { IsSome (child_kind_of self.now x.parent x.child) }
+        requires nodes { (p : Pair) → IsAmong p (listed_upto above.now.by_edge 12) → IsNode self.now (node_of (step_of x) (step_of y) p) }
+        requires functional { IsFunctional (step_pairs self.now (step_of x) (step_of y) fresh (listed_upto above.now.by_edge 12)) }
+        ensures { IsKept result.by_edge (step_pairs self.now (step_of x) (step_of y) fresh (listed_upto above.now.by_edge 12)) }
+    {
+        let mut partners = Partners::none();
+        if fresh {
+            partners = meet(&self.tables, x.parent, x.child, y.child);
+        }
+        for edge in 0u8..12 {
+            if let Some(back) = above.by_edge[edge as usize] {
+                let row = self.row(Node {
+                    kind: x.parent,
+                    edge,
+                    other: y.parent,
+                    back,
+                });
+                partners.keep_row(row, x.child, y.child);
+            }
+        }
+        partners
+    }
+
+    /// The edges that meet, by the digits from coarse to fine.
+    fn read(&self, a: &Address, b: &Address) -> Partners
+        requires fits_a { Fits (child_kinds self.now) (address_of a.now) }
+        requires fits_b { Fits (child_kinds self.now) (address_of b.now) }
+        requires one_depth { length a.now.digits.items ≡ length b.now.digits.items }
+        ensures { IsKept result.by_edge (pairs_read self.now (map step_of a.now.digits.items) (map step_of b.now.digits.items)) }
+    {
+        let _coherent = self.tables.kinds();
+        let xs = a.digits.as_slice();
+        let ys = b.digits.as_slice();
+        let mut partners = Partners::none();
+        let mut same = true;
+        let mut level = xs.len();
+        while level > 0 {
+            level -= 1;
+            let x = xs[level];
+            let y = ys[level];
+            let fresh = also(x.parent, y.parent, same);
+            partners = self.read_digits(&partners, fresh, x, y);
+            same = also(x.child, y.child, fresh);
+        }
+        partners
+    }
+
+    /// How two tiles lie to each other.
+    pub fn decide(&self, a: &Address, b: &Address) -> Verdict
+        requires fits_a { Fits (child_kinds self.now) (address_of a.now) }
+        requires fits_b { Fits (child_kinds self.now) (address_of b.now) }
+        ensures verdict { IsVerdict self.now (address_of a.now) (address_of b.now) result }
+        ensures strangers { (result ≡ Verdict.Strangers) ↔ (HaveCommon (address_of a.now) (address_of b.now) → ⊥) }
+        ensures same { (result ≡ Verdict.Same) ↔ (HaveCommon (address_of a.now) (address_of b.now) × (address_of a.now ≡ address_of b.now)) }
+        ensures apart { (result ≡ Verdict.Apart) ↔ (HaveCommon (address_of a.now) (address_of b.now) × (address_of a.now ≢ address_of b.now) × IsBetween self.now (address_of a.now) (address_of b.now) []) }
+        ensures all_pairs_touching { HaveCommon (address_of a.now) (address_of b.now) → address_of a.now ≢ address_of b.now → IsBetween self.now (address_of a.now) (address_of b.now) (pairs_of result) }
+    {
+        self.verdict_of(a, b)
+    }
+
+    /// How two tiles lie to each other, by cases.
+    fn verdict_of(&self, a: &Address, b: &Address) -> Verdict
+        requires fits_a { Fits (child_kinds self.now) (address_of a.now) }
+        requires fits_b { Fits (child_kinds self.now) (address_of b.now) }
+        ensures { IsVerdict self.now (address_of a.now) (address_of b.now) result }
+    {
+        if !have_common(a, b) {
+            return Verdict::Strangers;
+        }
+        if are_same(a, b) {
+            return Verdict::Same;
+        }
+        let _coherent = self.tables.kinds();
+        let pairs = self.read(a, b).listed();
+        if pairs.is_empty() {
+            Verdict::Apart
+        } else {
+            Verdict::Beside { pairs }
+        }
+    }
+}
+
+/// Whether two addresses have a common supertile.
+fn have_common(a: &Address, b: &Address) -> bool
+    ensures { IsTrue result ↔ HaveCommon (address_of a.now) (address_of b.now) }
+{
+    let depth = a.depth();
+    if b.depth() != depth {
+        return false;
+    }
+    a.kind_at(depth) == b.kind_at(depth)
+}
+
+/// Whether two addresses are the same.
+fn are_same(a: &Address, b: &Address) -> bool
+    ensures { IsTrue result ↔ (address_of a.now ≡ address_of b.now) }
+{
+    a == b
+}
+
+/// Whether two numbers are the same, and something else is so.
+fn also(a: u8, b: u8, more: bool) -> bool
+    ensures { result ≡ ((a == b) && more) }
+{
+    a == b && more
+}
+
+/// The inner contacts between two children of a kind.
+fn meet(tables: &Tables, kind: u8, mine: u8, theirs: u8) -> Partners
+    requires coherent { IsCoherent tables.now }
+    requires child { IsSome (child_kind_of tables.now kind mine) }
+    ensures { IsKept result.by_edge (between_children tables.now kind mine theirs) }
+{
+    let mut partners = Partners::none();
+    for edge in 0..tables.edges(tables.child_kind(kind, mine)) {
+        partners.keep_contact(edge, theirs, contact(tables, kind, mine, edge));
+    }
+    partners
+}
