@@ -1,10 +1,10 @@
 -- The search for nodes, over plain variables.
-use Rattle.std.proofs.Common.{◌≡◌, ◌⊎◌, inl, inr, ℕ, zero, suc, ◌+◌, ◌-◌, ◌*◌, ◌<◌, ◌≤◌, Bool, true, false, List, [], ◌∷◌, ◌++◌, length, take, set, get_or, Option, Some, None, IsSome, refl, sym, ap, ◌∙◌, subst, arith, append_assoc, length-set, length-append}
+use Rattle.std.proofs.Common.{◌≡◌, inl, inr, ℕ, zero, suc, ◌+◌, ◌-◌, ◌*◌, ◌<◌, ◌≤◌, Bool, true, false, List, [], ◌∷◌, ◌++◌, length, take, set, get_or, Option, Some, None, IsSome, refl, sym, ap, ◌∙◌, subst, arith, append_assoc, length-set, length-append}
 use Rattle.std.proofs.Math.ListN.{replicate}
 use Rattle.std.specs.List.{flat_map, slice_get}
 use Rattle.std.proofs.lemmas.Bool.{cases_eq}
 use Rattle.std.proofs.lemmas.Grind.{flat_map-append}
-use Rattle.std.proofs.lemmas.List.{take_more, take-append-le}
+use Rattle.std.proofs.lemmas.List.{take-append-le, take_all, append-nil, take_more}
 use Rattle.std.proofs.lemmas.Option.{slice_get-get_or}
 use Rattle.addressing.specs.Contact.{Contact, ChildEdge, inner, outer}
 use Rattle.addressing.specs.Search.{below, IsAmong}
@@ -12,6 +12,7 @@ use Rattle.addressing.specs.Tables.{Tables, kind_tables, child_kind_of, contact_
 use Rattle.addressing.specs.Coherent.{IsCoherent}
 use Rattle.addressing.proofs.Lists.{IsAmong-append_left, IsAmong-append_right, IsAmong-flat_map}
 use Rattle.addressing.proofs.Ranges.{among-append, among-flat_map, IsAmong-below}
+use Rattle.addressing.proofs.Searches.{below-more}
 use Rattle.addressing.proofs.TableBounds.{type_bounds, contact_bounds}
 use Rattle.addressing.proofs.Mated.{IsMated, inner_mated, same_parts, across_part}
 use Rattle.transducer_core.specs.Once.{HasNoneTwice}
@@ -20,7 +21,7 @@ use Rattle.pair_machine.specs.Numbers.{number_of}
 use Rattle.pair_machine.specs.Searching.{of_both, children_node, contact_node, child_nodes, kind_nodes, first_nodes, row_nodes, IsSmall, unseen, IsSeen, Covers}
 use Rattle.pair_machine.proofs.Leaving.{row-among, edge_there}
 use Rattle.pair_machine.proofs.Levels.{child_of}
-use Rattle.pair_machine.proofs.Keeping.{slice_get-set_same, slice_get-set_other, append-none, below-more}
+use Rattle.pair_machine.proofs.Places.{slice_get-set_same, slice_get-set_other, among-take_more}
 
 -- ---- numbers tell nodes
 one_left : (k x y d e : ℕ) → d < 12 → e < 12 → x * 12 + d ≡ y * 12 + e → (x ≡ y) × (d ≡ e)
@@ -87,7 +88,7 @@ add_old list seen n h small marked =
     record {
       seen_now = h;
       rest = [];
-      grown = sym (append-none list);
+      grown = sym (append-nil list);
       all = λ p i. elim i [ inl e ↦ subst (λ (q : Node). IsAmong q list) (same ∙ sym e) m.1 | inr j ↦ elim j [ ] ];
       only = λ p i. inl i;
       size_kept = refl;
@@ -128,7 +129,7 @@ pub covers_none : (list : List Node) (seen : List Bool) → IsSeen list seen →
 covers_none list seen h = record {
   seen_now = h;
   rest = [];
-  grown = sym (append-none list);
+  grown = sym (append-nil list);
   all = λ n i. elim i [ ];
   only = λ n i. inl i;
   size_kept = refl;
@@ -156,21 +157,21 @@ covers_as old new size seen xs ys same h = subst (Covers old size new seen) same
 -- ---- the nodes of a loop, one more
 pub child_nodes-more : (t : Tables) (k a n : ℕ) → child_nodes t k a (n + 1) ≡ child_nodes t k a n ++ contact_node t k a n (contact_of t k a n)
 unfolding child_nodes
-child_nodes-more t k a n = rw (below-more n, flat_map-append (λ e. contact_node t k a e (contact_of t k a e)) (below (λ e. e) n) (n ∷ []), append-none (contact_node t k a n (contact_of t k a n))) refl
+child_nodes-more t k a n = rw (below-more (λ e. e) n, flat_map-append (λ e. contact_node t k a e (contact_of t k a e)) (below (λ e. e) n) (n ∷ []), append-nil (contact_node t k a n (contact_of t k a n))) refl
 
 pub kind_nodes-more : (t : Tables) (k n : ℕ) → kind_nodes t k (n + 1) ≡ kind_nodes t k n ++ child_nodes t k n (length (contacts_of t k n))
 unfolding kind_nodes
-kind_nodes-more t k n = rw (below-more n, flat_map-append (λ a. child_nodes t k a (length (contacts_of t k a))) (below (λ a. a) n) (n ∷ []), append-none (child_nodes t k n (length (contacts_of t k n)))) refl
+kind_nodes-more t k n = rw (below-more (λ e. e) n, flat_map-append (λ a. child_nodes t k a (length (contacts_of t k a))) (below (λ a. a) n) (n ∷ []), append-nil (child_nodes t k n (length (contacts_of t k n)))) refl
 
 pub first_nodes-more : (t : Tables) (n : ℕ) → first_nodes t (n + 1) ≡ first_nodes t n ++ kind_nodes t n (length (kind_tables t n).children)
 unfolding first_nodes
-first_nodes-more t n = rw (below-more n, flat_map-append (λ k. kind_nodes t k (length (kind_tables t k).children)) (below (λ k. k) n) (n ∷ []), append-none (kind_nodes t n (length (kind_tables t n).children))) refl
+first_nodes-more t n = rw (below-more (λ e. e) n, flat_map-append (λ k. kind_nodes t k (length (kind_tables t k).children)) (below (λ k. k) n) (n ∷ []), append-nil (kind_nodes t n (length (kind_tables t n).children))) refl
 
 pub row_nodes-more : (t : Tables) (n : Node) (row : List RowPair) (i : ℕ) (d r : RowPair) → i < length row → get_or row i d ≡ r
     → row_nodes t n (take (i + 1) row) ≡ row_nodes t n (take i row) ++ children_node t n.kind r.mine n.other r.theirs
 unfolding row_nodes
 row_nodes-more t n row i d r h at =
-    rw (take_more row i d h, at, flat_map-append (λ (r : RowPair). children_node t n.kind r.mine n.other r.theirs) (take i row) (r ∷ []), append-none (children_node t n.kind r.mine n.other r.theirs)) refl
+    rw (take_more row i d h, at, flat_map-append (λ (r : RowPair). children_node t n.kind r.mine n.other r.theirs) (take i row) (r ∷ []), append-nil (children_node t n.kind r.mine n.other r.theirs)) refl
 
 pub child_nodes-none : (t : Tables) (k a : ℕ) → child_nodes t k a 0 ≡ []
 unfolding child_nodes
@@ -312,7 +313,7 @@ pub child_inner : (t : Tables) (k a n b f ka kb : ℕ) → contact_of t k a n �
 child_inner t k a n b f ka kb met mine theirs = rw (child_nodes-more t k a n, met, mine, theirs) refl
 
 pub child_outer : (t : Tables) (k a n f p : ℕ) → contact_of t k a n ≡ Some (outer f p) → child_nodes t k a n ≡ child_nodes t k a (n + 1)
-child_outer t k a n f p met = rw (child_nodes-more t k a n, met, append-none (child_nodes t k a n)) refl
+child_outer t k a n f p met = rw (child_nodes-more t k a n, met, append-nil (child_nodes t k a n)) refl
 
 -- ---- a row, part by part
 unfoldable pub row_upto : Tables → Node → ℕ → List RowPair
@@ -330,14 +331,9 @@ pub row_upto-more : (t : Tables) (n : Node) (p : ℕ) (x y : ChildEdge) → part
     → row_upto t n (p + 1) ≡ row_upto t n p ++ (record { mine = x; theirs = y }) ∷ []
 unfolding row_upto
 row_upto-more t n p x y hx hy =
-    rw (below-more p, flat_map-append (λ p. both_of (part_of t n.kind n.edge p) (part_of t n.other n.back (part_count t n.kind n.edge - 1 - p))) (below (λ p. p) p) (p ∷ []), hx, hy) refl
+    rw (below-more (λ e. e) p, flat_map-append (λ p. both_of (part_of t n.kind n.edge p) (part_of t n.other n.back (part_count t n.kind n.edge - 1 - p))) (below (λ p. p) p) (p ∷ []), hx, hy) refl
 
 -- ---- the loop over all nodes
-pub among-take_more : (list : List Node) (i : ℕ) (d m : Node) → i < length list → IsAmong m (take (i + 1) list) → IsAmong m (take i list) ⊎ (m ≡ get_or list i d)
-among-take_more list i d m h j =
-    let k : IsAmong m (take i list ++ get_or list i d ∷ []) = rw (take_more list i d h) at j in
-    elim (among-append m (take i list) (get_or list i d ∷ []) k) [ inl a ↦ inl a | inr b ↦ elim b [ inl e ↦ inr e | inr n ↦ elim n [ ] ] ]
-
 pub take-grown : (old rest new : List Node) (i : ℕ) → new ≡ old ++ rest → i ≤ length old → take i new ≡ take i old
 take-grown old rest new i grown le = rw grown (take-append-le i old rest le)
 
@@ -374,10 +370,4 @@ pub all_found : (t : Tables) (list : List Node) (next : ℕ) → IsCoherent t �
 all_found t list next coherent end firsts rows n (first k a e b f met of) = firsts n (node-first t n k a e b f coherent met of)
 all_found t list next coherent end firsts rows n (further m pair node i of) =
     let here = all_found t list next coherent end firsts rows m node in
-    rows m n (rw (take_all list next end) here) (node-row t m n pair i of)
-  where
-    take_all : (xs : List Node) (n : ℕ) → length xs ≤ n → take n xs ≡ xs
-    take_all [] zero h = refl
-    take_all [] (suc n) h = refl
-    take_all (x ∷ xs) zero h = absurd (omega arith)
-    take_all (x ∷ xs) (suc n) h = ap (λ (l : List Node). x ∷ l) (take_all xs n (omega arith))
+    rows m n (rw (take_all next list end) here) (node-row t m n pair i of)

@@ -1,9 +1,10 @@
 -- Equal rows kept once, over plain variables.
-use Rattle.std.proofs.Common.{◌≡◌, ◌↔◌, inl, inr, ℕ, zero, suc, ◌+◌, ◌*◌, ◌<◌, ◌≤◌, Bool, true, ◌&&◌, List, [], ◌∷◌, ◌++◌, length, map, take, set, get_or, Some, refl, sym, ap, ◌∙◌, subst, arith, eqb, eq-eqb, length-append, length-set}
+use Rattle.std.proofs.Common.{◌≡◌, ◌↔◌, inl, inr, ℕ, ◌+◌, ◌*◌, ◌<◌, ◌≤◌, Bool, true, ◌&&◌, List, [], ◌∷◌, ◌++◌, length, map, take, set, get_or, Some, refl, sym, ap, ◌∙◌, subst, arith, eqb, eq-eqb, length-append, length-set}
 use Rattle.std.specs.List.{slice_get}
 use Rattle.std.specs.Cmp.Lexicographic.{pointwise}
 use Rattle.std.proofs.lemmas.Bool.{cases_eq, eqb-true, and_parts}
 use Rattle.std.proofs.lemmas.Option.{slice_get_within, slice_get-get_or}
+use Rattle.std.proofs.lemmas.List.{append-nil}
 use Rattle.addressing.specs.Search.{IsAmong}
 use Rattle.addressing.specs.Tables.{Tables}
 use Rattle.addressing.specs.Coherent.{IsCoherent}
@@ -12,11 +13,12 @@ use Rattle.pair_machine.specs.declared.row.RowPair as program
 use Rattle.pair_machine.specs.Views.{as_row_pair}
 use Rattle.transducer_core.specs.Once.{HasNoneTwice}
 use Rattle.pair_machine.specs.Nodes.{Node, RowPair, IsNode, IsRow, row_of}
+use Rattle.pair_machine.specs.Itself.{SomeMeetsItself}
 use Rattle.pair_machine.specs.Numbers.{number_of}
 use Rattle.pair_machine.specs.Machine.{IsFound, IsMachine, IsKeptOnce}
 use Rattle.pair_machine.specs.Searching.{IsSmall}
-use Rattle.pair_machine.proofs.Keeping.{slice_get-set_same, slice_get-set_other, append-none}
-use Rattle.pair_machine.proofs.Finding.{number_one, node_small, among-take_more}
+use Rattle.pair_machine.proofs.Places.{slice_get-set_same, slice_get-set_other, among-take, among-take_more}
+use Rattle.pair_machine.proofs.Finding.{number_one, node_small}
 use Rattle.std.proofs.Math.Seq.{take-length}
 
 -- ---- equal rows
@@ -83,7 +85,7 @@ keep_new rows row place distinct end fresh = record {
 pub keep_old : (rows : List (List RowPair)) (row : List RowPair) (place : ℕ) → HasNoneTwice rows → slice_get rows place ≡ Some row → IsKeptOnce rows rows row place
 keep_old rows row place distinct is = record {
   rest = [];
-  grown = sym (append-none rows);
+  grown = sym (append-nil rows);
   at_most_one = omega arith;
   there = is;
   once = distinct;
@@ -149,17 +151,11 @@ numbered_more t nodes i numbers rows new n d place coherent are inside at node h
     small : IsSmall (length numbers) n
     small = node_small t n (length numbers) coherent h.size node
 
-    among-take : (m : Node) (ns : List Node) (i : ℕ) → IsAmong m (take i ns) → IsAmong m ns
-    among-take m [] zero j = elim j [ ]
-    among-take m [] (suc i) j = elim j [ ]
-    among-take m (y ∷ ys) zero j = elim j [ ]
-    among-take m (y ∷ ys) (suc i) (inl e) = inl e
-    among-take m (y ∷ ys) (suc i) (inr j) = inr (among-take m ys i j)
-
-pub machine_of : (t : Tables) (nodes : List Node) (i : ℕ) (numbers : List ℕ) (rows : List (List RowPair)) → IsCoherent t → HasNoneTwice nodes → ((n : Node) → IsAmong n nodes ↔ IsNode t n)
-    → length nodes ≤ 36864 → i ≡ length nodes → Numbered t nodes i numbers rows → IsMachine t nodes numbers rows
-machine_of t nodes i numbers rows coherent once all few end h = record {
+pub machine_of : (t : Tables) (itself : Bool) (nodes : List Node) (i : ℕ) (numbers : List ℕ) (rows : List (List RowPair)) → IsCoherent t → ((itself ≡ true) ↔ SomeMeetsItself t) → HasNoneTwice nodes → ((n : Node) → IsAmong n nodes ↔ IsNode t n)
+    → length nodes ≤ 36864 → i ≡ length nodes → Numbered t nodes i numbers rows → IsMachine t itself nodes numbers rows
+machine_of t itself nodes i numbers rows coherent itself_is once all few end h = record {
   coherent = coherent;
+  itself_is = itself_is;
   nodes_once = once;
   nodes_all = all;
   nodes_few = few;

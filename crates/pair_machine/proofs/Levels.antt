@@ -1,5 +1,5 @@
 -- One level of the reading, over plain variables.
-use Rattle.std.proofs.Common.{◌≡◌, inl, inr, ℕ, zero, suc, ◌+◌, ◌-◌, ◌<◌, ◌≤◌, Bool, true, false, ◌&&◌, List, [], ◌∷◌, ◌++◌, length, map, drop, get_or, Option, Some, None, IsSome, refl, sym, ap, ◌∙◌, subst, arith, eqb, eq-eqb, append_assoc}
+use Rattle.std.proofs.Common.{◌≡◌, inl, inr, ℕ, ◌+◌, ◌-◌, ◌<◌, ◌≤◌, Bool, true, false, ◌&&◌, List, [], ◌∷◌, ◌++◌, length, map, take, drop, get_or, Some, IsSome, refl, sym, ap, ◌∙◌, subst, arith, eqb, eq-eqb, append_assoc}
 use Rattle.std.specs.List.{flat_map, slice_get}
 use Rattle.std.proofs.lemmas.Bool.{eqb-true, and_parts}
 use Rattle.std.proofs.lemmas.Grind.{flat_map-append}
@@ -13,17 +13,18 @@ use Rattle.addressing.proofs.Lists.{IsAmong-append_left, IsAmong-append_right, I
 use Rattle.addressing.proofs.Ranges.{among-append, among-flat_map, IsAmong-below, among-below}
 use Rattle.addressing.proofs.TableBounds.{contact_bounds, some_within}
 use Rattle.std.proofs.Math.ListN.{get_or-map}
-use Rattle.std.proofs.lemmas.List.{length-map, drop_more}
+use Rattle.std.proofs.lemmas.List.{length-map, drop_more, take_more, append-nil}
 use Rattle.tile_shape.specs.declared.step.Step as program
 use Rattle.tile_shape.specs.Views.{step_of}
 use Rattle.addressing.proofs.Chains.{IsChain, IsChain-drop, level_kind}
 use Rattle.addressing.proofs.FineTouch.{Meets-unique}
-use Rattle.pair_machine.specs.Between.{Pair, IsBetween}
-use Rattle.pair_machine.specs.Kept.{IsKept, IsFunctional, listed_upto}
+use Rattle.pair_machine.specs.Between.{Pair, IsInOrder, IsBetween}
+use Rattle.pair_machine.specs.Kept.{IsKept, IsFunctional}
 use Rattle.pair_machine.specs.Nodes.{Node, RowPair, IsNode, first, further, row_of}
 use Rattle.pair_machine.specs.Reading.{same_steps, met_by, between_children, left_of, node_of, first_pairs, step_pairs, pairs_read}
 use Rattle.pair_machine.proofs.Leaving.{row-among, left-among, between-among, read_meets, read_touches, first-among, same_steps-true, same_steps-same}
-use Rattle.pair_machine.proofs.Keeping.{two, between_upto, between_more, listed-none, listed-more, listed-among, among-listed, entry_at, no_entry, append-none, functional_less, kept_same, listed_kept, kept_listed, listed_in_order}
+use Rattle.pair_machine.proofs.Keeping.{two, between_upto, between_more, functional_less, kept_same}
+use Rattle.pair_machine.proofs.Places.{among-take}
 
 -- ---- edges are below 12
 pub child_of : (t : Tables) (k c : ℕ) → IsCoherent t → c < length (kind_tables t k).contacts → (kind : ℕ) × (child_kind_of t k c ≡ Some kind)
@@ -59,7 +60,7 @@ between_functional t k a b n le = λ e f g i j.
     let y = between_upto-among t k a b n e g le j in
     cc
 
-pub meet_more : (t : Tables) (k a b n : ℕ) (c : Contact) (now new : List (Option ℕ)) → contact_of t k a n ≡ Some c → IsKept now (between_upto t k a b n)
+pub meet_more : (t : Tables) (k a b n : ℕ) (c : Contact) (now new : List Pair) → contact_of t k a n ≡ Some c → IsKept now (between_upto t k a b n)
     → ((ps : List Pair) → IsKept now ps → IsFunctional (ps ++ met_by n b (Some c)) → IsKept new (ps ++ met_by n b (Some c)))
     → IsKept new (between_upto t k a b (n + 1))
 meet_more t k a b n c now new is kept more =
@@ -68,17 +69,8 @@ meet_more t k a b n c now new is kept more =
     subst (IsKept new) (sym e) (more (between_upto t k a b n) kept (subst IsFunctional e (between_functional t k a b (n + 1) (omega (arith, bounds.2)))))
 
 -- ---- the rows of the pairs above
-abbrev rest_of : Tables → Step → Step → Pair → List Pair
-rest_of t x y p = left_of (row_of t (node_of x y p)) x.child y.child
-
-rest-more : (t : Tables) (x y : Step) (table : List (Option ℕ)) (n back : ℕ) → get_or table n None ≡ Some back
-    → flat_map (λ p. left_of (row_of t (node_of x y p)) x.child y.child) (listed_upto table (n + 1))
-    ≡ flat_map (λ p. left_of (row_of t (node_of x y p)) x.child y.child) (listed_upto table n) ++ left_of (row_of t (node_of x y (two n back))) x.child y.child
-rest-more t x y table n back is =
-    rw (listed-more table n, entry_at table n back is, flat_map-append (λ p. left_of (row_of t (node_of x y p)) x.child y.child) (listed_upto table n) (two n back ∷ []), append-none (left_of (row_of t (node_of x y (two n back))) x.child y.child)) refl
-
-listed_less : (table : List (Option ℕ)) (n : ℕ) (p : Pair) → n ≤ 12 → IsAmong p (listed_upto table n) → IsAmong p (listed_upto table 12)
-listed_less table n p le i = let h = listed-among table n p.mine p.theirs i in among-listed table 12 p.mine p.theirs (omega (arith, h.0, le)) h.1
+abbrev rest_of : Tables → Step → Step → List Pair → List Pair
+rest_of t x y ps = flat_map (λ p. left_of (row_of t (node_of x y p)) x.child y.child) ps
 
 step_less : (t : Tables) (x y : Step) (fresh : Bool) (ps qs : List Pair) → ((p : Pair) → IsAmong p ps → IsAmong p qs) → (p : Pair) → IsAmong p (step_pairs t x y fresh ps) → IsAmong p (step_pairs t x y fresh qs)
 step_less t x y fresh ps qs sub p i = elim (among-append p (first_pairs t x y fresh) (flat_map (λ p. left_of (row_of t (node_of x y p)) x.child y.child) ps) i) [
@@ -89,26 +81,19 @@ step_less t x y fresh ps qs sub p i = elim (among-append p (first_pairs t x y fr
       (IsAmong-flat_map (λ p. left_of (row_of t (node_of x y p)) x.child y.child) r.piece p qs (sub r.piece r.among) r.inside)
 ]
 
-pub read_more : (t : Tables) (x y : Step) (fresh : Bool) (table now new : List (Option ℕ)) (n back : ℕ) → n < 12 → get_or table n None ≡ Some back
-    → IsFunctional (step_pairs t x y fresh (listed_upto table 12)) → IsKept now (step_pairs t x y fresh (listed_upto table n))
-    → ((ps : List Pair) → IsKept now ps → IsFunctional (ps ++ left_of (row_of t (node_of x y (two n back))) x.child y.child) → IsKept new (ps ++ left_of (row_of t (node_of x y (two n back))) x.child y.child))
-    → IsKept new (step_pairs t x y fresh (listed_upto table (n + 1)))
-read_more t x y fresh table now new n back small is functional kept more =
-    let e : step_pairs t x y fresh (listed_upto table (n + 1)) ≡ step_pairs t x y fresh (listed_upto table n) ++ left_of (row_of t (node_of x y (two n back))) x.child y.child =
-    rw (rest-more t x y table n back is) (sym (append_assoc (first_pairs t x y fresh) (flat_map (λ p. left_of (row_of t (node_of x y p)) x.child y.child) (listed_upto table n)) (left_of (row_of t (node_of x y (two n back))) x.child y.child))) in
-    let less : IsFunctional (step_pairs t x y fresh (listed_upto table (n + 1))) =
-    functional_less (step_pairs t x y fresh (listed_upto table (n + 1))) (step_pairs t x y fresh (listed_upto table 12))
-    (step_less t x y fresh (listed_upto table (n + 1)) (listed_upto table 12) (λ p. listed_less table (n + 1) p (omega arith))) functional in
-    subst (IsKept new) (sym e) (more (step_pairs t x y fresh (listed_upto table n)) kept (subst IsFunctional e less))
-
-pub read_skip : (t : Tables) (x y : Step) (fresh : Bool) (table now : List (Option ℕ)) (n : ℕ) → get_or table n None ≡ None
-    → IsKept now (step_pairs t x y fresh (listed_upto table n)) → IsKept now (step_pairs t x y fresh (listed_upto table (n + 1)))
-read_skip t x y fresh table now n is kept =
-    let e : listed_upto table (n + 1) ≡ listed_upto table n = rw (listed-more table n, no_entry n table is, append-none (listed_upto table n)) refl in
-    subst (λ (l : List Pair). IsKept now (step_pairs t x y fresh l)) (sym e) kept
-
-pub read_node_there : (table : List (Option ℕ)) (n back : ℕ) → n < 12 → get_or table n None ≡ Some back → IsAmong (two n back) (listed_upto table 12)
-read_node_there table n back small is = among-listed table 12 n back small (entry_at table n back is)
+pub read_more : (t : Tables) (x y : Step) (fresh : Bool) (above now new : List Pair) (n : ℕ) (d p : Pair) → n < length above → get_or above n d ≡ p
+    → IsFunctional (step_pairs t x y fresh above) → IsKept now (step_pairs t x y fresh (take n above))
+    → ((ps : List Pair) → IsKept now ps → IsFunctional (ps ++ left_of (row_of t (node_of x y p)) x.child y.child) → IsKept new (ps ++ left_of (row_of t (node_of x y p)) x.child y.child))
+    → IsKept new (step_pairs t x y fresh (take (n + 1) above))
+read_more t x y fresh above now new n d p inside at functional kept more =
+    let rest : rest_of t x y (take (n + 1) above) ≡ rest_of t x y (take n above) ++ left_of (row_of t (node_of x y p)) x.child y.child =
+    rw (take_more above n d inside, at, flat_map-append (λ p. left_of (row_of t (node_of x y p)) x.child y.child) (take n above) (p ∷ []), append-nil (left_of (row_of t (node_of x y p)) x.child y.child)) refl in
+    let e : step_pairs t x y fresh (take (n + 1) above) ≡ step_pairs t x y fresh (take n above) ++ left_of (row_of t (node_of x y p)) x.child y.child =
+    rw rest (sym (append_assoc (first_pairs t x y fresh) (rest_of t x y (take n above)) (left_of (row_of t (node_of x y p)) x.child y.child))) in
+    let less : IsFunctional (step_pairs t x y fresh (take (n + 1) above)) =
+    functional_less (step_pairs t x y fresh (take (n + 1) above)) (step_pairs t x y fresh above)
+    (step_less t x y fresh (take (n + 1) above) above (λ q i. among-take q above (n + 1) i)) functional in
+    subst (IsKept new) (sym e) (more (step_pairs t x y fresh (take n above)) kept (subst IsFunctional e less))
 
 -- ---- the pairs that are read are those of nodes
 first_node : (t : Tables) (k l e f : ℕ) (x y : Step) → x.parent ≡ y.parent → contact_of t x.parent x.child e ≡ Some (inner y.child f)
@@ -140,33 +125,30 @@ read_functional t xs ys k l coherent fits fits' = λ e f g i j.
     (Meets-unique l l coherent (read_meets t xs ys k l e f coherent fits fits' i).meets (read_meets t xs ys k l e g coherent fits fits' j).meets fits' fits').edges
 
 -- ---- one level down
-pub record Readable (t : Tables) (x y : Step) (xs ys : List Step) (fresh : Bool) (table : List (Option ℕ)) : Type 0 where
-  pub nodes : (p : Pair) → IsAmong p (listed_upto table 12) → IsNode t (node_of x y p)
-  pub functional : IsFunctional (step_pairs t x y fresh (listed_upto table 12))
-  pub more : (new : List (Option ℕ)) → IsKept new (step_pairs t x y fresh (listed_upto table 12)) → IsKept new (pairs_read t (x ∷ xs) (y ∷ ys))
+pub record Readable (t : Tables) (x y : Step) (xs ys : List Step) (fresh : Bool) (above : List Pair) : Type 0 where
+  pub nodes : (p : Pair) → IsAmong p above → IsNode t (node_of x y p)
+  pub functional : IsFunctional (step_pairs t x y fresh above)
+  pub more : (new : List Pair) → IsKept new (step_pairs t x y fresh above) → IsKept new (pairs_read t (x ∷ xs) (y ∷ ys))
 
-pub readable : (t : Tables) (k l : ℕ) (x y : Step) (xs ys : List Step) (fresh : Bool) (table : List (Option ℕ)) → IsCoherent t → IsChain t k (x ∷ xs) → IsChain t l (y ∷ ys)
-    → fresh ≡ (eqb x.parent y.parent && same_steps xs ys) → IsKept table (pairs_read t xs ys) → Readable t x y xs ys fresh table
-readable t k l x y xs ys fresh table coherent fits fits' same kept =
-    let down = listed_kept table (pairs_read t xs ys) kept in
-    let up = kept_listed table (pairs_read t xs ys) kept in
-    let to : (p : Pair) → IsAmong p (step_pairs t x y fresh (listed_upto table 12)) → IsAmong p (pairs_read t (x ∷ xs) (y ∷ ys)) = λ p i.
-    subst (λ (b : Bool). IsAmong p (step_pairs t x y b (pairs_read t xs ys))) same (step_less t x y fresh (listed_upto table 12) (pairs_read t xs ys) down p i) in
-    let from : (p : Pair) → IsAmong p (pairs_read t (x ∷ xs) (y ∷ ys)) → IsAmong p (step_pairs t x y fresh (listed_upto table 12)) = λ p i.
-    step_less t x y fresh (pairs_read t xs ys) (listed_upto table 12) up p (subst (λ (b : Bool). IsAmong p (step_pairs t x y b (pairs_read t xs ys))) (sym same) i) in
+pub readable : (t : Tables) (k l : ℕ) (x y : Step) (xs ys : List Step) (fresh : Bool) (above : List Pair) → IsCoherent t → IsChain t k (x ∷ xs) → IsChain t l (y ∷ ys)
+    → fresh ≡ (eqb x.parent y.parent && same_steps xs ys) → IsKept above (pairs_read t xs ys) → Readable t x y xs ys fresh above
+readable t k l x y xs ys fresh above coherent fits fits' same kept =
+    let to : (p : Pair) → IsAmong p (step_pairs t x y fresh above) → IsAmong p (pairs_read t (x ∷ xs) (y ∷ ys)) = λ p i.
+    subst (λ (b : Bool). IsAmong p (step_pairs t x y b (pairs_read t xs ys))) same (step_less t x y fresh above (pairs_read t xs ys) kept.only p i) in
+    let from : (p : Pair) → IsAmong p (pairs_read t (x ∷ xs) (y ∷ ys)) → IsAmong p (step_pairs t x y fresh above) = λ p i.
+    step_less t x y fresh (pairs_read t xs ys) above kept.all p (subst (λ (b : Bool). IsAmong p (step_pairs t x y b (pairs_read t xs ys))) (sym same) i) in
     record {
-      nodes = λ p i. read_node t xs ys x.parent y.parent p.mine p.theirs coherent fits.1 fits'.1 (down p i);
-      functional = functional_less (step_pairs t x y fresh (listed_upto table 12)) (pairs_read t (x ∷ xs) (y ∷ ys)) to (read_functional t (x ∷ xs) (y ∷ ys) k l coherent fits fits');
-      more = λ new h. kept_same new (step_pairs t x y fresh (listed_upto table 12)) (pairs_read t (x ∷ xs) (y ∷ ys)) to from h;
+      nodes = λ p i. read_node t xs ys x.parent y.parent p.mine p.theirs coherent fits.1 fits'.1 (kept.only p i);
+      functional = functional_less (step_pairs t x y fresh above) (pairs_read t (x ∷ xs) (y ∷ ys)) to (read_functional t (x ∷ xs) (y ∷ ys) k l coherent fits fits');
+      more = λ new h. kept_same new (step_pairs t x y fresh above) (pairs_read t (x ∷ xs) (y ∷ ys)) to from h;
     }
 
 -- ---- where a level begins
-pub start_fresh : (t : Tables) (x y : Step) (fresh : Bool) (above now : List (Option ℕ)) → fresh ≡ true → IsKept now (between_children t x.parent x.child y.child)
-    → IsKept now (step_pairs t x y fresh (listed_upto above 0))
-start_fresh t x y fresh above now is kept = rw (is, listed-none above, append-none (between_children t x.parent x.child y.child)) kept
+pub start_fresh : (t : Tables) (x y : Step) (fresh : Bool) (now : List Pair) → fresh ≡ true → IsKept now (between_children t x.parent x.child y.child) → IsKept now (step_pairs t x y fresh [])
+start_fresh t x y fresh now is kept = rw (is, append-nil (between_children t x.parent x.child y.child)) kept
 
-pub start_plain : (t : Tables) (x y : Step) (fresh : Bool) (above now : List (Option ℕ)) → fresh ≡ false → IsKept now [] → IsKept now (step_pairs t x y fresh (listed_upto above 0))
-start_plain t x y fresh above now is kept = rw (is, listed-none above) kept
+pub start_plain : (t : Tables) (x y : Step) (fresh : Bool) (now : List Pair) → fresh ≡ false → now ≡ [] → IsKept now (step_pairs t x y fresh [])
+start_plain t x y fresh now is none = rw (is, none) (record { all = λ p i. i; only = λ p i. i })
 
 -- ---- the digits at a level
 pub digits_at : (xs ys : List program.Step) (level : ℕ) (d : program.Step) → ys ≡ xs → 0 < level → level ≤ length xs
@@ -185,13 +167,13 @@ chain_from_drop t k ds i fits h = IsChain-drop t k ds i fits h
 abbrev pub digit : List program.Step → ℕ → Step
 digit xs level = step_of (get_or xs (level - 1) (record { child = 0; parent = 0 }))
 
-pub record AtLevel (t : Tables) (xs ys us vs : List program.Step) (level : ℕ) (fresh : Bool) (table : List (Option ℕ)) : Type 0 where
+pub record AtLevel (t : Tables) (xs ys us vs : List program.Step) (level : ℕ) (fresh : Bool) (table : List Pair) : Type 0 where
   pub split_x : drop (level - 1) (map step_of xs) ≡ digit us level ∷ drop level (map step_of xs)
   pub split_y : drop (level - 1) (map step_of ys) ≡ digit vs level ∷ drop level (map step_of ys)
   pub child : IsSome (child_kind_of t (digit us level).parent (digit us level).child)
   pub readable_here : Readable t (digit us level) (digit vs level) (drop level (map step_of xs)) (drop level (map step_of ys)) fresh table
 
-pub at_level : (t : Tables) (k l : ℕ) (xs ys us vs : List program.Step) (level : ℕ) (same fresh : Bool) (table : List (Option ℕ)) → IsCoherent t
+pub at_level : (t : Tables) (k l : ℕ) (xs ys us vs : List program.Step) (level : ℕ) (same fresh : Bool) (table : List Pair) → IsCoherent t
     → IsChain t k (map step_of xs) → IsChain t l (map step_of ys) → length xs ≡ length ys → us ≡ xs → vs ≡ ys → 0 < level → level ≤ length xs
     → same ≡ same_steps (drop level (map step_of xs)) (drop level (map step_of ys))
     → fresh ≡ (eqb (digit us level).parent (digit vs level).parent && same)
@@ -212,12 +194,12 @@ at_level t k l xs ys us vs level same fresh table coherent fits fits' depths own
           fresh table coherent cx cy (fresh_is ∙ ap (λ (b : Bool). eqb (digit us level).parent (digit vs level).parent && b) same_is) kept;
     }
 
-pub kept_below : (t : Tables) (xs ys us vs : List program.Step) (level : ℕ) (fresh : Bool) (table new : List (Option ℕ)) → AtLevel t xs ys us vs level fresh table
-    → IsKept new (step_pairs t (digit us level) (digit vs level) fresh (listed_upto table 12))
+pub kept_below : (t : Tables) (xs ys us vs : List program.Step) (level : ℕ) (fresh : Bool) (table new : List Pair) → AtLevel t xs ys us vs level fresh table
+    → IsKept new (step_pairs t (digit us level) (digit vs level) fresh table)
     → IsKept new (pairs_read t (drop (level - 1) (map step_of xs)) (drop (level - 1) (map step_of ys)))
 kept_below t xs ys us vs level fresh table new h kept = rw (h.split_x, h.split_y) (h.readable_here.more new kept)
 
-pub same_below : (t : Tables) (xs ys us vs : List program.Step) (level : ℕ) (same fresh next : Bool) (table : List (Option ℕ)) → AtLevel t xs ys us vs level fresh table
+pub same_below : (t : Tables) (xs ys us vs : List program.Step) (level : ℕ) (same fresh next : Bool) (table : List Pair) → AtLevel t xs ys us vs level fresh table
     → same ≡ same_steps (drop level (map step_of xs)) (drop level (map step_of ys))
     → fresh ≡ (eqb (digit us level).parent (digit vs level).parent && same)
     → next ≡ (eqb (digit us level).child (digit vs level).child && fresh)
@@ -225,13 +207,6 @@ pub same_below : (t : Tables) (xs ys us vs : List program.Step) (level : ℕ) (s
 same_below t xs ys us vs level same fresh next table h same_is fresh_is next_is =
     rw (h.split_x, h.split_y)
     (next_is ∙ ap (λ (b : Bool). eqb (digit us level).child (digit vs level).child && b) (fresh_is ∙ ap (λ (b : Bool). eqb (digit us level).parent (digit vs level).parent && b) same_is))
-
--- nothing is read at the top
-pub drop_all : {A : Type 0} (xs : List A) (n : ℕ) → n ≡ length xs → drop n xs ≡ []
-drop_all [] zero h = refl
-drop_all [] (suc n) h = refl
-drop_all (x ∷ xs) zero h = absurd (omega arith)
-drop_all (x ∷ xs) (suc n) h = drop_all xs n (omega arith)
 
 -- ---- the kind on top
 pub top_read : (kind : ℕ) (ds : List Step) → slice_get (kind ∷ map (λ (d : Step). d.parent) ds) (length ds) ≡ Some (top_from kind ds)
@@ -264,11 +239,11 @@ same_address a b r is = (
     address-eq k d = λ i. record { kind = k i; digits = d i }
 
 -- ---- the list at the end
-pub between_of : (t : Tables) (a b : Address) (table : List (Option ℕ)) → IsCoherent t → Fits (child_kinds t) a → Fits (child_kinds t) b → IsKept table (pairs_read t a.digits b.digits)
-    → IsBetween t a b (listed_upto table 12)
-between_of t a b table coherent fits fits' kept = record {
-  in_order = listed_in_order table 12;
+pub between_of : (t : Tables) (a b : Address) (kept : List Pair) → IsCoherent t → Fits (child_kinds t) a → Fits (child_kinds t) b → IsInOrder kept → IsKept kept (pairs_read t a.digits b.digits)
+    → IsBetween t a b kept
+between_of t a b kept coherent fits fits' order h = record {
+  in_order = order;
   touching = λ e f.
       let read = read_touches t a b e f coherent fits fits' in
-      (λ i. read.0 (listed_kept table (pairs_read t a.digits b.digits) kept (two e f) i), λ h. kept_listed table (pairs_read t a.digits b.digits) kept (two e f) (read.1 h));
+      (λ i. read.0 (h.only (two e f) i), λ m. h.all (two e f) (read.1 m));
 }

@@ -1,9 +1,10 @@
 -- What a machine holds.
-use Rattle.std.specs.Prelude.{◌≡◌, ◌↔◌, ◌≤◌, ◌⊎◌, ℕ, List, ◌++◌, length, Some, slice_get}
+use Rattle.std.specs.Prelude.{◌≡◌, ◌↔◌, ◌≤◌, ◌⊎◌, ℕ, Bool, true, List, ◌++◌, length, Some, slice_get}
 use Rattle.addressing.specs.Coherent.{IsCoherent}
 use Rattle.addressing.specs.Search.{IsAmong}
 use Rattle.addressing.specs.Tables.{Tables}
 use Rattle.transducer_core.specs.Once.{HasNoneTwice}
+use Rattle.pair_machine.specs.Itself.{SomeMeetsItself}
 use Rattle.pair_machine.specs.Nodes.{Node, RowPair, IsNode, IsRow, row_of}
 use Rattle.pair_machine.specs.Numbers.{number_of}
 
@@ -13,9 +14,10 @@ pub record IsFound (numbers : List ℕ) (rows : List (List RowPair)) (n : Node) 
   pub numbered : slice_get numbers (number_of n) ≡ Some place
   pub there : slice_get rows place ≡ Some row
 
--- all nodes and all rows, each once, and each row by the number of its node
-pub record IsMachine (t : Tables) (nodes : List Node) (numbers : List ℕ) (rows : List (List RowPair)) : Type 0 where
+-- whether some child meets itself; all nodes and all rows, each once, and each row by the number of its node
+pub record IsMachine (t : Tables) (itself : Bool) (nodes : List Node) (numbers : List ℕ) (rows : List (List RowPair)) : Type 0 where
   pub coherent : IsCoherent t
+  pub itself_is : (itself ≡ true) ↔ SomeMeetsItself t
   pub nodes_once : HasNoneTwice nodes
   pub nodes_all : (n : Node) → IsAmong n nodes ↔ IsNode t n
   pub nodes_few : length nodes ≤ 36864

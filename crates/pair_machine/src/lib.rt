@@ -3,7 +3,9 @@
 //! `PairMachine::decide` promises all pairs of edges that touch, in the order of the first tile's edges.
 #![tactic(auto)]
 
+mod compare;
 pub mod edge_pair;
+mod itself;
 pub mod laws;
 mod looks;
 pub mod machine;

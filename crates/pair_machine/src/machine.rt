@@ -1,19 +1,19 @@
 //! The machine that tells by which edges two tiles meet.
-ghost use Rattle.std.specs.Prelude.{◌≡◌, ◌≢◌, ◌↔◌, ◌≤◌, ◌<◌, ◌&&◌, ◌==◌, ℕ, List, [], length, map, Some, IsSome, IfOk, IsTrue};
-ghost use Rattle.edge_tables.specs.Views.{as_contact};
-ghost use Rattle.addressing.specs.Address.{Fits, Step as TheStep};
+ghost use Rattle.std.specs.Prelude.{◌≡◌, ◌≢◌, ◌↔◌, ◌≤◌, ◌==◌, ℕ, Bool, false, List, [], length, map, drop, IsSome, IfOk, IsTrue};
+ghost use Rattle.addressing.specs.Address.{Fits};
 ghost use Rattle.addressing.specs.Coherent.{IsCoherent};
 ghost use Rattle.addressing.specs.Search.{IsAmong};
 ghost use Rattle.addressing.specs.Tables.{child_kinds, child_kind_of};
 ghost use Rattle.tile_shape.specs.Views.{address_of, step_of};
 ghost use Rattle.pair_machine.specs.Between.{Pair, HaveCommon, IsBetween};
-ghost use Rattle.pair_machine.specs.Kept.{IsKept, IsFunctional, listed_upto};
+ghost use Rattle.pair_machine.specs.Kept.{IsKept, IsFunctional};
 ghost use Rattle.pair_machine.specs.Nodes.{IsNode, IsRow, IsNumber, row_of as the_row_of};
-ghost use Rattle.pair_machine.specs.Reading.{between_children, node_of, step_pairs, pairs_read};
+ghost use Rattle.pair_machine.specs.Reading.{node_of, step_pairs, pairs_read};
 ghost use Rattle.pair_machine.specs.Verdicts.{IsVerdict, pairs_of};
 ghost use Rattle.pair_machine.specs.Views.{as_node, as_row_pair};
 
-use crate::looks::contact;
+use crate::compare::{also, are_same, have_common, parting};
+use crate::itself::some_meets_itself;
 use crate::node::Node;
 use crate::nodes::nodes_of;
 use crate::partners::Partners;
@@ -27,10 +27,13 @@ use tile_shape::address::Address;
 use tile_shape::no_memory::NoMemory;
 use tile_shape::step::Step;
 
-/// The machine of contact tables, which contracts see as those tables.
+/// The machine of contact tables, which contracts see as those tables. It has all their nodes and the rows of these, equal ones
+/// once, and finds the row of a node by the node's number.
 #[derive(Drop)]
 pub struct PairMachine {
     tables: Tables,
+    /// Whether some child meets itself: then two addresses may meet above the level where they part.
+    meets_itself: bool,
     nodes: Vec<Node>,
     numbers: Vec<u16>,
     rows: Vec<Vec<RowPair>>,
@@ -46,7 +49,7 @@ impl Model for PairMachine {
 
     ghost view = { λ m. m.tables };
 
-    ghost invariant = { λ m. IsMachine m.tables (map as_node m.nodes.items) m.numbers.items (map (λ row. map as_row_pair row.items) m.rows.items) };
+    ghost invariant = { λ m. IsMachine m.tables m.meets_itself (map as_node m.nodes.items) m.numbers.items (map (λ row. map as_row_pair row.items) m.rows.items) };
 }
 
 impl PairMachine {
@@ -54,6 +57,7 @@ impl PairMachine {
     pub fn compile(alloc: Global, tables: &Tables) -> Result<PairMachine, NoMemory>
         ensures tables { IfOk result (λ machine. machine ≡ tables.now) }
     {
+        let meets_itself = some_meets_itself(tables);
         let nodes = nodes_of(alloc, tables)?;
         let mut numbers = vec![in alloc; 0u16; tables.kinds() as usize * 2304]?;
         let mut rows = Vec::new(alloc);
@@ -64,6 +68,7 @@ impl PairMachine {
         }
         Ok(PairMachine {
             tables: tables.copy(alloc)?,
+            meets_itself,
             nodes,
             numbers,
             rows,
@@ -94,44 +99,56 @@ impl PairMachine {
         &self.rows[self.numbers[node.number()] as usize]
     }
 
+    /// The level from which digits are read: what is coarser is the same in both, and leaves no pair.
+    fn first_level(&self, xs: &[Step], ys: &[Step]) -> usize
+        requires one_depth { length xs.now ≡ length ys.now }
+        ensures within { result ≤ length xs.now }
+        ensures same_above { drop result xs.now ≡ drop result ys.now }
+        ensures none_above { pairs_read self.now (drop result (map step_of xs.now)) (drop result (map step_of ys.now)) ≡ [] }
+    {
+        if self.meets_itself {
+            xs.len()
+        } else {
+            parting(xs, ys)
+        }
+    }
+
     /// What is left of the pairs above, when two digits are read.
     fn read_digits(&self, above: &Partners, fresh: bool, x: Step, y: Step) -> Partners
         requires child { IsSome (child_kind_of self.now x.parent x.child) }
-        requires nodes { (p : Pair) → IsAmong p (listed_upto above.now.by_edge 12) → IsNode self.now (node_of (step_of x) (step_of y) p) }
-        requires functional { IsFunctional (step_pairs self.now (step_of x) (step_of y) fresh (listed_upto above.now.by_edge 12)) }
-        ensures { IsKept result.by_edge (step_pairs self.now (step_of x) (step_of y) fresh (listed_upto above.now.by_edge 12)) }
+        requires nodes { (p : Pair) → IsAmong p above.now → IsNode self.now (node_of (step_of x) (step_of y) p) }
+        requires functional { IsFunctional (step_pairs self.now (step_of x) (step_of y) fresh above.now) }
+        ensures { IsKept result (step_pairs self.now (step_of x) (step_of y) fresh above.now) }
     {
         let mut partners = Partners::none();
         if fresh {
-            partners = meet(&self.tables, x.parent, x.child, y.child);
+            partners = Partners::of_children(&self.tables, x.parent, x.child, y.child);
         }
-        for edge in 0u8..12 {
-            if let Some(back) = above.by_edge[edge as usize] {
-                let row = self.row(Node {
-                    kind: x.parent,
-                    edge,
-                    other: y.parent,
-                    back,
-                });
-                partners.keep_row(row, x.child, y.child);
-            }
+        for pair in above.as_slice() {
+            let row = self.row(Node {
+                kind: x.parent,
+                edge: pair.mine,
+                other: y.parent,
+                back: pair.theirs,
+            });
+            partners.keep_row(row, x.child, y.child);
         }
         partners
     }
 
-    /// The edges that meet, by the digits from coarse to fine.
+    /// The edges that meet, by the digits from coarse to fine, until none can be left.
     fn read(&self, a: &Address, b: &Address) -> Partners
         requires fits_a { Fits (child_kinds self.now) (address_of a.now) }
         requires fits_b { Fits (child_kinds self.now) (address_of b.now) }
         requires one_depth { length a.now.digits.items ≡ length b.now.digits.items }
-        ensures { IsKept result.by_edge (pairs_read self.now (map step_of a.now.digits.items) (map step_of b.now.digits.items)) }
+        ensures { IsKept result (pairs_read self.now (map step_of a.now.digits.items) (map step_of b.now.digits.items)) }
     {
         let _coherent = self.tables.kinds();
         let xs = a.digits.as_slice();
         let ys = b.digits.as_slice();
+        let mut level = self.first_level(xs, ys);
         let mut partners = Partners::none();
         let mut same = true;
-        let mut level = xs.len();
         while level > 0 {
             level -= 1;
             let x = xs[level];
@@ -139,6 +156,9 @@ impl PairMachine {
             let fresh = also(x.parent, y.parent, same);
             partners = self.read_digits(&partners, fresh, x, y);
             same = also(x.child, y.child, fresh);
+            if partners.end_here(same) {
+                return partners;
+            }
         }
         partners
     }
@@ -169,49 +189,13 @@ impl PairMachine {
             return Verdict::Same;
         }
         let _coherent = self.tables.kinds();
-        let pairs = self.read(a, b).listed();
-        if pairs.is_empty() {
+        let partners = self.read(a, b);
+        if partners.are_none() {
             Verdict::Apart
         } else {
-            Verdict::Beside { pairs }
+            Verdict::Beside {
+                pairs: partners.into_pairs(),
+            }
         }
     }
-}
-
-/// Whether two addresses have a common supertile.
-fn have_common(a: &Address, b: &Address) -> bool
-    ensures { IsTrue result ↔ HaveCommon (address_of a.now) (address_of b.now) }
-{
-    let depth = a.depth();
-    if b.depth() != depth {
-        return false;
-    }
-    a.kind_at(depth) == b.kind_at(depth)
-}
-
-/// Whether two addresses are the same.
-fn are_same(a: &Address, b: &Address) -> bool
-    ensures { IsTrue result ↔ (address_of a.now ≡ address_of b.now) }
-{
-    a == b
-}
-
-/// Whether two numbers are the same, and something else is so.
-fn also(a: u8, b: u8, more: bool) -> bool
-    ensures { result ≡ ((a == b) && more) }
-{
-    a == b && more
-}
-
-/// The inner contacts between two children of a kind.
-fn meet(tables: &Tables, kind: u8, mine: u8, theirs: u8) -> Partners
-    requires coherent { IsCoherent tables.now }
-    requires child { IsSome (child_kind_of tables.now kind mine) }
-    ensures { IsKept result.by_edge (between_children tables.now kind mine theirs) }
-{
-    let mut partners = Partners::none();
-    for edge in 0..tables.edges(tables.child_kind(kind, mine)) {
-        partners.keep_contact(edge, theirs, contact(tables, kind, mine, edge));
-    }
-    partners
 }

@@ -1,50 +1,136 @@
-//! The edges that one tile's edges meet.
-ghost use Rattle.std.specs.Prelude.{◌≡◌, ◌<◌, ℕ, List, [], ◌∷◌, ◌++◌, Some, map};
-ghost use Rattle.edge_tables.specs.Views.{as_contact};
-ghost use Rattle.pair_machine.specs.Between.{Pair};
-ghost use Rattle.pair_machine.specs.Kept.{IsKept, IsFunctional, listed_upto};
-ghost use Rattle.pair_machine.specs.Reading.{left_one, left_of, met_by};
-ghost use Rattle.pair_machine.specs.Nodes.{RowPair as TheRowPair};
-ghost use Rattle.pair_machine.specs.Views.{as_pair, as_row_pair};
+//! The edges of one tile that meet edges of another.
+ghost use Rattle.std.specs.Prelude.{◌≡◌, ◌↔◌, ◌<◌, List, [], ◌∷◌, ◌++◌, Some, false, map, IsSome, IsTrue, IfSome, IfNone};
+ghost use Rattle.addressing.specs.Coherent.{IsCoherent};
 ghost use Rattle.addressing.specs.Search.{IsAmong};
+ghost use Rattle.addressing.specs.Tables.{child_kind_of};
+ghost use Rattle.edge_tables.specs.Views.{as_contact};
+ghost use Rattle.pair_machine.specs.Between.{Pair, IsInOrder};
+ghost use Rattle.pair_machine.specs.Kept.{IsKept, IsFunctional, BelongsAt};
+ghost use Rattle.pair_machine.specs.Nodes.{RowPair as TheRowPair};
+ghost use Rattle.pair_machine.specs.Reading.{between_children, left_one, left_of, met_by};
+ghost use Rattle.pair_machine.specs.Views.{as_pair, as_row_pair};
 
 use crate::edge_pair::EdgePair;
+use crate::looks::contact;
 use crate::row::RowPair;
 use arrayvec::ArrayVec;
 use edge_tables::contact::Contact;
+use edge_tables::tables::Tables;
+use std::marker::Model;
 
-/// For each edge of the one tile the edge of the other that it meets, where there is one.
-#[derive(Clone, Copy, Debug)]
+/// The edges of one tile that meet edges of another, in the order of the first tile's edges, each at most once. Contracts see
+/// them as that list.
+#[derive(Drop)]
 pub(crate) struct Partners {
-    pub(crate) by_edge: [Option<u8>; 12],
+    pairs: ArrayVec<EdgePair, 12>,
+}
+
+impl Model for Partners {
+    ghost use Rattle.std.specs.Prelude.{List, map};
+    ghost use Rattle.pair_machine.specs.Between.{Pair};
+    ghost use Rattle.pair_machine.specs.Kept.{ArePartners};
+    ghost use Rattle.pair_machine.specs.Views.{as_pair};
+
+    ghost Value = { List Pair };
+
+    ghost view = { λ p. map as_pair p.pairs.items };
+
+    ghost invariant = { λ p. ArePartners (map as_pair p.pairs.items) };
+}
+
+/// Where a pair with this first edge belongs among pairs in order; None where one stands there already.
+fn place_for(pairs: &[EdgePair], mine: u8) -> Option<usize>
+    requires in_order { IsInOrder (map as_pair pairs.now) }
+    ensures belongs { IfSome result (λ place. BelongsAt (map as_pair pairs.now) mine place) }
+    ensures stands { IfNone result ((p : Pair) × IsAmong p (map as_pair pairs.now) × (p.mine ≡ mine)) }
+{
+    for place in 0..pairs.len() {
+        let next = pairs[place].mine;
+        if next == mine {
+            return None;
+        }
+        if mine < next {
+            return Some(place);
+        }
+    }
+    Some(pairs.len())
 }
 
 impl Partners {
     /// No edge meets any.
     pub(crate) fn none() -> Partners
-        ensures { IsKept result.by_edge [] }
+        ensures { result ≡ [] }
     {
         Partners {
-            by_edge: [None; 12],
+            pairs: ArrayVec::new(),
         }
     }
 
-    /// These two edges meet as well.
-    pub(crate) fn keep(&mut self, mine: u8, theirs: u8)
-        requires edge { mine < 12 }
-        ensures { (ps : List Pair) → IsKept self.old.by_edge ps → IsFunctional (ps ++ (record { mine = mine; theirs = theirs }) ∷ []) → IsKept self.new.by_edge (ps ++ (record { mine = mine; theirs = theirs }) ∷ []) }
+    /// Whether no edge meets any.
+    pub(crate) fn are_none(&self) -> bool
+        ensures { IsTrue result ↔ (self.now ≡ []) }
     {
-        self.by_edge[mine as usize] = Some(theirs);
+        self.pairs.is_empty()
+    }
+
+    /// The pairs.
+    pub(crate) fn as_slice(&self) -> &[EdgePair]
+        ensures { map as_pair result.now ≡ self.now }
+    {
+        self.pairs.as_slice()
+    }
+
+    /// The pairs, to keep.
+    pub(crate) fn into_pairs(self) -> ArrayVec<EdgePair, 12>
+        ensures pairs { map as_pair result.items ≡ self }
+        ensures in_order { IsInOrder self }
+    {
+        self.pairs
+    }
+
+    /// Whether no finer digits can leave a pair: none is left, and the digits read so far are not the same.
+    pub(crate) fn end_here(&self, same: bool) -> bool
+        ensures { IsTrue result → (same ≡ false) × (self.now ≡ []) }
+    {
+        self.are_none() && !same
+    }
+
+    /// The inner contacts between two children of a kind.
+    pub(crate) fn of_children(tables: &Tables, kind: u8, mine: u8, theirs: u8) -> Partners
+        requires coherent { IsCoherent tables.now }
+        requires child { IsSome (child_kind_of tables.now kind mine) }
+        ensures { IsKept result (between_children tables.now kind mine theirs) }
+    {
+        let mut partners = Partners::none();
+        for edge in 0..tables.edges(tables.child_kind(kind, mine)) {
+            partners.keep_contact(edge, theirs, contact(tables, kind, mine, edge));
+        }
+        partners
+    }
+
+    /// These two edges meet as well. Where the first has a partner already, it is this one.
+    fn keep(&mut self, pair: EdgePair)
+        requires edge { pair.mine < 12 }
+        ensures { (ps : List Pair) → IsKept self.old ps → IsFunctional (ps ++ as_pair pair ∷ [])
+            → IsKept self.new (ps ++ as_pair pair ∷ []) }
+    {
+        if let Some(place) = place_for(self.pairs.as_slice(), pair.mine) {
+            self.pairs.insert(place, pair);
+        }
     }
 
     /// Keeps an inner contact of an edge with a child.
-    pub(crate) fn keep_contact(&mut self, edge: u8, theirs: u8, contact: Contact)
+    fn keep_contact(&mut self, edge: u8, theirs: u8, contact: Contact)
         requires edge { edge < 12 }
-        ensures { (ps : List Pair) → IsKept self.old.by_edge ps → IsFunctional (ps ++ met_by edge theirs (Some (as_contact contact))) → IsKept self.new.by_edge (ps ++ met_by edge theirs (Some (as_contact contact))) }
+        ensures { (ps : List Pair) → IsKept self.old ps → IsFunctional (ps ++ met_by edge theirs (Some (as_contact contact)))
+            → IsKept self.new (ps ++ met_by edge theirs (Some (as_contact contact))) }
     {
         if let Contact::Inner { child, edge: back } = contact {
             if child == theirs {
-                self.keep(edge, back);
+                self.keep(EdgePair {
+                    mine: edge,
+                    theirs: back,
+                });
             }
         }
     }
@@ -52,11 +138,15 @@ impl Partners {
     /// Keeps a pair of a row, where these children are read.
     fn keep_one(&mut self, pair: RowPair, mine: u8, theirs: u8)
         requires edge { pair.mine.edge < 12 }
-        ensures { (ps : List Pair) → IsKept self.old.by_edge ps → IsFunctional (ps ++ left_one (as_row_pair pair) mine theirs) → IsKept self.new.by_edge (ps ++ left_one (as_row_pair pair) mine theirs) }
+        ensures { (ps : List Pair) → IsKept self.old ps → IsFunctional (ps ++ left_one (as_row_pair pair) mine theirs)
+            → IsKept self.new (ps ++ left_one (as_row_pair pair) mine theirs) }
     {
         if pair.mine.child == mine {
             if pair.theirs.child == theirs {
-                self.keep(pair.mine.edge, pair.theirs.edge);
+                self.keep(EdgePair {
+                    mine: pair.mine.edge,
+                    theirs: pair.theirs.edge,
+                });
             }
         }
     }
@@ -64,23 +154,11 @@ impl Partners {
     /// Keeps what a row leaves, when these children are read.
     pub(crate) fn keep_row(&mut self, row: &[RowPair], mine: u8, theirs: u8)
         requires edges { (pair : TheRowPair) → IsAmong pair (map as_row_pair row.now) → pair.mine.edge < 12 }
-        ensures { (ps : List Pair) → IsKept self.old.by_edge ps → IsFunctional (ps ++ left_of (map as_row_pair row.now) mine theirs) → IsKept self.new.by_edge (ps ++ left_of (map as_row_pair row.now) mine theirs) }
+        ensures { (ps : List Pair) → IsKept self.old ps → IsFunctional (ps ++ left_of (map as_row_pair row.now) mine theirs)
+            → IsKept self.new (ps ++ left_of (map as_row_pair row.now) mine theirs) }
     {
         for pair in row {
             self.keep_one(*pair, mine, theirs);
         }
-    }
-
-    /// The pairs, in the order of the first edges.
-    pub(crate) fn listed(&self) -> ArrayVec<EdgePair, 12>
-        ensures { map as_pair result.items ≡ listed_upto self.now.by_edge 12 }
-    {
-        let mut pairs = ArrayVec::new();
-        for mine in 0u8..12 {
-            if let Some(theirs) = self.by_edge[mine as usize] {
-                pairs.push(EdgePair { mine, theirs });
-            }
-        }
-        pairs
     }
 }

@@ -4,7 +4,7 @@ use Rattle.std.proofs.lemmas.List.{length-map}
 use Rattle.addressing.specs.Search.{IsAmong}
 use Rattle.pair_machine.specs.Nodes.{IsNode}
 use Rattle.pair_machine.specs.Views.{as_node}
-use Rattle.pair_machine.proofs.Keeping.{read-among}
+use Rattle.pair_machine.proofs.Places.{read-among}
 use Rattle.pair_machine.proofs.Finding.{covers_nodes, covers_length, rows_more, all_found, first-node, row-node, kept_in}
 use Rattle.pair_machine.proofs.nodes.nodes_of.Goals as goal
 

@@ -7,7 +7,7 @@ use Rattle.pair_machine.specs.declared.node.Node as program
 use Rattle.pair_machine.specs.Nodes.{Node, IsNode}
 use Rattle.pair_machine.specs.Machine.{IsMachine}
 use Rattle.pair_machine.specs.Views.{as_node, as_row_pair}
-use Rattle.pair_machine.proofs.Keeping.{read-among}
+use Rattle.pair_machine.proofs.Places.{read-among}
 use Rattle.pair_machine.proofs.Finding.{node_small}
 use Rattle.pair_machine.proofs.KeptOnce.{Numbered, numbered_more, machine_of, place_small}
 use Rattle.pair_machine.proofs.machine.PairMachine.compile.Goals as goal
@@ -54,6 +54,6 @@ invariant_of-result c =
     let end : c.loop-node.node-index ≡ length (map as_node c.in_ok-nodes.nodes.items) =
     omega (arith, length-map c.in_ok-nodes.nodes.items as_node, ap length c.deref-node-items.ensures.value) in
     let few : length (map as_node c.in_ok-nodes.nodes.items) ≤ 36864 = omega (arith, length-map c.in_ok-nodes.nodes.items as_node, c.in_ok-nodes.ensures.few) in
-    let made = machine_of c.args.tables.now (map as_node c.in_ok-nodes.nodes.items) c.loop-node.node-index c.loop-node.numbers.items (map (λ r. map as_row_pair r.items) c.loop-node.rows.items)
-    c.kinds.ensures.coherent c.in_ok-nodes.ensures.once c.in_ok-nodes.ensures.all few end numbered in
-    subst (λ (t : Tables). IsMachine t (map as_node c.in_ok-nodes.nodes.items) c.loop-node.numbers.items (map (λ r. map as_row_pair r.items) c.loop-node.rows.items)) (sym c.in_ok-copy.ensures) made
+    let made = machine_of c.args.tables.now c.some_meets_itself-meets_itself.result (map as_node c.in_ok-nodes.nodes.items) c.loop-node.node-index c.loop-node.numbers.items (map (λ r. map as_row_pair r.items) c.loop-node.rows.items)
+    c.kinds.ensures.coherent c.some_meets_itself-meets_itself.ensures c.in_ok-nodes.ensures.once c.in_ok-nodes.ensures.all few end numbered in
+    subst (λ (t : Tables). IsMachine t c.some_meets_itself-meets_itself.result (map as_node c.in_ok-nodes.nodes.items) c.loop-node.numbers.items (map (λ r. map as_row_pair r.items) c.loop-node.rows.items)) (sym c.in_ok-copy.ensures) made

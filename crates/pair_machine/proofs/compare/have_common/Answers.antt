@@ -3,7 +3,7 @@ use Rattle.std.proofs.lemmas.Bool.{eqb-true}
 use Rattle.tile_shape.specs.Views.{address_of, step_of}
 use Rattle.addressing.specs.Address.{top_kind, kind_at}
 use Rattle.pair_machine.proofs.Levels.{top_read}
-use Rattle.pair_machine.proofs.machine.have_common.Goals as goal
+use Rattle.pair_machine.proofs.compare.have_common.Goals as goal
 
 pub returns-then-depth : goal.returns-then-depth
 returns-then-depth c = (λ h. absurd cc, λ h. absurd (c.if-depth.true (c.depth.ensures.seen ∙ sym h.one_depth ∙ sym c.depth-depth.ensures.seen)))

@@ -1,0 +1,41 @@
+-- Places in lists: what is written at one, and what is read there.
+use Rattle.std.proofs.Common.{◌≡◌, ◌⊎◌, inl, inr, ℕ, zero, suc, ◌+◌, ◌<◌, List, [], ◌∷◌, ◌++◌, length, map, take, set, get_or, Some, refl, ap, arith}
+use Rattle.std.specs.List.{slice_get}
+use Rattle.std.proofs.lemmas.List.{take_more}
+use Rattle.addressing.specs.Search.{IsAmong}
+use Rattle.addressing.proofs.Lists.{IsAmong-map}
+use Rattle.addressing.proofs.Ranges.{among-append}
+
+pub slice_get-set_same : {A : Type 0} (xs : List A) (i : ℕ) (x : A) → i < length xs → slice_get (set xs i x) i ≡ Some x
+slice_get-set_same [] i x h = absurd (omega arith)
+slice_get-set_same (y ∷ ys) zero x h = refl
+slice_get-set_same (y ∷ ys) (suc i) x h = slice_get-set_same ys i x (omega arith)
+
+pub slice_get-set_other : {A : Type 0} (xs : List A) (i j : ℕ) (x : A) → (j ≡ i → ⊥) → slice_get (set xs i x) j ≡ slice_get xs j
+slice_get-set_other [] i j x h = refl
+slice_get-set_other (y ∷ ys) zero zero x h = absurd (h refl)
+slice_get-set_other (y ∷ ys) zero (suc j) x h = refl
+slice_get-set_other (y ∷ ys) (suc i) zero x h = refl
+slice_get-set_other (y ∷ ys) (suc i) (suc j) x h = slice_get-set_other ys i j x (λ e. h (ap suc e))
+
+-- the first of a list
+pub among-take : {A : Type 0} (x : A) (xs : List A) (i : ℕ) → IsAmong x (take i xs) → IsAmong x xs
+among-take x [] zero j = elim j [ ]
+among-take x [] (suc i) j = elim j [ ]
+among-take x (y ∷ ys) zero j = elim j [ ]
+among-take x (y ∷ ys) (suc i) (inl e) = inl e
+among-take x (y ∷ ys) (suc i) (inr j) = inr (among-take x ys i j)
+
+pub among-take_more : {A : Type 0} (xs : List A) (i : ℕ) (d x : A) → i < length xs → IsAmong x (take (i + 1) xs) → IsAmong x (take i xs) ⊎ (x ≡ get_or xs i d)
+among-take_more xs i d x h j =
+    let k : IsAmong x (take i xs ++ get_or xs i d ∷ []) = rw (take_more xs i d h) at j in
+    elim (among-append x (take i xs) (get_or xs i d ∷ []) k) [ inl a ↦ inl a | inr b ↦ elim b [ inl e ↦ inr e | inr n ↦ elim n [ ] ] ]
+
+-- what is read is a member
+pub get_or-among : {A : Type 0} (xs : List A) (i : ℕ) (d : A) → i < length xs → IsAmong (get_or xs i d) xs
+get_or-among [] i d h = absurd (omega arith)
+get_or-among (x ∷ xs) zero d h = inl refl
+get_or-among (x ∷ xs) (suc i) d h = inr (get_or-among xs i d (omega arith))
+
+pub read-among : {A B : Type 0} (f : A → B) (xs : List A) (i : ℕ) (d : A) → i < length xs → IsAmong (f (get_or xs i d)) (map f xs)
+read-among f xs i d h = IsAmong-map f (get_or xs i d) xs (get_or-among xs i d h)

@@ -1,0 +1,55 @@
+//! Two addresses compared.
+ghost use Rattle.std.specs.Prelude.{◌≡◌, ◌↔◌, ◌≤◌, ◌&&◌, ◌==◌, length, drop, IsTrue};
+ghost use Rattle.pair_machine.specs.Between.{HaveCommon};
+ghost use Rattle.tile_shape.specs.Views.{address_of};
+
+use tile_shape::address::Address;
+use tile_shape::step::Step;
+
+/// Whether two addresses have a common supertile.
+pub(crate) fn have_common(a: &Address, b: &Address) -> bool
+    ensures { IsTrue result ↔ HaveCommon (address_of a.now) (address_of b.now) }
+{
+    let depth = a.depth();
+    if b.depth() != depth {
+        return false;
+    }
+    a.kind_at(depth) == b.kind_at(depth)
+}
+
+/// Whether two addresses are the same.
+pub(crate) fn are_same(a: &Address, b: &Address) -> bool
+    ensures { IsTrue result ↔ (address_of a.now ≡ address_of b.now) }
+{
+    a == b
+}
+
+/// Whether two digits are the same.
+fn same_digit(x: Step, y: Step) -> bool
+    ensures { IsTrue result ↔ (x ≡ y) }
+{
+    x == y
+}
+
+/// The level from which up all digits are the same: the number of digits up to the coarsest that differs.
+pub(crate) fn parting(xs: &[Step], ys: &[Step]) -> usize
+    requires one_depth { length xs.now ≡ length ys.now }
+    ensures within { result ≤ length xs.now }
+    ensures same_above { drop result xs.now ≡ drop result ys.now }
+{
+    let mut level = xs.len();
+    while level > 0 {
+        if !same_digit(xs[level - 1], ys[level - 1]) {
+            return level;
+        }
+        level -= 1;
+    }
+    level
+}
+
+/// Whether two numbers are the same, and something else is so.
+pub(crate) fn also(a: u8, b: u8, more: bool) -> bool
+    ensures { result ≡ ((a == b) && more) }
+{
+    a == b && more
+}
