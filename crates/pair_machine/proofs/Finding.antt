@@ -1,11 +1,11 @@
 -- The search for nodes, over plain variables.
-use Rattle.std.proofs.Common.{◌≡◌, inl, inr, ℕ, zero, suc, ◌+◌, ◌-◌, ◌*◌, ◌<◌, ◌≤◌, Bool, true, false, List, [], ◌∷◌, ◌++◌, length, take, set, get_or, Option, Some, None, IsSome, refl, sym, ap, ◌∙◌, subst, arith, append_assoc, length-set, length-append}
+use Rattle.std.proofs.Common.{◌≡◌, inl, inr, ℕ, zero, suc, ◌+◌, ◌-◌, ◌*◌, ◌/◌, ◌%◌, ◌<◌, ◌≤◌, Bool, true, false, List, [], ◌∷◌, ◌++◌, length, take, set, get_or, Option, Some, None, IsSome, refl, sym, ap, ◌∙◌, subst, arith, append_assoc, length-set, length-append}
 use Rattle.std.proofs.Math.ListN.{replicate}
 use Rattle.std.specs.List.{flat_map, slice_get}
 use Rattle.std.proofs.lemmas.Bool.{cases_eq}
 use Rattle.std.proofs.lemmas.Grind.{flat_map-append}
-use Rattle.std.proofs.lemmas.List.{take-append-le, take_all, append-nil, take_more}
-use Rattle.std.proofs.lemmas.Option.{slice_get-get_or}
+use Rattle.std.proofs.lemmas.List.{take-append-le, take_all, append-nil, take_more, length-replicate}
+use Rattle.std.proofs.lemmas.Nat.{div-mul-add, mod-mul-add, mul-add-lt, mul-le}
 use Rattle.addressing.specs.Contact.{Contact, ChildEdge, inner, outer}
 use Rattle.addressing.specs.Search.{below, IsAmong}
 use Rattle.addressing.specs.Tables.{Tables, kind_tables, child_kind_of, contact_of, contacts_of, part_of, part_count}
@@ -15,30 +15,35 @@ use Rattle.addressing.proofs.Ranges.{among-append, among-flat_map, IsAmong-below
 use Rattle.addressing.proofs.Searches.{below-more}
 use Rattle.addressing.proofs.TableBounds.{type_bounds, contact_bounds}
 use Rattle.addressing.proofs.Mated.{IsMated, inner_mated, same_parts, across_part}
-use Rattle.transducer_core.specs.Once.{HasNoneTwice}
 use Rattle.pair_machine.specs.Nodes.{Node, RowPair, IsNode, IsOfChildren, first, further, both_of, row_of}
-use Rattle.pair_machine.specs.Numbers.{number_of}
-use Rattle.pair_machine.specs.Searching.{of_both, children_node, contact_node, child_nodes, kind_nodes, first_nodes, row_nodes, IsSmall, unseen, IsSeen, Covers}
+use Rattle.pair_machine.specs.Numbers.{width_of, mine_of, theirs_of, number_of, IsSmall}
+use Rattle.pair_machine.specs.Searching.{of_both, children_node, contact_node, child_nodes, kind_nodes, first_nodes, row_nodes, unseen, IsSeen, Covers}
 use Rattle.pair_machine.proofs.Leaving.{row-among, edge_there}
 use Rattle.pair_machine.proofs.Levels.{child_of}
-use Rattle.pair_machine.proofs.Places.{slice_get-set_same, slice_get-set_other, among-take_more}
+use Rattle.pair_machine.proofs.Places.{slice_get-set_same, slice_get-set_other, among-take_more, none_twice_more}
 
 -- ---- numbers tell nodes
-one_left : (k x y d e : ℕ) → d < 12 → e < 12 → x * 12 + d ≡ y * 12 + e → (x ≡ y) × (d ≡ e)
-one_left k x y d e hd he h = (omega (arith, hd, he, h), omega (arith, hd, he, h))
+one_left : (x y d e : ℕ) → d < 12 → e < 12 → x * 12 + d ≡ y * 12 + e → (x ≡ y) × (d ≡ e)
+one_left x y d e hd he h = (omega (arith, hd, he, h), omega (arith, hd, he, h))
 
-one_sixteen : (x y d e : ℕ) → d < 16 → e < 16 → x * 16 + d ≡ y * 16 + e → (x ≡ y) × (d ≡ e)
-one_sixteen x y d e hd he h = (omega (arith, hd, he, h), omega (arith, hd, he, h))
+pub one_each : (width a b c d : ℕ) → b < width → d < width → a * width + b ≡ c * width + d → (a ≡ c) × (b ≡ d)
+one_each width a b c d hb hd h = (
+  sym (div-mul-add a width b hb) ∙ ap (λ (n : ℕ). n / width) h ∙ div-mul-add c width d hd,
+  sym (mod-mul-add a width b hb) ∙ ap (λ (n : ℕ). n % width) h ∙ mod-mul-add c width d hd,
+)
 
 node-eq : (m n : Node) → m.kind ≡ n.kind → m.edge ≡ n.edge → m.other ≡ n.other → m.back ≡ n.back → m ≡ n
 node-eq m n k e o b = λ i. record { kind = k i; edge = e i; other = o i; back = b i }
 
-pub number_one : (bound : ℕ) (m n : Node) → IsSmall bound m → IsSmall bound n → number_of m ≡ number_of n → m ≡ n
-number_one bound m n h k same =
-    let a = one_left 0 ((m.kind * 12 + m.edge) * 16 + m.other) ((n.kind * 12 + n.edge) * 16 + n.other) m.back n.back h.back k.back same in
-    let b = one_sixteen (m.kind * 12 + m.edge) (n.kind * 12 + n.edge) m.other n.other h.other k.other a.0 in
-    let c = one_left 0 m.kind n.kind m.edge n.edge h.edge k.edge b.0 in
-    node-eq m n c.0 c.1 b.1 a.1
+pub number_one : (width : ℕ) (m n : Node) → IsSmall width m → IsSmall width n → number_of width m ≡ number_of width n → m ≡ n
+number_one width m n h k same =
+    let both = one_each width (mine_of m) (theirs_of m) (mine_of n) (theirs_of n) h.theirs k.theirs same in
+    let mine = one_left m.kind n.kind m.edge n.edge h.edge k.edge both.0 in
+    let theirs = one_left m.other n.other m.back n.back h.back k.back both.1 in
+    node-eq m n mine.0 mine.1 theirs.0 theirs.1
+
+pub number_within : (width : ℕ) (n : Node) → IsSmall width n → number_of width n < width * width
+number_within width n h = mul-add-lt (mine_of n) width (theirs_of n) width h.mine h.theirs
 
 -- ---- marks
 unseen_set : (bs : List Bool) (i : ℕ) → slice_get bs i ≡ Some false → suc (unseen (set bs i true)) ≡ unseen bs
@@ -48,15 +53,9 @@ unseen_set (false ∷ bs) zero h = refl
 unseen_set (true ∷ bs) (suc i) h = unseen_set bs i h
 unseen_set (false ∷ bs) (suc i) h = ap suc (unseen_set bs i h)
 
-distinct_more : (ns : List Node) (n : Node) → HasNoneTwice ns → (IsAmong n ns → ⊥) → HasNoneTwice (ns ++ n ∷ [])
-distinct_more [] n h new = (λ i. elim i [ ], tt)
-distinct_more (m ∷ ns) n h new = (
-  λ i. elim (among-append m ns (n ∷ []) i) [ inl j ↦ h.0 j | inr j ↦ elim j [ inl e ↦ new (inl (sym e)) | inr k ↦ elim k [ ] ] ],
-  distinct_more ns n h.1 (λ i. new (inr i)),
-)
-
-pub none_seen : (seen : List Bool) → unseen seen ≡ length seen → ((i : ℕ) → slice_get seen i ≡ Some true → ⊥) → IsSeen [] seen
-none_seen seen all unmarked = record {
+pub none_seen : (width : ℕ) (seen : List Bool) → length seen ≡ width * width → unseen seen ≡ length seen → ((i : ℕ) → slice_get seen i ≡ Some true → ⊥) → IsSeen width [] seen
+none_seen width seen size all unmarked = record {
+  size = size;
   small = λ n i. elim i [ ];
   marked = λ n i. elim i [ ];
   only = λ i h. elim (unmarked i h) [ ];
@@ -73,72 +72,73 @@ unmarked_none zero i h = cc
 unmarked_none (suc n) zero h = cc
 unmarked_none (suc n) (suc i) h = unmarked_none n i h
 
-pub none_seen_at : (seen : List Bool) (n : ℕ) → seen ≡ replicate n false → IsSeen [] seen
-none_seen_at seen n is = rw is (none_seen (replicate n false) (unseen_none n) (unmarked_none n))
-
--- the mark that is read
-pub mark_read : (seen : List Bool) (i j : ℕ) (value b : Bool) → i < length seen → j ≡ i → value ≡ get_or seen j value → value ≡ b → slice_get seen i ≡ Some b
-mark_read seen i j value b inside at read is = slice_get-get_or seen i value inside ∙ ap (λ (k : ℕ). Some (get_or seen k value)) (sym at) ∙ ap Some (sym read ∙ is)
+pub none_seen_at : (width : ℕ) (seen : List Bool) → seen ≡ replicate (width * width) false → IsSeen width [] seen
+none_seen_at width seen is = rw is (none_seen width (replicate (width * width) false) (length-replicate (width * width) false) (unseen_none (width * width)) (unmarked_none (width * width)))
 
 -- a node that is there already
-pub add_old : (list : List Node) (seen : List Bool) (n : Node) → IsSeen list seen → IsSmall (length seen) n → slice_get seen (number_of n) ≡ Some true → Covers list (length seen) list seen (n ∷ [])
-add_old list seen n h small marked =
-    let m = h.only (number_of n) marked in
-    let same = number_one (length seen) m.0 n (h.small m.0 m.1) small m.2 in
+pub add_old : (width : ℕ) (list : List Node) (seen : List Bool) (n : Node) → IsSeen width list seen → IsSmall width n → slice_get seen (number_of width n) ≡ Some true → Covers list width list seen (n ∷ [])
+add_old width list seen n h small marked =
+    let m = h.only (number_of width n) marked in
+    let same = number_one width m.0 n (h.small m.0 m.1) small m.2 in
     record {
       seen_now = h;
       rest = [];
       grown = sym (append-nil list);
       all = λ p i. elim i [ inl e ↦ subst (λ (q : Node). IsAmong q list) (same ∙ sym e) m.1 | inr j ↦ elim j [ ] ];
       only = λ p i. inl i;
-      size_kept = refl;
     }
 
 -- a new node
-pub add_new : (list : List Node) (seen : List Bool) (n : Node) → IsSeen list seen → IsSmall (length seen) n → slice_get seen (number_of n) ≡ Some false
-    → Covers list (length seen) (list ++ n ∷ []) (set seen (number_of n) true) (n ∷ [])
-add_new list seen n h small fresh = record {
+pub add_new : (width : ℕ) (list : List Node) (seen : List Bool) (n : Node) → IsSeen width list seen → IsSmall width n → slice_get seen (number_of width n) ≡ Some false
+    → Covers list width (list ++ n ∷ []) (set seen (number_of width n) true) (n ∷ [])
+add_new width list seen n h small fresh = record {
   seen_now = record {
-    small = λ m i. subst (λ (b : ℕ). IsSmall b m) (sym size) (elim (among-append m list (n ∷ []) i) [ inl j ↦ h.small m j | inr j ↦ elim j [ inl e ↦ subst (IsSmall (length seen)) (sym e) small | inr k ↦ elim k [ ] ] ]);
-    marked = λ m i. elim (cases_eq (number_of m) (number_of n)) [
-      | inl same ↦ ap (slice_get (set seen (number_of n) true)) same ∙ slice_get-set_same seen (number_of n) true small.number
-      | inr other ↦ slice_get-set_other seen (number_of n) (number_of m) true other ∙ (elim (among-append m list (n ∷ []) i) [ inl j ↦ h.marked m j | inr j ↦ elim j [ inl e ↦ elim (other (ap number_of e)) [ ] | inr k ↦ elim k [ ] ] ])
+    size = size ∙ h.size;
+    small = λ m i. elim (among-append m list (n ∷ []) i) [ inl j ↦ h.small m j | inr j ↦ elim j [ inl e ↦ subst (IsSmall width) (sym e) small | inr k ↦ elim k [ ] ] ];
+    marked = λ m i. elim (cases_eq (number_of width m) (number_of width n)) [
+      | inl same ↦ ap (slice_get (set seen (number_of width n) true)) same ∙ slice_get-set_same seen (number_of width n) true inside
+      | inr other ↦ slice_get-set_other seen (number_of width n) (number_of width m) true other ∙ (elim (among-append m list (n ∷ []) i) [ inl j ↦ h.marked m j | inr j ↦ elim j [ inl e ↦ elim (other (ap (number_of width) e)) [ ] | inr k ↦ elim k [ ] ] ])
     ];
-    only = λ i is. elim (cases_eq i (number_of n)) [
+    only = λ i is. elim (cases_eq i (number_of width n)) [
       | inl same ↦ (n, IsAmong-append_right n list (n ∷ []) (inl refl), sym same)
-      | inr other ↦ let m = h.only i (sym (slice_get-set_other seen (number_of n) i true other) ∙ is) in (m.0, IsAmong-append_left m.0 list (n ∷ []) m.1, m.2)
+      | inr other ↦ let m = h.only i (sym (slice_get-set_other seen (number_of width n) i true other) ∙ is) in (m.0, IsAmong-append_left m.0 list (n ∷ []) m.1, m.2)
     ];
-    distinct = distinct_more list n h.distinct (λ i. not_both (h.marked n i));
-    count = omega (arith, length-append list (n ∷ []), size, h.count, unseen_set seen (number_of n) fresh);
+    distinct = none_twice_more list n h.distinct (λ i. not_both (h.marked n i));
+    count = omega (arith, length-append list (n ∷ []), size, h.count, unseen_set seen (number_of width n) fresh);
   };
   rest = n ∷ [];
   grown = refl;
   all = λ m i. IsAmong-append_right m list (n ∷ []) i;
   only = λ m i. among-append m list (n ∷ []) i;
-  size_kept = size;
 }
   where
-    size : length (set seen (number_of n) true) ≡ length seen
-    size = length-set seen (number_of n) true
+    inside : number_of width n < length seen
+    inside = subst (λ (k : ℕ). number_of width n < k) (sym h.size) (number_within width n small)
 
-    not_both : slice_get seen (number_of n) ≡ Some true → ⊥
+    size : length (set seen (number_of width n) true) ≡ length seen
+    size = length-set seen (number_of width n) true
+
+    not_both : slice_get seen (number_of width n) ≡ Some true → ⊥
     not_both marked = let two : Some true ≡ Some false = sym marked ∙ fresh in cc
 
+-- the mark of a node is there
+pub mark_within : (width : ℕ) (list : List Node) (seen : List Bool) (n : Node) → IsSeen width list seen → IsSmall width n → number_of width n < length seen
+mark_within width list seen n h small = subst (λ (k : ℕ). number_of width n < k) (sym h.size) (number_within width n small)
+
 -- ---- one after the other
-pub covers_none : (list : List Node) (seen : List Bool) → IsSeen list seen → Covers list (length seen) list seen []
-covers_none list seen h = record {
+pub covers_none : (width : ℕ) (list : List Node) (seen : List Bool) → IsSeen width list seen → Covers list width list seen []
+covers_none width list seen h = record {
   seen_now = h;
   rest = [];
   grown = sym (append-nil list);
   all = λ n i. elim i [ ];
   only = λ n i. inl i;
-  size_kept = refl;
 }
 
 pub kept_in : {old new : List Node} {size : ℕ} {seen : List Bool} {cs : List Node} (n : Node) → Covers old size new seen cs → IsAmong n old → IsAmong n new
 kept_in {old} n h i = subst (IsAmong n) (sym h.grown) (IsAmong-append_left n old h.rest i)
 
-pub covers_more : (old mid new : List Node) (size : ℕ) (seen seen' : List Bool) (xs ys : List Node) → Covers old size mid seen xs → Covers mid (length seen) new seen' ys → Covers old size new seen' (xs ++ ys)
+pub covers_more : (old mid new : List Node) (size : ℕ) (seen seen' : List Bool) (xs ys : List Node) → Covers old size mid seen xs → Covers mid size new seen' ys → Covers old size new seen' (xs ++ ys)
 covers_more old mid new size seen seen' xs ys h k = record {
   seen_now = k.seen_now;
   rest = h.rest ++ k.rest;
@@ -148,7 +148,6 @@ covers_more old mid new size seen seen' xs ys h k = record {
     | inl j ↦ elim (h.only n j) [ inl a ↦ inl a | inr b ↦ inr (IsAmong-append_left n xs ys b) ]
     | inr j ↦ inr (IsAmong-append_right n xs ys j)
   ];
-  size_kept = k.size_kept ∙ h.size_kept;
 }
 
 pub covers_as : (old new : List Node) (size : ℕ) (seen : List Bool) (xs ys : List Node) → xs ≡ ys → Covers old size new seen xs → Covers old size new seen ys
@@ -264,18 +263,17 @@ node_mated t n coherent (further m pair node i of) =
     let mated : IsMated t n.kind pair.mine.edge n.other pair.theirs.edge = subst (λ (l : ℕ). IsMated t n.kind pair.mine.edge l pair.theirs.edge) kinds mated' in
     rw (of.edge, of.back) mated
 
-pub node_small : (t : Tables) (n : Node) (size : ℕ) → IsCoherent t → size ≡ length t.kinds * 2304 → IsNode t n → IsSmall size n
-node_small t n size coherent is node =
+pub node_small : (t : Tables) (n : Node) → IsCoherent t → IsNode t n → IsSmall (width_of t) n
+node_small t n coherent node =
     let m = node_mated t n coherent node in
     let mine = type_bounds t n.kind n.edge (rw m.own_is refl) in
     let theirs = type_bounds t n.other n.back (rw m.other_is refl) in
     let a = coherent.at_most_12_edges n.kind mine.0 in
     let b = coherent.at_most_12_edges n.other theirs.0 in
-    let few = coherent.at_most_16_kinds in
     record {
-      number = omega (arith, mine, theirs, a, b, few, is);
+      mine = omega (arith, mine, a);
       edge = omega (arith, mine, a);
-      other = omega (arith, theirs, few);
+      theirs = omega (arith, theirs, b);
       back = omega (arith, theirs, b);
     }
 
@@ -298,15 +296,15 @@ their_child t n r coherent i =
     let row = row-among t n r i in
     contact_child t n.other r.theirs.child r.theirs.edge coherent (rw ((coherent.outer_part n.other r.theirs.child r.theirs.edge n.back row.across).1 row.theirs) refl)
 
-pub small_first : (t : Tables) (size k a e b f ka kb : ℕ) → IsCoherent t → size ≡ length t.kinds * 2304 → contact_of t k a e ≡ Some (inner b f)
-    → child_kind_of t k a ≡ Some ka → child_kind_of t k b ≡ Some kb → IsSmall size (record { kind = ka; edge = e; other = kb; back = f })
-small_first t size k a e b f ka kb coherent is met mine theirs =
-    node_small t (record { kind = ka; edge = e; other = kb; back = f }) size coherent is (first k a e b f met (record { kind = mine; edge = refl; other = theirs; back = refl }))
+pub small_first : (t : Tables) (k a e b f ka kb : ℕ) → IsCoherent t → contact_of t k a e ≡ Some (inner b f)
+    → child_kind_of t k a ≡ Some ka → child_kind_of t k b ≡ Some kb → IsSmall (width_of t) (record { kind = ka; edge = e; other = kb; back = f })
+small_first t k a e b f ka kb coherent met mine theirs =
+    node_small t (record { kind = ka; edge = e; other = kb; back = f }) coherent (first k a e b f met (record { kind = mine; edge = refl; other = theirs; back = refl }))
 
-pub small_further : (t : Tables) (size : ℕ) (m : Node) (r : RowPair) (k l : ℕ) → IsCoherent t → size ≡ length t.kinds * 2304 → IsNode t m → IsAmong r (row_of t m)
-    → child_kind_of t m.kind r.mine.child ≡ Some k → child_kind_of t m.other r.theirs.child ≡ Some l → IsSmall size (record { kind = k; edge = r.mine.edge; other = l; back = r.theirs.edge })
-small_further t size m r k l coherent is node i mine theirs =
-    node_small t (record { kind = k; edge = r.mine.edge; other = l; back = r.theirs.edge }) size coherent is (further m r node i (record { kind = mine; edge = refl; other = theirs; back = refl }))
+pub small_further : (t : Tables) (m : Node) (r : RowPair) (k l : ℕ) → IsCoherent t → IsNode t m → IsAmong r (row_of t m)
+    → child_kind_of t m.kind r.mine.child ≡ Some k → child_kind_of t m.other r.theirs.child ≡ Some l → IsSmall (width_of t) (record { kind = k; edge = r.mine.edge; other = l; back = r.theirs.edge })
+small_further t m r k l coherent node i mine theirs =
+    node_small t (record { kind = k; edge = r.mine.edge; other = l; back = r.theirs.edge }) coherent (further m r node i (record { kind = mine; edge = refl; other = theirs; back = refl }))
 
 pub child_inner : (t : Tables) (k a n b f ka kb : ℕ) → contact_of t k a n ≡ Some (inner b f) → child_kind_of t k a ≡ Some ka → child_kind_of t k b ≡ Some kb
     → child_nodes t k a n ++ (record { kind = ka; edge = n; other = kb; back = f }) ∷ [] ≡ child_nodes t k a (n + 1)
@@ -361,8 +359,8 @@ pub covers_nodes : (t : Tables) (old new : List Node) (size : ℕ) (seen : List 
     → ((n : Node) → IsAmong n old → IsNode t n) → (n : Node) → IsAmong n new → IsNode t n
 covers_nodes t old new size seen cs h are before n i = elim (h.only n i) [ inl j ↦ before n j | inr j ↦ are n j ]
 
-pub seen_few : (list : List Node) (seen : List Bool) (kinds : ℕ) → IsSeen list seen → length seen ≡ kinds * 2304 → kinds ≤ 16 → length list ≤ 36864
-seen_few list seen kinds h size few = omega (arith, h.count, size, few)
+pub seen_few : (width : ℕ) (list : List Node) (seen : List Bool) → IsSeen width list seen → width ≤ 192 → length list ≤ 36864
+seen_few width list seen h few = omega (arith, h.count, h.size, mul-le width width 192 192 few few)
 
 -- at the end each node is there
 pub all_found : (t : Tables) (list : List Node) (next : ℕ) → IsCoherent t → length list ≤ next → ((n : Node) → IsAmong n (first_nodes t (length t.kinds)) → IsAmong n list)

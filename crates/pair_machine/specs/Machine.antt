@@ -6,12 +6,12 @@ use Rattle.addressing.specs.Tables.{Tables}
 use Rattle.transducer_core.specs.Once.{HasNoneTwice}
 use Rattle.pair_machine.specs.Itself.{SomeMeetsItself}
 use Rattle.pair_machine.specs.Nodes.{Node, RowPair, IsNode, IsRow, row_of}
-use Rattle.pair_machine.specs.Numbers.{number_of}
+use Rattle.pair_machine.specs.Numbers.{width_of, number_of}
 
 -- the row of a node is found by its number
-pub record IsFound (numbers : List ℕ) (rows : List (List RowPair)) (n : Node) (row : List RowPair) : Type 0 where
+pub record IsFound (width : ℕ) (numbers : List ℕ) (rows : List (List RowPair)) (n : Node) (row : List RowPair) : Type 0 where
   pub place : ℕ
-  pub numbered : slice_get numbers (number_of n) ≡ Some place
+  pub numbered : slice_get numbers (number_of width n) ≡ Some place
   pub there : slice_get rows place ≡ Some row
 
 -- whether some child meets itself; all nodes and all rows, each once, and each row by the number of its node
@@ -24,7 +24,7 @@ pub record IsMachine (t : Tables) (itself : Bool) (nodes : List Node) (numbers :
   pub rows_once : HasNoneTwice rows
   pub rows_all : (row : List RowPair) → IsAmong row rows ↔ IsRow t row
   pub rows_few : length rows ≤ length nodes
-  pub found : (n : Node) → IsNode t n → IsFound numbers rows n (row_of t n)
+  pub found : (n : Node) → IsNode t n → IsFound (width_of t) numbers rows n (row_of t n)
 
 -- the row stands at that place in the rows, each of which stands there once, and at most it joined them
 pub record IsKeptOnce (old new : List (List RowPair)) (row : List RowPair) (place : ℕ) : Type 0 where

@@ -1,12 +1,12 @@
 -- The search for all nodes.
-use Rattle.std.specs.Prelude.{◌≡◌, ◌<◌, ◌⊎◌, ◌+◌, ℕ, suc, Bool, true, false, List, [], ◌∷◌, ◌++◌, length, Option, Some, None, slice_get}
+use Rattle.std.specs.Prelude.{◌≡◌, ◌⊎◌, ◌+◌, ◌*◌, ℕ, suc, Bool, true, false, List, [], ◌∷◌, ◌++◌, length, Option, Some, None, slice_get}
 use Rattle.std.specs.List.{flat_map}
 use Rattle.addressing.specs.Contact.{Contact, ChildEdge, inner, outer}
 use Rattle.addressing.specs.Search.{below, IsAmong}
 use Rattle.addressing.specs.Tables.{Tables, kind_tables, child_kind_of, contact_of, contacts_of}
 use Rattle.transducer_core.specs.Once.{HasNoneTwice}
 use Rattle.pair_machine.specs.Nodes.{Node, RowPair}
-use Rattle.pair_machine.specs.Numbers.{number_of}
+use Rattle.pair_machine.specs.Numbers.{number_of, IsSmall}
 
 -- the node of two kinds that there are
 abbrev pub of_both : Option ℕ → ℕ → Option ℕ → ℕ → List Node
@@ -38,13 +38,6 @@ first_nodes t n = flat_map (λ k. kind_nodes t k (length (kind_tables t k).child
 unfoldable pub row_nodes : Tables → Node → List RowPair → List Node
 row_nodes t n row = flat_map (λ (r : RowPair). children_node t n.kind r.mine n.other r.theirs) row
 
--- a node has a number below a bound, which tells it
-pub record IsSmall (bound : ℕ) (n : Node) : Type 0 where
-  pub number : number_of n < bound
-  pub edge : n.edge < 12
-  pub other : n.other < 16
-  pub back : n.back < 12
-
 -- how many are false
 abbrev pub unseen : List Bool → ℕ
 unseen [] = 0
@@ -52,18 +45,18 @@ unseen (true ∷ bs) = unseen bs
 unseen (false ∷ bs) = suc (unseen bs)
 
 -- nodes, each once, and their numbers marked
-pub record IsSeen (list : List Node) (seen : List Bool) : Type 0 where
-  pub small : (n : Node) → IsAmong n list → IsSmall (length seen) n
-  pub marked : (n : Node) → IsAmong n list → slice_get seen (number_of n) ≡ Some true
-  pub only : (i : ℕ) → slice_get seen i ≡ Some true → (n : Node) × IsAmong n list × (number_of n ≡ i)
+pub record IsSeen (width : ℕ) (list : List Node) (seen : List Bool) : Type 0 where
+  pub size : length seen ≡ width * width
+  pub small : (n : Node) → IsAmong n list → IsSmall width n
+  pub marked : (n : Node) → IsAmong n list → slice_get seen (number_of width n) ≡ Some true
+  pub only : (i : ℕ) → slice_get seen i ≡ Some true → (n : Node) × IsAmong n list × (number_of width n ≡ i)
   pub distinct : HasNoneTwice list
   pub count : length list + unseen seen ≡ length seen
 
 -- these candidates, and no others, joined the nodes that there were
-pub record Covers (old : List Node) (size : ℕ) (new : List Node) (seen : List Bool) (candidates : List Node) : Type 0 where
-  pub seen_now : IsSeen new seen
+pub record Covers (old : List Node) (width : ℕ) (new : List Node) (seen : List Bool) (candidates : List Node) : Type 0 where
+  pub seen_now : IsSeen width new seen
   pub rest : List Node
   pub grown : new ≡ old ++ rest
   pub all : (n : Node) → IsAmong n candidates → IsAmong n new
   pub only : (n : Node) → IsAmong n new → IsAmong n old ⊎ IsAmong n candidates
-  pub size_kept : length seen ≡ size

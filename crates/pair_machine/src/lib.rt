@@ -3,6 +3,7 @@
 //! `PairMachine::decide` promises all pairs of edges that touch, in the order of the first tile's edges.
 #![tactic(auto)]
 
+mod alike;
 mod compare;
 pub mod edge_pair;
 mod itself;

@@ -14,11 +14,11 @@ ghost use Rattle.pair_machine.specs.Views.{as_node, as_row_pair};
 
 use crate::compare::{also, are_same, have_common, parting};
 use crate::itself::some_meets_itself;
-use crate::node::Node;
+use crate::node::{Node, width};
 use crate::nodes::nodes_of;
 use crate::partners::Partners;
-use crate::row::{RowPair, row_of};
-use crate::rows::keep;
+use crate::row::RowPair;
+use crate::rows::Rows;
 use crate::verdict::Verdict;
 use edge_tables::tables::Tables;
 use std::alloc::Global;
@@ -59,19 +59,18 @@ impl PairMachine {
     {
         let meets_itself = some_meets_itself(tables);
         let nodes = nodes_of(alloc, tables)?;
-        let mut numbers = vec![in alloc; 0u16; tables.kinds() as usize * 2304]?;
-        let mut rows = Vec::new(alloc);
+        let width = width(tables);
+        let mut numbers = vec![in alloc; 0u16; width * width]?;
+        let mut rows = Rows::new(alloc, tables)?;
         for node in &nodes {
-            let row = row_of(alloc, tables, *node)?;
-            let place = keep(&mut rows, row)?;
-            numbers[node.number()] = place as u16;
+            numbers[node.number(width)] = rows.number_of(alloc, tables, *node)?;
         }
         Ok(PairMachine {
             tables: tables.copy(alloc)?,
             meets_itself,
             nodes,
             numbers,
-            rows,
+            rows: rows.list,
         })
     }
 
@@ -96,7 +95,7 @@ impl PairMachine {
         ensures row { map as_row_pair result.now.items ≡ the_row_of self.now (as_node node) }
         ensures coherent { IsCoherent self.now }
     {
-        &self.rows[self.numbers[node.number()] as usize]
+        &self.rows[usize::from(self.numbers[node.number(width(&self.tables))])]
     }
 
     /// The level from which digits are read: what is coarser is the same in both, and leaves no pair.

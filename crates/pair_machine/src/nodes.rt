@@ -6,11 +6,12 @@ ghost use Rattle.addressing.specs.Search.{IsAmong};
 ghost use Rattle.addressing.specs.Tables.{kind_tables, child_kind_of, contacts_of};
 ghost use Rattle.transducer_core.specs.Once.{HasNoneTwice};
 ghost use Rattle.pair_machine.specs.Nodes.{Node as TheNode, IsNode, row_of as the_row_of};
-ghost use Rattle.pair_machine.specs.Searching.{IsSmall, IsSeen, Covers, child_nodes, kind_nodes, first_nodes, row_nodes, children_node};
+ghost use Rattle.pair_machine.specs.Numbers.{width_of, IsSmall};
+ghost use Rattle.pair_machine.specs.Searching.{IsSeen, Covers, child_nodes, kind_nodes, first_nodes, row_nodes, children_node};
 ghost use Rattle.pair_machine.specs.Views.{as_node, as_row_pair};
 
 use crate::looks::contact;
-use crate::node::Node;
+use crate::node::{Node, width};
 use crate::row::{RowPair, row_of};
 use edge_tables::contact::Contact;
 use edge_tables::tables::Tables;
@@ -26,13 +27,12 @@ struct Found {
 
 impl Found {
     /// No node yet.
-    fn new(alloc: Global, kinds: u8) -> Result<Found, NoMemory>
-        requires { kinds ≤ 16 }
+    fn new(alloc: Global, width: usize) -> Result<Found, NoMemory>
+        requires { width ≤ 192 }
         ensures empty { IfOk result (λ found. found.list.items ≡ []) }
-        ensures seen { IfOk result (λ found. IsSeen [] found.seen.items) }
-        ensures size { IfOk result (λ found. length found.seen.items ≡ kinds * 2304) }
+        ensures seen { IfOk result (λ found. IsSeen width [] found.seen.items) }
     {
-        let seen = vec![in alloc; false; kinds as usize * 2304]?;
+        let seen = vec![in alloc; false; width * width]?;
         Ok(Found {
             list: Vec::new(alloc),
             seen,
@@ -40,12 +40,13 @@ impl Found {
     }
 
     /// One node more, where it is new.
-    fn add(&mut self, node: Node) -> Result<(), NoMemory>
-        requires seen { IsSeen (map as_node self.old.list.items) self.old.seen.items }
-        requires small { IsSmall (length self.old.seen.items) (as_node node) }
-        ensures { IfOk result (λ u. Covers (map as_node self.old.list.items) (length self.old.seen.items) (map as_node self.new.list.items) self.new.seen.items (as_node node ∷ [])) }
+    fn add(&mut self, width: usize, node: Node) -> Result<(), NoMemory>
+        requires width { width ≤ 192 }
+        requires seen { IsSeen width (map as_node self.old.list.items) self.old.seen.items }
+        requires small { IsSmall width (as_node node) }
+        ensures { IfOk result (λ u. Covers (map as_node self.old.list.items) width (map as_node self.new.list.items) self.new.seen.items (as_node node ∷ [])) }
     {
-        let number = node.number();
+        let number = node.number(width);
         if !self.seen[number] {
             self.list.push(node)?;
             self.seen[number] = true;
@@ -57,10 +58,10 @@ impl Found {
     fn add_child(&mut self, tables: &Tables, parent: u8, child: u8) -> Result<(), NoMemory>
         requires coherent { IsCoherent tables.now }
         requires child { IsSome (child_kind_of tables.now parent child) }
-        requires seen { IsSeen (map as_node self.old.list.items) self.old.seen.items }
-        requires size { length self.old.seen.items ≡ length tables.now.kinds * 2304 }
-        ensures { IfOk result (λ u. Covers (map as_node self.old.list.items) (length self.old.seen.items) (map as_node self.new.list.items) self.new.seen.items (child_nodes tables.now parent child (length (contacts_of tables.now parent child)))) }
+        requires seen { IsSeen (width_of tables.now) (map as_node self.old.list.items) self.old.seen.items }
+        ensures { IfOk result (λ u. Covers (map as_node self.old.list.items) (width_of tables.now) (map as_node self.new.list.items) self.new.seen.items (child_nodes tables.now parent child (length (contacts_of tables.now parent child)))) }
     {
+        let width = width(tables);
         let kind = tables.child_kind(parent, child);
         for edge in 0..tables.edges(kind) {
             match contact(tables, parent, child, edge) {
@@ -69,12 +70,15 @@ impl Found {
                     edge: back,
                 } => {
                     let other = tables.child_kind(parent, there);
-                    self.add(Node {
-                        kind,
-                        edge,
-                        other,
-                        back,
-                    })?;
+                    self.add(
+                        width,
+                        Node {
+                            kind,
+                            edge,
+                            other,
+                            back,
+                        },
+                    )?;
                 }
                 Contact::Outer { edge: _, part: _ } => {}
             }
@@ -85,10 +89,9 @@ impl Found {
     /// The nodes of the inner contacts of a kind's children.
     fn add_kind(&mut self, tables: &Tables, parent: u8) -> Result<(), NoMemory>
         requires coherent { IsCoherent tables.now }
-        requires seen { IsSeen (map as_node self.old.list.items) self.old.seen.items }
-        requires size { length self.old.seen.items ≡ length tables.now.kinds * 2304 }
+        requires seen { IsSeen (width_of tables.now) (map as_node self.old.list.items) self.old.seen.items }
         requires kind { parent < length tables.now.kinds }
-        ensures { IfOk result (λ u. Covers (map as_node self.old.list.items) (length self.old.seen.items) (map as_node self.new.list.items) self.new.seen.items (kind_nodes tables.now parent (length (kind_tables tables.now parent).children))) }
+        ensures { IfOk result (λ u. Covers (map as_node self.old.list.items) (width_of tables.now) (map as_node self.new.list.items) self.new.seen.items (kind_nodes tables.now parent (length (kind_tables tables.now parent).children))) }
     {
         for child in 0..tables.children(parent) {
             self.add_child(tables, parent, child)?;
@@ -99,9 +102,8 @@ impl Found {
     /// The nodes of all inner contacts.
     fn add_first(&mut self, tables: &Tables) -> Result<(), NoMemory>
         requires coherent { IsCoherent tables.now }
-        requires seen { IsSeen (map as_node self.old.list.items) self.old.seen.items }
-        requires size { length self.old.seen.items ≡ length tables.now.kinds * 2304 }
-        ensures { IfOk result (λ u. Covers (map as_node self.old.list.items) (length self.old.seen.items) (map as_node self.new.list.items) self.new.seen.items (first_nodes tables.now (length tables.now.kinds))) }
+        requires seen { IsSeen (width_of tables.now) (map as_node self.old.list.items) self.old.seen.items }
+        ensures { IfOk result (λ u. Covers (map as_node self.old.list.items) (width_of tables.now) (map as_node self.new.list.items) self.new.seen.items (first_nodes tables.now (length tables.now.kinds))) }
     {
         for parent in 0..tables.kinds() {
             self.add_kind(tables, parent)?;
@@ -114,18 +116,20 @@ impl Found {
         requires coherent { IsCoherent tables.now }
         requires node { IsNode tables.now (as_node node) }
         requires pair { IsAmong (as_row_pair pair) (the_row_of tables.now (as_node node)) }
-        requires seen { IsSeen (map as_node self.old.list.items) self.old.seen.items }
-        requires size { length self.old.seen.items ≡ length tables.now.kinds * 2304 }
-        ensures { IfOk result (λ u. Covers (map as_node self.old.list.items) (length self.old.seen.items) (map as_node self.new.list.items) self.new.seen.items (children_node tables.now node.kind (as_child_edge pair.mine) node.other (as_child_edge pair.theirs))) }
+        requires seen { IsSeen (width_of tables.now) (map as_node self.old.list.items) self.old.seen.items }
+        ensures { IfOk result (λ u. Covers (map as_node self.old.list.items) (width_of tables.now) (map as_node self.new.list.items) self.new.seen.items (children_node tables.now node.kind (as_child_edge pair.mine) node.other (as_child_edge pair.theirs))) }
     {
         let kind = tables.child_kind(node.kind, pair.mine.child);
         let other = tables.child_kind(node.other, pair.theirs.child);
-        self.add(Node {
-            kind,
-            edge: pair.mine.edge,
-            other,
-            back: pair.theirs.edge,
-        })
+        self.add(
+            width(tables),
+            Node {
+                kind,
+                edge: pair.mine.edge,
+                other,
+                back: pair.theirs.edge,
+            },
+        )
     }
 
     /// The nodes of the pairs in a node's row.
@@ -133,9 +137,8 @@ impl Found {
         requires coherent { IsCoherent tables.now }
         requires node { IsNode tables.now (as_node node) }
         requires row { map as_row_pair row.now ≡ the_row_of tables.now (as_node node) }
-        requires seen { IsSeen (map as_node self.old.list.items) self.old.seen.items }
-        requires size { length self.old.seen.items ≡ length tables.now.kinds * 2304 }
-        ensures { IfOk result (λ u. Covers (map as_node self.old.list.items) (length self.old.seen.items) (map as_node self.new.list.items) self.new.seen.items (row_nodes tables.now (as_node node) (the_row_of tables.now (as_node node)))) }
+        requires seen { IsSeen (width_of tables.now) (map as_node self.old.list.items) self.old.seen.items }
+        ensures { IfOk result (λ u. Covers (map as_node self.old.list.items) (width_of tables.now) (map as_node self.new.list.items) self.new.seen.items (row_nodes tables.now (as_node node) (the_row_of tables.now (as_node node)))) }
     {
         for pair in row {
             self.add_pair(tables, node, *pair)?;
@@ -150,7 +153,7 @@ pub(crate) fn nodes_of(alloc: Global, tables: &Tables) -> Result<Vec<Node>, NoMe
     ensures all { IfOk result (λ nodes. (n : TheNode) → IsAmong n (map as_node nodes.items) ↔ IsNode tables.now n) }
     ensures few { IfOk result (λ nodes. length nodes.items ≤ 36864) }
 {
-    let mut found = Found::new(alloc, tables.kinds())?;
+    let mut found = Found::new(alloc, width(tables))?;
     found.add_first(tables)?;
     let mut next = 0;
     while next < found.list.len() {

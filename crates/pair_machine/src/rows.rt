@@ -1,43 +1,75 @@
 //! Rows, equal ones kept once.
-ghost use Rattle.std.specs.Prelude.{◌≡◌, ◌↔◌, ◌≤◌, ◌+◌, ◌<◌, ℕ, List, ◌++◌, ◌∷◌, [], length, map, Some, IsTrue, IfOk, slice_get};
-ghost use Rattle.transducer_core.specs.Once.{HasNoneTwice};
-ghost use Rattle.pair_machine.specs.Views.{as_row_pair};
+ghost use Rattle.std.specs.Prelude.{◌≡◌, ◌<◌, ◌≤◌, List, [], length, map, get_or, IfOk};
+ghost use Rattle.addressing.specs.Coherent.{IsCoherent};
+ghost use Rattle.pair_machine.specs.Alike.{key_of};
+ghost use Rattle.pair_machine.specs.Indexed.{IsIndexed};
 ghost use Rattle.pair_machine.specs.Machine.{IsKeptOnce};
+ghost use Rattle.pair_machine.specs.Nodes.{IsNode, RowPair as TheRowPair, row_of as the_row_of};
+ghost use Rattle.pair_machine.specs.Numbers.{width_of, mine_of, theirs_of};
+ghost use Rattle.pair_machine.specs.Views.{as_node, as_row_pair};
 
-use crate::row::RowPair;
+use crate::alike::firsts_alike;
+use crate::node::{Node, width};
+use crate::row::{RowPair, row_of};
+use edge_tables::tables::Tables;
+use std::alloc::Global;
 use tile_shape::no_memory::NoMemory;
 
-/// Whether two rows are equal.
-fn are_equal(a: &[RowPair], b: &[RowPair]) -> bool
-    ensures { IsTrue result ↔ (map as_row_pair a.now ≡ map as_row_pair b.now) }
-{
-    a == b
+/// Rows, each once, and an index of them: a node's row is told by the first edges that are alike to its two edges.
+#[derive(Drop)]
+pub(crate) struct Rows {
+    pub(crate) list: Vec<Vec<RowPair>>,
+    places: Vec<Option<u16>>,
+    firsts: Vec<u8>,
 }
 
-/// The number of a row among others, or how many these are.
-fn place_of(rows: &Vec<Vec<RowPair>>, row: &Vec<RowPair>) -> usize
-    ensures within { result ≤ length rows.now.items }
-    ensures found { result < length rows.now.items → slice_get (map (λ r. map as_row_pair r.items) rows.now.items) result ≡ Some (map as_row_pair row.now.items) }
-    ensures new { result ≡ length rows.now.items → (k : ℕ) → slice_get (map (λ r. map as_row_pair r.items) rows.now.items) k ≡ Some (map as_row_pair row.now.items) → ⊥ }
-{
-    let mut place = 0;
-    while place < rows.len() {
-        if are_equal(&rows[place], row) {
-            return place;
+impl Rows {
+    /// No row yet.
+    pub(crate) fn new(alloc: Global, tables: &Tables) -> Result<Rows, NoMemory>
+        ensures empty { IfOk result (λ rows. rows.list.items ≡ []) }
+        ensures indexed { IfOk result (λ rows. IsIndexed tables.now rows.firsts.items rows.places.items []) }
+    {
+        let width = width(tables);
+        Ok(Rows {
+            list: Vec::new(alloc),
+            places: vec![in alloc; None; width * width]?,
+            firsts: firsts_alike(alloc, tables)?,
+        })
+    }
+
+    /// The key of a node.
+    fn key(&self, width: usize, node: Node) -> usize
+        requires few { width ≤ 192 }
+        requires mine { mine_of (as_node node) < length self.now.firsts.items }
+        requires theirs { theirs_of (as_node node) < length self.now.firsts.items }
+        ensures { result ≡ key_of width self.now.firsts.items (as_node node) }
+    {
+        let mine = self.firsts[node.mine()];
+        let theirs = self.firsts[node.theirs()];
+        usize::from(mine) * width + usize::from(theirs)
+    }
+
+    /// The number of a node's row, which is kept if no equal one is.
+    pub(crate) fn number_of(
+        &mut self,
+        alloc: Global,
+        tables: &Tables,
+        node: Node,
+    ) -> Result<u16, NoMemory>
+        requires coherent { IsCoherent tables.now }
+        requires node { IsNode tables.now (as_node node) }
+        requires few { length self.old.list.items < 36864 }
+        requires indexed { IsIndexed tables.now self.old.firsts.items self.old.places.items (map (λ r. map as_row_pair r.items) self.old.list.items) }
+        ensures indexed { IfOk result (λ place. IsIndexed tables.now self.new.firsts.items self.new.places.items (map (λ r. map as_row_pair r.items) self.new.list.items)) }
+        ensures kept { IfOk result (λ place. IsKeptOnce (map (λ r. map as_row_pair r.items) self.old.list.items) (map (λ r. map as_row_pair r.items) self.new.list.items) (the_row_of tables.now (as_node node)) place) }
+    {
+        let key = self.key(width(tables), node);
+        if let Some(place) = self.places[key] {
+            return Ok(place);
         }
-        place += 1;
+        let place = self.list.len() as u16;
+        self.list.push(row_of(alloc, tables, node)?)?;
+        self.places[key] = Some(place);
+        Ok(place)
     }
-    place
-}
-
-/// Keeps a row, where it is new. The answer is its number.
-pub(crate) fn keep(rows: &mut Vec<Vec<RowPair>>, row: Vec<RowPair>) -> Result<usize, NoMemory>
-    requires once { HasNoneTwice (map (λ r. map as_row_pair r.items) rows.old.items) }
-    ensures { IfOk result (λ place. IsKeptOnce (map (λ r. map as_row_pair r.items) rows.old.items) (map (λ r. map as_row_pair r.items) rows.new.items) (map as_row_pair row.items) place) }
-{
-    let place = place_of(rows, &row);
-    if place == rows.len() {
-        rows.push(row)?;
-    }
-    Ok(place)
 }

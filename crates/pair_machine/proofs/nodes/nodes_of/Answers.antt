@@ -1,4 +1,4 @@
-use Rattle.std.proofs.Common.{◌≡◌, ◌∙◌, ◌<◌, ◌*◌, ℕ, map, length, ap, sym, arith, get_or, []}
+use Rattle.std.proofs.Common.{◌≡◌, ◌∙◌, ◌<◌, map, length, ap, sym, arith, get_or, []}
 use Rattle.std.proofs.Math.ListN.{get_or-map}
 use Rattle.std.proofs.lemmas.List.{length-map}
 use Rattle.addressing.specs.Search.{IsAmong}
@@ -14,7 +14,6 @@ loop-next-init c =
     record {
       within = omega arith;
       seen = covers.seen_now;
-      size = covers.size_kept ∙ c.in_ok-found.ensures.size ∙ ap (λ (n : ℕ). n * 2304) c.kinds.ensures.count;
       nodes = covers_nodes c.args.tables.now (map as_node c.in_ok-found.found.list.items) (map as_node c.add_first.new.self.list.items) _ _ _ covers
           (λ n i. first-node c.args.tables.now (length c.args.tables.now.kinds) n i)
           (λ n i. let j : IsAmong n [] = rw c.in_ok-found.ensures.empty at i in elim j [ ]);
@@ -49,7 +48,6 @@ loop-next-preserved c =
     record {
       within = omega (arith, longer, lt, length-map c.loop-next.found.list.items as_node, length-map c.add_row.new.self.list.items as_node);
       seen = covers.seen_now;
-      size = covers.size_kept ∙ c.loop-next.invariant.size;
       nodes = covers_nodes c.args.tables.now (map as_node c.loop-next.found.list.items) (map as_node c.add_row.new.self.list.items) _ _ _ covers
           (λ n j. row-node c.args.tables.now (as_node c.index-node.result.now) n node j) c.loop-next.invariant.nodes;
       firsts = λ n j. kept_in n covers (c.loop-next.invariant.firsts n j);
@@ -60,5 +58,5 @@ loop-next-preserved c =
 pub returns-clause-all : goal.returns-clause-all
 returns-clause-all c = λ n. (
   c.loop-next.invariant.nodes n,
-  all_found c.args.tables.now (map as_node c.loop-next.found.list.items) c.loop-next.next c.kinds.ensures.coherent (omega (arith, c.len.ensures, length-map c.loop-next.found.list.items as_node)) c.loop-next.invariant.firsts c.loop-next.invariant.rows n,
+  all_found c.args.tables.now (map as_node c.loop-next.found.list.items) c.loop-next.next c.width.ensures.coherent (omega (arith, c.len.ensures, length-map c.loop-next.found.list.items as_node)) c.loop-next.invariant.firsts c.loop-next.invariant.rows n,
 )
