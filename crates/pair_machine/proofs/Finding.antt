@@ -204,10 +204,13 @@ children-among t k x l y n i =
 pub among-children : (t : Tables) (k : ℕ) (x : ChildEdge) (l : ℕ) (y : ChildEdge) (n : Node) → IsOfChildren t k x l y n → IsAmong n (children_node t k x l y)
 among-children t k x l y n h = rw (h.kind, h.other) (inl (λ i. record { kind = n.kind; edge = h.edge i; other = n.other; back = h.back i }))
 
-contact-among : (t : Tables) (k a e : ℕ) (o : Option Contact) (n : Node) → contact_of t k a e ≡ o → IsAmong n (contact_node t k a e o) → IsNode t n
-contact-among t k a e None n is i = elim i [ ]
-contact-among t k a e (Some (inner b f)) n is i = first k a e b f is (children-among t k (record { child = a; edge = e }) k (record { child = b; edge = f }) n i)
-contact-among t k a e (Some (outer f p)) n is i = elim i [ ]
+contact-among : (t : Tables) (k a e : ℕ) (n : Node) → IsAmong n (contact_node t k a e (contact_of t k a e)) → IsNode t n
+contact-among t k a e n i = by_case (contact_of t k a e) refl i
+  where
+    by_case : (o : Option Contact) → contact_of t k a e ≡ o → IsAmong n (contact_node t k a e o) → IsNode t n
+    by_case None is i = elim i [ ]
+    by_case (Some (inner b f)) is i = first k a e b f is (children-among t k (record { child = a; edge = e }) k (record { child = b; edge = f }) n i)
+    by_case (Some (outer f p)) is i = elim i [ ]
 
 pub first-node : (t : Tables) (size : ℕ) (n : Node) → IsAmong n (first_nodes t size) → IsNode t n
 unfolding first_nodes kind_nodes child_nodes
@@ -215,7 +218,7 @@ first-node t size n i =
     let a = among-flat_map (λ k. kind_nodes t k (length (kind_tables t k).children)) n (below (λ k. k) size) i in
     let b = among-flat_map (λ c. child_nodes t a.piece c (length (contacts_of t a.piece c))) n (below (λ c. c) (length (kind_tables t a.piece).children)) a.inside in
     let c = among-flat_map (λ e. contact_node t a.piece b.piece e (contact_of t a.piece b.piece e)) n (below (λ e. e) (length (contacts_of t a.piece b.piece))) b.inside in
-    contact-among t a.piece b.piece c.piece (contact_of t a.piece b.piece c.piece) n refl c.inside
+    contact-among t a.piece b.piece c.piece n c.inside
 
 pub node-first : (t : Tables) (n : Node) (k a e b f : ℕ) → IsCoherent t → contact_of t k a e ≡ Some (inner b f) → IsOfChildren t k (record { child = a; edge = e }) k (record { child = b; edge = f }) n
     → IsAmong n (first_nodes t (length t.kinds))

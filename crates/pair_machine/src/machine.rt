@@ -85,6 +85,7 @@ impl PairMachine {
     /// How many rows there are, equal ones counted once.
     pub fn rows(&self) -> u32
         ensures number { IsNumber (IsRow self.now) result }
+        ensures at_most_36864 { result ≤ 36864 }
     {
         self.rows.len() as u32
     }

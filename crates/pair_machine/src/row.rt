@@ -12,7 +12,7 @@ use std::alloc::Global;
 use tile_shape::no_memory::NoMemory;
 
 /// A child edge on the one side, and the child edge on the other side that is the same.
-#[derive(Clone, Copy, Debug, PartialEq, Eq)]
+#[derive(Clone, Copy)]
 pub(crate) struct RowPair {
     pub(crate) mine: ChildEdge,
     pub(crate) theirs: ChildEdge,
