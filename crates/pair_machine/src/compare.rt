@@ -18,10 +18,10 @@ pub(crate) fn have_common(a: &Address, b: &Address) -> bool
 }
 
 /// Whether two addresses are the same.
-pub(crate) fn are_same(a: &Address, b: &Address) -> bool
-    ensures { IsTrue result ↔ (address_of a.now ≡ address_of b.now) }
+pub(crate) fn are_same(addr: &Address, other: &Address) -> bool
+    ensures { IsTrue result ↔ (address_of addr.now ≡ address_of other.now) }
 {
-    a == b
+    addr == other
 }
 
 /// Whether two digits are the same.

@@ -191,11 +191,9 @@ impl PairMachine {
         let _coherent = self.tables.kinds();
         let partners = self.read(a, b);
         if partners.are_none() {
-            Verdict::Apart
-        } else {
-            Verdict::Beside {
-                pairs: partners.into_pairs(),
-            }
+            return Verdict::Apart;
         }
+        let pairs = partners.into_pairs();
+        Verdict::Beside { pairs }
     }
 }

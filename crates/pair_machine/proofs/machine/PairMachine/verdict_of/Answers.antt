@@ -17,13 +17,13 @@ returns-then-are_none c =
       subst (IsBetween c.args.self.now (address_of c.args.a.now) (address_of c.args.b.now)) none between,
     )
 
-pub returns-else-are_none : goal.returns-else-are_none
-returns-else-are_none c =
+pub returns : goal.returns
+returns c =
     let coherent : IsCoherent c.args.self.now = rw (← c.self.view_is) c.self.invariant.coherent in
     let between : IsBetween c.args.self.now (address_of c.args.a.now) (address_of c.args.b.now) c.read-partners.result =
-    between_of c.args.self.now (address_of c.args.a.now) (address_of c.args.b.now) c.read-partners.result coherent c.requires.fits_a c.requires.fits_b c.into_pairs.ensures.in_order c.read-partners.ensures in (
+    between_of c.args.self.now (address_of c.args.a.now) (address_of c.args.b.now) c.read-partners.result coherent c.requires.fits_a c.requires.fits_b c.into_pairs-pairs.ensures.in_order c.read-partners.ensures in (
       c.have_common.ensures.0 c.if-not-have_common.false,
       λ same. let yes = c.are_same.ensures.1 same in absurd cc,
-      subst (IsBetween c.args.self.now (address_of c.args.a.now) (address_of c.args.b.now)) (sym c.into_pairs.ensures.pairs) between,
-      λ none. let yes = c.are_none.ensures.1 (sym c.into_pairs.ensures.pairs ∙ ap (map as_pair) none) in absurd cc,
+      subst (IsBetween c.args.self.now (address_of c.args.a.now) (address_of c.args.b.now)) (sym c.into_pairs-pairs.ensures.pairs) between,
+      λ none. let yes = c.are_none.ensures.1 (sym c.into_pairs-pairs.ensures.pairs ∙ ap (map as_pair) none) in absurd cc,
     )
