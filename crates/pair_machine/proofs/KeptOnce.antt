@@ -18,7 +18,8 @@ use Rattle.pair_machine.specs.Numbers.{width_of, number_of, IsSmall}
 use Rattle.pair_machine.specs.Machine.{IsFound, IsMachine, IsKeptOnce}
 use Rattle.pair_machine.proofs.Places.{slice_get-set_same, slice_get-set_other, among-take, among-take_more, none_twice_more}
 use Rattle.pair_machine.proofs.RowKeys.{key_within, key-row, row-key}
-use Rattle.pair_machine.proofs.Finding.{number_one, number_within, node_small}
+use Rattle.pair_machine.proofs.Finding.{node_small}
+use Rattle.pair_machine.proofs.Marks.{number_one, number_within}
 use Rattle.std.proofs.Math.Seq.{take-length}
 
 -- ---- a row that joins

@@ -20,7 +20,8 @@ use Rattle.edge_tables.specs.Views.{as_child_edge, as_kind_tables}
 use Rattle.pair_machine.specs.Alike.{IsFirstAlike, AreFirstAlike, key_of}
 use Rattle.pair_machine.specs.Nodes.{Node, RowPair, IsNode, both_of, row_of}
 use Rattle.pair_machine.specs.Numbers.{width_of, mine_of, theirs_of}
-use Rattle.pair_machine.proofs.Finding.{node_mated, node_small, one_each}
+use Rattle.pair_machine.proofs.Finding.{node_mated, node_small}
+use Rattle.pair_machine.proofs.Marks.{one_each}
 
 -- ---- equal lists of child edges
 abbrev pub same_edge : program.ChildEdge → program.ChildEdge → Bool

@@ -54,7 +54,7 @@ pub record IsSeen (width : ℕ) (list : List Node) (seen : List Bool) : Type 0 w
   pub count : length list + unseen seen ≡ length seen
 
 -- these candidates, and no others, joined the nodes that there were
-pub record Covers (old : List Node) (width : ℕ) (new : List Node) (seen : List Bool) (candidates : List Node) : Type 0 where
+pub record Covers (width : ℕ) (old new : List Node) (seen : List Bool) (candidates : List Node) : Type 0 where
   pub seen_now : IsSeen width new seen
   pub rest : List Node
   pub grown : new ≡ old ++ rest

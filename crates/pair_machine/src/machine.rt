@@ -53,7 +53,7 @@ impl Model for PairMachine {
 }
 
 impl PairMachine {
-    /// The machine of these tables, of which it keeps a copy.
+    /// The machine of these tables, of which it keeps a copy; NoMemory where memory is wanting.
     pub fn compile(alloc: Global, tables: &Tables) -> Result<PairMachine, NoMemory>
         ensures tables { IfOk result (λ machine. machine ≡ tables.now) }
     {
@@ -74,7 +74,7 @@ impl PairMachine {
         })
     }
 
-    /// How many nodes there are.
+    /// How many nodes there are: edges of kinds against edges of kinds, as they meet in the supertiles of these tables.
     pub fn nodes(&self) -> u32
         ensures number { IsNumber (IsNode self.now) result }
         ensures at_most_36864 { result ≤ 36864 }
@@ -82,7 +82,7 @@ impl PairMachine {
         self.nodes.len() as u32
     }
 
-    /// How many rows there are, equal ones counted once.
+    /// How many rows the nodes have, equal ones counted once.
     pub fn rows(&self) -> u32
         ensures number { IsNumber (IsRow self.now) result }
         ensures at_most_36864 { result ≤ 36864 }
@@ -163,7 +163,9 @@ impl PairMachine {
         partners
     }
 
-    /// How two tiles lie to each other.
+    /// How two tiles lie to each other: Strangers where they have no common supertile, Same where they are one tile, Beside with
+    /// all pairs of edges that touch, in the order of the first tile's edges, and Apart where there is no such pair. It reads the
+    /// digits of both from coarse to fine by the rows of the nodes, and takes no memory.
     pub fn decide(&self, a: &Address, b: &Address) -> Verdict
         requires fits_a { Fits (child_kinds self.now) (address_of a.now) }
         requires fits_b { Fits (child_kinds self.now) (address_of b.now) }

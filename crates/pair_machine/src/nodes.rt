@@ -44,7 +44,7 @@ impl Found {
         requires width { width ≤ 192 }
         requires seen { IsSeen width (map as_node self.old.list.items) self.old.seen.items }
         requires small { IsSmall width (as_node node) }
-        ensures { IfOk result (λ u. Covers (map as_node self.old.list.items) width (map as_node self.new.list.items) self.new.seen.items (as_node node ∷ [])) }
+        ensures { IfOk result (λ u. Covers width (map as_node self.old.list.items) (map as_node self.new.list.items) self.new.seen.items (as_node node ∷ [])) }
     {
         let number = node.number(width);
         if !self.seen[number] {
@@ -59,7 +59,7 @@ impl Found {
         requires coherent { IsCoherent tables.now }
         requires child { IsSome (child_kind_of tables.now parent child) }
         requires seen { IsSeen (width_of tables.now) (map as_node self.old.list.items) self.old.seen.items }
-        ensures { IfOk result (λ u. Covers (map as_node self.old.list.items) (width_of tables.now) (map as_node self.new.list.items) self.new.seen.items (child_nodes tables.now parent child (length (contacts_of tables.now parent child)))) }
+        ensures { IfOk result (λ u. Covers (width_of tables.now) (map as_node self.old.list.items) (map as_node self.new.list.items) self.new.seen.items (child_nodes tables.now parent child (length (contacts_of tables.now parent child)))) }
     {
         let width = width(tables);
         let kind = tables.child_kind(parent, child);
@@ -91,7 +91,7 @@ impl Found {
         requires coherent { IsCoherent tables.now }
         requires seen { IsSeen (width_of tables.now) (map as_node self.old.list.items) self.old.seen.items }
         requires kind { parent < length tables.now.kinds }
-        ensures { IfOk result (λ u. Covers (map as_node self.old.list.items) (width_of tables.now) (map as_node self.new.list.items) self.new.seen.items (kind_nodes tables.now parent (length (kind_tables tables.now parent).children))) }
+        ensures { IfOk result (λ u. Covers (width_of tables.now) (map as_node self.old.list.items) (map as_node self.new.list.items) self.new.seen.items (kind_nodes tables.now parent (length (kind_tables tables.now parent).children))) }
     {
         for child in 0..tables.children(parent) {
             self.add_child(tables, parent, child)?;
@@ -103,7 +103,7 @@ impl Found {
     fn add_first(&mut self, tables: &Tables) -> Result<(), NoMemory>
         requires coherent { IsCoherent tables.now }
         requires seen { IsSeen (width_of tables.now) (map as_node self.old.list.items) self.old.seen.items }
-        ensures { IfOk result (λ u. Covers (map as_node self.old.list.items) (width_of tables.now) (map as_node self.new.list.items) self.new.seen.items (first_nodes tables.now (length tables.now.kinds))) }
+        ensures { IfOk result (λ u. Covers (width_of tables.now) (map as_node self.old.list.items) (map as_node self.new.list.items) self.new.seen.items (first_nodes tables.now (length tables.now.kinds))) }
     {
         for parent in 0..tables.kinds() {
             self.add_kind(tables, parent)?;
@@ -117,7 +117,7 @@ impl Found {
         requires node { IsNode tables.now (as_node node) }
         requires pair { IsAmong (as_row_pair pair) (the_row_of tables.now (as_node node)) }
         requires seen { IsSeen (width_of tables.now) (map as_node self.old.list.items) self.old.seen.items }
-        ensures { IfOk result (λ u. Covers (map as_node self.old.list.items) (width_of tables.now) (map as_node self.new.list.items) self.new.seen.items (children_node tables.now node.kind (as_child_edge pair.mine) node.other (as_child_edge pair.theirs))) }
+        ensures { IfOk result (λ u. Covers (width_of tables.now) (map as_node self.old.list.items) (map as_node self.new.list.items) self.new.seen.items (children_node tables.now node.kind (as_child_edge pair.mine) node.other (as_child_edge pair.theirs))) }
     {
         let kind = tables.child_kind(node.kind, pair.mine.child);
         let other = tables.child_kind(node.other, pair.theirs.child);
@@ -138,7 +138,7 @@ impl Found {
         requires node { IsNode tables.now (as_node node) }
         requires row { map as_row_pair row.now ≡ the_row_of tables.now (as_node node) }
         requires seen { IsSeen (width_of tables.now) (map as_node self.old.list.items) self.old.seen.items }
-        ensures { IfOk result (λ u. Covers (map as_node self.old.list.items) (width_of tables.now) (map as_node self.new.list.items) self.new.seen.items (row_nodes tables.now (as_node node) (the_row_of tables.now (as_node node)))) }
+        ensures { IfOk result (λ u. Covers (width_of tables.now) (map as_node self.old.list.items) (map as_node self.new.list.items) self.new.seen.items (row_nodes tables.now (as_node node) (the_row_of tables.now (as_node node)))) }
     {
         for pair in row {
             self.add_pair(tables, node, *pair)?;
