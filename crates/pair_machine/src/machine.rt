@@ -1,5 +1,5 @@
 //! The machine that tells by which edges two tiles meet.
-ghost use Rattle.std.specs.Prelude.{◌≡◌, ◌≢◌, ◌↔◌, ◌≤◌, ◌==◌, ℕ, Bool, false, List, [], length, map, drop, IsSome, IfOk, IsTrue};
+ghost use Rattle.std.specs.Prelude.{◌≡◌, ◌≢◌, ◌↔◌, ◌≤◌, [], length, map, drop, IsSome, IfOk};
 ghost use Rattle.addressing.specs.Address.{Fits};
 ghost use Rattle.addressing.specs.Coherent.{IsCoherent};
 ghost use Rattle.addressing.specs.Search.{IsAmong};

@@ -1,5 +1,5 @@
 //! All nodes of tables.
-ghost use Rattle.std.specs.Prelude.{◌≡◌, ◌↔◌, ◌≤◌, ◌<◌, ◌*◌, ℕ, List, [], ◌∷◌, length, map, IsSome, IfOk};
+ghost use Rattle.std.specs.Prelude.{◌≡◌, ◌↔◌, ◌≤◌, ◌<◌, ◌*◌, [], ◌∷◌, length, map, IsSome, IfOk};
 ghost use Rattle.edge_tables.specs.Views.{as_child_edge};
 ghost use Rattle.addressing.specs.Coherent.{IsCoherent};
 ghost use Rattle.addressing.specs.Search.{IsAmong};

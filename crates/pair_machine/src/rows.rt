@@ -1,11 +1,11 @@
 //! Rows, equal ones kept once.
-ghost use Rattle.std.specs.Prelude.{◌≡◌, ◌<◌, ◌≤◌, List, [], length, map, get_or, IfOk};
+ghost use Rattle.std.specs.Prelude.{◌≡◌, ◌<◌, ◌≤◌, [], length, map, IfOk};
 ghost use Rattle.addressing.specs.Coherent.{IsCoherent};
 ghost use Rattle.pair_machine.specs.Alike.{key_of};
 ghost use Rattle.pair_machine.specs.Indexed.{IsIndexed};
 ghost use Rattle.pair_machine.specs.Machine.{IsKeptOnce};
-ghost use Rattle.pair_machine.specs.Nodes.{IsNode, RowPair as TheRowPair, row_of as the_row_of};
-ghost use Rattle.pair_machine.specs.Numbers.{width_of, mine_of, theirs_of};
+ghost use Rattle.pair_machine.specs.Nodes.{IsNode, row_of as the_row_of};
+ghost use Rattle.pair_machine.specs.Numbers.{mine_of, theirs_of};
 ghost use Rattle.pair_machine.specs.Views.{as_node, as_row_pair};
 
 use crate::alike::firsts_alike;
