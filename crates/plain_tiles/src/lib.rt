@@ -13,6 +13,7 @@ pub mod draws;
 pub mod frame_tiles;
 pub mod least_frame;
 pub mod located;
+pub mod pairs;
 pub mod placing;
 pub mod points;
 pub mod small;

@@ -16,14 +16,14 @@ const DEEPEST: u8 = 4;
 
 /// The two ends of an edge.
 #[derive(Clone, Copy, Debug, PartialEq, Eq, PartialOrd, Ord)]
-struct Ends {
+pub(crate) struct Ends {
     start: [i64; 4],
     end: [i64; 4],
 }
 
 impl Ends {
     /// The ends of the edge of this number of a tile; None where there is no such edge.
-    fn of(drawn: &DrawnTile, edge: u8) -> Option<Ends> {
+    pub(crate) fn of(drawn: &DrawnTile, edge: u8) -> Option<Ends> {
         let corners = drawn.corners();
         let start = corners.get(usize::from(edge))?;
         let end = match corners.get(usize::from(edge) + 1) {
@@ -37,7 +37,7 @@ impl Ends {
     }
 
     /// The ends of the same edge traversed backwards.
-    fn reversed(&self) -> Ends {
+    pub(crate) fn reversed(&self) -> Ends {
         Ends {
             start: self.end,
             end: self.start,
@@ -47,13 +47,16 @@ impl Ends {
 
 /// An edge of a tile of a list.
 #[derive(Clone, Copy, Debug)]
-struct Side {
-    tile: usize,
-    edge: u8,
+pub(crate) struct Side {
+    pub tile: usize,
+    pub edge: u8,
 }
 
 /// All edges of all tiles by their ends, and how often two have the same.
-fn sides(alloc: Global, tiles: &[DrawnTile]) -> Result<(BTreeMap<Ends, Side>, u32), NoMemory> {
+pub(crate) fn sides(
+    alloc: Global,
+    tiles: &[DrawnTile],
+) -> Result<(BTreeMap<Ends, Side>, u32), NoMemory> {
     let mut sides = BTreeMap::new(alloc);
     let mut doubled: u32 = 0;
     for (tile, drawn) in tiles.iter().enumerate() {

@@ -2,14 +2,15 @@
 //! tutorial that a clause refuses.
 //!
 //! A file is read and checked; an accepted rule is printed, read back and checked again, and the two
-//! printed texts are compared. What the engine locates in its supertiles, what it finds across each edge of them, where
-//! walks lead, and the tiles of windows are compared with the plain program of the trials. The files lie in the folder
+//! printed texts are compared. What the engine locates in its supertiles, what it finds across each edge of them, by
+//! which edges any two of their tiles meet, where walks lead, and the tiles of windows are compared with the plain program of the trials. The files lie in the folder
 //! that it is run in, and what it prints is compared with what is wanted when the gate runs it. It claims nothing of its
 //! own.
 #![tactic(auto)]
 
 mod crossed;
 mod outcome;
+mod paired;
 mod trials;
 
 use crate::outcome::{is_printed, outcome};

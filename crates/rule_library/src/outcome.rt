@@ -60,7 +60,7 @@ fn accepted(alloc: Global, rule: Checked, bytes: &[u8]) -> Result<String, NoMemo
     };
     let tried = trials(alloc, rule)?;
     Ok(format!(in alloc;
-        "accepted order {order} kinds {kinds} types {types}, {back}{layout}, {tried}"
+        "accepted order {order} kinds {kinds} types {types}, {back}{layout}{tried}"
     )?)
 }
 

@@ -2,6 +2,7 @@
 ghost use Rattle.std.specs.Prelude.{◌≡◌, ◌<◌};
 
 use crate::crossed::crossed;
+use crate::paired::paired;
 use edge_tables::steps::Steps;
 use plain_tiles::counts::Counts;
 use plain_tiles::located::located;
@@ -16,6 +17,9 @@ use tile_shape::no_memory::NoMemory;
 
 /// The greatest number of tiles of a supertile that is listed: all of depth 4 of a rule with nine children.
 const MOST_TILES: u64 = 6561;
+
+/// The greatest number of tiles of a supertile of which all pairs are listed: all of depth 3 of such a rule.
+const MOST_PAIRED: u64 = 729;
 
 /// The greatest number of tiles of a frame that is listed for a window.
 const MOST_IN_FRAME: u64 = 1100;
@@ -43,49 +47,57 @@ fn counted<L: Ledger>(
     Ok((points, edges, walks))
 }
 
-/// What came out as wanted, or how often something else did.
-fn described(
-    alloc: Global,
-    counts: Counts,
-    wanted: &str,
-    otherwise: &str,
-) -> Result<String, NoMemory> {
+/// Adds how many came out as wanted, or how often something else did.
+fn add(text: &mut String, counts: Counts, wanted: &str, otherwise: &str) -> Result<(), NoMemory> {
     let Counts { right, differ } = counts;
     if differ == 0 {
-        Ok(format!(in alloc; "{right} {wanted}")?)
+        write!(text, ", {right} {wanted}")?;
     } else {
-        Ok(format!(in alloc; "{differ} {otherwise}")?)
+        write!(text, ", {differ} {otherwise}")?;
     }
+    Ok(())
 }
 
-/// What comes of the trials of an accepted rule.
-pub fn trials(alloc: Global, rule: Checked) -> Result<String, NoMemory> {
-    let machine = Machine::new(alloc, rule)?;
-    let (points, edges, walks) = counted::<Brand>(alloc, &machine, Blank::new(1))?;
-    let (windows, _) = windows(alloc, &machine, WINDOWS, MOST_IN_FRAME)?;
-    let located = described(
-        alloc,
+/// What comes of the trials of a machine.
+fn tried(alloc: Global, machine: &Machine) -> Result<String, NoMemory> {
+    let mut text = String::new(alloc);
+    let (points, edges, walks) = counted::<Brand>(alloc, machine, Blank::new(1))?;
+    add(
+        &mut text,
         points,
         "points located as listed",
         "points located OTHERWISE than listed",
     )?;
-    let crossed = described(
-        alloc,
+    add(
+        &mut text,
         edges,
         "edges crossed as listed",
         "edges crossed OTHERWISE than listed",
     )?;
-    let walked = described(
-        alloc,
+    add(
+        &mut text,
+        paired(alloc, machine, MOST_PAIRED)?,
+        "pairs meet as listed",
+        "pairs meet OTHERWISE than listed",
+    )?;
+    add(
+        &mut text,
         walks,
         "walks lead back",
         "walks lead ELSEWHERE than back",
     )?;
-    let covered = described(
-        alloc,
+    let (windows, _) = windows(alloc, machine, WINDOWS, MOST_IN_FRAME)?;
+    add(
+        &mut text,
         windows,
         "windows covered as listed",
         "windows covered OTHERWISE than listed",
     )?;
-    Ok(format!(in alloc; "{located}, {crossed}, {walked}, {covered}")?)
+    Ok(text)
+}
+
+/// What comes of the trials of an accepted rule, each behind a comma.
+pub fn trials(alloc: Global, rule: Checked) -> Result<String, NoMemory> {
+    let machine = Machine::new(alloc, rule)?;
+    tried(alloc, &machine)
 }

@@ -2,7 +2,7 @@
 //!
 //! What the machine answers is compared with rows that were worked out by hand, and with lists: of whole supertiles, by
 //! recursion on the depth, each edge of each tile by its ends; of supertiles and frames, each tile placed by its address
-//! and asked whether it holds a point or meets a window. Addresses of 64 digits are crossed, walks are walked there and
+//! and asked whether it holds a point or meets a window. Addresses of 64 digits are crossed, and decided in pairs; walks are walked there and
 //! back, and the search for a window is tried step by step. There is no other code here.
 #![tactic(auto)]
 
@@ -22,6 +22,8 @@ mod glued;
 mod held_points;
 #[cfg(test)]
 mod located;
+#[cfg(test)]
+mod pairs;
 #[cfg(test)]
 mod placed;
 #[cfg(test)]

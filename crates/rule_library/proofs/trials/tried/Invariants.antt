@@ -1,4 +1,4 @@
-use Rattle.rule_library.proofs.trials.trials.Given as goal
+use Rattle.rule_library.proofs.trials.tried.Given as goal
 
 abbrev pub ghosts-counted : goal.ghosts-counted
 ghosts-counted a = record { name = a.blank.name; parts = a.blank.parts }
