@@ -1,12 +1,10 @@
 //! A call of the top call by a line of words, compared with what is wanted.
+use crate::told::{SOUND, told};
 use layer_api::layer::Layer;
 use layer_list::list_layer::ListLayer;
 use std::alloc::{AllocError, Global};
 use std::process::Abort;
 use std::test::Fail;
-use tile_app::run::run;
-use tile_io::steady_sink::SteadySink;
-use tile_io::steady_source::SteadySource;
 
 // The words of a line, parted by blanks; an empty line has none.
 pub fn words_of(alloc: Global, line: &str) -> Result<Vec<String>, AllocError> {
@@ -28,9 +26,7 @@ pub fn line_of(alloc: Global, text: &str) -> Result<String, AllocError> {
     }
 }
 
-// The words that draw two chairs, by a rule that stands for its name or for a file, and what is drawn.
-pub const CHAIRS: &str = "seed=42 addr=0: at=1,1,0,0 half=2,1 layers=list";
-
+// Two chairs, as a list.
 pub const CHAIRS_LIST: &str = "0 0 0,0,0,0 0:3/0\n0 1 3,1,0,0 0:1/0\n";
 
 // A layer that lists tiles, alone.
@@ -40,8 +36,14 @@ pub fn one_list(alloc: Global) -> Result<Vec<Box<dyn Layer>>, Fail> {
     Ok(layers)
 }
 
-// Runs a line of words, and compares what comes of it: the lines printed and noted, without their
-// newlines.
+/// What is told of a call with this exit code that prints and notes these lines, given without their newlines.
+pub fn wanted(alloc: Global, code: u8, text: &str, note: &str) -> Result<String, AllocError> {
+    let text = line_of(alloc, text)?;
+    let note = line_of(alloc, note)?;
+    format!(in alloc; "{code} {text}|{note}")
+}
+
+/// Runs a line of words, and compares what comes of it: the exit code, and the lines printed and noted.
 pub fn check_line<R: Abort + AllocGlobal>(
     rt: &R,
     line: &str,
@@ -50,14 +52,8 @@ pub fn check_line<R: Abort + AllocGlobal>(
     note: &str,
 ) -> Result<(), Fail> {
     let alloc = rt.alloc();
-    let words = words_of(alloc, line)?;
-    let mut source = SteadySource::new(Vec::new(alloc));
-    let mut sink = SteadySink::new(alloc, 600)?;
-    let mut notes = SteadySink::new(alloc, 700)?;
-    let layers = Vec::new(alloc);
-    let status = run(alloc, &words, &mut source, &mut sink, &mut notes, layers);
-    assert_eq!(rt; status.code(), code, "{line}");
-    assert_eq!(rt; sink.taken(), line_of(alloc, text)?.as_bytes(), "{line}");
-    assert_eq!(rt; notes.taken(), line_of(alloc, note)?.as_bytes(), "{line}");
+    let ended = told(alloc, line, "", &SOUND)?;
+    let wanted = wanted(alloc, code, text, note)?;
+    assert_eq!(rt; ended.as_str(), wanted.as_str(), "{line}");
     Ok(())
 }

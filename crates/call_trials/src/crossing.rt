@@ -1,16 +1,12 @@
 //! Across an edge and back, from 100 addresses of each built-in rule, and from every edge of each tile.
 ghost use Rattle.std.specs.Prelude.{◌<◌};
 
-use crate::calls::{check_line, words_of};
+use crate::calls::check_line;
+use crate::told::{SOUND, told};
 use builtin_rules::builtin::builtin;
 use builtin_rules::name::Name;
 use std::process::Abort;
-use std::str;
 use std::test::Fail;
-use tile_app::run::run;
-use tile_app::status::Status;
-use tile_io::steady_sink::SteadySink;
-use tile_io::steady_source::SteadySource;
 use tile_shape::address::Address;
 use tile_shape::step::Step;
 use tile_shape::uses::Uses;
@@ -63,29 +59,43 @@ fn grown(uses: &Uses, draws: &mut Draws) -> Address {
     addr
 }
 
-/// Goes across an edge of a tile of a tiling, and back where there is a tile; how that ended.
+/// Goes across an edge of a tile of a tiling, and back where there is a tile: whether there is one; None where the tile
+/// has no such edge.
 fn cross<R: Abort + AllocGlobal>(
     rt: &R,
     name: &str,
     addr: &Address,
     edge: u16,
-) -> Result<Status, Fail> {
+) -> Result<Option<bool>, Fail> {
     let alloc = rt.alloc();
     let line = format!(in alloc; "neighbour rule={name} addr={addr} edge={edge}")?;
-    let words = words_of(alloc, line.as_str())?;
-    let mut source = SteadySource::new(Vec::new(alloc));
-    let mut sink = SteadySink::new(alloc, 600)?;
-    let mut notes = SteadySink::new(alloc, 700)?;
-    let layers = Vec::new(alloc);
-    let status = run(alloc, &words, &mut source, &mut sink, &mut notes, layers);
-    if status == Status::Done {
-        let text = str::from_utf8(sink.taken()).unwrap_or("");
-        let (across, back) = text.trim_end().split_once(' ').unwrap_or(("", ""));
-        let line = format!(in alloc; "neighbour rule={name} addr={across} edge={back}")?;
-        let home = format!(in alloc; "{addr} {edge}")?;
-        check_line(rt, line.as_str(), 0, home.as_str(), "")?;
+    let ended = told(alloc, line.as_str(), "", &SOUND)?;
+    let (code, rest) = ended.as_str().split_once(' ').unwrap_or(("", ""));
+    if code == "0" {
+        let (text, _) = rest.split_once('|').unwrap_or(("", ""));
+        check_back(rt, name, text, addr, edge)?;
+        return Ok(Some(true));
     }
-    Ok(status)
+    if code == "8" {
+        return Ok(Some(false));
+    }
+    assert_eq!(rt; code, "12", "{line}");
+    Ok(None)
+}
+
+/// Goes back by what was printed.
+fn check_back<R: Abort + AllocGlobal>(
+    rt: &R,
+    name: &str,
+    text: &str,
+    addr: &Address,
+    edge: u16,
+) -> Result<(), Fail> {
+    let alloc = rt.alloc();
+    let (across, back) = text.trim_end().split_once(' ').unwrap_or(("", ""));
+    let line = format!(in alloc; "neighbour rule={name} addr={across} edge={back}")?;
+    let home = format!(in alloc; "{addr} {edge}")?;
+    check_line(rt, line.as_str(), 0, home.as_str(), "")
 }
 
 /// Goes across each edge of a tile and back; whether there is a tile across one.
@@ -97,38 +107,42 @@ fn cross_each_edge<R: Abort + AllocGlobal>(
     let mut crossed = false;
     for edge in 0..256 {
         match cross(rt, name, addr, edge)? {
-            Status::Done => crossed = true,
-            Status::Outside { .. } => {}
-            status => {
-                assert_eq!(rt; status.code(), 12, "{addr} {edge}");
-                return Ok(crossed);
-            }
+            Some(is_inner) => crossed = crossed || is_inner,
+            None => return Ok(crossed),
         }
     }
     Ok(crossed)
 }
 
+/// How many of 100 drawn tiles have a tile across an edge, and the greatest depth among them.
+fn drawn<R: Abort + AllocGlobal>(rt: &R, uses: &Uses, name: &str) -> Result<(u64, u8), Fail> {
+    let mut draws = Draws { state: 42 };
+    let mut most: u8 = 0;
+    let mut tiles: u64 = 0;
+    for _ in 0..100 {
+        let addr = grown(uses, &mut draws);
+        most = most.max(addr.depth());
+        if cross_each_edge(rt, name, &addr)? {
+            tiles = tiles.saturating_add(1);
+        }
+    }
+    Ok((tiles, most))
+}
+
+/// The built-in rules.
+static NAMES: [(Name, &str); 5] = [
+    (Name::Chair, "chair"),
+    (Name::P2, "p2"),
+    (Name::P3, "p3"),
+    (Name::AmmannBeenker, "ab"),
+    (Name::HalfHex, "halfhex"),
+];
+
 #[test]
 fn across_and_back(rt: HostRuntime) -> Result<(), Fail> {
-    let names = [
-        (Name::Chair, "chair"),
-        (Name::P2, "p2"),
-        (Name::P3, "p3"),
-        (Name::AmmannBeenker, "ab"),
-        (Name::HalfHex, "halfhex"),
-    ];
-    for (name, text) in names {
-        let checked = builtin(rt.alloc(), name)?;
-        let mut draws = Draws { state: 42 };
-        let mut most: u8 = 0;
-        let mut tiles: u64 = 0;
-        for _ in 0..100 {
-            let addr = grown(checked.uses(), &mut draws);
-            most = most.max(addr.depth());
-            if cross_each_edge(&rt, text, &addr)? {
-                tiles = tiles.saturating_add(1);
-            }
-        }
+    for (name, text) in NAMES.iter() {
+        let checked = builtin(rt.alloc(), *name)?;
+        let (tiles, most) = drawn(&rt, checked.uses(), text)?;
         assert!(&rt; most > 60, "{name:?}");
         assert!(&rt; tiles > 90, "{name:?} {tiles}");
     }

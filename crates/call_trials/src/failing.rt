@@ -1,108 +1,154 @@
-//! A sink that fails in mid-stream, as the sink and as the notes.
-ghost use Rattle.std.specs.Prelude.{Some};
-
-use crate::calls::{CHAIRS, CHAIRS_LIST, one_list, words_of};
+//! A source, a sink and notes that fail at each of their calls in turn, for a call of every command.
+use crate::calls::CHAIRS_LIST;
+use crate::files::CHAIR;
+use crate::told::{Failing, SOUND, told};
 use std::process::Abort;
 use std::test::Fail;
-use tile_app::run::run;
-use tile_app::status::Status;
-use tile_io::failed::Failed;
-use tile_io::sink::Sink;
-use tile_io::steady_sink::SteadySink;
-use tile_io::steady_source::SteadySource;
 
-// Takes at most so many bytes a call, and fails once its good calls are used up.
-#[derive(Drop)]
-struct Trickle {
-    bytes: Vec<u8>,
-    most: usize,
-    good_calls: usize,
-    faults: u64,
-}
+const SCRIPT: &str = "let a 0:0/0,1/0\nacross a 4 b\ncommon a b\nplace b\n";
 
-impl Sink for Trickle {
-    ghost taken = { λ sink. Some sink.bytes.items };
+/// A call of each command: its words, what its source holds, and what it prints.
+static CALLS: [(&str, &str, &str); 7] = [
+    ("place rule=- addr=0:1/0,2/0", CHAIR, "0 1 7,1,0,0\n"),
+    (
+        "neighbour rule=- addr=0:0/0,1/0 edge=4",
+        CHAIR,
+        "0:1/0,0/0 7\n",
+    ),
+    (
+        "walk rule=- seed=42 addr=0: path=0,3",
+        CHAIR,
+        "0 0 0,0,0,0 0:3/0 -\n0 1 3,1,0,0 0:1/0 1\n0 1 4,0,0,0 0:0/0 0\n",
+    ),
+    (
+        "draw rule=- seed=42 addr=0: at=1,1,0,0 half=2,1 layers=list",
+        CHAIR,
+        CHAIRS_LIST,
+    ),
+    ("check rule=-", CHAIR, "accepted order 4 kinds 1 types 1\n"),
+    (
+        "calc rule=chair",
+        SCRIPT,
+        "b 0:1/0,0/0 7\na b 2\nb 0 0 1,1,0,0\n",
+    ),
+    (
+        "drill rule=- seed=42 n=1",
+        CHAIR,
+        "windows 1\ntiles 433\nlargest 433\ndepth 9\nrefused 0\n",
+    ),
+];
 
-    ghost faults = { λ sink. sink.faults };
+/// A refused call of each command: its words, what its source holds, its exit code, and its note without the newline.
+static REFUSED: [(&str, &str, u8, &str); 7] = [
+    (
+        "place rule=- addr=0:4/0",
+        CHAIR,
+        4,
+        "4 BadAddress WrongChild 0",
+    ),
+    (
+        "neighbour rule=chair addr=0:0/0 edge=4",
+        "",
+        8,
+        "8 Outside 4 0",
+    ),
+    ("walk rule=- addr=0: path=8", CHAIR, 12, "12 NoEdge 8 8"),
+    (
+        "draw rule=- addr=0: at=1,1,0,0 half=2,1 layers=svg",
+        CHAIR,
+        14,
+        "14 NoLayer svg",
+    ),
+    (
+        "check rule=-",
+        "format = 1\n",
+        3,
+        "3 RuleRefused Missing order",
+    ),
+    (
+        "calc rule=chair",
+        "show c",
+        13,
+        "13 BadScript UnknownName 1",
+    ),
+    ("drill rule=- n=0", CHAIR, 2, "2 BadWords 2"),
+];
 
-    fn write(&mut self, buf: &[u8]) -> Result<usize, Failed> {
-        let count = buf.len().min(self.most.max(1));
-        if self.good_calls == 0 || self.bytes.extend_from_slice(&buf[..count]).is_err() {
-            self.faults = self.faults.saturating_add(1);
-            return Err(Failed);
-        }
-        self.good_calls -= 1;
-        Ok(count)
-    }
-}
-
-// Runs a line of words into a sink that fails once `good_calls` calls took `most` bytes each.
-fn trickled<R: Abort + AllocGlobal>(
+/// Runs a call once more with sound streams: it prints its text.
+fn check_sound<R: Abort + AllocGlobal>(
     rt: &R,
     line: &str,
-    most: usize,
-    good_calls: usize,
-    want: &[u8],
-) -> Result<Status, Fail> {
+    file: &str,
+    text: &str,
+) -> Result<(), Fail> {
     let alloc = rt.alloc();
-    let words = words_of(alloc, line)?;
-    let mut source = SteadySource::new(Vec::new(alloc));
-    let mut sink = Trickle {
-        bytes: Vec::new(alloc),
-        most,
-        good_calls,
-        faults: 0,
-    };
-    let mut notes = SteadySink::new(alloc, 700)?;
-    let layers = one_list(alloc)?;
-    let status = run(alloc, &words, &mut source, &mut sink, &mut notes, layers);
-    assert_eq!(rt; sink.bytes.as_slice(), want, "{line} {good_calls}");
-    let note = if status == Status::Done {
-        ""
-    } else {
-        "10 WriteFault\n"
-    };
-    assert_eq!(rt; notes.taken(), note.as_bytes(), "{line} {good_calls}");
-    Ok(status)
-}
-
-// Runs a line of words into sinks of one byte a call that fail at each call in turn, and then into one that doesn't.
-fn fails_at_each_call<R: Abort + AllocGlobal>(rt: &R, line: &str, text: &[u8]) -> Result<(), Fail> {
-    for good_calls in 0..text.len() {
-        let status = trickled(rt, line, 1, good_calls, &text[..good_calls])?;
-        assert!(rt; status == Status::WriteFault, "{line} {good_calls}");
-    }
-    let status = trickled(rt, line, 1, text.len(), text)?;
-    assert!(rt; status == Status::Done, "{line}");
+    let wanted = format!(in alloc; "0 {text}|")?;
+    assert_eq!(rt;
+        told(alloc, line, file, &SOUND)?.as_str(),
+        wanted.as_str(),
+        "{line}"
+    );
     Ok(())
 }
 
 #[test]
 fn sinks_that_fail(rt: HostRuntime) -> Result<(), Fail> {
-    let place = "place rule=chair addr=0:1/0,2/0";
-    fails_at_each_call(&rt, place, b"0 1 7,1,0,0\n".as_slice())?;
-    let draw = format!(in rt.alloc(); "draw rule=chair {CHAIRS}")?;
-    fails_at_each_call(&rt, draw.as_str(), CHAIRS_LIST.as_bytes())?;
-    let status = trickled(&rt, place, 4, 1, b"0 1 ")?;
-    assert!(&rt; status == Status::WriteFault);
+    let alloc = rt.alloc();
+    for (line, file, text) in CALLS.iter() {
+        for writes in 0..text.len() {
+            let failing = Failing { writes, ..SOUND };
+            let ended = told(alloc, line, file, &failing)?;
+            let front = text.get(..writes).unwrap_or("?");
+            let wanted = format!(in alloc; "10 {front}|10 WriteFault\n")?;
+            assert_eq!(&rt; ended.as_str(), wanted.as_str(), "{line} {writes}");
+        }
+        check_sound(&rt, line, file, text)?;
+    }
     Ok(())
 }
 
+// So many calls give the bytes, and one more the end.
+#[test]
+fn sources_that_fail(rt: HostRuntime) -> Result<(), Fail> {
+    let alloc = rt.alloc();
+    for (line, file, text) in CALLS.iter() {
+        let last = (file.len() as u64).div_ceil(16) + 1;
+        for read in 1..=last {
+            let ended = told(alloc, line, file, &Failing { read, ..SOUND })?;
+            assert_eq!(&rt; ended.as_str(), "9 |9 ReadFault\n", "{line} {read}");
+        }
+        let beyond = Failing {
+            read: last + 1,
+            ..SOUND
+        };
+        let wanted = format!(in alloc; "0 {text}|")?;
+        assert_eq!(&rt;
+            told(alloc, line, file, &beyond)?.as_str(),
+            wanted.as_str(),
+            "{line}"
+        );
+        check_sound(&rt, line, file, text)?;
+    }
+    Ok(())
+}
+
+// The exit code stays as it is, and what is noted is a front part of the note.
 #[test]
 fn notes_that_fail(rt: HostRuntime) -> Result<(), Fail> {
     let alloc = rt.alloc();
-    let words = words_of(alloc, "place")?;
-    let mut source = SteadySource::new(Vec::new(alloc));
-    let mut sink = SteadySink::new(alloc, 100)?;
-    let mut notes = Trickle {
-        bytes: Vec::new(alloc),
-        most: 1,
-        good_calls: 3,
-        faults: 0,
-    };
-    let layers = Vec::new(alloc);
-    let status = run(alloc, &words, &mut source, &mut sink, &mut notes, layers);
-    assert!(&rt; status == Status::BadWords { place: 1 });
-    assert_eq!(rt; notes.bytes.as_slice(), b"2 B".as_slice());
+    for (line, file, code, note) in REFUSED.iter() {
+        for notes in 0..note.len() {
+            let ended = told(alloc, line, file, &Failing { notes, ..SOUND })?;
+            let front = note.get(..notes).unwrap_or("?");
+            let wanted = format!(in alloc; "{code} |{front}")?;
+            assert_eq!(&rt; ended.as_str(), wanted.as_str(), "{line} {notes}");
+        }
+        let wanted = format!(in alloc; "{code} |{note}\n")?;
+        assert_eq!(&rt;
+            told(alloc, line, file, &SOUND)?.as_str(),
+            wanted.as_str(),
+            "{line}"
+        );
+    }
     Ok(())
 }

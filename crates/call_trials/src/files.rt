@@ -1,18 +1,16 @@
 //! Rule files read from the source: what is printed, and each refusal, on rows typed from outside.
 ghost use Rattle.std.specs.Prelude.{◌≤◌};
 
-use crate::calls::{CHAIRS, CHAIRS_LIST, line_of, one_list, words_of};
+use crate::calls::wanted;
+use crate::told::{SOUND, told_over};
 use std::alloc::{AllocError, Global};
 use std::process::Abort;
 use std::test::Fail;
-use tile_app::run::run;
-use tile_app::status::Status;
 use tile_io::mem_source::MemSource;
 use tile_io::source::Source;
-use tile_io::steady_sink::SteadySink;
 
 // The chair.
-const CHAIR: &str = "format = 1
+pub(crate) const CHAIR: &str = "format = 1
 order = 4
 lambda = [2, 0, 0, 0]
 glue = []
@@ -59,7 +57,7 @@ children = [[3,6, 0,1,0,0], [2,0, -1,1,0,0], [0,5, 0,1,0,0]]
 
 // Words, what of the chair's file is replaced by what, the exit code that is wanted, the line
 // printed, and the line noted.
-const CHAIR_ROWS: [(&str, &str, &str, u8, &str, &str); 24] = [
+static CHAIR_ROWS: [(&str, &str, &str, u8, &str, &str); 24] = [
     (
         "check rule=-",
         "",
@@ -220,7 +218,7 @@ const CHAIR_ROWS: [(&str, &str, &str, u8, &str, &str); 24] = [
 ];
 
 // The same of Penrose's rhombs.
-const P3_ROWS: [(&str, &str, &str, u8, &str, &str); 6] = [
+static P3_ROWS: [(&str, &str, &str, u8, &str, &str); 6] = [
     (
         "check rule=-",
         "",
@@ -285,7 +283,7 @@ children = [[0,3, 0,1,0,0], [0,2, 0,1,0,0]]
 ";
 
 // The same of the half square.
-const HALF_SQUARE_ROWS: [(&str, &str, &str, u8, &str, &str); 8] = [
+static HALF_SQUARE_ROWS: [(&str, &str, &str, u8, &str, &str); 8] = [
     (
         "check rule=-",
         "",
@@ -353,8 +351,8 @@ fn changed(alloc: Global, text: &str, old: &str, new: &str) -> Result<String, Al
     }
 }
 
-// Runs a line of words over a file that is given some bytes a call, and compares what comes of it;
-// how many bytes the source still gives in one call more.
+/// Runs a line of words over a file, and compares what comes of it; how many bytes the source still gives in one call
+/// more, which is at most 16.
 fn check_file<R: Abort + AllocGlobal>(
     rt: &R,
     line: &str,
@@ -364,99 +362,54 @@ fn check_file<R: Abort + AllocGlobal>(
     note: &str,
 ) -> Result<usize, Fail> {
     let alloc = rt.alloc();
-    let words = words_of(alloc, line)?;
-    let mut source = MemSource::new(file.into_bytes(), 100, Vec::new(alloc));
-    let mut sink = SteadySink::new(alloc, 600)?;
-    let mut notes = SteadySink::new(alloc, 700)?;
-    let layers = Vec::new(alloc);
-    let status = run(alloc, &words, &mut source, &mut sink, &mut notes, layers);
-    assert_eq!(rt; status.code(), code, "{line}");
-    assert_eq!(rt; sink.taken(), line_of(alloc, text)?.as_bytes(), "{line}");
-    assert_eq!(rt;
-        notes.taken(),
-        line_of(alloc, note)?.as_bytes(),
-        "{line} {note}"
-    );
-    let mut buf = [0; 100];
+    let mut source = MemSource::new(file.into_bytes(), 16, Vec::new(alloc));
+    let ended = told_over(alloc, line, &mut source, &SOUND)?;
+    let wanted = wanted(alloc, code, text, note)?;
+    assert_eq!(rt; ended.as_str(), wanted.as_str(), "{line}");
+    let mut buf = [0; 16];
     Ok(source.read(&mut buf).unwrap_or(1000))
 }
 
-#[test]
-fn rows_of_files(rt: HostRuntime) -> Result<(), Fail> {
-    let alloc = rt.alloc();
-    for (words, old, new, code, text, note) in CHAIR_ROWS.iter() {
-        let file = changed(alloc, CHAIR, old, new)?;
-        let left = check_file(&rt, words, file, *code, text, note)?;
+/// Compares what comes of changed files, which are read to their end where the words are right and name no rule.
+fn check_rows<R: Abort + AllocGlobal>(
+    rt: &R,
+    file: &str,
+    rows: &[(&str, &str, &str, u8, &str, &str)],
+) -> Result<(), Fail> {
+    for (words, old, new, code, text, note) in rows {
+        let file = changed(rt.alloc(), file, old, new)?;
+        let left = check_file(rt, words, file, *code, text, note)?;
         let is_read = *code != 2 && *words != "check rule=chair";
-        assert_eq!(rt; left, if is_read { 0 } else { 100 }, "{words}");
+        assert_eq!(rt; left, if is_read { 0 } else { 16 }, "{words}");
     }
-    for (words, old, new, code, text, note) in P3_ROWS.iter() {
-        let file = changed(alloc, P3, old, new)?;
-        let left = check_file(&rt, words, file, *code, text, note)?;
-        assert_eq!(rt; left, 0, "{words}");
-    }
-    for (words, old, new, code, text, note) in HALF_SQUARE_ROWS.iter() {
-        let file = changed(alloc, HALF_SQUARE, old, new)?;
-        let left = check_file(&rt, words, file, *code, text, note)?;
-        assert_eq!(rt; left, 0, "{words}");
-    }
-    let missing = "3 RuleRefused Missing format";
-    check_file(&rt, "check rule=-", String::new(alloc), 3, "", missing)?;
-    let longest = "#".repeat(alloc, 1_048_576)?;
-    check_file(&rt, "check rule=-", longest, 3, "", missing)?;
-    let too_long = "#".repeat(alloc, 1_048_577)?;
-    check_file(&rt, "check rule=-", too_long, 3, "", "3 RuleTooLong")?;
-    let words = words_of(alloc, "check rule=-")?;
-    let mut source = MemSource::new(vec![in alloc; 255]?, 1, Vec::new(alloc));
-    let mut sink = SteadySink::new(alloc, 600)?;
-    let mut notes = SteadySink::new(alloc, 700)?;
-    let layers = Vec::new(alloc);
-    run(alloc, &words, &mut source, &mut sink, &mut notes, layers);
-    assert_eq!(rt; notes.taken(), b"3 RuleRefused NotToml\n".as_slice());
     Ok(())
 }
 
-// Runs a line of words over the chair's file, from a source of 16 bytes a call that fails at one call, or where that
-// number is 0 at none: how it ended.
-fn failing_at<R: Abort + AllocGlobal>(
-    rt: &R,
-    line: &str,
-    text: &str,
-    call: u64,
-) -> Result<Status, Fail> {
-    let alloc = rt.alloc();
-    let words = words_of(alloc, line)?;
-    let bytes = CHAIR.as_bytes().to_vec(alloc)?;
-    let mut source = MemSource::new(bytes, 16, vec![in alloc; call]?);
-    let mut sink = SteadySink::new(alloc, 600)?;
-    let mut notes = SteadySink::new(alloc, 700)?;
-    let layers = one_list(alloc)?;
-    let status = run(alloc, &words, &mut source, &mut sink, &mut notes, layers);
-    let done = status == Status::Done;
-    let text = if done { text } else { "" };
-    assert_eq!(rt; sink.taken(), text.as_bytes(), "{line} {call}");
-    let note = if done { "" } else { "9 ReadFault\n" };
-    assert_eq!(rt; notes.taken(), note.as_bytes(), "{line} {call}");
-    Ok(status)
+#[test]
+fn changed_files(rt: HostRuntime) -> Result<(), Fail> {
+    check_rows(&rt, CHAIR, CHAIR_ROWS.as_slice())?;
+    check_rows(&rt, P3, P3_ROWS.as_slice())?;
+    check_rows(&rt, HALF_SQUARE, HALF_SQUARE_ROWS.as_slice())
 }
 
 #[test]
-fn a_source_that_fails(rt: HostRuntime) -> Result<(), Fail> {
-    let draw = format!(in rt.alloc(); "draw rule=- {CHAIRS}")?;
-    let rows = [
-        ("check rule=-", "accepted order 4 kinds 1 types 1\n"),
-        (draw.as_str(), CHAIRS_LIST),
-    ];
-    // so many calls give the bytes, and one more the end
-    let calls = (CHAIR.len() as u64).div_ceil(16) + 1;
-    for (line, text) in rows {
-        for call in 1..=calls {
-            let status = failing_at(&rt, line, text, call)?;
-            assert_eq!(rt; status, Status::ReadFault, "{line} {call}");
-        }
-        let status = failing_at(&rt, line, text, calls + 1)?;
-        assert_eq!(rt; status, Status::Done, "{line}");
-        assert_eq!(rt; failing_at(&rt, line, text, 0)?, Status::Done, "{line}");
-    }
+fn long_files(rt: HostRuntime) -> Result<(), Fail> {
+    let alloc = rt.alloc();
+    let check = "check rule=-";
+    let missing = "3 RuleRefused Missing format";
+    check_file(&rt, check, String::new(alloc), 3, "", missing)?;
+    let longest = "#".repeat(alloc, 1_048_576)?;
+    check_file(&rt, check, longest, 3, "", missing)?;
+    let too_long = "#".repeat(alloc, 1_048_577)?;
+    check_file(&rt, check, too_long, 3, "", "3 RuleTooLong")?;
+    Ok(())
+}
+
+#[test]
+fn no_text(rt: HostRuntime) -> Result<(), Fail> {
+    let alloc = rt.alloc();
+    let mut source = MemSource::new(vec![in alloc; 255]?, 1, Vec::new(alloc));
+    let ended = told_over(alloc, "check rule=-", &mut source, &SOUND)?;
+    assert_eq!(rt; ended.as_str(), "3 |3 RuleRefused NotToml\n");
     Ok(())
 }

@@ -14,3 +14,5 @@ mod files;
 mod rows;
 #[cfg(test)]
 mod scripts;
+#[cfg(test)]
+mod told;

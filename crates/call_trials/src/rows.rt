@@ -4,7 +4,7 @@ use std::alloc::{AllocError, Global};
 use std::test::Fail;
 
 // Words, the exit code that is wanted, the line printed, and the line noted.
-const ROWS: [(&str, u8, &str, &str); 73] = [
+static ROWS: [(&str, u8, &str, &str); 73] = [
     ("place rule=chair addr=0:", 0, "0 0 0,0,0,0", ""),
     ("place rule=chair addr=0:1/0,2/0", 0, "0 1 7,1,0,0", ""),
     ("place addr=0:1/0,2/0 rule=chair", 0, "0 1 7,1,0,0", ""),

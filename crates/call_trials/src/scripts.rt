@@ -1,12 +1,8 @@
 //! Scripts for `calc`, and what comes of them.
-use crate::calls::words_of;
+use crate::told::{SOUND, told};
 use std::alloc::Global;
 use std::process::Abort;
 use std::test::Fail;
-use tile_app::run::run;
-use tile_app::status::Status;
-use tile_io::mem_source::MemSource;
-use tile_io::steady_sink::SteadySink;
 
 /// Scripts for the chair and their texts.
 static TEXTS: [(&str, &str); 18] = [
@@ -123,52 +119,50 @@ static SQUARES: [(&str, &str); 2] = [
     ("let a 0:3/0\nplace a\n", "a 0 4 2,2,1,-1\n"),
 ];
 
-// Runs `calc` over a script that is given some bytes a call, and compares what is printed and noted.
+/// Runs `calc` over a script, and compares what comes of it, as a text.
 fn check<R: Abort + AllocGlobal>(
     rt: &R,
     rule: &str,
-    script: String,
-    text: &str,
-    note: &str,
+    script: &str,
+    wanted: &str,
 ) -> Result<(), Fail> {
-    let alloc = rt.alloc();
-    let words = words_of(alloc, rule)?;
-    let mut source = MemSource::new(script.into_bytes(), 100, Vec::new(alloc));
-    let mut sink = SteadySink::new(alloc, 2000)?;
-    let mut notes = SteadySink::new(alloc, 700)?;
-    let layers = Vec::new(alloc);
-    let status = run(alloc, &words, &mut source, &mut sink, &mut notes, layers);
-    assert_eq!(rt;
-        status.code(),
-        if note.is_empty() { 0 } else { 13 },
-        "{text}{note}"
-    );
-    assert_eq!(rt; sink.taken(), text.as_bytes(), "{text}");
-    assert_eq!(rt; notes.taken(), note.as_bytes(), "{note}");
+    let ended = told(rt.alloc(), rule, script, &SOUND)?;
+    assert_eq!(rt; ended.as_str(), wanted);
     Ok(())
 }
 
-// Scripts that have a text.
+/// A script that has a text.
+fn check_text<R: Abort + AllocGlobal>(
+    rt: &R,
+    rule: &str,
+    script: &str,
+    text: &str,
+) -> Result<(), Fail> {
+    let wanted = format!(in rt.alloc(); "0 {text}|")?;
+    check(rt, rule, script, wanted.as_str())
+}
+
+/// Scripts that have a text.
 fn check_texts<R: Abort + AllocGlobal>(
     rt: &R,
     rule: &str,
     rows: &[(&str, &str)],
 ) -> Result<(), Fail> {
     for (script, text) in rows {
-        check(rt, rule, script.to_string(rt.alloc())?, text, "")?;
+        check_text(rt, rule, script, text)?;
     }
     Ok(())
 }
 
-// A script that has a fault.
+/// A script that has a fault.
 fn check_fault<R: Abort + AllocGlobal>(
     rt: &R,
     rule: &str,
-    script: String,
+    script: &str,
     fault: &str,
 ) -> Result<(), Fail> {
-    let note = format!(in rt.alloc(); "13 BadScript {fault}\n")?;
-    check(rt, rule, script, "", note.as_str())
+    let wanted = format!(in rt.alloc(); "13 |13 BadScript {fault}\n")?;
+    check(rt, rule, script, wanted.as_str())
 }
 
 #[test]
@@ -181,11 +175,10 @@ fn texts(rt: HostRuntime) -> Result<(), Fail> {
 
 #[test]
 fn faults(rt: HostRuntime) -> Result<(), Fail> {
-    let alloc = rt.alloc();
     for (script, fault) in FAULTS.iter() {
-        check_fault(&rt, "calc rule=chair", script.to_string(alloc)?, fault)?;
+        check_fault(&rt, "calc rule=chair", script, fault)?;
     }
-    let script = "let a 0:0/0,0/0\nacross a 2 b\n".to_string(alloc)?;
+    let script = "let a 0:0/0,0/0\nacross a 2 b\n";
     check_fault(&rt, "calc rule=p3", script, "Outside 2 0 1")
 }
 
@@ -209,13 +202,18 @@ fn deep_addresses(rt: HostRuntime) -> Result<(), Fail> {
     let there = format!(in alloc; "let a 0:{deepest}\nacross a 0 b\nacross b 3 c\n")?;
     let levels = format!(in alloc; "{there}common a c\ncommon a b\n")?;
     let printed = format!(in alloc; "b 0:1/0,{rest} 3\nc 0:{deepest} 0\na c 0\na b 1\n")?;
-    check(&rt, rule, levels, printed.as_str(), "")?;
+    check_text(&rt, rule, levels.as_str(), printed.as_str())?;
     let outside = format!(in alloc; "{there}common a c\nacross a 3 d\n")?;
-    check_fault(&rt, rule, outside, "Outside 5 3 1")?;
+    check_fault(&rt, rule, outside.as_str(), "Outside 5 3 1")?;
     let too_deep = format!(in alloc; "let a 0:{deepest},0/0\n")?;
-    check_fault(&rt, rule, too_deep, "Address 1 TooDeep")?;
+    check_fault(&rt, rule, too_deep.as_str(), "Address 1 TooDeep")?;
     let beyond = format!(in alloc; "let a 0:{far}\nplace a\n")?;
-    check_fault(&rt, rule, beyond, "CoordLimit 2 26843544,13421772,0,0")
+    check_fault(
+        &rt,
+        rule,
+        beyond.as_str(),
+        "CoordLimit 2 26843544,13421772,0,0",
+    )
 }
 
 // A mebibyte, of a comment and of lines, and a byte more.
@@ -223,37 +221,9 @@ fn deep_addresses(rt: HostRuntime) -> Result<(), Fail> {
 fn long_scripts(rt: HostRuntime) -> Result<(), Fail> {
     let alloc = rt.alloc();
     let rule = "calc rule=halfhex";
-    check(&rt, rule, "#".repeat(alloc, 1_048_576)?, "", "")?;
-    check(&rt, rule, "\n".repeat(alloc, 1_048_576)?, "", "")?;
+    check_text(&rt, rule, "#".repeat(alloc, 1_048_576)?.as_str(), "")?;
+    check_text(&rt, rule, "\n".repeat(alloc, 1_048_576)?.as_str(), "")?;
     let last = format!(in alloc; "{}show a", "\n".repeat(alloc, 1_048_570)?)?;
-    check_fault(&rt, rule, last, "UnknownName 1048571")?;
-    check_fault(&rt, rule, "#".repeat(alloc, 1_048_577)?, "TooLong")
-}
-
-// Runs a script of 16 bytes a call from a source that fails at one call: how it ended.
-fn failing_at<R: Abort + AllocGlobal>(rt: &R, script: &str, call: u64) -> Result<Status, Fail> {
-    let alloc = rt.alloc();
-    let words = words_of(alloc, "calc rule=chair")?;
-    let bytes = script.as_bytes().to_vec(alloc)?;
-    let mut source = MemSource::new(bytes, 16, vec![in alloc; call]?);
-    let mut sink = SteadySink::new(alloc, 600)?;
-    let mut notes = SteadySink::new(alloc, 700)?;
-    let layers = Vec::new(alloc);
-    let status = run(alloc, &words, &mut source, &mut sink, &mut notes, layers);
-    if status != Status::Done {
-        assert_eq!(rt; sink.taken(), b"".as_slice(), "{call}");
-        assert_eq!(rt; notes.taken(), b"9 ReadFault\n".as_slice(), "{call}");
-    }
-    Ok(status)
-}
-
-#[test]
-fn a_source_that_fails(rt: HostRuntime) -> Result<(), Fail> {
-    let script = "let a 0:0/0,1/0\nacross a 4 b\ncommon a b\nplace b\n";
-    let calls = (script.len() as u64).div_ceil(16) + 1;
-    for call in 1..=calls {
-        assert_eq!(rt; failing_at(&rt, script, call)?, Status::ReadFault, "{call}");
-    }
-    assert_eq!(rt; failing_at(&rt, script, calls + 1)?, Status::Done);
-    Ok(())
+    check_fault(&rt, rule, last.as_str(), "UnknownName 1048571")?;
+    check_fault(&rt, rule, "#".repeat(alloc, 1_048_577)?.as_str(), "TooLong")
 }

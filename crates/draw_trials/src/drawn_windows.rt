@@ -1,8 +1,8 @@
 //! Windows against lists of all tiles of the frame: windows that are drawn, and windows round vertices and middles of
 //! edges, whose sides run through vertices, along edges and through corners of tiles that they only touch.
 use crate::listed::check_window;
-use builtin_rules::builtin::builtin;
 use builtin_rules::name::Name;
+use plain_tiles::built_in::machine_of;
 use plain_tiles::drawn_tile::drawn_tiles;
 use plain_tiles::draws::Draws;
 use plain_tiles::points::points;
@@ -56,7 +56,7 @@ fn check_drawn<R: Abort + AllocGlobal>(
 #[test]
 fn drawn_windows(rt: HostRuntime) -> Result<(), Fail> {
     for (name, rule) in RULES {
-        let machine = Machine::new(rt.alloc(), builtin(rt.alloc(), name)?)?;
+        let machine = machine_of(rt.alloc(), name)?;
         let tiles = check_drawn(&rt, rule, &machine)?;
         assert!(&rt; tiles >= 200, "{rule} {tiles}");
     }
@@ -97,7 +97,7 @@ fn check_touching<R: Abort + AllocGlobal>(
 #[test]
 fn touching_windows(rt: HostRuntime) -> Result<(), Fail> {
     for (name, rule) in RULES {
-        let machine = Machine::new(rt.alloc(), builtin(rt.alloc(), name)?)?;
+        let machine = machine_of(rt.alloc(), name)?;
         let mut draws = Draws { state: 3 };
         let base = draws.address(&machine, 2, true).unwrap_or(Address::new(0));
         let number = check_touching(&rt, rule, &machine, &base)?;

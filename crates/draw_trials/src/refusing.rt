@@ -1,26 +1,38 @@
-//! A layer that refuses at one of its calls: nothing is written then.
-use crate::calls::{check_call, layers_of};
+//! A layer that refuses at one of its calls, and layers counted as they are dropped.
+use crate::calls::check_call;
 use crate::rows::CHAIRS_LIST;
-use layer_api::format::Format;
+use layer_api::layer::Layer;
+use layer_list::census_layer::CensusLayer;
 use layer_list::list_layer::ListLayer;
+use layer_svg::svg_layer::SvgLayer;
+use refusing_layer::counted::Counted;
 use refusing_layer::refusing::Refusing;
+use std::rc::Rc;
 use std::test::Fail;
 
-/// Two tiles, where the first `put`, the second, the end, or no call is refused.
+/// Two tiles, where the first `put`, the second, the end, or no call is refused. Each layer is dropped by the time the
+/// call ends, one that isn't named too.
 #[test]
 fn each_call_refused(rt: HostRuntime) -> Result<(), Fail> {
     let alloc = rt.alloc();
     let line = "draw rule=chair seed=42 addr=0: at=1,1,0,0 half=2,1 layers=census,list";
+    let token = Rc::new(alloc, 0u8)?;
     for refused in 1..5u32 {
-        let mut layers = layers_of(alloc, &[Format::Census])?;
-        let layer = Refusing::new(ListLayer::new(alloc), refused);
-        layers.push(Box::new(alloc, layer)?)?;
+        let mut layers: Vec<Box<dyn Layer>> = Vec::new(alloc);
+        let census = Counted::new(CensusLayer::new(alloc), token.clone()?);
+        layers.push(Box::new(alloc, census)?)?;
+        let refusing = Refusing::new(ListLayer::new(alloc), refused);
+        layers.push(Box::new(alloc, Counted::new(refusing, token.clone()?))?)?;
+        let picture = Counted::new(SvgLayer::new(alloc), token.clone()?);
+        layers.push(Box::new(alloc, picture)?)?;
+        assert_eq!(&rt; Rc::strong_count(&token), 4);
         if refused == 4 {
             let text = format!(in alloc; "0 2\nall 2\n{CHAIRS_LIST}")?;
             check_call(&rt, line, layers, 0, text.as_str(), "")?;
         } else {
             check_call(&rt, line, layers, 11, "", "11 NoMemory\n")?;
         }
+        assert_eq!(&rt; Rc::strong_count(&token), 1);
     }
     Ok(())
 }
