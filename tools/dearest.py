@@ -1,0 +1,161 @@
+#!/usr/bin/env python3
+"""The dearest calls that can be written of each command: how long each takes and how much memory.
+
+    dearest.py PROGRAM [--count]          (Python 3.11 or later, on Linux)
+
+A window is taken for each file of rules/: as many tiles as may be drawn, at most 200,000, round the middle of the plane, as a
+picture, a list and a census at once, without and with glued halves. Then addresses of 64 digits, paths of 1,000 edges,
+drills of 200 windows, scripts and rule files of a mebibyte. Prints a line for each: its status, the bytes that it read
+and printed, the seconds of processor and the greatest memory, which is that of this script at least; with --count also
+its instructions, by valgrind, for all but the windows. Ends with 1 where a call ends otherwise than it must, takes more than two seconds, or more than a gigabyte."""
+import os
+import re
+import subprocess
+import sys
+import tempfile
+
+TOP = os.path.dirname(os.path.dirname(os.path.abspath(__file__)))
+MOST_TILES = 200000
+MEBIBYTE = 1 << 20
+MOST_SECONDS, MOST_MEMORY = 2, 10**9
+
+
+def run(program, words, text=b"", status=0):
+    """Runs a call: its line's numbers, and what it printed."""
+    with tempfile.TemporaryFile() as source, tempfile.TemporaryFile() as sink:
+        source.write(text)
+        source.seek(0)
+        child = os.posix_spawn(program, [program, *words.split(" ")], {}, file_actions=[
+            (os.POSIX_SPAWN_DUP2, source.fileno(), 0), (os.POSIX_SPAWN_DUP2, sink.fileno(), 1), (os.POSIX_SPAWN_OPEN, 2, "/dev/null", os.O_WRONLY, 0),
+        ])  # fmt: skip
+        _, ended, used = os.wait4(child, 0)
+        printed = sink.seek(0, os.SEEK_END)
+        sink.seek(max(0, printed - 200))
+        end = sink.read()
+    return os.waitstatus_to_exitcode(ended), printed, used.ru_utime + used.ru_stime, used.ru_maxrss * 1024, end
+
+
+def instructions(program, words, text):
+    """The instructions of a call, as valgrind counts them."""
+    tool = ["valgrind", "--tool=callgrind", "--callgrind-out-file=/dev/null", program, *words.split(" ")]
+    told = subprocess.run(tool, input=text, stdout=subprocess.DEVNULL, stderr=subprocess.PIPE, env={"PATH": "/usr/bin:/bin"})
+    return int(re.search(rb"Collected : ([0-9]+)", told.stderr).group(1))
+
+
+class Table:
+    """The lines that were printed, and whether one was wrong."""
+
+    def __init__(self, program, counts):
+        self.program, self.counts, self.wrong = program, counts, 0
+
+    def add(self, name, words, text=b"", status=0, counts=True):
+        ended, printed, seconds, memory, _ = run(self.program, words, text)
+        told = f"{name}: status {ended}, read {len(text)}, printed {printed}, {seconds:.2f} s, {memory / 1e6:.0f} MB"
+        if self.counts and counts:
+            told += f", {instructions(self.program, words, text):,} instructions"
+        is_wrong = ended != status or seconds > MOST_SECONDS or memory > MOST_MEMORY
+        self.wrong += is_wrong
+        print(told + (" WRONG" if is_wrong else ""), flush=True)
+
+
+def tiles(program, text, half):
+    """How many tiles a square window of these half extents has, or None where it has too many."""
+    ended, *_, end = run(program, f"draw rule=- addr=0: seed=42 at=0,0,0,0 half={half},{half} layers=census", text)
+    return int(end.split()[-1]) if ended == 0 else None
+
+
+def largest(program, text):
+    """The greatest square window round the middle that is drawn."""
+    low, high = 1, 4096
+    while low < high:
+        middle = (low + high + 1) // 2
+        low, high = (middle, high) if tiles(program, text, middle) is not None else (low, middle - 1)
+    return low
+
+
+def windows(table):
+    """The largest window of each rule file."""
+    for name in sorted(name for name in os.listdir(os.path.join(TOP, "rules")) if name.endswith(".toml")):
+        with open(os.path.join(TOP, "rules", name), "rb") as file:
+            text = file.read()
+        half = largest(table.program, text)
+        many = tiles(table.program, text, half)
+        for glue in ("no", "yes"):
+            words = f"draw rule=- addr=0: seed=42 at=0,0,0,0 half={half},{half} layers=svg,list,census glue={glue}"
+            table.add(f"draw {name} half={half},{half} glue={glue}, {many} tiles", words, text, counts=False)
+
+
+def deep(digit, times=64):
+    return ",".join([digit] * times)
+
+
+def filled(line, front=b"", most=MEBIBYTE):
+    """A text of a line again and again, of at most a mebibyte."""
+    return front + line * ((most - len(front)) // len(line))
+
+
+def addresses(table):
+    """Addresses of 64 digits: placed, crossed over all levels, walked along, and grown."""
+    table.add("place, 64 digits", f"place rule=chair addr=0:{deep('0/0')}")
+    table.add("neighbour over 64 levels", f"neighbour rule=chair addr=0:{deep('0/0', 63)},1/0 edge=4")
+    table.add("neighbour of ab, 64 digits", f"neighbour rule=ab addr=0:{deep('0/0')} edge=1")
+    path = ",".join(["0", "3"] * 500)
+    table.add("walk of 1,000 edges, 64 digits", f"walk rule=chair addr=0:{deep('0/0')} path={path}")
+    climbing = ",".join(["4", "7"] * 500)
+    table.add("walk of 1,000 edges over 64 levels", f"walk rule=chair addr=0:{deep('0/0', 63)},1/0 path={climbing}")
+    for rule in ("chair", "p2", "p3", "ab", "halfhex"):
+        table.add(f"drill of {rule}, 200 windows", f"drill rule={rule} n=200 seed=42")
+
+
+def scripts(table):
+    """Scripts of a mebibyte."""
+    front = f"let a 0:{deep('0/0', 63)},1/0\n".encode()
+    table.add("calc, across over 64 levels", "calc rule=chair", filled(b"across a 4 b\n", front))
+    table.add("calc, place of 64 digits", "calc rule=chair", filled(b"place a\n", b"let a 0:" + deep("0/0").encode() + b"\n"))
+    table.add("calc, common of 64 digits", "calc rule=chair", filled(b"common a a\n", front))
+    table.add("calc, show of 64 digits", "calc rule=chair", filled(b"show a\n", front))
+    table.add("calc, let of 64 digits", "calc rule=chair", filled(front))
+    table.add("calc, empty lines", "calc rule=chair", b"\n" * MEBIBYTE)
+    table.add("calc, one line", "calc rule=chair", b"a" * MEBIBYTE, status=13)
+    table.add("calc, a byte too long", "calc rule=chair", b"#" * (MEBIBYTE + 1), status=13)
+
+
+def largest_rule():
+    """The text of a rule of sixteen kinds, rectangles with twelve edges, each cut into sixteen."""
+    corners = [(1, 0), (2, 0), (2, 1), (2, 2), (2, 3), (2, 4), (1, 4), (0, 4), (0, 3), (0, 2), (0, 1), (0, 0)]
+    vertices = ",".join(f"[{x},{y},0,0]" for x, y in corners)
+    rows = lambda kind: ",".join(f"[{(kind + n) % 16},0,{2 * (n % 4)},{4 * (n // 4)},0,0]" for n in range(16))  # noqa: E731
+    head = "format = 1\norder = 4\nlambda = [4, 0, 0, 0]\nglue = []\n[[type]]\nmate = 0\nparts = [0, 0, 0, 0]\n"
+    edges = ",".join("0" * 12)
+    return head + "".join(f"[[kind]]\nvertices = [{vertices}]\nedges = [{edges}]\nchildren = [{rows(kind)}]\n" for kind in range(16))
+
+
+def files(table):
+    """Rule files of a mebibyte, and the largest rules."""
+    most = largest_rule().encode()
+    table.add("check, 16 kinds of 16 children", "check rule=-", most)
+    table.add("check, the same with a mebibyte of comments", "check rule=-", filled(b"# x\n", most))
+    table.add("place, the same rule", "place rule=- addr=0:", most)
+    table.add("check, a mebibyte of bytes that are no text", "check rule=-", b"\xff" * MEBIBYTE, status=3)
+    table.add("check, one long array", "check rule=-", filled(b"0,", b"format = ["), status=3)
+    table.add("check, many tables", "check rule=-", filled(b"[[kind]]\n"), status=3)
+    table.add("check, many types", "check rule=-", filled(b"[[type]]\nmate = 0\nparts = [0]\n", b"format = 1\norder = 4\nlambda = [2, 0, 0, 0]\nglue = []\n"), status=3)
+    table.add("check, nested arrays", "check rule=-", b"a = " + b"[" * (MEBIBYTE - 4), status=3)
+    table.add("check, dots below the bound", "check rule=-", b"a" + b".a" * 199999 + b" = 1\n", status=3)
+    table.add("check, one long string", "check rule=-", b'a = "' + b"x" * (MEBIBYTE - 6) + b'"', status=3)
+    table.add("check, many keys", "check rule=-", b"".join(b"a%d = 0\n" % n for n in range(90000))[:MEBIBYTE].rpartition(b"\n")[0], status=3)
+    table.add("check, a byte too long", "check rule=-", b"#" * (MEBIBYTE + 1), status=3)
+
+
+def main(program, counts=False):
+    table = Table(os.path.abspath(program), counts)
+    for part in (addresses, scripts, files, windows):
+        part(table)
+    print(f"dearest: {table.wrong} wrong")
+    return 1 if table.wrong else 0
+
+
+if __name__ == "__main__":
+    if len(sys.argv) not in (2, 3):
+        sys.exit(__doc__)
+    sys.exit(main(sys.argv[1], len(sys.argv) == 3))

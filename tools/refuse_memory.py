@@ -1,0 +1,140 @@
+#!/usr/bin/env python3
+"""Refuses each allocation of a call in turn, for a call of each command, and looks at how the call ends.
+
+    refuse_memory.py PROGRAM        (Python 3.11 or later, on Linux, with a C compiler `cc` and a program that uses libc)
+
+A library made of tools/refuse_memory.c is loaded before the program's own and counts what `main` allocates. A call is run
+once undisturbed, and then once for each number up to its last allocation, where that one gets no memory, and once where
+all from it on get none. It must end with 11, nothing on standard output and its note, or without a note as long as the
+words themselves may want memory, or answer as if nothing had been. Ends with 1 where a call does otherwise, and with 2
+where what it needs is missing."""
+import collections
+import concurrent.futures
+import os
+import subprocess
+import sys
+import tempfile
+
+TOP = os.path.dirname(os.path.dirname(os.path.abspath(__file__)))
+NOTE = b"11 NoMemory\n"
+SHOWN = 20
+SCRIPT = b"let a 0:0/0,1/0\nacross a 4 b\nshow b\ncommon a b\nplace b\n# x\nlet c 0:0/0\nshow c\n"
+WINDOW = "at=0,0,0,0 half=2,2 layers=svg,list,census"
+
+
+def calls():
+    """Each call as its words and its standard input."""
+    rules = {}
+    for name in ("chair", "penrose_p3", "half_chair"):
+        with open(os.path.join(TOP, "rules", f"{name}.toml"), "rb") as file:
+            rules[name] = file.read()
+    with open(os.path.join(TOP, "docs", "refused", "10_wrong_glue.toml"), "rb") as file:
+        refused = file.read()
+    for rule, text in (("p3", b""), ("-", rules["penrose_p3"])):
+        yield f"place rule={rule} addr=0:0/0,0/0", text
+        yield f"neighbour rule={rule} addr=2:1/0,0/0 edge=2", text
+        yield f"walk rule={rule} seed=42 addr=0: grow=3 path=0,1,2,0,1,2,0,1", text
+        yield f"draw rule={rule} seed=3 addr=0: {WINDOW}", text
+        yield f"draw rule={rule} seed=3 addr=0: {WINDOW} glue=yes", text
+        yield f"check rule={rule}", text
+        yield f"drill rule={rule} n=1 seed=7", text
+    yield "calc rule=chair", SCRIPT
+    yield "calc rule=p3", b"let a 2:1/0,0/0\nacross a 2 b\nplace b\ncommon a b\nshow a\n"
+    yield f"draw rule=- seed=3 addr=0: {WINDOW} glue=yes", rules["half_chair"]
+    yield f"draw rule=chair seed=42 addr=0: {WINDOW}", b""
+    # calls that are refused
+    yield "place rule=chair", b""
+    yield "check rule=-", refused
+    yield "check rule=-", b"format = 1\norder = 4\nlambda = ["
+    yield "place rule=p3 addr=0:0/7", b""
+    yield "neighbour rule=p3 addr=0:0/0,0/0 edge=2", b""
+    yield "neighbour rule=p3 addr=0: edge=9", b""
+    yield "walk rule=chair addr=0:" + ",".join(["0/0"] * 64) + " path=0,4", b""
+    yield "draw rule=chair seed=10 addr=0: at=1000000,1000000,0,0 half=2,1 layers=list", b""
+    yield "calc rule=chair", SCRIPT + b"across c 4 d\n"
+    yield "calc rule=chair", SCRIPT + b"show z\n"
+
+
+class Trial:
+    """A program with the library that refuses its allocations."""
+
+    def __init__(self, program, library, folder):
+        self.program, self.library, self.folder = program, library, folder
+
+    def run(self, call, refused=0, goes_on=False):
+        """The status and the two texts of a call, and how many allocations it asked for."""
+        words, text = call
+        with tempfile.NamedTemporaryFile(dir=self.folder) as count:
+            count.truncate(8)
+            environment = {"LD_PRELOAD": self.library, "REFUSE": str(refused), "REFUSE_COUNT": count.name}
+            environment |= {"REFUSE_ON": "1"} if goes_on else {}
+            ran = subprocess.run([self.program, *words.split(" ")], input=text, capture_output=True, env=environment, timeout=60)
+            return (ran.returncode, ran.stdout, ran.stderr), int.from_bytes(count.read(8), sys.byteorder)
+
+    def refused(self, call, most, pool, goes_on):
+        """How the call ends for each allocation refused."""
+        return list(pool.map(lambda number: self.run(call, number, goes_on)[0], range(1, most + 1)))
+
+
+def kind_of(end, whole):
+    """What an end is: as if nothing had been, with the note, without it, or something else."""
+    if end == whole:
+        return "the same"
+    return {(11, b"", NOTE): "a note", (11, b"", b""): "no note"}.get(end, "WRONG")
+
+
+def wrong_ends(ends, whole):
+    """The numbers of the allocations at which a call ended as it mustn't: where nothing is noted, but was before."""
+    noted = False
+    for number, end in enumerate(ends, 1):
+        kind = kind_of(end, whole)
+        noted = noted or kind == "a note"
+        if kind == "WRONG" or (kind == "no note" and noted):
+            yield number
+
+
+def tried(trial, call, pool):
+    """Refuses each allocation of a call, prints how it ended, and answers the lines of what is wrong."""
+    whole, most = trial.run(call)
+    shown = call[0] if len(call[0]) <= 70 else call[0][:67] + ".."
+    wrong = []
+    for goes_on in (False, True):
+        ends = trial.refused(call, most, pool, goes_on)
+        counts = collections.Counter(kind_of(end, whole) for end in ends)
+        told = ", ".join(f"{many} {kind}" for kind, many in sorted(counts.items()))
+        print(f"refuse_memory: {shown} (status {whole[0]}): {most} allocations, {'all from it on' if goes_on else 'each alone'}: {told}")
+        wrong += [f"{shown}: {'from' if goes_on else 'at'} allocation {number}: {ends[number - 1]!r:.300}" for number in wrong_ends(ends, whole)]
+    return most, wrong
+
+
+def built(folder):
+    """The library, made by the C compiler; None where there is none."""
+    library = os.path.join(folder, "refuse_memory.so")
+    source = os.path.join(TOP, "tools", "refuse_memory.c")
+    try:
+        subprocess.run(["cc", "-O1", "-shared", "-fPIC", "-o", library, source], check=True)
+    except (OSError, subprocess.CalledProcessError):
+        return None
+    return library
+
+
+def main(program):
+    with tempfile.TemporaryDirectory() as folder, concurrent.futures.ThreadPoolExecutor(2) as pool:
+        library = built(folder)
+        if not library:
+            print("refuse_memory: there is no C compiler cc that makes tools/refuse_memory.c", file=sys.stderr)
+            return 2
+        trial = Trial(os.path.abspath(program), library, folder)
+        if trial.run(("check rule=chair", b""))[1] == 0:
+            print("refuse_memory: the program takes no memory from libc, or isn't linked with it", file=sys.stderr)
+            return 2
+        results = [tried(trial, call, pool) for call in calls()]
+    wrong = [line for _, lines in results for line in lines]
+    for line in wrong[:SHOWN]:
+        print(f"refuse_memory: {line}", file=sys.stderr)
+    print(f"refuse_memory: {len(results)} calls, {2 * sum(most for most, _ in results)} refusals tried, {len(wrong)} wrong")
+    return 1 if wrong else 0
+
+
+if __name__ == "__main__":
+    sys.exit(main(*sys.argv[1:]) if len(sys.argv) == 2 else __doc__)
