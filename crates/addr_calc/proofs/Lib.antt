@@ -4,4 +4,5 @@ pub mod OneAnswer
 pub mod Names
 pub mod Printing
 pub mod Tables
+pub mod Related
 pub mod Scripts

@@ -13,14 +13,18 @@ use Rattle.tile_shape.specs.Usable.{AreUsable}
 use Rattle.addr_calc.specs.Bindings.{Bindings, IsBound, IsUnbound, bind}
 use Rattle.addr_calc.specs.declared.calc_fault.CalcFault.{CalcFault}
 use Rattle.addr_calc.specs.declared.calc_fault.CalcFault.TheVariants.{BadLine, UnknownName, Address as BadAddress, NoEdge, Outside, CoordLimit}
-use Rattle.addr_calc.specs.Does.{Binds, Shows, Places, Crosses, Compares, Does, Runs}
+use Rattle.addr_calc.specs.Does.{Binds, Shows, Places, Crosses, Compares, Pairs, Does, Runs}
 use Rattle.addr_calc.specs.Level.{IsCommonLevel}
-use Rattle.addr_calc.specs.Printed.{show_line, place_line, across_line, common_line}
+use Rattle.addr_calc.specs.Relation.{Relation, AreAllAcross, IsRelation}
+use Rattle.addr_calc.specs.Relation.Relation.{Strangers, Same, Apart, Beside}
+use Rattle.addr_calc.specs.Printed.{show_line, place_line, across_line, common_line, pair_line}
 use Rattle.addr_calc.specs.Reading.{statement_in}
 use Rattle.addr_calc.specs.Refuses.{ReadsUnbound, LacksEdge, LiesOutside, PassesLimit, Refuses, HasFault}
 use Rattle.addr_calc.specs.Script.{Outcome, put_before, ComesOf}
 use Rattle.addr_calc.specs.Statement.{Statement}
-use Rattle.addr_calc.specs.Statement.Statement.{Nothing, Let, Show, Place, Across, Common}
+use Rattle.addr_calc.specs.Statement.Statement.{Nothing, Let, Show, Place, Across, Common, Pair}
+use Rattle.pair_machine.specs.Between.{Pair as EdgePair}
+use Rattle.pair_machine.proofs.InOrder.{in_order-one}
 use Rattle.addr_calc.proofs.Faults.{OneText, fault_once}
 
 -- ---- the laws from which it follows
@@ -63,6 +67,31 @@ one_level a b (Some i) (Some j) h k =
 one_across : (t : Tiling) (a b c : Address) (e f g : ℕ) → IsOnlyAcross t a e b f → IsOnlyAcross t a e c g → (b ≡ c) × (f ≡ g)
 one_across t a b c e f g h k = let same = k.only _ f h.across in (ap (λ (p : Placed (NumberOf t.order)). p.address) same.0, same.1)
 
+-- ---- how two tiles lie to each other
+-- a list in order is known by its members
+one_list : (t : Tiling) (a b : Address) (ps qs : List EdgePair) → AreAllAcross t a b ps → AreAllAcross t a b qs → ps ≡ qs
+one_list t a b ps qs h k = in_order-one ps qs h.in_order k.in_order
+    (λ p i. (k.only_across p.mine p.theirs).1 ((h.only_across p.mine p.theirs).0 i))
+    (λ p i. (h.only_across p.mine p.theirs).1 ((k.only_across p.mine p.theirs).0 i))
+
+one_relation : (t : Tiling) (a b : Address) (r s : Relation) → IsRelation t a b r → IsRelation t a b s → r ≡ s
+one_relation t a b Strangers Strangers h k = refl
+one_relation t a b Strangers Same h k = absurd (h k.0)
+one_relation t a b Strangers Apart h k = absurd (h k.0)
+one_relation t a b Strangers (Beside qs) h k = absurd (h k.0)
+one_relation t a b Same Strangers h k = absurd (k h.0)
+one_relation t a b Same Same h k = refl
+one_relation t a b Same Apart h k = absurd (k.1 h.1)
+one_relation t a b Same (Beside qs) h k = absurd (k.1 h.1)
+one_relation t a b Apart Strangers h k = absurd (k h.0)
+one_relation t a b Apart Same h k = absurd (h.1 k.1)
+one_relation t a b Apart Apart h k = refl
+one_relation t a b Apart (Beside qs) h k = absurd (k.3 (one_list t a b qs [] k.2 h.2))
+one_relation t a b (Beside ps) Strangers h k = absurd (k h.0)
+one_relation t a b (Beside ps) Same h k = absurd (h.1 k.1)
+one_relation t a b (Beside ps) Apart h k = absurd (h.3 (one_list t a b ps [] h.2 k.2))
+one_relation t a b (Beside ps) (Beside qs) h k = ap (λ l. Beside l) (one_list t a b ps qs h.2 k.2)
+
 -- the names and the text after a statement
 abbrev AreOne : Bindings → Bindings → List ℕ → List ℕ → Type 0
 AreOne after after' printed printed' = (after ≡ after') × (printed ≡ printed')
@@ -104,6 +133,15 @@ module _ (one_text : OneText) (short : FitsAreShort) (t : Tiling) (usable : AreU
       let level : IsCommonLevel k.address k.second h.level = subst (λ a. IsCommonLevel a k.second h.level) first (subst (λ b. IsCommonLevel h.address b h.level) second h.common) in
       (h.keeps ∙ sym k.keeps, h.line ∙ ap (common_line one other) (one_level k.address k.second h.level k.level level k.common) ∙ sym k.line)
 
+  one_pair : (names : Bindings) (one other : ℕ) (after after' : Bindings) (printed printed' : List ℕ) → Pairs t names one other after printed → Pairs t names one other after' printed'
+      → AreOne after after' printed printed'
+  one_pair names one other after after' printed printed' h k =
+      let first = one_bound names one h.address k.address h.bound k.bound in
+      let second = one_bound names other h.second k.second h.second_bound k.second_bound in
+      let relation : IsRelation t k.address k.second h.relation =
+      subst (λ a. IsRelation t a k.second h.relation) first (subst (λ b. IsRelation t h.address b h.relation) second h.is_relation) in
+      (h.keeps ∙ sym k.keeps, h.line ∙ ap (pair_line one other) (one_relation t k.address k.second h.relation k.relation relation k.is_relation) ∙ sym k.line)
+
   does_once : (names : Bindings) (s : Statement) (after after' : Bindings) (printed printed' : List ℕ) → Does t names s after printed → Does t names s after' printed' → AreOne after after' printed printed'
   does_once names Nothing after after' printed printed' h k = (h.0 ∙ sym k.0, h.1 ∙ sym k.1)
   does_once names (Let name text) after after' printed printed' h k = one_binding names name text after after' printed printed' h k
@@ -111,6 +149,7 @@ module _ (one_text : OneText) (short : FitsAreShort) (t : Tiling) (usable : AreU
   does_once names (Place name) after after' printed printed' h k = one_place names name after after' printed printed' h k
   does_once names (Across name edge other) after after' printed printed' h k = one_crossing names name edge other after after' printed printed' h k
   does_once names (Common one other) after after' printed printed' h k = one_comparison names one other after after' printed printed' h k
+  does_once names (Pair one other) after after' printed printed' h k = one_pair names one other after after' printed printed' h k
 
   -- ---- a statement is done or refused
   inside_or_outside : (names : Bindings) (name edge other own part : ℕ) (after : Bindings) (printed : List ℕ) → Crosses t names name edge other after printed → LiesOutside t names name edge own part → ⊥
@@ -134,6 +173,10 @@ module _ (one_text : OneText) (short : FitsAreShort) (t : Tiling) (usable : AreU
   reads_bound names (Place name) after printed h k = bound_or_not names name h.address h.bound k
   reads_bound names (Across name edge other) after printed h k = bound_or_not names name h.address h.bound k
   reads_bound names (Common one other) after printed h k = elim k [
+    | inl u ↦ bound_or_not names one h.address h.bound u
+    | inr u ↦ bound_or_not names other h.second h.second_bound u
+  ]
+  reads_bound names (Pair one other) after printed h k = elim k [
     | inl u ↦ bound_or_not names one h.address h.bound u
     | inr u ↦ bound_or_not names other h.second h.second_bound u
   ]

@@ -8,10 +8,11 @@ use Rattle.tile_shape.specs.Accepted.{IsAcceptedAddress}
 use Rattle.tile_shape.specs.Text.{address_text}
 use Rattle.addr_calc.specs.Bindings.{Bindings, IsBound, bind}
 use Rattle.addr_calc.specs.Level.{IsCommonLevel}
+use Rattle.addr_calc.specs.Relation.{Relation, IsRelation}
 use Rattle.addr_calc.specs.Statement.{Statement}
-use Rattle.addr_calc.specs.Statement.Statement.{Nothing, Let, Show, Place, Across, Common}
+use Rattle.addr_calc.specs.Statement.Statement.{Nothing, Let, Show, Place, Across, Common, Pair}
 use Rattle.addr_calc.specs.Reading.{statement_in}
-use Rattle.addr_calc.specs.Printed.{show_line, place_line, across_line, common_line}
+use Rattle.addr_calc.specs.Printed.{show_line, place_line, across_line, common_line, pair_line}
 
 -- the name is bound to the address of this text, a tile of the tiling
 pub record Binds (t : Tiling) (names : Bindings) (name : ℕ) (text : List ℕ) (after : Bindings) (printed : List ℕ) : Type 0 where
@@ -63,6 +64,18 @@ pub record Compares (names : Bindings) (one other : ℕ) (after : Bindings) (pri
   pub keeps : after ≡ names
   pub line : printed ≡ common_line one other level
 
+-- how the two tiles lie to each other is printed: the edges of the one that have the other across them in their common supertile, with the edges there that lead
+-- back
+pub record Pairs (t : Tiling) (names : Bindings) (one other : ℕ) (after : Bindings) (printed : List ℕ) : Type 0 where
+  pub address : Address
+  pub bound : IsBound names one address
+  pub second : Address
+  pub second_bound : IsBound names other second
+  pub relation : Relation
+  pub is_relation : IsRelation t address second relation
+  pub keeps : after ≡ names
+  pub line : printed ≡ pair_line one other relation
+
 -- what each statement does
 abbrev pub Does : Tiling → Bindings → Statement → Bindings → List ℕ → Type 0
 Does t names Nothing after printed = (after ≡ names) × (printed ≡ [])
@@ -71,6 +84,7 @@ Does t names (Show name) after printed = Shows names name after printed
 Does t names (Place name) after printed = Places t names name after printed
 Does t names (Across name edge other) after printed = Crosses t names name edge other after printed
 Does t names (Common one other) after printed = Compares names one other after printed
+Does t names (Pair one other) after printed = Pairs t names one other after printed
 
 -- a line that can be run, by its text
 pub record Runs (t : Tiling) (names : Bindings) (text : List ℕ) (after : Bindings) (printed : List ℕ) : Type 0 where

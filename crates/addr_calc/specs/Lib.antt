@@ -3,6 +3,7 @@ pub mod Statement
 pub mod Reading
 pub mod Bindings
 pub mod Level
+pub mod Relation
 pub mod Printed
 pub mod Does
 pub mod Refuses
@@ -10,3 +11,4 @@ pub mod Script
 pub mod FaultText
 pub mod Views
 pub mod Calculation
+pub mod Compiled

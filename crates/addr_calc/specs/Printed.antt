@@ -4,9 +4,12 @@ use Rattle.addressing.specs.Address.{Address}
 use Rattle.cyclo_points.specs.Order.{NumberOf}
 use Rattle.cyclo_points.specs.Text.{number_text, blank}
 use Rattle.cyclo_points.specs.declared.order.Order.{Order}
+use Rattle.pair_machine.specs.Between.{Pair}
 use Rattle.substitution.specs.Motion.{Motion}
-use Rattle.tile_shape.specs.Text.{address_text}
+use Rattle.tile_shape.specs.Text.{address_text, slash}
 use Rattle.addr_calc.specs.Parts.{newline}
+use Rattle.addr_calc.specs.Relation.{Relation}
+use Rattle.addr_calc.specs.Relation.Relation.{Strangers, Same, Apart, Beside}
 
 -- the letter of a name
 abbrev pub letter : ℕ → ℕ
@@ -32,3 +35,23 @@ level_text (Some level) = decimal level
 -- two names, as `name name level`
 abbrev pub common_line : ℕ → ℕ → Option ℕ → List ℕ
 common_line one other level = letter one ∷ blank ∷ letter other ∷ blank ∷ level_text level ++ newline ∷ []
+
+-- an edge of the first tile and one of the second, as `edge/edge`
+abbrev pub pair_text : Pair → List ℕ
+pair_text p = decimal p.mine ++ slash ∷ decimal p.theirs
+
+-- pairs of edges, a blank before each
+abbrev pub pairs_text : List Pair → List ℕ
+pairs_text [] = []
+pairs_text (p ∷ ps) = blank ∷ pair_text p ++ pairs_text ps
+
+-- how two tiles lie to each other: a word, or the pairs of edges
+abbrev pub relation_text : Relation → List ℕ
+relation_text Strangers = codes " none"
+relation_text Same = codes " same"
+relation_text Apart = codes " apart"
+relation_text (Beside pairs) = pairs_text pairs
+
+-- two names, as `name name relation`
+abbrev pub pair_line : ℕ → ℕ → Relation → List ℕ
+pair_line one other relation = letter one ∷ blank ∷ letter other ∷ relation_text relation ++ newline ∷ []

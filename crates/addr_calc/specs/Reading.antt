@@ -7,7 +7,7 @@ use Rattle.cyclo_points.specs.Text.{blank}
 use Rattle.tile_shape.specs.Decimal.{number_up_to}
 use Rattle.tile_shape.specs.Parse.{◌>>=◌}
 use Rattle.addr_calc.specs.Statement.{Statement}
-use Rattle.addr_calc.specs.Statement.Statement.{Nothing, Let, Show, Place, Across, Common}
+use Rattle.addr_calc.specs.Statement.Statement.{Nothing, Let, Show, Place, Across, Common, Pair}
 use Rattle.addr_calc.specs.Parts.{parts, number_sign}
 
 -- the number of a name: the word is one letter from `a`, which is 97, to `z`
@@ -55,11 +55,12 @@ across_in words = do
   to ← first_word name_in 3 edge.1
   no_word (Across from.0 edge.0 to.0) 4 to.1
 
-unfoldable pub common_in : List (List ℕ) → Result Statement ℕ
-common_in words = do
+-- one that asks something of two names
+unfoldable pub two_names_in : (ℕ → ℕ → Statement) → List (List ℕ) → Result Statement ℕ
+two_names_in asks words = do
   one ← first_word name_in 1 words
   other ← first_word name_in 2 one.1
-  no_word (Common one.0 other.0) 3 other.1
+  no_word (asks one.0 other.0) 3 other.1
 
 -- the statement of words, of which the first is the command
 unfoldable pub command_in : List (List ℕ) → Result Statement ℕ
@@ -69,7 +70,8 @@ command_in (word ∷ words) =
     (if bytes_eq word (codes "show") then show_in words else
     (if bytes_eq word (codes "place") then place_in words else
     (if bytes_eq word (codes "across") then across_in words else
-    (if bytes_eq word (codes "common") then common_in words else Err 0))))
+    (if bytes_eq word (codes "common") then two_names_in Common words else
+    (if bytes_eq word (codes "pair") then two_names_in Pair words else Err 0)))))
 
 -- the statement of a line: nothing where it is empty or a comment; else its words stand between single blanks
 unfoldable pub statement_in : List ℕ → Result Statement ℕ

@@ -15,7 +15,7 @@ use Rattle.addr_calc.specs.Bindings.{Bindings, IsBound, IsUnbound}
 use Rattle.addr_calc.specs.declared.calc_fault.CalcFault.{CalcFault}
 use Rattle.addr_calc.specs.declared.calc_fault.CalcFault.TheVariants.{BadLine, UnknownName, Address as BadAddress, NoEdge, Outside, CoordLimit}
 use Rattle.addr_calc.specs.Statement.{Statement}
-use Rattle.addr_calc.specs.Statement.Statement.{Let, Show, Place, Across, Common}
+use Rattle.addr_calc.specs.Statement.Statement.{Let, Show, Place, Across, Common, Pair}
 use Rattle.addr_calc.specs.Reading.{statement_in}
 
 -- a name that the statement reads isn't bound
@@ -24,6 +24,7 @@ ReadsUnbound names (Show name) = IsUnbound names name
 ReadsUnbound names (Place name) = IsUnbound names name
 ReadsUnbound names (Across name edge other) = IsUnbound names name
 ReadsUnbound names (Common one other) = IsUnbound names one ⊎ IsUnbound names other
+ReadsUnbound names (Pair one other) = IsUnbound names one ⊎ IsUnbound names other
 ReadsUnbound names _ = ⊥
 
 -- the text is that of no tile of the tiling, and has this fault: the first in the order of the faults of addresses

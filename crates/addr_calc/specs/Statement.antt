@@ -14,3 +14,5 @@ pub data Statement : Type 0 where
   Across : ℕ → ℕ → ℕ → Statement
   -- to print the level from which on the addresses of two names agree
   Common : ℕ → ℕ → Statement
+  -- to print by which edges the tiles of two names lie on each other
+  Pair : ℕ → ℕ → Statement

@@ -1,12 +1,17 @@
 -- The program's values as those of the definitions, and what its readers of words answer.
-use Rattle.std.specs.Prelude.{◌≡◌, ℕ, List, [], Option, Some, None, option_map, Result, Ok, Err}
+use Rattle.std.specs.Prelude.{◌≡◌, ℕ, List, [], map, Option, Some, None, option_map, Result, Ok, Err}
 use Rattle.std.specs.Borrow.{Bor}
 use Rattle.cyclo_points.specs.Text.{blank}
+use Rattle.pair_machine.specs.Views.{as_pair}
+use Rattle.pair_machine.specs.declared.verdict.Verdict.{Verdict}
+use Rattle.pair_machine.specs.declared.verdict.Verdict.TheVariants as verdict
 use Rattle.addr_calc.specs.declared.statement.Statement.{Statement as Asked}
 use Rattle.addr_calc.specs.declared.statement.Statement.TheVariants as asked
 use Rattle.addr_calc.specs.Parts.{parts}
+use Rattle.addr_calc.specs.Relation.{Relation}
+use Rattle.addr_calc.specs.Relation.Relation.{Strangers, Same, Apart, Beside}
 use Rattle.addr_calc.specs.Statement.{Statement}
-use Rattle.addr_calc.specs.Statement.Statement.{Nothing, Let, Show, Place, Across, Common}
+use Rattle.addr_calc.specs.Statement.Statement.{Nothing, Let, Show, Place, Across, Common, Pair}
 
 -- the statement, each name by its number
 abbrev pub statement_of : Asked → Statement
@@ -16,6 +21,14 @@ statement_of (asked.Show name) = Show name.number
 statement_of (asked.Place name) = Place name.number
 statement_of (asked.Across name edge other) = Across name.number edge other.number
 statement_of (asked.Common one other) = Common one.number other.number
+statement_of (asked.Pair one other) = Pair one.number other.number
+
+-- what the machine of pairs says, with the pairs as a list
+abbrev pub relation_of : Verdict → Relation
+relation_of verdict.Strangers = Strangers
+relation_of verdict.Same = Same
+relation_of verdict.Apart = Apart
+relation_of (verdict.Beside pairs) = Beside (map as_pair pairs.items)
 
 -- the parts of what stands behind a mark, where there is a mark
 abbrev pub parts_behind : ℕ → Option (List ℕ) → List (List ℕ)

@@ -8,6 +8,7 @@ use crate::calc_fault::CalcFault;
 use crate::calculation::Calculation;
 use crate::cut::cut;
 use crate::laws::one_answer_law;
+use crate::pairs::Pairs;
 use edge_tables::steps::Steps;
 use std::alloc::Global;
 use std::marker::Brand;
@@ -20,8 +21,8 @@ use tile_place::machine::Machine;
 /// - `script` has lines, divided by newlines, of which the last may be missing. Empty lines and lines that begin with
 ///   `#` do nothing. Words are divided by single blanks, and names are the letters `a` to `z`: `let a 0:1/0` binds a
 ///   name to an address, `show a` prints it, `place a` prints where its tile lies in the supertile, `across a 3 b`
-///   binds `b` to the tile across edge 3 and prints it, and `common a b` prints the level from which on two
-///   addresses agree.
+///   binds `b` to the tile across edge 3 and prints it, `common a b` prints the level from which on two addresses
+///   agree, and `pair a b` prints by which edges two tiles lie on each other.
 /// - `alloc` gives all memory. In place of any answer `NoMemory` may come.
 pub fn calc(alloc: Global, machine: &Machine, script: &[u8]) -> Result<Vec<u8>, CalcFault>
     requires { length script.now ≤ longest_script }
@@ -54,10 +55,11 @@ fn calculated<L: Ledger>(
 {
     let mut steps = Steps::<L>::new(blank);
     let mut calculation = Calculation::new(alloc)?;
+    let mut pairs = Pairs::new(alloc);
     let mut left = Some(script);
     while let Some(text) = left {
         let (line, rest) = cut(text, b'\n');
-        calculation.run(machine, line, &mut steps)?;
+        calculation.run(machine, &mut pairs, line, &mut steps)?;
         left = rest;
     }
     Ok(calculation.into_text())

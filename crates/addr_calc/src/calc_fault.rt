@@ -6,6 +6,7 @@ use cyclo_points::point::Point;
 use std::alloc::{AllocError, AllocFailed};
 use std::fmt;
 use tile_shape::address_fault::AddressFault;
+use tile_shape::no_memory::NoMemory;
 
 /// The fault of a line of a script. Lines are counted from 1, empty ones and comments too.
 #[derive(Clone, Copy, Debug, PartialEq, Eq)]
@@ -61,6 +62,17 @@ impl<T: Drop> From<AllocFailed<T>> for CalcFault {
     ghost from_gives = { λ _ fault. fault ≡ NoMemory };
 
     fn from(_error: AllocFailed<T>) -> CalcFault {
+        CalcFault::NoMemory
+    }
+}
+
+impl From<NoMemory> for CalcFault {
+    ghost use Rattle.std.specs.Prelude.{◌≡◌};
+    ghost use Rattle.addr_calc.specs.declared.calc_fault.CalcFault.TheVariants as faults;
+
+    ghost from_gives = { λ _ fault. fault ≡ faults.NoMemory };
+
+    fn from(_error: NoMemory) -> CalcFault {
         CalcFault::NoMemory
     }
 }

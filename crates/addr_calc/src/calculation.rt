@@ -5,16 +5,19 @@ ghost use Rattle.rule_model.specs.Tiling.{Tiling, tiling_of};
 ghost use Rattle.tile_shape.specs.Views.{address_of};
 ghost use Rattle.addr_calc.specs.Bindings.{none_bound, address_of_name, IsBound, IsUnbound};
 ghost use Rattle.addr_calc.specs.Calculation.{AllFit, WasDone, WasRun};
+ghost use Rattle.addr_calc.specs.Compiled.{AreOf};
 ghost use Rattle.addr_calc.specs.Printed.{letter, across_line, level_text};
 ghost use Rattle.addr_calc.specs.Refuses.{Refuses, HasFault};
 ghost use Rattle.addr_calc.specs.Script.{OrNoMemory};
-ghost use Rattle.addr_calc.specs.Statement.Statement.{Let, Show, Place, Across, Common};
+ghost use Rattle.addr_calc.specs.Statement.Statement.{Let, Show, Place, Across, Common, Pair};
 ghost use Rattle.addr_calc.specs.declared.calc_fault.CalcFault.TheVariants.{UnknownName};
 
 use crate::bindings::Bindings;
 use crate::calc_fault::CalcFault;
 use crate::level::common_level;
 use crate::name::Name;
+use crate::pairs::Pairs;
+use crate::relation_line::put_relation;
 use crate::statement::{Statement, statement_in};
 use edge_tables::steps::Steps;
 use layer_api::line::Line;
@@ -61,11 +64,14 @@ impl Calculation {
     pub fn run<L: Ledger>(
         &mut self,
         machine: &Machine,
+        pairs: &mut Pairs,
         line: &[u8],
         steps: &mut Steps<L>,
     ) -> Result<(), CalcFault>
         requires few { self.old.number + 1 < 2 ^ 32 }
         requires all_fit { AllFit (tiling_of machine.now) self.old.names }
+        requires compiled { AreOf (tiling_of machine.now) pairs.old }
+        ensures compiled { AreOf (tiling_of machine.now) pairs.new }
         ensures ran { OnOk result (WasRun (tiling_of machine.now) line.now self.old self.new) }
         ensures fault { IfErr result (OrNoMemory (HasFault (tiling_of machine.now) self.old.names (self.old.number + 1) line.now)) }
     {
@@ -83,6 +89,7 @@ impl Calculation {
                 self.across(machine, name, edge, other, steps)
             }
             Ok(Statement::Common { one, other }) => self.common(one, other),
+            Ok(Statement::Pair { one, other }) => self.pair(machine, pairs, one, other),
         }
     }
 
@@ -189,6 +196,31 @@ impl Calculation {
         self.line.put(b'\n');
         put_level(&mut self.line, common_level(first, second));
         self.line.put(b' ');
+        self.line.put(other.letter());
+        Ok(self.print(one)?)
+    }
+
+    /// `pair one other`.
+    fn pair(
+        &mut self,
+        machine: &Machine,
+        pairs: &mut Pairs,
+        one: Name,
+        other: Name,
+    ) -> Result<(), CalcFault>
+        requires all_fit { AllFit (tiling_of machine.now) self.old.names }
+        requires compiled { AreOf (tiling_of machine.now) pairs.old }
+        ensures compiled { AreOf (tiling_of machine.now) pairs.new }
+        ensures done { OnOk result (WasDone (tiling_of machine.now) (Pair one.number other.number) self.old self.new) }
+        ensures refused { IfErr result (OrNoMemory (Refuses (tiling_of machine.now) self.old.names (Pair one.number other.number) self.old.number)) }
+    {
+        let (Some(first), Some(second)) = (self.names.get(one), self.names.get(other)) else {
+            return Err(CalcFault::UnknownName { line: self.number });
+        };
+        let verdict = pairs.decide(machine, first, second)?;
+        self.line.clear();
+        self.line.put(b'\n');
+        put_relation(&mut self.line, &verdict);
         self.line.put(other.letter());
         Ok(self.print(one)?)
     }

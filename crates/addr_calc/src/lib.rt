@@ -1,9 +1,9 @@
 //! A calculator with the addresses of tiles, by a script.
 //!
 //! A script is read line by line. It binds the names `a` to `z` to addresses, and prints them, where their tiles lie in
-//! the supertile, the tile across an edge, and the level from which on two addresses agree (Tatham's combinatorial
-//! coordinates). `calc::calc` answers the text of the script, or the fault of the first line that has one; a
-//! definition over the lines says which, and that a script has one answer is a law.
+//! the supertile, the tile across an edge, the level from which on two addresses agree, and by which edges two tiles lie
+//! on each other (Tatham's combinatorial coordinates). `calc::calc` answers the text of the script, or the fault of the
+//! first line that has one; a definition over the lines says which, and that a script has one answer is a law.
 #![tactic(auto)]
 
 mod bindings;
@@ -14,4 +14,6 @@ mod cut;
 pub mod laws;
 mod level;
 mod name;
+mod pairs;
+mod relation_line;
 mod statement;

@@ -1,7 +1,7 @@
 //! What a line of a script asks for.
-ghost use Rattle.std.specs.Prelude.{◌∷◌};
+ghost use Rattle.std.specs.Prelude.{ℕ, ◌∷◌};
 ghost use Rattle.tile_shape.specs.Decimal.{number_up_to};
-ghost use Rattle.addr_calc.specs.Reading.{name_in, text_in, first_word, no_word, let_in, show_in, place_in, across_in, common_in, command_in, statement_in};
+ghost use Rattle.addr_calc.specs.Reading.{name_in, text_in, first_word, no_word, let_in, show_in, place_in, across_in, two_names_in, command_in, statement_in};
 ghost use Rattle.addr_calc.specs.Statement.{Statement as TheStatement};
 ghost use Rattle.addr_calc.specs.Views.{AnswersAs, any_in, words_left, statement_of};
 
@@ -24,6 +24,8 @@ pub enum Statement<'a> {
     Across { name: Name, edge: u8, other: Name },
     /// To print the level from which on the addresses of two names agree.
     Common { one: Name, other: Name },
+    /// To print by which edges the tiles of two names lie on each other.
+    Pair { one: Name, other: Name },
 }
 
 /// The statement of a line, or the number, from 0, of the first word that hasn't its form or is one too many; where a
@@ -55,7 +57,11 @@ fn command_in<'a>(command: &[u8], words: Option<&'a [u8]>) -> Result<Statement<'
     } else if command == b"across".as_slice() {
         across_in(words)
     } else if command == b"common".as_slice() {
-        common_in(words)
+        let (one, other) = two_names_in(words)?;
+        Ok(Statement::Common { one, other })
+    } else if command == b"pair".as_slice() {
+        let (one, other) = two_names_in(words)?;
+        Ok(Statement::Pair { one, other })
     } else {
         Err(0)
     }
@@ -104,15 +110,15 @@ fn across_in(words: Option<&[u8]>) -> Result<Statement<'_>, u8>
     Ok(Statement::Across { name, edge, other })
 }
 
-/// `common name name`.
-#[tactic(auto, unfolding(crate::specs::Reading::common_in))]
-fn common_in(words: Option<&[u8]>) -> Result<Statement<'_>, u8>
-    ensures { AnswersAs statement_of result (common_in (words_left words.entry)) }
+/// The two names of a statement that asks something of two.
+#[tactic(auto, unfolding(crate::specs::Reading::two_names_in))]
+fn two_names_in(words: Option<&[u8]>) -> Result<(Name, Name), u8>
+    ensures { (asks : ℕ → ℕ → TheStatement) → AnswersAs (λ names. asks names.0.number names.1.number) result (two_names_in asks (words_left words.entry)) }
 {
     let (one, words) = name_at(1, words)?;
     let (other, words) = name_at(2, words)?;
     end_at(3, words)?;
-    Ok(Statement::Common { one, other })
+    Ok((one, other))
 }
 
 /// The name that the first word is, the word of this place, and the words behind it.

@@ -1,0 +1,31 @@
+-- How two tiles lie to each other, in the plane.
+use Rattle.std.specs.Prelude.{◌≡◌, ◌≢◌, ◌↔◌, ℕ, ◌<◌, List, []}
+use Rattle.addressing.specs.Address.{Address}
+use Rattle.addressing.specs.Search.{IsAmong}
+use Rattle.pair_machine.specs.Between.{Pair, HaveCommon, IsInOrder}
+use Rattle.rule_model.specs.Tiling.{Tiling}
+use Rattle.tile_place.specs.Crossed.{IsOnlyAcross, edges_of}
+
+pub data Relation : Type 0 where
+  -- they have no common supertile
+  Strangers : Relation
+  -- they are one tile
+  Same : Relation
+  -- no edge of the one lies on an edge of the other
+  Apart : Relation
+  -- these edges of the first lie on these of the second
+  Beside : List Pair → Relation
+
+-- all (e, f) for which edge f of b is across edge e of a, both tiles placed in their common supertile, and no other edge of a tile of it is; in the order of e.
+-- And edge e of a is the only one across edge f of b.
+pub record AreAllAcross (t : Tiling) (a b : Address) (pairs : List Pair) : Type 0 where
+  pub in_order : IsInOrder pairs
+  pub only_across : (e f : ℕ) → IsAmong (record { mine = e; theirs = f }) pairs ↔ ((e < edges_of t a.kind) × IsOnlyAcross t a e b f)
+  pub leads_back : (e f : ℕ) → IsAmong (record { mine = e; theirs = f }) pairs → IsOnlyAcross t b f a e
+
+-- Strangers: no common supertile. Else Same: one address. Else Apart or Beside: the edges that lie on each other, none or some
+abbrev pub IsRelation : Tiling → Address → Address → Relation → Type 0
+IsRelation t a b Strangers = HaveCommon a b → ⊥
+IsRelation t a b Same = HaveCommon a b × (a ≡ b)
+IsRelation t a b Apart = HaveCommon a b × (a ≢ b) × AreAllAcross t a b []
+IsRelation t a b (Beside pairs) = HaveCommon a b × (a ≢ b) × AreAllAcross t a b pairs × (pairs ≢ [])

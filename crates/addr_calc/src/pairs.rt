@@ -1,0 +1,82 @@
+//! How two tiles lie to each other.
+ghost use Rattle.std.specs.Prelude.{◌≡◌, IfOk, IfSome};
+ghost use Rattle.addressing.specs.Address.{Fits};
+ghost use Rattle.rule_model.specs.Tiling.{Tiling, tiling_of, contacts, children};
+ghost use Rattle.tile_shape.specs.Views.{address_of};
+ghost use Rattle.addr_calc.specs.Compiled.{AreOf};
+ghost use Rattle.addr_calc.specs.Relation.{IsRelation};
+ghost use Rattle.addr_calc.specs.Views.{relation_of};
+
+use dissection::laws::across_law;
+use pair_machine::machine::PairMachine;
+use pair_machine::verdict::Verdict;
+use std::alloc::Global;
+use tile_place::machine::Machine;
+use tile_shape::address::Address;
+use tile_shape::no_memory::NoMemory;
+
+/// The pair machine of a rule, which is compiled when it is asked for the first time.
+#[derive(Drop)]
+pub struct Pairs {
+    alloc: Global,
+    compiled: Option<Box<PairMachine>>,
+}
+
+impl Pairs {
+    /// Nothing is compiled yet.
+    pub fn new(alloc: Global) -> Pairs
+        ensures { (t : Tiling) → AreOf t result }
+    {
+        Pairs {
+            alloc,
+            compiled: None,
+        }
+    }
+
+    /// The machine, which is compiled if it wasn't yet.
+    fn take(&mut self, machine: &Machine) -> Result<Box<PairMachine>, NoMemory>
+        requires compiled { AreOf (tiling_of machine.now) self.old }
+        ensures compiled { AreOf (tiling_of machine.now) self.new }
+        ensures tables { IfOk result (λ pairs. pairs.value ≡ contacts (tiling_of machine.now)) }
+    {
+        match self.compiled.take() {
+            Some(compiled) => Ok(compiled),
+            None => {
+                let compiled = PairMachine::compile(self.alloc, machine.checked().tables())?;
+                Ok(Box::new(self.alloc, compiled)?)
+            }
+        }
+    }
+
+    /// How two tiles of the machine's rule lie to each other: by all edges of the one that have the other across them.
+    pub fn decide(
+        &mut self,
+        machine: &Machine,
+        one: &Address,
+        other: &Address,
+    ) -> Result<Verdict, NoMemory>
+        requires compiled { AreOf (tiling_of machine.now) self.old }
+        requires one_fits { Fits (children (tiling_of machine.now)) (address_of one.now) }
+        requires other_fits { Fits (children (tiling_of machine.now)) (address_of other.now) }
+        ensures compiled { AreOf (tiling_of machine.now) self.new }
+        ensures relation { IfOk result (λ verdict. IsRelation (tiling_of machine.now) (address_of one.now) (address_of other.now) (relation_of verdict)) }
+    {
+        let pairs = self.take(machine)?;
+        let verdict = decide(machine, &pairs, one, other);
+        self.compiled = Some(pairs);
+        Ok(verdict)
+    }
+}
+
+/// How two tiles lie to each other, in the plane.
+fn decide(machine: &Machine, pairs: &PairMachine, one: &Address, other: &Address) -> Verdict
+    requires tables { pairs.now ≡ contacts (tiling_of machine.now) }
+    requires one_fits { Fits (children (tiling_of machine.now)) (address_of one.now) }
+    requires other_fits { Fits (children (tiling_of machine.now)) (address_of other.now) }
+    ensures { IsRelation (tiling_of machine.now) (address_of one.now) (address_of other.now) (relation_of result) }
+{
+    // The law by which the edges that touch are those across, and what it asks of the tables.
+    across_law(machine.checked().order());
+    let _coherent = machine.checked().tables().kinds();
+    pairs.decide(one, other)
+}
