@@ -3,6 +3,8 @@ use Rattle.std.proofs.Common.{◌≡◌, inl, inr, ℕ, ◌+◌, ◌<◌, ◌≤
 use Rattle.addressing.specs.Address.{Address, Fits}
 use Rattle.cyclo_points.specs.declared.point.Point.{Point}
 use Rattle.cyclo_points.specs.Order.{NumberOf, coefficients}
+use Rattle.pair_machine.specs.Between.{Pair as EdgePair}
+use Rattle.pair_machine.proofs.InOrder.{in_order-one}
 use Rattle.rule_model.specs.Tiling.{Tiling, MotionOf, IsPlaced, children}
 use Rattle.substitution.specs.Supertile.{Placed}
 use Rattle.tile_place.specs.Crossed.{IsOnlyAcross, LiesOnBoundary, edges_of}
@@ -13,7 +15,7 @@ use Rattle.tile_shape.specs.Usable.{AreUsable}
 use Rattle.addr_calc.specs.Bindings.{Bindings, IsBound, IsUnbound, bind}
 use Rattle.addr_calc.specs.declared.calc_fault.CalcFault.{CalcFault}
 use Rattle.addr_calc.specs.declared.calc_fault.CalcFault.TheVariants.{BadLine, UnknownName, Address as BadAddress, NoEdge, Outside, CoordLimit}
-use Rattle.addr_calc.specs.Does.{Binds, Shows, Places, Crosses, Compares, Pairs, Does, Runs}
+use Rattle.addr_calc.specs.Does.{Binds, Shows, Places, Crosses, Compares, Relates, Does, Runs}
 use Rattle.addr_calc.specs.Level.{IsCommonLevel}
 use Rattle.addr_calc.specs.Relation.{Relation, AreAllAcross, IsRelation}
 use Rattle.addr_calc.specs.Relation.Relation.{Strangers, Same, Apart, Beside}
@@ -23,8 +25,6 @@ use Rattle.addr_calc.specs.Refuses.{ReadsUnbound, LacksEdge, LiesOutside, Passes
 use Rattle.addr_calc.specs.Script.{Outcome, put_before, ComesOf}
 use Rattle.addr_calc.specs.Statement.{Statement}
 use Rattle.addr_calc.specs.Statement.Statement.{Nothing, Let, Show, Place, Across, Common, Pair}
-use Rattle.pair_machine.specs.Between.{Pair as EdgePair}
-use Rattle.pair_machine.proofs.InOrder.{in_order-one}
 use Rattle.addr_calc.proofs.Faults.{OneText, fault_once}
 
 -- ---- the laws from which it follows
@@ -133,7 +133,7 @@ module _ (one_text : OneText) (short : FitsAreShort) (t : Tiling) (usable : AreU
       let level : IsCommonLevel k.address k.second h.level = subst (λ a. IsCommonLevel a k.second h.level) first (subst (λ b. IsCommonLevel h.address b h.level) second h.common) in
       (h.keeps ∙ sym k.keeps, h.line ∙ ap (common_line one other) (one_level k.address k.second h.level k.level level k.common) ∙ sym k.line)
 
-  one_pair : (names : Bindings) (one other : ℕ) (after after' : Bindings) (printed printed' : List ℕ) → Pairs t names one other after printed → Pairs t names one other after' printed'
+  one_pair : (names : Bindings) (one other : ℕ) (after after' : Bindings) (printed printed' : List ℕ) → Relates t names one other after printed → Relates t names one other after' printed'
       → AreOne after after' printed printed'
   one_pair names one other after after' printed printed' h k =
       let first = one_bound names one h.address k.address h.bound k.bound in

@@ -1,14 +1,11 @@
 -- What the pair machine says of two tiles, in the plane.
-use Rattle.std.proofs.Common.{◌≡◌, ◌↔◌, ℕ, ◌<◌, List, [], ◌∷◌, map, IsSome, refl, sym, ap, ◌∙◌, subst}
+use Rattle.std.proofs.Common.{◌≡◌, ℕ, ◌<◌, List, [], ◌∷◌, map, refl}
 use Rattle.addressing.specs.Address.{Address, Fits}
 use Rattle.addressing.specs.Coherent.{IsCoherent}
-use Rattle.addressing.specs.Search.{IsAmong}
-use Rattle.addressing.specs.Tables.{Tables, child_kinds, type_of}
+use Rattle.addressing.specs.Tables.{Tables, child_kinds}
 use Rattle.addressing.specs.Touch.{Touches}
 use Rattle.addressing.proofs.TableBounds.{type_bounds}
 use Rattle.addressing.proofs.Touching.{only_touching, Touches-sym}
-use Rattle.cyclo_points.specs.Order.{points_of}
-use Rattle.dissection.specs.Accepted.{HasEdge}
 use Rattle.pair_machine.specs.Between.{Pair, IsBetween}
 use Rattle.pair_machine.specs.Verdicts.{IsVerdict}
 use Rattle.pair_machine.specs.Views.{as_pair}
@@ -18,7 +15,6 @@ use Rattle.pair_machine.specs.declared.verdict.Verdict.TheVariants.{Strangers, S
 use Rattle.pair_machine.proofs.Leaving.{touch_edge}
 use Rattle.rule_model.specs.declared.rule.Rule.{Rule}
 use Rattle.rule_model.specs.Tiling.{tiling_of, contacts, children}
-use Rattle.rule_model.specs.Views.{rule_of}
 use Rattle.tile_place.specs.Crossed.{IsOnlyAcross, edges_of}
 use Rattle.tile_place.proofs.Plane.{OnlyTilesLaw, IsSettled, its_rule, fits_tables, has_edge}
 use Rattle.addr_calc.specs.Relation.{AreAllAcross, IsRelation}

@@ -66,7 +66,7 @@ pub record Compares (names : Bindings) (one other : ℕ) (after : Bindings) (pri
 
 -- how the two tiles lie to each other is printed: the edges of the one that have the other across them in their common supertile, with the edges there that lead
 -- back
-pub record Pairs (t : Tiling) (names : Bindings) (one other : ℕ) (after : Bindings) (printed : List ℕ) : Type 0 where
+pub record Relates (t : Tiling) (names : Bindings) (one other : ℕ) (after : Bindings) (printed : List ℕ) : Type 0 where
   pub address : Address
   pub bound : IsBound names one address
   pub second : Address
@@ -84,7 +84,7 @@ Does t names (Show name) after printed = Shows names name after printed
 Does t names (Place name) after printed = Places t names name after printed
 Does t names (Across name edge other) after printed = Crosses t names name edge other after printed
 Does t names (Common one other) after printed = Compares names one other after printed
-Does t names (Pair one other) after printed = Pairs t names one other after printed
+Does t names (Pair one other) after printed = Relates t names one other after printed
 
 -- a line that can be run, by its text
 pub record Runs (t : Tiling) (names : Bindings) (text : List ℕ) (after : Bindings) (printed : List ℕ) : Type 0 where

@@ -17,6 +17,7 @@ loop-left-init g c =
     record {
       few = let e = begun.number in omega (arith, e);
       all_fit = subst (AllFit t) (sym begun.names) (none_fit t);
+      compiled = c.new-pairs.ensures t;
       comes = comes_first t (parts newline c.args.script.now) c.in_ok-calculation.calculation begun.names begun.text begun.number;
     }
 
@@ -36,6 +37,7 @@ loop-left-preserved g c =
           let counted = ran.number in
           omega (arith, few, less, counted);
       all_fit = ran.all_fit c.loop-left.invariant.all_fit;
+      compiled = c.in_ok-run.ensures.compiled;
       comes = comes_on t all c.loop-left.calculation c.run.new.self c.cut.result.0.now rest here ran;
     }
 
@@ -52,6 +54,7 @@ run-requires g c = record {
       let short = c.requires.short in
       omega (arith, few, short);
   all_fit = c.loop-left.invariant.all_fit;
+  compiled = c.loop-left.invariant.compiled;
 }
 
 pub returns-in_err-run-clause-fault : goal.returns-in_err-run-clause-fault

@@ -1,6 +1,7 @@
 use Rattle.std.proofs.Common.{◌+◌, ◌≤◌, length, option_map}
 use Rattle.rule_model.specs.Tiling.{tiling_of}
 use Rattle.addr_calc.specs.Calculation.{AllFit}
+use Rattle.addr_calc.specs.Compiled.{AreOf}
 use Rattle.addr_calc.specs.Parts.{parts, newline}
 use Rattle.addr_calc.specs.Views.{parts_behind}
 use Rattle.addr_calc.proofs.Scripts.{Comes, size_left}
@@ -11,6 +12,7 @@ abbrev pub invariant-loop-left : goal.invariant-loop-left
 invariant-loop-left g l = record {
   few : l.calculation.number + size_left (option_map (λ text. text.now) l.left) ≤ length l.script + 1;
   all_fit : AllFit (tiling_of l.machine) l.calculation.names;
+  compiled : AreOf (tiling_of l.machine) l.pairs;
   comes : Comes (tiling_of l.machine) (parts newline l.script) l.calculation (parts_behind newline (option_map (λ text. text.now) l.left));
 }
 

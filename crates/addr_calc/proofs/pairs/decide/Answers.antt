@@ -1,4 +1,4 @@
-use Rattle.std.proofs.Common.{◌≡◌, ap, ◌∙◌, subst}
+use Rattle.std.proofs.Common.{ap, ◌∙◌, subst}
 use Rattle.addressing.specs.Coherent.{IsCoherent}
 use Rattle.pair_machine.specs.Verdicts.{IsVerdict}
 use Rattle.rule_model.specs.declared.rule.Rule.{Rule}
