@@ -5,7 +5,7 @@ use std::process::Abort;
 use std::test::Fail;
 
 /// Scripts for the chair and their texts.
-static TEXTS: [(&str, &str); 18] = [
+static TEXTS: [(&str, &str); 23] = [
     (
         "let a 0:0/0,1/0\nacross a 4 b\ncommon a b\nplace b\n",
         "b 0:1/0,0/0 7\na b 2\nb 0 0 1,1,0,0\n",
@@ -40,12 +40,26 @@ static TEXTS: [(&str, &str); 18] = [
         "let a 0:0/0,1/0,2/0\nlet b 0:0/0,1/0,3/0\ncommon a b\n",
         "a b 3\n",
     ),
+    (
+        "let a 0:0/0,1/0\nacross a 4 b\npair a b\n",
+        "b 0:1/0,0/0 7\na b 3/0 4/7\n",
+    ),
+    (
+        "let a 0:0/0,1/0\nacross a 4 b\npair b a\n",
+        "b 0:1/0,0/0 7\nb a 0/3 7/4\n",
+    ),
+    (
+        "let a 0:0/0\nlet b 0:2/0\npair a a\npair a b\n",
+        "a a same\na b 6/1\n",
+    ),
+    ("let a 0:0/0\nlet b 0:\npair a b\n", "a b none\n"),
+    ("let a 0:2/0\nlet b 0:3/0\npair a b\n", "a b apart\n"),
     ("let a 0:2/0\nplace a\n#", "a 0 1 4,0,0,0\n"),
     ("let a 0:3/0\nplace a\n", "a 0 3 0,4,0,0\n"),
 ];
 
 /// Scripts for the chair and their faults.
-static FAULTS: [(&str, &str); 46] = [
+static FAULTS: [(&str, &str); 50] = [
     ("show c", "UnknownName 1"),
     ("show", "BadLine 1 1"),
     ("show a b", "BadLine 1 2"),
@@ -80,6 +94,10 @@ static FAULTS: [(&str, &str); 46] = [
     ("common a b c", "BadLine 1 3"),
     ("let a 0:\ncommon a b", "UnknownName 2"),
     ("let b 0:\ncommon a b", "UnknownName 2"),
+    ("pair a", "BadLine 1 2"),
+    ("pair a b c", "BadLine 1 3"),
+    ("let a 0:\npair a b", "UnknownName 2"),
+    ("let b 0:\npair a b", "UnknownName 2"),
     ("let a 3", "Address 1 BadText 1"),
     ("let a 0:4/0", "Address 1 WrongChild 0"),
     ("let a 1:", "Address 1 UnknownKind 0"),
