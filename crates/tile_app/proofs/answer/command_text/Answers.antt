@@ -16,6 +16,6 @@ returns-in-Place-clause-printed g c =
 -- the machine's rule is the checked rule
 pub returns-in_ok-machine-in_default : goal.returns-in_ok-machine-in_default
 returns-in_ok-machine-in_default g c = record {
-    printed = subst (λ m. IfOk c.machine_text.result (λ text. IsPrinted c.args.command (request_of (texts c.args.words.now) (map g.D.Layer.form c.args.layers.now) c.args.file.now) (tiling_of m) text.items)) c.in_ok-machine-in_default.ensures.its_rule c.machine_text.ensures.printed;
-    refused = subst (λ m. IfErr c.machine_text.result (OrNoMemory (Refuses c.args.command (request_of (texts c.args.words.now) (map g.D.Layer.form c.args.layers.now) c.args.file.now) (tiling_of m)))) c.in_ok-machine-in_default.ensures.its_rule c.machine_text.ensures.refused
-    }
+  printed = subst (λ m. IfOk c.machine_text.result (λ text. IsPrinted c.args.command (request_of (texts c.args.words.now) (map g.D.Layer.form c.args.layers.now) c.args.file.now) (tiling_of m) text.items)) c.in_ok-machine-in_default.ensures.its_rule c.machine_text.ensures.printed;
+  refused = subst (λ m. IfErr c.machine_text.result (OrNoMemory (Refuses c.args.command (request_of (texts c.args.words.now) (map g.D.Layer.form c.args.layers.now) c.args.file.now) (tiling_of m)))) c.in_ok-machine-in_default.ensures.its_rule c.machine_text.ensures.refused;
+}
