@@ -1,5 +1,5 @@
 //! How two tiles lie to each other.
-ghost use Rattle.std.specs.Prelude.{◌≡◌, IfOk, IfSome};
+ghost use Rattle.std.specs.Prelude.{◌≡◌, IfOk};
 ghost use Rattle.addressing.specs.Address.{Fits};
 ghost use Rattle.rule_model.specs.Tiling.{Tiling, tiling_of, contacts, children};
 ghost use Rattle.tile_shape.specs.Views.{address_of};
