@@ -113,6 +113,8 @@ def scripts(table):
     table.add("calc, across over 64 levels", "calc rule=chair", filled(b"across a 4 b\n", front))
     table.add("calc, place of 64 digits", "calc rule=chair", filled(b"place a\n", b"let a 0:" + deep("0/0").encode() + b"\n"))
     table.add("calc, common of 64 digits", "calc rule=chair", filled(b"common a a\n", front))
+    pair = f"let b 0:1/0{',0/0' * 63}\n".encode()
+    table.add("calc, pair of 64 digits", "calc rule=chair", filled(b"pair a b\n", b"let a 0:" + deep("0/0").encode() + b"\n" + pair))
     table.add("calc, show of 64 digits", "calc rule=chair", filled(b"show a\n", front))
     table.add("calc, let of 64 digits", "calc rule=chair", filled(front))
     table.add("calc, empty lines", "calc rule=chair", b"\n" * MEBIBYTE)

@@ -165,7 +165,7 @@ def address_fault(shape, text):
 
 NAME = re.compile(rb"[a-z]")
 # for each line of a script its words behind the first: a name that is read, one that is bound, an edge, or an address
-LINES = {b"let": "bound address", b"show": "read", b"place": "read", b"across": "read edge bound", b"common": "read read"}
+LINES = {b"let": "bound address", b"show": "read", b"place": "read", b"across": "read edge bound", b"common": "read read", b"pair": "read read"}
 
 
 def word_fits(form, word):
@@ -378,7 +378,7 @@ NOTES = {
     }.items()
 }
 TILE = rb"[0-9]+ [0-9] %b %b" % (P, A)
-CALCULATED = {b"show": A, b"place": rb"[0-9]+ [0-9] %b" % P, b"across": rb"%b [0-9]+" % A, b"common": rb"[a-z] (?:[0-9]+|none)"}
+CALCULATED = {b"show": A, b"place": rb"[0-9]+ [0-9] %b" % P, b"across": rb"%b [0-9]+" % A, b"common": rb"[a-z] (?:[0-9]+|none)", b"pair": rb"[a-z] (?:none|same|apart|%b/%b(?: %b/%b)*)" % (N, N, N, N)}
 # the first line and the last of the text of a layer
 FIRST = {b"svg": rb"<svg [^\n]*>", b"list": rb"%b(?: \+ %b)?" % (TILE, TILE), b"census": rb"0 [0-9]+"}
 LAST = {b"svg": rb"</svg>", b"list": FIRST[b"list"], b"census": rb"all [0-9]+"}

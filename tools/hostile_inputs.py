@@ -714,7 +714,7 @@ def script_lines(drawn, shape, many):
     """Right lines, by names that are bound; edges that most kinds have."""
     lines, names = [], []
     for _ in range(many):
-        which, name = drawn.below(6), bytes([97 + drawn.below(drawn.choice((3, 26)))])
+        which, name = drawn.below(7), bytes([97 + drawn.below(drawn.choice((3, 26)))])
         if which == 0 or not names:
             lines.append(b"let %b %b" % (name, some_address(drawn, shape)))
             names.append(name)
@@ -723,6 +723,8 @@ def script_lines(drawn, shape, many):
         elif which == 2:
             lines.append(b"common %b %b" % (drawn.choice(names), drawn.choice(names)))
         elif which == 3:
+            lines.append(b"pair %b %b" % (drawn.choice(names), drawn.choice(names)))
+        elif which == 4:
             lines.append(drawn.choice((b"", b"# x", b"#", b"#show z", b"place " + drawn.choice(names))))
         else:
             lines.append(b"across %b %b %b" % (drawn.choice(names), some_edge(drawn, shape), name))
@@ -764,7 +766,7 @@ def changed_script(drawn):
     return calc(drawn, "script with a change", script)
 
 
-SCRIPT_WORDS = [b"let", b"show", b"place", b"across", b"common", b"a", b"b", b"z", b"A", b"aa", b"", b"0", b"3", b"255", b"256", b"-1", b"00",
+SCRIPT_WORDS = [b"let", b"show", b"place", b"across", b"common", b"pair", b"a", b"b", b"z", b"A", b"aa", b"", b"0", b"3", b"255", b"256", b"-1", b"00",
                 b"0:", b"0:0/0", b"1:", b"#", b"\xc3\xa9", b"\xff", b"none", b"LET", b"0:0/0,", b"{", b"`", b"star", b"pair"]  # fmt: skip
 
 
@@ -784,7 +786,7 @@ def huge_script(drawn):
         if drawn.once_in(3):
             return huge_text(drawn)
         size, deep = huge_size(drawn), some_address(drawn, shape)
-        line = drawn.choice((b"show a\n", b"common a b\n", b"place b\n", b"across a 0 c\n", b"across a 1 a\n", b"\n", b"#\n", b"let c %b\n" % deep))
+        line = drawn.choice((b"show a\n", b"common a b\n", b"pair a b\n", b"place b\n", b"across a 0 c\n", b"across a 1 a\n", b"\n", b"#\n", b"let c %b\n" % deep))
         head = b"let a %b\nlet b %b\n" % (deep, some_address(drawn, shape, 9))
         text = (head + line * (size // len(line)))[:size]
         return text if drawn.once_in(2) else text[: -min(9, len(text))] + b"\nshow #\n#"

@@ -18,7 +18,7 @@ import tempfile
 TOP = os.path.dirname(os.path.dirname(os.path.abspath(__file__)))
 NOTE = b"11 NoMemory\n"
 SHOWN = 20
-SCRIPT = b"let a 0:0/0,1/0\nacross a 4 b\nshow b\ncommon a b\nplace b\n# x\nlet c 0:0/0\nshow c\n"
+SCRIPT = b"let a 0:0/0,1/0\nacross a 4 b\nshow b\ncommon a b\npair a b\nplace b\n# x\nlet c 0:0/0\nshow c\n"
 WINDOW = "at=0,0,0,0 half=2,2 layers=svg,list,census"
 
 
@@ -39,7 +39,7 @@ def calls():
         yield f"check rule={rule}", text
         yield f"drill rule={rule} n=1 seed=7", text
     yield "calc rule=chair", SCRIPT
-    yield "calc rule=p3", b"let a 2:1/0,0/0\nacross a 2 b\nplace b\ncommon a b\nshow a\n"
+    yield "calc rule=p3", b"let a 2:1/0,0/0\nacross a 2 b\nplace b\ncommon a b\npair b a\nshow a\n"
     yield f"draw rule=- seed=3 addr=0: {WINDOW} glue=yes", rules["half_chair"]
     yield f"draw rule=chair seed=42 addr=0: {WINDOW}", b""
     # calls that are refused
