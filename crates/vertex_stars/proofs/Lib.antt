@@ -1,0 +1,12 @@
+pub mod CornerNumbers
+pub mod Turning
+pub mod ScaledPatch
+pub mod SmallBox
+pub mod CoveredBox
+pub mod WholeTurn
+pub mod GrownStar
+pub mod SharedPoint
+pub mod SimpleStar
+pub mod MovedStar
+pub mod SimpleFrame
+pub mod Carried

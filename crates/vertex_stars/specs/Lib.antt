@@ -1,0 +1,5 @@
+pub mod Corners
+pub mod Round
+pub mod EnoughAt
+pub mod GrownStar
+pub mod Laws

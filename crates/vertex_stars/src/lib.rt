@@ -1,0 +1,41 @@
+//! The tiles round a vertex of a dissected patch, and of one that grows.
+//!
+//! The turn from tile to tile, each across the edge of the one before that ends at the vertex, comes back to
+//! its first tile, and has then gone round exactly the tiles that have the vertex. In a patch that grows it
+//! comes back at the least depth at which the vertex is on no edge of the patch's boundary. The reason is
+//! the law of closed chains, on a box round the vertex so small that it meets no edges but those at the
+//! vertex. It has definitions, proofs and laws, and no other code.
+#![tactic(auto)]
+
+ghost use Rattle.cyclo_points.specs.Order.{points_of};
+ghost use Rattle.vertex_stars.specs.Laws.{TurnLaw, AnswerLaw, OnwardLaw, EndLaw, DepthLaw, CountLaw};
+ghost use Rattle.vertex_stars.specs.Laws.{SimpleFrameLaw};
+
+use cyclo_points::order::Order;
+
+/// The theorem of the turn: one that comes back has gone round exactly the tiles that have the vertex, each
+/// once.
+pub fn turn_law(order: Order)
+    ensures { TurnLaw (points_of order) }
+{}
+
+/// The turn in a patch that grows: where it comes back, the depth that it has led to is the least that is
+/// enough for the vertex; it never leads beyond an enough depth; and where some depth is enough it comes
+/// back, within as many tiles as have the vertex.
+pub fn star_law(order: Order)
+    ensures answers { AnswerLaw (points_of order) }
+    ensures onward { OnwardLaw (points_of order) }
+    ensures end { EndLaw (points_of order) }
+{}
+
+/// The law of refusals: where the edge that ends at the vertex is on the boundary, the depth isn't enough;
+/// and a turn that hasn't come back has met distinct tiles with the vertex.
+pub fn star_refusal_law(order: Order)
+    ensures depth { DepthLaw (points_of order) }
+    ensures count { CountLaw (points_of order) }
+{}
+
+/// The law that the tiles of a frame of an accepted rule are a dissection into simple polygons.
+pub fn simple_frame_law(order: Order)
+    ensures { SimpleFrameLaw (points_of order) }
+{}
