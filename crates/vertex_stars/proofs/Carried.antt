@@ -1,10 +1,13 @@
 -- The laws of the tiles round a vertex, proved over the points of an order.
+use Rattle.std.proofs.Common.{false}
 use Rattle.ordered_ring.specs.Divisor.{DividesWhole}
 use Rattle.substitution.specs.Points.{Points, PointLaws}
 use Rattle.vertex_stars.specs.Laws as is
+use Rattle.vertex_stars.specs.FrameStar as is_frame
 use Rattle.vertex_stars.proofs.WholeTurn as turn
 use Rattle.vertex_stars.proofs.GrownStar as star
 use Rattle.vertex_stars.proofs.SimpleFrame as frame
+use Rattle.vertex_stars.proofs.FrameStar as in_frame
 
 module _ (P : Points) (W : PointLaws P) where
   pub onward_law : is.OnwardLaw P
@@ -19,8 +22,17 @@ module _ (P : Points) (W : PointLaws P) where
   pub count_law : is.CountLaw P
   count_law = star.count_cause P.real W.of_real W.of_order
 
-  pub simple_frame_law : is.SimpleFrameLaw P
+  pub simple_frame_law : is_frame.SimpleFrameLaw P
   simple_frame_law T f fits = frame.simply_dissected (record { points = P; laws = W; accepted = T }) f fits
+
+  pub frame_next_law : is_frame.FrameNextLaw P
+  frame_next_law T f m n a i b g c = in_frame.frame-next (record { points = P; laws = W; accepted = T }) f c.frame (λ z. false) m n a i b g c
+
+  pub frame_star_law : is_frame.FrameStarLaw P
+  frame_star_law T f fits refused v m n within base others deep star turn = in_frame.frame-star (record { points = P; laws = W; accepted = T }) f fits refused n within v m base others deep star turn
+
+  pub frame_corners_law : is_frame.FrameCornersLaw P
+  frame_corners_law T f fits refused v n within corners distinct each = in_frame.frame-corners (record { points = P; laws = W; accepted = T }) f fits refused n within v corners distinct each
 
   module _ (whole : DividesWhole P.real) where
     pub turn_law : is.TurnLaw P

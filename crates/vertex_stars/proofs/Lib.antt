@@ -9,4 +9,5 @@ pub mod SharedPoint
 pub mod SimpleStar
 pub mod MovedStar
 pub mod SimpleFrame
+pub mod FrameStar
 pub mod Carried

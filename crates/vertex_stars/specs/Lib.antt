@@ -2,4 +2,5 @@ pub mod Corners
 pub mod Round
 pub mod EnoughAt
 pub mod GrownStar
+pub mod FrameStar
 pub mod Laws

@@ -9,7 +9,7 @@
 
 ghost use Rattle.cyclo_points.specs.Order.{points_of};
 ghost use Rattle.vertex_stars.specs.Laws.{TurnLaw, AnswerLaw, OnwardLaw, EndLaw, DepthLaw, CountLaw};
-ghost use Rattle.vertex_stars.specs.Laws.{SimpleFrameLaw};
+ghost use Rattle.vertex_stars.specs.FrameStar.{SimpleFrameLaw, FrameNextLaw, FrameStarLaw, FrameCornersLaw};
 
 use cyclo_points::order::Order;
 
@@ -35,7 +35,12 @@ pub fn star_refusal_law(order: Order)
     ensures count { CountLaw (points_of order) }
 {}
 
-/// The law that the tiles of a frame of an accepted rule are a dissection into simple polygons.
-pub fn simple_frame_law(order: Order)
-    ensures { SimpleFrameLaw (points_of order) }
+/// The laws of the turn in a frame of an accepted rule. Its tiles are a dissection into simple polygons; the
+/// tile across the edge that ends at the vertex is the next one, and the frame grows to its level; and what
+/// is gone round is so in the frame of the depth that is reached.
+pub fn frame_star_law(order: Order)
+    ensures simple { SimpleFrameLaw (points_of order) }
+    ensures next { FrameNextLaw (points_of order) }
+    ensures star { FrameStarLaw (points_of order) }
+    ensures corners { FrameCornersLaw (points_of order) }
 {}
