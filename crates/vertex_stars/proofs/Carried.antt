@@ -8,6 +8,7 @@ use Rattle.vertex_stars.proofs.WholeTurn as turn
 use Rattle.vertex_stars.proofs.GrownStar as star
 use Rattle.vertex_stars.proofs.SimpleFrame as frame
 use Rattle.vertex_stars.proofs.FrameStar as in_frame
+use Rattle.vertex_stars.proofs.FrameBase as base
 
 module _ (P : Points) (W : PointLaws P) where
   pub onward_law : is.OnwardLaw P
@@ -33,6 +34,15 @@ module _ (P : Points) (W : PointLaws P) where
 
   pub frame_corners_law : is_frame.FrameCornersLaw P
   frame_corners_law T f fits refused v n within corners distinct each = in_frame.frame-corners (record { points = P; laws = W; accepted = T }) f fits refused n within v corners distinct each
+
+  pub frame_base_law : is_frame.FrameBaseLaw P
+  frame_base_law T f fits refused n within i h = base.frame-base (record { points = P; laws = W; accepted = T }) f fits n within refused i h
+
+  pub frame_back_law : is_frame.FrameBackLaw P
+  frame_back_law T f fits v m n wm wn b g i deep hb hm = base.frame-back (record { points = P; laws = W; accepted = T }) f fits v m n wm wn b g i deep hb hm
+
+  pub frame_stop_law : is_frame.FrameStopLaw P
+  frame_stop_law T f refused v a i h at own part on enough = absurd (base.frame-stop (record { points = P; laws = W; accepted = T }) f h.frame refused v a i h at own part on enough)
 
   module _ (whole : DividesWhole P.real) where
     pub turn_law : is.TurnLaw P

@@ -10,4 +10,5 @@ pub mod SimpleStar
 pub mod MovedStar
 pub mod SimpleFrame
 pub mod FrameStar
+pub mod FrameBase
 pub mod Carried

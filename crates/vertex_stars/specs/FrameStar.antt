@@ -1,20 +1,25 @@
 -- The turn round a vertex in the frame of an accepted rule over the points of P, from tile to tile while the frame grows, and at the depth that it has at the
 -- end.
-use Rattle.std.specs.Prelude.{◌≡◌, ℕ, ◌≤◌, max, Bool, List, ◌∷◌, map, length}
+use Rattle.std.specs.Prelude.{◌≡◌, ◌↔◌, ℕ, ◌<◌, ◌≤◌, max, Bool, List, ◌∷◌, map, length}
 use Rattle.std.specs.List.{AllByRecursion}
 use Rattle.ordered_plane.specs.Plane.{PlanePoint}
 use Rattle.addressing.specs.Address.{Address, depth}
 use Rattle.addressing.specs.Search.{IsAmong}
+use Rattle.substitution.specs.Plane.{plane_point}
 use Rattle.substitution.specs.Points.{Points}
 use Rattle.substitution.specs.Rule.{Rule}
-use Rattle.substitution.specs.RuleParts.{edge_count}
+use Rattle.substitution.specs.RuleParts.{edge_count, vertex}
 use Rattle.substitution.specs.Supertile.{Placed}
 use Rattle.dissection.specs.Accepted.{AcceptedRule, NamesTile}
+use Rattle.dissection.specs.OnBoundary.{IsOnBoundary}
+use Rattle.dissection.specs.TileEdges.{tile_at}
 use Rattle.frames.specs.Frame.{at_level, lifted_in}
 use Rattle.windows.specs.Distinct.{AreDistinct}
 use Rattle.windows.specs.FramePatch.{frame_patch, growing_frame, level_in, lifted_tile, in_frame}
+use Rattle.windows.specs.FrameLaws.{IsEdgeInFrame}
 use Rattle.windows.specs.FrameSearch.{IsGrownCrossing}
 use Rattle.vertex_stars.specs.Corners.{Corner, IsCornerAt, edge_into, IsNext, IsTurn, tiles_of}
+use Rattle.vertex_stars.specs.EnoughAt.{IsEnoughAt}
 use Rattle.vertex_stars.specs.GrownStar.{IsCornerOfDepth, IsStar}
 use Rattle.vertex_stars.specs.Round.{IsSimplyDissected, IsRound}
 
@@ -70,3 +75,29 @@ FrameCornersLaw P =
     → (corners : List (Corner (Placed P.ring.carrier))) → AreDistinct (tiles_of corners)
     → AllByRecursion (IsCornerOfDepth P.real (Placed P.ring.carrier) (growing_frame P refused T.rule f) v n) corners
     → (fine : List (Corner (Placed P.ring.carrier))) × (length fine ≡ length corners) × AreAtVertex P T.rule (at_level f n) v fine
+
+-- ---- the base, and what stops the turn
+-- The base stands on its prototile: where it names a tile of a frame, vertex number i of it lies where that of the prototile does, and it is there from its own
+-- depth on.
+abbrev pub FrameBaseLaw : Points → Type 0
+FrameBaseLaw P =
+    (T : AcceptedRule P) (f : Address) → NamesTile P T.rule f → (refused : P.ring.carrier → Bool) (n : ℕ) → n ≤ depth f → (i : ℕ) → i < edge_count T.rule f.kind
+    → IsCornerOfDepth P.real (Placed P.ring.carrier) (growing_frame P refused T.rule f) (plane_point P (vertex P T.rule f.kind i)) n
+    (corner_named P T.rule f (at_level f n) i)
+
+-- a tile of the frame at depth n that has v as a vertex is the base exactly where its address is the base's
+abbrev pub FrameBackLaw : Points → Type 0
+FrameBackLaw P =
+    (T : AcceptedRule P) (f : Address) → NamesTile P T.rule f → (v : PlanePoint P.real.ops.carrier) (m n : ℕ) → m ≤ depth f → n ≤ depth f → (b : Address) (g i : ℕ)
+    → depth b ≡ n → IsCornerAt P.real (Placed P.ring.carrier) (frame_patch P T.rule f) v (corner_named P T.rule f b g)
+    → IsCornerAt P.real (Placed P.ring.carrier) (frame_patch P T.rule f) v (corner_named P T.rule f (at_level f m) i)
+    → (b ≡ at_level f n) ↔ (corner_named P T.rule f b g ≡ corner_named P T.rule f (at_level f m) i)
+
+-- where the edge that ends at v is on the boundary at the frame's own depth, that depth isn't enough for v
+abbrev pub FrameStopLaw : Points → Type 0
+FrameStopLaw P =
+    (T : AcceptedRule P) (f : Address) (refused : P.ring.carrier → Bool) (v : PlanePoint P.real.ops.carrier) (a : Address) (i : ℕ)
+    → IsEdgeInFrame P T f a (edge_into (edge_count T.rule a.kind) i)
+    → IsCornerAt P.real (Placed P.ring.carrier) (frame_patch P T.rule f) v (corner_named P T.rule f a i)
+    → (own part : ℕ) → IsOnBoundary P T.rule (tile_at P T.rule (lifted_in f a)) (edge_into (edge_count T.rule a.kind) i) own part
+    → ¬ IsEnoughAt P.real (Placed P.ring.carrier) (growing_frame P refused T.rule f) v (depth f)

@@ -10,6 +10,7 @@
 ghost use Rattle.cyclo_points.specs.Order.{points_of};
 ghost use Rattle.vertex_stars.specs.Laws.{TurnLaw, AnswerLaw, OnwardLaw, EndLaw, DepthLaw, CountLaw};
 ghost use Rattle.vertex_stars.specs.FrameStar.{SimpleFrameLaw, FrameNextLaw, FrameStarLaw, FrameCornersLaw};
+ghost use Rattle.vertex_stars.specs.FrameStar.{FrameBaseLaw, FrameBackLaw, FrameStopLaw};
 
 use cyclo_points::order::Order;
 
@@ -43,4 +44,13 @@ pub fn frame_star_law(order: Order)
     ensures next { FrameNextLaw (points_of order) }
     ensures star { FrameStarLaw (points_of order) }
     ensures corners { FrameCornersLaw (points_of order) }
+{}
+
+/// The laws of the base in a frame: it stands on its prototile, so that its vertices are those of the
+/// prototile; a tile with the vertex is the base exactly where its address is; and where the edge that
+/// ends at the vertex is on the boundary at the frame's own depth, that depth isn't enough.
+pub fn frame_base_law(order: Order)
+    ensures base { FrameBaseLaw (points_of order) }
+    ensures back { FrameBackLaw (points_of order) }
+    ensures stop { FrameStopLaw (points_of order) }
 {}
