@@ -7,7 +7,9 @@ use Rattle.vertex_stars.specs.FrameStar as is_frame
 use Rattle.vertex_stars.proofs.WholeTurn as turn
 use Rattle.vertex_stars.proofs.GrownStar as star
 use Rattle.vertex_stars.proofs.SimpleFrame as frame
+use Rattle.vertex_stars.specs.OnPolygon as is_polygon
 use Rattle.vertex_stars.proofs.FrameStar as in_frame
+use Rattle.vertex_stars.proofs.PolygonEdges as polygon
 use Rattle.vertex_stars.proofs.FrameBase as base
 
 module _ (P : Points) (W : PointLaws P) where
@@ -43,6 +45,12 @@ module _ (P : Points) (W : PointLaws P) where
 
   pub frame_stop_law : is_frame.FrameStopLaw P
   frame_stop_law T f refused v a i h at own part on enough = absurd (base.frame-stop (record { points = P; laws = W; accepted = T }) f h.frame refused v a i h at own part on enough)
+
+  pub frame_off_law : is_polygon.FrameOffLaw P
+  frame_off_law T f fits refused v n within = polygon.frame-off (record { points = P; laws = W; accepted = T }) f fits refused v n within
+
+  pub frame_least_law : is_polygon.FrameLeastLaw P
+  frame_least_law T f fits refused v m n within h = polygon.frame-least (record { points = P; laws = W; accepted = T }) f fits refused v m n within h
 
   module _ (whole : DividesWhole P.real) where
     pub turn_law : is.TurnLaw P

@@ -11,4 +11,6 @@ pub mod MovedStar
 pub mod SimpleFrame
 pub mod FrameStar
 pub mod FrameBase
+pub mod ScaledPoints
+pub mod PolygonEdges
 pub mod Carried

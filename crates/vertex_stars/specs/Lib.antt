@@ -3,4 +3,5 @@ pub mod Round
 pub mod EnoughAt
 pub mod GrownStar
 pub mod FrameStar
+pub mod OnPolygon
 pub mod Laws
