@@ -1,0 +1,5 @@
+pub mod Outcomes
+pub mod SameDigits
+pub mod InTurn
+pub mod Brought
+pub mod Names

@@ -1,0 +1,126 @@
+-- Tiles of a frame by the names that they have at depth 64, and the crossing from a corner to the next one.
+use Rattle.std.proofs.Common.{◌≡◌, ℕ, ◌+◌, ◌*◌, ◌<◌, ◌≤◌, ◌^◌, max, Some, List, length, refl, sym, ap, ◌∙◌, subst, arith, take_all}
+use Rattle.addressing.specs.Address.{Address, depth, Fits}
+use Rattle.addressing.specs.Tables.{child_kinds, type_of}
+use Rattle.addressing.proofs.TableBounds.{some_of}
+use Rattle.cyclo_points.specs.Order.{NumberOf, points_of}
+use Rattle.cyclo_points.specs.Motion.{motion_in}
+use Rattle.cyclo_points.proofs.Within.{point_wider}
+use Rattle.dissection.specs.Accepted.{AcceptedRule, NamesTile}
+use Rattle.dissection.specs.Across.{IsTileAcross}
+use Rattle.dissection.specs.OnBoundary.{IsOnBoundary}
+use Rattle.dissection.specs.TileEdges.{tile_at}
+use Rattle.edge_to_edge.specs.Contacts.{tables_of}
+use Rattle.frames.specs.Frame.{at_level, IsTileOf, lifted_in}
+use Rattle.lazy_walk.specs.Ancestors.{full}
+use Rattle.lazy_walk.specs.Boundary.{IsBoundaryEdge}
+use Rattle.lazy_walk.specs.Frames.{FrameValue, whole, at_depth, IsFrameOf, GrowsTo, lifted_at}
+use Rattle.lazy_walk.proofs.Ancestors.{full-later, level-at}
+use Rattle.lazy_walk.proofs.Lifting.{IsTileOf-later}
+use Rattle.lazy_walk.proofs.Walks.{StillFits, at_depth-depth, later, whole-fits, GrowsTo-is}
+use Rattle.rule_model.specs.declared.rule.Rule.{Rule}
+use Rattle.rule_model.specs.Tiling.{Tiling, tiling_of, children}
+use Rattle.substitution.specs.Motion.{followed}
+use Rattle.substitution.specs.Points.{Points}
+use Rattle.substitution.specs.RuleParts.{edge_count}
+use Rattle.substitution.specs.Supertile.{Placed}
+use Rattle.tile_place.proofs.Plane.{IsSettled, its_rule}
+use Rattle.tile_shape.specs.Views.{address_of}
+use Rattle.windows.specs.FramePatch.{in_frame, level_in, frame_patch}
+use Rattle.windows.specs.FrameSearch.{IsGrownCrossing}
+use Rattle.vertex_stars.specs.Corners.{IsNext}
+use Rattle.star_walk.specs.declared.corner.Corner.{Corner}
+use Rattle.star_walk.specs.Found.{its_edge, IsFound, IsCrossedTo, name_of}
+use Rattle.star_walk.specs.StarLaws.{HasStarLaws}
+
+module _ (m : Rule) (settled : IsSettled m) (fits : StillFits (children (tiling_of m))) (L : HasStarLaws (points_of m.order)) (f : FrameValue) (is : IsFrameOf (tiling_of m) f) where
+  abbrev t : Tiling
+  t = tiling_of m
+
+  abbrev P : Points
+  P = points_of m.order
+
+  abbrev T : AcceptedRule P
+  T = its_rule m settled
+
+  abbrev F : Address
+  F = full t f
+
+  abbrev kinds : List (List ℕ)
+  kinds = child_kinds (tables_of P T.rule)
+
+  to_full : GrowsTo t f (at_depth t 64 f)
+  to_full = later t f 64 is is.at_most_64 (omega arith)
+
+  pub names : NamesTile P T.rule F
+  names = subst (λ k. Fits k F) (sym settled.same_child_kinds) (whole-fits t fits (at_depth t 64 f) to_full.is_frame)
+
+  pub deep : depth F ≡ 64
+  deep = at_depth-depth t f 64 (omega (arith, is.holds_base, is.at_most_64))
+
+  by_tables : (g a : Address) → IsTileOf (children t) g a → IsTileOf kinds g a
+  by_tables g a of = subst (λ k. IsTileOf k g a) (sym settled.same_child_kinds) of
+
+  pub tile-full : (a : Address) → IsTileOf (children t) (whole f) a → IsTileOf kinds F a
+  tile-full a of = by_tables F a (IsTileOf-later t f (at_depth t 64 f) a to_full is of)
+
+  pub whole-level : at_level F (depth F) ≡ F
+  whole-level = λ i. record { kind = F.kind; digits = take_all (depth F) F.digits (omega arith) i }
+
+  pub level-own : at_level F (length f.digits) ≡ whole f
+  level-own = level-at t f is (length f.digits) (omega arith) is.at_most_64 ∙ ap whole (sym is.its_digits)
+
+  module _ (g : FrameValue) (h : GrowsTo t f g) where
+    pub level-grown : at_level F (length g.digits) ≡ whole g
+    level-grown = level-at t f is (length g.digits) h.no_shallower h.is_frame.at_most_64 ∙ ap whole (sym (GrowsTo-is t f g h))
+
+    pub same-full : full t g ≡ F
+    same-full = full-later t f g h
+
+    module _ (a b : Corner) (n : ℕ) (found : IsFound t f n a) (vertex_exists : its_edge t a < edge_count T.rule a.tile.addr.kind) (x : IsCrossedTo t f g a b) where
+      abbrev own : Address
+      own = address_of a.tile.addr
+
+      abbrev other : Address
+      other = address_of b.tile.addr
+
+      grown : IsGrownCrossing P T F (length f.digits) (length g.digits) own (its_edge t a) other b.vertex
+      grown = record {
+        frame = names;
+        not_below = h.no_shallower;
+        within = omega (arith, h.is_frame.at_most_64, deep);
+        tile = subst (λ y. IsTileOf kinds y own) (sym level-own) (by_tables (whole f) own found.of_frame);
+        edge_exists = vertex_exists;
+        across = subst (λ y. IsTileAcross P T.rule (tile_at P T.rule (lifted_in y own)) (its_edge t a) (tile_at P T.rule other) b.vertex) (sym level-grown) x.only_tile_across.across;
+        least = λ k l j. let on = x.least k l j in
+            (on.own, on.part, subst (λ y. IsOnBoundary P T.rule (tile_at P T.rule (lifted_in y own)) (its_edge t a) on.own on.part) (sym (level-at t f is k l (omega (arith, j, h.is_frame.at_most_64)))) on.lies);
+      }
+
+      -- it is the next corner, and the frame has grown to its level, where it wasn't as deep already
+      pub next-named : IsNext P.real (Placed (NumberOf m.order)) (frame_patch P T.rule F) (name_of t f a) (name_of t f b) × (max (length f.digits) (level_in F (lifted_in F other)) ≡ length g.digits)
+      next-named = L.next T F (length f.digits) (length g.digits) own a.vertex other b.vertex grown
+
+      -- and found in its place
+      pub next-found : IsFound t g (n + 1) b
+      next-found = record {
+        its_kind = x.its_kind;
+        of_frame = x.of_frame;
+        motion_is =
+            x.motion_is ∙ ap (λ k. followed P x.glue k) found.motion_is
+            ∙ sym (L.glued T F (length f.digits) (length g.digits) own (its_edge t a) other b.vertex grown x.glue x.glues)
+            ∙ ap (λ y. (in_frame P T.rule y other).motion) (sym same-full);
+        turn_below = x.turn_below;
+        shift_within = point_wider (2 ^ 8 * n + 2 ^ 8) (2 ^ 8 * (n + 1)) _ (omega arith) (x.shift_within (2 ^ 8 * n) found.shift_within);
+        in_order = x.in_order;
+      }
+
+    -- what was found before stays found
+    pub found-later : (n k : ℕ) → n ≤ k → (c : Corner) → IsFound t f n c → IsFound t g k c
+    found-later n k le c found = record {
+      its_kind = found.its_kind;
+      of_frame = IsTileOf-later t f g (address_of c.tile.addr) h is found.of_frame;
+      motion_is = found.motion_is ∙ ap (λ y. (in_frame P T.rule y (address_of c.tile.addr)).motion) (sym same-full);
+      turn_below = found.turn_below;
+      shift_within = point_wider (2 ^ 8 * n) (2 ^ 8 * k) _ (omega (arith, le)) found.shift_within;
+      in_order = found.in_order;
+    }

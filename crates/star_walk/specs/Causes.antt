@@ -1,0 +1,45 @@
+-- Why a vertex has no star, and where it has one.
+use Rattle.std.specs.Prelude.{◌≡◌, ℕ, suc, ◌≤◌, List, length}
+use Rattle.cyclo_points.specs.Order.{points_of}
+use Rattle.substitution.specs.RuleParts.{edge_count}
+use Rattle.rule_model.specs.Tiling.{Tiling}
+use Rattle.tile_shape.specs.declared.address.Address.{Address}
+use Rattle.tile_shape.specs.Views.{address_of}
+use Rattle.lazy_walk.specs.Ancestors.{full}
+use Rattle.lazy_walk.specs.Boundary.{IsBoundaryEdge}
+use Rattle.lazy_walk.specs.Frames.{FrameValue, whole}
+use Rattle.vertex_stars.specs.Corners.{edge_into}
+use Rattle.vertex_stars.specs.FrameStar.{AreAtVertex}
+use Rattle.star_walk.specs.declared.star_fault.StarFault.{StarFault}
+use Rattle.star_walk.specs.declared.star_fault.StarFault.TheVariants.{DepthLimit, TooBig}
+use Rattle.star_walk.specs.Corners.{CornerOf, vertex_of_base, IsAtVertex}
+use Rattle.star_walk.specs.Round.{IsEnough}
+
+-- the most tiles that a star may have
+abbrev pub most_corners : ℕ
+most_corners = 64
+
+-- the frame is at depth 64; the tile has vertex i of the base as a vertex; and its edge that ends there is on the boundary of the frame's supertile
+pub record IsDepthLimit (t : Tiling) (f : FrameValue) (i : ℕ) (addr : Address) (edge : ℕ) : Type 0 where
+  pub at_64 : length f.digits ≡ 64
+  pub corner : CornerOf t
+  pub its_address : corner.tile.address ≡ address_of addr
+  pub at_vertex : IsAtVertex t f i corner
+  pub its_edge : edge ≡ edge_into (edge_count t.rule corner.tile.address.kind) corner.vertex
+  pub on_boundary : IsBoundaryEdge t (address_of addr) edge
+
+-- one tile more than the most is of the frame and has vertex i of the base as a vertex
+pub record AreTooMany (t : Tiling) (f : FrameValue) (i : ℕ) : Type 0 where
+  pub corners : List (CornerOf t)
+  pub count : length corners ≡ suc most_corners
+  pub at_vertex : AreAtVertex (points_of t.order) t.rule (whole f) (vertex_of_base t f i) corners
+
+-- the cause of each fault
+abbrev pub HasCause : Tiling → FrameValue → ℕ → StarFault → Type 0
+HasCause t f i (DepthLimit addr edge) = IsDepthLimit t f i addr edge
+HasCause t f i TooBig = AreTooMany t f i
+
+-- depth 64 is enough for vertex i of the base, and no more tiles than the most have it there
+pub record IsWithinLimits (t : Tiling) (f : FrameValue) (i : ℕ) : Type 0 where
+  pub enough : IsEnough t f i 64
+  pub few : (corners : List (CornerOf t)) → AreAtVertex (points_of t.order) t.rule (full t f) (vertex_of_base t f i) corners → length corners ≤ most_corners

@@ -1,0 +1,31 @@
+-- Corners of the program in the words of the theory, and the vertex of the base round which they lie.
+use Rattle.std.specs.Prelude.{ℕ}
+use Rattle.ordered_plane.specs.Plane.{PlanePoint}
+use Rattle.cyclo_points.specs.declared.order.Order.{Order}
+use Rattle.cyclo_points.specs.Order.{NumberOf, points_of}
+use Rattle.substitution.specs.Plane.{plane_point}
+use Rattle.substitution.specs.RuleParts.{vertex}
+use Rattle.substitution.specs.Supertile.{Placed}
+use Rattle.windows.specs.FramePatch.{frame_patch}
+use Rattle.rule_model.specs.Tiling.{Tiling}
+use Rattle.tile_place.specs.Searched.{placed_in}
+use Rattle.lazy_walk.specs.Frames.{FrameValue, whole}
+use Rattle.vertex_stars.specs.Corners.{Corner as TheCorner, IsCornerAt}
+use Rattle.star_walk.specs.declared.corner.Corner.{Corner}
+
+-- a corner of a tile that is known by its address and its motion
+abbrev pub CornerOf : Tiling → Type 0
+CornerOf t = TheCorner (Placed (NumberOf t.order))
+
+-- a corner of the program as one of those
+abbrev pub corner_in : (o : Order) → Corner → TheCorner (Placed (NumberOf o))
+corner_in o c = record { tile = placed_in o c.tile; vertex = c.vertex }
+
+-- where vertex number i of the base lies
+abbrev pub vertex_of_base : (t : Tiling) → FrameValue → ℕ → PlanePoint (points_of t.order).real.ops.carrier
+vertex_of_base t f i = plane_point (points_of t.order) (vertex (points_of t.order) t.rule f.base.kind i)
+
+-- the corner is of a tile of the frame, at the depth that it has, and lies at vertex number i of the base
+abbrev pub IsAtVertex : (t : Tiling) → FrameValue → ℕ → CornerOf t → Type 0
+IsAtVertex t f i c =
+    IsCornerAt (points_of t.order).real (Placed (NumberOf t.order)) (frame_patch (points_of t.order) t.rule (whole f)) (vertex_of_base t f i) c

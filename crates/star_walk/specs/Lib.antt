@@ -1,0 +1,5 @@
+pub mod Corners
+pub mod Round
+pub mod Causes
+pub mod Found
+pub mod StarLaws

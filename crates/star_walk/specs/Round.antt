@@ -1,0 +1,35 @@
+-- The tiles round a vertex of the base, turning order, and the least depth that is enough for the vertex.
+use Rattle.std.specs.Prelude.{◌≡◌, ℕ, List, ◌∷◌, length}
+use Rattle.cyclo_points.specs.Order.{NumberOf, points_of}
+use Rattle.substitution.specs.Supertile.{Placed}
+use Rattle.windows.specs.FramePatch.{frame_patch}
+use Rattle.rule_model.specs.Tiling.{Tiling}
+use Rattle.lazy_walk.specs.Ancestors.{full}
+use Rattle.lazy_walk.specs.Frames.{FrameValue, whole}
+use Rattle.vertex_stars.specs.Corners.{IsTurn}
+use Rattle.vertex_stars.specs.OnPolygon.{IsOffFrame, IsLeastOff}
+use Rattle.vertex_stars.specs.Round.{IsRound}
+use Rattle.star_walk.specs.Corners.{CornerOf, vertex_of_base}
+
+-- these are exactly the tiles of the frame, at the depth that it has, that have vertex i of the base among their vertices, each once and with its number there
+abbrev pub AreRound : (t : Tiling) → FrameValue → ℕ → List (CornerOf t) → Type 0
+AreRound t f i corners =
+    IsRound (points_of t.order).real (Placed (NumberOf t.order)) (frame_patch (points_of t.order) t.rule (whole f)) (vertex_of_base t f i) corners
+
+-- the first is the base with its vertex i; each further one lies across the edge that ends at the vertex of the one before; and across that of the last lies
+-- the base, for the first time
+pub record AreInTurn (t : Tiling) (f : FrameValue) (i : ℕ) (corners : List (CornerOf t)) : Type 0 where
+  pub base : CornerOf t
+  pub others : List (CornerOf t)
+  pub are : corners ≡ base ∷ others
+  pub base_named : base.tile.address ≡ whole f
+  pub base_vertex : base.vertex ≡ i
+  pub turn : IsTurn (points_of t.order).real (Placed (NumberOf t.order)) (frame_patch (points_of t.order) t.rule (whole f)) base others
+
+-- vertex i of the base lies on no edge of the frame's polygon at depth n, up to 64
+abbrev pub IsEnough : Tiling → FrameValue → ℕ → ℕ → Type 0
+IsEnough t f i n = IsOffFrame (points_of t.order) t.rule (full t f) (vertex_of_base t f i) n
+
+-- n is the least such depth, from that of the frame to 64
+abbrev pub IsLeastEnough : Tiling → FrameValue → ℕ → ℕ → Type 0
+IsLeastEnough t f i n = IsLeastOff (points_of t.order) t.rule (full t f) (vertex_of_base t f i) (length f.digits) n

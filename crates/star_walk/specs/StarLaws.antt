@@ -1,0 +1,23 @@
+-- The laws on which the turn rests.
+use Rattle.substitution.specs.Points.{Points, PointLaws}
+use Rattle.windows.specs.FrameSearch.{RenamedLaw, GluedCrossingLaw}
+use Rattle.vertex_stars.specs.FrameStar.{SimpleFrameLaw, FrameNextLaw, FrameStarLaw, FrameCornersLaw, FrameBaseLaw, FrameBackLaw, FrameStopLaw}
+use Rattle.vertex_stars.specs.Laws.{AnswerLaw, CountLaw}
+use Rattle.vertex_stars.specs.OnPolygon.{FrameOffLaw, FrameLeastLaw}
+
+-- of points; of names and gluing in frames; and of the turn
+pub record HasStarLaws (P : Points) : Type 0 where
+  pub points : PointLaws P
+  pub renamed : RenamedLaw P
+  pub glued : GluedCrossingLaw P
+  pub simple : SimpleFrameLaw P
+  pub next : FrameNextLaw P
+  pub star : FrameStarLaw P
+  pub corners : FrameCornersLaw P
+  pub base : FrameBaseLaw P
+  pub back : FrameBackLaw P
+  pub stop : FrameStopLaw P
+  pub answers : AnswerLaw P
+  pub count : CountLaw P
+  pub off : FrameOffLaw P
+  pub least : FrameLeastLaw P

@@ -1,0 +1,70 @@
+//! From a corner to the one after it in turning order, while the frame grows.
+ghost use Rattle.std.specs.Prelude.{◌≡◌, ◌↔◌, ◌<◌, ◌≤◌, ◌^◌, length, IsSome, IsErr, IfErr, OnErr, OnOk};
+ghost use Rattle.addressing.specs.Tables.{type_of};
+ghost use Rattle.cyclo_points.specs.Order.{points_of};
+ghost use Rattle.cyclo_points.specs.Point.{IsOf, IsWithin};
+ghost use Rattle.frames.specs.Frame.{IsTileOf};
+ghost use Rattle.lazy_walk.specs.Boundary.{IsBoundaryEdge};
+ghost use Rattle.lazy_walk.specs.Frames.{whole, IsFrameOf, GrowsTo, lifted_at};
+ghost use Rattle.rule_model.specs.Tiling.{tiling_of, contacts, children};
+ghost use Rattle.tile_shape.specs.Views.{address_of};
+ghost use Rattle.vertex_stars.specs.Corners.{edge_into};
+ghost use Rattle.star_walk.specs.Found.{IsCrossedTo, its_edge};
+
+use crate::corner::Corner;
+use edge_tables::steps::Steps;
+use lazy_walk::depth_limit::DepthLimit;
+use lazy_walk::frame::Frame;
+use seeded_growth::laws::grown_fits_law;
+use std::sync::ledger::Ledger;
+use tile_place::machine::Machine;
+
+/// The number of the edge that ends at a vertex.
+fn edge_before(edges: u8, vertex: u8) -> u8
+    requires below { vertex < edges }
+    ensures number { result ≡ edge_into edges vertex }
+    ensures exists { result < edges }
+{
+    if vertex == 0 { edges - 1 } else { vertex - 1 }
+}
+
+/// Goes across the edge that ends at the corner's vertex, while the frame grows until that edge is not on the
+/// boundary: the corner becomes the one after it.
+pub(crate) fn step_round<L: Ledger>(
+    machine: &Machine,
+    frame: &mut Frame,
+    corner: &mut Corner,
+    steps: &mut Steps<L>,
+) -> Result<(), DepthLimit>
+    requires frame { IsFrameOf (tiling_of machine.now) frame.old }
+    requires its_kind { corner.old.tile.kind ≡ corner.old.tile.addr.kind }
+    requires of_frame { IsTileOf (children (tiling_of machine.now)) (whole frame.old) (address_of corner.old.tile.addr) }
+    requires vertex_exists { IsSome (type_of (contacts (tiling_of machine.now)) corner.old.tile.addr.kind corner.old.vertex) }
+    requires turn_below { corner.old.tile.motion.turn < (points_of machine.now.order).order }
+    requires shift_within { IsWithin (2 ^ 24) corner.old.tile.motion.shift }
+    requires in_order { IsOf machine.now.order corner.old.tile.motion.shift }
+    ensures frame { GrowsTo (tiling_of machine.now) frame.old frame.new }
+    ensures crossed { OnOk result (IsCrossedTo (tiling_of machine.now) frame.old frame.new corner.old corner.new) }
+    ensures limit_exactly { IsErr result
+        ↔ IsBoundaryEdge (tiling_of machine.now) (lifted_at (tiling_of machine.now) frame.old (address_of corner.old.tile.addr) 64) (its_edge (tiling_of machine.now) corner.old) }
+    ensures limit_tile { IfErr result (λ limit. address_of limit.addr ≡ lifted_at (tiling_of machine.now) frame.old (address_of corner.old.tile.addr) 64) }
+    ensures limit_edge { IfErr result (λ limit. limit.edge ≡ its_edge (tiling_of machine.now) corner.old) }
+    ensures deepest_at_limit { OnErr result (length frame.new.digits ≡ 64) }
+{
+    let checked = machine.checked();
+    grown_fits_law();
+    machine.gluing_law();
+    let _usable = checked.uses().kinds();
+    let edge = edge_before(checked.tables().edges(corner.tile.addr.kind), corner.vertex);
+    let back = frame.cross_grow_in_place(machine, &mut corner.tile.addr, edge, steps)?;
+    corner.tile.motion = machine.motion_across(
+        &corner.tile.motion,
+        corner.tile.kind,
+        edge,
+        corner.tile.addr.kind,
+        back,
+    );
+    corner.tile.kind = corner.tile.addr.kind;
+    corner.vertex = back;
+    Ok(())
+}

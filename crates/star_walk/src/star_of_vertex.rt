@@ -1,0 +1,119 @@
+//! The tiles round a vertex.
+ghost use Rattle.std.specs.Prelude.{◌≡◌, ◌<◌, ◌≤◌, ◌^◌, ℕ, ◌↔◌, All, [], length, map, IsTrue, IsSome, IsOk, IfOk, IfErr, OnOk};
+ghost use Rattle.std.specs.List.{AllZip};
+ghost use Rattle.addressing.specs.Address.{depth};
+ghost use Rattle.addressing.specs.Tables.{type_of};
+ghost use Rattle.cyclo_points.specs.Point.{IsWithin};
+ghost use Rattle.tile_shape.specs.Views.{address_of};
+ghost use Rattle.rule_model.specs.Tiling.{tiling_of, contacts};
+ghost use Rattle.lazy_walk.specs.Frames.{whole, IsFrameOf, GrowsTo};
+ghost use Rattle.lazy_walk.specs.Standing.{Stands};
+ghost use Rattle.star_walk.specs.Corners.{corner_in};
+ghost use Rattle.star_walk.specs.Round.{AreRound, AreInTurn, IsLeastEnough};
+ghost use Rattle.star_walk.specs.Causes.{HasCause, IsWithinLimits};
+ghost use Rattle.star_walk.specs.Found.{HasTurned, IsRaised};
+
+use crate::corner::Corner;
+use crate::corner_after::step_round;
+use crate::star_fault::StarFault;
+use crate::star_laws::star_laws;
+use crate::tiles_round::Star;
+use arrayvec::ArrayVec;
+use edge_tables::steps::Steps;
+use lazy_walk::frame::Frame;
+use seeded_growth::laws::grown_fits_law;
+use std::sync::ledger::Ledger;
+use tile_place::machine::Machine;
+use tile_shape::address::Address;
+
+/// The tiles of the frame that have a vertex of the base among their vertices, at the frame's depth on return, in
+/// turning order from the base: after a tile comes the one across the edge of it that ends at the vertex. The
+/// frame grows to the least depth, not below the one that it has, at which the vertex lies on no edge of the
+/// frame's polygon.
+///
+/// The vertex is refused where no depth up to 64 is enough for it, and where more than 64 tiles have it.
+pub fn star<L: Ledger>(
+    machine: &Machine,
+    frame: &mut Frame,
+    vertex: u8,
+    steps: &mut Steps<L>,
+) -> Result<Star, StarFault>
+    requires frame { IsFrameOf (tiling_of machine.now) frame.old }
+    requires vertex_exists { IsSome (type_of (contacts (tiling_of machine.now)) frame.old.base.kind vertex) }
+
+    ensures frame { GrowsTo (tiling_of machine.now) frame.old frame.new }
+
+    // Exactly the tiles of the frame that have the vertex, each once, with its number there and in its place;
+    // in turning order, and the last leads back to the base.
+    ensures round { IfOk result (λ star. AreRound (tiling_of machine.now) frame.new vertex (map (corner_in machine.now.order) star.corners.items)) }
+    ensures turning { IfOk result (λ star. AreInTurn (tiling_of machine.now) frame.new vertex (map (corner_in machine.now.order) star.corners.items)) }
+    ensures stand { IfOk result (λ star. All (λ (c : Corner). Stands (tiling_of machine.now) frame.new c.tile) star.corners.items) }
+    ensures shifts_within { IfOk result (λ star. All (λ (c : Corner). IsWithin (2 ^ 24) c.tile.motion.shift) star.corners.items) }
+    ensures least { OnOk result (IsLeastEnough (tiling_of machine.now) frame.old vertex (length frame.new.digits)) }
+
+    // Each fault comes only for its cause; and where depth 64 is enough, and few enough tiles have the vertex
+    // there, there is none.
+    ensures cause { IfErr result (λ fault. HasCause (tiling_of machine.now) frame.new vertex fault) }
+    ensures answered { IsWithinLimits (tiling_of machine.now) frame.old vertex → IsOk result }
+{
+    let mut star = Star {
+        corners: ArrayVec::new(),
+    };
+    turn(machine, frame, vertex, &mut star.corners, steps)?;
+    raise_all(frame, star.corners.as_mut_slice());
+    Ok(star)
+}
+
+/// Turns round the vertex from the base until it is back, and puts the corners down in turning order, each with
+/// the address that it had when it was found.
+fn turn<L: Ledger>(
+    machine: &Machine,
+    frame: &mut Frame,
+    vertex: u8,
+    corners: &mut ArrayVec<Corner, 64>,
+    steps: &mut Steps<L>,
+) -> Result<(), StarFault>
+    requires none_yet { corners.old.items ≡ [] }
+    requires frame { IsFrameOf (tiling_of machine.now) frame.old }
+    requires vertex_exists { IsSome (type_of (contacts (tiling_of machine.now)) frame.old.base.kind vertex) }
+    ensures frame { GrowsTo (tiling_of machine.now) frame.old frame.new }
+    ensures turned { OnOk result (HasTurned (tiling_of machine.now) frame.old frame.new vertex corners.new.items) }
+    ensures cause { IfErr result (λ fault. HasCause (tiling_of machine.now) frame.new vertex fault) }
+    ensures answered { IsWithinLimits (tiling_of machine.now) frame.old vertex → IsOk result }
+{
+    let checked = machine.checked();
+    star_laws(checked.order());
+    grown_fits_law();
+    let _usable = checked.uses().kinds();
+    let mut corner = Corner {
+        tile: frame.base_tile(machine),
+        vertex,
+    };
+    loop {
+        corners.push(corner.copy());
+        step_round(machine, frame, &mut corner, steps)?;
+        if is_base(frame, &corner.tile.addr) {
+            return Ok(());
+        }
+        if corners.len() == 64 {
+            return Err(StarFault::TooBig);
+        }
+    }
+}
+
+/// Whether an address is that of the base in the frame.
+fn is_base(frame: &Frame, addr: &Address) -> bool
+    ensures { IsTrue result ↔ (address_of addr.now ≡ whole frame.now) }
+{
+    addr.kind == frame.base().kind && addr.digits.as_slice() == frame.digits().as_slice()
+}
+
+/// Lifts the tiles of corners to the depth of the frame.
+fn raise_all(frame: &Frame, corners: &mut [Corner])
+    requires no_deeper { All (λ (c : Corner). depth (address_of c.tile.addr) ≤ length frame.now.digits) corners.old }
+    ensures raised { AllZip (IsRaised frame.now) corners.old corners.new }
+{
+    for corner in corners.iter_mut() {
+        frame.raise(&mut corner.tile.addr);
+    }
+}

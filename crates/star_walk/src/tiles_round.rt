@@ -1,0 +1,10 @@
+//! The tiles round a vertex, as they are answered.
+use crate::corner::Corner;
+use arrayvec::ArrayVec;
+
+/// The tiles round a vertex, in turning order from the base.
+#[derive(Drop)]
+pub struct Star {
+    /// Each tile, with the number of the vertex.
+    pub corners: ArrayVec<Corner, 64>,
+}
