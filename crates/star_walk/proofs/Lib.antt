@@ -3,3 +3,4 @@ pub mod SameDigits
 pub mod InTurn
 pub mod Brought
 pub mod Names
+pub mod Turning

@@ -30,11 +30,11 @@ at_least_left m n k h l = omega arith
 
 module _ (S : Signed) (L : Laws S.ops) (O : OrderLaws S) {T : Type 0} (F : GrowingPatch S T) where
   -- ---- the deepest level
-  not-below : (m : ℕ) (cs : List (Corner T)) → m ≤ deepest S T F m cs
+  pub not-below : (m : ℕ) (cs : List (Corner T)) → m ≤ deepest S T F m cs
   not-below m [] = omega arith
   not-below m (c ∷ cs) = let h = not-below (max m (F.level c.tile)) cs in omega arith
 
-  each-level : (m : ℕ) (cs : List (Corner T)) (c : Corner T) → IsAmong c cs → F.level c.tile ≤ deepest S T F m cs
+  pub each-level : (m : ℕ) (cs : List (Corner T)) (c : Corner T) → IsAmong c cs → F.level c.tile ≤ deepest S T F m cs
   each-level m [] c i = elim i [ ]
   each-level m (d ∷ ds) c (inl e) =
       let h = not-below (max m (F.level d.tile)) ds in
@@ -121,11 +121,11 @@ module _ (S : Signed) (L : Laws S.ops) (O : OrderLaws S) {T : Type 0} (F : Growi
       }
 
     -- ---- one corner more
-    turns-more : (c : Corner T) (ds : List (Corner T)) (d : Corner T) → Turns S T F.patch c ds → IsNext S T F.patch (last_corner c ds) d → Turns S T F.patch c (ds ++ d ∷ [])
+    pub turns-more : (c : Corner T) (ds : List (Corner T)) (d : Corner T) → Turns S T F.patch c ds → IsNext S T F.patch (last_corner c ds) d → Turns S T F.patch c (ds ++ d ∷ [])
     turns-more c [] d t n = (n, tt)
     turns-more c (b ∷ bs) d t n = (t.0, turns-more b bs d t.1 n)
 
-    last-more : (c : Corner T) (ds : List (Corner T)) (d : Corner T) → last_corner c (ds ++ d ∷ []) ≡ d
+    pub last-more : (c : Corner T) (ds : List (Corner T)) (d : Corner T) → last_corner c (ds ++ d ∷ []) ≡ d
     last-more c [] d = refl
     last-more c (b ∷ bs) d = last-more b bs d
 
