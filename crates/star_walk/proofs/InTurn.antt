@@ -1,5 +1,5 @@
 -- A list that is written element by element, beside what it was.
-use Rattle.std.proofs.Common.{◌≡◌, ℕ, zero, suc, ◌+◌, ◌<◌, List, [], ◌∷◌, length, get_or, set, take, drop, refl, sym, ap, ◌∙◌, subst, arith}
+use Rattle.std.proofs.Common.{◌≡◌, ℕ, zero, suc, ◌+◌, ◌<◌, List, [], ◌∷◌, ◌++◌, length, get_or, set, take, drop, refl, sym, ap, ◌∙◌, subst, arith}
 use Rattle.std.specs.List.{AllZip}
 
 -- something is left behind a place in the list
@@ -40,10 +40,9 @@ one-more R old now i y d h z e r =
     let next : suc i ≡ i + 1 = omega arith in
     subst (λ k. AllZip R (take k old) (take k (set now i y)) × (drop k (set now i y) ≡ drop k old)) next (written R old now i y d h z e r)
 
--- all is written
-pub all-written : {A : Type 0} (R : A → A → Type 0) (old now : List A) (i : ℕ) → length now ≡ i → length old ≡ i → AllZip R (take i old) (take i now) → AllZip R old now
-all-written R [] [] i e f z = tt
-all-written R [] (x ∷ xs) i e f z = absurd (omega (arith, e, f))
-all-written R (o ∷ os) [] i e f z = absurd (omega (arith, e, f))
-all-written R (o ∷ os) (x ∷ xs) zero e f z = absurd (omega (arith, e))
-all-written R (o ∷ os) (x ∷ xs) (suc i) e f z = (z.0, all-written R os xs i (omega (arith, e)) (omega (arith, f)) z.1)
+-- a slice of a whole list that was written stands in its place
+pub whole-back : {A : Type 0} (R : A → A → Type 0) (xs ys : List A) → AllZip R xs ys → take (length xs) (ys ++ drop (length ys) xs) ≡ ys
+whole-back R [] [] z = refl
+whole-back R [] (y ∷ ys) z = absurd z
+whole-back R (x ∷ xs) [] z = absurd z
+whole-back R (x ∷ xs) (y ∷ ys) z = ap (λ zs. y ∷ zs) (whole-back R xs ys z.1)

@@ -4,3 +4,4 @@ pub mod InTurn
 pub mod Brought
 pub mod Names
 pub mod Turning
+pub mod Ended

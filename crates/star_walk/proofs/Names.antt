@@ -74,6 +74,10 @@ module _ (m : Rule) (settled : IsSettled m) (fits : StillFits (children (tiling_
     pub level-grown : at_level F (length g.digits) ≡ whole g
     level-grown = level-at t f is (length g.digits) h.no_shallower h.is_frame.at_most_64 ∙ ap whole (sym (GrowsTo-is t f g h))
 
+    -- a tile of the frame is one of the frame of its depth
+    pub by_level : (a : Address) → IsTileOf (children t) (whole g) a → IsTileOf kinds (at_level F (length g.digits)) a
+    by_level a of = subst (λ y. IsTileOf kinds y a) (sym level-grown) (by_tables (whole g) a of)
+
     pub same-full : full t g ≡ F
     same-full = full-later t f g h
 

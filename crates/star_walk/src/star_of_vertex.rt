@@ -56,6 +56,10 @@ pub fn star<L: Ledger>(
     ensures cause { IfErr result (λ fault. HasCause (tiling_of machine.now) frame.new vertex fault) }
     ensures answered { IsWithinLimits (tiling_of machine.now) frame.old vertex → IsOk result }
 {
+    let checked = machine.checked();
+    star_laws(checked.order());
+    grown_fits_law();
+    let _usable = checked.uses().kinds();
     let mut star = Star {
         corners: ArrayVec::new(),
     };
