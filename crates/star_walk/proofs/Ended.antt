@@ -3,7 +3,6 @@ use Rattle.std.proofs.Common.{◌≡◌, ◌↔◌, ℕ, zero, suc, ◌*◌, ◌
 use Rattle.std.specs.List.{AllByRecursion, AllZip}
 use Rattle.ordered_plane.specs.Plane.{PlanePoint}
 use Rattle.addressing.specs.Address.{Address, depth}
-use Rattle.addressing.specs.Search.{IsAmong}
 use Rattle.addressing.specs.Tables.{type_of}
 use Rattle.addressing.proofs.Lists.{AllByRecursion-each}
 use Rattle.cyclo_points.specs.declared.motion.Motion.{Motion}
@@ -16,7 +15,7 @@ use Rattle.frames.specs.Frame.{at_level, lifted_in, motion_beside, StandsInFrame
 use Rattle.frames.proofs.Carried.{some_turn}
 use Rattle.frames.proofs.Frames.{IsWhole, lifted-whole, StandsInFrame-whole}
 use Rattle.lazy_walk.specs.Ancestors.{full}
-use Rattle.lazy_walk.specs.Frames.{FrameValue, whole, IsFrameOf, GrowsTo}
+use Rattle.lazy_walk.specs.Frames.{FrameValue, whole, IsFrameOf}
 use Rattle.lazy_walk.specs.Standing.{Stands}
 use Rattle.lazy_walk.proofs.Walked.{whole-tile_of}
 use Rattle.lazy_walk.proofs.Walks.{StillFits, whole-fits}
@@ -29,10 +28,10 @@ use Rattle.substitution.specs.Supertile.{Placed}
 use Rattle.tile_place.proofs.Plane.{IsSettled, its_rule}
 use Rattle.tile_shape.specs.Views.{address_of}
 use Rattle.windows.specs.FramePatch.{frame_patch, in_frame}
-use Rattle.vertex_stars.specs.Corners.{Corner as TheCorner, IsCornerAt, IsTurn}
+use Rattle.vertex_stars.specs.Corners.{IsCornerAt, IsTurn}
 use Rattle.vertex_stars.specs.FrameStar.{corner_named, lifted_corner, AreOfDepth, IsFrameStar}
 use Rattle.vertex_stars.specs.Round.{IsRound}
-use Rattle.vertex_stars.specs.GrownStar.{deepest, IsStar}
+use Rattle.vertex_stars.specs.GrownStar.{IsStar}
 use Rattle.star_walk.specs.declared.corner.Corner.{Corner}
 use Rattle.star_walk.specs.Causes.{most_corners}
 use Rattle.star_walk.specs.Corners.{CornerOf, corner_in, vertex_of_base}

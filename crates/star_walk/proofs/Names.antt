@@ -1,10 +1,8 @@
 -- Tiles of a frame by the names that they have at depth 64, and the crossing from a corner to the next one.
-use Rattle.std.proofs.Common.{◌≡◌, ℕ, ◌+◌, ◌*◌, ◌<◌, ◌≤◌, ◌^◌, max, Some, List, length, refl, sym, ap, ◌∙◌, subst, arith, take_all}
+use Rattle.std.proofs.Common.{◌≡◌, ℕ, ◌+◌, ◌*◌, ◌<◌, ◌≤◌, ◌^◌, max, List, length, sym, ap, ◌∙◌, subst, arith, take_all}
 use Rattle.addressing.specs.Address.{Address, depth, Fits}
-use Rattle.addressing.specs.Tables.{child_kinds, type_of}
-use Rattle.addressing.proofs.TableBounds.{some_of}
+use Rattle.addressing.specs.Tables.{child_kinds}
 use Rattle.cyclo_points.specs.Order.{NumberOf, points_of}
-use Rattle.cyclo_points.specs.Motion.{motion_in}
 use Rattle.cyclo_points.proofs.Within.{point_wider}
 use Rattle.dissection.specs.Accepted.{AcceptedRule, NamesTile}
 use Rattle.dissection.specs.Across.{IsTileAcross}
@@ -13,8 +11,7 @@ use Rattle.dissection.specs.TileEdges.{tile_at}
 use Rattle.edge_to_edge.specs.Contacts.{tables_of}
 use Rattle.frames.specs.Frame.{at_level, IsTileOf, lifted_in}
 use Rattle.lazy_walk.specs.Ancestors.{full}
-use Rattle.lazy_walk.specs.Boundary.{IsBoundaryEdge}
-use Rattle.lazy_walk.specs.Frames.{FrameValue, whole, at_depth, IsFrameOf, GrowsTo, lifted_at}
+use Rattle.lazy_walk.specs.Frames.{FrameValue, whole, at_depth, IsFrameOf, GrowsTo}
 use Rattle.lazy_walk.proofs.Ancestors.{full-later, level-at}
 use Rattle.lazy_walk.proofs.Lifting.{IsTileOf-later}
 use Rattle.lazy_walk.proofs.Walks.{StillFits, at_depth-depth, later, whole-fits, GrowsTo-is}

@@ -1,5 +1,5 @@
 -- Digits of the program that are equal are the same digits.
-use Rattle.std.proofs.Common.{◌≡◌, ◌↔◌, ℕ, List, [], ◌∷◌, map, Bool, true, nat_eq, ◌&&◌, refl, ap, ap₂, eqb-true}
+use Rattle.std.proofs.Common.{◌≡◌, ◌↔◌, List, [], ◌∷◌, map, true, nat_eq, refl, ap, ap₂, eqb-true}
 use Rattle.std.proofs.lemmas.Bool.{and_parts, and_from, eq-eqb}
 use Rattle.addressing.specs.Address as theory
 use Rattle.tile_shape.specs.declared.step.Step.{Step}

@@ -1,5 +1,5 @@
 -- The states of the turn: the first, the next, its end, and what stops it.
-use Rattle.std.proofs.Common.{◌≡◌, ◌⊎◌, inl, inr, ℕ, zero, suc, ◌+◌, ◌*◌, ◌^◌, ◌<◌, ◌≤◌, max, Some, IsSome, List, [], ◌∷◌, ◌++◌, length, map, slice_get, refl, sym, ap, ap₂, ◌∙◌, subst, arith, length-append}
+use Rattle.std.proofs.Common.{◌≡◌, ◌⊎◌, inl, inr, ℕ, zero, suc, ◌+◌, ◌*◌, ◌^◌, ◌<◌, ◌≤◌, max, IsSome, List, [], ◌∷◌, ◌++◌, length, refl, sym, ap, ◌∙◌, subst, arith, length-append}
 use Rattle.std.specs.List.{AllByRecursion}
 use Rattle.std.proofs.lemmas.List.{length-map, map-append}
 use Rattle.std.proofs.lemmas.Option.{slice_get_within}
@@ -15,10 +15,9 @@ use Rattle.cyclo_points.specs.Point.{IsWithin}
 use Rattle.cyclo_points.proofs.Within.{point_wider}
 use Rattle.dissection.specs.Accepted.{AcceptedRule}
 use Rattle.dissection.specs.Polygons.{tile_polygon}
-use Rattle.dissection.specs.TileEdges.{tile_at}
 use Rattle.edge_to_edge.proofs.TablesOf.{type_of-at, type_of-found}
 use Rattle.addressing.proofs.TableBounds.{some_of}
-use Rattle.frames.specs.Frame.{at_level, IsTileOf, lifted_in, motion_beside, StandsInFrame}
+use Rattle.frames.specs.Frame.{at_level, IsTileOf, lifted_in, motion_beside}
 use Rattle.frames.proofs.Carried.{some_turn}
 use Rattle.frames.proofs.Frames.{IsWhole, StandsInFrame-whole}
 use Rattle.lazy_walk.specs.Ancestors.{full}
@@ -40,18 +39,18 @@ use Rattle.tile_shape.specs.declared.address.Address as program
 use Rattle.tile_shape.specs.Views.{address_of}
 use Rattle.windows.specs.Distinct.{AreDistinct}
 use Rattle.windows.specs.FrameLaws.{IsEdgeInFrame}
-use Rattle.windows.specs.FramePatch.{frame_patch, in_frame, level_in}
-use Rattle.vertex_stars.specs.Corners.{Corner as TheCorner, IsCornerAt, edge_into, IsNext, Turns, last_corner, IsTurn, tiles_of}
+use Rattle.windows.specs.FramePatch.{frame_patch, level_in}
+use Rattle.vertex_stars.specs.Corners.{IsCornerAt, edge_into, IsNext, Turns, last_corner, tiles_of}
 use Rattle.vertex_stars.specs.EnoughAt.{IsEnoughAt}
 use Rattle.vertex_stars.specs.FrameStar.{corner_named, AreAtVertex}
 use Rattle.vertex_stars.specs.GrownStar.{IsCornerOfDepth, deepest}
 use Rattle.vertex_stars.specs.Round.{IsSimplyDissected}
-use Rattle.vertex_stars.proofs.GrownStar.{not-below, each-level, turns-more, last-more}
+use Rattle.vertex_stars.proofs.GrownStar.{each-level, turns-more, last-more}
 use Rattle.vertex_stars.proofs.Turning.{turn-at, last-among}
 use Rattle.star_walk.specs.declared.corner.Corner.{Corner}
 use Rattle.star_walk.specs.declared.star_fault.StarFault.TheVariants.{DepthLimit, TooBig}
 use Rattle.star_walk.specs.Causes.{most_corners, HasCause, IsWithinLimits}
-use Rattle.star_walk.specs.Corners.{CornerOf, vertex_of_base, IsAtVertex}
+use Rattle.star_walk.specs.Corners.{CornerOf, vertex_of_base}
 use Rattle.star_walk.specs.Found.{its_edge, IsFound, IsCrossedTo, growing, name_of, base_name, IsOnTheWay, HasTurned}
 use Rattle.star_walk.specs.StarLaws.{HasStarLaws}
 use Rattle.star_walk.proofs.Names.{names, deep, tile-full, whole-level, level-own, level-grown, next-named, next-found, found-later}

@@ -1,7 +1,7 @@
 -- The turn on its way: the corners found so far, by the names that their tiles have at depth 64.
 use Rattle.std.specs.Prelude.{◌≡◌, ℕ, ◌<◌, ◌≤◌, ◌+◌, ◌*◌, ◌^◌, List, ◌∷◌, map, length}
 use Rattle.std.specs.List.{AllByRecursion}
-use Rattle.addressing.specs.Address.{Address, depth}
+use Rattle.addressing.specs.Address.{depth}
 use Rattle.addressing.specs.Search.{IsAmong}
 use Rattle.cyclo_points.specs.Order.{NumberOf, points_of, is_refused}
 use Rattle.cyclo_points.specs.Point.{IsOf, IsWithin}

@@ -6,8 +6,8 @@
 #![tactic(auto)]
 
 pub mod corner;
-mod corner_after;
+pub mod star;
 pub mod star_fault;
 mod star_laws;
-pub mod star_of_vertex;
-pub mod tiles_round;
+mod step_round;
+pub mod turn;

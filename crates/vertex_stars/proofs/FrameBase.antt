@@ -1,15 +1,14 @@
 -- The base of a frame with one of its vertices, where the turn comes back to it, and where it is stopped.
-use Rattle.std.proofs.Common.{◌≡◌, ◌↔◌, inl, inr, ℕ, zero, suc, ◌<◌, ◌≤◌, Bool, List, [], ◌∷◌, ◌++◌, length, map, take, drop, get_or, slice_get, Some, pos, refl, sym, ap, ◌∙◌, subst, arith}
+use Rattle.std.proofs.Common.{◌≡◌, ◌↔◌, ℕ, zero, suc, ◌<◌, ◌≤◌, Bool, List, [], ◌∷◌, ◌++◌, length, take, drop, get_or, slice_get, Some, pos, refl, sym, ap, ◌∙◌, subst, arith}
 use Rattle.std.proofs.lemmas.List.{length-map, append_cancel_right, take_all, take-append-drop}
 use Rattle.ordered_ring.specs.Sign.{Signed}
 use Rattle.ordered_ring.proofs.Normaliser.{var, con, ring, ◌⊕◌, ◌⊗◌}
 use Rattle.ordered_plane.specs.Plane.{PlanePoint}
 use Rattle.addressing.specs.Address.{Address, depth}
-use Rattle.addressing.specs.Search.{IsAmong}
 use Rattle.addressing.specs.Tables.{child_kinds}
 use Rattle.addressing.proofs.Chains.{chain_of}
 use Rattle.addressing.proofs.Ranges.{slice_get-image}
-use Rattle.substitution.specs.Motion.{Motion, moved, still}
+use Rattle.substitution.specs.Motion.{moved, still}
 use Rattle.substitution.specs.Placement.{placement}
 use Rattle.substitution.specs.Plane.{plane_point}
 use Rattle.substitution.specs.RuleParts.{vertices_of, edge_count, vertex}
@@ -22,7 +21,7 @@ use Rattle.dissection.specs.TileEdges.{tile_at}
 use Rattle.dissection.proofs.Glue.{some_order}
 use Rattle.dissection.proofs.RuleAddresses.{lowest_exists}
 use Rattle.dissection.proofs.Setting.{Setting}
-use Rattle.frames.specs.Frame.{at_level, frame_tiles, IsTileOf, lifted_in, motion_beside}
+use Rattle.frames.specs.Frame.{at_level, IsTileOf, lifted_in, motion_beside}
 use Rattle.frames.proofs.Frames.{placement-turn, at_level-depth, at_level-fits}
 use Rattle.frames.proofs.Group.{followed-back}
 use Rattle.windows.specs.FrameLaws.{IsEdgeInFrame}

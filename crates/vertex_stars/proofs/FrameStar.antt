@@ -1,5 +1,5 @@
 -- The turn round a vertex in a frame: the next corner, and what is gone round at the frame's depth.
-use Rattle.std.proofs.Common.{◌≡◌, inl, inr, ℕ, ◌<◌, ◌≤◌, max, Bool, true, List, [], ◌∷◌, map, length, slice_get, Some, refl, sym, ap, ◌∙◌, subst, arith}
+use Rattle.std.proofs.Common.{◌≡◌, inl, inr, ℕ, ◌<◌, ◌≤◌, max, Bool, true, List, [], ◌∷◌, map, length, slice_get, Some, refl, sym, ap, ◌∙◌, subst}
 use Rattle.std.specs.List.{AllByRecursion}
 use Rattle.std.proofs.lemmas.List.{length-map}
 use Rattle.ordered_ring.specs.Sign.{Signed}
@@ -32,7 +32,6 @@ use Rattle.windows.proofs.Members.{among-map}
 use Rattle.windows.proofs.Renamed.{lifted-tile, renamed, further}
 use Rattle.vertex_stars.specs.Corners.{Corner, IsCornerAt, edge_into, IsNext, Turns, last_corner, IsTurn, tiles_of}
 use Rattle.vertex_stars.specs.GrownStar.{IsCornerOfDepth, IsStar}
-use Rattle.vertex_stars.specs.Round.{IsRound}
 use Rattle.vertex_stars.specs.FrameStar.{corner_named, lifted_corner, AreOfDepth, IsFrameStar, AreAtVertex}
 
 module _ (T : Setting) where

@@ -1,5 +1,5 @@
 -- The edges of the frame's polygon that contain a point, and the edges of tiles on the boundary that do.
-use Rattle.std.proofs.Common.{◌≡◌, ◌↔◌, ◌⊎◌, inl, inr, ℕ, suc, ◌<◌, ◌≤◌, List, [], ◌∷◌, flat_map, map, length, pos, Some, refl, sym, ap, ap₂, ◌∙◌, subst, Bool, true, false, not, ◌&&◌, arith}
+use Rattle.std.proofs.Common.{◌≡◌, ◌↔◌, ◌⊎◌, inl, inr, ℕ, suc, ◌<◌, ◌≤◌, List, [], ◌∷◌, flat_map, map, length, pos, Some, refl, sym, ap, ◌∙◌, subst, Bool, true, false, not, ◌&&◌}
 use Rattle.std.specs.List.{AllByRecursion}
 use Rattle.std.proofs.lemmas.Bool.{and_parts}
 use Rattle.ordered_ring.specs.Ring.{Ops, Laws, power}

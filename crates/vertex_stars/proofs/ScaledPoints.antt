@@ -1,11 +1,10 @@
 -- Whole multiples of points: where they lie in the plane, and that they keep left turns, segments and equal lengths.
-use Rattle.std.proofs.Common.{◌≡◌, ℕ, zero, suc, ◌+◌, List, [], ◌∷◌, ℤ, pos, ◌+ℤ◌, refl, sym, ap, ap₂, ◌∙◌, arith}
+use Rattle.std.proofs.Common.{◌≡◌, ℕ, zero, suc, List, [], ◌∷◌, ℤ, pos, ◌+ℤ◌, refl, sym, ap, ap₂, ◌∙◌, arith}
 use Rattle.std.proofs.lemmas.Int.{ints}
 use Rattle.ordered_ring.specs.Ring.{Ops, difference}
 use Rattle.ordered_ring.specs.Sign.{IsPositive}
 use Rattle.ordered_ring.proofs.Normaliser.{var, con, neg, ring, ring_from, ◌⊕◌, ◌⊖◌, ◌⊗◌}
 use Rattle.ordered_ring.proofs.Signs.{sign-scale}
-use Rattle.ordered_plane.specs.Plane.{PlanePoint}
 use Rattle.ordered_plane.specs.Box.{scaled}
 use Rattle.ordered_plane.proofs.BoxPoints.{whole_positive}
 use Rattle.substitution.specs.Points.{Points, PointLaws}

@@ -4,7 +4,6 @@ use Rattle.std.specs.Prelude.{◌≡◌, ◌↔◌, ℕ, ◌<◌, ◌≤◌, max
 use Rattle.std.specs.List.{AllByRecursion}
 use Rattle.ordered_plane.specs.Plane.{PlanePoint}
 use Rattle.addressing.specs.Address.{Address, depth}
-use Rattle.addressing.specs.Search.{IsAmong}
 use Rattle.substitution.specs.Plane.{plane_point}
 use Rattle.substitution.specs.Points.{Points}
 use Rattle.substitution.specs.Rule.{Rule}

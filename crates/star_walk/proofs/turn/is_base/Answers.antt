@@ -1,9 +1,8 @@
-use Rattle.std.proofs.Common.{◌≡◌, ◌↔◌, IsTrue, List, map, Bool, true, sym, ap, ◌∙◌}
+use Rattle.std.proofs.Common.{◌≡◌, map, sym, ap, ◌∙◌}
 use Rattle.addressing.specs.Address.{Address}
-use Rattle.tile_shape.specs.Views.{address_of, step_of}
-use Rattle.lazy_walk.specs.Frames.{whole}
+use Rattle.tile_shape.specs.Views.{step_of}
 use Rattle.star_walk.proofs.SameDigits.{same-digits}
-use Rattle.star_walk.proofs.star_of_vertex.is_base.Goals as goal
+use Rattle.star_walk.proofs.turn.is_base.Goals as goal
 
 pub returns-then-addr-base : goal.returns-then-addr-base
 returns-then-addr-base c =

@@ -1,4 +1,4 @@
-use Rattle.std.proofs.Common.{rules, ◌≡◌, ◌<◌, ◌^◌, ℕ, IsSome, Some, IfErr, length, refl, sym, ap, ◌∙◌, subst, arith}
+use Rattle.std.proofs.Common.{rules, ◌≡◌, ℕ, IsSome, IfErr, length, refl, sym, ap, ◌∙◌, subst}
 use Rattle.addressing.specs.Tables.{Tables, kind_tables, type_of}
 use Rattle.cyclo_points.specs.Order.{points_of}
 use Rattle.edge_to_edge.proofs.TablesOf.{kind_tables-is}
@@ -18,9 +18,9 @@ use Rattle.tile_place.specs.Crossed.{IsOnlyAcross}
 use Rattle.vertex_stars.specs.Corners.{edge_into}
 use Rattle.star_walk.specs.Found.{its_edge}
 use Rattle.star_walk.proofs.Outcomes.{if_err-each}
-use Rattle.star_walk.proofs.corner_after.step_round.Given.{Over}
-use Rattle.star_walk.proofs.corner_after.step_round.Goals.{After-edge_before-edge}
-use Rattle.star_walk.proofs.corner_after.step_round.Goals as goal
+use Rattle.star_walk.proofs.step_round.step_round.Given.{Over}
+use Rattle.star_walk.proofs.step_round.step_round.Goals.{After-edge_before-edge}
+use Rattle.star_walk.proofs.step_round.step_round.Goals as goal
 
 counted : (t : Tables) (inside now : Rule) (kind edges : ℕ) → t ≡ contacts (tiling_of inside) → inside ≡ now → edges ≡ length (kind_tables t kind).types → edges ≡ edge_count (rule_of now) kind
 counted t inside now kind edges is same h =

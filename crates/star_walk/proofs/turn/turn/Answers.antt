@@ -1,8 +1,6 @@
-use Rattle.std.proofs.Common.{◌≡◌, ◌+◌, ◌*◌, ◌^◌, ◌<◌, ◌≤◌, List, [], ◌∷◌, ◌++◌, length, true, refl, sym, ap, ◌∙◌, subst, arith, length-append}
+use Rattle.std.proofs.Common.{◌*◌, ◌^◌, ◌<◌, ◌≤◌, List, [], ◌∷◌, ◌++◌, length, refl, sym, ap, ◌∙◌, subst, arith, length-append}
 use Rattle.cyclo_points.proofs.Within.{point_wider}
-use Rattle.lazy_walk.specs.Frames.{whole}
 use Rattle.rule_model.specs.Tiling.{tiling_of}
-use Rattle.tile_shape.specs.Views.{address_of}
 use Rattle.star_walk.specs.declared.corner.Corner.{Corner}
 use Rattle.star_walk.specs.declared.star_fault.StarFault.TheVariants.{DepthLimit}
 use Rattle.star_walk.specs.Causes.{HasCause}
@@ -10,9 +8,9 @@ use Rattle.star_walk.specs.Found.{IsOnTheWay}
 use Rattle.star_walk.proofs.Brought.{Brings, brought}
 use Rattle.star_walk.proofs.Outcomes.{if_err-is}
 use Rattle.star_walk.proofs.Turning.{started, last-exists, ended, stepped, too_big, not_too_big, limited, not_limited}
-use Rattle.star_walk.proofs.star_of_vertex.turn.Given.{Over}
-use Rattle.star_walk.proofs.star_of_vertex.turn.Goals.{After-base_tile, After-push}
-use Rattle.star_walk.proofs.star_of_vertex.turn.Goals as goal
+use Rattle.star_walk.proofs.turn.turn.Given.{Over}
+use Rattle.star_walk.proofs.turn.turn.Goals.{After-base_tile, After-push}
+use Rattle.star_walk.proofs.turn.turn.Goals as goal
 
 -- what the rule and the laws bring
 brings : (g : Over) (c : After-base_tile g) → Brings c.args.machine.now

@@ -14,10 +14,10 @@ ghost use Rattle.star_walk.specs.Causes.{HasCause, IsWithinLimits};
 ghost use Rattle.star_walk.specs.Found.{HasTurned, IsRaised};
 
 use crate::corner::Corner;
-use crate::corner_after::step_round;
+use crate::star::Star;
 use crate::star_fault::StarFault;
 use crate::star_laws::star_laws;
-use crate::tiles_round::Star;
+use crate::step_round::step_round;
 use arrayvec::ArrayVec;
 use edge_tables::steps::Steps;
 use lazy_walk::frame::Frame;

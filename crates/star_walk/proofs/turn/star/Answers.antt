@@ -1,4 +1,4 @@
-use Rattle.std.proofs.Common.{◌≡◌, ◌^◌, All, map, sym, subst}
+use Rattle.std.proofs.Common.{◌^◌, All, map, sym, subst}
 use Rattle.std.specs.List.{AllZip}
 use Rattle.cyclo_points.specs.Point.{IsWithin}
 use Rattle.lazy_walk.specs.Standing.{Stands}
@@ -10,9 +10,9 @@ use Rattle.star_walk.specs.Round.{AreRound, AreInTurn}
 use Rattle.star_walk.proofs.Brought.{Brings, brought}
 use Rattle.star_walk.proofs.Ended.{least, star-round, star-turns, star-stands, star-within}
 use Rattle.star_walk.proofs.InTurn.{whole-back}
-use Rattle.star_walk.proofs.star_of_vertex.star.Given.{Over}
-use Rattle.star_walk.proofs.star_of_vertex.star.Goals.{After-kinds-usable, After-raise_all}
-use Rattle.star_walk.proofs.star_of_vertex.star.Goals as goal
+use Rattle.star_walk.proofs.turn.star.Given.{Over}
+use Rattle.star_walk.proofs.turn.star.Goals.{After-kinds-usable, After-raise_all}
+use Rattle.star_walk.proofs.turn.star.Goals as goal
 
 -- what the rule and the laws bring
 brings : (g : Over) (c : After-kinds-usable g) → Brings c.args.machine.now

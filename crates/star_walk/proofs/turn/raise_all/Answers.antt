@@ -1,4 +1,4 @@
-use Rattle.std.proofs.Common.{◌≡◌, ◌≤◌, length, get_or, sym, ap, ◌∙◌, subst}
+use Rattle.std.proofs.Common.{◌≤◌, length, get_or, sym, ap, ◌∙◌, subst}
 use Rattle.addressing.specs.Address.{depth}
 use Rattle.frames.specs.Frame.{lifted_in}
 use Rattle.lazy_walk.specs.Frames.{whole}
@@ -6,7 +6,7 @@ use Rattle.tile_shape.specs.Views.{address_of}
 use Rattle.star_walk.specs.declared.corner.Corner.{Corner}
 use Rattle.star_walk.specs.Found.{IsRaised}
 use Rattle.star_walk.proofs.InTurn.{same-at, below-as, one-more}
-use Rattle.star_walk.proofs.star_of_vertex.raise_all.Goals as goal
+use Rattle.star_walk.proofs.turn.raise_all.Goals as goal
 
 pub raise-requires : goal.raise-requires
 raise-requires c =
