@@ -1,7 +1,7 @@
 -- The laws on which the turn rests.
 use Rattle.substitution.specs.Points.{Points, PointLaws}
 use Rattle.windows.specs.FrameSearch.{RenamedLaw, GluedCrossingLaw}
-use Rattle.vertex_stars.specs.FrameStar.{SimpleFrameLaw, FrameNextLaw, FrameStarLaw, FrameCornersLaw, FrameBaseLaw, FrameBackLaw, FrameStopLaw}
+use Rattle.vertex_stars.specs.FrameStar.{SimpleFrameLaw, FrameNextLaw, FrameStarLaw, FrameCornersLaw, FrameBaseLaw, FrameBackLaw, TurnStopLaw}
 use Rattle.vertex_stars.specs.Laws.{AnswerLaw, CountLaw}
 use Rattle.vertex_stars.specs.OnPolygon.{FrameOffLaw, FrameLeastLaw}
 
@@ -16,7 +16,7 @@ pub record HasStarLaws (P : Points) : Type 0 where
   pub corners : FrameCornersLaw P
   pub base : FrameBaseLaw P
   pub back : FrameBackLaw P
-  pub stop : FrameStopLaw P
+  pub stop : TurnStopLaw P
   pub answers : AnswerLaw P
   pub count : CountLaw P
   pub off : FrameOffLaw P

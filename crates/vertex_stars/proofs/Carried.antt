@@ -43,7 +43,7 @@ module _ (P : Points) (W : PointLaws P) where
   pub frame_back_law : is_frame.FrameBackLaw P
   frame_back_law T f fits v m n wm wn b g i deep hb hm = base.frame-back (record { points = P; laws = W; accepted = T }) f fits v m n wm wn b g i deep hb hm
 
-  pub frame_stop_law : is_frame.FrameStopLaw P
+  pub frame_stop_law : is_frame.TurnStopLaw P
   frame_stop_law T f refused v a i h at own part on enough = absurd (base.frame-stop (record { points = P; laws = W; accepted = T }) f h.frame refused v a i h at own part on enough)
 
   pub frame_off_law : is_polygon.FrameOffLaw P

@@ -93,8 +93,8 @@ FrameBackLaw P =
     → (b ≡ at_level f n) ↔ (corner_named P T.rule f b g ≡ corner_named P T.rule f (at_level f m) i)
 
 -- where the edge that ends at v is on the boundary at the frame's own depth, that depth isn't enough for v
-abbrev pub FrameStopLaw : Points → Type 0
-FrameStopLaw P =
+abbrev pub TurnStopLaw : Points → Type 0
+TurnStopLaw P =
     (T : AcceptedRule P) (f : Address) (refused : P.ring.carrier → Bool) (v : PlanePoint P.real.ops.carrier) (a : Address) (i : ℕ)
     → IsEdgeInFrame P T f a (edge_into (edge_count T.rule a.kind) i)
     → IsCornerAt P.real (Placed P.ring.carrier) (frame_patch P T.rule f) v (corner_named P T.rule f a i)

@@ -11,7 +11,7 @@ ghost use Rattle.cyclo_points.specs.Order.{points_of};
 ghost use Rattle.vertex_stars.specs.Laws.{TurnLaw, AnswerLaw, OnwardLaw, EndLaw, DepthLaw, CountLaw};
 ghost use Rattle.vertex_stars.specs.FrameStar.{SimpleFrameLaw, FrameNextLaw, FrameStarLaw, FrameCornersLaw};
 ghost use Rattle.vertex_stars.specs.OnPolygon.{FrameOffLaw, FrameLeastLaw};
-ghost use Rattle.vertex_stars.specs.FrameStar.{FrameBaseLaw, FrameBackLaw, FrameStopLaw};
+ghost use Rattle.vertex_stars.specs.FrameStar.{FrameBaseLaw, FrameBackLaw, TurnStopLaw};
 
 use cyclo_points::order::Order;
 
@@ -53,7 +53,7 @@ pub fn frame_star_law(order: Order)
 pub fn frame_base_law(order: Order)
     ensures base { FrameBaseLaw (points_of order) }
     ensures back { FrameBackLaw (points_of order) }
-    ensures stop { FrameStopLaw (points_of order) }
+    ensures stop { TurnStopLaw (points_of order) }
 {}
 
 /// The law of a frame's polygon: a depth is enough for a point exactly where the point is on no edge of the
