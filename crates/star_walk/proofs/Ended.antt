@@ -1,6 +1,7 @@
 -- A turn that has come back, with its tiles lifted to the depth of the frame, is the star.
 use Rattle.std.proofs.Common.{◌≡◌, ◌↔◌, ℕ, zero, suc, ◌*◌, ◌^◌, ◌<◌, ◌≤◌, All, IsSome, List, [], ◌∷◌, length, map, refl, sym, ap, ap₂, ◌∙◌, subst, arith}
 use Rattle.std.specs.List.{AllByRecursion, AllZip}
+use Rattle.std.proofs.lemmas.List.Elements.{All-from_recursion}
 use Rattle.ordered_plane.specs.Plane.{PlanePoint}
 use Rattle.addressing.specs.Address.{Address, depth}
 use Rattle.addressing.specs.Tables.{type_of}
@@ -46,11 +47,6 @@ head-is e = cc (e)
 
 tail-is : {A : Type 0} {a b : A} {us vs : List A} → a ∷ us ≡ b ∷ vs → us ≡ vs
 tail-is e = cc (e)
-
-all-by : {A : Type 0} (Q : A → Type 0) (xs : List A) → AllByRecursion Q xs → All Q xs
-all-by Q [] h k d l = absurd (omega arith)
-all-by Q (x ∷ xs) h zero d l = h.0
-all-by Q (x ∷ xs) h (suc k) d l = all-by Q xs h.1 k d (omega arith)
 
 module _ (m : Rule) (settled : IsSettled m) (fits : StillFits (children (tiling_of m))) (L : HasStarLaws (points_of m.order)) (f : FrameValue) (is : IsFrameOf (tiling_of m) f) (i : ℕ)
     (vertex : IsSome (type_of (contacts (tiling_of m)) f.base.kind i)) (g : FrameValue) (corners : List Corner) (w : HasTurned (tiling_of m) f g i corners) where
@@ -245,8 +241,8 @@ module _ (m : Rule) (settled : IsSettled m) (fits : StillFits (children (tiling_
       subst (λ ds. AreInTurn t g i (map (corner_in m.order) ds)) (sym d.2) (in_turn d.0 d.1 (subst (AllZip (IsRaised g) corners) d.2 z) c.0 c.1 c.2)
 
   pub star-stands : (ds : List Corner) → AllZip (IsRaised g) corners ds → All (λ (c : Corner). Stands t g c.tile) ds
-  star-stands ds z = all-by (λ (c : Corner). Stands t g c.tile) ds (AllByRecursion-each _ (λ (c : Corner). Stands t g c.tile) ds (λ c h. h.0) (all-stand corners ds w.found z))
+  star-stands ds z = All-from_recursion (λ (c : Corner). Stands t g c.tile) ds (AllByRecursion-each _ (λ (c : Corner). Stands t g c.tile) ds (λ c h. h.0) (all-stand corners ds w.found z))
 
   pub star-within : (ds : List Corner) → AllZip (IsRaised g) corners ds → All (λ (c : Corner). IsWithin (2 ^ 24) c.tile.motion.shift) ds
-  star-within ds z = all-by (λ (c : Corner). IsWithin (2 ^ 24) c.tile.motion.shift) ds
+  star-within ds z = All-from_recursion (λ (c : Corner). IsWithin (2 ^ 24) c.tile.motion.shift) ds
       (AllByRecursion-each _ (λ (c : Corner). IsWithin (2 ^ 24) c.tile.motion.shift) ds (λ c h. h.1) (all-stand corners ds w.found z))

@@ -1,6 +1,7 @@
 -- The base of a frame with one of its vertices, where the turn comes back to it, and where it is stopped.
 use Rattle.std.proofs.Common.{◌≡◌, ◌↔◌, ℕ, zero, suc, ◌<◌, ◌≤◌, Bool, List, [], ◌∷◌, ◌++◌, length, take, drop, get_or, slice_get, Some, pos, refl, sym, ap, ◌∙◌, subst, arith}
 use Rattle.std.proofs.lemmas.List.{length-map, append_cancel_right, take_all, take-append-drop}
+use Rattle.std.proofs.lemmas.Option.{slice_get-get_or}
 use Rattle.ordered_ring.specs.Sign.{Signed}
 use Rattle.ordered_ring.proofs.Normaliser.{var, con, ring, ◌⊕◌, ◌⊗◌}
 use Rattle.ordered_plane.specs.Plane.{PlanePoint}
@@ -35,14 +36,10 @@ use Rattle.vertex_stars.specs.Corners.{Corner, IsCornerAt, edge_into}
 use Rattle.vertex_stars.specs.EnoughAt.{IsEnoughAt}
 use Rattle.vertex_stars.specs.FrameStar.{corner_named}
 use Rattle.vertex_stars.specs.GrownStar.{IsCornerOfDepth}
+use Rattle.vertex_stars.proofs.FrameStar.{count-is}
 use Rattle.vertex_stars.proofs.GrownStar.{depth_cause}
 use Rattle.vertex_stars.proofs.SimpleFrame.{simply_dissected}
 use Rattle.vertex_stars.proofs.Turning.{one-corner}
-
-get-some : {A : Type 0} (o : A) (xs : List A) (i : ℕ) → i < length xs → slice_get xs i ≡ Some (get_or xs i o)
-get-some o [] i h = absurd (omega arith)
-get-some o (x ∷ xs) zero h = refl
-get-some o (x ∷ xs) (suc i) h = get-some o xs i (omega arith)
 
 module _ (T : Setting) where
   open T use {points as P, laws as W, accepted.{rule as r, numbered as N}}
@@ -52,9 +49,6 @@ module _ (T : Setting) where
 
   abbrev S : Signed
   S = P.real
-
-  count-is : (t : Placed A) → t.address.kind < length r.kinds → length (tile_polygon P r (λ z. z) t) ≡ edge_count r t.address.kind
-  count-is t hk = length-map (vertices_of r t.address.kind) _ ∙ N.vertex_each t.address.kind hk
 
   still-moves : (z : A) → moved P (still P) z ≡ z
   still-moves z = ring P.ring W.of_ring (z ∷ []) (con (pos 1) ⊗ var 0 ⊕ con (pos 0)) (var 0) refl
@@ -99,7 +93,7 @@ module _ (T : Setting) where
           corner : slice_get (tile_polygon P r (λ z. z) (in_frame P r f (at_level f n))) i ≡ Some (plane_point P (vertex P r f.kind i))
           corner =
               slice_get-image (λ z. plane_point P (moved P (in_frame P r f (at_level f n)).motion z)) (vertex P r f.kind i) (vertices_of r f.kind) i
-              (get-some (P.ring.int (pos 0)) (vertices_of r f.kind) i (let e = N.vertex_each f.kind kind-exists in omega arith))
+              (slice_get-get_or (vertices_of r f.kind) i (P.ring.int (pos 0)) (let e = N.vertex_each f.kind kind-exists in omega arith))
               ∙ ap (λ z. Some (plane_point P z)) (ap (λ g. moved P g (vertex P r f.kind i)) base-still ∙ still-moves (vertex P r f.kind i))
 
     pub frame-back : (v : PlanePoint S.ops.carrier) (m n : ℕ) → m ≤ depth f → n ≤ depth f → (b : Address) (g i : ℕ) → depth b ≡ n
@@ -130,7 +124,7 @@ module _ (T : Setting) where
     frame-stop refused v a i h at own part on enough =
         absurd (depth_cause S W.of_real W.of_order (growing_frame P refused r f) v (depth f) (corner_named P r f a i) (at, at-depth T f fits (in_frame P r f a) at.0)
         (line_of P r (in_frame P r f a) (edge_into (edge_count r a.kind) i))
-        (ap (λ k. slice_get (edges (tile_polygon P r (λ z. z) (in_frame P r f a))) (edge_into k i)) (count-is (in_frame P r f a) kind-a)
+        (ap (λ k. slice_get (edges (tile_polygon P r (λ z. z) (in_frame P r f a))) (edge_into k i)) (count-is T (in_frame P r f a) kind-a)
         ∙ lines_law P W T.accepted (in_frame P r f a) kind-a (edge_into (edge_count r a.kind) i) h.edge_exists)
         (λ x. absurd (last-boundary T f fits refused a (edge_into (edge_count r a.kind) i) h own part on x.0 (record { of_patch = x.2.0; edge = x.1; among = x.3; back = x.4 }))) enough)
       where

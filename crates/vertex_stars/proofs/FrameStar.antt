@@ -46,6 +46,10 @@ module _ (T : Setting) where
   abbrev CornerOf : Type 0
   CornerOf = Corner (Placed A)
 
+  -- an outline has as many vertices as the kind has edges
+  pub count-is : (t : Placed A) → t.address.kind < length r.kinds → length (tile_polygon P r (λ z. z) t) ≡ edge_count r t.address.kind
+  count-is t hk = length-map (vertices_of r t.address.kind) _ ∙ N.vertex_each t.address.kind hk
+
   module _ (f : Address) (fits : NamesTile P r f) (refused : A → Bool) where
     -- ---- at depth n
     module _ (n : ℕ) (within : n ≤ depth f) where
@@ -171,9 +175,6 @@ module _ (T : Setting) where
 
       at-n : IsAmong (in_frame P r f b) (frame_tiles P r f)
       at-n = (grown-crossing T f fits refused m n a e b g c).0.of_patch
-
-      count-is : (t : Placed A) → t.address.kind < length r.kinds → length (tile_polygon P r (λ z. z) t) ≡ edge_count r t.address.kind
-      count-is t hk = length-map (vertices_of r t.address.kind) _ ∙ N.vertex_each t.address.kind hk
 
       kind-a : a.kind < length r.kinds
       kind-a = lowest_exists T a.kind a.digits (chain_of (tables_of P r) a c.tile.fits)

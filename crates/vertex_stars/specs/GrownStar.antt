@@ -20,7 +20,8 @@ abbrev pub deepest : (S : Signed) (T : Type 0) → GrowingPatch S T → ℕ → 
 deepest S T F m [] = m
 deepest S T F m (c ∷ cs) = deepest S T F (max m (F.level c.tile)) cs
 
--- the answer for v in a frame of depth m that is left at depth n: exactly the corners with vertex v at depth n, each once, and n is the least depth that is enough
+-- the answer for v in a frame of depth m that is left at depth n: exactly the corners with vertex v at depth n, each once, and n is the least depth from m on
+-- that is enough
 pub record IsStar (S : Signed) (T : Type 0) (F : GrowingPatch S T) (v : PlanePoint S.ops.carrier) (m n : ℕ) (corners : List (Corner T)) : Type 0 where
   pub each_once : AreDistinct (tiles_of corners)
   pub exactly : (c : Corner T) → IsCornerOfDepth S T F v n c ↔ IsAmong c corners
@@ -28,23 +29,28 @@ pub record IsStar (S : Signed) (T : Type 0) (F : GrowingPatch S T) (v : PlanePoi
 
 -- a turn that comes back is the star
 abbrev pub StarAnswers : Signed → Type 0 → Type 0
-StarAnswers S T = (F : GrowingPatch S T) → IsSimplyDissected S T F.patch → (v : PlanePoint S.ops.carrier) (m : ℕ) (base : Corner T) → IsCornerOfDepth S T F v m base
+StarAnswers S T =
+    (F : GrowingPatch S T) → IsSimplyDissected S T F.patch → (v : PlanePoint S.ops.carrier) (m : ℕ) (base : Corner T) → IsCornerOfDepth S T F v m base
     → (others : List (Corner T)) → IsTurn S T F.patch base others → IsStar S T F v m (deepest S T F m others) (base ∷ others)
 
 -- where depth k is enough each corner reached is of depth k, and there is one after the last
 abbrev pub StarGoesOn : Signed → Type 0 → Type 0
-StarGoesOn S T = (F : GrowingPatch S T) → IsSimplyDissected S T F.patch → (v : PlanePoint S.ops.carrier) (m k : ℕ) → m ≤ k → IsEnoughAt S T F v k
+StarGoesOn S T =
+    (F : GrowingPatch S T) → IsSimplyDissected S T F.patch → (v : PlanePoint S.ops.carrier) (m k : ℕ) → m ≤ k → IsEnoughAt S T F v k
     → (base : Corner T) → IsCornerOfDepth S T F v m base → (others : List (Corner T)) → Turns S T F.patch base others
     → (deepest S T F m others ≤ k) × ((d : Corner T) × IsNext S T F.patch (last_corner base others) d × (F.level d.tile ≤ k))
 
 -- where the edge that ends at v of a tile of depth n is on the boundary there, the depth n isn't enough
 abbrev pub DepthCause : Signed → Type 0 → Type 0
-DepthCause S T = (F : GrowingPatch S T) (v : PlanePoint S.ops.carrier) (n : ℕ) (c : Corner T) → IsCornerOfDepth S T F v n c
-    → (e : PlaneEdge S) → slice_get (edges (F.patch.outline c.tile)) (edge_into (length (F.patch.outline c.tile)) c.vertex) ≡ Some e → ¬ IsInner S T F n e → ¬ IsEnoughAt S T F v n
+DepthCause S T =
+    (F : GrowingPatch S T) (v : PlanePoint S.ops.carrier) (n : ℕ) (c : Corner T) → IsCornerOfDepth S T F v n c
+    → (e : PlaneEdge S) → slice_get (edges (F.patch.outline c.tile)) (edge_into (length (F.patch.outline c.tile)) c.vertex) ≡ Some e
+    → ¬ IsInner S T F n e → ¬ IsEnoughAt S T F v n
 
 -- a turn that hasn't come back, and one corner more that isn't the base: so many distinct tiles have v as a vertex
 abbrev pub CountCause : Signed → Type 0 → Type 0
-CountCause S T = (F : GrowingPatch S T) → IsSimplyDissected S T F.patch → (v : PlanePoint S.ops.carrier) (base : Corner T) → IsCornerAt S T F.patch v base
+CountCause S T =
+    (F : GrowingPatch S T) → IsSimplyDissected S T F.patch → (v : PlanePoint S.ops.carrier) (base : Corner T) → IsCornerAt S T F.patch v base
     → (others : List (Corner T)) → Turns S T F.patch base others → ¬ IsAmong base others → (d : Corner T) → IsNext S T F.patch (last_corner base others) d → ¬ (d ≡ base)
     → AreDistinct (tiles_of (base ∷ others ++ d ∷ [])) × AllByRecursion (IsCornerAt S T F.patch v) (base ∷ others ++ d ∷ [])
 
@@ -54,5 +60,6 @@ HasAtMost S T F v most = (cs : List (Corner T)) → AreDistinct (tiles_of cs) �
 
 -- where some depth is enough, and at most so many tiles have v as a vertex, the turn comes back, and has no more corners
 abbrev pub StarEnds : Signed → Type 0 → Type 0
-StarEnds S T = (F : GrowingPatch S T) → IsSimplyDissected S T F.patch → (v : PlanePoint S.ops.carrier) (m k most : ℕ) → m ≤ k → IsEnoughAt S T F v k → HasAtMost S T F v most
+StarEnds S T =
+    (F : GrowingPatch S T) → IsSimplyDissected S T F.patch → (v : PlanePoint S.ops.carrier) (m k most : ℕ) → m ≤ k → IsEnoughAt S T F v k → HasAtMost S T F v most
     → (base : Corner T) → IsCornerOfDepth S T F v m base → (others : List (Corner T)) × IsTurn S T F.patch base others × (length (base ∷ others) ≤ most)

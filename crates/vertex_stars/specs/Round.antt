@@ -18,7 +18,8 @@ pub record IsRound (S : Signed) (T : Type 0) (P : Patch S T) (v : PlanePoint S.o
 -- the vertices of a polygon are distinct, and each lies on no edge but those that it starts and ends
 pub record IsSimple (S : Signed) (polygon : Polygon S) : Type 0 where
   pub distinct : AreDistinct polygon
-  pub apart : (v : PlanePoint S.ops.carrier) → IsAmong v polygon → (e : PlaneEdge S) → IsAmong e (edges polygon) → IsTrue (on_segment S e.from e.to v) → (e.from ≡ v) ⊎ (e.to ≡ v)
+  pub apart : (v : PlanePoint S.ops.carrier) → IsAmong v polygon → (e : PlaneEdge S) → IsAmong e (edges polygon)
+      → IsTrue (on_segment S e.from e.to v) → (e.from ≡ v) ⊎ (e.to ≡ v)
 
 -- a dissection into simple polygons
 pub record IsSimplyDissected (S : Signed) (T : Type 0) (P : Patch S T) : Type 0 where
@@ -27,5 +28,6 @@ pub record IsSimplyDissected (S : Signed) (T : Type 0) (P : Patch S T) : Type 0 
 
 -- the theorem of the turn: one that comes back has gone round all tiles that have v as a vertex
 abbrev pub TurnTheorem : Signed → Type 0 → Type 0
-TurnTheorem S T = (P : Patch S T) → IsSimplyDissected S T P → (v : PlanePoint S.ops.carrier) (base : Corner T) → IsCornerAt S T P v base
+TurnTheorem S T =
+    (P : Patch S T) → IsSimplyDissected S T P → (v : PlanePoint S.ops.carrier) (base : Corner T) → IsCornerAt S T P v base
     → (others : List (Corner T)) → IsTurn S T P base others → IsRound S T P v (base ∷ others)
