@@ -3,7 +3,7 @@ use crate::corner::Corner;
 use arrayvec::ArrayVec;
 
 /// The tiles round a vertex, in turning order from the base.
-#[derive(Drop)]
+#[derive(Debug, Drop, PartialEq, Eq)]
 pub struct Star {
     /// Each tile, with the number of the vertex.
     pub corners: ArrayVec<Corner, 64>,

@@ -7,7 +7,7 @@ use Rattle.addressing.specs.Search.{IsAmong}
 use Rattle.windows.specs.Outlines.{PlaneEdge, edges}
 use Rattle.windows.specs.GrowingPatch.{GrowingPatch, IsOfDepth, IsInner}
 
--- v is on no edge on the boundary of the frame at depth n
+-- v is on no edge on the boundary of the patch at depth n
 abbrev pub IsEnoughAt : (S : Signed) (T : Type 0) → GrowingPatch S T → PlanePoint S.ops.carrier → ℕ → Type 0
 IsEnoughAt S T F v n =
     (t : T) → IsOfDepth S T F n t → (e : PlaneEdge S) → IsAmong e (edges (F.patch.outline t)) → IsTrue (on_segment S e.from e.to v) → IsInner S T F n e

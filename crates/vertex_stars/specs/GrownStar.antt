@@ -11,16 +11,16 @@ use Rattle.vertex_stars.specs.Corners.{Corner, IsCornerAt, edge_into, IsNext, Tu
 use Rattle.vertex_stars.specs.Round.{IsSimplyDissected}
 use Rattle.vertex_stars.specs.EnoughAt.{IsEnoughAt, IsLeastEnoughAt}
 
--- a corner with vertex v, of a tile of the frame at depth n
+-- a corner with vertex v, of a tile of the patch at depth n
 abbrev pub IsCornerOfDepth : (S : Signed) (T : Type 0) → GrowingPatch S T → PlanePoint S.ops.carrier → ℕ → Corner T → Type 0
 IsCornerOfDepth S T F v n c = IsCornerAt S T F.patch v c × (F.level c.tile ≤ n)
 
--- the greatest of m and the levels of the corners' tiles: the depth to which the turn makes a frame of depth m grow
+-- the greatest of m and the levels of the corners' tiles: the depth to which the turn makes a patch of depth m grow
 abbrev pub deepest : (S : Signed) (T : Type 0) → GrowingPatch S T → ℕ → List (Corner T) → ℕ
 deepest S T F m [] = m
 deepest S T F m (c ∷ cs) = deepest S T F (max m (F.level c.tile)) cs
 
--- the answer for v in a frame of depth m that is left at depth n: exactly the corners with vertex v at depth n, each once, and n is the least depth from m on
+-- the answer for v in a patch of depth m that is left at depth n: exactly the corners with vertex v at depth n, each once, and n is the least depth from m on
 -- that is enough
 pub record IsStar (S : Signed) (T : Type 0) (F : GrowingPatch S T) (v : PlanePoint S.ops.carrier) (m n : ℕ) (corners : List (Corner T)) : Type 0 where
   pub each_once : AreDistinct (tiles_of corners)
