@@ -7,6 +7,7 @@ pub mod Accepted
 pub mod Refused
 pub mod Decimal
 pub mod Parse
+pub mod AddressIn
 pub mod Kept
 pub mod Usable
 pub mod FaultText
