@@ -1,5 +1,5 @@
 -- Searches through the numbers below a bound, from 0 upwards, and through the members of a list.
-use Rattle.std.specs.Prelude.{◌≡◌, ◌⊎◌, ℕ, zero, suc, Bool, true, false, ◌&&◌, ◌||◌, List, [], ◌∷◌, ◌++◌, Option, Some, None}
+use Rattle.std.specs.Prelude.{◌≡◌, ◌⊎◌, ℕ, zero, suc, Bool, true, false, ◌&&◌, ◌||◌, cond, List, [], ◌∷◌, ◌++◌, Option, Some, None}
 
 -- the fault, where the test fails
 abbrev pub unless : {F : Type 0} → Bool → F → Option F
@@ -36,6 +36,11 @@ all_below (suc n) p = p n && all_below n p
 abbrev pub below : {A : Type 0} → (ℕ → A) → ℕ → List A
 below f zero = []
 below f (suc n) = below f n ++ f n ∷ []
+
+-- of these those whose numbers pass
+abbrev pub chosen_below : {A : Type 0} → (ℕ → Bool) → (ℕ → A) → ℕ → List A
+chosen_below p f zero = []
+chosen_below p f (suc n) = chosen_below p f n ++ cond (p n) (f n ∷ []) []
 
 -- x is in the list
 abbrev pub IsAmong : {A : Type 0} → A → List A → Type 0

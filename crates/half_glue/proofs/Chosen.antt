@@ -16,7 +16,8 @@ use Rattle.tile_place.proofs.KeyOrder.{comes-first, level-numbers}
 use Rattle.half_glue.specs.declared.whole_tile.WholeTile.{WholeTile}
 use Rattle.half_glue.specs.Arranged.{AreArranged}
 use Rattle.half_glue.specs.InOrder.{first_numbers, ComesBefore, AreInOrder}
-use Rattle.half_glue.specs.Keys.{HasKey, first_keys, key_order, no_key, is_new, chosen_below, whole_at}
+use Rattle.addressing.specs.Search.{chosen_below}
+use Rattle.half_glue.specs.Keys.{HasKey, first_keys, key_order, no_key, is_new, whole_at}
 use Rattle.half_glue.proofs.Keyed.{IsKeyOf, from-keys, key-there, get_or-behind}
 
 -- ---- lists

@@ -5,7 +5,8 @@ use Rattle.std.proofs.lemmas.List.Elements.{All-nil, All-cons}
 use Rattle.tile_place.specs.Keys.{key_of, are_level}
 use Rattle.tile_place.specs.declared.order_key.OrderKey.{OrderKey}
 use Rattle.tile_place.specs.declared.placed_tile.PlacedTile.{PlacedTile}
-use Rattle.half_glue.specs.Keys.{keys_by, no_key, is_new, chosen_below}
+use Rattle.addressing.specs.Search.{chosen_below}
+use Rattle.half_glue.specs.Keys.{keys_by, no_key, is_new}
 
 pub get_or-behind : {A : Type 0} (xs : List A) (y d : A) (ys : List A) → get_or (xs ++ y ∷ ys) (length xs) d ≡ y
 get_or-behind [] y d ys = refl

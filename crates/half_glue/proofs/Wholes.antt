@@ -15,8 +15,8 @@ use Rattle.tile_place.specs.Crossed.{placed_tile}
 use Rattle.tile_place.specs.Searched.{placed_in}
 use Rattle.tile_place.specs.declared.placed_tile.PlacedTile.{PlacedTile}
 use Rattle.tile_shape.specs.declared.address.Address.{Address}
-use Rattle.tile_shape.specs.declared.step.Step.{Step}
-use Rattle.tile_shape.specs.Views.{address_of, step_of}
+use Rattle.tile_shape.specs.Views.{address_of}
+use Rattle.tile_shape.proofs.Seen.{address-there}
 use Rattle.lazy_walk.specs.Frames.{FrameValue, whole, IsFrameOf}
 use Rattle.lazy_walk.specs.Paths.{Crosses}
 use Rattle.lazy_walk.specs.Standing.{Stands}
@@ -29,30 +29,13 @@ use Rattle.half_glue.specs.Found.{AreGlued}
 use Rattle.half_glue.specs.Given.{lifted_tile, IsGiven}
 use Rattle.half_glue.specs.InOrder.{first_numbers}
 use Rattle.half_glue.specs.Keys.{HasKey}
-use Rattle.half_glue.specs.Lifted.{IsNoDeeper, digit_of, address_as, lifted_to, second_to, whole_to, whole_of, wholes_of}
+use Rattle.half_glue.specs.Lifted.{IsNoDeeper, lifted_to, second_to, whole_to, whole_of, wholes_of}
 use Rattle.half_glue.specs.Pairs.{loose_of, AreLoose, IsEither, IsLoose, IsTaken, ArePairsOf}
 use Rattle.half_glue.specs.WholeTiles.{IsWholeBy, IsWholeTile, IsOneOf, IsPartOf, AreWholeTilesOf}
 use Rattle.half_glue.proofs.Alike.{alike}
 use Rattle.half_glue.proofs.Chosen.{contains-left}
 use Rattle.half_glue.proofs.Halves.{given-whole, given-key}
 
--- ---- addresses as the program has them
-digits-there : (ds : List theory.Step) → map step_of (map digit_of ds) ≡ ds
-digits-there [] = refl
-digits-there (d ∷ ds) = ap (λ (es : List theory.Step). d ∷ es) (digits-there ds)
-
-digits-back : (ds : List Step) → map digit_of (map step_of ds) ≡ ds
-digits-back [] = refl
-digits-back (d ∷ ds) = ap (λ (es : List Step). d ∷ es) (digits-back ds)
-
-address-there : (a : theory.Address) → address_of (address_as a) ≡ a
-address-there a = λ i. record { kind = a.kind; digits = digits-there a.digits i }
-
--- an address is known by what it is in the theory
-pub address-known : (a : Address) (b : theory.Address) → address_of a ≡ b → a ≡ address_as b
-address-known a b e = λ i. record { kind = (e i).kind; digits = record { items = (sym (digits-back a.digits.items) ∙ ap (λ (z : theory.Address). map digit_of z.digits) e) i } }
-
--- ---- lists
 pub of-all : {A : Type 0} (Q : A → Type 0) (xs : List A) (x : A) → All Q xs → Contains xs x → Q x
 of-all Q xs x all c = subst Q c.2 (all c.0 x c.1)
 

@@ -42,11 +42,6 @@ unfoldable pub is_new : List OrderKey → ℕ → Bool
 is_new ks zero = true
 is_new ks (suc i) = not (are_level (get_or ks (suc i) no_key) (get_or ks i no_key))
 
--- of the first n numbers those at which p holds, by f
-abbrev pub chosen_below : {A : Type 0} → (ℕ → Bool) → (ℕ → A) → ℕ → List A
-chosen_below p f zero = []
-chosen_below {A} p f (suc n) = chosen_below p f n ++ cond (p n) (f n ∷ []) []
-
 -- the whole tile of the key at a place
 abbrev pub whole_at : List WholeTile → WholeTile → List OrderKey → ℕ → WholeTile
 whole_at made blank ks i = get_or made (get_or ks i no_key).number blank

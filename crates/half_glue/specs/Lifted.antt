@@ -5,7 +5,7 @@ use Rattle.frames.specs.Frame.{lifted_in}
 use Rattle.tile_place.specs.declared.placed_tile.PlacedTile.{PlacedTile}
 use Rattle.tile_shape.specs.declared.address.Address.{Address}
 use Rattle.tile_shape.specs.declared.step.Step.{Step}
-use Rattle.tile_shape.specs.Views.{address_of}
+use Rattle.tile_shape.specs.Views.{address_of, address_as}
 use Rattle.lazy_walk.specs.Frames.{FrameValue, whole}
 use Rattle.half_glue.specs.declared.pairs.Pair.{Pair}
 use Rattle.half_glue.specs.declared.whole_tile.WholeTile.{WholeTile}
@@ -14,13 +14,6 @@ use Rattle.half_glue.specs.Pairs.{loose_of}
 -- the tile is no deeper than the frame
 abbrev pub IsNoDeeper : FrameValue → PlacedTile → Type 0
 IsNoDeeper f x = theory.depth (address_of x.addr) ≤ length f.digits
-
--- a digit and an address as the program has them
-abbrev pub digit_of : theory.Step → Step
-digit_of s = record { child = s.child; parent = s.parent }
-
-abbrev pub address_as : theory.Address → Address
-address_as a = record { kind = a.kind; digits = record { items = map digit_of a.digits } }
 
 -- a tile lifted
 abbrev pub lifted_to : FrameValue → PlacedTile → PlacedTile

@@ -3,7 +3,8 @@ ghost use Rattle.std.specs.Prelude.{◌≡◌, ◌<◌, ◌^◌, ◌++◌, All, 
 ghost use Rattle.lazy_walk.specs.Frames.{FrameValue};
 ghost use Rattle.half_glue.specs.Found.{tile_of};
 ghost use Rattle.half_glue.specs.InOrder.{AreInOrder};
-ghost use Rattle.half_glue.specs.Keys.{HasKey, first_keys, is_new, whole_at, chosen_below};
+ghost use Rattle.addressing.specs.Search.{chosen_below};
+ghost use Rattle.half_glue.specs.Keys.{HasKey, first_keys, is_new, whole_at};
 ghost use Rattle.half_glue.specs.Arranged.{AreArranged};
 ghost use Rattle.half_glue.specs.Lifted.{IsNoDeeper, lifted_to, whole_of, wholes_of};
 ghost use Rattle.half_glue.specs.Pairs.{ArePresent};

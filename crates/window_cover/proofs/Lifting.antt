@@ -6,14 +6,15 @@ use Rattle.addressing.specs.Address as theory
 use Rattle.lazy_walk.specs.Frames.{FrameValue}
 use Rattle.tile_place.specs.declared.placed_tile.PlacedTile.{PlacedTile}
 use Rattle.tile_shape.specs.declared.step.Step.{Step}
-use Rattle.tile_shape.specs.Views.{step_of}
+use Rattle.tile_shape.specs.Views.{step_of, step_as}
+use Rattle.tile_shape.proofs.Seen.{steps-there}
 use Rattle.tile_place.specs.declared.order_key.OrderKey.{OrderKey}
 use Rattle.window_cover.specs.Admitted.{found_as}
-use Rattle.window_cover.specs.Covered.{tile_of, digit_of, placed_as, tiles_of}
+use Rattle.window_cover.specs.Covered.{tile_of, placed_as, tiles_of}
 use Rattle.window_cover.specs.Found.{Found}
 use Rattle.window_cover.specs.Lifted.{IsLifted}
 
-map-both : (xs ys : List Step) → map digit_of (map step_of xs ++ map step_of ys) ≡ xs ++ ys
+map-both : (xs ys : List Step) → map step_as (map step_of xs ++ map step_of ys) ≡ xs ++ ys
 map-both [] [] = refl
 map-both [] (y ∷ ys) = ap (λ zs. y ∷ zs) (map-both [] ys)
 map-both (x ∷ xs) ys = ap (λ zs. x ∷ zs) (map-both xs ys)
@@ -22,10 +23,6 @@ drop-steps : (n : ℕ) (xs : List Step) → drop n (map step_of xs) ≡ map step
 drop-steps zero xs = refl
 drop-steps (suc n) [] = refl
 drop-steps (suc n) (x ∷ xs) = drop-steps n xs
-
-back-steps : (ds : List theory.Step) → map step_of (map digit_of ds) ≡ ds
-back-steps [] = refl
-back-steps (d ∷ ds) = ap (λ es. d ∷ es) (back-steps ds)
 
 -- the tile with more digits is the one that is answered
 pub placed-is : (before after : PlacedTile) (above : List Step) → before.addr.kind ≡ before.kind → after.kind ≡ before.kind → after.motion ≡ before.motion → after.addr.kind ≡ before.addr.kind
@@ -36,8 +33,8 @@ placed-is before after above its k m ak d =
     own : List Step
     own = before.addr.digits.items
 
-    same : map digit_of (map step_of own ++ drop (length (map step_of own)) (map step_of above)) ≡ own ++ drop (length own) above
-    same = ap (λ zs. map digit_of (map step_of own ++ zs)) (ap (λ n. drop n (map step_of above)) (length-map own step_of) ∙ drop-steps (length own) above) ∙ map-both own (drop (length own) above)
+    same : map step_as (map step_of own ++ drop (length (map step_of own)) (map step_of above)) ≡ own ++ drop (length own) above
+    same = ap (λ zs. map step_as (map step_of own ++ zs)) (ap (λ n. drop n (map step_of above)) (length-map own step_of) ∙ drop-steps (length own) above) ∙ map-both own (drop (length own) above)
 
 -- and it is lifted
 pub placed-lifted : (f : FrameValue) (above : List theory.Step) (x : Found) → above ≡ f.digits → IsLifted f x (placed_as above x)
@@ -45,7 +42,7 @@ placed-lifted f above x e = record {
   same_kind = refl;
   kind_named = refl;
   same_motion = refl;
-  its_address = λ i. record { kind = x.kind; digits = (back-steps (x.digits ++ drop (length x.digits) above) ∙ ap (λ ds. x.digits ++ drop (length x.digits) ds) e) i };
+  its_address = λ i. record { kind = x.kind; digits = (steps-there (x.digits ++ drop (length x.digits) above) ∙ ap (λ ds. x.digits ++ drop (length x.digits) ds) e) i };
 }
 
 -- so are the tiles of keys

@@ -5,7 +5,7 @@ use Rattle.std.proofs.lemmas.Bool.{lt-ltb, le-ltb, cases_lt}
 use Rattle.ordered_ring.specs.Sign.{Signed}
 use Rattle.ordered_plane.specs.Box.{OpenBox}
 use Rattle.ordered_plane.specs.BoxTest.{box_test}
-use Rattle.addressing.specs.Search.{some_below, below, IsAmong}
+use Rattle.addressing.specs.Search.{some_below, below, IsAmong, chosen_below}
 use Rattle.addressing.proofs.Ranges.{place-among, map-below, image-at}
 use Rattle.addressing.proofs.Lists.{AllByRecursion-among}
 use Rattle.substitution.specs.Points.{Points}
@@ -33,7 +33,7 @@ use Rattle.windows.specs.FrameLaws.{LinesLaw, NumberedLaw}
 use Rattle.windows.proofs.Reverses.{reverse-turned}
 use Rattle.tile_place.specs.Corners.{AreCorners}
 use Rattle.window_cover.specs.Border.{Waiting, have_same_ends}
-use Rattle.window_cover.specs.NewEdges.{reversed, chosen_below, start_at, end_at, ends_at, meets_window, waiting_at, closes, left_open, opened, AreNew}
+use Rattle.window_cover.specs.NewEdges.{reversed, start_at, end_at, ends_at, meets_window, waiting_at, closes, left_open, opened, AreNew}
 use Rattle.window_cover.specs.Right.{IsEdgeWaiting}
 use Rattle.window_cover.specs.Windows.{window_box}
 use Rattle.window_cover.proofs.NewEdges.{fails}

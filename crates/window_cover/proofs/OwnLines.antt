@@ -7,7 +7,7 @@ use Rattle.std.proofs.lemmas.List.Folds.{list_any-append}
 use Rattle.ordered_ring.specs.Sign.{Signed}
 use Rattle.ordered_plane.specs.Plane.{PlanePoint}
 use Rattle.ordered_plane.specs.Segment.{same_place}
-use Rattle.addressing.specs.Search.{some_below, below}
+use Rattle.addressing.specs.Search.{some_below, below, chosen_below}
 use Rattle.substitution.specs.Plane.{plane_point}
 use Rattle.edge_to_edge.proofs.LieCases.{same_place-self}
 use Rattle.cyclo_points.specs.declared.order.Order.{Order}
@@ -17,7 +17,7 @@ use Rattle.cyclo_points.specs.Point.{point_in}
 use Rattle.windows.specs.Outlines.{PlaneEdge, is_reverse}
 use Rattle.windows.proofs.Reverses.{reverse-is}
 use Rattle.window_cover.specs.Border.{have_same_ends}
-use Rattle.window_cover.specs.NewEdges.{reversed, chosen_below}
+use Rattle.window_cover.specs.NewEdges.{reversed}
 use Rattle.window_cover.specs.Packed.{ends_of}
 use Rattle.window_cover.proofs.BoxTests.{same_tests}
 use Rattle.window_cover.proofs.SamePoints.{IsShortIn, have_same_ends-points}

@@ -2,7 +2,7 @@
 use Rattle.std.specs.Prelude.{◌<◌, ◌≤◌, List, [], ◌++◌, map, drop, length, get_or}
 use Rattle.std.specs.List.{AllByRecursion}
 use Rattle.addressing.specs.Address as theory
-use Rattle.tile_shape.specs.declared.step.Step.{Step}
+use Rattle.tile_shape.specs.Views.{step_as}
 use Rattle.tile_place.specs.declared.placed_tile.PlacedTile.{PlacedTile}
 use Rattle.tile_place.specs.declared.order_key.OrderKey.{OrderKey}
 use Rattle.window_cover.specs.Found.{Found}
@@ -15,16 +15,12 @@ none = record { kind = 0; motion = record { turn = 0; shift = record { c = [] } 
 abbrev pub tile_of : List Found → OrderKey → Found
 tile_of found key = get_or found key.number none
 
--- a digit as the program has it
-abbrev pub digit_of : theory.Step → Step
-digit_of s = record { child = s.child; parent = s.parent }
-
 -- a tile found, with the digits of a frame, from its depth up, behind its own
 abbrev pub placed_as : List theory.Step → Found → PlacedTile
 placed_as above x = record {
   kind = x.kind;
   motion = x.motion;
-  addr = record { kind = x.kind; digits = record { items = map digit_of (x.digits ++ drop (length x.digits) above) } };
+  addr = record { kind = x.kind; digits = record { items = map step_as (x.digits ++ drop (length x.digits) above) } };
 }
 
 -- the tiles of these keys

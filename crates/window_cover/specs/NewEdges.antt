@@ -2,7 +2,7 @@
 use Rattle.std.specs.Prelude.{◌≡◌, ℕ, zero, suc, ◌<◌, Bool, false, not, ◌&&◌, cond, nat_lt, List, [], ◌∷◌, ◌++◌, length, get_or}
 use Rattle.std.specs.List.{filter}
 use Rattle.ordered_plane.specs.BoxTest.{box_test}
-use Rattle.addressing.specs.Search.{some_below}
+use Rattle.addressing.specs.Search.{some_below, chosen_below}
 use Rattle.substitution.specs.Plane.{plane_point}
 use Rattle.cyclo_points.specs.declared.order.Order.{Order}
 use Rattle.cyclo_points.specs.declared.point.Point.{Point}
@@ -18,11 +18,6 @@ use Rattle.window_cover.specs.Windows.{window_box}
 -- the edge traversed backwards
 abbrev pub reversed : Ends → Ends
 reversed k = record { start_low = k.end_low; start_high = k.end_high; end_low = k.start_low; end_high = k.start_high }
-
--- of f 0, f 1, .. f (n - 1) those whose numbers pass
-abbrev pub chosen_below : {A : Type 0} → (ℕ → Bool) → (ℕ → A) → ℕ → List A
-chosen_below p f zero = []
-chosen_below p f (suc n) = chosen_below p f n ++ cond (p n) (f n ∷ []) []
 
 -- where edge number e of a tile with these corners starts and ends
 abbrev pub start_at : List Point → ℕ → Point

@@ -5,7 +5,8 @@ use Rattle.tile_place.specs.declared.order_key.OrderKey.{OrderKey}
 use Rattle.half_glue.specs.declared.whole_tile.WholeTile.{WholeTile}
 use Rattle.half_glue.specs.Arranged.{AreArranged}
 use Rattle.half_glue.specs.InOrder.{AreInOrder}
-use Rattle.half_glue.specs.Keys.{first_keys, is_new, whole_at, chosen_below}
+use Rattle.addressing.specs.Search.{chosen_below}
+use Rattle.half_glue.specs.Keys.{first_keys, is_new, whole_at}
 use Rattle.half_glue.specs.Lifted.{whole_of, wholes_of}
 use Rattle.half_glue.proofs.Chosen.{arranged-in_order, arranged-same, arranged-numbered}
 use Rattle.half_glue.proofs.Firsts.{firsts-fit, no_whole}

@@ -1,4 +1,4 @@
-use Rattle.half_glue.proofs.Wholes.{address-known}
+use Rattle.tile_shape.proofs.Seen.{address-known}
 use Rattle.half_glue.proofs.arranged.lifted.Goals as goal
 
 pub returns : goal.returns

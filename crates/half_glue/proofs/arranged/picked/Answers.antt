@@ -2,7 +2,8 @@ use Rattle.std.proofs.Common.{◌≡◌, ◌<◌, arith, length, true, false, Li
 use Rattle.tile_place.specs.declared.placed_tile.PlacedTile.{PlacedTile}
 use Rattle.half_glue.specs.declared.pairs.Pair.{Pair}
 use Rattle.half_glue.specs.declared.whole_tile.WholeTile.{WholeTile}
-use Rattle.half_glue.specs.Keys.{no_key, is_new, whole_at, chosen_below}
+use Rattle.addressing.specs.Search.{chosen_below}
+use Rattle.half_glue.specs.Keys.{no_key, is_new, whole_at}
 use Rattle.half_glue.specs.Lifted.{whole_of, wholes_of}
 use Rattle.half_glue.proofs.Firsts.{whole-there}
 use Rattle.half_glue.proofs.Keyed.{chosen-more}

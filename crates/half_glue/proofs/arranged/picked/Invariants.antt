@@ -1,6 +1,7 @@
 use Rattle.std.proofs.Common.{◌≡◌, ◌++◌}
 use Rattle.half_glue.specs.declared.whole_tile.WholeTile.{WholeTile}
-use Rattle.half_glue.specs.Keys.{is_new, whole_at, chosen_below}
+use Rattle.addressing.specs.Search.{chosen_below}
+use Rattle.half_glue.specs.Keys.{is_new, whole_at}
 use Rattle.half_glue.specs.Lifted.{wholes_of}
 use Rattle.half_glue.proofs.arranged.picked.Given as goal
 
