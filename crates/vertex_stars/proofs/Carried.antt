@@ -58,3 +58,6 @@ module _ (P : Points) (W : PointLaws P) where
 
     pub answer_law : is.AnswerLaw P
     answer_law = star.star_answers P.real W.of_real W.of_order whole
+
+    pub whole_law : is.WholeStarLaw P
+    whole_law = star.star_is_whole P.real W.of_real W.of_order whole

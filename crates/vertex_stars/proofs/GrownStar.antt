@@ -2,24 +2,25 @@
 use Rattle.std.specs.List.{AllByRecursion}
 use Rattle.std.proofs.Common.{◌≡◌, ◌⊎◌, inl, inr, ℕ, zero, suc, ◌+◌, ◌≤◌, max, List, [], ◌∷◌, ◌++◌, length, slice_get, Some, refl, sym, ap, ap₂, ◌∙◌, subst, Bool, true, false, ◌&&◌, is_eq, arith}
 use Rattle.std.proofs.lemmas.Bool.{and_from}
+use Rattle.std.proofs.lemmas.List.{length-map}
 use Rattle.ordered_ring.specs.Ring.{Laws}
 use Rattle.ordered_ring.specs.Sign.{Signed, OrderLaws}
 use Rattle.ordered_ring.specs.Divisor.{DividesWhole}
 use Rattle.ordered_plane.specs.Plane.{PlanePoint}
 use Rattle.ordered_plane.specs.Segment.{on_segment, same_place}
 use Rattle.addressing.specs.Search.{IsAmong}
-use Rattle.addressing.proofs.Lists.{AllByRecursion-from}
+use Rattle.addressing.proofs.Lists.{AllByRecursion-from, AllByRecursion-among, IsAmong-map}
 use Rattle.addressing.proofs.Ranges.{among-append, place-among, among-place}
 use Rattle.windows.specs.Distinct.{AreDistinct}
 use Rattle.windows.specs.Outlines.{PlaneEdge, edges}
 use Rattle.windows.specs.GrowingPatch.{GrowingPatch, IsInner}
 use Rattle.windows.specs.Patch.{HasAcross}
-use Rattle.windows.proofs.Members.{among-map}
+use Rattle.windows.proofs.Members.{among-map, no-more}
 use Rattle.windows.proofs.Reverses.{reverse-is}
 use Rattle.vertex_stars.specs.Corners.{Corner, IsCornerAt, edge_into, IsNext, Turns, last_corner, IsTurn, tiles_of}
 use Rattle.vertex_stars.specs.Round.{IsRound, IsSimplyDissected}
 use Rattle.vertex_stars.specs.EnoughAt.{IsEnoughAt}
-use Rattle.vertex_stars.specs.GrownStar.{IsCornerOfDepth, deepest, IsStar, StarAnswers, StarGoesOn, DepthCause, CountCause, HasAtMost, StarEnds}
+use Rattle.vertex_stars.specs.GrownStar.{IsCornerOfDepth, deepest, IsStar, StarAnswers, StarGoesOn, DepthCause, CountCause, HasAtMost, StarEnds, StarIsWhole}
 use Rattle.vertex_stars.proofs.CornerNumbers.{some-same, out-edge, out-start, into-edge}
 use Rattle.vertex_stars.proofs.Turning.{out-is, next-at, one-corner, turn-at, distinct-turn, distinct-tiles}
 use Rattle.vertex_stars.proofs.SmallBox.{end-on}
@@ -98,16 +99,31 @@ module _ (S : Signed) (L : Laws S.ops) (O : OrderLaws S) {T : Type 0} (F : Growi
       the_round : IsRound S T F.patch v (base ∷ others)
       the_round = round S L O whole F.patch D v base at_base.0 others turn
 
-      all-inner : IsEnoughAt S T F v (deepest S T F m others)
-      all-inner t h e i on =
+      -- no depth from there on has an edge with v on its boundary
+      stays : (k : ℕ) → deepest S T F m others ≤ k → IsEnoughAt S T F v k
+      stays k deep t h e i on =
           let a : HasAcross S T F.patch (tiles_of (base ∷ others)) e = across-of-edge S L O whole F.patch D v base at_base.0 others turn t h.0 e i on in
           let c = among-map (λ (c : Corner T). c.tile) a.0 (base ∷ others) a.2 in (
             a.0,
             a.1,
-            (subst (λ t. IsAmong t F.patch.tiles) (sym c.2) (the_round.at_vertex c.0 c.1).0, subst (λ t. F.level t ≤ deepest S T F m others) (sym c.2) (corner-level c.0 c.1)),
+            (subst (λ t. IsAmong t F.patch.tiles) (sym c.2) (the_round.at_vertex c.0 c.1).0, subst (λ t. F.level t ≤ k) (sym c.2) (let l = corner-level c.0 c.1 in omega (arith, l))),
             a.3,
             a.4,
           )
+
+      all-inner : IsEnoughAt S T F v (deepest S T F m others)
+      all-inner = stays (deepest S T F m others) (omega arith)
+
+      at_most : HasAtMost S T F v (length (base ∷ others))
+      at_most cs distinct at =
+          let h = no-more (tiles_of cs) (tiles_of (base ∷ others)) distinct found in
+          omega (arith, h, length-map cs (λ (c : Corner T). c.tile), length-map (base ∷ others) (λ (c : Corner T). c.tile))
+        where
+          found : (t : T) → IsAmong t (tiles_of cs) → IsAmong t (tiles_of (base ∷ others))
+          found t i =
+              let c = among-map (λ (c : Corner T). c.tile) t cs i in
+              subst (λ u. IsAmong u (tiles_of (base ∷ others))) (sym c.2)
+              (IsAmong-map (λ (c : Corner T). c.tile) c.0 (base ∷ others) (the_round.all c.0 (AllByRecursion-among (IsCornerAt S T F.patch v) c.0 cs c.1 at)))
 
       pub star : IsStar S T F v m (deepest S T F m others) (base ∷ others)
       star = record {
@@ -203,6 +219,9 @@ module _ (S : Signed) (L : Laws S.ops) (O : OrderLaws S) {T : Type 0} (F : Growi
 
 pub star_answers : (S : Signed) (L : Laws S.ops) (O : OrderLaws S) → DividesWhole S → {T : Type 0} → StarAnswers S T
 star_answers S L O whole F D v m base at_base others turn = star S L O F D v whole m base at_base others turn
+
+pub star_is_whole : (S : Signed) (L : Laws S.ops) (O : OrderLaws S) → DividesWhole S → {T : Type 0} → StarIsWhole S T
+star_is_whole S L O whole F D v m base at_base others turn = (stays S L O F D v whole m base at_base others turn, at_most S L O F D v whole m base at_base others turn)
 
 pub star_goes_on : (S : Signed) (L : Laws S.ops) (O : OrderLaws S) → {T : Type 0} → StarGoesOn S T
 star_goes_on S L O F D v m k l enough base at_base others t =

@@ -63,3 +63,10 @@ abbrev pub StarEnds : Signed → Type 0 → Type 0
 StarEnds S T =
     (F : GrowingPatch S T) → IsSimplyDissected S T F.patch → (v : PlanePoint S.ops.carrier) (m k most : ℕ) → m ≤ k → IsEnoughAt S T F v k → HasAtMost S T F v most
     → (base : Corner T) → IsCornerOfDepth S T F v m base → (others : List (Corner T)) × IsTurn S T F.patch base others × (length (base ∷ others) ≤ most)
+
+-- where the turn comes back, each depth from the one on to which it has led is enough, and no more tiles than it has gone round have v as a vertex
+abbrev pub StarIsWhole : Signed → Type 0 → Type 0
+StarIsWhole S T =
+    (F : GrowingPatch S T) → IsSimplyDissected S T F.patch → (v : PlanePoint S.ops.carrier) (m : ℕ) (base : Corner T) → IsCornerOfDepth S T F v m base
+    → (others : List (Corner T)) → IsTurn S T F.patch base others
+    → ((k : ℕ) → deepest S T F m others ≤ k → IsEnoughAt S T F v k) × HasAtMost S T F v (length (base ∷ others))

@@ -2,7 +2,7 @@
 use Rattle.substitution.specs.Points.{Points}
 use Rattle.substitution.specs.Supertile.{Placed}
 use Rattle.vertex_stars.specs.Round.{TurnTheorem}
-use Rattle.vertex_stars.specs.GrownStar.{StarAnswers, StarGoesOn, StarEnds, DepthCause, CountCause}
+use Rattle.vertex_stars.specs.GrownStar.{StarAnswers, StarGoesOn, StarEnds, StarIsWhole, DepthCause, CountCause}
 
 abbrev pub TurnLaw : Points → Type 0
 TurnLaw P = TurnTheorem P.real (Placed P.ring.carrier)
@@ -15,6 +15,9 @@ OnwardLaw P = StarGoesOn P.real (Placed P.ring.carrier)
 
 abbrev pub EndLaw : Points → Type 0
 EndLaw P = StarEnds P.real (Placed P.ring.carrier)
+
+abbrev pub WholeStarLaw : Points → Type 0
+WholeStarLaw P = StarIsWhole P.real (Placed P.ring.carrier)
 
 abbrev pub DepthLaw : Points → Type 0
 DepthLaw P = DepthCause P.real (Placed P.ring.carrier)

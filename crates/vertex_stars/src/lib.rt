@@ -8,7 +8,7 @@
 #![tactic(auto)]
 
 ghost use Rattle.cyclo_points.specs.Order.{points_of};
-ghost use Rattle.vertex_stars.specs.Laws.{TurnLaw, AnswerLaw, OnwardLaw, EndLaw, DepthLaw, CountLaw};
+ghost use Rattle.vertex_stars.specs.Laws.{TurnLaw, AnswerLaw, OnwardLaw, EndLaw, WholeStarLaw, DepthLaw, CountLaw};
 ghost use Rattle.vertex_stars.specs.FrameStar.{SimpleFrameLaw, FrameNextLaw, FrameStarLaw, FrameCornersLaw};
 ghost use Rattle.vertex_stars.specs.OnPolygon.{FrameOffLaw, FrameLeastLaw};
 ghost use Rattle.vertex_stars.specs.FrameStar.{FrameBaseLaw, FrameBackLaw, TurnStopLaw};
@@ -23,11 +23,13 @@ pub fn turn_law(order: Order)
 
 /// The turn in a patch that grows: where it comes back, the depth that it has led to is the least that is
 /// enough for the vertex; it never leads beyond an enough depth; and where some depth is enough it comes
-/// back, within as many tiles as have the vertex.
+/// back, within as many tiles as have the vertex. Where it has come back, each further depth is enough too,
+/// and no more tiles have the vertex there.
 pub fn star_law(order: Order)
     ensures answers { AnswerLaw (points_of order) }
     ensures onward { OnwardLaw (points_of order) }
     ensures end { EndLaw (points_of order) }
+    ensures whole { WholeStarLaw (points_of order) }
 {}
 
 /// The law of refusals: where the edge that ends at the vertex is on the boundary, the depth isn't enough;

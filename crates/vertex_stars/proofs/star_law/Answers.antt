@@ -12,3 +12,6 @@ returns-clause-onward c = law.onward_law (points_of c.args.order) (laws_of c.arg
 
 pub returns-clause-end : goal.returns-clause-end
 returns-clause-end c = law.end_law (points_of c.args.order) (laws_of c.args.order)
+
+pub returns-clause-whole : goal.returns-clause-whole
+returns-clause-whole c = law.whole_law (points_of c.args.order) (laws_of c.args.order) (divisors_of c.args.order)
