@@ -9,3 +9,4 @@ pub mod Aheads
 pub mod Outs
 pub mod Holders
 pub mod Leasts
+pub mod InFull

@@ -5,3 +5,4 @@ pub mod Paths
 pub mod Faults
 pub mod Ancestors
 pub mod Containing
+pub mod Crossed

@@ -15,3 +15,4 @@ mod outward;
 pub mod path;
 pub mod path_fault;
 pub mod step;
+pub mod step_grow;

@@ -20,8 +20,8 @@ use Rattle.lazy_walk.specs.Ancestors.{full}
 use Rattle.lazy_walk.specs.Boundary.{IsBoundaryEdge}
 use Rattle.lazy_walk.specs.Frames.{FrameValue, whole, at_depth, IsFrameOf, GrowsTo, lifted_at}
 use Rattle.lazy_walk.proofs.Ancestors.{level-at}
-use Rattle.lazy_walk.proofs.Lifting.{IsTileOf-later}
-use Rattle.lazy_walk.proofs.Walks.{StillFits, at_depth-depth, later, whole-fits, GrowsTo-is}
+use Rattle.lazy_walk.proofs.InFull.{names, deep, by_tables, tile-full, whole-level, level-own, level-grown}
+use Rattle.lazy_walk.proofs.Walks.{StillFits}
 use Rattle.rule_model.specs.declared.rule.Rule.{Rule}
 use Rattle.rule_model.specs.Tiling.{Tiling, tiling_of, children}
 use Rattle.substitution.specs.Motion.{Motion}
@@ -70,57 +70,36 @@ module _ (m : Rule) (settled : IsSettled m) (fits : StillFits (children (tiling_
   abbrev kinds : List (List ℕ)
   kinds = child_kinds (tables_of P T.rule)
 
-  to_full : GrowsTo t f (at_depth t 64 f)
-  to_full = later t f 64 is is.at_most_64 (omega arith)
-
-  pub names : NamesTile P T.rule F
-  names = subst (λ k. Fits k F) (sym settled.same_child_kinds) (whole-fits t fits (at_depth t 64 f) to_full.is_frame)
-
-  pub deep : depth F ≡ 64
-  deep = at_depth-depth t f 64 (omega (arith, is.holds_base, is.at_most_64))
-
-  by_tables : (g a : Address) → IsTileOf (children t) g a → IsTileOf kinds g a
-  by_tables g a of = subst (λ k. IsTileOf k g a) (sym settled.same_child_kinds) of
-
-  pub tile-full : (a : Address) → IsTileOf (children t) (whole f) a → IsTileOf kinds F a
-  tile-full a of = by_tables F a (IsTileOf-later t f (at_depth t 64 f) a to_full is of)
-
-  pub whole-level : at_level F (depth F) ≡ F
-  whole-level = λ i. record { kind = F.kind; digits = take_all (depth F) F.digits (omega arith) i }
+  its-names : NamesTile P T.rule F
+  its-names = names m settled fits f is
 
   -- a tile of the frame by its own address and the motion that stands beside it
   pub name-is : (a : Address) (g : Motion (NumberOf m.order)) → IsTileOf (children t) (whole f) a → IsAmong (record { address = lifted_in F a; motion = g }) (frame_tiles P T.rule F)
       → ◌≡◌ {A = Placed (NumberOf m.order)} (record { address = lifted_in F a; motion = g }) (in_frame P T.rule F a)
   name-is a g of among =
       let x : Placed (NumberOf m.order) = record { address = lifted_in F a; motion = g } in
-      let at = (L.named T F names (is_refused m.order) (depth F) (omega arith) x).0 (among, L.at_depth T F names x among) in
+      let at = (L.named T F its-names (is_refused m.order) (depth F) (omega arith) x).0 (among, L.at_depth T F its-names x among) in
       let own : lifted_in F a ≡ at.0 = ap (λ (y : Placed (NumberOf m.order)). y.address) at.3 ∙ lifted-self F at.0 at.2 in
-      let again = (L.renamed T F names (depth F) (omega arith) a (subst (λ y. IsTileOf kinds y a) (sym whole-level) (tile-full a of))).1 in
-      at.3 ∙ ap (in_frame P T.rule F) (sym own ∙ ap (λ y. lifted_in y a) (sym whole-level)) ∙ again
-
-  level-own : at_level F (length f.digits) ≡ whole f
-  level-own = level-at t f is (length f.digits) (omega arith) is.at_most_64 ∙ ap whole (sym is.its_digits)
+      let again = (L.renamed T F its-names (depth F) (omega arith) a (subst (λ y. IsTileOf kinds y a) (sym (whole-level m settled fits f is)) (tile-full m settled fits f is a of))).1 in
+      at.3 ∙ ap (in_frame P T.rule F) (sym own ∙ ap (λ y. lifted_in y a) (sym (whole-level m settled fits f is))) ∙ again
 
   module _ (g : FrameValue) (h : GrowsTo t f g) where
-    pub level-grown : at_level F (length g.digits) ≡ whole g
-    level-grown = level-at t f is (length g.digits) h.no_shallower h.is_frame.at_most_64 ∙ ap whole (sym (GrowsTo-is t f g h))
-
     pub grown : (a b : Address) (e back : ℕ) → IsTileOf (children t) (whole f) a → e < edge_count T.rule a.kind → IsOnlyAcross t (lifted_in (whole g) a) e b back
         → ((n : ℕ) → length f.digits ≤ n → n < length g.digits → IsBoundaryEdge t (lifted_at t f a n) e) → IsGrownCrossing P T F (length f.digits) (length g.digits) a e b back
     grown a b e back of edge x least = record {
-      frame = names;
+      frame = its-names;
       not_below = h.no_shallower;
-      within = omega (arith, h.is_frame.at_most_64, deep);
-      tile = subst (λ y. IsTileOf kinds y a) (sym level-own) (by_tables (whole f) a of);
+      within = omega (arith, h.is_frame.at_most_64, deep m settled fits f is);
+      tile = subst (λ y. IsTileOf kinds y a) (sym (level-own m settled fits f is)) (by_tables m settled fits f is (whole f) a of);
       edge_exists = edge;
-      across = subst (λ y. IsTileAcross P T.rule (tile_at P T.rule (lifted_in y a)) e (tile_at P T.rule b) back) (sym level-grown) x.across;
+      across = subst (λ y. IsTileAcross P T.rule (tile_at P T.rule (lifted_in y a)) e (tile_at P T.rule b) back) (sym (level-grown m settled fits f is g h)) x.across;
       least = λ k l j. let on = least k l j in
           (on.own, on.part, subst (λ y. IsOnBoundary P T.rule (tile_at P T.rule (lifted_in y a)) e on.own on.part) (sym (level-at t f is k l (omega (arith, j, h.is_frame.at_most_64)))) on.lies);
     }
 
   module _ (c : CoverValue) (right : IsRight t f c) where
     pub window-on : IsWindowOn P T F (box_of t c.window)
-    window-on = record { frame = names; wide = omega (arith, right.window.some_width); high = omega (arith, right.window.some_height) }
+    window-on = record { frame = its-names; wide = omega (arith, right.window.some_width); high = omega (arith, right.window.some_height) }
 
     pub its_found : (i : ℕ) (x : Found) → slice_get c.found i ≡ Some x → IsFound t f x
     its_found i x at = AllByRecursion-among (IsFound t f) x c.found (place-among x c.found i at) right.found

@@ -39,14 +39,15 @@ use Rattle.window_cover.specs.declared.open_edge.OpenEdge.{OpenEdge}
 use Rattle.tile_place.specs.Corners.{AreCorners}
 use Rattle.window_cover.specs.Admitted.{IsAdmitted, found_as}
 use Rattle.window_cover.specs.Border.{Waiting, first_of}
-use Rattle.window_cover.specs.Crossed.{IsCrossedTo}
+use Rattle.lazy_walk.specs.Crossed.{IsCrossedTo}
 use Rattle.window_cover.specs.Found.{Found, address_found, CoverValue}
 use Rattle.window_cover.specs.NewEdges.{AreNew, left_open, opened}
 use Rattle.window_cover.specs.Right.{name_of, state_of, growing, IsEdgeWaiting, IsFound, IsRight}
 use Rattle.window_cover.specs.SearchLaws.{HasSearchLaws}
 use Rattle.window_cover.specs.Stepping.{StepsTo}
 use Rattle.window_cover.specs.Windows.{TileOf, IsWindow, box_of}
-use Rattle.window_cover.proofs.Names.{names, window-on, grown, found-at, name-at, its_found, edge-exists, line-is}
+use Rattle.lazy_walk.proofs.InFull.{names}
+use Rattle.window_cover.proofs.Names.{window-on, grown, found-at, name-at, its_found, edge-exists, line-is}
 use Rattle.window_cover.proofs.NewOpen.{border-next, are-new}
 
 -- the first open edge, by both lists
@@ -66,7 +67,7 @@ first-in t (b ∷ bs) (e ∷ es) first z h =
 
 module _ (m : Rule) (settled : IsSettled m) (fits : StillFits (children (tiling_of m))) (L : HasSearchLaws (points_of m.order)) (f : FrameValue) (g : FrameValue) (h : GrowsTo (tiling_of m) f g)
     (c : CoverValue) (right : IsRight (tiling_of m) f c) (first : OpenEdge) (is_first : first_of c.border ≡ Some first) (x : Found) (at : slice_get c.found first.tile ≡ Some x)
-    (tile : PlacedTile) (crossed : IsCrossedTo (tiling_of m) f g (address_found x) x.motion first.edge tile) where
+    (tile : PlacedTile) (back : ℕ) (crossed : IsCrossedTo (tiling_of m) f g (address_found x) x.motion first.edge tile back) where
   abbrev t : Tiling
   t = tiling_of m
 
@@ -101,27 +102,27 @@ module _ (m : Rule) (settled : IsSettled m) (fits : StillFits (children (tiling_
   pub at_o : slice_get c.found o.tile ≡ Some x
   at_o = subst (λ i. slice_get c.found i ≡ Some x) first_edge.same_tile at
 
-  pub over : IsCrossedTo t f g (address_found x) x.motion o.edge tile
-  over = subst (λ e. IsCrossedTo t f g (address_found x) x.motion e tile) first_edge.same_edge crossed
+  pub over : IsCrossedTo t f g (address_found x) x.motion o.edge tile back
+  over = subst (λ e. IsCrossedTo t f g (address_found x) x.motion e tile back) first_edge.same_edge crossed
 
-  pub crossing : IsGrownCrossing P T F (length f.digits) (length g.digits) (address_found x) o.edge b over.back
-  crossing = grown m settled fits L f right.frame g h (address_found x) b o.edge over.back (its_found m settled fits L f right.frame c right o.tile x at_o).of_frame
+  pub crossing : IsGrownCrossing P T F (length f.digits) (length g.digits) (address_found x) o.edge b back
+  crossing = grown m settled fits L f right.frame g h (address_found x) b o.edge back (its_found m settled fits L f right.frame c right o.tile x at_o).of_frame
       (edge-exists m settled fits L f right.frame c right o among x at_o) over.only_tile_across over.least
 
-  pub opening : IsOpenCrossing P T F s o (length g.digits) (address_found x) b over.back
+  pub opening : IsOpenCrossing P T F s o (length g.digits) (address_found x) b back
   opening = record { is_open = among; tile = found-at m settled fits L f right.frame c right o.tile x at_o; crossing = crossing }
 
   pub step : IsStep P.real (TileOf t) (growing t f) (box_of t c.window) s u × (max s.depth (level_in F (lifted_in F b)) ≡ length g.digits)
-  step = L.step T F (is_refused m.order) (box_of t c.window) (window-on m settled fits L f right.frame c right) s right.state o (length g.digits) (address_found x) b over.back opening
+  step = L.step T F (is_refused m.order) (box_of t c.window) (window-on m settled fits L f right.frame c right) s right.state o (length g.digits) (address_found x) b back opening
 
   pub placed : motion_in m.order tile.motion ≡ u.motion
   placed =
       over.motion_is ∙ ap (λ (y : TileOf t). followed P over.glue y.motion) (name-at m settled fits L f right.frame c right o.tile x at_o)
-      ∙ sym (L.glued T F (length f.digits) (length g.digits) (address_found x) o.edge b over.back crossing over.glue over.glues)
+      ∙ sym (L.glued T F (length f.digits) (length g.digits) (address_found x) o.edge b back crossing over.glue over.glues)
 
   pub lies_across : LiesAcross P.real (TileOf t) (growing t f) o.line u
   lies_across = subst (λ l. LiesAcross P.real (TileOf t) (growing t f) l u) (line-is m settled fits L f right.frame c right o among x at_o)
-      (L.grown T F (length f.digits) (length g.digits) (address_found x) o.edge b over.back crossing (is_refused m.order)).0
+      (L.grown T F (length f.digits) (length g.digits) (address_found x) o.edge b back crossing (is_refused m.order)).0
 
   exists : tile.addr.kind < length T.rule.kinds
   exists = subst (λ n. tile.addr.kind < n) (length-map T.rule.kinds _) over.of_frame.fits.kind_exists
@@ -136,13 +137,13 @@ module _ (m : Rule) (settled : IsSettled m) (fits : StillFits (children (tiling_
   pub edges_new : (corners : List Point) → AreCorners t tile.kind tile.motion corners → AreNew corners c.border
   edges_new corners are =
       are-new m.order L.points T L.lines L.numbered u exists tile.motion placed corners (its_corners corners are) c.border s.open_edges right.border
-      (frame_patch P T.rule F) (λ y. refl) (L.patch T F (names m settled fits L f right.frame)) lies_across.of_patch s.found right.state.of_patch (box_of t c.window) L.open_numbers right.state.open_is step.0.new
+      (frame_patch P T.rule F) (λ y. refl) (L.patch T F (names m settled fits f right.frame)) lies_across.of_patch s.found right.state.of_patch (box_of t c.window) L.open_numbers right.state.open_is step.0.new
 
   module _ (d : CoverValue) (new : IsAdmitted t c d tile) where
     abbrev G : PatchWindow P.real (TileOf t)
     G = record {
       growing = growing t f;
-      dissected = L.patch T F (names m settled fits L f right.frame);
+      dissected = L.patch T F (names m settled fits f right.frame);
       box = box_of t c.window;
       wide = (window-on m settled fits L f right.frame c right).wide;
       high = (window-on m settled fits L f right.frame c right).high;

@@ -32,7 +32,7 @@ use Rattle.window_cover.specs.Found.{CoverValue}
 use Rattle.window_cover.specs.Limits.{IsWithinLimits}
 use Rattle.window_cover.specs.SearchLaws.{HasSearchLaws}
 use Rattle.window_cover.specs.Windows.{TileOf, IsWindow, box_of, polygon_of, IsLeastEnough}
-use Rattle.window_cover.proofs.Names.{names, deep}
+use Rattle.lazy_walk.proofs.InFull.{names, deep}
 use Rattle.window_cover.proofs.StartState.{level-holds, u, of_depth}
 
 module _ (m : Rule) (settled : IsSettled m) (fits : StillFits (children (tiling_of m))) (L : HasSearchLaws (points_of m.order))
@@ -54,10 +54,10 @@ module _ (m : Rule) (settled : IsSettled m) (fits : StillFits (children (tiling_
   not_beyond_start n enough = elim (cases_lt n (length g.digits)) [
     | inr l ↦ l
     | inl l ↦
-        let d = deep m settled fits L f is in
-        let least_enough = (L.least T F (names m settled fits L f is) (is_refused m.order) (box_of t w) (length f.digits) n (omega (arith, d, is.at_most_64))).0 enough in
+        let d = deep m settled fits f is in
+        let least_enough = (L.least T F (names m settled fits f is) (is_refused m.order) (box_of t w) (length f.digits) n (omega (arith, d, is.at_most_64))).0 enough in
         let held = least_enough.enough.holds_centre in
-        let there = (L.levels T F (names m settled fits L f is) held.0 held.1.0 (point_in m.order w.centre) held.2 n (omega (arith, d, l, h.is_frame.at_most_64))).1 held.1.1 in
+        let there = (L.levels T F (names m settled fits f is) held.0 held.1.0 (point_in m.order w.centre) held.2 n (omega (arith, d, l, h.is_frame.at_most_64))).1 held.1.1 in
         let same = level-holds t f n (at_depth t n f) (point_in m.order w.centre) (level-at t f is n enough.not_below (omega (arith, l, h.is_frame.at_most_64)))
         (at_depth-depth t f n (omega (arith, enough.not_below, is.holds_base))) in
         absurd (least n enough.not_below l (sym same ∙ there))
@@ -78,7 +78,7 @@ module _ (m : Rule) (settled : IsSettled m) (fits : StillFits (children (tiling_
         let d = within.drawn_within in
         let deeper = not_beyond_start d.depth d.least in
         let of = of_depth m settled fits L f is g h w fit tile stands holder least in
-        let at = (L.lifted T F (names m settled fits L f is) (is_refused m.order) d.depth d.least.within (u m settled fits L f is g h w fit tile stands holder least)).0 (of.0, omega (arith, of.1, deeper)) in
+        let at = (L.lifted T F (names m settled fits f is) (is_refused m.order) d.depth d.least.within (u m settled fits L f is g h w fit tile stands holder least)).0 (of.0, omega (arith, of.1, deeper)) in
         let there = (d.all_that_meet.meeting at.0 at.1).0 (subst (λ y. PolygonMeetsBox P.real (box_of t w) (polygon_of t y)) at.2 meets) in
         ap (λ (y : TileOf t). is_refused m.order y.motion.shift) at.2 ∙ AllByRecursion-among (λ (y : TileOf t). is_refused m.order y.motion.shift ≡ false) at.0 d.drawn there d.none_refused
 

@@ -43,7 +43,7 @@ use Rattle.window_cover.specs.NewEdges.{AreNew, left_open, opened}
 use Rattle.window_cover.specs.Right.{name_of, state_of, growing, IsEdgeWaiting, IsFound, IsRight}
 use Rattle.window_cover.specs.SearchLaws.{HasSearchLaws}
 use Rattle.window_cover.specs.Windows.{TileOf, IsWindow, box_of}
-use Rattle.window_cover.proofs.Names.{names, deep, level-grown}
+use Rattle.lazy_walk.proofs.InFull.{names, deep, level-grown}
 use Rattle.window_cover.proofs.NewOpen.{border-next, are-new}
 
 -- a level of the frame at depth 64 holds a point exactly where the frame of that depth does
@@ -80,13 +80,13 @@ module _ (m : Rule) (settled : IsSettled m) (fits : StillFits (children (tiling_
   u = lifted_tile F own
 
   its_depth : length g.digits ≤ depth F
-  its_depth = let d = deep m settled fits L f is in omega (arith, d, h.is_frame.at_most_64)
+  its_depth = let d = deep m settled fits f is in omega (arith, d, h.is_frame.at_most_64)
 
   own_among : IsAmong own (frame_tiles P T.rule (at_level F (length g.digits)))
-  own_among = subst (λ y. IsAmong own (frame_tiles P T.rule y)) (sym (level-grown m settled fits L f is g h)) stands.in_frame.among
+  own_among = subst (λ y. IsAmong own (frame_tiles P T.rule y)) (sym (level-grown m settled fits f is g h)) stands.in_frame.among
 
   pub of_depth : IsOfDepth P.real (TileOf t) (growing t f) (length g.digits) u
-  of_depth = (L.lifted T F (names m settled fits L f is) (is_refused m.order) (length g.digits) its_depth u).1
+  of_depth = (L.lifted T F (names m settled fits f is) (is_refused m.order) (length g.digits) its_depth u).1
       (own, own_among, refl)
 
   abbrev p : NumberOf m.order
@@ -96,13 +96,13 @@ module _ (m : Rule) (settled : IsSettled m) (fits : StillFits (children (tiling_
   least_holding = record {
     not_below = h.no_shallower;
     within = its_depth;
-    holds = (L.levels T F (names m settled fits L f is) u of_depth.0 p holder.here.holds (length g.digits) its_depth).1 of_depth.1;
+    holds = (L.levels T F (names m settled fits f is) u of_depth.0 p holder.here.holds (length g.digits) its_depth).1 of_depth.1;
     least = λ k low l e. least k low l (sym (level-holds t f k (at_depth t k f) p (level-at t f is k low (omega (arith, l, h.is_frame.at_most_64)))
         (at_depth-depth t f k (omega (arith, low, is.holds_base)))) ∙ e);
   }
 
   window-on : IsWindowOn P T F (box_of t w)
-  window-on = record { frame = names m settled fits L f is; wide = omega (arith, fit.some_width); high = omega (arith, fit.some_height) }
+  window-on = record { frame = names m settled fits f is; wide = omega (arith, fit.some_width); high = omega (arith, fit.some_height) }
 
   exists : tile.addr.kind < length T.rule.kinds
   exists = subst (λ n. tile.addr.kind < n) (length-map T.rule.kinds _) stands.of_frame.fits.kind_exists
@@ -116,7 +116,7 @@ module _ (m : Rule) (settled : IsSettled m) (fits : StillFits (children (tiling_
   pub edges_new : (corners : List Point) → AreCorners t tile.kind tile.motion corners → AreNew corners []
   edges_new corners are =
       are-new m.order L.points T L.lines L.numbered u exists tile.motion refl corners (its_corners corners are) [] [] tt
-      (frame_patch P T.rule F) (λ y. refl) (L.patch T F (names m settled fits L f is)) of_depth.0 [] tt (box_of t w) L.open_numbers refl (λ i. i)
+      (frame_patch P T.rule F) (λ y. refl) (L.patch T F (names m settled fits f is)) of_depth.0 [] tt (box_of t w) L.open_numbers refl (λ i. i)
 
   -- what the law of the start says of it
   begun : IsNotBeyond P.real (TileOf t) (growing t f) (box_of t w) (length f.digits) (length g.digits)

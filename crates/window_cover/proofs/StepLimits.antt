@@ -34,13 +34,14 @@ use Rattle.window_cover.specs.declared.open_edge.OpenEdge.{OpenEdge}
 use Rattle.window_cover.specs.Admitted.{IsNotAdmitted}
 use Rattle.window_cover.specs.Border.{first_of}
 use Rattle.window_cover.specs.Causes.{IsRefusedShift, AreTooMany, HasCause}
-use Rattle.window_cover.specs.Crossed.{IsCrossedTo}
+use Rattle.lazy_walk.specs.Crossed.{IsCrossedTo}
 use Rattle.window_cover.specs.Found.{Found, address_found, CoverValue}
 use Rattle.window_cover.specs.Limits.{most_tiles, IsWithinLimits}
 use Rattle.window_cover.specs.Right.{state_of, growing, IsRight}
 use Rattle.window_cover.specs.SearchLaws.{HasSearchLaws}
 use Rattle.window_cover.specs.Windows.{TileOf, box_of, polygon_of, MeetsWindow, IsOfFrame, IsLeastEnough}
-use Rattle.window_cover.proofs.Names.{names, deep, window-on, level-grown}
+use Rattle.lazy_walk.proofs.InFull.{names, deep, level-grown}
+use Rattle.window_cover.proofs.Names.{window-on}
 use Rattle.window_cover.proofs.NextState.{first_edge, over, opening, step, placed, lies_across}
 
 distinct-unmap : {A B : Type 0} (f : A → B) (xs : List A) → AreDistinct (map f xs) → AreDistinct xs
@@ -78,7 +79,7 @@ module _ (m : Rule) (settled : IsSettled m) (fits : StillFits (children (tiling_
   s = state_of t f c
 
   grown_within : length g.digits ≤ depth F
-  grown_within = let d = deep m settled fits L f right.frame in omega (arith, d, h.is_frame.at_most_64)
+  grown_within = let d = deep m settled fits f right.frame in omega (arith, d, h.is_frame.at_most_64)
 
   -- a tile that meets the window, as it is in the frame
   record Fine (u : TileOf t) : Type 0 where
@@ -89,10 +90,10 @@ module _ (m : Rule) (settled : IsSettled m) (fits : StillFits (children (tiling_
 
   fine-of : (u : TileOf t) → IsOfDepth P.real (TileOf t) (growing t f) (length g.digits) u → PolygonMeetsBox P.real (box_of t c.window) (polygon_of t u) → Fine u
   fine-of u of meets =
-      let at = (L.lifted T F (names m settled fits L f right.frame) (is_refused m.order) (length g.digits) grown_within u).0 of in
+      let at = (L.lifted T F (names m settled fits f right.frame) (is_refused m.order) (length g.digits) grown_within u).0 of in
       record {
         fine = at.0;
-        of_frame = subst (λ y. IsAmong at.0 (frame_tiles P T.rule y)) (level-grown m settled fits L f right.frame g h) at.1;
+        of_frame = subst (λ y. IsAmong at.0 (frame_tiles P T.rule y)) (level-grown m settled fits f right.frame g h) at.1;
         meets = subst (λ y. PolygonMeetsBox P.real (box_of t c.window) (polygon_of t y)) at.2 meets;
         is = at.2;
       }
@@ -114,16 +115,16 @@ module _ (m : Rule) (settled : IsSettled m) (fits : StillFits (children (tiling_
       }
 
   module _ (first : OpenEdge) (is_first : first_of c.border ≡ Some first) (x : Found) (at : slice_get c.found first.tile ≡ Some x)
-      (tile : PlacedTile) (crossed : IsCrossedTo (tiling_of m) f g (address_found x) x.motion first.edge tile) where
+      (tile : PlacedTile) (back : ℕ) (crossed : IsCrossedTo (tiling_of m) f g (address_found x) x.motion first.edge tile back) where
     abbrev u : TileOf t
     u = in_frame P T.rule F (address_of tile.addr)
 
     pub not_beyond_next : (f0 : FrameValue) (n : ℕ) → GrowsTo t f0 f → IsLeastEnough t f0 c.window n → length f.digits ≤ n → length g.digits ≤ n
     not_beyond_next f0 n grows enough below =
         let same_full : full t f ≡ full t f0 = full-later t f0 f grows in
-        let d = deep m settled fits L f right.frame in
-        let one = step m settled fits L f g h c right first is_first x at tile crossed in
-        let least = (L.least T F (names m settled fits L f right.frame) (is_refused m.order) (box_of t c.window) (length f0.digits) n (omega (arith, d, grows.no_shallower, right.frame.at_most_64))).0
+        let d = deep m settled fits f right.frame in
+        let one = step m settled fits L f g h c right first is_first x at tile back crossed in
+        let least = (L.least T F (names m settled fits f right.frame) (is_refused m.order) (box_of t c.window) (length f0.digits) n (omega (arith, d, grows.no_shallower, right.frame.at_most_64))).0
         (subst (λ y. IsLeastDepth P T.rule y (box_of t c.window) (length f0.digits) n) (sym same_full) enough) in
         let here : IsNotBeyond P.real (TileOf t) (growing t f) (box_of t c.window) s.depth s.depth = record { not_below = omega arith; not_beyond = λ k l e. l } in
         let beyond = (one.0.not_beyond s.depth here).not_beyond n below least.enough in
@@ -134,9 +135,9 @@ module _ (m : Rule) (settled : IsSettled m) (fits : StillFits (children (tiling_
         let same_full : full t f ≡ full t f0 = full-later t f0 f grows in
         let on = L.onward T F (is_refused m.order) (box_of t c.window) (window-on m settled fits L f right.frame c right) (length f0.digits) most_tiles
         (subst (λ y. IsWindowWithin P (is_refused m.order) T.rule y (box_of t c.window) (length f0.digits) most_tiles) (sym same_full) within.drawn_within)
-        s right.state (first_edge m settled fits L f g h c right first is_first x at tile crossed).edge (length g.digits) (address_found x) (address_of tile.addr)
-        (over m settled fits L f g h c right first is_first x at tile crossed).back (opening m settled fits L f g h c right first is_first x at tile crossed) in
-        let kept : is_refused m.order (point_in m.order tile.motion.shift) ≡ false = ap (λ k. is_refused m.order k.shift) (placed m settled fits L f g h c right first is_first x at tile crossed) ∙ on.0 in
+        s right.state (first_edge m settled fits L f g h c right first is_first x at tile back crossed).edge (length g.digits) (address_found x) (address_of tile.addr)
+        back (opening m settled fits L f g h c right first is_first x at tile back crossed) in
+        let kept : is_refused m.order (point_in m.order tile.motion.shift) ≡ false = ap (λ k. is_refused m.order k.shift) (placed m settled fits L f g h c right first is_first x at tile back crossed) ∙ on.0 in
         let room : length c.found < most_tiles = subst (λ n. n < most_tiles) (length-map c.found _) on.1 in
         at_result r why kept room
       where
@@ -149,16 +150,16 @@ module _ (m : Rule) (settled : IsSettled m) (fits : StillFits (children (tiling_
 
     own_depth : IsOfDepth P.real (TileOf t) (growing t f) (length g.digits) u
     own_depth =
-        let one = step m settled fits L f g h c right first is_first x at tile crossed in
-        ((lies_across m settled fits L f g h c right first is_first x at tile crossed).of_patch, omega (arith, one.1))
+        let one = step m settled fits L f g h c right first is_first x at tile back crossed in
+        ((lies_across m settled fits L f g h c right first is_first x at tile back crossed).of_patch, omega (arith, one.1))
 
     own_fine : Fine u
-    own_fine = fine-of u own_depth (step m settled fits L f g h c right first is_first x at tile crossed).0.meets
+    own_fine = fine-of u own_depth (step m settled fits L f g h c right first is_first x at tile back crossed).0.meets
 
     refused-shift : (value : Point) → value ≡ tile.motion.shift → is_refused m.order (point_in m.order tile.motion.shift) ≡ true → IsRefusedShift t g c.window value
     refused-shift value same r =
         let one = own_fine in
-        let shift : one.fine.motion.shift ≡ point_in m.order tile.motion.shift = sym (ap (λ (y : TileOf t). y.motion.shift) one.is) ∙ sym (ap (λ k. k.shift) (placed m settled fits L f g h c right first is_first x at tile crossed)) in
+        let shift : one.fine.motion.shift ≡ point_in m.order tile.motion.shift = sym (ap (λ (y : TileOf t). y.motion.shift) one.is) ∙ sym (ap (λ k. k.shift) (placed m settled fits L f g h c right first is_first x at tile back crossed)) in
         record {
           tile = one.fine;
           of_frame = one.of_frame;
@@ -175,7 +176,7 @@ module _ (m : Rule) (settled : IsSettled m) (fits : StillFits (children (tiling_
         )
         (AllByRecursion-among (λ z. PolygonMeetsBox P.real (box_of t c.window) (polygon_of t z)) y s.found i right.state.each_meets)) in
         let all = fines-of (s.found ++ u ∷ []) (AllByRecursion-append Fine s.found (u ∷ []) d (own_fine, tt)) in
-        let one = step m settled fits L f g h c right first is_first x at tile crossed in
+        let one = step m settled fits L f g h c right first is_first x at tile back crossed in
         let count : length all.tiles ≡ length c.found + 1 = sym (length-map all.tiles (lifted_tile F)) ∙ ap length all.lifts ∙ length-append s.found (u ∷ []) ∙ ap (λ n. n + 1) (length-map c.found _) in
         record {
           tiles = all.tiles;

@@ -33,7 +33,8 @@ use Rattle.window_cover.specs.Limits.{most_tiles, IsWithinLimits}
 use Rattle.window_cover.specs.Right.{name_of, state_of, growing, IsRight}
 use Rattle.window_cover.specs.SearchLaws.{HasSearchLaws}
 use Rattle.window_cover.specs.Windows.{TileOf, box_of, IsLeastEnough}
-use Rattle.window_cover.proofs.Names.{names, deep, window-on, level-grown, tile-full, whole-level, its_found, found-at, name-at, edge-exists}
+use Rattle.lazy_walk.proofs.InFull.{names, deep, level-grown, tile-full, whole-level}
+use Rattle.window_cover.proofs.Names.{window-on, its_found, found-at, name-at, edge-exists}
 use Rattle.window_cover.proofs.NextState.{FirstIn, first-in}
 
 module _ (m : Rule) (settled : IsSettled m) (fits : StillFits (children (tiling_of m))) (L : HasSearchLaws (points_of m.order)) (f : FrameValue) (c : CoverValue) (right : IsRight (tiling_of m) f c)
@@ -71,8 +72,8 @@ module _ (m : Rule) (settled : IsSettled m) (fits : StillFits (children (tiling_
 
   own_edge : IsEdgeInFrame P T F a one.edge.edge
   own_edge = record {
-    frame = names m settled fits L f right.frame;
-    tile = tile-full m settled fits L f right.frame a (its_found m settled fits L f right.frame c right first.tile x at).of_frame;
+    frame = names m settled fits f right.frame;
+    tile = tile-full m settled fits f right.frame a (its_found m settled fits L f right.frame c right first.tile x at).of_frame;
     edge_exists = edge-exists m settled fits L f right.frame c right one.edge among x at_o;
   }
 
@@ -83,8 +84,8 @@ module _ (m : Rule) (settled : IsSettled m) (fits : StillFits (children (tiling_
 
   pub not_enough : (f0 : FrameValue) (n : ℕ) → GrowsTo t f0 f → ¬ IsLeastEnough t f0 c.window n
   not_enough f0 n grows enough =
-      let d = deep m settled fits L f right.frame in
-      let least = (L.least T F (names m settled fits L f right.frame) (is_refused m.order) (box_of t c.window) (length f0.digits) n (omega (arith, d, grows.no_shallower, right.frame.at_most_64))).0
+      let d = deep m settled fits f right.frame in
+      let least = (L.least T F (names m settled fits f right.frame) (is_refused m.order) (box_of t c.window) (length f0.digits) n (omega (arith, d, grows.no_shallower, right.frame.at_most_64))).0
       (subst (λ y. IsLeastDepth P T.rule y (box_of t c.window) (length f0.digits) n) (sym (full-later t f0 f grows)) enough) in
       stop.0.none_enough n least.enough
 
@@ -111,5 +112,5 @@ module _ (m : Rule) (settled : IsSettled m) (fits : StillFits (children (tiling_
 
       whole_is : F ≡ whole g
       whole_is =
-          sym (whole-level m settled fits L f right.frame) ∙ ap (at_level F) (deep m settled fits L f right.frame ∙ sym at_64)
-          ∙ level-grown m settled fits L f right.frame g h
+          sym (whole-level m settled fits f right.frame) ∙ ap (at_level F) (deep m settled fits f right.frame ∙ sym at_64)
+          ∙ level-grown m settled fits f right.frame g h

@@ -4,7 +4,6 @@ pub mod Windows
 pub mod NewEdges
 pub mod Inside
 pub mod Admitted
-pub mod Crossed
 pub mod SearchLaws
 pub mod Limits
 pub mod Causes

@@ -11,7 +11,6 @@ mod border;
 pub mod cover;
 pub mod cover_fault;
 pub mod covered_tiles;
-mod cross;
 mod ends;
 mod finish;
 mod found_tile;

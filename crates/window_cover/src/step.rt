@@ -12,7 +12,6 @@ ghost use Rattle.window_cover.specs.Stepping.{StepsTo};
 
 use crate::cover::{Cover, no_tile};
 use crate::cover_fault::CoverFault;
-use crate::cross::cross;
 use crate::open_edge::OpenEdge;
 use crate::search_laws::search_laws;
 use edge_tables::steps::Steps;
@@ -96,8 +95,8 @@ impl Cover {
         let _usable = checked.uses().kinds();
         self.border.pass();
         self.put_tile(first.tile as usize, tile);
-        match cross(machine, frame, tile, first.edge, steps) {
-            Ok(()) => self.admit(machine, tile),
+        match frame.step_grow(machine, tile, first.edge, steps) {
+            Ok(_) => self.admit(machine, tile),
             Err(limit) => Err(CoverFault::DepthLimit {
                 addr: limit.addr,
                 edge: limit.edge,

@@ -1,4 +1,4 @@
-use Rattle.std.proofs.Common.{◌≡◌, ◌+◌, ◌^◌, refl, sym, ap, ◌∙◌, subst, arith}
+use Rattle.std.proofs.Common.{◌+◌, ◌^◌, refl, sym, ap, ◌∙◌, subst, arith}
 use Rattle.frames.proofs.Frames.{IsWhole}
 use Rattle.cyclo_points.specs.Order.{PointsLaw, points_of}
 use Rattle.cyclo_points.specs.Motion.{motion_in}

@@ -11,7 +11,7 @@ use Rattle.lazy_walk.specs.Boundary.{IsBoundaryEdge}
 use Rattle.tile_place.specs.Corners.{AreCorners}
 use Rattle.window_cover.specs.Admitted.{IsAdmitted, IsNotAdmitted, found_as}
 use Rattle.window_cover.specs.Border.{Waiting}
-use Rattle.window_cover.specs.Crossed.{IsCrossedTo}
+use Rattle.lazy_walk.specs.Crossed.{IsCrossedTo}
 use Rattle.window_cover.specs.Found.{address_found, CoverValue}
 use Rattle.window_cover.specs.Kept.{found_in, IsKept}
 use Rattle.window_cover.specs.NewEdges.{AreNew}
@@ -75,49 +75,49 @@ put_tile-requires g c =
     ap (λ (b : List Waiting). record { window = inside.window; found = found_in inside.digits.items inside.found.items; border = b }) c.pass.ensures ∙ c.self.view_is in
     record { found = subst (λ (y : CoverValue). c.args.first.tile < length y.found) (sym same) (tile-there m B.laws f v c.requires.right c.args.first c.requires.is_first) }
 
-pub cross-requires-clause-frame : goal.cross-requires-clause-frame
-cross-requires-clause-frame g c = c.requires.right.frame
+pub step_grow-requires-clause-frame : goal.step_grow-requires-clause-frame
+step_grow-requires-clause-frame g c = c.requires.right.frame
 
-pub cross-requires-clause-its_kind : goal.cross-requires-clause-its_kind
-cross-requires-clause-its_kind g c = c.put_tile.ensures.its_kind
+pub step_grow-requires-clause-its_kind : goal.step_grow-requires-clause-its_kind
+step_grow-requires-clause-its_kind g c = sym c.put_tile.ensures.its_kind
 
-pub cross-requires-clause-of_frame : goal.cross-requires-clause-of_frame
-cross-requires-clause-of_frame g c =
+pub step_grow-requires-clause-of_frame : goal.step_grow-requires-clause-of_frame
+step_grow-requires-clause-of_frame g c =
     let m = c.args.machine.now in
     let t = tiling_of m in
     let f = c.args.frame.now in
-    let p = (goal.at.cross-requires-clause-of_frame g c).After-put_tile in
+    let p = (goal.at.step_grow-requires-clause-of_frame g c).After-put_tile in
     let it = is_found g p in
     let a_is = its_address g p in
     subst (IsTileOf (children t) (whole f)) a_is it.of_frame
 
-pub cross-requires-clause-edge_exists : goal.cross-requires-clause-edge_exists
-cross-requires-clause-edge_exists g c =
+pub step_grow-requires-clause-edge_exists : goal.step_grow-requires-clause-edge_exists
+step_grow-requires-clause-edge_exists g c =
     let m = c.args.machine.now in
     let t = tiling_of m in
     let f = c.args.frame.now in
     let v = c.args.self.now in
-    let p = (goal.at.cross-requires-clause-edge_exists g c).After-put_tile in
+    let p = (goal.at.step_grow-requires-clause-edge_exists g c).After-put_tile in
     let B = brings g p in
     let x = found_as c.put_tile.new.tile in
     let at = at_first g p in
     subst (λ n. IsSome (type_of (contacts t) n c.args.first.edge)) (sym c.put_tile.ensures.its_kind) (edge-there m B.settled B.fits B.laws f v c.requires.right c.args.first c.requires.is_first x at)
 
-pub cross-requires-clause-turn_below : goal.cross-requires-clause-turn_below
-cross-requires-clause-turn_below g c =
-    let p = (goal.at.cross-requires-clause-turn_below g c).After-put_tile in
+pub step_grow-requires-clause-turn_below : goal.step_grow-requires-clause-turn_below
+step_grow-requires-clause-turn_below g c =
+    let p = (goal.at.step_grow-requires-clause-turn_below g c).After-put_tile in
     let it = is_found g p in
     it.turn_below
 
-pub cross-requires-clause-shift_within : goal.cross-requires-clause-shift_within
-cross-requires-clause-shift_within g c =
-    let p = (goal.at.cross-requires-clause-shift_within g c).After-put_tile in
+pub step_grow-requires-clause-within : goal.step_grow-requires-clause-within
+step_grow-requires-clause-within g c =
+    let p = (goal.at.step_grow-requires-clause-within g c).After-put_tile in
     let it = is_found g p in
     it.shift_within
 
-pub cross-requires-clause-in_order : goal.cross-requires-clause-in_order
-cross-requires-clause-in_order g c =
-    let p = (goal.at.cross-requires-clause-in_order g c).After-put_tile in
+pub step_grow-requires-clause-in_order : goal.step_grow-requires-clause-in_order
+step_grow-requires-clause-in_order g c =
+    let p = (goal.at.step_grow-requires-clause-in_order g c).After-put_tile in
     let it = is_found g p in
     it.in_order
 
@@ -132,11 +132,12 @@ admit-requires-clause-exists g c =
     let x = found_as c.put_tile.new.tile in
     let at = at_first g p in
     let a_is = its_address g p in
-    let k = c.cross.new.frame in
-    let tile = c.cross.new.tile in
+    let k = c.step_grow.new.self in
+    let tile = c.step_grow.new.tile in
+    let back = c.in-Ok.field-0 in
     let h : GrowsTo t f k = c.in-Ok.ensures.frame in
-    let crossed : IsCrossedTo t f k (address_found x) x.motion c.args.first.edge tile = subst (λ a. IsCrossedTo t f k a x.motion c.args.first.edge tile) (sym a_is) c.in-Ok.ensures.crossed in
-    kind_exists m B.settled B.fits B.laws f k h v c.requires.right c.args.first c.requires.is_first x at tile crossed
+    let crossed : IsCrossedTo t f k (address_found x) x.motion c.args.first.edge tile back = subst (λ a. IsCrossedTo t f k a x.motion c.args.first.edge tile back) (sym a_is) c.in-Ok.ensures.crossed in
+    kind_exists m B.settled B.fits B.laws f k h v c.requires.right c.args.first c.requires.is_first x at tile back crossed
 
 pub admit-requires-clause-turn_below : goal.admit-requires-clause-turn_below
 admit-requires-clause-turn_below g c = c.in-Ok.ensures.crossed.turn_below
@@ -159,11 +160,12 @@ admit-requires-clause-new g c =
     let x = found_as c.put_tile.new.tile in
     let at = at_first g p in
     let a_is = its_address g p in
-    let k = c.cross.new.frame in
-    let tile = c.cross.new.tile in
+    let k = c.step_grow.new.self in
+    let tile = c.step_grow.new.tile in
+    let back = c.in-Ok.field-0 in
     let h : GrowsTo t f k = c.in-Ok.ensures.frame in
-    let crossed : IsCrossedTo t f k (address_found x) x.motion c.args.first.edge tile = subst (λ a. IsCrossedTo t f k a x.motion c.args.first.edge tile) (sym a_is) c.in-Ok.ensures.crossed in
-    subst (λ (y : CoverValue). (corners : List Point) → AreCorners t tile.kind tile.motion corners → AreNew corners y.border) (sym same) (edges_new m B.settled B.fits B.laws f k h v c.requires.right c.args.first c.requires.is_first x at tile crossed)
+    let crossed : IsCrossedTo t f k (address_found x) x.motion c.args.first.edge tile back = subst (λ a. IsCrossedTo t f k a x.motion c.args.first.edge tile back) (sym a_is) c.in-Ok.ensures.crossed in
+    subst (λ (y : CoverValue). (corners : List Point) → AreCorners t tile.kind tile.motion corners → AreNew corners y.border) (sym same) (edges_new m B.settled B.fits B.laws f k h v c.requires.right c.args.first c.requires.is_first x at tile back crossed)
 
 pub returns-in-Ok-clause-frame : goal.returns-in-Ok-clause-frame
 returns-in-Ok-clause-frame g c = c.in-Ok.ensures.frame
@@ -180,12 +182,13 @@ returns-in-Ok-clause-steps_to g c =
     let x = found_as c.put_tile.new.tile in
     let at = at_first g p in
     let a_is = its_address g p in
-    let k = c.cross.new.frame in
-    let tile = c.cross.new.tile in
+    let k = c.step_grow.new.self in
+    let tile = c.step_grow.new.tile in
+    let back = c.in-Ok.field-0 in
     let h : GrowsTo t f k = c.in-Ok.ensures.frame in
-    let crossed : IsCrossedTo t f k (address_found x) x.motion c.args.first.edge tile = subst (λ a. IsCrossedTo t f k a x.motion c.args.first.edge tile) (sym a_is) c.in-Ok.ensures.crossed in
+    let crossed : IsCrossedTo t f k (address_found x) x.motion c.args.first.edge tile back = subst (λ a. IsCrossedTo t f k a x.motion c.args.first.edge tile back) (sym a_is) c.in-Ok.ensures.crossed in
     let admitted : OnOk c.admit.result (IsAdmitted t v c.admit.new.self tile) = subst (λ y. OnOk c.admit.result (IsAdmitted t y c.admit.new.self tile)) same c.admit.ensures.admitted in
-    on_ok-each _ (StepsTo t f k v c.admit.new.self) c.admit.result (λ n. steps_to m B.settled B.fits B.laws f k h v c.requires.right c.args.first c.requires.is_first x at tile crossed c.admit.new.self n) admitted
+    on_ok-each _ (StepsTo t f k v c.admit.new.self) c.admit.result (λ n. steps_to m B.settled B.fits B.laws f k h v c.requires.right c.args.first c.requires.is_first x at tile back crossed c.admit.new.self n) admitted
 
 pub returns-in-Ok-clause-right : goal.returns-in-Ok-clause-right
 returns-in-Ok-clause-right g c =
@@ -199,12 +202,13 @@ returns-in-Ok-clause-right g c =
     let x = found_as c.put_tile.new.tile in
     let at = at_first g p in
     let a_is = its_address g p in
-    let k = c.cross.new.frame in
-    let tile = c.cross.new.tile in
+    let k = c.step_grow.new.self in
+    let tile = c.step_grow.new.tile in
+    let back = c.in-Ok.field-0 in
     let h : GrowsTo t f k = c.in-Ok.ensures.frame in
-    let crossed : IsCrossedTo t f k (address_found x) x.motion c.args.first.edge tile = subst (λ a. IsCrossedTo t f k a x.motion c.args.first.edge tile) (sym a_is) c.in-Ok.ensures.crossed in
+    let crossed : IsCrossedTo t f k (address_found x) x.motion c.args.first.edge tile back = subst (λ a. IsCrossedTo t f k a x.motion c.args.first.edge tile back) (sym a_is) c.in-Ok.ensures.crossed in
     let admitted : OnOk c.admit.result (IsAdmitted t v c.admit.new.self tile) = subst (λ y. OnOk c.admit.result (IsAdmitted t y c.admit.new.self tile)) same c.admit.ensures.admitted in
-    on_ok-each _ (IsRight t k c.admit.new.self) c.admit.result (λ n. right-next m B.settled B.fits B.laws f k h v c.requires.right c.args.first c.requires.is_first x at tile crossed c.admit.new.self n) admitted
+    on_ok-each _ (IsRight t k c.admit.new.self) c.admit.result (λ n. right-next m B.settled B.fits B.laws f k h v c.requires.right c.args.first c.requires.is_first x at tile back crossed c.admit.new.self n) admitted
 
 pub returns-in-Ok-clause-one_more : goal.returns-in-Ok-clause-one_more
 returns-in-Ok-clause-one_more g c =
@@ -218,12 +222,13 @@ returns-in-Ok-clause-one_more g c =
     let x = found_as c.put_tile.new.tile in
     let at = at_first g p in
     let a_is = its_address g p in
-    let k = c.cross.new.frame in
-    let tile = c.cross.new.tile in
+    let k = c.step_grow.new.self in
+    let tile = c.step_grow.new.tile in
+    let back = c.in-Ok.field-0 in
     let h : GrowsTo t f k = c.in-Ok.ensures.frame in
-    let crossed : IsCrossedTo t f k (address_found x) x.motion c.args.first.edge tile = subst (λ a. IsCrossedTo t f k a x.motion c.args.first.edge tile) (sym a_is) c.in-Ok.ensures.crossed in
+    let crossed : IsCrossedTo t f k (address_found x) x.motion c.args.first.edge tile back = subst (λ a. IsCrossedTo t f k a x.motion c.args.first.edge tile back) (sym a_is) c.in-Ok.ensures.crossed in
     let admitted : OnOk c.admit.result (IsAdmitted t v c.admit.new.self tile) = subst (λ y. OnOk c.admit.result (IsAdmitted t y c.admit.new.self tile)) same c.admit.ensures.admitted in
-    on_ok-each _ (length c.admit.new.self.found ≡ suc (length v.found)) c.admit.result (λ n. one_more m B.settled B.fits B.laws f k h v c.requires.right c.args.first c.requires.is_first x at tile crossed c.admit.new.self n ∙ add-one (length v.found)) admitted
+    on_ok-each _ (length c.admit.new.self.found ≡ suc (length v.found)) c.admit.result (λ n. one_more m B.settled B.fits B.laws f k h v c.requires.right c.args.first c.requires.is_first x at tile back crossed c.admit.new.self n ∙ add-one (length v.found)) admitted
 
 pub returns-in-Ok-clause-not_beyond : goal.returns-in-Ok-clause-not_beyond
 returns-in-Ok-clause-not_beyond g c =
@@ -236,11 +241,12 @@ returns-in-Ok-clause-not_beyond g c =
     let x = found_as c.put_tile.new.tile in
     let at = at_first g p in
     let a_is = its_address g p in
-    let k = c.cross.new.frame in
-    let tile = c.cross.new.tile in
+    let k = c.step_grow.new.self in
+    let tile = c.step_grow.new.tile in
+    let back = c.in-Ok.field-0 in
     let h : GrowsTo t f k = c.in-Ok.ensures.frame in
-    let crossed : IsCrossedTo t f k (address_found x) x.motion c.args.first.edge tile = subst (λ a. IsCrossedTo t f k a x.motion c.args.first.edge tile) (sym a_is) c.in-Ok.ensures.crossed in
-    not_beyond_next m B.settled B.fits B.laws f k h v c.requires.right c.args.first c.requires.is_first x at tile crossed
+    let crossed : IsCrossedTo t f k (address_found x) x.motion c.args.first.edge tile back = subst (λ a. IsCrossedTo t f k a x.motion c.args.first.edge tile back) (sym a_is) c.in-Ok.ensures.crossed in
+    not_beyond_next m B.settled B.fits B.laws f k h v c.requires.right c.args.first c.requires.is_first x at tile back crossed
 
 pub returns-in-Ok-clause-within : goal.returns-in-Ok-clause-within
 returns-in-Ok-clause-within g c =
@@ -254,12 +260,13 @@ returns-in-Ok-clause-within g c =
     let x = found_as c.put_tile.new.tile in
     let at = at_first g p in
     let a_is = its_address g p in
-    let k = c.cross.new.frame in
-    let tile = c.cross.new.tile in
+    let k = c.step_grow.new.self in
+    let tile = c.step_grow.new.tile in
+    let back = c.in-Ok.field-0 in
     let h : GrowsTo t f k = c.in-Ok.ensures.frame in
-    let crossed : IsCrossedTo t f k (address_found x) x.motion c.args.first.edge tile = subst (λ a. IsCrossedTo t f k a x.motion c.args.first.edge tile) (sym a_is) c.in-Ok.ensures.crossed in
+    let crossed : IsCrossedTo t f k (address_found x) x.motion c.args.first.edge tile back = subst (λ a. IsCrossedTo t f k a x.motion c.args.first.edge tile back) (sym a_is) c.in-Ok.ensures.crossed in
     let why : IfErr c.admit.result (IsNotAdmitted t v tile) = subst (λ y. IfErr c.admit.result (IsNotAdmitted t y tile)) same c.admit.ensures.cause in
-    λ f0 grows within. within_next m B.settled B.fits B.laws f k h v c.requires.right c.args.first c.requires.is_first x at tile crossed f0 grows within c.admit.result why
+    λ f0 grows within. within_next m B.settled B.fits B.laws f k h v c.requires.right c.args.first c.requires.is_first x at tile back crossed f0 grows within c.admit.result why
 
 pub returns-in-Ok-clause-cause : goal.returns-in-Ok-clause-cause
 returns-in-Ok-clause-cause g c =
@@ -273,12 +280,13 @@ returns-in-Ok-clause-cause g c =
     let x = found_as c.put_tile.new.tile in
     let at = at_first g p in
     let a_is = its_address g p in
-    let k = c.cross.new.frame in
-    let tile = c.cross.new.tile in
+    let k = c.step_grow.new.self in
+    let tile = c.step_grow.new.tile in
+    let back = c.in-Ok.field-0 in
     let h : GrowsTo t f k = c.in-Ok.ensures.frame in
-    let crossed : IsCrossedTo t f k (address_found x) x.motion c.args.first.edge tile = subst (λ a. IsCrossedTo t f k a x.motion c.args.first.edge tile) (sym a_is) c.in-Ok.ensures.crossed in
+    let crossed : IsCrossedTo t f k (address_found x) x.motion c.args.first.edge tile back = subst (λ a. IsCrossedTo t f k a x.motion c.args.first.edge tile back) (sym a_is) c.in-Ok.ensures.crossed in
     let why : IfErr c.admit.result (IsNotAdmitted t v tile) = subst (λ y. IfErr c.admit.result (IsNotAdmitted t y tile)) same c.admit.ensures.cause in
-    cause_next m B.settled B.fits B.laws f k h v c.requires.right c.args.first c.requires.is_first x at tile crossed c.admit.result why
+    cause_next m B.settled B.fits B.laws f k h v c.requires.right c.args.first c.requires.is_first x at tile back crossed c.admit.result why
 
 pub returns-in-Err-clause-frame : goal.returns-in-Err-clause-frame
 returns-in-Err-clause-frame g c = c.in-Err.ensures.frame
@@ -323,4 +331,4 @@ returns-in-Err-clause-cause g c =
     let at = at_first g p in
     let a_is = its_address g p in
     let on : IsBoundaryEdge t (lifted_in (full t f) (address_found x)) c.args.first.edge = subst (λ a. IsBoundaryEdge t (lifted_in (full t f) a) c.args.first.edge) (sym a_is) (c.in-Err.ensures.limit_exactly.0 refl) in
-    depth_limit m B.settled B.fits B.laws f v c.requires.right c.args.first c.requires.is_first x at on c.cross.new.frame c.in-Err.ensures.frame c.in-Err.ensures.deepest_at_limit c.in-Err.limit.addr (c.in-Err.ensures.limit_tile ∙ ap (lifted_in (full t f)) (sym a_is)) c.in-Err.limit.edge c.in-Err.ensures.limit_edge
+    depth_limit m B.settled B.fits B.laws f v c.requires.right c.args.first c.requires.is_first x at on c.step_grow.new.self c.in-Err.ensures.frame c.in-Err.ensures.deepest_at_limit c.in-Err.limit.addr (c.in-Err.ensures.limit_tile ∙ ap (lifted_in (full t f)) (sym a_is)) c.in-Err.limit.edge c.in-Err.ensures.limit_edge

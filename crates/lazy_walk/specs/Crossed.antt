@@ -1,24 +1,23 @@
--- A tile of a frame that is crossed to the tile across, while the frame grows.
-use Rattle.std.specs.Prelude.{◌≡◌, ℕ, ◌<◌, ◌≤◌, length}
+-- Going from a tile in its place to the one across an edge, while the frame grows.
+use Rattle.std.specs.Prelude.{◌≡◌, ℕ, ◌+◌, ◌<◌, ◌≤◌, ◌^◌, length}
 use Rattle.addressing.specs.Address.{Address, depth}
 use Rattle.cyclo_points.specs.declared.motion.Motion.{Motion}
 use Rattle.cyclo_points.specs.Motion.{motion_in}
 use Rattle.cyclo_points.specs.Order.{points_of}
-use Rattle.cyclo_points.specs.Point.{IsOf}
+use Rattle.cyclo_points.specs.Point.{IsOf, IsWithin}
 use Rattle.frames.specs.Frame.{IsTileOf, lifted_in}
-use Rattle.lazy_walk.specs.Boundary.{IsBoundaryEdge}
-use Rattle.lazy_walk.specs.Frames.{FrameValue, whole, lifted_at}
 use Rattle.rule_model.specs.Tiling.{Tiling, MotionOf, children}
 use Rattle.substitution.specs.Motion.{followed}
 use Rattle.tile_place.specs.declared.placed_tile.PlacedTile.{PlacedTile}
 use Rattle.tile_place.specs.Crossed.{IsOnlyAcross}
 use Rattle.tile_place.specs.Glued.{Glues}
 use Rattle.tile_shape.specs.Views.{address_of}
+use Rattle.lazy_walk.specs.Boundary.{IsBoundaryEdge}
+use Rattle.lazy_walk.specs.Frames.{FrameValue, whole, lifted_at}
 
--- from edge e of the tile a, with this motion, in the frame f one comes to the tile x in the frame g: the only one across at the least depth at which the
--- edge isn't on the boundary, with the motion that glues the two edges, followed by that of a
-pub record IsCrossedTo (t : Tiling) (f g : FrameValue) (a : Address) (motion : Motion) (e : ℕ) (x : PlacedTile) : Type 0 where
-  pub back : ℕ
+-- From edge e of the tile a, with this motion, in the frame f one comes to the tile x in the frame g: the only one across, at the least depth at which the
+-- edge isn't on the boundary, with the edge `back` that leads back. Its motion is the one that glues the two edges, followed by that of a.
+pub record IsCrossedTo (t : Tiling) (f g : FrameValue) (a : Address) (motion : Motion) (e : ℕ) (x : PlacedTile) (back : ℕ) : Type 0 where
   pub its_kind : x.kind ≡ x.addr.kind
   pub of_frame : IsTileOf (children t) (whole g) (address_of x.addr)
   pub at_depth : depth (address_of x.addr) ≡ length g.digits
@@ -28,4 +27,5 @@ pub record IsCrossedTo (t : Tiling) (f g : FrameValue) (a : Address) (motion : M
   pub glues : Glues t a.kind e x.addr.kind back glue
   pub motion_is : motion_in t.order x.motion ≡ followed (points_of t.order) glue (motion_in t.order motion)
   pub turn_below : x.motion.turn < (points_of t.order).order
+  pub shift_within : (n : ℕ) → IsWithin n motion.shift → IsWithin (n + 2 ^ 8) x.motion.shift
   pub in_order : IsOf t.order x.motion.shift

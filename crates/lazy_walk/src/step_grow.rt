@@ -1,0 +1,56 @@
+//! From tile to tile of a frame that grows, each in its place.
+ghost use Rattle.std.specs.Prelude.{◌≡◌, ◌↔◌, ◌<◌, ◌^◌, length, IsSome, IsErr, IfOk, IfErr, OnErr};
+ghost use Rattle.addressing.specs.Tables.{type_of};
+ghost use Rattle.cyclo_points.specs.Order.{points_of};
+ghost use Rattle.cyclo_points.specs.Point.{IsOf, IsWithin};
+ghost use Rattle.frames.specs.Frame.{IsTileOf};
+ghost use Rattle.rule_model.specs.Tiling.{tiling_of, contacts, children};
+ghost use Rattle.tile_shape.specs.Views.{address_of};
+ghost use Rattle.lazy_walk.specs.Boundary.{IsBoundaryEdge};
+ghost use Rattle.lazy_walk.specs.Crossed.{IsCrossedTo};
+ghost use Rattle.lazy_walk.specs.Frames.{whole, IsFrameOf, GrowsTo, lifted_at};
+
+use crate::depth_limit::DepthLimit;
+use crate::frame::Frame;
+use edge_tables::steps::Steps;
+use seeded_growth::laws::grown_fits_law;
+use std::sync::ledger::Ledger;
+use tile_place::machine::Machine;
+use tile_place::placed_tile::PlacedTile;
+
+impl Frame {
+    /// Goes across an edge of a tile in its place, and the frame grows until that edge is not on the boundary: the
+    /// tile becomes the one across, in its place at that depth, and the answer is the edge that leads back. The
+    /// tile may have the digits of any depth that the frame has had. It is refused exactly where the edge is on
+    /// the boundary at depth 64.
+    pub fn step_grow<L: Ledger>(
+        &mut self,
+        machine: &Machine,
+        tile: &mut PlacedTile,
+        edge: u8,
+        steps: &mut Steps<L>,
+    ) -> Result<u8, DepthLimit>
+        requires frame { IsFrameOf (tiling_of machine.now) self.old }
+        requires its_kind { tile.old.kind ≡ tile.old.addr.kind }
+        requires of_frame { IsTileOf (children (tiling_of machine.now)) (whole self.old) (address_of tile.old.addr) }
+        requires edge_exists { IsSome (type_of (contacts (tiling_of machine.now)) tile.old.addr.kind edge) }
+        requires turn_below { tile.old.motion.turn < (points_of machine.now.order).order }
+        requires within { IsWithin (2 ^ 24) tile.old.motion.shift }
+        requires in_order { IsOf machine.now.order tile.old.motion.shift }
+        ensures frame { GrowsTo (tiling_of machine.now) self.old self.new }
+        ensures crossed { IfOk result (λ back. IsCrossedTo (tiling_of machine.now) self.old self.new (address_of tile.old.addr) tile.old.motion edge tile.new back) }
+        ensures limit_exactly { IsErr result ↔ IsBoundaryEdge (tiling_of machine.now) (lifted_at (tiling_of machine.now) self.old (address_of tile.old.addr) 64) edge }
+        ensures limit_tile { IfErr result (λ limit. address_of limit.addr ≡ lifted_at (tiling_of machine.now) self.old (address_of tile.old.addr) 64) }
+        ensures limit_edge { IfErr result (λ limit. limit.edge ≡ edge) }
+        ensures deepest_at_limit { OnErr result (length self.new.digits ≡ 64) }
+    {
+        let checked = machine.checked();
+        grown_fits_law();
+        machine.gluing_law();
+        let _usable = checked.uses().kinds();
+        let back = self.cross_grow_in_place(machine, &mut tile.addr, edge, steps)?;
+        tile.motion = machine.motion_across(&tile.motion, tile.kind, edge, tile.addr.kind, back);
+        tile.kind = tile.addr.kind;
+        Ok(back)
+    }
+}
