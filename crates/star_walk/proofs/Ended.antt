@@ -1,6 +1,7 @@
 -- A turn that has come back, with its tiles lifted to the depth of the frame, is the star.
 use Rattle.std.proofs.Common.{◌≡◌, ◌↔◌, ℕ, ◌*◌, ◌^◌, ◌<◌, ◌≤◌, All, IsSome, List, [], ◌∷◌, length, map, refl, sym, ap, ap₂, ◌∙◌, subst, arith}
 use Rattle.std.specs.List.{AllByRecursion, AllZip}
+use Rattle.std.proofs.lemmas.List.{length-map}
 use Rattle.std.proofs.lemmas.List.Elements.{All-from_recursion}
 use Rattle.ordered_plane.specs.Plane.{PlanePoint}
 use Rattle.addressing.specs.Address.{Address, depth}
@@ -18,6 +19,7 @@ use Rattle.frames.proofs.Frames.{IsWhole, lifted-whole, StandsInFrame-whole}
 use Rattle.lazy_walk.specs.Ancestors.{full}
 use Rattle.lazy_walk.specs.Frames.{FrameValue, whole, IsFrameOf}
 use Rattle.lazy_walk.specs.Standing.{Stands}
+use Rattle.lazy_walk.proofs.InFull.{names, deep, level-own, level-grown, same-full, by_level}
 use Rattle.lazy_walk.proofs.Walked.{whole-tile_of}
 use Rattle.lazy_walk.proofs.Walks.{StillFits, whole-fits}
 use Rattle.rule_model.specs.declared.rule.Rule.{Rule}
@@ -28,18 +30,18 @@ use Rattle.substitution.specs.RuleParts.{vertex as vertex_at}
 use Rattle.substitution.specs.Supertile.{Placed}
 use Rattle.tile_place.proofs.Plane.{IsSettled, its_rule}
 use Rattle.tile_shape.specs.Views.{address_of}
-use Rattle.windows.specs.FramePatch.{frame_patch, in_frame}
+use Rattle.windows.specs.FramePatch.{growing_frame, frame_patch, in_frame}
+use Rattle.windows.specs.GrowingPatch.{GrowingPatch}
 use Rattle.vertex_stars.specs.Corners.{IsCornerAt, IsTurn}
 use Rattle.vertex_stars.specs.FrameStar.{corner_named, lifted_corner, AreOfDepth, IsFrameStar}
 use Rattle.vertex_stars.specs.Round.{IsRound}
 use Rattle.vertex_stars.specs.GrownStar.{IsStar}
 use Rattle.star_walk.specs.declared.corner.Corner.{Corner}
-use Rattle.star_walk.specs.Causes.{most_corners}
+use Rattle.star_walk.specs.Causes.{most_corners, IsWithinLimits}
 use Rattle.star_walk.specs.Corners.{CornerOf, corner_in, vertex_of_base}
-use Rattle.star_walk.specs.Found.{IsFound, growing, name_of, base_name, HasTurned, IsRaised}
+use Rattle.star_walk.specs.Found.{IsFound, name_of, base_name, HasTurned, IsRaised}
 use Rattle.star_walk.specs.Round.{AreRound, AreInTurn, IsLeastEnough}
 use Rattle.star_walk.specs.StarLaws.{HasStarLaws}
-use Rattle.star_walk.proofs.Names.{names, deep, level-own, level-grown, same-full, by_level}
 use Rattle.star_walk.proofs.Turning.{base-at}
 
 head-is : {A : Type 0} {a b : A} {us vs : List A} → a ∷ us ≡ b ∷ vs → a ≡ b
@@ -68,14 +70,18 @@ module _ (m : Rule) (settled : IsSettled m) (fits : StillFits (children (tiling_
   abbrev base : CornerOf t
   base = base_name t f i
 
+  -- the tiles of the frame as they come while it grows
+  abbrev G : GrowingPatch P.real (Placed (NumberOf m.order))
+  G = growing_frame P (is_refused m.order) T.rule F
+
   abbrev n : ℕ
   n = length g.digits
 
   grown : at_level F (length g.digits) ≡ whole g
-  grown = level-grown m settled fits L f is g w.grows
+  grown = level-grown m settled fits f is g w.grows
 
   within : length g.digits ≤ depth F
-  within = omega (arith, w.grows.is_frame.at_most_64, deep m settled fits L f is)
+  within = omega (arith, w.grows.is_frame.at_most_64, deep m settled fits f is)
 
   -- ---- one corner
   module _ (c d : Corner) (found : IsFound t g most_corners c) (raised : IsRaised g c d) where
@@ -91,11 +97,11 @@ module _ (m : Rule) (settled : IsSettled m) (fits : StillFits (children (tiling_
     renamed : in_frame P T.rule F b ≡ in_frame P T.rule F a
     renamed =
         ap (in_frame P T.rule F) (raised.its_address ∙ ap (λ y. lifted_in y a) (sym grown))
-        ∙ (L.renamed T F (names m settled fits L f is) (length g.digits) within a (by_level m settled fits L f is g w.grows a found.of_frame)).1
+        ∙ (L.renamed T F (names m settled fits f is) (length g.digits) within a (by_level m settled fits f is g w.grows a found.of_frame)).1
 
     motion-is : motion_in m.order d.tile.motion ≡ (in_frame P T.rule F b).motion
     motion-is =
-        ap (motion_in m.order) raised.same_motion ∙ found.motion_is ∙ ap (λ y. (in_frame P T.rule y a).motion) (same-full m settled fits L f is g w.grows)
+        ap (motion_in m.order) raised.same_motion ∙ found.motion_is ∙ ap (λ y. (in_frame P T.rule y a).motion) (same-full m settled fits f is g w.grows)
         ∙ ap (λ (x : Placed (NumberOf m.order)). x.motion) (sym renamed)
 
     depth-is : depth b ≡ length g.digits
@@ -147,12 +153,25 @@ module _ (m : Rule) (settled : IsSettled m) (fits : StillFits (children (tiling_
   AtF = IsCornerAt P.real (Placed (NumberOf m.order)) (frame_patch P T.rule F) v
 
   -- ---- the star
-  star-named : IsStar P.real (Placed (NumberOf m.order)) (growing t f) v (length f.digits) (length g.digits) (base ∷ w.others)
-  star-named = subst (λ k. IsStar P.real (Placed (NumberOf m.order)) (growing t f) v (length f.digits) k (base ∷ w.others)) (sym w.depth_is)
-      (L.answers (growing t f) (L.simple T F (names m settled fits L f is)) v (length f.digits) base (base-at m settled fits L f is i vertex) w.others w.turn)
+  star-named : IsStar P.real (Placed (NumberOf m.order)) G v (length f.digits) (length g.digits) (base ∷ w.others)
+  star-named = subst (λ k. IsStar P.real (Placed (NumberOf m.order)) G v (length f.digits) k (base ∷ w.others)) (sym w.depth_is)
+      (L.answers G (L.simple T F (names m settled fits f is)) v (length f.digits) base (base-at m settled fits L f is i vertex) w.others w.turn)
 
   pub least : IsLeastEnough t f i (length g.digits)
-  least = L.least T F (names m settled fits L f is) (is_refused m.order) v (length f.digits) (length g.digits) within star-named.least
+  least = L.least T F (names m settled fits f is) (is_refused m.order) v (length f.digits) (length g.digits) within star-named.least
+
+  -- depth 64 is enough, and no more tiles have the vertex there
+  pub within-limits : IsWithinLimits t f i
+  within-limits =
+      let d = deep m settled fits f is in
+      let all = L.whole G (L.simple T F (names m settled fits f is)) v (length f.digits) base (base-at m settled fits L f is i vertex) w.others w.turn in
+      record {
+        enough = (L.off T F (names m settled fits f is) (is_refused m.order) v 64 (omega (arith, d))).0 (all.0 64 (omega (arith, w.depth_is, w.grows.is_frame.at_most_64)));
+        few = λ cs at. let h = all.1 cs at.distinct at.each in omega (arith, h, w.few, count);
+      }
+    where
+      count : length (base ∷ w.others) ≡ length corners
+      count = ap length (sym w.names_are) ∙ length-map corners (name_of t f)
 
   -- the vertex of the base is the same in a frame that has grown
   vertex-same : vertex_of_base t g i ≡ v
@@ -176,8 +195,8 @@ module _ (m : Rule) (settled : IsSettled m) (fits : StillFits (children (tiling_
 
     frame-star : IsFrameStar P T.rule (whole g) v base' others'
     frame-star = subst (λ y. IsFrameStar P T.rule y v base' others') grown
-        (L.star T F (names m settled fits L f is) (is_refused m.order) v (length f.digits) (length g.digits) within base' others' (all-deep corners (first ∷ rest) w.found z)
-        (subst (IsStar P.real (Placed (NumberOf m.order)) (growing t f) v (length f.digits) (length g.digits)) (sym same-names) star-named)
+        (L.star T F (names m settled fits f is) (is_refused m.order) v (length f.digits) (length g.digits) within base' others' (all-deep corners (first ∷ rest) w.found z)
+        (subst (IsStar P.real (Placed (NumberOf m.order)) G v (length f.digits) (length g.digits)) (sym same-names) star-named)
         (subst (λ y. IsTurn P.real (Placed (NumberOf m.order)) (frame_patch P T.rule F) y (map (lifted_corner F) others')) (sym first-is)
         (subst (IsTurn P.real (Placed (NumberOf m.order)) (frame_patch P T.rule F) base) (sym rest-is) w.turn)))
 
@@ -208,13 +227,13 @@ module _ (m : Rule) (settled : IsSettled m) (fits : StillFits (children (tiling_
         named = (λ j. record { tile = renamed c first h.0 one.0 j; vertex = one.0.same_vertex j }) ∙ sym own-name ∙ first-is
 
         name-own : base ≡ corner_named P T.rule F (at_level F (length f.digits)) i
-        name-own = ap (λ a. corner_named P T.rule F a i) (sym (level-own m settled fits L f is))
+        name-own = ap (λ a. corner_named P T.rule F a i) (sym (level-own m settled fits f is))
 
         few : length f.digits ≤ depth F
-        few = omega (arith, is.at_most_64, deep m settled fits L f is)
+        few = omega (arith, is.at_most_64, deep m settled fits f is)
 
         law : (address_of first.tile.addr ≡ at_level F (length g.digits)) ↔ (corner_named P T.rule F (address_of first.tile.addr) first.vertex ≡ corner_named P T.rule F (at_level F (length f.digits)) i)
-        law = L.back T F (names m settled fits L f is) v (length f.digits) (length g.digits) few within (address_of first.tile.addr) first.vertex i (depth-is c first h.0 one.0)
+        law = L.back T F (names m settled fits f is) v (length f.digits) (length g.digits) few within (address_of first.tile.addr) first.vertex i (depth-is c first h.0 one.0)
             (subst AtF (sym named) (base-at m settled fits L f is i vertex).0) (subst AtF name-own (base-at m settled fits L f is i vertex).0)
 
   -- ---- as it is answered: there is a corner

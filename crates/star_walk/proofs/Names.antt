@@ -1,20 +1,22 @@
 -- Tiles of a frame by the names that they have at depth 64, and the crossing from a corner to the next one.
-use Rattle.std.proofs.Common.{◌≡◌, ℕ, ◌+◌, ◌*◌, ◌<◌, ◌≤◌, ◌^◌, max, List, length, sym, ap, ◌∙◌, subst, arith, take_all}
-use Rattle.addressing.specs.Address.{Address, depth, Fits}
+use Rattle.std.proofs.Common.{◌≡◌, ℕ, ◌+◌, ◌*◌, ◌<◌, ◌≤◌, ◌^◌, max, length, sym, ap, ◌∙◌, subst, arith}
+use Rattle.addressing.specs.Address.{Address}
 use Rattle.addressing.specs.Tables.{child_kinds}
 use Rattle.cyclo_points.specs.Order.{NumberOf, points_of}
 use Rattle.cyclo_points.proofs.Within.{point_wider}
-use Rattle.dissection.specs.Accepted.{AcceptedRule, NamesTile}
+use Rattle.dissection.specs.Accepted.{AcceptedRule}
 use Rattle.dissection.specs.Across.{IsTileAcross}
 use Rattle.dissection.specs.OnBoundary.{IsOnBoundary}
 use Rattle.dissection.specs.TileEdges.{tile_at}
 use Rattle.edge_to_edge.specs.Contacts.{tables_of}
-use Rattle.frames.specs.Frame.{at_level, IsTileOf, lifted_in}
+use Rattle.frames.specs.Frame.{IsTileOf, lifted_in}
 use Rattle.lazy_walk.specs.Ancestors.{full}
-use Rattle.lazy_walk.specs.Frames.{FrameValue, whole, at_depth, IsFrameOf, GrowsTo}
-use Rattle.lazy_walk.proofs.Ancestors.{full-later, level-at}
+use Rattle.lazy_walk.specs.Crossed.{IsCrossedTo}
+use Rattle.lazy_walk.specs.Frames.{FrameValue, whole, IsFrameOf, GrowsTo}
+use Rattle.lazy_walk.proofs.Ancestors.{level-at}
+use Rattle.lazy_walk.proofs.InFull.{names, deep, by_tables, level-own, level-grown, same-full}
 use Rattle.lazy_walk.proofs.Lifting.{IsTileOf-later}
-use Rattle.lazy_walk.proofs.Walks.{StillFits, at_depth-depth, later, whole-fits, GrowsTo-is}
+use Rattle.lazy_walk.proofs.Walks.{StillFits}
 use Rattle.rule_model.specs.declared.rule.Rule.{Rule}
 use Rattle.rule_model.specs.Tiling.{Tiling, tiling_of, children}
 use Rattle.substitution.specs.Motion.{followed}
@@ -27,7 +29,7 @@ use Rattle.windows.specs.FramePatch.{in_frame, level_in, frame_patch}
 use Rattle.windows.specs.FrameSearch.{IsGrownCrossing}
 use Rattle.vertex_stars.specs.Corners.{IsNext}
 use Rattle.star_walk.specs.declared.corner.Corner.{Corner}
-use Rattle.star_walk.specs.Found.{its_edge, IsFound, IsCrossedTo, name_of}
+use Rattle.star_walk.specs.Found.{its_edge, IsFound, name_of}
 use Rattle.star_walk.specs.StarLaws.{HasStarLaws}
 
 module _ (m : Rule) (settled : IsSettled m) (fits : StillFits (children (tiling_of m))) (L : HasStarLaws (points_of m.order)) (f : FrameValue) (is : IsFrameOf (tiling_of m) f) where
@@ -43,42 +45,8 @@ module _ (m : Rule) (settled : IsSettled m) (fits : StillFits (children (tiling_
   abbrev F : Address
   F = full t f
 
-  abbrev kinds : List (List ℕ)
-  kinds = child_kinds (tables_of P T.rule)
-
-  to_full : GrowsTo t f (at_depth t 64 f)
-  to_full = later t f 64 is is.at_most_64 (omega arith)
-
-  pub names : NamesTile P T.rule F
-  names = subst (λ k. Fits k F) (sym settled.same_child_kinds) (whole-fits t fits (at_depth t 64 f) to_full.is_frame)
-
-  pub deep : depth F ≡ 64
-  deep = at_depth-depth t f 64 (omega (arith, is.holds_base, is.at_most_64))
-
-  by_tables : (g a : Address) → IsTileOf (children t) g a → IsTileOf kinds g a
-  by_tables g a of = subst (λ k. IsTileOf k g a) (sym settled.same_child_kinds) of
-
-  pub tile-full : (a : Address) → IsTileOf (children t) (whole f) a → IsTileOf kinds F a
-  tile-full a of = by_tables F a (IsTileOf-later t f (at_depth t 64 f) a to_full is of)
-
-  pub whole-level : at_level F (depth F) ≡ F
-  whole-level = λ i. record { kind = F.kind; digits = take_all (depth F) F.digits (omega arith) i }
-
-  pub level-own : at_level F (length f.digits) ≡ whole f
-  level-own = level-at t f is (length f.digits) (omega arith) is.at_most_64 ∙ ap whole (sym is.its_digits)
-
   module _ (g : FrameValue) (h : GrowsTo t f g) where
-    pub level-grown : at_level F (length g.digits) ≡ whole g
-    level-grown = level-at t f is (length g.digits) h.no_shallower h.is_frame.at_most_64 ∙ ap whole (sym (GrowsTo-is t f g h))
-
-    -- a tile of the frame is one of the frame of its depth
-    pub by_level : (a : Address) → IsTileOf (children t) (whole g) a → IsTileOf kinds (at_level F (length g.digits)) a
-    by_level a of = subst (λ y. IsTileOf kinds y a) (sym level-grown) (by_tables (whole g) a of)
-
-    pub same-full : full t g ≡ F
-    same-full = full-later t f g h
-
-    module _ (a b : Corner) (n : ℕ) (found : IsFound t f n a) (vertex_exists : its_edge t a < edge_count T.rule a.tile.addr.kind) (x : IsCrossedTo t f g a b) where
+    module _ (a b : Corner) (n : ℕ) (found : IsFound t f n a) (vertex_exists : its_edge t a < edge_count T.rule a.tile.addr.kind) (x : IsCrossedTo t f g (address_of a.tile.addr) a.tile.motion (its_edge t a) b.tile b.vertex) where
       abbrev own : Address
       own = address_of a.tile.addr
 
@@ -87,12 +55,12 @@ module _ (m : Rule) (settled : IsSettled m) (fits : StillFits (children (tiling_
 
       grown : IsGrownCrossing P T F (length f.digits) (length g.digits) own (its_edge t a) other b.vertex
       grown = record {
-        frame = names;
+        frame = names m settled fits f is;
         not_below = h.no_shallower;
-        within = omega (arith, h.is_frame.at_most_64, deep);
-        tile = subst (λ y. IsTileOf kinds y own) (sym level-own) (by_tables (whole f) own found.of_frame);
+        within = omega (arith, h.is_frame.at_most_64, deep m settled fits f is);
+        tile = subst (λ y. IsTileOf (child_kinds (tables_of P T.rule)) y own) (sym (level-own m settled fits f is)) (by_tables m settled fits f is (whole f) own found.of_frame);
         edge_exists = vertex_exists;
-        across = subst (λ y. IsTileAcross P T.rule (tile_at P T.rule (lifted_in y own)) (its_edge t a) (tile_at P T.rule other) b.vertex) (sym level-grown) x.only_tile_across.across;
+        across = subst (λ y. IsTileAcross P T.rule (tile_at P T.rule (lifted_in y own)) (its_edge t a) (tile_at P T.rule other) b.vertex) (sym (level-grown m settled fits f is g h)) x.only_tile_across.across;
         least = λ k l j. let on = x.least k l j in
             (on.own, on.part, subst (λ y. IsOnBoundary P T.rule (tile_at P T.rule (lifted_in y own)) (its_edge t a) on.own on.part) (sym (level-at t f is k l (omega (arith, j, h.is_frame.at_most_64)))) on.lies);
       }
@@ -109,7 +77,7 @@ module _ (m : Rule) (settled : IsSettled m) (fits : StillFits (children (tiling_
         motion_is =
             x.motion_is ∙ ap (λ k. followed P x.glue k) found.motion_is
             ∙ sym (L.glued T F (length f.digits) (length g.digits) own (its_edge t a) other b.vertex grown x.glue x.glues)
-            ∙ ap (λ y. (in_frame P T.rule y other).motion) (sym same-full);
+            ∙ ap (λ y. (in_frame P T.rule y other).motion) (sym (same-full m settled fits f is g h));
         turn_below = x.turn_below;
         shift_within = point_wider (2 ^ 8 * n + 2 ^ 8) (2 ^ 8 * (n + 1)) _ (omega arith) (x.shift_within (2 ^ 8 * n) found.shift_within);
         in_order = x.in_order;
@@ -120,7 +88,7 @@ module _ (m : Rule) (settled : IsSettled m) (fits : StillFits (children (tiling_
     found-later n k le c found = record {
       its_kind = found.its_kind;
       of_frame = IsTileOf-later t f g (address_of c.tile.addr) h is found.of_frame;
-      motion_is = found.motion_is ∙ ap (λ y. (in_frame P T.rule y (address_of c.tile.addr)).motion) (sym same-full);
+      motion_is = found.motion_is ∙ ap (λ y. (in_frame P T.rule y (address_of c.tile.addr)).motion) (sym (same-full m settled fits f is g h));
       turn_below = found.turn_below;
       shift_within = point_wider (2 ^ 8 * n) (2 ^ 8 * k) _ (omega (arith, le)) found.shift_within;
       in_order = found.in_order;

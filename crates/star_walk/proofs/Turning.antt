@@ -22,9 +22,11 @@ use Rattle.frames.proofs.Carried.{some_turn}
 use Rattle.frames.proofs.Frames.{IsWhole, StandsInFrame-whole}
 use Rattle.lazy_walk.specs.Ancestors.{full}
 use Rattle.lazy_walk.specs.Boundary.{IsBoundaryEdge}
+use Rattle.lazy_walk.specs.Crossed.{IsCrossedTo}
 use Rattle.lazy_walk.specs.Frames.{FrameValue, whole, IsFrameOf, GrowsTo, lifted_at}
 use Rattle.lazy_walk.specs.Standing.{Stands}
 use Rattle.lazy_walk.proofs.Ancestors.{full-later}
+use Rattle.lazy_walk.proofs.InFull.{names, deep, tile-full, whole-level, level-own, level-grown}
 use Rattle.lazy_walk.proofs.Walked.{tile_of-whole}
 use Rattle.lazy_walk.proofs.Walks.{StillFits, GrowsTo-self, GrowsTo-then}
 use Rattle.rule_model.specs.declared.rule.Rule.{Rule}
@@ -39,7 +41,8 @@ use Rattle.tile_shape.specs.declared.address.Address as program
 use Rattle.tile_shape.specs.Views.{address_of}
 use Rattle.windows.specs.Distinct.{AreDistinct}
 use Rattle.windows.specs.FrameLaws.{IsEdgeInFrame}
-use Rattle.windows.specs.FramePatch.{frame_patch, level_in}
+use Rattle.windows.specs.FramePatch.{growing_frame, frame_patch, level_in}
+use Rattle.windows.specs.GrowingPatch.{GrowingPatch}
 use Rattle.vertex_stars.specs.Corners.{IsCornerAt, edge_into, IsNext, Turns, last_corner, tiles_of}
 use Rattle.vertex_stars.specs.EnoughAt.{IsEnoughAt}
 use Rattle.vertex_stars.specs.FrameStar.{corner_named, AreAtVertex}
@@ -51,9 +54,9 @@ use Rattle.star_walk.specs.declared.corner.Corner.{Corner}
 use Rattle.star_walk.specs.declared.star_fault.StarFault.TheVariants.{DepthLimit, TooBig}
 use Rattle.star_walk.specs.Causes.{most_corners, HasCause, IsWithinLimits}
 use Rattle.star_walk.specs.Corners.{CornerOf, vertex_of_base}
-use Rattle.star_walk.specs.Found.{its_edge, IsFound, IsCrossedTo, growing, name_of, base_name, IsOnTheWay, HasTurned}
+use Rattle.star_walk.specs.Found.{its_edge, IsFound, name_of, base_name, IsOnTheWay, HasTurned}
 use Rattle.star_walk.specs.StarLaws.{HasStarLaws}
-use Rattle.star_walk.proofs.Names.{names, deep, tile-full, whole-level, level-own, level-grown, next-named, next-found, found-later}
+use Rattle.star_walk.proofs.Names.{next-named, next-found, found-later}
 
 edge_into-below : (n i : ℕ) → i < n → edge_into n i < n
 edge_into-below zero i h = absurd (omega arith)
@@ -80,6 +83,10 @@ module _ (m : Rule) (settled : IsSettled m) (fits : StillFits (children (tiling_
   abbrev base : CornerOf t
   base = base_name t f i
 
+  -- the tiles of the frame as they come while it grows
+  abbrev G : GrowingPatch P.real (Placed (NumberOf m.order))
+  G = growing_frame P (is_refused m.order) T.rule F
+
   abbrev AtF : CornerOf t → Type 0
   AtF = IsCornerAt P.real (Placed (NumberOf m.order)) (frame_patch P T.rule F) v
 
@@ -87,22 +94,22 @@ module _ (m : Rule) (settled : IsSettled m) (fits : StillFits (children (tiling_
   NextF = IsNext P.real (Placed (NumberOf m.order)) (frame_patch P T.rule F)
 
   simple : IsSimplyDissected P.real (Placed (NumberOf m.order)) (frame_patch P T.rule F)
-  simple = L.simple T F (names m settled fits L f is)
+  simple = L.simple T F (names m settled fits f is)
 
   start : ℕ
   start = length f.digits
 
   few : length f.digits ≤ depth F
-  few = omega (arith, is.at_most_64, deep m settled fits L f is)
+  few = omega (arith, is.at_most_64, deep m settled fits f is)
 
   -- ---- the base
   vertex-below : i < edge_count T.rule f.base.kind
   vertex-below = let ty = some_of (type_of (contacts t) f.base.kind i) vertex in (type_of-found P T.rule f.base.kind i ty.0 ty.1).0
 
-  pub base-at : IsCornerOfDepth P.real (Placed (NumberOf m.order)) (growing t f) v (length f.digits) base
+  pub base-at : IsCornerOfDepth P.real (Placed (NumberOf m.order)) G v (length f.digits) base
   base-at =
-      subst (λ a. IsCornerOfDepth P.real (Placed (NumberOf m.order)) (growing t f) v (length f.digits) (corner_named P T.rule F a i)) (level-own m settled fits L f is)
-      (L.base T F (names m settled fits L f is) (is_refused m.order) (length f.digits) few i vertex-below)
+      subst (λ a. IsCornerOfDepth P.real (Placed (NumberOf m.order)) G v (length f.digits) (corner_named P T.rule F a i)) (level-own m settled fits f is)
+      (L.base T F (names m settled fits f is) (is_refused m.order) (length f.digits) few i vertex-below)
 
   -- ---- the edge at a corner
   vertex-there : (c : Corner) → c.vertex < edge_count T.rule c.tile.addr.kind → IsSome (type_of (contacts t) c.tile.addr.kind c.vertex)
@@ -138,7 +145,7 @@ module _ (m : Rule) (settled : IsSettled m) (fits : StillFits (children (tiling_
         its_kind = stands.its_kind;
         of_frame = stands.of_frame;
         motion_is = sym beside ∙ ap (λ (a : Address). motion_beside P T.rule a.digits (address_of tile.addr).digits)
-            (sym (ap (at_level F) stands.at_depth ∙ level-own m settled fits L f is));
+            (sym (ap (at_level F) stands.at_depth ∙ level-own m settled fits f is));
         turn_below = stands.turn_below;
         shift_within = point_wider 0 (2 ^ 8 * 1) _ (omega arith) origin;
         in_order = stands.in_order;
@@ -167,7 +174,7 @@ module _ (m : Rule) (settled : IsSettled m) (fits : StillFits (children (tiling_
     edge-below = edge_into-below _ last.vertex last-below
 
     -- ---- across the edge
-    module _ (k : FrameValue) (h : GrowsTo t g k) (b : Corner) (x : IsCrossedTo t g k last b) where
+    module _ (k : FrameValue) (h : GrowsTo t g k) (b : Corner) (x : IsCrossedTo t g k (address_of last.tile.addr) last.tile.motion (its_edge t last) b.tile b.vertex) where
       both : GrowsTo t f k
       both = GrowsTo-then t f g k w.grows h
 
@@ -178,7 +185,7 @@ module _ (m : Rule) (settled : IsSettled m) (fits : StillFits (children (tiling_
           (next-named m settled fits L g now k h last b (length corners) w.last_found edge-below x))
 
       turned : Turns P.real (Placed (NumberOf m.order)) (frame_patch P T.rule F) base (w.others ++ name_of t f b ∷ [])
-      turned = turns-more P.real L.points.of_real L.points.of_order (growing t f) simple v base w.others (name_of t f b) w.in_order next.0
+      turned = turns-more P.real L.points.of_real L.points.of_order G simple v base w.others (name_of t f b) w.in_order next.0
 
       b-at : AtF (name_of t f b)
       b-at = turn-at P.real L.points.of_real L.points.of_order (frame_patch P T.rule F) simple v base (w.others ++ name_of t f b ∷ []) base-at.0 turned (name_of t f b) (inr (more w.others))
@@ -187,22 +194,22 @@ module _ (m : Rule) (settled : IsSettled m) (fits : StillFits (children (tiling_
           more [] = inl refl
           more (d ∷ ds) = inr (more ds)
 
-      deepest-more : (n : ℕ) (ds : List (CornerOf t)) → deepest P.real (Placed (NumberOf m.order)) (growing t f) n (ds ++ name_of t f b ∷ [])
-          ≡ max (deepest P.real (Placed (NumberOf m.order)) (growing t f) n ds) (level_in F (lifted_in F (address_of b.tile.addr)))
+      deepest-more : (n : ℕ) (ds : List (CornerOf t)) → deepest P.real (Placed (NumberOf m.order)) G n (ds ++ name_of t f b ∷ [])
+          ≡ max (deepest P.real (Placed (NumberOf m.order)) G n ds) (level_in F (lifted_in F (address_of b.tile.addr)))
       deepest-more n [] = refl
       deepest-more n (d ∷ ds) = deepest-more (max n (level_in F d.tile.address)) ds
 
-      depth-more : length k.digits ≡ deepest P.real (Placed (NumberOf m.order)) (growing t f) (length f.digits) (w.others ++ name_of t f b ∷ [])
+      depth-more : length k.digits ≡ deepest P.real (Placed (NumberOf m.order)) G (length f.digits) (w.others ++ name_of t f b ∷ [])
       depth-more = sym next.1 ∙ ap (λ n. max n (level_in F (lifted_in F (address_of b.tile.addr)))) w.depth_is ∙ sym (deepest-more (length f.digits) w.others)
 
       within : length k.digits ≤ depth F
-      within = omega (arith, both.is_frame.at_most_64, deep m settled fits L f is)
+      within = omega (arith, both.is_frame.at_most_64, deep m settled fits f is)
 
       back : (address_of b.tile.addr ≡ whole k → name_of t f b ≡ base) × (name_of t f b ≡ base → address_of b.tile.addr ≡ whole k)
       back =
-          let grown = level-grown m settled fits L f is k both in
-          let own = level-own m settled fits L f is in
-          let law = L.back T F (names m settled fits L f is) v (length f.digits) (length k.digits) few within (address_of b.tile.addr) b.vertex i x.at_depth b-at
+          let grown = level-grown m settled fits f is k both in
+          let own = level-own m settled fits f is in
+          let law = L.back T F (names m settled fits f is) v (length f.digits) (length k.digits) few within (address_of b.tile.addr) b.vertex i (omega (arith, x.at_depth)) b-at
           (subst (λ a. AtF (corner_named P T.rule F a i)) (sym own) base-at.0) in (
             λ e. law.0 (e ∙ sym grown) ∙ ap (λ a. corner_named P T.rule F a i) own,
             λ e. law.1 (e ∙ ap (λ a. corner_named P T.rule F a i) (sym own)) ∙ grown,
@@ -215,6 +222,7 @@ module _ (m : Rule) (settled : IsSettled m) (fits : StillFits (children (tiling_
       pub ended : address_of b.tile.addr ≡ whole k → length corners ≤ 64 → HasTurned t f k i corners
       ended e le = record {
         grows = both;
+        few = le;
         found = found-on most_corners le;
         others = w.others;
         names_are = w.names_are;
@@ -247,7 +255,7 @@ module _ (m : Rule) (settled : IsSettled m) (fits : StillFits (children (tiling_
           last_found = b-found;
           others = w.others ++ name_of t f b ∷ [];
           names_are = map-append (name_of t f) corners (b ∷ []) ∙ ap (λ cs. cs ++ name_of t f b ∷ []) w.names_are;
-          last_is = sym (last-more P.real L.points.of_real L.points.of_order (growing t f) simple v base w.others (name_of t f b));
+          last_is = sym (last-more P.real L.points.of_real L.points.of_order G simple v base w.others (name_of t f b));
           in_order = turned;
           not_back = λ j. at_case (among-append base w.others (name_of t f b ∷ []) j);
           depth_is = depth-more;
@@ -272,25 +280,25 @@ module _ (m : Rule) (settled : IsSettled m) (fits : StillFits (children (tiling_
         many = base ∷ w.others ++ name_of t f b ∷ []
 
         counted : AreDistinct (tiles_of many) × AllByRecursion AtF many
-        counted = L.count (growing t f) simple v base base-at.0 w.others w.in_order (λ j. absurd (w.not_back j)) (name_of t f b) next.0 (λ e. absurd (new e))
+        counted = L.count G simple v base base-at.0 w.others w.in_order (λ j. absurd (w.not_back j)) (name_of t f b) next.0 (λ e. absurd (new e))
 
         levels : (c : CornerOf t) → IsAmong c many → level_in F c.tile.address ≤ length k.digits
         levels c (inl e) =
             subst (λ (d : CornerOf t). level_in F d.tile.address ≤ length k.digits) (sym e) (omega (arith, base-at.1, both.no_shallower))
         levels c (inr j) = subst (λ n. level_in F c.tile.address ≤ n) (sym depth-more)
-            (each-level P.real L.points.of_real L.points.of_order (growing t f) (length f.digits) (w.others ++ name_of t f b ∷ []) c j)
+            (each-level P.real L.points.of_real L.points.of_order G (length f.digits) (w.others ++ name_of t f b ∷ []) c j)
 
         long : length corners ≡ 64 → length many ≡ 65
         long full = ap suc (length-more w.others) ∙ ap suc (count-is ∙ full)
 
         pub too_big : length corners ≡ 64 → HasCause t k i TooBig
         too_big full =
-            let fine = L.corners T F (names m settled fits L f is) (is_refused m.order) v (length k.digits) within many counted.0
+            let fine = L.corners T F (names m settled fits f is) (is_refused m.order) v (length k.digits) within many counted.0
             (AllByRecursion-from _ many (λ c j. (AllByRecursion-among AtF c many j counted.1, levels c j))) in
             record {
               corners = fine.0;
               count = fine.1 ∙ long full;
-              at_vertex = subst (λ a. AreAtVertex P T.rule a (vertex_of_base t k i) fine.0) (level-grown m settled fits L f is k both)
+              at_vertex = subst (λ a. AreAtVertex P T.rule a (vertex_of_base t k i) fine.0) (level-grown m settled fits f is k both)
                   (subst (λ (a : Address). AreAtVertex P T.rule (at_level F (length k.digits)) (plane_point P (vertex_at P T.rule a.kind i)) fine.0) (sym both.same_base) fine.2);
             }
 
@@ -304,17 +312,17 @@ module _ (m : Rule) (settled : IsSettled m) (fits : StillFits (children (tiling_
 
       own-edge : IsEdgeInFrame P T F a (its_edge t last)
       own-edge = subst (λ y. IsEdgeInFrame P T y a (its_edge t last)) same
-          (record { frame = names m settled fits L g now; tile = tile-full m settled fits L g now a w.last_found.of_frame; edge_exists = edge-below })
+          (record { frame = names m settled fits g now; tile = tile-full m settled fits g now a w.last_found.of_frame; edge_exists = edge-below })
 
       on-full : IsBoundaryEdge t (lifted_in F a) (its_edge t last)
       on-full = subst (λ y. IsBoundaryEdge t (lifted_in y a) (its_edge t last)) same on
 
       pub not_limited : IsWithinLimits t f i → ⊥
       not_limited limits =
-          let d = deep m settled fits L f is in
-          let enough = (L.off T F (names m settled fits L f is) (is_refused m.order) v 64 (omega (arith, d))).1 limits.enough in
+          let d = deep m settled fits f is in
+          let enough = (L.off T F (names m settled fits f is) (is_refused m.order) v 64 (omega (arith, d))).1 limits.enough in
           absurd (L.stop T F (is_refused m.order) v a last.vertex own-edge last-at on-full.own on-full.part on-full.lies
-          (subst (λ n. IsEnoughAt P.real (Placed (NumberOf m.order)) (growing t f) v n) (sym d) enough))
+          (subst (λ n. IsEnoughAt P.real (Placed (NumberOf m.order)) G v n) (sym d) enough))
 
       pub limited : (addr : program.Address) (edge : ℕ) → address_of addr ≡ lifted_at t g a 64 → edge ≡ its_edge t last → HasCause t k i (DepthLimit addr edge)
       limited addr edge named same-edge = record {
@@ -331,4 +339,4 @@ module _ (m : Rule) (settled : IsSettled m) (fits : StillFits (children (tiling_
           both = GrowsTo-then t f g k w.grows h
 
           whole-is : F ≡ whole k
-          whole-is = sym (whole-level m settled fits L f is) ∙ ap (at_level F) (deep m settled fits L f is ∙ sym at_64) ∙ level-grown m settled fits L f is k both
+          whole-is = sym (whole-level m settled fits f is) ∙ ap (at_level F) (deep m settled fits f is ∙ sym at_64) ∙ level-grown m settled fits f is k both

@@ -1,24 +1,18 @@
 -- The turn on its way: the corners found so far, by the names that their tiles have at depth 64.
-use Rattle.std.specs.Prelude.{◌≡◌, ℕ, ◌<◌, ◌≤◌, ◌+◌, ◌*◌, ◌^◌, List, ◌∷◌, map, length}
+use Rattle.std.specs.Prelude.{◌≡◌, ℕ, ◌<◌, ◌≤◌, ◌*◌, ◌^◌, List, ◌∷◌, map, length}
 use Rattle.std.specs.List.{AllByRecursion}
-use Rattle.addressing.specs.Address.{depth}
 use Rattle.addressing.specs.Search.{IsAmong}
 use Rattle.cyclo_points.specs.Order.{NumberOf, points_of, is_refused}
 use Rattle.cyclo_points.specs.Point.{IsOf, IsWithin}
 use Rattle.cyclo_points.specs.Motion.{motion_in}
-use Rattle.substitution.specs.Motion.{followed}
 use Rattle.substitution.specs.RuleParts.{edge_count}
 use Rattle.substitution.specs.Supertile.{Placed}
 use Rattle.frames.specs.Frame.{IsTileOf, lifted_in}
 use Rattle.windows.specs.FramePatch.{frame_patch, growing_frame, in_frame}
-use Rattle.windows.specs.GrowingPatch.{GrowingPatch}
-use Rattle.rule_model.specs.Tiling.{Tiling, MotionOf, children}
-use Rattle.tile_place.specs.Crossed.{IsOnlyAcross}
-use Rattle.tile_place.specs.Glued.{Glues}
+use Rattle.rule_model.specs.Tiling.{Tiling, children}
 use Rattle.tile_shape.specs.Views.{address_of}
 use Rattle.lazy_walk.specs.Ancestors.{full}
-use Rattle.lazy_walk.specs.Boundary.{IsBoundaryEdge}
-use Rattle.lazy_walk.specs.Frames.{FrameValue, whole, GrowsTo, lifted_at}
+use Rattle.lazy_walk.specs.Frames.{FrameValue, whole, GrowsTo}
 use Rattle.vertex_stars.specs.Corners.{edge_into, Turns, last_corner, IsTurn}
 use Rattle.vertex_stars.specs.FrameStar.{corner_named}
 use Rattle.vertex_stars.specs.GrownStar.{deepest}
@@ -39,24 +33,10 @@ pub record IsFound (t : Tiling) (f : FrameValue) (n : ℕ) (c : Corner) : Type 0
   pub shift_within : IsWithin (2 ^ 8 * n) c.tile.motion.shift
   pub in_order : IsOf t.order c.tile.motion.shift
 
--- From the corner a of the frame f one comes to the corner b in the frame g: across the edge that ends at a's vertex lies b's tile alone, at the least depth at
--- which that edge isn't on the boundary; the edge that leads back starts at b's vertex; and b's motion is that of a behind one that glues the two edges.
-pub record IsCrossedTo (t : Tiling) (f g : FrameValue) (a b : Corner) : Type 0 where
-  pub its_kind : b.tile.kind ≡ b.tile.addr.kind
-  pub of_frame : IsTileOf (children t) (whole g) (address_of b.tile.addr)
-  pub at_depth : depth (address_of b.tile.addr) ≡ length g.digits
-  pub only_tile_across : IsOnlyAcross t (lifted_in (whole g) (address_of a.tile.addr)) (its_edge t a) (address_of b.tile.addr) b.vertex
-  pub least : (n : ℕ) → length f.digits ≤ n → n < length g.digits → IsBoundaryEdge t (lifted_at t f (address_of a.tile.addr) n) (its_edge t a)
-  pub glue : MotionOf t
-  pub glues : Glues t a.tile.addr.kind (its_edge t a) b.tile.addr.kind b.vertex glue
-  pub motion_is : motion_in t.order b.tile.motion ≡ followed (points_of t.order) glue (motion_in t.order a.tile.motion)
-  pub turn_below : b.tile.motion.turn < (points_of t.order).order
-  pub shift_within : (n : ℕ) → IsWithin n a.tile.motion.shift → IsWithin (n + 2 ^ 8) b.tile.motion.shift
-  pub in_order : IsOf t.order b.tile.motion.shift
-
--- the tiles of the frame as they come while it grows to depth 64; growth changes no name there
-abbrev pub growing : (t : Tiling) → FrameValue → GrowingPatch (points_of t.order).real (Placed (NumberOf t.order))
-growing t f = growing_frame (points_of t.order) (is_refused t.order) t.rule (full t f)
+-- the greatest of the frame's depth and those of the corners' tiles, of tiles by the names that they have at depth 64
+abbrev pub deepest_of : (t : Tiling) → FrameValue → List (CornerOf t) → ℕ
+deepest_of t f corners =
+    deepest (points_of t.order).real (Placed (NumberOf t.order)) (growing_frame (points_of t.order) (is_refused t.order) t.rule (full t f)) (length f.digits) corners
 
 -- a corner by the name that its tile has at depth 64, and the base with its vertex i
 abbrev pub name_of : (t : Tiling) → FrameValue → Corner → CornerOf t
@@ -75,16 +55,17 @@ pub record IsOnTheWay (t : Tiling) (f g : FrameValue) (i : ℕ) (corners : List 
   pub last_is : name_of t f last ≡ last_corner (base_name t f i) others
   pub in_order : Turns (points_of t.order).real (Placed (NumberOf t.order)) (frame_patch (points_of t.order) t.rule (full t f)) (base_name t f i) others
   pub not_back : ¬ IsAmong (base_name t f i) others
-  pub depth_is : length g.digits ≡ deepest (points_of t.order).real (Placed (NumberOf t.order)) (growing t f) (length f.digits) others
+  pub depth_is : length g.digits ≡ deepest_of t f others
 
--- the corners are a turn from the base that has come back to it
+-- the corners are a turn from the base that has come back to it, and no more than there may be
 pub record HasTurned (t : Tiling) (f g : FrameValue) (i : ℕ) (corners : List Corner) : Type 0 where
   pub grows : GrowsTo t f g
+  pub few : length corners ≤ most_corners
   pub found : AllByRecursion (IsFound t g most_corners) corners
   pub others : List (CornerOf t)
   pub names_are : map (name_of t f) corners ≡ base_name t f i ∷ others
   pub turn : IsTurn (points_of t.order).real (Placed (NumberOf t.order)) (frame_patch (points_of t.order) t.rule (full t f)) (base_name t f i) others
-  pub depth_is : length g.digits ≡ deepest (points_of t.order).real (Placed (NumberOf t.order)) (growing t f) (length f.digits) others
+  pub depth_is : length g.digits ≡ deepest_of t f others
 
 -- the corner b is a with the digits of the frame, from the depth of its tile up, behind its tile's own
 pub record IsRaised (f : FrameValue) (a b : Corner) : Type 0 where

@@ -2,7 +2,7 @@
 use Rattle.substitution.specs.Points.{Points, PointLaws}
 use Rattle.windows.specs.FrameSearch.{RenamedLaw, GluedCrossingLaw}
 use Rattle.vertex_stars.specs.FrameStar.{SimpleFrameLaw, FrameNextLaw, FrameStarLaw, FrameCornersLaw, FrameBaseLaw, FrameBackLaw, TurnStopLaw}
-use Rattle.vertex_stars.specs.Laws.{AnswerLaw, CountLaw}
+use Rattle.vertex_stars.specs.Laws.{AnswerLaw, WholeStarLaw, CountLaw}
 use Rattle.vertex_stars.specs.OnPolygon.{FrameOffLaw, FrameLeastLaw}
 
 -- of points; of names and gluing in frames; and of the turn
@@ -18,6 +18,7 @@ pub record HasStarLaws (P : Points) : Type 0 where
   pub back : FrameBackLaw P
   pub stop : TurnStopLaw P
   pub answers : AnswerLaw P
+  pub whole : WholeStarLaw P
   pub count : CountLaw P
   pub off : FrameOffLaw P
   pub least : FrameLeastLaw P

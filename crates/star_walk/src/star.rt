@@ -1,4 +1,6 @@
 //! The tiles round a vertex, as they are answered.
+ghost use Rattle.std.specs.Prelude.{◌≡◌, []};
+
 use crate::corner::Corner;
 use arrayvec::ArrayVec;
 
@@ -7,4 +9,15 @@ use arrayvec::ArrayVec;
 pub struct Star {
     /// Each tile, with the number of the vertex.
     pub corners: ArrayVec<Corner, 64>,
+}
+
+impl Star {
+    /// A star of no tile.
+    pub fn new() -> Star
+        ensures { result.corners.items ≡ [] }
+    {
+        Star {
+            corners: ArrayVec::new(),
+        }
+    }
 }

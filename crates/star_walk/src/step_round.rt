@@ -5,17 +5,17 @@ ghost use Rattle.cyclo_points.specs.Order.{points_of};
 ghost use Rattle.cyclo_points.specs.Point.{IsOf, IsWithin};
 ghost use Rattle.frames.specs.Frame.{IsTileOf};
 ghost use Rattle.lazy_walk.specs.Boundary.{IsBoundaryEdge};
+ghost use Rattle.lazy_walk.specs.Crossed.{IsCrossedTo};
 ghost use Rattle.lazy_walk.specs.Frames.{whole, IsFrameOf, GrowsTo, lifted_at};
 ghost use Rattle.rule_model.specs.Tiling.{tiling_of, contacts, children};
 ghost use Rattle.tile_shape.specs.Views.{address_of};
 ghost use Rattle.vertex_stars.specs.Corners.{edge_into};
-ghost use Rattle.star_walk.specs.Found.{IsCrossedTo, its_edge};
+ghost use Rattle.star_walk.specs.Found.{its_edge};
 
 use crate::corner::Corner;
 use edge_tables::steps::Steps;
 use lazy_walk::depth_limit::DepthLimit;
 use lazy_walk::frame::Frame;
-use seeded_growth::laws::grown_fits_law;
 use std::sync::ledger::Ledger;
 use tile_place::machine::Machine;
 
@@ -29,7 +29,8 @@ fn edge_before(edges: u8, vertex: u8) -> u8
 }
 
 /// Goes across the edge that ends at the corner's vertex, while the frame grows until that edge is not on the
-/// boundary: the corner becomes the one after it.
+/// boundary: the corner becomes the one after it. The edge that leads back starts at the vertex, so it has the
+/// vertex's number.
 pub(crate) fn step_round<L: Ledger>(
     machine: &Machine,
     frame: &mut Frame,
@@ -41,30 +42,19 @@ pub(crate) fn step_round<L: Ledger>(
     requires of_frame { IsTileOf (children (tiling_of machine.now)) (whole frame.old) (address_of corner.old.tile.addr) }
     requires vertex_exists { IsSome (type_of (contacts (tiling_of machine.now)) corner.old.tile.addr.kind corner.old.vertex) }
     requires turn_below { corner.old.tile.motion.turn < (points_of machine.now.order).order }
-    requires shift_within { IsWithin (2 ^ 24) corner.old.tile.motion.shift }
+    requires within { IsWithin (2 ^ 24) corner.old.tile.motion.shift }
     requires in_order { IsOf machine.now.order corner.old.tile.motion.shift }
     ensures frame { GrowsTo (tiling_of machine.now) frame.old frame.new }
-    ensures crossed { OnOk result (IsCrossedTo (tiling_of machine.now) frame.old frame.new corner.old corner.new) }
+    ensures crossed { OnOk result
+        (IsCrossedTo (tiling_of machine.now) frame.old frame.new (address_of corner.old.tile.addr) corner.old.tile.motion (its_edge (tiling_of machine.now) corner.old) corner.new.tile corner.new.vertex) }
     ensures limit_exactly { IsErr result
         ↔ IsBoundaryEdge (tiling_of machine.now) (lifted_at (tiling_of machine.now) frame.old (address_of corner.old.tile.addr) 64) (its_edge (tiling_of machine.now) corner.old) }
     ensures limit_tile { IfErr result (λ limit. address_of limit.addr ≡ lifted_at (tiling_of machine.now) frame.old (address_of corner.old.tile.addr) 64) }
     ensures limit_edge { IfErr result (λ limit. limit.edge ≡ its_edge (tiling_of machine.now) corner.old) }
     ensures deepest_at_limit { OnErr result (length frame.new.digits ≡ 64) }
 {
-    let checked = machine.checked();
-    grown_fits_law();
-    machine.gluing_law();
-    let _usable = checked.uses().kinds();
-    let edge = edge_before(checked.tables().edges(corner.tile.addr.kind), corner.vertex);
-    let back = frame.cross_grow_in_place(machine, &mut corner.tile.addr, edge, steps)?;
-    corner.tile.motion = machine.motion_across(
-        &corner.tile.motion,
-        corner.tile.kind,
-        edge,
-        corner.tile.addr.kind,
-        back,
-    );
-    corner.tile.kind = corner.tile.addr.kind;
-    corner.vertex = back;
+    let edges = machine.checked().tables().edges(corner.tile.addr.kind);
+    let edge = edge_before(edges, corner.vertex);
+    corner.vertex = frame.step_grow(machine, &mut corner.tile, edge, steps)?;
     Ok(())
 }

@@ -51,21 +51,55 @@ pub fn star<L: Ledger>(
     ensures shifts_within { IfOk result (λ star. All (λ (c : Corner). IsWithin (2 ^ 24) c.tile.motion.shift) star.corners.items) }
     ensures least { OnOk result (IsLeastEnough (tiling_of machine.now) frame.old vertex (length frame.new.digits)) }
 
-    // Each fault comes only for its cause; and where depth 64 is enough, and few enough tiles have the vertex
-    // there, there is none.
+    // There is an answer exactly where depth 64 is enough and few enough tiles have the vertex there; and each
+    // fault comes only for its cause.
+    ensures within { OnOk result (IsWithinLimits (tiling_of machine.now) frame.old vertex) }
     ensures cause { IfErr result (λ fault. HasCause (tiling_of machine.now) frame.new vertex fault) }
     ensures answered { IsWithinLimits (tiling_of machine.now) frame.old vertex → IsOk result }
 {
-    let checked = machine.checked();
-    star_laws(checked.order());
-    grown_fits_law();
-    let _usable = checked.uses().kinds();
-    let mut star = Star {
-        corners: ArrayVec::new(),
-    };
-    turn(machine, frame, vertex, &mut star.corners, steps)?;
-    raise_all(frame, star.corners.as_mut_slice());
+    let mut star = Star::new();
+    star.find(machine, frame, vertex, steps)?;
     Ok(star)
+}
+
+impl Star {
+    /// Puts the tiles round a vertex in the place of those that it has, as [`star`] answers them. After a refusal
+    /// there are some of them.
+    pub fn find<L: Ledger>(
+        &mut self,
+        machine: &Machine,
+        frame: &mut Frame,
+        vertex: u8,
+        steps: &mut Steps<L>,
+    ) -> Result<(), StarFault>
+        requires frame { IsFrameOf (tiling_of machine.now) frame.old }
+        requires vertex_exists { IsSome (type_of (contacts (tiling_of machine.now)) frame.old.base.kind vertex) }
+
+        ensures frame { GrowsTo (tiling_of machine.now) frame.old frame.new }
+
+        // Exactly the tiles of the frame that have the vertex, each once, with its number there and in its place;
+        // in turning order, and the last leads back to the base.
+        ensures round { OnOk result (AreRound (tiling_of machine.now) frame.new vertex (map (corner_in machine.now.order) self.new.corners.items)) }
+        ensures turning { OnOk result (AreInTurn (tiling_of machine.now) frame.new vertex (map (corner_in machine.now.order) self.new.corners.items)) }
+        ensures stand { OnOk result (All (λ (c : Corner). Stands (tiling_of machine.now) frame.new c.tile) self.new.corners.items) }
+        ensures shifts_within { OnOk result (All (λ (c : Corner). IsWithin (2 ^ 24) c.tile.motion.shift) self.new.corners.items) }
+        ensures least { OnOk result (IsLeastEnough (tiling_of machine.now) frame.old vertex (length frame.new.digits)) }
+
+        // There is an answer exactly where depth 64 is enough and few enough tiles have the vertex there; and each
+        // fault comes only for its cause.
+        ensures within { OnOk result (IsWithinLimits (tiling_of machine.now) frame.old vertex) }
+        ensures cause { IfErr result (λ fault. HasCause (tiling_of machine.now) frame.new vertex fault) }
+        ensures answered { IsWithinLimits (tiling_of machine.now) frame.old vertex → IsOk result }
+    {
+        let checked = machine.checked();
+        star_laws(checked.order());
+        grown_fits_law();
+        let _usable = checked.uses().kinds();
+        self.corners.clear();
+        turn(machine, frame, vertex, &mut self.corners, steps)?;
+        raise_all(frame, self.corners.as_mut_slice());
+        Ok(())
+    }
 }
 
 /// Turns round the vertex from the base until it is back, and puts the corners down in turning order, each with

@@ -13,6 +13,7 @@ returns c = record {
   back = c.frame_base_law.ensures.back;
   stop = c.frame_base_law.ensures.stop;
   answers = c.star_law.ensures.answers;
+  whole = c.star_law.ensures.whole;
   count = c.star_refusal_law.ensures.count;
   off = c.frame_off_law.ensures.off;
   least = c.frame_off_law.ensures.least;

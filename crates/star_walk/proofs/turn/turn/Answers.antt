@@ -45,9 +45,9 @@ step_round-requires-clause-vertex_exists g c =
     let B = brings g ((goal.at.step_round-requires-clause-vertex_exists g c).After-base_tile) in
     last-exists c.args.machine.now B.settled B.fits B.laws c.args.frame.now c.requires.frame c.args.vertex c.requires.vertex_exists c.loop-frame.frame c.push.new.self.items c.loop-frame.corner (way g p)
 
-pub step_round-requires-clause-shift_within : goal.step_round-requires-clause-shift_within
-step_round-requires-clause-shift_within g c =
-    let p = (goal.at.step_round-requires-clause-shift_within g c).After-push in
+pub step_round-requires-clause-within : goal.step_round-requires-clause-within
+step_round-requires-clause-within g c =
+    let p = (goal.at.step_round-requires-clause-within g c).After-push in
     let w = way g p in
     let few = count g p in
     point_wider (2 ^ 8 * length c.push.new.self.items) (2 ^ 24) _ (omega arith) w.last_found.shift_within

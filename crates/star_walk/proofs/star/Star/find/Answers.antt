@@ -8,11 +8,11 @@ use Rattle.star_walk.specs.Corners.{corner_in}
 use Rattle.star_walk.specs.Found.{IsRaised}
 use Rattle.star_walk.specs.Round.{AreRound, AreInTurn}
 use Rattle.star_walk.proofs.Brought.{Brings, brought}
-use Rattle.star_walk.proofs.Ended.{least, star-round, star-turns, star-stands, star-within}
+use Rattle.star_walk.proofs.Ended.{least, within-limits, star-round, star-turns, star-stands, star-within}
 use Rattle.star_walk.proofs.InTurn.{whole-back}
-use Rattle.star_walk.proofs.turn.star.Given.{Over}
-use Rattle.star_walk.proofs.turn.star.Goals.{After-kinds-usable, After-raise_all}
-use Rattle.star_walk.proofs.turn.star.Goals as goal
+use Rattle.star_walk.proofs.star.Star.find.Given.{Over}
+use Rattle.star_walk.proofs.star.Star.find.Goals.{After-kinds-usable, After-raise_all}
+use Rattle.star_walk.proofs.star.Star.find.Goals as goal
 
 -- what the rule and the laws bring
 brings : (g : Over) (c : After-kinds-usable g) → Brings c.args.machine.now
@@ -59,3 +59,8 @@ pub returns-clause-least : goal.returns-clause-least
 returns-clause-least g c =
     let B = brings g ((goal.at.returns-clause-least g c).After-kinds-usable) in
     least c.args.machine.now B.settled B.fits B.laws c.args.frame.now c.requires.frame c.args.vertex c.requires.vertex_exists c.turn.new.frame c.turn.new.corners.items c.in_ok-turn.ensures.turned
+
+pub returns-clause-within : goal.returns-clause-within
+returns-clause-within g c =
+    let B = brings g ((goal.at.returns-clause-within g c).After-kinds-usable) in
+    within-limits c.args.machine.now B.settled B.fits B.laws c.args.frame.now c.requires.frame c.args.vertex c.requires.vertex_exists c.turn.new.frame c.turn.new.corners.items c.in_ok-turn.ensures.turned
