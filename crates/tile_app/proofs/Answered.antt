@@ -5,10 +5,10 @@ use Rattle.layer_api.specs.declared.format.Format.{Format}
 use Rattle.rule_model.specs.Tiling.{Tiling}
 use Rattle.tile_app.specs.declared.script_fault.ScriptFault.TheVariants as script
 use Rattle.tile_app.specs.declared.status.Status.{Status}
-use Rattle.tile_app.specs.declared.status.Status.TheVariants.{Done, BadWords, NoLayer, ReadFault, RuleTooLong, RuleRefused, BadAddress, NoEdge, Outside, DepthLimit, CoordLimit, TooManyTiles, BadScript, WriteFault, NoMemory}
+use Rattle.tile_app.specs.declared.status.Status.TheVariants.{Done, BadWords, NoLayer, ReadFault, RuleTooLong, RuleRefused, BadAddress, NoEdge, NoVertex, Outside, DepthLimit, CoordLimit, TooManyTiles, StarTooBig, BadScript, WriteFault, NoMemory}
 use Rattle.tile_app.specs.declared.rule_fault.RuleFault.{RuleFault}
 use Rattle.tile_app.specs.declared.words.Command.{Command}
-use Rattle.tile_app.specs.declared.words.Command.TheVariants.{Place, Neighbour, Walk, Draw, Check, Calc, Drill}
+use Rattle.tile_app.specs.declared.words.Command.TheVariants.{Place, Neighbour, Walk, Draw, Check, Calc, Drill, Star}
 use Rattle.tile_app.specs.Answer.{OfCommand, IsPrinted, HasAnswer, Refuses, Prints, CanBeAnswered, IsLimitOf, IsBeyondLimits}
 use Rattle.tile_app.specs.Asked.{OfRequest, IsAsked, WasFileIn, WasAsked}
 use Rattle.tile_app.specs.Causes.{Causes, IsNoLimit, IsRefused}
@@ -28,6 +28,7 @@ can Draw r t text p = record { base = p.pictures.base; window = p.window; gives 
 can Check r t text p = tt
 can Calc r t text p = (text, p)
 can Drill r t text p = tt
+can Star r t text p = record { base = p.base; vertex = p.vertex; gives = p.gives; exists = p.exists; within = p.within }
 
 can_be_answered : (r : Request) (text : List ℕ) → Prints r text → CanBeAnswered r
 can_be_answered r text p = record { command = p.command; tiling = p.tiling; asks = p.asks; holds = can p.command r p.tiling text p.holds }
@@ -64,6 +65,7 @@ done_is_none Walk h = h
 done_is_none Check h = h
 done_is_none Calc h = h
 done_is_none Drill h = h
+done_is_none Star h = h
 
 module _ (words : List (List ℕ)) (handed : List Format) (left rest : Option (List ℕ)) where
   -- ---- from a command to its request
@@ -84,6 +86,7 @@ module _ (words : List (List ℕ)) (handed : List Format) (left rest : Option (L
     no_words place Check k = k
     no_words place Calc k = k
     no_words place Drill k = k
+    no_words place Star k = k
 
     no_layer_lacks : (format : Format) (c : Command) → Refuses c (request_of words handed file) t (NoLayer format) → ⊥
     no_layer_lacks format Place k = k
@@ -93,6 +96,7 @@ module _ (words : List (List ℕ)) (handed : List Format) (left rest : Option (L
     no_layer_lacks format Check k = k
     no_layer_lacks format Calc k = k
     no_layer_lacks format Drill k = k
+    no_layer_lacks format Star k = k
 
     no_read_fault : (c : Command) → Refuses c (request_of words handed file) t ReadFault → ⊥
     no_read_fault Place k = k
@@ -102,6 +106,7 @@ module _ (words : List (List ℕ)) (handed : List Format) (left rest : Option (L
     no_read_fault Check k = k
     no_read_fault Calc k = k
     no_read_fault Drill k = k
+    no_read_fault Star k = k
 
     no_long_rule : (c : Command) → Refuses c (request_of words handed file) t RuleTooLong → ⊥
     no_long_rule Place k = k
@@ -111,6 +116,7 @@ module _ (words : List (List ℕ)) (handed : List Format) (left rest : Option (L
     no_long_rule Check k = k
     no_long_rule Calc k = k
     no_long_rule Drill k = k
+    no_long_rule Star k = k
 
     no_long_script : (c : Command) → Refuses c (request_of words handed file) t (BadScript script.TooLong) → ⊥
     no_long_script Place k = k
@@ -120,6 +126,7 @@ module _ (words : List (List ℕ)) (handed : List Format) (left rest : Option (L
     no_long_script Check k = k
     no_long_script Calc k = k
     no_long_script Drill k = k
+    no_long_script Star k = k
 
     no_rule : (fault : RuleFault) (c : Command) → Refuses c (request_of words handed file) t (RuleRefused fault) → ⊥
     no_rule fault Place k = k
@@ -129,6 +136,7 @@ module _ (words : List (List ℕ)) (handed : List Format) (left rest : Option (L
     no_rule fault Check k = k
     no_rule fault Calc k = k
     no_rule fault Drill k = k
+    no_rule fault Star k = k
 
     pub command_refused : (s : Status) → OrNoMemory (Refuses command (request_of words handed file) t) s → IsRefused words handed left rest s
     command_refused Done h = of_command (λ c q u. Refuses c q u Done) h
@@ -162,10 +170,12 @@ module _ (words : List (List ℕ)) (handed : List Format) (left rest : Option (L
     caused (RuleRefused fault) i k = inr (subst (λ q. HasRuleFault q fault) (same_request words handed left rest r k.1.0 h k.1.1 k.1.2.not_too_long) k.1.2)
     caused (BadAddress fault) i k = inr (of_asked (λ c q t. Refuses c q t (BadAddress fault)) k)
     caused (NoEdge edge edges) i k = inr (of_asked (λ c q t. Refuses c q t (NoEdge edge edges)) k)
+    caused (NoVertex vertex edges) i k = inr (of_asked (λ c q t. Refuses c q t (NoVertex vertex edges)) k)
     caused (Outside edge part) i k = inr (of_asked (λ c q t. Refuses c q t (Outside edge part)) k)
     caused (DepthLimit addr edge) i k = inr (of_asked (λ c q t. Refuses c q t (DepthLimit addr edge)) k)
     caused (CoordLimit value) i k = inr (of_asked (λ c q t. Refuses c q t (CoordLimit value)) k)
     caused TooManyTiles i k = inr (of_asked (λ c q t. Refuses c q t TooManyTiles) k)
+    caused StarTooBig i k = inr (of_asked (λ c q t. Refuses c q t StarTooBig) k)
     caused WriteFault i k = absurd i
     caused NoMemory i k = inl tt
 

@@ -6,10 +6,9 @@ use Rattle.std.specs.Option.{option_map, option_map_or}
 use Rattle.std.specs.Str.{bytes_eq}
 use Rattle.std.proofs.lemmas.Slice.Eq.{bytes_eq-Decides}
 use Rattle.tile_app.specs.declared.words.Command.{Command}
-use Rattle.tile_app.specs.declared.words.Command.TheVariants.{Place, Neighbour, Walk, Draw, Check, Calc, Drill}
+use Rattle.tile_app.specs.declared.words.Command.TheVariants.{Place, Neighbour, Walk, Draw, Check, Calc, Drill, Star}
 use Rattle.tile_app.specs.declared.words.Key.{Key}
-use Rattle.tile_app.specs.declared.words.Key.TheVariants.{Rule, Addr, Edge, Seed, Grow, Path, At, Half, Layers, Glue, Count}
-use Rattle.tile_shape.specs.Decimal.{number_up_to}
+use Rattle.tile_app.specs.declared.words.Key.TheVariants.{Rule, Addr, Edge, Seed, Grow, Path, At, Half, Layers, Glue, Count, Vertex}
 use Rattle.builtin_rules.specs.declared.name.Name.{Name}
 use Rattle.tile_app.specs.declared.rule_choice.RuleChoice.TheVariants.{Builtin, File}
 use Rattle.tile_app.specs.Choices.{choice_in}
@@ -52,7 +51,7 @@ key_of_text text =
     cond (bytes_eq text (codes "rule")) (Some Rule) (cond (bytes_eq text (codes "addr")) (Some Addr) (cond (bytes_eq text (codes "edge")) (Some Edge)
     (cond (bytes_eq text (codes "seed")) (Some Seed) (cond (bytes_eq text (codes "grow")) (Some Grow) (cond (bytes_eq text (codes "path")) (Some Path)
     (cond (bytes_eq text (codes "at")) (Some At) (cond (bytes_eq text (codes "half")) (Some Half) (cond (bytes_eq text (codes "layers")) (Some Layers)
-    (cond (bytes_eq text (codes "glue")) (Some Glue) (cond (bytes_eq text (codes "n")) (Some Count) None))))))))))
+    (cond (bytes_eq text (codes "glue")) (Some Glue) (cond (bytes_eq text (codes "n")) (Some Count) (cond (bytes_eq text (codes "vertex")) (Some Vertex) None)))))))))))
 
 key_text-tells : (j k : Key) → key_text j ≡ key_text k → j ≡ k
 unfolding key_of_text
@@ -70,6 +69,7 @@ key_text-tells j k e = some_is j k (sym (named j) ∙ ap key_of_text e ∙ named
     named Layers = refl
     named Glue = refl
     named Count = refl
+    named Vertex = refl
 
     some_is : (j k : Key) → Some j ≡ Some k → j ≡ k
     some_is j k e = cc
@@ -125,7 +125,7 @@ gives command before (word ∷ after) h e =
 name_gives_nothing : (name : List ℕ) (command : Command) → command_named name ≡ Some command → HaveForms command (name ∷ [])
 name_gives_nothing name command e key value g =
     at (codes "place") Place _ refl (at (codes "neighbour") Neighbour _ refl (at (codes "walk") Walk _ refl (at (codes "draw") Draw _ refl
-    (at (codes "check") Check _ refl (at (codes "calc") Calc _ refl (at (codes "drill") Drill None refl (λ h. absurd (cc h)))))))) e
+    (at (codes "check") Check _ refl (at (codes "calc") Calc _ refl (at (codes "drill") Drill _ refl (at (codes "star") Star None refl (λ h. absurd (cc h))))))))) e
   where
     nothing_in : (w : List ℕ) → name ≡ w → value_given key (w ∷ []) ≡ None → has_form command key value ≡ true
     nothing_in w f h = absurd (cc (sym (subst (λ v. value_given key (v ∷ []) ≡ Some value) f g) ∙ h))
@@ -175,6 +175,7 @@ rule_is_choice Draw text e = e
 rule_is_choice Check text e = e
 rule_is_choice Calc text e = named_is_choice text e
 rule_is_choice Drill text e = e
+rule_is_choice Star text e = e
 
 -- what right words give: a rule
 pub record GivesRule (words : List (List ℕ)) : Type 0 where
@@ -195,6 +196,7 @@ GivesRule-right Draw words e = let h = Gives-right Draw words e in rule_given Dr
 GivesRule-right Check words e = let h = Gives-right Check words e in rule_given Check words h.forms (both_true _ _ h.required).0
 GivesRule-right Calc words e = let h = Gives-right Calc words e in rule_given Calc words h.forms (both_true _ _ h.required).0
 GivesRule-right Drill words e = let h = Gives-right Drill words e in rule_given Drill words h.forms (both_true _ _ h.required).0
+GivesRule-right Star words e = let h = Gives-right Star words e in rule_given Star words h.forms (both_true _ _ h.required).0
 
 pub given_is_choice : (words : List (List ℕ)) (text : List ℕ) → GivesRule words → value_given Rule words ≡ Some text → is_some (choice_in text) ≡ true
 given_is_choice words text h e = let same : h.rule ≡ text = some_is h.rule text (sym h.is_rule ∙ e) in subst (λ t. is_some (choice_in t) ≡ true) same h.is_choice
@@ -216,30 +218,14 @@ GivesText-right Walk words e about =
 GivesText-right Draw words e about =
     let h = Gives-right Draw words e in
     some_value (value_given Addr words) (both_true _ _ (both_true _ _ h.required).1).0
+GivesText-right Star words e about =
+    let h = Gives-right Star words e in
+    some_value (value_given Addr words) (both_true _ _ (both_true _ _ h.required).1).0
 GivesText-right Check words e about = absurd about
 GivesText-right Calc words e about = absurd about
 GivesText-right Drill words e about = absurd about
 
--- and for `neighbour` the number of an edge
-pub record GivesEdge (words : List (List ℕ)) : Type 0 where
-  pub text : List ℕ
-  pub is_text : value_given Edge words ≡ Some text
-  pub is_number : is_some (number_up_to 255 text) ≡ true
-
-pub GivesEdge-right : (words : List (List ℕ)) → command_of words ≡ Ok Neighbour → GivesEdge words
-GivesEdge-right words e =
-    let h = Gives-right Neighbour words e in
-    let r = both_true _ _ (both_true _ _ h.required).1 in
-    let edge = some_value (value_given Edge words) (both_true _ _ r.1).0 in
-    record { text = edge.0; is_text = edge.1; is_number = h.forms Edge edge.0 edge.1 }
-
-pub edge_is_number : (words : List (List ℕ)) (text : List ℕ) → GivesEdge words → value_given Edge words ≡ Some text → is_some (number_up_to 255 text) ≡ true
-edge_is_number words text h e = let same : h.text ≡ text = some_is h.text text (sym h.is_text ∙ e) in subst (λ t. is_some (number_up_to 255 t) ≡ true) same h.is_number
-  where
-    some_is : (x y : List ℕ) → Some x ≡ Some y → x ≡ y
-    some_is x y f = cc
-
--- a value of a key, of the key's form; for `draw` a centre and half extents
+-- a value of a key, of the key's form
 pub record GivesValue (command : Command) (words : List (List ℕ)) (key : Key) : Type 0 where
   pub text : List ℕ
   pub is_text : value_given key words ≡ Some text
@@ -248,6 +234,20 @@ pub record GivesValue (command : Command) (words : List (List ℕ)) (key : Key) 
 pub value_right : (command : Command) (words : List (List ℕ)) (key : Key) → HaveForms command words → is_some (value_given key words) ≡ true → GivesValue command words key
 value_right command words key h e = let text = some_value (value_given key words) e in record { text = text.0; is_text = text.1; right = h key text.0 text.1 }
 
+-- for `neighbour` an edge, and for `star` a vertex
+pub edge-right : (words : List (List ℕ)) → command_of words ≡ Ok Neighbour → GivesValue Neighbour words Edge
+edge-right words e =
+    let h = Gives-right Neighbour words e in
+    let r = both_true _ _ (both_true _ _ h.required).1 in
+    value_right Neighbour words Edge h.forms (both_true _ _ r.1).0
+
+pub vertex-right : (words : List (List ℕ)) → command_of words ≡ Ok Star → GivesValue Star words Vertex
+vertex-right words e =
+    let h = Gives-right Star words e in
+    let r = both_true _ _ (both_true _ _ h.required).1 in
+    value_right Star words Vertex h.forms (both_true _ _ r.1).0
+
+-- for `draw` a centre and half extents
 module _ (words : List (List ℕ)) (e : command_of words ≡ Ok Draw) where
   abbrev given : Key → Bool
   given key = is_some (value_given key words)

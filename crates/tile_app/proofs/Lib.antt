@@ -2,7 +2,6 @@ pub mod Children
 pub mod Requested
 pub mod Read
 pub mod Tilings
-pub mod Faults
 pub mod Pieces
 pub mod Commas
 pub mod Formats
@@ -15,6 +14,7 @@ mod Placed
 mod AddressBytes
 mod Frames
 mod Walking
+mod Turned
 mod SameAddress
 mod OnePath
 mod OneAnswer

@@ -10,6 +10,7 @@ use Rattle.layer_api.specs.declared.format.Format.{Format}
 use Rattle.half_glue.specs.declared.glue_fault.GlueFault.{GlueFault}
 use Rattle.half_glue.specs.declared.glue_fault.GlueFault.TheVariants as glue
 use Rattle.rule_model.specs.Tiling.{Tiling, contacts, children}
+use Rattle.star_walk.specs.Causes.{IsWithinLimits}
 use Rattle.window_cover.specs.declared.cover_fault.CoverFault.{CoverFault}
 use Rattle.window_cover.specs.declared.cover_fault.CoverFault.TheVariants as cover
 use Rattle.tile_place.specs.Crossed.{LiesOnBoundary}
@@ -21,9 +22,9 @@ use Rattle.tile_shape.specs.Usable.{AreUsable}
 use Rattle.tile_app.specs.declared.rule_fault.RuleFault.{RuleFault}
 use Rattle.tile_app.specs.declared.script_fault.ScriptFault.TheVariants as script
 use Rattle.tile_app.specs.declared.status.Status.{Status}
-use Rattle.tile_app.specs.declared.status.Status.TheVariants.{Done, BadWords, NoLayer, RuleTooLong, RuleRefused, BadAddress, NoEdge, Outside, DepthLimit, CoordLimit, TooManyTiles, BadScript}
+use Rattle.tile_app.specs.declared.status.Status.TheVariants.{Done, BadWords, NoLayer, RuleTooLong, RuleRefused, BadAddress, NoEdge, NoVertex, Outside, DepthLimit, CoordLimit, TooManyTiles, StarTooBig, BadScript}
 use Rattle.tile_app.specs.declared.words.Command.{Command}
-use Rattle.tile_app.specs.declared.words.Command.TheVariants.{Place, Neighbour, Walk, Draw, Check, Calc, Drill}
+use Rattle.tile_app.specs.declared.words.Command.TheVariants.{Place, Neighbour, Walk, Draw, Check, Calc, Drill, Star}
 use Rattle.tile_app.specs.Answer.{OfCommand, HasAnswer, Refuses, CanBeAnswered, IsLimitOf, IsBeyond, IsBeyondLimits}
 use Rattle.tile_app.specs.Causes.{Causes}
 use Rattle.tile_app.specs.Neighbour.{GivesEdge, CanBeCrossed, HasNoEdge, LiesOutside}
@@ -40,9 +41,10 @@ use Rattle.tile_app.specs.Tile.{GivesTile, GivesNoTile}
 use Rattle.tile_app.specs.Draw.{CanDraw, PassesLimits, EndsDrawing, EndsGluing, DrawRefuses}
 use Rattle.tile_app.specs.Glue.{IsWithinTheirLimits}
 use Rattle.tile_app.specs.Layers.{HaveLayers, lacking, lacking_for, reads_file}
+use Rattle.tile_app.specs.Star.{GivesVertex, HasStar, HasNoVertex, PassesStarLimits}
 use Rattle.tile_app.specs.Status.{IsLimit}
 use Rattle.tile_app.specs.Words.{command_of}
-use Rattle.tile_app.proofs.Faults.{OneText, fault_once}
+use Rattle.addr_calc.proofs.Faults.{OneText, fault_once}
 use Rattle.tile_app.proofs.Requested.{some_is}
 use Rattle.tile_app.proofs.Tilings.{AcceptedAreUsable, named_is_usable}
 use Rattle.std.proofs.lemmas.Bool.{and_parts as both_true}
@@ -271,7 +273,7 @@ module _ (laws : Laws) (r : Request) (t : Tiling) (usable : AreUsable (children 
   passes_or_none : (f : AddressFault) → PassesLimits words t → GivesNoTile words t f → ⊥
   passes_or_none f h k = tile_or_none h.base f h.gives.tile k
 
-  -- the two are the same, or both are limits of the command's window
+  -- the two are the same, or both are limits of the command
   abbrev AreAlike : Command → Status → Status → Type 0
   AreAlike c s u = (s ≡ u) ⊎ (IsLimitOf c s × IsLimitOf c u)
 
@@ -343,6 +345,69 @@ module _ (laws : Laws) (r : Request) (t : Tiling) (usable : AreUsable (children 
   drill_once Done u h k = absurd k
   drill_once s u h k = absurd h
 
+  -- ---- `star`: what holds of the tile and the vertex that are given holds of any that are
+  of_given_vertex : (P : Address → ℕ → Type 0) (a b : Address) (e f : ℕ) → GivesVertex words t a e → GivesVertex words t b f → P a e → P b f
+  of_given_vertex P a b e f p q h =
+      subst (λ g. P b g) (some_is e f (sym p.given ∙ q.given)) (subst (λ c. P c e) (same_tile a b p.tile q.tile) h)
+
+  -- a vertex exists or doesn't
+  vertex_or_none : (a : Address) (own vertex edges : ℕ) → GivesVertex words t a own → own < edges_of t a.kind → HasNoVertex words t vertex edges → ⊥
+  vertex_or_none a own vertex edges p h q =
+      let f : vertex < edges_of t q.base.kind = of_given_vertex Exists a q.base own vertex p q.gives h in
+      let g = q.count in let k = q.beyond in omega arith
+
+  -- the number of vertices is determined
+  same_no_vertex : (e es f fs : ℕ) → HasNoVertex words t e es → HasNoVertex words t f fs → NoVertex e es ≡ NoVertex f fs
+  same_no_vertex e es f fs p q =
+      ap₂ NoVertex (some_is e f (sym p.gives.given ∙ q.gives.given))
+      (of_given_vertex (λ a g. es ≡ edges_of t a.kind) p.base q.base e f p.gives q.gives p.count ∙ sym q.count)
+
+  -- a vertex has a star or passes the limits
+  star_or_beyond : HasStar words t → PassesStarLimits words t → ⊥
+  star_or_beyond h k = k.beyond (of_given_vertex (λ a e. IsWithinLimits t (frame_given words a) e) h.base k.base h.vertex k.vertex h.gives k.gives h.within)
+
+  star_once : (s u : Status) → IsFor r t Star s → IsFor r t Star u → AreAlike Star s u
+  star_once Done Done h k = inl refl
+  star_once Done (BadAddress f) h k = absurd (tile_or_none h.base f h.gives.tile k)
+  star_once Done (NoVertex e es) h k = absurd (vertex_or_none h.base h.vertex e es h.gives h.exists k)
+  star_once Done (DepthLimit a e) h k = absurd (star_or_beyond h k.passes)
+  star_once Done StarTooBig h k = absurd (star_or_beyond h k.passes)
+  star_once Done u h k = absurd k
+  star_once (BadAddress f) Done h k = absurd (tile_or_none k.base f k.gives.tile h)
+  star_once (BadAddress f) (BadAddress g) h k = inl (ap (λ x. BadAddress x) (same_fault f g h k))
+  star_once (BadAddress f) (NoVertex e es) h k = absurd (tile_or_none k.base f k.gives.tile h)
+  star_once (BadAddress f) (DepthLimit a e) h k = absurd (tile_or_none k.passes.base f k.passes.gives.tile h)
+  star_once (BadAddress f) StarTooBig h k = absurd (tile_or_none k.passes.base f k.passes.gives.tile h)
+  star_once (BadAddress f) u h k = absurd k
+  star_once (NoVertex e es) Done h k = absurd (vertex_or_none k.base k.vertex e es k.gives k.exists h)
+  star_once (NoVertex e es) (BadAddress f) h k = absurd (tile_or_none h.base f h.gives.tile k)
+  star_once (NoVertex e es) (NoVertex f fs) h k = inl (same_no_vertex e es f fs h k)
+  star_once (NoVertex e es) (DepthLimit a f) h k = absurd (vertex_or_none k.passes.base k.passes.vertex e es k.passes.gives k.passes.exists h)
+  star_once (NoVertex e es) StarTooBig h k = absurd (vertex_or_none k.passes.base k.passes.vertex e es k.passes.gives k.passes.exists h)
+  star_once (NoVertex e es) u h k = absurd k
+  star_once (DepthLimit a e) Done h k = absurd (star_or_beyond k h.passes)
+  star_once (DepthLimit a e) (BadAddress f) h k = absurd (tile_or_none h.passes.base f h.passes.gives.tile k)
+  star_once (DepthLimit a e) (NoVertex f fs) h k = absurd (vertex_or_none h.passes.base h.passes.vertex f fs h.passes.gives h.passes.exists k)
+  star_once (DepthLimit a e) (DepthLimit b f) h k = inr (tt, tt)
+  star_once (DepthLimit a e) StarTooBig h k = inr (tt, tt)
+  star_once (DepthLimit a e) u h k = absurd k
+  star_once StarTooBig Done h k = absurd (star_or_beyond k h.passes)
+  star_once StarTooBig (BadAddress f) h k = absurd (tile_or_none h.passes.base f h.passes.gives.tile k)
+  star_once StarTooBig (NoVertex f fs) h k = absurd (vertex_or_none h.passes.base h.passes.vertex f fs h.passes.gives h.passes.exists k)
+  star_once StarTooBig (DepthLimit b f) h k = inr (tt, tt)
+  star_once StarTooBig StarTooBig h k = inl refl
+  star_once StarTooBig u h k = absurd k
+  star_once s u h k = absurd h
+
+  -- beyond the limits one of them comes
+  star_beyond : (s : Status) → IsFor r t Star s → PassesStarLimits words t → IsLimit s
+  star_beyond Done h k = absurd (star_or_beyond h k)
+  star_beyond (BadAddress f) h k = absurd (tile_or_none k.base f k.gives.tile h)
+  star_beyond (NoVertex e es) h k = absurd (vertex_or_none k.base k.vertex e es k.gives k.exists h)
+  star_beyond (DepthLimit a e) h k = tt
+  star_beyond StarTooBig h k = tt
+  star_beyond s h k = absurd h
+
   command_once : (c : Command) (s u : Status) → IsFor r t c s → IsFor r t c u → AreAlike c s u
   command_once Place s u h k = inl (place_once s u h k)
   command_once Neighbour s u h k = inl (neighbour_once s u h k)
@@ -351,9 +416,11 @@ module _ (laws : Laws) (r : Request) (t : Tiling) (usable : AreUsable (children 
   command_once Check s u h k = inl (check_once s u h k)
   command_once Calc s u h k = inl (calc_once s u h k)
   command_once Drill s u h k = inl (drill_once s u h k)
+  command_once Star s u h k = star_once s u h k
 
   command_beyond : (c : Command) (s : Status) → IsFor r t c s → IsBeyond c r t → IsLimit s
   command_beyond Draw s h k = draw_beyond s h k
+  command_beyond Star s h k = star_beyond s h k
   command_beyond Place s h k = absurd k
   command_beyond Neighbour s h k = absurd k
   command_beyond Walk s h k = absurd k
@@ -481,6 +548,7 @@ module _ (r : Request) where
       none Check t k = k
       none Calc t k = k
       none Drill t k = k
+      none Star t k = k
 
   pub outcome_of : (s : Status) → Causes r s → Outcome s
   outcome_of Done h = absurd (no_cause h)

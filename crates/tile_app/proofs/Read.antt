@@ -9,7 +9,7 @@ use Rattle.tile_app.specs.declared.rule_fault.RuleFault.{RuleFault}
 use Rattle.tile_app.specs.declared.status.Status.{Status}
 use Rattle.tile_app.specs.declared.status.Status.TheVariants.{ReadFault, RuleRefused, NoMemory}
 use Rattle.tile_app.specs.declared.words.Command.{Command}
-use Rattle.tile_app.specs.declared.words.Command.TheVariants.{Place, Neighbour, Walk, Draw, Check, Calc, Drill}
+use Rattle.tile_app.specs.declared.words.Command.TheVariants.{Place, Neighbour, Walk, Draw, Check, Calc, Drill, Star}
 use Rattle.tile_app.specs.Choices.{tiling_chosen}
 use Rattle.tile_app.specs.Reading.{too_long_for, IsReadingRefused, IsChoiceRefused}
 use Rattle.tile_app.specs.Asked.{WasRead, WasFileIn, WasAsked}
@@ -47,6 +47,7 @@ module _ (words : List (List ℕ)) (handed : List Format) (command : Command) (c
     too_long_refused Check is e file h l = (request_of words handed file, was_read e file h, (too_long e file l, λ f. absurd (cc (is, f))))
     too_long_refused Calc is e file h l = (request_of words handed file, was_read e file h, (too_long e file l, is))
     too_long_refused Drill is e file h l = (request_of words handed file, was_read e file h, (too_long e file l, λ f. absurd (cc (is, f))))
+    too_long_refused Star is e file h l = (request_of words handed file, was_read e file h, (too_long e file l, λ f. absurd (cc (is, f))))
 
     pub reading_refused : has_file command choice ≡ true → (s : Status) → IsReadingRefused command left rest s → IsRefused words handed left rest s
     reading_refused e NoMemory h = ((command, right), have)

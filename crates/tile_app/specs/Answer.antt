@@ -3,7 +3,7 @@ use Rattle.std.specs.Prelude.{◌≡◌, ℕ, List}
 use Rattle.rule_model.specs.Tiling.{Tiling}
 use Rattle.tile_app.specs.declared.status.Status.{Status}
 use Rattle.tile_app.specs.declared.words.Command.{Command}
-use Rattle.tile_app.specs.declared.words.Command.TheVariants.{Place, Neighbour, Walk, Draw, Check, Calc, Drill}
+use Rattle.tile_app.specs.declared.words.Command.TheVariants.{Place, Neighbour, Walk, Draw, Check, Calc, Drill, Star}
 use Rattle.tile_app.specs.Calc.{CanCalculate, PrintsCalc, CalcRefuses}
 use Rattle.tile_app.specs.Check.{check_line}
 use Rattle.tile_app.specs.Draw.{CanDraw, PrintsDraw, PassesLimits, DrawRefuses}
@@ -11,6 +11,7 @@ use Rattle.tile_app.specs.Drill.{PrintsDrill}
 use Rattle.tile_app.specs.Neighbour.{CanBeCrossed, PrintsNeighbour, NeighbourRefuses}
 use Rattle.tile_app.specs.Place.{CanBePlaced, PrintsPlace, PlaceRefuses}
 use Rattle.tile_app.specs.Request.{Request, Asks}
+use Rattle.tile_app.specs.Star.{HasStar, PrintsStar, PassesStarLimits, StarRefuses}
 use Rattle.tile_app.specs.Status.{IsLimit}
 use Rattle.tile_app.specs.Walk.{CanWalk, PrintsWalk, WalkRefuses}
 
@@ -23,6 +24,7 @@ IsPrinted Draw r = PrintsDraw r.words
 IsPrinted Check r = λ t text. text ≡ check_line t
 IsPrinted Calc r = PrintsCalc r.file
 IsPrinted Drill r = PrintsDrill r.words
+IsPrinted Star r = PrintsStar r.words
 
 -- the command has something to print for a request and a tiling
 abbrev pub HasAnswer : Command → Request → Tiling → Type 0
@@ -33,6 +35,7 @@ HasAnswer Draw r = CanDraw r.words
 HasAnswer Check r = λ t. Unit {0}
 HasAnswer Calc r = CanCalculate r.file
 HasAnswer Drill r = λ t. Unit {0}
+HasAnswer Star r = HasStar r.words
 
 -- the command refuses a request for a tiling with this status, for its cause
 abbrev pub Refuses : Command → Request → Tiling → Status → Type 0
@@ -43,15 +46,18 @@ Refuses Draw r = DrawRefuses r.words
 Refuses Check r = λ t status. ⊥
 Refuses Calc r = CalcRefuses r.file
 Refuses Drill r = λ t status. ⊥
+Refuses Star r = StarRefuses r.words
 
--- the status is one of the limits of the command's window: `draw` alone has one
+-- the status is one of the limits of the command: of the window of `draw`, or of the vertex of `star`
 abbrev pub IsLimitOf : Command → Status → Type 0
 IsLimitOf Draw status = IsLimit status
+IsLimitOf Star status = IsLimit status
 IsLimitOf command status = ⊥
 
--- the command's window, for a request and a tiling, passes a limit
+-- the command's window or vertex, for a request and a tiling, passes a limit
 abbrev pub IsBeyond : Command → Request → Tiling → Type 0
 IsBeyond Draw r = PassesLimits r.words
+IsBeyond Star r = PassesStarLimits r.words
 IsBeyond command r = λ t. ⊥
 
 -- right words ask a command of a tiling, and this holds of the command, of the request and of the tiling
@@ -69,6 +75,6 @@ Prints r text = OfCommand (λ command q t. IsPrinted command q t text) r
 abbrev pub CanBeAnswered : Request → Type 0
 CanBeAnswered r = OfCommand HasAnswer r
 
--- the request is for a window that isn't within its limits
+-- the request is for a window or a vertex that isn't within its limits
 abbrev pub IsBeyondLimits : Request → Type 0
 IsBeyondLimits r = OfCommand IsBeyond r

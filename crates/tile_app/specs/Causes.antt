@@ -14,7 +14,7 @@ use Rattle.tile_app.specs.Status.{IsTrueFault}
 use Rattle.tile_app.specs.Words.{command_of, AreRight}
 
 -- What of a request causes a status, in the order of the tests: the words, the layers, the file, and then what its command refuses (`PlaceRefuses`,
--- `NeighbourRefuses`, `WalkRefuses`, `DrawRefuses`, `CalcRefuses`; `check` and `drill` refuse nothing more).
+-- `NeighbourRefuses`, `WalkRefuses`, `DrawRefuses`, `CalcRefuses`, `StarRefuses`; `check` and `drill` refuse nothing more).
 abbrev pub Causes : Request → Status → Type 0
 Causes r (BadWords place) = command_of r.words ≡ Err place
 Causes r (NoLayer format) = lacking r.words r.handed ≡ Some format
@@ -23,8 +23,8 @@ Causes r (RuleRefused fault) = HasRuleFault r fault
 Causes r (BadScript script.TooLong) = HasTooLongScript r
 Causes r status = OfCommand (λ command q t. Refuses command q t status) r
 
--- The status is none of the limits of a window that the request asks for: it comes wherever it has a cause. Of those limits several may be passed, and then one of
--- them comes; which one isn't said.
+-- The status is none of the limits of a window or a vertex that the request asks for: it comes wherever it has a cause. Of those limits several may be passed, and
+-- then one of them comes; which one isn't said.
 abbrev pub IsNoLimit : Request → Status → Type 0
 IsNoLimit r status = (command : Command) → command_of r.words ≡ Ok command → IsLimitOf command status → ⊥
 

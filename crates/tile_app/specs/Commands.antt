@@ -4,9 +4,9 @@ use Rattle.std.specs.declared.option.Option.{Option}
 use Rattle.std.specs.Option.{option_and_then}
 use Rattle.std.specs.Str.{bytes_eq}
 use Rattle.tile_app.specs.declared.words.Command.{Command}
-use Rattle.tile_app.specs.declared.words.Command.TheVariants.{Place, Neighbour, Walk, Draw, Check, Calc, Drill}
+use Rattle.tile_app.specs.declared.words.Command.TheVariants.{Place, Neighbour, Walk, Draw, Check, Calc, Drill, Star}
 use Rattle.tile_app.specs.declared.words.Key.{Key}
-use Rattle.tile_app.specs.declared.words.Key.TheVariants.{Rule, Addr, Edge, Seed, Grow, Path, At, Half, Layers, Glue, Count}
+use Rattle.tile_app.specs.declared.words.Key.TheVariants.{Rule, Addr, Edge, Seed, Grow, Path, At, Half, Layers, Glue, Count, Vertex}
 use Rattle.tile_app.specs.Choices.{choice_in}
 use Rattle.tile_app.specs.Tilings.{name_in}
 use Rattle.tile_app.specs.FormatWords.{formats_in}
@@ -31,6 +31,7 @@ key_text Half = codes "half"
 key_text Layers = codes "layers"
 key_text Glue = codes "glue"
 key_text Count = codes "n"
+key_text Vertex = codes "vertex"
 
 -- the command that a word names
 abbrev pub command_named : List ℕ → Option Command
@@ -41,7 +42,8 @@ command_named word =
     if bytes_eq word (codes "draw") then Some Draw else
     if bytes_eq word (codes "check") then Some Check else
     if bytes_eq word (codes "calc") then Some Calc else
-    if bytes_eq word (codes "drill") then Some Drill else None
+    if bytes_eq word (codes "drill") then Some Drill else
+    if bytes_eq word (codes "star") then Some Star else None
 
 -- the keys of a command
 abbrev pub keys_of : Command → List Key
@@ -52,6 +54,7 @@ keys_of Draw = Rule ∷ Addr ∷ At ∷ Half ∷ Layers ∷ Seed ∷ Glue ∷ []
 keys_of Check = Rule ∷ []
 keys_of Calc = Rule ∷ []
 keys_of Drill = Rule ∷ Count ∷ Seed ∷ []
+keys_of Star = Rule ∷ Addr ∷ Vertex ∷ Seed ∷ []
 
 -- the keys that a command can't do without
 abbrev pub required_keys : Command → List Key
@@ -62,6 +65,7 @@ required_keys Draw = Rule ∷ Addr ∷ At ∷ Half ∷ Layers ∷ []
 required_keys Check = Rule ∷ []
 required_keys Calc = Rule ∷ []
 required_keys Drill = Rule ∷ Count ∷ []
+required_keys Star = Rule ∷ Addr ∷ Vertex ∷ []
 
 -- the most windows of a drill
 abbrev pub most_windows : ℕ
@@ -76,7 +80,7 @@ abbrev pub is_rule_for : Command → List ℕ → Bool
 is_rule_for Calc value = is_some (name_in value)
 is_rule_for command value = is_some (choice_in value)
 
--- whether a value has the form of its key for a command: a rule is one that the command takes, an address any text, an edge a number from 0 to 255, a start number
+-- whether a value has the form of its key for a command: a rule is one that the command takes, an address any text, an edge or a vertex a number from 0 to 255, a start number
 -- one of 64 bits, a depth at most 64, a path numbers of edges, a centre four coefficients, half extents two numbers from 1, layers formats, joined by commas, glue
 -- `yes` or `no`, and a number of windows 1 to 200
 abbrev pub has_form : Command → Key → List ℕ → Bool
@@ -91,6 +95,7 @@ has_form command Half value = is_some (half_in value)
 has_form command Layers value = is_some (formats_in value)
 has_form command Glue value = bytes_eq value (codes "yes") || bytes_eq value (codes "no")
 has_form command Count value = is_some (windows_in value)
+has_form command Vertex value = is_some (number_up_to 255 value)
 
 -- a command that asks about a tile, by its address
 abbrev pub IsAboutTile : Command → Type 0
@@ -101,3 +106,4 @@ IsAboutTile Draw = Unit {0}
 IsAboutTile Check = ⊥
 IsAboutTile Calc = ⊥
 IsAboutTile Drill = ⊥
+IsAboutTile Star = Unit {0}

@@ -22,6 +22,7 @@ pub mod Pictured
 pub mod Check
 pub mod Calc
 pub mod Drill
+pub mod Star
 pub mod Answer
 pub mod RuleFaultText
 pub mod ScriptFaultText

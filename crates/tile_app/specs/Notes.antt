@@ -9,7 +9,7 @@ use Rattle.tile_shape.specs.FaultText.{address_fault_text}
 use Rattle.tile_shape.specs.Text.{address_text}
 use Rattle.tile_shape.specs.Views.{address_of}
 use Rattle.tile_app.specs.declared.status.Status.{Status}
-use Rattle.tile_app.specs.declared.status.Status.TheVariants.{Done, BadWords, NoLayer, ReadFault, RuleTooLong, RuleRefused, BadAddress, NoEdge, Outside, DepthLimit, CoordLimit, TooManyTiles, BadScript, WriteFault, NoMemory}
+use Rattle.tile_app.specs.declared.status.Status.TheVariants.{Done, BadWords, NoLayer, ReadFault, RuleTooLong, RuleRefused, BadAddress, NoEdge, NoVertex, Outside, DepthLimit, CoordLimit, TooManyTiles, StarTooBig, BadScript, WriteFault, NoMemory}
 use Rattle.tile_app.specs.FormatWords.{format_text}
 use Rattle.tile_app.specs.RuleFaultText.{rule_fault_text}
 use Rattle.tile_app.specs.ScriptFaultText.{script_fault_text}
@@ -26,10 +26,12 @@ status_text RuleTooLong = codes "RuleTooLong"
 status_text (RuleRefused fault) = codes "RuleRefused " ++ rule_fault_text fault
 status_text (BadAddress fault) = codes "BadAddress " ++ address_fault_text fault
 status_text (NoEdge edge edges) = codes "NoEdge " ++ decimal edge ++ blank ∷ decimal edges
+status_text (NoVertex vertex edges) = codes "NoVertex " ++ decimal vertex ++ blank ∷ decimal edges
 status_text (Outside edge part) = codes "Outside " ++ decimal edge ++ blank ∷ decimal part
 status_text (DepthLimit addr edge) = codes "DepthLimit " ++ address_text (address_of addr) ++ blank ∷ decimal edge
 status_text (CoordLimit value) = codes "CoordLimit " ++ point_text value
 status_text TooManyTiles = codes "TooManyTiles"
+status_text StarTooBig = codes "StarTooBig"
 status_text (BadScript fault) = codes "BadScript " ++ script_fault_text fault
 status_text WriteFault = codes "WriteFault"
 status_text NoMemory = codes "NoMemory"

@@ -5,7 +5,7 @@ use Rattle.rule_text.specs.declared.text_fault.TextFault.TheVariants as text
 use Rattle.tile_app.specs.declared.rule_fault.RuleFault.{RuleFault}
 use Rattle.tile_app.specs.declared.rule_fault.RuleFault.TheVariants.{Text, Check}
 use Rattle.tile_app.specs.declared.status.Status.{Status}
-use Rattle.tile_app.specs.declared.status.Status.TheVariants.{Done, BadWords, NoLayer, ReadFault, RuleTooLong, RuleRefused, BadAddress, NoEdge, Outside, DepthLimit, CoordLimit, TooManyTiles, BadScript, WriteFault, NoMemory}
+use Rattle.tile_app.specs.declared.status.Status.TheVariants.{Done, BadWords, NoLayer, ReadFault, RuleTooLong, RuleRefused, BadAddress, NoEdge, NoVertex, Outside, DepthLimit, CoordLimit, TooManyTiles, StarTooBig, BadScript, WriteFault, NoMemory}
 
 -- the exit code of the program
 abbrev pub code_of : Status → ℕ
@@ -24,6 +24,8 @@ code_of NoMemory = 11
 code_of (NoEdge edge edges) = 12
 code_of (BadScript fault) = 13
 code_of (NoLayer format) = 14
+code_of (NoVertex vertex edges) = 15
+code_of StarTooBig = 16
 
 -- every refusal but a fault of the sink
 abbrev pub IsRefusal : Status → Type 0
@@ -37,11 +39,12 @@ IsCutShort ReadFault = Unit {0}
 IsCutShort NoMemory = Unit {0}
 IsCutShort _ = ⊥
 
--- of a window: too great a depth, too large a coefficient, or too many tiles
+-- too great a depth, too large a coefficient, or too many tiles, in a window or round a vertex
 abbrev pub IsLimit : Status → Type 0
 IsLimit (DepthLimit addr edge) = Unit {0}
 IsLimit (CoordLimit value) = Unit {0}
 IsLimit TooManyTiles = Unit {0}
+IsLimit StarTooBig = Unit {0}
 IsLimit _ = ⊥
 
 -- the status is want of memory, or it has this cause

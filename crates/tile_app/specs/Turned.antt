@@ -6,13 +6,15 @@ use Rattle.dissect_check.specs.declared.check_fault.CheckFault.TheVariants as ch
 use Rattle.tile_app.specs.declared.rule_fault.RuleFault.TheVariants.{Text, Check}
 use Rattle.tile_app.specs.declared.script_fault.ScriptFault.TheVariants.{Calc}
 use Rattle.tile_app.specs.declared.status.Status.{Status}
-use Rattle.tile_app.specs.declared.status.Status.TheVariants.{RuleRefused, NoEdge, DepthLimit, CoordLimit, TooManyTiles, BadScript, NoMemory}
+use Rattle.tile_app.specs.declared.status.Status.TheVariants.{RuleRefused, NoEdge, DepthLimit, CoordLimit, TooManyTiles, StarTooBig, BadScript, NoMemory}
 use Rattle.lazy_walk.specs.declared.path_fault.PathFault.{PathFault}
 use Rattle.lazy_walk.specs.declared.path_fault.PathFault.TheVariants as walking
 use Rattle.window_cover.specs.declared.cover_fault.CoverFault.{CoverFault}
 use Rattle.window_cover.specs.declared.cover_fault.CoverFault.TheVariants as covering
 use Rattle.half_glue.specs.declared.glue_fault.GlueFault.{GlueFault}
 use Rattle.half_glue.specs.declared.glue_fault.GlueFault.TheVariants as gluing
+use Rattle.star_walk.specs.declared.star_fault.StarFault.{StarFault}
+use Rattle.star_walk.specs.declared.star_fault.StarFault.TheVariants as turning
 use Rattle.addr_calc.specs.declared.calc_fault.CalcFault.{CalcFault}
 use Rattle.addr_calc.specs.declared.calc_fault.CalcFault.TheVariants as calculating
 
@@ -43,6 +45,11 @@ abbrev pub status_of_glue : GlueFault → Status
 status_of_glue (gluing.DepthLimit addr edge) = DepthLimit addr edge
 status_of_glue (gluing.CoordLimit value) = CoordLimit value
 status_of_glue gluing.NoMemory = NoMemory
+
+-- of the tiles round a vertex
+abbrev pub status_of_star : StarFault → Status
+status_of_star (turning.DepthLimit addr edge) = DepthLimit addr edge
+status_of_star turning.TooBig = StarTooBig
 
 -- of a script
 abbrev pub status_of_calc : CalcFault → Status

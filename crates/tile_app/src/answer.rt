@@ -20,6 +20,7 @@ use crate::layers::lacking;
 use crate::neighbour::neighbour_text;
 use crate::place::place_text;
 use crate::rule_given::{choice_given, rule_chosen};
+use crate::star::star_text;
 use crate::status::Status;
 use crate::walk::walk_text;
 use crate::words::{Command, command_of};
@@ -67,6 +68,7 @@ fn machine_text<D: Layer, L: Ledger>(
         Command::Draw => draw_text(alloc, machine, words, layers),
         Command::Calc => calc_text(alloc, machine, file),
         Command::Drill => bytes_of(drill_text(alloc, machine, words)),
+        Command::Star => bytes_of(star_text(alloc, machine, words, steps)),
     }
 }
 

@@ -26,6 +26,7 @@ pub mod rule_fault;
 mod rule_given;
 pub mod run;
 pub mod script_fault;
+mod star;
 pub mod status;
 mod summary;
 mod tile;

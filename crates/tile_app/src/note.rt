@@ -39,6 +39,7 @@ fn put_status(line: &mut ArrayString<LINE_ROOM>, status: &Status)
             put_address_fault(line, *fault);
         }
         Status::NoEdge { edge, edges } => put_pair(line, "NoEdge", *edge, *edges),
+        Status::NoVertex { vertex, edges } => put_pair(line, "NoVertex", *vertex, *edges),
         Status::Outside { edge, part } => put_pair(line, "Outside", *edge, *part),
         Status::DepthLimit { addr, edge } => {
             put_word(line, "DepthLimit");
@@ -50,6 +51,7 @@ fn put_status(line: &mut ArrayString<LINE_ROOM>, status: &Status)
             put_point(line, value);
         }
         Status::TooManyTiles => put_word(line, "TooManyTiles"),
+        Status::StarTooBig => put_word(line, "StarTooBig"),
         Status::BadScript { fault } => {
             put_word(line, "BadScript");
             put_script_fault(line, *fault);

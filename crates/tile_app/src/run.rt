@@ -81,8 +81,9 @@ fn answer<R: Source, W: Sink, D: Layer, L: Ledger>(
 /// file (`ReadFault`, `RuleTooLong`, `BadScript`, `RuleRefused`), the address (`BadAddress`), and then what
 /// the command refuses: `place` a value (`CoordLimit`), `neighbour` an edge (`NoEdge`, `Outside`), `walk`
 /// an edge of its path (`NoEdge`, `DepthLimit`), `draw` its window (`DepthLimit`, `CoordLimit`,
-/// `TooManyTiles`), `calc` a line of its script (`BadScript`), and `check` and `drill` nothing more. In place of any answer but the first two `NoMemory` may come, and in place of
-/// `Done` also `WriteFault`. What each refusal tells stands at `Status`.
+/// `TooManyTiles`), `calc` a line of its script (`BadScript`), `star` a vertex (`NoVertex`, `DepthLimit`,
+/// `StarTooBig`), and `check` and `drill` nothing more. In place of any answer but the first two `NoMemory` may
+/// come, and in place of `Done` also `WriteFault`. What each refusal tells stands at `Status`.
 pub fn run<R: Source, W: Sink, N: Sink>(
     alloc: Global,
     words: &Vec<String>,
@@ -95,15 +96,16 @@ pub fn run<R: Source, W: Sink, N: Sink>(
     // tile lies in its supertile; for `neighbour` the one tile and edge across the edge; for `walk` the
     // tiles of the path; for `draw` the layers' texts of exactly the tiles that meet the window, each
     // once, disjoint and covering it, or with `glue=yes` of their whole tiles, so too; for `check` that the
-    // rule is accepted; for `calc` what its script prints; for `drill` the summary of its windows. The
-    // file, where one is read, was read to its end.
+    // rule is accepted; for `calc` what its script prints; for `drill` the summary of its windows; for
+    // `star` exactly the tiles that have the vertex, each once, in turning order. The file, where one is
+    // read, was read to its end.
     ensures done { result ≡ Status.Done
         → OfRequest (texts words.now.items) (map (λ d. form d) layers.items) (R.left source.old) (R.left source.new)
         (λ r. (text : List ℕ) × Prints r text × Takes (W.taken sink.old) (W.taken sink.new) text) }
 
     // A refusal comes only for its cause, by the table `Causes`, and where there is a cause it comes,
-    // but that the source may fail, and memory be wanted. Of the limits of a window several may be
-    // passed: beyond them one of the three comes.
+    // but that the source may fail, and memory be wanted. Of the limits of a window or a vertex several
+    // may be passed: beyond them one of them comes.
     ensures refused { IsRefusal result → IsRefused (texts words.now.items) (map (λ d. form d) layers.items) (R.left source.old) (R.left source.new) result }
     ensures refused_when { (r : Request) (status : Status) → IsAsked (texts words.now.items) (map (λ d. form d) layers.items) (R.left source.old) r
         → Causes r status → IsNoLimit r status → (result ≡ status) ⊎ IsCutShort result }

@@ -11,6 +11,7 @@ use half_glue::glue_fault::GlueFault;
 use layer_api::format::Format;
 use lazy_walk::path_fault::PathFault;
 use rule_text::text_fault::TextFault;
+use star_walk::star_fault::StarFault;
 use std::alloc::AllocError;
 use tile_place::coord_limit::CoordLimit;
 use tile_shape::address::Address;
@@ -39,10 +40,12 @@ pub enum Status {
     BadAddress { fault: AddressFault },
     /// The tile has only so many edges, and not this one.
     NoEdge { edge: u8, edges: u8 },
+    /// The tile has only so many edges, and as many vertices, and not this vertex.
+    NoVertex { vertex: u8, edges: u8 },
     /// The edge lies on this edge of the supertile, in this part of it.
     Outside { edge: u8, part: u8 },
-    /// An edge is on the boundary of the frame at depth 64, one of a walk, one that meets a window, or one
-    /// along which a tile of a window is glued: the tile, and its edge.
+    /// An edge is on the boundary of the frame at depth 64, one of a walk, one that meets a window, one along
+    /// which a tile of a window is glued, or one that ends at a vertex: the tile, and its edge.
     DepthLimit { addr: Address, edge: u8 },
     /// A value has a coefficient above 2^24 in absolute value: of a tile placed, the first such value from
     /// coarse to fine; of a window, one looked at for its centre, or the shift of a tile that meets it or of
@@ -50,6 +53,8 @@ pub enum Status {
     CoordLimit { value: Point },
     /// More than 200,000 tiles meet the window.
     TooManyTiles,
+    /// More than 64 tiles have the vertex.
+    StarTooBig,
     /// The script is too long, or a line of it has a fault: the first such line, and its first fault.
     BadScript { fault: ScriptFault },
     /// The sink failed: it took a proper prefix of the text.
@@ -79,6 +84,8 @@ impl Status {
             Status::NoEdge { .. } => 12,
             Status::BadScript { .. } => 13,
             Status::NoLayer { .. } => 14,
+            Status::NoVertex { .. } => 15,
+            Status::StarTooBig => 16,
         }
     }
 }
@@ -207,6 +214,19 @@ impl From<GlueFault> for Status {
             GlueFault::DepthLimit { addr, edge } => Status::DepthLimit { addr, edge },
             GlueFault::CoordLimit { value } => Status::CoordLimit { value },
             GlueFault::NoMemory => Status::NoMemory,
+        }
+    }
+}
+
+impl From<StarFault> for Status {
+    ghost use Rattle.tile_app.specs.Turned.{status_of_star};
+
+    ghost from_gives = { λ fault status. status ≡ status_of_star fault };
+
+    fn from(fault: StarFault) -> Status {
+        match fault {
+            StarFault::DepthLimit { addr, edge } => Status::DepthLimit { addr, edge },
+            StarFault::TooBig => Status::StarTooBig,
         }
     }
 }

@@ -71,8 +71,8 @@ fn first_line(alloc: Global, tile: &PlacedTile) -> Result<String, AllocError>
     format!(in alloc; "{kind} {motion} {addr} -\n")
 }
 
-/// Writes the line of a tile of the path, with the edge that leads back, behind a text.
-fn write_line(text: &mut String, tile: &PlacedTile, back: u8) -> Result<(), AllocError>
+/// Writes the line of a tile in its place, with the number of the edge that leads back or of a vertex, behind a text.
+pub(crate) fn write_line(text: &mut String, tile: &PlacedTile, back: u8) -> Result<(), AllocError>
     ensures { OnOk result ((order : Order) → IsOf order tile.now.motion.shift → tile.now.kind ≡ tile.now.addr.kind
         → string_bytes text.new ≡ string_bytes text.old ++ walk_line order (address_of tile.now.addr) (motion_in order tile.now.motion) (Some back)) }
 {

@@ -29,6 +29,8 @@ pub enum Command {
     Calc,
     /// Covers windows made from a start number, and prints a summary.
     Drill,
+    /// Prints the tiles round a vertex.
+    Star,
 }
 
 /// A key of a word `key=value`.
@@ -56,6 +58,8 @@ pub enum Key {
     Glue,
     /// How many windows are covered.
     Count,
+    /// The number of a vertex.
+    Vertex,
 }
 
 impl Command {
@@ -77,6 +81,8 @@ impl Command {
             Some(Command::Calc)
         } else if word == "drill" {
             Some(Command::Drill)
+        } else if word == "star" {
+            Some(Command::Star)
         } else {
             None
         }
@@ -101,6 +107,7 @@ impl Command {
             ],
             Command::Check | Command::Calc => &[Key::Rule],
             Command::Drill => &[Key::Rule, Key::Count, Key::Seed],
+            Command::Star => &[Key::Rule, Key::Addr, Key::Vertex, Key::Seed],
         }
     }
 
@@ -115,6 +122,7 @@ impl Command {
             Command::Draw => &[Key::Rule, Key::Addr, Key::At, Key::Half, Key::Layers],
             Command::Check | Command::Calc => &[Key::Rule],
             Command::Drill => &[Key::Rule, Key::Count],
+            Command::Star => &[Key::Rule, Key::Addr, Key::Vertex],
         }
     }
 
@@ -146,6 +154,7 @@ impl Key {
             Key::Layers => "layers",
             Key::Glue => "glue",
             Key::Count => "n",
+            Key::Vertex => "vertex",
         }
     }
 
@@ -156,7 +165,7 @@ impl Key {
         match self {
             Key::Rule => command.is_rule(value),
             Key::Addr => true,
-            Key::Edge => number_up_to_255(value).is_some(),
+            Key::Edge | Key::Vertex => number_up_to_255(value).is_some(),
             Key::Seed => read_number(value.as_bytes(), u64::MAX).is_some(),
             Key::Grow => read_number(value.as_bytes(), 64).is_some(),
             Key::Path => path_in(value).is_some(),

@@ -1,4 +1,4 @@
-use Rattle.std.proofs.Common.{◌≡◌, map, IfOk, IfErr, string_bytes, sym, subst}
+use Rattle.std.proofs.Common.{map, IfOk, IfErr, string_bytes, sym, subst}
 use Rattle.rule_model.specs.Tiling.{tiling_of}
 use Rattle.tile_app.specs.Answer.{IsPrinted, Refuses}
 use Rattle.tile_app.specs.Place.{PrintsPlace}

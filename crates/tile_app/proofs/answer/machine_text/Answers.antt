@@ -1,11 +1,11 @@
-use Rattle.std.proofs.Common.{◌≡◌, map, IfOk, IfErr, string_bytes, sym, subst}
+use Rattle.std.proofs.Common.{map, IfOk, string_bytes, sym, subst}
 use Rattle.rule_model.specs.Tiling.{tiling_of}
 use Rattle.tile_app.specs.Answer.{IsPrinted}
-use Rattle.tile_app.specs.Draw.{PrintsDraw}
 use Rattle.tile_app.specs.Drill.{PrintsDrill}
 use Rattle.tile_app.specs.Neighbour.{PrintsNeighbour}
 use Rattle.tile_app.specs.Place.{PrintsPlace}
 use Rattle.tile_app.specs.Request.{request_of}
+use Rattle.tile_app.specs.Star.{PrintsStar}
 use Rattle.tile_app.specs.Walk.{PrintsWalk}
 use Rattle.tile_app.specs.Words.{texts}
 use Rattle.tile_app.proofs.Answered.{bytes-printed}
@@ -31,6 +31,11 @@ pub returns-in-Drill-clause-printed : goal.returns-in-Drill-clause-printed
 returns-in-Drill-clause-printed g c =
     subst (λ d. IfOk c.bytes_of-in-Drill.result (λ text. IsPrinted d (request_of (texts c.args.words.now) (map g.D.Layer.form c.args.layers.now) c.args.file.now) (tiling_of c.args.machine.now) text.items)) (sym c.in-Drill.is)
     (bytes-printed string_bytes _ (PrintsDrill (texts c.args.words.now) (tiling_of c.args.machine.now)) c.drill_text.result c.bytes_of-in-Drill.result c.bytes_of-in-Drill.ensures.whether c.bytes_of-in-Drill.ensures.bytes c.drill_text.ensures.printed)
+
+pub returns-in-Star-clause-printed : goal.returns-in-Star-clause-printed
+returns-in-Star-clause-printed g c =
+    subst (λ d. IfOk c.bytes_of-in-Star.result (λ text. IsPrinted d (request_of (texts c.args.words.now) (map g.D.Layer.form c.args.layers.now) c.args.file.now) (tiling_of c.args.machine.now) text.items)) (sym c.in-Star.is)
+    (bytes-printed string_bytes _ (PrintsStar (texts c.args.words.now) (tiling_of c.args.machine.now)) c.star_text.result c.bytes_of-in-Star.result c.bytes_of-in-Star.ensures.whether c.bytes_of-in-Star.ensures.bytes c.star_text.ensures.printed)
 
 pub returns-in-Draw-clause-printed : goal.returns-in-Draw-clause-printed
 returns-in-Draw-clause-printed g c =

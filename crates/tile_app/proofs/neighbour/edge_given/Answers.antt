@@ -1,17 +1,19 @@
 use Rattle.std.proofs.Common.{rules, sym, ap, ◌∙◌, option_map}
 use Rattle.std.specs.Option.{option_and_then}
 use Rattle.tile_shape.specs.Decimal.{number_up_to}
+use Rattle.tile_app.specs.declared.words.Command.TheVariants.{Neighbour}
+use Rattle.tile_app.specs.declared.words.Key.TheVariants.{Edge}
 use Rattle.tile_app.specs.Words.{texts}
-use Rattle.tile_app.proofs.Given.{GivesEdge-right, edge_is_number}
+use Rattle.tile_app.proofs.Given.{edge-right, form_is_right}
 use Rattle.tile_app.proofs.neighbour.edge_given.Goals as goal
 
 pub unwrap-text-requires : goal.unwrap-text-requires
-unwrap-text-requires c = let k = GivesEdge-right (texts c.args.words.now) c.requires in let h = c.value_given.ensures ∙ k.is_text in search (rules, h)
+unwrap-text-requires c = let k = edge-right (texts c.args.words.now) c.requires in let h = c.value_given.ensures ∙ k.is_text in search (rules, h)
 
 pub unwrap-requires : goal.unwrap-requires
 unwrap-requires c =
     let given = sym c.value_given.ensures ∙ ap (option_map (λ v. v.now)) c.unwrap-text.ensures in
-    let h = edge_is_number (texts c.args.words.now) c.unwrap-text.result.now (GivesEdge-right (texts c.args.words.now) c.requires) given in
+    let h = form_is_right Neighbour (texts c.args.words.now) Edge c.unwrap-text.result.now (edge-right (texts c.args.words.now) c.requires) given in
     let e = c.number_up_to_255.ensures in
     search (rules, h, e)
 

@@ -1,20 +1,13 @@
-use Rattle.std.proofs.Common.{◌≡◌, ◌<◌, ℕ, length, Result, Ok, Err, ap, ◌∙◌, subst}
+use Rattle.std.proofs.Common.{◌≡◌, ◌<◌, ℕ, Result, Ok, Err, ap, ◌∙◌, subst}
 use Rattle.std.proofs.lemmas.Result.{err_from_is_err_and}
-use Rattle.addressing.specs.Tables.{Tables, child_kinds, kind_tables}
+use Rattle.addressing.specs.Tables.{child_kinds}
 use Rattle.rule_model.specs.Checked.{rule_contacts, child_kinds_of}
-use Rattle.rule_model.specs.declared.rule.Rule.{Rule}
-use Rattle.rule_model.specs.Tiling.{tiling_of}
 use Rattle.tile_shape.specs.Views.{address_of}
 use Rattle.transducer_core.specs.declared.outside.Outside.{Outside}
 use Rattle.tile_app.specs.declared.words.Command.TheVariants.{Neighbour}
-use Rattle.tile_place.specs.Crossed.{edges_of}
 use Rattle.tile_app.proofs.Children.{kind_in_tables}
-use Rattle.tile_app.proofs.Edges.{edge_has_type}
+use Rattle.tile_app.proofs.Edges.{edge_has_type, edges-counted}
 use Rattle.tile_app.proofs.neighbour.neighbour_text.Goals as goal
-
--- the number of edges that the tables of a rule give
-edges-counted : (t : Tables) (inside now : Rule) (kind edges : ℕ) → t ≡ rule_contacts inside → inside ≡ now → edges ≡ length (kind_tables t kind).types → edges ≡ edges_of (tiling_of now) kind
-edges-counted t inside now kind edges is same h = h ∙ ap (λ t. length (kind_tables t kind).types) (is ∙ ap rule_contacts same)
 
 ok_or_err : {A B : Type 0} (o : Result A B) (x : A) (y : B) → o ≡ Ok x → o ≡ Err y → ⊥
 ok_or_err o x y e f = absurd (cc (e, f))

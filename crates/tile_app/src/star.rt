@@ -1,0 +1,68 @@
+//! The command `star`: the tiles round a vertex.
+ghost use Rattle.std.specs.Prelude.{◌≡◌, Some, Ok, IfOk, IfErr, All, map, string_bytes};
+ghost use Rattle.std.specs.List.{flat_map};
+ghost use Rattle.lazy_walk.specs.Frames.{FrameValue};
+ghost use Rattle.lazy_walk.specs.Standing.{Stands};
+ghost use Rattle.rule_model.specs.Tiling.{Tiling, tiling_of};
+ghost use Rattle.star_walk.specs.Corners.{corner_in};
+ghost use Rattle.tile_app.specs.declared.words.Command.TheVariants.{Star as StarCommand};
+ghost use Rattle.tile_app.specs.Star.{vertex_given, corner_line, PrintsStar, StarRefuses};
+ghost use Rattle.tile_app.specs.Status.{OrNoMemory};
+ghost use Rattle.tile_app.specs.Words.{texts, command_of};
+
+use crate::number::number_up_to_255;
+use crate::status::Status;
+use crate::tile::address_given;
+use crate::walk::{seed_given, write_line};
+use crate::words::Key;
+use edge_tables::steps::Steps;
+use lazy_walk::frame::Frame;
+use star_walk::corner::Corner;
+use star_walk::star::Star;
+use std::alloc::{AllocError, Global};
+use std::sync::ledger::Ledger;
+use tile_place::machine::Machine;
+
+/// The number of the vertex that right words give.
+fn vertex_given(words: &[String]) -> u8
+    requires { command_of (texts words.now) ≡ Ok StarCommand }
+    ensures { vertex_given (texts words.now) ≡ Some result }
+{
+    let text = Key::Vertex.value_given(words).unwrap();
+    number_up_to_255(text).unwrap()
+}
+
+/// The lines of tiles round a vertex, each in its place in a frame.
+fn star_lines(alloc: Global, corners: &[Corner]) -> Result<String, AllocError>
+    ensures { IfOk result (λ text. (t : Tiling) (f : FrameValue) → All (λ (c : Corner). Stands t f c.tile) corners.now
+        → string_bytes text ≡ flat_map (corner_line t) (map (corner_in t.order) corners.now)) }
+{
+    let mut text = String::new(alloc);
+    for corner in corners {
+        write_line(&mut text, &corner.tile, corner.vertex)?;
+    }
+    Ok(text)
+}
+
+/// What `star` prints for right words, or its refusal. The crossings count their look-ups in `steps`.
+pub fn star_text<L: Ledger>(
+    alloc: Global,
+    machine: &Machine,
+    words: &[String],
+    steps: &mut Steps<L>,
+) -> Result<String, Status>
+    requires right { command_of (texts words.now) ≡ Ok StarCommand }
+    ensures printed { IfOk result (λ text. PrintsStar (texts words.now) (tiling_of machine.now) (string_bytes text)) }
+    ensures refused { IfErr result (OrNoMemory (StarRefuses (texts words.now) (tiling_of machine.now))) }
+{
+    let address = address_given(machine, words)?;
+    let vertex = vertex_given(words);
+    let edges = machine.checked().tables().edges(address.kind);
+    if vertex >= edges {
+        return Err(Status::NoVertex { vertex, edges });
+    }
+    let mut frame = Frame::new(address, seed_given(words));
+    let mut star = Star::new();
+    star.find(machine, &mut frame, vertex, steps)?;
+    Ok(star_lines(alloc, star.corners.as_slice())?)
+}
