@@ -1,0 +1,50 @@
+-- The four words of a line: a kind, a turn, a shift and the text of an address. Each reader answers what it has read, or the number, from 0, of the first word that hasn't
+-- its form or is one too many; where a word is missing it is the number of words.
+use Rattle.std.specs.Prelude.{ℕ, List, [], ◌∷◌, Option, Some, None, option_map, Result, Ok, Err}
+use Rattle.std.specs.Option.{ok_or}
+use Rattle.cyclo_points.specs.Text.{blank}
+use Rattle.cyclo_points.specs.declared.motion.Motion.{Motion}
+use Rattle.tile_shape.specs.Decimal.{number_up_to}
+use Rattle.tile_shape.specs.Parse.{◌>>=◌}
+use Rattle.listing_text.specs.Lines.{texts_between}
+use Rattle.listing_text.specs.Signed.{shift_in}
+
+-- the first of some texts by its form, and those behind it
+abbrev pub first_by : {A : Type 0} → (List ℕ → Option A) → List (List ℕ) → Option (A × List (List ℕ))
+first_by form [] = None
+first_by form (text ∷ texts) = option_map (λ x. (x, texts)) (form text)
+
+-- the same of words, of which the first has this place
+abbrev pub word_by : {A : Type 0} → (List ℕ → Option A) → ℕ → List (List ℕ) → Result (A × List (List ℕ)) ℕ
+word_by form place words = ok_or (first_by form words) place
+
+-- a text that isn't empty
+abbrev pub some_text : List ℕ → Option (List ℕ)
+some_text [] = None
+some_text (byte ∷ bytes) = Some (byte ∷ bytes)
+
+-- what is listed of a tile, by the words of a line
+pub record Listed : Type 0 where
+  pub kind : ℕ
+  pub motion : Motion
+  pub address : List ℕ
+
+-- the last word, an address, behind a kind and a motion; no word stands behind it
+abbrev pub last_word : ℕ → Motion → List ℕ × List (List ℕ) → Result Listed ℕ
+last_word kind motion (address, []) = Ok (record { kind = kind; motion = motion; address = address })
+last_word kind motion (address, word ∷ words) = Err 4
+
+-- a kind and a motion, by three words, and the words behind them
+unfoldable pub listed_motion : List (List ℕ) → Result (ℕ × Motion × List (List ℕ)) ℕ
+listed_motion words = do
+  kind ← word_by (number_up_to 255) 0 words
+  turn ← word_by (number_up_to 255) 1 kind.1
+  shift ← word_by shift_in 2 turn.1
+  Ok (kind.0, record { turn = turn.0; shift = shift.0 }, shift.1)
+
+-- the words of a line stand between single blanks
+unfoldable pub listed_in : List ℕ → Result Listed ℕ
+listed_in line = do
+  placed ← listed_motion (texts_between blank line)
+  address ← word_by some_text 3 placed.2
+  last_word placed.0 placed.1 address

@@ -1,0 +1,65 @@
+//! The words of a line.
+ghost use Rattle.std.specs.Prelude.{◌≡◌, ◌∷◌, Ok, Err, IfOk, IfErr};
+ghost use Rattle.cyclo_points.specs.Text.{blank};
+ghost use Rattle.listing_text.specs.Lines.{texts_between};
+ghost use Rattle.listing_text.specs.Signed.{shift_in};
+ghost use Rattle.listing_text.specs.Words.{listed_motion};
+ghost use Rattle.listing_text.specs.Views.{texts_behind, AnswersPlaced};
+
+use crate::number::{number_before, signed_before_comma};
+use cyclo_points::motion::Motion;
+use cyclo_points::point::Point;
+use memchr::memchr;
+
+/// The first three words of a line, and what stands behind them, where there is a blank.
+#[derive(Clone, Copy)]
+pub(crate) struct Placed<'a> {
+    pub(crate) kind: u8,
+    pub(crate) motion: Motion,
+    pub(crate) left: Option<&'a [u8]>,
+}
+
+/// What stands before the first mark, and what stands behind it, where there is one.
+#[inline]
+pub(crate) fn cut(text: &[u8], mark: u8) -> (&[u8], Option<&[u8]>)
+    ensures { texts_between mark text.now ≡ result.0.now ∷ texts_behind mark result.1 }
+{
+    match memchr(mark, text) {
+        Some(place) => (&text[..place], Some(&text[place + 1..])),
+        None => (text, None),
+    }
+}
+
+/// The shift that a text is: four signed numbers joined by commas.
+fn shift_in(text: &[u8]) -> Option<Point>
+    ensures { result ≡ shift_in text.now }
+{
+    let (a, left) = signed_before_comma(text)?;
+    let (b, left) = signed_before_comma(left?)?;
+    let (c, left) = signed_before_comma(left?)?;
+    let (d, left) = signed_before_comma(left?)?;
+    if left.is_some() {
+        return None;
+    }
+    Some(Point { c: [a, b, c, d] })
+}
+
+/// The kind, the turn and the shift of a line, and what stands behind them; else the number of the first word that is
+/// wrong or missing.
+#[tactic(auto, unfolding(crate::specs::Words::listed_motion))]
+pub(crate) fn listed_motion(line: &[u8]) -> Result<Placed<'_>, u8>
+    ensures { AnswersPlaced result (listed_motion (texts_between blank line.now)) }
+{
+    let (kind, left) = number_before(line, b' ', 255).ok_or(0)?;
+    let (turn, left) = number_before(left.ok_or(1)?, b' ', 255).ok_or(1)?;
+    let (word, left) = cut(left.ok_or(2)?, b' ');
+    let shift = shift_in(word).ok_or(2)?;
+    Ok(Placed {
+        kind: kind as u8,
+        motion: Motion {
+            turn: turn as u8,
+            shift,
+        },
+        left,
+    })
+}
