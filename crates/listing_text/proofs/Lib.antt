@@ -1,2 +1,4 @@
 pub mod Figures
 pub mod NumberOn
+pub mod Cuts
+pub mod Shifts

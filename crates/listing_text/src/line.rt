@@ -1,5 +1,5 @@
 //! The words of a line.
-ghost use Rattle.std.specs.Prelude.{◌≡◌, ◌∷◌, Ok, Err, IfOk, IfErr};
+ghost use Rattle.std.specs.Prelude.{◌≡◌, [], ◌∷◌, Ok, Err, IfOk, IfErr};
 ghost use Rattle.cyclo_points.specs.Text.{blank};
 ghost use Rattle.listing_text.specs.Lines.{texts_between};
 ghost use Rattle.listing_text.specs.Signed.{shift_in};
@@ -38,10 +38,18 @@ fn shift_in(text: &[u8]) -> Option<Point>
     let (b, left) = signed_before_comma(left?)?;
     let (c, left) = signed_before_comma(left?)?;
     let (d, left) = signed_before_comma(left?)?;
-    if left.is_some() {
-        return None;
+    match left {
+        Some(_) => None,
+        None => Some(point_of(a, b, c, d)),
     }
-    Some(Point { c: [a, b, c, d] })
+}
+
+/// The point of four coefficients.
+#[inline]
+fn point_of(a: i64, b: i64, c: i64, d: i64) -> Point
+    ensures { result ≡ record { c = a ∷ b ∷ c ∷ d ∷ [] } }
+{
+    Point { c: [a, b, c, d] }
 }
 
 /// The kind, the turn and the shift of a line, and what stands behind them; else the number of the first word that is
