@@ -2,3 +2,8 @@ pub mod Figures
 pub mod NumberOn
 pub mod Cuts
 pub mod Shifts
+pub mod ListedLines
+pub mod CountedLines
+pub mod AddressAlone
+pub mod LineRead
+pub mod ListingRead

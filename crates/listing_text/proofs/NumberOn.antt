@@ -59,8 +59,8 @@ module _ (mark most : ℕ) where
     where
       at_test : (t : Bool) → number_on mark most (place + 1) (figured n b) bs ≡ first_by (further most (figured n b)) (texts_between mark bs) → ((w : List ℕ) × (ws : List (List ℕ)) × (texts_between mark bs ≡ w ∷ ws))
           → cond t (ended place n (texts_between mark bs))
-            (cond (is_figure b && not (nat_eq n 0 && nat_lt 0 place)) (cond (nat_le (figured n b) most) (number_on mark most (place + 1) (figured n b) bs) None) None)
-            ≡ first_by (further most n) (cond t ([] ∷ texts_between mark bs) (onto_first b (texts_between mark bs)))
+          (cond (is_figure b && not (nat_eq n 0 && nat_lt 0 place)) (cond (nat_le (figured n b) most) (number_on mark most (place + 1) (figured n b) bs) None) None)
+          ≡ first_by (further most n) (cond t ([] ∷ texts_between mark bs) (onto_first b (texts_between mark bs)))
       at_test true on s = ap (λ t. cond t None (Some (n, texts_between mark bs))) (not_first place h)
       at_test false on (w, ws, e) =
           ap (λ z. cond (is_figure b && not z) (cond (nat_le (figured n b) most) (number_on mark most (place + 1) (figured n b) bs) None) None) (and_true (nat_eq n 0) (nat_lt 0 place) (below place h))
@@ -79,7 +79,7 @@ module _ (mark most : ℕ) where
 
       at_test : (t : Bool) → ((w : List ℕ) × (ws : List (List ℕ)) × (texts_between mark bs ≡ w ∷ ws))
           → cond t (ended 0 0 (texts_between mark bs)) (cond (is_figure b && true) (cond (nat_le (figured 0 b) most) (number_on mark most 1 (figured 0 b) bs) None) None)
-            ≡ first_by (number_up_to most) (cond t ([] ∷ texts_between mark bs) (onto_first b (texts_between mark bs)))
+          ≡ first_by (number_up_to most) (cond t ([] ∷ texts_between mark bs) (onto_first b (texts_between mark bs)))
       at_test true s = refl
       at_test false (w, ws, e) =
           ap (λ f. cond f (cond (nat_le (figured 0 b) most) (number_on mark most 1 (figured 0 b) bs) None) None) (and_false (is_figure b))

@@ -1,5 +1,5 @@
 -- The entries of the program, and what its readers answer.
-use Rattle.std.specs.Prelude.{◌≡◌, ℕ, List, [], Option, Some, None, option_map, Result, Ok, Err}
+use Rattle.std.specs.Prelude.{◌≡◌, ℕ, ◌+◌, List, [], ◌∷◌, ◌++◌, length, Option, Some, None, option_map, Result, Ok, Err}
 use Rattle.std.specs.Borrow.{Bor}
 use Rattle.cyclo_points.specs.Text.{blank}
 use Rattle.cyclo_points.specs.declared.motion.Motion.{Motion}
@@ -9,7 +9,7 @@ use Rattle.listing_text.specs.declared.line.Placed.{Placed}
 use Rattle.listing_text.specs.declared.listing_fault.ListingFault.{ListingFault}
 use Rattle.listing_text.specs.declared.listing_fault.ListingFault.TheVariants.{NoMemory}
 use Rattle.listing_text.specs.Lines.{texts_between}
-use Rattle.listing_text.specs.Listing.{Entry}
+use Rattle.listing_text.specs.Listing.{Entry, entry_in}
 
 abbrev pub entry_of : program.Entry → Entry
 entry_of e = record { motion = e.motion; address = address_of e.address }
@@ -18,6 +18,12 @@ entry_of e = record { motion = e.motion; address = address_of e.address }
 abbrev pub OrWantsMemory : (ListingFault → Type 0) → ListingFault → Type 0
 OrWantsMemory P NoMemory = Unit {0}
 OrWantsMemory P fault = P fault
+
+-- the entry of a line, whose number is one more than that of those put before, was put behind them
+pub record IsPut (children : List (List ℕ)) (line : List ℕ) (before after : List program.Entry) : Type 0 where
+  pub entry : program.Entry
+  pub read : entry_in children (length before + 1) line ≡ Ok (entry_of entry)
+  pub behind : after ≡ before ++ entry ∷ []
 
 -- the texts between marks of what stands behind a mark, where there is one
 abbrev pub texts_behind : ℕ → Option (Bor (List ℕ)) → List (List ℕ)

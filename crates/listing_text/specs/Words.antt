@@ -42,9 +42,14 @@ listed_motion words = do
   shift ← word_by shift_in 2 turn.1
   Ok (kind.0, record { turn = turn.0; shift = shift.0 }, shift.1)
 
+-- what is listed, by the words behind these three
+unfoldable pub listed_behind : ℕ → Motion → List (List ℕ) → Result Listed ℕ
+listed_behind kind motion words = do
+  address ← word_by some_text 3 words
+  last_word kind motion address
+
 -- the words of a line stand between single blanks
 unfoldable pub listed_in : List ℕ → Result Listed ℕ
 listed_in line = do
   placed ← listed_motion (texts_between blank line)
-  address ← word_by some_text 3 placed.2
-  last_word placed.0 placed.1 address
+  listed_behind placed.0 placed.1 placed.2

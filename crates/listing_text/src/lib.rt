@@ -5,6 +5,7 @@
 #![tactic(auto)]
 
 pub mod entry;
-pub mod listing_fault;
 mod line;
+pub mod listing_fault;
 mod number;
+pub mod reading;

@@ -1,5 +1,5 @@
 //! The words of a line.
-ghost use Rattle.std.specs.Prelude.{◌≡◌, [], ◌∷◌, Ok, Err, IfOk, IfErr};
+ghost use Rattle.std.specs.Prelude.{◌≡◌, ◌<◌, [], ◌∷◌, length, IfSome, IfNone};
 ghost use Rattle.cyclo_points.specs.Text.{blank};
 ghost use Rattle.listing_text.specs.Lines.{texts_between};
 ghost use Rattle.listing_text.specs.Signed.{shift_in};
@@ -22,7 +22,9 @@ pub(crate) struct Placed<'a> {
 /// What stands before the first mark, and what stands behind it, where there is one.
 #[inline]
 pub(crate) fn cut(text: &[u8], mark: u8) -> (&[u8], Option<&[u8]>)
-    ensures { texts_between mark text.now ≡ result.0.now ∷ texts_behind mark result.1 }
+    ensures texts { texts_between mark text.now ≡ result.0.now ∷ texts_behind mark result.1 }
+    ensures shorter { IfSome result.1 (λ rest. length rest.now < length text.now) }
+    ensures whole { IfNone result.1 (result.0.now ≡ text.now) }
 {
     match memchr(mark, text) {
         Some(place) => (&text[..place], Some(&text[place + 1..])),

@@ -5,8 +5,8 @@ use Rattle.listing_text.proofs.line.cut.Goals as goal
 low : (k : ℕ) → 0 ≤ k
 low k = omega arith
 
-pub returns-in-Some : goal.returns-in-Some
-returns-in-Some c = parted c.args.mark c.args.text.now c.in-Some.place c.in-Some.ensures.0.high (λ k l. c.in-Some.ensures.0.before k (low k) l) c.in-Some.ensures.1
+pub returns-in-Some-clause-texts : goal.returns-in-Some-clause-texts
+returns-in-Some-clause-texts c = parted c.args.mark c.args.text.now c.in-Some.place c.in-Some.ensures.0.high (λ k l. c.in-Some.ensures.0.before k (low k) l) c.in-Some.ensures.1
 
-pub returns-in-None : goal.returns-in-None
-returns-in-None c = whole c.args.mark c.args.text.now (λ k l. c.in-None.ensures k (low k) l)
+pub returns-in-None-clause-texts : goal.returns-in-None-clause-texts
+returns-in-None-clause-texts c = whole c.args.mark c.args.text.now (λ k l. c.in-None.ensures k (low k) l)
