@@ -9,7 +9,6 @@ ghost use Rattle.listing_text.specs.Views.{texts_behind, AnswersPlaced};
 use crate::number::{number_before, signed_before_comma};
 use cyclo_points::motion::Motion;
 use cyclo_points::point::Point;
-use memchr::memchr;
 
 /// The first three words of a line, and what stands behind them, where there is a blank.
 #[derive(Clone, Copy)]
@@ -19,17 +18,19 @@ pub(crate) struct Placed<'a> {
     pub(crate) left: Option<&'a [u8]>,
 }
 
-/// What stands before the first mark, and what stands behind it, where there is one.
+/// What stands before the first mark of a short text, and what stands behind the mark, where there is one.
 #[inline]
 pub(crate) fn cut(text: &[u8], mark: u8) -> (&[u8], Option<&[u8]>)
     ensures texts { texts_between mark text.now ≡ result.0.now ∷ texts_behind mark result.1 }
     ensures shorter { IfSome result.1 (λ rest. length rest.now < length text.now) }
     ensures whole { IfNone result.1 (result.0.now ≡ text.now) }
 {
-    match memchr(mark, text) {
-        Some(place) => (&text[..place], Some(&text[place + 1..])),
-        None => (text, None),
+    for (place, byte) in text.iter().enumerate() {
+        if *byte == mark {
+            return (&text[..place], Some(&text[place + 1..]));
+        }
     }
+    (text, None)
 }
 
 /// The shift that a text is: four signed numbers joined by commas.

@@ -14,6 +14,7 @@ ghost use Rattle.listing_text.specs.Words.{listed_behind};
 use crate::entry::Entry;
 use crate::line::{cut, listed_motion};
 use crate::listing_fault::ListingFault;
+use memchr::memchr;
 use std::alloc::Global;
 use tile_shape::address_fault::AddressFault;
 use tile_shape::laws::short_numbers_law;
@@ -123,10 +124,9 @@ fn cut_line(text: &[u8]) -> (&[u8], &[u8])
     ensures line { lines_in text.now ≡ result.0.now ∷ lines_in result.1.now }
     ensures shorter { length result.1.now < length text.now }
 {
-    let (line, behind) = cut(text, b'\n');
-    match behind {
-        Some(behind) => (line, behind),
-        None => (line, &[]),
+    match memchr(b'\n', text) {
+        Some(place) => (&text[..place], &text[place + 1..]),
+        None => (text, &[]),
     }
 }
 

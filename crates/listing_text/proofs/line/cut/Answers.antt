@@ -1,12 +1,11 @@
-use Rattle.std.proofs.Common.{ℕ, ◌≤◌, arith}
+use Rattle.std.proofs.Common.{eq-eqb, arith, subst, ◌<◌, length}
 use Rattle.listing_text.proofs.Cuts.{parted, whole}
 use Rattle.listing_text.proofs.line.cut.Goals as goal
 
-low : (k : ℕ) → 0 ≤ k
-low k = omega arith
+pub returns-then-byte-mark-clause-texts : goal.returns-then-byte-mark-clause-texts
+returns-then-byte-mark-clause-texts c =
+    parted c.args.mark c.args.text.now c.loop-place.place c.loop-place-test.true c.loop-place.invariant (eq-eqb _ c.args.mark c.if-byte-mark.true)
 
-pub returns-in-Some-clause-texts : goal.returns-in-Some-clause-texts
-returns-in-Some-clause-texts c = parted c.args.mark c.args.text.now c.in-Some.place c.in-Some.ensures.0.high (λ k l. c.in-Some.ensures.0.before k (low k) l) c.in-Some.ensures.1
-
-pub returns-in-None-clause-texts : goal.returns-in-None-clause-texts
-returns-in-None-clause-texts c = whole c.args.mark c.args.text.now (λ k l. c.in-None.ensures k (low k) l)
+pub returns-clause-texts : goal.returns-clause-texts
+returns-clause-texts c =
+    whole c.args.mark c.args.text.now (λ k l. c.loop-place.invariant k (let e = c.loop-place.auto.place-end in let f = c.loop-place-test.false in omega (arith, l, e, f)))

@@ -1,19 +1,19 @@
-use Rattle.std.proofs.Common.{◌≡◌, ◌∷◌, [], ◌<◌, length, IfSome, IfNone, sym, ap, ◌∙◌, subst}
-use Rattle.listing_text.specs.Lines.{newline, lines_in}
-use Rattle.listing_text.specs.Views.{texts_behind}
+use Rattle.std.proofs.Common.{ℕ, ◌+◌, ◌-◌, ◌≤◌, length, take, drop, arith}
+use Rattle.listing_text.specs.Lines.{newline}
+use Rattle.listing_text.proofs.Cuts.{parted, whole}
 use Rattle.listing_text.proofs.ListedLines.{line_cut, last_cut}
 use Rattle.listing_text.proofs.reading.cut_line.Goals as goal
 
+low : (k : ℕ) → 0 ≤ k
+low k = omega arith
+
 pub returns-in-Some-clause-line : goal.returns-in-Some-clause-line
 returns-in-Some-clause-line c =
-    line_cut c.args.text.now c.cut.result.0.now c.in-Some.behind.now (c.cut.ensures.texts ∙ ap (λ l. c.cut.result.0.now ∷ texts_behind newline l) c.in-Some.is)
-
-pub returns-in-Some-clause-shorter : goal.returns-in-Some-clause-shorter
-returns-in-Some-clause-shorter c = subst (λ l. IfSome l (λ rest. length rest.now < length c.args.text.now)) c.in-Some.is c.cut.ensures.shorter
+    let text = c.args.text.now in
+    let place = c.in-Some.place in
+    line_cut text (take place text) (take (length text - (place + 1)) (drop (place + 1) text))
+    (parted newline c.args.text.now c.in-Some.place c.in-Some.ensures.0.high (λ k l. c.in-Some.ensures.0.before k (low k) l) c.in-Some.ensures.1)
 
 pub returns-in-None-clause-line : goal.returns-in-None-clause-line
 returns-in-None-clause-line c =
-    let whole : c.cut.result.0.now ≡ c.args.text.now = subst (λ l. IfNone l (c.cut.result.0.now ≡ c.args.text.now)) c.in-None.is c.cut.ensures.whole in
-    last_cut c.args.text.now c.requires.some
-    (c.cut.ensures.texts ∙ ap (λ l. c.cut.result.0.now ∷ texts_behind newline l) c.in-None.is ∙ ap (λ t. t ∷ []) whole)
-    ∙ ap (λ t. t ∷ []) (sym whole)
+    last_cut c.args.text.now c.requires.some (whole newline c.args.text.now (λ k l. c.in-None.ensures k (low k) l))
