@@ -25,8 +25,8 @@ pub(crate) fn cut(text: &[u8], mark: u8) -> (&[u8], Option<&[u8]>)
     ensures shorter { IfSome result.1 (λ rest. length rest.now < length text.now) }
     ensures whole { IfNone result.1 (result.0.now ≡ text.now) }
 {
-    for (place, byte) in text.iter().enumerate() {
-        if *byte == mark {
+    for place in 0..text.len() {
+        if text[place] == mark {
             return (&text[..place], Some(&text[place + 1..]));
         }
     }

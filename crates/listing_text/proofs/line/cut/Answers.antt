@@ -2,9 +2,9 @@ use Rattle.std.proofs.Common.{eq-eqb, arith, subst, ◌<◌, length}
 use Rattle.listing_text.proofs.Cuts.{parted, whole}
 use Rattle.listing_text.proofs.line.cut.Goals as goal
 
-pub returns-then-byte-mark-clause-texts : goal.returns-then-byte-mark-clause-texts
-returns-then-byte-mark-clause-texts c =
-    parted c.args.mark c.args.text.now c.loop-place.place c.loop-place-test.true c.loop-place.invariant (eq-eqb _ c.args.mark c.if-byte-mark.true)
+pub returns-then-text-place-clause-texts : goal.returns-then-text-place-clause-texts
+returns-then-text-place-clause-texts c =
+    parted c.args.mark c.args.text.now c.loop-place.place c.loop-place-test.true c.loop-place.invariant (eq-eqb _ c.args.mark c.if-text-place.true)
 
 pub returns-clause-texts : goal.returns-clause-texts
 returns-clause-texts c =
