@@ -4,7 +4,7 @@ use Rattle.std.proofs.lemmas.List.{take_all}
 use Rattle.std.proofs.lemmas.List.Splits.{slice_split_first}
 use Rattle.std.proofs.lemmas.List.Sums.{position_or_len_is}
 use Rattle.std.specs.List.{position_or_len, slice_split, onto_first}
-use Rattle.listing_text.specs.Lines.{texts_between, newline, lines_in}
+use Rattle.listing_text.specs.Lines.{texts_between}
 
 pub denied : (b : Bool) → (b ≡ true → ⊥) → b ≡ false
 denied true h = absurd (h refl)

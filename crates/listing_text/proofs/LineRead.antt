@@ -1,17 +1,16 @@
 -- The entry of a line, by its first three words and what stands behind them.
 use Rattle.std.proofs.lemmas.Bool.Decides.{nat_tests}
-use Rattle.std.proofs.Common.{length, arith, suc, ◌≡◌, ℕ, ◌+◌, Bool, true, false, cond, List, [], ◌∷◌, nat_eq, Some, None, Ok, Err, Result, refl, sym, ap, ◌∙◌, subst}
+use Rattle.std.proofs.Common.{length, arith, suc, ◌≡◌, ℕ, true, false, cond, List, [], ◌∷◌, nat_eq, Some, Ok, Err, refl, sym, ap, ◌∙◌}
 use Rattle.addressing.specs.Address.{Address}
 use Rattle.cyclo_points.specs.Text.{blank}
 use Rattle.cyclo_points.specs.declared.motion.Motion.{Motion}
 use Rattle.tile_shape.specs.AddressIn.{address_in}
 use Rattle.tile_shape.specs.Text.{address_text, HasShortNumbers}
 use Rattle.tile_shape.specs.declared.address_fault.AddressFault.{AddressFault}
-use Rattle.listing_text.specs.declared.listing_fault.ListingFault.{ListingFault}
 use Rattle.listing_text.specs.declared.listing_fault.ListingFault.TheVariants as faults
 use Rattle.listing_text.specs.Lines.{texts_between}
-use Rattle.listing_text.specs.Listing.{Entry, entry_at, entry_of_words, entry_in}
-use Rattle.listing_text.specs.Words.{Listed, some_text, word_by, last_word, listed_motion, listed_behind, listed_in}
+use Rattle.listing_text.specs.Listing.{entry_at, entry_of_words, entry_in}
+use Rattle.listing_text.specs.Words.{some_text, listed_motion, listed_behind, listed_in}
 use Rattle.listing_text.proofs.AddressAlone.{address_alone, address_some}
 use Rattle.listing_text.proofs.NumberOn.{some_first}
 

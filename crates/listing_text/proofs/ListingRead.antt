@@ -1,5 +1,5 @@
 -- The entries read so far, before what the lines left are.
-use Rattle.std.proofs.Common.{◌≡◌, ◌⊎◌, inl, inr, ℕ, suc, ◌+◌, ◌<◌, ◌≤◌, Bool, true, false, cond, List, [], ◌∷◌, ◌++◌, map, length, length-append, nat_eq, nat_le, Some, None, Ok, Err, Result, refl, sym, ap, ◌∙◌, subst, append_assoc, append-nil, arith}
+use Rattle.std.proofs.Common.{◌≡◌, ℕ, suc, ◌+◌, ◌<◌, ◌≤◌, Bool, true, false, cond, List, [], ◌∷◌, ◌++◌, map, length, length-append, nat_eq, nat_le, Ok, Err, Result, refl, sym, ap, ◌∙◌, append_assoc, arith}
 use Rattle.std.proofs.lemmas.Bool.Decides.{nat_tests}
 use Rattle.std.proofs.lemmas.List.{map-append}
 use Rattle.std.specs.List.{onto_first}
@@ -11,7 +11,7 @@ use Rattle.listing_text.specs.declared.listing_fault.ListingFault.{ListingFault}
 use Rattle.listing_text.specs.declared.listing_fault.ListingFault.TheVariants.{TooLong, BadKind, NoMemory}
 use Rattle.listing_text.specs.Limits.{most_lines}
 use Rattle.listing_text.specs.Lines.{newline, lines_in}
-use Rattle.listing_text.specs.Listing.{Entry, entry_at, entry_of_words, entry_in, entries_before, first_then, entries_from, entries_of_lines, listing_in}
+use Rattle.listing_text.specs.Listing.{Entry, entry_at, entry_of_words, entry_in, entries_before, first_then, entries_from, listing_in}
 use Rattle.listing_text.specs.Views.{entry_of, IsPut, OrWantsMemory}
 use Rattle.listing_text.specs.Words.{Listed, listed_in}
 

@@ -4,7 +4,7 @@ use Rattle.std.specs.Option.{option_map, option_and_then}
 use Rattle.cyclo_points.specs.declared.point.Point.{Point}
 use Rattle.tile_shape.specs.Text.{comma}
 use Rattle.listing_text.specs.Lines.{texts_between}
-use Rattle.listing_text.specs.Signed.{signed_in, point_of_signed, point_of_texts}
+use Rattle.listing_text.specs.Signed.{signed_in, point_of_texts}
 use Rattle.listing_text.specs.Words.{first_by}
 use Rattle.listing_text.proofs.NumberOn.{some_first}
 

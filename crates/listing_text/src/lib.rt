@@ -5,6 +5,7 @@
 #![tactic(auto)]
 
 pub mod entry;
+pub mod laws;
 mod line;
 pub mod listing_fault;
 mod number;

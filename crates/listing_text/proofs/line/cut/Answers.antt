@@ -1,4 +1,4 @@
-use Rattle.std.proofs.Common.{eq-eqb, arith, subst, ◌<◌, length}
+use Rattle.std.proofs.Common.{eq-eqb, arith}
 use Rattle.listing_text.proofs.Cuts.{parted, whole}
 use Rattle.listing_text.proofs.line.cut.Goals as goal
 

@@ -1,7 +1,7 @@
 use mir.Val.{SFits}
 use Rattle.std.specs.Int.{w64}
 use Rattle.std.proofs.lemmas.Int.{to_z-of_z}
-use Rattle.std.proofs.Common.{rules, ◌≡◌, Some, None, sym, ap, ◌∙◌}
+use Rattle.std.proofs.Common.{rules, Some, sym, ap, ◌∙◌}
 use Rattle.tile_shape.specs.Text.{comma}
 use Rattle.listing_text.specs.Signed.{signed_in}
 use Rattle.listing_text.specs.Lines.{texts_between}

@@ -1,4 +1,4 @@
-use Rattle.std.proofs.Common.{◌≡◌, ◌∷◌, [], IfNone, sym, ap, ◌∙◌, subst}
+use Rattle.std.proofs.Common.{◌≡◌, ◌∷◌, IfNone, sym, ap, ◌∙◌, subst}
 use Rattle.cyclo_points.specs.Text.{blank}
 use Rattle.listing_text.specs.Views.{texts_behind}
 use Rattle.listing_text.proofs.LineRead.{no_fourth, a_fifth, no_address}
