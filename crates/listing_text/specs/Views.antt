@@ -3,6 +3,7 @@ use Rattle.std.specs.Prelude.{◌≡◌, ℕ, ◌+◌, List, [], ◌∷◌, ◌+
 use Rattle.std.specs.Borrow.{Bor}
 use Rattle.cyclo_points.specs.Text.{blank}
 use Rattle.cyclo_points.specs.declared.motion.Motion.{Motion}
+use Rattle.tile_shape.specs.Accepted.{IsAcceptedAddress}
 use Rattle.tile_shape.specs.Views.{address_of}
 use Rattle.listing_text.specs.declared.entry.Entry as program
 use Rattle.listing_text.specs.declared.line.Placed.{Placed}
@@ -23,6 +24,7 @@ OrWantsMemory P fault = P fault
 pub record IsPut (children : List (List ℕ)) (line : List ℕ) (before after : List program.Entry) : Type 0 where
   pub entry : program.Entry
   pub read : entry_in children (length before + 1) line ≡ Ok (entry_of entry)
+  pub accepted : IsAcceptedAddress children (address_of entry.address)
   pub behind : after ≡ before ++ entry ∷ []
 
 -- the texts between marks of what stands behind a mark, where there is one

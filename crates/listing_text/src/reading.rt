@@ -2,7 +2,10 @@
 ghost use Rattle.std.specs.Prelude.{◌≡◌, ◌⊎◌, ◌↔◌, ℕ, ◌+◌, ◌<◌, ◌≤◌, List, ◌∷◌, map, length, Ok, Err, IfOk, IfErr};
 ghost use Rattle.cyclo_points.specs.Text.{blank};
 ghost use Rattle.cyclo_points.specs.declared.motion.Motion.{Motion};
+ghost use Rattle.std.specs.List.{All};
+ghost use Rattle.tile_shape.specs.Accepted.{IsAcceptedAddress};
 ghost use Rattle.tile_shape.specs.AddressIn.{address_in};
+ghost use Rattle.tile_shape.specs.Views.{address_of};
 ghost use Rattle.listing_text.specs.declared.listing_fault.ListingFault.{ListingFault as Fault};
 ghost use Rattle.listing_text.specs.declared.listing_fault.ListingFault.TheVariants as faults;
 ghost use Rattle.listing_text.specs.Limits.{most_lines};
@@ -39,6 +42,10 @@ pub fn read_listing(alloc: Global, uses: &Uses, listing: &[u8]) -> Result<Vec<En
     // The entries are those of the lines, in order; and a fault is that of the first line that has one.
     ensures read { IfOk result (λ entries. listing_in uses.now listing.now ≡ Ok (map entry_of entries.items)) }
     ensures fault { IfErr result (OrWantsMemory (λ fault. listing_in uses.now listing.now ≡ Err fault)) }
+
+    // There is one for each line, and its address is one of the table.
+    ensures lines { IfOk result (λ entries. length entries.items ≡ length (lines_in listing.now)) }
+    ensures accepted { IfOk result (λ entries. All (λ entry. IsAcceptedAddress uses.now (address_of entry.address)) entries.items) }
 
     // Each fault comes where the listing has it, but that memory may be wanted.
     ensures refused { (fault : Fault) → listing_in uses.now listing.now ≡ Err fault → (result ≡ Err fault) ⊎ (result ≡ Err faults.NoMemory) }

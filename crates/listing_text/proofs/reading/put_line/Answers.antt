@@ -61,5 +61,6 @@ returns-in_ok-push-in-Ok-read_address-clause-put c =
           (c.short_numbers_law.ensures c.args.uses.now a c.kinds-limits.ensures.limits c.in-Ok-read_address.ensures.read.0.fits)
           c.in-Ok-read_address.ensures.exact
           (eq-eqb a.kind placed.kind c.if-address-placed.false);
+      accepted = c.in-Ok-read_address.ensures.read.0;
       behind = c.in_ok-push-in-Ok-read_address.ensures.items;
     }
