@@ -8,7 +8,7 @@ use std::test::Fail;
 const SCRIPT: &str = "let a 0:0/0,1/0\nacross a 4 b\ncommon a b\nplace b\n";
 
 /// A call of each command: its words, what its source holds, and what it prints.
-static CALLS: [(&str, &str, &str); 7] = [
+static CALLS: [(&str, &str, &str); 8] = [
     ("place rule=- addr=0:1/0,2/0", CHAIR, "0 1 7,1,0,0\n"),
     (
         "neighbour rule=- addr=0:0/0,1/0 edge=4",
@@ -36,10 +36,15 @@ static CALLS: [(&str, &str, &str); 7] = [
         CHAIR,
         "windows 1\ntiles 433\nlargest 433\ndepth 9\nrefused 0\n",
     ),
+    (
+        "star rule=- seed=42 addr=0: vertex=0",
+        CHAIR,
+        "0 0 0,0,0,0 0:3/0 0\n0 1 3,1,0,0 0:1/0 2\n",
+    ),
 ];
 
 /// A refused call of each command: its words, what its source holds, its exit code, and its note without the newline.
-static REFUSED: [(&str, &str, u8, &str); 7] = [
+static REFUSED: [(&str, &str, u8, &str); 8] = [
     (
         "place rule=- addr=0:4/0",
         CHAIR,
@@ -72,6 +77,7 @@ static REFUSED: [(&str, &str, u8, &str); 7] = [
         "13 BadScript UnknownName 1",
     ),
     ("drill rule=- n=0", CHAIR, 2, "2 BadWords 2"),
+    ("star rule=- addr=0: vertex=8", CHAIR, 15, "15 NoVertex 8 8"),
 ];
 
 /// Runs a call once more with sound streams: it prints its text.

@@ -4,7 +4,7 @@ use std::alloc::{AllocError, Global};
 use std::test::Fail;
 
 // Words, the exit code that is wanted, the line printed, and the line noted.
-static ROWS: [(&str, u8, &str, &str); 73] = [
+static ROWS: [(&str, u8, &str, &str); 88] = [
     ("place rule=chair addr=0:", 0, "0 0 0,0,0,0", ""),
     ("place rule=chair addr=0:1/0,2/0", 0, "0 1 7,1,0,0", ""),
     ("place addr=0:1/0,2/0 rule=chair", 0, "0 1 7,1,0,0", ""),
@@ -213,6 +213,61 @@ static ROWS: [(&str, u8, &str, &str); 73] = [
     ("drill rule=chair n=01", 2, "", "2 BadWords 2"),
     ("drill rule=chair n=201", 2, "", "2 BadWords 2"),
     ("drill rule=chair n=1 addr=0:", 2, "", "2 BadWords 3"),
+    (
+        "star rule=chair seed=42 addr=0: vertex=0",
+        0,
+        "0 0 0,0,0,0 0:3/0 0\n0 1 3,1,0,0 0:1/0 2",
+        "",
+    ),
+    (
+        "star vertex=0 addr=0: seed=42 rule=chair",
+        0,
+        "0 0 0,0,0,0 0:3/0 0\n0 1 3,1,0,0 0:1/0 2",
+        "",
+    ),
+    (
+        "star rule=halfhex addr=0:0/0 vertex=2",
+        0,
+        "0 0 0,0,0,0 0:0/0 2\n0 2 3,0,0,0 0:1/0 2\n0 3 1,2,0,0 0:2/0 3",
+        "",
+    ),
+    (
+        "star rule=chair addr=0: vertex=8",
+        15,
+        "",
+        "15 NoVertex 8 8",
+    ),
+    (
+        "star rule=p3 addr=0:0/0 vertex=255",
+        15,
+        "",
+        "15 NoVertex 255 3",
+    ),
+    (
+        "star rule=chair addr=0:4/0 vertex=8",
+        4,
+        "",
+        "4 BadAddress WrongChild 0",
+    ),
+    ("star", 2, "", "2 BadWords 1"),
+    ("star rule=chair addr=0:", 2, "", "2 BadWords 3"),
+    ("star rule=chair vertex=0", 2, "", "2 BadWords 3"),
+    ("star rule=chair addr=0: vertex=256", 2, "", "2 BadWords 3"),
+    ("star rule=chair addr=0: vertex=00", 2, "", "2 BadWords 3"),
+    ("star rule=chair addr=0: vertex=-1", 2, "", "2 BadWords 3"),
+    ("star rule=chair addr=0: edge=0", 2, "", "2 BadWords 3"),
+    (
+        "star rule=chair addr=0: vertex=0 grow=1",
+        2,
+        "",
+        "2 BadWords 4",
+    ),
+    (
+        "neighbour rule=chair addr=0: vertex=0",
+        2,
+        "",
+        "2 BadWords 3",
+    ),
 ];
 
 // What stands before an address of kind 0, and then its digits, each so many times.
@@ -262,5 +317,13 @@ fn rows(rt: HostRuntime) -> Result<(), Fail> {
     check_line(&rt, outside.as_str(), 8, "", "8 Outside 4 0")?;
     let stopped = with_digits(alloc, "walk rule=chair addr=0:", &[("0/0", 64)], " path=4")?;
     let limit = with_digits(alloc, "5 DepthLimit 0:", &[("0/0", 64)], " 4")?;
-    check_line(&rt, stopped.as_str(), 5, "", limit.as_str())
+    check_line(&rt, stopped.as_str(), 5, "", limit.as_str())?;
+    let cornered = with_digits(
+        alloc,
+        "star rule=chair addr=0:",
+        &[("0/0", 64)],
+        " vertex=4",
+    )?;
+    let limit = with_digits(alloc, "5 DepthLimit 0:", &[("0/0", 64)], " 3")?;
+    check_line(&rt, cornered.as_str(), 5, "", limit.as_str())
 }
