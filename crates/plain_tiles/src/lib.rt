@@ -18,5 +18,6 @@ pub mod placing;
 pub mod points;
 pub mod small;
 pub mod supertile;
+pub mod vertex_tiles;
 pub mod walks;
 pub mod window_tiles;
