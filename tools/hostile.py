@@ -122,8 +122,20 @@ def back(call, out):
     return call._replace(words=[there.get(word[:5], word) for word in call.words]), b"%b %b\n" % (asked[b"addr="], asked[b"edge="])
 
 
+def turned(call, out):
+    """The call for the star of the last tile of a star, which has the same tiles, and its lines' addresses and vertices."""
+    corners = [line.split(b" ")[3:] for line in out[:-1].split(b"\n")]
+    (address, vertex), words = corners[-1], [word for word in call.words if not word.startswith((b"addr=", b"vertex="))]
+    return call._replace(words=[*words, b"addr=" + address, b"vertex=" + vertex]), corners[-1:] + corners[:-1]
+
+
 def other_wrong(runner, number, call, ran):
-    """Runs a neighbour's way back, and every so manieth call again; what is wrong with that, or None."""
+    """Runs a neighbour's way back, a star from its last tile, and every so manieth call again; what is wrong with that, or
+    None."""
+    if call.words[:1] == [b"star"] and ran.status == 0:
+        there, wanted = turned(call, ran.out)
+        if [line.split(b" ")[3:] for line in runner.run(there).out[:-1].split(b"\n")] != wanted:
+            return f"the star of its last tile is otherwise: {' '.join(map(shown, there.words))}"
     if call.words[:1] == [b"neighbour"] and ran.status == 0:
         there, wanted = back(call, ran.out)
         if runner.run(there).out != wanted:

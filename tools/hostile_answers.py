@@ -17,6 +17,7 @@ SHALLOW = 70  # levels of one
 MANY_LINES = 5000  # of a text of `calc`, of a longer one both ends are looked at
 DEEPEST = 64
 GREATEST = 2**24  # of the coefficients of a shift
+MOST_ROUND = 64  # tiles that are printed round a vertex
 
 BUILT_IN = {b"chair": "chair", b"p2": "penrose_p2", b"p3": "penrose_p3", b"ab": "ammann_beenker", b"halfhex": "half_hex"}
 # for each command its required keys and those that may be left out
@@ -28,6 +29,7 @@ COMMANDS = {
     b"check": ((b"rule",), ()),
     b"calc": ((b"rule",), ()),
     b"drill": ((b"rule", b"n"), (b"seed",)),
+    b"star": ((b"rule", b"addr", b"vertex"), (b"seed",)),
 }
 # the statuses with which a call may end whose words, rule and address are right
 ENDS = {
@@ -38,6 +40,7 @@ ENDS = {
     b"check": {0},
     b"calc": {0, 13},
     b"drill": {0},
+    b"star": {0, 5, 15, 16},
 }
 
 N = rb"(?:0|[1-9][0-9]{0,2})"
@@ -77,7 +80,7 @@ def has_form(command, key, value):
         return are_layers(value)
     if key == b"glue":
         return value in (b"yes", b"no")
-    bounds = {b"edge": (0, 255), b"seed": (0, 2**64 - 1), b"grow": (0, 64), b"n": (1, 200)}
+    bounds = {b"edge": (0, 255), b"vertex": (0, 255), b"seed": (0, 2**64 - 1), b"grow": (0, 64), b"n": (1, 200)}
     return key == b"addr" or is_number(value, *bounds[key])
 
 
@@ -375,6 +378,8 @@ NOTES = {
         11: rb"11 NoMemory\n",
         12: rb"12 NoEdge [0-9]+ [0-9]+\n",
         13: rb"13 BadScript %b\n" % SCRIPT,
+        15: rb"15 NoVertex [0-9]+ [0-9]+\n",
+        16: rb"16 StarTooBig\n",
     }.items()
 }
 TILE = rb"[0-9]+ [0-9] %b %b" % (P, A)
@@ -410,6 +415,16 @@ def ends_fit(text, first, last):
     return text.endswith(b"\n") and re.fullmatch(first, head) and re.fullmatch(last, tail)
 
 
+def star_fits(values, text):
+    """Whether a text has lines of a star: the first is of the base, where it stands on its prototile, and no tile comes twice."""
+    lines = text.split(b"\n")[:-1]
+    first = rb"[0-9]+ 0 0,0,0,0 %b(?:,?%b/%b)* %b" % (re.escape(values[b"addr"]), N, N, re.escape(values[b"vertex"]))
+    if not 0 < len(lines) <= MOST_ROUND or not lines_fit(text, [first] + [TILE + rb" [0-9]+"] * (len(lines) - 1)):
+        return False
+    addresses = [line.split(b" ")[3] for line in lines]
+    return len(set(addresses)) == len(lines) and len({address.count(b"/") for address in addresses}) == 1
+
+
 def text_fits(command, values, text, shape, script):
     """Whether standard output looks like an answer of the command; the script is what is known of one."""
     if command == b"place":
@@ -421,6 +436,8 @@ def text_fits(command, values, text, shape, script):
     if command == b"walk":
         steps = len(values[b"path"].split(b",")) if b"path" in values else 0
         return lines_fit(text, [TILE + rb" -"] + [TILE + rb" [0-9]+"] * steps)
+    if command == b"star":
+        return star_fits(values, text)
     if command == b"drill":
         forms = [b"%b [0-9]+" % name for name in (b"tiles", b"largest", b"depth", b"refused")]
         return lines_fit(text, [b"windows " + values[b"n"], *forms])
@@ -473,6 +490,9 @@ class Wanted:
         if command == b"neighbour":
             edge, edges = int(self.values[b"edge"]), self.shape.edges[parsed(self.values[b"addr"])[0]]
             return ({0, 8}, None) if edge < edges else ({12}, b"12 NoEdge %d %d\n" % (edge, edges))
+        if command == b"star":
+            vertex, edges = int(self.values[b"vertex"]), self.shape.edges[parsed(self.values[b"addr"])[0]]
+            return ({0, 5}, None) if vertex < edges else ({15}, b"15 NoVertex %d %d\n" % (vertex, edges))
         if command == b"calc":
             self.script = Script(self.shape, text)
             return {13} if self.script.fault else {0, 13}, None

@@ -134,13 +134,15 @@ def full_half(drawn, source):
 
 def right_call(drawn, command=None):
     """Right words, in any order, over a right rule."""
-    command = command or drawn.choice((b"place", b"neighbour", b"walk", b"draw", b"check", b"drill"))
+    command = command or drawn.choice((b"place", b"neighbour", b"walk", b"draw", b"check", b"drill", b"star"))
     name, source, text, note = some_rule(drawn, command)
     words = [b"rule=" + name]
     if b"addr" in COMMANDS[command][0]:
         words.append(b"addr=" + some_address(drawn, source.shape))
     if command == b"neighbour":
         words.append(b"edge=" + some_edge(drawn, source.shape))
+    if command == b"star":
+        words += [b"vertex=" + some_edge(drawn, source.shape)] + [b"seed=" + some_seed(drawn)] * drawn.below(2)
     if command == b"walk":
         words += walk_words(drawn, source.shape)
     if command == b"draw":
@@ -177,6 +179,10 @@ def walk(drawn):
     return right_call(drawn, b"walk")
 
 
+def star(drawn):
+    return right_call(drawn, b"star")
+
+
 def small_window(drawn):
     return right_call(drawn, b"draw")
 
@@ -199,7 +205,7 @@ def full_window(drawn):
 
 def corner(drawn):
     """A call over a base of 64 digits that lies in a corner of its supertile, or near one, which can't grow."""
-    call = right_call(drawn, drawn.choice((b"draw", b"draw", b"walk", b"neighbour")))
+    call = right_call(drawn, drawn.choice((b"draw", b"draw", b"walk", b"neighbour", b"star")))
     kind = drawn.below(len(call.shape.children))
     same = [number for number, child in enumerate(call.shape.children[kind]) if child == kind]
     if not same:
@@ -241,7 +247,7 @@ NUMBERS = """0 1 2 3 7 8 63 64 65 128 199 200 201 255 256 257 999 1000 4095 4096
     18446744073709551615 18446744073709551616 -9223372036854775808 340282366920938463463374607431768211456 00 01 007 +1 +0 --1 -
     1. 1.0 .5 1e3 0x10 0b1 1_000 ١ １ ⅷ ½ inf nan NaN true""".split()
 WORD_PARTS = """place neighbour neighbor walk draw check calc drill star verify help version PLACE Place rule addr edge seed grow path
-    at half layers glue n rules RULE address format chair p2 p3 ab halfhex hat - -- --help yes no svg list census png all 0: 0:0/0
+    at half layers glue n vertex rules RULE address format chair p2 p3 ab halfhex hat - -- --help yes no svg list census png all 0: 0:0/0
     1:1/0 0:0/0,1/0 3 = == , ,, : / ; . .. ~ * ? $(reboot) %s %n {} é ζ λ 日本 \U0001f600 \u200b \ufeff a\u0301 \u202e""".split()
 
 
@@ -345,9 +351,10 @@ def any_words(drawn):
 
 def border_words(drawn):
     """A right call with a number of each key at its limit or beyond."""
-    call = right_call(drawn, drawn.choice((b"neighbour", b"walk", b"draw", b"drill")))
+    call = right_call(drawn, drawn.choice((b"neighbour", b"walk", b"draw", b"drill", b"star")))
     values = {
         b"edge": lambda: nasty_number(drawn),
+        b"vertex": lambda: nasty_number(drawn),
         b"seed": lambda: nasty_number(drawn),
         b"grow": lambda: nasty_number(drawn),
         b"n": lambda: drawn.choice((b"0", b"1", b"201", b"01", b"-1")),
@@ -364,7 +371,7 @@ def border_words(drawn):
 
 def with_address(drawn, maker, address):
     """A call of a command over an address that a function makes of the rule's shape."""
-    command = drawn.choice((b"place", b"place", b"neighbour", b"walk", b"draw"))
+    command = drawn.choice((b"place", b"place", b"neighbour", b"walk", b"draw", b"star"))
     call = right_call(drawn, command)
     made = b"addr=" + address(call.shape).replace(b"\0", b"")
     return call._replace(maker=maker, words=[made if word.startswith(b"addr=") else word for word in call.words])
@@ -411,7 +418,7 @@ def wrong_address(drawn):
 
 def over_file(drawn, maker, text, shape=None, refused=None):
     """A call of some command over a rule file, most often of `check`."""
-    command = b"check" if drawn.below(4) else drawn.choice((b"place", b"neighbour", b"walk", b"draw", b"drill"))
+    command = b"check" if drawn.below(4) else drawn.choice((b"place", b"neighbour", b"walk", b"draw", b"drill", b"star"))
     words = [word if not word.startswith(b"rule=") else b"rule=-" for word in right_call(drawn, command).words]
     if shape and b"addr" in COMMANDS[command][0]:
         words = [b"addr=" + some_address(drawn, shape) if word.startswith(b"addr=") else word for word in words]
@@ -798,7 +805,7 @@ LONGEST_WORD, MOST_WORDS = 131000, 14  # what the system takes
 
 # of so many inputs each maker makes this part; those that take long make few
 WEIGHTS = [
-    (place_or_check, 80), (neighbour, 80), (walk, 50), (small_window, 60), (middle_window, 20), (full_window, 6), (corner, 20),
+    (place_or_check, 80), (neighbour, 80), (walk, 50), (star, 60), (small_window, 60), (middle_window, 20), (full_window, 6), (corner, 20),
     (far_window, 30), (wide_window, 8), (drill, 12), (unread, 4), (one_wrong, 110), (more_wrong, 60), (any_words, 40),
     (border_words, 60), (wrong_address, 90), (refused_file, 20), (changed_file, 120), (any_document, 40), (written_otherwise, 20),
     (moved_rule, 30), (grid_rule, 20), (huge_file, 5), (huge_right_file, 3), (nested_file, 8), (right_script, 40), (changed_script, 50),
