@@ -18,7 +18,8 @@ import sys
 import tomllib
 
 sys.dont_write_bytecode = True
-from fans import ELEVEN, TWELVE, fan_rule  # noqa: E402
+sys.path.append(os.path.join(os.path.dirname(os.path.abspath(__file__)), "..", "tools"))
+from fan_rule import RULES, fan_rule  # noqa: E402
 from supertiles import Supertile, address  # noqa: E402
 from windows import Box, Frame, Tiling, drawn_base, shift_of  # noqa: E402
 
@@ -258,15 +259,19 @@ def counted(program, name, text):
     return found, wrong
 
 
-def crowded(program):
-    """What differs of stars of very many tiles."""
+def crowded(top, program):
+    """What differs of stars of very many tiles, and of the files of rules that have them."""
     wrong = []
-    for most, cut, others in ((61, TWELVE, [2]), (64, ELEVEN, [1]), (65, TWELVE, [1]), (66, ELEVEN, [0])):
-        text, (kind, digits), vertex = fan_rule(cut, [0] * 5 + others)
+    for number, (cut, corners) in RULES.items():
+        text, (kind, digits), vertex = fan_rule(cut, corners)
+        path = os.path.join(top, "crates", "rule_library", "data", f"{number}_round_a_vertex.toml")
+        if os.path.exists(path):
+            with open(path, encoding="utf-8") as file:
+                wrong += [] if file.read() == text else [f"{path} isn't what tools/fan_rule.py makes"]
         wanted = in_frame(Tiling(tomllib.loads(text)), kind, digits, vertex, 0)
-        assert len(wanted[1].splitlines()) == (most if most <= MOST else 0)
+        assert len(wanted[1].splitlines()) == (number if number <= MOST else 0)
         words = [f"addr={address((kind, digits))}", f"vertex={vertex}"]
-        wrong += differing(f"{most} tiles", words, called(program, ["star", *words], text.encode()), wanted)
+        wrong += differing(f"{number} tiles", words, called(program, ["star", *words], text.encode()), wanted)
     return wrong
 
 
@@ -284,7 +289,7 @@ def main(top, program):
     rules = os.path.join(top, "rules")
     paths = sorted(os.path.join(rules, name) for name in os.listdir(rules) if name.endswith(".toml"))
     with concurrent.futures.ProcessPoolExecutor(os.cpu_count()) as pool:
-        many = pool.submit(crowded, program)
+        many = pool.submit(crowded, top, program)
         results = list(pool.map(tried, [program] * len(paths), paths))
     wrong = many.result() + [line for *_, lines in results for line in lines]
     for line in wrong[:20]:

@@ -2,7 +2,8 @@
 # Draws the gallery anew with the program, docs/gallery/drawn and docs/gallery/tilings.html, below FOLDER, or below the
 # top where none is given:
 #   tools/draw_gallery.sh [FOLDER]        (Python 3.11 or later; the program is the one that TILING names, or ./tiling)
-# Each picture is a window far out in a deep supertile: what `draw` prints, coloured by tools/paint.py.
+# Each picture is a window far out in a deep supertile: what `draw` prints, coloured by tools/paint.py; and one shows stars:
+# what `star` prints, drawn by tools/draw_stars.py.
 top=$(cd "$(dirname "$0")/.." && pwd) || exit 1
 to=$(cd "${1:-$top}" && pwd) || exit 1
 python=${PYTHON:-python3}
@@ -69,6 +70,12 @@ whole robinson_rhomb_halves - 'seed=1 addr=0: at=700000,-300000,0,0 half=15,8' -
 whole robinson_kite_halves - 'seed=1 addr=0: at=700000,-300000,0,0 half=18,9' --palette earth
 whole robinson_rhomb_turned - 'seed=1 addr=0: at=700000,-300000,0,0 half=15,8' --palette rose
 picture tuebingen_triangles - 'seed=1 addr=0: at=700000,-300000,0,0 half=16,8'
+
+# the stars of Penrose's rhombs, by de Bruijn's names
+"$python" tools/draw_stars.py "$program" rules/penrose_p3.toml \
+    D 2:1/0,0/0 0 J 2:0/2,0/2,0/2 0 Q 2:0/2,1/0,0/0 2 K 2:0/2,0/2,0/2,0/2 2 S3 0:0/0,0/0,0/0,0/0 0 \
+    S4 0:0/0,2/3,0/3,0/3,0/3 0 S 2:1/0,0/0,0/0,0/0,0/0 2 S5 3:0/3,1/1,0/1,0/1,0/1,0/1 2 \
+    > "$to/docs/gallery/drawn/stars.svg" || fault=1
 
 # the page in which the tile under the pointer says its address
 cd "$to/docs/gallery/drawn" && set -- penrose_p2.svg penrose_p3.svg ammann_beenker.svg chair.svg half_hex.svg equithirds.svg

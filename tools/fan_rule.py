@@ -1,4 +1,7 @@
-"""Rules that put as many tiles round a vertex as one likes, up to 72: of order 6, with factor 4.
+#!/usr/bin/env python3
+"""Prints the file of a rule that puts so many tiles round the vertex 1 of the tile 3:0/1,6/0,0/0:
+    fan_rule.py TILES        (61, 64, 65 or 66)
+A rule of order 6 with factor 4, made to try stars that are as large as they may be, or larger.
 
 A *fan* is a triangle with angles of 60°, which the rule cuts from one corner, its apex, into thin triangles, and each of
 these into sixteen of its own kind. So where apexes meet, six fans become a star of many tiles. A *broad fan* is cut
@@ -8,6 +11,7 @@ and a field in its corner 2. Six of the fields round one point turn to it the co
 point, three levels below, are for each corner 0 the tiles of a fan, for each corner 1 those of a broad fan, and for each
 corner 2 one.
 """
+import sys
 
 SIDE = 4  # of a field and of a fan; a thin triangle has its apex four times as far from its base
 FIELD, FAN, BROAD = range(3)  # the first kinds
@@ -17,6 +21,13 @@ MIDDLE = 1, 2  # the point of a field, in sides, round which the six fields lie
 # those in the middle; and of what is in the middle of a broad fan. Those longer than two are of the broad triangle.
 ELEVEN = [1, 2, 1], [2, 1, 2, 1, 2], [2, 4, 2]
 TWELVE = [2, 2], [1] * 8, [8]
+# by the number of tiles: how fans are cut, and the corners that six fields turn to the middle
+RULES = {
+    61: (TWELVE, [0, 0, 0, 0, 0, 2]),
+    64: (ELEVEN, [0, 0, 0, 0, 0, 1]),
+    65: (TWELVE, [0, 0, 0, 0, 0, 1]),
+    66: (ELEVEN, [0, 0, 0, 0, 0, 0]),
+}
 
 
 def plus(p, q):
@@ -121,3 +132,14 @@ def fan_rule(cut, corners):
             start += length
         rule.kinds[fan] = outline, [side, end, rule.type(name, rule.bases(inner)), end, side], children
     return rule.text(), (triangles[0, ends[0]], ((0, FAN), (len(corners), FIELD), (0, FIELD))), 1
+
+
+def main(words):
+    if len(words) != 1 or words[0] not in map(str, RULES):
+        sys.exit(__doc__.strip())
+    text, _, _ = fan_rule(*RULES[int(words[0])])
+    sys.stdout.write(text)
+
+
+if __name__ == "__main__":
+    main(sys.argv[1:])
