@@ -1,8 +1,8 @@
-//! Trials of placing, crossing, gluing, walking and searching, on the built-in rules.
+//! Trials of placing, crossing, gluing, walking, searching and turning round vertices, on the built-in rules.
 //!
 //! What the machine answers is compared with rows that were worked out by hand, and with lists: of whole supertiles, by
 //! recursion on the depth, each edge of each tile by its ends; of supertiles and frames, each tile placed by its address
-//! and asked whether it holds a point or meets a window. Addresses of 64 digits are crossed, and decided in pairs; walks are walked there and
+//! and asked whether it holds a point, meets a window or has a vertex. Addresses of 64 digits are crossed, and decided in pairs; walks are walked there and
 //! back, and the search for a window is tried step by step. There is no other code here.
 #![tactic(auto)]
 
@@ -28,6 +28,8 @@ mod pairs;
 mod placed;
 #[cfg(test)]
 mod sides;
+#[cfg(test)]
+mod stars;
 #[cfg(test)]
 mod steps;
 #[cfg(test)]
