@@ -5,7 +5,7 @@
 
 A window is taken for each file of rules/: as many tiles as may be drawn, at most 200,000, round the middle of the plane, as a
 picture, a list and a census at once, without and with glued halves. Then addresses of 64 digits, paths of 1,000 edges,
-drills of 200 windows, scripts and rule files of a mebibyte. Prints a line for each: its status, the bytes that it read
+stars of 64 tiles, drills of 200 windows, scripts and rule files of a mebibyte. Prints a line for each: its status, the bytes that it read
 and printed, the seconds of processor and the greatest memory, which is that of this script at least; with --count also
 its instructions, by valgrind, for all but the windows. Ends with 1 where a call ends otherwise than it must, takes more than two seconds, or more than a gigabyte."""
 import os
@@ -13,6 +13,9 @@ import re
 import subprocess
 import sys
 import tempfile
+
+sys.dont_write_bytecode = True
+from fan_rule import RULES, fan_rule  # noqa: E402
 
 TOP = os.path.dirname(os.path.dirname(os.path.abspath(__file__)))
 MOST_TILES = 200000
@@ -107,6 +110,16 @@ def addresses(table):
         table.add(f"drill of {rule}, 200 windows", f"drill rule={rule} n=200 seed=42")
 
 
+def stars(table):
+    """Stars over all levels, and of very many tiles."""
+    table.add("star over 64 levels", f"star rule=chair addr=0:{deep('0/0', 63)},1/0 vertex=4")
+    table.add("star that grows over 64 levels", f"star rule=chair addr=0:{deep('0/0')} vertex=4", status=5)
+    for number, status in ((64, 0), (65, 16)):
+        text = fan_rule(*RULES[number])[0].encode()
+        table.add(f"star of {number} tiles", "star rule=- addr=3:0/1,6/0,0/0 vertex=1", text, status)
+        table.add("check of its rule", "check rule=-", text)
+
+
 def scripts(table):
     """Scripts of a mebibyte."""
     front = f"let a 0:{deep('0/0', 63)},1/0\n".encode()
@@ -151,7 +164,7 @@ def files(table):
 
 def main(program, counts=False):
     table = Table(os.path.abspath(program), counts)
-    for part in (addresses, scripts, files, windows):
+    for part in (addresses, stars, scripts, files, windows):
         part(table)
     print(f"dearest: {table.wrong} wrong")
     return 1 if table.wrong else 0

@@ -38,6 +38,7 @@ def calls():
         yield f"draw rule={rule} seed=3 addr=0: {WINDOW} glue=yes", text
         yield f"check rule={rule}", text
         yield f"drill rule={rule} n=1 seed=7", text
+        yield f"star rule={rule} addr=2:1/0,0/0 vertex=0", text
     yield "calc rule=chair", SCRIPT
     yield "calc rule=p3", b"let a 2:1/0,0/0\nacross a 2 b\nplace b\ncommon a b\npair b a\nshow a\n"
     yield f"draw rule=- seed=3 addr=0: {WINDOW} glue=yes", rules["half_chair"]
@@ -49,6 +50,7 @@ def calls():
     yield "place rule=p3 addr=0:0/7", b""
     yield "neighbour rule=p3 addr=0:0/0,0/0 edge=2", b""
     yield "neighbour rule=p3 addr=0: edge=9", b""
+    yield "star rule=p3 addr=0: vertex=3", b""
     yield "walk rule=chair addr=0:" + ",".join(["0/0"] * 64) + " path=0,4", b""
     yield "draw rule=chair seed=10 addr=0: at=1000000,1000000,0,0 half=2,1 layers=list", b""
     yield "calc rule=chair", SCRIPT + b"across c 4 d\n"
