@@ -3,17 +3,18 @@
 //!
 //! A file is read and checked; an accepted rule is printed, read back and checked again, and the two
 //! printed texts are compared. What the engine locates in its supertiles, what it finds across each edge of them, by
-//! which edges any two of their tiles meet, where walks lead, and the tiles of windows are compared with the plain program of the trials. The files lie in the folder
+//! which edges any two of their tiles meet, where walks lead, the tiles of windows, and the tiles round vertices are compared with the plain program of the trials. The files lie in the folder
 //! that it is run in, and what it prints is compared with what is wanted when the gate runs it. It claims nothing of its
 //! own.
 #![tactic(auto)]
 
 mod crossed;
+mod crowded;
 mod outcome;
 mod paired;
 mod trials;
 
-use crate::outcome::{is_printed, outcome};
+use crate::outcome::{crowded_outcome, is_printed, outcome};
 use builtin_rules::name::Name;
 use std::{fs, io};
 use tile_shape::no_memory::NoMemory;
@@ -74,6 +75,9 @@ const BUILT_IN: [(&str, Name); 5] = [
     ("half_hex.toml", Name::HalfHex),
 ];
 
+/// Rule files by which very many tiles are round a vertex, as `tools/fan_rule.py` makes them.
+const CROWDED: [&str; 2] = ["64_round_a_vertex.toml", "65_round_a_vertex.toml"];
+
 /// A line for each file.
 fn describe_files(rt: &HostRuntime) -> io::Result<()> {
     for name in FILES {
@@ -99,7 +103,20 @@ fn compare_files(rt: &HostRuntime) -> io::Result<()> {
     Ok(())
 }
 
+/// A line for each crowded rule.
+fn turn_crowded(rt: &HostRuntime) -> io::Result<()> {
+    for name in CROWDED {
+        let bytes = fs::read(rt, name)?;
+        match crowded_outcome(rt.alloc(), bytes.as_slice()) {
+            Ok(line) => println!(rt; "{name} {line}")?,
+            Err(NoMemory) => return Err(io::ErrorKind::OutOfMemory.into()),
+        }
+    }
+    Ok(())
+}
+
 fn main(rt: HostRuntime) -> io::Result<()> {
     describe_files(&rt)?;
-    compare_files(&rt)
+    compare_files(&rt)?;
+    turn_crowded(&rt)
 }

@@ -1,4 +1,5 @@
 //! What comes of a rule file.
+use crate::crowded::crowded;
 use crate::trials::trials;
 use builtin_rules::builtin::builtin;
 use builtin_rules::name::Name;
@@ -64,13 +65,28 @@ fn accepted(alloc: Global, rule: Checked, bytes: &[u8]) -> Result<String, NoMemo
     )?)
 }
 
+/// The line of a refused file.
+fn refusal(alloc: Global, fault: Refused) -> Result<String, NoMemory> {
+    match fault {
+        Refused::TooLong => Ok(format!(in alloc; "refused TooLong")?),
+        Refused::Text(fault) => Ok(format!(in alloc; "refused {fault}")?),
+        Refused::Check(fault) => Ok(format!(in alloc; "refused {fault}")?),
+    }
+}
+
 /// The line of a file.
 pub fn outcome(alloc: Global, bytes: &[u8]) -> Result<String, NoMemory> {
     match checked(alloc, bytes) {
         Ok(rule) => accepted(alloc, rule, bytes),
-        Err(Refused::TooLong) => Ok(format!(in alloc; "refused TooLong")?),
-        Err(Refused::Text(fault)) => Ok(format!(in alloc; "refused {fault}")?),
-        Err(Refused::Check(fault)) => Ok(format!(in alloc; "refused {fault}")?),
+        Err(fault) => refusal(alloc, fault),
+    }
+}
+
+/// The line of a file whose rule puts very many tiles round a vertex.
+pub fn crowded_outcome(alloc: Global, bytes: &[u8]) -> Result<String, NoMemory> {
+    match checked(alloc, bytes) {
+        Ok(rule) => crowded(alloc, rule),
+        Err(fault) => refusal(alloc, fault),
     }
 }
 

@@ -6,6 +6,7 @@ use crate::paired::paired;
 use edge_tables::steps::Steps;
 use plain_tiles::counts::Counts;
 use plain_tiles::located::located;
+use plain_tiles::vertex_tiles::stars;
 use plain_tiles::walks::walks;
 use plain_tiles::window_tiles::windows;
 use rule_model::checked::Checked;
@@ -24,18 +25,24 @@ const MOST_PAIRED: u64 = 729;
 /// The greatest number of tiles of a frame that is listed for a window.
 const MOST_IN_FRAME: u64 = 1100;
 
+/// The greatest depth of supertiles round whose tiles' vertices one turns.
+const DEEPEST_TURNED: u8 = 2;
+
+/// The greatest number of tiles of a frame that is listed for a vertex.
+const MOST_TURNED: u64 = 100;
+
 /// How many walks are drawn.
 const WALKS: u32 = 1000;
 
 /// How many windows are drawn.
 const WINDOWS: u32 = 100;
 
-/// What is located and crossed, and how walks come out.
+/// What is located and crossed, and how walks and stars come out.
 fn counted<L: Ledger>(
     alloc: Global,
     machine: &Machine,
     blank: Blank,
-) -> Result<(Counts, Counts, Counts), NoMemory>
+) -> Result<[Counts; 4], NoMemory>
     requires name { blank.name ≡ L.name }
     requires parts { blank.parts ≡ L.parts }
     requires some { 0 < blank.parts }
@@ -44,7 +51,8 @@ fn counted<L: Ledger>(
     let points = located(alloc, machine, MOST_TILES)?;
     let edges = crossed(alloc, machine, MOST_TILES, &mut steps)?;
     let walks = walks(alloc, machine, WALKS, &mut steps)?;
-    Ok((points, edges, walks))
+    let turned = stars(alloc, machine, DEEPEST_TURNED, MOST_TURNED, &mut steps)?;
+    Ok([points, edges, walks, turned])
 }
 
 /// Adds how many came out as wanted, or how often something else did.
@@ -58,41 +66,38 @@ fn add(text: &mut String, counts: Counts, wanted: &str, otherwise: &str) -> Resu
     Ok(())
 }
 
+/// What is said of trials, in their order: where all came out as wanted, and where some didn't.
+const SAID: [(&str, &str); 6] = [
+    (
+        "points located as listed",
+        "points located OTHERWISE than listed",
+    ),
+    (
+        "edges crossed as listed",
+        "edges crossed OTHERWISE than listed",
+    ),
+    ("pairs meet as listed", "pairs meet OTHERWISE than listed"),
+    ("walks lead back", "walks lead ELSEWHERE than back"),
+    (
+        "windows covered as listed",
+        "windows covered OTHERWISE than listed",
+    ),
+    (
+        "stars turned as listed",
+        "stars turned OTHERWISE than listed",
+    ),
+];
+
 /// What comes of the trials of a machine.
 fn tried(alloc: Global, machine: &Machine) -> Result<String, NoMemory> {
     let mut text = String::new(alloc);
-    let (points, edges, walks) = counted::<Brand>(alloc, machine, Blank::new(1))?;
-    add(
-        &mut text,
-        points,
-        "points located as listed",
-        "points located OTHERWISE than listed",
-    )?;
-    add(
-        &mut text,
-        edges,
-        "edges crossed as listed",
-        "edges crossed OTHERWISE than listed",
-    )?;
-    add(
-        &mut text,
-        paired(alloc, machine, MOST_PAIRED)?,
-        "pairs meet as listed",
-        "pairs meet OTHERWISE than listed",
-    )?;
-    add(
-        &mut text,
-        walks,
-        "walks lead back",
-        "walks lead ELSEWHERE than back",
-    )?;
+    let [points, edges, walks, turned] = counted::<Brand>(alloc, machine, Blank::new(1))?;
+    let pairs = paired(alloc, machine, MOST_PAIRED)?;
     let (windows, _) = windows(alloc, machine, WINDOWS, MOST_IN_FRAME)?;
-    add(
-        &mut text,
-        windows,
-        "windows covered as listed",
-        "windows covered OTHERWISE than listed",
-    )?;
+    let all = [points, edges, pairs, walks, windows, turned];
+    for (counts, (wanted, otherwise)) in all.iter().zip(SAID.iter()) {
+        add(&mut text, *counts, wanted, otherwise)?;
+    }
     Ok(text)
 }
 
