@@ -5,8 +5,7 @@ use Rattle.cyclo_points.specs.declared.order.Order.TheVariants.{Four, Six, Eight
 use Rattle.cyclo_points.specs.declared.point.Point.{Point}
 use Rattle.cyclo_points.specs.Order.{coefficients}
 use Rattle.cyclo_points.specs.Point.{point_in, coefficient, IsOf}
-use Rattle.cyclo_points.specs.Text.{coefficients_text, number_text, point_text, blank}
-use Rattle.addr_calc.specs.Parts.{newline}
+use Rattle.cyclo_points.specs.Text.{coefficients_text, number_text, point_text, blank, newline}
 
 -- a point of an order is printed as its number is; in orders four and six the last two coefficients are 0
 pub point_text-number : (o : Order) (p : Point) → IsOf o p → point_text p ≡ number_text o (point_in o p)

@@ -2,10 +2,7 @@
 use Rattle.std.specs.Prelude.{ℕ, List, ◌==◌}
 use Rattle.std.specs.List.{slice_split}
 
--- a newline, and the sign `#` that begins a comment
-abbrev pub newline : ℕ
-newline = 10
-
+-- the sign `#` that begins a comment
 abbrev pub number_sign : ℕ
 number_sign = 35
 

@@ -1,11 +1,12 @@
 -- The text that a script prints, or the fault of its first line that has one.
 use Rattle.std.specs.Prelude.{◌≡◌, ◌⊎◌, ℕ, ◌+◌, List, [], ◌∷◌, ◌++◌, Result, Ok, Err, Vec}
+use Rattle.cyclo_points.specs.Text.{newline}
 use Rattle.rule_model.specs.Tiling.{Tiling}
 use Rattle.addr_calc.specs.Bindings.{Bindings, none_bound}
 use Rattle.addr_calc.specs.declared.calc_fault.CalcFault.{CalcFault}
 use Rattle.addr_calc.specs.declared.calc_fault.CalcFault.TheVariants.{NoMemory}
 use Rattle.addr_calc.specs.Does.{Runs}
-use Rattle.addr_calc.specs.Parts.{parts, newline}
+use Rattle.addr_calc.specs.Parts.{parts}
 use Rattle.addr_calc.specs.Refuses.{HasFault}
 
 -- a text, or a fault

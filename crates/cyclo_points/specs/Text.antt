@@ -8,9 +8,12 @@ use Rattle.cyclo_points.specs.declared.point.Point.{Point}
 use Rattle.cyclo_points.specs.Order.{NumberOf, coefficients}
 use Rattle.cyclo_points.specs.Point.{coefficient}
 
--- a blank
+-- a blank, and the end of a line
 abbrev pub blank : ℕ
 blank = 32
+
+abbrev pub newline : ℕ
+newline = 10
 
 -- coefficients, decimal, joined by `,`, which is 44
 abbrev pub coefficients_text : List ℤ → List ℕ

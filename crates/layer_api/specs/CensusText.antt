@@ -1,9 +1,8 @@
 -- The census: how many tiles there are of each class, and in all.
 use Rattle.std.specs.Prelude.{ℕ, zero, suc, List, [], ◌∷◌, ◌++◌, length, codes, count_by, ◌==◌}
 use Rattle.std.specs.Fmt.{decimal}
-use Rattle.cyclo_points.specs.Text.{blank}
+use Rattle.cyclo_points.specs.Text.{blank, newline}
 use Rattle.layer_api.specs.declared.drawn.Drawn.{Drawn}
-use Rattle.layer_api.specs.Lines.{newline}
 
 -- how many of these tiles have this class
 abbrev pub count_of : ℕ → List Drawn → ℕ

@@ -1,5 +1,4 @@
 pub mod Drawable
-pub mod Lines
 pub mod ListText
 pub mod CensusText
 pub mod SvgText

@@ -4,12 +4,11 @@ use Rattle.std.specs.declared.option.Option.{Option}
 use Rattle.std.specs.Prelude.{Some, None}
 use Rattle.std.specs.Fmt.{decimal}
 use Rattle.std.specs.List.{flat_map}
-use Rattle.cyclo_points.specs.Text.{motion_text, blank}
+use Rattle.cyclo_points.specs.Text.{motion_text, blank, newline}
 use Rattle.tile_shape.specs.Text.{address_text}
 use Rattle.tile_shape.specs.Views.{address_of}
 use Rattle.layer_api.specs.declared.drawn.Drawn.{Drawn}
 use Rattle.layer_api.specs.declared.part.Part.{Part}
-use Rattle.layer_api.specs.Lines.{newline}
 
 -- a part, as `kind turn shift address`
 abbrev pub part_text : Part → List ℕ

@@ -3,7 +3,8 @@ use Rattle.std.proofs.Common.{◌≡◌, ℕ, suc, ◌+◌, ◌<◌, Bool, true,
 use Rattle.std.proofs.lemmas.Bool.{ne_eqb}
 use Rattle.std.proofs.lemmas.List.{drop_more}
 use Rattle.std.specs.List.{onto_first}
-use Rattle.listing_text.specs.Lines.{newline, lines_in}
+use Rattle.cyclo_points.specs.Text.{newline}
+use Rattle.listing_text.specs.Lines.{lines_in}
 
 -- the lines of what is left, with the one that is begun
 abbrev pub lines_left : Bool → List ℕ → ℕ

@@ -2,7 +2,8 @@
 use Rattle.std.proofs.Common.{◌≡◌, ℕ, ◌<◌, Bool, true, false, cond, List, [], ◌∷◌, length, nat_eq, refl, sym, ap, ap₂, ◌∙◌, arith}
 use Rattle.std.proofs.lemmas.List.Splits.{join_with_byte-slice_split}
 use Rattle.std.specs.List.{onto_first, join_with_byte}
-use Rattle.listing_text.specs.Lines.{texts_between, newline, lines_in}
+use Rattle.cyclo_points.specs.Text.{newline}
+use Rattle.listing_text.specs.Lines.{texts_between, lines_in}
 use Rattle.listing_text.proofs.NumberOn.{some_first}
 
 -- one text has these parts

@@ -3,6 +3,7 @@ use Rattle.std.proofs.Common.{◌≡◌, ℕ, suc, ◌+◌, ◌<◌, ◌≤◌, 
 use Rattle.std.proofs.lemmas.Bool.Decides.{nat_tests}
 use Rattle.std.proofs.lemmas.List.{map-append}
 use Rattle.std.specs.List.{onto_first}
+use Rattle.cyclo_points.specs.Text.{newline}
 use Rattle.addressing.specs.Address.{Address}
 use Rattle.tile_shape.specs.AddressIn.{address_in}
 use Rattle.tile_shape.specs.declared.address_fault.AddressFault.{AddressFault}
@@ -10,7 +11,7 @@ use Rattle.listing_text.specs.declared.entry.Entry as program
 use Rattle.listing_text.specs.declared.listing_fault.ListingFault.{ListingFault}
 use Rattle.listing_text.specs.declared.listing_fault.ListingFault.TheVariants.{TooLong, BadKind, NoMemory}
 use Rattle.listing_text.specs.Limits.{most_lines}
-use Rattle.listing_text.specs.Lines.{newline, lines_in}
+use Rattle.listing_text.specs.Lines.{lines_in}
 use Rattle.listing_text.specs.Listing.{Entry, entry_at, entry_of_words, entry_in, entries_before, first_then, entries_from, listing_in}
 use Rattle.listing_text.specs.Views.{entry_of, IsPut, OrWantsMemory}
 use Rattle.listing_text.specs.Words.{Listed, listed_in}

@@ -1,9 +1,7 @@
 -- A text in lines, and in parts between marks.
 use Rattle.std.specs.Prelude.{ℕ, List, [], ◌∷◌, ◌==◌, if◌then◌else◌}
 use Rattle.std.specs.List.{slice_split, onto_first}
-
-abbrev pub newline : ℕ
-newline = 10
+use Rattle.cyclo_points.specs.Text.{newline}
 
 -- the lines of a text: each ends with a newline, which behind the last may be missing
 abbrev pub lines_in : List ℕ → List (List ℕ)

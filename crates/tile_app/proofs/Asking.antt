@@ -6,14 +6,13 @@ use Rattle.cyclo_points.specs.declared.order.Order.TheVariants.{Four, Six, Eight
 use Rattle.cyclo_points.specs.declared.point.Point.{Point}
 use Rattle.cyclo_points.specs.Order.{coefficients}
 use Rattle.cyclo_points.specs.Point.{point_in, coefficient, IsOf}
-use Rattle.cyclo_points.specs.Text.{coefficients_text, number_text, point_text, blank}
+use Rattle.cyclo_points.specs.Text.{coefficients_text, number_text, point_text, blank, newline}
 use Rattle.rule_model.specs.Tiling.{Tiling, children}
 use Rattle.tile_shape.specs.Accepted.{IsAcceptedAddress}
 use Rattle.tile_shape.specs.declared.address_fault.AddressFault.{AddressFault}
 use Rattle.tile_shape.specs.Refused.{IsFaultOf}
 use Rattle.tile_shape.specs.Text.{address_text}
 use Rattle.tile_app.specs.declared.words.Key.TheVariants.{Addr}
-use Rattle.tile_app.specs.Text.{newline}
 use Rattle.tile_app.specs.Tile.{GivesTile, GivesNoTile}
 use Rattle.tile_app.specs.Words.{value_given}
 

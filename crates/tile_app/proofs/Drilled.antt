@@ -2,6 +2,7 @@
 use Rattle.std.proofs.Common.{◌≡◌, ℕ, ◌+◌, ◌*◌, ℤ, List, [], ◌∷◌, ◌++◌, codes, to_z, of_z, w64, sym, ap, ap₂, ◌∙◌, subst, append_assoc, add-one, arith}
 use Rattle.std.proofs.lemmas.Int.{ints}
 use Rattle.std.specs.Fmt.{decimal}
+use Rattle.cyclo_points.specs.Text.{newline}
 use Rattle.cyclo_points.specs.declared.order.Order.{Order}
 use Rattle.cyclo_points.specs.Point.{Within}
 use Rattle.lazy_walk.specs.Frames.{FrameValue}
@@ -10,7 +11,6 @@ use Rattle.rule_model.specs.Tiling.{Tiling}
 use Rattle.seeded_growth.specs.Words.{word}
 use Rattle.tile_app.specs.declared.summary.Summary.{Summary}
 use Rattle.tile_app.specs.Drill.{coefficient_of, window_from, window_of, fresh_frame, Adds, IsSummary, summary_text}
-use Rattle.tile_app.specs.Text.{newline}
 
 -- a coefficient as the code keeps it
 kept : (z : ℤ) → Within 32 z → to_z w64 (of_z w64 z) ≡ z

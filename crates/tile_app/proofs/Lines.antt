@@ -5,8 +5,7 @@ use Rattle.cyclo_points.specs.Order.{points_of}
 use Rattle.rule_model.specs.declared.rule.Rule.{Rule}
 use Rattle.rule_model.specs.Views.{rule_of}
 use Rattle.tile_app.specs.Check.{check_line}
-use Rattle.tile_app.specs.Text.{newline}
-use Rattle.cyclo_points.specs.Text.{blank}
+use Rattle.cyclo_points.specs.Text.{blank, newline}
 use Rattle.rule_model.specs.Tiling.{tiling_of}
 
 -- pieces joined from the right are the line joined from the left

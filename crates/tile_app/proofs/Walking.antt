@@ -5,8 +5,7 @@ use Rattle.rule_model.specs.Tiling.{Tiling}
 use Rattle.tile_place.specs.Crossed.{IsOnlyAcross, LiesOnBoundary}
 use Rattle.lazy_walk.specs.Paths.{Crosses, Leads}
 use Rattle.transducer_core.specs.declared.outside.Outside.{Outside}
-use Rattle.cyclo_points.specs.Text.{blank}
-use Rattle.tile_app.specs.Text.{newline}
+use Rattle.cyclo_points.specs.Text.{blank, newline}
 use Rattle.tile_app.proofs.Pieces.{at_place}
 use Rattle.tile_app.specs.Walk.{IsWalkLine, AreLines}
 

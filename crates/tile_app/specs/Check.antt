@@ -1,9 +1,9 @@
 -- What `check` prints; it refuses nothing of an accepted rule.
 use Rattle.std.specs.Prelude.{ℕ, List, [], ◌∷◌, ◌++◌, codes, length}
 use Rattle.std.specs.Fmt.{decimal}
+use Rattle.cyclo_points.specs.Text.{newline}
 use Rattle.cyclo_points.specs.Order.{points_of}
 use Rattle.rule_model.specs.Tiling.{Tiling}
-use Rattle.tile_app.specs.Text.{newline}
 
 -- a rule accepted, as `accepted order N kinds K types T`
 abbrev pub check_line : Tiling → List ℕ

@@ -3,6 +3,7 @@ use Rattle.std.specs.Prelude.{◌≡◌, ◌⊎◌, ℕ, zero, suc, ◌+◌, ◌
 use Rattle.std.specs.declared.option.Option.{Option}
 use Rattle.std.specs.Fmt.{decimal}
 use Rattle.std.specs.Option.{option_and_then}
+use Rattle.cyclo_points.specs.Text.{newline}
 use Rattle.cyclo_points.specs.declared.order.Order.{Order}
 use Rattle.cyclo_points.specs.declared.point.Point.{Point}
 use Rattle.lazy_walk.specs.Frames.{FrameValue, GrowsTo}
@@ -19,7 +20,6 @@ use Rattle.tile_app.specs.declared.summary.Summary.{Summary}
 use Rattle.tile_app.specs.declared.words.Key.TheVariants.{Count}
 use Rattle.tile_app.specs.Commands.{windows_in}
 use Rattle.tile_app.specs.Draw.{reduced}
-use Rattle.tile_app.specs.Text.{newline}
 use Rattle.tile_app.specs.Walk.{seed_given}
 use Rattle.tile_app.specs.Words.{value_given}
 

@@ -9,7 +9,6 @@ pub mod Words
 pub mod Layers
 pub mod Request
 pub mod Asked
-pub mod Text
 pub mod Tile
 pub mod Place
 pub mod Neighbour

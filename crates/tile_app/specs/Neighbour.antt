@@ -11,8 +11,7 @@ use Rattle.tile_app.specs.declared.status.Status.{Status}
 use Rattle.tile_app.specs.declared.status.Status.TheVariants.{BadAddress, NoEdge, Outside}
 use Rattle.tile_app.specs.declared.words.Key.TheVariants.{Edge}
 use Rattle.tile_shape.specs.Decimal.{number_up_to}
-use Rattle.tile_app.specs.Text.{newline}
-use Rattle.cyclo_points.specs.Text.{blank}
+use Rattle.cyclo_points.specs.Text.{blank, newline}
 use Rattle.tile_app.specs.Tile.{GivesTile, GivesNoTile}
 use Rattle.tile_app.specs.Words.{value_given}
 

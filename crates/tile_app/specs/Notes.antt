@@ -2,7 +2,7 @@
 use Rattle.std.specs.Prelude.{ℕ, ◌≤◌, List, [], ◌∷◌, ◌++◌, codes, length, take}
 use Rattle.std.specs.declared.option.Option.{Option}
 use Rattle.std.specs.Fmt.{decimal}
-use Rattle.cyclo_points.specs.Text.{point_text, blank}
+use Rattle.cyclo_points.specs.Text.{point_text, blank, newline}
 use Rattle.tile_io.specs.Causes.{Rose}
 use Rattle.tile_io.specs.Taken.{Takes}
 use Rattle.tile_shape.specs.FaultText.{address_fault_text}
@@ -14,7 +14,6 @@ use Rattle.tile_app.specs.FormatWords.{format_text}
 use Rattle.tile_app.specs.RuleFaultText.{rule_fault_text}
 use Rattle.tile_app.specs.ScriptFaultText.{script_fault_text}
 use Rattle.tile_app.specs.Status.{code_of}
-use Rattle.tile_app.specs.Text.{newline}
 
 -- a status by its name and its fields, each field behind a blank
 abbrev pub status_text : Status → List ℕ

@@ -6,12 +6,11 @@ use Rattle.substitution.specs.Motion.{Motion}
 use Rattle.cyclo_points.specs.declared.order.Order.{Order}
 use Rattle.cyclo_points.specs.declared.point.Point.{Point}
 use Rattle.cyclo_points.specs.Order.{NumberOf, coefficients}
-use Rattle.cyclo_points.specs.Text.{number_text, blank}
+use Rattle.cyclo_points.specs.Text.{number_text, blank, newline}
 use Rattle.rule_model.specs.Tiling.{Tiling, MotionOf, IsPlaced}
 use Rattle.tile_place.specs.Placing.{first_refused}
 use Rattle.tile_app.specs.declared.status.Status.{Status}
 use Rattle.tile_app.specs.declared.status.Status.TheVariants.{BadAddress, CoordLimit}
-use Rattle.tile_app.specs.Text.{newline}
 use Rattle.tile_app.specs.Tile.{GivesTile, GivesNoTile}
 
 -- a tile placed, as `kind turn shift`

@@ -7,7 +7,7 @@ use Rattle.addressing.specs.Address.{Address, depth}
 use Rattle.cyclo_points.specs.Order.{NumberOf, points_of}
 use Rattle.cyclo_points.specs.declared.order.Order.{Order}
 use Rattle.substitution.specs.Motion.{Motion}
-use Rattle.cyclo_points.specs.Text.{number_text, blank}
+use Rattle.cyclo_points.specs.Text.{number_text, blank, newline}
 use Rattle.frames.specs.Frame.{StandsInFrame}
 use Rattle.lazy_walk.specs.Frames.{FrameValue, whole, at_depth}
 use Rattle.lazy_walk.specs.Paths.{CanBeWalked, IsStopped, IsStoppedAt, LacksEdge}
@@ -22,7 +22,6 @@ use Rattle.tile_app.specs.declared.words.Key.{Key}
 use Rattle.tile_app.specs.declared.words.Key.TheVariants.{Seed, Grow, Path}
 use Rattle.tile_app.specs.Commands.{most_seed}
 use Rattle.tile_app.specs.PathWords.{path_in}
-use Rattle.tile_app.specs.Text.{newline}
 use Rattle.tile_app.specs.Tile.{GivesTile, GivesNoTile}
 use Rattle.tile_app.specs.Words.{value_given}
 

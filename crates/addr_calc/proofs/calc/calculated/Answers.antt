@@ -1,9 +1,10 @@
 use Rattle.std.proofs.Common.{◌≡◌, ◌+◌, ◌<◌, ◌≤◌, List, ℕ, ◌∷◌, length, Option, Some, None, Ok, Bor, option_map, refl, sym, ap, ◌∙◌, subst, arith}
 use Rattle.std.proofs.lemmas.Result.{err_from_is_err_and}
+use Rattle.cyclo_points.specs.Text.{newline}
 use Rattle.rule_model.specs.Tiling.{tiling_of}
 use Rattle.addr_calc.specs.Bindings.{none_bound}
 use Rattle.addr_calc.specs.Calculation.{AllFit}
-use Rattle.addr_calc.specs.Parts.{parts, newline}
+use Rattle.addr_calc.specs.Parts.{parts}
 use Rattle.addr_calc.specs.Script.{ComesOf}
 use Rattle.addr_calc.specs.Views.{parts_behind}
 use Rattle.addr_calc.proofs.Names.{none_fit}

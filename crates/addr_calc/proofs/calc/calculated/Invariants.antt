@@ -1,8 +1,9 @@
 use Rattle.std.proofs.Common.{◌+◌, ◌≤◌, length, option_map}
+use Rattle.cyclo_points.specs.Text.{newline}
 use Rattle.rule_model.specs.Tiling.{tiling_of}
 use Rattle.addr_calc.specs.Calculation.{AllFit}
 use Rattle.addr_calc.specs.Compiled.{AreOf}
-use Rattle.addr_calc.specs.Parts.{parts, newline}
+use Rattle.addr_calc.specs.Parts.{parts}
 use Rattle.addr_calc.specs.Views.{parts_behind}
 use Rattle.addr_calc.proofs.Scripts.{Comes, size_left}
 use Rattle.addr_calc.proofs.calc.calculated.Given as goal

@@ -1,5 +1,6 @@
+use Rattle.cyclo_points.specs.Text.{newline}
 use Rattle.addr_calc.specs.Bindings.{none_bound}
-use Rattle.addr_calc.specs.Parts.{parts, newline}
+use Rattle.addr_calc.specs.Parts.{parts}
 use Rattle.addr_calc.proofs.OneAnswer.{comes_once}
 use Rattle.addr_calc.proofs.laws.one_answer_law.Goals as goal
 

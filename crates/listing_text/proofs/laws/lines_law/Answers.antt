@@ -3,7 +3,7 @@ use Rattle.std.proofs.lemmas.Bool.{ne_eqb}
 use Rattle.std.proofs.lemmas.List.Elements.{All-weaker}
 use Rattle.std.proofs.lemmas.List.Splits.{slice_split_at, slice_split_none}
 use Rattle.std.specs.List.{All}
-use Rattle.listing_text.specs.Lines.{newline}
+use Rattle.cyclo_points.specs.Text.{newline}
 use Rattle.listing_text.proofs.ListedLines.{line_cut, last_cut}
 use Rattle.listing_text.proofs.laws.lines_law.Goals as goal
 

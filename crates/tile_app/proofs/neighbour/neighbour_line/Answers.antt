@@ -3,8 +3,7 @@ use Rattle.std.specs.Fmt.{decimal}
 use Rattle.std.proofs.lemmas.Result.{IfOk-weaker}
 use Rattle.tile_shape.specs.Text.{address_text}
 use Rattle.tile_shape.specs.Views.{address_of}
-use Rattle.tile_app.specs.Text.{newline}
-use Rattle.cyclo_points.specs.Text.{blank}
+use Rattle.cyclo_points.specs.Text.{blank, newline}
 use Rattle.tile_app.proofs.neighbour.neighbour_line.Goals as goal
 
 pub returns : goal.returns

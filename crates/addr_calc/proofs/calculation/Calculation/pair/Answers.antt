@@ -1,9 +1,8 @@
 use Rattle.std.proofs.Common.{◌++◌, ◌∷◌, refl, sym, ap, ◌∙◌, subst}
-use Rattle.cyclo_points.specs.Text.{blank}
+use Rattle.cyclo_points.specs.Text.{blank, newline}
 use Rattle.rule_model.specs.Tiling.{tiling_of}
 use Rattle.tile_shape.specs.Views.{address_of}
 use Rattle.addr_calc.specs.Calculation.{AllFit}
-use Rattle.addr_calc.specs.Parts.{newline}
 use Rattle.addr_calc.specs.Printed.{letter, relation_text, pair_line}
 use Rattle.addr_calc.specs.Views.{relation_of}
 use Rattle.addr_calc.proofs.calculation.Calculation.pair.Goals as goal

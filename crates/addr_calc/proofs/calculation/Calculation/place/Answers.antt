@@ -1,11 +1,10 @@
 use Rattle.std.proofs.Common.{◌≡◌, ◌++◌, ◌∷◌, length, decimal, refl, sym, ap, ◌∙◌, subst, arith}
 use Rattle.cyclo_points.specs.Motion.{motion_in}
 use Rattle.cyclo_points.specs.Point.{point_in}
-use Rattle.cyclo_points.specs.Text.{blank, motion_text, point_text, number_text}
+use Rattle.cyclo_points.specs.Text.{blank, motion_text, point_text, number_text, newline}
 use Rattle.rule_model.specs.Tiling.{tiling_of}
 use Rattle.tile_shape.specs.Views.{address_of}
 use Rattle.addr_calc.specs.Calculation.{AllFit}
-use Rattle.addr_calc.specs.Parts.{newline}
 use Rattle.addr_calc.specs.Printed.{letter, place_line}
 use Rattle.addr_calc.proofs.Printing.{point_text-number, coefficients_of, pieces_of_place}
 use Rattle.addr_calc.proofs.calculation.Calculation.place.Goals as goal

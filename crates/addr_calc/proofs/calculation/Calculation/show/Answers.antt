@@ -1,9 +1,8 @@
 use Rattle.std.proofs.Common.{◌++◌, ◌∷◌, refl, sym, ap, ◌∙◌, subst}
-use Rattle.cyclo_points.specs.Text.{blank}
+use Rattle.cyclo_points.specs.Text.{blank, newline}
 use Rattle.tile_shape.specs.Text.{address_text}
 use Rattle.tile_shape.specs.Views.{address_of}
 use Rattle.addr_calc.specs.Calculation.{AllFit}
-use Rattle.addr_calc.specs.Parts.{newline}
 use Rattle.addr_calc.specs.Printed.{letter, show_line}
 use Rattle.addr_calc.proofs.calculation.Calculation.show.Goals as goal
 
