@@ -1,0 +1,59 @@
+-- Crossings of edges of a frame's tiles, by the names that the tiles have at depth 64.
+use Rattle.std.proofs.Common.{◌≡◌, ℕ, ◌<◌, ◌≤◌, ◌++◌, [], length, drop, sym, ap, ◌∙◌, subst, arith, append-nil}
+use Rattle.std.proofs.Math.Seq.{drop-length}
+use Rattle.addressing.specs.Address.{Address, depth}
+use Rattle.cyclo_points.specs.Order.{points_of}
+use Rattle.dissection.specs.Accepted.{AcceptedRule}
+use Rattle.dissection.specs.Across.{IsTileAcross}
+use Rattle.dissection.specs.OnBoundary.{IsOnBoundary}
+use Rattle.dissection.specs.TileEdges.{tile_at}
+use Rattle.frames.specs.Frame.{IsTileOf, lifted_in}
+use Rattle.lazy_walk.specs.Ancestors.{full}
+use Rattle.lazy_walk.specs.Boundary.{IsBoundaryEdge}
+use Rattle.lazy_walk.specs.Frames.{FrameValue, whole, IsFrameOf, GrowsTo, lifted_at}
+use Rattle.lazy_walk.proofs.Ancestors.{level-at}
+use Rattle.lazy_walk.proofs.InFull.{names, deep, level-grown, by_level}
+use Rattle.lazy_walk.proofs.Walks.{StillFits, GrowsTo-self}
+use Rattle.rule_model.specs.declared.rule.Rule.{Rule}
+use Rattle.rule_model.specs.Tiling.{Tiling, tiling_of, children}
+use Rattle.substitution.specs.Points.{Points}
+use Rattle.substitution.specs.RuleParts.{edge_count}
+use Rattle.tile_place.specs.Crossed.{IsOnlyAcross}
+use Rattle.tile_place.proofs.Plane.{IsSettled, its_rule}
+use Rattle.windows.specs.FrameSearch.{IsGrownCrossing}
+
+-- digits that reach to the frame's end have none behind
+pub lifted-self : (f a : Address) → depth a ≡ depth f → lifted_in f a ≡ a
+lifted-self f a e = λ i. record { kind = a.kind; digits = same i }
+  where
+    none : drop (depth a) f.digits ≡ []
+    none = ap (λ n. drop n f.digits) e ∙ drop-length f.digits
+
+    same : a.digits ++ drop (depth a) f.digits ≡ a.digits
+    same = ap (λ ds. a.digits ++ ds) none ∙ append-nil a.digits
+
+module _ (m : Rule) (settled : IsSettled m) (fits : StillFits (children (tiling_of m))) (f : FrameValue) (is : IsFrameOf (tiling_of m) f) (g : FrameValue) (h : GrowsTo (tiling_of m) f g) where
+  abbrev t : Tiling
+  t = tiling_of m
+
+  abbrev P : Points
+  P = points_of m.order
+
+  abbrev T : AcceptedRule P
+  T = its_rule m settled
+
+  abbrev F : Address
+  F = full t f
+
+  pub grown : (a b : Address) (e back : ℕ) → IsTileOf (children t) (whole f) a → e < edge_count T.rule a.kind → IsOnlyAcross t (lifted_in (whole g) a) e b back
+      → ((n : ℕ) → length f.digits ≤ n → n < length g.digits → IsBoundaryEdge t (lifted_at t f a n) e) → IsGrownCrossing P T F (length f.digits) (length g.digits) a e b back
+  grown a b e back of edge x least = record {
+    frame = names m settled fits f is;
+    not_below = h.no_shallower;
+    within = omega (arith, h.is_frame.at_most_64, deep m settled fits f is);
+    tile = by_level m settled fits f is f (GrowsTo-self t f is) a of;
+    edge_exists = edge;
+    across = subst (λ y. IsTileAcross P T.rule (tile_at P T.rule (lifted_in y a)) e (tile_at P T.rule b) back) (sym (level-grown m settled fits f is g h)) x.across;
+    least = λ k l j. let on = least k l j in
+        (on.own, on.part, subst (λ y. IsOnBoundary P T.rule (tile_at P T.rule (lifted_in y a)) e on.own on.part) (sym (level-at t f is k l (omega (arith, j, h.is_frame.at_most_64)))) on.lies);
+  }

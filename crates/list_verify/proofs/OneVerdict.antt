@@ -1,0 +1,404 @@
+-- One thing is said of a listing: it stands in one of six ways, and in no two of them.
+use Rattle.std.specs.Prelude.{nat_eq, nat_lt, nat_le, ◌==◌}
+use Rattle.std.specs.List.{list_all, list_any, range_with_len}
+use Rattle.std.proofs.Common.{◌≡◌, ◌⊎◌, inl, inr, ℕ, zero, suc, ◌+◌, ◌-◌, ◌<◌, ◌≤◌, Bool, true, false, ◌||◌, List, [], ◌∷◌, map, length, get_or, Result, Ok, Err, None, refl, sym, ap, ◌∙◌, subst, arith, zero-add}
+use Rattle.std.proofs.lemmas.Bool.{and_from, cases_lt}
+use Rattle.std.proofs.lemmas.Bool.Decides.{nat_tests}
+use Rattle.std.proofs.lemmas.List.{length-map, get_or-map}
+use Rattle.std.proofs.lemmas.List.Folds.{list_all-map, list_any_at}
+use Rattle.std.proofs.lemmas.List.FromFn.{length-range_with_len, get_or-range_with_len}
+use Rattle.addressing.specs.Address.{Address, depth, Fits}
+use Rattle.addressing.specs.Search.{IsAmong, some_below}
+use Rattle.addressing.specs.Tables as tables
+use Rattle.addressing.proofs.Lists.{AllByRecursion-among, AllByRecursion-each, IsAmong-map}
+use Rattle.cyclo_points.specs.declared.order.Order.{Order}
+use Rattle.cyclo_points.specs.Order.{points_of, is_refused}
+use Rattle.cyclo_points.specs.Point.{IsOf}
+use Rattle.dissection.specs.Accepted.{AcceptedRule}
+use Rattle.edge_to_edge.specs.Contacts.{tables_of}
+use Rattle.frames.specs.Frame.{IsTileOf}
+use Rattle.lazy_walk.specs.Ancestors.{full}
+use Rattle.lazy_walk.specs.Frames.{FrameValue, IsFrameOf}
+use Rattle.lazy_walk.proofs.Walks.{StillFits}
+use Rattle.listing_text.specs.declared.listing_fault.ListingFault.{ListingFault}
+use Rattle.listing_text.specs.declared.listing_fault.ListingFault.TheVariants as text
+use Rattle.listing_text.specs.Listing.{Entry, listing_in}
+use Rattle.listings.specs.FrameListing.{AreOfFrame, NamesMeeting, IsNotOfFrame, IsDouble}
+use Rattle.listings.specs.FrameWalk.{IsRightInFrame}
+use Rattle.listings.specs.Lines.{IsFirstLine}
+use Rattle.listings.proofs.Lines.{line-among}
+use Rattle.plane_geom.specs.declared.window.Window.{Window}
+use Rattle.rule_model.specs.Tiling.{Tiling, children}
+use Rattle.rule_model.proofs.Contacts.{child_kinds_of_tables}
+use Rattle.substitution.specs.Motion.{still}
+use Rattle.substitution.specs.Points.{Points}
+use Rattle.substitution.specs.Rule.{Child, Kind, Rule, kind_of, children_of, child_kinds}
+use Rattle.substitution.specs.Supertile.{Placed}
+use Rattle.tile_shape.specs.Usable.{AreUsable, is_child_kind}
+use Rattle.window_cover.specs.Windows.{TileOf, box_of, IsWindow}
+use Rattle.windows.specs.FrameCover.{IsWindowOn}
+use Rattle.list_verify.specs.declared.list_fault.ListFault.{ListFault}
+use Rattle.list_verify.specs.declared.list_fault.ListFault.TheVariants.{TooLong, BadLine, Address as BadAddress, BadKind, NotOfFrame, Double, Missing, WrongPlace, Stray, DepthLimit, CoordLimit, NoMemory}
+use Rattle.list_verify.specs.Listing.{tile_listed, tiles_listed, IsRightFor, IsVerified, NamesTileThere, HasAllTiles}
+use Rattle.list_verify.specs.ListLaws.{HasListLaws}
+use Rattle.list_verify.specs.OneVerdict.{HasOneVerdict, tiling_accepted}
+use Rattle.list_verify.specs.Verdict.{fault_of_text, frame_listed, AreOfFrameGrown, AreApart, HasNotOfFrame, HasDouble, HasStrayLine, EndsWalking, HasCause, IsOfWalk, IsTold, LacksTiles}
+use Rattle.list_verify.specs.Walked.{first_refused_at}
+
+-- ---- the child kinds of an accepted rule are a table of uses
+-- what each place passes, the list passes
+each_place : {A : Type 0} (p : A → Bool) (xs : List A) (d : A) → ((i : ℕ) → i < length xs → p (get_or xs i d) ≡ true) → list_all p xs ≡ true
+each_place p [] d h = refl
+each_place p (x ∷ xs) d h = and_from (p x) (list_all p xs) (h 0 (omega arith)) (each_place p xs d (λ i l. h (suc i) (omega arith)))
+
+-- a number that passes
+record Passing (n : ℕ) (f : ℕ → Bool) : Type 0 where
+  at : ℕ
+  within : at < n
+  passes : f at ≡ true
+
+passing : (n : ℕ) (f : ℕ → Bool) → some_below n f ≡ true → Passing n f
+passing zero f h = absurd (cc)
+passing (suc n) f h = by_case (some_below n f) refl h (passing n f)
+  where
+    by_case : (b : Bool) → some_below n f ≡ b → (b || f n) ≡ true → (some_below n f ≡ true → Passing n f) → Passing (suc n) f
+    by_case true e q later = let p = later e in record { at = p.at; within = let l = p.within in omega arith; passes = p.passes }
+    by_case false e q later = record { at = n; within = omega arith; passes = q }
+
+-- among the children's kinds is one that is a child's
+any-kinds : {A : Type 0} (k : ℕ) (cs : List (Child A)) → list_any (λ (c : Child A). nat_eq c.kind k) cs ≡ list_any (λ child. child == k) (map (λ (c : Child A). c.kind) cs)
+any-kinds k [] = refl
+any-kinds k (c ∷ cs) = ap (λ b. nat_eq c.kind k || b) (any-kinds k cs)
+
+module _ (P : Points) (T : AcceptedRule P) where
+  abbrev A : Type 0
+  A = P.ring.carrier
+
+  abbrev r : Rule A
+  r = T.rule
+
+  abbrev no_kind : Kind A
+  no_kind = record { vertices = []; edges = []; children = [] }
+
+  abbrev row : Kind A → List ℕ
+  row k = map (λ (c : Child A). c.kind) k.children
+
+  as_many : length (child_kinds r) ≡ length r.kinds
+  as_many = length-map r.kinds row
+
+  row-long : (k : ℕ) → length (row (kind_of r k)) ≡ length (children_of r k)
+  row-long k = length-map (children_of r k) (λ (c : Child A). c.kind)
+
+  -- what each kind's row passes, all rows pass
+  each_row : (p : List ℕ → Bool) → ((k : ℕ) → k < length r.kinds → p (row (kind_of r k)) ≡ true) → list_all p (child_kinds r) ≡ true
+  each_row p h = list_all-map p row r.kinds ∙ each_place (λ (k : Kind A). p (row k)) r.kinds no_kind h
+
+  exists : (k : ℕ) → k < length r.kinds → list_all (λ kind. nat_lt kind (length (child_kinds r))) (row (kind_of r k)) ≡ true
+  exists k l =
+      list_all-map (λ kind. nat_lt kind (length (child_kinds r))) (λ (c : Child A). c.kind) (children_of r k)
+      ∙ each_place (λ (c : Child A). nat_lt c.kind (length (child_kinds r))) (children_of r k) (record { kind = 0; motion = still P }) (λ c m.
+      let b = T.numbered.child_exists k c l m in
+      let e = as_many in
+      grind (arith, nat_tests, b, e))
+
+  used : (k : ℕ) → k < length r.kinds → is_child_kind (child_kinds r) k ≡ true
+  used k l =
+      let p = passing (length r.kinds) _ (T.edge_to_edge.each_used k l) in
+      list_any_at (λ row. list_any (λ child. child == k) row) (child_kinds r) p.at [] (subst (λ n. p.at < n) (sym as_many) p.within)
+      (subst (λ kinds. list_any (λ child. child == k) kinds ≡ true) (sym (get_or-map row r.kinds p.at no_kind [] p.within)) (sym (any-kinds k (children_of r p.at)) ∙ p.passes))
+
+  pub accepted-usable : AreUsable (child_kinds r)
+  accepted-usable = record {
+    some_kind = subst (λ n. 1 ≤ n) (sym as_many) T.numbered.some_kind;
+    at_most_16_kinds = subst (λ n. n ≤ 16) (sym as_many) T.numbered.at_most_16_kinds;
+    some_child = each_row (λ kinds. nat_le 1 (length kinds)) (λ k l. let e = row-long k in let b = T.numbered.some_child k l in grind (arith, nat_tests, e, b));
+    at_most_16_children = each_row (λ kinds. nat_le (length kinds) 16) (λ k l. let e = row-long k in let b = T.numbered.at_most_16_children k l in grind (arith, nat_tests, e, b));
+    each_exists = each_row (λ kinds. list_all (λ kind. nat_lt kind (length (child_kinds r))) kinds) exists;
+    each_used = each_place (λ kind. is_child_kind (child_kinds r) kind) (range_with_len 0 (length (child_kinds r))) 0 (λ i l.
+        let m : i < length (child_kinds r) = subst (λ n. i < n) (length-range_with_len 0 (length (child_kinds r))) l in
+        subst (λ k. is_child_kind (child_kinds r) k ≡ true) (sym (get_or-range_with_len 0 (length (child_kinds r)) i 0 m ∙ zero-add i)) (used i (subst (λ n. i < n) as_many m)));
+  }
+
+-- ---- two first lines are one
+one_number : (i j : ℕ) → ((i < j) → ⊥) → ((j < i) → ⊥) → i ≡ j
+one_number i j h k = elim (cases_lt i j) [
+  | inl l ↦ absurd (h l)
+  | inr l ↦ elim (cases_lt j i) [ inl m ↦ absurd (k m) | inr m ↦ omega (arith, l, m) ]
+]
+
+one-first : {L : Type 0} (Q : L → Type 0) (lines : List L) (i j : ℕ) → IsFirstLine Q lines i → IsFirstLine Q lines j → i ≡ j
+one-first Q lines i j h k = one_number i j (λ l. absurd (k.first i h.line l h.is_line h.so)) (λ l. absurd (h.first j k.line l k.is_line k.so))
+
+one-double : {A : Type 0} (f : Address) (listing : List (Placed A)) (i j : ℕ) → IsDouble f listing i → IsDouble f listing j → i ≡ j
+one-double f listing i j h k = one_number i j (λ l. absurd (k.first i h.line l h.is_line h.earlier)) (λ l. absurd (h.first j k.line l k.is_line k.earlier))
+
+-- ---- what is read is read in one way
+one-reading : (read : Result (List Entry) ListingFault) (xs ys : List Entry) → read ≡ Ok xs → read ≡ Ok ys → xs ≡ ys
+one-reading read xs ys h k = cc (sym h ∙ k)
+
+one-text_fault : (read : Result (List Entry) ListingFault) (d e : ListingFault) → read ≡ Err d → read ≡ Err e → d ≡ e
+one-text_fault read d e h k = cc (sym h ∙ k)
+
+-- ---- how a listing stands: its text has a fault; a line is outside the frame, or a double; a tile is lacking; a line is stray; or it is right
+data Standing : Type 0 where
+  Unread : ListingFault → Standing
+  Outside : ℕ → Standing
+  Doubled : ℕ → Standing
+  Lacking : Standing
+  Straying : ℕ → Standing
+  Right : ℕ → Standing
+
+-- what is then said of it
+abbrev IsSaid : Standing → ListFault → Type 0
+IsSaid (Unread e) fault = fault ≡ fault_of_text e
+IsSaid (Outside i) fault = fault ≡ NotOfFrame (i + 1)
+IsSaid (Doubled i) fault = fault ≡ Double (i + 1)
+IsSaid Lacking fault = IsOfWalk fault
+IsSaid (Straying i) fault = fault ≡ Stray (i + 1)
+IsSaid (Right n) fault = ⊥
+
+same-said : (s : Standing) (one other : ListFault) → IsSaid s one → IsSaid s other → (one ≡ other) ⊎ ((one ≡ NoMemory) ⊎ ((other ≡ NoMemory) ⊎ (IsOfWalk one × IsOfWalk other)))
+same-said (Unread e) one other h k = inl (h ∙ sym k)
+same-said (Outside i) one other h k = inl (h ∙ sym k)
+same-said (Doubled i) one other h k = inl (h ∙ sym k)
+same-said Lacking one other h k = inr (inr (inr (h, k)))
+same-said (Straying i) one other h k = inl (h ∙ sym k)
+same-said (Right n) one other h k = absurd h
+
+-- a fault of the walk may not come, though it has a cause
+pub of_walk-untold : (fault : ListFault) → IsOfWalk fault → IsTold fault → ⊥
+of_walk-untold (Missing addr) h k = k
+of_walk-untold (WrongPlace line motion) h k = k
+of_walk-untold (DepthLimit addr edge) h k = k
+of_walk-untold (CoordLimit value) h k = k
+of_walk-untold fault h k = absurd h
+
+module _ (o : Order) (T : AcceptedRule (points_of o)) (fits : StillFits (children (tiling_accepted o T))) (L : HasListLaws (points_of o)) (f : FrameValue)
+    (is : IsFrameOf (tiling_accepted o T) f) (w : Window) (fit : IsWindow w) (listing : List ℕ) where
+  abbrev t : Tiling
+  t = tiling_accepted o T
+
+  abbrev P : Points
+  P = points_of o
+
+  abbrev F : Address
+  F = full t f
+
+  abbrev d : ℕ
+  d = length f.digits
+
+  abbrev kinds : List (List ℕ)
+  kinds = tables.child_kinds (tables_of P T.rule)
+
+  -- its lines, or the first fault of its text
+  abbrev reading : Result (List Entry) ListingFault
+  reading = listing_in (children t) listing
+
+  same-lines : (xs ys : List Entry) → reading ≡ Ok xs → reading ≡ Ok ys → xs ≡ ys
+  same-lines xs ys h k = one-reading reading xs ys h k
+
+  on : IsWindowOn P T F (box_of t w)
+  on = record {
+    frame = subst (λ kinds. Fits kinds F) (sym (child_kinds_of_tables P T.rule)) (fits f.base f.start (64 - depth f.base) is.fits);
+    wide = omega (arith, fit.some_width);
+    high = omega (arith, fit.some_height);
+  }
+
+  right-in_frame : (entries : List Entry) (h : IsRightFor t f w entries) → IsRightInFrame P (is_refused o) T F (box_of t w) d (tiles_listed t entries) h.right.depth
+  right-in_frame entries h = L.right T F (is_refused o) (box_of t w) on d (tiles_listed t entries) h.right
+
+  abbrev Stands : Standing → Type 0
+  Stands (Unread e) = reading ≡ Err e
+  Stands (Outside i) = HasNotOfFrame t f listing i
+  Stands (Doubled i) = HasDouble t f listing i
+  Stands Lacking = LacksTiles t f w listing
+  Stands (Straying i) = HasStrayLine t f w listing i
+  Stands (Right n) = IsVerified t f w listing n
+
+  -- ---- the text is read, unless it has a fault
+  abbrev IsRead : Standing → Type 0
+  IsRead (Unread e) = Unit {0}
+  IsRead s = (entries : List Entry) × (reading ≡ Ok entries)
+
+  is-read : (s : Standing) → Stands s → IsRead s
+  is-read (Unread e) h = tt
+  is-read (Outside i) h = (h.entries, h.read)
+  is-read (Doubled i) h = (h.entries, h.lines.read)
+  is-read Lacking h = (h.entries, h.lines.lines.read)
+  is-read (Straying i) h = (h.entries, h.lines.lines.read)
+  is-read (Right n) h = (h.entries, h.read)
+
+  unread : (e : ListingFault) → Stands (Unread e) → (entries : List Entry) × (reading ≡ Ok entries) → ⊥
+  unread e h k = absurd (cc (sym h ∙ k.1))
+
+  -- ---- then its lines are of the frame, unless one is outside
+  abbrev IsInside : Standing → Type 0
+  IsInside (Unread e) = Unit {0}
+  IsInside (Outside i) = Unit {0}
+  IsInside s = (entries : List Entry) × AreOfFrameGrown t f listing entries
+
+  is-inside : (s : Standing) → Stands s → IsInside s
+  is-inside (Unread e) h = tt
+  is-inside (Outside i) h = tt
+  is-inside (Doubled i) h = (h.entries, h.lines)
+  is-inside Lacking h = (h.entries, h.lines.lines)
+  is-inside (Straying i) h = (h.entries, h.lines.lines)
+  is-inside (Right n) h = (h.entries, record { read = h.read; of_frame = (right-in_frame h.entries h.right).listing_on.of_frame })
+
+  outside : (i : ℕ) → HasNotOfFrame t f listing i → (entries : List Entry) × AreOfFrameGrown t f listing entries → ⊥
+  outside i h k =
+      let x = h.first.line in
+      absurd (h.first.so (AllByRecursion-among (λ (x : TileOf t). IsTileOf kinds (frame_listed t f h.entries) x.address) x (tiles_listed t h.entries)
+      (line-among (tiles_listed t h.entries) i x h.first.is_line)
+      (subst (λ es. AreOfFrame P T.rule (frame_listed t f es) (tiles_listed t es)) (same-lines k.0 h.entries k.1.read h.read) k.1.of_frame)))
+
+  -- ---- then they are apart, unless one is a double
+  abbrev IsApart : Standing → Type 0
+  IsApart (Unread e) = Unit {0}
+  IsApart (Outside i) = Unit {0}
+  IsApart (Doubled i) = Unit {0}
+  IsApart s = (entries : List Entry) × AreApart t f listing entries
+
+  is-apart : (s : Standing) → Stands s → IsApart s
+  is-apart (Unread e) h = tt
+  is-apart (Outside i) h = tt
+  is-apart (Doubled i) h = tt
+  is-apart Lacking h = (h.entries, h.lines)
+  is-apart (Straying i) h = (h.entries, h.lines)
+  is-apart (Right n) h = (
+    h.entries,
+    record {
+      lines = record { read = h.read; of_frame = (right-in_frame h.entries h.right).listing_on.of_frame };
+      none_double = (L.no_list_fault T F (is_refused o) (box_of t w) on d (tiles_listed t h.entries) h.right.right).no_double;
+    },
+  )
+
+  doubled : (i : ℕ) → HasDouble t f listing i → (entries : List Entry) × AreApart t f listing entries → ⊥
+  doubled i h k =
+      absurd (k.1.none_double i (subst (λ es. IsDouble (frame_listed t f es) (tiles_listed t es) i) (same-lines h.entries k.0 h.lines.read k.1.lines.read) h.first))
+
+  -- ---- then all tiles are there, or one is lacking
+  record HasAll : Type 0 where
+    entries : List Entry
+    read : reading ≡ Ok entries
+    centre_found : first_refused_at t f w ≡ None
+    all_tiles : HasAllTiles t f w d entries
+
+  stray-all : (i : ℕ) → HasStrayLine t f w listing i → HasAll
+  stray-all i h = record { entries = h.entries; read = h.lines.lines.read; centre_found = h.centre_found; all_tiles = h.stray.all_tiles }
+
+  right-all : (n : ℕ) → IsVerified t f w listing n → HasAll
+  right-all n h = record {
+    entries = h.entries;
+    read = h.read;
+    centre_found = h.centre_found;
+    all_tiles = record {
+      all_listed = (right-in_frame h.entries h.right).all_listed h.unrefused;
+      of_order = AllByRecursion-each (λ (e : Entry). IsOf o e.motion.shift) (λ (e : Entry). NamesTileThere t f w e → IsOf o e.motion.shift) h.entries
+          (λ e k m. k) h.right.of_order;
+    };
+  }
+
+  lacking : LacksTiles t f w listing → HasAll → ⊥
+  lacking h k = absurd (h.lacking k.centre_found (subst (HasAllTiles t f w d) (same-lines k.entries h.entries k.read h.lines.lines.read) k.all_tiles))
+
+  -- ---- then no line is stray, or one is
+  stray : (i n : ℕ) → HasStrayLine t f w listing i → IsVerified t f w listing n → ⊥
+  stray i n h k =
+      let s = h.stray.first in
+      let same = same-lines h.entries k.entries h.lines.lines.read k.read in
+      absurd (s.so (AllByRecursion-among (λ (x : TileOf t). NamesMeeting P T.rule F (box_of t w) x.address) (tile_listed t s.line) (tiles_listed t k.entries)
+      (IsAmong-map (tile_listed t) s.line k.entries (subst (λ es. IsAmong s.line es) same (line-among h.entries i s.line s.is_line)))
+      (right-in_frame k.entries k.right).each_meets))
+
+  one-count : (n m : ℕ) → IsVerified t f w listing n → IsVerified t f w listing m → n ≡ m
+  one-count n m h k = h.count ∙ ap length (same-lines h.entries k.entries h.read k.read) ∙ sym k.count
+
+  -- ---- so it stands in one way
+  one-outside : (i j : ℕ) → HasNotOfFrame t f listing i → HasNotOfFrame t f listing j → i ≡ j
+  one-outside i j h k =
+      one-first (λ (x : TileOf t). ¬ IsTileOf kinds (frame_listed t f h.entries) x.address) (tiles_listed t h.entries) i j h.first
+      (subst (λ es. IsNotOfFrame P T.rule (frame_listed t f es) (tiles_listed t es) j) (same-lines k.entries h.entries k.read h.read) k.first)
+
+  one-doubled : (i j : ℕ) → HasDouble t f listing i → HasDouble t f listing j → i ≡ j
+  one-doubled i j h k =
+      one-double (frame_listed t f h.entries) (tiles_listed t h.entries) i j h.first
+      (subst (λ es. IsDouble (frame_listed t f es) (tiles_listed t es) j) (same-lines k.entries h.entries k.lines.read h.lines.read) k.first)
+
+  one-stray : (i j : ℕ) → HasStrayLine t f w listing i → HasStrayLine t f w listing j → i ≡ j
+  one-stray i j h k =
+      one-first (λ (e : Entry). ¬ NamesTileThere t f w e) h.entries i j h.stray.first
+      (subst (λ es. IsFirstLine (λ (e : Entry). ¬ NamesTileThere t f w e) es j) (same-lines k.entries h.entries k.lines.lines.read h.lines.lines.read) k.stray.first)
+
+  one-standing : (a b : Standing) → Stands a → Stands b → a ≡ b
+  one-standing (Unread e) (Unread g) h k = ap Unread (one-text_fault reading e g h k)
+  one-standing (Unread e) b h k = absurd (unread e h (is-read b k))
+  one-standing a (Unread g) h k = absurd (unread g k (is-read a h))
+  one-standing (Outside i) (Outside j) h k = ap Outside (one-outside i j h k)
+  one-standing (Outside i) b h k = absurd (outside i h (is-inside b k))
+  one-standing a (Outside j) h k = absurd (outside j k (is-inside a h))
+  one-standing (Doubled i) (Doubled j) h k = ap Doubled (one-doubled i j h k)
+  one-standing (Doubled i) b h k = absurd (doubled i h (is-apart b k))
+  one-standing a (Doubled j) h k = absurd (doubled j k (is-apart a h))
+  one-standing Lacking Lacking h k = refl
+  one-standing Lacking (Straying j) h k = absurd (lacking h (stray-all j k))
+  one-standing Lacking (Right m) h k = absurd (lacking h (right-all m k))
+  one-standing (Straying i) Lacking h k = absurd (lacking k (stray-all i h))
+  one-standing (Right n) Lacking h k = absurd (lacking k (right-all n h))
+  one-standing (Straying i) (Straying j) h k = ap Straying (one-stray i j h k)
+  one-standing (Straying i) (Right m) h k = absurd (stray i m h k)
+  one-standing (Right n) (Straying j) h k = absurd (stray j n k h)
+  one-standing (Right n) (Right m) h k = ap Right (one-count n m h k)
+
+  -- ---- a fault that has a cause is said of how it stands
+  record IsSaidOfIt (fault : ListFault) : Type 0 where
+    standing : Standing
+    stands : Stands standing
+    said : IsSaid standing fault
+
+  lacks : (g : FrameValue) (fault : ListFault) → EndsWalking t f g w listing fault → LacksTiles t f w listing
+  lacks g fault h = record { entries = h.entries; lines = h.lines; lacking = h.stopped.not_all }
+
+  said-of : (g : FrameValue) (fault : ListFault) → HasCause t f g w listing fault → (fault ≡ NoMemory) ⊎ IsSaidOfIt fault
+  said-of g TooLong h = inr (record { standing = Unread text.TooLong; stands = h; said = refl })
+  said-of g (BadLine line place) h = inr (record { standing = Unread (text.BadLine line place); stands = h; said = refl })
+  said-of g (BadAddress line fault) h = inr (record { standing = Unread (text.Address line fault); stands = h; said = refl })
+  said-of g (BadKind line) h = inr (record { standing = Unread (text.BadKind line); stands = h; said = refl })
+  said-of g (NotOfFrame line) h = inr (record { standing = Outside h.0; stands = h.2; said = ap NotOfFrame h.1 })
+  said-of g (Double line) h = inr (record { standing = Doubled h.0; stands = h.2; said = ap Double h.1 })
+  said-of g (Missing addr) h = inr (record { standing = Lacking; stands = lacks g (Missing addr) h; said = tt })
+  said-of g (WrongPlace line motion) h = inr (record { standing = Lacking; stands = lacks g (WrongPlace line motion) h; said = tt })
+  said-of g (Stray line) h = inr (record { standing = Straying h.0; stands = h.2; said = ap Stray h.1 })
+  said-of g (DepthLimit addr edge) h = inr (record { standing = Lacking; stands = lacks g (DepthLimit addr edge) h; said = tt })
+  said-of g (CoordLimit value) h = inr (record { standing = Lacking; stands = lacks g (CoordLimit value) h; said = tt })
+  said-of g NoMemory h = inl refl
+
+  -- so it is said of each way in which the listing stands
+  said-at : (s : Standing) (fault : ListFault) → Stands s → IsSaidOfIt fault → IsSaid s fault
+  said-at s fault h k = subst (λ a. IsSaid a fault) (one-standing k.standing s k.stands h) k.said
+
+  -- what is said where a tile is lacking
+  pub lacks-of_walk : (g : FrameValue) (fault : ListFault) → LacksTiles t f w listing → HasCause t f g w listing fault → (fault ≡ NoMemory) ⊎ IsOfWalk fault
+  lacks-of_walk g fault h k = elim (said-of g fault k) [ inl e ↦ inl e | inr s ↦ inr (said-at Lacking fault h s) ]
+
+  right-or_not : (n : ℕ) (g : FrameValue) (fault : ListFault) → IsVerified t f w listing n → HasCause t f g w listing fault → fault ≡ NoMemory
+  right-or_not n g fault h k = elim (said-of g fault k) [ inl e ↦ e | inr s ↦ absurd (said-at (Right n) fault h s) ]
+
+  one-fault : (g h : FrameValue) (one other : ListFault) → HasCause t f g w listing one → HasCause t f h w listing other
+      → (one ≡ other) ⊎ ((one ≡ NoMemory) ⊎ ((other ≡ NoMemory) ⊎ (IsOfWalk one × IsOfWalk other)))
+  one-fault g h one other c e = elim (said-of g one c) [
+    | inl m ↦ inr (inl m)
+    | inr s ↦ elim (said-of h other e) [ inl m ↦ inr (inr (inl m)) | inr k ↦ same-said k.standing one other (said-at k.standing one k.stands s) k.said ]
+  ]
+
+  lacks-told : (g : FrameValue) (fault : ListFault) → LacksTiles t f w listing → HasCause t f g w listing fault → IsTold fault → ⊥
+  lacks-told g fault h k told = elim (lacks-of_walk g fault h k) [ inl e ↦ subst IsTold e told | inr s ↦ of_walk-untold fault s told ]
+
+  pub verdict : HasOneVerdict (tiling_accepted o T) f w listing
+  verdict = record {
+    one_count = one-count;
+    right_or_not = right-or_not;
+    one_fault = one-fault;
+    lacks_or_right = λ n h k. lacking h (right-all n k);
+    lacks_or_told = lacks-told;
+  }

@@ -1,0 +1,16 @@
+use Rattle.std.proofs.Common.{◌≡◌, Err, sym, ap, ◌∙◌, subst}
+use Rattle.listing_text.specs.Listing.{listing_in}
+use Rattle.listing_text.specs.Views.{OrWantsMemory}
+use Rattle.rule_model.specs.declared.rule.Rule.{Rule}
+use Rattle.rule_model.specs.Tiling.{tiling_of, children}
+use Rattle.list_verify.specs.Verdict.{HasCause}
+use Rattle.list_verify.proofs.Verdicts.{text-caused}
+use Rattle.list_verify.proofs.verify.verdict.Goals as goal
+
+pub returns-in-Err-clause-cause : goal.returns-in-Err-clause-cause
+returns-in-Err-clause-cause c =
+    let t = tiling_of c.args.machine.now in
+    let kinds = c.uses-uses.ensures ∙ ap (λ (r : Rule). children (tiling_of r)) c.checked.ensures.rule in
+    subst (HasCause t c.args.frame.now c.args.frame.now c.args.window.now c.args.listing.now) (sym c.into.ensures)
+    (text-caused t c.args.frame.now c.args.frame.now c.args.window.now c.args.listing.now c.in-Err.fault
+    (subst (λ ks. OrWantsMemory (λ e. listing_in ks c.args.listing.now ≡ Err e) c.in-Err.fault) kinds c.in-Err.ensures.fault))

@@ -1,0 +1,34 @@
+-- Why a tile that the walk comes to isn't found among the lines.
+use Rattle.std.specs.Prelude.{◌≡◌, ℕ, List, slice_get, Some}
+use Rattle.addressing.specs.Search.{IsAmong}
+use Rattle.cyclo_points.specs.declared.motion.Motion.{Motion}
+use Rattle.cyclo_points.specs.Point.{IsOf}
+use Rattle.cyclo_points.specs.Motion.{motion_in}
+use Rattle.frames.specs.Frame.{lifted_in}
+use Rattle.plane_geom.specs.declared.window.Window.{Window}
+use Rattle.rule_model.specs.Tiling.{Tiling}
+use Rattle.tile_shape.specs.declared.address.Address.{Address}
+use Rattle.tile_shape.specs.Views.{address_of}
+use Rattle.lazy_walk.specs.Frames.{FrameValue, whole}
+use Rattle.listing_text.specs.Listing.{Entry}
+use Rattle.window_cover.specs.Windows.{TileOf, MeetsWindow, IsOfFrame}
+
+-- the tile of this address is of the frame, at the depth that it has, and meets the window; and no line's address, lifted to that depth, is it
+pub record IsMissingTile (t : Tiling) (g : FrameValue) (w : Window) (entries : List Entry) (addr : Address) : Type 0 where
+  pub tile : TileOf t
+  pub its_address : tile.address ≡ address_of addr
+  pub of_frame : IsOfFrame t g tile
+  pub tile_meets : MeetsWindow t w tile
+  pub no_line : (e : Entry) → IsAmong e entries → ¬ (lifted_in (whole g) e.address ≡ address_of addr)
+
+-- the tile of line i, from 0, lifted to the depth that the frame has, meets the window and has this motion, which isn't the line's
+pub record IsMisplaced (t : Tiling) (g : FrameValue) (w : Window) (entries : List Entry) (i : ℕ) (motion : Motion) : Type 0 where
+  pub entry : Entry
+  pub is_line : slice_get entries i ≡ Some entry
+  pub tile : TileOf t
+  pub its_address : tile.address ≡ lifted_in (whole g) entry.address
+  pub of_frame : IsOfFrame t g tile
+  pub tile_meets : MeetsWindow t w tile
+  pub its_motion : tile.motion ≡ motion_in t.order motion
+  pub in_order : IsOf t.order motion.shift
+  pub other : ¬ (entry.motion ≡ motion)

@@ -1,0 +1,11 @@
+pub mod LineIndex
+pub mod Faults
+pub mod LookedUp
+pub mod Listing
+pub mod Causes
+pub mod FoundLines
+pub mod Walked
+pub mod Lifted
+pub mod Verdict
+pub mod OneVerdict
+pub mod ListLaws

@@ -1,0 +1,56 @@
+-- Listings of a window on a frame of a tiling, and when one is right.
+use Rattle.std.specs.Prelude.{◌≡◌, ℕ, List, map, length, None, Ok}
+use Rattle.std.specs.List.{AllByRecursion}
+use Rattle.cyclo_points.specs.Order.{points_of, is_refused}
+use Rattle.cyclo_points.specs.Point.{point_in, IsOf}
+use Rattle.cyclo_points.specs.Motion.{motion_in}
+use Rattle.plane_geom.specs.declared.window.Window.{Window}
+use Rattle.rule_model.specs.Tiling.{Tiling, children}
+use Rattle.lazy_walk.specs.Ancestors.{full}
+use Rattle.lazy_walk.specs.Containing.{first_refused_outward}
+use Rattle.lazy_walk.specs.Frames.{FrameValue}
+use Rattle.listing_text.specs.Listing.{Entry, listing_in}
+use Rattle.listings.specs.FrameListing.{IsRightListing, AreUnrefused, AreAllListed, NamesMeeting}
+use Rattle.listings.specs.Lines.{IsFirstLine}
+use Rattle.window_cover.specs.Windows.{TileOf, box_of}
+
+-- a line as a tile, by its address and its motion
+abbrev pub tile_listed : (t : Tiling) → Entry → TileOf t
+tile_listed t e = record { address = e.address; motion = motion_in t.order e.motion }
+
+abbrev pub tiles_listed : (t : Tiling) → List Entry → List (TileOf t)
+tiles_listed t entries = map (tile_listed t) entries
+
+-- each shift is a number of the order: in orders four and six its last two coefficients are 0
+abbrev pub AreOfOrder : Tiling → List Entry → Type 0
+AreOfOrder t entries = AllByRecursion (λ (e : Entry). IsOf t.order e.motion.shift) entries
+
+-- The listing is right for the window on the frame. Let n be the least depth, up to 64, that is enough for the window, and isn't below the frame's or a listed
+-- one: there is such a depth, each address is of the frame at depth n, and the lines, lifted to depth n, are exactly the tiles there that meet the window, each
+-- once and with its motion.
+pub record IsRightFor (t : Tiling) (f : FrameValue) (w : Window) (entries : List Entry) : Type 0 where
+  pub of_order : AreOfOrder t entries
+  pub right : IsRightListing (points_of t.order) t.rule (full t f) (box_of t w) (length f.digits) (tiles_listed t entries)
+
+-- the text is read as a right listing of n lines; no value looked at for the centre is refused, and no shift of a tile that meets the window
+pub record IsVerified (t : Tiling) (f : FrameValue) (w : Window) (text : List ℕ) (n : ℕ) : Type 0 where
+  pub entries : List Entry
+  pub read : listing_in (children t) text ≡ Ok entries
+  pub count : n ≡ length entries
+  pub right : IsRightFor t f w entries
+  pub unrefused : AreUnrefused (is_refused t.order) (tiles_listed t entries)
+  pub centre_found : first_refused_outward t f (point_in t.order w.centre) ≡ None
+
+-- the tile that an address names in the frame meets the window
+abbrev pub NamesTileThere : Tiling → FrameValue → Window → Entry → Type 0
+NamesTileThere t f w e = NamesMeeting (points_of t.order) t.rule (full t f) (box_of t w) e.address
+
+-- there is such a depth, and each tile there that meets the window has a line with its motion, and no refused shift
+pub record HasAllTiles (t : Tiling) (f : FrameValue) (w : Window) (m : ℕ) (entries : List Entry) : Type 0 where
+  pub all_listed : AreAllListed (points_of t.order) (is_refused t.order) t.rule (full t f) (box_of t w) m (tiles_listed t entries)
+  pub of_order : AllByRecursion (λ (e : Entry). NamesTileThere t f w e → IsOf t.order e.motion.shift) entries
+
+-- it is so, and line i, from 0, is the first whose tile doesn't meet the window
+pub record HasStray (t : Tiling) (f : FrameValue) (w : Window) (m : ℕ) (entries : List Entry) (i : ℕ) : Type 0 where
+  pub all_tiles : HasAllTiles t f w m entries
+  pub first : IsFirstLine (λ e. ¬ NamesTileThere t f w e) entries i

@@ -1,0 +1,44 @@
+//! The edges that have been crossed from their other sides.
+ghost use Rattle.std.specs.Prelude.{◌≡◌, ◌↔◌, ◌<◌, ◌+◌, ◌*◌, ◌^◌, ℕ, true, length, slice_get, slice_set, Some, IsTrue, IfOk};
+
+use std::alloc::Global;
+use tile_shape::no_memory::NoMemory;
+
+/// How many marks each line has: no tile has more edges.
+const MARKS: usize = 12;
+
+/// A mark for each edge of each line's tile: whether it has been crossed from its other side.
+#[derive(Drop)]
+pub(crate) struct CrossedEdges {
+    pub(crate) marks: Vec<bool>,
+}
+
+impl CrossedEdges {
+    /// None is, of so many lines.
+    pub(crate) fn new(alloc: Global, count: usize) -> Result<CrossedEdges, NoMemory>
+        requires few { count < 2 ^ 32 }
+        ensures count { IfOk result (λ own. length own.marks.items ≡ count * 12) }
+        ensures none { IfOk result (λ own. (i : ℕ) → ¬ (slice_get own.marks.items i ≡ Some true)) }
+    {
+        Ok(CrossedEdges {
+            marks: vec![in alloc; false; count * MARKS]?,
+        })
+    }
+
+    /// Whether an edge of a line's tile is marked.
+    pub(crate) fn has(&self, line: u32, edge: usize) -> bool
+        requires exists { line * 12 + edge < length self.now.marks.items }
+        requires below { edge < 12 }
+        ensures { IsTrue result ↔ (slice_get self.now.marks.items (line * 12 + edge) ≡ Some true) }
+    {
+        self.marks[line as usize * MARKS + edge]
+    }
+
+    /// Marks an edge of a line's tile.
+    pub(crate) fn put(&mut self, line: u32, edge: u8)
+        requires exists { line * 12 + edge < length self.old.marks.items }
+        ensures { self.new.marks.items ≡ slice_set self.old.marks.items (line * 12 + edge) true }
+    {
+        self.marks[line as usize * MARKS + edge as usize] = true;
+    }
+}

@@ -1,0 +1,105 @@
+//! The lines that a walk has found.
+ghost use Rattle.std.specs.Prelude.{◌≡◌, ◌<◌, ◌+◌, ◌*◌, ◌^◌, ℕ, [], ◌∷◌, ◌++◌, true, length, slice_get, slice_set, Some, IfOk, IfErr, OnOk};
+ghost use Rattle.cyclo_points.specs.Point.{IsOf};
+ghost use Rattle.rule_model.specs.Tiling.{Tiling};
+ghost use Rattle.listing_text.specs.declared.entry.Entry.{Entry as Line};
+ghost use Rattle.list_verify.specs.declared.list_fault.ListFault.TheVariants.{WrongPlace};
+ghost use Rattle.list_verify.specs.Faults.{OrNoRoom};
+ghost use Rattle.list_verify.specs.LookedUp.{IsLookedUp, IsNotFound, IsMovedOtherwise};
+ghost use Rattle.list_verify.specs.LineIndex.{Indexes};
+
+use crate::crossed_edges::CrossedEdges;
+use crate::line_index::LineIndex;
+use crate::list_fault::ListFault;
+use crate::same_motion::is_same_motion;
+use cyclo_points::arithmetic::refused;
+use listing_text::entry::Entry;
+use std::alloc::Global;
+use tile_place::placed_tile::PlacedTile;
+use tile_shape::no_memory::NoMemory;
+
+/// The numbers of the lines found, in the order found, a mark at each line that is, and the edges of their tiles that
+/// have been crossed from their other sides.
+#[derive(Drop)]
+pub(crate) struct FoundLines {
+    pub(crate) lines: Vec<u32>,
+    pub(crate) marks: Vec<bool>,
+    pub(crate) crossed: CrossedEdges,
+}
+
+impl FoundLines {
+    /// None is found, of so many lines.
+    pub(crate) fn new(alloc: Global, count: usize) -> Result<FoundLines, NoMemory>
+        requires few { count < 2 ^ 32 }
+        ensures none { IfOk result (λ found. found.lines.items ≡ []) }
+        ensures count { IfOk result (λ found. length found.marks.items ≡ count) }
+        ensures unmarked { IfOk result (λ found. (i : ℕ) → ¬ (slice_get found.marks.items i ≡ Some true)) }
+        ensures sides { IfOk result (λ found. length found.crossed.marks.items ≡ count * 12) }
+        ensures none_crossed { IfOk result (λ found. (i : ℕ) → ¬ (slice_get found.crossed.marks.items i ≡ Some true)) }
+    {
+        Ok(FoundLines {
+            lines: Vec::new(alloc),
+            marks: vec![in alloc; false; count]?,
+            crossed: CrossedEdges::new(alloc, count)?,
+        })
+    }
+
+    /// Looks for a tile among the lines, and marks its line, whose number is the answer.
+    pub(crate) fn look_up(
+        &mut self,
+        lines: &[Entry],
+        index: &LineIndex,
+        tile: &PlacedTile,
+    ) -> Result<u32, ListFault>
+        requires index { Indexes index.now lines.now (length lines.now) }
+        requires few { length lines.now < 2 ^ 32 }
+        requires count { length self.old.marks.items ≡ length lines.now }
+        ensures count { length self.new.marks.items ≡ length lines.now }
+        ensures crossed { self.new.crossed ≡ self.old.crossed }
+        ensures looked_up { IfOk result (λ line. IsLookedUp self.old self.new lines.now tile.now line) }
+        ensures fault { (t : Tiling) → IsOf t.order tile.now.motion.shift → IfErr result (OrNoRoom (IsNotFound t lines.now tile.now)) }
+    {
+        let line = index.find(lines, &tile.addr);
+        if let Some(line) = line {
+            if self.marks[line as usize] {
+                return Ok(line);
+            }
+        }
+        if refused(&tile.motion.shift) {
+            return Err(ListFault::CoordLimit {
+                value: tile.motion.shift,
+            });
+        }
+        match line {
+            None => Err(ListFault::Missing {
+                addr: tile.addr.copy(),
+            }),
+            Some(line) => self.mark(lines, line, tile),
+        }
+    }
+
+    /// Marks the line of a tile, if it has the tile's motion.
+    fn mark(&mut self, lines: &[Entry], line: u32, tile: &PlacedTile) -> Result<u32, ListFault>
+        requires below { line < length lines.now }
+        requires few { length lines.now < 2 ^ 32 }
+        requires count { length self.old.marks.items ≡ length lines.now }
+        ensures count { length self.new.marks.items ≡ length lines.now }
+        ensures crossed { self.new.crossed ≡ self.old.crossed }
+        ensures same { IfOk result (λ number. number ≡ line) }
+        ensures lines { OnOk result (self.new.lines.items ≡ self.old.lines.items ++ line ∷ []) }
+        ensures marks { OnOk result (self.new.marks.items ≡ slice_set self.old.marks.items line true) }
+        ensures motion { OnOk result ((e : Line) → slice_get lines.now line ≡ Some e → e.motion ≡ tile.now.motion) }
+        ensures fault { IfErr result (OrNoRoom (λ fault. (fault ≡ WrongPlace (line + 1) tile.now.motion)
+            × ((e : Line) → slice_get lines.now line ≡ Some e → (¬ (e.motion ≡ tile.now.motion)) × IsMovedOtherwise e.motion tile.now.motion))) }
+    {
+        if !is_same_motion(&lines[line as usize].motion, &tile.motion) {
+            return Err(ListFault::WrongPlace {
+                line: line + 1,
+                motion: tile.motion,
+            });
+        }
+        self.lines.push(line)?;
+        self.marks[line as usize] = true;
+        Ok(line)
+    }
+}

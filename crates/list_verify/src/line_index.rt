@@ -1,0 +1,147 @@
+//! Lines by the addresses of their tiles.
+ghost use Rattle.std.specs.Prelude.{◌≡◌, ◌<◌, ◌≤◌, ◌+◌, ◌^◌, ℕ, length, get_or, slice_get, Some, IfSome, IfNone, IfOk, IfErr, OnOk};
+ghost use Rattle.tile_shape.specs.Views.{address_of};
+ghost use Rattle.list_verify.specs.declared.list_fault.ListFault.TheVariants.{Double};
+ghost use Rattle.list_verify.specs.LineIndex as index;
+ghost use Rattle.listing_text.specs.declared.entry.Entry.{Entry};
+ghost use Rattle.list_verify.specs.Faults.{OrNoRoom};
+ghost use Rattle.list_verify.specs.LineIndex.{Indexes, HasAddress, NoneAgain, IsAgain, buckets_of, last_in};
+
+use crate::list_fault::ListFault;
+use crate::same_address::is_same_address;
+use listing_text::entry::Entry;
+use std::alloc::Global;
+use std::hash::{DefaultHasher, Hasher};
+use tile_shape::address::Address;
+
+/// A prime below 2^32.
+const MODULUS: u64 = 4_294_967_291;
+
+/// How many buckets there are, and by what the digits before are multiplied in a digest.
+#[derive(Clone, Copy, Debug)]
+pub(crate) struct Buckets {
+    count: usize,
+    multiplier: u32,
+}
+
+/// The last line of each bucket, and before each line the one before it in its bucket.
+#[derive(Drop)]
+pub(crate) struct LineIndex {
+    pub(crate) buckets: Buckets,
+    pub(crate) last: Vec<Option<u32>>,
+    pub(crate) before: Vec<Option<u32>>,
+}
+
+impl LineIndex {
+    /// The lines by their addresses; or the first line that has the address of an earlier one. In which buckets they are
+    /// depends on the multiplier.
+    pub(crate) fn new(
+        alloc: Global,
+        multiplier: u32,
+        lines: &[Entry],
+    ) -> Result<LineIndex, ListFault>
+        requires few { length lines.now < 2 ^ 32 }
+        ensures index { IfOk result (λ own. Indexes own lines.now (length lines.now)) }
+        ensures distinct { OnOk result (NoneAgain lines.now (length lines.now)) }
+        ensures double { IfErr result (OrNoRoom (λ fault. (i : ℕ) × (fault ≡ Double (i + 1)) × IsAgain lines.now i × NoneAgain lines.now i)) }
+    {
+        let count = lines.len().max(1);
+        let mut index = LineIndex {
+            buckets: Buckets { count, multiplier },
+            last: vec![in alloc; None; count]?,
+            before: Vec::with_capacity(alloc, lines.len())?,
+        };
+        for line in 0..lines.len() {
+            index.add(lines, line)?;
+        }
+        Ok(index)
+    }
+
+    /// Puts a line behind those before it, if none of these has its address.
+    fn add(&mut self, lines: &[Entry], line: usize) -> Result<(), ListFault>
+        requires index { Indexes self.old lines.now line }
+        requires below { line < length lines.now }
+        requires few { length lines.now < 2 ^ 32 }
+        ensures index { OnOk result (Indexes self.new lines.now (line + 1)) }
+        ensures new { OnOk result ((e : Entry) → slice_get lines.now line ≡ Some e → (j : ℕ) → j < line → ¬ HasAddress lines.now j (address_of e.address)) }
+        ensures double { IfErr result (OrNoRoom (λ fault. (fault ≡ Double (line + 1)) × IsAgain lines.now line)) }
+    {
+        let address = &lines[line].address;
+        let place = bucket_of(address, self.buckets);
+        let first = self.last[place];
+        let before = self.before.as_slice();
+        if let Some(_) = find_in(before, first, lines, address, self.buckets) {
+            return Err(ListFault::Double {
+                line: line as u32 + 1,
+            });
+        }
+        self.before.push(first)?;
+        self.last[place] = Some(line as u32);
+        Ok(())
+    }
+
+    /// The line with an address.
+    pub(crate) fn find(&self, lines: &[Entry], address: &Address) -> Option<u32>
+        requires index { Indexes self.now lines.now (length lines.now) }
+        ensures found { IfSome result (λ i. HasAddress lines.now i (address_of address.now)) }
+        ensures none { IfNone result ((i : ℕ) → ¬ HasAddress lines.now i (address_of address.now)) }
+    {
+        let first = self.last[bucket_of(address, self.buckets)];
+        find_in(
+            self.before.as_slice(),
+            first,
+            lines,
+            address,
+            self.buckets,
+        )
+    }
+}
+
+/// The multiplier for a listing: by a hash of all its bytes, so that lines can't be chosen by it, to meet in one bucket,
+/// before they stand.
+pub(crate) fn multiplier_of(listing: &[u8]) -> u32 {
+    let mut hasher = DefaultHasher::new();
+    hasher.write(listing);
+    (hasher.finish() % MODULUS) as u32
+}
+
+/// The bucket of an address.
+fn bucket_of(address: &Address, buckets: Buckets) -> usize
+    requires some { 0 < buckets.count }
+    ensures bucket { result ≡ index.bucket_of buckets (address_of address.now) }
+    ensures below { result < buckets.count }
+{
+    let multiplier = u64::from(buckets.multiplier);
+    let mut digest = u64::from(address.kind);
+    for step in address.digits.as_slice() {
+        let digit = step.child as u64 * 256 + step.parent as u64;
+        digest = (digest * multiplier + digit) % MODULUS;
+    }
+    (digest % buckets.count as u64) as usize
+}
+
+/// The line with an address, in a chain of lines that begins with the last one of its bucket.
+fn find_in(
+    before: &[Option<u32>],
+    first: Option<u32>,
+    lines: &[Entry],
+    address: &Address,
+    buckets: Buckets,
+) -> Option<u32>
+    requires first { first ≡ last_in (buckets_of buckets lines.now) (index.bucket_of buckets (address_of address.now)) (length before.now) }
+    requires within { length before.now ≤ length lines.now }
+    requires before { (i : ℕ) → i < length before.now
+        → slice_get before.now i ≡ Some (last_in (buckets_of buckets lines.now) (get_or (buckets_of buckets lines.now) i 0) i) }
+    ensures found { IfSome result (λ i. HasAddress lines.now i (address_of address.now)) }
+    ensures below { IfSome result (λ i. i < length before.now) }
+    ensures none { IfNone result ((i : ℕ) → i < length before.now → ¬ HasAddress lines.now i (address_of address.now)) }
+{
+    let mut at = first;
+    while let Some(line) = at {
+        if is_same_address(&lines[line as usize].address, address) {
+            return Some(line);
+        }
+        at = before[line as usize];
+    }
+    None
+}

@@ -1,0 +1,197 @@
+//! Whether a listing is the list of a window.
+ghost use Rattle.std.specs.Prelude.{◌≡◌, ◌⊎◌, ◌↔◌, ◌<◌, ◌*◌, ◌^◌, ℕ, List, [], true, length, slice_get, Some, Ok, Err, IfOk, IfErr, OnOk};
+ghost use Rattle.std.specs.List.{All};
+ghost use Rattle.addressing.specs.Address.{Fits};
+ghost use Rattle.rule_model.specs.Tiling.{tiling_of, children};
+ghost use Rattle.tile_shape.specs.Views.{address_of};
+ghost use Rattle.lazy_walk.specs.Frames.{IsFrameOf, GrowsTo};
+ghost use Rattle.listing_text.specs.Limits.{most_lines};
+ghost use Rattle.listing_text.specs.Lines.{lines_in};
+ghost use Rattle.listing_text.specs.Listing.{listing_in};
+ghost use Rattle.window_cover.specs.Windows.{IsWindow};
+ghost use Rattle.list_verify.specs.declared.list_fault.ListFault.{ListFault as Fault};
+ghost use Rattle.list_verify.specs.declared.list_fault.ListFault.TheVariants as faults;
+ghost use Rattle.list_verify.specs.Faults.{OrNoRoom};
+ghost use Rattle.list_verify.specs.FoundLines.{entries_of, AreLinesIn};
+ghost use Rattle.list_verify.specs.LineIndex.{Indexes};
+ghost use Rattle.list_verify.specs.Listing.{IsVerified};
+ghost use Rattle.list_verify.specs.Verdict.{HasCause, IsTold, IsOfWalk, LacksTiles};
+ghost use Rattle.list_verify.specs.Walked.{IsStoppedBy, AreRightLines, IsStrayFault};
+
+use crate::checked_lines::check_lines;
+use crate::found_lines::FoundLines;
+use crate::laws::one_verdict_law;
+use crate::lifted_lines::lift_lines;
+use crate::line_index::{LineIndex, multiplier_of};
+use crate::list_fault::ListFault;
+use crate::list_laws::list_laws;
+use edge_tables::steps::Steps;
+use lazy_walk::frame::Frame;
+use listing_text::entry::Entry;
+use listing_text::reading::read_listing;
+use plane_geom::window::Window;
+use seeded_growth::laws::grown_fits_law;
+use std::alloc::Global;
+use std::marker::Brand;
+use std::sync::ledger::{Blank, Ledger};
+use tile_place::machine::Machine;
+
+/// Tells whether a listing that another program made is the list of a window: how many lines it has, or its first fault.
+/// The list of the window is never made: a walk goes through the lines themselves.
+///
+/// - `frame` has the base and the start number. It grows, at most to the least depth that is enough for the window and for
+///   the addresses listed, or to 64 where none is.
+/// - `window` has its centre in the base's frame.
+/// - `listing` is text: a line for each tile, with its kind, its turn, its shift as four coefficients in the base's frame, and
+///   its address, of any depth, divided by single blanks. The lines may stand in any order.
+/// - `alloc` gives all memory, some 300 bytes a line.
+///
+/// The listing is right where its lines, lifted to the depth of the frame, are exactly the tiles that meet the window,
+/// each once and with its motion. The faults of the text are tested first (`TooLong`; then of the first faulty line
+/// `BadLine`, `Address` or `BadKind`), then the addresses (`NotOfFrame`, `Double`); then the walk ends with the first
+/// fault that it comes to (`Missing`, `WrongPlace`, `DepthLimit`, `CoordLimit`), and last the first line that it has not
+/// found is told (`Stray`). `NoMemory` comes for want of memory alone.
+pub fn verify(
+    alloc: Global,
+    machine: &Machine,
+    frame: &mut Frame,
+    window: &Window,
+    listing: &[u8],
+) -> Result<u32, ListFault>
+    requires frame { IsFrameOf (tiling_of machine.now) frame.old }
+    requires window_fits { IsWindow window.now }
+
+    ensures frame { GrowsTo (tiling_of machine.now) frame.old frame.new }
+
+    // Ok comes exactly where the listing is right and nothing of it is refused, but for want of memory.
+    ensures right { IfOk result (λ n. IsVerified (tiling_of machine.now) frame.old window.now listing.now n) }
+    ensures complete { (n : ℕ) → IsVerified (tiling_of machine.now) frame.old window.now listing.now n → (result ≡ Ok n) ⊎ (result ≡ Err faults.NoMemory) }
+
+    // A fault comes only for its cause; and where there is a cause it comes, but that memory may be wanted. Of the faults
+    // of the walk several may have a cause: where a tile is lacking one of them comes.
+    ensures cause { IfErr result (λ fault. HasCause (tiling_of machine.now) frame.old frame.new window.now listing.now fault) }
+    ensures told { (fault : Fault) → IsTold fault → HasCause (tiling_of machine.now) frame.old frame.new window.now listing.now fault
+        → (result ≡ Err fault) ⊎ (result ≡ Err faults.NoMemory) }
+    ensures lacking { LacksTiles (tiling_of machine.now) frame.old window.now listing.now
+        → (result ≡ Err faults.NoMemory) ⊎ (fault : Fault) × (result ≡ Err fault) × IsOfWalk fault }
+
+    // Too many lines are told whatever memory there is.
+    ensures too_long { (result ≡ Err faults.TooLong) ↔ (most_lines < length (lines_in listing.now)) }
+{
+    let checked = machine.checked();
+    one_verdict_law(checked.order());
+    verdict(alloc, machine, frame, window, listing)
+}
+
+/// The number of lines, or the first fault: what is answered, and why.
+fn verdict(
+    alloc: Global,
+    machine: &Machine,
+    frame: &mut Frame,
+    window: &Window,
+    listing: &[u8],
+) -> Result<u32, ListFault>
+    requires frame { IsFrameOf (tiling_of machine.now) frame.old }
+    requires window_fits { IsWindow window.now }
+    ensures frame { GrowsTo (tiling_of machine.now) frame.old frame.new }
+    ensures right { IfOk result (λ n. IsVerified (tiling_of machine.now) frame.old window.now listing.now n) }
+    ensures cause { IfErr result (λ fault. HasCause (tiling_of machine.now) frame.old frame.new window.now listing.now fault) }
+    ensures too_long { (result ≡ Err faults.TooLong) ↔ (most_lines < length (lines_in listing.now)) }
+{
+    let uses = machine.checked().uses();
+    let mut lines = match read_listing(alloc, uses, listing) {
+        Ok(lines) => lines,
+        Err(fault) => return Err(fault.into()),
+    };
+    let count = lines.len() as u32;
+    let multiplier = multiplier_of(listing);
+    match verify_lines(
+        alloc,
+        machine,
+        frame,
+        window,
+        multiplier,
+        lines.as_mut_slice(),
+    ) {
+        Ok(()) => Ok(count),
+        Err(fault) => Err(fault),
+    }
+}
+
+/// The same of lines that have been read. Their addresses are lifted where they stand. In which order the lines are
+/// looked through for an address depends on the multiplier, and nothing else does.
+fn verify_lines(
+    alloc: Global,
+    machine: &Machine,
+    frame: &mut Frame,
+    window: &Window,
+    multiplier: u32,
+    lines: &mut [Entry],
+) -> Result<(), ListFault>
+    requires frame { IsFrameOf (tiling_of machine.now) frame.old }
+    requires window_fits { IsWindow window.now }
+    requires fit { All (λ line. Fits (children (tiling_of machine.now)) (address_of line.address)) lines.old }
+    requires few { length lines.old < 2 ^ 31 }
+    ensures frame { GrowsTo (tiling_of machine.now) frame.old frame.new }
+    ensures right { (text : List ℕ) → listing_in (children (tiling_of machine.now)) text ≡ Ok (entries_of lines.old)
+        → OnOk result (IsVerified (tiling_of machine.now) frame.old window.now text (length lines.old)) }
+    ensures cause { (text : List ℕ) → listing_in (children (tiling_of machine.now)) text ≡ Ok (entries_of lines.old)
+        → IfErr result (λ fault. HasCause (tiling_of machine.now) frame.old frame.new window.now text fault) }
+{
+    let checked = machine.checked();
+    list_laws(checked.order());
+    grown_fits_law();
+    let _usable = checked.uses().kinds();
+    match lift_lines(machine, frame, lines) {
+        Ok(()) => {}
+        Err(fault) => return Err(fault),
+    }
+    let index = match LineIndex::new(alloc, multiplier, lines) {
+        Ok(index) => index,
+        Err(fault) => return Err(fault),
+    };
+    let mut found = match FoundLines::new(alloc, lines.len()) {
+        Ok(found) => found,
+        Err(_) => return Err(ListFault::NoMemory),
+    };
+    walk_counted::<Brand>(
+        machine,
+        frame,
+        window,
+        lines,
+        &index,
+        &mut found,
+        Blank::new(1),
+    )
+}
+
+/// The walk through lines, with look-ups counted on a ledger of this name.
+fn walk_counted<L: Ledger>(
+    machine: &Machine,
+    frame: &mut Frame,
+    window: &Window,
+    lines: &[Entry],
+    index: &LineIndex,
+    found: &mut FoundLines,
+    blank: Blank,
+) -> Result<(), ListFault>
+    requires name { blank.name ≡ L.name }
+    requires parts { blank.parts ≡ L.parts }
+    requires some { 0 < blank.parts }
+    requires lines { AreLinesIn (tiling_of machine.now) frame.old lines.now }
+    requires index { Indexes index.now lines.now (length lines.now) }
+    requires few { length lines.now < 2 ^ 31 }
+    requires window_fits { IsWindow window.now }
+    requires none { found.old.lines.items ≡ [] }
+    requires count { length found.old.marks.items ≡ length lines.now }
+    requires unmarked { (i : ℕ) → ¬ (slice_get found.old.marks.items i ≡ Some true) }
+    requires sides { length found.old.crossed.marks.items ≡ length lines.now * 12 }
+    requires none_crossed { (i : ℕ) → ¬ (slice_get found.old.crossed.marks.items i ≡ Some true) }
+    ensures frame { GrowsTo (tiling_of machine.now) frame.old frame.new }
+    ensures right { OnOk result (AreRightLines (tiling_of machine.now) frame.old window.now (entries_of lines.now)) }
+    ensures fault { IfErr result (OrNoRoom (λ fault. IsStoppedBy (tiling_of machine.now) frame.old frame.new window.now (entries_of lines.now) fault
+        ⊎ IsStrayFault (tiling_of machine.now) frame.old window.now (entries_of lines.now) fault)) }
+{
+    let mut steps = Steps::<L>::new(blank);
+    check_lines(machine, frame, window, lines, index, found, &mut steps)
+}

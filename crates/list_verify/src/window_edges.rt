@@ -1,0 +1,58 @@
+//! The edges of a tile that meet the window.
+ghost use Rattle.std.specs.Prelude.{◌≡◌, ◌↔◌, ◌<◌, ◌≤◌, ◌^◌, ◌+◌, ◌*◌, suc, All, true, false, cond, nat_lt, length, slice_get, Some, IsTrue};
+ghost use Rattle.windows.specs.Outlines.{MeetsBox};
+ghost use Rattle.cyclo_points.specs.Order.{points_of};
+ghost use Rattle.cyclo_points.specs.Point.{IsWithin};
+ghost use Rattle.window_cover.specs.Windows.{window_box};
+ghost use Rattle.list_verify.specs.FoundLines.{line_between};
+
+use crate::crossed_edges::CrossedEdges;
+use cyclo_points::order::Order;
+use cyclo_points::point::Point;
+use plane_geom::box_edges::edge_meets_box;
+use plane_geom::window::Window;
+
+/// Whether an edge of a tile with these corners meets the window.
+fn edge_meets(order: Order, window: &Window, corners: &[Point], edge: usize) -> bool
+    requires exists { edge < length corners.now }
+    requires few { length corners.now ≤ 12 }
+    requires within { All (IsWithin (2 ^ 25)) corners.now }
+    requires centre_within { IsWithin (2 ^ 25) window.now.centre }
+    ensures { IsTrue result ↔ MeetsBox (points_of order).real (window_box order window.now) (line_between order corners.now edge) }
+{
+    let next = next_of(corners.len(), edge);
+    let start = corners[edge];
+    let end = corners[next];
+    edge_meets_box(order, &start, &end, window)
+}
+
+/// Whether an edge of a line's tile, with these corners, meets the window and hasn't been crossed from its other side.
+pub(crate) fn is_left(
+    order: Order,
+    window: &Window,
+    corners: &[Point],
+    crossed: &CrossedEdges,
+    line: u32,
+    edge: usize,
+) -> bool
+    requires exists { edge < length corners.now }
+    requires few { length corners.now ≤ 12 }
+    requires within { All (IsWithin (2 ^ 25)) corners.now }
+    requires centre_within { IsWithin (2 ^ 25) window.now.centre }
+    requires marked { line * 12 + edge < length crossed.now.marks.items }
+    ensures meets { IsTrue result → MeetsBox (points_of order).real (window_box order window.now) (line_between order corners.now edge) }
+    ensures over { result ≡ false → MeetsBox (points_of order).real (window_box order window.now) (line_between order corners.now edge)
+        → slice_get crossed.now.marks.items (line * 12 + edge) ≡ Some true }
+{
+    !crossed.has(line, edge) && edge_meets(order, window, corners, edge)
+}
+
+/// The number of the corner behind one, of so many.
+fn next_of(count: usize, number: usize) -> usize
+    requires below { number < count }
+    requires few { count ≤ 12 }
+    ensures next { result ≡ cond (nat_lt (suc number) count) (suc number) 0 }
+    ensures below { result < count }
+{
+    if number + 1 < count { number + 1 } else { 0 }
+}
