@@ -15,6 +15,11 @@ except ModuleNotFoundError:  # before Python 3.11
 sys.dont_write_bytecode = True
 TOP, PROGRAM = os.path.abspath(sys.argv[1]), os.path.abspath(sys.argv[2])
 BY_SCRIPT = ("--help", "-h", "help", "--version", "--build")
+# commands that can be run here, by how they begin; the files that they read are there, or made by commands above them
+RUNNABLE = re.compile(
+    r"(\./tiling|python3 (tools|docs/foreign)/\w+\.py|printf '[^']*' \| \./tiling"
+    r"|sed '[^']*' (rules/\w+\.toml|\w+\.list) \| \./tiling)\b"
+)
 
 
 class Tally:
@@ -79,10 +84,10 @@ def call(words, given=b""):
 
 def is_runnable(name, command):
     """Whether a command is one of the program or of a script of the repository, and can be run here."""
-    if not re.match(r"(\./tiling|python3 tools/\w+\.py|sed '[^']*' rules/\w+\.toml \| \./tiling|printf '[^']*' \| \./tiling)\b", command):
+    if not RUNNABLE.match(command):
         tally.skipped.append(f"{name}: $ {command}")
         return False
-    if "python3" in command and tomllib is None:
+    if "python3 tools" in command and tomllib is None:
         tally.skipped.append(f"{name}: $ {command} (Python 3.11 or later)")
         return False
     return True
@@ -145,10 +150,9 @@ def refusals(folder):
             continue
         where, wanted = f"docs/FORMATS.md: {cells[0]}", answers[0]
         if "./tiling" in typed[0]:
-            tally.compare("refusals by example", where, shell(typed[0], folder), [wanted])
-            continue
-        words = spread([*typed[0].split(" "), *[word for word in typed[1:] if "=" in word]], cells[0])
-        got, _ = call(words)
+            got = "\n".join(shell(typed[0], folder))
+        else:
+            got, _ = call(spread([*typed[0].split(" "), *[word for word in typed[1:] if "=" in word]], cells[0]))
         shape = ".*".join(re.escape(part) for part in wanted.split(".."))
         tally.compare("refusals by example", where, wanted if re.fullmatch(shape, got) else got, wanted)
 
@@ -322,7 +326,8 @@ def main():
         for name in documents():
             commands(name, read(name), "    ", folder)
         commands("docs/HELP.txt", read("docs/HELP.txt"), "  ", folder)
-        manual = read("docs/tiling.1").replace("\\-", "-").replace("\n$ tiling", "\n    $ ./tiling")
+        manual = read("docs/tiling.1").replace("\\-", "-")
+        manual = manual.replace("\n$ tiling", "\n    $ ./tiling").replace("| tiling", "| ./tiling")
         commands("docs/tiling.1", re.sub(r"^(?![ .])", "    ", manual, flags=re.M), "    ", folder)
         refusals(folder)
     refused_texts()

@@ -17,12 +17,13 @@ echo one > "$here/crates/low/src/lib.rt"
 echo two > "$here/crates/tiling/src/main.rt"
 echo proof > "$here/crates/low/proofs/Lib.antt"
 
-# The program: `good WORD` answers, `bad` is refused, `read` prints standard input.
+# The program: `good WORD` answers, `bad` is refused; `calc`, `verify` and what has `rule=-` print standard input.
 cat > "$work/program" << 'END'
 #!/bin/sh
 case $1 in
 good) echo "answer $2" ;;
 bad) echo '8 Outside 4 0' >&2; exit 8 ;;
+calc | verify) exec cat ;;
 *) for word; do [ "$word" = rule=- ] && exec cat; done; echo '2 BadWords 0' >&2; exit 2 ;;
 esac
 END
@@ -93,6 +94,11 @@ try 'unproved refusal' 8 '' "$one_line${nl}8 Outside 4 0"
 printf 'a\nb' > "$work/in"
 run "$here/tiling" check rule=- < "$work/in"
 try 'unproved, with standard input' 0 "$(cat "$work/in")" "$one_line"
+run "$here/tiling" calc rule=chair < "$work/in"
+try 'unproved, with a script' 0 "$(cat "$work/in")" "$one_line"
+yes '0 0 0,0,0,0 0:' | head -n 100000 > "$work/listing"
+run "$here/tiling" verify rule=chair addr=0: < "$work/listing"
+try 'unproved, with a listing of more than a mebibyte' 0 "$(cat "$work/listing")" "$one_line"
 run "$here/tiling" check rule=- <&-
 try 'unproved, with no standard input' 125 '' "$one_line${nl}tiling: *--build*"
 touch "$work/silent"

@@ -23,7 +23,6 @@ from fan_rule import RULES, fan_rule  # noqa: E402
 from supertiles import Supertile, address  # noqa: E402
 from windows import Box, Frame, Tiling, drawn_base, shift_of  # noqa: E402
 
-LISTED = 40  # vertices of whole supertiles of each rule
 DRAWN = 20  # vertices of tiles at drawn addresses of each rule
 CORNERED = 5  # vertices of tiles that are one child again and again, up to the greatest depth
 DEPTH = 3  # of the whole supertiles
@@ -136,8 +135,7 @@ class Listed:
 def trials(tiling, rule, drawn):
     """Words, and what must come of them."""
     listed = [Listed(tiling, rule, kind, DEPTH) for kind in range(len(tiling.kinds))]
-    every = [(supertile, corner) for supertile in listed for corner in supertile.corners]
-    for supertile, corner in drawn.sample(every, min(LISTED, len(every))):
+    for supertile, corner in ((supertile, corner) for supertile in listed for corner in supertile.corners):
         seed = drawn.choice((0, drawn.randrange(2**64)))
         words = [f"addr={corner.name()}", f"vertex={corner.vertex}", *([f"seed={seed}"] if seed else [])]
         yield words, supertile.wanted(corner, seed)

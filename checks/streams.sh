@@ -47,6 +47,8 @@ address() {
 
 chair="$top/rules/chair.toml"
 awk 'BEGIN { for (i = 0; i < 1048577; i++) printf "#" }' > "$work/long"
+window='seed=42 addr=0: at=1,1,0,0 half=2,1'
+printf '0 1 3,1,0,0 0:1/0\n0 0 0,0,0,0 0:3/0' > "$work/listing"
 
 # answers
 try 0 '0 1 7,1,0,0' '' /dev/null place rule=chair addr=0:1/0,2/0
@@ -56,6 +58,7 @@ try 0 'accepted order 6 kinds 1 types 1' '' /dev/null check rule=halfhex
 try 0 '0 1 0,1,0,0' '' "$top/rules/half_square_turned.toml" place rule=- addr=0:1/0,0/0
 try 0 'accepted order 4 kinds 1 types 1' '' "$chair" check rule=-
 try 0 '0 1 7,1,0,0' '' "$chair" place rule=- addr=0:1/0,2/0
+try 0 'right 2' '' "$work/listing" verify rule=chair $window
 
 # refusals
 try 2 '' '2 BadWords 0' /dev/null
@@ -66,7 +69,13 @@ try 4 '' '4 BadAddress WrongChild 0' /dev/null place rule=chair addr=0:4/0
 try 6 '' '6 CoordLimit 26843544,13421772,0,0' /dev/null place rule=chair "addr=$(address 2/0 40)"
 try 8 '' '8 Outside 4 0' /dev/null neighbour rule=chair addr=0:0/0 edge=4
 try 9 '' '9 ReadFault' "$work" check rule=-
+try 9 '' '9 ReadFault' "$work" verify rule=chair $window
 try 12 '' '12 NoEdge 8 8' /dev/null neighbour rule=chair addr=0:0/0 edge=8
+try 17 '' '17 BadListing Missing 0:1/0' /dev/null verify rule=chair $window
+try 17 '' '17 BadListing BadLine 1 0' "$work/long" verify rule=chair $window
+
+# an address is tested before the listing is read
+try 4 '' '4 BadAddress UnknownKind 0' "$work" verify rule=chair addr=1: at=1,1,0,0 half=2,1
 
 # words that aren't UTF-8: nothing is written
 try 1 '' '' /dev/null "$(printf 'place\377')"

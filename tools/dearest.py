@@ -3,11 +3,13 @@
 
     dearest.py PROGRAM [--count]          (Python 3.11 or later, on Linux)
 
-A window is taken for each file of rules/: as many tiles as may be drawn, at most 200,000, round the middle of the plane, as a
-picture, a list and a census at once, without and with glued halves. Then addresses of 64 digits, paths of 1,000 edges,
-stars of 64 tiles, drills of 200 windows, scripts and rule files of a mebibyte. Prints a line for each: its status, the bytes that it read
-and printed, the seconds of processor and the greatest memory, which is that of this script at least; with --count also
-its instructions, by valgrind, for all but the windows. Ends with 1 where a call ends otherwise than it must, takes more than two seconds, or more than a gigabyte."""
+A window is taken for each file of rules/: as many tiles as may be drawn, at most 200,000, round the middle of the plane,
+as a picture, a list and a census at once, without and with glued halves; and of each built-in rule the list of that
+window is verified. Then addresses of 64 digits, paths of 1,000 edges, stars of 64 tiles, drills of 200 windows, scripts
+and rule files of a mebibyte, listings of 200,000 lines and of 64 mebibytes. Prints a line for each: its status, the bytes
+that it read and printed, the seconds of processor and the greatest memory, which is that of this script at least; with
+--count also its instructions, by valgrind, for all but the windows and the listings. Ends with 1 where a call ends
+otherwise than it must, takes more than two seconds, or more than a gigabyte."""
 import os
 import re
 import subprocess
@@ -16,6 +18,7 @@ import tempfile
 
 sys.dont_write_bytecode = True
 from fan_rule import RULES, fan_rule  # noqa: E402
+from hostile_answers import BUILT_IN, LONGEST_LISTING, MOST_LISTED  # noqa: E402
 
 TOP = os.path.dirname(os.path.dirname(os.path.abspath(__file__)))
 MOST_TILES = 200000
@@ -86,6 +89,50 @@ def windows(table):
         for glue in ("no", "yes"):
             words = f"draw rule=- addr=0: seed=42 at=0,0,0,0 half={half},{half} layers=svg,list,census glue={glue}"
             table.add(f"draw {name} half={half},{half} glue={glue}, {many} tiles", words, text, counts=False)
+
+
+def listed(program, words):
+    """The list that `draw` prints."""
+    call = [program, "draw", *words.split(" "), "layers=list"]
+    return subprocess.run(call, stdin=subprocess.DEVNULL, stdout=subprocess.PIPE).stdout
+
+
+def backwards(text):
+    """The lines of a text, the last first."""
+    return b"".join(reversed(text.splitlines(keepends=True)))
+
+
+def chairs():
+    """Lines for as many chairs of one supertile as a listing may have, all with one motion."""
+    digits = lambda number: ",".join(f"{number >> 2 * level & 3}/0" for level in range(9))  # noqa: E731
+    return "".join(f"0 0 0,0,0,0 0:{digits(number)}\n" for number in range(MOST_LISTED)).encode()
+
+
+def listings(table):
+    """The lists of the largest windows of the built-in rules, and of a window round a tile of 64 digits; then such as are
+    refused late, or are past their limits."""
+    for name, file in BUILT_IN.items():
+        with open(os.path.join(TOP, "rules", f"{file}.toml"), "rb") as source:
+            half = largest(table.program, source.read())
+        words = f"rule={name.decode()} addr=0: seed=42 at=0,0,0,0 half={half},{half}"
+        text = listed(table.program, words)
+        many = text.count(b"\n")
+        table.add(f"verify {name.decode()} half={half},{half}, {many} lines", f"verify {words}", text, counts=False)
+        table.add("verify, the same backwards", f"verify {words}", backwards(text), counts=False)
+        less = text[: text.rindex(b"\n", 0, -1) + 1]
+        table.add("verify, the same without its last line", f"verify {words}", less, 17, False)
+    long = f"rule=chair seed=1 addr=0:{deep('3/0', 21)},{deep('0/0', 43)} at=0,0,0,0 half=300,150"
+    text = listed(table.program, long)
+    many = text.count(b"\n")
+    table.add(f"verify chair, 64 digits, {many} lines", f"verify {long}", text, counts=False)
+    short = "verify rule=chair seed=42 addr=0: at=1,1,0,0 half=2,1"
+    table.add("verify, 200,000 lines of other tiles", short, chairs(), 17, False)
+    table.add("verify, one line again and again", short, b"0 0 0,0,0,0 0:\n" * MOST_LISTED, 17, False)
+    table.add("verify, empty lines", short, b"\n" * MOST_LISTED, 17, False)
+    table.add("verify, a line too many", short, b"0 0 0,0,0,0 0:\n" * (MOST_LISTED + 1), 17, False)
+    table.add("verify, one line of 64 mebibytes", short, b"0" * LONGEST_LISTING, 17, False)
+    table.add("verify, 64 mebibytes of empty lines", short, b"\n" * LONGEST_LISTING, 17, False)
+    table.add("verify, a byte too long", short, b"0" * (LONGEST_LISTING + 1), 17, False)
 
 
 def deep(digit, times=64):
@@ -164,7 +211,7 @@ def files(table):
 
 def main(program, counts=False):
     table = Table(os.path.abspath(program), counts)
-    for part in (addresses, stars, scripts, files, windows):
+    for part in (addresses, stars, scripts, files, windows, listings):
         part(table)
     print(f"dearest: {table.wrong} wrong")
     return 1 if table.wrong else 0

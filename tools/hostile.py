@@ -4,11 +4,11 @@
     hostile.py PROGRAM COUNT SEED [PROCESSES]             (Python 3.11 or later, on Linux)
     hostile.py PROGRAM --one NUMBER SEED [FILE]
 
-The inputs are words, addresses, rule files, scripts, windows, walks and drills: right ones, ones with one thing wrong, and
-ones with much wrong. Input NUMBER depends on SEED and its number alone, so that `--one` makes it again: it prints the
+The inputs are words, addresses, rule files, scripts, windows, walks, drills and listings: right ones, ones with one thing
+wrong, and ones with much wrong. Input NUMBER depends on SEED and its number alone, so that `--one` makes it again: it prints the
 words and the answer, and puts the standard input into FILE. Of each call the status, what stands on both streams, the time
-of processor and the memory are looked at, of every twentieth whether it answers the same twice, and of a neighbour
-whether the way back leads back. Ends with 1 where something is wrong. Memory is told only where a call takes more than this script, whose memory it has before it begins."""
+of processor and the memory are looked at, of every twentieth whether it answers the same twice, of a neighbour whether
+the way back leads back, and of a listing whether it is judged by what `draw` lists. Ends with 1 where something is wrong. Memory is told only where a call takes more than this script, whose memory it has before it begins."""
 import collections
 import concurrent.futures
 import hashlib
@@ -22,7 +22,7 @@ import time
 from typing import NamedTuple
 
 sys.dont_write_bytecode = True
-from hostile_answers import Wanted  # noqa: E402
+from hostile_answers import Listing, Wanted  # noqa: E402
 from hostile_inputs import Library, made  # noqa: E402
 
 MOST_SECONDS = 2  # of processor
@@ -129,9 +129,28 @@ def turned(call, out):
     return call._replace(words=[*words, b"addr=" + address, b"vertex=" + vertex]), corners[-1:] + corners[:-1]
 
 
-def other_wrong(runner, number, call, ran):
-    """Runs a neighbour's way back, a star from its last tile, and every so manieth call again; what is wrong with that, or
-    None."""
+def judged(runner, call, ran, shapes):
+    """What is wrong with what is said of a listing, beside the list that `draw` makes of the window, or None."""
+    values = dict(word.split(b"=", 1) for word in call.words[1:])
+    listing = Listing(shapes[values[b"rule"]], values, call.text)
+    if listing.fault:
+        return None
+    drawn = runner.run(call._replace(words=[b"draw", *call.words[1:], b"layers=list"], text=b"", folder=False))
+    if os.fstat(runner.files[1]).st_size > WHOLE:
+        return None
+    if drawn.status == 0:
+        return listing.otherwise(ran.status, ran.out, ran.err, drawn.out)
+    is_said = ran.status == 0 or b" Stray " in ran.err
+    return f"{ran.out[:100]!r} and {ran.err[:300]!r}, but `draw` refuses the window" if is_said else None
+
+
+def other_wrong(runner, number, call, ran, shapes):
+    """Runs a neighbour's way back, a star from its last tile, the list of a listing's window, and every so manieth call
+    again; what is wrong with that, or None."""
+    if call.words[:1] == [b"verify"] and ran.status in (0, 5, 6, 17) and len(call.text) < WHOLE:
+        told = judged(runner, call, ran, shapes)
+        if told:
+            return told
     if call.words[:1] == [b"star"] and ran.status == 0:
         there, wanted = turned(call, ran.out)
         if [line.split(b" ")[3:] for line in runner.run(there).out[:-1].split(b"\n")] != wanted:
@@ -187,7 +206,7 @@ def tried(program, seed, first, last):
         call = input_of(library, number, seed)
         ran = runner.run(call)
         tally.add(number, call, ran)
-        told = wrong(call, ran, library.shapes) or other_wrong(runner, number, call, ran)
+        told = wrong(call, ran, library.shapes) or other_wrong(runner, number, call, ran, library.shapes)
         tally.twice += number % TWICE == 0
         if told:
             tally.wrong.append((number, call.maker, told))
@@ -214,7 +233,7 @@ def one(program, number, seed, file=None):
     print(f"status: {ran.status}, {ran.seconds:.3f} seconds of processor, {ran.memory / 1e6:.0f} MB where it takes more than this script")
     print(f"output: {os.fstat(runner.files[1]).st_size} bytes, {ran.out[:80]!r}")
     print("notes:", ran.err[:1000])
-    told = wrong(call, ran, library.shapes) or other_wrong(runner, 0, call, ran)
+    told = wrong(call, ran, library.shapes) or other_wrong(runner, 0, call, ran, library.shapes)
     print("wrong:", told)
     return 1 if told else 0
 

@@ -1,5 +1,5 @@
 """What a call of the program must answer, as docs/FORMATS.md has it, apart from the engine: which words, addresses and
-lines of scripts are refused and how, which statuses may come else, and what a note and a text look like."""
+lines of scripts and listings are refused and how, which statuses may come else, and what a note and a text look like."""
 import functools
 import os
 import re
@@ -9,8 +9,11 @@ import tomllib
 sys.dont_write_bytecode = True
 sys.path.insert(1, os.path.join(os.path.dirname(os.path.dirname(os.path.abspath(__file__))), "checks"))
 from supertiles import Ring  # noqa: E402
+from windows import words_of  # noqa: E402
 
 LONGEST = 1048576  # bytes of a rule file or a script
+LONGEST_LISTING = 67108864  # bytes
+MOST_LISTED = 200000  # lines of a listing
 MOST_DOTS = 200000  # of a rule file
 SHORT = 20000  # bytes of a rule file that is read here as well
 SHALLOW = 70  # levels of one
@@ -30,7 +33,9 @@ COMMANDS = {
     b"calc": ((b"rule",), ()),
     b"drill": ((b"rule", b"n"), (b"seed",)),
     b"star": ((b"rule", b"addr", b"vertex"), (b"seed",)),
+    b"verify": ((b"rule", b"addr", b"at", b"half"), (b"seed",)),
 }
+NOT_OVER_FILES = b"calc", b"verify"  # commands whose rule is a built-in one
 # the statuses with which a call may end whose words, rule and address are right
 ENDS = {
     b"place": {0, 6},
@@ -41,6 +46,7 @@ ENDS = {
     b"calc": {0, 13},
     b"drill": {0},
     b"star": {0, 5, 15, 16},
+    b"verify": {0, 5, 6, 17},
 }
 
 N = rb"(?:0|[1-9][0-9]{0,2})"
@@ -69,7 +75,7 @@ def has_form(command, key, value):
     """Whether a value of a key has its form."""
     parts = value.split(b",")
     if key == b"rule":
-        return value in BUILT_IN or (value == b"-" and command != b"calc")
+        return value in BUILT_IN or (value == b"-" and command not in NOT_OVER_FILES)
     if key == b"path":
         return len(parts) <= 1000 and all(is_number(part, 0, 255) for part in parts)
     if key == b"at":
@@ -236,6 +242,116 @@ class Script:
         return name in lines and self.printing.get(int(line)) == lines[name]
 
 
+def wrong_place(words):
+    """The number of the first word of a line of a listing that hasn't its form, is one too many or is missing, or None."""
+    forms = (
+        lambda word: is_number(word, 0, 255),
+        lambda word: is_number(word, 0, 255),
+        lambda word: word.count(b",") == 3 and all(is_signed(part, GREATEST) for part in word.split(b",")),
+        lambda word: len(word) > 0,
+    )
+    for place, (form, word) in enumerate(zip(forms, words)):
+        if not form(word):
+            return place
+    return None if len(words) == len(forms) else min(len(words), len(forms))
+
+
+class Listing:
+    """What is known of a listing before the walk: its first fault of those from TooLong to Double, as a note tells it, or
+    None, in `fault`; and where it has none, its lines' numbers and motions by their tiles, in `lines`. A tile is a kind
+    and 64 digits, those of the frame behind its own."""
+
+    def __init__(self, shape, values, text):
+        self.shape, self.lines = shape, {}
+        self.kind, self.digits = parsed(values[b"addr"])
+        self.grown = self.grown_digits(int(values.get(b"seed", b"0")))
+        self.fault = self.first_fault(text)
+
+    def grown_digits(self, seed):
+        """The digits of the frame at depth 64."""
+        digits, words = list(self.digits), words_of(seed)
+        while len(digits) < DEEPEST:
+            uses = self.shape.uses[digits[-1][1] if digits else self.kind]
+            digits.append(uses[next(words) % len(uses)])
+        return tuple(digits)
+
+    def tile(self, kind, digits):
+        """The tile of an address, or None where it isn't of the frame."""
+        top, own = digits[-1][1] if digits else kind, self.grown[len(digits) - 1][1] if digits else self.kind
+        return (kind, (*digits, *self.grown[len(digits) :])) if top == own else None
+
+    def read(self, line):
+        """The name of a line's fault and what stands behind its number; or None, and the line's tile and motion."""
+        words = line.split(b" ")
+        place = wrong_place(words)
+        if place is not None:
+            return b"BadLine", b" %d" % place
+        fault = address_fault(self.shape, words[3])
+        if fault:
+            return b"Address", b" " + fault
+        kind, digits = parsed(words[3])
+        if kind != int(words[0]):
+            return b"BadKind", b""
+        return None, (self.tile(kind, digits), words[1] + b" " + words[2])
+
+    def first_fault(self, text):
+        """The fault; else puts the lines."""
+        lines, known, read = text.split(b"\n"), {}, []
+        if lines[-1] == b"":
+            lines.pop()
+        if len(text) > LONGEST_LISTING or len(lines) > MOST_LISTED:
+            return b"TooLong"
+        for number, line in enumerate(lines, 1):
+            if line not in known:
+                known[line] = self.read(line)
+            name, rest = known[line]
+            if name:
+                return b"%b %d%b" % (name, number, rest)
+            read.append(rest)
+        for number, (tile, _) in enumerate(read, 1):
+            if not tile:
+                return b"NotOfFrame %d" % number
+        for number, (tile, motion) in enumerate(read, 1):
+            if tile in self.lines:
+                return b"Double %d" % number
+            self.lines[tile] = number, motion
+        return None
+
+    def allows(self, fault):
+        """Whether a listing that has no fault before the walk may have this one, as a note tells it."""
+        name, first, *rest = fault.split(b" ")
+        if name == b"Missing":
+            return not address_fault(self.shape, first) and self.tile(*parsed(first)) not in (None, *self.lines)
+        motions = {b"%d" % number: motion for number, motion in self.lines.values()}
+        return first in motions and (name == b"Stray" or (name == b"WrongPlace" and motions[first] != b" ".join(rest)))
+
+    def due(self, listed):
+        """The notes, and the text, of which one must come where `draw` lists these lines."""
+        drawn = {}
+        for line in listed.split(b"\n")[:-1]:
+            kind, turn, shift, address = line.split(b" ")
+            drawn[self.tile(*parsed(address))] = turn + b" " + shift
+        due = {b"Missing": drawn.keys() - self.lines.keys()}
+        moved = [tile for tile in drawn if tile in self.lines and self.lines[tile][1] != drawn[tile]]
+        due[b"WrongPlace"] = {b"WrongPlace %d %b" % (self.lines[tile][0], drawn[tile]) for tile in moved}
+        strays = sorted(number for tile, (number, _) in self.lines.items() if tile not in drawn)
+        due[b"Stray"] = {b"Stray %d" % strays[0]} if strays else set()
+        return due
+
+    def otherwise(self, status, out, err, listed):
+        """What is wrong with an answer where `draw` lists these lines, or None."""
+        due, fault = self.due(listed), err[:-1].partition(b" BadListing ")[2]
+        name = fault.partition(b" ")[0]
+        told = self.tile(*parsed(fault.split(b" ")[1])) if name == b"Missing" else fault
+        if due[b"Missing"] or due[b"WrongPlace"]:
+            is_due = name in (b"Missing", b"WrongPlace") and told in due[name]
+        elif due[b"Stray"]:
+            is_due = told in due[b"Stray"]
+        else:
+            is_due = status == 0
+        return None if is_due else f"{out[:100]!r} and {err[:300]!r}, but `draw` lists other lines"
+
+
 def is_integer(value):
     return type(value) is int
 
@@ -361,6 +477,10 @@ SCRIPT = (
     rb"(?:TooLong|BadLine [0-9]+ [0-9]+|UnknownName [0-9]+|Address [0-9]+ %b|NoEdge [0-9]+|Outside [0-9]+ [0-9]+ [0-9]+"
     rb"|CoordLimit [0-9]+ %b)" % (FAULT, P)
 )
+LISTED = (
+    rb"(?:TooLong|BadLine [0-9]+ [0-4]|Address [0-9]+ %b|(?:BadKind|NotOfFrame|Double|Stray) [0-9]+|Missing %b"
+    rb"|WrongPlace [0-9]+ [0-9] %b)" % (FAULT, A, P)
+)
 # for each status what stands on standard error. 10 and 14 can't come: standard output takes all, and no layer is missing.
 NOTES = {
     status: re.compile(form)
@@ -380,6 +500,7 @@ NOTES = {
         13: rb"13 BadScript %b\n" % SCRIPT,
         15: rb"15 NoVertex [0-9]+ [0-9]+\n",
         16: rb"16 StarTooBig\n",
+        17: rb"17 BadListing %b\n" % LISTED,
     }.items()
 }
 TILE = rb"[0-9]+ [0-9] %b %b" % (P, A)
@@ -425,8 +546,8 @@ def star_fits(values, text):
     return len(set(addresses)) == len(lines) and len({address.count(b"/") for address in addresses}) == 1
 
 
-def text_fits(command, values, text, shape, script):
-    """Whether standard output looks like an answer of the command; the script is what is known of one."""
+def text_fits(command, values, text, shape, script, listing):
+    """Whether standard output looks like an answer of the command; script and listing are what is known of one."""
     if command == b"place":
         return text == shape.placed(values[b"addr"])[1] + b"\n" if shape else lines_fit(text, [rb"[0-9]+ [0-9] %b" % P])
     if command == b"neighbour":
@@ -438,6 +559,8 @@ def text_fits(command, values, text, shape, script):
         return lines_fit(text, [TILE + rb" -"] + [TILE + rb" [0-9]+"] * steps)
     if command == b"star":
         return star_fits(values, text)
+    if command == b"verify":
+        return len(listing.lines) > 0 and text == b"right %d\n" % len(listing.lines)
     if command == b"drill":
         forms = [b"%b [0-9]+" % name for name in (b"tiles", b"largest", b"depth", b"refused")]
         return lines_fit(text, [b"windows " + values[b"n"], *forms])
@@ -454,7 +577,7 @@ class Wanted:
     known to be refused. `folder` says that standard input can't be read."""
 
     def __init__(self, shapes, words, text, shape=None, refused=None, folder=False):
-        self.words, self.shape, self.script, self.values, self.is_read = words, None, None, {}, False
+        self.words, self.shape, self.script, self.listing, self.values, self.is_read = words, None, None, None, {}, False
         self.ends, self.note = self.limited(shapes, text, shape, refused, folder)
 
     def limited(self, shapes, text, shape, refused, folder):
@@ -468,6 +591,8 @@ class Wanted:
         self.values = dict(word.split(b"=", 1) for word in self.words[1:])
         rule = self.values[b"rule"]
         self.shape = shape if rule == b"-" else shapes[rule]
+        if command == b"verify":
+            return self.of_listing(text, folder)
         if command == b"calc" or rule == b"-":
             if folder:
                 return {9}, b"9 ReadFault\n"
@@ -476,6 +601,18 @@ class Wanted:
             if refused and rule == b"-":
                 return {3}, refused
         return self.of_command(command, text)
+
+    def of_listing(self, text, folder):
+        """The same of `verify`, whose words are right."""
+        fault = address_fault(self.shape, self.values[b"addr"])
+        if fault:
+            return {4}, b"4 BadAddress %b\n" % fault
+        if folder:
+            return {9}, b"9 ReadFault\n"
+        self.listing = Listing(self.shape, self.values, text)
+        if self.listing.fault:
+            return {17}, b"17 BadListing %b\n" % self.listing.fault
+        return ENDS[b"verify"], None
 
     def of_command(self, command, text):
         """The same where the words are right and the file could be read."""
@@ -522,6 +659,8 @@ class Wanted:
             return f"{err!r}, but the file has the form of a rule"
         if status == 13 and self.script and not self.script.allows(err[:-1].split(b" ", 2)[2]):
             return f"{err[:300]!r}, but the script has {self.script.fault!r}"
-        if status == 0 and not text_fits(self.words[0], self.values, out, self.shape, self.script):
+        if status == 17 and self.note is None and not self.listing.allows(err[:-1].split(b" ", 2)[2]):
+            return f"{err[:300]!r}, but the listing hasn't this fault"
+        if status == 0 and not text_fits(self.words[0], self.values, out, self.shape, self.script, self.listing):
             return f"the text isn't one of the command: {out[:300]!r}"
         return None

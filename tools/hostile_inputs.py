@@ -7,9 +7,11 @@ import tomllib
 from typing import NamedTuple
 
 sys.dont_write_bytecode = True
-from hostile_answers import BUILT_IN, COMMANDS, DEEPEST, LONGEST, Shape  # noqa: E402
+from hostile_answers import BUILT_IN, COMMANDS, DEEPEST, LONGEST, LONGEST_LISTING, MOST_LISTED, NOT_OVER_FILES  # noqa: E402
+from hostile_answers import Shape, parsed  # noqa: E402
 from rule_file import Rule, area  # noqa: E402
-from supertiles import Ring  # noqa: E402
+from supertiles import Ring, address  # noqa: E402
+from windows import Box, Frame, Tiling, reduced, shift_of  # noqa: E402
 
 
 class Input(NamedTuple):
@@ -46,6 +48,7 @@ class Library:
         self.sources = [Source(os.path.join(rules, name)) for name in names]
         self.by_name = {name: self.sources[names.index(f"{file}.toml")] for name, file in BUILT_IN.items()}
         self.shapes = {name: source.shape for name, source in self.by_name.items()}
+        self.tilings = {name: Tiling(source.document) for name, source in self.by_name.items()}
         self.refused = []
         for name in sorted(os.listdir(refused)):
             with open(os.path.join(refused, name), "rb") as file:
@@ -77,7 +80,7 @@ class Drawn:
 
 def some_rule(drawn, command):
     """The value of `rule`, its rule file, what stands on standard input, and the note of that where it is no rule file."""
-    if command == b"calc" or drawn.below(5) < 3:
+    if command in NOT_OVER_FILES or drawn.below(5) < 3:
         name = drawn.choice(sorted(BUILT_IN))
         text, note = drawn.choice(((b"", b"3 RuleRefused Missing format\n"), (b"format = x", b"3 RuleRefused NotToml\n")))
         return name, drawn.library.by_name[name], text, note
@@ -137,7 +140,9 @@ def right_call(drawn, command=None):
     command = command or drawn.choice((b"place", b"neighbour", b"walk", b"draw", b"check", b"drill", b"star"))
     name, source, text, note = some_rule(drawn, command)
     words = [b"rule=" + name]
-    if b"addr" in COMMANDS[command][0]:
+    if command == b"verify":
+        words, text, note = listing_words(drawn, name, source.shape)
+    elif b"addr" in COMMANDS[command][0]:
         words.append(b"addr=" + some_address(drawn, source.shape))
     if command == b"neighbour":
         words.append(b"edge=" + some_edge(drawn, source.shape))
@@ -165,6 +170,31 @@ def walk_words(drawn, shape):
     if drawn.once_in(2):
         words.append(b"grow=%d" % drawn.choice((0, 1, 64, drawn.below(65))))
     return words
+
+
+def listing_words(drawn, name, shape):
+    """The words of a small window and its listing, which is right where the window isn't beyond the limits: in any order,
+    and with addresses that now and then stop where the supertile's digits go on."""
+    tiling, addr = drawn.library.tilings[name], some_address(drawn, shape, drawn.choice((0, 1, 2, 5, 64)))
+    far, half, seed = drawn.choice((1, 3, 3, 20)), (drawn.between(1, 3), drawn.between(1, 3)), some_seed(drawn)
+    at = [drawn.between(-far, far) for _ in range(4)]
+    words = [b"rule=" + name, b"addr=" + addr, b"at=" + points(at), b"half=" + points(half), b"seed=" + seed]
+    frame = Frame(tiling, *parsed(addr), int(seed))
+    box = Box(tiling.plane, tiling.point(reduced(tiling.ring.order, at)), half)
+    while len(frame.digits) < DEEPEST and not frame.is_enough(box):
+        frame.grow()
+    cut = drawn.below(3)
+    lines = [line_of(drawn, frame, tile, cut) for tile in frame.tiles(box)]
+    text = b"".join(drawn.shuffled(lines) if drawn.below(4) else lines)
+    return words, text if drawn.below(4) else text[:-1], None
+
+
+def line_of(drawn, frame, tile, cut):
+    """A line of a tile, whose address is cut short now and then where `cut` says so."""
+    kind, turn, _, digits = tile
+    while digits and digits[-1] == frame.digits[len(digits) - 1] and cut and drawn.below(3):
+        digits = digits[:-1]
+    return f"{kind} {turn} {','.join(map(str, shift_of(tile)))} {address((kind, digits))}\n".encode()
 
 
 def place_or_check(drawn):
@@ -205,7 +235,7 @@ def full_window(drawn):
 
 def corner(drawn):
     """A call over a base of 64 digits that lies in a corner of its supertile, or near one, which can't grow."""
-    call = right_call(drawn, drawn.choice((b"draw", b"draw", b"walk", b"neighbour", b"star")))
+    call = right_call(drawn, drawn.choice((b"draw", b"draw", b"walk", b"neighbour", b"star", b"verify")))
     kind = drawn.below(len(call.shape.children))
     same = [number for number, child in enumerate(call.shape.children[kind]) if child == kind]
     if not same:
@@ -215,6 +245,9 @@ def corner(drawn):
         child, parent = drawn.choice(call.shape.uses[kind])
         digits.append(b"%d/%d" % (child, parent))
     made = b"addr=%d:%b" % (kind, b",".join(digits))
+    if call.words[0] == b"verify":
+        words = [b"at=0,0,0,0" if word.startswith(b"at=") else word for word in call.words]
+        call = call._replace(words=words, text=b"%d 0 0,0,0,0 %b\n" % (kind, made[5:]))
     return call._replace(maker="corner", words=[made if word.startswith(b"addr=") else word for word in call.words])
 
 
@@ -236,7 +269,7 @@ def drill(drawn):
 
 def unread(drawn):
     """A call whose standard input is a folder."""
-    call = right_call(drawn, drawn.choice((b"place", b"check", b"calc")))
+    call = right_call(drawn, drawn.choice((b"place", b"check", b"calc", b"verify")))
     return call._replace(maker="a folder", folder=True)
 
 
@@ -351,7 +384,7 @@ def any_words(drawn):
 
 def border_words(drawn):
     """A right call with a number of each key at its limit or beyond."""
-    call = right_call(drawn, drawn.choice((b"neighbour", b"walk", b"draw", b"drill", b"star")))
+    call = right_call(drawn, drawn.choice((b"neighbour", b"walk", b"draw", b"drill", b"star", b"verify")))
     values = {
         b"edge": lambda: nasty_number(drawn),
         b"vertex": lambda: nasty_number(drawn),
@@ -371,7 +404,7 @@ def border_words(drawn):
 
 def with_address(drawn, maker, address):
     """A call of a command over an address that a function makes of the rule's shape."""
-    command = drawn.choice((b"place", b"place", b"neighbour", b"walk", b"draw", b"star"))
+    command = drawn.choice((b"place", b"place", b"neighbour", b"walk", b"draw", b"star", b"verify"))
     call = right_call(drawn, command)
     made = b"addr=" + address(call.shape).replace(b"\0", b"")
     return call._replace(maker=maker, words=[made if word.startswith(b"addr=") else word for word in call.words])
@@ -801,6 +834,94 @@ def huge_script(drawn):
     return calc(drawn, "huge script", script)
 
 
+# Listings
+
+
+def right_listing(drawn):
+    return right_call(drawn, b"verify")._replace(maker="listing")
+
+
+def changed_listing(drawn):
+    """A listing with a thing changed, or some: in its text, or in its tiles."""
+    call = right_call(drawn, b"verify")
+    text = call.text
+    if drawn.once_in(3):
+        return call._replace(maker="listing of another window", words=[near_word(drawn, word) for word in call.words])
+    for _ in range(drawn.choice((1, 1, 1, 2, 4))):
+        text = changed_lines_of_listing(drawn, call.shape, text)
+    return call._replace(maker="listing with a change", text=text)
+
+
+def near_word(drawn, word):
+    """The word, or where it gives the window one that gives another which is near."""
+    key, _, value = word.partition(b"=")
+    if key == b"seed" and drawn.once_in(3):
+        return b"seed=" + some_seed(drawn)
+    if key not in (b"at", b"half"):
+        return word
+    least = 1 if key == b"half" else -(2**20)
+    return key + b"=" + points(max(int(a) + drawn.choice((-1, 0, 0, 1)), least) for a in value.split(b","))
+
+
+def changed_lines_of_listing(drawn, shape, text):
+    lines, which = text.split(b"\n"), drawn.below(10)
+    place, other = drawn.below(len(lines)), drawn.below(len(lines))
+    words = lines[place].split(b" ")
+    if which < 2:
+        return b"\n".join(lines[:place] + lines[place + 1 :] if which else lines[: other + 1] + lines[place:])
+    if which == 2:
+        lines.insert(other, lines[place])
+    if which == 3:
+        words[drawn.below(len(words))] = drawn.choice(LISTING_WORDS)
+    if which == 4:
+        words[-1] = changed_address(drawn, shape) if drawn.below(2) else some_address(drawn, shape, 4)
+    if which == 5:
+        words = drawn.shuffled(words + words[: drawn.below(2)])[drawn.below(2) :]
+    lines[place] = b" ".join(words)
+    if which == 6:
+        lines[place] = other_number(drawn, lines[place]) if drawn.below(2) else one_more(drawn, lines[place])
+    if which == 7:
+        lines[place] += drawn.choice((b" ", b"\r", b"\t", b" x", b"\0", b"\xff", b"  ", b" + " + lines[other]))
+    text = b"\n".join(lines)
+    return changed_bytes(drawn, text) if which == 8 else text[: drawn.below(len(text) + 1)] if which == 9 else text
+
+
+def one_more(drawn, line):
+    """A line with one of its numbers changed by one."""
+    places = list(re.finditer(rb"-?[0-9]+", line)) or [re.match(b"", line)]
+    place = drawn.choice(places)
+    return b"%b%d%b" % (line[: place.start()], int(place.group() or b"0") + drawn.choice((-1, 1)), line[place.end() :])
+
+
+LISTING_WORDS = [
+    b"", b"0", b"1", b"3", b"9", b"10", b"255", b"256", b"-1", b"00", b"+0", b"0.5", b"x", b"\xff", b"\xc3\xa9", b"0,0,0,0", b"0,0,0",
+    b"0,0,0,0,0", b"0,0,1,0", b"-0,0,0,0", b"1,-1,0,0", b"16777216,0,0,0", b"16777217,0,0,0", b"-16777216,0,0,0", b"0,0,0,16777216",
+    b"0:", b"0:0/0", b"1:", b"0:0/0,0/0",
+]  # fmt: skip
+
+
+def any_listing(drawn):
+    """Any words in lines, or any bytes."""
+    text, many = drawn.stream.randbytes(drawn.up_to(2000)), drawn.up_to(30) * (drawn.below(3) > 0)
+    if many:
+        lengths = [drawn.choice((4, 4, 4, drawn.up_to(6) - 1)) for _ in range(many)]
+        text = b"\n".join(b" ".join(drawn.choice(LISTING_WORDS) for _ in range(length)) for length in lengths)
+    return right_call(drawn, b"verify")._replace(maker="random listing", text=text)
+
+
+def huge_listing(drawn):
+    """A listing of about as many lines or bytes as it may have: a right one, and behind or before it one line again and
+    again."""
+    call = right_call(drawn, b"verify")
+    named = b"0 0 0,0,0,0 %b\n" % some_address(drawn, call.shape)
+    line = drawn.choice((b"0 0 0,0,0,0 0:\n", b"\n", b"x", named, b"0 0 0,0,0,0 0:", b"\xff\n"))
+    most = LONGEST_LISTING // len(line) + drawn.below(2)
+    if line.endswith(b"\n"):
+        most = MOST_LISTED - call.text.count(b"\n") + drawn.between(-1, 2)
+    many = line * most
+    return call._replace(maker="huge listing", text=drawn.choice((many, call.text + many, many + call.text)))
+
+
 LONGEST_WORD, MOST_WORDS = 131000, 14  # what the system takes
 
 # of so many inputs each maker makes this part; those that take long make few
@@ -809,7 +930,7 @@ WEIGHTS = [
     (far_window, 30), (wide_window, 8), (drill, 12), (unread, 4), (one_wrong, 110), (more_wrong, 60), (any_words, 40),
     (border_words, 60), (wrong_address, 90), (refused_file, 20), (changed_file, 120), (any_document, 40), (written_otherwise, 20),
     (moved_rule, 30), (grid_rule, 20), (huge_file, 5), (huge_right_file, 3), (nested_file, 8), (right_script, 40), (changed_script, 50),
-    (any_script, 25), (huge_script, 3),
+    (any_script, 25), (huge_script, 3), (right_listing, 30), (changed_listing, 60), (any_listing, 20), (huge_listing, 2),
 ]  # fmt: skip
 
 

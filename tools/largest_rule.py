@@ -1,41 +1,46 @@
 """Prints an accepted rule whose machine for two addresses has very many nodes, for measuring.
 
-    python3 tools/largest_rule.py [SEED] > rule.toml
+    python3 tools/largest_rule.py [STEPS [SEED]] > rule.toml
 
-It has 16 kinds, the most that there may be, all of one shape: a rectangle of 3 by 2, with a vertex at each unit, so
-with 10 edges of one type. Each is cut into 16 children of that shape, the most that there may be, lying and standing,
-so that tiles are shifted against each other by whole units. How each kind is cut, and which kinds its children have, is
-drawn by the seed; seed 2 has 21,744 pairs of edges that meet, of (16 * 10) * (16 * 10) = 25,600 that there could be.
-The number is printed to the standard error. It takes nothing from the engine.
+It has 16 kinds, the most that there may be: 15 rectangles of 4 by 2, with a vertex at each unit, so with 12 edges, the
+most that there may be, and one of 3 by 2 with 10; all edges have one type. Each is three times as large cut into tiles of
+these shapes, lying and standing: without the smaller one all tiles would lie at even distances. How each kind is cut, and
+which kinds its children have and which way round, is drawn, and in each step drawn anew for one kind or one child; it stays
+where no fewer pairs of edges meet then. A node is such a pair; there could be (15 * 12 + 10) ** 2 = 36,100 of these. Their
+number is printed to the standard error. It takes nothing from the engine.
 """
 import random
 import sys
 from collections import deque
 
-WIDTH, HEIGHT, FACTOR, KINDS = 3, 2, 4, 16
+FACTOR, KINDS = 3, 16
+LONGER = 0.9  # how often a longer rectangle is tried first
+SHAPES = [(4, 2)] * (KINDS - 1) + [(3, 2)]
 
 
-def corners():
+def corners(width, height):
     """The vertices, from the middle of a side of two edges, from which the whole tile is seen."""
-    low = [(x, 0) for x in range(WIDTH)]
-    right = [(WIDTH, y) for y in range(HEIGHT)]
-    high = [(WIDTH - x, HEIGHT) for x in range(WIDTH)]
-    left = [(0, HEIGHT - y) for y in range(HEIGHT)]
+    low = [(x, 0) for x in range(width)]
+    right = [(width, y) for y in range(height)]
+    high = [(width - x, height) for x in range(width)]
+    left = [(0, height - y) for y in range(height)]
     ring = low + right + high + left
-    return ring[WIDTH + 1:] + ring[:WIDTH + 1]
+    return ring[width + 1:] + ring[:width + 1]
 
 
-VERTICES = corners()
-COUNT = len(VERTICES)
+VERTICES = [corners(*shape) for shape in SHAPES]
 
 
-def fillings(grid):
-    """Each way to fill a grid with rectangles, as (x, y, lies)."""
+def filled(draw, grid):
+    """A way to fill a grid with rectangles, mostly the longer ones, as (x, y, length, lies), or none."""
     for y, row in enumerate(grid):
         for x, taken in enumerate(row):
             if taken:
                 continue
-            for across, up in ((WIDTH, HEIGHT), (HEIGHT, WIDTH)):
+            long, short = [(4, 2), (2, 4)], [(3, 2), (2, 3)]
+            draw.shuffle(long)
+            draw.shuffle(short)
+            for across, up in long + short if draw.random() < LONGER else short + long:
                 if x + across > len(row) or y + up > len(grid):
                     continue
                 cells = [(j, i) for j in range(y, y + up) for i in range(x, x + across)]
@@ -43,12 +48,13 @@ def fillings(grid):
                     continue
                 for j, i in cells:
                     grid[j][i] = True
-                for rest in fillings(grid):
-                    yield [(x, y, across == WIDTH)] + rest
+                rest = filled(draw, grid)
+                if rest is not None:
+                    return [(x, y, max(across, up), across > up)] + rest
                 for j, i in cells:
                     grid[j][i] = False
-            return
-    yield []
+            return None
+    return []
 
 
 def turned(point, turn):
@@ -58,30 +64,56 @@ def turned(point, turn):
     return x, y
 
 
-def placed(draw, x, y, lies):
+def placed(draw, kind, x, y, lies):
     """A child there, turned in one of the two ways: (turn, shift)."""
+    width, height = SHAPES[kind]
     if lies:
-        return draw.choice([(0, x, y), (2, x + WIDTH, y + HEIGHT)])
-    return draw.choice([(1, x + HEIGHT, y), (3, x, y + WIDTH)])
+        return draw.choice([(0, x, y), (2, x + width, y + height)])
+    return draw.choice([(1, x + height, y), (3, x, y + width)])
 
 
-def drawn_rule(seed):
-    """The children of each kind: (kind, turn, shift)."""
+def drawn_children(draw, kind):
+    """The children of a kind: (kind, turn, shift)."""
+    width, height = SHAPES[kind]
+    children = []
+    for x, y, length, lies in filled(draw, [[False] * (width * FACTOR) for _ in range(height * FACTOR)]):
+        child = draw.choice([k for k, shape in enumerate(SHAPES) if shape[0] == length])
+        children.append((child,) + placed(draw, child, x, y, lies))
+    return children
+
+
+def changed(draw, children):
+    """The same with one child of another kind, or turned half round."""
+    place = draw.randrange(len(children))
+    kind, turn, x, y = children[place]
+    width, height = SHAPES[kind]
+    if draw.random() < 0.5:
+        kind = draw.choice([k for k, shape in enumerate(SHAPES) if shape == SHAPES[kind]])
+    else:
+        across, up = {0: (width, height), 1: (-height, width), 2: (-width, -height), 3: (height, -width)}[turn]
+        turn, x, y = (turn + 2) % 4, x + across, y + up
+    return children[:place] + [(kind, turn, x, y)] + children[place + 1:]
+
+
+def drawn_rule(steps, seed):
+    """The children of each kind, and how many pairs of edges meet."""
     draw = random.Random(seed)
-    ways = list(fillings([[False] * (WIDTH * FACTOR) for _ in range(HEIGHT * FACTOR)]))
-    rule = []
-    for kind in range(KINDS):
-        way = draw.choice(ways)
-        kinds = [(kind + 1) % KINDS] + [draw.randrange(KINDS) for _ in way[1:]]
-        draw.shuffle(kinds)
-        rule.append([(child,) + placed(draw, *place) for child, place in zip(kinds, way)])
-    return rule
+    rule = [drawn_children(draw, kind) for kind in range(KINDS)]
+    most = 0
+    for _ in range(steps):
+        kind = draw.randrange(KINDS)
+        own = drawn_children(draw, kind) if draw.random() < 0.5 else changed(draw, rule[kind])
+        other = rule[:kind] + [own] + rule[kind + 1:]
+        pairs = len(meeting(other)) if are_all_used(other) else 0
+        if pairs >= most:
+            rule, most = other, pairs
+    return rule, most
 
 
 def edges_of(child):
-    _, turn, right, up = child
-    moved = [(x + right, y + up) for x, y in (turned(p, turn) for p in VERTICES)]
-    return [(moved[e], moved[(e + 1) % COUNT]) for e in range(COUNT)]
+    kind, turn, right, up = child
+    moved = [(x + right, y + up) for x, y in (turned(p, turn) for p in VERTICES[kind])]
+    return [(moved[e], moved[(e + 1) % len(moved)]) for e in range(len(moved))]
 
 
 def meeting(rule):
@@ -94,14 +126,14 @@ def meeting(rule):
                 found.add(one)
                 waiting.append(one)
 
-    for children in rule:
+    for kind, children in enumerate(rule):
         at = {segment: (child[0], e) for child in children for e, segment in enumerate(edges_of(child))}
         for (start, end), one in at.items():
             if (end, start) in at:
                 take(one + at[(end, start)])
-        rows = []
-        for e in range(COUNT):
-            (ax, ay), (bx, by) = VERTICES[e], VERTICES[(e + 1) % COUNT]
+        rows, vertices = [], VERTICES[kind]
+        for e, (ax, ay) in enumerate(vertices):
+            bx, by = vertices[(e + 1) % len(vertices)]
             points = [(ax * FACTOR + (bx - ax) * j, ay * FACTOR + (by - ay) * j) for j in range(FACTOR + 1)]
             rows.append([at[(points[j], points[j + 1])] for j in range(FACTOR)])
         along.append(rows)
@@ -112,18 +144,23 @@ def meeting(rule):
     return found
 
 
+def are_all_used(rule):
+    return {child[0] for children in rule for child in children} == set(range(KINDS))
+
+
 def printed(rule):
     print(f"format = 1\nglue = []\nlambda = [{FACTOR}, 0, 0, 0]\norder = 4")
-    for children in rule:
+    for kind, children in enumerate(rule):
         listed = ", ".join(f"[{k}, {t}, {x}, {y}, 0, 0]" for k, t, x, y in children)
-        points = ", ".join(f"[{x}, {y}, 0, 0]" for x, y in VERTICES)
-        print(f"\n[[kind]]\nchildren = [{listed}]\nedges = [{', '.join('0' for _ in VERTICES)}]\nvertices = [{points}]")
+        points = ", ".join(f"[{x}, {y}, 0, 0]" for x, y in VERTICES[kind])
+        print(f"\n[[kind]]\nchildren = [{listed}]\nedges = [{', '.join('0' for _ in VERTICES[kind])}]\nvertices = [{points}]")
     print(f"\n[[type]]\nmate = 0\nparts = [{', '.join('0' for _ in range(FACTOR))}]")
 
 
 def main():
-    rule = drawn_rule(int(sys.argv[1]) if len(sys.argv) > 1 else 2)
-    print(len(meeting(rule)), "pairs of edges meet", file=sys.stderr)
+    steps, seed = (int(word) for word in (sys.argv[1:] + ["4000", "1"][len(sys.argv) - 1:])[:2])
+    rule, pairs = drawn_rule(steps, seed)
+    print(pairs, "pairs of edges meet", file=sys.stderr)
     printed(rule)
 
 

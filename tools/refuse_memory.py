@@ -14,12 +14,30 @@ import os
 import subprocess
 import sys
 import tempfile
+import tomllib
 
+sys.dont_write_bytecode = True
 TOP = os.path.dirname(os.path.dirname(os.path.abspath(__file__)))
+sys.path.insert(1, os.path.join(TOP, "checks"))
+from supertiles import address  # noqa: E402
+from windows import Box, Frame, Tiling, shift_of  # noqa: E402
+
 NOTE = b"11 NoMemory\n"
 SHOWN = 20
 SCRIPT = b"let a 0:0/0,1/0\nacross a 4 b\nshow b\ncommon a b\npair a b\nplace b\n# x\nlet c 0:0/0\nshow c\n"
 WINDOW = "at=0,0,0,0 half=2,2 layers=svg,list,census"
+
+
+def listing():
+    """The list of a window of Penrose's rhombs, found as its definition says: its lines."""
+    with open(os.path.join(TOP, "rules", "penrose_p3.toml"), "rb") as file:
+        tiling = Tiling(tomllib.load(file))
+    frame, box = Frame(tiling, 0, (), 3), Box(tiling.plane, tiling.point([0, 0, 0, 0]), (2, 2))
+    while not frame.is_enough(box):
+        frame.grow()
+    for kind, turn, shift, digits in frame.tiles(box):
+        where = ",".join(map(str, shift_of((kind, turn, shift))))
+        yield f"{kind} {turn} {where} {address((kind, digits))}\n".encode()
 
 
 def calls():
@@ -43,7 +61,12 @@ def calls():
     yield "calc rule=p3", b"let a 2:1/0,0/0\nacross a 2 b\nplace b\ncommon a b\npair b a\nshow a\n"
     yield f"draw rule=- seed=3 addr=0: {WINDOW} glue=yes", rules["half_chair"]
     yield f"draw rule=chair seed=42 addr=0: {WINDOW}", b""
+    lines, listed = list(listing()), "verify rule=p3 seed=3 addr=0: at=0,0,0,0 half=2,2"
+    yield listed, b"".join(lines)
     # calls that are refused
+    yield listed, b"".join(lines[:-1])
+    yield listed, b"".join(lines + lines[:1])
+    yield listed, b"".join(lines) + b"0 0\n"
     yield "place rule=chair", b""
     yield "check rule=-", refused
     yield "check rule=-", b"format = 1\norder = 4\nlambda = ["

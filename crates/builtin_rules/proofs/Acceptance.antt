@@ -20,7 +20,7 @@ use Rattle.edge_to_edge.specs.Uses.{is_used}
 use Rattle.edge_to_edge.specs.Glue.{glues_halves}
 use Rattle.edge_to_edge.specs.EdgeToEdge.{IsEdgeToEdge}
 
-each : (n : ℕ) (p : ℕ → Bool) → all_below n p ≡ true → (k : ℕ) → k < n → p k ≡ true
+pub each : (n : ℕ) (p : ℕ → Bool) → all_below n p ≡ true → (k : ℕ) → k < n → p k ≡ true
 each zero p h k l = absurd (omega arith)
 each (suc n) p h k l =
     let both = and_parts (p n) (all_below n p) h in

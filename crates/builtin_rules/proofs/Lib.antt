@@ -1,5 +1,6 @@
 pub mod Acceptance
 pub mod Evaluated
+pub mod Numbered
 pub mod Constants
 pub mod Admitted
 pub mod Lists

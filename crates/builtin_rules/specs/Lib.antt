@@ -5,6 +5,7 @@ pub mod P3
 pub mod AmmannBeenker
 pub mod HalfHex
 pub mod Named
+pub mod AcceptedNames
 pub mod Numbers
 pub mod Written
 pub mod WrittenTables

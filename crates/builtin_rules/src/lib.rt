@@ -17,6 +17,7 @@ mod chair;
 mod contacts;
 mod half_hex;
 mod kind_numbers;
+pub mod laws;
 pub mod name;
 mod notation;
 mod p2;

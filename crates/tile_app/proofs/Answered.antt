@@ -1,23 +1,24 @@
 -- From what a call answers to its clauses.
-use Rattle.std.proofs.Common.{◌≡◌, ◌⊎◌, inl, inr, ℕ, Bool, true, false, List, [], map, Some, Result, Ok, Err, IfOk, IfErr, is_ok, refl, sym, subst, ◌∙◌}
+use Rattle.std.proofs.Common.{◌≡◌, ◌⊎◌, inl, inr, ℕ, Bool, true, false, List, [], map, Some, Result, Ok, Err, IfOk, IfErr, IsErrOf, is_ok, refl, sym, subst, ◌∙◌}
 use Rattle.std.specs.declared.option.Option.{Option}
 use Rattle.layer_api.specs.declared.format.Format.{Format}
 use Rattle.rule_model.specs.Tiling.{Tiling}
+use Rattle.list_verify.specs.declared.list_fault.ListFault.TheVariants as listing
 use Rattle.tile_app.specs.declared.script_fault.ScriptFault.TheVariants as script
 use Rattle.tile_app.specs.declared.status.Status.{Status}
-use Rattle.tile_app.specs.declared.status.Status.TheVariants.{Done, BadWords, NoLayer, ReadFault, RuleTooLong, RuleRefused, BadAddress, NoEdge, NoVertex, Outside, DepthLimit, CoordLimit, TooManyTiles, StarTooBig, BadScript, WriteFault, NoMemory}
+use Rattle.tile_app.specs.declared.status.Status.TheVariants.{Done, BadWords, NoLayer, ReadFault, RuleTooLong, RuleRefused, BadScript, BadListing, WriteFault, NoMemory}
 use Rattle.tile_app.specs.declared.rule_fault.RuleFault.{RuleFault}
 use Rattle.tile_app.specs.declared.words.Command.{Command}
-use Rattle.tile_app.specs.declared.words.Command.TheVariants.{Place, Neighbour, Walk, Draw, Check, Calc, Drill, Star}
+use Rattle.tile_app.specs.declared.words.Command.TheVariants.{Place, Neighbour, Walk, Draw, Check, Calc, Drill, Star, Verify}
 use Rattle.tile_app.specs.Answer.{OfCommand, IsPrinted, HasAnswer, Refuses, Prints, CanBeAnswered, IsLimitOf, IsBeyondLimits}
 use Rattle.tile_app.specs.Asked.{OfRequest, IsAsked, WasFileIn, WasAsked}
 use Rattle.tile_app.specs.Causes.{Causes, IsNoLimit, IsRefused}
 use Rattle.tile_app.specs.Request.{Request, Names, HasRuleFault, request_of}
-use Rattle.tile_app.specs.Layers.{HaveLayers, lacking, reads_file}
+use Rattle.tile_app.specs.Layers.{HaveLayers, lacking, reads_file, longest_read}
 use Rattle.tile_app.specs.Status.{IsCutShort, IsLimit, IsRefusal, OrNoMemory}
 use Rattle.tile_app.specs.Words.{command_of}
 use Rattle.tile_app.proofs.OneAnswer.{Laws, reading_or_wrong, reading_has, has_or_lacks, outcome_of, refused_at_done, AreOne, one_answer, limit_beyond}
-use Rattle.tile_app.proofs.Requested.{same_request, same_too_long}
+use Rattle.tile_app.proofs.Requested.{same_request, same_told}
 
 -- what is printed is an answer
 can : (c : Command) (r : Request) (t : Tiling) (text : List ℕ) → IsPrinted c r t text → HasAnswer c r t
@@ -29,6 +30,7 @@ can Check r t text p = tt
 can Calc r t text p = (text, p)
 can Drill r t text p = tt
 can Star r t text p = record { base = p.base; vertex = p.vertex; gives = p.gives; exists = p.exists; within = p.within }
+can Verify r t text p = (p.0, p.1)
 
 can_be_answered : (r : Request) (text : List ℕ) → Prints r text → CanBeAnswered r
 can_be_answered r text p = record { command = p.command; tiling = p.tiling; asks = p.asks; holds = can p.command r p.tiling text p.holds }
@@ -66,6 +68,24 @@ done_is_none Check h = h
 done_is_none Calc h = h
 done_is_none Drill h = h
 done_is_none Star h = h
+done_is_none Verify h = h
+
+-- no command reads the source any more
+module _ (r : Request) (t : Tiling) where
+  no_read_fault : (c : Command) → Refuses c r t ReadFault → ⊥
+  no_read_fault Place k = k
+  no_read_fault Neighbour k = k
+  no_read_fault Walk k = k
+  no_read_fault Draw k = k
+  no_read_fault Check k = k
+  no_read_fault Calc k = k
+  no_read_fault Drill k = k
+  no_read_fault Star k = k
+  no_read_fault Verify k = k
+
+  pub reads_no_more : {T : Type 0} (command : Command) (answer : Result T Status) → IfErr answer (OrNoMemory (Refuses command r t)) → IsErrOf answer ReadFault → ⊥
+  reads_no_more command (Ok x) h e = absurd (cc e)
+  reads_no_more command (Err s) h e = no_read_fault command (subst (OrNoMemory (Refuses command r t)) (err_is s ReadFault e) h)
 
 module _ (words : List (List ℕ)) (handed : List Format) (left rest : Option (List ℕ)) where
   -- ---- from a command to its request
@@ -77,7 +97,7 @@ module _ (words : List (List ℕ)) (handed : List Format) (left rest : Option (L
     pub prints_asked : (text : List ℕ) → IsPrinted command (request_of words handed file) t text → OfRequest words handed left rest (λ r. Prints r text)
     prints_asked text h = of_command (λ c q s. IsPrinted c q s text) h
 
-    -- no command refuses words, layers or files, and none reads the source any more
+    -- no command refuses words, layers or files
     no_words : (place : ℕ) (c : Command) → Refuses c (request_of words handed file) t (BadWords place) → ⊥
     no_words place Place k = k
     no_words place Neighbour k = k
@@ -87,6 +107,7 @@ module _ (words : List (List ℕ)) (handed : List Format) (left rest : Option (L
     no_words place Calc k = k
     no_words place Drill k = k
     no_words place Star k = k
+    no_words place Verify k = k
 
     no_layer_lacks : (format : Format) (c : Command) → Refuses c (request_of words handed file) t (NoLayer format) → ⊥
     no_layer_lacks format Place k = k
@@ -97,16 +118,7 @@ module _ (words : List (List ℕ)) (handed : List Format) (left rest : Option (L
     no_layer_lacks format Calc k = k
     no_layer_lacks format Drill k = k
     no_layer_lacks format Star k = k
-
-    no_read_fault : (c : Command) → Refuses c (request_of words handed file) t ReadFault → ⊥
-    no_read_fault Place k = k
-    no_read_fault Neighbour k = k
-    no_read_fault Walk k = k
-    no_read_fault Draw k = k
-    no_read_fault Check k = k
-    no_read_fault Calc k = k
-    no_read_fault Drill k = k
-    no_read_fault Star k = k
+    no_layer_lacks format Verify k = k
 
     no_long_rule : (c : Command) → Refuses c (request_of words handed file) t RuleTooLong → ⊥
     no_long_rule Place k = k
@@ -117,6 +129,7 @@ module _ (words : List (List ℕ)) (handed : List Format) (left rest : Option (L
     no_long_rule Calc k = k
     no_long_rule Drill k = k
     no_long_rule Star k = k
+    no_long_rule Verify k = k
 
     no_long_script : (c : Command) → Refuses c (request_of words handed file) t (BadScript script.TooLong) → ⊥
     no_long_script Place k = k
@@ -127,6 +140,7 @@ module _ (words : List (List ℕ)) (handed : List Format) (left rest : Option (L
     no_long_script Calc k = k
     no_long_script Drill k = k
     no_long_script Star k = k
+    no_long_script Verify k = k
 
     no_rule : (fault : RuleFault) (c : Command) → Refuses c (request_of words handed file) t (RuleRefused fault) → ⊥
     no_rule fault Place k = k
@@ -137,20 +151,21 @@ module _ (words : List (List ℕ)) (handed : List Format) (left rest : Option (L
     no_rule fault Calc k = k
     no_rule fault Drill k = k
     no_rule fault Star k = k
+    no_rule fault Verify k = k
 
     pub command_refused : (s : Status) → OrNoMemory (Refuses command (request_of words handed file) t) s → IsRefused words handed left rest s
     command_refused Done h = of_command (λ c q u. Refuses c q u Done) h
     command_refused (BadWords place) h = absurd (no_words place command h)
     command_refused (NoLayer format) h = absurd (no_layer_lacks format command h)
-    command_refused ReadFault h = absurd (no_read_fault command h)
+    command_refused ReadFault h = absurd (no_read_fault (request_of words handed file) t command h)
     command_refused RuleTooLong h = absurd (no_long_rule command h)
     command_refused (RuleRefused fault) h = absurd (no_rule fault command h)
     command_refused (BadScript script.TooLong) h = absurd (no_long_script command h)
+    command_refused (BadListing listing.TooLong) h =
+        let k = of_command (λ c q u. Refuses c q u (BadListing listing.TooLong)) h in
+        (k.0, k.1, inr k.2)
     command_refused NoMemory h = ((command, right), have)
     command_refused s h = of_command (λ c q u. Refuses c q u s) h
-
-    pub reads_no_more : OrNoMemory (Refuses command (request_of words handed file) t) ReadFault → ⊥
-    reads_no_more h = no_read_fault command h
 
   -- ---- from a request that was asked to the one that is asked
   module _ (r : Request) (h : IsAsked words handed left r) where
@@ -158,26 +173,26 @@ module _ (words : List (List ℕ)) (handed : List Format) (left rest : Option (L
     of_asked : (P : Command → Request → Tiling → Type 0) → OfRequest words handed left rest (OfCommand P) → OfCommand P r
     of_asked P k = subst (OfCommand P) (same_request words handed left rest r k.0 h k.1 k.2.asks.names.not_too_long) k.2
 
+    -- a listing that is too long, in bytes or in lines
+    too_long_listing : IsRefused words handed left rest (BadListing listing.TooLong) → Causes r (BadListing listing.TooLong)
+    too_long_listing k = elim k.2 [
+      | inl told ↦ inl (same_told words handed left rest r k.0 (BadListing listing.TooLong) h k.1 told)
+      | inr asked ↦ inr (of_asked (λ c q t. Refuses c q t (BadListing listing.TooLong)) (k.0, k.1, asked))
+    ]
+
     caused : (s : Status) → IsRefusal s → IsRefused words handed left rest s → IsCutShort s ⊎ Causes r s
     caused Done i k = absurd i
     caused (BadWords place) i k = inr (subst (λ ws. command_of ws ≡ Err place) (k.1.by_words ∙ sym h.by_words) k.2)
     caused (NoLayer format) i k =
         inr (subst (λ hs. lacking r.words hs ≡ Some format) (k.1.by_layers ∙ sym h.by_layers) (subst (λ ws. lacking ws k.0.handed ≡ Some format) (k.1.by_words ∙ sym h.by_words) k.2))
     caused ReadFault i k = inl tt
-    caused RuleTooLong i k = inr (same_too_long words handed left rest r k.0 h k.1 k.2.0, subst (λ ws. command_of ws ≡ Ok Calc → ⊥) (k.1.by_words ∙ sym h.by_words) k.2.1)
-    caused (BadScript script.TooLong) i k = inr (same_too_long words handed left rest r k.0 h k.1 k.2.0, subst (λ ws. command_of ws ≡ Ok Calc) (k.1.by_words ∙ sym h.by_words) k.2.1)
-    caused (BadScript (script.Calc fault)) i k = inr (of_asked (λ c q t. Refuses c q t (BadScript (script.Calc fault))) k)
+    caused RuleTooLong i k = inr (same_told words handed left rest r k.0 RuleTooLong h k.1 k.2)
+    caused (BadScript script.TooLong) i k = inr (same_told words handed left rest r k.0 (BadScript script.TooLong) h k.1 k.2)
+    caused (BadListing listing.TooLong) i k = inr (too_long_listing k)
     caused (RuleRefused fault) i k = inr (subst (λ q. HasRuleFault q fault) (same_request words handed left rest r k.1.0 h k.1.1 k.1.2.not_too_long) k.1.2)
-    caused (BadAddress fault) i k = inr (of_asked (λ c q t. Refuses c q t (BadAddress fault)) k)
-    caused (NoEdge edge edges) i k = inr (of_asked (λ c q t. Refuses c q t (NoEdge edge edges)) k)
-    caused (NoVertex vertex edges) i k = inr (of_asked (λ c q t. Refuses c q t (NoVertex vertex edges)) k)
-    caused (Outside edge part) i k = inr (of_asked (λ c q t. Refuses c q t (Outside edge part)) k)
-    caused (DepthLimit addr edge) i k = inr (of_asked (λ c q t. Refuses c q t (DepthLimit addr edge)) k)
-    caused (CoordLimit value) i k = inr (of_asked (λ c q t. Refuses c q t (CoordLimit value)) k)
-    caused TooManyTiles i k = inr (of_asked (λ c q t. Refuses c q t TooManyTiles) k)
-    caused StarTooBig i k = inr (of_asked (λ c q t. Refuses c q t StarTooBig) k)
     caused WriteFault i k = absurd i
     caused NoMemory i k = inl tt
+    caused s i k = inr (of_asked (λ c q t. Refuses c q t s) k)
 
     printed : {Q : List ℕ → Type 0} → OfRequest words handed left rest (λ q. (text : List ℕ) × Prints q text × Q text) → CanBeAnswered r
     printed k = of_asked HasAnswer (k.0, k.1, can_be_answered k.0 k.2.0 k.2.1)
@@ -238,7 +253,7 @@ wrong_words words handed left place e = (
   record {
     by_words = refl;
     by_layers = refl;
-    from_source = subst (λ b. WasFileIn b left left []) (sym (reads_none (reads_file words handed) (λ f. reading_or_wrong words handed place f e))) refl;
+    from_source = subst (λ b. WasFileIn (longest_read words) b left left []) (sym (reads_none (reads_file words handed) (λ f. reading_or_wrong words handed place f e))) refl;
   },
   e,
 )
@@ -251,7 +266,7 @@ no_layer words handed left format e = (
   record {
     by_words = refl;
     by_layers = refl;
-    from_source = subst (λ b. WasFileIn b left left []) (sym (reads_none (reads_file words handed) (λ f. has_or_lacks format (lacking words handed) (reading_has words handed f) e))) refl;
+    from_source = subst (λ b. WasFileIn (longest_read words) b left left []) (sym (reads_none (reads_file words handed) (λ f. has_or_lacks format (lacking words handed) (reading_has words handed f) e))) refl;
   },
   e,
 )

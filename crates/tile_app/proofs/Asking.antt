@@ -1,5 +1,6 @@
 -- What right words give, and what is printed.
-use Rattle.std.proofs.Common.{◌≡◌, ℕ, List, [], ◌∷◌, ◌++◌, length, get_or, Some, Result, Ok, Err, IfOk, IfErr, OnErr, refl, sym, ap, ap₂, ◌∙◌, subst, append_assoc, ℤ, pos}
+use Rattle.std.proofs.Common.{◌≡◌, ℕ, false, List, [], ◌∷◌, ◌++◌, length, get_or, Some, Result, Ok, Err, is_ok, IfOk, IfErr, OnErr, refl, sym, ap, ap₂, ◌∙◌, subst, append_assoc, ℤ, pos}
+use Rattle.std.specs.Option.{option_map_or}
 use Rattle.addressing.specs.Address.{Address}
 use Rattle.cyclo_points.specs.declared.order.Order.{Order}
 use Rattle.cyclo_points.specs.declared.order.Order.TheVariants.{Four, Six, Eight, Ten}
@@ -9,11 +10,13 @@ use Rattle.cyclo_points.specs.Point.{point_in, coefficient, IsOf}
 use Rattle.cyclo_points.specs.Text.{coefficients_text, number_text, point_text, blank, newline}
 use Rattle.rule_model.specs.Tiling.{Tiling, children}
 use Rattle.tile_shape.specs.Accepted.{IsAcceptedAddress}
+use Rattle.tile_shape.specs.AddressIn.{address_in, AnswersAddress}
+use Rattle.tile_shape.specs.declared.address.Address as program
 use Rattle.tile_shape.specs.declared.address_fault.AddressFault.{AddressFault}
 use Rattle.tile_shape.specs.Refused.{IsFaultOf}
 use Rattle.tile_shape.specs.Text.{address_text}
 use Rattle.tile_app.specs.declared.words.Key.TheVariants.{Addr}
-use Rattle.tile_app.specs.Tile.{GivesTile, GivesNoTile}
+use Rattle.tile_app.specs.Tile.{GivesTile, GivesNoTile, gives_tile}
 use Rattle.tile_app.specs.Words.{value_given}
 
 -- a point of an order is printed as its number is; in orders four and six the last two coefficients are 0
@@ -54,6 +57,14 @@ module _ (words : List (List ℕ)) (t : Tiling) (text : List ℕ) (given : value
     none = λ a accepted. h a (subst (λ r. IsAcceptedAddress r a) (sym are) accepted);
     first = subst (λ r. IsFaultOf r text f) are k;
   }
+
+  -- whether it is read as an address
+  pub tile_told : (result : Result program.Address AddressFault) → AnswersAddress result (address_in rows text) → is_ok result ≡ gives_tile t words
+  tile_told result h = answered result (address_in rows text) h ∙ ap (λ r. is_ok (address_in r text)) are ∙ sym (ap (λ o. option_map_or (λ x. is_ok (address_in (children t) x)) o false) given)
+    where
+      answered : (result : Result program.Address AddressFault) (answer : Result Address AddressFault) → AnswersAddress result answer → is_ok result ≡ is_ok answer
+      answered (Ok a) answer e = sym (ap (λ o. is_ok o) e)
+      answered (Err f) answer e = sym (ap (λ o. is_ok o) e)
 
 -- the pieces of a line, joined from the right, are the line
 pub pieces_of_line : (kind turn shift number : List ℕ) → shift ≡ number

@@ -2,19 +2,19 @@
 use Rattle.std.proofs.Common.{◌≡◌, ℕ, Bool, true, false, cond, not, ◌&&◌, ◌||◌, List, [], ◌∷◌, ◌++◌, length, codes, Some, None, Ok, Err, is_some, nat_lt, refl, sym, ap, ap₂, ◌∙◌, subst, append_assoc}
 use Rattle.std.specs.declared.option.Option.{Option}
 use Rattle.std.specs.List.{list_all, list_any, before_first, after_first, position_or_len}
-use Rattle.std.specs.Option.{option_map, option_map_or}
+use Rattle.std.specs.Option.{option_map, option_map_or, option_and_then}
 use Rattle.std.specs.Str.{bytes_eq}
 use Rattle.std.proofs.lemmas.Slice.Eq.{bytes_eq-Decides}
 use Rattle.tile_app.specs.declared.words.Command.{Command}
-use Rattle.tile_app.specs.declared.words.Command.TheVariants.{Place, Neighbour, Walk, Draw, Check, Calc, Drill, Star}
+use Rattle.tile_app.specs.declared.words.Command.TheVariants.{Place, Neighbour, Walk, Draw, Check, Calc, Drill, Star, Verify}
 use Rattle.tile_app.specs.declared.words.Key.{Key}
 use Rattle.tile_app.specs.declared.words.Key.TheVariants.{Rule, Addr, Edge, Seed, Grow, Path, At, Half, Layers, Glue, Count, Vertex}
 use Rattle.builtin_rules.specs.declared.name.Name.{Name}
 use Rattle.tile_app.specs.declared.rule_choice.RuleChoice.TheVariants.{Builtin, File}
 use Rattle.tile_app.specs.Choices.{choice_in}
-use Rattle.tile_app.specs.Commands.{key_text, command_named, keys_of, required_keys, is_rule_for, has_form, IsAboutTile}
+use Rattle.tile_app.specs.Commands.{key_text, command_named, keys_of, required_keys, is_rule_for, has_form, IsAboutTile, IsAboutWindow}
 use Rattle.tile_app.specs.Tilings.{name_in}
-use Rattle.tile_app.specs.Words.{is_equals, value_in, value_given, is_right, wrong_place, command_of}
+use Rattle.tile_app.specs.Words.{is_equals, value_in, value_given, is_right, wrong_place, command_of, choice_given}
 use Rattle.std.proofs.lemmas.Bool.{and_parts as both_true}
 use Rattle.std.proofs.lemmas.List.{append-nil as append_nil}
 
@@ -125,7 +125,8 @@ gives command before (word ∷ after) h e =
 name_gives_nothing : (name : List ℕ) (command : Command) → command_named name ≡ Some command → HaveForms command (name ∷ [])
 name_gives_nothing name command e key value g =
     at (codes "place") Place _ refl (at (codes "neighbour") Neighbour _ refl (at (codes "walk") Walk _ refl (at (codes "draw") Draw _ refl
-    (at (codes "check") Check _ refl (at (codes "calc") Calc _ refl (at (codes "drill") Drill _ refl (at (codes "star") Star None refl (λ h. absurd (cc h))))))))) e
+    (at (codes "check") Check _ refl (at (codes "calc") Calc _ refl (at (codes "drill") Drill _ refl (at (codes "star") Star _ refl
+    (at (codes "verify") Verify None refl (λ h. absurd (cc h)))))))))) e
   where
     nothing_in : (w : List ℕ) → name ≡ w → value_given key (w ∷ []) ≡ None → has_form command key value ≡ true
     nothing_in w f h = absurd (cc (sym (subst (λ v. value_given key (v ∷ []) ≡ Some value) f g) ∙ h))
@@ -167,6 +168,21 @@ named_is_choice text e = of (bytes_eq text (codes "-"))
     of true = refl
     of false = mapped (name_in text) e
 
+-- and so it is for a built-in rule
+named-chosen : (text : List ℕ) → is_some (name_in text) ≡ true → (name : Name) × (choice_in text ≡ Some (Builtin name))
+named-chosen text e = of (bytes_eq text (codes "-")) refl
+  where
+    mapped : (o : Option Name) → is_some o ≡ true → (name : Name) × (option_map Builtin o ≡ Some (Builtin name))
+    mapped None f = absurd (cc f)
+    mapped (Some name) f = (name, refl)
+
+    never : false ≡ true → ⊥
+    never f = absurd (cc f)
+
+    of : (b : Bool) → bytes_eq text (codes "-") ≡ b → (name : Name) × (cond b (Some File) (option_map Builtin (name_in text)) ≡ Some (Builtin name))
+    of true f = absurd (never (subst (λ x. is_some (name_in x) ≡ true) ((bytes_eq-Decides text (codes "-")).0 f) e))
+    of false f = mapped (name_in text) e
+
 rule_is_choice : (command : Command) (text : List ℕ) → is_rule_for command text ≡ true → is_some (choice_in text) ≡ true
 rule_is_choice Place text e = e
 rule_is_choice Neighbour text e = e
@@ -176,6 +192,7 @@ rule_is_choice Check text e = e
 rule_is_choice Calc text e = named_is_choice text e
 rule_is_choice Drill text e = e
 rule_is_choice Star text e = e
+rule_is_choice Verify text e = named_is_choice text e
 
 -- what right words give: a rule
 pub record GivesRule (words : List (List ℕ)) : Type 0 where
@@ -197,6 +214,15 @@ GivesRule-right Check words e = let h = Gives-right Check words e in rule_given 
 GivesRule-right Calc words e = let h = Gives-right Calc words e in rule_given Calc words h.forms (both_true _ _ h.required).0
 GivesRule-right Drill words e = let h = Gives-right Drill words e in rule_given Drill words h.forms (both_true _ _ h.required).0
 GivesRule-right Star words e = let h = Gives-right Star words e in rule_given Star words h.forms (both_true _ _ h.required).0
+GivesRule-right Verify words e = let h = Gives-right Verify words e in rule_given Verify words h.forms (both_true _ _ h.required).0
+
+-- for `verify` it is a built-in one
+pub builtin-right : (words : List (List ℕ)) → command_of words ≡ Ok Verify → (name : Name) × (choice_given words ≡ Some (Builtin name))
+builtin-right words e =
+    let h = Gives-right Verify words e in
+    let rule = some_value (value_given Rule words) (both_true _ _ h.required).0 in
+    let name = named-chosen rule.0 (h.forms Rule rule.0 rule.1) in
+    (name.0, ap (option_and_then choice_in) rule.1 ∙ name.1)
 
 pub given_is_choice : (words : List (List ℕ)) (text : List ℕ) → GivesRule words → value_given Rule words ≡ Some text → is_some (choice_in text) ≡ true
 given_is_choice words text h e = let same : h.rule ≡ text = some_is h.rule text (sym h.is_rule ∙ e) in subst (λ t. is_some (choice_in t) ≡ true) same h.is_choice
@@ -220,6 +246,9 @@ GivesText-right Draw words e about =
     some_value (value_given Addr words) (both_true _ _ (both_true _ _ h.required).1).0
 GivesText-right Star words e about =
     let h = Gives-right Star words e in
+    some_value (value_given Addr words) (both_true _ _ (both_true _ _ h.required).1).0
+GivesText-right Verify words e about =
+    let h = Gives-right Verify words e in
     some_value (value_given Addr words) (both_true _ _ (both_true _ _ h.required).1).0
 GivesText-right Check words e about = absurd about
 GivesText-right Calc words e about = absurd about
@@ -247,25 +276,29 @@ vertex-right words e =
     let r = both_true _ _ (both_true _ _ h.required).1 in
     value_right Star words Vertex h.forms (both_true _ _ r.1).0
 
--- for `draw` a centre and half extents
-module _ (words : List (List ℕ)) (e : command_of words ≡ Ok Draw) where
+-- for `draw` and `verify` a centre and half extents
+module _ (words : List (List ℕ)) where
   abbrev given : Key → Bool
   given key = is_some (value_given key words)
 
-  behind_rule : given Addr && (given At && (given Half && (given Layers && true))) ≡ true
-  behind_rule = (both_true (given Rule) (given Addr && (given At && (given Half && (given Layers && true)))) (Gives-right Draw words e).required).1
+  behind_addr : (rest : Bool) → given Rule && (given Addr && (given At && (given Half && rest))) ≡ true → given At && (given Half && rest) ≡ true
+  behind_addr rest h = (both_true (given Addr) (given At && (given Half && rest)) (both_true (given Rule) (given Addr && (given At && (given Half && rest))) h).1).1
 
-  behind_addr : given At && (given Half && (given Layers && true)) ≡ true
-  behind_addr = (both_true (given Addr) (given At && (given Half && (given Layers && true))) behind_rule).1
+  at_given : (rest : Bool) → given At && (given Half && rest) ≡ true → given At ≡ true
+  at_given rest h = (both_true (given At) (given Half && rest) h).0
 
-  behind_at : given Half && (given Layers && true) ≡ true
-  behind_at = (both_true (given At) (given Half && (given Layers && true)) behind_addr).1
+  half_given : (rest : Bool) → given At && (given Half && rest) ≡ true → given Half ≡ true
+  half_given rest h = (both_true (given Half) rest (both_true (given At) (given Half && rest) h).1).0
 
-  pub at-right : GivesValue Draw words At
-  at-right = value_right Draw words At (Gives-right Draw words e).forms (both_true (given At) (given Half && (given Layers && true)) behind_addr).0
+  pub at-right : (command : Command) → command_of words ≡ Ok command → IsAboutWindow command → GivesValue command words At
+  at-right Draw e about = let h = Gives-right Draw words e in value_right Draw words At h.forms (at_given (given Layers && true) (behind_addr (given Layers && true) h.required))
+  at-right Verify e about = let h = Gives-right Verify words e in value_right Verify words At h.forms (at_given true (behind_addr true h.required))
+  at-right command e about = absurd about
 
-  pub half-right : GivesValue Draw words Half
-  half-right = value_right Draw words Half (Gives-right Draw words e).forms (both_true (given Half) (given Layers && true) behind_at).0
+  pub half-right : (command : Command) → command_of words ≡ Ok command → IsAboutWindow command → GivesValue command words Half
+  half-right Draw e about = let h = Gives-right Draw words e in value_right Draw words Half h.forms (half_given (given Layers && true) (behind_addr (given Layers && true) h.required))
+  half-right Verify e about = let h = Gives-right Verify words e in value_right Verify words Half h.forms (half_given true (behind_addr true h.required))
+  half-right command e about = absurd about
 
 pub form_is_right : (command : Command) (words : List (List ℕ)) (key : Key) (text : List ℕ) → GivesValue command words key → value_given key words ≡ Some text → has_form command key text ≡ true
 form_is_right command words key text h e = let same : h.text ≡ text = some_is h.text text (sym h.is_text ∙ e) in subst (λ t. has_form command key t ≡ true) same h.right

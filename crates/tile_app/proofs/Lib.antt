@@ -17,6 +17,8 @@ mod Walking
 mod Turned
 mod SameAddress
 mod OnePath
+mod GivenWindow
+mod Verdicts
 mod OneAnswer
 pub mod Answered
 pub mod Given

@@ -10,6 +10,7 @@ use Rattle.layer_api.specs.declared.format.Format.{Format}
 use Rattle.half_glue.specs.declared.glue_fault.GlueFault.{GlueFault}
 use Rattle.half_glue.specs.declared.glue_fault.GlueFault.TheVariants as glue
 use Rattle.rule_model.specs.Tiling.{Tiling, contacts, children}
+use Rattle.list_verify.specs.declared.list_fault.ListFault.TheVariants as listing
 use Rattle.star_walk.specs.Causes.{IsWithinLimits}
 use Rattle.window_cover.specs.declared.cover_fault.CoverFault.{CoverFault}
 use Rattle.window_cover.specs.declared.cover_fault.CoverFault.TheVariants as cover
@@ -22,11 +23,12 @@ use Rattle.tile_shape.specs.Usable.{AreUsable}
 use Rattle.tile_app.specs.declared.rule_fault.RuleFault.{RuleFault}
 use Rattle.tile_app.specs.declared.script_fault.ScriptFault.TheVariants as script
 use Rattle.tile_app.specs.declared.status.Status.{Status}
-use Rattle.tile_app.specs.declared.status.Status.TheVariants.{Done, BadWords, NoLayer, RuleTooLong, RuleRefused, BadAddress, NoEdge, NoVertex, Outside, DepthLimit, CoordLimit, TooManyTiles, StarTooBig, BadScript}
+use Rattle.tile_app.specs.declared.status.Status.TheVariants.{Done, BadWords, NoLayer, RuleTooLong, RuleRefused, BadAddress, NoEdge, NoVertex, Outside, DepthLimit, CoordLimit, TooManyTiles, StarTooBig, BadScript, BadListing}
 use Rattle.tile_app.specs.declared.words.Command.{Command}
-use Rattle.tile_app.specs.declared.words.Command.TheVariants.{Place, Neighbour, Walk, Draw, Check, Calc, Drill, Star}
-use Rattle.tile_app.specs.Answer.{OfCommand, HasAnswer, Refuses, CanBeAnswered, IsLimitOf, IsBeyond, IsBeyondLimits}
+use Rattle.tile_app.specs.declared.words.Command.TheVariants.{Place, Neighbour, Walk, Draw, Check, Calc, Drill, Star, Verify}
+use Rattle.tile_app.specs.Answer.{OfCommand, Refuses, CanBeAnswered, IsLimitOf, IsBeyond, IsBeyondLimits}
 use Rattle.tile_app.specs.Causes.{Causes}
+use Rattle.tile_app.specs.Files.{too_long_for}
 use Rattle.tile_app.specs.Neighbour.{GivesEdge, CanBeCrossed, HasNoEdge, LiesOutside}
 use Rattle.tile_place.specs.Crossed.{edges_of}
 use Rattle.lazy_walk.specs.Paths.{CanBeWalked, IsStoppedAt, LacksEdge}
@@ -36,17 +38,21 @@ use Rattle.tile_shape.specs.Views.{address_of}
 use Rattle.tile_app.proofs.OnePath.{walked_or_halted, halts_once, stopped_halts, lacking_halts, edge_is_below}
 use Rattle.tile_app.proofs.SameAddress.{same_program_address}
 use Rattle.tile_app.specs.Place.{CanBePlaced, PassesLimit}
-use Rattle.tile_app.specs.Request.{Request, Asks, tiling_asked, HasTooLongFile, HasRuleFault}
+use Rattle.tile_app.specs.Request.{Request, Asks, tiling_asked, HasTooLongFile, TellsTooLong, HasRuleFault}
 use Rattle.tile_app.specs.Tile.{GivesTile, GivesNoTile}
 use Rattle.tile_app.specs.Draw.{CanDraw, PassesLimits, EndsDrawing, EndsGluing, DrawRefuses}
 use Rattle.tile_app.specs.Glue.{IsWithinTheirLimits}
 use Rattle.tile_app.specs.Layers.{HaveLayers, lacking, lacking_for, reads_file}
 use Rattle.tile_app.specs.Star.{GivesVertex, HasStar, HasNoVertex, PassesStarLimits}
 use Rattle.tile_app.specs.Status.{IsLimit}
+use Rattle.tile_app.specs.Verify.{OneVerdictIn, BuiltinVerdictLaw}
 use Rattle.tile_app.specs.Words.{command_of}
 use Rattle.addr_calc.proofs.Faults.{OneText, fault_once}
 use Rattle.tile_app.proofs.Requested.{some_is}
-use Rattle.tile_app.proofs.Tilings.{AcceptedAreUsable, named_is_usable}
+use Rattle.tile_app.proofs.Tilings.{AcceptedAreUsable, named_is_usable, builtin-asked}
+use Rattle.tile_app.proofs.Given.{builtin-right}
+use Rattle.tile_app.proofs.Verdicts as verdicts
+use Rattle.tile_app.proofs.Verdicts.{IsFor}
 use Rattle.std.proofs.lemmas.Bool.{and_parts as both_true}
 
 -- ---- the laws from which it follows
@@ -61,15 +67,16 @@ pub record Laws : Type 0 where
   pub short : FitsAreShort
   pub usable : AcceptedAreUsable
   pub one_outcome : OneOutcome
+  pub one_verdict : BuiltinVerdictLaw
+
+-- what a command needs beyond it of the tiling: `verify` that one thing is said of a listing there
+abbrev HasVerdictFor : Command → Tiling → Type 0
+HasVerdictFor Verify t = OneVerdictIn t
+HasVerdictFor command t = Unit {0}
 
 -- a point is its coefficients
 same_point : (p q : Point) → p.c ≡ q.c → p ≡ q
 same_point p q e = ap (λ (c : List ℤ). (let s : Point = record { c = c } in s)) e
-
--- a command has something to print, where all is done, or the cause of a refusal
-abbrev IsFor : Request → Tiling → Command → Status → Type 0
-IsFor r t c Done = HasAnswer c r t
-IsFor r t c status = Refuses c r t status
 
 module _ (laws : Laws) (r : Request) (t : Tiling) (usable : AreUsable (children t)) where
   abbrev words : List (List ℕ)
@@ -408,25 +415,27 @@ module _ (laws : Laws) (r : Request) (t : Tiling) (usable : AreUsable (children 
   star_beyond StarTooBig h k = tt
   star_beyond s h k = absurd h
 
-  command_once : (c : Command) (s u : Status) → IsFor r t c s → IsFor r t c u → AreAlike c s u
-  command_once Place s u h k = inl (place_once s u h k)
-  command_once Neighbour s u h k = inl (neighbour_once s u h k)
-  command_once Walk s u h k = inl (walk_once s u h k)
-  command_once Draw s u h k = draw_once s u h k
-  command_once Check s u h k = inl (check_once s u h k)
-  command_once Calc s u h k = inl (calc_once s u h k)
-  command_once Drill s u h k = inl (drill_once s u h k)
-  command_once Star s u h k = star_once s u h k
+  command_once : (c : Command) (s u : Status) → HasVerdictFor c t → IsFor r t c s → IsFor r t c u → AreAlike c s u
+  command_once Place s u law h k = inl (place_once s u h k)
+  command_once Neighbour s u law h k = inl (neighbour_once s u h k)
+  command_once Walk s u law h k = inl (walk_once s u h k)
+  command_once Draw s u law h k = draw_once s u h k
+  command_once Check s u law h k = inl (check_once s u h k)
+  command_once Calc s u law h k = inl (calc_once s u h k)
+  command_once Drill s u law h k = inl (drill_once s u h k)
+  command_once Star s u law h k = star_once s u h k
+  command_once Verify s u law h k = verdicts.verify_once r t law same_tile tile_or_none same_fault s u h k
 
-  command_beyond : (c : Command) (s : Status) → IsFor r t c s → IsBeyond c r t → IsLimit s
-  command_beyond Draw s h k = draw_beyond s h k
-  command_beyond Star s h k = star_beyond s h k
-  command_beyond Place s h k = absurd k
-  command_beyond Neighbour s h k = absurd k
-  command_beyond Walk s h k = absurd k
-  command_beyond Check s h k = absurd k
-  command_beyond Calc s h k = absurd k
-  command_beyond Drill s h k = absurd k
+  command_beyond : (c : Command) (s : Status) → HasVerdictFor c t → IsFor r t c s → IsBeyond c r t → IsLimit s
+  command_beyond Draw s law h k = draw_beyond s h k
+  command_beyond Star s law h k = star_beyond s h k
+  command_beyond Verify s law h k = verdicts.verify_beyond r t law same_tile tile_or_none same_fault s h k
+  command_beyond Place s law h k = absurd k
+  command_beyond Neighbour s law h k = absurd k
+  command_beyond Walk s law h k = absurd k
+  command_beyond Check s law h k = absurd k
+  command_beyond Calc s law h k = absurd k
+  command_beyond Drill s law h k = absurd k
 
 -- ---- words and files
 -- a status for which no command is asked
@@ -436,6 +445,7 @@ IsEarly r (NoLayer format) = Causes r (NoLayer format)
 IsEarly r RuleTooLong = Causes r RuleTooLong
 IsEarly r (RuleRefused fault) = Causes r (RuleRefused fault)
 IsEarly r (BadScript script.TooLong) = Causes r (BadScript script.TooLong)
+IsEarly r (BadListing listing.TooLong) = TellsTooLong r (BadListing listing.TooLong)
 IsEarly r status = ⊥
 
 right_or_wrong : (r : Request) (c : Command) (place : ℕ) → command_of r.words ≡ Ok c → command_of r.words ≡ Err place → ⊥
@@ -487,37 +497,44 @@ module _ (r : Request) where
   refused_or_long : (x : RuleFault) → HasRuleFault r x → HasTooLongFile r → ⊥
   refused_or_long x h k = long_or_not _ (length r.file) k.1 h.not_too_long
 
+  -- by one status it is told
+  told_once : (s u : Status) → TellsTooLong r s → TellsTooLong r u → s ≡ u
+  told_once s u h k = h.3 ∙ ap too_long_for (command_is h.1 k.1 (command_of r.words) h.2 k.2) ∙ sym k.3
+
+  long_once : (s u : Status) → TellsTooLong r s → IsEarly r u → s ≡ u
+  long_once s (BadWords q) h k = absurd (wrong_or_long q k h.0)
+  long_once s (NoLayer f) h k = absurd (lacking_or_long f k h.0)
+  long_once s (RuleRefused x) h k = absurd (refused_or_long x k h.0)
+  long_once s RuleTooLong h k = told_once s RuleTooLong h k
+  long_once s (BadScript script.TooLong) h k = told_once s (BadScript script.TooLong) h k
+  long_once s (BadListing listing.TooLong) h k = told_once s (BadListing listing.TooLong) h k
+  long_once s u h k = absurd k
+
   early_once : (s u : Status) → IsEarly r s → IsEarly r u → s ≡ u
   early_once (BadWords p) (BadWords q) h k = ap (λ n. BadWords n) (place_is p q (command_of r.words) h k)
   early_once (BadWords p) (NoLayer f) h k = absurd (lacking_or_wrong r.words r.handed p f h k)
-  early_once (BadWords p) RuleTooLong h k = absurd (wrong_or_long p h k.0)
   early_once (BadWords p) (RuleRefused x) h k = absurd (right_or_wrong r k.right.0 p k.right.1 h)
+  early_once (BadWords p) RuleTooLong h k = absurd (wrong_or_long p h k.0)
   early_once (BadWords p) (BadScript script.TooLong) h k = absurd (wrong_or_long p h k.0)
+  early_once (BadWords p) (BadListing listing.TooLong) h k = absurd (wrong_or_long p h k.0)
   early_once (BadWords p) u h k = absurd k
   early_once (NoLayer f) (BadWords q) h k = absurd (lacking_or_wrong r.words r.handed q f k h)
   early_once (NoLayer f) (NoLayer g) h k = ap (λ x. NoLayer x) (some_is f g (sym h ∙ k))
-  early_once (NoLayer f) RuleTooLong h k = absurd (lacking_or_long f h k.0)
   early_once (NoLayer f) (RuleRefused x) h k = absurd (has_or_lacks f (lacking r.words r.handed) k.layers h)
+  early_once (NoLayer f) RuleTooLong h k = absurd (lacking_or_long f h k.0)
   early_once (NoLayer f) (BadScript script.TooLong) h k = absurd (lacking_or_long f h k.0)
+  early_once (NoLayer f) (BadListing listing.TooLong) h k = absurd (lacking_or_long f h k.0)
   early_once (NoLayer f) u h k = absurd k
-  early_once RuleTooLong (BadWords q) h k = absurd (wrong_or_long q k h.0)
-  early_once RuleTooLong (NoLayer f) h k = absurd (lacking_or_long f k h.0)
-  early_once RuleTooLong RuleTooLong h k = refl
-  early_once RuleTooLong (RuleRefused x) h k = absurd (refused_or_long x k h.0)
-  early_once RuleTooLong (BadScript script.TooLong) h k = absurd (h.1 k.1)
-  early_once RuleTooLong u h k = absurd k
   early_once (RuleRefused x) (BadWords q) h k = absurd (right_or_wrong r h.right.0 q h.right.1 k)
   early_once (RuleRefused x) (NoLayer f) h k = absurd (has_or_lacks f (lacking r.words r.handed) h.layers k)
-  early_once (RuleRefused x) RuleTooLong h k = absurd (refused_or_long x h k.0)
   early_once (RuleRefused x) (RuleRefused y) h k = ap (λ z. RuleRefused z) (fault_is x y (tiling_asked r) h.first k.first)
+  early_once (RuleRefused x) RuleTooLong h k = absurd (refused_or_long x h k.0)
   early_once (RuleRefused x) (BadScript script.TooLong) h k = absurd (refused_or_long x h k.0)
+  early_once (RuleRefused x) (BadListing listing.TooLong) h k = absurd (refused_or_long x h k.0)
   early_once (RuleRefused x) u h k = absurd k
-  early_once (BadScript script.TooLong) (BadWords q) h k = absurd (wrong_or_long q k h.0)
-  early_once (BadScript script.TooLong) (NoLayer f) h k = absurd (lacking_or_long f k h.0)
-  early_once (BadScript script.TooLong) RuleTooLong h k = absurd (k.1 h.1)
-  early_once (BadScript script.TooLong) (RuleRefused x) h k = absurd (refused_or_long x k h.0)
-  early_once (BadScript script.TooLong) (BadScript script.TooLong) h k = refl
-  early_once (BadScript script.TooLong) u h k = absurd k
+  early_once RuleTooLong u h k = long_once RuleTooLong u h k
+  early_once (BadScript script.TooLong) u h k = long_once (BadScript script.TooLong) u h k
+  early_once (BadListing listing.TooLong) u h k = long_once (BadListing listing.TooLong) u h k
   early_once s u h k = absurd h
 
   early_or_asks : (s : Status) (c : Command) (t : Tiling) → IsEarly r s → Asks r c t → ⊥
@@ -525,6 +542,7 @@ module _ (r : Request) where
   early_or_asks (NoLayer f) c t h k = has_or_lacks f (lacking r.words r.handed) k.layers h
   early_or_asks RuleTooLong c t h k = long_or_not _ (length r.file) h.0.1 k.names.not_too_long
   early_or_asks (BadScript script.TooLong) c t h k = long_or_not _ (length r.file) h.0.1 k.names.not_too_long
+  early_or_asks (BadListing listing.TooLong) c t h k = long_or_not _ (length r.file) h.0.1 k.names.not_too_long
   early_or_asks (RuleRefused x) c t h k = either t x (tiling_asked r) k.names.chosen h.first
   early_or_asks s c t h k = h
 
@@ -549,6 +567,7 @@ module _ (r : Request) where
       none Calc t k = k
       none Drill t k = k
       none Star t k = k
+      none Verify t k = k
 
   pub outcome_of : (s : Status) → Causes r s → Outcome s
   outcome_of Done h = absurd (no_cause h)
@@ -564,6 +583,7 @@ module _ (r : Request) where
   early_or_command RuleTooLong h = inl h
   early_or_command (RuleRefused x) h = inl h
   early_or_command (BadScript script.TooLong) h = inl h
+  early_or_command (BadListing listing.TooLong) h = h
   early_or_command s h = inr h
 
   -- one command and one tiling are asked
@@ -572,13 +592,20 @@ module _ (r : Request) where
       subst (λ x. IsFor r x c s) (tiling_is h.tiling t (tiling_asked r) h.asks.names.chosen k.names.chosen)
       (subst (λ d. IsFor r h.tiling d s) (command_is h.command c (command_of r.words) h.asks.right k.right) h.holds)
 
+  -- `verify` is asked of the tiling of a built-in rule
+  has_verdict : (laws : Laws) (c : Command) (t : Tiling) → Asks r c t → HasVerdictFor c t
+  has_verdict laws Verify t asks =
+      let chosen = builtin-right r.words asks.right in
+      subst OneVerdictIn (builtin-asked r chosen.0 t chosen.1 asks.names.chosen) (laws.one_verdict chosen.0)
+  has_verdict laws c t asks = tt
+
   -- the two are the same, or both are limits of the window that is asked for
   abbrev pub AreOne : Status → Status → Type 0
   AreOne s u = (s ≡ u) ⊎ ((c : Command) × (command_of r.words ≡ Ok c) × IsLimitOf c s × IsLimitOf c u)
 
   asked_once : (laws : Laws) (s u : Status) → IsOfCommand s → IsOfCommand u → AreOne s u
   asked_once laws s u h k =
-      elim (command_once laws r k.tiling (named_is_usable laws.usable r k.tiling k.asks.names.chosen) k.command s u (for_asked k.command k.tiling s k.asks h) k.holds) [
+      elim (command_once laws r k.tiling (named_is_usable laws.usable r k.tiling k.asks.names.chosen) k.command s u (has_verdict laws k.command k.tiling k.asks) (for_asked k.command k.tiling s k.asks h) k.holds) [
         | inl e ↦ inl e
         | inr l ↦ inr (k.command, k.asks.right, l.0, l.1)
       ]
@@ -588,7 +615,7 @@ module _ (r : Request) where
   limit_beyond laws s h k =
       elim (early_or_command s h) [
         | inl e ↦ absurd (early_or_asks s k.command k.tiling e k.asks)
-        | inr e ↦ command_beyond laws r k.tiling (named_is_usable laws.usable r k.tiling k.asks.names.chosen) k.command s (for_asked k.command k.tiling s k.asks e) k.holds
+        | inr e ↦ command_beyond laws r k.tiling (named_is_usable laws.usable r k.tiling k.asks.names.chosen) k.command s (has_verdict laws k.command k.tiling k.asks) (for_asked k.command k.tiling s k.asks e) k.holds
       ]
 
   pub one_answer : (laws : Laws) (s u : Status) → Outcome s → Outcome u → AreOne s u

@@ -1,5 +1,5 @@
 -- The tilings that are named: of a rule that is made for a name, of one that is read, and of which child kinds.
-use Rattle.std.proofs.Common.{◌≡◌, ◌≤◌, ℕ, List, length, nat_le, nat_lt, Result, Ok, Err, Some, None, IsTrue, refl, ap, ◌∙◌, subst, lit≤}
+use Rattle.std.proofs.Common.{◌≡◌, ◌≤◌, ℕ, List, length, nat_le, nat_lt, Result, Ok, Err, Some, None, IsTrue, refl, sym, ap, ◌∙◌, subst, lit≤}
 use Rattle.std.specs.declared.option.Option.{Option}
 use Rattle.std.specs.List.{list_all, range_with_len}
 use Rattle.std.specs.Option.{option_map}
@@ -77,3 +77,10 @@ named_is_usable law r t h = at_choice (choice_given r.words) h
     at_choice : (o : Option RuleChoice) → option_map (tiling_chosen r.file) o ≡ Some (Ok t) → AreUsable (child_kinds t.rule)
     at_choice None e = absurd (cc e)
     at_choice (Some choice) e = chosen_is_usable law r.file t choice (some_is (tiling_chosen r.file choice) (Ok t) e)
+
+-- where a built-in rule is chosen its tiling is named
+pub builtin-asked : (r : Request) (name : Name) (t : Tiling) → choice_given r.words ≡ Some (Builtin name) → tiling_asked r ≡ Some (Ok t) → builtin_tiling name ≡ t
+builtin-asked r name t chosen asked = tiling (sym (ap (option_map (tiling_chosen r.file)) chosen) ∙ asked)
+  where
+    tiling : (let o : Option (Result Tiling RuleFault) = Some (Ok (builtin_tiling name)) in o) ≡ Some (Ok t) → builtin_tiling name ≡ t
+    tiling e = cc

@@ -4,7 +4,7 @@ use Rattle.std.specs.declared.option.Option.{Option}
 use Rattle.std.specs.Option.{option_and_then}
 use Rattle.std.specs.Str.{bytes_eq}
 use Rattle.tile_app.specs.declared.words.Command.{Command}
-use Rattle.tile_app.specs.declared.words.Command.TheVariants.{Place, Neighbour, Walk, Draw, Check, Calc, Drill, Star}
+use Rattle.tile_app.specs.declared.words.Command.TheVariants.{Place, Neighbour, Walk, Draw, Check, Calc, Drill, Star, Verify}
 use Rattle.tile_app.specs.declared.words.Key.{Key}
 use Rattle.tile_app.specs.declared.words.Key.TheVariants.{Rule, Addr, Edge, Seed, Grow, Path, At, Half, Layers, Glue, Count, Vertex}
 use Rattle.tile_app.specs.Choices.{choice_in}
@@ -43,7 +43,8 @@ command_named word =
     if bytes_eq word (codes "check") then Some Check else
     if bytes_eq word (codes "calc") then Some Calc else
     if bytes_eq word (codes "drill") then Some Drill else
-    if bytes_eq word (codes "star") then Some Star else None
+    if bytes_eq word (codes "star") then Some Star else
+    if bytes_eq word (codes "verify") then Some Verify else None
 
 -- the keys of a command
 abbrev pub keys_of : Command → List Key
@@ -55,6 +56,7 @@ keys_of Check = Rule ∷ []
 keys_of Calc = Rule ∷ []
 keys_of Drill = Rule ∷ Count ∷ Seed ∷ []
 keys_of Star = Rule ∷ Addr ∷ Vertex ∷ Seed ∷ []
+keys_of Verify = Rule ∷ Addr ∷ At ∷ Half ∷ Seed ∷ []
 
 -- the keys that a command can't do without
 abbrev pub required_keys : Command → List Key
@@ -66,6 +68,7 @@ required_keys Check = Rule ∷ []
 required_keys Calc = Rule ∷ []
 required_keys Drill = Rule ∷ Count ∷ []
 required_keys Star = Rule ∷ Addr ∷ Vertex ∷ []
+required_keys Verify = Rule ∷ Addr ∷ At ∷ Half ∷ []
 
 -- the most windows of a drill
 abbrev pub most_windows : ℕ
@@ -75,9 +78,11 @@ most_windows = 200
 abbrev pub windows_in : List ℕ → Option ℕ
 windows_in text = option_and_then (λ n. if nat_le 1 n then Some n else None) (number_up_to most_windows text)
 
--- whether a text is a rule for a command: one of the names known, or `-`, but for `calc`, which has a script read where the others may have a rule file
+-- whether a text is a rule for a command: one of the names known, or `-`, but for `calc` and `verify`, which have a script or a listing read where the others may
+-- have a rule file
 abbrev pub is_rule_for : Command → List ℕ → Bool
 is_rule_for Calc value = is_some (name_in value)
+is_rule_for Verify value = is_some (name_in value)
 is_rule_for command value = is_some (choice_in value)
 
 -- whether a value has the form of its key for a command: a rule is one that the command takes, an address any text, an edge or a vertex a number from 0 to 255, a start number
@@ -107,3 +112,10 @@ IsAboutTile Check = ⊥
 IsAboutTile Calc = ⊥
 IsAboutTile Drill = ⊥
 IsAboutTile Star = Unit {0}
+IsAboutTile Verify = Unit {0}
+
+-- a command that asks about a window, by its centre and its half extents
+abbrev pub IsAboutWindow : Command → Type 0
+IsAboutWindow Draw = Unit {0}
+IsAboutWindow Verify = Unit {0}
+IsAboutWindow _ = ⊥

@@ -1,13 +1,13 @@
 -- Whether a layer is handed in for each format that the words ask for.
-use Rattle.std.specs.Prelude.{◌≡◌, ℕ, Bool, true, false, ◌&&◌, ◌||◌, List, [], None, Some, Ok, Err, Result, is_ok, is_none}
+use Rattle.std.specs.Prelude.{◌≡◌, ℕ, Bool, false, ◌&&◌, List, [], None, Some, Ok, Err, Result, is_ok, is_none}
 use Rattle.std.specs.declared.option.Option.{Option}
 use Rattle.std.specs.Option.{option_and_then, option_map_or}
 use Rattle.tile_app.specs.declared.rule_choice.RuleChoice.{RuleChoice}
 use Rattle.layer_api.specs.declared.format.Format.{Format}
 use Rattle.tile_app.specs.declared.words.Command.{Command}
-use Rattle.tile_app.specs.declared.words.Command.TheVariants.{Draw, Calc}
+use Rattle.tile_app.specs.declared.words.Command.TheVariants.{Draw}
 use Rattle.tile_app.specs.declared.words.Key.TheVariants.{Layers}
-use Rattle.tile_app.specs.Choices.{is_file}
+use Rattle.tile_app.specs.Files.{has_file, longest_of}
 use Rattle.tile_app.specs.FormatWords.{formats_in, first_lacking}
 use Rattle.tile_app.specs.Words.{value_given, command_of, choice_given}
 
@@ -32,19 +32,15 @@ lacking words handed = lacking_for words handed (command_of words)
 abbrev pub HaveLayers : List (List ℕ) → List Format → Type 0
 HaveLayers words handed = lacking words handed ≡ None
 
--- the command has a script read: `calc` alone does
-abbrev pub is_script : Command → Bool
-is_script Calc = true
-is_script command = false
-
--- the command has a file read, where this rule is chosen: a script, or that of the rule
-abbrev pub has_file : Command → RuleChoice → Bool
-has_file command choice = is_script command || is_file choice
-
-abbrev pub has_file_in : Result Command ℕ → Option RuleChoice → Bool
-has_file_in (Ok command) (Some choice) = has_file command choice
-has_file_in _ _ = false
+-- the words have a file read, for this command and this rule
+abbrev pub has_file_in : List (List ℕ) → Result Command ℕ → Option RuleChoice → Bool
+has_file_in words (Ok command) (Some choice) = has_file words command choice
+has_file_in words _ _ = false
 
 -- the words are right, each format that they ask for has a layer, and they have a file read
 abbrev pub reads_file : List (List ℕ) → List Format → Bool
-reads_file words handed = is_ok (command_of words) && (is_none (lacking words handed) && has_file_in (command_of words) (choice_given words))
+reads_file words handed = is_ok (command_of words) && (is_none (lacking words handed) && has_file_in words (command_of words) (choice_given words))
+
+-- the most bytes of the file that they have read
+abbrev pub longest_read : List (List ℕ) → ℕ
+longest_read words = longest_of (command_of words)

@@ -6,10 +6,11 @@ pub mod WindowWords
 pub mod FormatWords
 pub mod Commands
 pub mod Words
+pub mod Tile
+pub mod Files
 pub mod Layers
 pub mod Request
 pub mod Asked
-pub mod Tile
 pub mod Place
 pub mod Neighbour
 pub mod Walk
@@ -22,6 +23,7 @@ pub mod Check
 pub mod Calc
 pub mod Drill
 pub mod Star
+pub mod Verify
 pub mod Answer
 pub mod RuleFaultText
 pub mod ScriptFaultText

@@ -8,8 +8,9 @@ use Rattle.tile_io.specs.Taken.{Takes}
 use Rattle.tile_shape.specs.FaultText.{address_fault_text}
 use Rattle.tile_shape.specs.Text.{address_text}
 use Rattle.tile_shape.specs.Views.{address_of}
+use Rattle.list_verify.specs.FaultText.{list_fault_text}
 use Rattle.tile_app.specs.declared.status.Status.{Status}
-use Rattle.tile_app.specs.declared.status.Status.TheVariants.{Done, BadWords, NoLayer, ReadFault, RuleTooLong, RuleRefused, BadAddress, NoEdge, NoVertex, Outside, DepthLimit, CoordLimit, TooManyTiles, StarTooBig, BadScript, WriteFault, NoMemory}
+use Rattle.tile_app.specs.declared.status.Status.TheVariants.{Done, BadWords, NoLayer, ReadFault, RuleTooLong, RuleRefused, BadAddress, NoEdge, NoVertex, Outside, DepthLimit, CoordLimit, TooManyTiles, StarTooBig, BadScript, BadListing, WriteFault, NoMemory}
 use Rattle.tile_app.specs.FormatWords.{format_text}
 use Rattle.tile_app.specs.RuleFaultText.{rule_fault_text}
 use Rattle.tile_app.specs.ScriptFaultText.{script_fault_text}
@@ -32,6 +33,7 @@ status_text (CoordLimit value) = codes "CoordLimit " ++ point_text value
 status_text TooManyTiles = codes "TooManyTiles"
 status_text StarTooBig = codes "StarTooBig"
 status_text (BadScript fault) = codes "BadScript " ++ script_fault_text fault
+status_text (BadListing fault) = codes "BadListing " ++ list_fault_text fault
 status_text WriteFault = codes "WriteFault"
 status_text NoMemory = codes "NoMemory"
 

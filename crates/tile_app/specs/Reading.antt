@@ -1,28 +1,29 @@
 -- What the reading of a file is refused for, and the rule that is chosen with it.
-use Rattle.std.specs.Prelude.{◌≡◌, ℕ, ◌<◌, List, length, Err}
+use Rattle.std.specs.Prelude.{◌≡◌, ℕ, ◌<◌, false, List, length, Err}
 use Rattle.std.specs.declared.option.Option.{Option}
-use Rattle.rule_text.specs.Limits.{longest_file}
 use Rattle.tile_app.specs.declared.rule_choice.RuleChoice.{RuleChoice}
-use Rattle.tile_app.specs.declared.script_fault.ScriptFault.TheVariants as script
+use Rattle.tile_app.specs.declared.rule_choice.RuleChoice.TheVariants.{Builtin}
 use Rattle.tile_app.specs.declared.status.Status.{Status}
-use Rattle.tile_app.specs.declared.status.Status.TheVariants.{ReadFault, RuleTooLong, RuleRefused, BadScript, NoMemory}
+use Rattle.tile_app.specs.declared.status.Status.TheVariants.{ReadFault, RuleRefused, BadAddress, NoMemory}
 use Rattle.tile_app.specs.declared.words.Command.{Command}
-use Rattle.tile_app.specs.declared.words.Command.TheVariants.{Calc}
 use Rattle.tile_app.specs.Asked.{WasRead}
 use Rattle.tile_app.specs.Choices.{tiling_chosen}
+use Rattle.tile_app.specs.Files.{name_tile, longest_for, too_long_for}
 use Rattle.tile_app.specs.RuleFiles.{tiling_in_file}
 use Rattle.tile_app.specs.Status.{IsTrueFault}
+use Rattle.tile_app.specs.Tile.{GivesNoTile}
+use Rattle.tile_app.specs.Tilings.{builtin_tiling}
 
--- that a file is too long: the script of `calc`, or a rule file
-abbrev pub too_long_for : Command → Status
-too_long_for Calc = BadScript script.TooLong
-too_long_for command = RuleTooLong
+-- why no file is read for a built-in rule that is chosen: the words name no tile of it, for this fault of the address
+abbrev pub NamesNoTile : List (List ℕ) → RuleChoice → Status → Type 0
+NamesNoTile words (Builtin name) (BadAddress fault) = (name_tile words (Builtin name) ≡ false) × GivesNoTile words (builtin_tiling name) fault
+NamesNoTile words choice status = ⊥
 
 -- why the reading of a command's file is refused, from a source that had some bytes left and now has the rest
 abbrev pub IsReadingRefused : Command → Option (List ℕ) → Option (List ℕ) → Status → Type 0
 IsReadingRefused command left rest NoMemory = Unit {0}
 IsReadingRefused command left rest ReadFault = Unit {0}
-IsReadingRefused command left rest status = (status ≡ too_long_for command) × (file : List ℕ) × WasRead left rest file × (longest_file < length file)
+IsReadingRefused command left rest status = (status ≡ too_long_for command) × (file : List ℕ) × WasRead (longest_for command) left rest file × (longest_for command < length file)
 
 -- why the bytes of a rule file are refused
 abbrev pub IsFileRefused : List ℕ → Status → Type 0

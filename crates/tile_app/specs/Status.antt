@@ -1,11 +1,12 @@
 -- How a call ended: the exit code of each status, and what kind of answer it is.
 use Rattle.std.specs.Prelude.{ℕ}
 use Rattle.dissect_check.specs.declared.check_fault.CheckFault.TheVariants as check
+use Rattle.list_verify.specs.declared.list_fault.ListFault.TheVariants as listing
 use Rattle.rule_text.specs.declared.text_fault.TextFault.TheVariants as text
 use Rattle.tile_app.specs.declared.rule_fault.RuleFault.{RuleFault}
 use Rattle.tile_app.specs.declared.rule_fault.RuleFault.TheVariants.{Text, Check}
 use Rattle.tile_app.specs.declared.status.Status.{Status}
-use Rattle.tile_app.specs.declared.status.Status.TheVariants.{Done, BadWords, NoLayer, ReadFault, RuleTooLong, RuleRefused, BadAddress, NoEdge, NoVertex, Outside, DepthLimit, CoordLimit, TooManyTiles, StarTooBig, BadScript, WriteFault, NoMemory}
+use Rattle.tile_app.specs.declared.status.Status.TheVariants.{Done, BadWords, NoLayer, ReadFault, RuleTooLong, RuleRefused, BadAddress, NoEdge, NoVertex, Outside, DepthLimit, CoordLimit, TooManyTiles, StarTooBig, BadScript, BadListing, WriteFault, NoMemory}
 
 -- the exit code of the program
 abbrev pub code_of : Status → ℕ
@@ -26,6 +27,7 @@ code_of (BadScript fault) = 13
 code_of (NoLayer format) = 14
 code_of (NoVertex vertex edges) = 15
 code_of StarTooBig = 16
+code_of (BadListing fault) = 17
 
 -- every refusal but a fault of the sink
 abbrev pub IsRefusal : Status → Type 0
@@ -39,12 +41,14 @@ IsCutShort ReadFault = Unit {0}
 IsCutShort NoMemory = Unit {0}
 IsCutShort _ = ⊥
 
--- too great a depth, too large a coefficient, or too many tiles, in a window or round a vertex
+-- too great a depth, too large a coefficient, or too many tiles, in a window or round a vertex; or a tile of a window that a listing lacks, or has in another place
 abbrev pub IsLimit : Status → Type 0
 IsLimit (DepthLimit addr edge) = Unit {0}
 IsLimit (CoordLimit value) = Unit {0}
 IsLimit TooManyTiles = Unit {0}
 IsLimit StarTooBig = Unit {0}
+IsLimit (BadListing (listing.Missing addr)) = Unit {0}
+IsLimit (BadListing (listing.WrongPlace line motion)) = Unit {0}
 IsLimit _ = ⊥
 
 -- the status is want of memory, or it has this cause

@@ -1,8 +1,10 @@
 -- The tile that a request is about: its words give the text of an address, or a text that is none.
-use Rattle.std.specs.Prelude.{◌≡◌, ℕ, List, Some}
+use Rattle.std.specs.Prelude.{◌≡◌, ℕ, Bool, false, List, Some, is_ok}
+use Rattle.std.specs.Option.{option_map_or}
 use Rattle.addressing.specs.Address.{Address}
 use Rattle.rule_model.specs.Tiling.{Tiling, children}
 use Rattle.tile_shape.specs.Accepted.{IsAcceptedAddress}
+use Rattle.tile_shape.specs.AddressIn.{address_in}
 use Rattle.tile_shape.specs.declared.address_fault.AddressFault.{AddressFault}
 use Rattle.tile_shape.specs.Refused.{IsFaultOf}
 use Rattle.tile_shape.specs.Text.{address_text}
@@ -24,3 +26,7 @@ pub record GivesNoTile (words : List (List ℕ)) (t : Tiling) (fault : AddressFa
   pub given : value_given Addr words ≡ Some text
   pub none : IsNoAddress t text
   pub first : IsFaultOf (children t) text fault
+
+-- whether the words give the address of a tile of the tiling, as a test that computes
+abbrev pub gives_tile : Tiling → List (List ℕ) → Bool
+gives_tile t words = option_map_or (λ text. is_ok (address_in (children t) text)) (value_given Addr words) false

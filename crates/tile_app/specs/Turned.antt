@@ -1,4 +1,6 @@
 -- The statuses that the faults of calls below turn into.
+use Rattle.list_verify.specs.declared.list_fault.ListFault.{ListFault}
+use Rattle.list_verify.specs.declared.list_fault.ListFault.TheVariants as listing
 use Rattle.rule_text.specs.declared.text_fault.TextFault.{TextFault}
 use Rattle.rule_text.specs.declared.text_fault.TextFault.TheVariants as text
 use Rattle.dissect_check.specs.declared.check_fault.CheckFault.{CheckFault}
@@ -6,7 +8,7 @@ use Rattle.dissect_check.specs.declared.check_fault.CheckFault.TheVariants as ch
 use Rattle.tile_app.specs.declared.rule_fault.RuleFault.TheVariants.{Text, Check}
 use Rattle.tile_app.specs.declared.script_fault.ScriptFault.TheVariants.{Calc}
 use Rattle.tile_app.specs.declared.status.Status.{Status}
-use Rattle.tile_app.specs.declared.status.Status.TheVariants.{RuleRefused, NoEdge, DepthLimit, CoordLimit, TooManyTiles, StarTooBig, BadScript, NoMemory}
+use Rattle.tile_app.specs.declared.status.Status.TheVariants.{RuleRefused, NoEdge, DepthLimit, CoordLimit, TooManyTiles, StarTooBig, BadScript, BadListing, NoMemory}
 use Rattle.lazy_walk.specs.declared.path_fault.PathFault.{PathFault}
 use Rattle.lazy_walk.specs.declared.path_fault.PathFault.TheVariants as walking
 use Rattle.window_cover.specs.declared.cover_fault.CoverFault.{CoverFault}
@@ -55,3 +57,10 @@ status_of_star turning.TooBig = StarTooBig
 abbrev pub status_of_calc : CalcFault → Status
 status_of_calc calculating.NoMemory = NoMemory
 status_of_calc e = BadScript (Calc e)
+
+-- of a listing
+abbrev pub status_of_list : ListFault → Status
+status_of_list (listing.DepthLimit addr edge) = DepthLimit addr edge
+status_of_list (listing.CoordLimit value) = CoordLimit value
+status_of_list listing.NoMemory = NoMemory
+status_of_list e = BadListing e

@@ -11,7 +11,7 @@ use Rattle.tile_app.specs.declared.words.Command.{Command}
 use Rattle.tile_app.specs.declared.words.Key.{Key}
 use Rattle.tile_app.specs.declared.words.Key.TheVariants.{Rule}
 use Rattle.tile_app.specs.Choices.{choice_in}
-use Rattle.tile_app.specs.Commands.{key_text, command_named, keys_of, required_keys, has_form, IsAboutTile}
+use Rattle.tile_app.specs.Commands.{key_text, command_named, keys_of, required_keys, has_form, IsAboutTile, IsAboutWindow}
 
 -- the words as their bytes
 abbrev pub texts : {A : Type 0} → List (String A) → List (List ℕ)
@@ -59,3 +59,7 @@ choice_given words = option_and_then choice_in (value_given Rule words)
 -- the words are right and have a command that asks about a tile
 abbrev pub AskAboutTile : List (List ℕ) → Type 0
 AskAboutTile words = (command : Command) × (command_of words ≡ Ok command) × IsAboutTile command
+
+-- or one that asks about a window
+abbrev pub AskAboutWindow : List (List ℕ) → Type 0
+AskAboutWindow words = (command : Command) × (command_of words ≡ Ok command) × IsAboutWindow command

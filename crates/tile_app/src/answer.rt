@@ -1,11 +1,11 @@
 //! The text that answers a request, or why there is none.
 ghost use Rattle.std.specs.Prelude.{◌≡◌, ◌≤◌, false, length, map, Ok, IfOk, IfErr, IsErrOf, is_ok, string_bytes};
 ghost use Rattle.rule_model.specs.Tiling.{tiling_of};
-ghost use Rattle.rule_text.specs.Limits.{longest_file};
 ghost use Rattle.tile_io.specs.Causes.{Rose};
 ghost use Rattle.tile_app.specs.Answer.{IsPrinted, Prints, Refuses};
 ghost use Rattle.tile_app.specs.Asked.{OfRequest};
 ghost use Rattle.tile_app.specs.Causes.{IsRefused};
+ghost use Rattle.tile_app.specs.Files.{longest_for};
 ghost use Rattle.tile_app.specs.Layers.{HaveLayers, reads_file};
 ghost use Rattle.tile_app.specs.Request.{request_of};
 ghost use Rattle.tile_app.specs.Status.{OrNoMemory};
@@ -15,13 +15,14 @@ use crate::calc::calc_text;
 use crate::check::check_text;
 use crate::draw::draw_text;
 use crate::drill::drill_text;
-use crate::file_given::file_given;
+use crate::file_given::{file_given, has_file};
 use crate::layers::lacking;
 use crate::neighbour::neighbour_text;
 use crate::place::place_text;
 use crate::rule_given::{choice_given, rule_chosen};
 use crate::star::star_text;
 use crate::status::Status;
+use crate::verify::verify_text;
 use crate::walk::walk_text;
 use crate::words::{Command, command_of};
 use edge_tables::steps::Steps;
@@ -56,7 +57,7 @@ fn machine_text<D: Layer, L: Ledger>(
 ) -> Result<Vec<u8>, Status>
     requires right { command_of (texts words.now) ≡ Ok command }
     requires have_layers { HaveLayers (texts words.now) (map D.form layers.old) }
-    requires at_most_a_mebibyte { length file.now ≤ longest_file }
+    requires not_too_long { length file.now ≤ longest_for command }
     ensures printed { IfOk result (λ text. IsPrinted command (request_of (texts words.now) (map D.form layers.old) file.now) (tiling_of machine.now) text.items) }
     ensures refused { IfErr result (OrNoMemory (Refuses command (request_of (texts words.now) (map D.form layers.old) file.now) (tiling_of machine.now))) }
 {
@@ -69,6 +70,7 @@ fn machine_text<D: Layer, L: Ledger>(
         Command::Calc => calc_text(alloc, machine, file),
         Command::Drill => bytes_of(drill_text(alloc, machine, words)),
         Command::Star => bytes_of(star_text(alloc, machine, words, steps)),
+        Command::Verify => bytes_of(verify_text(alloc, machine, words, file)),
     }
 }
 
@@ -85,7 +87,7 @@ fn command_text<D: Layer, L: Ledger>(
 ) -> Result<Vec<u8>, Status>
     requires right { command_of (texts words.now) ≡ Ok command }
     requires have_layers { HaveLayers (texts words.now) (map D.form layers.old) }
-    requires at_most_a_mebibyte { length file.now ≤ longest_file }
+    requires not_too_long { length file.now ≤ longest_for command }
     ensures printed { IfOk result (λ text. IsPrinted command (request_of (texts words.now) (map D.form layers.old) file.now) (tiling_of checked) text.items) }
     ensures refused { IfErr result (OrNoMemory (Refuses command (request_of (texts words.now) (map D.form layers.old) file.now) (tiling_of checked))) }
 {
@@ -100,7 +102,8 @@ fn command_text<D: Layer, L: Ledger>(
 }
 
 /// The whole text that answers the request, or its refusal. The source is read where the words are right, each
-/// format that they ask for has a layer, and they choose the rule of a file or have a script read.
+/// format that they ask for has a layer, and they choose the rule of a file, have a script read, or have a listing read
+/// and name a tile.
 pub fn answer_text<R: Source, D: Layer, L: Ledger>(
     alloc: Global,
     words: &[String],
@@ -122,7 +125,8 @@ pub fn answer_text<R: Source, D: Layer, L: Ledger>(
         return Err(Status::NoLayer { format });
     }
     let choice = choice_given(words);
-    let file = file_given(alloc, command, choice, source)?;
+    let reads = has_file(alloc, command, choice, words)?;
+    let file = file_given(alloc, command, reads, source)?;
     let checked = rule_chosen(alloc, choice, file.as_slice())?;
     command_text(
         alloc,

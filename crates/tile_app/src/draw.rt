@@ -13,7 +13,7 @@ ghost use Rattle.tile_app.specs.Layers.{HaveLayers};
 ghost use Rattle.tile_app.specs.Pictured.{picture_of, CanBePictured, Begins};
 ghost use Rattle.tile_app.specs.Status.{OrNoMemory};
 ghost use Rattle.tile_app.specs.WindowWords.{FitWindow};
-ghost use Rattle.tile_app.specs.Words.{texts, command_of};
+ghost use Rattle.tile_app.specs.Words.{texts, command_of, AskAboutWindow};
 
 use crate::drawn_tile::blank;
 use crate::layers::{formats_given, place_of};
@@ -42,7 +42,7 @@ use window_cover::tiles_of_window::{cover, covered_tiles};
 
 /// The centre that right words give, still to be reduced.
 fn at_given(words: &[String]) -> Point
-    requires right { command_of (texts words.now) ≡ Ok Draw }
+    requires right { AskAboutWindow (texts words.now) }
     ensures given { at_given (texts words.now) ≡ Some result }
     ensures within { IsWithin (2 ^ 20) result }
 {
@@ -52,7 +52,7 @@ fn at_given(words: &[String]) -> Point
 
 /// The half extents that right words give.
 fn half_given(words: &[String]) -> HalfExtents
-    requires right { command_of (texts words.now) ≡ Ok Draw }
+    requires right { AskAboutWindow (texts words.now) }
     ensures given { half_given (texts words.now) ≡ Some result }
     ensures fit { FitWindow result }
 {
@@ -61,8 +61,8 @@ fn half_given(words: &[String]) -> HalfExtents
 }
 
 /// The window that right words give.
-fn window_given(order: Order, words: &[String]) -> Window
-    requires right { command_of (texts words.now) ≡ Ok Draw }
+pub fn window_given(order: Order, words: &[String]) -> Window
+    requires right { AskAboutWindow (texts words.now) }
     ensures given { window_given order (texts words.now) ≡ Some result }
     ensures fits { IsWindow result }
     ensures in_order { IsOf order result.centre }

@@ -3,19 +3,24 @@ ghost use Rattle.std.specs.Prelude.{◌≡◌, ◌+◌, ◌≤◌, ◌∷◌, �
 ghost use Rattle.arrayvec.specs.ArrayString.{array_string_len};
 ghost use Rattle.addr_calc.specs.FaultText as scripts;
 ghost use Rattle.dissect_check.specs.FaultText as checks;
+ghost use Rattle.list_verify.specs.FaultText as listings;
 ghost use Rattle.rule_text.specs.FaultText as texts;
 ghost use Rattle.tile_shape.specs.FaultText as addresses;
 ghost use Rattle.tile_app.specs.RuleFaultText.{rule_fault_text};
 ghost use Rattle.tile_app.specs.ScriptFaultText.{script_fault_text};
 ghost use Rattle.cyclo_points.specs.Text.{blank};
 
-use crate::line::{LINE_ROOM, put_number, put_numbered, put_point, put_word};
+use crate::line::{
+    LINE_ROOM, put_address, put_depth_limit, put_motion, put_number, put_numbered, put_point,
+    put_word,
+};
 use crate::rule_fault::RuleFault;
 use crate::script_fault::ScriptFault;
 use addr_calc::calc_fault::CalcFault;
 use arrayvec::ArrayString;
 use dissect_check::check_fault::CheckFault;
 use dissect_check::what::What;
+use list_verify::list_fault::ListFault;
 use rule_text::key::Key;
 use rule_text::place::Place;
 use rule_text::text_fault::TextFault;
@@ -235,5 +240,51 @@ pub fn put_script_fault(line: &mut ArrayString<LINE_ROOM>, fault: ScriptFault)
     match fault {
         ScriptFault::TooLong => put_word(line, "TooLong"),
         ScriptFault::Calc(fault) => put_calc_fault(line, fault),
+    }
+}
+
+/// Puts the name of a fault and the number of a line.
+fn put_line_fault(text: &mut ArrayString<LINE_ROOM>, word: &str, line: u32)
+    requires room { array_string_len text.old + length word.now + 22 ≤ LINE_ROOM }
+    ensures fault { text.new.bytes ≡ text.old.bytes ++ blank ∷ (word.now ++ blank ∷ decimal line) }
+    ensures at_most { array_string_len text.new ≤ array_string_len text.old + length word.now + 22 }
+{
+    put_numbered(text, word, u64::from(line));
+}
+
+/// Puts the fault of a listing.
+pub fn put_list_fault(text: &mut ArrayString<LINE_ROOM>, fault: &ListFault)
+    requires room { array_string_len text.old + 549 ≤ LINE_ROOM }
+    ensures fault { text.new.bytes ≡ text.old.bytes ++ blank ∷ listings.list_fault_text fault.now }
+    ensures at_most { array_string_len text.new ≤ array_string_len text.old + 549 }
+{
+    match fault {
+        ListFault::TooLong => put_word(text, "TooLong"),
+        ListFault::BadLine { line, place } => {
+            put_line_fault(text, "BadLine", *line);
+            put_number(text, u64::from(*place));
+        }
+        ListFault::Address { line, fault } => {
+            put_line_fault(text, "Address", *line);
+            put_address_fault(text, *fault);
+        }
+        ListFault::BadKind { line } => put_line_fault(text, "BadKind", *line),
+        ListFault::NotOfFrame { line } => put_line_fault(text, "NotOfFrame", *line),
+        ListFault::Double { line } => put_line_fault(text, "Double", *line),
+        ListFault::Missing { addr } => {
+            put_word(text, "Missing");
+            put_address(text, addr);
+        }
+        ListFault::WrongPlace { line, motion } => {
+            put_line_fault(text, "WrongPlace", *line);
+            put_motion(text, motion);
+        }
+        ListFault::Stray { line } => put_line_fault(text, "Stray", *line),
+        ListFault::DepthLimit { addr, edge } => put_depth_limit(text, addr, *edge),
+        ListFault::CoordLimit { value } => {
+            put_word(text, "CoordLimit");
+            put_point(text, value);
+        }
+        ListFault::NoMemory => put_word(text, "NoMemory"),
     }
 }

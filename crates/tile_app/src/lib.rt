@@ -30,6 +30,7 @@ mod star;
 pub mod status;
 mod summary;
 mod tile;
+mod verify;
 mod walk;
 mod window_words;
 pub mod words;

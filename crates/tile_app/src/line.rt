@@ -1,12 +1,13 @@
 //! A line in fixed storage, to which words are put, each behind a blank.
-ghost use Rattle.std.specs.Prelude.{◌≡◌, ◌+◌, ◌≤◌, ◌∷◌, ◌++◌, length, decimal};
+ghost use Rattle.std.specs.Prelude.{◌≡◌, ◌+◌, ◌≤◌, ◌∷◌, ◌++◌, codes, length, decimal};
 ghost use Rattle.std.specs.Fmt.{signed_decimal};
 ghost use Rattle.arrayvec.specs.ArrayString.{array_string_len};
 ghost use Rattle.tile_shape.specs.Text.{address_text};
 ghost use Rattle.tile_shape.specs.Views.{address_of};
-ghost use Rattle.cyclo_points.specs.Text.{point_text, blank};
+ghost use Rattle.cyclo_points.specs.Text.{motion_text, point_text, blank};
 
 use arrayvec::ArrayString;
+use cyclo_points::motion::Motion;
 use cyclo_points::point::Point;
 use itoa::Buffer;
 use tile_shape::address::Address;
@@ -88,4 +89,25 @@ pub fn put_point(line: &mut ArrayString<LINE_ROOM>, point: &Point)
     put_signed(line, point.c[2]);
     line.push_str(",");
     put_signed(line, point.c[3]);
+}
+
+/// Puts a motion behind a blank: its turn, and its shift behind another.
+pub fn put_motion(line: &mut ArrayString<LINE_ROOM>, motion: &Motion)
+    requires room { array_string_len line.old + 105 ≤ LINE_ROOM }
+    ensures motion { line.new.bytes ≡ line.old.bytes ++ blank ∷ motion_text motion.now }
+    ensures at_most { array_string_len line.new ≤ array_string_len line.old + 105 }
+{
+    put_number(line, u64::from(motion.turn));
+    put_point(line, &motion.shift);
+}
+
+/// Puts that an edge of a tile is on the boundary at the greatest depth.
+pub fn put_depth_limit(line: &mut ArrayString<LINE_ROOM>, addr: &Address, edge: u8)
+    requires room { array_string_len line.old + 548 ≤ LINE_ROOM }
+    ensures limit { line.new.bytes ≡ line.old.bytes ++ blank ∷ (codes "DepthLimit " ++ address_text (address_of addr.now) ++ blank ∷ decimal edge) }
+    ensures at_most { array_string_len line.new ≤ array_string_len line.old + 548 }
+{
+    put_word(line, "DepthLimit");
+    put_address(line, addr);
+    put_number(line, u64::from(edge));
 }

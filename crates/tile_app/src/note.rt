@@ -4,11 +4,9 @@ ghost use Rattle.arrayvec.specs.ArrayString.{array_string_len};
 ghost use Rattle.tile_app.specs.Notes.{status_text, note_of, IsNoted};
 ghost use Rattle.cyclo_points.specs.Text.{blank};
 
-use crate::fault_words::{put_address_fault, put_rule_fault, put_script_fault};
+use crate::fault_words::{put_address_fault, put_list_fault, put_rule_fault, put_script_fault};
 use crate::format_words::format_text;
-use crate::line::{
-    LINE_ROOM, put_address, put_number, put_numbered, put_pair, put_point, put_word,
-};
+use crate::line::{LINE_ROOM, put_depth_limit, put_numbered, put_pair, put_point, put_word};
 use crate::status::Status;
 use arrayvec::ArrayString;
 use itoa::Buffer;
@@ -41,11 +39,7 @@ fn put_status(line: &mut ArrayString<LINE_ROOM>, status: &Status)
         Status::NoEdge { edge, edges } => put_pair(line, "NoEdge", *edge, *edges),
         Status::NoVertex { vertex, edges } => put_pair(line, "NoVertex", *vertex, *edges),
         Status::Outside { edge, part } => put_pair(line, "Outside", *edge, *part),
-        Status::DepthLimit { addr, edge } => {
-            put_word(line, "DepthLimit");
-            put_address(line, addr);
-            put_number(line, u64::from(*edge));
-        }
+        Status::DepthLimit { addr, edge } => put_depth_limit(line, addr, *edge),
         Status::CoordLimit { value } => {
             put_word(line, "CoordLimit");
             put_point(line, value);
@@ -55,6 +49,10 @@ fn put_status(line: &mut ArrayString<LINE_ROOM>, status: &Status)
         Status::BadScript { fault } => {
             put_word(line, "BadScript");
             put_script_fault(line, *fault);
+        }
+        Status::BadListing { fault } => {
+            put_word(line, "BadListing");
+            put_list_fault(line, fault);
         }
         Status::WriteFault => put_word(line, "WriteFault"),
         Status::NoMemory => put_word(line, "NoMemory"),

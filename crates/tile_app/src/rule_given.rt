@@ -2,6 +2,7 @@
 ghost use Rattle.std.specs.Prelude.{◌≡◌, ◌≤◌, length, Ok, Some, IfOk, IfErr};
 ghost use Rattle.rule_text.specs.Limits.{longest_file};
 ghost use Rattle.rule_model.specs.Tiling.{tiling_of};
+ghost use Rattle.tile_app.specs.declared.rule_choice.RuleChoice.TheVariants.{File};
 ghost use Rattle.tile_app.specs.Choices.{tiling_chosen};
 ghost use Rattle.tile_app.specs.Reading.{IsFileRefused, IsChoiceRefused};
 ghost use Rattle.tile_app.specs.RuleFiles.{tiling_in_file};
@@ -37,7 +38,7 @@ fn rule_in(alloc: Global, bytes: &[u8]) -> Result<Checked, Status>
 
 /// The rule of a choice: a built-in one, or that of the file that was read.
 pub fn rule_chosen(alloc: Global, choice: RuleChoice, file: &[u8]) -> Result<Checked, Status>
-    requires at_most_a_mebibyte { length file.now ≤ longest_file }
+    requires at_most_a_mebibyte { choice ≡ File → length file.now ≤ longest_file }
     ensures chosen { IfOk result (λ checked. tiling_chosen file.now choice ≡ Ok (tiling_of checked)) }
     ensures refused { IfErr result (IsChoiceRefused file.now choice) }
 {

@@ -15,6 +15,7 @@ ghost use Rattle.tile_app.specs.Words.{texts};
 use crate::answer::answer_text;
 use crate::note::write_note;
 use crate::status::Status;
+use crate::verify::builtin_verdict_law;
 use addr_calc::laws::one_answer_law;
 use dissect_check::laws::accepted_children_law;
 use edge_tables::steps::Steps;
@@ -62,14 +63,15 @@ fn answer<R: Source, W: Sink, D: Layer, L: Ledger>(
     }
 }
 
-/// Does all that the program does: reads the words, and the rule file or the script where they ask for
-/// it, and writes what they ask for to the sink. A refusal writes its one line to the notes; a fault of
+/// Does all that the program does: reads the words, and the rule file, the script or the listing where they
+/// ask for it, and writes what they ask for to the sink. A refusal writes its one line to the notes; a fault of
 /// the notes changes no status.
 ///
 /// - `words` are those behind the program's name: a command, and then `key=value` words in any order.
-/// - `source` has the rule file, or the script of `calc`, of at most 1,048,576 bytes. It is read to its
-///   end where the words are right, each format that they name has a layer, and they have `rule=-` or the
-///   command `calc`, and else left as it was.
+/// - `source` has the rule file, or the script of `calc`, of at most 1,048,576 bytes, or the listing of
+///   `verify`, of at most 67,108,864. It is read to its end where the words are right, each format that they
+///   name has a layer, and they have `rule=-`, the command `calc`, or the command `verify` and the address of
+///   a tile, and else left as it was.
 /// - `sink` takes the text, which is built whole before its first byte is written.
 /// - `notes` take the line of a refusal.
 /// - `layers` are what `draw` draws through, each format named through the first layer that has it. All
@@ -78,12 +80,13 @@ fn answer<R: Source, W: Sink, D: Layer, L: Ledger>(
 ///
 /// The clauses speak of the request, which is the words, the formats of the layers, and the file that was
 /// read. It is tested in this order: the words (`BadWords`), the layers (`NoLayer`), the source and the
-/// file (`ReadFault`, `RuleTooLong`, `BadScript`, `RuleRefused`), the address (`BadAddress`), and then what
-/// the command refuses: `place` a value (`CoordLimit`), `neighbour` an edge (`NoEdge`, `Outside`), `walk`
-/// an edge of its path (`NoEdge`, `DepthLimit`), `draw` its window (`DepthLimit`, `CoordLimit`,
-/// `TooManyTiles`), `calc` a line of its script (`BadScript`), `star` a vertex (`NoVertex`, `DepthLimit`,
-/// `StarTooBig`), and `check` and `drill` nothing more. In place of any answer but the first two `NoMemory` may
-/// come, and in place of `Done` also `WriteFault`. What each refusal tells stands at `Status`.
+/// file (`ReadFault`, `RuleTooLong`, `BadScript`, `BadListing`, `RuleRefused`), the address (`BadAddress`; that
+/// of `verify` before its source), and then what the command refuses: `place` a value (`CoordLimit`),
+/// `neighbour` an edge (`NoEdge`, `Outside`), `walk` an edge of its path (`NoEdge`, `DepthLimit`), `draw` its
+/// window (`DepthLimit`, `CoordLimit`, `TooManyTiles`), `calc` a line of its script (`BadScript`), `star` a
+/// vertex (`NoVertex`, `DepthLimit`, `StarTooBig`), `verify` its listing (`BadListing`, `DepthLimit`,
+/// `CoordLimit`), and `check` and `drill` nothing more. In place of any answer but the first two `NoMemory`
+/// may come, and in place of `Done` also `WriteFault`. What each refusal tells stands at `Status`.
 pub fn run<R: Source, W: Sink, N: Sink>(
     alloc: Global,
     words: &Vec<String>,
@@ -97,15 +100,16 @@ pub fn run<R: Source, W: Sink, N: Sink>(
     // tiles of the path; for `draw` the layers' texts of exactly the tiles that meet the window, each
     // once, disjoint and covering it, or with `glue=yes` of their whole tiles, so too; for `check` that the
     // rule is accepted; for `calc` what its script prints; for `drill` the summary of its windows; for
-    // `star` exactly the tiles that have the vertex, each once, in turning order. The file, where one is
-    // read, was read to its end.
+    // `star` exactly the tiles that have the vertex, each once, in turning order; for `verify` the number of
+    // lines of a right listing, which are exactly the tiles that meet the window, each once and with its
+    // motion. The file, where one is read, was read to its end.
     ensures done { result ≡ Status.Done
         → OfRequest (texts words.now.items) (map (λ d. form d) layers.items) (R.left source.old) (R.left source.new)
         (λ r. (text : List ℕ) × Prints r text × Takes (W.taken sink.old) (W.taken sink.new) text) }
 
     // A refusal comes only for its cause, by the table `Causes`, and where there is a cause it comes,
     // but that the source may fail, and memory be wanted. Of the limits of a window or a vertex several
-    // may be passed: beyond them one of them comes.
+    // may be passed, and of a listing several tiles be missing or misplaced: then one of them comes.
     ensures refused { IsRefusal result → IsRefused (texts words.now.items) (map (λ d. form d) layers.items) (R.left source.old) (R.left source.new) result }
     ensures refused_when { (r : Request) (status : Status) → IsAsked (texts words.now.items) (map (λ d. form d) layers.items) (R.left source.old) r
         → Causes r status → IsNoLimit r status → (result ≡ status) ⊎ IsCutShort result }
@@ -133,11 +137,12 @@ pub fn run<R: Source, W: Sink, N: Sink>(
 {
     // Laws, whose calls do nothing, by which a request has one answer, so that where a cause holds its
     // status comes: no two addresses that fit have one text, the child kinds of an accepted rule are a
-    // table that addresses can fit, and a script has one outcome.
+    // table that addresses can fit, a script has one outcome, and one thing is said of a listing.
     text_law();
     short_numbers_law();
     accepted_children_law();
     one_answer_law();
+    builtin_verdict_law();
     let status = answer::<R, W, Box<dyn Layer>, Brand>(
         alloc,
         words.as_slice(),

@@ -10,6 +10,7 @@ use dissect_check::check_fault::CheckFault;
 use half_glue::glue_fault::GlueFault;
 use layer_api::format::Format;
 use lazy_walk::path_fault::PathFault;
+use list_verify::list_fault::ListFault;
 use rule_text::text_fault::TextFault;
 use star_walk::star_fault::StarFault;
 use std::alloc::AllocError;
@@ -44,7 +45,7 @@ pub enum Status {
     NoVertex { vertex: u8, edges: u8 },
     /// The edge lies on this edge of the supertile, in this part of it.
     Outside { edge: u8, part: u8 },
-    /// An edge is on the boundary of the frame at depth 64, one of a walk, one that meets a window, one along
+    /// An edge is on the boundary of the frame at depth 64, one of a walk, one that meets a window drawn or listed, one along
     /// which a tile of a window is glued, or one that ends at a vertex: the tile, and its edge.
     DepthLimit { addr: Address, edge: u8 },
     /// A value has a coefficient above 2^24 in absolute value: of a tile placed, the first such value from
@@ -57,6 +58,10 @@ pub enum Status {
     StarTooBig,
     /// The script is too long, or a line of it has a fault: the first such line, and its first fault.
     BadScript { fault: ScriptFault },
+    /// The listing isn't the list of the window: it is too long, has a faulty line or an address that isn't of the
+    /// frame or stands twice, lacks a tile that meets the window, has one with another motion, or has one that
+    /// doesn't meet it.
+    BadListing { fault: ListFault },
     /// The sink failed: it took a proper prefix of the text.
     WriteFault,
     /// No memory was left, a layer took no more, or the rule file's tables would take more than the engine
@@ -86,6 +91,7 @@ impl Status {
             Status::NoLayer { .. } => 14,
             Status::NoVertex { .. } => 15,
             Status::StarTooBig => 16,
+            Status::BadListing { .. } => 17,
         }
     }
 }
@@ -242,6 +248,21 @@ impl From<CalcFault> for Status {
             _ => Status::BadScript {
                 fault: ScriptFault::Calc(fault),
             },
+        }
+    }
+}
+
+impl From<ListFault> for Status {
+    ghost use Rattle.tile_app.specs.Turned.{status_of_list};
+
+    ghost from_gives = { λ fault status. status ≡ status_of_list fault };
+
+    fn from(fault: ListFault) -> Status {
+        match fault {
+            ListFault::DepthLimit { addr, edge } => Status::DepthLimit { addr, edge },
+            ListFault::CoordLimit { value } => Status::CoordLimit { value },
+            ListFault::NoMemory => Status::NoMemory,
+            _ => Status::BadListing { fault },
         }
     }
 }

@@ -1,8 +1,8 @@
 //! The tile that right words are about.
-ghost use Rattle.std.specs.Prelude.{IfOk, IfErr};
+ghost use Rattle.std.specs.Prelude.{◌≡◌, IfOk, IfErr, is_ok};
 ghost use Rattle.rule_model.specs.Tiling.{tiling_of};
 ghost use Rattle.tile_shape.specs.Views.{address_of};
-ghost use Rattle.tile_app.specs.Tile.{GivesTile, GivesNoTile};
+ghost use Rattle.tile_app.specs.Tile.{GivesTile, GivesNoTile, gives_tile};
 ghost use Rattle.tile_app.specs.Words.{texts, AskAboutTile};
 
 use crate::words::Key;
@@ -17,6 +17,7 @@ pub fn address_read(checked: &Checked, words: &[String]) -> Result<Address, Addr
     requires right { AskAboutTile (texts words.now) }
     ensures given { IfOk result (λ a. GivesTile (texts words.now) (tiling_of checked.now) (address_of a)) }
     ensures refused { IfErr result (GivesNoTile (texts words.now) (tiling_of checked.now)) }
+    ensures told { is_ok result ≡ gives_tile (tiling_of checked.now) (texts words.now) }
 {
     let text = Key::Addr.value_given(words).unwrap();
     read_address(checked.uses(), text.as_bytes())

@@ -31,6 +31,8 @@ pub enum Command {
     Drill,
     /// Prints the tiles round a vertex.
     Star,
+    /// Tells whether a listing that is read is the list of a window.
+    Verify,
 }
 
 /// A key of a word `key=value`.
@@ -83,6 +85,8 @@ impl Command {
             Some(Command::Drill)
         } else if word == "star" {
             Some(Command::Star)
+        } else if word == "verify" {
+            Some(Command::Verify)
         } else {
             None
         }
@@ -108,6 +112,7 @@ impl Command {
             Command::Check | Command::Calc => &[Key::Rule],
             Command::Drill => &[Key::Rule, Key::Count, Key::Seed],
             Command::Star => &[Key::Rule, Key::Addr, Key::Vertex, Key::Seed],
+            Command::Verify => &[Key::Rule, Key::Addr, Key::At, Key::Half, Key::Seed],
         }
     }
 
@@ -123,15 +128,17 @@ impl Command {
             Command::Check | Command::Calc => &[Key::Rule],
             Command::Drill => &[Key::Rule, Key::Count],
             Command::Star => &[Key::Rule, Key::Addr, Key::Vertex],
+            Command::Verify => &[Key::Rule, Key::Addr, Key::At, Key::Half],
         }
     }
 
-    /// Whether a text is a rule for it: `calc` has a script read where the others may have a rule file.
+    /// Whether a text is a rule for it: `calc` has a script read, and `verify` a listing, where the others may have a rule
+    /// file.
     fn is_rule(self, value: &str) -> bool
         ensures { result ≡ is_rule_for self value.now }
     {
         match self {
-            Command::Calc => name_in(value).is_some(),
+            Command::Calc | Command::Verify => name_in(value).is_some(),
             _ => choice_in(value).is_some(),
         }
     }

@@ -6,6 +6,7 @@ use Rattle.tile_app.specs.Neighbour.{PrintsNeighbour}
 use Rattle.tile_app.specs.Place.{PrintsPlace}
 use Rattle.tile_app.specs.Request.{request_of}
 use Rattle.tile_app.specs.Star.{PrintsStar}
+use Rattle.tile_app.specs.Verify.{PrintsVerify}
 use Rattle.tile_app.specs.Walk.{PrintsWalk}
 use Rattle.tile_app.specs.Words.{texts}
 use Rattle.tile_app.proofs.Answered.{bytes-printed}
@@ -40,3 +41,8 @@ returns-in-Star-clause-printed g c =
 pub returns-in-Draw-clause-printed : goal.returns-in-Draw-clause-printed
 returns-in-Draw-clause-printed g c =
     subst (λ d. IfOk c.draw_text.result (λ text. IsPrinted d (request_of (texts c.args.words.now) (map g.D.Layer.form c.args.layers.now) c.args.file.now) (tiling_of c.args.machine.now) text.items)) (sym c.in-Draw.is) c.draw_text.ensures.printed
+
+pub returns-in-Verify-clause-printed : goal.returns-in-Verify-clause-printed
+returns-in-Verify-clause-printed g c =
+    subst (λ d. IfOk c.bytes_of-in-Verify.result (λ text. IsPrinted d (request_of (texts c.args.words.now) (map g.D.Layer.form c.args.layers.now) c.args.file.now) (tiling_of c.args.machine.now) text.items)) (sym c.in-Verify.is)
+    (bytes-printed string_bytes _ (PrintsVerify (texts c.args.words.now) c.args.file.now (tiling_of c.args.machine.now)) c.verify_text.result c.bytes_of-in-Verify.result c.bytes_of-in-Verify.ensures.whether c.bytes_of-in-Verify.ensures.bytes c.verify_text.ensures.printed)

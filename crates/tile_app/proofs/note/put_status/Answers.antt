@@ -1,14 +1,12 @@
 use Rattle.std.proofs.Common.{◌∷◌, ◌++◌, codes, sym, ap, ◌∙◌}
 use Rattle.cyclo_points.specs.Text.{point_text, blank}
+use Rattle.list_verify.specs.FaultText.{list_fault_text}
 use Rattle.tile_shape.specs.FaultText.{address_fault_text}
 use Rattle.tile_app.specs.FormatWords.{format_text}
 use Rattle.tile_app.specs.Notes.{status_text}
 use Rattle.tile_app.specs.RuleFaultText.{rule_fault_text}
 use Rattle.tile_app.specs.ScriptFaultText.{script_fault_text}
-use Rattle.std.specs.Fmt.{decimal}
-use Rattle.tile_shape.specs.Text.{address_text}
-use Rattle.tile_shape.specs.Views.{address_of}
-use Rattle.tile_app.proofs.Lines.{two_words, three_words}
+use Rattle.tile_app.proofs.Lines.{two_words}
 use Rattle.tile_app.proofs.note.put_status.Goals as goal
 
 pub returns-in-RuleRefused-clause-status : goal.returns-in-RuleRefused-clause-status
@@ -27,9 +25,7 @@ returns-in-CoordLimit-clause-status c =
     ∙ ap (λ s. c.args.line.now.bytes ++ blank ∷ status_text s) (sym c.in-CoordLimit.is)
 
 pub returns-in-DepthLimit-clause-status : goal.returns-in-DepthLimit-clause-status
-returns-in-DepthLimit-clause-status c =
-    three_words c.args.line.now.bytes _ _ _ (codes "DepthLimit") (address_text (address_of c.in-DepthLimit.addr)) (decimal c.in-DepthLimit.edge) c.put_word-in-DepthLimit.ensures c.put_address.ensures.address
-    (c.put_number.ensures.number ∙ ap (λ n. c.put_address.new.line.bytes ++ blank ∷ decimal n) c.from.ensures) ∙ ap (λ s. c.args.line.now.bytes ++ blank ∷ status_text s) (sym c.in-DepthLimit.is)
+returns-in-DepthLimit-clause-status c = c.put_depth_limit.ensures.limit ∙ ap (λ s. c.args.line.now.bytes ++ blank ∷ status_text s) (sym c.in-DepthLimit.is)
 
 pub returns-in-NoLayer-clause-status : goal.returns-in-NoLayer-clause-status
 returns-in-NoLayer-clause-status c =
@@ -40,3 +36,8 @@ pub returns-in-BadScript-clause-status : goal.returns-in-BadScript-clause-status
 returns-in-BadScript-clause-status c =
     two_words c.args.line.now.bytes _ _ (codes "BadScript") (script_fault_text c.in-BadScript.fault) c.put_word-in-BadScript.ensures c.put_script_fault.ensures.fault
     ∙ ap (λ s. c.args.line.now.bytes ++ blank ∷ status_text s) (sym c.in-BadScript.is)
+
+pub returns-in-BadListing-clause-status : goal.returns-in-BadListing-clause-status
+returns-in-BadListing-clause-status c =
+    two_words c.args.line.now.bytes _ _ (codes "BadListing") (list_fault_text c.in-BadListing.fault) c.put_word-in-BadListing.ensures c.put_list_fault.ensures.fault
+    ∙ ap (λ s. c.args.line.now.bytes ++ blank ∷ status_text s) (sym c.in-BadListing.is)

@@ -2,7 +2,7 @@ use Rattle.std.proofs.Common.{rules, Some, sym, ap, ◌∙◌, option_map}
 use Rattle.rule_model.specs.Tiling.{tiling_of}
 use Rattle.tile_shape.specs.Views.{address_of}
 use Rattle.tile_app.specs.Words.{texts}
-use Rattle.tile_app.proofs.Asking.{tile_read, no_tile_read}
+use Rattle.tile_app.proofs.Asking.{tile_read, no_tile_read, tile_told}
 use Rattle.tile_app.proofs.Given.{GivesText-right}
 use Rattle.tile_app.proofs.tile.address_read.Goals as goal
 
@@ -23,3 +23,9 @@ returns-clause-refused c =
     no_tile_read (texts c.args.words.now) (tiling_of c.args.checked.now) c.as_bytes.result.now
     (sym c.value_given.ensures ∙ ap (option_map (λ v. v.now)) c.unwrap-text.ensures ∙ ap (λ t. Some t) (sym c.as_bytes.ensures.value))
     c.uses.result.now c.uses.ensures c.read_address.result c.read_address.ensures.refused c.read_address.ensures.fault
+
+pub returns-clause-told : goal.returns-clause-told
+returns-clause-told c =
+    tile_told (texts c.args.words.now) (tiling_of c.args.checked.now) c.as_bytes.result.now
+    (sym c.value_given.ensures ∙ ap (option_map (λ v. v.now)) c.unwrap-text.ensures ∙ ap (λ t. Some t) (sym c.as_bytes.ensures.value))
+    c.uses.result.now c.uses.ensures c.read_address.result c.read_address.ensures.exact

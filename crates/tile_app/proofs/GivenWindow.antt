@@ -1,0 +1,165 @@
+-- The window that the words give fits: its half extents are 1 to 4,096, and the coefficients of its centre, also where they are reduced, at most 2^22.
+use Rattle.std.proofs.Common.{◌≡◌, ◌*◌, ◌^◌, ◌≤◌, ℕ, zero, suc, ℤ, pos, neg_ℤ, Bool, true, false, cond, nat_le, List, [], ◌∷◌, Some, None, ◌==◌, refl, subst, arith, lit≤, leb-true}
+use Rattle.std.proofs.lemmas.Int.{ints}
+use Rattle.std.specs.declared.option.Option.{Option}
+use Rattle.std.specs.Option.{option_map, option_and_then}
+use Rattle.cyclo_points.specs.declared.order.Order.{Order}
+use Rattle.cyclo_points.specs.declared.order.Order.TheVariants.{Four, Six, Eight, Ten}
+use Rattle.cyclo_points.specs.declared.point.Point.{Point}
+use Rattle.cyclo_points.specs.Point.{Within, IsWithin, quad_of}
+use Rattle.cyclo_points.proofs.CoordinateReadings.{reduced_four, reduced_six, pair_six-triples, reduced_eight, reduced_ten}
+use Rattle.cyclo_points.proofs.Sizes.{double_difference}
+use Rattle.cyclo_points.proofs.Within.{within_wider, zero_within, point_wider}
+use Rattle.plane_geom.specs.declared.window.Window.{Window}
+use Rattle.tile_shape.specs.Decimal.{number_in, number_up_to}
+use Rattle.window_cover.specs.Windows.{IsWindow}
+use Rattle.tile_app.specs.declared.window_words.HalfExtents.{HalfExtents}
+use Rattle.tile_app.specs.declared.words.Key.TheVariants.{At, Half}
+use Rattle.tile_app.specs.Draw.{reduced, at_given, half_given, window_given}
+use Rattle.tile_app.specs.DrawnTile.{point_of}
+use Rattle.tile_app.specs.PathWords.{pieces}
+use Rattle.tile_app.specs.WindowWords.{most_coefficient, most_extent, minus, negative, coefficient_in, extent_in, point_of_coefficients, point_of_pieces, extents_of_pieces, at_in, half_in, FitWindow}
+use Rattle.tile_app.specs.Words.{value_given}
+use Rattle.tile_app.proofs.Requested.{some_is}
+
+-- what holds of each value that a text gives holds of the value that is given
+then_of : {A B : Type 0} (f : A → Option B) (P : B → Type 0) (o : Option A) (b : B) → ((a : A) → f a ≡ Some b → P b) → option_and_then f o ≡ Some b → P b
+then_of f P None b h e = absurd (cc e)
+then_of f P (Some a) b h e = h a e
+
+-- a number that is told up to a limit isn't above it
+number-limited : (most : ℕ) (text : List ℕ) (n : ℕ) → number_up_to most text ≡ Some n → n ≤ most
+number-limited most text n e = then_of (λ m. cond (nat_le m most) (Some m) None) (λ m. m ≤ most) (number_in text) n (λ m f. at_test m (nat_le m most) refl f) e
+  where
+    at_test : (m : ℕ) (b : Bool) → nat_le m most ≡ b → cond b (Some m) None ≡ Some n → n ≤ most
+    at_test m true f g = subst (λ k. k ≤ most) (some_is m n g) (leb-true m most f)
+    at_test m false f g = absurd (cc g)
+
+-- ---- a centre
+coefficient-within : (bytes : List ℕ) (z : ℤ) → coefficient_in bytes ≡ Some z → Within (2 ^ 20) z
+coefficient-within [] z e = absurd (cc e)
+coefficient-within (byte ∷ bytes) z e = at_test (byte == minus) e
+  where
+    within : (x : ℤ) → Within most_coefficient x → x ≡ z → Within (2 ^ 20) z
+    within x h same = subst (Within (2 ^ 20)) same (within_wider most_coefficient (2 ^ 20) x (lit≤ tt) h)
+
+    below : (n : ℕ) → n ≤ most_coefficient → Within most_coefficient (neg_ℤ (pos n))
+    below n l = record { low = omega (arith, ints); high = omega (arith, ints) }
+
+    above : (n : ℕ) → n ≤ most_coefficient → Within most_coefficient (pos n)
+    above n l = record { low = omega (arith, ints); high = omega (arith, ints) }
+
+    of_negative : (n : ℕ) → n ≤ most_coefficient → negative n ≡ Some z → Within (2 ^ 20) z
+    of_negative zero l f = absurd (cc f)
+    of_negative (suc n) l f = within (neg_ℤ (pos (suc n))) (below (suc n) l) (some_is (neg_ℤ (pos (suc n))) z f)
+
+    at_negative : (o : Option ℕ) → ((n : ℕ) → o ≡ Some n → n ≤ most_coefficient) → option_and_then negative o ≡ Some z → Within (2 ^ 20) z
+    at_negative None h f = absurd (cc f)
+    at_negative (Some n) h f = of_negative n (h n refl) f
+
+    at_positive : (o : Option ℕ) → ((n : ℕ) → o ≡ Some n → n ≤ most_coefficient) → option_map pos o ≡ Some z → Within (2 ^ 20) z
+    at_positive None h f = absurd (cc f)
+    at_positive (Some n) h f = within (pos n) (above n (h n refl)) (some_is (pos n) z f)
+
+    at_test : (b : Bool) → cond b (option_and_then negative (number_up_to most_coefficient bytes)) (option_map pos (number_up_to most_coefficient (byte ∷ bytes))) ≡ Some z → Within (2 ^ 20) z
+    at_test true f = at_negative (number_up_to most_coefficient bytes) (number-limited most_coefficient bytes) f
+    at_test false f = at_positive (number_up_to most_coefficient (byte ∷ bytes)) (number-limited most_coefficient (byte ∷ bytes)) f
+
+abbrev AreWithin : Option ℤ → Type 0
+AreWithin o = (z : ℤ) → o ≡ Some z → Within (2 ^ 20) z
+
+coefficients-within : (x y z w : Option ℤ) (p : Point) → AreWithin x → AreWithin y → AreWithin z → AreWithin w → point_of_coefficients x y z w ≡ Some p → IsWithin (2 ^ 20) p
+coefficients-within None y z w p f g h k e = absurd (cc e)
+coefficients-within (Some a) None z w p f g h k e = absurd (cc e)
+coefficients-within (Some a) (Some b) None w p f g h k e = absurd (cc e)
+coefficients-within (Some a) (Some b) (Some c) None p f g h k e = absurd (cc e)
+coefficients-within (Some a) (Some b) (Some c) (Some d) p f g h k e =
+    subst (IsWithin (2 ^ 20)) (some_is (record { c = a ∷ b ∷ c ∷ d ∷ [] }) p e) (record { at_0 = f a refl; at_1 = g b refl; at_2 = h c refl; at_3 = k d refl })
+
+pieces-within : (ps : List (List ℕ)) (p : Point) → point_of_pieces ps ≡ Some p → IsWithin (2 ^ 20) p
+pieces-within (a ∷ b ∷ c ∷ d ∷ []) p e =
+    coefficients-within (coefficient_in a) (coefficient_in b) (coefficient_in c) (coefficient_in d) p (coefficient-within a) (coefficient-within b) (coefficient-within c) (coefficient-within d) e
+pieces-within [] p e = absurd (cc e)
+pieces-within (a ∷ []) p e = absurd (cc e)
+pieces-within (a ∷ b ∷ []) p e = absurd (cc e)
+pieces-within (a ∷ b ∷ c ∷ []) p e = absurd (cc e)
+pieces-within (a ∷ b ∷ c ∷ d ∷ f ∷ ps) p e = absurd (cc e)
+
+at-within : (words : List (List ℕ)) (p : Point) → at_given words ≡ Some p → IsWithin (2 ^ 20) p
+at-within words p e = then_of at_in (IsWithin (2 ^ 20)) (value_given At words) p (λ text f. pieces-within (pieces [] text) p f) e
+
+-- also where orders four and six reduce it
+reduced-within : (o : Order) (p : Point) → IsWithin (2 ^ 20) p → IsWithin (2 ^ 22) (reduced o p)
+reduced-within Four p h = subst (λ z. IsWithin (2 ^ 22) (point_of Four z)) (reduced_four (quad_of p)) (record {
+  at_0 = within_wider (2 * 2 ^ 20) (2 ^ 22) _ (lit≤ tt) (double_difference (2 ^ 20) _ _ h.at_0 h.at_2);
+  at_1 = within_wider (2 * 2 ^ 20) (2 ^ 22) _ (lit≤ tt) (double_difference (2 ^ 20) _ _ h.at_1 h.at_3);
+  at_2 = zero_within (2 ^ 22);
+  at_3 = zero_within (2 ^ 22);
+})
+reduced-within Six p h =
+    let pair = pair_six-triples (2 ^ 20) p h in
+    subst (λ z. IsWithin (2 ^ 22) (point_of Six z)) (reduced_six (quad_of p)) (record {
+      at_0 = within_wider (3 * 2 ^ 20) (2 ^ 22) _ (lit≤ tt) pair.at_0;
+      at_1 = within_wider (3 * 2 ^ 20) (2 ^ 22) _ (lit≤ tt) pair.at_1;
+      at_2 = zero_within (2 ^ 22);
+      at_3 = zero_within (2 ^ 22);
+    })
+reduced-within Eight p h = subst (λ z. IsWithin (2 ^ 22) (point_of Eight z)) (reduced_eight (quad_of p)) (whole p h)
+  where
+    whole : (p : Point) → IsWithin (2 ^ 20) p → IsWithin (2 ^ 22) (point_of Eight (quad_of p))
+    whole p h = let k = point_wider (2 ^ 20) (2 ^ 22) p (lit≤ tt) h in record { at_0 = k.at_0; at_1 = k.at_1; at_2 = k.at_2; at_3 = k.at_3 }
+reduced-within Ten p h = subst (λ z. IsWithin (2 ^ 22) (point_of Ten z)) (reduced_ten (quad_of p)) (whole p h)
+  where
+    whole : (p : Point) → IsWithin (2 ^ 20) p → IsWithin (2 ^ 22) (point_of Ten (quad_of p))
+    whole p h = let k = point_wider (2 ^ 20) (2 ^ 22) p (lit≤ tt) h in record { at_0 = k.at_0; at_1 = k.at_1; at_2 = k.at_2; at_3 = k.at_3 }
+
+-- ---- half extents
+extent-fits : (text : List ℕ) (n : ℕ) → extent_in text ≡ Some n → (1 ≤ n) × (n ≤ most_extent)
+extent-fits text n e = at_number (number_up_to most_extent text) (number-limited most_extent text) e
+  where
+    at_test : (m : ℕ) (b : Bool) → nat_le 1 m ≡ b → m ≤ most_extent → cond b (Some m) None ≡ Some n → (1 ≤ n) × (n ≤ most_extent)
+    at_test m true f l g = subst (λ k. (1 ≤ k) × (k ≤ most_extent)) (some_is m n g) (leb-true 1 m f, l)
+    at_test m false f l g = absurd (cc g)
+
+    at_number : (o : Option ℕ) → ((m : ℕ) → o ≡ Some m → m ≤ most_extent) → option_and_then (λ m. cond (nat_le 1 m) (Some m) None) o ≡ Some n → (1 ≤ n) × (n ≤ most_extent)
+    at_number None h f = absurd (cc f)
+    at_number (Some m) h f = at_test m (nat_le 1 m) refl (h m refl) f
+
+abbrev AreExtents : Option ℕ → Type 0
+AreExtents o = (n : ℕ) → o ≡ Some n → (1 ≤ n) × (n ≤ most_extent)
+
+extents-fit : (x y : Option ℕ) (half : HalfExtents) → AreExtents x → AreExtents y
+    → option_and_then (λ w. option_map (λ h. (let e : HalfExtents = record { w = w; h = h } in e)) y) x ≡ Some half → FitWindow half
+extents-fit None y half f g e = absurd (cc e)
+extents-fit (Some a) None half f g e = absurd (cc e)
+extents-fit (Some a) (Some b) half f g e =
+    let w = f a refl in
+    let h = g b refl in
+    subst FitWindow (some_is (record { w = a; h = b }) half e) (record { some_width = w.0; some_height = h.0; width_fits = w.1; height_fits = h.1 })
+
+pieces-fit : (ps : List (List ℕ)) (half : HalfExtents) → extents_of_pieces ps ≡ Some half → FitWindow half
+pieces-fit (a ∷ b ∷ []) half e = extents-fit (extent_in a) (extent_in b) half (extent-fits a) (extent-fits b) e
+pieces-fit [] half e = absurd (cc e)
+pieces-fit (a ∷ []) half e = absurd (cc e)
+pieces-fit (a ∷ b ∷ c ∷ ps) half e = absurd (cc e)
+
+half-fits : (words : List (List ℕ)) (half : HalfExtents) → half_given words ≡ Some half → FitWindow half
+half-fits words half e = then_of half_in FitWindow (value_given Half words) half (λ text f. pieces-fit (pieces [] text) half f) e
+
+-- ---- the window
+pub given-fits : (o : Order) (words : List (List ℕ)) (w : Window) → window_given o words ≡ Some w → IsWindow w
+given-fits o words w e = at_both (at_given words) (half_given words) (at-within words) (half-fits words) e
+  where
+    at_both : (x : Option Point) (y : Option HalfExtents) → ((p : Point) → x ≡ Some p → IsWithin (2 ^ 20) p) → ((half : HalfExtents) → y ≡ Some half → FitWindow half)
+        → option_and_then (λ p. option_map (λ (half : HalfExtents). (let v : Window = record { centre = reduced o p; w = half.w; h = half.h } in v)) y) x ≡ Some w → IsWindow w
+    at_both None y f g h = absurd (cc h)
+    at_both (Some p) None f g h = absurd (cc h)
+    at_both (Some p) (Some half) f g h =
+        let fit = g half refl in
+        subst IsWindow (some_is (record { centre = reduced o p; w = half.w; h = half.h }) w h) (record {
+          some_width = fit.some_width;
+          some_height = fit.some_height;
+          width_fits = fit.width_fits;
+          height_fits = fit.height_fits;
+          centre_within = reduced-within o p (f p refl);
+        })
