@@ -87,13 +87,7 @@ impl LineIndex {
         ensures none { IfNone result ((i : ℕ) → ¬ HasAddress lines.now i (address_of address.now)) }
     {
         let first = self.last[bucket_of(address, self.buckets)];
-        find_in(
-            self.before.as_slice(),
-            first,
-            lines,
-            address,
-            self.buckets,
-        )
+        find_in(self.before.as_slice(), first, lines, address, self.buckets)
     }
 }
 
