@@ -158,7 +158,7 @@ def printed(rule):
 
 
 def main():
-    steps, seed = (int(word) for word in (sys.argv[1:] + ["4000", "1"][len(sys.argv) - 1:])[:2])
+    steps, seed = (int(word) for word in (sys.argv[1:] + ["400", "1"][len(sys.argv) - 1:])[:2])
     rule, pairs = drawn_rule(steps, seed)
     print(pairs, "pairs of edges meet", file=sys.stderr)
     printed(rule)

@@ -8,7 +8,7 @@
 //! tables and its uses. The numbers of the program are constants, one rule a file, with the contact tables
 //! of the kinds beside them; that they are those of the definition, and the tables those of its geometry, is
 //! proved by evaluation, as are the ten clauses of acceptance. So a built-in rule is never refused, and only
-//! memory may be wanting.
+//! memory may be wanting; and by a law the rules as they are written down are accepted.
 #![tactic(auto)]
 
 mod ammann_beenker;

@@ -15,8 +15,8 @@ use Rattle.tile_app.specs.Status.{IsTrueFault}
 use Rattle.tile_app.specs.Words.{command_of, AreRight}
 
 -- What of a request causes a status, in the order of the tests: the words, the layers, the file, and then what its command refuses (`PlaceRefuses`,
--- `NeighbourRefuses`, `WalkRefuses`, `DrawRefuses`, `CalcRefuses`, `StarRefuses`, `VerifyRefuses`; `check` and `drill` refuse nothing more). Of `verify` the address is
--- tested before the file is read.
+-- `NeighbourRefuses`, `WalkRefuses`, `DrawRefuses`, `CalcRefuses`, `StarRefuses`, `VerifyRefuses`; `check` and `drill` refuse nothing more). Of `verify` the
+-- address is tested before the file is read.
 abbrev pub Causes : Request → Status → Type 0
 Causes r (BadWords place) = command_of r.words ≡ Err place
 Causes r (NoLayer format) = lacking r.words r.handed ≡ Some format

@@ -23,7 +23,8 @@ NamesNoTile words choice status = ⊥
 abbrev pub IsReadingRefused : Command → Option (List ℕ) → Option (List ℕ) → Status → Type 0
 IsReadingRefused command left rest NoMemory = Unit {0}
 IsReadingRefused command left rest ReadFault = Unit {0}
-IsReadingRefused command left rest status = (status ≡ too_long_for command) × (file : List ℕ) × WasRead (longest_for command) left rest file × (longest_for command < length file)
+IsReadingRefused command left rest status =
+    (status ≡ too_long_for command) × (file : List ℕ) × WasRead (longest_for command) left rest file × (longest_for command < length file)
 
 -- why the bytes of a rule file are refused
 abbrev pub IsFileRefused : List ℕ → Status → Type 0

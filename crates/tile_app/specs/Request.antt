@@ -1,4 +1,5 @@
--- A request: the words, the formats of the layers handed in, and the file that the words have read, a rule file, a script or a listing; and the tiling that it names.
+-- A request: the words, the formats of the layers handed in, and the file that the words have read, a rule file, a script or a listing; and the tiling that it
+-- names.
 use Rattle.std.specs.Prelude.{◌≡◌, ℕ, ◌<◌, ◌≤◌, IsTrue, List, length, Some, Result, Ok, Err}
 use Rattle.std.specs.declared.option.Option.{Option}
 use Rattle.std.specs.Option.{option_map}

@@ -45,8 +45,9 @@ pub enum Status {
     NoVertex { vertex: u8, edges: u8 },
     /// The edge lies on this edge of the supertile, in this part of it.
     Outside { edge: u8, part: u8 },
-    /// An edge is on the boundary of the frame at depth 64, one of a walk, one that meets a window drawn or listed, one along
-    /// which a tile of a window is glued, or one that ends at a vertex: the tile, and its edge.
+    /// An edge is on the boundary of the frame at depth 64, one of a walk, one that meets a window drawn or
+    /// listed, one along which a tile of a window is glued, or one that ends at a vertex: the tile, and its
+    /// edge.
     DepthLimit { addr: Address, edge: u8 },
     /// A value has a coefficient above 2^24 in absolute value: of a tile placed, the first such value from
     /// coarse to fine; of a window, one looked at for its centre, or the shift of a tile that meets it or of

@@ -132,8 +132,8 @@ impl Command {
         }
     }
 
-    /// Whether a text is a rule for it: `calc` has a script read, and `verify` a listing, where the others may have a rule
-    /// file.
+    /// Whether a text is a rule for it: `calc` has a script read, and `verify` a listing, where the others may
+    /// have a rule file.
     fn is_rule(self, value: &str) -> bool
         ensures { result ≡ is_rule_for self value.now }
     {
