@@ -8,7 +8,7 @@ use std::test::Fail;
 const SCRIPT: &str = "let a 0:0/0,1/0\nacross a 4 b\ncommon a b\nplace b\n";
 
 /// A call of each command: its words, what its source holds, and what it prints.
-static CALLS: [(&str, &str, &str); 8] = [
+static CALLS: [(&str, &str, &str); 9] = [
     ("place rule=- addr=0:1/0,2/0", CHAIR, "0 1 7,1,0,0\n"),
     (
         "neighbour rule=- addr=0:0/0,1/0 edge=4",
@@ -41,10 +41,15 @@ static CALLS: [(&str, &str, &str); 8] = [
         CHAIR,
         "0 0 0,0,0,0 0:3/0 0\n0 1 3,1,0,0 0:1/0 2\n",
     ),
+    (
+        "verify rule=chair seed=42 addr=0: at=1,1,0,0 half=2,1",
+        CHAIRS_LIST,
+        "right 2\n",
+    ),
 ];
 
 /// A refused call of each command: its words, what its source holds, its exit code, and its note without the newline.
-static REFUSED: [(&str, &str, u8, &str); 8] = [
+static REFUSED: [(&str, &str, u8, &str); 9] = [
     (
         "place rule=- addr=0:4/0",
         CHAIR,
@@ -78,6 +83,12 @@ static REFUSED: [(&str, &str, u8, &str); 8] = [
     ),
     ("drill rule=- n=0", CHAIR, 2, "2 BadWords 2"),
     ("star rule=- addr=0: vertex=8", CHAIR, 15, "15 NoVertex 8 8"),
+    (
+        "verify rule=chair seed=42 addr=0: at=1,1,0,0 half=2,1",
+        "0 0 0,0,0,0 0:3/0\n",
+        17,
+        "17 BadListing Missing 0:1/0",
+    ),
 ];
 
 /// Runs a call once more with sound streams: it prints its text.

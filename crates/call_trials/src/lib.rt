@@ -11,6 +11,8 @@ mod failing;
 #[cfg(test)]
 mod files;
 #[cfg(test)]
+mod listings;
+#[cfg(test)]
 mod rows;
 #[cfg(test)]
 mod scripts;

@@ -4,7 +4,7 @@ use std::alloc::{AllocError, Global};
 use std::test::Fail;
 
 // Words, the exit code that is wanted, the line printed, and the line noted.
-static ROWS: [(&str, u8, &str, &str); 88] = [
+static ROWS: [(&str, u8, &str, &str); 93] = [
     ("place rule=chair addr=0:", 0, "0 0 0,0,0,0", ""),
     ("place rule=chair addr=0:1/0,2/0", 0, "0 1 7,1,0,0", ""),
     ("place addr=0:1/0,2/0 rule=chair", 0, "0 1 7,1,0,0", ""),
@@ -207,6 +207,31 @@ static ROWS: [(&str, u8, &str, &str); 88] = [
     ("calc rule=-", 2, "", "2 BadWords 1"),
     ("calc rule=chair addr=0:", 2, "", "2 BadWords 2"),
     ("calc rule=chair", 0, "", ""),
+    ("verify", 2, "", "2 BadWords 1"),
+    (
+        "verify rule=- addr=0: at=1,1,0,0 half=2,1",
+        2,
+        "",
+        "2 BadWords 1",
+    ),
+    (
+        "verify rule=chair addr=0: at=1,1,0,0",
+        2,
+        "",
+        "2 BadWords 4",
+    ),
+    (
+        "verify rule=chair addr=0: at=1,1,0,0 half=2,1 layers=list",
+        2,
+        "",
+        "2 BadWords 5",
+    ),
+    (
+        "verify rule=chair addr=1: at=1,1,0,0 half=2,1",
+        4,
+        "",
+        "4 BadAddress UnknownKind 0",
+    ),
     ("drill rule=chair", 2, "", "2 BadWords 2"),
     ("drill n=1", 2, "", "2 BadWords 2"),
     ("drill rule=chair n=0", 2, "", "2 BadWords 2"),
