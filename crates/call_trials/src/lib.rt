@@ -11,7 +11,7 @@ mod failing;
 #[cfg(test)]
 mod files;
 #[cfg(test)]
-mod listings;
+mod foreign;
 #[cfg(test)]
 mod rows;
 #[cfg(test)]
