@@ -26,6 +26,12 @@ NAMES = {
     "penrose_p2.toml": "p2",
     "penrose_p3.toml": "p3",
 }
+# large windows, round tiles of these addresses
+LARGE = [
+    ("ab", "0:" + ",".join(["6/0"] * 12), "40,40"),
+    ("p3", "0:", "60,60"),
+    ("chair", "0:3/0", "90,45"),
+]
 
 
 class Line:
@@ -204,15 +210,26 @@ def compared(program, rules, file):
     return right, count, wrong
 
 
+def drawn_otherwise(program, name, address, half):
+    """What differs where what `draw` lists of a large window is verified: as many lines are right as the census counts."""
+    words = [f"addr={address}", "at=0,0,0,0", f"half={half}"]
+    run = lambda layers: subprocess.run([program, "draw", f"rule={name}", *words, f"layers={layers}"], capture_output=True)  # noqa: E731
+    count = run("census").stdout.decode().split()[-1]
+    told = called(program, name, words, run("list").stdout.decode())
+    return [] if told == (0, f"right {count}\n", "") else [f"{name}: verify {' '.join(words)}: {told!r} in place of right {count}"]
+
+
 def main(top, program):
     rules = os.path.join(top, "rules")
     with concurrent.futures.ProcessPoolExecutor(os.cpu_count()) as pool:
         results = list(pool.map(compared, [program] * len(NAMES), [rules] * len(NAMES), NAMES))
     wrong = [line for *_, lines in results for line in lines]
+    for name, base, half in LARGE:
+        wrong += drawn_otherwise(program, name, base, half)
     for line in wrong[:20]:
         print(f"listings: {line[:1500]}", file=sys.stderr)
     right, bad = sum(n for n, *_ in results), sum(n for _, n, _ in results)
-    print(f"listings: {len(NAMES)} rules, {right} right and {bad} spoilt listings verified, {len(wrong)} differ")
+    print(f"listings: {len(NAMES)} rules, {right + len(LARGE)} right and {bad} spoilt listings verified, {len(wrong)} differ")
     sys.exit(1 if wrong else 0)
 
 
