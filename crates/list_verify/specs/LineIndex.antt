@@ -7,10 +7,10 @@ use Rattle.list_verify.specs.declared.line_index.Buckets.{Buckets}
 use Rattle.list_verify.specs.declared.line_index.LineIndex.{LineIndex}
 use Rattle.tile_shape.specs.Views.{address_of}
 
--- digits, as one number: those before are multiplied
+-- digits, as one number below the prime 2^61 - 1: those before are multiplied
 abbrev pub digest_from : ℕ → ℕ → List Step → ℕ
 digest_from multiplier digest [] = digest
-digest_from multiplier digest (d ∷ ds) = digest_from multiplier ((digest * multiplier + (d.child * 256 + d.parent)) % 4294967291) ds
+digest_from multiplier digest (d ∷ ds) = digest_from multiplier ((digest * multiplier + (d.child * 256 + d.parent)) % 2305843009213693951) ds
 
 -- the bucket of an address
 abbrev pub bucket_of : Buckets → Address → ℕ
@@ -28,6 +28,7 @@ last_in places place (suc n) = cond (nat_eq (get_or places n (suc place)) place)
 -- the last line of each bucket among the first n lines, and before each of these lines the one before it in its bucket
 pub record IsIndexOf (buckets : Buckets) (lines : List Entry) (n : ℕ) (last before : List (Option ℕ)) : Type 0 where
   pub some : 0 < buckets.count
+  pub multiplier : buckets.multiplier < 2305843009213693951
   pub count : length last ≡ buckets.count
   pub many : length before ≡ n
   pub within : n ≤ length lines

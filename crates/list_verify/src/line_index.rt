@@ -1,5 +1,5 @@
 //! Lines by the addresses of their tiles.
-ghost use Rattle.std.specs.Prelude.{◌≡◌, ◌<◌, ◌≤◌, ◌+◌, ◌^◌, ℕ, length, get_or, slice_get, Some, IfSome, IfNone, IfOk, IfErr, OnOk};
+ghost use Rattle.std.specs.Prelude.{◌≡◌, ◌<◌, ◌≤◌, ◌+◌, ◌%◌, ◌^◌, ℕ, length, get_or, slice_get, Some, IfSome, IfNone, IfOk, IfErr, OnOk};
 ghost use Rattle.tile_shape.specs.Views.{address_of};
 ghost use Rattle.list_verify.specs.declared.list_fault.ListFault.TheVariants.{Double};
 ghost use Rattle.list_verify.specs.LineIndex as index;
@@ -14,14 +14,17 @@ use std::alloc::Global;
 use std::hash::{DefaultHasher, Hasher};
 use tile_shape::address::Address;
 
-/// A prime below 2^32.
-const MODULUS: u64 = 4_294_967_291;
+/// A prime, 2^61 - 1.
+const MODULUS: u64 = 2_305_843_009_213_693_951;
+
+/// 2^61.
+const BASE: u128 = 2_305_843_009_213_693_952;
 
 /// How many buckets there are, and by what the digits before are multiplied in a digest.
 #[derive(Clone, Copy, Debug)]
 pub(crate) struct Buckets {
     count: usize,
-    multiplier: u32,
+    multiplier: u64,
 }
 
 /// The last line of each bucket, and before each line the one before it in its bucket.
@@ -37,10 +40,11 @@ impl LineIndex {
     /// depends on the multiplier.
     pub(crate) fn new(
         alloc: Global,
-        multiplier: u32,
+        multiplier: u64,
         lines: &[Entry],
     ) -> Result<LineIndex, ListFault>
         requires few { length lines.now < 2 ^ 32 }
+        requires below { multiplier < 2305843009213693951 }
         ensures index { IfOk result (λ own. Indexes own lines.now (length lines.now)) }
         ensures distinct { OnOk result (NoneAgain lines.now (length lines.now)) }
         ensures double { IfErr result (OrNoRoom (λ fault. (i : ℕ) × (fault ≡ Double (i + 1)) × IsAgain lines.now i × NoneAgain lines.now i)) }
@@ -92,24 +96,35 @@ impl LineIndex {
 }
 
 /// The multiplier for a listing: by a hash of all its bytes, so that lines can't be chosen by it, to meet in one bucket,
-/// before they stand.
-pub(crate) fn multiplier_of(listing: &[u8]) -> u32 {
+/// before they stand. Of so many multipliers few are bad, as 0, 1 and those with a small order.
+pub(crate) fn multiplier_of(listing: &[u8]) -> u64
+    ensures below { result < 2305843009213693951 }
+{
     let mut hasher = DefaultHasher::new();
     hasher.write(listing);
-    (hasher.finish() % MODULUS) as u32
+    hasher.finish() % MODULUS
+}
+
+/// What a number leaves by the modulus. As 2^61 leaves 1, its digits to the base 2^61 can be added.
+fn reduced(number: u128) -> u64
+    requires below { number < 2 ^ 124 }
+    ensures reduced { result ≡ number % 2305843009213693951 }
+{
+    ((number / BASE) as u64 + (number % BASE) as u64) % MODULUS
 }
 
 /// The bucket of an address.
 fn bucket_of(address: &Address, buckets: Buckets) -> usize
     requires some { 0 < buckets.count }
+    requires multiplier { buckets.multiplier < 2305843009213693951 }
     ensures bucket { result ≡ index.bucket_of buckets (address_of address.now) }
     ensures below { result < buckets.count }
 {
-    let multiplier = u64::from(buckets.multiplier);
+    let multiplier = u128::from(buckets.multiplier);
     let mut digest = u64::from(address.kind);
     for step in address.digits.as_slice() {
         let digit = step.child as u64 * 256 + step.parent as u64;
-        digest = (digest * multiplier + digit) % MODULUS;
+        digest = reduced(u128::from(digest) * multiplier + u128::from(digit));
     }
     (digest % buckets.count as u64) as usize
 }

@@ -125,13 +125,14 @@ fn verify_lines(
     machine: &Machine,
     frame: &mut Frame,
     window: &Window,
-    multiplier: u32,
+    multiplier: u64,
     lines: &mut [Entry],
 ) -> Result<(), ListFault>
     requires frame { IsFrameOf (tiling_of machine.now) frame.old }
     requires window_fits { IsWindow window.now }
     requires fit { All (λ line. Fits (children (tiling_of machine.now)) (address_of line.address)) lines.old }
     requires few { length lines.old < 2 ^ 31 }
+    requires multiplier { multiplier < 2305843009213693951 }
     ensures frame { GrowsTo (tiling_of machine.now) frame.old frame.new }
     ensures right { (text : List ℕ) → listing_in (children (tiling_of machine.now)) text ≡ Ok (entries_of lines.old)
         → OnOk result (IsVerified (tiling_of machine.now) frame.old window.now text (length lines.old)) }
