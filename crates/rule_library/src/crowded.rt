@@ -4,8 +4,8 @@ ghost use Rattle.std.specs.Prelude.{◌≡◌, ◌<◌};
 use edge_tables::steps::Steps;
 use plain_tiles::frame_tiles::begun;
 use rule_model::checked::Checked;
+use star_walk::star::Star;
 use star_walk::star_fault::StarFault;
-use star_walk::turn::star;
 use std::alloc::Global;
 use std::marker::Brand;
 use std::sync::ledger::{Blank, Ledger};
@@ -35,8 +35,9 @@ fn round<L: Ledger>(
         Some(frame) if VERTEX < machine.checked().tables().edges(frame.base().kind) => frame,
         _ => return Ok("no such vertex".to_string(alloc)?),
     };
-    match star(machine, &mut frame, VERTEX, &mut steps) {
-        Ok(star) => Ok(format!(in alloc; "{} tiles round a vertex", star.corners.len())?),
+    let mut star = Star::new();
+    match star.find(machine, &mut frame, VERTEX, &mut steps) {
+        Ok(()) => Ok(format!(in alloc; "{} tiles round a vertex", star.corners.len())?),
         Err(StarFault::TooBig) => Ok("more than 64 tiles round a vertex".to_string(alloc)?),
         Err(StarFault::DepthLimit { .. }) => Ok("a vertex that is never inside".to_string(alloc)?),
     }

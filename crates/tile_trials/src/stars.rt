@@ -10,7 +10,6 @@ use plain_tiles::frame_tiles::begun;
 use plain_tiles::vertex_tiles::stars;
 use star_walk::star::Star;
 use star_walk::star_fault::StarFault;
-use star_walk::turn::star;
 use std::alloc::{AllocError, Global};
 use std::marker::Brand;
 use std::sync::ledger::{Blank, Ledger};
@@ -56,9 +55,9 @@ static ROWS: [(Name, &[u8], u8, &str); 3] = [
 ];
 
 /// The tiles round a vertex as lines, or the fault.
-fn told(alloc: Global, found: &Result<Star, StarFault>) -> Result<String, AllocError> {
+fn told(alloc: Global, found: &Result<(), StarFault>, star: &Star) -> Result<String, AllocError> {
     match found {
-        Ok(star) => {
+        Ok(()) => {
             let mut text = String::new(alloc);
             for corner in star.corners.as_slice() {
                 text.push_str(tile_text(alloc, &corner.tile)?.as_str())?;
@@ -92,8 +91,9 @@ fn star_text<L: Ledger>(
     if vertex >= machine.checked().tables().edges(frame.base().kind) {
         return Ok("no vertex".to_string(alloc)?);
     }
-    let found = star(&machine, &mut frame, vertex, &mut steps);
-    Ok(told(alloc, &found)?)
+    let mut star = Star::new();
+    let found = star.find(&machine, &mut frame, vertex, &mut steps);
+    Ok(told(alloc, &found, &star)?)
 }
 
 #[test]
