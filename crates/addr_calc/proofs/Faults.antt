@@ -1,31 +1,15 @@
 -- A text has one fault: the first.
-use Rattle.std.proofs.Common.{◌≡◌, ◌≢◌, ℕ, zero, suc, ◌<◌, ◌≤◌, List, [], ◌∷◌, map, length, take, slice_get, Some, None, refl, sym, ap, ◌∙◌, subst, arith}
-use Rattle.std.specs.declared.option.Option.{Option}
-use Rattle.std.specs.Option.{option_and_then}
+use Rattle.std.proofs.Common.{◌≡◌, ◌≢◌, ℕ, zero, suc, ◌<◌, ◌≤◌, List, [], ◌∷◌, map, length, take, slice_get, Some, refl, sym, ap, ◌∙◌, subst, arith}
 use Rattle.addressing.specs.Address.{Step, Address, child_kind, kind_at, Climbs, depth}
 use Rattle.tile_shape.specs.declared.address_fault.AddressFault.{AddressFault}
 use Rattle.tile_shape.specs.declared.address_fault.AddressFault.TheVariants.{BadText, TooDeep, UnknownKind, WrongChild}
 use Rattle.tile_shape.specs.Misfit.{StandsAt, IsFirstMisfit}
 use Rattle.tile_shape.specs.Refused.{StopsAt, IsFaultOf}
 use Rattle.tile_shape.specs.Text.{IsTextOf, HasShortNumbers, address_text}
-
--- ---- a list has what it gives
-below_length : {A : Type 0} (xs : List A) (i : ℕ) (x : A) → slice_get xs i ≡ Some x → i < length xs
-below_length [] zero x e = absurd (cc e)
-below_length [] (suc i) x e = absurd (cc e)
-below_length (y ∷ xs) zero x e = omega arith
-below_length (y ∷ xs) (suc i) x e = let l = below_length xs i x e in omega arith
+use Rattle.tile_shape.proofs.Parents.{parent_exists}
 
 some_step : (x y : Step) → Some x ≡ Some y → x ≡ y
 some_step x y e = cc
-
--- the parent of a child that there is exists
-row_of : (children : List (List ℕ)) (parent child kind : ℕ) → child_kind children parent child ≡ Some kind → parent < length children
-row_of children parent child kind e = at_row (slice_get children parent) refl e
-  where
-    at_row : (o : Option (List ℕ)) → slice_get children parent ≡ o → option_and_then (λ row. slice_get row child) o ≡ Some kind → parent < length children
-    at_row None f g = absurd (cc g)
-    at_row (Some row) f g = below_length children parent row f
 
 -- ---- below a level to which an address climbs, each digit is right
 pub record IsRight (children : List (List ℕ)) (kind : ℕ) (ds : List Step) (m : ℕ) (d : Step) : Type 0 where
@@ -47,7 +31,7 @@ module _ (children : List (List ℕ)) (a : Address) where
   no_parent_below : (l m : ℕ) (d e : Step) → StandsAt children a l d → StandsAt children a m e → length children ≤ d.parent → l < m → ⊥
   no_parent_below l m d e h k n less =
       let right = climbed children a.kind a.digits m l d k.climbs h.digit less in
-      let exists = row_of children d.parent d.child right.child right.is_child in
+      let exists = parent_exists children d.parent d.child right.child right.is_child in
       absurd (omega arith)
 
   no_misfit_below : (l m : ℕ) (d e : Step) → StandsAt children a l d → StandsAt children a m e → child_kind children d.parent d.child ≢ kind_at a l → l < m → ⊥

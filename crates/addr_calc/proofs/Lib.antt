@@ -2,7 +2,6 @@ pub mod Levels
 pub mod Faults
 pub mod OneAnswer
 pub mod Names
-pub mod Printing
 pub mod Tables
 pub mod Related
 pub mod Scripts

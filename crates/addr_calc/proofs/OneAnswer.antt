@@ -1,14 +1,15 @@
 -- A script has one answer.
-use Rattle.std.proofs.Common.{◌≡◌, inl, inr, ℕ, ◌+◌, ◌<◌, ◌≤◌, List, [], ◌∷◌, Option, Some, None, Result, Ok, Err, refl, sym, ap, ap₂, ◌∙◌, subst, ℤ, arith}
+use Rattle.std.proofs.Common.{◌≡◌, inl, inr, ℕ, ◌+◌, ◌<◌, ◌≤◌, List, [], ◌∷◌, Option, Some, None, Result, Ok, Err, refl, sym, ap, ap₂, ◌∙◌, subst, arith}
 use Rattle.addressing.specs.Address.{Address, Fits}
 use Rattle.cyclo_points.specs.declared.point.Point.{Point}
-use Rattle.cyclo_points.specs.Order.{NumberOf, coefficients}
+use Rattle.cyclo_points.specs.Order.{coefficients}
+use Rattle.cyclo_points.proofs.SamePoints.{same_point}
 use Rattle.pair_machine.specs.Between.{Pair as EdgePair}
 use Rattle.pair_machine.proofs.InOrder.{in_order-one}
 use Rattle.rule_model.specs.Tiling.{Tiling, MotionOf, IsPlaced, children}
-use Rattle.substitution.specs.Supertile.{Placed}
 use Rattle.tile_place.specs.Crossed.{IsOnlyAcross, LiesOnBoundary, edges_of}
 use Rattle.tile_place.specs.Placing.{first_refused}
+use Rattle.tile_place.proofs.OneAcross.{one_across}
 use Rattle.tile_shape.specs.Accepted.{IsAcceptedAddress}
 use Rattle.tile_shape.specs.Text.{HasShortNumbers, address_text}
 use Rattle.tile_shape.specs.Usable.{AreUsable}
@@ -43,10 +44,6 @@ err_is x y o e f = cc
 either : {A B : Type 0} (x : A) (y : B) (o : Result A B) → o ≡ Ok x → o ≡ Err y → ⊥
 either x y o e f = absurd (cc (e, f))
 
--- a point is its coefficients
-same_point : (p q : Point) → p.c ≡ q.c → p ≡ q
-same_point p q e = ap (λ (c : List ℤ). (let s : Point = record { c = c } in s)) e
-
 -- ---- names and levels
 one_bound : (names : Bindings) (name : ℕ) (a b : Address) → IsBound names name a → IsBound names name b → a ≡ b
 one_bound names name a b h k = some_is a b (sym h ∙ k)
@@ -62,10 +59,6 @@ one_level a b (Some i) (Some j) h k =
     let below : i < j → ⊥ = λ l. k.least i l h.agree in
     let above : j < i → ⊥ = λ l. h.least j l k.agree in
     ap (λ l. Some l) (omega (arith, below, above))
-
--- ---- the tile across is one
-one_across : (t : Tiling) (a b c : Address) (e f g : ℕ) → IsOnlyAcross t a e b f → IsOnlyAcross t a e c g → (b ≡ c) × (f ≡ g)
-one_across t a b c e f g h k = let same = k.only _ f h.across in (ap (λ (p : Placed (NumberOf t.order)). p.address) same.0, same.1)
 
 -- ---- how two tiles lie to each other
 -- a list in order is known by its members
@@ -154,7 +147,7 @@ module _ (one_text : OneText) (short : FitsAreShort) (t : Tiling) (usable : AreU
   -- ---- a statement is done or refused
   inside_or_outside : (names : Bindings) (name edge other own part : ℕ) (after : Bindings) (printed : List ℕ) → Crosses t names name edge other after printed → LiesOutside t names name edge own part → ⊥
   inside_or_outside names name edge other own part after printed h k =
-      h.on_none own part (subst (λ a. LiesOnBoundary t a edge own part) (one_bound names name k.address h.address k.bound h.bound) k.along)
+      h.on_none own part (subst (λ a. LiesOnBoundary t a edge own part) (one_bound names name k.address h.address k.bound h.bound) k.outside.along)
 
   edge_or_none : (names : Bindings) (name edge : ℕ) (a : Address) → IsBound names name a → edge < edges_of t a.kind → LacksEdge t names name edge → ⊥
   edge_or_none names name edge a bound exists k =
@@ -192,7 +185,7 @@ module _ (one_text : OneText) (short : FitsAreShort) (t : Tiling) (usable : AreU
   -- ---- a statement has one fault
   one_outside : (names : Bindings) (name edge own part own' part' : ℕ) → LiesOutside t names name edge own part → LiesOutside t names name edge own' part' → (own ≡ own') × (part ≡ part')
   one_outside names name edge own part own' part' h k =
-      k.alone own part (subst (λ a. LiesOnBoundary t a edge own part) (one_bound names name h.address k.address h.bound k.bound) h.along)
+      k.outside.alone own part (subst (λ a. LiesOnBoundary t a edge own part) (one_bound names name h.address k.address h.bound k.bound) h.outside.along)
 
   one_value : (names : Bindings) (name : ℕ) (v w : Point) → PassesLimit t names name v → PassesLimit t names name w → v ≡ w
   one_value names name v w h k =
@@ -217,8 +210,8 @@ module _ (one_text : OneText) (short : FitsAreShort) (t : Tiling) (usable : AreU
       ap₂ (λ l (x : ℕ × ℕ). Outside l x.0 x.1) (h.0 ∙ sym k.0) (ap₂ (λ x y. (x, y)) one.0 one.1)
   refused_once names (Across name edge other) number (Outside m own part) (UnknownName n) h k = absurd (bound_or_not names name h.1.address h.1.bound k.1)
   refused_once names (Across name edge other) number (UnknownName m) (Outside n own part) h k = absurd (bound_or_not names name k.1.address k.1.bound h.1)
-  refused_once names (Across name edge other) number (Outside m own part) (NoEdge n) h k = absurd (edge_or_none names name edge h.1.address h.1.bound h.1.exists k.1)
-  refused_once names (Across name edge other) number (NoEdge m) (Outside n own part) h k = absurd (edge_or_none names name edge k.1.address k.1.bound k.1.exists h.1)
+  refused_once names (Across name edge other) number (Outside m own part) (NoEdge n) h k = absurd (edge_or_none names name edge h.1.address h.1.bound h.1.outside.exists k.1)
+  refused_once names (Across name edge other) number (NoEdge m) (Outside n own part) h k = absurd (edge_or_none names name edge k.1.address k.1.bound k.1.outside.exists h.1)
   refused_once names s number (UnknownName m) g h k = absurd k
   refused_once names (Let name text) number (BadAddress m f) g h k = absurd k
   refused_once names (Place name) number (CoordLimit m v) g h k = absurd k

@@ -4,6 +4,7 @@ use Rattle.addressing.specs.Address.{Address, Fits}
 use Rattle.addressing.specs.Coherent.{IsCoherent}
 use Rattle.addressing.specs.Tables.{Tables, child_kinds}
 use Rattle.addressing.specs.Touch.{Touches}
+use Rattle.addressing.proofs.EdgesOf.{edge_has_type}
 use Rattle.addressing.proofs.TableBounds.{type_bounds}
 use Rattle.addressing.proofs.Touching.{only_touching, Touches-sym}
 use Rattle.pair_machine.specs.Between.{Pair, IsBetween}
@@ -19,7 +20,6 @@ use Rattle.tile_place.specs.Crossed.{IsOnlyAcross, edges_of}
 use Rattle.tile_place.proofs.Plane.{OnlyTilesLaw, IsSettled, its_rule, fits_tables, has_edge}
 use Rattle.addr_calc.specs.Relation.{AreAllAcross, IsRelation}
 use Rattle.addr_calc.specs.Views.{relation_of}
-use Rattle.addr_calc.proofs.Tables.{edge_has_type}
 
 -- a list without a member has no view with one
 none : (pairs : List EdgePair) → map as_pair pairs ≡ [] → pairs ≡ []

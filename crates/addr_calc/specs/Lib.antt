@@ -1,4 +1,3 @@
-pub mod Parts
 pub mod Statement
 pub mod Reading
 pub mod Bindings

@@ -1,30 +1,23 @@
 -- Reading a line, its words from left to right. Each reader answers what it has read, or the number, from 0, of the first word that hasn't its form or is one
 -- too many; where a word is missing it is the number of words.
 use Rattle.std.specs.Prelude.{ℕ, ◌-◌, ◌&&◌, List, [], ◌∷◌, codes, Option, Some, None, Result, Ok, Err, nat_le, ◌==◌, if◌then◌else◌}
-use Rattle.std.specs.Option.{option_map, ok_or}
 use Rattle.std.specs.Str.{bytes_eq}
 use Rattle.cyclo_points.specs.Text.{blank}
 use Rattle.tile_shape.specs.Decimal.{number_up_to}
 use Rattle.tile_shape.specs.Parse.{◌>>=◌}
+use Rattle.tile_shape.specs.Words.{word_by, some_text, texts_between}
 use Rattle.addr_calc.specs.Statement.{Statement}
 use Rattle.addr_calc.specs.Statement.Statement.{Nothing, Let, Show, Place, Across, Common, Pair}
-use Rattle.addr_calc.specs.Parts.{parts, number_sign}
+
+-- the sign `#` that begins a comment
+abbrev pub number_sign : ℕ
+number_sign = 35
 
 -- the number of a name: the word is one letter from `a`, which is 97, to `z`
 abbrev pub name_in : List ℕ → Option ℕ
 name_in [] = None
 name_in (byte ∷ []) = if nat_le 97 byte && nat_le byte 122 then Some (byte - 97) else None
 name_in (byte ∷ next ∷ bytes) = None
-
--- a text that isn't empty
-abbrev pub text_in : List ℕ → Option (List ℕ)
-text_in [] = None
-text_in (byte ∷ bytes) = Some (byte ∷ bytes)
-
--- what the first of the words is, and the words behind it
-abbrev pub first_word : {A : Type 0} → (List ℕ → Option A) → ℕ → List (List ℕ) → Result (A × List (List ℕ)) ℕ
-first_word form place [] = Err place
-first_word form place (word ∷ words) = ok_or (option_map (λ x. (x, words)) (form word)) place
 
 -- the statement, where no words are left
 abbrev pub no_word : Statement → ℕ → List (List ℕ) → Result Statement ℕ
@@ -34,32 +27,32 @@ no_word statement place (word ∷ words) = Err place
 -- the statement of each command, by the words behind it
 unfoldable pub let_in : List (List ℕ) → Result Statement ℕ
 let_in words = do
-  name ← first_word name_in 1 words
-  text ← first_word text_in 2 name.1
+  name ← word_by name_in 1 words
+  text ← word_by some_text 2 name.1
   no_word (Let name.0 text.0) 3 text.1
 
 unfoldable pub show_in : List (List ℕ) → Result Statement ℕ
 show_in words = do
-  name ← first_word name_in 1 words
+  name ← word_by name_in 1 words
   no_word (Show name.0) 2 name.1
 
 unfoldable pub place_in : List (List ℕ) → Result Statement ℕ
 place_in words = do
-  name ← first_word name_in 1 words
+  name ← word_by name_in 1 words
   no_word (Place name.0) 2 name.1
 
 unfoldable pub across_in : List (List ℕ) → Result Statement ℕ
 across_in words = do
-  from ← first_word name_in 1 words
-  edge ← first_word (number_up_to 255) 2 from.1
-  to ← first_word name_in 3 edge.1
+  from ← word_by name_in 1 words
+  edge ← word_by (number_up_to 255) 2 from.1
+  to ← word_by name_in 3 edge.1
   no_word (Across from.0 edge.0 to.0) 4 to.1
 
 -- one that asks something of two names
 unfoldable pub two_names_in : (ℕ → ℕ → Statement) → List (List ℕ) → Result Statement ℕ
 two_names_in asks words = do
-  one ← first_word name_in 1 words
-  other ← first_word name_in 2 one.1
+  one ← word_by name_in 1 words
+  other ← word_by name_in 2 one.1
   no_word (asks one.0 other.0) 3 other.1
 
 -- the statement of words, of which the first is the command
@@ -76,4 +69,4 @@ command_in (word ∷ words) =
 -- the statement of a line: nothing where it is empty or a comment; else its words stand between single blanks
 unfoldable pub statement_in : List ℕ → Result Statement ℕ
 statement_in [] = Ok Nothing
-statement_in (byte ∷ bytes) = if byte == number_sign then Ok Nothing else command_in (parts blank (byte ∷ bytes))
+statement_in (byte ∷ bytes) = if byte == number_sign then Ok Nothing else command_in (texts_between blank (byte ∷ bytes))

@@ -1,11 +1,11 @@
 -- The faults of a line. Each says that those before it don't hold, so that a line has one: it has not the form of a statement; a name that it reads isn't bound; its text is no
 -- address; the tile hasn't the edge; the edge is on the boundary of the supertile; a Horner value is refused.
-use Rattle.std.specs.Prelude.{◌≡◌, ◌⊎◌, ℕ, ◌<◌, ◌≤◌, List, Some, Ok, Err}
+use Rattle.std.specs.Prelude.{◌≡◌, ◌⊎◌, ℕ, ◌≤◌, List, Some, Ok, Err}
 use Rattle.addressing.specs.Address.{Address}
 use Rattle.cyclo_points.specs.Order.{NumberOf, coefficients}
 use Rattle.cyclo_points.specs.declared.point.Point.{Point}
 use Rattle.rule_model.specs.Tiling.{Tiling, children}
-use Rattle.tile_place.specs.Crossed.{LiesOnBoundary, edges_of}
+use Rattle.tile_place.specs.Crossed.{IsOutside, edges_of}
 use Rattle.tile_place.specs.Placing.{first_refused}
 use Rattle.tile_shape.specs.Accepted.{IsAcceptedAddress}
 use Rattle.tile_shape.specs.declared.address_fault.AddressFault.{AddressFault}
@@ -42,9 +42,7 @@ pub record LacksEdge (t : Tiling) (names : Bindings) (name edge : ℕ) : Type 0 
 pub record LiesOutside (t : Tiling) (names : Bindings) (name own edge part : ℕ) : Type 0 where
   pub address : Address
   pub bound : IsBound names name address
-  pub exists : own < edges_of t address.kind
-  pub along : LiesOnBoundary t address own edge part
-  pub alone : (top other : ℕ) → LiesOnBoundary t address own top other → (top ≡ edge) × (other ≡ part)
+  pub outside : IsOutside t address own edge part
 
 -- this point is the first Horner value of the tile of the name that is refused
 pub record PassesLimit (t : Tiling) (names : Bindings) (name : ℕ) (value : Point) : Type 0 where

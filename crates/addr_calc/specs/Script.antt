@@ -6,7 +6,7 @@ use Rattle.addr_calc.specs.Bindings.{Bindings, none_bound}
 use Rattle.addr_calc.specs.declared.calc_fault.CalcFault.{CalcFault}
 use Rattle.addr_calc.specs.declared.calc_fault.CalcFault.TheVariants.{NoMemory}
 use Rattle.addr_calc.specs.Does.{Runs}
-use Rattle.addr_calc.specs.Parts.{parts}
+use Rattle.tile_shape.specs.Words.{texts_between}
 use Rattle.addr_calc.specs.Refuses.{HasFault}
 
 -- a text, or a fault
@@ -28,7 +28,7 @@ ComesOf t names number (line ∷ lines) outcome =
 
 -- what comes of a script: its lines stand between newlines, are counted from 1, and begin with no name bound
 abbrev pub IsAnswer : Tiling → List ℕ → Outcome → Type 0
-IsAnswer t script outcome = ComesOf t none_bound 1 (parts newline script) outcome
+IsAnswer t script outcome = ComesOf t none_bound 1 (texts_between newline script) outcome
 
 -- memory was wanted, or there was this cause
 abbrev pub OrNoMemory : (CalcFault → Type 0) → CalcFault → Type 0

@@ -7,7 +7,7 @@ use Rattle.pair_machine.specs.declared.verdict.Verdict.{Verdict}
 use Rattle.pair_machine.specs.declared.verdict.Verdict.TheVariants as verdict
 use Rattle.addr_calc.specs.declared.statement.Statement.{Statement as Asked}
 use Rattle.addr_calc.specs.declared.statement.Statement.TheVariants as asked
-use Rattle.addr_calc.specs.Parts.{parts}
+use Rattle.tile_shape.specs.Words.{texts_between}
 use Rattle.addr_calc.specs.Relation.{Relation}
 use Rattle.addr_calc.specs.Relation.Relation.{Strangers, Same, Apart, Beside}
 use Rattle.addr_calc.specs.Statement.{Statement}
@@ -33,7 +33,7 @@ relation_of (verdict.Beside pairs) = Beside (map as_pair pairs.items)
 -- the parts of what stands behind a mark, where there is a mark
 abbrev pub parts_behind : ℕ → Option (List ℕ) → List (List ℕ)
 parts_behind mark None = []
-parts_behind mark (Some rest) = parts mark rest
+parts_behind mark (Some rest) = texts_between mark rest
 
 -- the words of what is left of a line
 abbrev pub words_left : Option (Bor (List ℕ)) → List (List ℕ)

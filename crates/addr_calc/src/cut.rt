@@ -1,12 +1,12 @@
 //! A text cut at its first mark.
 ghost use Rattle.std.specs.Prelude.{◌≡◌, ◌<◌, ◌∷◌, length, IfSome, option_map};
-ghost use Rattle.addr_calc.specs.Parts.{parts};
+ghost use Rattle.tile_shape.specs.Words.{texts_between};
 ghost use Rattle.addr_calc.specs.Views.{parts_behind};
 
 /// What stands before the first mark, and what stands behind it, where there is one.
 #[inline]
 pub fn cut(text: &[u8], mark: u8) -> (&[u8], Option<&[u8]>)
-    ensures parts { parts mark text.now ≡ result.0.now ∷ parts_behind mark (option_map (λ rest. rest.now) result.1) }
+    ensures parts { texts_between mark text.now ≡ result.0.now ∷ parts_behind mark (option_map (λ rest. rest.now) result.1) }
     ensures shorter { IfSome result.1 (λ rest. length rest.now < length text.now) }
 {
     for (place, byte) in text.iter().enumerate() {

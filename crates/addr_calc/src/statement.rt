@@ -1,7 +1,8 @@
 //! What a line of a script asks for.
 ghost use Rattle.std.specs.Prelude.{ℕ, ◌∷◌};
 ghost use Rattle.tile_shape.specs.Decimal.{number_up_to};
-ghost use Rattle.addr_calc.specs.Reading.{name_in, text_in, first_word, no_word, let_in, show_in, place_in, across_in, two_names_in, command_in, statement_in};
+ghost use Rattle.tile_shape.specs.Words.{word_by, some_text};
+ghost use Rattle.addr_calc.specs.Reading.{name_in, no_word, let_in, show_in, place_in, across_in, two_names_in, command_in, statement_in};
 ghost use Rattle.addr_calc.specs.Statement.{Statement as TheStatement};
 ghost use Rattle.addr_calc.specs.Views.{AnswersAs, any_in, words_left, statement_of};
 
@@ -123,7 +124,7 @@ fn two_names_in(words: Option<&[u8]>) -> Result<(Name, Name), u8>
 
 /// The name that the first word is, the word of this place, and the words behind it.
 fn name_at(place: u8, words: Option<&[u8]>) -> Result<(Name, Option<&[u8]>), u8>
-    ensures { AnswersAs (λ found. (found.0.number, words_left found.1)) result (first_word name_in place (words_left words.entry)) }
+    ensures { AnswersAs (λ found. (found.0.number, words_left found.1)) result (word_by name_in place (words_left words.entry)) }
 {
     let (word, words) = word_at(place, words)?;
     let name = Name::named(word).ok_or(place)?;
@@ -132,7 +133,7 @@ fn name_at(place: u8, words: Option<&[u8]>) -> Result<(Name, Option<&[u8]>), u8>
 
 /// The number of an edge that the first word is.
 fn edge_at(place: u8, words: Option<&[u8]>) -> Result<(u8, Option<&[u8]>), u8>
-    ensures { AnswersAs (λ found. (found.0, words_left found.1)) result (first_word (number_up_to 255) place (words_left words.entry)) }
+    ensures { AnswersAs (λ found. (found.0, words_left found.1)) result (word_by (number_up_to 255) place (words_left words.entry)) }
 {
     let (word, words) = word_at(place, words)?;
     let number = read_number(word, 255).ok_or(place)?;
@@ -141,7 +142,7 @@ fn edge_at(place: u8, words: Option<&[u8]>) -> Result<(u8, Option<&[u8]>), u8>
 
 /// The first word, where it isn't empty.
 fn text_at(place: u8, words: Option<&[u8]>) -> Result<(&[u8], Option<&[u8]>), u8>
-    ensures { AnswersAs (λ found. (found.0.now, words_left found.1)) result (first_word text_in place (words_left words.entry)) }
+    ensures { AnswersAs (λ found. (found.0.now, words_left found.1)) result (word_by some_text place (words_left words.entry)) }
 {
     let (word, words) = word_at(place, words)?;
     if word.is_empty() {
@@ -152,7 +153,7 @@ fn text_at(place: u8, words: Option<&[u8]>) -> Result<(&[u8], Option<&[u8]>), u8
 
 /// The first word, whatever it is.
 fn word_at(place: u8, words: Option<&[u8]>) -> Result<(&[u8], Option<&[u8]>), u8>
-    ensures { AnswersAs (λ found. (found.0.now, words_left found.1)) result (first_word any_in place (words_left words.entry)) }
+    ensures { AnswersAs (λ found. (found.0.now, words_left found.1)) result (word_by any_in place (words_left words.entry)) }
 {
     match words {
         Some(text) => Ok(cut(text, b' ')),

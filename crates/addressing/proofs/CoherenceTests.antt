@@ -11,6 +11,7 @@ use Rattle.addressing.specs.Search.{all_below}
 use Rattle.addressing.specs.CoherenceTest.{contact_test, part_test, child_test, edge_test, type_test, kind_links_test, kind_lengths_test, lengths_test, coherence_test}
 use Rattle.addressing.proofs.TableBounds.{kind_tables-past, contact_bounds, part_bounds, child_bounds, type_bounds}
 
+-- a test that passes below n passes for each number below n
 pub all_below-at : (n : ℕ) (p : ℕ → Bool) → all_below n p ≡ true → (k : ℕ) → k < n → p k ≡ true
 all_below-at zero p h k in_range = absurd (omega arith)
 all_below-at (suc n) p h k in_range =

@@ -52,6 +52,27 @@ abbrev pub AreApart : {A : Type 0} → (A → A → Bool) → List A → Type 0
 AreApart t [] = Unit {0}
 AreApart {A} t (s ∷ ss) = AllByRecursion (λ u. (x : A) → t s x ≡ true → t u x ≡ false) ss × AreApart t ss
 
+-- Where the first of these keeps itself alone, each other keeps itself alone also among what the first leaves
+pub others_taken : {A : Type 0} (t : A → A → Bool) (s : A) (ss xs : List A) → AllByRecursion (λ u. filter (t u) xs ≡ u ∷ []) ss → AreApart t (s ∷ ss)
+    → AllByRecursion (λ u. filter (t u) (filter (λ y. not (t s y)) xs) ≡ u ∷ []) ss
+others_taken {A} t s ss xs h apart = AllByRecursion-from (λ u. filter (t u) (filter (λ y. not (t s y)) xs) ≡ u ∷ []) ss (λ u j.
+    filter-after (λ y. not (t s y)) (t u) (weaker u (AllByRecursion-among (λ v. (y : A) → t s y ≡ true → t v y ≡ false) u ss j apart.0)) xs
+    ∙ AllByRecursion-among (λ v. filter (t v) xs ≡ v ∷ []) u ss j h)
+  where
+    weaker : (u : A) → ((y : A) → t s y ≡ true → t u y ≡ false) → (y : A) → t u y ≡ true → not (t s y) ≡ true
+    weaker u f y g = at_case (cases_Bool (t s y))
+      where
+        at_case : (t s y ≡ true) ⊎ (t s y ≡ false) → not (t s y) ≡ true
+        at_case (inl k) = absurd (cc (f y k, g))
+        at_case (inr k) = ap not k
+
+-- and what it leaves is one less
+pub others-length : {A : Type 0} (t : A → A → Bool) (s : A) (ss xs : List A) → filter (t s) xs ≡ s ∷ [] → length xs ≡ length (s ∷ ss) → length (filter (λ y. not (t s y)) xs) ≡ length ss
+others-length t s ss xs h e =
+    let both = length-filter_both (t s) (λ y. not (t s y)) (λ y. refl) xs in
+    let one : length (filter (t s) xs) ≡ 1 = ap length h in
+    omega arith
+
 no_members : {A : Type 0} (xs : List A) (x : A) → length xs ≡ 0 → IsAmong x xs → ⊥
 no_members [] x e i = elim i [ ]
 no_members (y ∷ ys) x e i = omega arith
@@ -60,27 +81,10 @@ no_members (y ∷ ys) x e i = omega arith
 pub all_taken : {A : Type 0} (t : A → A → Bool) (ss xs : List A) → AllByRecursion (λ s. filter (t s) xs ≡ s ∷ []) ss → AreApart t ss
     → length xs ≡ length ss → (x : A) → IsAmong x xs → IsAmong x ss
 all_taken t [] xs h apart e x i = absurd (no_members xs x e i)
-all_taken {A} t (s ∷ ss) xs h apart e x i = at_test (cases_Bool (t s x)) (λ j. all_taken t ss others next apart.1 fewer x j)
+all_taken {A} t (s ∷ ss) xs h apart e x i = at_test (cases_Bool (t s x)) (λ j. all_taken t ss others (others_taken t s ss xs h.1 apart) apart.1 (others-length t s ss xs h.0 e) x j)
   where
     others : List A
     others = filter (λ y. not (t s y)) xs
-
-    weaker : (u : A) → ((y : A) → t s y ≡ true → t u y ≡ false) → (y : A) → t u y ≡ true → not (t s y) ≡ true
-    weaker u f y g = at_case (cases_Bool (t s y))
-      where
-        at_case : (t s y ≡ true) ⊎ (t s y ≡ false) → not (t s y) ≡ true
-        at_case (inl k) = absurd (cc (f y k, g))
-        at_case (inr k) = ap not k
-
-    next : AllByRecursion (λ u. filter (t u) others ≡ u ∷ []) ss
-    next = AllByRecursion-from (λ u. filter (t u) others ≡ u ∷ []) ss (λ u j.
-        filter-after (λ y. not (t s y)) (t u) (weaker u (AllByRecursion-among (λ v. (y : A) → t s y ≡ true → t v y ≡ false) u ss j apart.0)) xs
-        ∙ AllByRecursion-among (λ v. filter (t v) xs ≡ v ∷ []) u ss j h.1)
-
-    fewer : length others ≡ length ss
-    fewer = let both = length-filter_both (t s) (λ y. not (t s y)) (λ y. refl) xs in
-        let one : length (filter (t s) xs) ≡ 1 = ap length h.0 in
-        omega arith
 
     at_test : (t s x ≡ true) ⊎ (t s x ≡ false) → (IsAmong x others → IsAmong x ss) → IsAmong x (s ∷ ss)
     at_test (inl k) rest = inl (only_kept (t s) x s xs h.0 i k)

@@ -34,9 +34,9 @@ pub record Same (k l : ℕ) (xs ys : List Step) (e f : ℕ) : Type 0 where
   pub digits : xs ≡ ys
   pub edges : e ≡ f
 
-step-eq : (s u : Step) → s.child ≡ u.child → s.parent ≡ u.parent → s ≡ u
-step-eq s u c p = let go : (a b : ℕ) → a ≡ u.child → b ≡ u.parent → ◌≡◌ {A = Step} (record { child = a; parent = b }) u
-    = λ a b ha hb. rw (ha, hb) refl in go s.child s.parent c p
+-- digits with one child and one parent are one
+pub step-eq : (s u : Step) → s.child ≡ u.child → s.parent ≡ u.parent → s ≡ u
+step-eq s u c p = λ i. record { child = c i; parent = p i }
 
 -- a part of an edge is one child edge
 part-unique : {t : Tables} → IsCoherent t → (k l c d e f own other q r : ℕ) → contact_of t k c e ≡ Some (outer own q) → contact_of t l d f ≡ Some (outer other r)

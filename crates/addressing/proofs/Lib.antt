@@ -12,3 +12,4 @@ pub mod Searches
 pub mod FirstSome
 pub mod BoolLoops
 pub mod Kept
+pub mod EdgesOf

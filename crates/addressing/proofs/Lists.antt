@@ -1,6 +1,7 @@
 -- Members of lists, and what holds of each.
-use Rattle.std.proofs.Common.{◌≡◌, inl, inr, ℕ, zero, suc, ◌+◌, List, [], ◌∷◌, ◌++◌, map, get_or, slice_get, Some, refl, sym, ap, ◌∙◌, subst, arith, zero-add, add-zero}
+use Rattle.std.proofs.Common.{◌≡◌, inl, inr, ℕ, zero, suc, ◌+◌, ◌<◌, List, [], ◌∷◌, ◌++◌, length, map, reverse, get_or, slice_get, Some, refl, sym, ap, ap₂, ◌∙◌, subst, arith, zero-add, add-zero}
 use Rattle.std.specs.List.{flat_map, enumerate_from, AllByRecursion}
+use Rattle.std.proofs.lemmas.List.{map-append, reverse-append}
 use Rattle.addressing.specs.Search.{IsAmong}
 
 pub AllByRecursion-among : {A : Type 0} (Q : A → Type 0) (x : A) (xs : List A) → IsAmong x xs → AllByRecursion Q xs → Q x
@@ -46,6 +47,32 @@ pub IsAmong-flat_map : {A B : Type 0} (f : A → List B) (x : A) (y : B) (xs : L
 IsAmong-flat_map f x y [] i j = elim i [ ]
 IsAmong-flat_map f x y (z ∷ xs) (inl e) j = IsAmong-append_left y (f z) (flat_map f xs) (subst (λ u. IsAmong y (f u)) e j)
 IsAmong-flat_map f x y (z ∷ xs) (inr i) j = IsAmong-append_right y (f z) (flat_map f xs) (IsAmong-flat_map f x y xs i j)
+
+-- what is read within a list is a member
+pub get_or-among : {A : Type 0} (xs : List A) (i : ℕ) (d : A) → i < length xs → IsAmong (get_or xs i d) xs
+get_or-among [] i d h = absurd (omega arith)
+get_or-among (x ∷ xs) zero d h = inl refl
+get_or-among (x ∷ xs) (suc i) d h = inr (get_or-among xs i d (omega arith))
+
+-- functions that agree have the same images
+pub map-ext : {A B : Type 0} (f g : A → B) (xs : List A) → ((x : A) → f x ≡ g x) → map f xs ≡ map g xs
+map-ext f g [] h = refl
+map-ext f g (x ∷ xs) h = ap₂ (λ u v. u ∷ v) (h x) (map-ext f g xs h)
+
+-- the images in the other order
+pub map-reverse : {A B : Type 0} (f : A → B) (xs : List A) → map f (reverse xs) ≡ reverse (map f xs)
+map-reverse f [] = refl
+map-reverse f (x ∷ xs) =
+    ap (map f) (reverse-append (x ∷ []) xs) ∙ map-append f (reverse xs) (x ∷ []) ∙ ap (λ l. l ++ f x ∷ []) (map-reverse f xs) ∙ sym (reverse-append (f x ∷ []) (map f xs))
+
+-- the number of what stands in a numbered list is within the list
+enumerated-from : {A : Type 0} (n : ℕ) (xs : List A) (c : ℕ × A) → IsAmong c (enumerate_from n xs) → c.0 < n + length xs
+enumerated-from n [] c i = elim i [ ]
+enumerated-from n (x ∷ xs) c (inl e) = let first : c.0 ≡ n = ap (λ d. d.0) e in omega arith
+enumerated-from n (x ∷ xs) c (inr i) = let rest = enumerated-from (n + 1) xs c i in omega arith
+
+pub enumerated-at : {A : Type 0} (xs : List A) (c : ℕ × A) → IsAmong c (enumerate_from 0 xs) → c.0 < length xs
+enumerated-at xs c i = let h = enumerated-from 0 xs c i in omega arith
 
 -- what stands at a place in a list stands beside its number
 enumerated : {A : Type 0} (d : A) (n : ℕ) (xs : List A) → AllByRecursion (λ c. (m : ℕ) × (c.0 ≡ n + m) × (get_or xs m d ≡ c.1)) (enumerate_from n xs)

@@ -1,12 +1,13 @@
 -- A rule is accepted where the tests of the ten clauses, which compute, pass.
-use Rattle.std.proofs.Common.{◌≡◌, ℕ, zero, suc, ◌<◌, inl, inr, Bool, true, false, not, List, [], ◌∷◌, length, subst, arith}
+use Rattle.std.proofs.Common.{◌≡◌, ℕ, Bool, true, false, not, List, [], ◌∷◌, length}
 use Rattle.std.specs.Prelude.{is_ok}
 use Rattle.std.specs.List.{list_all, AllByRecursion}
-use Rattle.std.proofs.lemmas.Bool.{cases_lt, and_parts, not-true}
+use Rattle.std.proofs.lemmas.Bool.{and_parts, not-true}
 use Rattle.substitution.specs.Points.{Points}
 use Rattle.substitution.specs.Rule.{Rule}
 use Rattle.substitution.specs.RuleParts.{mate, vertices_of, edge_count}
 use Rattle.addressing.specs.Search.{all_below}
+use Rattle.addressing.proofs.CoherenceTests.{all_below-at}
 use Rattle.edge_to_edge.specs.Limits.{is_type, kinds_fit, types_fit, glue_fits, parts_fit, edges_fit, vertices_fit, children_fit}
 use Rattle.edge_to_edge.specs.Limited.{WithinLimits}
 use Rattle.edge_to_edge.specs.Star.{is_star}
@@ -19,12 +20,6 @@ use Rattle.edge_to_edge.specs.Boundary.{parts_of_edge}
 use Rattle.edge_to_edge.specs.Uses.{is_used}
 use Rattle.edge_to_edge.specs.Glue.{glues_halves}
 use Rattle.edge_to_edge.specs.EdgeToEdge.{IsEdgeToEdge}
-
-pub each : (n : ℕ) (p : ℕ → Bool) → all_below n p ≡ true → (k : ℕ) → k < n → p k ≡ true
-each zero p h k l = absurd (omega arith)
-each (suc n) p h k l =
-    let both = and_parts (p n) (all_below n p) h in
-    elim (cases_lt k n) [ inl lt ↦ each n p both.1 k lt | inr ge ↦ let same : n ≡ k = omega arith in subst (λ j. p j ≡ true) same both.0 ]
 
 none : {A : Type 0} (bad : A → Bool) (xs : List A) → list_all (λ x. not (bad x)) xs ≡ true → AllByRecursion (λ x. bad x ≡ false) xs
 none bad [] h = tt
@@ -48,11 +43,11 @@ within_limits n small r t = record {
   types = t.types;
   factor = t.factor;
   glue = t.glue;
-  mates = each (length r.types) (λ ty. is_type r (mate r ty)) t.mates;
-  parts = each (length r.types) (parts_fit r) t.parts;
-  edges = each (length r.kinds) (edges_fit r) t.edges;
-  vertices = each (length r.kinds) (vertices_fit small r) t.vertices;
-  children = each (length r.kinds) (children_fit n small r) t.children;
+  mates = all_below-at (length r.types) (λ ty. is_type r (mate r ty)) t.mates;
+  parts = all_below-at (length r.types) (parts_fit r) t.parts;
+  edges = all_below-at (length r.kinds) (edges_fit r) t.edges;
+  vertices = all_below-at (length r.kinds) (vertices_fit small r) t.vertices;
+  children = all_below-at (length r.kinds) (children_fit n small r) t.children;
 }
 
 -- the nine clauses beyond the limits, as tests
@@ -69,15 +64,15 @@ pub record PassesTests (P : Points) (edition : Edition) (refused : P.ring.carrie
 
 pub is_edge_to_edge : (P : Points) (edition : Edition) (refused : P.ring.carrier → Bool) (r : Rule P.ring.carrier) → PassesTests P edition refused r → IsEdgeToEdge P edition refused r
 is_edge_to_edge P edition refused r t = record {
-  star_shaped = each (length r.kinds) (λ k. is_star P (vertices_of r k)) t.star_shaped;
+  star_shaped = all_below-at (length r.kinds) (λ k. is_star P (vertices_of r k)) t.star_shaped;
   inflation_factor = t.inflation_factor;
-  mates_back = each (length r.types) (mates_back r) t.mates_back;
-  equal_lengths = λ k e l m. each (edge_count r k) (has_length_of_type P r k) (each (length r.kinds) (λ k. all_below (edge_count r k) (has_length_of_type P r k)) t.equal_lengths k l) e m;
-  mirrored = each (length r.types) (is_mirrored r) t.mirrored;
+  mates_back = all_below-at (length r.types) (mates_back r) t.mates_back;
+  equal_lengths = λ k e l m. all_below-at (edge_count r k) (has_length_of_type P r k) (all_below-at (length r.kinds) (λ k. all_below (edge_count r k) (has_length_of_type P r k)) t.equal_lengths k l) e m;
+  mirrored = all_below-at (length r.types) (is_mirrored r) t.mirrored;
   none_loose = λ k l. none (λ (s : PlacedEdge P.ring.carrier). is_loose (lie_of P r k s)) (child_edges P r k)
-      (each (length r.kinds) (λ k. list_all (λ (s : PlacedEdge P.ring.carrier). not (is_loose (lie_of P r k s))) (child_edges P r k)) t.none_loose k l);
-  boundary_cut = λ k e l m. each (edge_count r k) (λ e. is_ok (parts_of_edge P r k e))
-      (each (length r.kinds) (λ k. all_below (edge_count r k) (λ e. is_ok (parts_of_edge P r k e))) t.boundary_cut k l) e m;
-  each_used = each (length r.kinds) (is_used r) t.each_used;
-  glue_right = each (length r.glue) (glues_halves r) t.glue_right;
+      (all_below-at (length r.kinds) (λ k. list_all (λ (s : PlacedEdge P.ring.carrier). not (is_loose (lie_of P r k s))) (child_edges P r k)) t.none_loose k l);
+  boundary_cut = λ k e l m. all_below-at (edge_count r k) (λ e. is_ok (parts_of_edge P r k e))
+      (all_below-at (length r.kinds) (λ k. all_below (edge_count r k) (λ e. is_ok (parts_of_edge P r k e))) t.boundary_cut k l) e m;
+  each_used = all_below-at (length r.kinds) (is_used r) t.each_used;
+  glue_right = all_below-at (length r.glue) (glues_halves r) t.glue_right;
 }

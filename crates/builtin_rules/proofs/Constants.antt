@@ -70,7 +70,8 @@ seen : (children : List (List ℕ)) → 1 ≤ length children → length childre
     → IsTrue (list_all (λ kind. is_child_kind children kind) (range_with_len 0 (length children))) → AreUsable children
 seen children a b c d e f = record { some_kind = a; at_most_16_kinds = b; some_child = c; at_most_16_children = d; each_exists = e; each_used = f }
 
-rows_usable : (name : Name) → AreUsable (children (tiling_listed (named name)))
+-- the child kinds of each rule are usable, as is seen of its numbers
+pub rows_usable : (name : Name) → AreUsable (children (tiling_listed (named name)))
 rows_usable Chair = seen _ (lit≤ tt) (lit≤ tt) refl refl refl refl
 rows_usable P2 = seen _ (lit≤ tt) (lit≤ tt) refl refl refl refl
 rows_usable P3 = seen _ (lit≤ tt) (lit≤ tt) refl refl refl refl

@@ -3,6 +3,7 @@ use Rattle.std.proofs.Common.{◌≡◌, ℕ, ◌<◌, Bool, true, length, get_o
 use Rattle.std.specs.Prelude.{nat_eq}
 use Rattle.std.proofs.lemmas.Bool.{ltb-true, leb-true, eqb-true}
 use Rattle.addressing.specs.Search.{all_below}
+use Rattle.addressing.proofs.CoherenceTests.{all_below-at}
 use Rattle.substitution.specs.Points.{Points}
 use Rattle.substitution.specs.Rule.{Rule, children_of}
 use Rattle.substitution.specs.RuleParts.{mate, parts, vertices_of, edge_count, edge_type, child_of}
@@ -13,7 +14,6 @@ use Rattle.rule_model.specs.Tiling.{tiling_listed}
 use Rattle.builtin_rules.specs.declared.name.Name.{Name}
 use Rattle.builtin_rules.specs.declared.name.Name.TheVariants.{Chair, P2, P3, AmmannBeenker, HalfHex}
 use Rattle.builtin_rules.specs.Named.{named}
-use Rattle.builtin_rules.proofs.Acceptance.{each}
 
 -- that the numbers of a rule exist, as tests
 record HasNumbers (P : Points) (r : Rule P.ring.carrier) : Type 0 where
@@ -36,12 +36,9 @@ record HasNumbers (P : Points) (r : Rule P.ring.carrier) : Type 0 where
   child_exists : all_below (length r.kinds) (λ k. all_below (length (children_of r k)) (λ c. nat_lt (child_of P r k c).kind (length r.kinds))) ≡ true
   turn_below : all_below (length r.kinds) (λ k. all_below (length (children_of r k)) (λ c. nat_lt (child_of P r k c).motion.turn P.order)) ≡ true
 
--- a test that passes below a number, and one that passes below it and below a number for each
-below : (n : ℕ) (p : ℕ → Bool) → all_below n p ≡ true → (k : ℕ) → k < n → p k ≡ true
-below n p h k l = each n p h k l
-
+-- a test that passes below a number, and below a number for each
 below_each : (n : ℕ) (m : ℕ → ℕ) (p : ℕ → ℕ → Bool) → all_below n (λ k. all_below (m k) (p k)) ≡ true → (k i : ℕ) → k < n → i < m k → p k i ≡ true
-below_each n m p h k i l j = each (m k) (p k) (each n (λ k. all_below (m k) (p k)) h k l) i j
+below_each n m p h k i l j = all_below-at (m k) (p k) (all_below-at n (λ k. all_below (m k) (p k)) h k l) i j
 
 numbers_exist : (P : Points) (r : Rule P.ring.carrier) → HasNumbers P r → IsNumbered P r
 numbers_exist P r t = record {
@@ -50,17 +47,17 @@ numbers_exist P r t = record {
   some_type = leb-true _ _ t.some_type;
   at_most_32_types = leb-true _ _ t.at_most_32_types;
   at_most_16_glue_types = leb-true _ _ t.at_most_16_glue_types;
-  glue_exists = λ i l. ltb-true _ _ (below _ (λ i. nat_lt (glue_type r i) (length r.types)) t.glue_exists i l);
-  mate_exists = λ ty l. ltb-true _ _ (below _ (λ ty. nat_lt (mate r ty) (length r.types)) t.mate_exists ty l);
-  some_part = λ ty l. leb-true _ _ (below _ (λ ty. nat_le 1 (length (parts r ty))) t.some_part ty l);
-  at_most_8_parts = λ ty l. leb-true _ _ (below _ (λ ty. nat_le (length (parts r ty)) 8) t.at_most_8_parts ty l);
+  glue_exists = λ i l. ltb-true _ _ (all_below-at _ (λ i. nat_lt (glue_type r i) (length r.types)) t.glue_exists i l);
+  mate_exists = λ ty l. ltb-true _ _ (all_below-at _ (λ ty. nat_lt (mate r ty) (length r.types)) t.mate_exists ty l);
+  some_part = λ ty l. leb-true _ _ (all_below-at _ (λ ty. nat_le 1 (length (parts r ty))) t.some_part ty l);
+  at_most_8_parts = λ ty l. leb-true _ _ (all_below-at _ (λ ty. nat_le (length (parts r ty)) 8) t.at_most_8_parts ty l);
   part_exists = λ ty i l m. ltb-true _ _ (below_each _ (λ ty. length (parts r ty)) (λ ty i. nat_lt (get_or (parts r ty) i 0) (length r.types)) t.part_exists ty i l m);
-  at_least_3_edges = λ k l. leb-true _ _ (below _ (λ k. nat_le 3 (edge_count r k)) t.at_least_3_edges k l);
-  at_most_12_edges = λ k l. leb-true _ _ (below _ (λ k. nat_le (edge_count r k) 12) t.at_most_12_edges k l);
-  vertex_each = λ k l. eqb-true _ _ (below _ (λ k. nat_eq (length (vertices_of r k)) (edge_count r k)) t.vertex_each k l);
+  at_least_3_edges = λ k l. leb-true _ _ (all_below-at _ (λ k. nat_le 3 (edge_count r k)) t.at_least_3_edges k l);
+  at_most_12_edges = λ k l. leb-true _ _ (all_below-at _ (λ k. nat_le (edge_count r k) 12) t.at_most_12_edges k l);
+  vertex_each = λ k l. eqb-true _ _ (all_below-at _ (λ k. nat_eq (length (vertices_of r k)) (edge_count r k)) t.vertex_each k l);
   type_exists = λ k e l m. ltb-true _ _ (below_each _ (edge_count r) (λ k e. nat_lt (edge_type r k e) (length r.types)) t.type_exists k e l m);
-  some_child = λ k l. leb-true _ _ (below _ (λ k. nat_le 1 (length (children_of r k))) t.some_child k l);
-  at_most_16_children = λ k l. leb-true _ _ (below _ (λ k. nat_le (length (children_of r k)) 16) t.at_most_16_children k l);
+  some_child = λ k l. leb-true _ _ (all_below-at _ (λ k. nat_le 1 (length (children_of r k))) t.some_child k l);
+  at_most_16_children = λ k l. leb-true _ _ (all_below-at _ (λ k. nat_le (length (children_of r k)) 16) t.at_most_16_children k l);
   child_exists = λ k c l m. ltb-true _ _ (below_each _ (λ k. length (children_of r k)) (λ k c. nat_lt (child_of P r k c).kind (length r.kinds)) t.child_exists k c l m);
   turn_below = λ k c l m. ltb-true _ _ (below_each _ (λ k. length (children_of r k)) (λ k c. nat_lt (child_of P r k c).motion.turn P.order) t.turn_below k c l m);
 }

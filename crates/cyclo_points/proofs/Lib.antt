@@ -22,6 +22,7 @@ pub mod ProductReadings
 pub mod Reals
 pub mod Shorts
 pub mod Witnesses
+pub mod ShortWitness
 pub mod SignReadings
 pub mod Divisors
 pub mod RealProducts
@@ -30,3 +31,5 @@ pub mod Undoing
 pub mod Roots
 pub mod Floors
 pub mod Thetas
+pub mod Coefficients
+pub mod SamePoints

@@ -7,6 +7,7 @@ pub mod Ten
 pub mod Order
 pub mod Point
 pub mod Real
+pub mod Witness
 pub mod Reduced
 pub mod Thousandths
 pub mod Motion

@@ -1,5 +1,5 @@
--- How points and motions are printed.
-use Rattle.std.specs.Prelude.{ℕ, ℤ, List, [], ◌∷◌, ◌++◌, map}
+-- How points and motions are printed, and points are read.
+use Rattle.std.specs.Prelude.{ℕ, ℤ, List, [], ◌∷◌, ◌++◌, map, Option, None, option_map, option_and_then}
 use Rattle.std.specs.List.{join_with_byte}
 use Rattle.std.specs.Fmt.{decimal, signed_decimal}
 use Rattle.cyclo_points.specs.declared.motion.Motion.{Motion}
@@ -30,3 +30,12 @@ motion_text m = decimal m.turn ++ blank ∷ point_text m.shift
 -- a number of an order: its four coefficients
 abbrev pub number_text : (o : Order) → NumberOf o → List ℕ
 number_text o z = coefficients_text (coefficients o z)
+
+-- the point of four coefficients, where there are all four
+abbrev pub point_of_coefficients : Option ℤ → Option ℤ → Option ℤ → Option ℤ → Option Point
+point_of_coefficients a b c d = option_and_then (λ x. option_and_then (λ y. option_and_then (λ z. option_map (λ w. record { c = x ∷ y ∷ z ∷ w ∷ [] }) d) c) b) a
+
+-- the point that four texts are, by what each is read as
+abbrev pub point_of_texts : (List ℕ → Option ℤ) → List (List ℕ) → Option Point
+point_of_texts read (a ∷ b ∷ c ∷ d ∷ []) = point_of_coefficients (read a) (read b) (read c) (read d)
+point_of_texts read _ = None

@@ -8,6 +8,7 @@ ghost use Rattle.cyclo_points.specs.Order.{points_of};
 ghost use Rattle.cyclo_points.specs.Point.{Within};
 ghost use Rattle.cyclo_points.specs.Product.{product_of};
 ghost use Rattle.cyclo_points.specs.Real.{number, real_in, IsRealWithin};
+ghost use Rattle.cyclo_points.specs.Witness.{witness_in};
 
 use crate::order::Order;
 use crate::real::Real;
@@ -32,17 +33,19 @@ pub fn sign(order: Order, r: &Real) -> Ordering
     ensures { result ≡ (points_of order).real.sign (real_in order r.now) }
 {
     if is_short(r) {
-        short_witness(order, r.a as i64, r.b as i64).cmp(&0)
+        witness(order, r.a as i64, r.b as i64).cmp(&0)
     } else {
         wide_witness(order, r).cmp(&0)
     }
 }
 
-/// A whole number with the sign of a + bθ, for short parts.
-fn short_witness(order: Order, a: i64, b: i64) -> i64
+/// A whole number with the sign of a + bθ, for short parts, at most 2^25 in absolute value: qa + pb,
+/// where p/q is a convergent of θ.
+pub fn witness(order: Order, a: i64, b: i64) -> i64
     requires a_within { Within (2 ^ 25) a }
     requires b_within { Within (2 ^ 25) b }
-    ensures { (points_of order).real.sign (number order a b) ≡ int_cmp result (pos 0) }
+    ensures value { result ≡ witness_in order a b }
+    ensures same_sign { (points_of order).real.sign (number order a b) ≡ int_cmp result (pos 0) }
 {
     match order {
         Order::Four | Order::Six => a,

@@ -8,7 +8,6 @@ pub mod Agreeing
 pub mod FirstLoose
 pub mod Powers
 pub mod Holders
-pub mod EachUse
 pub mod ChildKinds
 pub mod Lies
 pub mod Walk

@@ -19,7 +19,7 @@ use Rattle.rule_model.proofs.Usable.{from_to}
 use Rattle.rule_model.proofs.Views.{kind_of-map}
 use Rattle.dissect_check.specs.FirstFault.{fault_of_lists}
 use Rattle.dissect_check.proofs.Accepted.{limits-where, edge_to_edge-where}
-use Rattle.dissect_check.proofs.EachUse.{HasChildren, uses-usable}
+use Rattle.rule_model.proofs.EachUse.{HasChildren, uses-usable}
 
 module _ {A B : Type 0} (f : A → B) (n : ℕ) (small : A → Bool) (r : Rule A) (limits : WithinLimits n small r) where
   -- as many kinds with each point replaced

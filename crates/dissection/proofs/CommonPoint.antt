@@ -7,7 +7,7 @@ use Rattle.ordered_ring.specs.Sign.{Signed, OrderLaws, IsPositive, IsNonNegative
 use Rattle.ordered_plane.specs.Plane.{PlanePoint, TestPoint, side, orientation}
 use Rattle.ordered_plane.specs.Crossing.{crossing_of}
 use Rattle.ordered_ring.proofs.Normaliser.{Expr, var, con, neg, exprs, ring, ring_by, ring_from, ◌⊕◌, ◌⊖◌, ◌⊗◌}
-use Rattle.ordered_ring.proofs.Signs.{pos_nonneg, not_pos, nonneg_add, nonneg_mul, pos_add_nonneg, sign-scale}
+use Rattle.ordered_ring.proofs.Signs.{pos_nonneg, not_pos, nonneg_add, nonneg_mul, pos_add_nonneg, sign-scale, zero_factor}
 use Rattle.ordered_plane.proofs.Crossing.{above, A, B, C, these}
 use Rattle.ordered_plane.proofs.Triangle.{edge_sum, level_is, is_greater}
 use Rattle.ordered_plane.proofs.Inside.{both_zero}
@@ -45,7 +45,7 @@ module _ (S : Signed) (L : Laws S.ops) (O : OrderLaws S) where
     none_above f g h =
         let e : (R.add (R.mul (side R b c p) (R.neg α)) (R.mul (side R c a p) (R.neg β)) ≡ zero_of) × (R.mul (side R a b p) (R.neg γ) ≡ zero_of) = both_zero S L O _ _ (nonneg_add S L O _ _ x y) z whole in
         let k : (R.mul (side R b c p) (R.neg α) ≡ zero_of) × (R.mul (side R c a p) (R.neg β) ≡ zero_of) = both_zero S L O _ _ x y e.0 in
-        flat (gone _ _ s2 k.0) (gone _ _ s3 k.1) (gone _ _ s1 e.1)
+        flat (zero_factor S L O _ _ s2 k.0) (zero_factor S L O _ _ s3 k.1) (zero_factor S L O _ _ s1 e.1)
       where
         x : IsNonNegative S (R.mul (side R b c p) (R.neg α))
         x = nonneg_mul S L O _ _ (pos_nonneg S L O _ s2) (not_pos S L O _ f)
@@ -60,9 +60,6 @@ module _ (S : Signed) (L : Laws S.ops) (O : OrderLaws S) where
         whole =
             ring_by R L (side R a b p ∷ (side R b c p ∷ (side R c a p ∷ (α ∷ (β ∷ (γ ∷ [])))))) (var 1 ⊗ neg (var 3) ⊕ var 2 ⊗ neg (var 4) ⊕ var 0 ⊗ neg (var 5)) (con (pos 0))
             (con (negsuc 0)) (var 1 ⊗ var 3 ⊕ var 2 ⊗ var 4 ⊕ var 0 ⊗ var 5) (con (pos 0)) (level_is S L O a b c p) refl
-
-        gone : (k x : R.carrier) → IsPositive S k → R.mul k x ≡ zero_of → x ≡ zero_of
-        gone k x h e = O.equal_zero x (sym (sign-scale S L O k x h) ∙ ap S.sign e ∙ O.zero_equal)
 
         -- three vertices at the point's height
         flat : R.neg α ≡ zero_of → R.neg β ≡ zero_of → R.neg γ ≡ zero_of → ⊥

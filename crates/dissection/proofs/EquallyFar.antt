@@ -6,7 +6,7 @@ use Rattle.ordered_ring.specs.Ring.{Ops, Laws, difference}
 use Rattle.ordered_ring.specs.Sign.{Signed, OrderLaws, IsPositive, IsNonNegative}
 use Rattle.ordered_plane.specs.Plane.{PlanePoint}
 use Rattle.ordered_ring.proofs.Normaliser.{var, con, neg, ring, ring_from, ◌⊕◌, ◌⊖◌, ◌⊗◌}
-use Rattle.ordered_ring.proofs.Signs.{pos_nonneg, zero_nonneg, nonneg_mul, less_neg, sign-scale}
+use Rattle.ordered_ring.proofs.Signs.{pos_nonneg, zero_nonneg, nonneg_mul, less_neg, zero_factor}
 use Rattle.ordered_plane.proofs.Inside.{both_zero}
 use Rattle.ordered_plane.proofs.Linear.{cancel}
 use Rattle.substitution.specs.Points.{Points, PointLaws}
@@ -30,23 +30,20 @@ module _ (S : Signed) (L : Laws S.ops) (O : OrderLaws S) where
       at_sign Less e =
           pos_nonneg S L O _ (ap S.sign (ring R L (x ∷ []) (var 0 ⊗ var 0) (neg (var 0) ⊗ neg (var 0)) refl) ∙ O.sign-mul _ _ (less_neg S L O x e) (less_neg S L O x e))
 
-  pub zero_factor : (k x : R.carrier) → IsPositive S k → R.mul k x ≡ zero_of → x ≡ zero_of
-  zero_factor k x h e = O.equal_zero x (sym (sign-scale S L O k x h) ∙ ap S.sign e ∙ O.zero_equal)
-
   square_zero : (x : R.carrier) → R.mul x x ≡ zero_of → x ≡ zero_of
   square_zero x e = at_sign (S.sign x) refl
     where
       at_sign : (o : Ordering) → S.sign x ≡ o → x ≡ zero_of
-      at_sign Greater h = zero_factor x x h e
+      at_sign Greater h = zero_factor S L O x x h e
       at_sign Equal h = O.equal_zero x h
       at_sign Less h =
-          zero_factor (R.neg x) x (less_neg S L O x h) (ring R L (x ∷ []) (neg (var 0) ⊗ var 0) (neg (var 0 ⊗ var 0)) refl ∙ ap R.neg e ∙ ring R L [] (neg (con (pos 0))) (con (pos 0)) refl)
+          zero_factor S L O (R.neg x) x (less_neg S L O x h) (ring R L (x ∷ []) (neg (var 0) ⊗ var 0) (neg (var 0 ⊗ var 0)) refl ∙ ap R.neg e ∙ ring R L [] (neg (con (pos 0))) (con (pos 0)) refl)
 
   -- x² + h y² is 0 for the origin alone
   pub only_origin : (h x y : R.carrier) → IsPositive S h → R.add (R.mul x x) (R.mul h (R.mul y y)) ≡ zero_of → (x ≡ zero_of) × (y ≡ zero_of)
   only_origin h x y p e =
       let both = both_zero S L O (R.mul x x) (R.mul h (R.mul y y)) (square_nonneg x) (nonneg_mul S L O _ _ (pos_nonneg S L O h p) (square_nonneg y)) e in
-      (square_zero x both.0, square_zero y (zero_factor h (R.mul y y) p both.1))
+      (square_zero x both.0, square_zero y (zero_factor S L O h (R.mul y y) p both.1))
 
   -- β (x, y) = α (x', y') with α and β positive, and equal lengths
   pub one_length : (h α β x y x' y' : R.carrier) → IsPositive S h → IsPositive S α → IsPositive S β → R.mul β x ≡ R.mul α x' → R.mul β y ≡ R.mul α y'
@@ -65,7 +62,7 @@ module _ (S : Signed) (L : Laws S.ops) (O : OrderLaws S) where
           (same, (ex, (ey, tt))) refl
 
       gone : R.mul (difference R α β) (R.add (R.mul x x) (R.mul h (R.mul y y))) ≡ zero_of
-      gone = zero_factor (R.add α β) _ (O.sign-add α β α_pos β_pos) product
+      gone = zero_factor S L O (R.add α β) _ (O.sign-add α β α_pos β_pos) product
 
       -- where both are the origin
       at_origin : R.add (R.mul x x) (R.mul h (R.mul y y)) ≡ zero_of → (x ≡ x') × (y ≡ y')
@@ -75,9 +72,9 @@ module _ (S : Signed) (L : Laws S.ops) (O : OrderLaws S) where
           (here.0 ∙ sym there.0, here.1 ∙ sym there.1)
 
       at_sign : (o : Ordering) → S.sign (difference R α β) ≡ o → (x ≡ x') × (y ≡ y')
-      at_sign Greater e = at_origin (zero_factor (difference R α β) _ e gone)
+      at_sign Greater e = at_origin (zero_factor S L O (difference R α β) _ e gone)
       at_sign Less e =
-          at_origin (zero_factor (R.neg (difference R α β)) _ (less_neg S L O _ e)
+          at_origin (zero_factor S L O (R.neg (difference R α β)) _ (less_neg S L O _ e)
           (ring R L (difference R α β ∷ (R.add (R.mul x x) (R.mul h (R.mul y y)) ∷ [])) (neg (var 0) ⊗ var 1) (neg (var 0 ⊗ var 1)) refl ∙ ap R.neg gone ∙ ring R L [] (neg (con (pos 0))) (con (pos 0)) refl))
       at_sign Equal e = (one x x' ex, one y y' ey)
         where

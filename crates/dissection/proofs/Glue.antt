@@ -3,7 +3,7 @@ use Rattle.std.proofs.Common.{◌≡◌, ℕ, ◌+◌, ◌-◌, ◌<◌, ◌%◌
 use Rattle.std.specs.declared.cmp.Ordering.{Ordering}
 use Rattle.std.specs.declared.cmp.Ordering.TheVariants.{Less, Equal, Greater}
 use Rattle.std.proofs.Math.Nat.{mod-lt}
-use Rattle.ordered_ring.proofs.Signs.{less_neg}
+use Rattle.ordered_ring.proofs.Signs.{less_neg, zero_factor}
 use Rattle.ordered_ring.specs.Ring.{Ops, difference, power}
 use Rattle.ordered_ring.proofs.Normaliser.{var, con, neg, ring, ring_from, ◌⊕◌, ◌⊖◌, ◌⊗◌}
 use Rattle.substitution.specs.Points.{Points, PointLaws}
@@ -27,7 +27,7 @@ use Rattle.dissection.specs.Across.{RunsBack, IsTileAcross}
 use Rattle.dissection.specs.Glue.{TurnsOnto}
 use Rattle.dissection.proofs.GlueMotions.{glue_motion}
 use Rattle.dissection.proofs.Setting.{Setting}
-use Rattle.dissection.proofs.EquallyFar.{zero_factor, only_origin}
+use Rattle.dissection.proofs.EquallyFar.{only_origin}
 
 module _ (P : Points) (W : PointLaws P) where
   abbrev K : Ops

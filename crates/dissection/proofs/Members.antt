@@ -1,5 +1,5 @@
 -- The tiles that a supertile's list has: their addresses fit, and each has the motion of its digits.
-use Rattle.std.proofs.Common.{◌≡◌, ℕ, zero, suc, ◌<◌, List, [], ◌∷◌, ◌++◌, length, Some, refl, sym, ap, ◌∙◌, subst}
+use Rattle.std.proofs.Common.{◌≡◌, ℕ, zero, suc, ◌<◌, List, [], ◌∷◌, ◌++◌, length, Some, refl, sym, ap, ◌∙◌}
 use Rattle.std.specs.List.{enumerate_from, AllByRecursion}
 use Rattle.substitution.specs.Motion.{still}
 use Rattle.addressing.specs.Address.{Step, top_from, top_kind, depth}
@@ -11,12 +11,11 @@ use Rattle.substitution.specs.Supertile.{Placed, lifted, supertile}
 use Rattle.edge_to_edge.specs.Contacts.{tables_of}
 use Rattle.addressing.specs.Tables.{Tables, child_kind_of}
 use Rattle.addressing.proofs.Chains.{IsChain}
-use Rattle.addressing.proofs.Lists.{AllByRecursion-among, AllByRecursion-from, AllByRecursion-map, AllByRecursion-flat_map, AllByRecursion-each, get_or-enumerated}
-use Rattle.substitution.proofs.Addresses.{top_from-append}
+use Rattle.addressing.proofs.Lists.{AllByRecursion-among, AllByRecursion-from, AllByRecursion-map, AllByRecursion-flat_map, AllByRecursion-each, get_or-enumerated, enumerated-at}
+use Rattle.substitution.proofs.Addresses.{numbered-exists, top_from-append}
 use Rattle.substitution.proofs.Placement.{IsPlaced, supertile-placed}
 use Rattle.edge_to_edge.proofs.TablesOf.{child_kind_of-at}
 use Rattle.dissection.proofs.Setting.{Setting, below_kinds}
-use Rattle.dissection.proofs.SupertileCount.{enumerated-at}
 
 pub chain-append : (t : Tables) (kind : ℕ) (ds : List Step) (d : Step) → IsChain t kind ds → child_kind_of t d.parent d.child ≡ Some (top_from kind ds) → d.parent < length t.kinds → IsChain t kind (ds ++ d ∷ [])
 chain-append t kind [] d h fits exists = (fits, exists)
@@ -37,13 +36,10 @@ module _ (T : Setting) where
   supertile-tiles k zero hk = (record { kind_exists = hk; chain = below_kinds T k hk; top = refl }, tt)
   supertile-tiles k (suc n) hk =
       AllByRecursion-flat_map _ _ (enumerate_from 0 (children_of r k)) (AllByRecursion-from _ (enumerate_from 0 (children_of r k)) (λ c i.
-      AllByRecursion-map _ (lifted P r k n c.0 c.1) (supertile P r c.1.kind n) (AllByRecursion-each (IsTile c.1.kind) _ (supertile P r c.1.kind n) (λ t h. one_more c i t h) (supertile-tiles c.1.kind n (child_exists c i)))))
+      AllByRecursion-map _ (lifted P r k n c.0 c.1) (supertile P r c.1.kind n) (AllByRecursion-each (IsTile c.1.kind) _ (supertile P r c.1.kind n) (λ t h. one_more c i t h) (supertile-tiles c.1.kind n (numbered-exists P r N.child_exists k hk c i)))))
     where
       is_child : (c : ℕ × Child A) → IsAmong c (enumerate_from 0 (children_of r k)) → child_of P r k c.0 ≡ c.1
       is_child c i = get_or-enumerated (record { kind = 0; motion = still P }) (children_of r k) c i
-
-      child_exists : (c : ℕ × Child A) → IsAmong c (enumerate_from 0 (children_of r k)) → c.1.kind < length r.kinds
-      child_exists c i = subst (λ (x : Child A). x.kind < length r.kinds) (is_child c i) (N.child_exists k c.0 hk (enumerated-at (children_of r k) c i))
 
       one_more : (c : ℕ × Child A) → IsAmong c (enumerate_from 0 (children_of r k)) → (t : Placed A) → IsTile c.1.kind t → IsTile k (lifted P r k n c.0 c.1 t)
       one_more c i t h = record {

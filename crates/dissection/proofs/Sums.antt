@@ -3,10 +3,8 @@ use Rattle.std.proofs.Common.{◌≡◌, inl, inr, ℕ, zero, suc, ◌+◌, ◌<
 use Rattle.std.specs.List.{flat_map, filter, enumerate_from, AllByRecursion}
 use Rattle.std.proofs.lemmas.Int.{ints}
 use Rattle.std.proofs.lemmas.Bool.{cases_lt, eq-eqb, ne_eqb}
-use Rattle.std.proofs.lemmas.List.Filters.{length-filter_both}
 use Rattle.addressing.specs.Search.{IsAmong, below}
-use Rattle.addressing.proofs.Lists.{AllByRecursion-among, AllByRecursion-from}
-use Rattle.addressing.proofs.Filters.{AreApart, filter-after}
+use Rattle.addressing.proofs.Filters.{AreApart, others_taken, others-length}
 use Rattle.dissection.specs.Sums.{sum_over, sum_below}
 
 pub zero_plus : (x : ℤ) → pos 0 +ℤ x ≡ x
@@ -57,7 +55,8 @@ sum-add : {A : Type 0} (f g : A → ℤ) (xs : List A) → sum_over (λ x. f x +
 sum-add f g [] = refl
 sum-add f g (x ∷ xs) = ap (λ u. (f x +ℤ g x) +ℤ u) (sum-add f g xs) ∙ four (f x) (g x) (sum_over f xs) (sum_over g xs)
 
-sum-neg : {A : Type 0} (f : A → ℤ) (xs : List A) → sum_over (λ x. neg_ℤ (f x)) xs ≡ neg_ℤ (sum_over f xs)
+-- a sum of negatives is the negative of the sum
+pub sum-neg : {A : Type 0} (f : A → ℤ) (xs : List A) → sum_over (λ x. neg_ℤ (f x)) xs ≡ neg_ℤ (sum_over f xs)
 sum-neg f [] = refl
 sum-neg f (x ∷ xs) = ap (λ u. neg_ℤ (f x) +ℤ u) (sum-neg f xs) ∙ neg_sum (f x) (sum_over f xs)
 
@@ -109,27 +108,10 @@ pub sum-taken : {A : Type 0} (t : A → A → Bool) (f : A → ℤ) (ss xs : Lis
     → length xs ≡ length ss → sum_over f xs ≡ sum_over f ss
 sum-taken t f [] xs h apart e = no_terms f xs e
 sum-taken {A} t f (s ∷ ss) xs h apart e =
-    sum-split (t s) f xs ∙ ap₂ (λ u v. u +ℤ v) (ap (λ (l : List A). sum_over f l) h.0 ∙ plus_zero (f s)) (sum-taken t f ss others next apart.1 fewer)
+    sum-split (t s) f xs ∙ ap₂ (λ u v. u +ℤ v) (ap (λ (l : List A). sum_over f l) h.0 ∙ plus_zero (f s)) (sum-taken t f ss others (others_taken t s ss xs h.1 apart) apart.1 (others-length t s ss xs h.0 e))
   where
     others : List A
     others = filter (λ y. not (t s y)) xs
-
-    weaker : (u : A) → ((y : A) → t s y ≡ true → t u y ≡ false) → (y : A) → t u y ≡ true → not (t s y) ≡ true
-    weaker u g y k = at_test (t s y) refl
-      where
-        at_test : (b : Bool) → t s y ≡ b → not b ≡ true
-        at_test true d = absurd (cc (g y d, k))
-        at_test false d = refl
-
-    next : AllByRecursion (λ u. filter (t u) others ≡ u ∷ []) ss
-    next = AllByRecursion-from (λ u. filter (t u) others ≡ u ∷ []) ss (λ u j.
-        filter-after (λ y. not (t s y)) (t u) (weaker u (AllByRecursion-among (λ v. (y : A) → t s y ≡ true → t v y ≡ false) u ss j apart.0)) xs
-        ∙ AllByRecursion-among (λ v. filter (t v) xs ≡ v ∷ []) u ss j h.1)
-
-    fewer : length others ≡ length ss
-    fewer = let both = length-filter_both (t s) (λ y. not (t s y)) (λ y. refl) xs in
-        let one : length (filter (t s) xs) ≡ 1 = ap length h.0 in
-        omega arith
 
 -- ---- ranges
 pub sum-below_list : {A : Type 0} (f : A → ℤ) (g : ℕ → A) (n : ℕ) → sum_over f (below g n) ≡ sum_below (λ i. f (g i)) n

@@ -1,5 +1,5 @@
 -- The counts of the tiles of a supertile add up to the supertile's count.
-use Rattle.std.proofs.Common.{◌≡◌, inl, inr, ℕ, zero, suc, ◌+◌, ◌<◌, ℤ, pos, List, [], ◌∷◌, length, map, refl, sym, ap, ap₂, ◌∙◌, subst, arith}
+use Rattle.std.proofs.Common.{◌≡◌, ℕ, zero, suc, ◌<◌, ℤ, pos, [], ◌∷◌, length, map, refl, sym, ap, ap₂, ◌∙◌}
 use Rattle.std.specs.List.{enumerate_from}
 use Rattle.ordered_ring.specs.Ring.{Ops, power}
 use Rattle.ordered_ring.specs.Sign.{Signed}
@@ -10,31 +10,19 @@ use Rattle.substitution.specs.Plane.{plane_point, Keeps}
 use Rattle.substitution.specs.Motion.{Motion, moved, still}
 use Rattle.substitution.specs.Rule.{Child, children_of}
 use Rattle.substitution.specs.RuleParts.{vertices_of, edge_count, next, vertex, child_of}
-use Rattle.addressing.specs.Search.{below, IsAmong}
+use Rattle.addressing.specs.Search.{below}
 use Rattle.edge_to_edge.specs.Edges.{Edge, child_edge, edges_of_child}
 use Rattle.substitution.specs.Supertile.{Placed, inflated, lifted, supertile}
+use Rattle.substitution.proofs.Addresses.{numbered-exists}
 use Rattle.substitution.proofs.Motions.{moved-followed}
 use Rattle.substitution.proofs.Keeping.{motion-keeps, keeps-then}
-use Rattle.addressing.proofs.Lists.{get_or-enumerated}
+use Rattle.addressing.proofs.Lists.{map-ext}
 use Rattle.dissection.specs.Sums.{sum_over, sum_below}
 use Rattle.dissection.proofs.Setting.{Setting, inflating-keeps}
 use Rattle.dissection.proofs.Sums.{plus_zero, sum-ext, sum-ext_on, sum-flat_map, sum-map, sum-places, sum-enumerated, sum-below_list, sum_below-ext}
 use Rattle.dissection.proofs.EdgeSums.{count-edges}
 use Rattle.dissection.proofs.StarEdges.{next_of}
 use Rattle.dissection.proofs.OneLevel.{at_line, edges_sum}
-
-pub map-ext : {A B : Type 0} (f g : A → B) (xs : List A) → ((x : A) → f x ≡ g x) → map f xs ≡ map g xs
-map-ext f g [] h = refl
-map-ext f g (x ∷ xs) h = ap₂ (λ u v. u ∷ v) (h x) (map-ext f g xs h)
-
--- what stands in a numbered list has a number within it
-enumerated-from : {A : Type 0} (n : ℕ) (xs : List A) (c : ℕ × A) → IsAmong c (enumerate_from n xs) → c.0 < n + length xs
-enumerated-from n [] c i = elim i [ ]
-enumerated-from n (x ∷ xs) c (inl e) = let first : c.0 ≡ n = ap (λ d. d.0) e in omega arith
-enumerated-from n (x ∷ xs) c (inr i) = let rest = enumerated-from (n + 1) xs c i in omega arith
-
-pub enumerated-at : {A : Type 0} (xs : List A) (c : ℕ × A) → IsAmong c (enumerate_from 0 xs) → c.0 < length xs
-enumerated-at xs c i = let h = enumerated-from 0 xs c i in omega arith
 
 module _ (T : Setting)
     (p : TestPoint T.points.real.ops.carrier) where
@@ -97,18 +85,12 @@ module _ (T : Setting)
       ring K W.of_ring (power K P.zeta m.turn ∷ (power K r.factor n ∷ (z ∷ (m.shift ∷ []))))
       (var 0 ⊗ (var 1 ⊗ var 2) ⊕ var 1 ⊗ var 3) (var 1 ⊗ (var 0 ⊗ var 2 ⊕ var 3)) refl
 
-  -- a child of the list exists
-  child_below : (k : ℕ) → k < length r.kinds → (c : ℕ × Child A) → IsAmong c (enumerate_from 0 (children_of r k)) → c.1.kind < length r.kinds
-  child_below k hk c i =
-      let at = enumerated-at (children_of r k) c i in
-      subst (λ (x : Child A). x.kind < length r.kinds) (get_or-enumerated (record { kind = 0; motion = still P }) (children_of r k) c i) (N.child_exists k c.0 hk at)
-
   pub sum-all : (k n : ℕ) → k < length r.kinds → (f : A → A) → Keeps P f → sum_over (tile_count f) (supertile P r k n) ≡ whole_count f k n
   sum-all k zero hk f h = plus_zero _ ∙ count-ext (λ z. f (moved P (still P) z)) (λ z. f (K.mul (K.int (pos 1)) z)) k (λ z. ap f (still-moves z))
   sum-all k (suc n) hk f h =
       sum-flat_map (tile_count f) (λ c. map (lifted P r k n c.0 c.1) (supertile P r c.1.kind n)) (enumerate_from 0 (children_of r k))
       ∙ sum-ext_on _ (λ c. kind_count (λ z. f (K.mul (power K r.factor n) (moved P c.1.motion z))) c.1.kind) (enumerate_from 0 (children_of r k))
-      (λ c i. child c.0 c.1 (sum-all c.1.kind n (child_below k hk c i) (λ z. f (moved P (inflated P r n c.1.motion) z)) (keeps-then P W f (moved P (inflated P r n c.1.motion)) h (motion-keeps P W (inflated P r n c.1.motion)))))
+      (λ c i. child c.0 c.1 (sum-all c.1.kind n (numbered-exists P r N.child_exists k hk c i) (λ z. f (moved P (inflated P r n c.1.motion) z)) (keeps-then P W f (moved P (inflated P r n c.1.motion)) h (motion-keeps P W (inflated P r n c.1.motion)))))
       ∙ sum-enumerated (λ c. kind_count (λ z. f (K.mul (power K r.factor n) (moved P c.motion z))) c.kind) 0 (children_of r k)
       ∙ one_level (λ z. f (K.mul (power K r.factor n) z)) (keeps-then P W f (K.mul (power K r.factor n)) h (inflating-keeps T n)) k hk
       ∙ count-ext (λ z. f (K.mul (power K r.factor n) (K.mul r.factor z))) (λ z. f (K.mul (power K r.factor (suc n)) z)) k

@@ -2,7 +2,8 @@
 use Rattle.std.proofs.Common.{◌≡◌, inl, inr, ℕ, suc, ◌<◌, ◌≤◌, Bool, List, [], ◌∷◌, length, map, reverse, get_or, Some, refl, sym, ap, ◌∙◌, subst, arith, eqb-true}
 use Rattle.std.specs.Cmp.Lexicographic.{same_text}
 use Rattle.std.proofs.lemmas.Bool.{cases_lt}
-use Rattle.std.proofs.lemmas.List.{length-map, map-append}
+use Rattle.std.proofs.lemmas.List.{length-map}
+use Rattle.std.proofs.lemmas.Simd.{map-map}
 use Rattle.substitution.specs.Points.{Points, PointLaws}
 use Rattle.addressing.specs.Search.{IsAmong}
 use Rattle.substitution.specs.Rule.{Rule, Child, children_of}
@@ -13,15 +14,11 @@ use Rattle.edge_to_edge.specs.EdgeToEdge.{IsEdgeToEdge}
 use Rattle.edge_to_edge.specs.Contacts.{name_of, named_parts, contacts_of_child, tables_of}
 use Rattle.edge_to_edge.specs.Edges.{PlacedEdge, child_edge, edges_of_child, child_edges}
 use Rattle.addressing.specs.Tables.{Tables, kind_tables, type_of, child_kind_of, contacts_of, parts_of, mate_of, subs_of, child_type_of}
-use Rattle.addressing.proofs.Traces.{reverse_cons}
+use Rattle.addressing.proofs.Lists.{map-reverse}
 use Rattle.addressing.proofs.Ranges.{get_or-past, length-below}
 use Rattle.edge_to_edge.proofs.ChildEdges.{kind-with_child, kind-with_edge, among-child_edges}
 use Rattle.edge_to_edge.proofs.CutEdges.{cut_parts, boundary_edge, part-on_boundary, part-types}
 use Rattle.edge_to_edge.proofs.TablesOf.{length-kinds, kind_tables-is, type_of-found, length-mates, mate_of-at, mate_of-found, subs_of-is, child_kind_of-found, child_type_of-at, contacts_of-at, contact_at, parts_of-at}
-
-map-reverse : {A B : Type 0} (f : A → B) (xs : List A) → map f (reverse xs) ≡ reverse (map f xs)
-map-reverse f [] = refl
-map-reverse f (x ∷ xs) = rw (reverse_cons x xs, reverse_cons (f x) (map f xs), map-append f (reverse xs) (x ∷ []), map-reverse f xs) refl
 
 -- maps that agree on each number of a list
 map-each : {B : Type 0} (f g : ℕ → B) (xs : List ℕ) → ((i : ℕ) → i < length xs → f (get_or xs i 0) ≡ g (get_or xs i 0)) → map f xs ≡ map g xs
@@ -30,10 +27,6 @@ map-each f g (x ∷ xs) h =
     let first : f x ≡ g x = h 0 (omega arith) in
     let rest = map-each f g xs (λ i lt. h (suc i) (omega arith)) in
     rw (first, rest) refl
-
-map-twice : {A B C : Type 0} (f : B → C) (g : A → B) (xs : List A) → map f (map g xs) ≡ map (λ x. f (g x)) xs
-map-twice f g [] = refl
-map-twice f g (x ∷ xs) = ap (λ ys. f (g x) ∷ ys) (map-twice f g xs)
 
 -- images that agree on each member
 map-members : {A B C D : Type 0} (f : B → D) (g : A → B) (h : C → D) (j : A → C) (xs : List A) → ((x : A) → IsAmong x xs → f (g x) ≡ h (j x)) → map f (map g xs) ≡ map h (map j xs)
@@ -109,7 +102,7 @@ module _ (P : Points) (W : PointLaws P) (edition : Edition) (refused : P.ring.ca
   mates_of-parts : (ty : ℕ) → ty < length r.types → map (mate_of t) (parts r ty) ≡ map Some (map (mate r) (parts r ty))
   mates_of-parts ty h =
       map-each (mate_of t) (λ u. Some (mate r u)) (parts r ty) (λ i lt. mate_of-at P r (get_or (parts r ty) i 0) (N.part_exists ty i h lt))
-      ∙ sym (map-twice Some (mate r) (parts r ty))
+      ∙ sym (map-map Some (mate r) (parts r ty))
 
   pub is-mirrored : (ty m : ℕ) → mate_of t ty ≡ Some m → map Some (subs_of t m) ≡ reverse (map (mate_of t) (subs_of t ty))
   is-mirrored ty m h =

@@ -3,16 +3,15 @@ use Rattle.std.proofs.Common.{◌≡◌, ℕ, zero, suc, ◌+◌, ◌<◌, List,
 use Rattle.std.specs.List.{enumerate_from, AllByRecursion}
 use Rattle.std.specs.Option.{option_and_then}
 use Rattle.std.proofs.lemmas.List.{length-map}
-use Rattle.std.proofs.lemmas.Option.{slice_get-get_or, slice_get_within, get_or_from_slice_get}
+use Rattle.std.proofs.lemmas.Option.{slice_get-get_or}
 use Rattle.addressing.specs.Address.{Address, top_kind, child_kind, Fits}
 use Rattle.addressing.specs.Search.{IsAmong}
 use Rattle.addressing.proofs.Lists.{AllByRecursion-from, AllByRecursion-map, AllByRecursion-flat_map, AllByRecursion-each}
 use Rattle.addressing.proofs.Ranges.{slice_get-image}
 use Rattle.substitution.specs.Points.{Points}
-use Rattle.substitution.specs.Motion.{still}
 use Rattle.substitution.specs.Rule.{Child, Kind, Rule, kind_of, children_of, child_kinds}
 use Rattle.substitution.specs.Supertile.{Placed, lifted, supertile}
-use Rattle.substitution.proofs.Addresses.{top_from-append}
+use Rattle.substitution.proofs.Addresses.{numbered-exists, top_from-append}
 use Rattle.frames.specs.Frame.{HasChildKinds}
 use Rattle.frames.proofs.Frames.{Climbs-join}
 
@@ -44,14 +43,8 @@ module _ (P : Points) (r : Rule P.ring.carrier) (exist : HasChildKinds P r) wher
       listed k h = omega (arith, h, length-map r.kinds (λ (k : Kind P.ring.carrier). map (λ (c : Child P.ring.carrier). c.kind) k.children))
   supertile-fits k (suc n) hk =
       AllByRecursion-flat_map _ _ (enumerate_from 0 (children_of r k)) (AllByRecursion-from _ (enumerate_from 0 (children_of r k)) (λ c i.
-      AllByRecursion-map _ (lifted P r k n c.0 c.1) (supertile P r c.1.kind n) (AllByRecursion-each (λ t. IsFitting c.1.kind t.address) _ (supertile P r c.1.kind n) (λ t h. one_more c i t h) (supertile-fits c.1.kind n (exists c i)))))
+      AllByRecursion-map _ (lifted P r k n c.0 c.1) (supertile P r c.1.kind n) (AllByRecursion-each (λ t. IsFitting c.1.kind t.address) _ (supertile P r c.1.kind n) (λ t h. one_more c i t h) (supertile-fits c.1.kind n (numbered-exists P r exist k hk c i)))))
     where
-      exists : (c : ℕ × Child P.ring.carrier) → IsAmong c (enumerate_from 0 (children_of r k)) → c.1.kind < length r.kinds
-      exists c i =
-          let at = child-at (children_of r k) c i in
-          subst (λ (x : Child P.ring.carrier). x.kind < length r.kinds) (get_or_from_slice_get (children_of r k) c.0 c.1 (record { kind = 0; motion = still P }) at)
-          (exist k c.0 hk (slice_get_within (children_of r k) c.0 c.1 at))
-
       one_more : (c : ℕ × Child P.ring.carrier) → IsAmong c (enumerate_from 0 (children_of r k)) → (t : Placed P.ring.carrier) → IsFitting c.1.kind t.address → IsFitting k (lifted P r k n c.0 c.1 t).address
       one_more c i t h = record {
         fits = record {

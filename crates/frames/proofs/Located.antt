@@ -1,5 +1,5 @@
 -- The tile that the descent ends at is a tile of the supertile, and holds the point.
-use Rattle.std.proofs.Common.{◌≡◌, ℕ, zero, suc, ◌+◌, ◌<◌, Bool, true, false, cond, List, [], ◌∷◌, length, map, Option, None, Some, ◌⊎◌, inl, inr, pos, refl, sym, ap, ap₂, ◌∙◌, subst, arith, mod-lt}
+use Rattle.std.proofs.Common.{◌≡◌, ℕ, zero, suc, ◌+◌, ◌<◌, Bool, true, false, cond, List, [], ◌∷◌, length, map, Option, None, Some, ◌⊎◌, inl, inr, pos, refl, sym, ap, ◌∙◌, subst, arith, mod-lt}
 use Rattle.std.specs.List.{enumerate_from}
 use Rattle.std.specs.Option.{option_map, option_and_then}
 use Rattle.ordered_ring.specs.Ring.{power}
@@ -10,16 +10,12 @@ use Rattle.substitution.specs.RuleParts.{vertices_of}
 use Rattle.substitution.specs.Rule.{Child, Rule, children_of}
 use Rattle.addressing.specs.Search.{IsAmong}
 use Rattle.substitution.specs.Supertile.{Placed, inflated, lifted, supertile}
-use Rattle.addressing.proofs.Lists.{IsAmong-map, IsAmong-flat_map, AllByRecursion-among}
+use Rattle.addressing.proofs.Lists.{IsAmong-map, IsAmong-flat_map, AllByRecursion-among, map-ext}
 use Rattle.substitution.proofs.Placement.{IsPlaced, supertile-placed}
 use Rattle.frames.specs.Outline.{outline, holds_point, supertile_holds}
 use Rattle.frames.specs.Part.{Part, child_part, child_motion, holder, holder_of, HasHolders}
 use Rattle.frames.specs.Descent.{of_whole, tile_below}
 use Rattle.frames.proofs.Group.{followed-assoc, still-followed}
-
-map-ext : {A B : Type 0} (f g : A → B) (xs : List A) → ((x : A) → f x ≡ g x) → map f xs ≡ map g xs
-map-ext f g [] h = refl
-map-ext f g (x ∷ xs) h = ap₂ (λ u v. u ∷ v) (h x) (map-ext f g xs h)
 
 module _ (P : Points) (W : PointLaws P) (r : Rule P.ring.carrier) where
   -- the child found is one of the list, and holds the point

@@ -2,15 +2,12 @@
 use Rattle.std.proofs.Common.{◌≡◌, inl, inr, ℤ, pos, List, Option, None, Some, get_or, sym, ap, ◌∙◌, subst}
 use Rattle.substitution.specs.Points.{Points}
 use Rattle.substitution.specs.Supertile.{Placed}
-use Rattle.ordered_ring.specs.Surd.{Pair}
 use Rattle.cyclo_points.specs.Quad.{Quad}
-use Rattle.cyclo_points.specs.declared.order.Order.{Order}
-use Rattle.cyclo_points.specs.declared.order.Order.TheVariants.{Four, Six, Eight, Ten}
-use Rattle.cyclo_points.specs.declared.point.Point.{Point}
 use Rattle.cyclo_points.specs.Order.{NumberOf, points_of}
-use Rattle.cyclo_points.specs.Point.{quad_of, point_in}
+use Rattle.cyclo_points.specs.Point.{point_in}
 use Rattle.cyclo_points.specs.Motion.{motion_in}
 use Rattle.frames.specs.Frame.{StandsInFrame}
+use Rattle.cyclo_points.proofs.SamePoints.{point_in-exact}
 use Rattle.rule_model.specs.declared.rule.Rule.{Rule}
 use Rattle.rule_model.specs.Glue.{IsGlueEdge}
 use Rattle.rule_model.specs.Tiling.{Tiling, tiling_of}
@@ -30,16 +27,6 @@ use Rattle.half_glue.specs.Given.{lifted_tile}
 use Rattle.half_glue.specs.InOrder.{order_numbers, first_numbers}
 use Rattle.half_glue.specs.WholeTiles.{AreHalves, IsWholeBy, IsWholeTile, IsOneOf, IsPartOf}
 use Rattle.half_glue.proofs.Growing.{settled}
-
-abbrev pair_within : Quad ℤ → Pair ℤ
-pair_within z = record { a = z.a0; b = z.a1 }
-
--- in each order the same points
-pub point_in-exact : (o : Order) (p q : Point) → quad_of p ≡ quad_of q → point_in o p ≡ point_in o q
-point_in-exact Four p q e = ap pair_within e
-point_in-exact Six p q e = ap pair_within e
-point_in-exact Eight p q e = e
-point_in-exact Ten p q e = e
 
 abbrev pub quad_at : List ℤ → Quad ℤ
 quad_at ns = record { a0 = get_or ns 0 (pos 0); a1 = get_or ns 1 (pos 0); a2 = get_or ns 2 (pos 0); a3 = get_or ns 3 (pos 0) }

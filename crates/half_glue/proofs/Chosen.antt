@@ -10,6 +10,7 @@ use Rattle.std.proofs.lemmas.List.{append-nil, get_or_default}
 use Rattle.std.proofs.lemmas.Bool.{cases_lt}
 use Rattle.std.proofs.lemmas.List.Elements.{All-nil, All-push}
 use Rattle.std.proofs.lemmas.List.Sorted.{Contains-permutation, All-permutation}
+use Rattle.std.proofs.Math.Seq.{get_or-append_seam}
 use Rattle.tile_place.specs.Keys.{key_of, are_level, pair_of}
 use Rattle.tile_place.specs.declared.order_key.OrderKey.{OrderKey}
 use Rattle.tile_place.proofs.KeyOrder.{comes-first, level-numbers}
@@ -18,7 +19,7 @@ use Rattle.half_glue.specs.Arranged.{AreArranged}
 use Rattle.half_glue.specs.InOrder.{first_numbers, ComesBefore, AreInOrder}
 use Rattle.addressing.specs.Search.{chosen_below}
 use Rattle.half_glue.specs.Keys.{HasKey, first_keys, key_order, no_key, is_new, whole_at}
-use Rattle.half_glue.proofs.Keyed.{IsKeyOf, from-keys, key-there, get_or-behind}
+use Rattle.half_glue.proofs.Keyed.{IsKeyOf, from-keys, key-there}
 
 -- ---- lists
 pub get_or-front : {A : Type 0} (xs ys : List A) (k : ℕ) (d : A) → k < length xs → get_or (xs ++ ys) k d ≡ get_or xs k d
@@ -30,7 +31,7 @@ pub contains-left : {A : Type 0} (xs ys : List A) (x : A) → Contains xs x → 
 contains-left xs ys x c = (c.0, omega (arith, c.1, length-append xs ys), get_or-front xs ys c.0 x c.1 ∙ c.2)
 
 pub contains-last : {A : Type 0} (xs : List A) (x : A) → Contains (xs ++ x ∷ []) x
-contains-last xs x = (length xs, omega (arith, length-append xs (x ∷ [])), get_or-behind xs x x [])
+contains-last xs x = (length xs, omega (arith, length-append xs (x ∷ [])), get_or-append_seam xs x [] x)
 
 -- the words of a key, by the numbers of its tile
 abbrev high_of : List ℤ → ℕ

@@ -1,5 +1,5 @@
 -- The mate of a glue type is one too, and neither is its own mate.
-use Rattle.std.proofs.Common.{◌≡◌, ◌⊎◌, inl, inr, ℕ, ◌<◌, Bool, true, false, not, ◌||◌, length, refl, sym, ap, ◌∙◌, subst}
+use Rattle.std.proofs.Common.{◌≡◌, ◌⊎◌, inl, inr, ℕ, ◌<◌, true, false, not, ◌||◌, length, sym, ap, ◌∙◌, subst}
 use Rattle.std.specs.Prelude.{nat_eq}
 use Rattle.std.proofs.lemmas.Bool.{and_parts, eqb-true, not-true, false≢true}
 use Rattle.std.proofs.lemmas.Bool.Decides.{Decides-eqb}
@@ -9,7 +9,7 @@ use Rattle.substitution.specs.RuleParts.{mate, edge_count, edge_type}
 use Rattle.edge_to_edge.specs.Glue.{glue_type, holders, are_halves}
 use Rattle.edge_to_edge.specs.EdgeToEdge.{HasRightGlue, MatesBack}
 use Rattle.rule_model.specs.Glue.{is_glued, IsGlueEdge}
-use Rattle.rule_model.proofs.Glue.{either, one_glue_edge}
+use Rattle.rule_model.proofs.Glue.{either, one_of, one_glue_edge}
 use Rattle.rule_model.proofs.Searches.{found}
 
 module _ {A : Type 0} (r : Rule A) (right : HasRightGlue r) (mates : MatesBack r) (glue_in : (i : ℕ) → i < length r.glue → glue_type r i < length r.types) where
@@ -18,17 +18,10 @@ module _ {A : Type 0} (r : Rule A) (right : HasRightGlue r) (mates : MatesBack r
     below : i < length r.glue
     is : (ty ≡ glue_type r i) ⊎ (ty ≡ mate r (glue_type r i))
 
-  which : (a b ty : ℕ) → nat_eq ty a || nat_eq ty b ≡ true → (ty ≡ a) ⊎ (ty ≡ b)
-  which a b ty h = by_case (nat_eq ty a) refl h
-    where
-      by_case : (c : Bool) → nat_eq ty a ≡ c → c || nat_eq ty b ≡ true → (ty ≡ a) ⊎ (ty ≡ b)
-      by_case true e q = inl (eqb-true ty a e)
-      by_case false e q = inr (eqb-true ty b q)
-
   glued : (ty : ℕ) → is_glued r ty ≡ true → (i : ℕ) × Is ty i
   glued ty g =
       let f = found (λ i. nat_eq ty (glue_type r i) || nat_eq ty (mate r (glue_type r i))) (length r.glue) g in
-      (f.at, record { below = f.below; is = which (glue_type r f.at) (mate r (glue_type r f.at)) ty f.passes })
+      (f.at, record { below = f.below; is = one_of (glue_type r f.at) (mate r (glue_type r f.at)) ty f.passes })
 
   back : (i : ℕ) → i < length r.glue → mate r (mate r (glue_type r i)) ≡ glue_type r i
   back i l = eqb-true (mate r (mate r (glue_type r i))) (glue_type r i) (mates (glue_type r i) (glue_in i l))

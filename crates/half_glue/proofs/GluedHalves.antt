@@ -3,6 +3,7 @@ use Rattle.std.proofs.Common.{◌≡◌, ℕ, suc, ◌<◌, ◌≤◌, ◌+ℤ�
 use Rattle.std.proofs.lemmas.Bool.{ltb-true}
 use Rattle.std.proofs.lemmas.Int.{ints}
 use Rattle.std.proofs.lemmas.List.{get_or-map, length-map}
+use Rattle.std.proofs.lemmas.Simd.{map-map}
 use Rattle.ordered_plane.specs.Crossing.{count}
 use Rattle.ordered_plane.specs.Plane.{TestPoint, PlanePoint}
 use Rattle.substitution.specs.Motion.{moved}
@@ -21,7 +22,6 @@ use Rattle.frames.proofs.Frames.{StandsInFrame-whole}
 use Rattle.rule_model.specs.declared.rule.Rule.{Rule}
 use Rattle.rule_model.specs.Glue.{IsOnlyGlueEdge}
 use Rattle.rule_model.specs.Tiling.{Tiling, MotionOf, tiling_of, children}
-use Rattle.tile_place.proofs.Ahead.{map-map}
 use Rattle.tile_place.specs.declared.placed_tile.PlacedTile.{PlacedTile}
 use Rattle.tile_shape.specs.Views.{address_of}
 use Rattle.windows.specs.Gluing.{Rotation, Gluing}
@@ -98,7 +98,7 @@ module _ (m : Rule) (L : HasGlueLaws m) (f : FrameValue) where
 
     -- the polygon of a part, by its vertices in place
     pub part-is : map (plane_point P) (vertices_in_place t x) ≡ polygon_of_part t x
-    part-is = map-map (place x) (plane_point P) (vertices_of t.rule x.kind) ∙ ap (λ k. map (λ z. plane_point P (place x z)) (vertices_of t.rule k)) s.its_kind
+    part-is = map-map (plane_point P) (place x) (vertices_of t.rule x.kind) ∙ ap (λ k. map (λ z. plane_point P (place x z)) (vertices_of t.rule k)) s.its_kind
 
     pub edge-below : (e : ℕ) → IsOnlyGlueEdge t.rule x.kind e → e < edge_count t.rule x.addr.kind
     edge-below e h = subst (λ k. e < edge_count t.rule k) s.its_kind h.glue_edge.exists

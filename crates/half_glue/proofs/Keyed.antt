@@ -2,15 +2,12 @@
 use Rattle.std.proofs.Common.{◌≡◌, ℕ, zero, suc, ◌+◌, ◌-◌, ◌<◌, Bool, true, not, cond, List, [], ◌∷◌, ◌++◌, All, length, take, get_or, refl, sym, ap, ◌∙◌, subst, arith, add-one, length-append, append_assoc}
 use Rattle.std.specs.List.{Contains}
 use Rattle.std.proofs.lemmas.List.Elements.{All-nil, All-cons}
+use Rattle.std.proofs.Math.Seq.{get_or-append_seam}
 use Rattle.tile_place.specs.Keys.{key_of, are_level}
 use Rattle.tile_place.specs.declared.order_key.OrderKey.{OrderKey}
 use Rattle.tile_place.specs.declared.placed_tile.PlacedTile.{PlacedTile}
 use Rattle.addressing.specs.Search.{chosen_below}
 use Rattle.half_glue.specs.Keys.{keys_by, no_key, is_new}
-
-pub get_or-behind : {A : Type 0} (xs : List A) (y d : A) (ys : List A) → get_or (xs ++ y ∷ ys) (length xs) d ≡ y
-get_or-behind [] y d ys = refl
-get_or-behind (x ∷ xs) y d ys = get_or-behind xs y d ys
 
 module _ {A : Type 0} (tile : A → PlacedTile) where
   -- one key more
@@ -33,7 +30,7 @@ module _ {A : Type 0} (tile : A → PlacedTile) where
       (from-keys (front ++ x ∷ []) xs (suc n) (omega (arith, e, length-append front (x ∷ [])))))
     where
       at : (blank : A) → get_or (front ++ x ∷ xs) n blank ≡ x
-      at blank = ap (λ k. get_or (front ++ x ∷ xs) k blank) (sym e) ∙ get_or-behind front x blank xs
+      at blank = ap (λ k. get_or (front ++ x ∷ xs) k blank) (sym e) ∙ get_or-append_seam front x xs blank
 
       here : IsKeyOf (front ++ x ∷ xs) (key_of (tile x).motion (tile x).kind n)
       here = record {

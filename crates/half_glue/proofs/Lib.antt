@@ -1,7 +1,6 @@
 mod Keyed
 mod Chosen
 mod GlueTypes
-mod Outcomes
 mod Growing
 mod Across
 mod Halves

@@ -24,6 +24,7 @@ use Rattle.frames.specs.Frame.{motion_beside, lifted_in}
 use Rattle.frames.proofs.Carried.{some_turn}
 use Rattle.frames.proofs.Frames.{IsWhole, placement-turn, StandsInFrame-whole}
 use Rattle.frames.proofs.Group.{followed-assoc, followed-still, back-followed}
+use Rattle.cyclo_points.proofs.SamePoints.{point_in-exact}
 use Rattle.rule_model.specs.declared.rule.Rule.{Rule}
 use Rattle.rule_model.specs.Glue.{IsGlueEdge}
 use Rattle.rule_model.specs.Tiling.{Tiling, MotionOf, tiling_of, children}
@@ -44,7 +45,7 @@ use Rattle.half_glue.specs.Found.{no_tile, tile_of, IsBeside, StandsBeside, AreG
 use Rattle.half_glue.specs.Given.{IsGiven}
 use Rattle.half_glue.specs.Keys.{HasKey, own_keys, AreKeysOf}
 use Rattle.half_glue.specs.Sides.{IsOtherSide, IsSide}
-use Rattle.half_glue.proofs.Alike.{point_in-exact, quad_at}
+use Rattle.half_glue.proofs.Alike.{quad_at}
 use Rattle.half_glue.proofs.Growing.{settled}
 use Rattle.half_glue.proofs.Halves.{given-whole, given-key, glue-edge-of, glued-of}
 use Rattle.half_glue.proofs.Keyed.{IsKeyOf, from-keys}

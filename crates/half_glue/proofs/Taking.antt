@@ -4,6 +4,7 @@ use Rattle.std.specs.List.{Contains}
 use Rattle.std.proofs.lemmas.Bool.{cases_lt, ltb-true, lt-ltb}
 use Rattle.std.proofs.lemmas.List.{get_or_default}
 use Rattle.std.proofs.lemmas.List.Elements.{All-nil, All-cons, All-tail, All-append}
+use Rattle.std.proofs.Math.Seq.{get_or-append_seam}
 use Rattle.rule_model.specs.declared.rule.Rule.{Rule}
 use Rattle.rule_model.specs.Tiling.{Tiling, tiling_of}
 use Rattle.tile_place.specs.declared.placed_tile.PlacedTile.{PlacedTile}
@@ -17,7 +18,6 @@ use Rattle.half_glue.specs.Found.{no_tile, tile_of, IsFound}
 use Rattle.half_glue.specs.Given.{IsGiven}
 use Rattle.half_glue.specs.Pairs.{added_pairs, added_tiles, ArePresent, second_of, loose_of, AreLoose, IsLoose, IsTaken, ArePairsOf}
 use Rattle.half_glue.proofs.Chosen.{get_or-front, contains-left}
-use Rattle.half_glue.proofs.Keyed.{get_or-behind}
 use Rattle.half_glue.proofs.Settling.{given-on, glued-on}
 use Rattle.half_glue.proofs.Wholes.{of-all, glued-back}
 
@@ -198,7 +198,7 @@ module _ (t : Tiling) (f : FrameValue) (tiles : List PlacedTile) (i : ℕ) (belo
     own_second = record { first = n; second = Some i }
 
     at-new : (more : List Pair) → tile_of (halves (y ∷ []) more) n ≡ y
-    at-new more = ap (λ hs. tile_of hs n) (longer (y ∷ []) more) ∙ ap (λ k. get_or ((tiles ++ crossed) ++ y ∷ []) k no_tile) (sym (length-append tiles crossed)) ∙ get_or-behind (tiles ++ crossed) y no_tile []
+    at-new more = ap (λ hs. tile_of hs n) (longer (y ∷ []) more) ∙ ap (λ k. get_or ((tiles ++ crossed) ++ y ∷ []) k no_tile) (sym (length-append tiles crossed)) ∙ get_or-append_seam (tiles ++ crossed) y [] no_tile
 
     there : n < length (tiles ++ (crossed ++ y ∷ []))
     there = omega (arith, length-append tiles (crossed ++ y ∷ []), length-append crossed (y ∷ []))

@@ -15,6 +15,7 @@ use Rattle.frames.specs.Contain.{ancestor_motion, ancestor_holds, values_outward
 use Rattle.cyclo_points.specs.declared.order.Order.{Order}
 use Rattle.cyclo_points.specs.declared.order.Order.TheVariants.{Four, Six, Eight, Ten}
 use Rattle.cyclo_points.specs.Order.{points_of, is_refused}
+use Rattle.tile_place.proofs.Holders.{find-front}
 use Rattle.tile_place.proofs.Values.{find-append_found}
 
 -- at a level whose power and shift were looked at: the vertices, and what comes after them
@@ -22,14 +23,6 @@ abbrev pub ahead : (P : Points) → Rule P.ring.carrier → Address → P.ring.c
 ahead P r f p level most =
     outline P r (top_kind (at_level f level)) (power P.ring r.factor level) (ancestor_motion P r f level)
     ++ cond (ancestor_holds P r f level p) (values_looked_at P r (top_kind (at_level f level)) level (ancestor_motion P r f level) p) (values_outward P r f p (level + 1) most)
-
-find-front : {A : Type 0} (test : A → Bool) (xs ys : List A) → find test xs ≡ None → find test (xs ++ ys) ≡ find test ys
-find-front test [] ys e = refl
-find-front {A} test (x ∷ xs) ys e = at_test (test x) e (find-front test xs ys)
-  where
-    at_test : (b : Bool) → cond b (Some x) (find test xs) ≡ None → (find test xs ≡ None → find test (xs ++ ys) ≡ find test ys) → cond b (Some x) (find test (xs ++ ys)) ≡ find test ys
-    at_test true f rest = absurd (cc f)
-    at_test false f rest = rest f
 
 module _ (P : Points) (r : Rule P.ring.carrier) (f : Address) (p : P.ring.carrier) (test : P.ring.carrier → Bool) (level most : ℕ) where
   abbrev vertices : List P.ring.carrier
@@ -78,15 +71,6 @@ pub some_power_refused : (P : Points) (edition : Edition) (test : P.ring.carrier
 some_power_refused P edition test l e h =
     passes-fails (some_below 65 (λ n. test (power P.ring l n))) (and_parts (is_growing P edition l) (some_below 65 (λ n. test (power P.ring l n))) e).1
     (none_below 65 (λ n. test (power P.ring l n)) (λ j k. h j (omega (arith, k))))
-
--- ---- the same of an answer handed on
-pub if_ok-each : {T E : Type 0} (x : Result T E) (Q R : T → Type 0) → ((t : T) → Q t → R t) → IfOk x Q → IfOk x R
-if_ok-each (Ok t) Q R f h = f t h
-if_ok-each (Err e) Q R f h = tt
-
-pub if_err-each : {T E : Type 0} (x : Result T E) (Q R : E → Type 0) → ((e : E) → Q e → R e) → IfErr x Q → IfErr x R
-if_err-each (Ok t) Q R f h = tt
-if_err-each (Err e) Q R f h = f e h
 
 -- an answer is Ok exactly where there is no refused value
 pub exactly : {T E A : Type 0} (x : Result T E) (o : Option A) (v : E → A) → IfOk x (λ _. o ≡ None) → IfErr x (λ e. o ≡ Some (v e)) → IsOk x ↔ (o ≡ None)

@@ -1,9 +1,11 @@
 -- The tile found in an ancestor of the base is the only tile of the frame that holds the point.
-use Rattle.std.proofs.Common.{◌≡◌, ℕ, ◌<◌, ◌≤◌, Bool, true, false, cond, suc, List, [], ◌∷◌, length, map, Some, refl, sym, ap, ap₂, ◌∙◌}
+use Rattle.std.proofs.Common.{◌≡◌, ℕ, ◌<◌, ◌≤◌, Bool, true, false, cond, suc, length, map, Some, refl, sym, ap, ◌∙◌}
+use Rattle.std.proofs.lemmas.Simd.{map-map}
 use Rattle.ordered_plane.specs.Plane.{TestPoint, test_point}
 use Rattle.ordered_plane.specs.Crossing.{member}
 use Rattle.addressing.specs.Address.{depth, top_kind, Fits}
 use Rattle.addressing.specs.Search.{IsAmong}
+use Rattle.addressing.proofs.Lists.{map-ext}
 use Rattle.substitution.specs.Points.{Points, PointLaws}
 use Rattle.substitution.specs.Plane.{plane_point}
 use Rattle.substitution.specs.Motion.{Motion, moved, followed}
@@ -30,16 +32,11 @@ use Rattle.frames.proofs.Outwards.{turns_below}
 use Rattle.rule_model.specs.declared.rule.Rule.{Rule}
 use Rattle.rule_model.specs.Tiling.{tiling_of, children}
 use Rattle.rule_model.specs.Views.{rule_of}
-use Rattle.tile_place.proofs.Ahead.{map-map}
 use Rattle.tile_place.proofs.Counted.{some_of_one, among-map}
 use Rattle.tile_place.proofs.Held.{IsDissected, only_one}
 use Rattle.tile_place.proofs.Plane.{IsSettled, its_rule}
 use Rattle.lazy_walk.specs.Containing.{FrameHolds, IsOnlyHolder, frame_motion}
 use Rattle.lazy_walk.specs.Frames.{FrameValue, whole}
-
-map-ext : {A B : Type 0} (f g : A → B) (xs : List A) → ((x : A) → f x ≡ g x) → map f xs ≡ map g xs
-map-ext f g [] h = refl
-map-ext f g (x ∷ xs) h = ap₂ (λ u v. u ∷ v) (h x) (map-ext f g xs h)
 
 module _ (P : Points) (W : PointLaws P) (r : TheRule P.ring.carrier) (dissected : IsDissected P r) (p : P.ring.carrier) where
   abbrev point : TestPoint P.real.ops.carrier
@@ -71,7 +68,7 @@ module _ (P : Points) (W : PointLaws P) (r : TheRule P.ring.carrier) (dissected 
       of_source : (u : Placed P.ring.carrier) × IsAmong u (supertile P r k n) × (moved_by m u ≡ x) → supertile_holds P r k n m p ≡ true
       of_source u =
           let some = some_of_one (in_tile (moved P m)) u.0 (supertile P r k n) u.1 (at_home u.0 ∙ ap (in_tile (λ z. z)) u.2 ∙ holds) in
-          ap (λ vs. member P.real vs point) (map-map (λ z. moved P m (P.ring.mul (power P.ring r.factor n) z)) (plane_point P) (vertices_of r k))
+          ap (λ vs. member P.real vs point) (map-map (plane_point P) (λ z. moved P m (P.ring.mul (power P.ring r.factor n) z)) (vertices_of r k))
           ∙ at_whole in_whole some.0 (sym some.1 ∙ (dissected k n exists (moved P m) (motion-keeps P W m) point (0, refl)).one)
 
 module _ (m : Rule) (settled : IsSettled m) (W : PointsLaw m.order) (law : DissectionLaw (points_of m.order)) (f : FrameValue) (own_fits : Fits (children (tiling_of m)) (whole f))

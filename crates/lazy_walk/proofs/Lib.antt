@@ -10,3 +10,5 @@ pub mod Outs
 pub mod Holders
 pub mod Leasts
 pub mod InFull
+pub mod Brought
+pub mod Outcomes

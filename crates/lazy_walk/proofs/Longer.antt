@@ -1,6 +1,7 @@
 -- A longer coarse end changes no crossing: what is across stays across, and what is inside stays inside.
-use Rattle.std.proofs.Common.{◌≡◌, ℕ, zero, suc, ◌+◌, ◌<◌, IsSome, List, [], ◌∷◌, ◌++◌, length, slice_get, Some, refl, sym, ap, ◌∙◌, subst, arith, length-append}
+use Rattle.std.proofs.Common.{ℕ, ◌+◌, ◌<◌, IsSome, List, [], ◌∷◌, ◌++◌, length, refl, sym, ap, ◌∙◌, subst, arith, length-append}
 use Rattle.std.proofs.lemmas.List.{drop-append-le, take-append-le}
+use Rattle.std.proofs.lemmas.Option.{slice_get_within}
 use Rattle.addressing.specs.Address.{Step, Address, Climbs, Fits}
 use Rattle.addressing.specs.Tables.{Tables, type_of}
 use Rattle.addressing.specs.Touch.{Touches}
@@ -23,11 +24,6 @@ use Rattle.lazy_walk.proofs.Lifting.{trace-front, touching-top}
 -- an address with further digits
 abbrev pub further_up : Address → List Step → Address
 further_up a more = record { kind = a.kind; digits = a.digits ++ more }
-
-below-length : {A : Type 0} (xs : List A) (i : ℕ) (x : A) → slice_get xs i ≡ Some x → i < length xs
-below-length [] i x e = absurd (cc e)
-below-length (y ∷ xs) zero x e = omega arith
-below-length (y ∷ xs) (suc i) x e = omega (arith, below-length xs i x e)
 
 -- a tile of a supertile fits with the digits with which its supertile does
 whole-longer : {children : List (List ℕ)} (g a : Address) (more : List Step) → Fits children (further_up g more) → IsWhole children g a → Fits children (further_up a more)
@@ -58,10 +54,10 @@ Touches-longer t a b e f more h = record {
 }
   where
     a_deep : h.below < length a.digits
-    a_deep = below-length a.digits h.below h.x h.digit_x
+    a_deep = slice_get_within a.digits h.below h.x h.digit_x
 
     b_deep : h.below < length b.digits
-    b_deep = below-length b.digits h.below h.y h.digit_y
+    b_deep = slice_get_within b.digits h.below h.y h.digit_y
 
 module _ (m : Rule) (settled : IsSettled m) (law : OnlyTilesLaw m.order) where
   coherent : IsCoherent (contacts (tiling_of m))

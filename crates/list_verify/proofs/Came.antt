@@ -21,7 +21,7 @@ use Rattle.frames.specs.Frame.{at_level, frame_tiles, IsTileOf, lifted_in}
 use Rattle.lazy_walk.specs.Ancestors.{full}
 use Rattle.lazy_walk.specs.Frames.{FrameValue, whole, at_depth, GrowsTo}
 use Rattle.lazy_walk.proofs.Ancestors.{full-later}
-use Rattle.lazy_walk.proofs.InFull.{level-grown, tile-full}
+use Rattle.lazy_walk.proofs.InFull.{by_tables, level-grown, tile-full}
 use Rattle.lazy_walk.proofs.Lifting.{IsTileOf-later}
 use Rattle.lazy_walk.proofs.Walks.{StillFits, GrowsTo-is}
 use Rattle.listing_text.specs.declared.entry.Entry as program
@@ -58,8 +58,8 @@ use Rattle.list_verify.specs.Walked.{IsStoppedBy}
 use Rattle.list_verify.specs.declared.list_fault.ListFault.{ListFault}
 use Rattle.list_verify.specs.declared.list_fault.ListFault.TheVariants.{TooLong, BadLine, Address as BadAddress, BadKind, NotOfFrame, Double, Missing, WrongPlace, Stray, DepthLimit, CoordLimit, NoMemory}
 use Rattle.list_verify.proofs.Chains.{get_or-at}
-use Rattle.list_verify.proofs.FrameNames.{lifted-self}
-use Rattle.list_verify.proofs.Lines.{one-address, its_names, deep-full, by-tables, line-of, line-deep, deepest-is, listing-on, listed-among, number-among, tile-is, one-tile}
+use Rattle.window_cover.proofs.FrameNames.{lifted-self}
+use Rattle.list_verify.proofs.Lines.{one-address, its_names, deep-full, line-of, line-deep, deepest-is, listing-on, listed-among, number-among, tile-is, one-tile}
 use Rattle.list_verify.proofs.Marks.{set-length, marked-more}
 
 module _ (m : Rule) (settled : IsSettled m) (fits : StillFits (children (tiling_of m))) (L : HasListLaws (points_of m.order)) (f : FrameValue) (w : Window) (fit : IsWindow w)
@@ -163,7 +163,7 @@ module _ (m : Rule) (settled : IsSettled m) (fits : StillFits (children (tiling_
             let a = address_of o.0.address in
             let of = IsTileOf-later t f g a grows are.frame (line-of m settled fits L f w fit lines are o.0 o.1) in
             let there : IsTileOf kinds (at_level F (length g.digits)) a
-            = subst (λ y. IsTileOf kinds y a) (sym (level-grown m settled fits f are.frame g grows)) (by-tables m settled fits L f w fit lines are (whole g) a of) in
+            = subst (λ y. IsTileOf kinds y a) (sym (level-grown m settled fits f are.frame g grows)) (by_tables m settled fits f are.frame (whole g) a of) in
             let name : in_frame P T.rule F a ≡ u
             = sym (L.search.renamed T F (its_names m settled fits L f w fit lines are) (length g.digits) its_depth a there).1
             ∙ ap (λ y. in_frame P T.rule F (lifted_in y a)) (level-grown m settled fits f are.frame g grows)

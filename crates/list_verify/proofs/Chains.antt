@@ -3,7 +3,6 @@ use Rattle.std.proofs.Common.{◌≡◌, inl, inr, ◌⊎◌, ℕ, zero, suc, �
 use Rattle.std.proofs.lemmas.Bool.{eq-eqb, cases_lt}
 use Rattle.std.proofs.lemmas.List.{length-map}
 use Rattle.addressing.specs.Address.{Address}
-use Rattle.addressing.specs.Search.{IsAmong}
 use Rattle.tile_shape.specs.Views.{address_of}
 use Rattle.listing_text.specs.declared.entry.Entry.{Entry}
 use Rattle.list_verify.specs.declared.line_index.Buckets.{Buckets}
@@ -146,8 +145,3 @@ pub get_or-default : {A : Type 0} (xs : List A) (i : ℕ) (c d : A) → i < leng
 get_or-default [] i c d h = absurd (none_below i h)
 get_or-default (p ∷ ps) zero c d h = refl
 get_or-default (p ∷ ps) (suc i) c d h = get_or-default ps i c d (omega arith)
-
-pub get_or-among : {A : Type 0} (xs : List A) (i : ℕ) (d : A) → i < length xs → IsAmong (get_or xs i d) xs
-get_or-among [] i d h = absurd (none_below i h)
-get_or-among (y ∷ ys) zero d h = inl refl
-get_or-among (y ∷ ys) (suc i) d h = inr (get_or-among ys i d (omega arith))

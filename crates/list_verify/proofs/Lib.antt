@@ -1,9 +1,5 @@
-mod SameDigits
-pub mod Outcomes
 pub mod Chains
 pub mod FirstLifted
-pub mod FrameNames
-pub mod Brought
 pub mod Lines
 pub mod Marks
 pub mod OneVerdict

@@ -13,7 +13,7 @@ use Rattle.edge_to_edge.specs.Contacts.{tables_of}
 use Rattle.frames.specs.Frame.{at_level, IsTileOf, lifted_in}
 use Rattle.lazy_walk.specs.Ancestors.{full}
 use Rattle.lazy_walk.specs.Frames.{FrameValue, whole}
-use Rattle.lazy_walk.proofs.InFull.{names, deep, level-grown, tile-full}
+use Rattle.lazy_walk.proofs.InFull.{names, deep, by_tables, level-grown, tile-full}
 use Rattle.lazy_walk.proofs.Walks.{StillFits, GrowsTo-self}
 use Rattle.listing_text.specs.declared.entry.Entry as program
 use Rattle.listing_text.specs.Views.{entry_of}
@@ -31,7 +31,7 @@ use Rattle.windows.specs.FrameCover.{IsWindowOn}
 use Rattle.windows.specs.FramePatch.{in_frame}
 use Rattle.windows.proofs.Places.{distinct-places}
 use Rattle.window_cover.specs.Windows.{TileOf, box_of, IsWindow}
-use Rattle.list_verify.proofs.FrameNames.{lifted-self}
+use Rattle.window_cover.proofs.FrameNames.{lifted-self}
 use Rattle.list_verify.specs.FoundLines.{entries_of, AreLinesIn, no_line, tile_of_line}
 use Rattle.list_verify.specs.LineIndex.{NoneAgain}
 use Rattle.list_verify.specs.Listing.{tile_listed, tiles_listed}
@@ -101,9 +101,6 @@ module _ (m : Rule) (settled : IsSettled m) (fits : StillFits (children (tiling_
   pub window-on : IsWindowOn P T F (box_of t w)
   window-on = record { frame = its_names; wide = omega (arith, fit.some_width); high = omega (arith, fit.some_height) }
 
-  pub by-tables : (g a : Address) → IsTileOf (children t) g a → IsTileOf kinds g a
-  by-tables g a of = subst (λ k. IsTileOf k g a) (sym settled.same_child_kinds) of
-
   pub own-level : at_level F d ≡ whole f
   own-level = level-grown m settled fits f are.frame f (GrowsTo-self t f are.frame)
 
@@ -131,7 +128,7 @@ module _ (m : Rule) (settled : IsSettled m) (fits : StillFits (children (tiling_
 
   its_frame : AreOfFrame P T.rule (at_level F (deepest_listed d listing)) listing
   its_frame = subst (λ k. AreOfFrame P T.rule (at_level F k) listing) (sym deepest-is)
-      (subst (λ g. AreOfFrame P T.rule g listing) (sym own-level) (all-of lines (whole f) (λ e i. by-tables (whole f) (address_of e.address) (line-of e i))))
+      (subst (λ g. AreOfFrame P T.rule g listing) (sym own-level) (all-of lines (whole f) (λ e i. by_tables m settled fits f are.frame (whole f) (address_of e.address) (line-of e i))))
 
   addresses : AreDistinct (map (λ (e : program.Entry). address_of e.address) lines)
   addresses = distinct-places (map (λ (e : program.Entry). address_of e.address) lines) one

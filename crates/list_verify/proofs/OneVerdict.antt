@@ -1,14 +1,8 @@
 -- One thing is said of a listing: it stands in one of six ways, and in no two of them.
-use Rattle.std.specs.Prelude.{nat_eq, nat_lt, nat_le, ◌==◌}
-use Rattle.std.specs.List.{list_all, list_any, range_with_len}
-use Rattle.std.proofs.Common.{◌≡◌, ◌⊎◌, inl, inr, ℕ, zero, suc, ◌+◌, ◌-◌, ◌<◌, ◌≤◌, Bool, true, false, ◌||◌, List, [], ◌∷◌, map, length, get_or, Result, Ok, Err, None, refl, sym, ap, ◌∙◌, subst, arith, zero-add}
-use Rattle.std.proofs.lemmas.Bool.{and_from, cases_lt}
-use Rattle.std.proofs.lemmas.Bool.Decides.{nat_tests}
-use Rattle.std.proofs.lemmas.List.{length-map, get_or-map}
-use Rattle.std.proofs.lemmas.List.Folds.{list_all-map, list_any_at}
-use Rattle.std.proofs.lemmas.List.FromFn.{length-range_with_len, get_or-range_with_len}
+use Rattle.std.proofs.Common.{◌≡◌, ◌⊎◌, inl, inr, ℕ, ◌+◌, ◌-◌, ◌<◌, List, length, Result, Ok, Err, None, refl, sym, ap, ◌∙◌, subst, arith}
+use Rattle.std.proofs.lemmas.Bool.{cases_lt}
 use Rattle.addressing.specs.Address.{Address, depth, Fits}
-use Rattle.addressing.specs.Search.{IsAmong, some_below}
+use Rattle.addressing.specs.Search.{IsAmong}
 use Rattle.addressing.specs.Tables as tables
 use Rattle.addressing.proofs.Lists.{AllByRecursion-among, AllByRecursion-each, IsAmong-map}
 use Rattle.cyclo_points.specs.declared.order.Order.{Order}
@@ -30,11 +24,11 @@ use Rattle.listings.proofs.Lines.{line-among}
 use Rattle.plane_geom.specs.declared.window.Window.{Window}
 use Rattle.rule_model.specs.Tiling.{Tiling, children}
 use Rattle.rule_model.proofs.Contacts.{child_kinds_of_tables}
-use Rattle.substitution.specs.Motion.{still}
+use Rattle.rule_model.proofs.EachUse.{has-children, uses-usable}
 use Rattle.substitution.specs.Points.{Points}
-use Rattle.substitution.specs.Rule.{Child, Kind, Rule, kind_of, children_of, child_kinds}
+use Rattle.substitution.specs.Rule.{child_kinds}
 use Rattle.substitution.specs.Supertile.{Placed}
-use Rattle.tile_shape.specs.Usable.{AreUsable, is_child_kind}
+use Rattle.tile_shape.specs.Usable.{AreUsable}
 use Rattle.window_cover.specs.Windows.{TileOf, box_of, IsWindow}
 use Rattle.windows.specs.FrameCover.{IsWindowOn}
 use Rattle.list_verify.specs.declared.list_fault.ListFault.{ListFault}
@@ -45,79 +39,9 @@ use Rattle.list_verify.specs.OneVerdict.{HasOneVerdict, tiling_accepted}
 use Rattle.list_verify.specs.Verdict.{fault_of_text, frame_listed, AreOfFrameGrown, AreApart, HasNotOfFrame, HasDouble, HasStrayLine, EndsWalking, HasCause, IsOfWalk, IsTold, LacksTiles}
 use Rattle.list_verify.specs.Walked.{first_refused_at}
 
--- ---- the child kinds of an accepted rule are a table of uses
--- what each place passes, the list passes
-each_place : {A : Type 0} (p : A → Bool) (xs : List A) (d : A) → ((i : ℕ) → i < length xs → p (get_or xs i d) ≡ true) → list_all p xs ≡ true
-each_place p [] d h = refl
-each_place p (x ∷ xs) d h = and_from (p x) (list_all p xs) (h 0 (omega arith)) (each_place p xs d (λ i l. h (suc i) (omega arith)))
-
--- a number that passes
-record Passing (n : ℕ) (f : ℕ → Bool) : Type 0 where
-  at : ℕ
-  within : at < n
-  passes : f at ≡ true
-
-passing : (n : ℕ) (f : ℕ → Bool) → some_below n f ≡ true → Passing n f
-passing zero f h = absurd (cc)
-passing (suc n) f h = by_case (some_below n f) refl h (passing n f)
-  where
-    by_case : (b : Bool) → some_below n f ≡ b → (b || f n) ≡ true → (some_below n f ≡ true → Passing n f) → Passing (suc n) f
-    by_case true e q later = let p = later e in record { at = p.at; within = let l = p.within in omega arith; passes = p.passes }
-    by_case false e q later = record { at = n; within = omega arith; passes = q }
-
--- among the children's kinds is one that is a child's
-any-kinds : {A : Type 0} (k : ℕ) (cs : List (Child A)) → list_any (λ (c : Child A). nat_eq c.kind k) cs ≡ list_any (λ child. child == k) (map (λ (c : Child A). c.kind) cs)
-any-kinds k [] = refl
-any-kinds k (c ∷ cs) = ap (λ b. nat_eq c.kind k || b) (any-kinds k cs)
-
-module _ (P : Points) (T : AcceptedRule P) where
-  abbrev A : Type 0
-  A = P.ring.carrier
-
-  abbrev r : Rule A
-  r = T.rule
-
-  abbrev no_kind : Kind A
-  no_kind = record { vertices = []; edges = []; children = [] }
-
-  abbrev row : Kind A → List ℕ
-  row k = map (λ (c : Child A). c.kind) k.children
-
-  as_many : length (child_kinds r) ≡ length r.kinds
-  as_many = length-map r.kinds row
-
-  row-long : (k : ℕ) → length (row (kind_of r k)) ≡ length (children_of r k)
-  row-long k = length-map (children_of r k) (λ (c : Child A). c.kind)
-
-  -- what each kind's row passes, all rows pass
-  each_row : (p : List ℕ → Bool) → ((k : ℕ) → k < length r.kinds → p (row (kind_of r k)) ≡ true) → list_all p (child_kinds r) ≡ true
-  each_row p h = list_all-map p row r.kinds ∙ each_place (λ (k : Kind A). p (row k)) r.kinds no_kind h
-
-  exists : (k : ℕ) → k < length r.kinds → list_all (λ kind. nat_lt kind (length (child_kinds r))) (row (kind_of r k)) ≡ true
-  exists k l =
-      list_all-map (λ kind. nat_lt kind (length (child_kinds r))) (λ (c : Child A). c.kind) (children_of r k)
-      ∙ each_place (λ (c : Child A). nat_lt c.kind (length (child_kinds r))) (children_of r k) (record { kind = 0; motion = still P }) (λ c m.
-      let b = T.numbered.child_exists k c l m in
-      let e = as_many in
-      grind (arith, nat_tests, b, e))
-
-  used : (k : ℕ) → k < length r.kinds → is_child_kind (child_kinds r) k ≡ true
-  used k l =
-      let p = passing (length r.kinds) _ (T.edge_to_edge.each_used k l) in
-      list_any_at (λ row. list_any (λ child. child == k) row) (child_kinds r) p.at [] (subst (λ n. p.at < n) (sym as_many) p.within)
-      (subst (λ kinds. list_any (λ child. child == k) kinds ≡ true) (sym (get_or-map row r.kinds p.at no_kind [] p.within)) (sym (any-kinds k (children_of r p.at)) ∙ p.passes))
-
-  pub accepted-usable : AreUsable (child_kinds r)
-  accepted-usable = record {
-    some_kind = subst (λ n. 1 ≤ n) (sym as_many) T.numbered.some_kind;
-    at_most_16_kinds = subst (λ n. n ≤ 16) (sym as_many) T.numbered.at_most_16_kinds;
-    some_child = each_row (λ kinds. nat_le 1 (length kinds)) (λ k l. let e = row-long k in let b = T.numbered.some_child k l in grind (arith, nat_tests, e, b));
-    at_most_16_children = each_row (λ kinds. nat_le (length kinds) 16) (λ k l. let e = row-long k in let b = T.numbered.at_most_16_children k l in grind (arith, nat_tests, e, b));
-    each_exists = each_row (λ kinds. list_all (λ kind. nat_lt kind (length (child_kinds r))) kinds) exists;
-    each_used = each_place (λ kind. is_child_kind (child_kinds r) kind) (range_with_len 0 (length (child_kinds r))) 0 (λ i l.
-        let m : i < length (child_kinds r) = subst (λ n. i < n) (length-range_with_len 0 (length (child_kinds r))) l in
-        subst (λ k. is_child_kind (child_kinds r) k ≡ true) (sym (get_or-range_with_len 0 (length (child_kinds r)) i 0 m ∙ zero-add i)) (used i (subst (λ n. i < n) as_many m)));
-  }
+-- the child kinds of an accepted rule are a table of uses
+pub accepted-usable : (P : Points) (T : AcceptedRule P) → AreUsable (child_kinds T.rule)
+accepted-usable P T = uses-usable T.rule (has-children P T.rule T.numbered) T.edge_to_edge.each_used
 
 -- ---- two first lines are one
 one_number : (i j : ℕ) → ((i < j) → ⊥) → ((j < i) → ⊥) → i ≡ j

@@ -1,18 +1,16 @@
 -- The tile that holds the centre of the window.
 use Rattle.std.proofs.Common.{◌≡◌, inl, ℕ, ◌<◌, ◌≤◌, List, [], length, Some, refl, sym, ap, ◌∙◌, subst, arith}
-use Rattle.addressing.specs.Address.{Address, depth, top_kind}
+use Rattle.addressing.specs.Address.{Address, depth}
 use Rattle.addressing.specs.Search.{IsAmong}
 use Rattle.cyclo_points.specs.declared.point.Point.{Point}
 use Rattle.cyclo_points.specs.Order.{NumberOf, points_of, is_refused}
 use Rattle.cyclo_points.specs.Point.{point_in}
 use Rattle.cyclo_points.specs.Motion.{motion_in}
 use Rattle.dissection.specs.Accepted.{AcceptedRule}
-use Rattle.frames.specs.Back.{back}
 use Rattle.frames.specs.Frame.{at_level, frame_tiles}
-use Rattle.frames.specs.Outline.{supertile_holds}
 use Rattle.lazy_walk.specs.Ancestors.{full}
-use Rattle.lazy_walk.specs.Containing.{FrameHolds, IsOnlyHolder, frame_motion}
-use Rattle.lazy_walk.specs.Frames.{FrameValue, whole, at_depth, GrowsTo}
+use Rattle.lazy_walk.specs.Containing.{FrameHolds, IsOnlyHolder}
+use Rattle.lazy_walk.specs.Frames.{FrameValue, at_depth, GrowsTo}
 use Rattle.lazy_walk.specs.Standing.{Stands}
 use Rattle.lazy_walk.proofs.Ancestors.{level-at}
 use Rattle.lazy_walk.proofs.InFull.{level-grown}
@@ -22,29 +20,22 @@ use Rattle.listings.specs.FrameWalk.{ComesOnIn}
 use Rattle.plane_geom.specs.declared.window.Window.{Window}
 use Rattle.rule_model.specs.declared.rule.Rule.{Rule}
 use Rattle.rule_model.specs.Tiling.{Tiling, tiling_of, children}
-use Rattle.substitution.specs.Placement.{placement}
 use Rattle.substitution.specs.Points.{Points}
 use Rattle.tile_place.specs.declared.placed_tile.PlacedTile.{PlacedTile}
 use Rattle.tile_place.specs.Searched.{placed_in}
 use Rattle.tile_place.proofs.Plane.{IsSettled, its_rule}
 use Rattle.tile_shape.specs.Views.{address_of}
-use Rattle.windows.specs.FramePatch.{frame_holds, growing_frame, in_frame, level_in, lifted_tile}
+use Rattle.windows.specs.FramePatch.{growing_frame, in_frame, level_in, lifted_tile}
 use Rattle.windows.specs.GrowingPatch.{IsOfDepth}
 use Rattle.window_cover.specs.Windows.{TileOf, box_of, IsWindow}
 use Rattle.list_verify.specs.FoundLines.{entries_of, AreLinesIn}
 use Rattle.list_verify.specs.Listing.{tiles_listed}
+use Rattle.window_cover.proofs.FrameNames.{level-holds}
 use Rattle.list_verify.specs.ListLaws.{HasListLaws}
 use Rattle.list_verify.specs.Walked.{first_refused_at, IsStoppedBy}
 use Rattle.list_verify.specs.declared.list_fault.ListFault.TheVariants.{CoordLimit}
 use Rattle.list_verify.proofs.Came.{HasCome}
 use Rattle.list_verify.proofs.Lines.{one-address, its_names, deep-full, listing-on}
-
--- a level of the frame at depth 64 holds a point exactly where the frame of that depth does
-level-holds : (t : Tiling) (f : FrameValue) (n : ℕ) (g : FrameValue) (p : NumberOf t.order) → at_level (full t f) n ≡ whole g → length g.digits ≡ n
-    → frame_holds (points_of t.order) t.rule (full t f) n p ≡ supertile_holds (points_of t.order) t.rule (top_kind (whole g)) (length g.digits) (frame_motion t g) p
-level-holds t f n g p e d =
-    ap (λ (a : Address). supertile_holds (points_of t.order) t.rule (top_kind a) n (back (points_of t.order) (placement (points_of t.order) t.rule a.digits)) p) e
-    ∙ ap (λ k. supertile_holds (points_of t.order) t.rule (top_kind (whole g)) k (frame_motion t g) p) (sym d)
 
 module _ (m : Rule) (settled : IsSettled m) (fits : StillFits (children (tiling_of m))) (L : HasListLaws (points_of m.order)) (f : FrameValue) (w : Window) (fit : IsWindow w)
     (lines : List program.Entry) (are : AreLinesIn (tiling_of m) f lines) (g : FrameValue) (grows : GrowsTo (tiling_of m) f g) where

@@ -3,29 +3,16 @@ ghost use Rattle.cyclo_points.specs.Order.{points_of};
 ghost use Rattle.list_verify.specs.ListLaws.{HasListLaws};
 
 use cyclo_points::order::Order;
-use cyclo_points::points_law;
 use listings::{frame_walk_law, right_listing_law, walk_fault_law};
-use windows::cover_laws::{frame_limits_law, frame_search_law};
-use windows::frame_laws::{
-    frame_crossing_law, frame_edge_law, frame_holds_law, frame_name_law, frame_patch_law,
-    frame_window_law,
-};
-use windows::search_laws::open_edge_law;
+use window_cover::search_laws::search_laws;
+use windows::frame_laws::frame_crossing_law;
 
-/// The laws of the walk, for the points of each order.
+/// The laws of the walk, for the points of each order: those of the search, and its own.
 pub(crate) fn list_laws(order: Order)
     ensures { HasListLaws (points_of order) }
 {
-    points_law(order);
-    frame_patch_law(order);
-    frame_name_law(order);
-    frame_edge_law(order);
+    search_laws(order);
     frame_crossing_law(order);
-    frame_holds_law(order);
-    frame_window_law(order);
-    open_edge_law(order);
-    frame_search_law(order);
-    frame_limits_law(order);
     frame_walk_law(order);
     walk_fault_law(order);
     right_listing_law(order);

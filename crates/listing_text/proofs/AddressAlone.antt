@@ -9,8 +9,7 @@ use Rattle.std.specs.List.{All, AllByRecursion}
 use Rattle.addressing.specs.Address.{Address, Step}
 use Rattle.cyclo_points.specs.Text.{blank}
 use Rattle.tile_shape.specs.Text.{colon, comma, slash, digit_text, digits_text, address_text, IsShort, HasShortNumbers}
-use Rattle.listing_text.specs.Lines.{texts_between}
-use Rattle.listing_text.specs.Words.{some_text}
+use Rattle.tile_shape.specs.Words.{some_text, texts_between}
 
 -- the byte isn't a blank
 abbrev IsInWord : ℕ → Type 0

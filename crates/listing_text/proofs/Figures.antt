@@ -1,31 +1,14 @@
--- Figures that follow make a number no smaller.
+-- A number, and the figures that follow it.
 use Rattle.std.proofs.Common.{◌≡◌, ℕ, ◌+◌, ◌-◌, ◌*◌, ◌≤◌, Bool, true, false, cond, not, ◌&&◌, List, [], ◌∷◌, Option, Some, None, nat_le, nat_eq, refl, ap, sym, ◌∙◌, arith}
+use Rattle.std.proofs.lemmas.Bool.{leb-false}
 use Rattle.std.proofs.lemmas.Bool.Decides.{nat_tests}
 use Rattle.std.specs.Option.{option_and_then}
 use Rattle.tile_shape.specs.Decimal.{is_figure, continued, number_up_to}
-
-no_smaller : (n m : ℕ) (cs : List ℕ) → continued n cs ≡ Some m → n ≤ m
-no_smaller n m [] e = let f : n ≡ m = cc in omega arith
-no_smaller n m (c ∷ cs) e = at_test (is_figure c) e (no_smaller (10 * n + (c - 48)) m cs)
-  where
-    at_test : (b : Bool) → cond b (continued (10 * n + (c - 48)) cs) None ≡ Some m → (continued (10 * n + (c - 48)) cs ≡ Some m → 10 * n + (c - 48) ≤ m) → n ≤ m
-    at_test true f rest = let g = rest f in omega arith
-    at_test false f rest = absurd (cc f)
-
-above_limit : (most n m : ℕ) → nat_le n most ≡ false → n ≤ m → nat_le m most ≡ false
-above_limit most n m l h = grind (arith, nat_tests)
+use Rattle.tile_shape.proofs.Decimals.{past_limit}
 
 -- a number, where it isn't above a limit
 abbrev pub up_to : ℕ → Option ℕ → Option ℕ
 up_to most o = option_and_then (λ k. cond (nat_le k most) (Some k) None) o
-
--- past the limit it stays past it
-pub past_limit : (most n : ℕ) (cs : List ℕ) → nat_le n most ≡ false → up_to most (continued n cs) ≡ None
-past_limit most n cs l = at_value (continued n cs) refl
-  where
-    at_value : (o : Option ℕ) → continued n cs ≡ o → up_to most o ≡ None
-    at_value None e = refl
-    at_value (Some m) e = ap (λ b. cond b (Some m) None) (above_limit most n m l (no_smaller n m cs e))
 
 -- what figures behind a first one make of its number: none may follow `0`
 abbrev pub further : ℕ → ℕ → List ℕ → Option ℕ
@@ -42,7 +25,7 @@ more_by most n m (c ∷ cs) true e h k = sym (ap (λ b. cond b None (up_to most 
   where
     above_none : (n m : ℕ) → (nat_eq n 0 ≡ true → ⊥) → n ≤ m → nat_eq m 0 ≡ false
     above_none n m h k = grind (arith, nat_tests)
-more_by most n m (c ∷ cs) false e h k = past_limit most m (c ∷ cs) e
+more_by most n m (c ∷ cs) false e h k = past_limit most m (c ∷ cs) (leb-false m most e)
 
 -- a figure behind a number other than 0 makes the number that the figures behind it go on from
 pub further-figure : (most n c : ℕ) (cs : List ℕ) → further most n (c ∷ cs) ≡ cond (is_figure c && not (nat_eq n 0)) (cond (nat_le (figured n c) most) (further most (figured n c) cs) None) None
@@ -81,7 +64,7 @@ first-figure most c (d ∷ ds) = by_tests (is_figure c) (nat_eq c 48) refl refl
     limited : (m : ℕ) (l z : Bool) → nat_le m most ≡ l → nat_eq m 0 ≡ z → z ≡ false → up_to most (continued m (d ∷ ds)) ≡ cond l (cond z None (up_to most (continued m (d ∷ ds)))) None
     limited m l true e k h = absurd (cc h)
     limited m true false e k h = refl
-    limited m false false e k h = past_limit most m (d ∷ ds) e
+    limited m false false e k h = past_limit most m (d ∷ ds) (leb-false m most e)
 
     by_tests : (f z : Bool) → is_figure c ≡ f → nat_eq c 48 ≡ z
         → up_to most (cond (not z) (cond f (continued (figured 0 c) (d ∷ ds)) None) None) ≡ cond f (cond (nat_le (figured 0 c) most) (further most (figured 0 c) (d ∷ ds)) None) None

@@ -1,6 +1,5 @@
 pub mod Figures
 pub mod NumberOn
-pub mod Cuts
 pub mod Shifts
 pub mod ListedLines
 pub mod CountedLines

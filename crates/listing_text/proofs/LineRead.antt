@@ -7,10 +7,10 @@ use Rattle.cyclo_points.specs.declared.motion.Motion.{Motion}
 use Rattle.tile_shape.specs.AddressIn.{address_in}
 use Rattle.tile_shape.specs.Text.{address_text, HasShortNumbers}
 use Rattle.tile_shape.specs.declared.address_fault.AddressFault.{AddressFault}
+use Rattle.tile_shape.specs.Words.{some_text, texts_between}
 use Rattle.listing_text.specs.declared.listing_fault.ListingFault.TheVariants as faults
-use Rattle.listing_text.specs.Lines.{texts_between}
 use Rattle.listing_text.specs.Listing.{entry_at, entry_of_words, entry_in}
-use Rattle.listing_text.specs.Words.{some_text, listed_motion, listed_behind, listed_in}
+use Rattle.listing_text.specs.Words.{listed_motion, listed_behind, listed_in}
 use Rattle.listing_text.proofs.AddressAlone.{address_alone, address_some}
 use Rattle.listing_text.proofs.NumberOn.{some_first}
 

@@ -3,7 +3,8 @@ use Rattle.std.proofs.Common.{◌≡◌, ℕ, ◌<◌, Bool, true, false, cond, 
 use Rattle.std.proofs.lemmas.List.Splits.{join_with_byte-slice_split}
 use Rattle.std.specs.List.{onto_first, join_with_byte}
 use Rattle.cyclo_points.specs.Text.{newline}
-use Rattle.listing_text.specs.Lines.{texts_between, lines_in}
+use Rattle.tile_shape.specs.Words.{texts_between}
+use Rattle.listing_text.specs.Lines.{lines_in}
 use Rattle.listing_text.proofs.NumberOn.{some_first}
 
 -- one text has these parts

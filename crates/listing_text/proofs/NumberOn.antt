@@ -3,8 +3,7 @@ use Rattle.std.proofs.Common.{◌≡◌, ℕ, ◌+◌, ◌<◌, Bool, true, fals
 use Rattle.std.proofs.lemmas.Bool.Decides.{nat_tests}
 use Rattle.std.specs.List.{onto_first}
 use Rattle.tile_shape.specs.Decimal.{is_figure, number_up_to}
-use Rattle.listing_text.specs.Lines.{texts_between}
-use Rattle.listing_text.specs.Words.{first_by}
+use Rattle.tile_shape.specs.Words.{first_by, texts_between}
 use Rattle.listing_text.proofs.Figures.{further, figured, further-figure, first-figure}
 
 -- there is a first text

@@ -3,9 +3,9 @@ use Rattle.std.proofs.Common.{◌≡◌, ℕ, ℤ, List, [], ◌∷◌, Option, 
 use Rattle.std.specs.Option.{option_map, option_and_then}
 use Rattle.cyclo_points.specs.declared.point.Point.{Point}
 use Rattle.tile_shape.specs.Text.{comma}
-use Rattle.listing_text.specs.Lines.{texts_between}
-use Rattle.listing_text.specs.Signed.{signed_in, point_of_texts}
-use Rattle.listing_text.specs.Words.{first_by}
+use Rattle.tile_shape.specs.Words.{first_by, texts_between}
+use Rattle.cyclo_points.specs.Text.{point_of_texts}
+use Rattle.listing_text.specs.Signed.{signed_in}
 use Rattle.listing_text.proofs.NumberOn.{some_first}
 
 -- a signed number and the texts behind it
@@ -42,7 +42,7 @@ at_last : (x y z : ℤ) (o : Option ℤ) → option_and_then (fourth x y z) (opt
 at_last x y z None = refl
 at_last x y z (Some w) = refl
 
-pub point_on-same : (ps : List (List ℕ)) → point_on ps ≡ point_of_texts ps
+pub point_on-same : (ps : List (List ℕ)) → point_on ps ≡ point_of_texts signed_in ps
 point_on-same [] = refl
 point_on-same (a ∷ []) = to_none first [] (signed_in a) (λ x. refl)
 point_on-same (a ∷ b ∷ []) = to_none first (b ∷ []) (signed_in a) (λ x. to_none (second x) [] (signed_in b) (λ y. refl))
@@ -57,18 +57,18 @@ point_on-same (a ∷ b ∷ c ∷ d ∷ e ∷ ps) =
 
 -- one read after the other
 module _ (ps qs rs : List (List ℕ)) (a b : ℤ) (one : Some (a, qs) ≡ first_by signed_in ps) (two : Some (b, rs) ≡ first_by signed_in qs) where
-  read_two : point_of_texts ps ≡ option_and_then (third a b) (first_by signed_in rs)
+  read_two : point_of_texts signed_in ps ≡ option_and_then (third a b) (first_by signed_in rs)
   read_two = sym (point_on-same ps) ∙ sym (ap (option_and_then first) one) ∙ sym (ap (option_and_then (second a)) two)
 
-  pub third_fails : None ≡ first_by signed_in rs → None ≡ point_of_texts ps
+  pub third_fails : None ≡ first_by signed_in rs → None ≡ point_of_texts signed_in ps
   third_fails e = sym (read_two ∙ sym (ap (option_and_then (third a b)) e))
 
-  read_all : (c d : ℤ) (ss ts : List (List ℕ)) → Some (c, ss) ≡ first_by signed_in rs → Some (d, ts) ≡ first_by signed_in ss → fourth a b c (d, ts) ≡ point_of_texts ps
+  read_all : (c d : ℤ) (ss ts : List (List ℕ)) → Some (c, ss) ≡ first_by signed_in rs → Some (d, ts) ≡ first_by signed_in ss → fourth a b c (d, ts) ≡ point_of_texts signed_in ps
   read_all c d ss ts e f = sym (read_two ∙ sym (ap (option_and_then (third a b)) e) ∙ sym (ap (option_and_then (fourth a b c)) f))
 
   -- with a text behind the fourth, and without one
-  pub more_follow : (c d : ℤ) (ss : List (List ℕ)) (t : List ℕ) → Some (c, ss) ≡ first_by signed_in rs → Some (d, texts_between comma t) ≡ first_by signed_in ss → None ≡ point_of_texts ps
+  pub more_follow : (c d : ℤ) (ss : List (List ℕ)) (t : List ℕ) → Some (c, ss) ≡ first_by signed_in rs → Some (d, texts_between comma t) ≡ first_by signed_in ss → None ≡ point_of_texts signed_in ps
   more_follow c d ss t e f = let s = some_first comma t in sym (ap (λ ts. fourth a b c (d, ts)) s.2) ∙ read_all c d ss (texts_between comma t) e f
 
-  pub none_follow : (c d : ℤ) (ss : List (List ℕ)) → Some (c, ss) ≡ first_by signed_in rs → Some (d, []) ≡ first_by signed_in ss → Some (record { c = a ∷ b ∷ c ∷ d ∷ [] }) ≡ point_of_texts ps
+  pub none_follow : (c d : ℤ) (ss : List (List ℕ)) → Some (c, ss) ≡ first_by signed_in rs → Some (d, []) ≡ first_by signed_in ss → Some (record { c = a ∷ b ∷ c ∷ d ∷ [] }) ≡ point_of_texts signed_in ps
   none_follow c d ss e f = read_all c d ss [] e f

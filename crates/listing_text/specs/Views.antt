@@ -9,7 +9,7 @@ use Rattle.listing_text.specs.declared.entry.Entry as program
 use Rattle.listing_text.specs.declared.line.Placed.{Placed}
 use Rattle.listing_text.specs.declared.listing_fault.ListingFault.{ListingFault}
 use Rattle.listing_text.specs.declared.listing_fault.ListingFault.TheVariants.{NoMemory}
-use Rattle.listing_text.specs.Lines.{texts_between}
+use Rattle.tile_shape.specs.Words.{texts_between}
 use Rattle.listing_text.specs.Listing.{Entry, entry_in}
 
 abbrev pub entry_of : program.Entry → Entry

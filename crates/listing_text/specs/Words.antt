@@ -1,27 +1,12 @@
 -- The four words of a line: a kind, a turn, a shift and the text of an address. Each reader answers what it has read, or the number, from 0, of the first word that hasn't
 -- its form or is one too many; where a word is missing it is the number of words.
-use Rattle.std.specs.Prelude.{ℕ, List, [], ◌∷◌, Option, Some, None, option_map, Result, Ok, Err}
-use Rattle.std.specs.Option.{ok_or}
+use Rattle.std.specs.Prelude.{ℕ, List, [], ◌∷◌, Result, Ok, Err}
 use Rattle.cyclo_points.specs.Text.{blank}
 use Rattle.cyclo_points.specs.declared.motion.Motion.{Motion}
 use Rattle.tile_shape.specs.Decimal.{number_up_to}
 use Rattle.tile_shape.specs.Parse.{◌>>=◌}
-use Rattle.listing_text.specs.Lines.{texts_between}
+use Rattle.tile_shape.specs.Words.{word_by, some_text, texts_between}
 use Rattle.listing_text.specs.Signed.{shift_in}
-
--- the first of some texts by its form, and those behind it
-abbrev pub first_by : {A : Type 0} → (List ℕ → Option A) → List (List ℕ) → Option (A × List (List ℕ))
-first_by form [] = None
-first_by form (text ∷ texts) = option_map (λ x. (x, texts)) (form text)
-
--- the same of words, of which the first has this place
-abbrev pub word_by : {A : Type 0} → (List ℕ → Option A) → ℕ → List (List ℕ) → Result (A × List (List ℕ)) ℕ
-word_by form place words = ok_or (first_by form words) place
-
--- a text that isn't empty
-abbrev pub some_text : List ℕ → Option (List ℕ)
-some_text [] = None
-some_text (byte ∷ bytes) = Some (byte ∷ bytes)
 
 -- what is listed of a tile, by the words of a line
 pub record Listed : Type 0 where

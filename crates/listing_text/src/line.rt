@@ -1,7 +1,7 @@
 //! The words of a line.
 ghost use Rattle.std.specs.Prelude.{◌≡◌, ◌<◌, [], ◌∷◌, length, IfSome, IfNone};
 ghost use Rattle.cyclo_points.specs.Text.{blank};
-ghost use Rattle.listing_text.specs.Lines.{texts_between};
+ghost use Rattle.tile_shape.specs.Words.{texts_between};
 ghost use Rattle.listing_text.specs.Signed.{shift_in};
 ghost use Rattle.listing_text.specs.Words.{listed_motion};
 ghost use Rattle.listing_text.specs.Views.{texts_behind, AnswersPlaced};

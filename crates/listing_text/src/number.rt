@@ -2,11 +2,10 @@
 ghost use Rattle.std.specs.Prelude.{◌≡◌, ◌≤◌, IfSome, option_map};
 ghost use Rattle.tile_shape.specs.Decimal.{number_up_to};
 ghost use Rattle.tile_shape.specs.Text.{comma};
+ghost use Rattle.tile_shape.specs.Words.{first_by, texts_between};
 ghost use Rattle.listing_text.specs.Limits.{most_shift};
-ghost use Rattle.listing_text.specs.Lines.{texts_between};
 ghost use Rattle.listing_text.specs.Signed.{signed_in};
 ghost use Rattle.listing_text.specs.Views.{texts_behind};
-ghost use Rattle.listing_text.specs.Words.{first_by};
 
 /// The greatest coefficient of a shift, in absolute value.
 const MOST_SHIFT: u32 = 16_777_216;

@@ -1,16 +1,13 @@
 -- What the tests of bounds say.
-use Rattle.std.proofs.Common.{◌≡◌, ℕ, ℤ, Bool, true, false, ◌&&◌, List, [], ◌∷◌, ◌≤◌, nat_abs, refl, arith}
+use Rattle.std.proofs.Common.{◌≡◌, ℕ, ℤ, true, ◌&&◌, List, [], ◌∷◌, arith}
 use Rattle.std.proofs.lemmas.Bool.{and_parts}
 use Rattle.std.proofs.lemmas.Bool.Decides.{nat_tests}
-use Rattle.std.proofs.lemmas.Int.{ints}
 use Rattle.std.proofs.lemmas.List.Elements.{All-cons}
 use Rattle.std.specs.List.{All, list_all}
 use Rattle.cyclo_points.specs.declared.point.Point.{Point}
 use Rattle.cyclo_points.specs.Point.{coefficient, Within, IsWithin}
+use Rattle.cyclo_points.proofs.Sizes.{abs_within}
 use Rattle.number_trials.specs.Sizes.{is_at_most, is_within}
-
-abs_within : (n : ℕ) (x : ℤ) → nat_abs x ≤ n → Within n x
-abs_within n x h = record { low = omega (arith, ints); high = omega (arith, ints) }
 
 pub Within-is_at_most : (n : ℕ) (x : ℤ) → is_at_most n x ≡ true → Within n x
 Within-is_at_most n x e = abs_within n x (grind (arith, nat_tests))

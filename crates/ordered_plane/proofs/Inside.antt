@@ -8,7 +8,7 @@ use Rattle.ordered_ring.specs.Sign.{IsPositive, IsNonNegative}
 use Rattle.ordered_plane.specs.Plane.{PlanePoint, TestPoint, side, orientation}
 use Rattle.ordered_plane.specs.Crossing.{crossing, crossing_of}
 use Rattle.ordered_ring.proofs.Normaliser.{Expr, var, con, neg, exprs, ring, ring_by, ring_from, ◌⊕◌, ◌⊖◌, ◌⊗◌}
-use Rattle.ordered_ring.proofs.Signs.{pos_nonneg, zero_nonneg, nonneg_cases, not_pos, pos_add_nonneg, nonneg_add, nonneg_mul, sign-scale, times_zero, zero_times}
+use Rattle.ordered_ring.proofs.Signs.{pos_nonneg, zero_nonneg, nonneg_cases, not_pos, pos_add_nonneg, nonneg_add, nonneg_mul, sign-scale, zero_factor, times_zero, zero_times}
 use Rattle.ordered_plane.proofs.Crossing.{above, A, B, C, P, these}
 use Rattle.ordered_plane.proofs.Triangle.{edge_sum, level_is, turn_rotated, is_greater, three_terms}
 
@@ -57,17 +57,14 @@ module _ (S : Signed) (L : Laws S.ops) (O : OrderLaws S) where
   zero_nn : IsNonNegative S zero_of
   zero_nn = zero_nonneg S L O zero_of O.zero_equal
 
-  cancel_pos : (k x : R.carrier) → IsPositive S k → R.mul k x ≡ zero_of → x ≡ zero_of
-  cancel_pos k x p e = O.equal_zero x (sym (sign-scale S L O k x p) ∙ ap S.sign e ∙ O.zero_equal)
-
   lex-scale : (k x y z : R.carrier) → IsNonNegative S k → Lex x y z → Lex (R.mul k x) (R.mul k y) (R.mul k z)
   lex-scale k x y z n h = at_case (nonneg_cases S L O k n)
     where
       at_case : IsPositive S k ⊎ (k ≡ zero_of) → Lex (R.mul k x) (R.mul k y) (R.mul k z)
       at_case (inl p) = record {
         first = nonneg_mul S L O k x n h.first;
-        second = λ e. nonneg_mul S L O k y n (h.second (cancel_pos k x p e));
-        third = λ e f. nonneg_mul S L O k z n (h.third (cancel_pos k x p e) (cancel_pos k y p f));
+        second = λ e. nonneg_mul S L O k y n (h.second (zero_factor S L O k x p e));
+        third = λ e f. nonneg_mul S L O k z n (h.third (zero_factor S L O k x p e) (zero_factor S L O k y p f));
       }
       at_case (inr e) = record {
         first = subst (IsNonNegative S) (sym (ap (λ u. R.mul u x) e ∙ zero_times S L O x)) zero_nn;
@@ -151,7 +148,7 @@ module _ (S : Signed) (L : Laws S.ops) (O : OrderLaws S) where
         two = nonneg_mul S L O _ _ s3 (not_pos S L O _ g)
 
         a_level : side R a b p ≡ zero_of → R.neg α ≡ zero_of
-        a_level e = cancel_pos (side R b c p) (R.neg α) s2 (both_zero _ _ one two (sym balance ∙ ap (R.mul γ) e ∙ times_zero S L O γ)).0
+        a_level e = zero_factor S L O (side R b c p) (R.neg α) s2 (both_zero _ _ one two (sym balance ∙ ap (R.mul γ) e ∙ times_zero S L O γ)).0
 
         level : side R a b p ≡ zero_of → IsNonNegative S (difference R a.y b.y)
         level e =

@@ -6,7 +6,7 @@ use Rattle.ordered_ring.proofs.Normaliser.{Expr, var, con, neg, ring, ring_from,
 use Rattle.ordered_ring.specs.Sign.{IsPositive}
 use Rattle.ordered_plane.specs.Plane.{PlanePoint, orientation}
 use Rattle.ordered_plane.specs.Segment.{Between}
-use Rattle.ordered_ring.proofs.Signs.{sign-scale}
+use Rattle.ordered_ring.proofs.Signs.{sign-scale, zero_factor}
 
 abbrev two : Expr
 two = con (pos 2)
@@ -35,7 +35,7 @@ module _ (S : Signed) (L : Laws S.ops) (O : OrderLaws S) where
       ∙ ring R L (y ∷ []) (con (pos 0) ⊕ var 0) (var 0) refl
     where
       gone : difference R x y ≡ R.int (pos 0)
-      gone = O.equal_zero (difference R x y) (sym (sign-scale S L O k (difference R x y) h) ∙ ap S.sign e ∙ O.zero_equal)
+      gone = zero_factor S L O k (difference R x y) h e
 
   -- ---- means, one coordinate at a time
   module _ (p q i j ax ay bx by cx cy : R.carrier) (hx : R.mul (R.add i j) cx ≡ R.add (R.mul i ax) (R.mul j bx)) (hy : R.mul (R.add i j) cy ≡ R.add (R.mul i ay) (R.mul j by)) where

@@ -13,7 +13,7 @@ use Rattle.addressing.proofs.Ranges.{among-append, among-flat_map, IsAmong-below
 use Rattle.addressing.proofs.TableBounds.{contact_bounds, some_within}
 use Rattle.addressing.proofs.Chains.{IsChain, chain_of}
 use Rattle.addressing.proofs.Mated.{IsMated, inner_mated, same_parts, across_part}
-use Rattle.addressing.proofs.FineTouch.{Meets, as_children, as_parts}
+use Rattle.addressing.proofs.FineTouch.{Meets, as_children, as_parts, step-eq}
 use Rattle.addressing.proofs.Traces.{Lies, itself, on, lies_of}
 use Rattle.addressing.specs.Trace.{Cut}
 use Rattle.addressing.proofs.Touching.{Touches-of, Meets-of}
@@ -22,9 +22,6 @@ use Rattle.pair_machine.specs.Nodes.{Node, RowPair, both_of, row_of}
 use Rattle.pair_machine.specs.Reading.{same_steps, only_if, met_by, between_children, left_of, node_of, first_pairs, pairs_read}
 
 -- ---- tests
-step-eq : (s u : Step) → s.child ≡ u.child → s.parent ≡ u.parent → s ≡ u
-step-eq s u c p = λ i. record { child = c i; parent = p i }
-
 pub same_steps-true : (xs ys : List Step) → same_steps xs ys ≡ true → xs ≡ ys
 same_steps-true [] [] h = refl
 same_steps-true [] (y ∷ ys) h = absurd cc

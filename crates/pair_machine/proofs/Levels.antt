@@ -159,10 +159,6 @@ digits_at xs ys level d same some within =
     let here : get_or (map step_of xs) (level - 1) (step_of d) ≡ step_of (get_or ys (level - 1) d) = rw same (get_or-map step_of xs (level - 1) d) in
     drop_more (map step_of xs) (level - 1) (step_of d) inside ∙ rw (here, more) refl
 
--- ---- at the end
-pub chain_from_drop : (t : Tables) (k : ℕ) (ds : List Step) (i : ℕ) → IsChain t k ds → i ≤ length ds → IsChain t (level_kind k ds i) (drop i ds)
-chain_from_drop t k ds i fits h = IsChain-drop t k ds i fits h
-
 -- ---- a level of the loop
 abbrev pub digit : List program.Step → ℕ → Step
 digit xs level = step_of (get_or xs (level - 1) (record { child = 0; parent = 0 }))
@@ -183,9 +179,9 @@ at_level t k l xs ys us vs level same fresh table coherent fits fits' depths own
     let sx = digits_at xs us level (record { child = 0; parent = 0 }) own some within in
     let sy = digits_at ys vs level (record { child = 0; parent = 0 }) own' some (omega (arith, depths, within)) in
     let cx : IsChain t (level_kind k (map step_of xs) (level - 1)) (digit us level ∷ drop level (map step_of xs)) =
-    subst (IsChain t (level_kind k (map step_of xs) (level - 1))) sx (chain_from_drop t k (map step_of xs) (level - 1) fits (omega (arith, length-map xs step_of, within))) in
+    subst (IsChain t (level_kind k (map step_of xs) (level - 1))) sx (IsChain-drop t k (map step_of xs) (level - 1) fits (omega (arith, length-map xs step_of, within))) in
     let cy : IsChain t (level_kind l (map step_of ys) (level - 1)) (digit vs level ∷ drop level (map step_of ys)) =
-    subst (IsChain t (level_kind l (map step_of ys) (level - 1))) sy (chain_from_drop t l (map step_of ys) (level - 1) fits' (omega (arith, length-map ys step_of, depths, within))) in
+    subst (IsChain t (level_kind l (map step_of ys) (level - 1))) sy (IsChain-drop t l (map step_of ys) (level - 1) fits' (omega (arith, length-map ys step_of, depths, within))) in
     record {
       split_x = sx;
       split_y = sy;

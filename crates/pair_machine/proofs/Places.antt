@@ -3,7 +3,7 @@ use Rattle.std.proofs.Common.{◌≡◌, ◌⊎◌, inl, inr, ℕ, zero, suc, �
 use Rattle.std.specs.List.{slice_get}
 use Rattle.std.proofs.lemmas.List.{take_more}
 use Rattle.addressing.specs.Search.{IsAmong}
-use Rattle.addressing.proofs.Lists.{IsAmong-map}
+use Rattle.addressing.proofs.Lists.{IsAmong-map, get_or-among}
 use Rattle.std.proofs.lemmas.Option.{slice_get-get_or}
 use Rattle.addressing.proofs.Ranges.{among-append, slice_get-image}
 use Rattle.transducer_core.specs.Once.{HasNoneTwice}
@@ -33,12 +33,7 @@ among-take_more xs i d x h j =
     let k : IsAmong x (take i xs ++ get_or xs i d ∷ []) = rw (take_more xs i d h) at j in
     elim (among-append x (take i xs) (get_or xs i d ∷ []) k) [ inl a ↦ inl a | inr b ↦ elim b [ inl e ↦ inr e | inr n ↦ elim n [ ] ] ]
 
--- what is read is a member
-pub get_or-among : {A : Type 0} (xs : List A) (i : ℕ) (d : A) → i < length xs → IsAmong (get_or xs i d) xs
-get_or-among [] i d h = absurd (omega arith)
-get_or-among (x ∷ xs) zero d h = inl refl
-get_or-among (x ∷ xs) (suc i) d h = inr (get_or-among xs i d (omega arith))
-
+-- what is made of what is read is a member
 pub read-among : {A B : Type 0} (f : A → B) (xs : List A) (i : ℕ) (d : A) → i < length xs → IsAmong (f (get_or xs i d)) (map f xs)
 read-among f xs i d h = IsAmong-map f (get_or xs i d) xs (get_or-among xs i d h)
 

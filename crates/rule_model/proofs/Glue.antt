@@ -80,19 +80,20 @@ halves r n (a ∷ []) (b ∷ []) h =
 halves r n (a ∷ []) (b ∷ (c ∷ ls)) h = absurd (cc)
 halves r n (a ∷ (c ∷ ks)) ls h = absurd (cc)
 
+-- a number that passes one of two tests is one of the two numbers
+pub one_of : (a b ty : ℕ) → nat_eq ty a || nat_eq ty b ≡ true → (ty ≡ a) ⊎ (ty ≡ b)
+one_of a b ty h = by_case (nat_eq ty a) refl h
+  where
+    by_case : (c : Bool) → nat_eq ty a ≡ c → c || nat_eq ty b ≡ true → (ty ≡ a) ⊎ (ty ≡ b)
+    by_case true e q = inl (eqb-true ty a e)
+    by_case false e q = inr (eqb-true ty b q)
+
 module _ {A : Type 0} (r : Rule A) (right : HasRightGlue r) (k : ℕ) (exists : k < length r.kinds) where
   -- edge e of kind k has glue type number i, or its mate
   record Has (e i : ℕ) : Type 0 where
     edge_in : e < edge_count r k
     glue_in : i < length r.glue
     type : (edge_type r k e ≡ glue_type r i) ⊎ (edge_type r k e ≡ mate r (glue_type r i))
-
-  one_of : (a b ty : ℕ) → nat_eq ty a || nat_eq ty b ≡ true → (ty ≡ a) ⊎ (ty ≡ b)
-  one_of a b ty h = by_case (nat_eq ty a) refl h
-    where
-      by_case : (c : Bool) → nat_eq ty a ≡ c → c || nat_eq ty b ≡ true → (ty ≡ a) ⊎ (ty ≡ b)
-      by_case true e q = inl (eqb-true ty a e)
-      by_case false e q = inr (eqb-true ty b q)
 
   has : (e : ℕ) → IsGlueEdge r k e → (i : ℕ) × Has e i
   has e g =

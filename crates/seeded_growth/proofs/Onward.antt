@@ -5,18 +5,13 @@ use Rattle.frames.specs.Growth.{no_step, chosen, grown_from, grown_by}
 use Rattle.frames.proofs.Frames.{top_from-join, Climbs-join, Climbs-top}
 use Rattle.frames.proofs.Grown.{grown-next}
 use Rattle.tile_shape.specs.UsesInOrder.{uses_in_order}
+use Rattle.tile_shape.proofs.Parents.{parent_exists}
 
 -- the use that a word chooses is in the list
 there : {A : Type 0} (xs : List A) (i : ℕ) (d : A) → i < length xs → slice_get xs i ≡ Some (get_or xs i d)
 there [] i d h = absurd (omega arith)
 there (x ∷ xs) zero d h = refl
 there (x ∷ xs) (suc i) d h = there xs i d (omega arith)
-
--- a parent of a child that has a kind exists
-parent_exists : (children : List (List ℕ)) (parent child kind : ℕ) → child_kind children parent child ≡ Some kind → parent < length children
-parent_exists [] parent child kind e = absurd (cc e)
-parent_exists (row ∷ rows) zero child kind e = omega arith
-parent_exists (row ∷ rows) (suc p) child kind e = let h : p < length rows = parent_exists rows p child kind e in omega (arith, h)
 
 module _ (children : List (List ℕ)) (word : ℕ → ℕ)
     (some : (kind : ℕ) → kind < length children → 0 < length (uses_in_order children kind))

@@ -28,6 +28,7 @@ use Rattle.cyclo_points.specs.declared.order.Order.{Order}
 use Rattle.cyclo_points.specs.declared.point.Point.{Point}
 use Rattle.cyclo_points.specs.Point.{point_in, quad_of, IsOf, IsWithin}
 use Rattle.cyclo_points.specs.Reduced.{combination}
+use Rattle.cyclo_points.proofs.Coefficients.{coefficients_of}
 use Rattle.layer_api.specs.declared.format.Format.{Format}
 use Rattle.window_cover.specs.declared.cover_fault.CoverFault.{CoverFault}
 use Rattle.window_cover.specs.declared.cover_fault.CoverFault.TheVariants.{DepthLimit, CoordLimit, TooManyTiles, NoMemory}
@@ -43,7 +44,6 @@ use Rattle.tile_app.specs.Tile.{GivesTile}
 use Rattle.tile_app.specs.Turned.{status_of_cover}
 use Rattle.tile_app.specs.Walk.{frame_given}
 use Rattle.tile_app.specs.Words.{command_of}
-use Rattle.tile_app.proofs.Asking.{coefficients_of}
 
 -- a tile that stands in the frame with a shift that isn't refused
 pub drawable_within : (t : Tiling) (g : FrameValue) (x : PlacedTile) → Stands t g x → IsWithin (2 ^ 24) x.motion.shift → CanBeDrawn t x

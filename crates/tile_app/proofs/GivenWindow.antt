@@ -7,18 +7,21 @@ use Rattle.cyclo_points.specs.declared.order.Order.{Order}
 use Rattle.cyclo_points.specs.declared.order.Order.TheVariants.{Four, Six, Eight, Ten}
 use Rattle.cyclo_points.specs.declared.point.Point.{Point}
 use Rattle.cyclo_points.specs.Point.{Within, IsWithin, quad_of}
+use Rattle.cyclo_points.specs.Text.{point_of_coefficients, point_of_texts}
 use Rattle.cyclo_points.proofs.CoordinateReadings.{reduced_four, reduced_six, pair_six-triples, reduced_eight, reduced_ten}
 use Rattle.cyclo_points.proofs.Sizes.{double_difference}
 use Rattle.cyclo_points.proofs.Within.{within_wider, zero_within, point_wider}
 use Rattle.plane_geom.specs.declared.window.Window.{Window}
 use Rattle.tile_shape.specs.Decimal.{number_in, number_up_to}
+use Rattle.tile_shape.specs.Signed.{minus_sign, negated}
+use Rattle.tile_shape.specs.Text.{comma}
+use Rattle.tile_shape.specs.Words.{texts_between}
 use Rattle.window_cover.specs.Windows.{IsWindow}
 use Rattle.tile_app.specs.declared.window_words.HalfExtents.{HalfExtents}
 use Rattle.tile_app.specs.declared.words.Key.TheVariants.{At, Half}
 use Rattle.tile_app.specs.Draw.{reduced, at_given, half_given, window_given}
 use Rattle.tile_app.specs.DrawnTile.{point_of}
-use Rattle.tile_app.specs.PathWords.{pieces}
-use Rattle.tile_app.specs.WindowWords.{most_coefficient, most_extent, minus, negative, coefficient_in, extent_in, point_of_coefficients, point_of_pieces, extents_of_pieces, at_in, half_in, FitWindow}
+use Rattle.tile_app.specs.WindowWords.{most_coefficient, coefficient_in, extent_in, extents_of_pieces, at_in, half_in, FitWindow, most_extent}
 use Rattle.tile_app.specs.Words.{value_given}
 use Rattle.tile_app.proofs.Requested.{some_is}
 
@@ -38,7 +41,7 @@ number-limited most text n e = then_of (λ m. cond (nat_le m most) (Some m) None
 -- ---- a centre
 coefficient-within : (bytes : List ℕ) (z : ℤ) → coefficient_in bytes ≡ Some z → Within (2 ^ 20) z
 coefficient-within [] z e = absurd (cc e)
-coefficient-within (byte ∷ bytes) z e = at_test (byte == minus) e
+coefficient-within (byte ∷ bytes) z e = at_test (byte == minus_sign) e
   where
     within : (x : ℤ) → Within most_coefficient x → x ≡ z → Within (2 ^ 20) z
     within x h same = subst (Within (2 ^ 20)) same (within_wider most_coefficient (2 ^ 20) x (lit≤ tt) h)
@@ -49,11 +52,11 @@ coefficient-within (byte ∷ bytes) z e = at_test (byte == minus) e
     above : (n : ℕ) → n ≤ most_coefficient → Within most_coefficient (pos n)
     above n l = record { low = omega (arith, ints); high = omega (arith, ints) }
 
-    of_negative : (n : ℕ) → n ≤ most_coefficient → negative n ≡ Some z → Within (2 ^ 20) z
+    of_negative : (n : ℕ) → n ≤ most_coefficient → negated n ≡ Some z → Within (2 ^ 20) z
     of_negative zero l f = absurd (cc f)
     of_negative (suc n) l f = within (neg_ℤ (pos (suc n))) (below (suc n) l) (some_is (neg_ℤ (pos (suc n))) z f)
 
-    at_negative : (o : Option ℕ) → ((n : ℕ) → o ≡ Some n → n ≤ most_coefficient) → option_and_then negative o ≡ Some z → Within (2 ^ 20) z
+    at_negative : (o : Option ℕ) → ((n : ℕ) → o ≡ Some n → n ≤ most_coefficient) → option_and_then negated o ≡ Some z → Within (2 ^ 20) z
     at_negative None h f = absurd (cc f)
     at_negative (Some n) h f = of_negative n (h n refl) f
 
@@ -61,7 +64,7 @@ coefficient-within (byte ∷ bytes) z e = at_test (byte == minus) e
     at_positive None h f = absurd (cc f)
     at_positive (Some n) h f = within (pos n) (above n (h n refl)) (some_is (pos n) z f)
 
-    at_test : (b : Bool) → cond b (option_and_then negative (number_up_to most_coefficient bytes)) (option_map pos (number_up_to most_coefficient (byte ∷ bytes))) ≡ Some z → Within (2 ^ 20) z
+    at_test : (b : Bool) → cond b (option_and_then negated (number_up_to most_coefficient bytes)) (option_map pos (number_up_to most_coefficient (byte ∷ bytes))) ≡ Some z → Within (2 ^ 20) z
     at_test true f = at_negative (number_up_to most_coefficient bytes) (number-limited most_coefficient bytes) f
     at_test false f = at_positive (number_up_to most_coefficient (byte ∷ bytes)) (number-limited most_coefficient (byte ∷ bytes)) f
 
@@ -76,7 +79,7 @@ coefficients-within (Some a) (Some b) (Some c) None p f g h k e = absurd (cc e)
 coefficients-within (Some a) (Some b) (Some c) (Some d) p f g h k e =
     subst (IsWithin (2 ^ 20)) (some_is (record { c = a ∷ b ∷ c ∷ d ∷ [] }) p e) (record { at_0 = f a refl; at_1 = g b refl; at_2 = h c refl; at_3 = k d refl })
 
-pieces-within : (ps : List (List ℕ)) (p : Point) → point_of_pieces ps ≡ Some p → IsWithin (2 ^ 20) p
+pieces-within : (ps : List (List ℕ)) (p : Point) → point_of_texts coefficient_in ps ≡ Some p → IsWithin (2 ^ 20) p
 pieces-within (a ∷ b ∷ c ∷ d ∷ []) p e =
     coefficients-within (coefficient_in a) (coefficient_in b) (coefficient_in c) (coefficient_in d) p (coefficient-within a) (coefficient-within b) (coefficient-within c) (coefficient-within d) e
 pieces-within [] p e = absurd (cc e)
@@ -86,7 +89,7 @@ pieces-within (a ∷ b ∷ c ∷ []) p e = absurd (cc e)
 pieces-within (a ∷ b ∷ c ∷ d ∷ f ∷ ps) p e = absurd (cc e)
 
 at-within : (words : List (List ℕ)) (p : Point) → at_given words ≡ Some p → IsWithin (2 ^ 20) p
-at-within words p e = then_of at_in (IsWithin (2 ^ 20)) (value_given At words) p (λ text f. pieces-within (pieces [] text) p f) e
+at-within words p e = then_of at_in (IsWithin (2 ^ 20)) (value_given At words) p (λ text f. pieces-within (texts_between comma text) p f) e
 
 -- also where orders four and six reduce it
 reduced-within : (o : Order) (p : Point) → IsWithin (2 ^ 20) p → IsWithin (2 ^ 22) (reduced o p)
@@ -144,7 +147,7 @@ pieces-fit (a ∷ []) half e = absurd (cc e)
 pieces-fit (a ∷ b ∷ c ∷ ps) half e = absurd (cc e)
 
 half-fits : (words : List (List ℕ)) (half : HalfExtents) → half_given words ≡ Some half → FitWindow half
-half-fits words half e = then_of half_in FitWindow (value_given Half words) half (λ text f. pieces-fit (pieces [] text) half f) e
+half-fits words half e = then_of half_in FitWindow (value_given Half words) half (λ text f. pieces-fit (texts_between comma text) half f) e
 
 -- ---- the window
 pub given-fits : (o : Order) (words : List (List ℕ)) (w : Window) → window_given o words ≡ Some w → IsWindow w

@@ -1,4 +1,3 @@
-pub mod Children
 pub mod Requested
 pub mod Read
 pub mod Tilings

@@ -1,11 +1,12 @@
 -- A request has one answer: the cause of one status is no cause of another.
-use Rattle.std.proofs.Common.{◌≡◌, ◌⊎◌, inl, inr, ℕ, ◌<◌, ◌≤◌, true, List, length, Some, None, Result, Ok, Err, is_ok, is_none, refl, sym, ap, ap₂, ◌∙◌, subst, ℤ, arith}
+use Rattle.std.proofs.Common.{◌≡◌, ◌⊎◌, inl, inr, ℕ, ◌<◌, ◌≤◌, true, List, length, Some, None, Result, Ok, Err, is_ok, is_none, refl, sym, ap, ap₂, ◌∙◌, subst, arith}
 use Rattle.std.specs.declared.option.Option.{Option}
-use Rattle.addressing.specs.Address.{Address, Fits}
+use Rattle.addressing.specs.Address.{Address}
 use Rattle.addr_calc.specs.declared.calc_fault.CalcFault.{CalcFault}
 use Rattle.addr_calc.specs.Script.{Outcome as ScriptOutcome, IsAnswer}
 use Rattle.cyclo_points.specs.declared.point.Point.{Point}
 use Rattle.cyclo_points.specs.Order.{coefficients}
+use Rattle.cyclo_points.proofs.SamePoints.{same_point}
 use Rattle.layer_api.specs.declared.format.Format.{Format}
 use Rattle.half_glue.specs.declared.glue_fault.GlueFault.{GlueFault}
 use Rattle.half_glue.specs.declared.glue_fault.GlueFault.TheVariants as glue
@@ -18,7 +19,7 @@ use Rattle.tile_place.specs.Crossed.{LiesOnBoundary}
 use Rattle.tile_place.specs.Placing.{first_refused}
 use Rattle.tile_shape.specs.declared.address_fault.AddressFault.{AddressFault}
 use Rattle.tile_shape.specs.Refused.{IsFaultOf}
-use Rattle.tile_shape.specs.Text.{HasShortNumbers, address_text}
+use Rattle.tile_shape.specs.Text.{address_text}
 use Rattle.tile_shape.specs.Usable.{AreUsable}
 use Rattle.tile_app.specs.declared.rule_fault.RuleFault.{RuleFault}
 use Rattle.tile_app.specs.declared.script_fault.ScriptFault.TheVariants as script
@@ -48,6 +49,7 @@ use Rattle.tile_app.specs.Status.{IsLimit}
 use Rattle.tile_app.specs.Verify.{OneVerdictIn, BuiltinVerdictLaw}
 use Rattle.tile_app.specs.Words.{command_of}
 use Rattle.addr_calc.proofs.Faults.{OneText, fault_once}
+use Rattle.addr_calc.proofs.OneAnswer.{FitsAreShort}
 use Rattle.tile_app.proofs.Requested.{some_is}
 use Rattle.tile_app.proofs.Tilings.{AcceptedAreUsable, named_is_usable, builtin-asked}
 use Rattle.tile_app.proofs.Given.{builtin-right}
@@ -56,9 +58,6 @@ use Rattle.tile_app.proofs.Verdicts.{IsFor}
 use Rattle.std.proofs.lemmas.Bool.{and_parts as both_true}
 
 -- ---- the laws from which it follows
-abbrev pub FitsAreShort : Type 0
-FitsAreShort = (children : List (List ℕ)) (a : Address) → AreUsable children → Fits children a → HasShortNumbers a
-
 abbrev pub OneOutcome : Type 0
 OneOutcome = (t : Tiling) (script : List ℕ) (one other : ScriptOutcome) → AreUsable (children t) → IsAnswer t script one → IsAnswer t script other → one ≡ other
 
@@ -73,10 +72,6 @@ pub record Laws : Type 0 where
 abbrev HasVerdictFor : Command → Tiling → Type 0
 HasVerdictFor Verify t = OneVerdictIn t
 HasVerdictFor command t = Unit {0}
-
--- a point is its coefficients
-same_point : (p q : Point) → p.c ≡ q.c → p ≡ q
-same_point p q e = ap (λ (c : List ℤ). (let s : Point = record { c = c } in s)) e
 
 module _ (laws : Laws) (r : Request) (t : Tiling) (usable : AreUsable (children t)) where
   abbrev words : List (List ℕ)
@@ -131,7 +126,7 @@ module _ (laws : Laws) (r : Request) (t : Tiling) (usable : AreUsable (children 
 
   -- an edge is inside or outside
   inside_or_outside : (edge part : ℕ) → CanBeCrossed words t → LiesOutside words t edge part → ⊥
-  inside_or_outside edge part p q = of_given IsOnNone p.address q.address p.edge q.own p.gives q.gives p.inside.on_none edge part q.along
+  inside_or_outside edge part p q = of_given IsOnNone p.address q.address p.edge q.own p.gives q.gives p.inside.on_none edge part q.outside.along
 
   -- the number of edges, and the place outside, are determined
   same_no_edge : (e es f fs : ℕ) → HasNoEdge words t e es → HasNoEdge words t f fs → NoEdge e es ≡ NoEdge f fs
@@ -141,8 +136,8 @@ module _ (laws : Laws) (r : Request) (t : Tiling) (usable : AreUsable (children 
 
   same_outside : (e i f j : ℕ) → LiesOutside words t e i → LiesOutside words t f j → Outside e i ≡ Outside f j
   same_outside e i f j p q =
-      let alone : IsAlone e i q.address q.own = of_given (IsAlone e i) p.address q.address p.own q.own p.gives q.gives p.alone in
-      let one = alone f j q.along in
+      let alone : IsAlone e i q.address q.own = of_given (IsAlone e i) p.address q.address p.own q.own p.gives q.gives p.outside.alone in
+      let one = alone f j q.outside.along in
       ap₂ Outside (sym one.0) (sym one.1)
 
   -- ---- a command has one answer
@@ -175,11 +170,11 @@ module _ (laws : Laws) (r : Request) (t : Tiling) (usable : AreUsable (children 
   neighbour_once (NoEdge e es) Done h k = absurd (edge_or_none k.address k.edge e es k.gives k.inside.exists h)
   neighbour_once (NoEdge e es) (BadAddress f) h k = absurd (tile_or_none h.address f h.gives.tile k)
   neighbour_once (NoEdge e es) (NoEdge f fs) h k = same_no_edge e es f fs h k
-  neighbour_once (NoEdge e es) (Outside f i) h k = absurd (edge_or_none k.address k.own e es k.gives k.exists h)
+  neighbour_once (NoEdge e es) (Outside f i) h k = absurd (edge_or_none k.address k.own e es k.gives k.outside.exists h)
   neighbour_once (NoEdge e es) u h k = absurd k
   neighbour_once (Outside e i) Done h k = absurd (inside_or_outside e i k h)
   neighbour_once (Outside e i) (BadAddress f) h k = absurd (tile_or_none h.address f h.gives.tile k)
-  neighbour_once (Outside e i) (NoEdge f fs) h k = absurd (edge_or_none h.address h.own f fs h.gives h.exists k)
+  neighbour_once (Outside e i) (NoEdge f fs) h k = absurd (edge_or_none h.address h.own f fs h.gives h.outside.exists k)
   neighbour_once (Outside e i) (Outside f j) h k = same_outside e i f j h k
   neighbour_once (Outside e i) u h k = absurd k
   neighbour_once s u h k = absurd h

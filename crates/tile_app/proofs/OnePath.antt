@@ -1,16 +1,11 @@
 -- A path leads to one end: to a tile, or to one edge that doesn't exist or is on the boundary.
-use Rattle.std.proofs.Common.{◌≡◌, ℕ, ◌<◌, zero, suc, IsSome, List, [], ◌∷◌, ◌++◌, length, slice_get, refl, sym, ap, ◌∙◌, subst, arith}
+use Rattle.std.proofs.Common.{◌≡◌, ℕ, ◌<◌, zero, suc, IsSome, List, [], ◌∷◌, ◌++◌, length, slice_get, refl, sym, ◌∙◌, subst, arith}
 use Rattle.addressing.specs.Address.{Address}
 use Rattle.addressing.specs.Tables.{Tables, kind_tables, type_of}
-use Rattle.cyclo_points.specs.Order.{NumberOf}
 use Rattle.lazy_walk.specs.Paths.{Crosses, Leads, ComesTo, IsStoppedAt, LacksEdge}
 use Rattle.rule_model.specs.Tiling.{Tiling, contacts}
-use Rattle.substitution.specs.Supertile.{Placed}
 use Rattle.tile_place.specs.Crossed.{IsOnlyAcross}
-
--- the tile across is one
-pub one_across : (t : Tiling) (a b c : Address) (e f g : ℕ) → IsOnlyAcross t a e b f → IsOnlyAcross t a e c g → (b ≡ c) × (f ≡ g)
-one_across t a b c e f g h k = let same = k.only _ f h.across in (ap (λ (p : Placed (NumberOf t.order)). p.address) same.0, same.1)
+use Rattle.tile_place.proofs.OneAcross.{one_across}
 
 below : (xs : List ℕ) (i : ℕ) → IsSome (slice_get xs i) → i < length xs
 below [] i h = absurd (cc h)

@@ -2,10 +2,42 @@
 use Rattle.std.proofs.Common.{◌≡◌, ℕ, zero, suc, ◌+◌, ◌-◌, ◌<◌, ◌≤◌, Bool, true, false, List, [], ◌∷◌, ◌++◌, length, get_or, take, drop, Option, Some, None, nat_le, ◌==◌, cond, refl, sym, ap, ap₂, ◌∙◌, arith, append_assoc, append-nil, length-append}
 use Rattle.std.proofs.lemmas.Bool.{leb-true, le-leb, ne_eqb}
 use Rattle.std.proofs.lemmas.List.{take_more, get_or-drop, length-drop}
+use Rattle.std.specs.List.{onto_first}
 use Rattle.std.specs.Option.{option_map, option_and_then}
 use Rattle.tile_shape.specs.Decimal.{number_up_to}
 use Rattle.tile_shape.specs.Text.{comma}
-use Rattle.tile_app.specs.PathWords.{pieces, numbers, put, longest_path, unless_long}
+use Rattle.tile_shape.specs.Words.{texts_between}
+use Rattle.tile_app.specs.PathWords.{numbers, put, longest_path, unless_long}
+use Rattle.tile_app.proofs.Commas.{first_piece}
+
+-- the texts between commas, of which the first has begun with some bytes
+abbrev pub pieces : List ℕ → List ℕ → List (List ℕ)
+pieces begun [] = begun ∷ []
+pieces begun (byte ∷ bytes) = cond (byte == comma) (begun ∷ pieces [] bytes) (pieces (begun ++ byte ∷ []) bytes)
+
+-- bytes in front of the first of some texts
+abbrev in_front : List ℕ → List (List ℕ) → List (List ℕ)
+in_front begun [] = begun ∷ []
+in_front begun (text ∷ texts) = (begun ++ text) ∷ texts
+
+in_front-none : (bytes : List ℕ) → in_front [] (texts_between comma bytes) ≡ texts_between comma bytes
+in_front-none bytes = let f = first_piece bytes in ap (in_front []) f.2 ∙ sym f.2
+
+pieces-in_front : (begun bytes : List ℕ) → pieces begun bytes ≡ in_front begun (texts_between comma bytes)
+pieces-in_front begun [] = ap (λ b. b ∷ []) (sym (append-nil begun))
+pieces-in_front begun (x ∷ xs) = at_test (x == comma) (pieces-in_front [] xs) (pieces-in_front (begun ++ x ∷ []) xs)
+  where
+    moved : (texts : List (List ℕ)) → in_front (begun ++ x ∷ []) texts ≡ in_front begun (onto_first x texts)
+    moved [] = refl
+    moved (text ∷ texts) = ap (λ b. b ∷ texts) (append_assoc begun (x ∷ []) text)
+
+    at_test : (b : Bool) → pieces [] xs ≡ in_front [] (texts_between comma xs) → pieces (begun ++ x ∷ []) xs ≡ in_front (begun ++ x ∷ []) (texts_between comma xs)
+        → cond b (begun ∷ pieces [] xs) (pieces (begun ++ x ∷ []) xs) ≡ in_front begun (cond b ([] ∷ texts_between comma xs) (onto_first x (texts_between comma xs)))
+    at_test true e f = ap₂ (λ b texts. b ∷ texts) (sym (append-nil begun)) (e ∙ in_front-none xs)
+    at_test false e f = f ∙ moved (texts_between comma xs)
+
+pieces-are : (bytes : List ℕ) → pieces [] bytes ≡ texts_between comma bytes
+pieces-are bytes = pieces-in_front [] bytes ∙ in_front-none bytes
 
 pub put-none : (found : Option (List ℕ)) → put [] found ≡ found
 put-none None = refl
@@ -102,10 +134,17 @@ at_end bytes path begin place past b e same =
     nothing (x ∷ xs) zero h = absurd (omega arith)
     nothing (x ∷ xs) (suc n) h = nothing xs n (omega arith)
 
-pub path_refused : (bytes path : List ℕ) (begin : ℕ) → put path (numbers (take (length bytes - begin) (drop begin bytes) ∷ [])) ≡ numbers (pieces [] bytes) → unless_long (put path (numbers (take (length bytes - begin) (drop begin bytes) ∷ []))) ≡ None → None ≡ unless_long (numbers (pieces [] bytes))
-path_refused bytes path begin same none = sym none ∙ ap unless_long same
+pub refused_at_comma : (bytes path : List ℕ) (begin place : ℕ) → place < length bytes → get_or bytes place 0 ≡ comma
+    → put path (numbers (pieces (take (place - begin) (drop begin bytes)) (drop place bytes))) ≡ numbers (pieces [] bytes)
+    → ((rest : List (List ℕ)) → unless_long (put path (numbers (take (place - begin) (drop begin bytes) ∷ rest))) ≡ None) → None ≡ unless_long (numbers (texts_between comma bytes))
+refused_at_comma bytes path begin place h e same none =
+    sym (none (pieces [] (drop (place + 1) bytes))) ∙ ap (λ ps. unless_long (put path (numbers ps))) (sym (at_comma (take (place - begin) (drop begin bytes)) bytes place h e)) ∙ ap unless_long same
+    ∙ ap (λ ps. unless_long (numbers ps)) (pieces-are bytes)
+
+pub path_refused : (bytes path : List ℕ) (begin : ℕ) → put path (numbers (take (length bytes - begin) (drop begin bytes) ∷ [])) ≡ numbers (pieces [] bytes) → unless_long (put path (numbers (take (length bytes - begin) (drop begin bytes) ∷ []))) ≡ None → None ≡ unless_long (numbers (texts_between comma bytes))
+path_refused bytes path begin same none = sym none ∙ ap unless_long same ∙ ap (λ ps. unless_long (numbers ps)) (pieces-are bytes)
 
 pub path_read : (bytes path new : List ℕ) (begin : ℕ) → length new ≤ longest_path → put path (numbers (take (length bytes - begin) (drop begin bytes) ∷ [])) ≡ numbers (pieces [] bytes)
-    → ((rest : List (List ℕ)) → put new (numbers rest) ≡ put path (numbers (take (length bytes - begin) (drop begin bytes) ∷ rest))) → Some new ≡ unless_long (numbers (pieces [] bytes))
+    → ((rest : List (List ℕ)) → put new (numbers rest) ≡ put path (numbers (take (length bytes - begin) (drop begin bytes) ∷ rest))) → Some new ≡ unless_long (numbers (texts_between comma bytes))
 path_read bytes path new begin h same read =
-    sym (few new h) ∙ ap (λ xs. unless_long (Some xs)) (sym (append-nil new)) ∙ ap unless_long (read [] ∙ same)
+    sym (few new h) ∙ ap (λ xs. unless_long (Some xs)) (sym (append-nil new)) ∙ ap unless_long (read [] ∙ same) ∙ ap (λ ps. unless_long (numbers ps)) (pieces-are bytes)

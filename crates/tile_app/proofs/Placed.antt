@@ -8,8 +8,8 @@ use Rattle.cyclo_points.specs.declared.motion.Motion.{Motion}
 use Rattle.cyclo_points.specs.Motion.{motion_in}
 use Rattle.cyclo_points.specs.Order.{points_of}
 use Rattle.cyclo_points.specs.Point.{point_in, IsOf}
+use Rattle.cyclo_points.proofs.Coefficients.{coefficients_of}
 use Rattle.tile_app.specs.DrawnTile.{point_of, placed_point}
-use Rattle.tile_app.proofs.Asking.{coefficients_of}
 
 -- what a motion takes a vertex to is placed
 pub is_placed : (o q : Order) (m : Motion) (v p : Point) → o ≡ q → length p.c ≡ 4 → IsOf o p → point_in o p ≡ moved (points_of o) (motion_in o m) (point_in o v) → p ≡ placed_point q m v

@@ -1,7 +1,6 @@
 -- The tilings that are named: of a rule that is made for a name, of one that is read, and of which child kinds.
-use Rattle.std.proofs.Common.{◌≡◌, ◌≤◌, ℕ, List, length, nat_le, nat_lt, Result, Ok, Err, Some, None, IsTrue, refl, sym, ap, ◌∙◌, subst, lit≤}
+use Rattle.std.proofs.Common.{◌≡◌, ℕ, List, Result, Ok, Err, Some, None, refl, sym, ap, ◌∙◌, subst}
 use Rattle.std.specs.declared.option.Option.{Option}
-use Rattle.std.specs.List.{list_all, range_with_len}
 use Rattle.std.specs.Option.{option_map}
 use Rattle.substitution.specs.RuleParts.{map_rule}
 use Rattle.substitution.specs.Rule.{Rule as TheRule, child_kinds}
@@ -15,10 +14,10 @@ use Rattle.rule_model.specs.declared.rule.Rule.{Rule}
 use Rattle.rule_text.specs.declared.text_fault.TextFault.{TextFault}
 use Rattle.rule_model.specs.Tiling.{ListedRule, Tiling, tiling_of, tiling_listed}
 use Rattle.rule_text.specs.File.{rule_in_file}
-use Rattle.tile_shape.specs.Usable.{AreUsable, is_child_kind}
+use Rattle.tile_shape.specs.Usable.{AreUsable}
 use Rattle.builtin_rules.specs.declared.name.Name.{Name}
-use Rattle.builtin_rules.specs.declared.name.Name.TheVariants.{Chair, P2, P3, AmmannBeenker, HalfHex}
 use Rattle.builtin_rules.specs.Named.{named, IsWritten}
+use Rattle.builtin_rules.proofs.Constants.{rows_usable}
 use Rattle.tile_app.specs.declared.rule_choice.RuleChoice.{RuleChoice}
 use Rattle.tile_app.specs.declared.rule_choice.RuleChoice.TheVariants.{Builtin, File}
 use Rattle.tile_app.specs.declared.rule_fault.RuleFault.{RuleFault}
@@ -35,20 +34,7 @@ tiling_is name r is =
     same : Order → TheRule Point → Tiling
     same o l = record { order = o; rule = map_rule (point_in o) l }
 
--- ---- the child kinds of a tiling that is named are usable: those of a built-in rule, as is seen of the numbers written down
-seen : (children : List (List ℕ)) → 1 ≤ length children → length children ≤ 16 → IsTrue (list_all (λ row. nat_le 1 (length row)) children)
-    → IsTrue (list_all (λ row. nat_le (length row) 16) children) → IsTrue (list_all (λ row. list_all (λ kind. nat_lt kind (length children)) row) children)
-    → IsTrue (list_all (λ kind. is_child_kind children kind) (range_with_len 0 (length children))) → AreUsable children
-seen children a b c d e f = record { some_kind = a; at_most_16_kinds = b; some_child = c; at_most_16_children = d; each_exists = e; each_used = f }
-
-builtin_is_usable : (name : Name) → AreUsable (child_kinds (builtin_tiling name).rule)
-builtin_is_usable Chair = seen _ (lit≤ tt) (lit≤ tt) refl refl refl refl
-builtin_is_usable P2 = seen _ (lit≤ tt) (lit≤ tt) refl refl refl refl
-builtin_is_usable P3 = seen _ (lit≤ tt) (lit≤ tt) refl refl refl refl
-builtin_is_usable AmmannBeenker = seen _ (lit≤ tt) (lit≤ tt) refl refl refl refl
-builtin_is_usable HalfHex = seen _ (lit≤ tt) (lit≤ tt) refl refl refl refl
-
--- and those of a rule that no clause refuses, by a law
+-- ---- the child kinds of a tiling that is named are usable: those of a built-in rule are; those of a rule that no clause refuses by a law
 abbrev pub AcceptedAreUsable : Type 0
 AcceptedAreUsable = (e : Edition) (o : Order) (l : TheRule Point) → fault_of_lists e o l ≡ None → AreUsable (child_kinds (map_rule (point_in o) l))
 
@@ -66,7 +52,7 @@ file_is_usable law t (Ok x) h = at_fault (fault_of_lists x.edition x.order x.rul
 chosen_is_usable : AcceptedAreUsable → (file : List ℕ) (t : Tiling) (choice : RuleChoice) → tiling_chosen file choice ≡ Ok t → AreUsable (child_kinds t.rule)
 chosen_is_usable law file t File h = file_is_usable law t (rule_in_file file) h
 chosen_is_usable law file t (Builtin name) h =
-    subst (λ (s : Tiling). AreUsable (child_kinds s.rule)) (ok_is (builtin_tiling name) t (Ok (builtin_tiling name)) refl h) (builtin_is_usable name)
+    subst (λ (s : Tiling). AreUsable (child_kinds s.rule)) (ok_is (builtin_tiling name) t (Ok (builtin_tiling name)) refl h) (rows_usable name)
 
 pub named_is_usable : AcceptedAreUsable → (r : Request) (t : Tiling) → tiling_asked r ≡ Some (Ok t) → AreUsable (child_kinds t.rule)
 named_is_usable law r t h = at_choice (choice_given r.words) h

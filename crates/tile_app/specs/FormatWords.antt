@@ -7,7 +7,8 @@ use Rattle.std.specs.Str.{bytes_eq}
 use Rattle.layer_api.specs.declared.format.Format.{Format}
 use Rattle.layer_api.specs.declared.format.Format.TheVariants.{Svg, List as Listing, Census}
 use Rattle.layer_api.specs.contracts.format.FormatPartialEq.TheImpl as format_eq
-use Rattle.tile_app.specs.PathWords.{pieces}
+use Rattle.tile_shape.specs.Text.{comma}
+use Rattle.tile_shape.specs.Words.{texts_between}
 
 -- the name of a format
 abbrev pub format_text : Format → List ℕ
@@ -38,14 +39,14 @@ most_formats = 3
 abbrev pub is_new : Format → List Format → Bool
 is_new format before = nat_lt (length before) most_formats && not (is_among format before)
 
--- the formats before, and those that pieces of a text name, where each is a new one
+-- the formats before, and those that texts name, where each is a new one
 abbrev pub formats_behind : List Format → List (List ℕ) → Option (List Format)
 formats_behind before [] = Some before
 formats_behind before (piece ∷ rest) = option_and_then (λ f. if is_new f before then formats_behind (before ++ f ∷ []) rest else None) (format_named piece)
 
 -- the formats that a text names: one to three, joined by commas, each once
 abbrev pub formats_in : List ℕ → Option (List Format)
-formats_in text = formats_behind [] (pieces [] text)
+formats_in text = formats_behind [] (texts_between comma text)
 
 -- the first of the formats named that is none of those handed in
 abbrev pub first_lacking : List Format → List Format → Option Format

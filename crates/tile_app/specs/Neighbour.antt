@@ -5,7 +5,7 @@ use Rattle.std.specs.Fmt.{decimal}
 use Rattle.std.specs.Option.{option_and_then}
 use Rattle.addressing.specs.Address.{Address}
 use Rattle.rule_model.specs.Tiling.{Tiling}
-use Rattle.tile_place.specs.Crossed.{IsOnlyAcross, LiesOnBoundary, edges_of}
+use Rattle.tile_place.specs.Crossed.{IsOnlyAcross, LiesOnBoundary, IsOutside, edges_of}
 use Rattle.tile_shape.specs.Text.{address_text}
 use Rattle.tile_app.specs.declared.status.Status.{Status}
 use Rattle.tile_app.specs.declared.status.Status.TheVariants.{BadAddress, NoEdge, Outside}
@@ -65,9 +65,7 @@ pub record LiesOutside (words : List (List ℕ)) (t : Tiling) (edge part : ℕ) 
   pub address : Address
   pub own : ℕ
   pub gives : GivesEdge words t address own
-  pub exists : own < edges_of t address.kind
-  pub along : LiesOnBoundary t address own edge part
-  pub alone : (top other : ℕ) → LiesOnBoundary t address own top other → (top ≡ edge) × (other ≡ part)
+  pub outside : IsOutside t address own edge part
 
 -- why `neighbour` refuses its words for a tiling: for each status its cause
 abbrev pub NeighbourRefuses : List (List ℕ) → Tiling → Status → Type 0

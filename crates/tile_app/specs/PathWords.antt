@@ -1,16 +1,12 @@
 -- Paths in words: numbers from 0 to 255, joined by commas.
-use Rattle.std.specs.Prelude.{ℕ, List, [], ◌∷◌, ◌++◌, length, Some, None, nat_le, ◌==◌, if◌then◌else◌}
+use Rattle.std.specs.Prelude.{ℕ, List, [], ◌∷◌, ◌++◌, length, Some, None, nat_le, if◌then◌else◌}
 use Rattle.std.specs.declared.option.Option.{Option}
 use Rattle.std.specs.Option.{option_map, option_and_then}
 use Rattle.tile_shape.specs.Decimal.{number_up_to}
 use Rattle.tile_shape.specs.Text.{comma}
+use Rattle.tile_shape.specs.Words.{texts_between}
 
--- the pieces of a text between commas; the first of them has begun with some bytes
-abbrev pub pieces : List ℕ → List ℕ → List (List ℕ)
-pieces begun [] = begun ∷ []
-pieces begun (byte ∷ bytes) = if byte == comma then begun ∷ pieces [] bytes else pieces (begun ++ byte ∷ []) bytes
-
--- the numbers that they are, where each is one
+-- the numbers that texts are, where each is one
 abbrev pub numbers : List (List ℕ) → Option (List ℕ)
 numbers [] = Some []
 numbers (piece ∷ rest) = option_and_then (λ n. option_map (λ ns. n ∷ ns) (numbers rest)) (number_up_to 255 piece)
@@ -29,4 +25,4 @@ unless_long found = option_and_then (λ path. if nat_le (length path) longest_pa
 
 -- the path that a text is
 abbrev pub path_in : List ℕ → Option (List ℕ)
-path_in text = unless_long (numbers (pieces [] text))
+path_in text = unless_long (numbers (texts_between comma text))

@@ -1,8 +1,9 @@
 //! Windows in words.
 ghost use Rattle.std.specs.Prelude.{◌≡◌, ◌≤◌, ◌^◌, [], ◌∷◌, IfSome};
 ghost use Rattle.cyclo_points.specs.Point.{Within, IsWithin};
+ghost use Rattle.cyclo_points.specs.Text.{point_of_texts as point_by};
 ghost use Rattle.tile_app.specs.Commands.{windows_in};
-ghost use Rattle.tile_app.specs.WindowWords.{coefficient_in, extent_in, point_of_pieces, extents_of_pieces, at_in, half_in, FitWindow};
+ghost use Rattle.tile_app.specs.WindowWords.{coefficient_in, extent_in, extents_of_pieces, at_in, half_in, FitWindow};
 
 use cyclo_points::point::Point;
 use tile_shape::decimal::read_number;
@@ -52,7 +53,7 @@ fn extent_in(text: &str) -> Option<u16>
 
 /// The point of four coefficients.
 fn point_of_texts(first: &str, second: &str, third: &str, fourth: &str) -> Option<Point>
-    ensures point { result ≡ point_of_pieces (first.now ∷ second.now ∷ third.now ∷ fourth.now ∷ []) }
+    ensures point { result ≡ point_by coefficient_in (first.now ∷ second.now ∷ third.now ∷ fourth.now ∷ []) }
     ensures within { IfSome result (λ p. IsWithin (2 ^ 20) p) }
 {
     Some(Point {

@@ -1,7 +1,8 @@
 -- One level further down.
-use Rattle.std.proofs.Common.{◌≡◌, ℕ, suc, ◌+◌, Bool, cond, List, [], ◌∷◌, ◌++◌, find, Option, None, Some, Result, Ok, Err, IfOk, IfErr, refl, sym, ap, ap₂, ◌∙◌, append_assoc, add-one}
+use Rattle.std.proofs.Common.{◌≡◌, ℕ, suc, ◌+◌, Bool, cond, List, [], ◌∷◌, ◌++◌, find, Option, None, Some, Result, IfOk, IfErr, refl, sym, ap, ap₂, ◌∙◌, append_assoc, add-one}
 use Rattle.std.specs.Option.{option_map, option_and_then}
 use Rattle.std.proofs.lemmas.List.{append-nil}
+use Rattle.std.proofs.lemmas.Result.{IfErr-weaker, IfOk-weaker}
 use Rattle.ordered_ring.specs.Ring.{power}
 use Rattle.substitution.specs.Points.{Points}
 use Rattle.substitution.specs.Motion.{Motion}
@@ -95,24 +96,15 @@ module _ (P : Points) (r : Rule P.ring.carrier) (test : P.ring.carrier → Bool)
   pub tile_same : (b : Bool) → b ≡ holds_point P (outline P r k scale m) p → tile_holding P r k n m p ≡ cond b (tile_below P r k n m p) None
   tile_same b h = ap (λ x. cond x (tile_below P r k n m p) None) (holds_same b h)
 
--- ---- the same of an answer handed on
-pub if_ok-each : {T E : Type 0} (x : Result T E) (Q R : T → Type 0) → ((t : T) → Q t → R t) → IfOk x Q → IfOk x R
-if_ok-each (Ok t) Q R f h = f t h
-if_ok-each (Err e) Q R f h = tt
-
-pub if_err-each : {T E : Type 0} (x : Result T E) (Q R : E → Type 0) → ((e : E) → Q e → R e) → IfErr x Q → IfErr x R
-if_err-each (Ok t) Q R f h = tt
-if_err-each (Err e) Q R f h = f e h
-
 pub fault_same : (o : Order) (vs ws : List (NumberOf o)) (t u : Option (Placed (NumberOf o))) → find (is_refused o) vs ≡ find (is_refused o) ws → t ≡ u → (fault : LocateFault) → IsSearchFault o ws u fault → IsSearchFault o vs t fault
 fault_same o vs ws t u e f NotInside h = (e ∙ h.0, f ∙ h.1)
 fault_same o vs ws t u e f (CoordLimit v) h = (e ∙ h.0, h.1)
 
 pub same_tile : (o : Order) (x : Result PlacedTile LocateFault) (t u : Option (Placed (NumberOf o))) → t ≡ u → IfOk x (λ tile. u ≡ Some (placed_in o tile)) → IfOk x (λ tile. t ≡ Some (placed_in o tile))
-same_tile o x t u e h = if_ok-each x (λ tile. u ≡ Some (placed_in o tile)) (λ tile. t ≡ Some (placed_in o tile)) (λ tile k. e ∙ k) h
+same_tile o x t u e h = IfOk-weaker x (λ tile. u ≡ Some (placed_in o tile)) (λ tile. t ≡ Some (placed_in o tile)) (λ tile k. e ∙ k) h
 
 pub same_none : (o : Order) (x : Result PlacedTile LocateFault) (vs ws : List (NumberOf o)) → find (is_refused o) vs ≡ find (is_refused o) ws → IfOk x (λ tile. find (is_refused o) ws ≡ None) → IfOk x (λ tile. find (is_refused o) vs ≡ None)
-same_none o x vs ws e h = if_ok-each x (λ tile. find (is_refused o) ws ≡ None) (λ tile. find (is_refused o) vs ≡ None) (λ tile k. e ∙ k) h
+same_none o x vs ws e h = IfOk-weaker x (λ tile. find (is_refused o) ws ≡ None) (λ tile. find (is_refused o) vs ≡ None) (λ tile k. e ∙ k) h
 
 pub same_fault : (o : Order) (x : Result PlacedTile LocateFault) (vs ws : List (NumberOf o)) (t u : Option (Placed (NumberOf o))) → find (is_refused o) vs ≡ find (is_refused o) ws → t ≡ u → IfErr x (IsSearchFault o ws u) → IfErr x (IsSearchFault o vs t)
-same_fault o x vs ws t u e f h = if_err-each x (IsSearchFault o ws u) (IsSearchFault o vs t) (fault_same o vs ws t u e f) h
+same_fault o x vs ws t u e f h = IfErr-weaker x (IsSearchFault o ws u) (IsSearchFault o vs t) (fault_same o vs ws t u e f) h

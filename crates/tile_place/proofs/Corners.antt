@@ -1,6 +1,7 @@
 -- A vertex of the program, scaled and moved.
 use Rattle.std.proofs.Common.{◌≡◌, ℕ, ℤ, pos, ◌+◌, ◌<◌, ◌≤◌, refl, [], ◌∷◌, arith, true, false, List, map, drop, get_or, length, find, Some, sym, ap, ◌∙◌, subst}
 use Rattle.std.specs.Ordering.{int_eq}
+use Rattle.std.proofs.lemmas.Simd.{map-map}
 use Rattle.ordered_plane.specs.Plane.{PlanePoint}
 use Rattle.ordered_plane.specs.Crossing.{count, member}
 use Rattle.plane_geom.specs.Spots.{spot_of, test_of}
@@ -11,7 +12,7 @@ use Rattle.frames.specs.Outline.{outline, holds_point}
 use Rattle.rule_model.specs.declared.rule.Rule.{Rule}
 use Rattle.rule_model.specs.Views.{rule_of}
 use Rattle.rule_model.specs.Usable.{IsUsable}
-use Rattle.tile_place.proofs.Ahead.{map-map, there, found_here, found_later}
+use Rattle.tile_place.proofs.Ahead.{there, found_here, found_later}
 use Rattle.substitution.specs.Motion.{moved}
 use Rattle.cyclo_points.specs.declared.order.Order.{Order}
 use Rattle.cyclo_points.specs.declared.point.Point.{Point}
@@ -66,7 +67,7 @@ pub holds-counted : (o : Order) (scale : Point) (at : Motion) (vs : List Point) 
     → int_eq n (pos 1) ≡ holds_point (points_of o) (map (corner_of o scale at) vs) (point_in o p)
 holds-counted o scale at vs p n e =
     ap (λ m. int_eq m (pos 1)) e
-    ∙ ap (λ spots. member (points_of o).real spots (test_of o p)) (sym (map-map (corner_of o scale at) (plane_point (points_of o)) vs))
+    ∙ ap (λ spots. member (points_of o).real spots (test_of o p)) (sym (map-map (plane_point (points_of o)) (corner_of o scale at) vs))
 
 -- what is said of the vertices of the program is said of the outline
 pub of_outline : (o : Order) (r m : Rule) (vs : List Point) (kind : ℕ) (scale : Point) (at : Motion) (T : (o : Order) → List (NumberOf o) → Type 0)
@@ -81,7 +82,7 @@ of_outline o r m vs kind scale at T eo er numbers t =
     moves z = moved (points_of r.order) (motion_in r.order at) ((points_of r.order).ring.mul (point_in r.order scale) z)
 
     whole : map (corner_of r.order scale at) vs ≡ outline (points_of r.order) (rule_of r) kind (point_in r.order scale) (motion_in r.order at)
-    whole = sym (map-map (point_in r.order) moves vs) ∙ ap (map moves) numbers
+    whole = sym (map-map moves (point_in r.order) vs) ∙ ap (map moves) numbers
 
 pub drop-none : {A : Type 0} (xs : List A) → drop 0 xs ≡ xs
 drop-none [] = refl

@@ -1,18 +1,21 @@
 -- A supertile that holds a point has a child that holds it, and one tile of it and no other does: both from the dissection, at the motion of the supertile.
-use Rattle.std.proofs.Common.{◌≡◌, ◌⊎◌, inl, inr, ℕ, suc, ◌<◌, ◌≤◌, Bool, true, false, cond, List, [], ◌∷◌, length, map, Some, refl, sym, ap, ap₂, ◌∙◌, subst}
+use Rattle.std.proofs.Common.{◌≡◌, ◌⊎◌, inl, inr, ℕ, suc, ◌<◌, ◌≤◌, Bool, true, false, cond, List, [], length, map, Some, refl, sym, ap, ◌∙◌}
 use Rattle.std.specs.List.{enumerate_from}
 use Rattle.std.proofs.lemmas.Bool.{cases_lt}
+use Rattle.std.proofs.lemmas.Simd.{map-map}
 use Rattle.ordered_ring.specs.Ring.{power}
 use Rattle.ordered_plane.specs.Plane.{TestPoint, IsTestPoint, test_point}
 use Rattle.ordered_plane.specs.Crossing.{member}
 use Rattle.addressing.specs.Search.{IsAmong}
+use Rattle.addressing.proofs.Lists.{map-ext}
 use Rattle.addressing.proofs.Ranges.{InPiece, get_or-past, among-flat_map}
 use Rattle.substitution.specs.Points.{Points, PointLaws}
 use Rattle.substitution.specs.Plane.{plane_point, Keeps}
-use Rattle.substitution.specs.Motion.{Motion, moved, followed, still}
+use Rattle.substitution.specs.Motion.{Motion, moved, followed}
 use Rattle.substitution.specs.Rule.{Child, Kind, Rule, children_of}
 use Rattle.substitution.specs.RuleParts.{vertices_of}
 use Rattle.substitution.specs.Supertile.{Placed, inflated, lifted, supertile}
+use Rattle.substitution.proofs.Addresses.{numbered-exists}
 use Rattle.substitution.proofs.Keeping.{motion-keeps, keeps-then}
 use Rattle.substitution.proofs.Motions.{moved-followed}
 use Rattle.dissection.specs.Polygons.{tile_polygon, supertile_polygon, IsDissectedAt}
@@ -20,15 +23,8 @@ use Rattle.dissection.specs.Sums.{number_of}
 use Rattle.frames.specs.Frame.{HasChildKinds}
 use Rattle.frames.specs.Outline.{outline, holds_point, supertile_holds}
 use Rattle.frames.specs.Part.{Part, child_motion, holder_of, HasHolders}
-use Rattle.frames.proofs.Fitting.{child-at}
 use Rattle.frames.proofs.Located.{holder-some}
-use Rattle.tile_place.proofs.Ahead.{map-map}
 use Rattle.tile_place.proofs.Counted.{one_of, some_of_one, one_alone, among-map}
-use Rattle.std.proofs.lemmas.Option.{get_or_from_slice_get, slice_get_within}
-
-map-ext : {A B : Type 0} (f g : A → B) (xs : List A) → ((x : A) → f x ≡ g x) → map f xs ≡ map g xs
-map-ext f g [] h = refl
-map-ext f g (x ∷ xs) h = ap₂ (λ u v. u ∷ v) (h x) (map-ext f g xs h)
 
 -- each supertile of a kind that exists is dissected at the test points of the ring
 abbrev pub IsDissected : (P : Points) → Rule P.ring.carrier → Type 0
@@ -59,12 +55,12 @@ module _ (P : Points) (W : PointLaws P) (r : Rule P.ring.carrier) (dissected : I
 
   -- the same by the outlines of a search
   whole-is : (k n : ℕ) (m : Motion A) → supertile_holds P r k n m p ≡ in_whole (moved P m) k n
-  whole-is k n m = ap (λ vs. member P.real vs point) (map-map (λ z. moved P m (P.ring.mul (power P.ring r.factor n) z)) (plane_point P) (vertices_of r k))
+  whole-is k n m = ap (λ vs. member P.real vs point) (map-map (plane_point P) (λ z. moved P m (P.ring.mul (power P.ring r.factor n) z)) (vertices_of r k))
 
   child-is : (k n : ℕ) (m : Motion A) (c : Child A) → holds_point P (outline P r c.kind (power P.ring r.factor n) (child_motion P r (power P.ring r.factor n) m c)) p
       ≡ in_whole (λ z. moved P m (moved P (inflated P r n c.motion) z)) c.kind n
   child-is k n m c =
-      ap (λ vs. member P.real vs point) (map-map (λ z. moved P (child_motion P r (power P.ring r.factor n) m c) (P.ring.mul (power P.ring r.factor n) z)) (plane_point P) (vertices_of r c.kind)
+      ap (λ vs. member P.real vs point) (map-map (plane_point P) (λ z. moved P (child_motion P r (power P.ring r.factor n) m c) (P.ring.mul (power P.ring r.factor n) z)) (vertices_of r c.kind)
       ∙ map-ext _ (λ z. plane_point P (moved P m (moved P (inflated P r n c.motion) (P.ring.mul (power P.ring r.factor n) z)))) (vertices_of r c.kind)
       (λ z. ap (plane_point P) (moved-followed P W (inflated P r n c.motion) m (P.ring.mul (power P.ring r.factor n) z))))
 
@@ -80,12 +76,6 @@ module _ (P : Points) (W : PointLaws P) (r : Rule P.ring.carrier) (dissected : I
       at_whole : (b : Bool) (m : ℕ) → suc m ≡ cond b 1 0 → b ≡ true
       at_whole true m e = refl
       at_whole false m e = absurd (cc e)
-
-  child_exists : (k : ℕ) → k < length r.kinds → (c : ℕ × Child A) → IsAmong c (enumerate_from 0 (children_of r k)) → c.1.kind < length r.kinds
-  child_exists k h c i =
-      let at = child-at (children_of r k) c i in
-      subst (λ (x : Child A). x.kind < length r.kinds) (get_or_from_slice_get (children_of r k) c.0 c.1 (record { kind = 0; motion = still P }) at)
-      (exist k c.0 h (slice_get_within (children_of r k) c.0 c.1 at))
 
   -- the motion of child c's supertile in a supertile that m moves
   abbrev in_child : ℕ → Motion A → Child A → A → A
@@ -110,7 +100,7 @@ module _ (P : Points) (W : PointLaws P) (r : Rule P.ring.carrier) (dissected : I
       of_own : (t : Placed A) → in_tile (moved P m) t ≡ true → (c : ℕ × Child A) → IsAmong c (enumerate_from 0 (children_of r k))
           → (u : Placed A) × IsAmong u (supertile P r c.1.kind n) × (lifted P r k n c.0 c.1 u ≡ t) → in_whole (in_child n m c.1) c.1.kind n ≡ true
       of_own t is c among u =
-          whole_too (in_child n m c.1) (in_child-keeps n m c.1) c.1.kind n (child_exists k h c among) u.0 u.1 (tile_too k n c.0 m c.1 u.0 ∙ ap (in_tile (moved P m)) u.2 ∙ is)
+          whole_too (in_child n m c.1) (in_child-keeps n m c.1) c.1.kind n (numbered-exists P r exist k h c among) u.0 u.1 (tile_too k n c.0 m c.1 u.0 ∙ ap (in_tile (moved P m)) u.2 ∙ is)
 
       of_piece : (t : Placed A) → in_tile (moved P m) t ≡ true → InPiece (pieces k n) t (enumerate_from 0 (children_of r k))
           → (c : ℕ × Child A) × IsAmong c (enumerate_from 0 (children_of r k)) × (in_whole (in_child n m c.1) c.1.kind n ≡ true)

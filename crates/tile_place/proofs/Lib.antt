@@ -19,3 +19,4 @@ pub mod Held
 pub mod Located
 pub mod EachOrder
 pub mod KeyOrder
+pub mod OneAcross

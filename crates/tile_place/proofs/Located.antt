@@ -1,5 +1,6 @@
 -- What the search from the top down finds is the only tile that holds the point.
 use Rattle.std.proofs.Common.{◌≡◌, ◌↔◌, ℕ, ◌<◌, true, cond, length, find, None, Some, Result, Ok, Err, IsOk, IfOk, IfErr, refl, sym, ap, ◌∙◌, subst}
+use Rattle.std.proofs.lemmas.Simd.{map-map}
 use Rattle.addressing.specs.Address.{depth, Fits}
 use Rattle.addressing.specs.Search.{IsAmong}
 use Rattle.ordered_plane.specs.Plane.{test_point}
@@ -30,7 +31,6 @@ use Rattle.tile_place.specs.declared.locate_fault.LocateFault.{LocateFault}
 use Rattle.tile_place.specs.declared.locate_fault.LocateFault.TheVariants.{NotInside, CoordLimit}
 use Rattle.tile_place.specs.Located.{moved_tiles, IsOnlyTileHolding, HasInside, first_refused_looked_at, IsCauseOf}
 use Rattle.tile_place.specs.Searched.{placed_in, IsSearchFault}
-use Rattle.tile_place.proofs.Ahead.{map-map}
 use Rattle.tile_place.proofs.Plane.{IsSettled, its_rule}
 use Rattle.tile_place.proofs.Held.{IsDissected, has_holders, only_one}
 
@@ -82,7 +82,7 @@ module _ (m : Rule) (settled : IsSettled m) (W : PointsLaw m.order) (law : Disse
             (IsAmong-map (λ (x : Placed P.ring.carrier). record { address = x.address; motion = followed P x.motion at }) (record { address = t.address; motion = own.own }) (supertile P r k n) own.among)
 
         holds : member P.real (tile_polygon P r (λ z. z) t) (test_point P.real.ops (plane_point P p)) ≡ true
-        holds = ap (λ vs. member P.real vs (test_point P.real.ops (plane_point P p))) (sym (map-map (moved P t.motion) (plane_point P) (vertices_of r t.address.kind)))
+        holds = ap (λ vs. member P.real vs (test_point P.real.ops (plane_point P p))) (sym (map-map (plane_point P) (moved P t.motion) (vertices_of r t.address.kind)))
             ∙ tile_below-holds P W r k n at p t (inside t e) found
 
   -- ---- the answer

@@ -1,5 +1,6 @@
 -- A child of a part, as the program finds it.
 use Rattle.std.proofs.Common.{◌≡◌, ℕ, Bool, true, false, cond, List, ◌∷◌, map, find, Some, sym, ap, ◌∙◌, subst}
+use Rattle.std.proofs.lemmas.Simd.{map-map}
 use Rattle.ordered_plane.specs.Crossing.{member}
 use Rattle.substitution.specs.Plane.{plane_point}
 use Rattle.substitution.specs.Motion.{Motion as MotionOf, followed}
@@ -18,7 +19,6 @@ use Rattle.rule_model.specs.declared.child.Child.{Child}
 use Rattle.rule_model.specs.Views.{rule_of, child_in}
 use Rattle.frames.specs.Part.{child_part}
 use Rattle.tile_place.specs.Parts.{part_in}
-use Rattle.tile_place.proofs.Ahead.{map-map}
 
 module _ (o : Order) (r m : Rule) (eo : o ≡ r.order) (er : r ≡ m) (child : Child) (scale : Point) (at : Motion) (product : Point) (moved : Motion) (kind number : ℕ) where
   in_its_order : child_in r.order child ≡ child_of (points_of r.order) (rule_of r) kind number
@@ -53,7 +53,7 @@ pub holds_is : (o q : Order) (e : o ≡ q) (corners read : List Point) (vertices
     → read ≡ corners → map (point_in q) corners ≡ vertices → b ≡ member (reals_of o) (spots_of o read) (test_of o p) → b ≡ holds_point (points_of q) vertices (point_in q p)
 holds_is o q e corners read vertices p b same seen h =
     subst (λ x. b ≡ member (reals_of x) (spots_of x read) (test_of x p)) e h
-    ∙ ap (λ vs. member (reals_of q) vs (test_of q p)) (ap (spots_of q) same ∙ sym (map-map (point_in q) (plane_point (points_of q)) corners) ∙ ap (map (plane_point (points_of q))) seen)
+    ∙ ap (λ vs. member (reals_of q) vs (test_of q p)) (ap (spots_of q) same ∙ sym (map-map (plane_point (points_of q)) (point_in q) corners) ∙ ap (map (plane_point (points_of q))) seen)
 
 -- the first refused value of a part
 module _ {A : Type 0} (test : A → Bool) (x : A) (xs : List A) where

@@ -1,30 +1,17 @@
 -- Points of an order are one exactly where their coefficients are the same.
 use Rattle.std.specs.Prelude.{int_lt}
 use Rattle.std.specs.declared.cmp.Ordering.TheVariants.{Less, Equal, Greater}
-use Rattle.std.specs.Ordering.{ordering_reverse, ordering_then, int_cmp, int_eq, is_gt}
+use Rattle.std.specs.Ordering.{ordering_reverse, ordering_then, int_cmp, is_gt}
 use Rattle.std.specs.Cmp.{tied_itself}
-use Rattle.std.specs.Cmp.Lexicographic.{pointwise, slice_cmp}
+use Rattle.std.specs.Cmp.Lexicographic.{slice_cmp}
 use Rattle.std.proofs.lemmas.Cmp.{int_cmp_total}
-use Rattle.std.proofs.Common.{◌≡◌, ℤ, pos, Bool, true, false, cond, ◌&&◌, List, [], ◌∷◌, length, get_or, refl, sym, ap, ap₂, ◌∙◌}
+use Rattle.std.proofs.Common.{◌≡◌, ℤ, Bool, true, false, cond, List, [], ◌∷◌, length, refl, sym, ap, ap₂, ◌∙◌}
 use Rattle.cyclo_points.specs.declared.order.Order.{Order}
 use Rattle.cyclo_points.specs.declared.order.Order.TheVariants.{Four, Six, Eight, Ten}
 use Rattle.cyclo_points.specs.declared.point.Point.{Point}
 use Rattle.cyclo_points.specs.Order.{NumberOf, coefficients}
 use Rattle.cyclo_points.specs.Point.{coefficient, point_in, IsOf}
-
-pub four : (xs : List ℤ) → length xs ≡ 4 → xs ≡ get_or xs 0 (pos 0) ∷ get_or xs 1 (pos 0) ∷ get_or xs 2 (pos 0) ∷ get_or xs 3 (pos 0) ∷ []
-four [] e = absurd (cc e)
-four (a ∷ []) e = absurd (cc e)
-four (a ∷ b ∷ []) e = absurd (cc e)
-four (a ∷ b ∷ c ∷ []) e = absurd (cc e)
-four (a ∷ b ∷ c ∷ d ∷ []) e = refl
-four (a ∷ b ∷ c ∷ d ∷ x ∷ xs) e = absurd (cc e)
-
-pub coefficients_of : (o : Order) (p : Point) → length p.c ≡ 4 → IsOf o p → p.c ≡ coefficients o (point_in o p)
-coefficients_of Four p l h = four p.c l ∙ ap₂ (λ c d. coefficient p 0 ∷ (coefficient p 1 ∷ (c ∷ (d ∷ [])))) h.0 h.1
-coefficients_of Six p l h = four p.c l ∙ ap₂ (λ c d. coefficient p 0 ∷ (coefficient p 1 ∷ (c ∷ (d ∷ [])))) h.0 h.1
-coefficients_of Eight p l h = four p.c l
-coefficients_of Ten p l h = four p.c l
+use Rattle.cyclo_points.proofs.Coefficients.{four, coefficients_of}
 
 -- one number, so one list
 pub same_coefficients : (o : Order) (p q : Point) → length p.c ≡ 4 → length q.c ≡ 4 → IsOf o p → IsOf o q → point_in o p ≡ point_in o q → p.c ≡ q.c
@@ -47,20 +34,6 @@ same_numbers o z w e = sym (read_back o z) ∙ ap (number_of o) e ∙ read_back 
 -- one list, so one number
 pub same_number : (o : Order) (p q : Point) → p.c ≡ q.c → point_in o p ≡ point_in o q
 same_number o p q e = ap (λ (c : List ℤ). (let s : Point = record { c = c } in point_in o s)) e
-
-regrouped : (a b c d : Bool) → (a && (b && (c && (d && true)))) ≡ a && b && c && d
-regrouped false b c d = refl
-regrouped true false c d = refl
-regrouped true true false d = refl
-regrouped true true true false = refl
-regrouped true true true true = refl
-
--- one by one
-pub one_by_one : (p q : Point) → length p.c ≡ 4 → length q.c ≡ 4 → pointwise int_eq p.c q.c
-    ≡ int_eq (coefficient p 0) (coefficient q 0) && int_eq (coefficient p 1) (coefficient q 1) && int_eq (coefficient p 2) (coefficient q 2) && int_eq (coefficient p 3) (coefficient q 3)
-one_by_one p q l m =
-    ap₂ (pointwise int_eq) (four p.c l) (four q.c m)
-    ∙ regrouped (int_eq (coefficient p 0) (coefficient q 0)) (int_eq (coefficient p 1) (coefficient q 1)) (int_eq (coefficient p 2) (coefficient q 2)) (int_eq (coefficient p 3) (coefficient q 3))
 
 -- where the first three are the same, the last decides
 gt-at : (b c : Bool) → cond b Less (cond c Greater Equal) ≡ ordering_reverse (cond c Less (cond b Greater Equal)) → is_gt (ordering_then (cond b Less (cond c Greater Equal)) Equal) ≡ c

@@ -1,5 +1,5 @@
 -- What a crossing answers, in the plane: the only tile across an edge, and edges on the boundary of the supertile.
-use Rattle.std.specs.Prelude.{ℕ, length}
+use Rattle.std.specs.Prelude.{◌≡◌, ℕ, ◌<◌, length}
 use Rattle.addressing.specs.Address.{Address}
 use Rattle.addressing.specs.Tables.{kind_tables}
 use Rattle.cyclo_points.specs.Order.{NumberOf, points_of}
@@ -24,3 +24,9 @@ LiesOnBoundary t a e own part = IsOnBoundary (points_of t.order) t.rule (placed_
 -- how many edges a kind has
 abbrev pub edges_of : Tiling → ℕ → ℕ
 edges_of t kind = length (kind_tables (contacts t) kind).types
+
+-- edge e of a exists, and lies along edge `own` of its supertile's polygon, on this part of it, and along no other
+pub record IsOutside (t : Tiling) (a : Address) (e own part : ℕ) : Type 0 where
+  pub exists : e < edges_of t a.kind
+  pub along : LiesOnBoundary t a e own part
+  pub alone : (top other : ℕ) → LiesOnBoundary t a e top other → (top ≡ own) × (other ≡ part)

@@ -17,7 +17,7 @@ above_limit : (most n m : ℕ) → most < n → n ≤ m → nat_le m most ≡ fa
 above_limit most n m l h = grind (arith, nat_tests)
 
 -- past the limit it stays past it
-past_limit : (most n : ℕ) (cs : List ℕ) → most < n → option_and_then (λ k. cond (nat_le k most) (Some k) None) (continued n cs) ≡ None
+pub past_limit : (most n : ℕ) (cs : List ℕ) → most < n → option_and_then (λ k. cond (nat_le k most) (Some k) None) (continued n cs) ≡ None
 past_limit most n cs l = at_value (continued n cs) refl
   where
     at_value : (o : Option ℕ) → continued n cs ≡ o → option_and_then (λ k. cond (nat_le k most) (Some k) None) o ≡ None

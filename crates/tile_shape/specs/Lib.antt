@@ -6,9 +6,11 @@ pub mod Limits
 pub mod Accepted
 pub mod Refused
 pub mod Decimal
+pub mod Signed
 pub mod Parse
 pub mod AddressIn
 pub mod Kept
 pub mod Usable
 pub mod FaultText
 pub mod UsesInOrder
+pub mod Words

@@ -2,14 +2,14 @@
 use Rattle.std.proofs.Common.{◌≡◌, ℕ, zero, suc, ◌+◌, ◌*◌, ◌<◌, ◌≤◌, List, [], ◌∷◌, ◌++◌, length, map, reverse, take, drop, get_or, Some, refl, sym, ap, ◌∙◌, arith}
 use Rattle.std.specs.List.{slice_get}
 use Rattle.std.proofs.lemmas.Option.{slice_get_within, get_or_from_slice_get}
-use Rattle.std.proofs.lemmas.List.{length-map, length-reverse, reverse-reverse, take_all, map-append}
+use Rattle.std.proofs.lemmas.List.{length-map, length-reverse, reverse-reverse, take_all}
 use Rattle.addressing.specs.Coherent.{IsCoherent}
 use Rattle.addressing.specs.Contact.{Contact, ChildEdge}
 use Rattle.addressing.specs.Search.{below}
 use Rattle.addressing.specs.Tables.{Tables, KindTables, kind_tables, type_of, child_kind_of, contacts_of, parts_of, contact_of, part_of, subs_of, child_type_of}
+use Rattle.addressing.proofs.Lists.{map-reverse}
 use Rattle.addressing.proofs.Ranges.{slice_get-image}
 use Rattle.addressing.proofs.TableBounds.{some_within}
-use Rattle.addressing.proofs.Traces.{reverse_cons}
 use Rattle.transducer_core.specs.declared.joined.Joined.{Joined}
 use Rattle.transducer_core.specs.declared.merging.Merged.{Merged}
 use Rattle.transducer_core.specs.Flat.{Lists, lists_of, mates_in, subs_in, types_in, children_in, flat_tables, flat_kind, flat_contacts, flat_parts}
@@ -37,11 +37,6 @@ map_back : {A B : Type 0} (f : A → B) (g : B → A) (xs : List A) → ((i : �
 map_back f g [] h = refl
 map_back f g (x ∷ xs) h = ap (λ y. y ∷ map g (map f xs)) (h 0 x refl) ∙ ap (λ l. x ∷ l) (map_back f g xs (λ i y is. h (suc i) y is))
 
-map-reversed : {A B : Type 0} (f : A → B) (xs : List A) → map f (reverse xs) ≡ reverse (map f xs)
-map-reversed f [] = refl
-map-reversed f (x ∷ xs) =
-    ap (map f) (reverse_cons x xs) ∙ map-append f (reverse xs) (x ∷ []) ∙ ap (λ l. l ++ f x ∷ []) (map-reversed f xs) ∙ sym (reverse_cons (f x) (map f xs))
-
 pub contact_block_back : (t : Tables) (k c : ℕ) → IsCoherent t → map contact_of_word (contact_words (contacts_of t k c)) ≡ contacts_of t k c
 unfolding contact_of
 contact_block_back t k c coherent = map_back word_of_contact contact_of_word (contacts_of t k c) (λ e x is. contact_back t k c e x coherent is)
@@ -49,7 +44,7 @@ contact_block_back t k c coherent = map_back word_of_contact contact_of_word (co
 pub part_block_back : (t : Tables) (k e : ℕ) → IsCoherent t → reverse (map part_of_word (part_words (parts_of t k e))) ≡ parts_of t k e
 unfolding part_of
 part_block_back t k e coherent =
-    ap reverse (map-reversed part_of_word (map word_of_part (parts_of t k e))) ∙ reverse-reverse (map part_of_word (map word_of_part (parts_of t k e)))
+    ap reverse (map-reverse part_of_word (map word_of_part (parts_of t k e))) ∙ reverse-reverse (map part_of_word (map word_of_part (parts_of t k e)))
     ∙ map_back word_of_part part_of_word (parts_of t k e) (λ p x is. part_entry_back t k e p x coherent is)
 
 pub kind_is : (t : Tables) (k : ℕ) (row : KindTables) → slice_get t.kinds k ≡ Some row → kind_tables t k ≡ row

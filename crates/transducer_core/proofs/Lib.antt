@@ -11,3 +11,4 @@ mod Once
 mod Rising
 mod Standing
 mod Strides
+pub mod OneOutside

@@ -2,7 +2,6 @@ pub mod CornerNumbers
 pub mod Turning
 pub mod ScaledPatch
 pub mod SmallBox
-pub mod CoveredBox
 pub mod WholeTurn
 pub mod GrownStar
 pub mod SharedPoint

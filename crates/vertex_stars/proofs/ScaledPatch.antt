@@ -15,6 +15,7 @@ use Rattle.ordered_plane.specs.Triangle.{Triangle, fan_from, fan, turns_left}
 use Rattle.ordered_plane.specs.Box.{scaled}
 use Rattle.ordered_plane.proofs.BoxPoints.{whole_positive}
 use Rattle.addressing.specs.Search.{IsAmong}
+use Rattle.addressing.proofs.Lists.{IsAmong-map}
 use Rattle.edge_to_edge.specs.Edges.{Edge}
 use Rattle.windows.specs.Distinct.{AreDistinct}
 use Rattle.windows.specs.Outlines.{edges_from, edges, PlaneEdge, Polygon, is_reverse}
@@ -49,11 +50,6 @@ fan-map f (a ∷ (b ∷ vs)) = fan_from-map f a b vs
 each-of-map : {A B : Type 0} (f : A → B) (Q : A → Type 0) (W : B → Type 0) → ((x : A) → Q x → W (f x)) → (xs : List A) → AllByRecursion Q xs → AllByRecursion W (map f xs)
 each-of-map f Q W h [] k = tt
 each-of-map f Q W h (x ∷ xs) k = (h x k.0, each-of-map f Q W h xs k.1)
-
-pub IsAmong-map : {A B : Type 0} (f : A → B) (x : A) (xs : List A) → IsAmong x xs → IsAmong (f x) (map f xs)
-IsAmong-map f x [] i = elim i [ ]
-IsAmong-map f x (y ∷ ys) (inl e) = inl (ap f e)
-IsAmong-map f x (y ∷ ys) (inr i) = inr (IsAmong-map f x ys i)
 
 pub back-among : {A B : Type 0} (f : A → B) → ((x y : A) → f x ≡ f y → x ≡ y) → (x : A) (xs : List A) → IsAmong (f x) (map f xs) → IsAmong x xs
 back-among f one x [] i = elim i [ ]

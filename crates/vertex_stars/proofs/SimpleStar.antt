@@ -2,6 +2,7 @@
 use Rattle.std.proofs.Common.{◌≡◌, ◌⊎◌, inl, inr, ℕ, zero, suc, ◌<◌, ◌≤◌, List, [], ◌∷◌, length, get_or, slice_get, cond, nat_lt, Some, pos, refl, sym, ap, ◌∙◌, subst, Bool, true, false, ◌&&◌, is_eq, arith}
 use Rattle.std.specs.Prelude.{IsTrue}
 use Rattle.std.proofs.lemmas.Bool.{and_parts, leb-true, le-leb}
+use Rattle.std.proofs.lemmas.Option.{slice_get_within}
 use Rattle.ordered_ring.specs.Ring.{Ops, Laws}
 use Rattle.ordered_ring.specs.Sign.{Signed, OrderLaws, IsPositive, IsNonNegative}
 use Rattle.ordered_ring.proofs.Normaliser.{var, con, ring, ring_from, ◌⊕◌, ◌⊖◌, ◌⊗◌}
@@ -390,11 +391,6 @@ module _ (S : Signed) (L : Laws S.ops) (O : OrderLaws S) where
         at_case (inr l) = absurd (not_before j i l h (sym f))
 
     -- ---- from numbers to lists
-    below-length : {A : Type 0} (xs : List A) (i : ℕ) (x : A) → slice_get xs i ≡ Some x → i < length xs
-    below-length [] i x e = absurd (cc e)
-    below-length (y ∷ ys) zero x e = omega arith
-    below-length (y ∷ ys) (suc i) x e = let h = below-length ys i x e in omega arith
-
     get-number : {A : Type 0} (o : A) (xs : List A) (i : ℕ) (x : A) → slice_get xs i ≡ Some x → get_or xs i o ≡ x
     get-number o [] i x e = absurd (cc e)
     get-number o (y ∷ ys) zero x e = some-same y x e
@@ -405,7 +401,7 @@ module _ (S : Signed) (L : Laws S.ops) (O : OrderLaws S) where
     distinct-numbers o (x ∷ xs) h = (
       λ k.
           let n = among-place x xs k in
-          let l : 0 ≡ suc n.0 = h 0 (suc n.0) (omega arith) (let b = below-length xs n.0 x n.1 in omega arith) (sym (get-number o xs n.0 x n.1)) in
+          let l : 0 ≡ suc n.0 = h 0 (suc n.0) (omega arith) (let b = slice_get_within xs n.0 x n.1 in omega arith) (sym (get-number o xs n.0 x n.1)) in
           absurd (omega arith),
       distinct-numbers o xs (λ i j g k e. let f = h (suc i) (suc j) (omega arith) (omega arith) e in omega arith),
     )
@@ -433,10 +429,10 @@ module _ (S : Signed) (L : Laws S.ops) (O : OrderLaws S) where
             i_is = get-number (record { x = R.int (pos 0); y = R.int (pos 0) }) polygon i.0 z i.1
 
             i_below : i.0 ≤ length vs
-            i_below = let b = below-length polygon i.0 z i.1 in omega arith
+            i_below = let b = slice_get_within polygon i.0 z i.1 in omega arith
 
             j_below : j.0 < suc (length vs)
-            j_below = let b = below-length (edges polygon) j.0 e j.1 in let q = same-length in omega arith
+            j_below = let b = slice_get_within (edges polygon) j.0 e j.1 in let q = same-length in omega arith
 
             e_is : edge_at (record { x = R.int (pos 0); y = R.int (pos 0) }) polygon j.0 ≡ e
             e_is = some-same _ e (sym (edges_by_number (record { x = R.int (pos 0); y = R.int (pos 0) }) polygon j.0 j_below) ∙ j.1)

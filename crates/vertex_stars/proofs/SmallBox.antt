@@ -13,6 +13,7 @@ use Rattle.ordered_plane.proofs.OnSegment.{between-on_segment, on_segment-betwee
 use Rattle.ordered_plane.proofs.BoxOverlap.{greater}
 use Rattle.ordered_plane.proofs.BoxPoints.{whole_positive, test_positive}
 use Rattle.windows.specs.Outlines.{PlaneEdge, MeetsBox}
+use Rattle.windows.proofs.Meeting.{below_parts}
 use Rattle.windows.proofs.Multiples.{Steps, reaches, all_reach}
 use Rattle.windows.proofs.Window.{centre-in_box}
 use Rattle.vertex_stars.proofs.ScaledPatch.{both_ends}
@@ -35,9 +36,6 @@ module _ (S : Signed) (L : Laws S.ops) (O : OrderLaws S) where
       ⊕ ((var 0 ⊗ con (pos 1) ⊖ var 1) ⊗ (var 0 ⊗ con (pos 1) ⊖ neg (var 2))) ⊗ (var 5 ⊗ con (pos 1) ⊕ (var 3 ⊖ var 4)))
       ⊕ ((((var 0 ⊗ con (pos 1) ⊖ neg (var 1)) ⊗ (var 0 ⊗ con (pos 1) ⊖ var 2)) ⊗ (var 5 ⊗ con (pos 1) ⊕ (var 4 ⊖ var 3)))
       ⊕ ((var 0 ⊗ con (pos 1) ⊖ neg (var 1)) ⊗ (var 0 ⊗ con (pos 1) ⊖ neg (var 2))) ⊗ (var 5 ⊗ con (pos 1) ⊕ neg (var 3 ⊕ var 4)))) refl
-
-  shorter_parts : (r s : R.carrier) → is_shorter S r s ≡ true → IsPositive S (difference R s r) × IsPositive S (difference R s (R.neg r))
-  shorter_parts r s h = let k = and_parts _ _ h in (greater _ k.0, greater _ k.1)
 
   no_zero : (x y : R.carrier) → IsPositive S x → IsNonNegative S y → x ≡ R.neg y → ⊥
   no_zero x y p q e = cc (sym (pos_add_nonneg S L O x y p q) ∙ ap S.sign (ap (λ z. R.add z y) e ∙ L.add_comm _ _ ∙ L.add_neg y) ∙ O.zero_equal)
@@ -79,8 +77,8 @@ module _ (S : Signed) (L : Laws S.ops) (O : OrderLaws S) where
       reach_positive : IsPositive S reach
       reach_positive =
           let h : (is_shorter S xi (R.mul p.d (R.int (pos 1))) ≡ true) × (is_shorter S eta (R.mul p.d (R.int (pos 1))) ≡ true) = and_parts _ _ inside in
-          let in_x = shorter_parts xi (R.mul p.d (R.int (pos 1))) h.0 in
-          let in_y = shorter_parts eta (R.mul p.d (R.int (pos 1))) h.1 in
+          let in_x = below_parts S L O xi (R.mul p.d (R.int (pos 1))) h.0 in
+          let in_y = below_parts S L O eta (R.mul p.d (R.int (pos 1))) h.1 in
           sym (sign-scale S L O (R.mul (R.int (pos 4)) p.d) reach (O.sign-mul _ _ (whole_positive S L O 3) d_pos))
           ∙ ap S.sign (four_corners p.d xi eta s.alpha s.beta m)
           ∙ O.sign-add _ _ (O.sign-add _ _ (O.sign-mul _ _ (O.sign-mul _ _ in_x.0 in_y.0) bounded.0) (O.sign-mul _ _ (O.sign-mul _ _ in_x.0 in_y.1) bounded.1.0))

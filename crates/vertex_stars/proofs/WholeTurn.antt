@@ -14,6 +14,7 @@ use Rattle.windows.specs.Distinct.{AreDistinct}
 use Rattle.windows.specs.Outlines.{PlaneEdge, edges, MeetsBox, is_reverse}
 use Rattle.windows.specs.Meeting.{PolygonMeetsBox}
 use Rattle.windows.specs.Patch.{Patch, HasAcross}
+use Rattle.windows.proofs.CoveredBox.{has_all}
 use Rattle.windows.proofs.Members.{among-map, goes-to}
 use Rattle.windows.proofs.Meeting.{polygon_meets}
 use Rattle.windows.proofs.Reverses.{reverse-turned}
@@ -23,7 +24,6 @@ use Rattle.vertex_stars.proofs.CornerNumbers.{some-same, out-edge, into-only, ou
 use Rattle.vertex_stars.proofs.Turning.{one-corner, turn-at, before, after, last-among, distinct-turn, distinct-tiles}
 use Rattle.vertex_stars.proofs.ScaledPatch.{both_ends, grown_edge, reverse-grown, grown_patch, from_edge, to_edge, grown-dissected}
 use Rattle.vertex_stars.proofs.SmallBox.{box_round, small_box, meets_round, start-on}
-use Rattle.vertex_stars.proofs.CoveredBox.{has_all}
 
 module _ (S : Signed) (L : Laws S.ops) (O : OrderLaws S) (whole : DividesWhole S) {T : Type 0} (P : Patch S T) (D : IsSimplyDissected S T P) (v : PlanePoint S.ops.carrier)
     (base : Corner T) (at_base : IsCornerAt S T P v base) (others : List (Corner T)) (turn : IsTurn S T P base others) where

@@ -6,7 +6,7 @@ use Rattle.addressing.proofs.Ranges.{place-among}
 use Rattle.windows.specs.Distinct.{AreDistinct}
 use Rattle.windows.proofs.Members.{among-map}
 
-some_one : {A : Type 0} {x y : A} → Some x ≡ Some y → x ≡ y
+pub some_one : {A : Type 0} {x y : A} → Some x ≡ Some y → x ≡ y
 some_one e = cc (e)
 
 -- each element has one place

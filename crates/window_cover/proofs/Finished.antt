@@ -3,6 +3,7 @@ use Rattle.std.proofs.Common.{◌≡◌, inl, inr, ℕ, ◌-◌, ◌<◌, ◌≤
 use Rattle.std.specs.List.{AllByRecursion, AllZip}
 use Rattle.std.proofs.lemmas.List.{length-map}
 use Rattle.std.proofs.lemmas.List.Sorted.{IsPermutation-map}
+use Rattle.std.proofs.lemmas.Simd.{map-map}
 use Rattle.addressing.specs.Address.{Address, depth, Fits}
 use Rattle.addressing.specs.Search.{IsAmong}
 use Rattle.addressing.proofs.Lists.{AllByRecursion-among, AllByRecursion-from, AllByRecursion-map, IsAmong-map}
@@ -24,6 +25,7 @@ use Rattle.tile_shape.specs.UsesInOrder.{uses_in_order}
 use Rattle.frames.specs.Frame.{at_level, motion_beside, frame_tiles, lifted_in, IsTileOf, StandsInFrame}
 use Rattle.frames.proofs.Carried.{some_turn}
 use Rattle.frames.proofs.Frames.{IsWhole, lifted-whole, lifted-moves_none, frame-placed, StandsInFrame-whole}
+use Rattle.cyclo_points.proofs.SamePoints.{point_in-exact}
 use Rattle.rule_model.specs.declared.rule.Rule.{Rule}
 use Rattle.rule_model.specs.Tiling.{Tiling, tiling_of, children}
 use Rattle.rule_model.specs.Views.{rule_of}
@@ -56,17 +58,12 @@ use Rattle.window_cover.specs.Right.{name_of, state_of, IsEdgeWaiting, IsFound, 
 use Rattle.window_cover.specs.Windows.{TileOf, box_of, AreDrawn, CoverWindow}
 use Rattle.window_cover.proofs.Distinct.{distinct-by}
 use Rattle.window_cover.specs.Covered.{tile_of}
-use Rattle.window_cover.proofs.SamePoints.{point_in-exact}
 use Rattle.window_cover.proofs.Shuffled.{AreShuffled, keyed-distinct, permuted-members}
 use Rattle.window_cover.proofs.Sorted.{numbers_of, numbers_placed, lifted-numbers}
 
 map-same : {A B : Type 0} (f g : A → B) (xs : List A) → ((x : A) → IsAmong x xs → f x ≡ g x) → map f xs ≡ map g xs
 map-same f g [] h = refl
 map-same {A} {B} f g (x ∷ xs) h = ap₂ (λ (y : B) (ys : List B). y ∷ ys) (h x (inl refl)) (map-same f g xs (λ y i. h y (inr i)))
-
-map-map : {A B C : Type 0} (f : B → C) (g : A → B) (xs : List A) → map f (map g xs) ≡ map (λ x. f (g x)) xs
-map-map f g [] = refl
-map-map {A} {B} {C} f g (x ∷ xs) = ap (λ (ys : List C). f (g x) ∷ ys) (map-map f g xs)
 
 -- the images of tiles are those of what they were found as
 zip-images : {A B C : Type 0} (R : A → B → Type 0) (f : B → C) (g : A → C) (xs : List A) (ys : List B) → AllZip R xs ys → ((x : A) (y : B) → R x y → f y ≡ g x) → map f ys ≡ map g xs

@@ -1,12 +1,10 @@
 -- Whole numbers that have the sign of a real one, and points that lie in a window.
 use Rattle.std.specs.Ordering.{int_cmp, is_gt}
 use Rattle.std.specs.declared.cmp.Ordering.TheVariants.{Greater}
-use Rattle.std.proofs.Common.{arith, ℕ, ℤ, ◌≡◌, ◌^◌, ◌<◌, pos, neg_ℤ, ◌*ℤ◌, ◌+ℤ◌, ◌<ℤ◌, Bool, true, ◌&&◌, ◌||◌, refl, sym, ◌∙◌, ap, ap₂, subst}
+use Rattle.std.proofs.Common.{arith, ℕ, ℤ, ◌≡◌, ◌^◌, ◌<◌, pos, neg_ℤ, ◌+ℤ◌, ◌<ℤ◌, Bool, true, ◌&&◌, ◌||◌, refl, sym, ◌∙◌, ap, ap₂, subst}
 use Rattle.std.proofs.lemmas.Int.{ints}
 use Rattle.ordered_ring.specs.Ring.{difference}
 use Rattle.ordered_ring.specs.Sign.{Signed}
-use Rattle.ordered_ring.proofs.Ordered.{two_above, five_above}
-use Rattle.ordered_ring.proofs.Squares.{no_root_two, no_root_five}
 use Rattle.ordered_plane.specs.BoxTest.{Depths, meets_both}
 use Rattle.cyclo_points.specs.declared.order.Order.{Order}
 use Rattle.cyclo_points.specs.declared.order.Order.TheVariants.{Four, Six, Eight, Ten}
@@ -14,40 +12,15 @@ use Rattle.cyclo_points.specs.declared.point.Point.{Point}
 use Rattle.cyclo_points.specs.Order.{points_of}
 use Rattle.cyclo_points.specs.Point.{point_in, Within}
 use Rattle.cyclo_points.specs.Real.{RealOf, number}
+use Rattle.cyclo_points.specs.Witness.{witness_in}
 use Rattle.cyclo_points.proofs.Reals.{sign_at, number-add, number-difference}
-use Rattle.cyclo_points.proofs.Sizes.{within_product}
 use Rattle.cyclo_points.proofs.Within.{whole_is}
-use Rattle.cyclo_points.proofs.Witnesses.{IsNear, sign-by_near}
+use Rattle.cyclo_points.proofs.ShortWitness.{sign-witness}
 use Rattle.plane_geom.specs.declared.window.Window.{Window}
-use Rattle.window_cover.specs.Inside.{witness_in, IsInside}
+use Rattle.window_cover.specs.Inside.{IsInside}
 use Rattle.window_cover.specs.NewEdges.{meets_window}
 
 -- ---- the sign of a + bθ
--- 54608393² is 2 * 38613965² - 1
-near_two : (v : ℤ) → Within (2 ^ 25) v → IsNear (pos 2) (pos 54608393) (pos 38613965) (neg_ℤ (pos 1)) v
-near_two v h =
-    let g = within_product (2 ^ 25) (2 ^ 25) v v h h in
-    record { p_pos = omega (arith, ints); q_pos = omega (arith, ints); square = refl; below = omega (arith, ints); above = omega (arith, ints) }
-
--- 228826127² is 5 * 102334155² + 4
-near_five : (v : ℤ) → Within (2 ^ 25) v → IsNear (pos 5) (pos 228826127) (pos 102334155) (pos 4) v
-near_five v h =
-    let g = within_product (2 ^ 25) (2 ^ 25) v v h h in
-    record { p_pos = omega (arith, ints); q_pos = omega (arith, ints); square = refl; below = omega (arith, ints); above = omega (arith, ints) }
-
--- with u twice a and b, the sum is twice that of a and b
-halved : (a b : ℤ) → int_cmp (pos 102334155 *ℤ (pos 2 *ℤ a +ℤ b) +ℤ pos 228826127 *ℤ b) (pos 0) ≡ int_cmp (pos 102334155 *ℤ a +ℤ pos 165580141 *ℤ b) (pos 0)
-halved a b = at_sum (pos 102334155 *ℤ (pos 2 *ℤ a +ℤ b) +ℤ pos 228826127 *ℤ b) (pos 102334155 *ℤ a +ℤ pos 165580141 *ℤ b) (omega (arith, ints))
-  where
-    at_sum : (x y : ℤ) → x ≡ pos 2 *ℤ y → int_cmp x (pos 0) ≡ int_cmp y (pos 0)
-    at_sum x y e = grind (arith, ints)
-
-sign-witness : (o : Order) (a b : ℤ) → Within (2 ^ 25) a → Within (2 ^ 25) b → sign_at o a b ≡ int_cmp (witness_in o a b) (pos 0)
-sign-witness Four a b f g = refl
-sign-witness Six a b f g = refl
-sign-witness Eight a b f g = sign-by_near (pos 2) (pos 54608393) (pos 38613965) (neg_ℤ (pos 1)) two_above no_root_two a b (near_two b g)
-sign-witness Ten a b f g = sign-by_near (pos 5) (pos 228826127) (pos 102334155) (pos 4) five_above no_root_five (pos 2 *ℤ a +ℤ b) b (near_five b g) ∙ halved a b
-
 positive : (o : Order) (a b : ℤ) → Within (2 ^ 25) a → Within (2 ^ 25) b → pos 0 <ℤ witness_in o a b → is_gt (sign_at o a b) ≡ true
 positive o a b f g h = ap is_gt (sign-witness o a b f g ∙ sym (above_zero (witness_in o a b) h))
   where

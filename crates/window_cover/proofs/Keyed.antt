@@ -2,6 +2,7 @@
 use Rattle.std.proofs.Common.{◌≡◌, ℕ, zero, suc, ◌+◌, ◌<◌, List, [], ◌∷◌, ◌++◌, length, map, take, get_or, slice_get, Bool, false, nat_eq, IfSome, refl, sym, ap, ap₂, subst, ◌∙◌, arith}
 use Rattle.std.specs.List.{AllByRecursion, IsDistinct}
 use Rattle.std.proofs.lemmas.Bool.Decides.{nat_tests}
+use Rattle.std.proofs.Math.Seq.{get_or-append_seam}
 use Rattle.tile_place.specs.declared.order_key.OrderKey.{OrderKey}
 use Rattle.window_cover.specs.Covered.{none, tile_of}
 use Rattle.window_cover.specs.Found.{Found}
@@ -21,10 +22,6 @@ keys-more n m (suc k) (x ∷ xs) key e l h =
 pub record IsKey (found : List Found) (key : OrderKey) : Type 0 where
   pub below : key.number < length found
   pub is : key ≡ key_of (tile_of found key).motion (tile_of found key).kind key.number
-
-get_or-behind : {A : Type 0} (xs : List A) (y d : A) (ys : List A) → get_or (xs ++ y ∷ ys) (length xs) d ≡ y
-get_or-behind [] y d ys = refl
-get_or-behind (x ∷ xs) y d ys = get_or-behind xs y d ys
 
 below-behind : {A : Type 0} (xs : List A) (y : A) (ys : List A) → length xs < length (xs ++ y ∷ ys)
 below-behind [] y ys = omega arith
@@ -47,7 +44,7 @@ behind : (front xs all : List Found) (n : ℕ) → front ++ xs ≡ all → lengt
 behind front [] all n e l = record { tiles = refl; keys = tt }
 behind front (x ∷ xs) all n e l =
     let more : AreBehind all (suc n) xs = behind (front ++ x ∷ []) xs all (suc n) (assoc front x xs ∙ e) (length-one_more front x ∙ ap suc l) in
-    let here : get_or all n none ≡ x = sym (ap₂ (λ (ys : List Found) (k : ℕ). get_or ys k none) e l) ∙ get_or-behind front x none xs in
+    let here : get_or all n none ≡ x = sym (ap₂ (λ (ys : List Found) (k : ℕ). get_or ys k none) e l) ∙ get_or-append_seam front x xs none in
     let within : n < length all = subst (λ k. k < length all) l (subst (λ (ys : List Found). length front < length ys) e (below-behind front x xs)) in
     record {
       tiles = ap₂ (λ (y : Found) (ys : List Found). y ∷ ys) here more.tiles;

@@ -15,7 +15,6 @@ mod Sorted
 mod Finished
 mod Arranged
 mod Searches
-mod Brought
 mod Ended
 mod Outcomes
 mod BoxTests
@@ -24,6 +23,7 @@ mod NewEdges
 mod Keeping
 mod OwnLines
 mod NewOpen
+pub mod FrameNames
 mod Names
 mod NextState
 mod FirstEdge

@@ -1,8 +1,7 @@
 -- Tiles found, by the names that they have at depth 64, and crossings of their open edges.
-use Rattle.std.proofs.Common.{◌≡◌, ℕ, ◌<◌, ◌≤◌, List, ◌++◌, [], length, drop, map, Some, slice_get, sym, ap, ◌∙◌, subst, arith, take_all, append-nil}
+use Rattle.std.proofs.Common.{◌≡◌, ℕ, ◌<◌, List, length, map, Some, slice_get, sym, ap, ◌∙◌, subst, arith}
 use Rattle.std.proofs.Math.ListN.{length-map}
-use Rattle.std.proofs.Math.Seq.{drop-length}
-use Rattle.addressing.specs.Address.{Address, depth, Fits}
+use Rattle.addressing.specs.Address.{Address, depth}
 use Rattle.addressing.specs.Search.{IsAmong}
 use Rattle.addressing.specs.Tables.{child_kinds}
 use Rattle.addressing.proofs.Lists.{AllByRecursion-among}
@@ -10,17 +9,13 @@ use Rattle.addressing.proofs.Ranges.{place-among, slice_get-image, BelowAt, belo
 use Rattle.cyclo_points.specs.Order.{NumberOf, points_of, is_refused}
 use Rattle.cyclo_points.specs.Motion.{motion_in}
 use Rattle.dissection.specs.Accepted.{AcceptedRule, NamesTile}
-use Rattle.dissection.specs.Across.{IsTileAcross}
-use Rattle.dissection.specs.OnBoundary.{IsOnBoundary}
 use Rattle.dissection.specs.Polygons.{tile_polygon}
 use Rattle.dissection.specs.TileEdges.{tile_at}
 use Rattle.edge_to_edge.specs.Contacts.{tables_of}
-use Rattle.frames.specs.Frame.{at_level, frame_tiles, IsTileOf, lifted_in}
+use Rattle.frames.specs.Frame.{frame_tiles, IsTileOf, lifted_in}
 use Rattle.lazy_walk.specs.Ancestors.{full}
-use Rattle.lazy_walk.specs.Boundary.{IsBoundaryEdge}
-use Rattle.lazy_walk.specs.Frames.{FrameValue, whole, at_depth, IsFrameOf, GrowsTo, lifted_at}
-use Rattle.lazy_walk.proofs.Ancestors.{level-at}
-use Rattle.lazy_walk.proofs.InFull.{names, deep, by_tables, tile-full, whole-level, level-own, level-grown}
+use Rattle.lazy_walk.specs.Frames.{FrameValue, whole, at_depth, IsFrameOf}
+use Rattle.lazy_walk.proofs.InFull.{names, tile-full, whole-level}
 use Rattle.lazy_walk.proofs.Walks.{StillFits}
 use Rattle.rule_model.specs.declared.rule.Rule.{Rule}
 use Rattle.rule_model.specs.Tiling.{Tiling, tiling_of, children}
@@ -28,31 +23,18 @@ use Rattle.substitution.specs.Motion.{Motion}
 use Rattle.substitution.specs.Points.{Points}
 use Rattle.substitution.specs.RuleParts.{edge_count}
 use Rattle.substitution.specs.Supertile.{Placed}
-use Rattle.tile_place.specs.Crossed.{IsOnlyAcross}
 use Rattle.tile_place.proofs.Plane.{IsSettled, its_rule}
 use Rattle.windows.specs.FrameCover.{IsWindowOn}
 use Rattle.windows.specs.FramePatch.{in_frame, line_of}
-use Rattle.windows.specs.FrameSearch.{IsGrownCrossing}
 use Rattle.windows.specs.OpenEdges.{NumberedEdge}
 use Rattle.windows.specs.Outlines.{edges}
 use Rattle.window_cover.specs.Found.{Found, address_found, CoverValue}
 use Rattle.window_cover.specs.Right.{name_of, state_of, IsFound, IsRight}
 use Rattle.window_cover.specs.SearchLaws.{HasSearchLaws}
 use Rattle.window_cover.specs.Windows.{box_of}
+use Rattle.window_cover.proofs.Distinct.{some_one}
+use Rattle.window_cover.proofs.FrameNames.{lifted-self}
 use Rattle.window_cover.proofs.NewOpen.{outline-edges}
-
-one_some : {A : Type 0} {x y : A} → Some x ≡ Some y → x ≡ y
-one_some e = cc (e)
-
--- digits that reach to the frame's end have none behind
-lifted-self : (f a : Address) → depth a ≡ depth f → lifted_in f a ≡ a
-lifted-self f a e = λ i. record { kind = a.kind; digits = same i }
-  where
-    none : drop (depth a) f.digits ≡ []
-    none = ap (λ n. drop n f.digits) e ∙ drop-length f.digits
-
-    same : a.digits ++ drop (depth a) f.digits ≡ a.digits
-    same = ap (λ ds. a.digits ++ ds) none ∙ append-nil a.digits
 
 module _ (m : Rule) (settled : IsSettled m) (fits : StillFits (children (tiling_of m))) (L : HasSearchLaws (points_of m.order)) (f : FrameValue) (is : IsFrameOf (tiling_of m) f) where
   abbrev t : Tiling
@@ -83,20 +65,6 @@ module _ (m : Rule) (settled : IsSettled m) (fits : StillFits (children (tiling_
       let again = (L.renamed T F its-names (depth F) (omega arith) a (subst (λ y. IsTileOf kinds y a) (sym (whole-level m settled fits f is)) (tile-full m settled fits f is a of))).1 in
       at.3 ∙ ap (in_frame P T.rule F) (sym own ∙ ap (λ y. lifted_in y a) (sym (whole-level m settled fits f is))) ∙ again
 
-  module _ (g : FrameValue) (h : GrowsTo t f g) where
-    pub grown : (a b : Address) (e back : ℕ) → IsTileOf (children t) (whole f) a → e < edge_count T.rule a.kind → IsOnlyAcross t (lifted_in (whole g) a) e b back
-        → ((n : ℕ) → length f.digits ≤ n → n < length g.digits → IsBoundaryEdge t (lifted_at t f a n) e) → IsGrownCrossing P T F (length f.digits) (length g.digits) a e b back
-    grown a b e back of edge x least = record {
-      frame = its-names;
-      not_below = h.no_shallower;
-      within = omega (arith, h.is_frame.at_most_64, deep m settled fits f is);
-      tile = subst (λ y. IsTileOf kinds y a) (sym (level-own m settled fits f is)) (by_tables m settled fits f is (whole f) a of);
-      edge_exists = edge;
-      across = subst (λ y. IsTileAcross P T.rule (tile_at P T.rule (lifted_in y a)) e (tile_at P T.rule b) back) (sym (level-grown m settled fits f is g h)) x.across;
-      least = λ k l j. let on = least k l j in
-          (on.own, on.part, subst (λ y. IsOnBoundary P T.rule (tile_at P T.rule (lifted_in y a)) e on.own on.part) (sym (level-at t f is k l (omega (arith, j, h.is_frame.at_most_64)))) on.lies);
-    }
-
   module _ (c : CoverValue) (right : IsRight t f c) where
     pub window-on : IsWindowOn P T F (box_of t c.window)
     window-on = record { frame = its-names; wide = omega (arith, right.window.some_width); high = omega (arith, right.window.some_height) }
@@ -122,7 +90,7 @@ module _ (m : Rule) (settled : IsSettled m) (fits : StillFits (children (tiling_
         let outline = λ (y : Placed (NumberOf m.order)). tile_polygon P T.rule (λ z. z) y in
         let it = (L.open_numbers (box_of t c.window) (map outline names_of) o among).0 in
         let its = slice_get-image outline (name_of t f x) names_of o.tile (slice_get-image (name_of t f) x c.found o.tile at) in
-        let polygon : it.polygon ≡ outline (name_of t f x) = one_some (sym it.tile_at ∙ its) in
+        let polygon : it.polygon ≡ outline (name_of t f x) = some_one (sym it.tile_at ∙ its) in
         below-at (line_of P T.rule (name_of t f x)) (edge_count T.rule x.kind) o.edge o.line
         (ap (λ es. slice_get es o.edge) (sym (outline-edges P T L.numbered (name_of t f x) (kind-exists x (its_found o.tile x at))) ∙ ap edges (sym polygon)) ∙ it.edge_at)
 
@@ -130,7 +98,7 @@ module _ (m : Rule) (settled : IsSettled m) (fits : StillFits (children (tiling_
     edge-exists o among x at = (edge-below o among x at).in_range
 
     pub name-at : (i : ℕ) (x : Found) → slice_get c.found i ≡ Some x → name_of t f x ≡ in_frame P T.rule F (address_found x)
-    name-at i x at = one_some (sym (slice_get-image (name_of t f) x c.found i at) ∙ found-at i x at)
+    name-at i x at = some_one (sym (slice_get-image (name_of t f) x c.found i at) ∙ found-at i x at)
 
     pub line-is : (o : NumberedEdge P.real) → IsAmong o (state_of t f c).open_edges → (x : Found) → slice_get c.found o.tile ≡ Some x → line_of P T.rule (in_frame P T.rule F (address_found x)) o.edge ≡ o.line
     line-is o among x at = ap (λ y. line_of P T.rule y o.edge) (sym (name-at o.tile x at)) ∙ sym (edge-below o among x at).is

@@ -47,7 +47,8 @@ use Rattle.window_cover.specs.SearchLaws.{HasSearchLaws}
 use Rattle.window_cover.specs.Stepping.{StepsTo}
 use Rattle.window_cover.specs.Windows.{TileOf, IsWindow, box_of}
 use Rattle.lazy_walk.proofs.InFull.{names}
-use Rattle.window_cover.proofs.Names.{window-on, grown, found-at, name-at, its_found, edge-exists, line-is}
+use Rattle.window_cover.proofs.FrameNames.{grown}
+use Rattle.window_cover.proofs.Names.{window-on, found-at, name-at, its_found, edge-exists, line-is}
 use Rattle.window_cover.proofs.NewOpen.{border-next, are-new}
 
 -- the first open edge, by both lists
@@ -106,7 +107,7 @@ module _ (m : Rule) (settled : IsSettled m) (fits : StillFits (children (tiling_
   over = subst (λ e. IsCrossedTo t f g (address_found x) x.motion e tile back) first_edge.same_edge crossed
 
   pub crossing : IsGrownCrossing P T F (length f.digits) (length g.digits) (address_found x) o.edge b back
-  crossing = grown m settled fits L f right.frame g h (address_found x) b o.edge back (its_found m settled fits L f right.frame c right o.tile x at_o).of_frame
+  crossing = grown m settled fits f right.frame g h (address_found x) b o.edge back (its_found m settled fits L f right.frame c right o.tile x at_o).of_frame
       (edge-exists m settled fits L f right.frame c right o among x at_o) over.only_tile_across over.least
 
   pub opening : IsOpenCrossing P T F s o (length g.digits) (address_found x) b back

@@ -7,21 +7,12 @@ use Rattle.cyclo_points.specs.declared.order.Order.{Order}
 use Rattle.cyclo_points.specs.declared.order.Order.TheVariants.{Four, Six, Eight, Ten}
 use Rattle.cyclo_points.specs.declared.point.Point.{Point}
 use Rattle.cyclo_points.specs.Point.{IsWithin, IsOf, coefficient, quad_of, pair_of, point_in}
+use Rattle.cyclo_points.proofs.SamePoints.{point_in-exact}
 use Rattle.window_cover.specs.declared.ends.Ends.{Ends}
 use Rattle.window_cover.specs.Border.{have_same_ends}
 use Rattle.window_cover.specs.Packed.{word_of, ends_of}
 use Rattle.window_cover.proofs.SameEnds.{have_same_ends-refl, have_same_ends-exact}
 use Rattle.window_cover.proofs.Unpacked.{quad, ends_of-exact}
-
-abbrev pair_within : Quad ℤ → Pair ℤ
-pair_within z = record { a = z.a0; b = z.a1 }
-
--- in each order the same points
-pub point_in-exact : (o : Order) (p q : Point) → quad_of p ≡ quad_of q → point_in o p ≡ point_in o q
-point_in-exact Four p q e = ap pair_within e
-point_in-exact Six p q e = ap pair_within e
-point_in-exact Eight p q e = e
-point_in-exact Ten p q e = e
 
 -- a point of the order, with coefficients within 2^25
 abbrev pub IsShortIn : Order → Point → Type 0

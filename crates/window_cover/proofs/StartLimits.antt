@@ -33,7 +33,8 @@ use Rattle.window_cover.specs.Limits.{IsWithinLimits}
 use Rattle.window_cover.specs.SearchLaws.{HasSearchLaws}
 use Rattle.window_cover.specs.Windows.{TileOf, IsWindow, box_of, polygon_of, IsLeastEnough}
 use Rattle.lazy_walk.proofs.InFull.{names, deep}
-use Rattle.window_cover.proofs.StartState.{level-holds, u, of_depth}
+use Rattle.window_cover.proofs.FrameNames.{level-holds}
+use Rattle.window_cover.proofs.StartState.{u, of_depth}
 
 module _ (m : Rule) (settled : IsSettled m) (fits : StillFits (children (tiling_of m))) (L : HasSearchLaws (points_of m.order))
     (f : FrameValue) (is : IsFrameOf (tiling_of m) f) (g : FrameValue) (h : GrowsTo (tiling_of m) f g) (w : Window) (fit : IsWindow w)

@@ -15,11 +15,6 @@ use Rattle.lazy_walk.specs.Ancestors.{full}
 use Rattle.lazy_walk.specs.Containing.{FrameHolds, IsOnlyHolder}
 use Rattle.lazy_walk.specs.Frames.{FrameValue, whole, at_depth, IsFrameOf, GrowsTo}
 use Rattle.lazy_walk.specs.Standing.{Stands}
-use Rattle.frames.specs.Outline.{supertile_holds}
-use Rattle.frames.specs.Back.{back}
-use Rattle.substitution.specs.Placement.{placement}
-use Rattle.addressing.specs.Address.{top_kind}
-use Rattle.lazy_walk.specs.Containing.{frame_motion}
 use Rattle.lazy_walk.proofs.Ancestors.{full-later, level-at}
 use Rattle.lazy_walk.proofs.Walks.{StillFits, at_depth-depth}
 use Rattle.plane_geom.specs.declared.window.Window.{Window}
@@ -31,7 +26,7 @@ use Rattle.tile_place.specs.Searched.{placed_in}
 use Rattle.tile_place.proofs.Plane.{IsSettled, its_rule}
 use Rattle.tile_shape.specs.Views.{address_of}
 use Rattle.windows.specs.FrameCover.{IsLeastHolding, IsWindowOn}
-use Rattle.windows.specs.FramePatch.{frame_holds, frame_patch, growing_frame, lifted_tile}
+use Rattle.windows.specs.FramePatch.{frame_patch, growing_frame, lifted_tile}
 use Rattle.windows.specs.EnoughDepth.{IsNotBeyond}
 use Rattle.windows.specs.GrowingPatch.{IsOfDepth}
 use Rattle.windows.specs.OpenEdges.{open_edges_of}
@@ -44,14 +39,8 @@ use Rattle.window_cover.specs.Right.{name_of, state_of, growing, IsEdgeWaiting, 
 use Rattle.window_cover.specs.SearchLaws.{HasSearchLaws}
 use Rattle.window_cover.specs.Windows.{TileOf, IsWindow, box_of}
 use Rattle.lazy_walk.proofs.InFull.{names, deep, level-grown}
+use Rattle.window_cover.proofs.FrameNames.{level-holds}
 use Rattle.window_cover.proofs.NewOpen.{border-next, are-new}
-
--- a level of the frame at depth 64 holds a point exactly where the frame of that depth does
-pub level-holds : (t : Tiling) (f : FrameValue) (n : ℕ) (g : FrameValue) (p : NumberOf t.order) → at_level (full t f) n ≡ whole g → length g.digits ≡ n
-    → frame_holds (points_of t.order) t.rule (full t f) n p ≡ supertile_holds (points_of t.order) t.rule (top_kind (whole g)) (length g.digits) (frame_motion t g) p
-level-holds t f n g p e d =
-    ap (λ (a : Address). supertile_holds (points_of t.order) t.rule (top_kind a) n (back (points_of t.order) (placement (points_of t.order) t.rule a.digits)) p) e
-    ∙ ap (λ k. supertile_holds (points_of t.order) t.rule (top_kind (whole g)) k (frame_motion t g) p) (sym d)
 
 module _ (m : Rule) (settled : IsSettled m) (fits : StillFits (children (tiling_of m))) (L : HasSearchLaws (points_of m.order))
     (f : FrameValue) (is : IsFrameOf (tiling_of m) f) (g : FrameValue) (h : GrowsTo (tiling_of m) f g) (w : Window) (fit : IsWindow w)

@@ -5,7 +5,7 @@ use Rattle.std.specs.Result.{IsOk}
 use Rattle.std.proofs.Math.ListN.{length-map}
 use Rattle.addressing.specs.Address.{Address, depth}
 use Rattle.addressing.specs.Search.{IsAmong}
-use Rattle.addressing.proofs.Lists.{AllByRecursion-among, AllByRecursion-append, AllByRecursion-from, IsAmong-map}
+use Rattle.addressing.proofs.Lists.{AllByRecursion-among, AllByRecursion-append, AllByRecursion-from}
 use Rattle.cyclo_points.specs.declared.point.Point.{Point}
 use Rattle.cyclo_points.specs.Order.{points_of, is_refused}
 use Rattle.cyclo_points.specs.Point.{point_in}
@@ -28,6 +28,7 @@ use Rattle.windows.specs.FrameWindow.{IsLeastDepth, IsWindowWithin}
 use Rattle.windows.specs.GrowingPatch.{IsOfDepth}
 use Rattle.windows.specs.Meeting.{PolygonMeetsBox}
 use Rattle.windows.specs.SearchState.{SearchState}
+use Rattle.windows.proofs.Places.{distinct-unmap}
 use Rattle.window_cover.specs.declared.cover_fault.CoverFault.{CoverFault}
 use Rattle.window_cover.specs.declared.cover_fault.CoverFault.TheVariants.{DepthLimit, CoordLimit, TooManyTiles, NoMemory}
 use Rattle.window_cover.specs.declared.open_edge.OpenEdge.{OpenEdge}
@@ -42,11 +43,7 @@ use Rattle.window_cover.specs.SearchLaws.{HasSearchLaws}
 use Rattle.window_cover.specs.Windows.{TileOf, box_of, polygon_of, MeetsWindow, IsOfFrame, IsLeastEnough}
 use Rattle.lazy_walk.proofs.InFull.{names, deep, level-grown}
 use Rattle.window_cover.proofs.Names.{window-on}
-use Rattle.window_cover.proofs.NextState.{first_edge, over, opening, step, placed, lies_across}
-
-distinct-unmap : {A B : Type 0} (f : A → B) (xs : List A) → AreDistinct (map f xs) → AreDistinct xs
-distinct-unmap f [] d = d
-distinct-unmap f (x ∷ xs) d = ((λ i. d.0 (IsAmong-map f x xs i)), distinct-unmap f xs d.1)
+use Rattle.window_cover.proofs.NextState.{first_edge, opening, step, placed, lies_across}
 
 distinct-more : {A : Type 0} (xs : List A) (y : A) → AreDistinct xs → (¬ IsAmong y xs) → AreDistinct (xs ++ y ∷ [])
 distinct-more [] y d n = ((λ i. i), tt)

@@ -3,31 +3,20 @@ ghost use Rattle.std.specs.Prelude.{◌≡◌, ◌^◌, pos, true, IsTrue};
 ghost use Rattle.std.specs.Ordering.{is_gt};
 ghost use Rattle.ordered_ring.specs.Ring.{difference};
 ghost use Rattle.cyclo_points.specs.Order.{points_of};
-ghost use Rattle.cyclo_points.specs.Point.{Within, IsWithin};
+ghost use Rattle.cyclo_points.specs.Point.{IsWithin};
 ghost use Rattle.cyclo_points.specs.Real.{real_in, IsRealWithin};
-ghost use Rattle.window_cover.specs.Inside.{witness_in, IsInside};
+ghost use Rattle.window_cover.specs.Inside.{IsInside};
 
 use cyclo_points::coordinates::{x, y};
 use cyclo_points::order::Order;
 use cyclo_points::point::Point;
 use cyclo_points::real::Real;
 use cyclo_points::real_sum::rsub;
+use cyclo_points::sign::witness;
 use plane_geom::window::Window;
 
 /// The greatest part of a number that is plainly between two others.
 const GREATEST_PART: i64 = 1 << 24;
-
-/// The denominator of the convergent 54608393/38613965 of √2.
-const PELL: i64 = 38613965;
-
-/// Its numerator.
-const HALF_COMPANION: i64 = 54608393;
-
-/// The denominator of the convergent 165580141/102334155 of the golden ratio.
-const FIBONACCI: i64 = 102334155;
-
-/// Its numerator.
-const NEXT_FIBONACCI: i64 = 165580141;
 
 /// Whether a point plainly lies in the open box of a window, so that each edge from it meets the window.
 pub(crate) fn is_inside(order: Order, window: &Window, p: &Point) -> bool
@@ -56,17 +45,4 @@ fn is_shorter(order: Order, r: &Real, extent: u16) -> bool
     let own = witness(order, a, b);
     let limit = witness(order, i64::from(extent), 0);
     -limit < own && own < limit
-}
-
-/// A whole number with the sign of a + bθ: qa + pb, where p/q is a convergent of θ.
-fn witness(order: Order, a: i64, b: i64) -> i64
-    requires a_within { Within (2 ^ 25) a }
-    requires b_within { Within (2 ^ 25) b }
-    ensures { result ≡ witness_in order a b }
-{
-    match order {
-        Order::Four | Order::Six => a,
-        Order::Eight => PELL * a + HALF_COMPANION * b,
-        Order::Ten => FIBONACCI * a + NEXT_FIBONACCI * b,
-    }
 }

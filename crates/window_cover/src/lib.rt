@@ -19,7 +19,7 @@ mod laws;
 mod lifted;
 mod new_edges;
 pub mod open_edge;
-mod search_laws;
+pub mod search_laws;
 mod start;
 mod step;
 pub mod tiles_of_window;

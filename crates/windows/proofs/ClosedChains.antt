@@ -18,8 +18,8 @@ use Rattle.dissection.specs.Sums.{sum_over, number_of}
 use Rattle.std.specs.List.{AllByRecursion}
 use Rattle.windows.specs.Outlines.{edges, PlaneEdge, Polygon, MeetsBox, is_reverse}
 use Rattle.windows.specs.ClosedChains.{total_count, ClosedChain, ClosedChains}
-use Rattle.dissection.proofs.Sums.{plus_zero, sum-ext, sum-both}
-use Rattle.windows.proofs.PairedSums.{sum-neg, sum-paired}
+use Rattle.dissection.proofs.Sums.{plus_zero, sum-ext, sum-both, sum-neg}
+use Rattle.windows.proofs.PairedSums.{sum-paired}
 use Rattle.addressing.proofs.Lists.{AllByRecursion-each}
 use Rattle.windows.proofs.Avoiding.{Avoids, InX, InY, Strip}
 use Rattle.windows.proofs.LevelCrossing.{crossing-level}

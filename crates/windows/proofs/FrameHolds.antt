@@ -1,5 +1,6 @@
 -- The depths at which the frame holds a point are those from the level of the tile that holds it on.
-use Rattle.std.proofs.Common.{◌≡◌, ℕ, ◌≤◌, ◌↔◌, true, List, [], ◌∷◌, map, refl, sym, ap, ◌∙◌}
+use Rattle.std.proofs.Common.{◌≡◌, ℕ, ◌≤◌, ◌↔◌, true, List, refl, sym, ap, ◌∙◌}
+use Rattle.std.proofs.lemmas.Simd.{map-map}
 use Rattle.ordered_ring.specs.Ring.{power}
 use Rattle.ordered_ring.specs.Sign.{Signed}
 use Rattle.ordered_plane.specs.Plane.{test_point}
@@ -28,10 +29,6 @@ use Rattle.substitution.specs.Placement.{placement}
 use Rattle.windows.proofs.FramePatch.{frame-dissected}
 use Rattle.windows.proofs.FramePolygon.{frame-whole}
 
-map-twice : {A B C : Type 0} (f : B → C) (g : A → B) (xs : List A) → map f (map g xs) ≡ map (λ x. f (g x)) xs
-map-twice f g [] = refl
-map-twice f g (x ∷ xs) = ap (λ ys. f (g x) ∷ ys) (map-twice f g xs)
-
 module _ (T : Setting) where
   open T use {points as P, laws as W, accepted.{refused, rule as r, numbered as N, edge_to_edge as D}}
 
@@ -58,7 +55,7 @@ module _ (T : Setting) where
   frame-polygon : (f : Address) (n : ℕ) (p : A) → frame_holds P r f n p ≡ member S (frame_polygon P r f n) (test_point S.ops (plane_point P p))
   frame-polygon f n p =
       ap (λ vs. member S vs (test_point S.ops (plane_point P p)))
-      (map-twice (plane_point P) (λ z. moved P (back P (placement P r (at_level f n).digits)) (P.ring.mul (power P.ring r.factor n) z)) (vertices_of r (top_kind (at_level f n))))
+      (map-map (plane_point P) (λ z. moved P (back P (placement P r (at_level f n).digits)) (P.ring.mul (power P.ring r.factor n) z)) (vertices_of r (top_kind (at_level f n))))
 
   pub holder-level : (f : Address) (fits : Fits children f) (x : Placed A) → IsAmong x (frame_tiles P r f) → (p : A)
       → member S (tile_polygon P r (λ z. z) x) (test_point S.ops (plane_point P p)) ≡ true

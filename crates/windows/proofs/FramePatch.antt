@@ -8,6 +8,7 @@ use Rattle.ordered_plane.proofs.Triangle.{denominator_pos}
 use Rattle.addressing.specs.Address.{Address, depth, top_kind}
 use Rattle.addressing.specs.Search.{IsAmong}
 use Rattle.addressing.proofs.Chains.{IsChain}
+use Rattle.addressing.proofs.Lists.{map-ext}
 use Rattle.substitution.specs.Plane.{plane_point, Keeps}
 use Rattle.substitution.specs.Motion.{Motion, moved, followed}
 use Rattle.substitution.specs.RuleParts.{vertices_of}
@@ -18,7 +19,6 @@ use Rattle.substitution.proofs.Motions.{moved-followed}
 use Rattle.edge_to_edge.specs.Contacts.{tables_of}
 use Rattle.dissection.specs.Polygons.{tile_polygon}
 use Rattle.dissection.proofs.Setting.{Setting}
-use Rattle.dissection.proofs.SupertileCount.{map-ext}
 use Rattle.dissection.proofs.OnlyOne.{one_tile}
 use Rattle.dissection.proofs.Members.{member as tile-member}
 use Rattle.dissection.proofs.RuleAddresses.{top_exists}

@@ -15,6 +15,7 @@ pub mod OneOwner
 pub mod CutEdges
 pub mod Gluing
 pub mod EdgeNumbers
+pub mod CoveredBox
 pub mod Window
 pub mod WholeTiles
 pub mod OpenEdges

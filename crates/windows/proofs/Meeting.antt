@@ -59,7 +59,8 @@ module _ (S : Signed) (L : Laws S.ops) (O : OrderLaws S) where
       let r : (r : ℕ) × (pos (suc n) *ℤ pos (suc m) +ℤ pos 3 ≡ pos (suc r)) = as_suc S L O (pos (suc n) *ℤ pos (suc m) +ℤ pos 3) (omega (arith, ints)) in
       (r.0, sym (L.int_add _ _ ∙ ap (λ u. R.add u (R.int (pos 3))) (L.int_mul _ _)) ∙ ap R.int r.1)
 
-  below_parts : (r s : R.carrier) → is_shorter S r s ≡ true → IsPositive S (difference R s r) × IsPositive S (difference R s (R.neg r))
+  -- a number shorter than another is below it, and so is its negative
+  pub below_parts : (r s : R.carrier) → is_shorter S r s ≡ true → IsPositive S (difference R s r) × IsPositive S (difference R s (R.neg r))
   below_parts r s h = let k = and_parts _ _ h in (greater _ k.0, greater _ k.1)
 
   -- ---- a triangle that turns left

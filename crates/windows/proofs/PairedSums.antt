@@ -1,17 +1,9 @@
 -- Sums of values that cancel in pairs.
-use Rattle.std.proofs.Common.{◌≡◌, ◌⊎◌, inl, inr, ℕ, zero, suc, ℤ, pos, ◌+ℤ◌, neg_ℤ, Bool, true, false, cond, List, [], ◌∷◌, refl, sym, ap, ◌∙◌, arith}
-use Rattle.std.proofs.lemmas.Int.{ints}
+use Rattle.std.proofs.Common.{◌≡◌, ◌⊎◌, inl, inr, ℕ, zero, suc, ℤ, pos, ◌+ℤ◌, neg_ℤ, Bool, true, false, cond, List, [], ◌∷◌, refl, sym, ap, ◌∙◌}
 use Rattle.std.specs.List.{AllByRecursion}
 use Rattle.addressing.proofs.Lists.{AllByRecursion-among}
 use Rattle.dissection.specs.Sums.{sum_over, number_of}
 use Rattle.dissection.proofs.Sums.{zero_plus, plus_zero, sum-ext_on, pairs_cancel}
-
-neg_sum : (x y : ℤ) → neg_ℤ x +ℤ neg_ℤ y ≡ neg_ℤ (x +ℤ y)
-neg_sum x y = omega (arith, ints)
-
-pub sum-neg : {A : Type 0} (f : A → ℤ) (xs : List A) → sum_over (λ x. neg_ℤ (f x)) xs ≡ neg_ℤ (sum_over f xs)
-sum-neg f [] = refl
-sum-neg f (x ∷ xs) = ap (λ u. neg_ℤ (f x) +ℤ u) (sum-neg f xs) ∙ neg_sum (f x) (sum_over f xs)
 
 -- v added n times
 abbrev times : ℤ → ℕ → ℤ

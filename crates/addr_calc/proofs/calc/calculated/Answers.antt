@@ -4,7 +4,7 @@ use Rattle.cyclo_points.specs.Text.{newline}
 use Rattle.rule_model.specs.Tiling.{tiling_of}
 use Rattle.addr_calc.specs.Bindings.{none_bound}
 use Rattle.addr_calc.specs.Calculation.{AllFit}
-use Rattle.addr_calc.specs.Parts.{parts}
+use Rattle.tile_shape.specs.Words.{texts_between}
 use Rattle.addr_calc.specs.Script.{ComesOf}
 use Rattle.addr_calc.specs.Views.{parts_behind}
 use Rattle.addr_calc.proofs.Names.{none_fit}
@@ -19,13 +19,13 @@ loop-left-init g c =
       few = let e = begun.number in omega (arith, e);
       all_fit = subst (AllFit t) (sym begun.names) (none_fit t);
       compiled = c.new-pairs.ensures t;
-      comes = comes_first t (parts newline c.args.script.now) c.in_ok-calculation.calculation begun.names begun.text begun.number;
+      comes = comes_first t (texts_between newline c.args.script.now) c.in_ok-calculation.calculation begun.names begun.text begun.number;
     }
 
 pub loop-left-preserved : goal.loop-left-preserved
 loop-left-preserved g c =
     let t = tiling_of c.args.machine.now in
-    let all = parts newline c.args.script.now in
+    let all = texts_between newline c.args.script.now in
     let rest = parts_behind newline (option_map (λ text. text.now) c.cut.result.1) in
     let ran = c.in_ok-run.ensures.ran in
     let here : Comes t all c.loop-left.calculation (c.cut.result.0.now ∷ rest) =
@@ -61,7 +61,7 @@ run-requires g c = record {
 pub returns-in_err-run-clause-fault : goal.returns-in_err-run-clause-fault
 returns-in_err-run-clause-fault g c =
     let t = tiling_of c.args.machine.now in
-    let all = parts newline c.args.script.now in
+    let all = texts_between newline c.args.script.now in
     let rest = parts_behind newline (option_map (λ text. text.now) c.cut.result.1) in
     let p = err_from_is_err_and c.from_residual-in_err-run.result c.from_residual-in_err-run.ensures.1 in
     let here : Comes t all c.loop-left.calculation (c.cut.result.0.now ∷ rest) =
@@ -75,7 +75,7 @@ nothing_left (Some x) h = absurd (h x refl)
 pub returns-clause-ran : goal.returns-clause-ran
 returns-clause-ran g c =
     let t = tiling_of c.args.machine.now in
-    let all = parts newline c.args.script.now in
+    let all = texts_between newline c.args.script.now in
     let none = nothing_left c.loop-left.left c.in_default.not-Some in
     subst (λ bytes. ComesOf t none_bound 1 all (Ok bytes)) (sym c.into_text.ensures)
     (comes_last t all c.loop-left.calculation (subst (Comes t all c.loop-left.calculation) (ap (λ left. parts_behind newline (option_map (λ text. text.now) left)) none) c.loop-left.invariant.comes))

@@ -3,7 +3,7 @@ use Rattle.cyclo_points.specs.Text.{newline}
 use Rattle.rule_model.specs.Tiling.{tiling_of}
 use Rattle.addr_calc.specs.Calculation.{AllFit}
 use Rattle.addr_calc.specs.Compiled.{AreOf}
-use Rattle.addr_calc.specs.Parts.{parts}
+use Rattle.tile_shape.specs.Words.{texts_between}
 use Rattle.addr_calc.specs.Views.{parts_behind}
 use Rattle.addr_calc.proofs.Scripts.{Comes, size_left}
 use Rattle.addr_calc.proofs.calc.calculated.Given as goal
@@ -14,7 +14,7 @@ invariant-loop-left g l = record {
   few : l.calculation.number + size_left (option_map (λ text. text.now) l.left) ≤ length l.script + 1;
   all_fit : AllFit (tiling_of l.machine) l.calculation.names;
   compiled : AreOf (tiling_of l.machine) l.pairs;
-  comes : Comes (tiling_of l.machine) (parts newline l.script) l.calculation (parts_behind newline (option_map (λ text. text.now) l.left));
+  comes : Comes (tiling_of l.machine) (texts_between newline l.script) l.calculation (parts_behind newline (option_map (λ text. text.now) l.left));
 }
 
 abbrev pub decreases-loop-left : goal.decreases-loop-left

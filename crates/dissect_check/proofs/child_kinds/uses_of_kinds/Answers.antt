@@ -2,7 +2,7 @@ use Rattle.std.proofs.Common.{sym, subst}
 use Rattle.tile_shape.specs.Usable.{AreUsable}
 use Rattle.cyclo_points.specs.Order.{points_of}
 use Rattle.rule_model.specs.Views.{rule_of}
-use Rattle.dissect_check.proofs.EachUse.{has-children, uses-usable}
+use Rattle.rule_model.proofs.EachUse.{has-children, uses-usable}
 use Rattle.dissect_check.proofs.child_kinds.uses_of_kinds.Goals as goal
 
 pub new-requires : goal.new-requires

@@ -1,6 +1,7 @@
 use Rattle.std.proofs.Common.{◌<◌, List, All, length, ◌++◌, ap, ◌∙◌, sym, subst}
 use Rattle.std.specs.List.Sorted.{IsPermutation}
 use Rattle.std.proofs.lemmas.List.{length-map}
+use Rattle.std.proofs.lemmas.Result.{IfOk-weaker}
 use Rattle.tile_place.specs.declared.order_key.OrderKey.{OrderKey}
 use Rattle.half_glue.specs.declared.whole_tile.WholeTile.{WholeTile}
 use Rattle.half_glue.specs.Arranged.{AreArranged}
@@ -10,7 +11,6 @@ use Rattle.half_glue.specs.Keys.{first_keys, is_new, whole_at}
 use Rattle.half_glue.specs.Lifted.{whole_of, wholes_of}
 use Rattle.half_glue.proofs.Chosen.{arranged-in_order, arranged-same, arranged-numbered}
 use Rattle.half_glue.proofs.Firsts.{firsts-fit, no_whole}
-use Rattle.half_glue.proofs.Outcomes.{if_ok-each}
 use Rattle.half_glue.proofs.arranged.arranged.Goals as goal
 
 pub picked-requires-clause-keyed : goal.picked-requires-clause-keyed
@@ -27,8 +27,8 @@ returns-clause-in_order c =
     let ks : List OrderKey = c.sort_unstable.new.self.items in
     let mixed : IsPermutation (first_keys made) ks = subst (λ (xs : List OrderKey). IsPermutation xs ks) (c.in_ok-keys.ensures c.args.frame.now) c.sort_unstable.ensures.permutation in
     let fit = firsts-fit c.args.frame.now (c.args.tiles.now ++ c.args.made.now.crossed.items) c.args.made.now.pairs.items c.requires.fit c.requires.numbered in
-    if_ok-each _ _ c.picked.result c.picked.ensures (λ wholes h. subst AreInOrder (sym (h no_whole ∙ ap (λ (xs : List OrderKey). chosen_below (is_new xs) (whole_at made no_whole xs) (length xs)) c.as_slice.ensures.value))
-    (arranged-in_order made fit ks mixed c.sort_unstable.ensures.sorted no_whole))
+    IfOk-weaker c.picked.result _ _ (λ wholes h. subst AreInOrder (sym (h no_whole ∙ ap (λ (xs : List OrderKey). chosen_below (is_new xs) (whole_at made no_whole xs) (length xs)) c.as_slice.ensures.value))
+    (arranged-in_order made fit ks mixed c.sort_unstable.ensures.sorted no_whole)) c.picked.ensures
 
 pub returns-clause-same : goal.returns-clause-same
 returns-clause-same c =
@@ -36,5 +36,5 @@ returns-clause-same c =
     let ks : List OrderKey = c.sort_unstable.new.self.items in
     let mixed : IsPermutation (first_keys made) ks = subst (λ (xs : List OrderKey). IsPermutation xs ks) (c.in_ok-keys.ensures c.args.frame.now) c.sort_unstable.ensures.permutation in
     let fit = firsts-fit c.args.frame.now (c.args.tiles.now ++ c.args.made.now.crossed.items) c.args.made.now.pairs.items c.requires.fit c.requires.numbered in
-    if_ok-each _ _ c.picked.result c.picked.ensures (λ wholes h. subst (AreArranged made) (sym (h no_whole ∙ ap (λ (xs : List OrderKey). chosen_below (is_new xs) (whole_at made no_whole xs) (length xs)) c.as_slice.ensures.value))
-    (arranged-same made fit ks mixed c.sort_unstable.ensures.sorted no_whole))
+    IfOk-weaker c.picked.result _ _ (λ wholes h. subst (AreArranged made) (sym (h no_whole ∙ ap (λ (xs : List OrderKey). chosen_below (is_new xs) (whole_at made no_whole xs) (length xs)) c.as_slice.ensures.value))
+    (arranged-same made fit ks mixed c.sort_unstable.ensures.sorted no_whole)) c.picked.ensures

@@ -9,7 +9,7 @@ use Rattle.lazy_walk.specs.Boundary.{IsBoundaryEdge}
 use Rattle.lazy_walk.specs.Frames.{whole, lifted_at}
 use Rattle.half_glue.specs.declared.glue_fault.GlueFault.TheVariants.{DepthLimit}
 use Rattle.half_glue.proofs.Across.{glue-edge-there}
-use Rattle.half_glue.proofs.Outcomes.{if_err-is}
+use Rattle.lazy_walk.proofs.Outcomes.{if_err-is}
 use Rattle.half_glue.proofs.Settling.{the-one, given-on, settled-inside, settled-joined, crossed-glued, not-refused, refused-shift}
 use Rattle.half_glue.proofs.half.crossed_half.Goals as goal
 

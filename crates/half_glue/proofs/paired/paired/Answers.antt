@@ -9,7 +9,7 @@ use Rattle.half_glue.specs.Found.{no_tile, tile_of}
 use Rattle.half_glue.specs.Limits.{CanBeJoined}
 use Rattle.half_glue.specs.Pairs.{added_pairs}
 use Rattle.half_glue.proofs.Halves.{given-key}
-use Rattle.half_glue.proofs.Outcomes.{if_err-is}
+use Rattle.lazy_walk.proofs.Outcomes.{if_err-is}
 use Rattle.half_glue.proofs.SettledTiles.{cause-of, one-more}
 use Rattle.half_glue.proofs.Taking.{ArePaired, all-on, paired-on, taken-too, all-paired}
 use Rattle.half_glue.proofs.paired.paired.Goals as goal

@@ -1,7 +1,7 @@
 use Rattle.std.proofs.Common.{◌≡◌, map, sym, ap, ◌∙◌}
 use Rattle.addressing.specs.Address.{Address}
 use Rattle.tile_shape.specs.Views.{step_of}
-use Rattle.list_verify.proofs.SameDigits.{same-digits}
+use Rattle.tile_shape.proofs.SameDigits.{same-digits}
 use Rattle.list_verify.proofs.same_address.is_same_address.Goals as goal
 
 pub returns-then-a-b : goal.returns-then-a-b

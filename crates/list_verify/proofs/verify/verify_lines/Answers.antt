@@ -1,15 +1,16 @@
 use Rattle.std.proofs.Common.{length, sym}
 use Rattle.std.proofs.lemmas.List.{length-map}
+use Rattle.std.proofs.lemmas.Result.{IfErr-weaker, on_ok_weaker}
 use Rattle.listing_text.specs.Views.{entry_of}
 use Rattle.list_verify.specs.FoundLines.{entries_of}
-use Rattle.list_verify.proofs.Brought.{Brings, brought}
-use Rattle.list_verify.proofs.Outcomes.{on_ok-each, if_err-each}
+use Rattle.lazy_walk.proofs.Brought.{Brings, brought}
+use Rattle.list_verify.specs.ListLaws.{HasListLaws}
 use Rattle.list_verify.proofs.SaidOfLifted.{stranger-caused, double-caused, lines-in, verified, walk-said}
 use Rattle.list_verify.proofs.verify.verify_lines.Goals.{After-kinds-usable}
 use Rattle.list_verify.proofs.verify.verify_lines.Goals as goal
 
-brings : (c : After-kinds-usable) → Brings c.args.machine.now
-brings c = brought c.args.machine.now _ _ _ c.checked-checked.ensures.rule c.checked-checked.ensures.accepted c.checked-checked.ensures.usable c.checked-checked.ensures.same_child_kinds
+brings : (c : After-kinds-usable) → Brings HasListLaws c.args.machine.now
+brings c = brought HasListLaws c.args.machine.now _ _ _ c.checked-checked.ensures.rule c.checked-checked.ensures.accepted c.checked-checked.ensures.usable c.checked-checked.ensures.same_child_kinds
     c.uses.ensures c.kinds-usable.ensures.limits c.order.ensures.order c.list_laws.ensures c.grown_fits_law.ensures
 
 pub returns-in-Err-clause-cause : goal.returns-in-Err-clause-cause
@@ -33,13 +34,12 @@ walk_counted-requires-clause-lines c =
 pub returns-clause-right : goal.returns-clause-right
 returns-clause-right c text read =
     let B = brings ((goal.at.returns-clause-right c).After-kinds-usable) in
-    on_ok-each _ _ c.walk_counted.result (verified c.args.machine.now B.settled B.fits B.laws c.args.frame.now c.requires.frame c.args.window.now c.requires.window_fits (entries_of c.args.lines.now)
+    on_ok_weaker c.walk_counted.result (verified c.args.machine.now B.settled B.fits B.laws c.args.frame.now c.requires.frame c.args.window.now c.requires.window_fits (entries_of c.args.lines.now)
     c.lift_lines.new.frame c.in-Ok.ensures.frame c.in-Ok.ensures.depth c.lift_lines.new.lines c.in-Ok.ensures.lifted c.in-Ok-new.ensures.distinct text (length c.args.lines.now) read
     (sym (length-map c.args.lines.now entry_of))) c.walk_counted.ensures.right
 
 pub returns-clause-cause : goal.returns-clause-cause
 returns-clause-cause c text read =
     let B = brings ((goal.at.returns-clause-cause c).After-kinds-usable) in
-    if_err-each _ _ c.walk_counted.result (walk-said c.args.machine.now B.settled B.fits B.laws c.args.frame.now c.requires.frame c.args.window.now c.requires.window_fits (entries_of c.args.lines.now)
-    c.lift_lines.new.frame c.in-Ok.ensures.frame c.in-Ok.ensures.depth c.lift_lines.new.lines c.in-Ok.ensures.lifted c.in-Ok-new.ensures.distinct c.walk_counted.new.frame c.walk_counted.ensures.frame text read)
-    c.walk_counted.ensures.fault
+    IfErr-weaker c.walk_counted.result _ _ (walk-said c.args.machine.now B.settled B.fits B.laws c.args.frame.now c.requires.frame c.args.window.now c.requires.window_fits (entries_of c.args.lines.now)
+    c.lift_lines.new.frame c.in-Ok.ensures.frame c.in-Ok.ensures.depth c.lift_lines.new.lines c.in-Ok.ensures.lifted c.in-Ok-new.ensures.distinct c.walk_counted.new.frame c.walk_counted.ensures.frame text read) c.walk_counted.ensures.fault

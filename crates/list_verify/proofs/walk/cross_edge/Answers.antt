@@ -25,7 +25,8 @@ use Rattle.list_verify.specs.Faults.{OrNoRoom}
 use Rattle.list_verify.specs.FoundLines.{no_line, entries_of, AreFound, IsCrossedOver, AreSides}
 use Rattle.list_verify.specs.LookedUp.{IsLookedUp, IsNotFound}
 use Rattle.list_verify.specs.Walked.{IsStoppedBy}
-use Rattle.list_verify.proofs.Brought.{Brings, brought}
+use Rattle.lazy_walk.proofs.Brought.{Brings, brought}
+use Rattle.list_verify.specs.ListLaws.{HasListLaws}
 use Rattle.list_verify.proofs.Came.{HasCome, IsNext, looked-up, not-found}
 use Rattle.list_verify.proofs.Chains.{get_or-at}
 use Rattle.list_verify.proofs.Crossing.{place, is-line, of-frame, came, crossed-over, back-below, crossed-back, limited}
@@ -35,12 +36,12 @@ use Rattle.list_verify.proofs.walk.cross_edge.Given.{Over}
 use Rattle.list_verify.proofs.walk.cross_edge.Goals.{After-kinds-usable, After-put_line}
 use Rattle.list_verify.proofs.walk.cross_edge.Goals as goal
 
-brings : (g : Over) (c : After-kinds-usable g) → Brings c.args.machine.now
-brings g c = brought c.args.machine.now _ _ _ c.checked-checked.ensures.rule c.checked-checked.ensures.accepted c.checked-checked.ensures.usable c.checked-checked.ensures.same_child_kinds
+brings : (g : Over) (c : After-kinds-usable g) → Brings HasListLaws c.args.machine.now
+brings g c = brought HasListLaws c.args.machine.now _ _ _ c.checked-checked.ensures.rule c.checked-checked.ensures.accepted c.checked-checked.ensures.usable c.checked-checked.ensures.same_child_kinds
     c.uses.ensures c.kinds-usable.ensures.limits c.order.ensures.order c.list_laws.ensures c.grown_fits_law.ensures
 
-brings_line : (g : Over) (c : After-put_line g) → Brings c.args.machine.now
-brings_line g c = brought c.args.machine.now _ _ _ c.checked-checked.ensures.rule c.checked-checked.ensures.accepted c.checked-checked.ensures.usable c.checked-checked.ensures.same_child_kinds
+brings_line : (g : Over) (c : After-put_line g) → Brings HasListLaws c.args.machine.now
+brings_line g c = brought HasListLaws c.args.machine.now _ _ _ c.checked-checked.ensures.rule c.checked-checked.ensures.accepted c.checked-checked.ensures.usable c.checked-checked.ensures.same_child_kinds
     c.uses.ensures c.kinds-usable.ensures.limits c.order.ensures.order c.list_laws.ensures c.grown_fits_law.ensures
 
 pub bounds-lines-line : goal.bounds-lines-line
@@ -118,7 +119,7 @@ module _ (g : Over) (c : After-put_line g) where
   abbrev numbers : List ℕ
   numbers = c.args.found.now.lines.items
 
-  abbrev B : Brings m
+  abbrev B : Brings HasListLaws m
   B = brings_line g c
 
   module _ (k : FrameValue) (grows : GrowsTo t f k) (x : PlacedTile) (back : ℕ)

@@ -15,7 +15,8 @@ use Rattle.plane_geom.specs.declared.window.Window.{Window}
 use Rattle.window_cover.specs.Windows.{window_box, box_of}
 use Rattle.list_verify.specs.FoundLines.{no_line, AreFound, HasMore, AreCrossedOver, IsCrossedOver, AreSides, edges_of_line, edge_of_line, line_between}
 use Rattle.list_verify.specs.declared.found_lines.FoundLines.{FoundLines}
-use Rattle.list_verify.proofs.Brought.{Brings, brought}
+use Rattle.lazy_walk.proofs.Brought.{Brings, brought}
+use Rattle.list_verify.specs.ListLaws.{HasListLaws}
 use Rattle.list_verify.proofs.Chains.{get_or-at, get_or-default}
 use Rattle.list_verify.proofs.Crossing.{place, is-line}
 use Rattle.list_verify.proofs.Edges.{kind-exists, edge-is, more-more, more-among, one-over}
@@ -25,8 +26,8 @@ use Rattle.list_verify.proofs.walk.cross_edges.Goals.{After-kinds-usable, After-
 use Rattle.list_verify.proofs.walk.cross_edges.Goals.{then-is_left+in-Ok, else-is_left}
 use Rattle.list_verify.proofs.walk.cross_edges.Goals as goal
 
-brings : (g : Over) (c : After-kinds-usable g) → Brings c.args.machine.now
-brings g c = brought c.args.machine.now _ _ _ c.checked-checked.ensures.rule c.checked-checked.ensures.accepted c.checked-checked.ensures.usable c.checked-checked.ensures.same_child_kinds
+brings : (g : Over) (c : After-kinds-usable g) → Brings HasListLaws c.args.machine.now
+brings g c = brought HasListLaws c.args.machine.now _ _ _ c.checked-checked.ensures.rule c.checked-checked.ensures.accepted c.checked-checked.ensures.usable c.checked-checked.ensures.same_child_kinds
     c.uses.ensures c.kinds-usable.ensures.limits c.order-order.ensures.order c.list_laws.ensures c.grown_fits_law.ensures
 
 pub bounds-lines-line : goal.bounds-lines-line
@@ -106,8 +107,8 @@ module _ (g : Over) (c : After-put_corners g) where
   abbrev corners : List Point
   corners = c.put_corners.new.corners.items
 
-  bring : Brings m
-  bring = brought m _ _ _ c.checked-checked.ensures.rule c.checked-checked.ensures.accepted c.checked-checked.ensures.usable c.checked-checked.ensures.same_child_kinds
+  bring : Brings HasListLaws m
+  bring = brought HasListLaws m _ _ _ c.checked-checked.ensures.rule c.checked-checked.ensures.accepted c.checked-checked.ensures.usable c.checked-checked.ensures.same_child_kinds
       c.uses.ensures c.kinds-usable.ensures.limits c.order-order.ensures.order c.list_laws.ensures c.grown_fits_law.ensures
 
   at : slice_get lines c.args.line ≡ Some own

@@ -14,17 +14,18 @@ use Rattle.list_verify.specs.declared.list_fault.ListFault.{ListFault}
 use Rattle.list_verify.specs.Faults.{OrNoRoom}
 use Rattle.list_verify.specs.FoundLines.{entries_of, IsInPlace, AreMarked, AreFound}
 use Rattle.std.specs.List.{AllByRecursion}
+use Rattle.std.proofs.lemmas.Result.{IfErr-weaker, IfOk-weaker}
 use Rattle.list_verify.specs.LookedUp.{IsLookedUp, IsNotFound}
 use Rattle.list_verify.specs.Walked.{IsStoppedBy}
-use Rattle.list_verify.proofs.Brought.{Brings, brought}
+use Rattle.lazy_walk.proofs.Brought.{Brings, brought}
+use Rattle.list_verify.specs.ListLaws.{HasListLaws}
 use Rattle.list_verify.proofs.Came.{HasCome, IsNext, looked-up, not-found}
-use Rattle.list_verify.proofs.Outcomes.{on_ok-by, if_err-each}
 use Rattle.list_verify.proofs.Start.{come, refused-centre}
 use Rattle.list_verify.proofs.walk.find_centre.Goals.{After-kinds-usable}
 use Rattle.list_verify.proofs.walk.find_centre.Goals as goal
 
-brings : (c : After-kinds-usable) → Brings c.args.machine.now
-brings c = brought c.args.machine.now _ _ _ c.checked-checked.ensures.rule c.checked-checked.ensures.accepted c.checked-checked.ensures.usable c.checked-checked.ensures.same_child_kinds
+brings : (c : After-kinds-usable) → Brings HasListLaws c.args.machine.now
+brings c = brought HasListLaws c.args.machine.now _ _ _ c.checked-checked.ensures.rule c.checked-checked.ensures.accepted c.checked-checked.ensures.usable c.checked-checked.ensures.same_child_kinds
     c.uses.ensures c.kinds-usable.ensures.limits c.order.ensures.order c.list_laws.ensures c.grown_fits_law.ensures
 
 module _ (c : After-kinds-usable) where
@@ -40,7 +41,7 @@ module _ (c : After-kinds-usable) where
   abbrev lines : List Entry
   lines = c.args.lines.now
 
-  abbrev B : Brings m
+  abbrev B : Brings HasListLaws m
   B = brings c
 
   -- nothing is found at first
@@ -79,18 +80,17 @@ contain-requires-clause-point_within c = c.requires.window_fits.centre_within
 pub returns-in-Ok-clause-stays : goal.returns-in-Ok-clause-stays
 returns-in-Ok-clause-stays c =
     let p = (goal.at.returns-in-Ok-clause-stays c).After-kinds-usable in
-    on_ok-by _ _ c.look_up.result (λ number n. (next p c.contain.new.self c.in-Ok.ensures.frame c.in-Ok.tile c.in-Ok.ensures.stands c.in-Ok.ensures.only_tile c.in-Ok.ensures.least c.look_up.new.self number n).stays) c.look_up.ensures.looked_up
+    IfOk-weaker c.look_up.result _ _ (λ number n. (next p c.contain.new.self c.in-Ok.ensures.frame c.in-Ok.tile c.in-Ok.ensures.stands c.in-Ok.ensures.only_tile c.in-Ok.ensures.least c.look_up.new.self number n).stays) c.look_up.ensures.looked_up
 
 pub returns-in-Ok-clause-found : goal.returns-in-Ok-clause-found
 returns-in-Ok-clause-found c =
     let p = (goal.at.returns-in-Ok-clause-found c).After-kinds-usable in
-    on_ok-by _ _ c.look_up.result (λ number n. found_now p c.contain.new.self c.in-Ok.ensures.frame c.in-Ok.tile c.in-Ok.ensures.stands c.in-Ok.ensures.only_tile c.in-Ok.ensures.least c.look_up.new.self number n) c.look_up.ensures.looked_up
+    IfOk-weaker c.look_up.result _ _ (λ number n. found_now p c.contain.new.self c.in-Ok.ensures.frame c.in-Ok.tile c.in-Ok.ensures.stands c.in-Ok.ensures.only_tile c.in-Ok.ensures.least c.look_up.new.self number n) c.look_up.ensures.looked_up
 
 pub returns-in-Ok-clause-fault : goal.returns-in-Ok-clause-fault
 returns-in-Ok-clause-fault c =
     let p = (goal.at.returns-in-Ok-clause-fault c).After-kinds-usable in
-    if_err-each _ _ c.look_up.result (λ fault n. stopped p c.contain.new.self c.in-Ok.ensures.frame c.in-Ok.tile c.in-Ok.ensures.stands c.in-Ok.ensures.only_tile c.in-Ok.ensures.least fault n)
-    (c.look_up.ensures.fault (tiling_of c.args.machine.now) c.in-Ok.ensures.stands.in_order)
+    IfErr-weaker c.look_up.result _ _ (λ fault n. stopped p c.contain.new.self c.in-Ok.ensures.frame c.in-Ok.tile c.in-Ok.ensures.stands c.in-Ok.ensures.only_tile c.in-Ok.ensures.least fault n) (c.look_up.ensures.fault (tiling_of c.args.machine.now) c.in-Ok.ensures.stands.in_order)
 
 pub returns-in-Err-clause-fault : goal.returns-in-Err-clause-fault
 returns-in-Err-clause-fault c =
@@ -100,4 +100,4 @@ returns-in-Err-clause-fault c =
     c.in-Err.limit.value c.in-Err.ensures.limit)
 
 pub returns-in-Ok-clause-centre_found : goal.returns-in-Ok-clause-centre_found
-returns-in-Ok-clause-centre_found c = on_ok-by _ _ c.look_up.result (λ number n. c.in-Ok.ensures.found_exactly.0 refl) c.look_up.ensures.looked_up
+returns-in-Ok-clause-centre_found c = IfOk-weaker c.look_up.result _ _ (λ number n. c.in-Ok.ensures.found_exactly.0 refl) c.look_up.ensures.looked_up

@@ -10,8 +10,10 @@ use Rattle.list_verify.specs.declared.found_lines.FoundLines.{FoundLines}
 use Rattle.list_verify.specs.Faults.{OrNoRoom}
 use Rattle.list_verify.specs.FoundLines.{entries_of, AreLinesIn, AreFound, HasMore, AreCrossedOver, AreCrossedBefore, AreSides, edges_of_line}
 use Rattle.list_verify.specs.Walked.{IsStoppedBy}
-use Rattle.list_verify.proofs.Brought.{Brings, brought}
-use Rattle.list_verify.proofs.Chains.{get_or-among, slice_get-at}
+use Rattle.lazy_walk.proofs.Brought.{Brings, brought}
+use Rattle.addressing.proofs.Lists.{get_or-among}
+use Rattle.list_verify.specs.ListLaws.{HasListLaws}
+use Rattle.list_verify.proofs.Chains.{slice_get-at}
 use Rattle.list_verify.proofs.Edges.{next-before, more-length}
 use Rattle.list_verify.proofs.Ended.{not-more, tells}
 use Rattle.list_verify.proofs.Sides.{sides-start}
@@ -19,8 +21,8 @@ use Rattle.list_verify.proofs.walk.walk.Given.{Over}
 use Rattle.list_verify.proofs.walk.walk.Goals.{After-kinds-usable}
 use Rattle.list_verify.proofs.walk.walk.Goals as goal
 
-brings : (g : Over) (c : After-kinds-usable g) → Brings c.args.machine.now
-brings g c = brought c.args.machine.now _ _ _ c.checked-checked.ensures.rule c.checked-checked.ensures.accepted c.checked-checked.ensures.usable c.checked-checked.ensures.same_child_kinds
+brings : (g : Over) (c : After-kinds-usable g) → Brings HasListLaws c.args.machine.now
+brings g c = brought HasListLaws c.args.machine.now _ _ _ c.checked-checked.ensures.rule c.checked-checked.ensures.accepted c.checked-checked.ensures.usable c.checked-checked.ensures.same_child_kinds
     c.uses.ensures c.kinds-usable.ensures.limits c.order.ensures.order c.list_laws.ensures c.grown_fits_law.ensures
 
 pub cross_edges-requires-clause-line_found : goal.cross_edges-requires-clause-line_found

@@ -1,5 +1,5 @@
 use Rattle.std.proofs.Common.{eq-eqb, arith}
-use Rattle.listing_text.proofs.Cuts.{parted, whole}
+use Rattle.tile_shape.proofs.Cuts.{parted, whole}
 use Rattle.listing_text.proofs.line.cut.Goals as goal
 
 pub returns-then-text-place-clause-texts : goal.returns-then-text-place-clause-texts

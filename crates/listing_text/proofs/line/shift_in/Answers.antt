@@ -3,10 +3,9 @@ use Rattle.std.specs.Int.{w64}
 use Rattle.std.proofs.lemmas.Int.{to_z-of_z}
 use Rattle.std.proofs.Common.{rules, Some, sym, ap, ◌∙◌}
 use Rattle.tile_shape.specs.Text.{comma}
+use Rattle.tile_shape.specs.Words.{first_by, texts_between}
 use Rattle.listing_text.specs.Signed.{signed_in}
-use Rattle.listing_text.specs.Lines.{texts_between}
 use Rattle.listing_text.specs.Views.{texts_behind}
-use Rattle.listing_text.specs.Words.{first_by}
 use Rattle.listing_text.proofs.Shifts.{third_fails, more_follow, none_follow}
 use Rattle.listing_text.proofs.line.shift_in.Goals as goal
 

@@ -1,7 +1,6 @@
 use Rattle.std.proofs.Common.{◌≡◌, ◌≤◌, drop}
 use Rattle.tile_shape.specs.Decimal.{number_up_to}
-use Rattle.listing_text.specs.Lines.{texts_between}
-use Rattle.listing_text.specs.Words.{first_by}
+use Rattle.tile_shape.specs.Words.{first_by, texts_between}
 use Rattle.listing_text.proofs.NumberOn.{number_on}
 use Rattle.listing_text.proofs.number.number_before.Given as goal
 

@@ -1,6 +1,6 @@
 use Rattle.std.proofs.Common.{ℕ, ◌+◌, ◌-◌, ◌≤◌, length, take, drop, arith}
 use Rattle.cyclo_points.specs.Text.{newline}
-use Rattle.listing_text.proofs.Cuts.{parted, whole}
+use Rattle.tile_shape.proofs.Cuts.{parted, whole}
 use Rattle.listing_text.proofs.ListedLines.{line_cut, last_cut}
 use Rattle.listing_text.proofs.reading.cut_line.Goals as goal
 

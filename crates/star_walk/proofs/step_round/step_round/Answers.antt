@@ -1,4 +1,5 @@
 use Rattle.std.proofs.Common.{rules, ◌≡◌, ℕ, IfErr, length, refl, sym, ap, ◌∙◌, subst}
+use Rattle.std.proofs.lemmas.Result.{IfErr-weaker}
 use Rattle.addressing.specs.Tables.{Tables, kind_tables}
 use Rattle.cyclo_points.specs.Order.{points_of}
 use Rattle.edge_to_edge.proofs.TablesOf.{kind_tables-is}
@@ -12,7 +13,6 @@ use Rattle.lazy_walk.specs.Frames.{lifted_at}
 use Rattle.lazy_walk.specs.Crossed.{IsCrossedTo}
 use Rattle.vertex_stars.specs.Corners.{edge_into}
 use Rattle.star_walk.specs.Found.{its_edge}
-use Rattle.star_walk.proofs.Outcomes.{if_err-each}
 use Rattle.star_walk.proofs.step_round.step_round.Given.{Over}
 use Rattle.star_walk.proofs.step_round.step_round.Goals.{After-edge_before-edge}
 use Rattle.star_walk.proofs.step_round.step_round.Goals as goal
@@ -37,7 +37,7 @@ returns-in_err-corner-clause-limit_exactly g c =
 pub returns-in_err-corner-clause-limit_edge : goal.returns-in_err-corner-clause-limit_edge
 returns-in_err-corner-clause-limit_edge g c =
     let h : IfErr c.from_residual.result (λ limit. limit.edge ≡ c.edge_before-edge.result) = search rules in
-    if_err-each (λ limit. limit.edge ≡ c.edge_before-edge.result) _ c.from_residual.result (λ limit e. e ∙ number g ((goal.at.returns-in_err-corner-clause-limit_edge g c).After-edge_before-edge)) h
+    IfErr-weaker c.from_residual.result (λ limit. limit.edge ≡ c.edge_before-edge.result) _ (λ limit e. e ∙ number g ((goal.at.returns-in_err-corner-clause-limit_edge g c).After-edge_before-edge)) h
 
 pub returns-clause-crossed : goal.returns-clause-crossed
 returns-clause-crossed g c =

@@ -1,7 +1,7 @@
 use Rattle.std.proofs.Common.{◌≡◌, map, sym, ap, ◌∙◌}
 use Rattle.addressing.specs.Address.{Address}
 use Rattle.tile_shape.specs.Views.{step_of}
-use Rattle.star_walk.proofs.SameDigits.{same-digits}
+use Rattle.tile_shape.proofs.SameDigits.{same-digits}
 use Rattle.star_walk.proofs.turn.is_base.Goals as goal
 
 pub returns-then-addr-base : goal.returns-then-addr-base

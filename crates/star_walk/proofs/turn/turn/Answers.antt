@@ -5,16 +5,17 @@ use Rattle.star_walk.specs.declared.corner.Corner.{Corner}
 use Rattle.star_walk.specs.declared.star_fault.StarFault.TheVariants.{DepthLimit}
 use Rattle.star_walk.specs.Causes.{HasCause}
 use Rattle.star_walk.specs.Found.{IsOnTheWay}
-use Rattle.star_walk.proofs.Brought.{Brings, brought}
-use Rattle.star_walk.proofs.Outcomes.{if_err-is}
+use Rattle.lazy_walk.proofs.Brought.{Brings, brought}
+use Rattle.star_walk.specs.StarLaws.{HasStarLaws}
+use Rattle.lazy_walk.proofs.Outcomes.{if_err-is}
 use Rattle.star_walk.proofs.Turning.{started, last-exists, ended, stepped, too_big, not_too_big, limited, not_limited}
 use Rattle.star_walk.proofs.turn.turn.Given.{Over}
 use Rattle.star_walk.proofs.turn.turn.Goals.{After-base_tile, After-push}
 use Rattle.star_walk.proofs.turn.turn.Goals as goal
 
 -- what the rule and the laws bring
-brings : (g : Over) (c : After-base_tile g) → Brings c.args.machine.now
-brings g c = brought c.args.machine.now _ _ _ c.checked-checked.ensures.rule c.checked-checked.ensures.accepted c.checked-checked.ensures.usable c.checked-checked.ensures.same_child_kinds
+brings : (g : Over) (c : After-base_tile g) → Brings HasStarLaws c.args.machine.now
+brings g c = brought HasStarLaws c.args.machine.now _ _ _ c.checked-checked.ensures.rule c.checked-checked.ensures.accepted c.checked-checked.ensures.usable c.checked-checked.ensures.same_child_kinds
     c.uses.ensures c.kinds-usable.ensures.limits c.order.ensures.order c.star_laws.ensures c.grown_fits_law.ensures
 
 -- the turn on its way, with the corner put down

@@ -1,14 +1,15 @@
 use lib.Utf8.{scalars, encodes}
 use Rattle.std.proofs.Common.{◌≡◌, ℕ, List, true, [], length}
 use Rattle.tile_app.specs.FormatWords.{formats_behind}
-use Rattle.tile_app.specs.PathWords.{pieces}
+use Rattle.tile_shape.specs.Text.{comma}
+use Rattle.tile_shape.specs.Words.{texts_between}
 use Rattle.tile_app.proofs.format_words.formats_in.Given as goal
 
 -- behind the formats read, the rest, which is text, names what the text names
 abbrev pub invariant-loop-piece : goal.invariant-loop-piece
 invariant-loop-piece l = record {
   is_text : (x : List ℕ) × ((scalars x ≡ true) × (encodes x ≡ l.rest));
-  same : formats_behind l.formats.items (pieces [] l.rest) ≡ formats_behind [] (pieces [] l.fn.text);
+  same : formats_behind l.formats.items (texts_between comma l.rest) ≡ formats_behind [] (texts_between comma l.fn.text);
 }
 
 -- the rest gets shorter

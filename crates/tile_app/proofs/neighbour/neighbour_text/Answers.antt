@@ -1,22 +1,13 @@
-use Rattle.std.proofs.Common.{◌≡◌, ◌<◌, ℕ, Result, Ok, Err, ap, ◌∙◌, subst}
+use Rattle.std.proofs.Common.{◌<◌, ap, ◌∙◌, subst}
 use Rattle.std.proofs.lemmas.Result.{err_from_is_err_and}
 use Rattle.addressing.specs.Tables.{child_kinds}
+use Rattle.addressing.proofs.EdgesOf.{kind_in_tables, edge_has_type}
 use Rattle.rule_model.specs.Checked.{rule_contacts, child_kinds_of}
 use Rattle.tile_shape.specs.Views.{address_of}
-use Rattle.transducer_core.specs.declared.outside.Outside.{Outside}
+use Rattle.transducer_core.proofs.OneOutside.{ok_or_err, outside_is}
 use Rattle.tile_app.specs.declared.words.Command.TheVariants.{Neighbour}
-use Rattle.tile_app.proofs.Children.{kind_in_tables}
-use Rattle.tile_app.proofs.Edges.{edge_has_type, edges-counted}
+use Rattle.tile_app.proofs.Edges.{edges-counted}
 use Rattle.tile_app.proofs.neighbour.neighbour_text.Goals as goal
-
-ok_or_err : {A B : Type 0} (o : Result A B) (x : A) (y : B) → o ≡ Ok x → o ≡ Err y → ⊥
-ok_or_err o x y e f = absurd (cc (e, f))
-
-err_is : {A : Type 0} (x : Result A Outside) (o u : Outside) → x ≡ Err o → x ≡ Err u → u ≡ o
-err_is x o u e f = cc
-
-outside_is : {A : Type 0} (x : Result A Outside) (o : Outside) (top other : ℕ) → x ≡ Err o → x ≡ Err (record { edge = top; part = other }) → (top ≡ o.edge) × (other ≡ o.part)
-outside_is x o top other e f = let one = err_is x o (record { edge = top; part = other }) e f in (ap (λ (u : Outside). u.edge) one, ap (λ (u : Outside). u.part) one)
 
 pub address_given-requires : goal.address_given-requires
 address_given-requires g c = record { right = (Neighbour, c.requires.right, tt) }
@@ -59,10 +50,12 @@ returns-in_err-crossing-clause-refused g c =
       address = address_of c.in_ok-address.address;
       own = edge;
       gives = record { tile = c.in_ok-address.ensures.given; given = c.edge_given-edge.ensures };
-      exists = subst (λ n. edge < n)
-          (edges-counted c.tables.result.now c.checked.result.now c.args.machine.now c.in_ok-address.address.kind c.edges-edges.result c.tables.ensures.contacts c.checked.ensures.rule c.edges-edges.ensures.count) c.if-edge-edges.false;
-      along = c.in_err-crossing.ensures.outside_on_boundary;
-      alone = λ top other on. outside_is _ _ top other c.in_err-crossing.was (c.cross.ensures.boundary_is_outside top other on);
+      outside = record {
+        exists = subst (λ n. edge < n)
+            (edges-counted c.tables.result.now c.checked.result.now c.args.machine.now c.in_ok-address.address.kind c.edges-edges.result c.tables.ensures.contacts c.checked.ensures.rule c.edges-edges.ensures.count) c.if-edge-edges.false;
+        along = c.in_err-crossing.ensures.outside_on_boundary;
+        alone = λ top other on. outside_is _ _ top other c.in_err-crossing.was (c.cross.ensures.boundary_is_outside top other on);
+      };
     })
 
 pub returns-clause-printed : goal.returns-clause-printed

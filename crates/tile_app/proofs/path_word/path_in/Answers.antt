@@ -1,6 +1,6 @@
 use Rattle.std.proofs.Common.{[], ap, ◌∙◌, arith}
 use Rattle.tile_app.specs.PathWords.{path_in}
-use Rattle.tile_app.proofs.Pieces.{after_comma, after_other, at_end, path_refused, path_read}
+use Rattle.tile_app.proofs.Pieces.{after_comma, after_other, at_end, refused_at_comma, path_refused, path_read}
 use Rattle.tile_app.proofs.path_word.path_in.Goals as goal
 use Rattle.tile_app.proofs.path_word.path_in.Goals.{then-bytes-place-eq44+else-not-put_edge, else-bytes-place-eq44}
 
@@ -19,6 +19,11 @@ loop-place-preserved c = elim c.if-bytes-place-eq44.branch [
         c.loop-place.invariant.same);
   }
 ]
+
+pub returns-then-not-put_edge : goal.returns-then-not-put_edge
+returns-then-not-put_edge c =
+    refused_at_comma c.as_bytes-bytes.result.now c.loop-place.path.items c.loop-place.begin c.loop-place.place c.loop-place-test.true c.if-bytes-place-eq44.true c.loop-place.invariant.same
+    (c.put_edge.ensures.refused c.if-not-put_edge.true) ∙ ap path_in c.as_bytes-bytes.ensures.value
 
 pub returns-then-not-put_edge-2 : goal.returns-then-not-put_edge-2
 returns-then-not-put_edge-2 c =

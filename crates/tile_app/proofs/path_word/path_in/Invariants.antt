@@ -1,5 +1,6 @@
 use Rattle.std.proofs.Common.{◌≡◌, ◌-◌, ◌≤◌, [], length, take, drop}
-use Rattle.tile_app.specs.PathWords.{pieces, put, numbers, longest_path}
+use Rattle.tile_app.specs.PathWords.{put, numbers, longest_path}
+use Rattle.tile_app.proofs.Pieces.{pieces}
 use Rattle.tile_app.proofs.path_word.path_in.Given as goal
 
 -- the numbers read, and behind them those of the piece that has begun and of the rest, are those of the text

@@ -3,7 +3,7 @@ use Rattle.std.specs.Fmt.{decimal}
 use Rattle.std.proofs.lemmas.Result.{IfOk-weaker}
 use Rattle.cyclo_points.specs.Point.{point_in}
 use Rattle.cyclo_points.specs.Text.{point_text, number_text}
-use Rattle.tile_app.proofs.Asking.{point_text-number, pieces_of_line}
+use Rattle.cyclo_points.proofs.Coefficients.{point_text-number, pieces_of_line}
 use Rattle.tile_app.proofs.place.place_line.Goals as goal
 
 pub returns : goal.returns

@@ -2,9 +2,9 @@ use Rattle.std.proofs.Common.{◌≡◌, length, arith}
 use Rattle.std.proofs.lemmas.Result.{err_from_is_err_and}
 use Rattle.cyclo_points.specs.Motion.{motion_in}
 use Rattle.cyclo_points.specs.Point.{point_in}
+use Rattle.cyclo_points.proofs.Coefficients.{coefficients_of}
 use Rattle.tile_shape.specs.Views.{address_of}
 use Rattle.tile_app.specs.declared.words.Command.TheVariants.{Place}
-use Rattle.tile_app.proofs.Asking.{coefficients_of}
 use Rattle.tile_app.proofs.place.place_text.Goals as goal
 
 pub address_read-requires : goal.address_read-requires

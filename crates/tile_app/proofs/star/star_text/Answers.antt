@@ -2,6 +2,7 @@ use Rattle.std.proofs.Common.{◌≡◌, ◌<◌, All, length, map, string_bytes
 use Rattle.std.specs.List.{flat_map}
 use Rattle.std.proofs.lemmas.Result.{err_from_is_err_and}
 use Rattle.addressing.specs.Tables.{child_kinds}
+use Rattle.addressing.proofs.EdgesOf.{kind_in_tables}
 use Rattle.lazy_walk.specs.Frames.{GrowsTo}
 use Rattle.lazy_walk.specs.Standing.{Stands}
 use Rattle.rule_model.specs.Checked.{rule_contacts, child_kinds_of}
@@ -16,7 +17,6 @@ use Rattle.tile_app.specs.declared.words.Command.TheVariants.{Star}
 use Rattle.tile_app.specs.Star.{corner_line, GivesVertex}
 use Rattle.tile_app.specs.Walk.{frame_given}
 use Rattle.tile_app.specs.Words.{texts}
-use Rattle.tile_app.proofs.Children.{kind_in_tables}
 use Rattle.tile_app.proofs.Edges.{edges-counted}
 use Rattle.tile_app.proofs.Frames.{begun}
 use Rattle.tile_app.proofs.Turned.{turning_ends}

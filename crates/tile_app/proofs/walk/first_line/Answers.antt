@@ -3,9 +3,9 @@ use Rattle.std.specs.Fmt.{decimal}
 use Rattle.std.proofs.lemmas.Result.{IfOk-weaker}
 use Rattle.cyclo_points.specs.Point.{point_in}
 use Rattle.cyclo_points.specs.Text.{point_text, number_text}
+use Rattle.cyclo_points.proofs.Coefficients.{point_text-number}
 use Rattle.tile_shape.specs.Text.{address_text}
 use Rattle.tile_shape.specs.Views.{address_of}
-use Rattle.tile_app.proofs.Asking.{point_text-number}
 use Rattle.tile_app.proofs.Walking.{pieces_of_walk}
 use Rattle.tile_app.proofs.walk.first_line.Goals as goal
 

@@ -7,9 +7,9 @@ use Rattle.lazy_walk.specs.Frames.{whole}
 use Rattle.lazy_walk.specs.Paths.{CanBeWalked, Leads}
 use Rattle.rule_model.specs.Tiling.{tiling_of}
 use Rattle.tile_place.specs.Crossed.{IsOnlyAcross}
+use Rattle.tile_place.proofs.OneAcross.{one_across}
 use Rattle.tile_shape.specs.Views.{address_of}
 use Rattle.tile_app.specs.Walk.{walk_line, IsWalkLine, AreLines}
-use Rattle.tile_app.proofs.OnePath.{one_across}
 use Rattle.tile_app.proofs.Walking.{one_line, ok_inside, of_ok, ahead_at}
 use Rattle.tile_app.proofs.walk.lines.Goals as goal
 

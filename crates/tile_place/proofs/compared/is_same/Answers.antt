@@ -5,7 +5,8 @@ use Rattle.std.specs.Cmp.Rules.{signed_items}
 use Rattle.std.proofs.lemmas.Int.{ints}
 use Rattle.cyclo_points.specs.Point.{coefficient}
 use Rattle.cyclo_points.proofs.Readings.{machine}
-use Rattle.tile_place.proofs.SamePoint.{one_by_one, same_coefficients, same_number}
+use Rattle.cyclo_points.proofs.Coefficients.{one_by_one}
+use Rattle.tile_place.proofs.SamePoint.{same_coefficients, same_number}
 use Rattle.tile_place.proofs.compared.is_same.Goals as goal
 use Rattle.tile_place.proofs.compared.is_same.Goals.{After-is_equal-4}
 

@@ -1,12 +1,11 @@
-use Rattle.std.proofs.Common.{◌≡◌, ◌^◌, ◌<◌, ◌∙◌, ℕ, length, get_or, sym, ap, subst, arith, lit≤}
+use Rattle.std.proofs.Common.{◌≡◌, ◌^◌, ◌<◌, ◌∙◌, length, sym, ap, subst, arith, lit≤}
 use Rattle.substitution.specs.RuleParts.{edge_count, next}
-use Rattle.cyclo_points.specs.declared.order.Order.{Order}
 use Rattle.cyclo_points.specs.Order.{PointsLaw, coefficients}
 use Rattle.cyclo_points.proofs.Within.{point_wider}
 use Rattle.rule_model.specs.Tiling.{tiling_of}
 use Rattle.rule_model.specs.Views.{rule_of}
 use Rattle.tile_place.specs.TurnedVertices.{IsTurned}
-use Rattle.tile_place.proofs.SamePoint.{coefficients_of}
+use Rattle.cyclo_points.proofs.Coefficients.{coefficients_of}
 use Rattle.tile_place.proofs.TurnedPlaces.{vertex-there, end-below, vector-turned}
 use Rattle.tile_place.proofs.edge_turns.turned_vector.Goals as goal
 use Rattle.tile_place.proofs.edge_turns.turned_vector.Goals.{After-at-from}

@@ -2,9 +2,9 @@ use Rattle.std.specs.Int.{w64}
 use Rattle.std.proofs.Common.{arith, ℕ, ℤ, ◌<◌, ◌≡◌, ◌^◌, pos, neg_ℤ, ◌<ℤ◌, sym, ◌∙◌, ap, ap₂, subst}
 use Rattle.std.proofs.lemmas.Int.{ints}
 use Rattle.cyclo_points.specs.Point.{Within}
+use Rattle.cyclo_points.specs.Witness.{witness_in}
 use Rattle.cyclo_points.proofs.Reals.{reading}
 use Rattle.cyclo_points.proofs.Shorts.{cast-is}
-use Rattle.window_cover.specs.Inside.{witness_in}
 use Rattle.window_cover.proofs.Insides.{below-extent, above-extent, limit-small}
 use Rattle.window_cover.proofs.inside.is_shorter.Goals as goal
 
@@ -23,11 +23,11 @@ returns-then-limit-own-clause-below c = λ k.
     let lb = c.if-b.false in
     let fa : Within (2 ^ 24) r.a = record { low = omega (arith, ints); high = omega (arith, ints) } in
     let fb : Within (2 ^ 24) r.b = record { low = omega (arith, ints); high = omega (arith, ints) } in
-    let own : c.witness-own.result ≡ witness_in o r.a r.b = c.witness-own.ensures
+    let own : c.witness-own.result ≡ witness_in o r.a r.b = c.witness-own.ensures.value
     ∙ ap₂ (witness_in o) (cast-is r.a (record { low = omega (arith, ints); high = omega (arith, ints) })) (cast-is r.b (record { low = omega (arith, ints); high = omega (arith, ints) })) in
     let few = c.ranges.extent.fits in
     let from = c.from.ensures in
-    let limit : c.witness-limit.result ≡ witness_in o (pos c.args.extent) (pos 0) = c.witness-limit.ensures ∙ ap (λ z. witness_in o z (pos 0)) (read_extent c.from.result c.args.extent from few) in
+    let limit : c.witness-limit.result ≡ witness_in o (pos c.args.extent) (pos 0) = c.witness-limit.ensures.value ∙ ap (λ z. witness_in o z (pos 0)) (read_extent c.from.result c.args.extent from few) in
     let own_fits = c.witness-own.type_inv in
     let limit_fits = c.witness-limit.type_inv in
     let less : c.witness-own.result <ℤ c.witness-limit.result = omega (arith, ints) in
@@ -45,11 +45,11 @@ returns-then-limit-own-clause-above c = λ k.
     let lb = c.if-b.false in
     let fa : Within (2 ^ 24) r.a = record { low = omega (arith, ints); high = omega (arith, ints) } in
     let fb : Within (2 ^ 24) r.b = record { low = omega (arith, ints); high = omega (arith, ints) } in
-    let own : c.witness-own.result ≡ witness_in o r.a r.b = c.witness-own.ensures
+    let own : c.witness-own.result ≡ witness_in o r.a r.b = c.witness-own.ensures.value
     ∙ ap₂ (witness_in o) (cast-is r.a (record { low = omega (arith, ints); high = omega (arith, ints) })) (cast-is r.b (record { low = omega (arith, ints); high = omega (arith, ints) })) in
     let few = c.ranges.extent.fits in
     let from = c.from.ensures in
-    let limit : c.witness-limit.result ≡ witness_in o (pos c.args.extent) (pos 0) = c.witness-limit.ensures ∙ ap (λ z. witness_in o z (pos 0)) (read_extent c.from.result c.args.extent from few) in
+    let limit : c.witness-limit.result ≡ witness_in o (pos c.args.extent) (pos 0) = c.witness-limit.ensures.value ∙ ap (λ z. witness_in o z (pos 0)) (read_extent c.from.result c.args.extent from few) in
     let own_fits = c.witness-own.type_inv in
     let limit_fits = c.witness-limit.type_inv in
     let t = c.if-limit-own.true in

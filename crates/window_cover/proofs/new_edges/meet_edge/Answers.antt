@@ -1,9 +1,9 @@
 use Rattle.std.proofs.Common.{◌≡◌, true, false, [], ◌∷◌, ◌++◌, length, sym, ap, ◌∙◌, subst, arith, length-append}
+use Rattle.std.proofs.lemmas.Result.{IfOk-from_err}
 use Rattle.window_cover.specs.Packed.{ends_of}
 use Rattle.window_cover.specs.declared.ends.Ends.{Ends}
 use Rattle.window_cover.specs.Border.{has_ends}
 use Rattle.window_cover.specs.NewEdges.{reversed, meets_window}
-use Rattle.window_cover.proofs.Outcomes.{on_ok-err}
 use Rattle.window_cover.proofs.NewEdges.{stays_fresh, met-opened, met-closed, met-passed, no_longer}
 use Rattle.window_cover.proofs.new_edges.meet_edge.Goals as goal
 use Rattle.window_cover.proofs.new_edges.meet_edge.Goals.{else-not-close-via-then-not-close+else-meets, else-not-close-via-else-not-close}
@@ -22,7 +22,7 @@ add-requires c = record {
 }
 
 pub returns-in_err-add-clause-met : goal.returns-in_err-add-clause-met
-returns-in_err-add-clause-met c = on_ok-err _ c.from_residual.result c.from_residual.ensures.0
+returns-in_err-add-clause-met c = IfOk-from_err c.from_residual.result _ c.from_residual.ensures.0
 
 pub returns-in_err-add-clause-one_more : goal.returns-in_err-add-clause-one_more
 returns-in_err-add-clause-one_more c =

@@ -1,12 +1,12 @@
 use Rattle.std.proofs.Common.{rules, ◌≡◌, ◌+◌, ◌^◌, ◌<◌, ◌++◌, ◌∷◌, [], ◌&&◌, cond, not, List, length, get_or, sym, ap, ap₂, ◌∙◌, subst, arith, append-nil, add-one}
 use Rattle.std.proofs.lemmas.List.{get_or_default}
+use Rattle.std.proofs.lemmas.Result.{IfOk-from_err}
 use Rattle.cyclo_points.specs.declared.point.Point.{Point}
 use Rattle.cyclo_points.specs.Point.{IsWithin}
 use Rattle.rule_model.specs.Usable.{origin}
 use Rattle.window_cover.specs.Border.{Waiting, has_ends}
 use Rattle.window_cover.specs.Packed.{ends_of}
 use Rattle.window_cover.specs.NewEdges.{meets_window, closes, without, left_open, opened, start_at, end_at, ends_at}
-use Rattle.window_cover.proofs.Outcomes.{on_ok-err}
 use Rattle.window_cover.proofs.NewEdges.{fresh-still, next-met, end-next, end-last, left-none}
 use Rattle.window_cover.proofs.new_edges.meet_edges.Goals as goal
 use Rattle.window_cover.proofs.new_edges.meet_edges.Goals.{then-edge-corners, else-edge-corners}
@@ -65,7 +65,7 @@ meet_edge-requires-clause-fresh c =
     ∙ fresh-still c.args.order c.args.window.now c.args.tile c.args.corners.now c.args.border.now c.requires.new c.loop-edge.edge below
 
 pub returns-in_err-meet_edge-clause-met : goal.returns-in_err-meet_edge-clause-met
-returns-in_err-meet_edge-clause-met c = on_ok-err _ c.from_residual.result c.from_residual.ensures.0
+returns-in_err-meet_edge-clause-met c = IfOk-from_err c.from_residual.result _ c.from_residual.ensures.0
 
 pub returns-in_err-meet_edge-clause-at_most_12_more : goal.returns-in_err-meet_edge-clause-at_most_12_more
 returns-in_err-meet_edge-clause-at_most_12_more c = omega (arith, c.meet_edge.ensures.one_more, c.loop-edge.invariant.few, c.loop-edge-test.true, c.requires.at_most_12)

@@ -4,7 +4,9 @@ use Rattle.tile_place.specs.Searched.{placed_in}
 use Rattle.lazy_walk.specs.Standing.{Stands}
 use Rattle.window_cover.specs.Causes.{HasCause}
 use Rattle.window_cover.specs.Windows.{AreDrawn, CoverWindow}
-use Rattle.window_cover.proofs.Outcomes.{if_err-is, if_err-no_memory, no_memory-on, only_memory}
+use Rattle.window_cover.specs.declared.cover_fault.CoverFault.TheVariants.{NoMemory}
+use Rattle.lazy_walk.proofs.Outcomes.{if_err-is}
+use Rattle.window_cover.proofs.Outcomes.{no_memory-on, only_memory}
 use Rattle.window_cover.proofs.tiles_of_window.cover.Goals as goal
 
 pub returns-in_err-tiles-clause-answered : goal.returns-in_err-tiles-clause-answered
@@ -19,7 +21,7 @@ returns-in_err-listed-clause-answered c = λ h. only_memory c.from_residual-in_e
 
 pub returns-in_err-listed-clause-cause : goal.returns-in_err-listed-clause-cause
 returns-in_err-listed-clause-cause c =
-    if_err-no_memory (HasCause (tiling_of c.args.machine.now) c.args.frame.now c.covered_tiles.new.frame c.args.window.now) c.from_residual-in_err-listed.result c.from_residual-in_err-listed.ensures.1 tt
+    if_err-is (HasCause (tiling_of c.args.machine.now) c.args.frame.now c.covered_tiles.new.frame c.args.window.now) c.from_residual-in_err-listed.result NoMemory c.from_residual-in_err-listed.ensures.1 tt
 
 pub returns-clause-drawn : goal.returns-clause-drawn
 returns-clause-drawn c =

@@ -9,7 +9,8 @@ use Rattle.window_cover.specs.Windows.{AreDrawn, CoverWindow}
 use Rattle.window_cover.proofs.Arranged.{right-lifted}
 use Rattle.window_cover.proofs.Ended.{not-beyond, ended-least, ended-within}
 use Rattle.window_cover.proofs.Finished.{laws_of}
-use Rattle.window_cover.proofs.Outcomes.{if_err-is, no_memory-on, only_memory}
+use Rattle.lazy_walk.proofs.Outcomes.{if_err-is}
+use Rattle.window_cover.proofs.Outcomes.{no_memory-on, only_memory}
 use Rattle.window_cover.proofs.Searches.{checked_of}
 use Rattle.window_cover.proofs.tiles_of_window.covered_tiles.Goals as goal
 

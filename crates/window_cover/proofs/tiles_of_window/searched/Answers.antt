@@ -1,15 +1,17 @@
 use Rattle.std.proofs.Common.{sym, ◌∙◌, subst}
+use Rattle.std.proofs.lemmas.Result.{IfOk-from_err}
 use Rattle.rule_model.specs.Tiling.{tiling_of}
 use Rattle.lazy_walk.proofs.Walks.{GrowsTo-then}
 use Rattle.window_cover.specs.Windows.{IsLeastEnough}
 use Rattle.window_cover.specs.Causes.{HasCause}
 use Rattle.window_cover.specs.Limits.{IsWithinLimits}
-use Rattle.window_cover.proofs.Outcomes.{on_ok-err, if_err-is, no_memory-on}
+use Rattle.lazy_walk.proofs.Outcomes.{if_err-is}
+use Rattle.window_cover.proofs.Outcomes.{no_memory-on}
 use Rattle.window_cover.proofs.Searches.{none-open, cause-before}
 use Rattle.window_cover.proofs.tiles_of_window.searched.Goals as goal
 
 pub returns-in_err-cover-clause-centre_found : goal.returns-in_err-cover-clause-centre_found
-returns-in_err-cover-clause-centre_found g c = on_ok-err _ c.from_residual.result c.from_residual.ensures.0
+returns-in_err-cover-clause-centre_found g c = IfOk-from_err c.from_residual.result _ c.from_residual.ensures.0
 
 pub returns-in_err-cover-clause-answered : goal.returns-in_err-cover-clause-answered
 returns-in_err-cover-clause-answered g c = λ h. no_memory-on c.start.result c.from_residual.result c.in_err-cover.field-0.0 c.in_err-cover.was c.from_residual.ensures.1 (c.start.ensures.answered h)
@@ -28,7 +30,7 @@ loop-first-preserved g c =
     }
 
 pub returns-in_err-advance-clause-centre_found : goal.returns-in_err-advance-clause-centre_found
-returns-in_err-advance-clause-centre_found g c = on_ok-err _ c.from_residual-in_err-advance.result c.from_residual-in_err-advance.ensures.0
+returns-in_err-advance-clause-centre_found g c = IfOk-from_err c.from_residual-in_err-advance.result _ c.from_residual-in_err-advance.ensures.0
 
 pub returns-in_err-advance-clause-answered : goal.returns-in_err-advance-clause-answered
 returns-in_err-advance-clause-answered g c = λ h.

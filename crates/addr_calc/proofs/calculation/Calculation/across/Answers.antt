@@ -1,14 +1,16 @@
 use Rattle.std.proofs.Common.{◌<◌, Some, refl, sym, ap, ◌∙◌, subst}
 use Rattle.addressing.specs.Address.{Fits}
 use Rattle.addressing.specs.Tables.{child_kinds}
+use Rattle.addressing.proofs.EdgesOf.{kind_in_tables, edge_has_type}
 use Rattle.rule_model.specs.Tiling.{tiling_of, children, contacts}
 use Rattle.tile_place.specs.Crossed.{edges_of}
 use Rattle.tile_shape.specs.Views.{address_of}
+use Rattle.transducer_core.proofs.OneOutside.{ok_or_err, outside_is}
 use Rattle.addr_calc.specs.Bindings.{bind}
 use Rattle.addr_calc.specs.Calculation.{AllFit}
 use Rattle.addr_calc.specs.Printed.{across_line}
 use Rattle.addr_calc.proofs.Names.{bind_fits}
-use Rattle.addr_calc.proofs.Tables.{kind_in_tables, edges_counted, edge_has_type, ok_or_err, outside_is}
+use Rattle.addr_calc.proofs.Tables.{edges_counted}
 use Rattle.addr_calc.proofs.calculation.Calculation.across.Goals as goal
 
 pub edges-requires : goal.edges-requires
@@ -40,9 +42,11 @@ returns-in-Err-clause-refused g c =
       record {
         address = address_of c.put_digits.new.there;
         bound = sym c.in-Some.ensures ∙ ap (λ a. Some a) (sym c.put_digits.ensures.seen);
-        exists = subst (λ k. edge < edges_of t k) (sym c.put_digits.ensures.kind) (subst (λ n. edge < n) count c.if-edge-edges.false);
-        along = c.in-Err.ensures.outside_on_boundary;
-        alone = λ top other on. outside_is _ _ top other c.in-Err.is (c.cross_in_place.ensures.boundary_is_outside top other on);
+        outside = record {
+          exists = subst (λ k. edge < edges_of t k) (sym c.put_digits.ensures.kind) (subst (λ n. edge < n) count c.if-edge-edges.false);
+          along = c.in-Err.ensures.outside_on_boundary;
+          alone = λ top other on. outside_is _ _ top other c.in-Err.is (c.cross_in_place.ensures.boundary_is_outside top other on);
+        };
       },
     )
 

@@ -2,11 +2,11 @@ use Rattle.std.proofs.Common.{◌≡◌, ◌++◌, ◌∷◌, length, decimal, r
 use Rattle.cyclo_points.specs.Motion.{motion_in}
 use Rattle.cyclo_points.specs.Point.{point_in}
 use Rattle.cyclo_points.specs.Text.{blank, motion_text, point_text, number_text, newline}
+use Rattle.cyclo_points.proofs.Coefficients.{point_text-number, coefficients_of, pieces_of_line}
 use Rattle.rule_model.specs.Tiling.{tiling_of}
 use Rattle.tile_shape.specs.Views.{address_of}
 use Rattle.addr_calc.specs.Calculation.{AllFit}
 use Rattle.addr_calc.specs.Printed.{letter, place_line}
-use Rattle.addr_calc.proofs.Printing.{point_text-number, coefficients_of, pieces_of_place}
 use Rattle.addr_calc.proofs.calculation.Calculation.place.Goals as goal
 
 pub place-requires : goal.place-requires
@@ -34,7 +34,7 @@ returns-in_ok-print-in-Ok-clause-done c =
           ∙ ap (λ line. c.args.self.now.text.items ++ letter n ∷ blank ∷ line)
           (c.put_small.ensures.number
           ∙ ap (λ line. decimal a.kind ++ line) (c.put-in-Ok.ensures ∙ ap (λ line. blank ∷ line) (c.put_motion.ensures.motion ∙ ap (λ line. motion_text m ++ line) (c.put.ensures ∙ ap (λ line. newline ∷ line) c.clear.ensures)))
-          ∙ pieces_of_place (decimal a.kind) (decimal m.turn) (point_text m.shift) (number_text o (point_in o m.shift)) (point_text-number o m.shift c.in-Ok.ensures.in_order));
+          ∙ pieces_of_line (decimal a.kind) (decimal m.turn) (point_text m.shift) (number_text o (point_in o m.shift)) (point_text-number o m.shift c.in-Ok.ensures.in_order));
       number = c.in_ok-print-in-Ok.ensures.number;
       all_fit = λ fit. subst (AllFit t) (sym c.in_ok-print-in-Ok.ensures.names) fit;
     }

@@ -1,5 +1,6 @@
 use Rattle.std.proofs.Common.{◌≡◌, ℕ, suc, ◌+◌, ◌-◌, ◌<◌, ◌≤◌, inl, inr, true, false, ◌∷◌, find, None, Some, sym, ap, ◌∙◌, subst, arith}
 use Rattle.std.proofs.lemmas.Bool.{cases_lt}
+use Rattle.std.proofs.lemmas.Result.{IfErr-weaker, IfOk-weaker}
 use Rattle.cyclo_points.specs.Order.{points_of, is_refused}
 use Rattle.cyclo_points.specs.Point.{point_in}
 use Rattle.frames.specs.Contain.{ancestor_motion, ancestor_holds}
@@ -19,7 +20,7 @@ use Rattle.lazy_walk.specs.Ancestors.{full, factor_power, IsAncestor, values_of_
 use Rattle.lazy_walk.specs.Containing.{first_refused_outward}
 use Rattle.lazy_walk.proofs.Walks.{GrowsTo-self, GrowsTo-then}
 use Rattle.lazy_walk.proofs.Ancestors.{full-later}
-use Rattle.lazy_walk.proofs.Aheads.{ahead, vertex_refused, held, onward, next_refused, next_passed, some_power_refused, zero-unrefused, exactly, refused_exactly, if_ok-each, if_err-each}
+use Rattle.lazy_walk.proofs.Aheads.{ahead, vertex_refused, held, onward, next_refused, next_passed, some_power_refused, zero-unrefused, exactly, refused_exactly}
 use Rattle.lazy_walk.proofs.Leasts.{not_before}
 use Rattle.lazy_walk.proofs.frame.Frame.contain.Goals as goal
 
@@ -154,8 +155,8 @@ returns-then-branch-clause-found_exactly c =
     let vertices : find test (vertices_of_ancestor t f level) ≡ None = subst (λ a. find test (vertices_of_ancestor t a level) ≡ None) same c.in_ok-is_inside.ensures.none_refused in
     let chain : find test (values_in t (full t now) p level) ≡ first_refused_outward t c.args.self.now p =
     ap (λ a. find test (values_in t a p level)) same ∙ sym (held P r f p test level (64 - level) vertices it_holds) ∙ inv.values in
-    exactly c.tile_in.result (first_refused_outward t c.args.self.now p) (λ (limit : CoordLimit). point_in m.order limit.value) (if_ok-each c.tile_in.result (λ (tile : PlacedTile). find test (values_in t (full t now) p level) ≡ None) (λ (tile : PlacedTile). first_refused_outward t c.args.self.now p ≡ None) (λ tile h. sym chain ∙ h) c.tile_in.ensures.none_refused)
-    (if_err-each c.tile_in.result (λ (limit : CoordLimit). find test (values_in t (full t now) p level) ≡ Some (point_in m.order limit.value))
+    exactly c.tile_in.result (first_refused_outward t c.args.self.now p) (λ (limit : CoordLimit). point_in m.order limit.value) (IfOk-weaker c.tile_in.result (λ (tile : PlacedTile). find test (values_in t (full t now) p level) ≡ None) (λ (tile : PlacedTile). first_refused_outward t c.args.self.now p ≡ None) (λ tile h. sym chain ∙ h) c.tile_in.ensures.none_refused)
+    (IfErr-weaker c.tile_in.result (λ (limit : CoordLimit). find test (values_in t (full t now) p level) ≡ Some (point_in m.order limit.value))
     (λ (limit : CoordLimit). first_refused_outward t c.args.self.now p ≡ Some (point_in m.order limit.value)) (λ limit h. sym chain ∙ h) c.tile_in.ensures.limit)
 
 pub returns-then-branch-clause-limit : goal.returns-then-branch-clause-limit
@@ -175,7 +176,7 @@ returns-then-branch-clause-limit c =
     let vertices : find test (vertices_of_ancestor t f level) ≡ None = subst (λ a. find test (vertices_of_ancestor t a level) ≡ None) same c.in_ok-is_inside.ensures.none_refused in
     let chain : find test (values_in t (full t now) p level) ≡ first_refused_outward t c.args.self.now p =
     ap (λ a. find test (values_in t a p level)) same ∙ sym (held P r f p test level (64 - level) vertices it_holds) ∙ inv.values in
-    if_err-each c.tile_in.result (λ (limit : CoordLimit). find test (values_in t (full t now) p level) ≡ Some (point_in m.order limit.value))
+    IfErr-weaker c.tile_in.result (λ (limit : CoordLimit). find test (values_in t (full t now) p level) ≡ Some (point_in m.order limit.value))
     (λ (limit : CoordLimit). first_refused_outward t c.args.self.now p ≡ Some (point_in m.order limit.value)) (λ limit h. sym chain ∙ h) c.tile_in.ensures.limit
 
 pub returns-in_err-is_inside-clause-found_exactly : goal.returns-in_err-is_inside-clause-found_exactly

@@ -1,9 +1,12 @@
-use Rattle.std.proofs.Common.{ℕ, ◌<◌, length, sym, ap, ◌∙◌, subst}
+use Rattle.std.proofs.Common.{ℕ, ◌<◌, length, Option, Some, None, IfNone, sym, ap, ◌∙◌, subst}
 use Rattle.tile_shape.specs.Views.{address_of}
 use Rattle.std.proofs.lemmas.Option.{slice_get_within}
 use Rattle.list_verify.specs.LineIndex.{HasAddress}
-use Rattle.list_verify.proofs.Outcomes.{if_none-each}
 use Rattle.list_verify.proofs.line_index.LineIndex.find.Goals as goal
+
+if_none-each : {A : Type 0} (o : Option A) (P Q : Type 0) → (P → Q) → IfNone o P → IfNone o Q
+if_none-each None P Q f h = f h
+if_none-each (Some x) P Q f h = tt
 
 pub returns-clause-none : goal.returns-clause-none
 returns-clause-none c = if_none-each c.find_in.result _ _ each c.find_in.ensures.none

@@ -7,7 +7,8 @@ use Rattle.star_walk.specs.declared.corner.Corner.{Corner}
 use Rattle.star_walk.specs.Corners.{corner_in}
 use Rattle.star_walk.specs.Found.{IsRaised}
 use Rattle.star_walk.specs.Round.{AreRound, AreInTurn}
-use Rattle.star_walk.proofs.Brought.{Brings, brought}
+use Rattle.lazy_walk.proofs.Brought.{Brings, brought}
+use Rattle.star_walk.specs.StarLaws.{HasStarLaws}
 use Rattle.star_walk.proofs.Ended.{least, within-limits, star-round, star-turns, star-stands, star-within}
 use Rattle.star_walk.proofs.InTurn.{whole-back}
 use Rattle.star_walk.proofs.star.Star.find.Given.{Over}
@@ -15,8 +16,8 @@ use Rattle.star_walk.proofs.star.Star.find.Goals.{After-kinds-usable, After-rais
 use Rattle.star_walk.proofs.star.Star.find.Goals as goal
 
 -- what the rule and the laws bring
-brings : (g : Over) (c : After-kinds-usable g) → Brings c.args.machine.now
-brings g c = brought c.args.machine.now _ _ _ c.checked-checked.ensures.rule c.checked-checked.ensures.accepted c.checked-checked.ensures.usable c.checked-checked.ensures.same_child_kinds
+brings : (g : Over) (c : After-kinds-usable g) → Brings HasStarLaws c.args.machine.now
+brings g c = brought HasStarLaws c.args.machine.now _ _ _ c.checked-checked.ensures.rule c.checked-checked.ensures.accepted c.checked-checked.ensures.usable c.checked-checked.ensures.same_child_kinds
     c.uses.ensures c.kinds-usable.ensures.limits c.order.ensures.order c.star_laws.ensures c.grown_fits_law.ensures
 
 -- the corners as they were found, and lifted

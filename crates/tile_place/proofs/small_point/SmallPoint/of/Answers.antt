@@ -1,10 +1,9 @@
-use Rattle.std.proofs.Common.{◌≡◌, ℤ, [], ◌∷◌, length, to_z, of_z, ap, ap₂, ◌∙◌, sym, arith}
+use Rattle.std.proofs.Common.{◌≡◌, ℤ, [], ◌∷◌, length, to_z, of_z, ◌∙◌, sym, arith}
 use Rattle.std.specs.Int.{w16}
 use Rattle.std.proofs.lemmas.Int.{ints}
-use Rattle.cyclo_points.specs.declared.point.Point.{Point}
 use Rattle.cyclo_points.specs.Point.{coefficient}
 use Rattle.cyclo_points.proofs.Readings.{machine}
-use Rattle.tile_place.proofs.SamePoint.{four}
+use Rattle.cyclo_points.proofs.Coefficients.{four}
 use Rattle.tile_place.proofs.small_point.SmallPoint.of.Goals as goal
 
 abbrev short : ℤ → ℤ

@@ -6,6 +6,7 @@ use Rattle.rule_model.specs.declared.rule.Rule.{Rule}
 use Rattle.rule_model.specs.Tiling.{tiling_of}
 use Rattle.std.proofs.Math.ListN.{length-map}
 use Rattle.std.proofs.lemmas.List.{get_or_default}
+use Rattle.std.proofs.lemmas.Result.{IfOk-from_err}
 use Rattle.cyclo_points.specs.declared.order.Order.{Order}
 use Rattle.rule_model.specs.Usable.{origin}
 use Rattle.window_cover.specs.declared.found_tile.FoundTile.{FoundTile}
@@ -14,8 +15,9 @@ use Rattle.window_cover.specs.Found.{CoverValue}
 use Rattle.window_cover.specs.Kept.{IsKept}
 use Rattle.tile_place.specs.Keys.{FitsKey}
 use Rattle.window_cover.specs.NewEdges.{AreNew, left_open, opened}
+use Rattle.window_cover.specs.declared.cover_fault.CoverFault.TheVariants.{NoMemory}
 use Rattle.tile_place.proofs.EachOrder.{order-fits}
-use Rattle.window_cover.proofs.Outcomes.{on_ok-err, if_err-no_memory}
+use Rattle.lazy_walk.proofs.Outcomes.{if_err-is}
 use Rattle.window_cover.proofs.Keeping.{kept-more, kept-one_more, found-one_more}
 use Rattle.window_cover.proofs.cover.Cover.admit.Goals as goal
 
@@ -30,22 +32,22 @@ returns-then-number-ge-MOST_TILES-clause-cause c =
     omega (arith, count, seen, c.if-number-ge-MOST_TILES.true)
 
 pub returns-in_err-extend_from_slice-clause-admitted : goal.returns-in_err-extend_from_slice-clause-admitted
-returns-in_err-extend_from_slice-clause-admitted c = on_ok-err _ c.from_residual.result c.from_residual.ensures.0
+returns-in_err-extend_from_slice-clause-admitted c = IfOk-from_err c.from_residual.result _ c.from_residual.ensures.0
 
 pub returns-in_err-extend_from_slice-clause-cause : goal.returns-in_err-extend_from_slice-clause-cause
-returns-in_err-extend_from_slice-clause-cause c = if_err-no_memory (IsNotAdmitted (tiling_of c.args.machine.now) c.args.self.now c.args.tile.now) c.from_residual.result c.from_residual.ensures.1 tt
+returns-in_err-extend_from_slice-clause-cause c = if_err-is (IsNotAdmitted (tiling_of c.args.machine.now) c.args.self.now c.args.tile.now) c.from_residual.result NoMemory c.from_residual.ensures.1 tt
 
 pub returns-in_err-push-clause-admitted : goal.returns-in_err-push-clause-admitted
-returns-in_err-push-clause-admitted c = on_ok-err _ c.from_residual-in_err-push.result c.from_residual-in_err-push.ensures.0
+returns-in_err-push-clause-admitted c = IfOk-from_err c.from_residual-in_err-push.result _ c.from_residual-in_err-push.ensures.0
 
 pub returns-in_err-push-clause-cause : goal.returns-in_err-push-clause-cause
-returns-in_err-push-clause-cause c = if_err-no_memory (IsNotAdmitted (tiling_of c.args.machine.now) c.args.self.now c.args.tile.now) c.from_residual-in_err-push.result c.from_residual-in_err-push.ensures.1 tt
+returns-in_err-push-clause-cause c = if_err-is (IsNotAdmitted (tiling_of c.args.machine.now) c.args.self.now c.args.tile.now) c.from_residual-in_err-push.result NoMemory c.from_residual-in_err-push.ensures.1 tt
 
 pub returns-in_err-meet_edges-clause-admitted : goal.returns-in_err-meet_edges-clause-admitted
-returns-in_err-meet_edges-clause-admitted c = on_ok-err _ c.from_residual-in_err-meet_edges.result c.from_residual-in_err-meet_edges.ensures.0
+returns-in_err-meet_edges-clause-admitted c = IfOk-from_err c.from_residual-in_err-meet_edges.result _ c.from_residual-in_err-meet_edges.ensures.0
 
 pub returns-in_err-meet_edges-clause-cause : goal.returns-in_err-meet_edges-clause-cause
-returns-in_err-meet_edges-clause-cause c = if_err-no_memory (IsNotAdmitted (tiling_of c.args.machine.now) c.args.self.now c.args.tile.now) c.from_residual-in_err-meet_edges.result c.from_residual-in_err-meet_edges.ensures.1 tt
+returns-in_err-meet_edges-clause-cause c = if_err-is (IsNotAdmitted (tiling_of c.args.machine.now) c.args.self.now c.args.tile.now) c.from_residual-in_err-meet_edges.result NoMemory c.from_residual-in_err-meet_edges.ensures.1 tt
 
 pub as_slice-requires : goal.as_slice-requires
 as_slice-requires c = search rules

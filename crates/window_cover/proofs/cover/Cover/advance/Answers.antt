@@ -1,4 +1,5 @@
-use Rattle.std.proofs.Common.{rules, ◌≡◌, suc, ◌<◌, Some, IsSome, OnOk, IfErr, List, length, slice_get, refl, sym, ap, ◌∙◌, subst, add-one}
+use Rattle.std.proofs.Common.{rules, ◌≡◌, ◌<◌, Some, IsSome, OnOk, IfErr, List, length, slice_get, refl, sym, ap, ◌∙◌, subst, add-one}
+use Rattle.std.proofs.lemmas.Result.{on_ok_weaker}
 use Rattle.frames.specs.Frame.{IsTileOf}
 use Rattle.addressing.specs.Tables.{type_of}
 use Rattle.lazy_walk.specs.Frames.{whole, GrowsTo}
@@ -15,14 +16,13 @@ use Rattle.lazy_walk.specs.Crossed.{IsCrossedTo}
 use Rattle.window_cover.specs.Found.{address_found, CoverValue}
 use Rattle.window_cover.specs.Kept.{found_in, IsKept}
 use Rattle.window_cover.specs.NewEdges.{AreNew}
-use Rattle.window_cover.specs.Right.{IsFound, IsRight}
-use Rattle.window_cover.specs.Stepping.{StepsTo}
+use Rattle.window_cover.specs.Right.{IsFound}
 use Rattle.window_cover.specs.Windows.{IsWindow}
-use Rattle.window_cover.proofs.Brought.{Brings, brought}
+use Rattle.lazy_walk.proofs.Brought.{Brings, brought}
+use Rattle.window_cover.specs.SearchLaws.{HasSearchLaws}
 use Rattle.window_cover.proofs.FirstEdge.{edge-there, tile-there}
 use Rattle.window_cover.proofs.Names.{its_found}
 use Rattle.window_cover.proofs.NextState.{kind_exists, edges_new, right-next, steps_to, one_more}
-use Rattle.window_cover.proofs.Outcomes.{on_ok-each}
 use Rattle.window_cover.proofs.StepLimits.{not_beyond_next, within_next, cause_next}
 use Rattle.window_cover.proofs.StepStops.{not_enough, not_within, depth_limit}
 use Rattle.window_cover.proofs.cover.Cover.advance.Given.{Over}
@@ -30,8 +30,8 @@ use Rattle.window_cover.proofs.cover.Cover.advance.Goals.{After-put_tile}
 use Rattle.window_cover.proofs.cover.Cover.advance.Goals as goal
 
 -- what the rule and the laws bring
-brings : (g : Over) (c : After-put_tile g) → Brings c.args.machine.now
-brings g c = brought c.args.machine.now _ _ _ c.checked-checked.ensures.rule c.checked-checked.ensures.accepted c.checked-checked.ensures.usable c.checked-checked.ensures.same_child_kinds
+brings : (g : Over) (c : After-put_tile g) → Brings HasSearchLaws c.args.machine.now
+brings g c = brought HasSearchLaws c.args.machine.now _ _ _ c.checked-checked.ensures.rule c.checked-checked.ensures.accepted c.checked-checked.ensures.usable c.checked-checked.ensures.same_child_kinds
     c.uses.ensures c.kinds-usable.ensures.limits c.order.ensures.order c.search_laws.ensures c.grown_fits_law.ensures
 
 -- what is found stays when closed edges are passed
@@ -68,7 +68,7 @@ put_tile-requires g c =
     let t = tiling_of m in
     let f = c.args.frame.now in
     let v = c.args.self.now in
-    let B = brought m _ _ _ c.checked-checked.ensures.rule c.checked-checked.ensures.accepted c.checked-checked.ensures.usable c.checked-checked.ensures.same_child_kinds c.uses.ensures c.kinds-usable.ensures.limits
+    let B = brought HasSearchLaws m _ _ _ c.checked-checked.ensures.rule c.checked-checked.ensures.accepted c.checked-checked.ensures.usable c.checked-checked.ensures.same_child_kinds c.uses.ensures c.kinds-usable.ensures.limits
     c.order.ensures.order c.search_laws.ensures c.grown_fits_law.ensures in
     let inside = c.self.inside in
     let same : ◌≡◌ {A = CoverValue} (record { window = inside.window; found = found_in inside.digits.items inside.found.items; border = c.pass.new.self }) v =
@@ -188,7 +188,7 @@ returns-in-Ok-clause-steps_to g c =
     let h : GrowsTo t f k = c.in-Ok.ensures.frame in
     let crossed : IsCrossedTo t f k (address_found x) x.motion c.args.first.edge tile back = subst (λ a. IsCrossedTo t f k a x.motion c.args.first.edge tile back) (sym a_is) c.in-Ok.ensures.crossed in
     let admitted : OnOk c.admit.result (IsAdmitted t v c.admit.new.self tile) = subst (λ y. OnOk c.admit.result (IsAdmitted t y c.admit.new.self tile)) same c.admit.ensures.admitted in
-    on_ok-each _ (StepsTo t f k v c.admit.new.self) c.admit.result (λ n. steps_to m B.settled B.fits B.laws f k h v c.requires.right c.args.first c.requires.is_first x at tile back crossed c.admit.new.self n) admitted
+    on_ok_weaker c.admit.result (λ n. steps_to m B.settled B.fits B.laws f k h v c.requires.right c.args.first c.requires.is_first x at tile back crossed c.admit.new.self n) admitted
 
 pub returns-in-Ok-clause-right : goal.returns-in-Ok-clause-right
 returns-in-Ok-clause-right g c =
@@ -208,7 +208,7 @@ returns-in-Ok-clause-right g c =
     let h : GrowsTo t f k = c.in-Ok.ensures.frame in
     let crossed : IsCrossedTo t f k (address_found x) x.motion c.args.first.edge tile back = subst (λ a. IsCrossedTo t f k a x.motion c.args.first.edge tile back) (sym a_is) c.in-Ok.ensures.crossed in
     let admitted : OnOk c.admit.result (IsAdmitted t v c.admit.new.self tile) = subst (λ y. OnOk c.admit.result (IsAdmitted t y c.admit.new.self tile)) same c.admit.ensures.admitted in
-    on_ok-each _ (IsRight t k c.admit.new.self) c.admit.result (λ n. right-next m B.settled B.fits B.laws f k h v c.requires.right c.args.first c.requires.is_first x at tile back crossed c.admit.new.self n) admitted
+    on_ok_weaker c.admit.result (λ n. right-next m B.settled B.fits B.laws f k h v c.requires.right c.args.first c.requires.is_first x at tile back crossed c.admit.new.self n) admitted
 
 pub returns-in-Ok-clause-one_more : goal.returns-in-Ok-clause-one_more
 returns-in-Ok-clause-one_more g c =
@@ -228,7 +228,7 @@ returns-in-Ok-clause-one_more g c =
     let h : GrowsTo t f k = c.in-Ok.ensures.frame in
     let crossed : IsCrossedTo t f k (address_found x) x.motion c.args.first.edge tile back = subst (λ a. IsCrossedTo t f k a x.motion c.args.first.edge tile back) (sym a_is) c.in-Ok.ensures.crossed in
     let admitted : OnOk c.admit.result (IsAdmitted t v c.admit.new.self tile) = subst (λ y. OnOk c.admit.result (IsAdmitted t y c.admit.new.self tile)) same c.admit.ensures.admitted in
-    on_ok-each _ (length c.admit.new.self.found ≡ suc (length v.found)) c.admit.result (λ n. one_more m B.settled B.fits B.laws f k h v c.requires.right c.args.first c.requires.is_first x at tile back crossed c.admit.new.self n ∙ add-one (length v.found)) admitted
+    on_ok_weaker c.admit.result (λ n. one_more m B.settled B.fits B.laws f k h v c.requires.right c.args.first c.requires.is_first x at tile back crossed c.admit.new.self n ∙ add-one (length v.found)) admitted
 
 pub returns-in-Ok-clause-not_beyond : goal.returns-in-Ok-clause-not_beyond
 returns-in-Ok-clause-not_beyond g c =

@@ -1,5 +1,6 @@
 use Rattle.std.specs.List.{AllByRecursion}
 use Rattle.std.proofs.Common.{◌≡◌, inl, inr, ℕ, ◌≤◌, List, [], length, refl, sym, ap, ap₂, subst, arith}
+use Rattle.std.proofs.lemmas.Result.{IfOk-from_err}
 use Rattle.cyclo_points.specs.declared.point.Point.{Point}
 use Rattle.rule_model.specs.Tiling.{tiling_of}
 use Rattle.window_cover.specs.declared.cover_fault.CoverFault.TheVariants.{CoordLimit}
@@ -11,16 +12,18 @@ use Rattle.window_cover.specs.Kept.{found_in, AreKept}
 use Rattle.tile_place.specs.Keys.{FitsKey}
 use Rattle.window_cover.specs.NewEdges.{AreNew}
 use Rattle.window_cover.specs.Windows.{IsLeastEnough}
-use Rattle.window_cover.proofs.Brought.{Brings, brought}
-use Rattle.window_cover.proofs.Outcomes.{on_ok-err, if_ok-err, if_err-is, no_memory-on, only_memory}
+use Rattle.lazy_walk.proofs.Brought.{Brings, brought}
+use Rattle.window_cover.specs.SearchLaws.{HasSearchLaws}
+use Rattle.lazy_walk.proofs.Outcomes.{if_err-is}
+use Rattle.window_cover.proofs.Outcomes.{no_memory-on}
 use Rattle.window_cover.proofs.StartState.{kind_exists, edges_new, right-first, one_tile, its_window}
 use Rattle.window_cover.proofs.StartLimits.{not_beyond_start, answered_first, cause_first}
 use Rattle.window_cover.proofs.cover.Cover.start.Goals.{After-contain}
 use Rattle.window_cover.proofs.cover.Cover.start.Goals as goal
 
 -- what the rule and the laws bring
-brings : (c : After-contain) → Brings c.args.machine.now
-brings c = brought c.args.machine.now _ _ _ c.checked-checked.ensures.rule c.checked-checked.ensures.accepted c.checked-checked.ensures.usable c.checked-checked.ensures.same_child_kinds
+brings : (c : After-contain) → Brings HasSearchLaws c.args.machine.now
+brings c = brought HasSearchLaws c.args.machine.now _ _ _ c.checked-checked.ensures.rule c.checked-checked.ensures.accepted c.checked-checked.ensures.usable c.checked-checked.ensures.same_child_kinds
     c.uses.ensures c.kinds-usable.ensures.limits c.order-order.ensures.order c.search_laws.ensures c.grown_fits_law.ensures
 
 not_beyond : (c : After-contain) (n : ℕ) → IsLeastEnough (tiling_of c.args.machine.now) c.args.frame.now c.args.window.now n → length c.contain.new.self.digits ≤ n
@@ -38,13 +41,13 @@ pub returns-in_err-tile-clause-frame : goal.returns-in_err-tile-clause-frame
 returns-in_err-tile-clause-frame c = c.contain.ensures.frame
 
 pub returns-in_err-tile-clause-right : goal.returns-in_err-tile-clause-right
-returns-in_err-tile-clause-right c = if_ok-err _ c.from_residual.result c.from_residual.ensures.0
+returns-in_err-tile-clause-right c = IfOk-from_err c.from_residual.result _ c.from_residual.ensures.0
 
 pub returns-in_err-tile-clause-its_window : goal.returns-in_err-tile-clause-its_window
-returns-in_err-tile-clause-its_window c = if_ok-err _ c.from_residual.result c.from_residual.ensures.0
+returns-in_err-tile-clause-its_window c = IfOk-from_err c.from_residual.result _ c.from_residual.ensures.0
 
 pub returns-in_err-tile-clause-one_tile : goal.returns-in_err-tile-clause-one_tile
-returns-in_err-tile-clause-one_tile c = if_ok-err _ c.from_residual.result c.from_residual.ensures.0
+returns-in_err-tile-clause-one_tile c = IfOk-from_err c.from_residual.result _ c.from_residual.ensures.0
 
 pub returns-in_err-tile-clause-not_beyond : goal.returns-in_err-tile-clause-not_beyond
 returns-in_err-tile-clause-not_beyond c = not_beyond (goal.at.returns-in_err-tile-clause-not_beyond c).After-contain
@@ -53,13 +56,13 @@ pub returns-in_err-admit-clause-frame : goal.returns-in_err-admit-clause-frame
 returns-in_err-admit-clause-frame c = c.contain.ensures.frame
 
 pub returns-in_err-admit-clause-right : goal.returns-in_err-admit-clause-right
-returns-in_err-admit-clause-right c = if_ok-err _ c.from_residual-in_err-admit.result c.from_residual-in_err-admit.ensures.0
+returns-in_err-admit-clause-right c = IfOk-from_err c.from_residual-in_err-admit.result _ c.from_residual-in_err-admit.ensures.0
 
 pub returns-in_err-admit-clause-its_window : goal.returns-in_err-admit-clause-its_window
-returns-in_err-admit-clause-its_window c = if_ok-err _ c.from_residual-in_err-admit.result c.from_residual-in_err-admit.ensures.0
+returns-in_err-admit-clause-its_window c = IfOk-from_err c.from_residual-in_err-admit.result _ c.from_residual-in_err-admit.ensures.0
 
 pub returns-in_err-admit-clause-one_tile : goal.returns-in_err-admit-clause-one_tile
-returns-in_err-admit-clause-one_tile c = if_ok-err _ c.from_residual-in_err-admit.result c.from_residual-in_err-admit.ensures.0
+returns-in_err-admit-clause-one_tile c = IfOk-from_err c.from_residual-in_err-admit.result _ c.from_residual-in_err-admit.ensures.0
 
 pub returns-in_err-admit-clause-not_beyond : goal.returns-in_err-admit-clause-not_beyond
 returns-in_err-admit-clause-not_beyond c = not_beyond (goal.at.returns-in_err-admit-clause-not_beyond c).After-contain
@@ -179,10 +182,10 @@ returns-clause-answered c = λ within. inr refl
 
 -- ---- the values looked at for the centre
 pub returns-in_err-tile-clause-centre_found : goal.returns-in_err-tile-clause-centre_found
-returns-in_err-tile-clause-centre_found c = on_ok-err _ c.from_residual.result c.from_residual.ensures.0
+returns-in_err-tile-clause-centre_found c = IfOk-from_err c.from_residual.result _ c.from_residual.ensures.0
 
 pub returns-in_err-admit-clause-centre_found : goal.returns-in_err-admit-clause-centre_found
-returns-in_err-admit-clause-centre_found c = on_ok-err _ c.from_residual-in_err-admit.result c.from_residual-in_err-admit.ensures.0
+returns-in_err-admit-clause-centre_found c = IfOk-from_err c.from_residual-in_err-admit.result _ c.from_residual-in_err-admit.ensures.0
 
 pub returns-clause-centre_found : goal.returns-clause-centre_found
 returns-clause-centre_found c = c.in_ok-tile.ensures.found_exactly.0 refl

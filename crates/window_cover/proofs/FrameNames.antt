@@ -1,25 +1,30 @@
 -- Crossings of edges of a frame's tiles, by the names that the tiles have at depth 64.
 use Rattle.std.proofs.Common.{◌≡◌, ℕ, ◌<◌, ◌≤◌, ◌++◌, [], length, drop, sym, ap, ◌∙◌, subst, arith, append-nil}
 use Rattle.std.proofs.Math.Seq.{drop-length}
-use Rattle.addressing.specs.Address.{Address, depth}
-use Rattle.cyclo_points.specs.Order.{points_of}
+use Rattle.addressing.specs.Address.{Address, depth, top_kind}
+use Rattle.cyclo_points.specs.Order.{NumberOf, points_of}
 use Rattle.dissection.specs.Accepted.{AcceptedRule}
 use Rattle.dissection.specs.Across.{IsTileAcross}
 use Rattle.dissection.specs.OnBoundary.{IsOnBoundary}
 use Rattle.dissection.specs.TileEdges.{tile_at}
-use Rattle.frames.specs.Frame.{IsTileOf, lifted_in}
+use Rattle.frames.specs.Back.{back}
+use Rattle.frames.specs.Frame.{at_level, IsTileOf, lifted_in}
+use Rattle.frames.specs.Outline.{supertile_holds}
 use Rattle.lazy_walk.specs.Ancestors.{full}
 use Rattle.lazy_walk.specs.Boundary.{IsBoundaryEdge}
+use Rattle.lazy_walk.specs.Containing.{frame_motion}
 use Rattle.lazy_walk.specs.Frames.{FrameValue, whole, IsFrameOf, GrowsTo, lifted_at}
 use Rattle.lazy_walk.proofs.Ancestors.{level-at}
 use Rattle.lazy_walk.proofs.InFull.{names, deep, level-grown, by_level}
 use Rattle.lazy_walk.proofs.Walks.{StillFits, GrowsTo-self}
 use Rattle.rule_model.specs.declared.rule.Rule.{Rule}
 use Rattle.rule_model.specs.Tiling.{Tiling, tiling_of, children}
+use Rattle.substitution.specs.Placement.{placement}
 use Rattle.substitution.specs.Points.{Points}
 use Rattle.substitution.specs.RuleParts.{edge_count}
 use Rattle.tile_place.specs.Crossed.{IsOnlyAcross}
 use Rattle.tile_place.proofs.Plane.{IsSettled, its_rule}
+use Rattle.windows.specs.FramePatch.{frame_holds}
 use Rattle.windows.specs.FrameSearch.{IsGrownCrossing}
 
 -- digits that reach to the frame's end have none behind
@@ -31,6 +36,13 @@ lifted-self f a e = λ i. record { kind = a.kind; digits = same i }
 
     same : a.digits ++ drop (depth a) f.digits ≡ a.digits
     same = ap (λ ds. a.digits ++ ds) none ∙ append-nil a.digits
+
+-- a level of the frame at depth 64 holds a point exactly where the frame of that depth does
+pub level-holds : (t : Tiling) (f : FrameValue) (n : ℕ) (g : FrameValue) (p : NumberOf t.order) → at_level (full t f) n ≡ whole g → length g.digits ≡ n
+    → frame_holds (points_of t.order) t.rule (full t f) n p ≡ supertile_holds (points_of t.order) t.rule (top_kind (whole g)) (length g.digits) (frame_motion t g) p
+level-holds t f n g p e d =
+    ap (λ (a : Address). supertile_holds (points_of t.order) t.rule (top_kind a) n (back (points_of t.order) (placement (points_of t.order) t.rule a.digits)) p) e
+    ∙ ap (λ k. supertile_holds (points_of t.order) t.rule (top_kind (whole g)) k (frame_motion t g) p) (sym d)
 
 module _ (m : Rule) (settled : IsSettled m) (fits : StillFits (children (tiling_of m))) (f : FrameValue) (is : IsFrameOf (tiling_of m) f) (g : FrameValue) (h : GrowsTo (tiling_of m) f g) where
   abbrev t : Tiling

@@ -67,7 +67,8 @@ module _ (S : Signed) (L : Laws S.ops) (O : OrderLaws S) (whole : DividesWhole S
       number-one (λ t. member S (P.outline t) point.0) first found distinct is_found point.3
       (λ u i h. D.one_holder u first (of_patch u i) (of_patch first is_found) point.0 point.1 h point.3)
 
-  covers : (p : TestPoint R.carrier) → IsTestPoint S p → in_box S box p ≡ true → holders p ≡ 1
+  -- each test point in the box belongs to exactly one of these
+  pub covers : (p : TestPoint R.carrier) → IsTestPoint S p → in_box S box p ≡ true → holders p ≡ 1
   covers p test inside = same_whole _ _ (
       sym (total-holders p test) ∙ closed_chains S L O whole box outlines paired p point.0 test point.1 inside point.2 ∙ total-holders point.0 point.1 ∙ ap pos holders-point)
 
