@@ -2,6 +2,7 @@
 ghost use Rattle.std.specs.Prelude.{◌≡◌, ◌⊎◌, ◌<◌, ◌≤◌, length, IsOk, Err, IfOk, IfErr, OnOk};
 ghost use Rattle.rule_model.specs.Tiling.{tiling_of};
 ghost use Rattle.lazy_walk.specs.Frames.{IsFrameOf, GrowsTo};
+ghost use Rattle.windows.specs.Limits.{most_tiles};
 ghost use Rattle.half_glue.specs.declared.glue_fault.GlueFault.TheVariants.{NoMemory};
 ghost use Rattle.half_glue.specs.Given.{AreGiven};
 ghost use Rattle.half_glue.specs.WholeTiles.{AreWholeTilesOf};
@@ -37,7 +38,7 @@ pub fn glue(
     tiles: &Vec<PlacedTile>,
 ) -> Result<Vec<WholeTile>, GlueFault>
     requires frame { IsFrameOf (tiling_of machine.now) frame.old }
-    requires few { length tiles.now.items ≤ 200000 }
+    requires few { length tiles.now.items ≤ most_tiles }
     requires given { AreGiven (tiling_of machine.now) frame.old tiles.now.items }
 
     ensures frame { GrowsTo (tiling_of machine.now) frame.old frame.new }
@@ -67,7 +68,7 @@ fn glued<L: Ledger>(
     requires parts { blank.parts ≡ L.parts }
     requires some { 0 < blank.parts }
     requires frame { IsFrameOf (tiling_of machine.now) frame.old }
-    requires few { length tiles.now ≤ 200000 }
+    requires few { length tiles.now ≤ most_tiles }
     requires given { AreGiven (tiling_of machine.now) frame.old tiles.now }
     ensures frame { GrowsTo (tiling_of machine.now) frame.old frame.new }
     ensures whole_tiles { IfOk result (λ wholes. AreWholeTilesOf (tiling_of machine.now) frame.new tiles.now wholes.items) }

@@ -5,6 +5,7 @@ ghost use Rattle.std.specs.List.Sorted.{IsPermutation, IsSorted};
 ghost use Rattle.cyclo_points.specs.Point.{IsWithin};
 ghost use Rattle.tile_place.specs.Keys.{key_of};
 ghost use Rattle.half_glue.specs.Keys.{HasKey, own_keys, key_order};
+ghost use Rattle.windows.specs.Limits.{most_tiles};
 
 use cyclo_points::motion::Motion;
 use std::alloc::Global;
@@ -14,7 +15,7 @@ use tile_shape::no_memory::NoMemory;
 
 /// The keys of tiles, in order.
 pub(crate) fn sorted_keys(alloc: Global, tiles: &[PlacedTile]) -> Result<Vec<OrderKey>, NoMemory>
-    requires few { length tiles.now ≤ 200000 }
+    requires few { length tiles.now ≤ most_tiles }
     requires fit { All HasKey tiles.now }
     ensures same { IfOk result (λ keys. IsPermutation (own_keys tiles.now) keys.items) }
     ensures sorted { IfOk result (λ keys. IsSorted key_order keys.items) }
@@ -26,7 +27,7 @@ pub(crate) fn sorted_keys(alloc: Global, tiles: &[PlacedTile]) -> Result<Vec<Ord
 
 /// The keys of tiles, in the order of the tiles.
 fn keys(alloc: Global, tiles: &[PlacedTile]) -> Result<Vec<OrderKey>, NoMemory>
-    requires few { length tiles.now ≤ 200000 }
+    requires few { length tiles.now ≤ most_tiles }
     requires fit { All HasKey tiles.now }
     ensures { IfOk result (λ keys. keys.items ≡ own_keys tiles.now) }
 {

@@ -2,6 +2,7 @@
 ghost use Rattle.std.specs.Prelude.{◌≡◌, ◌⊎◌, ◌≤◌, length, Err, IsOk, IfOk, IfErr, OnOk};
 ghost use Rattle.rule_model.specs.Tiling.{tiling_of};
 ghost use Rattle.lazy_walk.specs.Frames.{IsFrameOf, GrowsTo};
+ghost use Rattle.windows.specs.Limits.{most_tiles};
 ghost use Rattle.half_glue.specs.declared.glue_fault.GlueFault.TheVariants.{NoMemory};
 ghost use Rattle.half_glue.specs.Causes.{HasGlueCause};
 ghost use Rattle.half_glue.specs.Depth.{IsLeastForGlue};
@@ -32,7 +33,7 @@ pub(crate) fn paired<L: Ledger>(
     steps: &mut Steps<L>,
 ) -> Result<Pairs, GlueFault>
     requires frame { IsFrameOf (tiling_of machine.now) frame.old }
-    requires few { length tiles.now ≤ 200000 }
+    requires few { length tiles.now ≤ most_tiles }
     requires given { AreGiven (tiling_of machine.now) frame.old tiles.now }
     ensures frame { GrowsTo (tiling_of machine.now) frame.old frame.new }
     ensures paired { IfOk result (λ made. ArePairsOf (tiling_of machine.now) frame.new tiles.now made.crossed.items made.pairs.items) }

@@ -2,6 +2,7 @@
 ghost use Rattle.std.specs.Prelude.{◌≡◌, ◌<◌, ◌≤◌, ◌++◌, length, OnOk};
 ghost use Rattle.half_glue.specs.Found.{IsNumbered};
 ghost use Rattle.half_glue.specs.Pairs.{pair_of, added_pairs, added_tiles};
+ghost use Rattle.windows.specs.Limits.{most_tiles};
 
 use crate::half::Found;
 use tile_place::placed_tile::PlacedTile;
@@ -31,7 +32,7 @@ pub(crate) fn put(
     number: usize,
     found: Found,
 ) -> Result<(), NoMemory>
-    requires few { length tiles.now ≤ 200000 }
+    requires few { length tiles.now ≤ most_tiles }
     requires below { number < length tiles.now }
     requires few_crossed { length made.old.crossed.items ≤ number }
     requires numbered { IsNumbered tiles.now found }

@@ -18,7 +18,8 @@ use Rattle.plane_geom.specs.declared.window.Window.{Window}
 use Rattle.rule_model.specs.Tiling.{Tiling, children}
 use Rattle.tile_place.specs.declared.placed_tile.PlacedTile.{PlacedTile}
 use Rattle.tile_place.specs.Searched.{placed_in}
-use Rattle.window_cover.specs.Limits.{most_tiles, IsWithinLimits}
+use Rattle.window_cover.specs.Limits.{IsWithinLimits}
+use Rattle.windows.specs.Limits.{most_tiles}
 use Rattle.window_cover.specs.Windows.{TileOf, box_of, AreDrawn, IsLeastEnough}
 use Rattle.windows.specs.FramePatch.{frame_patch}
 use Rattle.windows.specs.FrameWindow.{AreAllThatMeet}

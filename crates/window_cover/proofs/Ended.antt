@@ -19,7 +19,7 @@ use Rattle.tile_place.proofs.Plane.{its_rule}
 use Rattle.window_cover.specs.Beyond.{IsNotBeyondEnough}
 use Rattle.window_cover.specs.Found.{CoverValue}
 use Rattle.window_cover.specs.Keys.{keys_from}
-use Rattle.window_cover.specs.Limits.{most_tiles}
+use Rattle.windows.specs.Limits.{most_tiles}
 use Rattle.window_cover.specs.Right.{IsRight, growing}
 use Rattle.window_cover.specs.Windows.{TileOf, box_of, IsLeastEnough}
 use Rattle.window_cover.proofs.Finished.{HasLaws, settled, wide-deep, wide-named, answer, window-within}

@@ -50,7 +50,7 @@ use Rattle.windows.specs.Laws.{OutlineLaw}
 use Rattle.windows.proofs.Members.{same_whole}
 use Rattle.tile_place.specs.declared.order_key.OrderKey.{OrderKey}
 use Rattle.window_cover.specs.Beyond.{IsNotBeyondEnough}
-use Rattle.window_cover.specs.Limits.{most_tiles}
+use Rattle.windows.specs.Limits.{most_tiles}
 use Rattle.window_cover.specs.Checked.{IsChecked}
 use Rattle.window_cover.specs.Found.{Found, address_found, CoverValue}
 use Rattle.window_cover.specs.Lifted.{IsLifted}

@@ -11,7 +11,7 @@ use Rattle.window_cover.specs.Border.{Waiting}
 use Rattle.tile_place.specs.Keys.{FitsKey}
 use Rattle.window_cover.specs.Keys.{HasKey}
 use Rattle.window_cover.specs.Kept.{digits_in, found_in, AreKept, IsKept}
-use Rattle.window_cover.specs.Limits.{most_tiles}
+use Rattle.windows.specs.Limits.{most_tiles}
 
 -- each tile as it is seen has a key
 pub all-found : (all : List Step) (xs : List FoundTile) → {border : List Waiting} → IsKept all xs border → AllByRecursion HasKey (found_in all xs)

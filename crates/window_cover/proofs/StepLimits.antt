@@ -37,7 +37,8 @@ use Rattle.window_cover.specs.Border.{first_of}
 use Rattle.window_cover.specs.Causes.{IsRefusedShift, AreTooMany, HasCause}
 use Rattle.lazy_walk.specs.Crossed.{IsCrossedTo}
 use Rattle.window_cover.specs.Found.{Found, address_found, CoverValue}
-use Rattle.window_cover.specs.Limits.{most_tiles, IsWithinLimits}
+use Rattle.window_cover.specs.Limits.{IsWithinLimits}
+use Rattle.windows.specs.Limits.{most_tiles}
 use Rattle.window_cover.specs.Right.{state_of, growing, IsRight}
 use Rattle.window_cover.specs.SearchLaws.{HasSearchLaws}
 use Rattle.window_cover.specs.Windows.{TileOf, box_of, polygon_of, MeetsWindow, IsOfFrame, IsLeastEnough}

@@ -29,7 +29,8 @@ use Rattle.window_cover.specs.declared.open_edge.OpenEdge.{OpenEdge}
 use Rattle.window_cover.specs.Border.{first_of}
 use Rattle.window_cover.specs.Causes.{IsDepthLimit}
 use Rattle.window_cover.specs.Found.{Found, address_found, CoverValue}
-use Rattle.window_cover.specs.Limits.{most_tiles, IsWithinLimits}
+use Rattle.window_cover.specs.Limits.{IsWithinLimits}
+use Rattle.windows.specs.Limits.{most_tiles}
 use Rattle.window_cover.specs.Right.{name_of, state_of, growing, IsRight}
 use Rattle.window_cover.specs.SearchLaws.{HasSearchLaws}
 use Rattle.window_cover.specs.Windows.{TileOf, box_of, IsLeastEnough}

@@ -18,7 +18,7 @@ use Rattle.windows.specs.Outlines.{MeetsBox}
 use Rattle.window_cover.specs.declared.cover_fault.CoverFault.{CoverFault}
 use Rattle.window_cover.specs.declared.cover_fault.CoverFault.TheVariants.{DepthLimit, CoordLimit, TooManyTiles, NoMemory}
 use Rattle.window_cover.specs.Windows.{TileOf, box_of, MeetsWindow, IsOfFrame}
-use Rattle.window_cover.specs.Limits.{most_tiles}
+use Rattle.windows.specs.Limits.{most_tiles}
 
 -- the frame is at depth 64; the tile meets the window; and so does this edge of it, which is on the boundary of the frame's supertile
 pub record IsDepthLimit (t : Tiling) (f : FrameValue) (w : Window) (addr : Address) (edge : ℕ) : Type 0 where

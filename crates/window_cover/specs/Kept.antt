@@ -8,7 +8,7 @@ use Rattle.window_cover.specs.declared.found_tile.FoundTile.{FoundTile}
 use Rattle.window_cover.specs.Border.{Waiting}
 use Rattle.window_cover.specs.Found.{Found}
 use Rattle.tile_place.specs.Keys.{FitsKey}
-use Rattle.window_cover.specs.Limits.{most_tiles}
+use Rattle.windows.specs.Limits.{most_tiles}
 
 -- its own digits among all
 abbrev pub digits_in : List Step → FoundTile → List TheStep

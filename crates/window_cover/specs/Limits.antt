@@ -1,5 +1,5 @@
 -- Windows within the limits of a frame.
-use Rattle.std.specs.Prelude.{◌≡◌, ℕ, None, length}
+use Rattle.std.specs.Prelude.{◌≡◌, None, length}
 use Rattle.cyclo_points.specs.Order.{points_of, is_refused}
 use Rattle.cyclo_points.specs.Point.{point_in}
 use Rattle.plane_geom.specs.declared.window.Window.{Window}
@@ -8,11 +8,8 @@ use Rattle.lazy_walk.specs.Ancestors.{full}
 use Rattle.lazy_walk.specs.Containing.{first_refused_outward}
 use Rattle.lazy_walk.specs.Frames.{FrameValue}
 use Rattle.windows.specs.FrameWindow.{IsWindowWithin}
+use Rattle.windows.specs.Limits.{most_tiles}
 use Rattle.window_cover.specs.Windows.{box_of}
-
--- the most tiles that a window may have
-abbrev pub most_tiles : ℕ
-most_tiles = 200000
 
 -- none of the values looked at for the centre is refused; some depth is enough; and of the tiles drawn at the least such depth none has a refused shift, and they
 -- are not too many

@@ -17,7 +17,7 @@ use Rattle.windows.specs.SearchState.{SearchState, outlines, IsRightState}
 use Rattle.window_cover.specs.Border.{Waiting}
 use Rattle.window_cover.specs.Packed.{ends_of}
 use Rattle.window_cover.specs.Found.{Found, address_found, CoverValue}
-use Rattle.window_cover.specs.Limits.{most_tiles}
+use Rattle.windows.specs.Limits.{most_tiles}
 use Rattle.window_cover.specs.Windows.{TileOf, box_of, IsWindow}
 
 -- the tiles of the frame as they come while it grows to depth 64; growth changes no name there

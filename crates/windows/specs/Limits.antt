@@ -10,6 +10,10 @@ use Rattle.windows.specs.OpenEdges.{NumberedEdge}
 use Rattle.windows.specs.SearchState.{SearchState, IsRightState}
 use Rattle.windows.specs.PatchWindow.{PatchWindow, LiesAcross}
 
+-- the most tiles that a window of the engine may have
+abbrev pub most_tiles : ℕ
+most_tiles = 200000
+
 -- from depth m on, and with a limit on the number of tiles
 pub record IsWithinLimits (S : Signed) (T : Type 0) (F : GrowingPatch S T) (box : OpenBox S.ops.carrier) (m limit : ℕ) : Type 0 where
   pub depth : ℕ
