@@ -1,6 +1,7 @@
 use Rattle.std.proofs.Common.{◌≡◌, ◌∙◌, ℤ, pos, List, [], ◌∷◌, get_or, sym, arith}
 use Rattle.std.proofs.lemmas.Int.{ints}
-use Rattle.rule_text.proofs.Points.{machine, four, point-found}
+use Rattle.cyclo_points.proofs.Coefficients.{four}
+use Rattle.rule_text.proofs.Points.{machine, point-found}
 use Rattle.rule_text.proofs.ranges.point_of.Goals as goal
 
 pub returns-then-is_small : goal.returns-then-is_small
