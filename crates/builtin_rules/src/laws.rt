@@ -2,7 +2,7 @@
 ghost use Rattle.builtin_rules.specs.declared.name.Name.{Name};
 ghost use Rattle.builtin_rules.specs.AcceptedNames.{IsAcceptedName};
 
-/// The rule of each name is accepted, as it is written down.
+/// Of the rule of each name, as it is written down, all numbers exist and the children fit edge to edge.
 pub fn accepted_names_law()
     ensures { (name : Name) → IsAcceptedName name }
 {}

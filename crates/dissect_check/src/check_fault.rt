@@ -10,7 +10,7 @@ pub enum CheckFault {
     TooMany { what: What },
     /// The prototile isn't star-shaped from its vertex 0.
     NotStar { kind: u8 },
-    /// The inflation factor isn't real and greater than 1, or it grows too slowly.
+    /// The rule's edition doesn't take the inflation factor, or its powers grow too slowly.
     WrongFactor,
     /// The mate's mate isn't the type.
     BadMate { ty: u8 },

@@ -27,6 +27,7 @@ impl Rule {
         requires exists { kind < length (rule_of self.now).kinds }
         ensures none { (result ≡ None) ↔ ((e : ℕ) → ¬ IsGlueEdge (rule_of self.now) kind e) }
         ensures some { IfSome result (λ e. IsGlueEdge (rule_of self.now) kind e) }
+        ensures first { IfSome result (λ e. (f : ℕ) → f < e → ¬ IsGlueEdge (rule_of self.now) kind f) }
     {
         for edge in 0..self.edge_count(kind) {
             if self.is_glued(self.edge_type(kind, edge)) {

@@ -20,3 +20,6 @@ returns-clause-none c = (
   λ _ e g. false≢true (sym (c.loop-edge.invariant e (omega (arith, g.exists, c.edge_count-edge-end.ensures.numbers c.args.self.now.order, c.loop-edge-test.false))) ∙ g.glued),
   λ _. refl,
 )
+
+pub returns-then-is_glued-clause-first : goal.returns-then-is_glued-clause-first
+returns-then-is_glued-clause-first c = λ e before g. false≢true (sym (c.loop-edge.invariant e before) ∙ g.glued)
