@@ -1,5 +1,5 @@
 -- Equations of pairs and of quadruples, coefficient by coefficient: from equations of whole numbers, and from identities of polynomials.
-use Rattle.std.proofs.Common.{◌≡◌, ℤ, Bool, true, false, ◌&&◌, List, refl, ◌+ℤ◌, int_eq, arith}
+use Rattle.std.proofs.Common.{◌≡◌, ℤ, Bool, true, ◌&&◌, List, refl, ◌+ℤ◌, int_eq, arith}
 use Rattle.std.proofs.lemmas.Int.{ints}
 use Rattle.std.proofs.lemmas.Bool.Decides.{Decides-int_eq}
 use Rattle.ordered_ring.specs.Ring.{integers}

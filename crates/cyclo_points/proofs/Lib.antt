@@ -30,6 +30,7 @@ pub mod CoordinateReadings
 pub mod Undoing
 pub mod Roots
 pub mod Floors
+pub mod ShortMultiples
 pub mod Thetas
 pub mod Coefficients
 pub mod SamePoints

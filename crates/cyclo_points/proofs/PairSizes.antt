@@ -1,6 +1,5 @@
 -- The sizes of a point's first two coefficients, where the last two are 0.
-use Rattle.std.proofs.Common.{◌≡◌, ℕ, ℤ, pos, sym, subst, arith}
-use Rattle.std.proofs.lemmas.Int.{ints}
+use Rattle.std.proofs.Common.{◌≡◌, ℕ, ℤ, pos, sym, subst}
 use Rattle.ordered_ring.specs.Surd.{Pair}
 use Rattle.cyclo_points.specs.declared.point.Point.{Point}
 use Rattle.cyclo_points.specs.Point.{coefficient, pair_of, Within, IsWithin}

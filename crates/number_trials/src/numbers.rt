@@ -124,7 +124,7 @@ const SHORT: i128 = 1073741824;
 const SQUARE: i128 = 1329227995784915872903807060280344576;
 
 /// Calls and what they give.
-const ROWS: [(Call, Pair); 47] = [
+const ROWS: [(Call, Pair); 55] = [
     // ζ + ζ^-1 of order ten, and 1 + ζ + ζ^-1 of order eight, are real
     (Call::X(Order::Ten, [1, 0, 1, -1]), (0, 2)),
     (Call::Y(Order::Ten, [1, 0, 1, -1]), (0, 0)),
@@ -226,6 +226,21 @@ const ROWS: [(Call, Pair); 47] = [
     (Call::Y(Order::Six, [MOST, MOST, 0, 0]), (1099511627776, 0)),
     (Call::Product(Order::Six, (1, 0), (-2, 0)), (-2, 0)),
     (Call::Thousandths(Order::Six, (-2, 0)), (-2000, 0)),
+    // on both sides of the size up to which one product of words gives them
+    (Call::Thousandths(Order::Eight, (-7, 32768)), (46333950, 0)),
+    (Call::Thousandths(Order::Eight, (-7, 32769)), (46335364, 0)),
+    (
+        Call::Thousandths(Order::Eight, (-7, -32768)),
+        (-46347951, 0),
+    ),
+    (
+        Call::Thousandths(Order::Eight, (-7, -32769)),
+        (-46349365, 0),
+    ),
+    (Call::Thousandths(Order::Ten, (-7, 32768)), (53012737, 0)),
+    (Call::Thousandths(Order::Ten, (-7, 32769)), (53014355, 0)),
+    (Call::Thousandths(Order::Ten, (-7, -32768)), (-53026738, 0)),
+    (Call::Thousandths(Order::Ten, (-7, -32769)), (-53028356, 0)),
 ];
 
 /// 2^61, the bound of a number whose sign is asked, and 2^25, up to which a number is short.
