@@ -14,7 +14,6 @@ from windows import words_of  # noqa: E402
 LONGEST = 1048576  # bytes of a rule file or a script
 LONGEST_LISTING = 67108864  # bytes
 MOST_LISTED = 200000  # lines of a listing
-MOST_DOTS = 200000  # of a rule file
 SHORT = 20000  # bytes of a rule file that is read here as well
 SHALLOW = 70  # levels of one
 MANY_LINES = 5000  # of a text of `calc`, of a longer one both ends are looked at
@@ -637,8 +636,6 @@ class Wanted:
 
     def of_file(self, command, text):
         """The same over a rule file that is neither known to be accepted nor to be refused."""
-        if text.count(b".") > MOST_DOTS:
-            return ENDS[command] | {3, 4, 11}, None
         fault = file_fault(text)
         if fault:
             return {3}, b"3 RuleRefused %b\n" % fault

@@ -1,13 +1,11 @@
-//! Trials of `rule_text` on rows of files: each key with each fault, faults whose order matters, hostile files, dots, and
-//! the chair both ways, as values typed from outside. There is no other code here.
+//! Trials of `rule_text` on rows of files: each key with each fault, faults whose order matters, hostile files, files with
+//! many dots, and the chair both ways, as values typed from outside. There is no other code here.
 #![tactic(auto)]
 
 #[cfg(test)]
 mod both_ways;
 #[cfg(test)]
 mod chair_rule;
-#[cfg(test)]
-mod dotted;
 #[cfg(test)]
 mod editions;
 #[cfg(test)]
@@ -20,5 +18,7 @@ mod heads;
 mod hostile;
 #[cfg(test)]
 mod kinds;
+#[cfg(test)]
+mod many_dots;
 #[cfg(test)]
 mod types;

@@ -22,16 +22,3 @@ pub mod NarrowDocuments
 pub mod PrintedValues
 pub mod PrintedLines
 pub mod PrintedDocuments
-pub mod DotBytes
-pub mod DotBlanks
-pub mod DotStrings
-pub mod DotNames
-pub mod DotDigits
-pub mod DotWords
-pub mod DotShapes
-pub mod DotNodes
-pub mod DotTables
-pub mod DotValues
-pub mod DotDocuments
-pub mod DotForms
-pub mod DotRules

@@ -1,6 +1,4 @@
 pub mod Limits
-pub mod Regions
-pub mod Dots
 pub mod Forms
 pub mod Ranges
 pub mod Steps

@@ -4,14 +4,12 @@ ghost use Rattle.toml.specs.View.{table_view};
 ghost use Rattle.rule_model.specs.Views.{as_type, as_kind};
 ghost use Rattle.rule_text.specs.Agrees.{ReadsAs};
 ghost use Rattle.rule_text.specs.Document.{type_in, kind_in, types_in, kinds_in, rule_of_members};
-ghost use Rattle.rule_text.specs.Dots.{plain_dots};
 ghost use Rattle.rule_text.specs.File.{document_in, rule_in_file};
-ghost use Rattle.rule_text.specs.Limits.{longest_file, most_dots};
+ghost use Rattle.rule_text.specs.Limits.{longest_file};
 ghost use Rattle.rule_model.specs.Tiling.{listed};
 ghost use Rattle.rule_text.specs.Narrow.{AreNarrow};
 ghost use Rattle.rule_text.specs.Steps.{in_order};
 
-use crate::dots::has_many_dots;
 use crate::further::has_only;
 use crate::key::Key;
 use crate::keys;
@@ -137,9 +135,7 @@ fn rule_of(alloc: Global, table: &Table) -> Result<Rule, TextFault>
 
 /// The rule that a file stands for, or the first fault in the order of its keys: that it is no TOML
 /// document; then `format`, `order`, `lambda` and `glue`; then `type` and each of its entries; then
-/// `kind` and each of its entries; then a further key. Want of memory is answered, without a reading, of a
-/// text with more than 200,000 dots outside comments and strings, each of which may begin a table: the
-/// file of a rule has no such dot.
+/// `kind` and each of its entries; then a further key.
 pub fn read_rule(alloc: Global, bytes: &[u8]) -> Result<Rule, TextFault>
     requires at_most_a_mebibyte { length bytes.now ≤ longest_file }
 
@@ -151,13 +147,7 @@ pub fn read_rule(alloc: Global, bytes: &[u8]) -> Result<Rule, TextFault>
 
     // The bytes are no document exactly where toml refuses them for another cause than memory.
     ensures not_toml { result ≢ Err TextFault.NoMemory → (result ≡ Err TextFault.NotToml) ↔ (document_in bytes.now ≡ None) }
-
-    // A text with too many dots is refused as one that wants too much memory.
-    ensures many_dots { most_dots < plain_dots bytes.now → result ≡ Err TextFault.NoMemory }
 {
-    if has_many_dots(bytes) {
-        return Err(TextFault::NoMemory);
-    }
     match toml::table_from_slice(alloc, bytes) {
         Ok(table) => rule_of(alloc, &table),
         Err(error) if error.is_memory() => Err(TextFault::NoMemory),

@@ -17,8 +17,7 @@ pub enum TextFault {
     OutOfRange { key: Key },
     /// The table has a further key.
     UnknownKey { place: Place },
-    /// No memory was left for the reading, or the text has more than 200,000 dots outside comments and
-    /// strings, so that its tables would take more than the engine allows.
+    /// No memory was left for the reading.
     NoMemory,
 }
 
