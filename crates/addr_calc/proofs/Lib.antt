@@ -2,6 +2,5 @@ pub mod Levels
 pub mod Faults
 pub mod OneAnswer
 pub mod Names
-pub mod Tables
 pub mod Related
 pub mod Scripts

@@ -8,6 +8,7 @@ use Rattle.pair_machine.specs.Between.{Pair as EdgePair}
 use Rattle.pair_machine.proofs.InOrder.{in_order-one}
 use Rattle.rule_model.specs.Tiling.{Tiling, MotionOf, IsPlaced, children}
 use Rattle.tile_place.specs.Crossed.{IsOnlyAcross, LiesOnBoundary, edges_of}
+use Rattle.tile_place.proofs.Plane.{part_along}
 use Rattle.tile_place.specs.Placing.{first_refused}
 use Rattle.tile_place.proofs.OneAcross.{one_across}
 use Rattle.tile_shape.specs.Accepted.{IsAcceptedAddress}
@@ -147,7 +148,7 @@ module _ (one_text : OneText) (short : FitsAreShort) (t : Tiling) (usable : AreU
   -- ---- a statement is done or refused
   inside_or_outside : (names : Bindings) (name edge other own part : ℕ) (after : Bindings) (printed : List ℕ) → Crosses t names name edge other after printed → LiesOutside t names name edge own part → ⊥
   inside_or_outside names name edge other own part after printed h k =
-      h.on_none own part (subst (λ a. LiesOnBoundary t a edge own part) (one_bound names name k.address h.address k.bound h.bound) k.outside.along)
+      h.on_none own (part_along t h.address edge own part (subst (λ a. LiesOnBoundary t a edge own part) (one_bound names name k.address h.address k.bound h.bound) k.outside.along))
 
   edge_or_none : (names : Bindings) (name edge : ℕ) (a : Address) → IsBound names name a → edge < edges_of t a.kind → LacksEdge t names name edge → ⊥
   edge_or_none names name edge a bound exists k =

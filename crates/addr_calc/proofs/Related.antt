@@ -4,8 +4,6 @@ use Rattle.addressing.specs.Address.{Address, Fits}
 use Rattle.addressing.specs.Coherent.{IsCoherent}
 use Rattle.addressing.specs.Tables.{Tables, child_kinds}
 use Rattle.addressing.specs.Touch.{Touches}
-use Rattle.addressing.proofs.EdgesOf.{edge_has_type}
-use Rattle.addressing.proofs.TableBounds.{type_bounds}
 use Rattle.addressing.proofs.Touching.{only_touching, Touches-sym}
 use Rattle.pair_machine.specs.Between.{Pair, IsBetween}
 use Rattle.pair_machine.specs.Verdicts.{IsVerdict}
@@ -17,6 +15,7 @@ use Rattle.pair_machine.proofs.Leaving.{touch_edge}
 use Rattle.rule_model.specs.declared.rule.Rule.{Rule}
 use Rattle.rule_model.specs.Tiling.{tiling_of, contacts, children}
 use Rattle.tile_place.specs.Crossed.{IsOnlyAcross, edges_of}
+use Rattle.tile_place.proofs.KindEdges.{edge_typed}
 use Rattle.tile_place.proofs.Plane.{OnlyTilesLaw, IsSettled, its_rule, fits_tables, has_edge}
 use Rattle.addr_calc.specs.Relation.{AreAllAcross, IsRelation}
 use Rattle.addr_calc.specs.Views.{relation_of}
@@ -41,23 +40,23 @@ module _ (m : Rule) (settled : IsSettled m) (law : OnlyTilesLaw m.order) (cohere
   across : (e f : ℕ) → Touches t a e b f → IsOnlyAcross (tiling_of m) a e b f
   across e f h =
       let edge = touch_edge t a b e f coherent fits h in
-      (law (its_rule m settled) a b e f (has_edge m settled a e fits edge) fits').0 (only_touching a b e f coherent fits edge h fits')
+      (law (its_rule m settled) a b e f (has_edge m settled a e fits ((edge_typed (tiling_of m) a.kind e).0 edge)) fits').0 (only_touching a b e f coherent fits edge h fits')
 
   back : (e f : ℕ) → Touches t a e b f → IsOnlyAcross (tiling_of m) b f a e
   back e f h =
       let there = Touches-sym a b coherent fits fits' (touch_edge t a b e f coherent fits h) h in
       let edge = touch_edge t b a f e coherent fits' there in
-      (law (its_rule m settled) b a f e (has_edge m settled b f fits' edge) fits).0 (only_touching b a f e coherent fits' edge there fits)
+      (law (its_rule m settled) b a f e (has_edge m settled b f fits' ((edge_typed (tiling_of m) b.kind f).0 edge)) fits).0 (only_touching b a f e coherent fits' edge there fits)
 
   -- and the other way round
   touches : (e f : ℕ) → e < edges_of (tiling_of m) a.kind → IsOnlyAcross (tiling_of m) a e b f → Touches t a e b f
-  touches e f exists h = ((law (its_rule m settled) a b e f (has_edge m settled a e fits (edge_has_type t a.kind e exists)) fits').1 h).touched
+  touches e f exists h = ((law (its_rule m settled) a b e f (has_edge m settled a e fits exists) fits').1 h).touched
 
   all_across : (pairs : List Pair) → IsBetween t a b pairs → AreAllAcross (tiling_of m) a b pairs
   all_across pairs h = record {
     in_order = h.in_order;
     only_across = λ e f. (
-      λ i. let touch = (h.touching e f).0 i in ((type_bounds t a.kind e (touch_edge t a b e f coherent fits touch)).1, across e f touch),
+      λ i. let touch = (h.touching e f).0 i in ((edge_typed (tiling_of m) a.kind e).0 (touch_edge t a b e f coherent fits touch), across e f touch),
       λ x. (h.touching e f).1 (touches e f x.0 x.1),
     );
     leads_back = λ e f i. back e f ((h.touching e f).0 i);

@@ -2,7 +2,7 @@
 use Rattle.std.specs.Prelude.{◌≡◌, ℕ, ◌<◌, List, [], Option, None, Ok}
 use Rattle.addressing.specs.Address.{Address}
 use Rattle.rule_model.specs.Tiling.{Tiling, MotionOf, IsPlaced, children}
-use Rattle.tile_place.specs.Crossed.{IsOnlyAcross, LiesOnBoundary, edges_of}
+use Rattle.tile_place.specs.Crossed.{IsOnlyAcross, LiesAlongNone, edges_of}
 use Rattle.tile_place.specs.Placing.{first_refused}
 use Rattle.tile_shape.specs.Accepted.{IsAcceptedAddress}
 use Rattle.tile_shape.specs.Text.{address_text}
@@ -45,7 +45,7 @@ pub record Crosses (t : Tiling) (names : Bindings) (name edge other : ℕ) (afte
   pub address : Address
   pub bound : IsBound names name address
   pub exists : edge < edges_of t address.kind
-  pub on_none : (top part : ℕ) → LiesOnBoundary t address edge top part → ⊥
+  pub on_none : LiesAlongNone t address edge
   pub across : Address
   pub back : ℕ
   pub only_across : IsOnlyAcross t address edge across back

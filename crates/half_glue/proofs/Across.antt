@@ -10,15 +10,16 @@ use Rattle.addressing.proofs.Touching.{only_touching, Touches-sym, IsMated-of}
 use Rattle.substitution.specs.Points.{Points}
 use Rattle.substitution.specs.RuleParts.{mate}
 use Rattle.edge_to_edge.proofs.CoherentContacts.{contacts-coherent}
-use Rattle.edge_to_edge.proofs.TablesOf.{type_of-at, type_of-found, mate_of-found}
+use Rattle.edge_to_edge.proofs.TablesOf.{type_of-found, mate_of-found}
 use Rattle.cyclo_points.specs.Order.{points_of, is_refused}
 use Rattle.cyclo_points.proofs.OrderLaws.{laws_of}
 use Rattle.rule_model.specs.declared.rule.Rule.{Rule}
 use Rattle.rule_model.specs.Glue.{IsGlueEdge}
 use Rattle.rule_model.specs.Tiling.{Tiling, tiling_of, contacts, children}
 use Rattle.rule_model.specs.Views.{rule_of, as_edition}
-use Rattle.tile_place.specs.Crossed.{placed_tile, IsOnlyAcross}
-use Rattle.tile_place.proofs.Plane.{its_rule, fits_tables, has_edge}
+use Rattle.tile_place.specs.Crossed.{edges_of, placed_tile, IsOnlyAcross}
+use Rattle.tile_place.proofs.KindEdges.{edge_typed}
+use Rattle.tile_place.proofs.Plane.{its_rule, fits_tables, has_edge, on_some_part}
 use Rattle.lazy_walk.specs.Boundary.{IsBoundaryEdge}
 use Rattle.lazy_walk.specs.Paths.{Crosses}
 use Rattle.half_glue.specs.Checked.{HasGlueLaws}
@@ -36,13 +37,13 @@ module _ (m : Rule) (L : HasGlueLaws m) where
   coherent = contacts-coherent P (laws_of m.order) (as_edition m.edition) (is_refused m.order) (rule_of m) L.usable.numbered L.accepted.edge_to_edge
 
   -- a glue edge is an edge
-  pub glue-edge-there : (k e : ℕ) → IsGlueEdge t.rule k e → IsSome (type_of (contacts t) k e)
-  glue-edge-there k e g = subst IsSome (sym (type_of-at P (rule_of m) k e g.exists)) refl
+  pub glue-edge-there : (k e : ℕ) → IsGlueEdge t.rule k e → e < edges_of t k
+  glue-edge-there k e g = g.exists
 
   pub kind-there : (a : Address) → Fits (children t) a → a.kind < length t.rule.kinds
   kind-there a fits = subst (λ n. a.kind < n) (length-map t.rule.kinds _) fits.kind_exists
 
-  module _ (a b : Address) (e f : ℕ) (fits_a : Fits (children t) a) (fits_b : Fits (children t) b) (edge : IsSome (type_of (contacts t) a.kind e)) (x : IsOnlyAcross t a e b f) where
+  module _ (a b : Address) (e f : ℕ) (fits_a : Fits (children t) a) (fits_b : Fits (children t) b) (edge : e < edges_of t a.kind) (x : IsOnlyAcross t a e b f) where
     own_a : Fits (child_kinds (contacts t)) a
     own_a = fits_tables m (settled m L) a fits_a
 
@@ -52,20 +53,26 @@ module _ (m : Rule) (L : HasGlueLaws m) where
     touches : Touches (contacts t) a e b f
     touches = ((L.across (its_rule m (settled m L)) a b e f (has_edge m (settled m L) a e own_a edge) own_b).1 x).touched
 
-    mated : IsMated (contacts t) a.kind e b.kind f
-    mated = IsMated-of a b coherent own_a own_b edge touches
+    typed : IsSome (type_of (contacts t) a.kind e)
+    typed = (edge_typed t a.kind e).1 edge
 
-    back_edge : IsSome (type_of (contacts t) b.kind f)
-    back_edge = subst IsSome (sym mated.other_is) refl
+    mated : IsMated (contacts t) a.kind e b.kind f
+    mated = IsMated-of a b coherent own_a own_b typed touches
+
+    back_typed : IsSome (type_of (contacts t) b.kind f)
+    back_typed = subst IsSome (sym mated.other_is) refl
+
+    back_edge : f < edges_of t b.kind
+    back_edge = (edge_typed t b.kind f).0 back_typed
 
     across-back : IsOnlyAcross t b f a e
     across-back =
         (L.across (its_rule m (settled m L)) b a f e (has_edge m (settled m L) b f own_b back_edge) own_a).0
-        (only_touching b a f e coherent own_b back_edge (Touches-sym a b coherent own_a own_b edge touches) own_a)
+        (only_touching b a f e coherent own_b back_typed (Touches-sym a b coherent own_a own_b typed touches) own_a)
 
     inside : ¬ IsBoundaryEdge t a e
     inside on = elim (L.crossing (its_rule m (settled m L)) a e (has_edge m (settled m L) a e own_a edge)) [
-      | inl c ↦ c.inside on.own on.part on.lies
+      | inl c ↦ let at = on_some_part m (settled m L) a e fits_a edge on.own on.along in c.inside on.own at.0 at.1
       | inr o ↦ o.none (placed_tile t b) f x.across
     ]
 
@@ -80,6 +87,6 @@ module _ (m : Rule) (L : HasGlueLaws m) where
         other-edge t.rule L.accepted.edge_to_edge.glue_right L.accepted.edge_to_edge.mates_back L.usable.numbered.glue_exists a.kind e b.kind f (kind-there a fits_a) g its.0
         (sym its.1 ∙ mates.1 ∙ ap (mate (rule_of m)) own.1)
 
-  pub crosses-back : (a b : Address) (e f : ℕ) → Fits (children t) a → Fits (children t) b → IsSome (type_of (contacts t) a.kind e) → IsOnlyAcross t a e b f → Crosses t b f a e
+  pub crosses-back : (a b : Address) (e f : ℕ) → Fits (children t) a → Fits (children t) b → e < edges_of t a.kind → IsOnlyAcross t a e b f → Crosses t b f a e
   crosses-back a b e f fits_a fits_b edge x =
       crosses b a f e fits_b fits_a (back_edge a b e f fits_a fits_b edge x) (across-back a b e f fits_a fits_b edge x)

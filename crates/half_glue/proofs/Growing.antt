@@ -1,16 +1,16 @@
 -- Tiles of a frame that grows: what is across stays across, and what is inside stays inside.
-use Rattle.std.proofs.Common.{◌≡◌, ℕ, ◌≤◌, ◌++◌, length, take, drop, refl, sym, ap, ap₂, ◌∙◌, subst, IsSome}
+use Rattle.std.proofs.Common.{◌≡◌, ℕ, ◌<◌, ◌≤◌, ◌++◌, length, take, drop, refl, sym, ap, ap₂, ◌∙◌, subst}
 use Rattle.std.proofs.lemmas.List.{take_at}
 use Rattle.std.proofs.Math.Seq.{drop-append_seam}
 use Rattle.addressing.specs.Address.{Address, depth, Fits}
-use Rattle.addressing.specs.Tables.{type_of}
 use Rattle.substitution.specs.Points.{Points}
 use Rattle.cyclo_points.specs.Order.{points_of}
 use Rattle.frames.specs.Frame.{at_level, IsTileOf, StandsInFrame, lifted_in}
 use Rattle.frames.proofs.Carried.{some_turn}
 use Rattle.frames.proofs.Frames.{IsWhole, lifted-whole, lifted-stands}
 use Rattle.rule_model.specs.declared.rule.Rule.{Rule}
-use Rattle.rule_model.specs.Tiling.{Tiling, MotionOf, tiling_of, contacts, children}
+use Rattle.rule_model.specs.Tiling.{Tiling, MotionOf, tiling_of, children}
+use Rattle.tile_place.specs.Crossed.{edges_of}
 use Rattle.tile_place.proofs.Plane.{IsSettled}
 use Rattle.lazy_walk.specs.Boundary.{IsBoundaryEdge}
 use Rattle.lazy_walk.specs.Frames.{FrameValue, whole, IsFrameOf, GrowsTo}
@@ -67,7 +67,7 @@ module _ (m : Rule) (L : HasGlueLaws m) (g h : FrameValue) (is : IsFrameOf (tili
         (subst (λ y. StandsInFrame P t.rule y a n) (sym (ap (at_level (whole h)) own.same_depth ∙ level-is)) stands)
 
     -- an edge that is on the boundary was so before
-    pub boundary-before : (e : ℕ) → IsSome (type_of (contacts t) a.kind e) → IsBoundaryEdge t (lifted_in (whole h) a) e → IsBoundaryEdge t a e
+    pub boundary-before : (e : ℕ) → e < edges_of t a.kind → IsBoundaryEdge t (lifted_in (whole h) a) e → IsBoundaryEdge t a e
     boundary-before e edge on =
         let same = tile-is a own.same_depth in
         inside-longer m (settled m L) L.across L.boundary a e above.more own.fits (subst (Fits (children t)) same whole-on.fits) edge (subst (λ y. IsBoundaryEdge t y e) same on)

@@ -1,8 +1,7 @@
 -- Tiles given, lifted, and the tiles across their glue edges.
-use Rattle.std.proofs.Common.{◌≡◌, ℕ, ◌<◌, ◌^◌, IsSome, Bool, true, false, [], ◌++◌, length, drop, refl, sym, ap, ◌∙◌, subst, arith, append-nil}
+use Rattle.std.proofs.Common.{◌≡◌, ℕ, ◌<◌, ◌^◌, Bool, true, false, [], ◌++◌, length, drop, refl, sym, ap, ◌∙◌, subst, arith, append-nil}
 use Rattle.std.proofs.Math.Seq.{drop-length}
 use Rattle.addressing.specs.Address.{Address, depth}
-use Rattle.addressing.specs.Tables.{type_of}
 use Rattle.substitution.specs.Points.{Points}
 use Rattle.cyclo_points.specs.declared.point.Point.{Point}
 use Rattle.cyclo_points.specs.Order.{points_of, is_refused}
@@ -13,9 +12,9 @@ use Rattle.frames.specs.Frame.{StandsInFrame, lifted_in}
 use Rattle.frames.proofs.Frames.{IsWhole, lifted-whole}
 use Rattle.rule_model.specs.declared.rule.Rule.{Rule}
 use Rattle.rule_model.specs.Glue.{IsGlueEdge, IsOnlyGlueEdge}
-use Rattle.rule_model.specs.Tiling.{Tiling, MotionOf, tiling_of, contacts, children}
+use Rattle.rule_model.specs.Tiling.{Tiling, MotionOf, tiling_of, children}
 use Rattle.rule_model.proofs.Glue.{one_glue_edge}
-use Rattle.tile_place.specs.Crossed.{IsOnlyAcross}
+use Rattle.tile_place.specs.Crossed.{edges_of, IsOnlyAcross}
 use Rattle.tile_place.specs.declared.placed_tile.PlacedTile.{PlacedTile}
 use Rattle.tile_place.proofs.EachOrder.{order-fits}
 use Rattle.tile_shape.specs.Views.{address_of}
@@ -81,7 +80,7 @@ module _ (m : Rule) (L : HasGlueLaws m) where
     pub given-whole : IsWhole (children t) (whole f) a
     given-whole = lifted-whole (children t) (whole f) (address_of x.addr) (whole-fits t L.still_fits f is) given.of_frame
 
-    pub glue-edge-of : (e : ℕ) → IsGlueEdge t.rule x.kind e → IsSome (type_of (contacts t) a.kind e)
+    pub glue-edge-of : (e : ℕ) → IsGlueEdge t.rule x.kind e → e < edges_of t a.kind
     glue-edge-of e g = glue-edge-there m L a.kind e (subst (λ k. IsGlueEdge t.rule k e) given.its_kind g)
 
     pub its-kind-there : x.kind < length t.rule.kinds

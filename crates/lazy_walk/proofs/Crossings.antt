@@ -1,14 +1,14 @@
 -- What a crossing in a frame answers: a tile of the frame, or an edge on the boundary at each depth.
-use Rattle.std.proofs.Common.{◌≡◌, ℕ, ◌+◌, ◌<◌, ◌≤◌, inl, inr, Some, IsSome, length, sym, ap, ◌∙◌, subst, arith}
+use Rattle.std.proofs.Common.{◌≡◌, ℕ, ◌+◌, ◌<◌, ◌≤◌, inl, inr, Some, length, sym, ap, ◌∙◌, subst, arith}
 use Rattle.std.proofs.lemmas.Bool.{cases_lt}
 use Rattle.addressing.specs.Across.{IsAcross}
 use Rattle.addressing.specs.Address.{Address, depth, top_kind, kind_at, Fits}
-use Rattle.addressing.specs.Tables.{type_of}
 use Rattle.frames.specs.Frame.{IsTileOf, lifted_in}
 use Rattle.frames.proofs.Frames.{IsWhole, lifted-whole, kind_at-top}
 use Rattle.rule_model.specs.declared.rule.Rule.{Rule}
 use Rattle.rule_model.specs.Tiling.{tiling_of, contacts, children}
-use Rattle.tile_place.proofs.Plane.{BoundariesLaw, IsSettled, boundary_lies}
+use Rattle.tile_place.specs.Crossed.{edges_of, LiesOnBoundary}
+use Rattle.tile_place.proofs.Plane.{BoundariesLaw, IsSettled, on_some_part, boundary_lies}
 use Rattle.lazy_walk.specs.Boundary.{IsBoundaryEdge}
 use Rattle.lazy_walk.specs.Frames.{FrameValue, whole, at_depth, IsFrameOf, GrowsTo, lifted_at}
 use Rattle.lazy_walk.proofs.Walks.{StillFits, whole-fits, later, at_depth-depth}
@@ -41,14 +41,22 @@ module _ (m : Rule) (fits : StillFits (children (tiling_of m))) (f : FrameValue)
       same_top : top_kind b ≡ top_kind (whole g)
       same_top = sym (touching-top (contacts (tiling_of m)) (lifted_in (whole g) a) b e back x.only.touched) ∙ own.same_top
 
-  module _ (settled : IsSettled m) (law : BoundariesLaw m.order) (e : ℕ) (edge : IsSome (type_of (contacts (tiling_of m)) a.kind e)) where
+  -- where one of its edges is on the boundary, it lies on some part
+  pub boundary-part : IsSettled m → (e : ℕ) → e < edges_of (tiling_of m) a.kind → (g : FrameValue) → GrowsTo (tiling_of m) f g → IsBoundaryEdge (tiling_of m) (lifted_in (whole g) a) e
+      → (own : ℕ) × (part : ℕ) × LiesOnBoundary (tiling_of m) (lifted_in (whole g) a) e own part
+  boundary-part settled e edge g h on =
+      let at = on_some_part m settled (lifted_in (whole g) a) e (lifted-is_whole g h).fits edge on.own on.along in
+      (on.own, at.0, at.1)
+
+  module _ (settled : IsSettled m) (law : BoundariesLaw m.order) (e : ℕ) (edge : e < edges_of (tiling_of m) a.kind) where
     -- an edge that is on the boundary at depth 64 lies on it by the tables in each frame before
     pub traced-before : (g : FrameValue) → GrowsTo (tiling_of m) f g → IsBoundaryEdge (tiling_of m) (lifted_at (tiling_of m) f a 64) e → IsTraced (contacts (tiling_of m)) (lifted_in (whole g) a) e
     traced-before g h on =
         let full : GrowsTo (tiling_of m) f (at_depth (tiling_of m) 64 f) = later (tiling_of m) f 64 is is.at_most_64 (omega arith) in
-        let lies = boundary_lies m settled (lifted_at (tiling_of m) f a 64) e (lifted-is_whole (at_depth (tiling_of m) 64 f) full).fits edge law on.own on.part on.lies in
+        let at = boundary-part settled e edge (at_depth (tiling_of m) 64 f) full on in
+        let lies = boundary_lies m settled (lifted_at (tiling_of m) f a 64) e (lifted-is_whole (at_depth (tiling_of m) 64 f) full).fits edge law at.0 at.1 at.2 in
         subst (λ x. IsTraced (contacts (tiling_of m)) x e) (sym (lifted-later (tiling_of m) f g a h))
-        (traced-below (tiling_of m) f a e (length g.digits) 64 (omega (arith, is.holds_base, h.no_shallower)) (omega (arith, of.no_deeper, h.no_shallower)) h.is_frame.at_most_64 (on.own, on.part, lies))
+        (traced-below (tiling_of m) f a e (length g.digits) 64 (omega (arith, is.holds_base, h.no_shallower)) (omega (arith, of.no_deeper, h.no_shallower)) h.is_frame.at_most_64 (at.0, at.1, lies))
 
   -- an edge on the boundary in the frame as it is now, and at each depth before
   pub before-and_now : (g k : FrameValue) (e : ℕ) → GrowsTo (tiling_of m) f g → k ≡ at_depth (tiling_of m) (length g.digits + 1) g

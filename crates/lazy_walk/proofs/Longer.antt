@@ -1,9 +1,9 @@
 -- A longer coarse end changes no crossing: what is across stays across, and what is inside stays inside.
-use Rattle.std.proofs.Common.{ℕ, ◌+◌, ◌<◌, IsSome, List, [], ◌∷◌, ◌++◌, length, refl, sym, ap, ◌∙◌, subst, arith, length-append}
+use Rattle.std.proofs.Common.{ℕ, ◌+◌, ◌<◌, List, [], ◌∷◌, ◌++◌, length, refl, sym, ap, ◌∙◌, subst, arith, length-append}
 use Rattle.std.proofs.lemmas.List.{drop-append-le, take-append-le}
 use Rattle.std.proofs.lemmas.Option.{slice_get_within}
 use Rattle.addressing.specs.Address.{Step, Address, Climbs, Fits}
-use Rattle.addressing.specs.Tables.{Tables, type_of}
+use Rattle.addressing.specs.Tables.{Tables}
 use Rattle.addressing.specs.Touch.{Touches}
 use Rattle.addressing.specs.Trace.{IsTrace, first_part}
 use Rattle.addressing.specs.Coherent.{IsCoherent}
@@ -16,7 +16,9 @@ use Rattle.frames.proofs.Frames.{IsWhole, Climbs-join, Climbs-split}
 use Rattle.rule_model.specs.declared.rule.Rule.{Rule}
 use Rattle.rule_model.specs.Tiling.{Tiling, tiling_of, contacts, children}
 use Rattle.rule_model.specs.Views.{rule_of, as_edition}
-use Rattle.tile_place.proofs.Plane.{OnlyTilesLaw, BoundariesLaw, IsSettled, its_rule, fits_tables, has_edge, boundary_lies}
+use Rattle.tile_place.specs.Crossed.{edges_of}
+use Rattle.tile_place.proofs.KindEdges.{edge_typed}
+use Rattle.tile_place.proofs.Plane.{OnlyTilesLaw, BoundariesLaw, IsSettled, its_rule, fits_tables, has_edge, part_along, on_some_part, boundary_lies}
 use Rattle.lazy_walk.specs.Boundary.{IsBoundaryEdge}
 use Rattle.lazy_walk.specs.Paths.{Crosses, Leads}
 use Rattle.lazy_walk.proofs.Lifting.{trace-front, touching-top}
@@ -75,15 +77,16 @@ module _ (m : Rule) (settled : IsSettled m) (law : OnlyTilesLaw m.order) where
 
   module _ (bounds : BoundariesLaw m.order) where
     -- an edge of a tile that is inside stays inside in each larger supertile
-    pub inside-longer : (a : Address) (e : ℕ) (more : List Step) → Fits (children (tiling_of m)) a → Fits (children (tiling_of m)) (further_up a more) → IsSome (type_of (contacts (tiling_of m)) a.kind e)
+    pub inside-longer : (a : Address) (e : ℕ) (more : List Step) → Fits (children (tiling_of m)) a → Fits (children (tiling_of m)) (further_up a more) → e < edges_of (tiling_of m) a.kind
         → IsBoundaryEdge (tiling_of m) (further_up a more) e → IsBoundaryEdge (tiling_of m) a e
     inside-longer a e more fits fits' edge on =
-        let lies = boundary_lies m settled (further_up a more) e fits' edge bounds on.own on.part on.lies in
+        let part = on_some_part m settled (further_up a more) e fits' edge on.own on.along in
+        let lies = boundary_lies m settled (further_up a more) e fits' edge bounds on.own part.0 part.1 in
         let fine = trace-front (contacts (tiling_of m)) e a.digits more on.own lies.cuts lies.trace in
         record {
           own = fine.0;
-          part = first_part fine.1;
-          lies = (bounds (its_rule m settled) a e fine.0 (first_part fine.1) (has_edge m settled a e (fits_tables m settled a fits) edge)).1 (fine.1, fine.2, refl);
+          along = part_along (tiling_of m) a e fine.0 (first_part fine.1)
+              ((bounds (its_rule m settled) a e fine.0 (first_part fine.1) (has_edge m settled a e (fits_tables m settled a fits) edge)).1 (fine.1, fine.2, refl));
         }
 
     pub Crosses-longer : (a b : Address) (e f : ℕ) (more : List Step) → Fits (children (tiling_of m)) a → Fits (children (tiling_of m)) (further_up a more) → Fits (children (tiling_of m)) (further_up b more)
@@ -94,7 +97,7 @@ module _ (m : Rule) (settled : IsSettled m) (law : OnlyTilesLaw m.order) where
       fits = b_fits;
       across = (law (its_rule m settled) (further_up a more) (further_up b more) e f (has_edge m settled (further_up a more) e (fits_tables m settled (further_up a more) a_fits) h.edge_exists)
           (fits_tables m settled (further_up b more) b_fits)).0
-          (only_touching (further_up a more) (further_up b more) e f coherent (fits_tables m settled (further_up a more) a_fits) h.edge_exists
+          (only_touching (further_up a more) (further_up b more) e f coherent (fits_tables m settled (further_up a more) a_fits) ((edge_typed (tiling_of m) a.kind e).1 h.edge_exists)
           (Touches-longer (contacts (tiling_of m)) a b e f more (touches a b e f fits h)) (fits_tables m settled (further_up b more) b_fits));
     }
 

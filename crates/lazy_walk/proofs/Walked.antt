@@ -1,15 +1,15 @@
 -- Going along a path from the base of a frame that grows.
-use Rattle.std.proofs.Common.{◌≡◌, ℕ, zero, suc, ◌+◌, ◌-◌, ◌<◌, ◌≤◌, inl, inr, Some, IsSome, List, [], ◌∷◌, ◌++◌, length, get_or, take, drop, refl, sym, ap, ap₂, ◌∙◌, subst, arith, append_assoc}
+use Rattle.std.proofs.Common.{◌≡◌, ℕ, zero, suc, ◌+◌, ◌-◌, ◌<◌, ◌≤◌, inl, inr, Some, List, [], ◌∷◌, ◌++◌, length, get_or, take, drop, refl, sym, ap, ap₂, ◌∙◌, subst, arith, append_assoc}
 use Rattle.std.proofs.lemmas.Bool.{cases_lt}
 use Rattle.std.proofs.Math.Seq.{drop-append_seam}
 use Rattle.addressing.specs.Address.{Step, Address, depth, top_kind, kind_at, Fits}
-use Rattle.addressing.specs.Tables.{type_of}
 use Rattle.frames.specs.Growth.{grown_from}
 use Rattle.frames.specs.Frame.{IsTileOf, lifted_in}
 use Rattle.frames.proofs.Frames.{IsWhole, kind_at-top}
 use Rattle.rule_model.specs.declared.rule.Rule.{Rule}
-use Rattle.rule_model.specs.Tiling.{Tiling, tiling_of, contacts, children}
+use Rattle.rule_model.specs.Tiling.{Tiling, tiling_of, children}
 use Rattle.seeded_growth.specs.Words.{word}
+use Rattle.tile_place.specs.Crossed.{edges_of}
 use Rattle.tile_place.proofs.Plane.{OnlyTilesLaw, BoundariesLaw, IsSettled}
 use Rattle.tile_shape.specs.Usable.{AreUsable}
 use Rattle.tile_shape.specs.UsesInOrder.{uses_in_order}
@@ -135,7 +135,7 @@ module _ (m : Rule) (laws : HasLaws m) where
     comes_at_64 e path rest split = record { front = front; rest = rest; split = split; leads = leads_at 64 h.grows.is_frame.at_most_64 (omega arith) }
 
     -- up to the depth at which the next edge is crossed, or refused, the path is stopped
-    pub stops_before : (g : FrameValue) (e : ℕ) → IsSome (type_of (contacts (tiling_of m)) a.kind e) → GrowsTo (tiling_of m) f g → ((n : ℕ) → length f.digits ≤ n → n < length g.digits → IsBoundaryEdge (tiling_of m) (lifted_at (tiling_of m) f a n) e)
+    pub stops_before : (g : FrameValue) (e : ℕ) → e < edges_of (tiling_of m) a.kind → GrowsTo (tiling_of m) f g → ((n : ℕ) → length f.digits ≤ n → n < length g.digits → IsBoundaryEdge (tiling_of m) (lifted_at (tiling_of m) f a n) e)
         → (n : ℕ) (rest : List ℕ) → length old.digits ≤ n → n < length g.digits → IsStopped (tiling_of m) (whole (at_depth (tiling_of m) n old)) (front ++ e ∷ rest)
     stops_before g e edge more least n rest l below = elim (cases_lt n (length f.digits)) [
       | inl j ↦ h.before n (e ∷ rest) l j

@@ -2,10 +2,9 @@
 use Rattle.std.specs.Prelude.{ℕ}
 use Rattle.addressing.specs.Address.{Address}
 use Rattle.rule_model.specs.Tiling.{Tiling}
-use Rattle.tile_place.specs.Crossed.{LiesOnBoundary}
+use Rattle.tile_place.specs.Crossed.{LiesAlong}
 
 -- edge e of a lies along some edge of its supertile's polygon
 pub record IsBoundaryEdge (t : Tiling) (a : Address) (e : ℕ) : Type 0 where
   pub own : ℕ
-  pub part : ℕ
-  pub lies : LiesOnBoundary t a e own part
+  pub along : LiesAlong t a e own

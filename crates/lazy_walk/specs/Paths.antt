@@ -1,14 +1,13 @@
 -- Paths: numbers of edges, each crossed from the tile to which those before it lead.
-use Rattle.std.specs.Prelude.{◌≡◌, ℕ, ◌≤◌, IsSome, List, [], ◌∷◌, ◌++◌}
+use Rattle.std.specs.Prelude.{◌≡◌, ℕ, ◌<◌, ◌≤◌, List, [], ◌∷◌, ◌++◌}
 use Rattle.addressing.specs.Address.{Address, Fits}
-use Rattle.addressing.specs.Tables.{type_of}
-use Rattle.rule_model.specs.Tiling.{Tiling, contacts, children}
+use Rattle.rule_model.specs.Tiling.{Tiling, children}
 use Rattle.tile_place.specs.Crossed.{IsOnlyAcross, edges_of}
 use Rattle.lazy_walk.specs.Boundary.{IsBoundaryEdge}
 
 -- edge e of the tile a exists and is inside the supertile; the tile b is across it, with its edge f, and no other is
 pub record Crosses (t : Tiling) (a : Address) (e : ℕ) (b : Address) (f : ℕ) : Type 0 where
-  pub edge_exists : IsSome (type_of (contacts t) a.kind e)
+  pub edge_exists : e < edges_of t a.kind
   pub inside : ¬ IsBoundaryEdge t a e
   pub fits : Fits (children t) b
   pub across : IsOnlyAcross t a e b f
@@ -32,7 +31,7 @@ pub record ComesTo (t : Tiling) (a : Address) (path : List ℕ) (b : Address) (e
 -- it is stopped there, since that edge exists and is on the boundary
 pub record IsStoppedAt (t : Tiling) (a : Address) (path : List ℕ) (b : Address) (e : ℕ) : Type 0 where
   pub comes : ComesTo t a path b e
-  pub edge_exists : IsSome (type_of (contacts t) b.kind e)
+  pub edge_exists : e < edges_of t b.kind
   pub on_boundary : IsBoundaryEdge t b e
 
 -- it is stopped at some tile

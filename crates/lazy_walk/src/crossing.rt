@@ -1,11 +1,10 @@
 //! Crossing edges in a frame that grows.
-ghost use Rattle.std.specs.Prelude.{◌≡◌, ◌↔◌, ◌<◌, ◌≤◌, ℕ, length, IsSome, IsErr, IfOk, IfErr, OnErr};
+ghost use Rattle.std.specs.Prelude.{◌≡◌, ◌↔◌, ◌<◌, ◌≤◌, ℕ, length, IsErr, IfOk, IfErr, OnErr};
 ghost use Rattle.addressing.specs.Across.{IsAcross};
 ghost use Rattle.addressing.specs.Address.{depth};
-ghost use Rattle.addressing.specs.Tables.{type_of};
 ghost use Rattle.frames.specs.Frame.{IsTileOf, lifted_in};
 ghost use Rattle.rule_model.specs.Tiling.{tiling_of, contacts, children};
-ghost use Rattle.tile_place.specs.Crossed.{IsOnlyAcross};
+ghost use Rattle.tile_place.specs.Crossed.{edges_of, IsOnlyAcross};
 ghost use Rattle.tile_shape.specs.Views.{address_of};
 ghost use Rattle.lazy_walk.specs.Boundary.{IsBoundaryEdge};
 ghost use Rattle.lazy_walk.specs.Frames.{whole, IsFrameOf, GrowsTo, lifted_at};
@@ -31,7 +30,7 @@ impl Frame {
     ) -> Result<Crossing, DepthLimit>
         requires frame { IsFrameOf (tiling_of machine.now) self.old }
         requires of_frame { IsTileOf (children (tiling_of machine.now)) (whole self.old) (address_of tile.now) }
-        requires edge_exists { IsSome (type_of (contacts (tiling_of machine.now)) tile.now.kind edge) }
+        requires edge_exists { edge < edges_of (tiling_of machine.now) tile.now.kind }
 
         ensures frame { GrowsTo (tiling_of machine.now) self.old self.new }
 
@@ -73,7 +72,7 @@ impl Frame {
     ) -> Result<u8, DepthLimit>
         requires frame { IsFrameOf (tiling_of machine.now) self.old }
         requires of_frame { IsTileOf (children (tiling_of machine.now)) (whole self.old) (address_of tile.old) }
-        requires edge_exists { IsSome (type_of (contacts (tiling_of machine.now)) tile.old.kind edge) }
+        requires edge_exists { edge < edges_of (tiling_of machine.now) tile.old.kind }
 
         ensures frame { GrowsTo (tiling_of machine.now) self.old self.new }
 
@@ -88,6 +87,7 @@ impl Frame {
             → IsBoundaryEdge (tiling_of machine.now) (lifted_at (tiling_of machine.now) self.old (address_of tile.old) n) edge }
         ensures limit_exactly { IsErr result ↔ IsBoundaryEdge (tiling_of machine.now) (lifted_at (tiling_of machine.now) self.old (address_of tile.old) 64) edge }
         ensures limit_tile { IfErr result (λ limit. address_of limit.addr ≡ lifted_at (tiling_of machine.now) self.old (address_of tile.old) 64) }
+        ensures lifted_at_limit { OnErr result (address_of tile.new ≡ lifted_at (tiling_of machine.now) self.old (address_of tile.old) 64) }
         ensures deepest_at_limit { OnErr result (length self.new.digits ≡ 64) }
         ensures limit_edge { IfErr result (λ limit. limit.edge ≡ edge) }
     {

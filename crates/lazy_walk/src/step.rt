@@ -1,9 +1,8 @@
 //! From tile to tile of a frame, each in its place.
-ghost use Rattle.std.specs.Prelude.{◌≡◌, ◌+◌, ◌≤◌, ◌^◌, ℕ, IsSome, Err, IfOk, IfErr, OnErr};
-ghost use Rattle.addressing.specs.Tables.{type_of};
+ghost use Rattle.std.specs.Prelude.{◌≡◌, ◌+◌, ◌<◌, ◌≤◌, ◌^◌, ℕ, Err, IfOk, IfErr, OnErr};
 ghost use Rattle.cyclo_points.specs.Point.{IsWithin};
-ghost use Rattle.rule_model.specs.Tiling.{tiling_of, contacts};
-ghost use Rattle.tile_place.specs.Crossed.{IsOnlyAcross, LiesOnBoundary};
+ghost use Rattle.rule_model.specs.Tiling.{tiling_of};
+ghost use Rattle.tile_place.specs.Crossed.{edges_of, IsOnlyAcross, LiesOnBoundary};
 ghost use Rattle.tile_shape.specs.Views.{address_of};
 ghost use Rattle.lazy_walk.specs.Frames.{whole, IsFrameOf};
 ghost use Rattle.lazy_walk.specs.Standing.{Stands};
@@ -53,7 +52,7 @@ impl Frame {
     ) -> Result<u8, Outside>
         requires frame { IsFrameOf (tiling_of machine.now) self.now }
         requires stands { Stands (tiling_of machine.now) self.now tile.old }
-        requires edge_exists { IsSome (type_of (contacts (tiling_of machine.now)) tile.old.addr.kind edge) }
+        requires edge_exists { edge < edges_of (tiling_of machine.now) tile.old.addr.kind }
         requires within { IsWithin (2 ^ 24) tile.old.motion.shift }
         ensures only_tile_across { IfOk result (λ back. IsOnlyAcross (tiling_of machine.now) (address_of tile.old.addr) edge (address_of tile.new.addr) back) }
         ensures stands { Stands (tiling_of machine.now) self.now tile.new }

@@ -1,10 +1,10 @@
 //! From tile to tile of a frame that grows, each in its place.
-ghost use Rattle.std.specs.Prelude.{◌≡◌, ◌↔◌, ◌<◌, ◌^◌, length, IsSome, IsErr, IfOk, IfErr, OnErr};
-ghost use Rattle.addressing.specs.Tables.{type_of};
+ghost use Rattle.std.specs.Prelude.{◌≡◌, ◌↔◌, ◌<◌, ◌^◌, length, IsErr, IfOk, IfErr, OnErr};
 ghost use Rattle.cyclo_points.specs.Order.{points_of};
 ghost use Rattle.cyclo_points.specs.Point.{IsOf, IsWithin};
 ghost use Rattle.frames.specs.Frame.{IsTileOf};
-ghost use Rattle.rule_model.specs.Tiling.{tiling_of, contacts, children};
+ghost use Rattle.rule_model.specs.Tiling.{tiling_of, children};
+ghost use Rattle.tile_place.specs.Crossed.{edges_of};
 ghost use Rattle.tile_shape.specs.Views.{address_of};
 ghost use Rattle.lazy_walk.specs.Boundary.{IsBoundaryEdge};
 ghost use Rattle.lazy_walk.specs.Crossed.{IsCrossedTo};
@@ -33,7 +33,7 @@ impl Frame {
         requires frame { IsFrameOf (tiling_of machine.now) self.old }
         requires its_kind { tile.old.kind ≡ tile.old.addr.kind }
         requires of_frame { IsTileOf (children (tiling_of machine.now)) (whole self.old) (address_of tile.old.addr) }
-        requires edge_exists { IsSome (type_of (contacts (tiling_of machine.now)) tile.old.addr.kind edge) }
+        requires edge_exists { edge < edges_of (tiling_of machine.now) tile.old.addr.kind }
         requires turn_below { tile.old.motion.turn < (points_of machine.now.order).order }
         requires within { IsWithin (2 ^ 24) tile.old.motion.shift }
         requires in_order { IsOf machine.now.order tile.old.motion.shift }

@@ -15,10 +15,11 @@ use Rattle.frames.specs.Frame.{at_level, frame_tiles, IsTileOf, lifted_in}
 use Rattle.lazy_walk.specs.Ancestors.{full}
 use Rattle.lazy_walk.specs.Boundary.{IsBoundaryEdge}
 use Rattle.lazy_walk.specs.Crossed.{IsCrossedTo}
-use Rattle.lazy_walk.specs.Frames.{FrameValue, whole, GrowsTo, lifted_at}
+use Rattle.lazy_walk.specs.Frames.{FrameValue, whole, at_depth, GrowsTo, lifted_at}
+use Rattle.lazy_walk.proofs.Crossings.{boundary-part}
 use Rattle.lazy_walk.proofs.InFull.{level-grown, whole-level, by_level}
 use Rattle.lazy_walk.proofs.Lifting.{IsTileOf-later}
-use Rattle.lazy_walk.proofs.Walks.{StillFits}
+use Rattle.lazy_walk.proofs.Walks.{StillFits, later}
 use Rattle.listing_text.specs.declared.entry.Entry as program
 use Rattle.listings.specs.Walk.{MeetsIn, NoneAcross}
 use Rattle.listings.specs.FrameWalk.{IsEdgeOfWalkOn}
@@ -29,6 +30,7 @@ use Rattle.rule_model.specs.Views.{rule_of}
 use Rattle.substitution.specs.Motion.{followed}
 use Rattle.substitution.specs.Points.{Points}
 use Rattle.tile_place.specs.declared.placed_tile.PlacedTile.{PlacedTile}
+use Rattle.tile_place.specs.Crossed.{LiesOnBoundary}
 use Rattle.tile_place.proofs.Plane.{IsSettled, its_rule}
 use Rattle.tile_shape.specs.declared.address.Address as programmed
 use Rattle.tile_shape.specs.Views.{address_of}
@@ -181,6 +183,9 @@ module _ (m : Rule) (settled : IsSettled m) (fits : StillFits (children (tiling_
 
     -- ---- where it is on the boundary at depth 64
     module _ (g : FrameValue) (grows : GrowsTo t f g) (at_64 : length g.digits ≡ 64) (on : IsBoundaryEdge t (lifted_at t f a 64) e) where
+      on_part : (own : ℕ) × (part : ℕ) × LiesOnBoundary t (lifted_in F a) e own part
+      on_part = boundary-part m fits f a are.frame of-frame settled e edge (at_depth t 64 f) (later t f 64 are.frame are.frame.at_most_64 (omega arith)) on
+
       whole-is : F ≡ whole g
       whole-is = sym (whole-level m settled fits f are.frame) ∙ ap (at_level F) (deep-full m settled fits L f w fit lines are ∙ sym at_64)
           ∙ level-grown m settled fits f are.frame g grows
@@ -203,5 +208,5 @@ module _ (m : Rule) (settled : IsSettled m) (fits : StillFits (children (tiling_
         not_all = λ none all. absurd (L.no_fault T F (is_refused m.order) (box_of t w) d (tiles_listed t (entries_of lines)) (listing-on m settled fits L f w fit lines are) all.all_listed
             (NoneAcross (line_of P T.rule (in_frame P T.rule F a) e) (in_frame P T.rule F a))
             (L.stop T F (is_refused m.order) (box_of t w) d (tiles_listed t (entries_of lines)) (listing-on m settled fits L f w fit lines are) tiles a e walk-edge
-            (λ u k. absurd (L.last T F a e own-edge on.own on.part on.lies (is_refused m.order) u k))));
+            (λ u k. absurd (L.last T F a e own-edge on_part.0 on_part.1 on_part.2 (is_refused m.order) u k))));
       }

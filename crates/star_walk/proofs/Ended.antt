@@ -1,11 +1,10 @@
 -- A turn that has come back, with its tiles lifted to the depth of the frame, is the star.
-use Rattle.std.proofs.Common.{◌≡◌, ◌↔◌, ℕ, ◌*◌, ◌^◌, ◌<◌, ◌≤◌, All, IsSome, List, [], ◌∷◌, length, map, refl, sym, ap, ap₂, ◌∙◌, subst, arith}
+use Rattle.std.proofs.Common.{◌≡◌, ◌↔◌, ℕ, ◌*◌, ◌^◌, ◌<◌, ◌≤◌, All, List, [], ◌∷◌, length, map, refl, sym, ap, ap₂, ◌∙◌, subst, arith}
 use Rattle.std.specs.List.{AllByRecursion, AllZip}
 use Rattle.std.proofs.lemmas.List.{length-map}
 use Rattle.std.proofs.lemmas.List.Elements.{All-from_recursion}
 use Rattle.ordered_plane.specs.Plane.{PlanePoint}
 use Rattle.addressing.specs.Address.{Address, depth}
-use Rattle.addressing.specs.Tables.{type_of}
 use Rattle.addressing.proofs.Lists.{AllByRecursion-each}
 use Rattle.cyclo_points.specs.declared.motion.Motion.{Motion}
 use Rattle.cyclo_points.specs.Order.{NumberOf, points_of, is_refused}
@@ -23,11 +22,12 @@ use Rattle.lazy_walk.proofs.InFull.{names, deep, level-own, level-grown, same-fu
 use Rattle.lazy_walk.proofs.Walked.{whole-tile_of}
 use Rattle.lazy_walk.proofs.Walks.{StillFits, whole-fits}
 use Rattle.rule_model.specs.declared.rule.Rule.{Rule}
-use Rattle.rule_model.specs.Tiling.{Tiling, tiling_of, contacts, children}
+use Rattle.rule_model.specs.Tiling.{Tiling, tiling_of, children}
 use Rattle.substitution.specs.Plane.{plane_point}
 use Rattle.substitution.specs.Points.{Points}
 use Rattle.substitution.specs.RuleParts.{vertex as vertex_at}
 use Rattle.substitution.specs.Supertile.{Placed}
+use Rattle.tile_place.specs.Crossed.{edges_of}
 use Rattle.tile_place.proofs.Plane.{IsSettled, its_rule}
 use Rattle.tile_shape.specs.Views.{address_of}
 use Rattle.windows.specs.FramePatch.{growing_frame, frame_patch, in_frame}
@@ -51,7 +51,7 @@ tail-is : {A : Type 0} {a b : A} {us vs : List A} → a ∷ us ≡ b ∷ vs → 
 tail-is e = cc (e)
 
 module _ (m : Rule) (settled : IsSettled m) (fits : StillFits (children (tiling_of m))) (L : HasStarLaws (points_of m.order)) (f : FrameValue) (is : IsFrameOf (tiling_of m) f) (i : ℕ)
-    (vertex : IsSome (type_of (contacts (tiling_of m)) f.base.kind i)) (g : FrameValue) (corners : List Corner) (w : HasTurned (tiling_of m) f g i corners) where
+    (vertex : i < edges_of (tiling_of m) f.base.kind) (g : FrameValue) (corners : List Corner) (w : HasTurned (tiling_of m) f g i corners) where
   abbrev t : Tiling
   t = tiling_of m
 

@@ -12,11 +12,12 @@ use Rattle.edge_to_edge.specs.Contacts.{tables_of}
 use Rattle.frames.specs.Frame.{IsTileOf, lifted_in}
 use Rattle.lazy_walk.specs.Ancestors.{full}
 use Rattle.lazy_walk.specs.Crossed.{IsCrossedTo}
-use Rattle.lazy_walk.specs.Frames.{FrameValue, whole, IsFrameOf, GrowsTo}
+use Rattle.lazy_walk.specs.Frames.{FrameValue, whole, at_depth, IsFrameOf, GrowsTo}
 use Rattle.lazy_walk.proofs.Ancestors.{level-at}
+use Rattle.lazy_walk.proofs.Crossings.{boundary-part}
 use Rattle.lazy_walk.proofs.InFull.{names, deep, by_tables, level-own, level-grown, same-full}
 use Rattle.lazy_walk.proofs.Lifting.{IsTileOf-later}
-use Rattle.lazy_walk.proofs.Walks.{StillFits}
+use Rattle.lazy_walk.proofs.Walks.{StillFits, later}
 use Rattle.rule_model.specs.declared.rule.Rule.{Rule}
 use Rattle.rule_model.specs.Tiling.{Tiling, tiling_of, children}
 use Rattle.substitution.specs.Motion.{followed}
@@ -61,8 +62,9 @@ module _ (m : Rule) (settled : IsSettled m) (fits : StillFits (children (tiling_
         tile = subst (λ y. IsTileOf (child_kinds (tables_of P T.rule)) y own) (sym (level-own m settled fits f is)) (by_tables m settled fits f is (whole f) own found.of_frame);
         edge_exists = vertex_exists;
         across = subst (λ y. IsTileAcross P T.rule (tile_at P T.rule (lifted_in y own)) (its_edge t a) (tile_at P T.rule other) b.vertex) (sym (level-grown m settled fits f is g h)) x.only_tile_across.across;
-        least = λ k l j. let on = x.least k l j in
-            (on.own, on.part, subst (λ y. IsOnBoundary P T.rule (tile_at P T.rule (lifted_in y own)) (its_edge t a) on.own on.part) (sym (level-at t f is k l (omega (arith, j, h.is_frame.at_most_64)))) on.lies);
+        least = λ k l j.
+            let on = boundary-part m fits f own is found.of_frame settled (its_edge t a) vertex_exists (at_depth t k f) (later t f k is l (omega (arith, j, h.is_frame.at_most_64))) (x.least k l j) in
+            (on.0, on.1, subst (λ y. IsOnBoundary P T.rule (tile_at P T.rule (lifted_in y own)) (its_edge t a) on.0 on.1) (sym (level-at t f is k l (omega (arith, j, h.is_frame.at_most_64)))) on.2);
       }
 
       -- it is the next corner, and the frame has grown to its level, where it wasn't as deep already

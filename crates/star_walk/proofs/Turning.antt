@@ -1,12 +1,11 @@
 -- The states of the turn: the first, the next, its end, and what stops it.
-use Rattle.std.proofs.Common.{◌≡◌, ◌⊎◌, inl, inr, ℕ, zero, suc, ◌+◌, ◌*◌, ◌^◌, ◌<◌, ◌≤◌, max, IsSome, List, [], ◌∷◌, ◌++◌, length, refl, sym, ap, ◌∙◌, subst, arith, length-append}
+use Rattle.std.proofs.Common.{◌≡◌, ◌⊎◌, inl, inr, ℕ, zero, suc, ◌+◌, ◌*◌, ◌^◌, ◌<◌, ◌≤◌, max, List, [], ◌∷◌, ◌++◌, length, refl, sym, ap, ◌∙◌, subst, arith, length-append}
 use Rattle.std.specs.List.{AllByRecursion}
 use Rattle.std.proofs.lemmas.List.{length-map, map-append}
 use Rattle.std.proofs.lemmas.Option.{slice_get_within}
 use Rattle.ordered_plane.specs.Plane.{PlanePoint}
 use Rattle.addressing.specs.Address.{Address, depth}
 use Rattle.addressing.specs.Search.{IsAmong}
-use Rattle.addressing.specs.Tables.{type_of}
 use Rattle.addressing.proofs.Lists.{AllByRecursion-among, AllByRecursion-each, AllByRecursion-append, AllByRecursion-from}
 use Rattle.addressing.proofs.Ranges.{among-append}
 use Rattle.cyclo_points.specs.Order.{NumberOf, points_of, is_refused}
@@ -15,27 +14,27 @@ use Rattle.cyclo_points.specs.Point.{IsWithin}
 use Rattle.cyclo_points.proofs.Within.{point_wider}
 use Rattle.dissection.specs.Accepted.{AcceptedRule}
 use Rattle.dissection.specs.Polygons.{tile_polygon}
-use Rattle.edge_to_edge.proofs.TablesOf.{type_of-at, type_of-found}
-use Rattle.addressing.proofs.TableBounds.{some_of}
 use Rattle.frames.specs.Frame.{at_level, IsTileOf, lifted_in, motion_beside}
 use Rattle.frames.proofs.Carried.{some_turn}
 use Rattle.frames.proofs.Frames.{IsWhole, StandsInFrame-whole}
 use Rattle.lazy_walk.specs.Ancestors.{full}
 use Rattle.lazy_walk.specs.Boundary.{IsBoundaryEdge}
 use Rattle.lazy_walk.specs.Crossed.{IsCrossedTo}
-use Rattle.lazy_walk.specs.Frames.{FrameValue, whole, IsFrameOf, GrowsTo, lifted_at}
+use Rattle.lazy_walk.specs.Frames.{FrameValue, whole, at_depth, IsFrameOf, GrowsTo, lifted_at}
 use Rattle.lazy_walk.specs.Standing.{Stands}
 use Rattle.lazy_walk.proofs.Ancestors.{full-later}
+use Rattle.lazy_walk.proofs.Crossings.{boundary-part}
 use Rattle.lazy_walk.proofs.InFull.{names, deep, tile-full, whole-level, level-own, level-grown}
 use Rattle.lazy_walk.proofs.Walked.{tile_of-whole}
-use Rattle.lazy_walk.proofs.Walks.{StillFits, GrowsTo-self, GrowsTo-then}
+use Rattle.lazy_walk.proofs.Walks.{StillFits, GrowsTo-self, GrowsTo-then, later}
 use Rattle.rule_model.specs.declared.rule.Rule.{Rule}
-use Rattle.rule_model.specs.Tiling.{Tiling, tiling_of, contacts, children}
+use Rattle.rule_model.specs.Tiling.{Tiling, tiling_of, children}
 use Rattle.substitution.specs.Plane.{plane_point}
 use Rattle.substitution.specs.Points.{Points}
 use Rattle.substitution.specs.RuleParts.{vertices_of, edge_count, vertex as vertex_at}
 use Rattle.substitution.specs.Supertile.{Placed}
 use Rattle.tile_place.specs.declared.placed_tile.PlacedTile.{PlacedTile}
+use Rattle.tile_place.specs.Crossed.{edges_of, LiesOnBoundary}
 use Rattle.tile_place.proofs.Plane.{IsSettled, its_rule}
 use Rattle.tile_shape.specs.declared.address.Address as program
 use Rattle.tile_shape.specs.Views.{address_of}
@@ -64,7 +63,7 @@ edge_into-below (suc n) zero h = omega arith
 edge_into-below (suc n) (suc i) h = omega arith
 
 module _ (m : Rule) (settled : IsSettled m) (fits : StillFits (children (tiling_of m))) (L : HasStarLaws (points_of m.order)) (f : FrameValue) (is : IsFrameOf (tiling_of m) f) (i : ℕ)
-    (vertex : IsSome (type_of (contacts (tiling_of m)) f.base.kind i)) where
+    (vertex : i < edges_of (tiling_of m) f.base.kind) where
   abbrev t : Tiling
   t = tiling_of m
 
@@ -103,18 +102,12 @@ module _ (m : Rule) (settled : IsSettled m) (fits : StillFits (children (tiling_
   few = omega (arith, is.at_most_64, deep m settled fits f is)
 
   -- ---- the base
-  vertex-below : i < edge_count T.rule f.base.kind
-  vertex-below = let ty = some_of (type_of (contacts t) f.base.kind i) vertex in (type_of-found P T.rule f.base.kind i ty.0 ty.1).0
-
   pub base-at : IsCornerOfDepth P.real (Placed (NumberOf m.order)) G v (length f.digits) base
   base-at =
       subst (λ a. IsCornerOfDepth P.real (Placed (NumberOf m.order)) G v (length f.digits) (corner_named P T.rule F a i)) (level-own m settled fits f is)
-      (L.base T F (names m settled fits f is) (is_refused m.order) (length f.digits) few i vertex-below)
+      (L.base T F (names m settled fits f is) (is_refused m.order) (length f.digits) few i vertex)
 
   -- ---- the edge at a corner
-  vertex-there : (c : Corner) → c.vertex < edge_count T.rule c.tile.addr.kind → IsSome (type_of (contacts t) c.tile.addr.kind c.vertex)
-  vertex-there c h = subst (λ o. IsSome o) (sym (type_of-at P T.rule c.tile.addr.kind c.vertex h)) refl
-
   corner-below : (g : Address) (c : Corner) → IsTileOf (children t) g (address_of c.tile.addr) → AtF (name_of t f c) → c.vertex < edge_count T.rule c.tile.addr.kind
   corner-below g c of at =
       subst (λ n. c.vertex < n) (length-map (vertices_of T.rule c.tile.addr.kind) _ ∙ T.numbered.vertex_each c.tile.addr.kind (subst (λ n. c.tile.addr.kind < n) (length-map T.rule.kinds _) of.fits.kind_exists))
@@ -164,14 +157,11 @@ module _ (m : Rule) (settled : IsSettled m) (fits : StillFits (children (tiling_
         (turn-at P.real L.points.of_real L.points.of_order (frame_patch P T.rule F) simple v base w.others base-at.0 w.in_order (last_corner base w.others)
         (last-among P.real L.points.of_real L.points.of_order (frame_patch P T.rule F) simple v base w.others))
 
-    last-below : last.vertex < edge_count T.rule last.tile.addr.kind
-    last-below = corner-below (whole g) last w.last_found.of_frame last-at
-
-    pub last-exists : IsSome (type_of (contacts t) last.tile.addr.kind last.vertex)
-    last-exists = vertex-there last last-below
+    pub last-exists : last.vertex < edges_of t last.tile.addr.kind
+    last-exists = corner-below (whole g) last w.last_found.of_frame last-at
 
     edge-below : its_edge t last < edge_count T.rule last.tile.addr.kind
-    edge-below = edge_into-below _ last.vertex last-below
+    edge-below = edge_into-below _ last.vertex last-exists
 
     -- ---- across the edge
     module _ (k : FrameValue) (h : GrowsTo t g k) (b : Corner) (x : IsCrossedTo t g k (address_of last.tile.addr) last.tile.motion (its_edge t last) b.tile b.vertex) where
@@ -314,14 +304,15 @@ module _ (m : Rule) (settled : IsSettled m) (fits : StillFits (children (tiling_
       own-edge = subst (λ y. IsEdgeInFrame P T y a (its_edge t last)) same
           (record { frame = names m settled fits g now; tile = tile-full m settled fits g now a w.last_found.of_frame; edge_exists = edge-below })
 
-      on-full : IsBoundaryEdge t (lifted_in F a) (its_edge t last)
-      on-full = subst (λ y. IsBoundaryEdge t (lifted_in y a) (its_edge t last)) same on
+      on-part : (own : ℕ) × (part : ℕ) × LiesOnBoundary t (lifted_in F a) (its_edge t last) own part
+      on-part = subst (λ y. (own : ℕ) × (part : ℕ) × LiesOnBoundary t (lifted_in y a) (its_edge t last) own part) same
+          (boundary-part m fits g a now w.last_found.of_frame settled (its_edge t last) edge-below (at_depth t 64 g) (later t g 64 now now.at_most_64 (omega arith)) on)
 
       pub not_limited : IsWithinLimits t f i → ⊥
       not_limited limits =
           let d = deep m settled fits f is in
           let enough = (L.off T F (names m settled fits f is) (is_refused m.order) v 64 (omega (arith, d))).1 limits.enough in
-          absurd (L.stop T F (is_refused m.order) v a last.vertex own-edge last-at on-full.own on-full.part on-full.lies
+          absurd (L.stop T F (is_refused m.order) v a last.vertex own-edge last-at on-part.0 on-part.1 on-part.2
           (subst (λ n. IsEnoughAt P.real (Placed (NumberOf m.order)) G v n) (sym d) enough))
 
       pub limited : (addr : program.Address) (edge : ℕ) → address_of addr ≡ lifted_at t g a 64 → edge ≡ its_edge t last → HasCause t k i (DepthLimit addr edge)

@@ -1,13 +1,13 @@
 //! From a corner to the one after it in turning order, while the frame grows.
-ghost use Rattle.std.specs.Prelude.{◌≡◌, ◌↔◌, ◌<◌, ◌≤◌, ◌^◌, length, IsSome, IsErr, IfErr, OnErr, OnOk};
-ghost use Rattle.addressing.specs.Tables.{type_of};
+ghost use Rattle.std.specs.Prelude.{◌≡◌, ◌↔◌, ◌<◌, ◌≤◌, ◌^◌, length, IsErr, IfErr, OnErr, OnOk};
 ghost use Rattle.cyclo_points.specs.Order.{points_of};
 ghost use Rattle.cyclo_points.specs.Point.{IsOf, IsWithin};
 ghost use Rattle.frames.specs.Frame.{IsTileOf};
 ghost use Rattle.lazy_walk.specs.Boundary.{IsBoundaryEdge};
 ghost use Rattle.lazy_walk.specs.Crossed.{IsCrossedTo};
 ghost use Rattle.lazy_walk.specs.Frames.{whole, IsFrameOf, GrowsTo, lifted_at};
-ghost use Rattle.rule_model.specs.Tiling.{tiling_of, contacts, children};
+ghost use Rattle.rule_model.specs.Tiling.{tiling_of, children};
+ghost use Rattle.tile_place.specs.Crossed.{edges_of};
 ghost use Rattle.tile_shape.specs.Views.{address_of};
 ghost use Rattle.vertex_stars.specs.Corners.{edge_into};
 ghost use Rattle.star_walk.specs.Found.{its_edge};
@@ -40,7 +40,7 @@ pub(crate) fn step_round<L: Ledger>(
     requires frame { IsFrameOf (tiling_of machine.now) frame.old }
     requires its_kind { corner.old.tile.kind ≡ corner.old.tile.addr.kind }
     requires of_frame { IsTileOf (children (tiling_of machine.now)) (whole frame.old) (address_of corner.old.tile.addr) }
-    requires vertex_exists { IsSome (type_of (contacts (tiling_of machine.now)) corner.old.tile.addr.kind corner.old.vertex) }
+    requires vertex_exists { corner.old.vertex < edges_of (tiling_of machine.now) corner.old.tile.addr.kind }
     requires turn_below { corner.old.tile.motion.turn < (points_of machine.now.order).order }
     requires within { IsWithin (2 ^ 24) corner.old.tile.motion.shift }
     requires in_order { IsOf machine.now.order corner.old.tile.motion.shift }

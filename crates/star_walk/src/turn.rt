@@ -1,11 +1,11 @@
 //! The tiles round a vertex.
-ghost use Rattle.std.specs.Prelude.{◌≡◌, ◌<◌, ◌≤◌, ◌^◌, ℕ, ◌↔◌, All, [], length, map, IsTrue, IsSome, IsOk, IfErr, OnOk};
+ghost use Rattle.std.specs.Prelude.{◌≡◌, ◌<◌, ◌≤◌, ◌^◌, ℕ, ◌↔◌, All, [], length, map, IsTrue, IsOk, IfErr, OnOk};
 ghost use Rattle.std.specs.List.{AllZip};
 ghost use Rattle.addressing.specs.Address.{depth};
-ghost use Rattle.addressing.specs.Tables.{type_of};
 ghost use Rattle.cyclo_points.specs.Point.{IsWithin};
 ghost use Rattle.tile_shape.specs.Views.{address_of};
-ghost use Rattle.rule_model.specs.Tiling.{tiling_of, contacts};
+ghost use Rattle.rule_model.specs.Tiling.{tiling_of};
+ghost use Rattle.tile_place.specs.Crossed.{edges_of};
 ghost use Rattle.lazy_walk.specs.Frames.{whole, IsFrameOf, GrowsTo};
 ghost use Rattle.lazy_walk.specs.Standing.{Stands};
 ghost use Rattle.star_walk.specs.Corners.{corner_in};
@@ -42,7 +42,7 @@ impl Star {
         steps: &mut Steps<L>,
     ) -> Result<(), StarFault>
         requires frame { IsFrameOf (tiling_of machine.now) frame.old }
-        requires vertex_exists { IsSome (type_of (contacts (tiling_of machine.now)) frame.old.base.kind vertex) }
+        requires vertex_exists { vertex < edges_of (tiling_of machine.now) frame.old.base.kind }
 
         ensures frame { GrowsTo (tiling_of machine.now) frame.old frame.new }
 
@@ -82,7 +82,7 @@ fn turn<L: Ledger>(
 ) -> Result<(), StarFault>
     requires none_yet { corners.old.items ≡ [] }
     requires frame { IsFrameOf (tiling_of machine.now) frame.old }
-    requires vertex_exists { IsSome (type_of (contacts (tiling_of machine.now)) frame.old.base.kind vertex) }
+    requires vertex_exists { vertex < edges_of (tiling_of machine.now) frame.old.base.kind }
     ensures frame { GrowsTo (tiling_of machine.now) frame.old frame.new }
     ensures turned { OnOk result (HasTurned (tiling_of machine.now) frame.old frame.new vertex corners.new.items) }
     ensures cause { IfErr result (λ fault. HasCause (tiling_of machine.now) frame.new vertex fault) }

@@ -4,20 +4,17 @@ use Rattle.std.proofs.Math.Nat.{mod-lt}
 use Rattle.ordered_ring.specs.Ring.{difference}
 use Rattle.ordered_ring.proofs.Normaliser.{var, con, ring, ring_from, ◌⊕◌, ◌⊖◌, ◌⊗◌}
 use Rattle.ordered_ring.specs.Ring.{power}
-use Rattle.addressing.proofs.TableBounds.{some_of}
-use Rattle.substitution.specs.RuleParts.{edge_count, next, vertex}
+use Rattle.substitution.specs.RuleParts.{next, vertex}
 use Rattle.edge_to_edge.specs.EdgeTypes.{edge_vector}
 use Rattle.edge_to_edge.proofs.ChildEdges.{kind-with_edge}
-use Rattle.edge_to_edge.proofs.TablesOf.{type_of-found}
 use Rattle.cyclo_points.specs.declared.order.Order.{Order}
 use Rattle.cyclo_points.specs.Order.{NumberOf, PointsLaw, points_of}
 use Rattle.dissection.specs.Glue.{TurnsOnto}
 use Rattle.dissection.specs.Laws.{GlueLaw}
 use Rattle.dissection.proofs.GlueMotions.{glue_motion, glues}
 use Rattle.rule_model.specs.declared.rule.Rule.{Rule}
-use Rattle.rule_model.specs.Tiling.{tiling_of, contacts}
+use Rattle.rule_model.specs.Tiling.{tiling_of}
 use Rattle.rule_model.specs.Views.{rule_of}
-use Rattle.addressing.specs.Tables.{type_of}
 use Rattle.tile_place.specs.Crossed.{placed_tile}
 use Rattle.tile_place.specs.EdgeTurns.{IsGreatest}
 use Rattle.tile_place.specs.Glued.{HasKindEdge, Meets, Glues, IsMotionAcross, GluingLaw}
@@ -35,11 +32,8 @@ gluing m settled law a b e f fits edge only =
     (h.met, h.alone, h.motion_is)
 
 module _ (m : Rule) where
-  pub edge_listed : (kind edge : ℕ) → HasKindEdge (tiling_of m) kind edge → edge < edge_count (rule_of m) kind
-  edge_listed kind edge h = let ty = some_of (type_of (contacts (tiling_of m)) kind edge) h in (type_of-found (points_of m.order) (rule_of m) kind edge ty.0 ty.1).0
-
   pub kind_listed : (kind edge : ℕ) → HasKindEdge (tiling_of m) kind edge → kind < length (rule_of m).kinds
-  kind_listed kind edge h = kind-with_edge (points_of m.order) (rule_of m) kind edge (edge_listed kind edge h)
+  kind_listed kind edge h = kind-with_edge (points_of m.order) (rule_of m) kind edge h
 
   -- two edges, by their vectors and the turns that make these greatest
   module _ (W : PointsLaw m.order) (k e l f a b : ℕ) where

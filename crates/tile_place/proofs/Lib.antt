@@ -3,6 +3,7 @@ pub mod Values
 pub mod Start
 pub mod Finer
 pub mod Descent
+pub mod KindEdges
 pub mod Plane
 pub mod SamePoint
 pub mod GreatestTurns

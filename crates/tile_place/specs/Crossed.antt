@@ -1,13 +1,18 @@
 -- What a crossing answers, in the plane: the only tile across an edge, and edges on the boundary of the supertile.
-use Rattle.std.specs.Prelude.{◌≡◌, ℕ, ◌<◌, length}
-use Rattle.addressing.specs.Address.{Address}
-use Rattle.addressing.specs.Tables.{kind_tables}
+use Rattle.std.specs.Prelude.{◌≡◌, ℕ, ◌<◌, true}
+use Rattle.addressing.specs.Address.{Address, depth, top_kind}
 use Rattle.cyclo_points.specs.Order.{NumberOf, points_of}
 use Rattle.dissection.specs.Across.{IsOnlyTileAcross}
 use Rattle.dissection.specs.OnBoundary.{IsOnBoundary}
-use Rattle.dissection.specs.TileEdges.{tile_at}
-use Rattle.rule_model.specs.Tiling.{Tiling, contacts}
+use Rattle.dissection.specs.TileEdges.{edge_of, supertile_edge, tile_at}
+use Rattle.edge_to_edge.specs.Edges.{lies_along}
+use Rattle.rule_model.specs.Tiling.{Tiling}
+use Rattle.substitution.specs.RuleParts.{edge_count}
 use Rattle.substitution.specs.Supertile.{Placed}
+
+-- how many edges the rule gives a kind
+abbrev pub edges_of : Tiling → ℕ → ℕ
+edges_of t kind = edge_count t.rule kind
 
 -- the tile of this address, as it lies in the supertile that the address names
 abbrev pub placed_tile : (t : Tiling) → Address → Placed (NumberOf t.order)
@@ -17,13 +22,19 @@ placed_tile t a = tile_at (points_of t.order) t.rule a
 abbrev pub IsOnlyAcross : Tiling → Address → ℕ → Address → ℕ → Type 0
 IsOnlyAcross t a e b f = IsOnlyTileAcross (points_of t.order) t.rule (placed_tile t a) e (placed_tile t b) f
 
+-- edge e of a lies along edge `own` of its supertile's polygon
+pub record LiesAlong (t : Tiling) (a : Address) (e own : ℕ) : Type 0 where
+  pub exists : own < edges_of t (top_kind a)
+  pub along : lies_along (points_of t.order) (supertile_edge (points_of t.order) t.rule (top_kind a) (depth a) own)
+      (edge_of (points_of t.order) t.rule (placed_tile t a) e) ≡ true
+
+-- it lies along none of them
+abbrev pub LiesAlongNone : Tiling → Address → ℕ → Type 0
+LiesAlongNone t a e = (own : ℕ) → ¬ LiesAlong t a e own
+
 -- edge e of a lies along edge `own` of its supertile's polygon, on this part of it
 abbrev pub LiesOnBoundary : Tiling → Address → ℕ → ℕ → ℕ → Type 0
 LiesOnBoundary t a e own part = IsOnBoundary (points_of t.order) t.rule (placed_tile t a) e own part
-
--- how many edges a kind has
-abbrev pub edges_of : Tiling → ℕ → ℕ
-edges_of t kind = length (kind_tables (contacts t) kind).types
 
 -- edge e of a exists, and lies along edge `own` of its supertile's polygon, on this part of it, and along no other
 pub record IsOutside (t : Tiling) (a : Address) (e own part : ℕ) : Type 0 where

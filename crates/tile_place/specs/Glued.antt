@@ -1,16 +1,15 @@
 -- Which edges of prototiles meet, and the motions that glue them.
-use Rattle.std.specs.Prelude.{◌≡◌, ℕ, IsSome}
+use Rattle.std.specs.Prelude.{◌≡◌, ℕ, ◌<◌}
 use Rattle.addressing.specs.Address.{Address, Fits}
-use Rattle.addressing.specs.Tables.{type_of}
 use Rattle.cyclo_points.specs.Order.{points_of}
 use Rattle.dissection.specs.Glue.{IsMet, IsGlueMotion}
-use Rattle.rule_model.specs.Tiling.{Tiling, MotionOf, contacts, children}
+use Rattle.rule_model.specs.Tiling.{Tiling, MotionOf, children}
 use Rattle.substitution.specs.Motion.{followed}
-use Rattle.tile_place.specs.Crossed.{placed_tile, IsOnlyAcross}
+use Rattle.tile_place.specs.Crossed.{edges_of, placed_tile, IsOnlyAcross}
 
 -- a kind of the tiling has an edge of this number
 abbrev pub HasKindEdge : Tiling → ℕ → ℕ → Type 0
-HasKindEdge t kind edge = IsSome (type_of (contacts t) kind edge)
+HasKindEdge t kind edge = edge < edges_of t kind
 
 -- some turn below the order takes the vector of edge f of kind l to that of edge e of kind k, reversed
 abbrev pub Meets : Tiling → ℕ → ℕ → ℕ → ℕ → Type 0

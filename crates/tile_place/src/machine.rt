@@ -1,7 +1,7 @@
 //! The machine of a checked rule.
-ghost use Rattle.std.specs.Prelude.{◌≡◌, ◌+◌, ◌*◌, ◌<◌, ◌≤◌, ◌^◌, ℕ, length, IsSome, IsOk, None, Some, IfOk, IfErr, OnErr, Err};
+ghost use Rattle.std.specs.Prelude.{◌≡◌, ◌+◌, ◌*◌, ◌<◌, ◌≤◌, ◌^◌, ℕ, length, IsOk, None, Some, IfOk, IfErr, OnOk, OnErr, Err};
 ghost use Rattle.addressing.specs.Address.{Address as TheAddress, depth, Fits};
-ghost use Rattle.addressing.specs.Tables.{child_kinds, type_of};
+ghost use Rattle.addressing.specs.Tables.{child_kinds};
 ghost use Rattle.addressing.specs.Touch.{Touches};
 ghost use Rattle.addressing.specs.Across.{IsAcross, LiesOn};
 ghost use Rattle.substitution.specs.RuleParts.{edge_count};
@@ -14,7 +14,7 @@ ghost use Rattle.rule_model.specs.Tiling.{tiling_of, contacts, children, IsPlace
 ghost use Rattle.rule_model.specs.Usable.{IsUsable};
 ghost use Rattle.rule_model.specs.Views.{rule_of};
 ghost use Rattle.tile_shape.specs.Views.{address_of};
-ghost use Rattle.tile_place.specs.Crossed.{IsOnlyAcross, LiesOnBoundary};
+ghost use Rattle.tile_place.specs.Crossed.{IsOnlyAcross, LiesAlongNone, LiesOnBoundary};
 ghost use Rattle.tile_place.specs.EdgeTurns.{IsGreatest};
 ghost use Rattle.tile_place.specs.Glued.{HasKindEdge};
 ghost use Rattle.tile_place.specs.Placing.{first_refused};
@@ -131,7 +131,7 @@ impl Machine {
         steps: &mut Steps<L>,
     ) -> Result<Crossing, Outside>
         requires fits { Fits (children (tiling_of self.now)) (address_of addr.now) }
-        requires edge_exists { IsSome (type_of (contacts (tiling_of self.now)) addr.now.kind edge) }
+        requires edge_exists { HasKindEdge (tiling_of self.now) addr.now.kind edge }
 
         // By the contact tables of the rule's geometry.
         ensures across { IfOk result (λ x. IsAcross (contacts (tiling_of self.now)) (address_of addr.now) edge (address_of x.addr) x.edge) }
@@ -149,6 +149,7 @@ impl Machine {
         ensures outside_on_boundary { IfErr result (λ o. LiesOnBoundary (tiling_of self.now) (address_of addr.now) edge o.edge o.part) }
         ensures boundary_is_outside { (own part : ℕ) → LiesOnBoundary (tiling_of self.now) (address_of addr.now) edge own part
             → result ≡ Err (record { edge = own; part = part }) }
+        ensures inside { OnOk result (LiesAlongNone (tiling_of self.now) (address_of addr.now) edge) }
 
         ensures steps_within_bound { steps.new ≤ steps.old + (2 * depth (address_of addr.now) + 2) }
     {
@@ -172,7 +173,7 @@ impl Machine {
         steps: &mut Steps<L>,
     ) -> Result<u8, Outside>
         requires fits { Fits (children (tiling_of self.now)) (address_of addr.old) }
-        requires edge_exists { IsSome (type_of (contacts (tiling_of self.now)) addr.old.kind edge) }
+        requires edge_exists { HasKindEdge (tiling_of self.now) addr.old.kind edge }
 
         ensures across { IfOk result (λ back. IsAcross (contacts (tiling_of self.now)) (address_of addr.old) edge (address_of addr.new) back) }
         ensures answer_fits { Fits (children (tiling_of self.now)) (address_of addr.new) }
@@ -182,13 +183,12 @@ impl Machine {
             → result ≡ Err (record { edge = own; part = part }) }
         ensures across_when { (b : TheAddress) (f : ℕ) → Fits (children (tiling_of self.now)) b
             → Touches (contacts (tiling_of self.now)) (address_of addr.old) edge b f → IsOk result }
-
         ensures only_tile_across { IfOk result (λ back. IsOnlyAcross (tiling_of self.now) (address_of addr.old) edge (address_of addr.new) back) }
         ensures leads_back { IfOk result (λ back. IsOnlyAcross (tiling_of self.now) (address_of addr.new) back (address_of addr.old) edge) }
         ensures outside_on_boundary { IfErr result (λ o. LiesOnBoundary (tiling_of self.now) (address_of addr.old) edge o.edge o.part) }
         ensures boundary_is_outside { (own part : ℕ) → LiesOnBoundary (tiling_of self.now) (address_of addr.old) edge own part
             → result ≡ Err (record { edge = own; part = part }) }
-
+        ensures inside { OnOk result (LiesAlongNone (tiling_of self.now) (address_of addr.old) edge) }
         ensures steps_within_bound { steps.new ≤ steps.old + (2 * depth (address_of addr.old) + 2) }
     {
         let order = self.checked().order();

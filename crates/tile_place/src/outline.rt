@@ -34,6 +34,7 @@ impl Machine {
         ensures none_refused { IfOk result (λ corners. find (is_refused self.now.order)
             (outline (points_of self.now.order) (rule_of self.now) kind (point_in self.now.order scale.now) (motion_in self.now.order at.now)) ≡ None) }
         ensures within { IfOk result (λ corners. All (IsWithin (2 ^ 24)) corners.items) }
+        ensures in_order { IfOk result (λ corners. All (IsOf self.now.order) corners.items) }
         ensures at_least_3 { IfOk result (λ corners. 3 ≤ length corners.items) }
         ensures limit { IfErr result (λ limit. find (is_refused self.now.order)
             (outline (points_of self.now.order) (rule_of self.now) kind (point_in self.now.order scale.now) (motion_in self.now.order at.now))

@@ -1,17 +1,16 @@
 -- The first open edge is one of the kind of its tile.
-use Rattle.std.proofs.Common.{◌≡◌, ℕ, zero, suc, ◌<◌, inl, Some, IsSome, List, [], ◌∷◌, length, map, slice_get, refl, sym, ◌∙◌, subst, arith}
+use Rattle.std.proofs.Common.{◌≡◌, ℕ, zero, suc, ◌<◌, inl, Some, List, [], ◌∷◌, length, map, slice_get, refl, sym, ◌∙◌, subst, arith}
 use Rattle.std.proofs.Math.ListN.{length-map}
 use Rattle.dissection.specs.Polygons.{tile_polygon}
 use Rattle.window_cover.specs.Windows.{box_of}
 use Rattle.addressing.specs.Search.{IsAmong}
-use Rattle.addressing.specs.Tables.{type_of}
 use Rattle.cyclo_points.specs.Order.{points_of}
-use Rattle.edge_to_edge.proofs.TablesOf.{type_of-at}
 use Rattle.lazy_walk.specs.Frames.{FrameValue}
 use Rattle.lazy_walk.proofs.Walks.{StillFits}
 use Rattle.rule_model.specs.declared.rule.Rule.{Rule}
-use Rattle.rule_model.specs.Tiling.{Tiling, tiling_of, contacts, children}
+use Rattle.rule_model.specs.Tiling.{tiling_of, children}
 use Rattle.rule_model.specs.Views.{rule_of}
+use Rattle.tile_place.specs.Crossed.{edges_of}
 use Rattle.tile_place.proofs.Plane.{IsSettled}
 use Rattle.window_cover.specs.declared.open_edge.OpenEdge.{OpenEdge}
 use Rattle.window_cover.specs.Border.{first_of}
@@ -21,17 +20,14 @@ use Rattle.window_cover.specs.SearchLaws.{HasSearchLaws}
 use Rattle.window_cover.proofs.Names.{edge-exists}
 use Rattle.window_cover.proofs.NextState.{first-in}
 
-is_some-of : (t : Tiling) (kind e ty : ℕ) → type_of (contacts t) kind e ≡ Some ty → IsSome (type_of (contacts t) kind e)
-is_some-of t kind e ty h = subst IsSome (sym h) refl
-
 pub edge-there : (m : Rule) (settled : IsSettled m) (fits : StillFits (children (tiling_of m))) (L : HasSearchLaws (points_of m.order)) (f : FrameValue) (c : CoverValue) (right : IsRight (tiling_of m) f c)
-    (first : OpenEdge) → first_of c.border ≡ Some first → (x : Found) → slice_get c.found first.tile ≡ Some x → IsSome (type_of (contacts (tiling_of m)) x.kind first.edge)
+    (first : OpenEdge) → first_of c.border ≡ Some first → (x : Found) → slice_get c.found first.tile ≡ Some x → first.edge < edges_of (tiling_of m) x.kind
 edge-there m settled fits L f c right first is_first x at =
     let t = tiling_of m in
     let one = first-in t c.border (state_of t f c).open_edges first right.border is_first in
     let among : IsAmong one.edge (state_of t f c).open_edges = subst (λ es. IsAmong one.edge es) (sym one.is) (inl refl) in
     let below = edge-exists m settled fits L f right.frame c right one.edge among x (subst (λ i. slice_get c.found i ≡ Some x) one.same_tile at) in
-    subst (λ e. IsSome (type_of (contacts t) x.kind e)) (sym one.same_edge) (is_some-of t x.kind one.edge.edge _ (type_of-at (points_of m.order) (rule_of m) x.kind one.edge.edge below))
+    subst (λ e. e < edges_of t x.kind) (sym one.same_edge) below
 
 slice_get-within : {A : Type 0} (xs : List A) (i : ℕ) (y : A) → slice_get xs i ≡ Some y → i < length xs
 slice_get-within [] i y h = cc

@@ -13,10 +13,11 @@ use Rattle.frames.specs.Outline.{supertile_holds}
 use Rattle.lazy_walk.specs.Ancestors.{full}
 use Rattle.lazy_walk.specs.Boundary.{IsBoundaryEdge}
 use Rattle.lazy_walk.specs.Containing.{frame_motion}
-use Rattle.lazy_walk.specs.Frames.{FrameValue, whole, IsFrameOf, GrowsTo, lifted_at}
+use Rattle.lazy_walk.specs.Frames.{FrameValue, whole, at_depth, IsFrameOf, GrowsTo, lifted_at}
 use Rattle.lazy_walk.proofs.Ancestors.{level-at}
+use Rattle.lazy_walk.proofs.Crossings.{boundary-part}
 use Rattle.lazy_walk.proofs.InFull.{names, deep, level-grown, by_level}
-use Rattle.lazy_walk.proofs.Walks.{StillFits, GrowsTo-self}
+use Rattle.lazy_walk.proofs.Walks.{StillFits, GrowsTo-self, later}
 use Rattle.rule_model.specs.declared.rule.Rule.{Rule}
 use Rattle.rule_model.specs.Tiling.{Tiling, tiling_of, children}
 use Rattle.substitution.specs.Placement.{placement}
@@ -66,6 +67,7 @@ module _ (m : Rule) (settled : IsSettled m) (fits : StillFits (children (tiling_
     tile = by_level m settled fits f is f (GrowsTo-self t f is) a of;
     edge_exists = edge;
     across = subst (λ y. IsTileAcross P T.rule (tile_at P T.rule (lifted_in y a)) e (tile_at P T.rule b) back) (sym (level-grown m settled fits f is g h)) x.across;
-    least = λ k l j. let on = least k l j in
-        (on.own, on.part, subst (λ y. IsOnBoundary P T.rule (tile_at P T.rule (lifted_in y a)) e on.own on.part) (sym (level-at t f is k l (omega (arith, j, h.is_frame.at_most_64)))) on.lies);
+    least = λ k l j.
+        let on = boundary-part m fits f a is of settled e edge (at_depth t k f) (later t f k is l (omega (arith, j, h.is_frame.at_most_64))) (least k l j) in
+        (on.0, on.1, subst (λ y. IsOnBoundary P T.rule (tile_at P T.rule (lifted_in y a)) e on.0 on.1) (sym (level-at t f is k l (omega (arith, j, h.is_frame.at_most_64)))) on.2);
   }

@@ -9,12 +9,14 @@ use Rattle.dissection.specs.Accepted.{AcceptedRule}
 use Rattle.frames.specs.Frame.{at_level, frame_tiles, lifted_in}
 use Rattle.lazy_walk.specs.Ancestors.{full}
 use Rattle.lazy_walk.specs.Boundary.{IsBoundaryEdge}
-use Rattle.lazy_walk.specs.Frames.{FrameValue, whole, GrowsTo}
+use Rattle.lazy_walk.specs.Frames.{FrameValue, whole, at_depth, GrowsTo}
 use Rattle.lazy_walk.proofs.Ancestors.{full-later}
-use Rattle.lazy_walk.proofs.Walks.{StillFits}
+use Rattle.lazy_walk.proofs.Crossings.{boundary-part}
+use Rattle.lazy_walk.proofs.Walks.{StillFits, later}
 use Rattle.rule_model.specs.declared.rule.Rule.{Rule}
 use Rattle.rule_model.specs.Tiling.{Tiling, tiling_of, children}
 use Rattle.substitution.specs.Points.{Points}
+use Rattle.tile_place.specs.Crossed.{LiesOnBoundary}
 use Rattle.tile_place.proofs.Plane.{IsSettled, its_rule}
 use Rattle.tile_shape.specs.declared.address.Address as program
 use Rattle.tile_shape.specs.Views.{address_of}
@@ -78,10 +80,15 @@ module _ (m : Rule) (settled : IsSettled m) (fits : StillFits (children (tiling_
     edge_exists = edge-exists m settled fits L f right.frame c right one.edge among x at_o;
   }
 
+  on_part : (own : ℕ) × (part : ℕ) × LiesOnBoundary t (lifted_in F a) one.edge.edge own part
+  on_part =
+      boundary-part m fits f a right.frame (its_found m settled fits L f right.frame c right first.tile x at).of_frame settled one.edge.edge own_edge.edge_exists (at_depth t 64 f)
+      (later t f 64 right.frame right.frame.at_most_64 (omega arith)) here
+
   stop : patch.IsDepthLimit P.real (TileOf t) (growing t f) (box_of t c.window) (line_of P T.rule (in_frame P T.rule F a) one.edge.edge) (in_frame P T.rule F a)
       × ((n limit : ℕ) → ¬ IsWindowWithin P (is_refused m.order) T.rule F (box_of t c.window) n limit)
   stop = L.stop T F (is_refused m.order) (box_of t c.window) (window-on m settled fits L f right.frame c right) s right.state one.edge among a
-      (found-at m settled fits L f right.frame c right one.edge.tile x at_o) own_edge here.own here.part here.lies
+      (found-at m settled fits L f right.frame c right one.edge.tile x at_o) own_edge on_part.0 on_part.1 on_part.2
 
   pub not_enough : (f0 : FrameValue) (n : ℕ) → GrowsTo t f0 f → ¬ IsLeastEnough t f0 c.window n
   not_enough f0 n grows enough =

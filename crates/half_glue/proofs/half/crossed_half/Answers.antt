@@ -1,9 +1,8 @@
-use Rattle.std.proofs.Common.{◌≡◌, IsSome, refl, sym, ap, ◌∙◌, subst}
-use Rattle.addressing.specs.Tables.{type_of}
+use Rattle.std.proofs.Common.{◌≡◌, ◌<◌, refl, sym, ap, ◌∙◌, subst}
 use Rattle.frames.specs.Frame.{lifted_in}
 use Rattle.rule_model.specs.Glue.{IsGlueEdge}
-use Rattle.rule_model.specs.Tiling.{tiling_of, contacts}
-use Rattle.tile_place.specs.Crossed.{IsOnlyAcross}
+use Rattle.rule_model.specs.Tiling.{tiling_of}
+use Rattle.tile_place.specs.Crossed.{edges_of, IsOnlyAcross}
 use Rattle.tile_shape.specs.Views.{address_of}
 use Rattle.lazy_walk.specs.Boundary.{IsBoundaryEdge}
 use Rattle.lazy_walk.specs.Frames.{whole, lifted_at}
@@ -17,7 +16,7 @@ pub cross_grow_in_place-requires-clause-edge_exists : goal.cross_grow_in_place-r
 cross_grow_in_place-requires-clause-edge_exists g c =
     let m = c.args.machine.now in
     let x = c.args.tile.now in
-    subst (λ k. IsSome (type_of (contacts (tiling_of m)) k c.args.edge)) (c.requires.given.its_kind ∙ sym c.copy-across.ensures.kind) (glue-edge-there m c.glue_laws.ensures x.kind c.args.edge c.requires.glue_edge.glue_edge)
+    subst (λ k. c.args.edge < edges_of (tiling_of m) k) (c.requires.given.its_kind ∙ sym c.copy-across.ensures.kind) (glue-edge-there m c.glue_laws.ensures x.kind c.args.edge c.requires.glue_edge.glue_edge)
 
 pub returns-in_err-back-clause-least : goal.returns-in_err-back-clause-least
 returns-in_err-back-clause-least g c = λ n l h.

@@ -1,20 +1,18 @@
-use Rattle.std.proofs.Common.{◌≡◌, inl, inr, ℕ, ◌+◌, ◌*◌, ◌<◌, ◌^◌, true, List, length, get_or, slice_get, slice_set, Some, IsSome, refl, sym, ap, ◌∙◌, subst}
+use Rattle.std.proofs.Common.{◌≡◌, inl, inr, ℕ, ◌+◌, ◌*◌, ◌<◌, ◌^◌, true, List, length, get_or, slice_get, slice_set, Some, refl, sym, ap, ◌∙◌, subst}
 use Rattle.std.proofs.lemmas.Option.{slice_get_within}
 use Rattle.addressing.specs.Address.{Address}
-use Rattle.addressing.specs.Tables.{type_of}
 use Rattle.cyclo_points.specs.declared.motion.Motion.{Motion}
 use Rattle.cyclo_points.specs.Order.{points_of}
 use Rattle.cyclo_points.specs.Point.{IsOf, IsWithin}
 use Rattle.frames.specs.Frame.{IsTileOf}
-use Rattle.edge_to_edge.proofs.TablesOf.{type_of-at}
 use Rattle.lazy_walk.specs.Boundary.{IsBoundaryEdge}
 use Rattle.lazy_walk.specs.Crossed.{IsCrossedTo}
 use Rattle.lazy_walk.specs.Frames.{FrameValue, whole, GrowsTo, lifted_at}
 use Rattle.listing_text.specs.declared.entry.Entry.{Entry}
 use Rattle.rule_model.specs.declared.rule.Rule.{Rule}
-use Rattle.rule_model.specs.Tiling.{Tiling, tiling_of, children, contacts}
-use Rattle.rule_model.specs.Views.{rule_of}
+use Rattle.rule_model.specs.Tiling.{Tiling, tiling_of, children}
 use Rattle.tile_place.specs.declared.placed_tile.PlacedTile.{PlacedTile}
+use Rattle.tile_place.specs.Crossed.{edges_of}
 use Rattle.tile_shape.specs.declared.address.Address as programmed
 use Rattle.tile_shape.specs.Views.{address_of}
 use Rattle.list_verify.specs.declared.list_fault.ListFault.{ListFault}
@@ -68,15 +66,11 @@ step_grow-requires-clause-of_frame g c =
     subst (IsTileOf (children (tiling_of c.args.machine.now)) (whole c.args.frame.now)) (its_address g p)
     (of-frame c.args.machine.now B.settled B.fits B.laws c.args.frame.now c.args.window.now c.requires.window_fits c.args.lines.now c.requires.lines _ _ c.requires.found c.args.line c.requires.line_found)
 
-is_some-of : (t : Tiling) (kind e ty : ℕ) → type_of (contacts t) kind e ≡ Some ty → IsSome (type_of (contacts t) kind e)
-is_some-of t kind e ty h = subst IsSome (sym h) refl
-
 pub step_grow-requires-clause-edge_exists : goal.step_grow-requires-clause-edge_exists
 step_grow-requires-clause-edge_exists g c =
     let m = c.args.machine.now in
     let p = (goal.at.step_grow-requires-clause-edge_exists g c).After-put_line in
-    subst (λ (a : Address). IsSome (type_of (contacts (tiling_of m)) a.kind c.args.edge)) (its_address g p)
-    (is_some-of (tiling_of m) _ c.args.edge _ (type_of-at (points_of m.order) (rule_of m) (get_or c.args.lines.now c.args.line no_line).address.kind c.args.edge c.requires.edge_exists))
+    subst (λ (a : Address). c.args.edge < edges_of (tiling_of m) a.kind) (its_address g p) c.requires.edge_exists
 
 pub step_grow-requires-clause-turn_below : goal.step_grow-requires-clause-turn_below
 step_grow-requires-clause-turn_below g c =

@@ -1,12 +1,7 @@
-use Rattle.std.proofs.Common.{rules, ◌≡◌, ℕ, IfErr, length, refl, sym, ap, ◌∙◌, subst}
+use Rattle.std.proofs.Common.{rules, ◌≡◌, ◌<◌, IfErr, refl, sym, ap, ◌∙◌, subst}
 use Rattle.std.proofs.lemmas.Result.{IfErr-weaker}
-use Rattle.addressing.specs.Tables.{Tables, kind_tables}
-use Rattle.cyclo_points.specs.Order.{points_of}
-use Rattle.edge_to_edge.proofs.TablesOf.{kind_tables-is}
-use Rattle.rule_model.specs.declared.rule.Rule.{Rule}
-use Rattle.rule_model.specs.Tiling.{tiling_of, contacts}
-use Rattle.rule_model.specs.Views.{rule_of}
-use Rattle.substitution.specs.RuleParts.{edge_count}
+use Rattle.rule_model.specs.Tiling.{tiling_of}
+use Rattle.tile_place.proofs.KindEdges.{edges_counted}
 use Rattle.tile_shape.specs.Views.{address_of}
 use Rattle.lazy_walk.specs.Boundary.{IsBoundaryEdge}
 use Rattle.lazy_walk.specs.Frames.{lifted_at}
@@ -17,16 +12,25 @@ use Rattle.star_walk.proofs.step_round.step_round.Given.{Over}
 use Rattle.star_walk.proofs.step_round.step_round.Goals.{After-edge_before-edge}
 use Rattle.star_walk.proofs.step_round.step_round.Goals as goal
 
-counted : (t : Tables) (inside now : Rule) (kind edges : ℕ) → t ≡ contacts (tiling_of inside) → inside ≡ now → edges ≡ length (kind_tables t kind).types → edges ≡ edge_count (rule_of now) kind
-counted t inside now kind edges is same h =
-    h ∙ ap (λ u. length (kind_tables u kind).types) (is ∙ ap (λ (r : Rule). contacts (tiling_of r)) same) ∙ ap (λ k. length k.types) (kind_tables-is (points_of now.order) (rule_of now) kind)
+pub edge_before-edge-requires : goal.edge_before-edge-requires
+edge_before-edge-requires g c =
+    let vertex = c.args.corner.now.vertex in
+    let count = edges_counted c.tables.result.now c.checked.result.now c.args.machine.now c.args.corner.now.tile.addr.kind c.edges-edges.result c.tables.ensures.contacts c.checked.ensures.rule c.edges-edges.ensures.count in
+    record { below = subst (λ n. vertex < n) (sym count) c.requires.vertex_exists }
+
+pub step_grow-requires-clause-edge_exists : goal.step_grow-requires-clause-edge_exists
+step_grow-requires-clause-edge_exists g c =
+    let edge = c.edge_before-edge.result in
+    subst (λ n. edge < n)
+    (edges_counted c.tables.result.now c.checked.result.now c.args.machine.now c.args.corner.now.tile.addr.kind c.edges-edges.result c.tables.ensures.contacts c.checked.ensures.rule c.edges-edges.ensures.count)
+    c.edge_before-edge.ensures.exists
 
 -- the edge that is crossed
 number : (g : Over) (c : After-edge_before-edge g) → c.edge_before-edge.result ≡ its_edge (tiling_of c.args.machine.now) c.args.corner.now
 number g c =
     c.edge_before-edge.ensures.number
     ∙ ap (λ k. edge_into k c.args.corner.now.vertex)
-    (counted c.tables.result.now c.checked.result.now c.args.machine.now c.args.corner.now.tile.addr.kind c.edges-edges.result c.tables.ensures.contacts c.checked.ensures.rule c.edges-edges.ensures.count)
+    (edges_counted c.tables.result.now c.checked.result.now c.args.machine.now c.args.corner.now.tile.addr.kind c.edges-edges.result c.tables.ensures.contacts c.checked.ensures.rule c.edges-edges.ensures.count)
 
 pub returns-in_err-corner-clause-limit_exactly : goal.returns-in_err-corner-clause-limit_exactly
 returns-in_err-corner-clause-limit_exactly g c =

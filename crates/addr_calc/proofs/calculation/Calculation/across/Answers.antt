@@ -1,16 +1,16 @@
-use Rattle.std.proofs.Common.{◌<◌, Some, refl, sym, ap, ◌∙◌, subst}
+use Rattle.std.proofs.Common.{◌<◌, ◌≤◌, Some, refl, sym, ap, ◌∙◌, subst}
 use Rattle.addressing.specs.Address.{Fits}
 use Rattle.addressing.specs.Tables.{child_kinds}
-use Rattle.addressing.proofs.EdgesOf.{kind_in_tables, edge_has_type}
+use Rattle.addressing.proofs.EdgesOf.{kind_in_tables}
 use Rattle.rule_model.specs.Tiling.{tiling_of, children, contacts}
 use Rattle.tile_place.specs.Crossed.{edges_of}
+use Rattle.tile_place.proofs.KindEdges.{edges_counted}
 use Rattle.tile_shape.specs.Views.{address_of}
-use Rattle.transducer_core.proofs.OneOutside.{ok_or_err, outside_is}
+use Rattle.transducer_core.proofs.OneOutside.{outside_is}
 use Rattle.addr_calc.specs.Bindings.{bind}
 use Rattle.addr_calc.specs.Calculation.{AllFit}
 use Rattle.addr_calc.specs.Printed.{across_line}
 use Rattle.addr_calc.proofs.Names.{bind_fits}
-use Rattle.addr_calc.proofs.Tables.{edges_counted}
 use Rattle.addr_calc.proofs.calculation.Calculation.across.Goals as goal
 
 pub edges-requires : goal.edges-requires
@@ -20,16 +20,23 @@ edges-requires g c = record {
       (c.requires.all_fit c.args.name.number (address_of c.in-Some.address.now) (sym c.in-Some.ensures)).kind_exists;
 }
 
+pub returns-then-edge-edges-clause-refused : goal.returns-then-edge-edges-clause-refused
+returns-then-edge-edges-clause-refused g c =
+    let edge = c.args.edge in
+    let count = edges_counted c.tables.result.now c.checked.result.now c.args.machine.now c.in-Some.address.now.kind c.edges.result c.tables.ensures.contacts c.checked.ensures.rule c.edges.ensures.count in (
+      refl,
+      record { address = address_of c.in-Some.address.now; bound = sym c.in-Some.ensures; beyond = subst (λ n. n ≤ edge) count c.if-edge-edges.true },
+    )
+
 pub cross_in_place-requires : goal.cross_in_place-requires
 cross_in_place-requires g c =
     let t = tiling_of c.args.machine.now in
     let kind = c.in-Some.address.now.kind in
     let edge = c.args.edge in
-    let count = edges_counted c.tables.result.now t kind c.edges.result (c.tables.ensures.contacts ∙ ap (λ m. contacts (tiling_of m)) c.checked.ensures.rule) c.edges.ensures.count in
+    let count = edges_counted c.tables.result.now c.checked.result.now c.args.machine.now kind c.edges.result c.tables.ensures.contacts c.checked.ensures.rule c.edges.ensures.count in
     record {
       fits = subst (Fits (children t)) (sym c.put_digits.ensures.seen) (c.requires.all_fit c.args.name.number (address_of c.in-Some.address.now) (sym c.in-Some.ensures));
-      edge_exists = edge_has_type (contacts t) c.put_digits.new.there.kind edge
-          (subst (λ k. edge < edges_of t k) (sym c.put_digits.ensures.kind) (subst (λ n. edge < n) count c.if-edge-edges.false));
+      edge_exists = subst (λ k. edge < edges_of t k) (sym c.put_digits.ensures.kind) (subst (λ n. edge < n) count c.if-edge-edges.false);
     }
 
 pub returns-in-Err-clause-refused : goal.returns-in-Err-clause-refused
@@ -37,7 +44,7 @@ returns-in-Err-clause-refused g c =
     let t = tiling_of c.args.machine.now in
     let kind = c.in-Some.address.now.kind in
     let edge = c.args.edge in
-    let count = edges_counted c.tables.result.now t kind c.edges.result (c.tables.ensures.contacts ∙ ap (λ m. contacts (tiling_of m)) c.checked.ensures.rule) c.edges.ensures.count in (
+    let count = edges_counted c.tables.result.now c.checked.result.now c.args.machine.now kind c.edges.result c.tables.ensures.contacts c.checked.ensures.rule c.edges.ensures.count in (
       refl,
       record {
         address = address_of c.put_digits.new.there;
@@ -58,7 +65,7 @@ returns-in_ok-print_across-in-Ok-clause-done g c =
     let back = c.in-Ok.back in
     let edge = c.args.edge in
     let other = c.args.other.number in
-    let count = edges_counted c.tables.result.now t kind c.edges.result (c.tables.ensures.contacts ∙ ap (λ m. contacts (tiling_of m)) c.checked.ensures.rule) c.edges.ensures.count in
+    let count = edges_counted c.tables.result.now c.checked.result.now c.args.machine.now kind c.edges.result c.tables.ensures.contacts c.checked.ensures.rule c.edges.ensures.count in
     let after = c.bind.ensures ∙ ap (λ names. bind names other x) c.in_ok-print_across-in-Ok.ensures.names in
     record {
       printed = across_line other x back;
@@ -66,7 +73,7 @@ returns-in_ok-print_across-in-Ok-clause-done g c =
         address = address_of c.put_digits.new.there;
         bound = sym c.in-Some.ensures ∙ ap (λ a. Some a) (sym c.put_digits.ensures.seen);
         exists = subst (λ k. edge < edges_of t k) (sym c.put_digits.ensures.kind) (subst (λ n. edge < n) count c.if-edge-edges.false);
-        on_none = λ top part lies. ok_or_err _ _ _ c.in-Ok.is (c.cross_in_place.ensures.boundary_is_outside top part lies);
+        on_none = c.in-Ok.ensures.inside;
         across = x;
         back = back;
         only_across = c.in-Ok.ensures.only_tile_across;

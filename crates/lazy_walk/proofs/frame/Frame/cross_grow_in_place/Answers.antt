@@ -5,7 +5,8 @@ use Rattle.addressing.specs.Address.{Fits}
 use Rattle.frames.specs.Frame.{lifted_in}
 use Rattle.rule_model.specs.declared.rule.Rule.{Rule}
 use Rattle.rule_model.specs.Tiling.{tiling_of, contacts, children}
-use Rattle.tile_place.proofs.Plane.{BoundariesLaw, IsSettled}
+use Rattle.tile_place.specs.Crossed.{LiesAlong}
+use Rattle.tile_place.proofs.Plane.{BoundariesLaw, IsSettled, part_along}
 use Rattle.tile_shape.specs.declared.address.Address.{Address}
 use Rattle.tile_shape.specs.Usable.{AreUsable}
 use Rattle.tile_shape.specs.Views.{address_of}
@@ -40,6 +41,10 @@ returns-in-Ok-clause-at_new_depth g c =
     (across-of_frame c.args.machine.now fits c.args.self.now (address_of c.args.tile.now) c.requires.frame c.requires.of_frame c.loop-back.self (address_of c.cross_in_place.new.addr) c.args.edge
     c.in-Ok.back c.loop-back.invariant.grown (subst (λ a. IsAcross (contacts (tiling_of c.args.machine.now)) a c.args.edge (address_of c.cross_in_place.new.addr) c.in-Ok.back)
     c.loop-back.invariant.lifted c.in-Ok.ensures.across) c.in-Ok.ensures.answer_fits).1
+
+pub returns-in-Ok-clause-inside : goal.returns-in-Ok-clause-inside
+returns-in-Ok-clause-inside g c = λ on.
+    c.in-Ok.ensures.inside on.own (subst (λ a. LiesAlong (tiling_of c.args.machine.now) a c.args.edge on.own) (sym c.loop-back.invariant.lifted) on.along)
 
 -- what is on the boundary at depth 64 was so before, and is answered as Outside
 pub returns-in-Ok-clause-limit_exactly : goal.returns-in-Ok-clause-limit_exactly
@@ -77,7 +82,7 @@ loop-back-preserved g c = record {
     fits = still_fits c.uses.result.now c.args.machine.now c.checked-checked.result.now c.uses.ensures c.checked-checked.ensures.rule c.kinds-usable.ensures.limits (λ children usable base start n h. c.grown_fits_law.ensures children base start n usable h)
 
     here : IsBoundaryEdge (tiling_of c.args.machine.now) (lifted_in (whole c.loop-back.self) (address_of c.args.tile.now)) c.args.edge
-    here = subst (λ a. IsBoundaryEdge (tiling_of c.args.machine.now) a c.args.edge) c.loop-back.invariant.lifted (record { own = c.in_default.field-0.edge; part = c.in_default.field-0.part; lies = c.in_default.ensures.outside_on_boundary })
+    here = subst (λ a. IsBoundaryEdge (tiling_of c.args.machine.now) a c.args.edge) c.loop-back.invariant.lifted (record { own = c.in_default.field-0.edge; along = part_along (tiling_of c.args.machine.now) (address_of c.loop-back.tile) c.args.edge c.in_default.field-0.edge c.in_default.field-0.part c.in_default.ensures.outside_on_boundary })
 
 pub returns-in-Err-clause-least : goal.returns-in-Err-clause-least
 returns-in-Err-clause-least g c = λ n l h. c.loop-back.invariant.before n l (subst (λ (f : FrameValue). n < length f.digits) c.in-Err.ensures.full h)
@@ -96,4 +101,4 @@ returns-in-Err-clause-limit_exactly g c = (λ e. at_64, λ on. refl)
         subst (λ n. IsBoundaryEdge (tiling_of c.args.machine.now) (lifted_at (tiling_of c.args.machine.now) c.args.self.now (address_of c.args.tile.now) n) c.args.edge) deepest
         (subst (λ a. IsBoundaryEdge (tiling_of c.args.machine.now) a c.args.edge)
         (c.loop-back.invariant.lifted ∙ lifted-later (tiling_of c.args.machine.now) c.args.self.now c.loop-back.self (address_of c.args.tile.now) c.loop-back.invariant.grown)
-        (record { own = c.in_default.field-0.edge; part = c.in_default.field-0.part; lies = c.in_default.ensures.outside_on_boundary }))
+        (record { own = c.in_default.field-0.edge; along = part_along (tiling_of c.args.machine.now) (address_of c.loop-back.tile) c.args.edge c.in_default.field-0.edge c.in_default.field-0.part c.in_default.ensures.outside_on_boundary }))

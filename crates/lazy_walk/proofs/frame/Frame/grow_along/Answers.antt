@@ -1,12 +1,13 @@
-use Rattle.std.proofs.Common.{◌≡◌, ◌↔◌, ◌<◌, ◌≤◌, ◌+◌, ◌∷◌, [], ℕ, IsSome, List, length, get_or, take, drop, refl, sym, ap, ◌∙◌, subst, append-nil}
+use Rattle.std.proofs.Common.{◌≡◌, ◌<◌, ◌≤◌, ◌+◌, ◌∷◌, [], ℕ, List, length, get_or, take, drop, refl, sym, ap, ◌∙◌, subst, append-nil}
 use Rattle.std.proofs.lemmas.List.{take_more, take_all, length-map}
 use Rattle.addressing.specs.Address.{Address}
-use Rattle.addressing.specs.Tables.{Tables, KindTables, child_kinds, kind_tables, type_of}
+use Rattle.addressing.specs.Tables.{Tables, KindTables, child_kinds, kind_tables}
 use Rattle.frames.specs.Frame.{lifted_in}
 use Rattle.frames.proofs.Frames.{IsWhole}
 use Rattle.rule_model.specs.declared.rule.Rule.{Rule}
 use Rattle.rule_model.specs.Tiling.{tiling_of, contacts, children}
 use Rattle.tile_place.specs.Crossed.{edges_of}
+use Rattle.tile_place.proofs.KindEdges.{edges_counted}
 use Rattle.tile_shape.specs.Views.{address_of}
 use Rattle.lazy_walk.specs.Frames.{FrameValue, whole, at_depth, lifted_at}
 use Rattle.lazy_walk.specs.Paths.{Leads, CanBeWalked, IsStopped, IsStoppedAt}
@@ -24,11 +25,8 @@ in_tables : (t : Tables) (inside now : Rule) (kind : ℕ) → t ≡ contacts (ti
 in_tables t inside now kind is same kinds l =
     subst (λ n. kind < n) (ap (λ (rows : List (List ℕ)). length rows) (sym (ap child_kinds (is ∙ ap (λ (r : Rule). contacts (tiling_of r)) same) ∙ kinds)) ∙ length-map t.kinds (λ (k : KindTables). k.children)) l
 
-counted : (t : Tables) (inside now : Rule) (kind edges : ℕ) → t ≡ contacts (tiling_of inside) → inside ≡ now → edges ≡ length (kind_tables t kind).types → edges ≡ edges_of (tiling_of now) kind
-counted t inside now kind edges is same h = h ∙ ap (λ t. length (kind_tables t kind).types) (is ∙ ap (λ (r : Rule). contacts (tiling_of r)) same)
-
-edge_there : (t : Tables) (inside now : Rule) (kind edge edges : ℕ) → t ≡ contacts (tiling_of inside) → inside ≡ now → ((e : ℕ) → IsSome (type_of t kind e) ↔ (e < edges)) → edge < edges → IsSome (type_of (contacts (tiling_of now)) kind edge)
-edge_there t inside now kind edge edges is same exist below = subst (λ (u : Tables). IsSome (type_of u kind edge)) (is ∙ ap (λ (r : Rule). contacts (tiling_of r)) same) ((exist edge).1 below)
+edge_there : (t : Tables) (inside now : Rule) (kind edge edges : ℕ) → t ≡ contacts (tiling_of inside) → inside ≡ now → edges ≡ length (kind_tables t kind).types → edge < edges → edge < edges_of (tiling_of now) kind
+edge_there t inside now kind edge edges is same count below = subst (λ n. edge < n) (edges_counted t inside now kind edges is same count) below
 
 pub loop-edge-init : goal.loop-edge-init
 loop-edge-init g c =
@@ -56,7 +54,7 @@ returns-then-edge-edges-clause-fault_at_64 g c =
       tile = lifted_at (tiling_of c.args.machine.now) c.loop-edge.self (address_of c.loop-edge.tile) 64;
       comes = comes_at_64 c.args.machine.now laws c.args.self.now c.loop-edge.self (address_of c.loop-edge.tile) (take c.loop-edge.edge-index c.args.path.now) c.loop-edge.invariant
           (get_or c.args.path.now c.loop-edge.edge-index 0) c.args.path.now (drop (c.loop-edge.edge-index + 1) c.args.path.now) (parted c.args.path.now c.loop-edge.edge-index c.loop-edge-test.true);
-      count = counted c.tables.result.now c.checked-checked.result.now c.args.machine.now c.loop-edge.tile.kind c.edges-edges.result c.tables.ensures.contacts c.checked-checked.ensures.rule c.edges-edges.ensures.count;
+      count = edges_counted c.tables.result.now c.checked-checked.result.now c.args.machine.now c.loop-edge.tile.kind c.edges-edges.result c.tables.ensures.contacts c.checked-checked.ensures.rule c.edges-edges.ensures.count;
       beyond = c.if-edge-edges.true;
     }
 
@@ -64,7 +62,7 @@ pub cross_grow_in_place-requires-clause-of_frame : goal.cross_grow_in_place-requ
 cross_grow_in_place-requires-clause-of_frame g c = whole-tile_of (children (tiling_of c.args.machine.now)) (whole c.loop-edge.self) (address_of c.loop-edge.tile) c.loop-edge.invariant.own
 
 pub cross_grow_in_place-requires-clause-edge_exists : goal.cross_grow_in_place-requires-clause-edge_exists
-cross_grow_in_place-requires-clause-edge_exists g c = edge_there c.tables.result.now c.checked-checked.result.now c.args.machine.now c.loop-edge.tile.kind (get_or c.args.path.now c.loop-edge.edge-index 0) c.edges-edges.result c.tables.ensures.contacts c.checked-checked.ensures.rule c.edges-edges.ensures.exist c.if-edge-edges.false
+cross_grow_in_place-requires-clause-edge_exists g c = edge_there c.tables.result.now c.checked-checked.result.now c.args.machine.now c.loop-edge.tile.kind (get_or c.args.path.now c.loop-edge.edge-index 0) c.edges-edges.result c.tables.ensures.contacts c.checked-checked.ensures.rule c.edges-edges.ensures.count c.if-edge-edges.false
 
 pub returns-in-Err-clause-frame : goal.returns-in-Err-clause-frame
 returns-in-Err-clause-frame g c = GrowsTo-then (tiling_of c.args.machine.now) c.args.self.now c.loop-edge.self c.cross_grow_in_place.new.self c.loop-edge.invariant.grows c.in-Err.ensures.frame
@@ -75,7 +73,7 @@ returns-in-Err-clause-least g c n l k =
     (record { accepted = c.checked-checked.ensures.accepted; usable = c.checked-checked.ensures.usable; same_child_kinds = c.checked-checked.ensures.same_child_kinds }) c.across_law.ensures c.boundary_law.ensures
     c.uses.ensures c.kinds-usable.ensures.limits (λ children usable base start n h. c.grown_fits_law.ensures children base start n usable h) in
     subst (IsStopped (tiling_of c.args.machine.now) (whole (at_depth (tiling_of c.args.machine.now) n c.args.self.now))) (sym (parted c.args.path.now c.loop-edge.edge-index c.loop-edge-test.true))
-    (stops_before c.args.machine.now laws c.args.self.now c.loop-edge.self (address_of c.loop-edge.tile) (take c.loop-edge.edge-index c.args.path.now) c.loop-edge.invariant c.cross_grow_in_place.new.self (get_or c.args.path.now c.loop-edge.edge-index 0) (edge_there c.tables.result.now c.checked-checked.result.now c.args.machine.now c.loop-edge.tile.kind (get_or c.args.path.now c.loop-edge.edge-index 0) c.edges-edges.result c.tables.ensures.contacts c.checked-checked.ensures.rule c.edges-edges.ensures.exist c.if-edge-edges.false) c.in-Err.ensures.frame c.in-Err.ensures.least n (drop (c.loop-edge.edge-index + 1) c.args.path.now) l k)
+    (stops_before c.args.machine.now laws c.args.self.now c.loop-edge.self (address_of c.loop-edge.tile) (take c.loop-edge.edge-index c.args.path.now) c.loop-edge.invariant c.cross_grow_in_place.new.self (get_or c.args.path.now c.loop-edge.edge-index 0) (edge_there c.tables.result.now c.checked-checked.result.now c.args.machine.now c.loop-edge.tile.kind (get_or c.args.path.now c.loop-edge.edge-index 0) c.edges-edges.result c.tables.ensures.contacts c.checked-checked.ensures.rule c.edges-edges.ensures.count c.if-edge-edges.false) c.in-Err.ensures.frame c.in-Err.ensures.least n (drop (c.loop-edge.edge-index + 1) c.args.path.now) l k)
 
 pub returns-in-Err-clause-fault_at_64 : goal.returns-in-Err-clause-fault_at_64
 returns-in-Err-clause-fault_at_64 g c =
@@ -86,7 +84,7 @@ returns-in-Err-clause-fault_at_64 g c =
     let at = whole (at_depth (tiling_of c.args.machine.now) 64 c.args.self.now) in
     let here : IsStoppedAt t at c.args.path.now (lifted_at t c.loop-edge.self (address_of c.loop-edge.tile) 64) (get_or c.args.path.now c.loop-edge.edge-index 0) = record {
       comes = comes_at_64 c.args.machine.now laws c.args.self.now c.loop-edge.self (address_of c.loop-edge.tile) (take c.loop-edge.edge-index c.args.path.now) c.loop-edge.invariant (get_or c.args.path.now c.loop-edge.edge-index 0) c.args.path.now (drop (c.loop-edge.edge-index + 1) c.args.path.now) (parted c.args.path.now c.loop-edge.edge-index c.loop-edge-test.true);
-      edge_exists = edge_there c.tables.result.now c.checked-checked.result.now c.args.machine.now c.loop-edge.tile.kind (get_or c.args.path.now c.loop-edge.edge-index 0) c.edges-edges.result c.tables.ensures.contacts c.checked-checked.ensures.rule c.edges-edges.ensures.exist c.if-edge-edges.false;
+      edge_exists = edge_there c.tables.result.now c.checked-checked.result.now c.args.machine.now c.loop-edge.tile.kind (get_or c.args.path.now c.loop-edge.edge-index 0) c.edges-edges.result c.tables.ensures.contacts c.checked-checked.ensures.rule c.edges-edges.ensures.count c.if-edge-edges.false;
       on_boundary = c.in-Err.ensures.limit_exactly.0 refl;
     } in
     subst (λ e. IsStoppedAt t at c.args.path.now (address_of c.in-Err.limit.addr) e) (sym c.in-Err.ensures.limit_edge)
@@ -102,7 +100,7 @@ loop-edge-preserved g c =
     subst (IsOnPath c.args.machine.now c.args.self.now c.cross_grow_in_place.new.self (address_of c.cross_grow_in_place.new.tile)) (sym (take_more c.args.path.now c.loop-edge.edge-index 0 c.loop-edge-test.true))
     (goes_on c.args.machine.now laws c.args.self.now c.loop-edge.self (address_of c.loop-edge.tile) (take c.loop-edge.edge-index c.args.path.now) c.loop-edge.invariant c.cross_grow_in_place.new.self (address_of c.cross_grow_in_place.new.tile) (get_or c.args.path.now c.loop-edge.edge-index 0) c.in_default.field-0 c.in_default.ensures.frame
     (record {
-      edge_exists = edge_there c.tables.result.now c.checked-checked.result.now c.args.machine.now c.loop-edge.tile.kind (get_or c.args.path.now c.loop-edge.edge-index 0) c.edges-edges.result c.tables.ensures.contacts c.checked-checked.ensures.rule c.edges-edges.ensures.exist c.if-edge-edges.false;
+      edge_exists = edge_there c.tables.result.now c.checked-checked.result.now c.args.machine.now c.loop-edge.tile.kind (get_or c.args.path.now c.loop-edge.edge-index 0) c.edges-edges.result c.tables.ensures.contacts c.checked-checked.ensures.rule c.edges-edges.ensures.count c.if-edge-edges.false;
       inside = c.in_default.ensures.inside;
       fits = own.fits;
       across = c.in_default.ensures.only_tile_across;

@@ -1,7 +1,7 @@
-use Rattle.std.proofs.Common.{◌≡◌, ◌∙◌, ℕ, Result, Ok, Err, IfOk, IfErr, OnErr, List, sym, ap, subst}
+use Rattle.std.proofs.Common.{◌≡◌, ◌∙◌, ℕ, Result, Ok, Err, IfOk, IfErr, OnErr, IsSome, List, sym, ap, subst}
 use Rattle.addressing.specs.Address.{Address as TheAddress, Fits}
 use Rattle.addressing.specs.Across.{IsAcross, LiesOn}
-use Rattle.addressing.specs.Tables.{Tables, child_kinds}
+use Rattle.addressing.specs.Tables.{Tables, child_kinds, type_of}
 use Rattle.addressing.specs.Touch.{Touches}
 use Rattle.cyclo_points.specs.declared.order.Order.{Order}
 use Rattle.rule_model.specs.declared.rule.Rule.{Rule}
@@ -9,7 +9,8 @@ use Rattle.rule_model.specs.Tiling.{tiling_of, contacts, children}
 use Rattle.tile_shape.specs.Views.{address_of}
 use Rattle.tile_shape.specs.declared.address.Address.{Address}
 use Rattle.transducer_core.specs.declared.outside.Outside.{Outside}
-use Rattle.tile_place.proofs.Plane.{OnlyTilesLaw, BoundariesLaw, IsSettled, only_across, way_back, lies_on_boundary, boundary_lies}
+use Rattle.tile_place.proofs.KindEdges.{edge_typed}
+use Rattle.tile_place.proofs.Plane.{OnlyTilesLaw, BoundariesLaw, IsSettled, only_across, way_back, lies_on_boundary, outside_on, along_none}
 use Rattle.tile_place.proofs.machine.Machine.cross_in_place.Goals as goal
 
 -- the transducer's tables are those of the tiling, and their child kinds too
@@ -38,6 +39,11 @@ pub step_across_in_place-requires-clause-fits : goal.step_across_in_place-requir
 step_across_in_place-requires-clause-fits g c =
     let same = same_tables c.self.inside.transducer c.self.inside.checked c.args.self.now c.self.invariant.tables_are c.self.view_is in
     subst (λ u. Fits u (address_of c.args.addr.now)) (sym (same_kinds c.self.inside.transducer c.args.self.now same c.checked.ensures.same_child_kinds)) c.requires.fits
+
+pub step_across_in_place-requires-clause-edge_exists : goal.step_across_in_place-requires-clause-edge_exists
+step_across_in_place-requires-clause-edge_exists g c =
+    let same = same_tables c.self.inside.transducer c.self.inside.checked c.args.self.now c.self.invariant.tables_are c.self.view_is in
+    subst (λ (t : Tables). IsSome (type_of t c.args.addr.now.kind c.args.edge)) (sym same) ((edge_typed (tiling_of c.args.self.now) c.args.addr.now.kind c.args.edge).1 c.requires.edge_exists)
 
 pub returns-clause-across : goal.returns-clause-across
 returns-clause-across g c =
@@ -96,9 +102,17 @@ returns-clause-outside_on_boundary g c =
     (lies_of c.self.inside.transducer (contacts (tiling_of c.args.self.now)) (address_of c.args.addr.now) c.args.edge c.step_across_in_place.result same c.step_across_in_place.ensures.on_boundary)
 
 pub returns-clause-boundary_is_outside : goal.returns-clause-boundary_is_outside
-returns-clause-boundary_is_outside g c own part on =
+returns-clause-boundary_is_outside g c =
     let same = same_tables c.self.inside.transducer c.self.inside.checked c.args.self.now c.self.invariant.tables_are c.self.view_is in
     let settled : IsSettled c.args.self.now = record { accepted = c.checked.ensures.accepted; usable = c.checked.ensures.usable; same_child_kinds = c.checked.ensures.same_child_kinds } in
-    let lies = boundary_lies c.args.self.now settled (address_of c.args.addr.now) c.args.edge c.requires.fits c.requires.edge_exists
-    (of_order BoundariesLaw c.order-order.result c.checked.result.now c.args.self.now c.order-order.ensures.order c.checked.ensures.rule c.boundary_law.ensures) own part on in
-    c.step_across_in_place.ensures.boundary_when own part (subst (λ (t : Tables). LiesOn t (address_of c.args.addr.now) c.args.edge own part) (sym same) lies)
+    outside_on c.args.self.now settled (address_of c.args.addr.now) c.args.edge c.requires.fits c.requires.edge_exists
+    (of_order BoundariesLaw c.order-order.result c.checked.result.now c.args.self.now c.order-order.ensures.order c.checked.ensures.rule c.boundary_law.ensures)
+    c.self.inside.transducer same c.step_across_in_place.result c.step_across_in_place.ensures.boundary_when
+
+pub returns-clause-inside : goal.returns-clause-inside
+returns-clause-inside g c =
+    let same = same_tables c.self.inside.transducer c.self.inside.checked c.args.self.now c.self.invariant.tables_are c.self.view_is in
+    let settled : IsSettled c.args.self.now = record { accepted = c.checked.ensures.accepted; usable = c.checked.ensures.usable; same_child_kinds = c.checked.ensures.same_child_kinds } in
+    along_none c.args.self.now settled (address_of c.args.addr.now) c.args.edge c.requires.fits c.requires.edge_exists
+    (of_order BoundariesLaw c.order-order.result c.checked.result.now c.args.self.now c.order-order.ensures.order c.checked.ensures.rule c.boundary_law.ensures)
+    c.self.inside.transducer same c.step_across_in_place.result c.step_across_in_place.ensures.boundary_when

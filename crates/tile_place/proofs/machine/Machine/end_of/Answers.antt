@@ -4,7 +4,7 @@ use Rattle.rule_model.specs.declared.rule.Rule.{Rule}
 use Rattle.rule_model.specs.Tiling.{tiling_of}
 use Rattle.rule_model.specs.Views.{rule_of}
 use Rattle.tile_place.specs.TurnedVertices.{IsTurned}
-use Rattle.tile_place.proofs.Gluing.{edge_listed, kind_listed}
+use Rattle.tile_place.proofs.Gluing.{kind_listed}
 use Rattle.tile_place.proofs.TurnedPlaces.{end-below}
 use Rattle.tile_place.proofs.machine.Machine.end_of.Goals as goal
 use Rattle.tile_place.proofs.machine.Machine.end_of.Goals.{After-next_of-end}
@@ -16,7 +16,7 @@ pub next_of-end-requires : goal.next_of-end-requires
 next_of-end-requires c =
     let m = c.args.self.now in
     let edges : length c.vertices.result.now ≡ edge_count (rule_of m) c.args.kind = c.vertices.ensures.each_edge ∙ ap (λ (r : Rule). edge_count (rule_of r) c.args.kind) c.checked.ensures.rule in
-    let listed = edge_listed m c.args.kind c.args.edge c.requires.exists in
+    let listed = c.requires.exists in
     record { exists = omega (arith, edges, listed, c.from.ensures) }
 
 pub turned_vertex-requires-clause-exists : goal.turned_vertex-requires-clause-exists
@@ -30,7 +30,7 @@ end_is c =
 pub turned_vertex-requires-clause-vertex_exists : goal.turned_vertex-requires-clause-vertex_exists
 turned_vertex-requires-clause-vertex_exists c =
     let m = c.args.self.now in
-    subst (λ e. e < edge_count (rule_of m) c.args.kind) (sym (end_is c)) (end-below (edge_count (rule_of m) c.args.kind) c.args.edge (edge_listed m c.args.kind c.args.edge c.requires.exists))
+    subst (λ e. e < edge_count (rule_of m) c.args.kind) (sym (end_is c)) (end-below (edge_count (rule_of m) c.args.kind) c.args.edge c.requires.exists)
 
 pub returns : goal.returns
 returns c = subst (λ e. IsTurned (tiling_of c.args.self.now) c.args.kind c.args.steps e c.turned_vertex.result) (end_is c.before) c.turned_vertex.ensures

@@ -59,6 +59,8 @@ loop-vertex-preserved c =
           (ap (is_refused o) (sym corner) ∙ sym (c.refused.ensures.in_order o (c.add-corner.ensures.in_order o c.mul.ensures.in_order (subst (λ q. IsOf q c.args.at.now.shift) (sym same) c.requires.at_in_order))) ∙ c.if-refused.false))
           ∙ c.loop-vertex.invariant.first;
       within = subst (λ xs. All (IsWithin (2 ^ 24)) xs) (sym c.push.ensures.items) (All-one_more (IsWithin (2 ^ 24)) c.loop-vertex.corners.items c.add-corner.result c.loop-vertex.invariant.within (c.refused.ensures.within c.if-refused.false));
+      in_order = subst (λ xs. All (IsOf o) xs) (sym c.push.ensures.items) (All-one_more (IsOf o) c.loop-vertex.corners.items c.add-corner.result c.loop-vertex.invariant.in_order
+          (c.add-corner.ensures.in_order o c.mul.ensures.in_order (subst (λ q. IsOf q c.args.at.now.shift) (sym same) c.requires.at_in_order)));
       count = c.push.ensures.len ∙ ap (λ n. n + 1) c.loop-vertex.invariant.count;
     }
 
@@ -79,3 +81,8 @@ pub returns-then-refused-clause-limit_in_order : goal.returns-then-refused-claus
 returns-then-refused-clause-limit_in_order c =
     let same : c.order-order.result ≡ c.args.self.now.order = c.order-order.ensures.order ∙ ap (λ (r : Rule). r.order) c.checked-checked.ensures.rule in
     subst (λ q. IsOf q c.add-corner.result) same (c.add-corner.ensures.in_order c.order-order.result c.mul.ensures.in_order (subst (λ q. IsOf q c.args.at.now.shift) (sym same) c.requires.at_in_order))
+
+pub returns-clause-in_order : goal.returns-clause-in_order
+returns-clause-in_order c =
+    let same : c.order-order.result ≡ c.args.self.now.order = c.order-order.ensures.order ∙ ap (λ (r : Rule). r.order) c.checked-checked.ensures.rule in
+    subst (λ q. All (IsOf q) c.loop-vertex.corners.items) same c.loop-vertex.invariant.in_order

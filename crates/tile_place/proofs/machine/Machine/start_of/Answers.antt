@@ -3,7 +3,7 @@ use Rattle.substitution.specs.RuleParts.{edge_count}
 use Rattle.rule_model.specs.Tiling.{tiling_of}
 use Rattle.rule_model.specs.Views.{rule_of}
 use Rattle.tile_place.specs.TurnedVertices.{IsTurned}
-use Rattle.tile_place.proofs.Gluing.{edge_listed, kind_listed}
+use Rattle.tile_place.proofs.Gluing.{kind_listed}
 use Rattle.tile_place.proofs.machine.Machine.start_of.Goals as goal
 
 pub turned_vertex-requires-clause-exists : goal.turned_vertex-requires-clause-exists
@@ -11,7 +11,7 @@ turned_vertex-requires-clause-exists c = kind_listed c.args.self.now c.args.kind
 
 pub turned_vertex-requires-clause-vertex_exists : goal.turned_vertex-requires-clause-vertex_exists
 turned_vertex-requires-clause-vertex_exists c =
-    subst (λ e. e < edge_count (rule_of c.args.self.now) c.args.kind) (sym c.from.ensures) (edge_listed c.args.self.now c.args.kind c.args.edge c.requires.exists)
+    subst (λ e. e < edge_count (rule_of c.args.self.now) c.args.kind) (sym c.from.ensures) c.requires.exists
 
 pub returns : goal.returns
 returns c = subst (λ e. IsTurned (tiling_of c.args.self.now) c.args.kind c.args.steps e c.turned_vertex.result) c.from.ensures c.turned_vertex.ensures

@@ -1,15 +1,15 @@
-use Rattle.std.proofs.Common.{rules, ◌≡◌, ◌<◌, Some, IsSome, OnOk, IfErr, List, length, slice_get, refl, sym, ap, ◌∙◌, subst, add-one}
+use Rattle.std.proofs.Common.{rules, ◌≡◌, ◌<◌, Some, OnOk, IfErr, List, length, slice_get, refl, sym, ap, ◌∙◌, subst, add-one}
 use Rattle.std.proofs.lemmas.Result.{on_ok_weaker}
 use Rattle.frames.specs.Frame.{IsTileOf}
-use Rattle.addressing.specs.Tables.{type_of}
 use Rattle.lazy_walk.specs.Frames.{whole, GrowsTo}
-use Rattle.rule_model.specs.Tiling.{tiling_of, contacts, children}
+use Rattle.rule_model.specs.Tiling.{tiling_of, children}
 use Rattle.tile_shape.specs.Views.{address_of}
 use Rattle.cyclo_points.specs.declared.point.Point.{Point}
 use Rattle.frames.specs.Frame.{lifted_in}
 use Rattle.lazy_walk.specs.Ancestors.{full}
 use Rattle.lazy_walk.specs.Boundary.{IsBoundaryEdge}
 use Rattle.tile_place.specs.Corners.{AreCorners}
+use Rattle.tile_place.specs.Crossed.{edges_of}
 use Rattle.window_cover.specs.Admitted.{IsAdmitted, IsNotAdmitted, found_as}
 use Rattle.window_cover.specs.Border.{Waiting}
 use Rattle.lazy_walk.specs.Crossed.{IsCrossedTo}
@@ -101,7 +101,7 @@ step_grow-requires-clause-edge_exists g c =
     let B = brings g p in
     let x = found_as c.put_tile.new.tile in
     let at = at_first g p in
-    subst (λ n. IsSome (type_of (contacts t) n c.args.first.edge)) (sym c.put_tile.ensures.its_kind) (edge-there m B.settled B.fits B.laws f v c.requires.right c.args.first c.requires.is_first x at)
+    subst (λ n. c.args.first.edge < edges_of t n) (sym c.put_tile.ensures.its_kind) (edge-there m B.settled B.fits B.laws f v c.requires.right c.args.first c.requires.is_first x at)
 
 pub step_grow-requires-clause-turn_below : goal.step_grow-requires-clause-turn_below
 step_grow-requires-clause-turn_below g c =
