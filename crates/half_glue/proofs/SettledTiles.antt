@@ -71,6 +71,7 @@ module _ (t : Tiling) (old now : FrameValue) (grows : GrowsTo t old now) (xs : L
     motion = h.motion;
     stands = h.stands;
     its_shift = h.its_shift;
+    value_in_order = h.value_in_order;
     is_refused = h.is_refused;
   }
   cause-of after NoMemory h = h

@@ -104,6 +104,7 @@ module _ (m : Rule) (L : HasGlueLaws m) (f : FrameValue) (is : IsFrameOf (tiling
         motion = motion_in m.order other.motion;
         stands = stands.in_frame;
         its_shift = refl;
+        value_in_order = stands.in_order;
         is_refused = beyond;
       }
 

@@ -4,7 +4,7 @@ use Rattle.std.specs.List.{Contains}
 use Rattle.addressing.specs.Address as theory
 use Rattle.cyclo_points.specs.declared.point.Point.{Point}
 use Rattle.cyclo_points.specs.Order.{points_of, is_refused}
-use Rattle.cyclo_points.specs.Point.{point_in}
+use Rattle.cyclo_points.specs.Point.{point_in, IsOf}
 use Rattle.frames.specs.Frame.{StandsInFrame, lifted_in}
 use Rattle.rule_model.specs.Glue.{IsGlueEdge}
 use Rattle.rule_model.specs.Tiling.{Tiling, MotionOf}
@@ -25,7 +25,7 @@ pub record IsDepthLimit (t : Tiling) (f : FrameValue) (tiles : List PlacedTile) 
   pub glue_edge : IsGlueEdge t.rule tile.kind edge
   pub on_boundary : IsBoundaryEdge t (lifted_at t f (address_of tile.addr) 64) edge
 
--- the tile across the glue edge of a tile given has this refused shift
+-- the tile across the glue edge of a tile given has this refused shift, a point of its order
 pub record IsRefusedShift (t : Tiling) (f : FrameValue) (tiles : List PlacedTile) (value : Point) : Type 0 where
   pub tile : PlacedTile
   pub is_given : Contains tiles tile
@@ -37,6 +37,7 @@ pub record IsRefusedShift (t : Tiling) (f : FrameValue) (tiles : List PlacedTile
   pub motion : MotionOf t
   pub stands : StandsInFrame (points_of t.order) t.rule (whole f) other motion
   pub its_shift : motion.shift ≡ point_in t.order value
+  pub value_in_order : IsOf t.order value
   pub is_refused : is_refused t.order motion.shift ≡ true
 
 -- the cause of each fault; the frame was f, and is g

@@ -183,6 +183,7 @@ module _ (m : Rule) (settled : IsSettled m) (fits : StillFits (children (tiling_
       of_frame = own-among;
       tile_meets = c.comes.meets.1;
       its_shift = ap (λ (h : MotionOf t). h.shift) (sym c.its_motion) ∙ ap (point_in m.order) (sym same);
+      value_in_order = subst (IsOf m.order) (sym same) c.in_order;
       is_refused = ap (λ (h : MotionOf t). is_refused m.order h.shift) (sym c.its_motion) ∙ bad;
     }
 

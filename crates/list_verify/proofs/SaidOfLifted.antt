@@ -335,7 +335,7 @@ module _ (m : Rule) (settled : IsSettled m) (fits : StillFits (children (tiling_
         }
         cause-back (WrongPlace line motion) c = (c.0, c.1, misplaced c.0 motion c.2)
         cause-back (DepthLimit addr edge) c = c
-        cause-back (CoordLimit value) (inl e) = inl (sym centre-same ∙ e)
+        cause-back (CoordLimit value) (inl h) = inl (record { is_first = sym centre-same ∙ h.is_first; value_in_order = h.value_in_order })
         cause-back (CoordLimit value) (inr c) = inr c
         cause-back TooLong c = elim c [ ]
         cause-back (BadLine line place) c = elim c [ ]

@@ -4,7 +4,7 @@ use Rattle.addressing.specs.Address.{Address, depth}
 use Rattle.addressing.specs.Search.{IsAmong}
 use Rattle.cyclo_points.specs.declared.point.Point.{Point}
 use Rattle.cyclo_points.specs.Order.{NumberOf, points_of, is_refused}
-use Rattle.cyclo_points.specs.Point.{point_in}
+use Rattle.cyclo_points.specs.Point.{point_in, IsOf}
 use Rattle.cyclo_points.specs.Motion.{motion_in}
 use Rattle.dissection.specs.Accepted.{AcceptedRule}
 use Rattle.frames.specs.Frame.{at_level, frame_tiles}
@@ -106,5 +106,5 @@ module _ (m : Rule) (settled : IsSettled m) (fits : StillFits (children (tiling_
                 not-most : (n k : ℕ) → (k ≤ n → ⊥) → n < k
                 not-most n k h = omega (arith, h)
 
-  pub refused-centre : (value : Point) → first_refused_at t f w ≡ Some (point_in m.order value) → IsStoppedBy t f g w (entries_of lines) (CoordLimit value)
-  refused-centre value e = record { cause = inl e; not_all = λ none all. absurd (cc (sym none ∙ e)) }
+  pub refused-centre : (value : Point) → first_refused_at t f w ≡ Some (point_in m.order value) → IsOf m.order value → IsStoppedBy t f g w (entries_of lines) (CoordLimit value)
+  refused-centre value e its_order = record { cause = inl (record { is_first = e; value_in_order = its_order }); not_all = λ none all. absurd (cc (sym none ∙ e)) }

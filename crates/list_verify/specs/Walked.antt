@@ -10,7 +10,7 @@ use Rattle.lazy_walk.specs.Containing.{first_refused_outward}
 use Rattle.lazy_walk.specs.Frames.{FrameValue}
 use Rattle.listing_text.specs.Listing.{Entry}
 use Rattle.listings.specs.FrameListing.{IsRightListing, AreUnrefused}
-use Rattle.window_cover.specs.Causes.{IsDepthLimit, IsRefusedShift}
+use Rattle.window_cover.specs.Causes.{IsDepthLimit, IsFirstRefused, IsRefusedShift}
 use Rattle.window_cover.specs.Windows.{box_of}
 use Rattle.list_verify.specs.declared.list_fault.ListFault.{ListFault}
 use Rattle.list_verify.specs.declared.list_fault.ListFault.TheVariants.{Missing, WrongPlace, Stray, DepthLimit, CoordLimit}
@@ -39,7 +39,7 @@ abbrev pub StopsFor : Tiling → FrameValue → FrameValue → Window → List E
 StopsFor t f g w entries (Missing addr) = IsMissingTile t g w entries addr
 StopsFor t f g w entries (WrongPlace line motion) = (i : ℕ) × (line ≡ i + 1) × IsMisplaced t g w entries i motion
 StopsFor t f g w entries (DepthLimit addr edge) = IsDepthLimit t g w addr edge
-StopsFor t f g w entries (CoordLimit value) = (first_refused_at t f w ≡ Some (point_in t.order value)) ⊎ IsRefusedShift t g w value
+StopsFor t f g w entries (CoordLimit value) = IsFirstRefused t f w value ⊎ IsRefusedShift t g w value
 StopsFor t f g w entries fault = ⊥
 
 -- and then not each tile that meets the window has its line, unless a value looked at for the centre is refused

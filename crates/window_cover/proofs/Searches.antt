@@ -49,8 +49,10 @@ module _ (t : Tiling) (f g : FrameValue) (grows : GrowsTo t f g) where
 
   pub cause-before : (now : FrameValue) (w : Window) (fault : CoverFault) → HasCause t g now w fault → HasCause t f now w fault
   cause-before now w (DepthLimit addr edge) h = h
-  cause-before now w (CoordLimit value) (inl e) =
-      inl (ap (λ (a : Address). find (is_refused t.order) (values_outward (points_of t.order) t.rule a (point_in t.order w.centre) 0 65)) (sym (full-later t f g grows)) ∙ e)
+  cause-before now w (CoordLimit value) (inl h) = inl (record {
+    is_first = ap (λ (a : Address). find (is_refused t.order) (values_outward (points_of t.order) t.rule a (point_in t.order w.centre) 0 65)) (sym (full-later t f g grows)) ∙ h.is_first;
+    value_in_order = h.value_in_order;
+  })
   cause-before now w (CoordLimit value) (inr e) = inr e
   cause-before now w TooManyTiles h = h
   cause-before now w NoMemory h = tt

@@ -7,7 +7,7 @@ use Rattle.addressing.specs.Address.{Address}
 use Rattle.addressing.proofs.Lists.{AllByRecursion-among}
 use Rattle.cyclo_points.specs.declared.point.Point.{Point}
 use Rattle.cyclo_points.specs.Order.{points_of, is_refused}
-use Rattle.cyclo_points.specs.Point.{point_in}
+use Rattle.cyclo_points.specs.Point.{point_in, IsOf}
 use Rattle.dissection.specs.Accepted.{AcceptedRule}
 use Rattle.lazy_walk.specs.Ancestors.{full}
 use Rattle.lazy_walk.specs.Containing.{FrameHolds, IsOnlyHolder}
@@ -72,7 +72,14 @@ module _ (m : Rule) (settled : IsSettled m) (fits : StillFits (children (tiling_
     meets = (test_point P.real.ops (box_of t w).centre, (0, refl), centre-in_box P.real L.points.of_real L.points.of_order (box_of t w) (omega (arith, fit.some_width)) (omega (arith, fit.some_height)), holder.here.holds)
 
     pub refused-first : (value : Point) → value ≡ tile.motion.shift → is_refused m.order (point_in m.order tile.motion.shift) ≡ true → IsRefusedShift t g w value
-    refused-first value same r = record { tile = x; of_frame = stands.in_frame.among; tile_meets = meets; its_shift = ap (point_in m.order) (sym same); is_refused = r }
+    refused-first value same r = record {
+      tile = x;
+      of_frame = stands.in_frame.among;
+      tile_meets = meets;
+      its_shift = ap (point_in m.order) (sym same);
+      value_in_order = subst (IsOf m.order) (sym same) stands.in_order;
+      is_refused = r;
+    }
 
     kept-within : IsWithinLimits t f w → is_refused m.order (point_in m.order tile.motion.shift) ≡ false
     kept-within within =

@@ -8,7 +8,7 @@ use Rattle.addressing.specs.Search.{IsAmong}
 use Rattle.addressing.proofs.Lists.{AllByRecursion-among, AllByRecursion-append, AllByRecursion-from}
 use Rattle.cyclo_points.specs.declared.point.Point.{Point}
 use Rattle.cyclo_points.specs.Order.{points_of, is_refused}
-use Rattle.cyclo_points.specs.Point.{point_in}
+use Rattle.cyclo_points.specs.Point.{point_in, IsOf}
 use Rattle.frames.specs.Frame.{frame_tiles}
 use Rattle.lazy_walk.specs.Ancestors.{full}
 use Rattle.lazy_walk.specs.Frames.{FrameValue, GrowsTo}
@@ -163,6 +163,7 @@ module _ (m : Rule) (settled : IsSettled m) (fits : StillFits (children (tiling_
           of_frame = one.of_frame;
           tile_meets = one.meets;
           its_shift = shift ∙ ap (point_in m.order) (sym same);
+          value_in_order = subst (IsOf m.order) (sym same) crossed.in_order;
           is_refused = ap (is_refused m.order) shift ∙ r;
         }
 

@@ -4,7 +4,7 @@ use Rattle.std.specs.List.{AllByRecursion}
 use Rattle.substitution.specs.RuleParts.{edge_count}
 use Rattle.cyclo_points.specs.declared.point.Point.{Point}
 use Rattle.cyclo_points.specs.Order.{points_of, is_refused}
-use Rattle.cyclo_points.specs.Point.{point_in}
+use Rattle.cyclo_points.specs.Point.{point_in, IsOf}
 use Rattle.plane_geom.specs.declared.window.Window.{Window}
 use Rattle.rule_model.specs.Tiling.{Tiling}
 use Rattle.tile_shape.specs.declared.address.Address.{Address}
@@ -31,12 +31,18 @@ pub record IsDepthLimit (t : Tiling) (f : FrameValue) (w : Window) (addr : Addre
   pub edge_meets : MeetsBox (points_of t.order).real (box_of t w) (line_of (points_of t.order) t.rule tile edge)
   pub on_boundary : IsBoundaryEdge t tile.address edge
 
--- a tile of the frame that meets the window has this refused shift
+-- the first refused value looked at for the centre, a point of its order
+pub record IsFirstRefused (t : Tiling) (f : FrameValue) (w : Window) (value : Point) : Type 0 where
+  pub is_first : first_refused_outward t f (point_in t.order w.centre) ≡ Some (point_in t.order value)
+  pub value_in_order : IsOf t.order value
+
+-- a tile of the frame that meets the window has this refused shift, a point of its order
 pub record IsRefusedShift (t : Tiling) (f : FrameValue) (w : Window) (value : Point) : Type 0 where
   pub tile : TileOf t
   pub of_frame : IsOfFrame t f tile
   pub tile_meets : MeetsWindow t w tile
   pub its_shift : tile.motion.shift ≡ point_in t.order value
+  pub value_in_order : IsOf t.order value
   pub is_refused : is_refused t.order tile.motion.shift ≡ true
 
 -- one tile more than the limit is of the frame and meets the window
@@ -49,6 +55,6 @@ pub record AreTooMany (t : Tiling) (f : FrameValue) (w : Window) : Type 0 where
 -- the cause of each fault; the frame was f, and is g
 abbrev pub HasCause : Tiling → FrameValue → FrameValue → Window → CoverFault → Type 0
 HasCause t f g w (DepthLimit addr edge) = IsDepthLimit t g w addr edge
-HasCause t f g w (CoordLimit value) = (first_refused_outward t f (point_in t.order w.centre) ≡ Some (point_in t.order value)) ⊎ IsRefusedShift t g w value
+HasCause t f g w (CoordLimit value) = IsFirstRefused t f w value ⊎ IsRefusedShift t g w value
 HasCause t f g w TooManyTiles = AreTooMany t g w
 HasCause t f g w NoMemory = Unit {0}

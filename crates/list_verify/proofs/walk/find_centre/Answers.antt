@@ -97,7 +97,7 @@ returns-in-Err-clause-fault c =
     let p = (goal.at.returns-in-Err-clause-fault c).After-kinds-usable in
     let B = brings p in
     inr (refused-centre c.args.machine.now B.settled B.fits B.laws c.args.frame.now c.args.window.now c.requires.window_fits c.args.lines.now c.requires.lines c.contain.new.self c.in-Err.ensures.frame
-    c.in-Err.limit.value c.in-Err.ensures.limit)
+    c.in-Err.limit.value c.in-Err.ensures.limit c.in-Err.ensures.limit_in_order)
 
 pub returns-in-Ok-clause-centre_found : goal.returns-in-Ok-clause-centre_found
 returns-in-Ok-clause-centre_found c = IfOk-weaker c.look_up.result _ _ (λ number n. c.in-Ok.ensures.found_exactly.0 refl) c.look_up.ensures.looked_up

@@ -71,7 +71,7 @@ pub returns-in_err-tile-clause-answered : goal.returns-in_err-tile-clause-answer
 returns-in_err-tile-clause-answered c = λ within. let e = c.in_err-tile.ensures.found_exactly.1 within.centre_found in cc (e)
 
 pub returns-in_err-tile-clause-cause : goal.returns-in_err-tile-clause-cause
-returns-in_err-tile-clause-cause c = if_err-is (HasCause (tiling_of c.args.machine.now) c.args.frame.now c.contain.new.self c.args.window.now) c.from_residual.result (CoordLimit c.in_err-tile.field-0.0.value) c.from_residual.ensures.1 (inl c.in_err-tile.ensures.limit)
+returns-in_err-tile-clause-cause c = if_err-is (HasCause (tiling_of c.args.machine.now) c.args.frame.now c.contain.new.self c.args.window.now) c.from_residual.result (CoordLimit c.in_err-tile.field-0.0.value) c.from_residual.ensures.1 (inl (record { is_first = c.in_err-tile.ensures.limit; value_in_order = c.in_err-tile.ensures.limit_in_order }))
 
 pub returns-in_err-admit-clause-answered : goal.returns-in_err-admit-clause-answered
 returns-in_err-admit-clause-answered c =
