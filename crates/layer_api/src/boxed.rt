@@ -24,7 +24,7 @@ impl Layer for Box<dyn Layer> {
         (**self).begin(view)
     }
 
-    fn put(&mut self, tile: &Drawn) -> Result<(), NoMemory> {
+    fn put(&mut self, tile: Drawn) -> Result<(), NoMemory> {
         (**self).put(tile)
     }
 

@@ -1,4 +1,6 @@
 //! A tile as it is drawn.
+ghost use Rattle.std.specs.Prelude.{◌≡◌};
+
 use crate::part::Part;
 use arrayvec::ArrayVec;
 use cyclo_points::point::Point;
@@ -17,4 +19,24 @@ pub struct Drawn {
     pub first: Part,
     /// The second half of a whole tile.
     pub second: Option<Part>,
+}
+
+impl Drawn {
+    /// An equal tile, without memory: for a caller that puts one tile into several layers.
+    pub fn copy(&self) -> Drawn
+        ensures { result ≡ self.now }
+    {
+        let mut outline = ArrayVec::new();
+        let _ = outline.try_extend_from_slice(self.outline.as_slice());
+        let second = match &self.second {
+            Some(second) => Some(second.copy()),
+            None => None,
+        };
+        Drawn {
+            class: self.class,
+            outline,
+            first: self.first.copy(),
+            second,
+        }
+    }
 }

@@ -43,11 +43,11 @@ pub trait Layer: Drop {
         ensures form { form self.new ≡ form self.old };
 
     /// Adds a tile at the end of the list. Where there is no memory, nothing is changed.
-    fn put(&mut self, tile: &Drawn) -> Result<(), NoMemory>
+    fn put(&mut self, tile: Drawn) -> Result<(), NoMemory>
         requires begun { IsTrue (begun self.old) }
         requires open { IsFalse (ended self.old) }
-        requires drawable { IsDrawable (seen self.old).order tile.now }
-        ensures ok { OnOk result ((tiles : List Drawn) → draws self.old tiles → draws self.new (tiles ++ tile.now ∷ [])) }
+        requires drawable { IsDrawable (seen self.old).order tile }
+        ensures ok { OnOk result ((tiles : List Drawn) → draws self.old tiles → draws self.new (tiles ++ tile ∷ [])) }
         ensures err { OnErr result ((tiles : List Drawn) → draws self.old tiles → draws self.new tiles) }
         ensures seen { seen self.new ≡ seen self.old }
         ensures begun { IsTrue (begun self.new) }

@@ -1,4 +1,6 @@
 //! A part of a tile drawn.
+ghost use Rattle.std.specs.Prelude.{◌≡◌};
+
 use cyclo_points::motion::Motion;
 use tile_shape::address::Address;
 
@@ -8,4 +10,17 @@ pub struct Part {
     pub kind: u8,
     pub motion: Motion,
     pub addr: Address,
+}
+
+impl Part {
+    /// An equal part, without memory.
+    pub fn copy(&self) -> Part
+        ensures { result ≡ self.now }
+    {
+        Part {
+            kind: self.kind,
+            motion: self.motion,
+            addr: self.addr.copy(),
+        }
+    }
 }

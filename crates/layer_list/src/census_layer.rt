@@ -80,7 +80,7 @@ impl Layer for CensusLayer {
         self.all = 0;
     }
 
-    fn put(&mut self, tile: &Drawn) -> Result<(), NoMemory> {
+    fn put(&mut self, tile: Drawn) -> Result<(), NoMemory> {
         let class = tile.class as usize;
         let Some(count) = self.counts[class].checked_add(1) else {
             return Err(NoMemory);

@@ -71,9 +71,9 @@ impl Layer for ListLayer {
         self.text.clear();
     }
 
-    fn put(&mut self, tile: &Drawn) -> Result<(), NoMemory> {
+    fn put(&mut self, tile: Drawn) -> Result<(), NoMemory> {
         self.line.clear();
-        put_line(&mut self.line, tile);
+        put_line(&mut self.line, &tile);
         self.text.extend_from_slice(self.line.as_bytes())?;
         Ok(())
     }

@@ -83,9 +83,9 @@ impl Layer for SvgLayer {
         self.text.clear();
     }
 
-    fn put(&mut self, tile: &Drawn) -> Result<(), NoMemory> {
+    fn put(&mut self, tile: Drawn) -> Result<(), NoMemory> {
         self.line.clear();
-        put_path(&mut self.line, &self.view, tile);
+        put_path(&mut self.line, &self.view, &tile);
         if self.text.is_empty() {
             put_head(&mut self.line, &self.view);
         }

@@ -44,9 +44,9 @@ fn chairs(rt: HostRuntime) {
 }
 
 /// Whether a layer draws one tile as this text.
-fn draws<L: Layer>(layer: &mut L, view: View, tile: &Drawn, wanted: &str) -> Result<bool, NoMemory>
+fn draws<L: Layer>(layer: &mut L, view: View, tile: Drawn, wanted: &str) -> Result<bool, NoMemory>
     requires view { IsView view }
-    requires drawable { IsDrawable view.order tile.now }
+    requires drawable { IsDrawable view.order tile }
 {
     layer.begin(view);
     layer.put(tile)?;
@@ -55,17 +55,17 @@ fn draws<L: Layer>(layer: &mut L, view: View, tile: &Drawn, wanted: &str) -> Res
 }
 
 /// Whether the picture of one tile is this.
-fn is_svg(alloc: Global, view: View, tile: &Drawn, wanted: &str) -> Result<bool, NoMemory>
+fn is_svg(alloc: Global, view: View, tile: Drawn, wanted: &str) -> Result<bool, NoMemory>
     requires view { IsView view }
-    requires drawable { IsDrawable view.order tile.now }
+    requires drawable { IsDrawable view.order tile }
 {
     draws(&mut SvgLayer::new(alloc), view, tile, wanted)
 }
 
 /// Whether the list of one tile is this.
-fn is_list(alloc: Global, view: View, tile: &Drawn, wanted: &str) -> Result<bool, NoMemory>
+fn is_list(alloc: Global, view: View, tile: Drawn, wanted: &str) -> Result<bool, NoMemory>
     requires view { IsView view }
-    requires drawable { IsDrawable view.order tile.now }
+    requires drawable { IsDrawable view.order tile }
 {
     draws(&mut ListLayer::new(alloc), view, tile, wanted)
 }
@@ -105,12 +105,12 @@ fn kite(rt: HostRuntime) -> Result<(), Fail> {
         is_list(
             alloc,
             seen,
-            &kite,
+            kite.copy(),
             "0 0 0,0,0,0 0:2/0 + 1 1 0,0,0,0 1:1/0\n"
         )?
     );
     let seen = view(Order::Ten, &[1, 0, 1, 0], (4096, 3), 4);
-    assert!(rt; is_svg(alloc, seen, &kite, KITE_SVG)?);
+    assert!(rt; is_svg(alloc, seen, kite, KITE_SVG)?);
     Ok(())
 }
 
@@ -140,8 +140,8 @@ fn triangle(rt: HostRuntime) -> Result<(), Fail> {
     );
     let triangle = whole(Order::Eight, &TRIANGLE, far);
     let seen = view(Order::Eight, &[3, -2, 5, 7], (7, 4096), 3);
-    assert!(rt; is_list(alloc, seen, &triangle, TRIANGLE_LIST)?);
-    assert!(rt; is_svg(alloc, seen, &triangle, TRIANGLE_SVG)?);
+    assert!(rt; is_list(alloc, seen, triangle.copy(), TRIANGLE_LIST)?);
+    assert!(rt; is_svg(alloc, seen, triangle, TRIANGLE_SVG)?);
     Ok(())
 }
 
@@ -168,12 +168,12 @@ fn half_hexagon(rt: HostRuntime) -> Result<(), Fail> {
     let alloc = rt.alloc();
     let half = whole(Order::Six, &HALF_HEX, part(0, 0, [0; 4], &[(1, 0); 64]));
     let seen = view(Order::Six, &[1, 1, 0, 0], (1, 1), 1);
-    assert!(rt; is_svg(alloc, seen, &half, HALF_HEX_SVG)?);
+    assert!(rt; is_svg(alloc, seen, half.copy(), HALF_HEX_SVG)?);
     assert!(rt;
         is_list(
             alloc,
             seen,
-            &half,
+            half,
             "0 0 0,0,0,0 0:1/0,1/0,1/0,1/0,1/0,1/0,1/0,1/0,1/0,1/0,1/0,1/0,1/0,1/0,1/0,1/0,1/0,1/0,1/0,1/0,1/0,1/0,1/0,1/0,1/0,1/0,1/0,1/0,1/0,1/0,1/0,1/0,1/0,1/0,1/0,1/0,1/0,1/0,1/0,1/0,1/0,1/0,1/0,1/0,1/0,1/0,1/0,1/0,1/0,1/0,1/0,1/0,1/0,1/0,1/0,1/0,1/0,1/0,1/0,1/0,1/0,1/0,1/0,1/0\n"
         )?
     );
@@ -203,9 +203,9 @@ fn is_census(alloc: Global, wanted: &str) -> Result<bool, NoMemory> {
     let mut census = CensusLayer::new(alloc);
     let one = whole(Order::Ten, &KITE, part(1, 0, [0; 4], &[]));
     census.begin(view(Order::Ten, &[0; 4], (1, 1), 2));
-    census.put(&one)?;
-    census.put(&whole(Order::Ten, &KITE, part(255, 0, [0; 4], &[])))?;
-    census.put(&one)?;
+    census.put(one.copy())?;
+    census.put(whole(Order::Ten, &KITE, part(255, 0, [0; 4], &[])))?;
+    census.put(one)?;
     census.end()?;
     Ok(census.bytes() == wanted.as_bytes())
 }

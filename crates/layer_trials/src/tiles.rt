@@ -133,8 +133,8 @@ pub(crate) fn draw_chairs<L: Layer>(layer: &mut L) -> Result<(), NoMemory>
 {
     let order = Order::Four;
     layer.begin(view(order, &[1, 1, 0, 0], (2, 1), 1));
-    layer.put(&whole(order, &CHAIRS[0], part(0, 0, [0; 4], &[(3, 0)])))?;
-    layer.put(&whole(order, &CHAIRS[1], part(0, 1, [3, 1, 0, 0], &[(1, 0)])))?;
+    layer.put(whole(order, &CHAIRS[0], part(0, 0, [0; 4], &[(3, 0)])))?;
+    layer.put(whole(order, &CHAIRS[1], part(0, 1, [3, 1, 0, 0], &[(1, 0)])))?;
     layer.end()?;
     Ok(())
 }

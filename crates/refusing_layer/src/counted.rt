@@ -39,7 +39,7 @@ impl<L: Layer> Layer for Counted<L> {
         self.layer.begin(view)
     }
 
-    fn put(&mut self, tile: &Drawn) -> Result<(), NoMemory> {
+    fn put(&mut self, tile: Drawn) -> Result<(), NoMemory> {
         self.layer.put(tile)
     }
 

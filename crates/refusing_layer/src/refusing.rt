@@ -54,7 +54,7 @@ impl<L: Layer> Layer for Refusing<L> {
         self.layer.begin(view)
     }
 
-    fn put(&mut self, tile: &Drawn) -> Result<(), NoMemory> {
+    fn put(&mut self, tile: Drawn) -> Result<(), NoMemory> {
         if self.refuses() {
             return Err(NoMemory);
         }

@@ -1,5 +1,5 @@
 //! The tiles round a vertex.
-ghost use Rattle.std.specs.Prelude.{◌≡◌, ◌<◌, ◌≤◌, ◌^◌, ℕ, ◌↔◌, All, [], length, map, IsTrue, IsOk, IfErr, OnOk};
+ghost use Rattle.std.specs.Prelude.{◌≡◌, ◌<◌, ◌≤◌, ◌^◌, ℕ, ◌↔◌, All, [], length, map, IsTrue, IsOk, IfOk, IfErr, OnOk, OnErr};
 ghost use Rattle.std.specs.List.{AllZip};
 ghost use Rattle.addressing.specs.Address.{depth};
 ghost use Rattle.cyclo_points.specs.Point.{IsWithin};
@@ -33,7 +33,8 @@ impl Star {
     /// vertex lies on no edge of the frame's polygon.
     ///
     /// The vertex is refused where no depth up to 64 is enough for it, and where more than 64 tiles have it. After a
-    /// refusal there are some of the tiles.
+    /// refusal there is no tile. This is for a caller that finds many stars and keeps one place for them; `star`
+    /// answers a single one.
     pub fn find<L: Ledger>(
         &mut self,
         machine: &Machine,
@@ -54,21 +55,61 @@ impl Star {
         ensures shifts_within { OnOk result (All (λ (c : Corner). IsWithin (2 ^ 24) c.tile.motion.shift) self.new.corners.items) }
         ensures least { OnOk result (IsLeastEnough (tiling_of machine.now) frame.old vertex (length frame.new.digits)) }
 
-        // There is an answer exactly where depth 64 is enough and few enough tiles have the vertex there; and each
-        // fault comes only for its cause.
+        // There is an answer exactly where depth 64 is enough and few enough tiles have the vertex there; each fault
+        // comes only for its cause, and leaves no tile.
         ensures within { OnOk result (IsWithinLimits (tiling_of machine.now) frame.old vertex) }
         ensures cause { IfErr result (λ fault. HasCause (tiling_of machine.now) frame.new vertex fault) }
         ensures answered { IsWithinLimits (tiling_of machine.now) frame.old vertex → IsOk result }
+        ensures none_refused { OnErr result (self.new.corners.items ≡ []) }
     {
         let checked = machine.checked();
         star_laws(checked.order());
         grown_fits_law();
         let _usable = checked.uses().kinds();
         self.corners.clear();
-        turn(machine, frame, vertex, &mut self.corners, steps)?;
+        if let Err(fault) = turn(machine, frame, vertex, &mut self.corners, steps) {
+            self.corners.clear();
+            return Err(fault);
+        }
         raise_all(frame, self.corners.as_mut_slice());
         Ok(())
     }
+}
+
+/// The tiles of the frame that have a vertex of the base among their vertices, as `Star::find` finds them: at the
+/// frame's depth on return, in turning order from the base. The frame grows to the least depth, not below the one that
+/// it has, at which the vertex lies on no edge of the frame's polygon.
+///
+/// This is for a caller that wants one star. The answer has room for 64 tiles, 12.8 kB that are made anew for each;
+/// whoever finds many keeps one `Star` and calls `find` on it.
+pub fn star<L: Ledger>(
+    machine: &Machine,
+    frame: &mut Frame,
+    vertex: u8,
+    steps: &mut Steps<L>,
+) -> Result<Star, StarFault>
+    requires frame { IsFrameOf (tiling_of machine.now) frame.old }
+    requires vertex_exists { vertex < edges_of (tiling_of machine.now) frame.old.base.kind }
+
+    ensures frame { GrowsTo (tiling_of machine.now) frame.old frame.new }
+
+    // Exactly the tiles of the frame that have the vertex, each once, with its number there and in its place;
+    // in turning order, and the last leads back to the base.
+    ensures round { IfOk result (λ star. AreRound (tiling_of machine.now) frame.new vertex (map (corner_in machine.now.order) star.corners.items)) }
+    ensures turning { IfOk result (λ star. AreInTurn (tiling_of machine.now) frame.new vertex (map (corner_in machine.now.order) star.corners.items)) }
+    ensures stand { IfOk result (λ star. All (λ (c : Corner). Stands (tiling_of machine.now) frame.new c.tile) star.corners.items) }
+    ensures shifts_within { IfOk result (λ star. All (λ (c : Corner). IsWithin (2 ^ 24) c.tile.motion.shift) star.corners.items) }
+    ensures least { OnOk result (IsLeastEnough (tiling_of machine.now) frame.old vertex (length frame.new.digits)) }
+
+    // There is an answer exactly where depth 64 is enough and few enough tiles have the vertex there; and each fault
+    // comes only for its cause.
+    ensures within { OnOk result (IsWithinLimits (tiling_of machine.now) frame.old vertex) }
+    ensures cause { IfErr result (λ fault. HasCause (tiling_of machine.now) frame.new vertex fault) }
+    ensures answered { IsWithinLimits (tiling_of machine.now) frame.old vertex → IsOk result }
+{
+    let mut star = Star::new();
+    star.find(machine, frame, vertex, steps)?;
+    Ok(star)
 }
 
 /// Turns round the vertex from the base until it is back, and puts the corners down in turning order, each with

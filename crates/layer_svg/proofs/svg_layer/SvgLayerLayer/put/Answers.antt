@@ -12,12 +12,12 @@ returns-clause-ok c =
     elim c.if-is_empty.branch [
       | then-is_empty w ↦
           rw (w.self-inside-is, ← c.self.view_is)
-          (first_put s.view s.ended s.text.items line c.extend_from_slice.new.self.items c.args.tile.now going (search rules)
+          (first_put s.view s.ended s.text.items line c.extend_from_slice.new.self.items c.args.tile going (search rules)
           (c.as_bytes.ensures ∙ ap (λ t. t.line) w.self-inside-is ∙ w.put_head.ensures ∙ ap (λ t. head_text s.view ++ t) c.put_path.ensures.path)
           (c.in_ok-extend_from_slice.ensures.items ∙ ap (λ t. t.text.items ++ line) w.self-inside-is))
       | else-is_empty w ↦
           rw (w.self-inside-is, ← c.self.view_is)
-          (next_put s.view s.ended s.text.items line c.extend_from_slice.new.self.items c.args.tile.now going (λ e. absurd (search rules))
+          (next_put s.view s.ended s.text.items line c.extend_from_slice.new.self.items c.args.tile going (λ e. absurd (search rules))
           (c.as_bytes.ensures ∙ ap (λ t. t.line) w.self-inside-is ∙ c.put_path.ensures.path)
           (c.in_ok-extend_from_slice.ensures.items ∙ ap (λ t. t.text.items ++ line) w.self-inside-is))
     ]
