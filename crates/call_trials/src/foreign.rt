@@ -1,7 +1,9 @@
 //! Listings for `verify`, and what is said of them.
-use crate::told::{SOUND, told};
+use crate::told::{SOUND, told, told_over};
+use std::alloc::AllocError;
 use std::process::Abort;
 use std::test::Fail;
+use tile_io::mem_source::MemSource;
 
 /// The window of two chairs round the base.
 const WINDOW: &str = "verify rule=chair seed=42 addr=0: at=1,1,0,0 half=2,1";
@@ -118,4 +120,35 @@ fn long_listings(rt: HostRuntime) -> Result<(), Fail> {
     check(&rt, WINDOW, most.as_str(), "17 |17 BadListing Double 2\n")?;
     let more = format!(in alloc; "{most}x")?;
     check(&rt, WINDOW, more.as_str(), "17 |17 BadListing TooLong\n")
+}
+
+/// The digits of the chair.
+static DIGITS: [&str; 4] = ["0/0,", "1/0,", "2/0,", "3/0,"];
+
+/// What nine digits of a number to the base four count.
+static SCALES: [usize; 9] = [65_536, 16_384, 4_096, 1_024, 256, 64, 16, 4, 1];
+
+/// Puts a line of the chair's supertile of depth ten behind others: its first nine digits count in fours, the last of them
+/// fastest.
+fn put_counted(listing: &mut String, number: usize) -> Result<(), AllocError> {
+    listing.push_str("0 0 0,0,0,0 0:")?;
+    for scale in &SCALES {
+        listing.push_str(DIGITS[number.checked_div(*scale).unwrap_or(0) % 4])?;
+    }
+    listing.push_str("0/0\n")
+}
+
+// So many lines of different tiles, but for the last, which is of the first line's tile.
+#[test]
+fn long_listing_of_different_tiles(rt: HostRuntime) -> Result<(), Fail> {
+    let alloc = rt.alloc();
+    let mut listing = String::new(alloc);
+    for number in 0..199_999 {
+        put_counted(&mut listing, number)?;
+    }
+    put_counted(&mut listing, 0)?;
+    let mut source = MemSource::new(listing.into_bytes(), 65_536, Vec::new(alloc));
+    let ended = told_over(alloc, WINDOW, &mut source, &SOUND)?;
+    assert_eq!(rt; ended.as_str(), "17 |17 BadListing Double 200000\n");
+    Ok(())
 }

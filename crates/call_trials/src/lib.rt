@@ -13,6 +13,8 @@ mod files;
 #[cfg(test)]
 mod foreign;
 #[cfg(test)]
+mod hostile;
+#[cfg(test)]
 mod rows;
 #[cfg(test)]
 mod scripts;

@@ -1,5 +1,5 @@
 //! The command `neighbour`: the tile across an edge.
-ghost use Rattle.std.specs.Prelude.{◌≡◌, Some, Ok, IfOk, IfErr, string_bytes};
+ghost use Rattle.std.specs.Prelude.{◌≡◌, ◌≤◌, ◌+◌, Some, Ok, IfOk, IfErr, string_bytes};
 ghost use Rattle.rule_model.specs.Tiling.{tiling_of};
 ghost use Rattle.tile_shape.specs.Views.{address_of};
 ghost use Rattle.tile_app.specs.declared.words.Command.TheVariants.{Neighbour};
@@ -33,7 +33,8 @@ fn neighbour_line(alloc: Global, across: &Address, edge: u8) -> Result<String, A
     format!(in alloc; "{across} {edge}\n")
 }
 
-/// What `neighbour` prints for right words, or its refusal. The crossing counts its look-ups in `steps`.
+/// What `neighbour` prints for right words, or its refusal. The crossing counts its look-ups in `steps`: at most twice the
+/// depth plus two, so at most 130, since an address has at most 64 digits.
 pub fn neighbour_text<L: Ledger>(
     alloc: Global,
     machine: &Machine,
@@ -43,6 +44,7 @@ pub fn neighbour_text<L: Ledger>(
     requires right { command_of (texts words.now) ≡ Ok Neighbour }
     ensures printed { IfOk result (λ text. PrintsNeighbour (texts words.now) (tiling_of machine.now) (string_bytes text)) }
     ensures refused { IfErr result (OrNoMemory (NeighbourRefuses (texts words.now) (tiling_of machine.now))) }
+    ensures steps_within_bound { steps.new ≤ steps.old + 130 }
 {
     let address = address_given(machine, words)?;
     let edge = edge_given(words);

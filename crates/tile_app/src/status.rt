@@ -65,8 +65,7 @@ pub enum Status {
     BadListing { fault: ListFault },
     /// The sink failed: it took a proper prefix of the text.
     WriteFault,
-    /// No memory was left, a layer took no more, or the rule file's tables would take more than the engine
-    /// allows.
+    /// No memory was left, or a layer took no more.
     NoMemory,
 }
 
