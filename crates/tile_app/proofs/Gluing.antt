@@ -33,8 +33,8 @@ use Rattle.windows.specs.FramePatch.{frame_patch}
 use Rattle.windows.proofs.Members.{among-map}
 use Rattle.window_cover.specs.Limits.{IsWithinLimits}
 use Rattle.window_cover.specs.Windows.{TileOf, AreDrawn, IsLeastEnough}
-use Rattle.window_cover.specs.InOrder.{AreInOrder}
 use Rattle.tile_app.specs.Draw.{GivesWindow, EndsGluing, DrawRefuses}
+use Rattle.tile_app.specs.TilesOfWindow.{TilesOfWindow}
 use Rattle.tile_app.specs.DrawnTile.{CanBeDrawn, CanBeDrawnBy, CanBeDrawnWhole}
 use Rattle.tile_app.specs.Glue.{asks_glue, CanBeGluedInWindow}
 use Rattle.tile_app.specs.Status.{OrNoMemory}
@@ -104,9 +104,8 @@ module _ (t : Tiling) where
         (all-glued others (subst (λ x. All (Stands t x) others) (sym same) its_stand) (subst (λ x. AreDrawn t x w (map (placed_in t.order) others)) (sym same) its_drawn))
 
 -- ---- why they aren't glued
-module _ (words : List (List ℕ)) (t : Tiling) (a : Address) (w : Window) (gives : GivesWindow words t a w) (asked : asks_glue words ≡ true) (f g : FrameValue) (is : f ≡ frame_given words a) (grown : GrowsTo t f g)
-    (within : IsWithinLimits t f w) (least : IsLeastEnough t f w (length g.digits)) (tiles : List PlacedTile) (stand : All (Stands t g) tiles) (drawn : AreDrawn t g w (map (placed_in t.order) tiles))
-    (in_order : AreInOrder tiles) (h : FrameValue) (grown_on : GrowsTo t g h) where
+module _ (words : List (List ℕ)) (t : Tiling) (a : Address) (w : Window) (gives : GivesWindow words t a w) (asked : asks_glue words ≡ true) (f g : FrameValue) (is : f ≡ frame_given words a)
+    (within : IsWithinLimits t f w) (tiles : List PlacedTile) (exactly : TilesOfWindow t f w g tiles) (h : FrameValue) (grown_on : GrowsTo t g h) where
   ends : (fault : GlueFault) → HasGlueCause t g h tiles fault → (CanBeGlued t g tiles → ⊥) → EndsGluing words t fault
   ends fault cause beyond = record {
     asked = asked;
@@ -115,12 +114,8 @@ module _ (words : List (List ℕ)) (t : Tiling) (a : Address) (w : Window) (give
     gives = gives;
     within = subst (λ x. IsWithinLimits t x w) is within;
     frame = g;
-    grown = subst (λ x. GrowsTo t x g) is grown;
-    least = subst (λ x. IsLeastEnough t x w (length g.digits)) is least;
     tiles = tiles;
-    stand = stand;
-    drawn = drawn;
-    in_order = in_order;
+    exactly = subst (λ x. TilesOfWindow t x w g tiles) is exactly;
     beyond = beyond;
     later = h;
     grown_on = grown_on;

@@ -20,6 +20,7 @@ mod GivenWindow
 mod Verdicts
 mod OneAnswer
 pub mod Answered
+pub mod Headline
 pub mod Given
 pub mod Counted
 pub mod Drilled

@@ -255,7 +255,7 @@ module _ (laws : Laws) (r : Request) (t : Tiling) (usable : AreUsable (children 
     base = h.base;
     window = h.window;
     gives = h.gives;
-    beyond = λ w. h.beyond (w.can_be_glued h.asked h.frame h.tiles h.grown h.least h.stand h.drawn);
+    beyond = λ w. h.beyond (w.can_be_glued h.asked h.frame h.tiles h.exactly.grown h.exactly.least h.exactly.stand h.exactly.drawn);
   }
 
   either_passes : (fault : CoverFault) (other : GlueFault) → EndsDrawing words t fault ⊎ EndsGluing words t other → PassesLimits words t

@@ -1,6 +1,5 @@
 -- The picture of a window's tiles, and that of their whole tiles.
 use Rattle.std.proofs.Common.{◌≡◌, ℕ, true, false, List, map, length, get_or, refl, sym, subst}
-use Rattle.std.specs.Prelude.{All}
 use Rattle.half_glue.specs.declared.whole_tile.WholeTile.{WholeTile}
 use Rattle.half_glue.specs.Covering.{WholesCoverLaw}
 use Rattle.half_glue.specs.Depth.{IsLeastForGlue}
@@ -10,36 +9,28 @@ use Rattle.half_glue.specs.Outline.{WholesCountLaw}
 use Rattle.half_glue.specs.WholeTiles.{AreWholeTilesOf}
 use Rattle.layer_api.specs.declared.drawn.Drawn.{Drawn}
 use Rattle.lazy_walk.specs.Frames.{FrameValue, GrowsTo}
-use Rattle.lazy_walk.specs.Standing.{Stands}
 use Rattle.plane_geom.specs.declared.window.Window.{Window}
 use Rattle.rule_model.specs.Tiling.{Tiling}
 use Rattle.tile_place.specs.declared.placed_tile.PlacedTile.{PlacedTile}
-use Rattle.tile_place.specs.Searched.{placed_in}
-use Rattle.window_cover.specs.InOrder.{AreInOrder}
 use Rattle.window_cover.specs.Limits.{IsWithinLimits}
-use Rattle.window_cover.specs.Windows.{box_of, AreDrawn, CoverWindow, IsLeastEnough}
+use Rattle.window_cover.specs.Windows.{box_of}
 use Rattle.tile_app.specs.Draw.{Pictures}
 use Rattle.tile_app.specs.DrawnTile.{drawn_of, drawn_whole}
 use Rattle.tile_app.specs.Glue.{asks_glue, CanBeGluedInWindow, IsWithinTheirLimits}
 use Rattle.tile_app.specs.Pictured.{Begins}
 use Rattle.tile_app.specs.Pictures.{IsPictureOf, AreDrawnWhole}
+use Rattle.tile_app.specs.TilesOfWindow.{TilesOfWindow}
 use Rattle.tile_app.proofs.Gluing.{glued-in_window}
 
-module _ (words : List (List ℕ)) (t : Tiling) (w : Window) (f g : FrameValue) (begins : Begins words t f w) (grown : GrowsTo t f g) (within : IsWithinLimits t f w) (least : IsLeastEnough t f w (length g.digits))
-    (tiles : List PlacedTile) (stand : All (Stands t g) tiles) (drawn : AreDrawn t g w (map (placed_in t.order) tiles)) (in_order : AreInOrder tiles) (covered : CoverWindow t g w (map (placed_in t.order) tiles)) where
+module _ (words : List (List ℕ)) (t : Tiling) (w : Window) (f g : FrameValue) (begins : Begins words t f w) (within : IsWithinLimits t f w) (tiles : List PlacedTile) (exactly : TilesOfWindow t f w g tiles) where
   pictures : (picture : List Drawn) → (asks_glue words ≡ true → CanBeGluedInWindow t f w) → IsPictureOf (asks_glue words) t w g tiles picture → Pictures words t w picture
   pictures picture can_be_glued is_picture = record {
     base = begins.base;
     gives = begins.gives;
     within = subst (λ y. IsWithinTheirLimits words t y w) begins.begun (record { within = within; can_be_glued = can_be_glued });
     frame = g;
-    grown = subst (λ y. GrowsTo t y g) begins.begun grown;
-    least = subst (λ y. IsLeastEnough t y w (length g.digits)) begins.begun least;
     tiles = tiles;
-    stand = stand;
-    drawn = drawn;
-    in_order = in_order;
-    covered = covered;
+    exactly = subst (λ y. TilesOfWindow t y w g tiles) begins.begun exactly;
     is_picture = is_picture;
   }
 
@@ -61,11 +52,11 @@ module _ (words : List (List ℕ)) (t : Tiling) (w : Window) (f g : FrameValue) 
       whole_tiles = whole_tiles;
       in_order = ordered;
       count_as_parts = λ i d l. counts h (get_or wholes i d) grown_on.is_frame (whole_tiles.whole i d l);
-      cover = covering g h (box_of t w) tiles wholes grown.is_frame grown_on stand covered whole_tiles ordered;
+      cover = covering g h (box_of t w) tiles wholes exactly.grown.is_frame grown_on exactly.stand exactly.covered whole_tiles ordered;
       is_picture = refl;
     }
 
     pub pictures-wholes : Pictures words t w (map (drawn_whole t) wholes)
     pictures-wholes =
-        pictures (map (drawn_whole t) wholes) (λ _. glued-in_window t f g w grown least tiles stand drawn can)
+        pictures (map (drawn_whole t) wholes) (λ _. glued-in_window t f g w exactly.grown exactly.least tiles exactly.stand exactly.drawn can)
         (subst (λ b. IsPictureOf b t w g tiles (map (drawn_whole t) wholes)) (sym asked) are-whole)

@@ -1,5 +1,5 @@
 -- What `draw` prints, and what it refuses.
-use Rattle.std.specs.Prelude.{◌≡◌, ◌⊎◌, ℕ, true, List, map, length, Some, All}
+use Rattle.std.specs.Prelude.{◌≡◌, ◌⊎◌, ℕ, true, List, length, Some}
 use Rattle.std.specs.declared.option.Option.{Option}
 use Rattle.std.specs.List.{flat_map}
 use Rattle.std.specs.Option.{option_map, option_and_then}
@@ -18,17 +18,13 @@ use Rattle.layer_api.specs.declared.format.Format.{Format}
 use Rattle.layer_api.specs.declared.view.View.{View}
 use Rattle.layer_api.specs.LayerText.{layer_text}
 use Rattle.lazy_walk.specs.Frames.{FrameValue, GrowsTo}
-use Rattle.lazy_walk.specs.Standing.{Stands}
 use Rattle.plane_geom.specs.declared.window.Window.{Window}
 use Rattle.rule_model.specs.Tiling.{Tiling}
 use Rattle.tile_place.specs.declared.placed_tile.PlacedTile.{PlacedTile}
-use Rattle.tile_place.specs.Searched.{placed_in}
 use Rattle.window_cover.specs.declared.cover_fault.CoverFault.{CoverFault}
 use Rattle.window_cover.specs.declared.cover_fault.CoverFault.TheVariants as cover
 use Rattle.window_cover.specs.Causes.{HasCause}
-use Rattle.window_cover.specs.InOrder.{AreInOrder}
 use Rattle.window_cover.specs.Limits.{IsWithinLimits}
-use Rattle.window_cover.specs.Windows.{AreDrawn, CoverWindow, IsLeastEnough}
 use Rattle.tile_app.specs.declared.status.Status.{Status}
 use Rattle.tile_app.specs.declared.status.Status.TheVariants.{BadAddress, DepthLimit, CoordLimit, TooManyTiles}
 use Rattle.tile_app.specs.declared.window_words.HalfExtents.{HalfExtents}
@@ -38,6 +34,7 @@ use Rattle.tile_app.specs.Glue.{asks_glue, IsWithinTheirLimits}
 use Rattle.tile_app.specs.Layers.{formats_given}
 use Rattle.tile_app.specs.Pictures.{IsPictureOf}
 use Rattle.tile_app.specs.Tile.{GivesTile, GivesNoTile}
+use Rattle.tile_app.specs.TilesOfWindow.{TilesOfWindow}
 use Rattle.tile_app.specs.Walk.{frame_given}
 use Rattle.tile_app.specs.WindowWords.{at_in, half_in}
 use Rattle.tile_app.specs.Words.{value_given}
@@ -78,22 +75,15 @@ pub record CanDraw (words : List (List ℕ)) (t : Tiling) : Type 0 where
   pub gives : GivesWindow words t base window
   pub within : IsWithinTheirLimits words t (frame_given words base) window
 
--- The words give a tile, and a window that can be drawn as they ask. The frame has grown to the least depth that is enough for the window: not below that of the
--- tile, it holds the window's centre, and no edge of its boundary meets the window. The tiles are those of the frame that meet the window, each once, by
--- their motions in the base's frame, and in order; each test point in the window belongs to exactly one of them. And this is their picture: of these tiles, or
--- with glue of the whole tiles of theirs.
+-- The words give a tile, and a window that can be drawn as they ask. In the frame of that tile these are the tiles of the window; and this is their picture: of
+-- these tiles, or with glue of the whole tiles of theirs.
 pub record Pictures (words : List (List ℕ)) (t : Tiling) (window : Window) (picture : List Drawn) : Type 0 where
   pub base : Address
   pub gives : GivesWindow words t base window
   pub within : IsWithinTheirLimits words t (frame_given words base) window
   pub frame : FrameValue
-  pub grown : GrowsTo t (frame_given words base) frame
-  pub least : IsLeastEnough t (frame_given words base) window (length frame.digits)
   pub tiles : List PlacedTile
-  pub stand : All (Stands t frame) tiles
-  pub drawn : AreDrawn t frame window (map (placed_in t.order) tiles)
-  pub in_order : AreInOrder tiles
-  pub covered : CoverWindow t frame window (map (placed_in t.order) tiles)
+  pub exactly : TilesOfWindow t (frame_given words base) window frame tiles
   pub is_picture : IsPictureOf (asks_glue words) t window frame tiles picture
 
 -- the text is that of each format named, one behind the other, for the window and its picture
@@ -130,12 +120,8 @@ pub record EndsGluing (words : List (List ℕ)) (t : Tiling) (fault : GlueFault)
   pub gives : GivesWindow words t base window
   pub within : IsWithinLimits t (frame_given words base) window
   pub frame : FrameValue
-  pub grown : GrowsTo t (frame_given words base) frame
-  pub least : IsLeastEnough t (frame_given words base) window (length frame.digits)
   pub tiles : List PlacedTile
-  pub stand : All (Stands t frame) tiles
-  pub drawn : AreDrawn t frame window (map (placed_in t.order) tiles)
-  pub in_order : AreInOrder tiles
+  pub exactly : TilesOfWindow t (frame_given words base) window frame tiles
   pub beyond : CanBeGlued t frame tiles → ⊥
   pub later : FrameValue
   pub grown_on : GrowsTo t frame later

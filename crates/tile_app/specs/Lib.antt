@@ -16,6 +16,7 @@ pub mod Neighbour
 pub mod Walk
 pub mod DrawnTile
 pub mod Glue
+pub mod TilesOfWindow
 pub mod Pictures
 pub mod Draw
 pub mod Pictured
@@ -25,6 +26,7 @@ pub mod Drill
 pub mod Star
 pub mod Verify
 pub mod Answer
+pub mod Headline
 pub mod RuleFaultText
 pub mod ScriptFaultText
 pub mod Status

@@ -1,16 +1,18 @@
 //! The top call: all that the program does.
-ghost use Rattle.std.specs.Prelude.{◌≡◌, ◌⊎◌, ◌<◌, ℕ, List, false, map};
+ghost use Rattle.std.specs.Prelude.{◌≡◌, ◌⊎◌, ◌<◌, ℕ, List, false, map, Ok};
 ghost use Rattle.tile_io.specs.Causes.{Rose};
 ghost use Rattle.tile_io.specs.Taken.{Takes, TakesProperPrefix};
 ghost use Rattle.tile_app.specs.declared.status.Status.{Status};
+ghost use Rattle.tile_app.specs.declared.words.Command.TheVariants.{Neighbour, Draw};
 ghost use Rattle.tile_app.specs.Answer.{Prints, CanBeAnswered, IsBeyondLimits};
 ghost use Rattle.tile_app.specs.Asked.{OfRequest, IsAsked};
 ghost use Rattle.tile_app.specs.Causes.{Causes, IsNoLimit, IsRefused};
+ghost use Rattle.tile_app.specs.Headline.{TellsOnlyNeighbour, WritesExactlyTheWindow};
 ghost use Rattle.tile_app.specs.Layers.{reads_file};
 ghost use Rattle.tile_app.specs.Notes.{note_of, IsNoted};
 ghost use Rattle.tile_app.specs.Request.{Request};
 ghost use Rattle.tile_app.specs.Status.{IsCutShort, IsLimit, IsRefusal};
-ghost use Rattle.tile_app.specs.Words.{texts};
+ghost use Rattle.tile_app.specs.Words.{texts, command_of};
 
 use crate::answer::answer_text;
 use crate::note::write_note;
@@ -95,6 +97,18 @@ pub fn run<R: Source, W: Sink, N: Sink>(
     notes: &mut N,
     mut layers: Vec<Box<dyn Layer>>,
 ) -> Status
+    // The headline. At Done of `neighbour` the tile printed is the only one across the edge asked for, when both are
+    // placed in their common supertile, and the return edge leads back.
+    ensures only_neighbour { result ≡ Status.Done → command_of (texts words.now.items) ≡ Ok Neighbour
+        → OfRequest (texts words.now.items) (map (λ d. form d) layers.items) (R.left source.old) (R.left source.new)
+        (λ r. (text : List ℕ) × TellsOnlyNeighbour r text × Takes (W.taken sink.old) (W.taken sink.new) text) }
+
+    // At Done of `draw` the tiles written are exactly those that meet the window, each once, disjoint and covering it, in
+    // the supertile grown to the least enough depth; with `glue=yes` the whole tiles of these.
+    ensures exactly_the_window { result ≡ Status.Done → command_of (texts words.now.items) ≡ Ok Draw
+        → OfRequest (texts words.now.items) (map (λ d. form d) layers.items) (R.left source.old) (R.left source.new)
+        (λ r. (text : List ℕ) × WritesExactlyTheWindow r text × Takes (W.taken sink.old) (W.taken sink.new) text) }
+
     // What is printed is by cases of the command: for `place` the kind, and the motion by which the
     // tile lies in its supertile; for `neighbour` the one tile and edge across the edge; for `walk` the
     // tiles of the path; for `draw` the layers' texts of exactly the tiles that meet the window, each

@@ -41,8 +41,8 @@ returns-in_err-glue-clause-refused c =
     let b = c.requires.begins in
     let x = c.in_ok-tiles.ensures in
     let p = err_from_is_err_and c.from_residual-in_err-glue.result c.from_residual-in_err-glue.ensures.1 in
-    rw (p.1, p.2) (glue_refused_if_err (texts c.args.words.now) (tiling_of c.args.machine.now) b.base c.args.window.now b.gives (sym c.glue_given.ensures ∙ c.if-glue_given.true) c.args.frame.now c.cover.new.frame b.begun x.frame x.within x.least
-    c.in_ok-tiles.tiles.items x.stand x.drawn x.in_order c.glue.new.frame c.glue.ensures.frame c.glue.result c.in_err-glue.field-0.0 c.in_err-glue.was c.in_err-glue.ensures.cause c.glue.ensures.answered)
+    rw (p.1, p.2) (glue_refused_if_err (texts c.args.words.now) (tiling_of c.args.machine.now) b.base c.args.window.now b.gives (sym c.glue_given.ensures ∙ c.if-glue_given.true) c.args.frame.now c.cover.new.frame b.begun x.within
+    c.in_ok-tiles.tiles.items (record { grown = x.frame; least = x.least; stand = x.stand; drawn = x.drawn; in_order = x.in_order; covered = x.covered }) c.glue.new.frame c.glue.ensures.frame c.glue.result c.in_err-glue.field-0.0 c.in_err-glue.was c.in_err-glue.ensures.cause c.glue.ensures.answered)
 
 -- ---- the pictures
 pub returns-in_ok-glue-clause-can : goal.returns-in_ok-glue-clause-can
@@ -63,7 +63,8 @@ returns-in_ok-glue-clause-pictures c =
     let x = c.in_ok-tiles.ensures in
     let y = c.in_ok-glue.ensures in
     let laws = c.whole_tiles_law.ensures in
-    pictures-wholes (texts c.args.words.now) t c.args.window.now c.args.frame.now c.cover.new.frame c.requires.begins x.frame x.within x.least c.in_ok-tiles.tiles.items x.stand x.drawn x.in_order x.covered
+    pictures-wholes (texts c.args.words.now) t c.args.window.now c.args.frame.now c.cover.new.frame c.requires.begins x.within c.in_ok-tiles.tiles.items
+    (record { grown = x.frame; least = x.least; stand = x.stand; drawn = x.drawn; in_order = x.in_order; covered = x.covered })
     (sym c.glue_given.ensures ∙ c.if-glue_given.true) laws.counts laws.covering c.glue.new.frame y.frame y.least y.within c.in_ok-glue.field-0.items y.whole_tiles y.in_order
 
 pub returns-in_ok-covered_tiles-clause-can : goal.returns-in_ok-covered_tiles-clause-can
@@ -74,5 +75,6 @@ returns-in_ok-covered_tiles-clause-can c =
 pub returns-in_ok-covered_tiles-clause-pictures : goal.returns-in_ok-covered_tiles-clause-pictures
 returns-in_ok-covered_tiles-clause-pictures c =
     let x = c.in_ok-covered_tiles.ensures in
-    pictures-tiles (texts c.args.words.now) (tiling_of c.args.machine.now) c.args.window.now c.args.frame.now c.covered_tiles.new.frame c.requires.begins x.frame x.within x.least c.in_ok-covered_tiles.field-0 x.stand x.drawn x.in_order x.covered
+    pictures-tiles (texts c.args.words.now) (tiling_of c.args.machine.now) c.args.window.now c.args.frame.now c.covered_tiles.new.frame c.requires.begins x.within c.in_ok-covered_tiles.field-0
+    (record { grown = x.frame; least = x.least; stand = x.stand; drawn = x.drawn; in_order = x.in_order; covered = x.covered })
     (sym c.glue_given.ensures ∙ c.if-glue_given.false)

@@ -1,7 +1,32 @@
-use Rattle.std.proofs.Common.{ap}
+use Rattle.std.proofs.Common.{ℕ, List, ap}
+use Rattle.tile_io.specs.Taken.{Takes}
+use Rattle.tile_app.specs.Answer.{Prints}
+use Rattle.tile_app.specs.Asked.{OfRequest}
+use Rattle.tile_app.specs.Causes.{IsRefused}
 use Rattle.tile_app.specs.Words.{texts}
 use Rattle.tile_app.proofs.Answered.{same_asked, refused_when, beyond_limits, complete}
+use Rattle.tile_app.proofs.Headline.{only_neighbour, exactly_the_window, with_same}
 use Rattle.tile_app.proofs.run.run.Goals as goal
+
+-- what was answered for the words and the layers as slices
+pub returns-clause-done : goal.returns-clause-done
+returns-clause-done g c = λ e.
+    with_same _ (texts c.as_slice.result.now) _ _ _
+    (λ words handed. OfRequest words handed (g.R.Source.left c.args.source.now) (g.R.Source.left c.answer-status.new.source)
+    (λ r. (text : List ℕ) × Prints r text × Takes (g.W.Sink.taken c.args.sink.now) (g.W.Sink.taken c.answer-status.new.sink) text))
+    (ap texts c.as_slice.ensures.value) c.as_mut_slice.ensures.value (c.answer-status.ensures.done e)
+
+pub returns-clause-only_neighbour : goal.returns-clause-only_neighbour
+returns-clause-only_neighbour g c = λ e right. only_neighbour _ _ _ _ _ (returns-clause-done g c e) right
+
+pub returns-clause-exactly_the_window : goal.returns-clause-exactly_the_window
+returns-clause-exactly_the_window g c = λ e right. exactly_the_window _ _ _ _ _ (returns-clause-done g c e) right
+
+pub returns-clause-refused : goal.returns-clause-refused
+returns-clause-refused g c = λ e.
+    with_same _ (texts c.as_slice.result.now) _ _ _
+    (λ words handed. IsRefused words handed (g.R.Source.left c.args.source.now) (g.R.Source.left c.answer-status.new.source) c.answer-status.result)
+    (ap texts c.as_slice.ensures.value) c.as_mut_slice.ensures.value (c.answer-status.ensures.refused e)
 
 -- each by the laws, from what was answered
 pub returns-clause-refused_when : goal.returns-clause-refused_when
