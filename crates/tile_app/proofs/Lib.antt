@@ -24,5 +24,4 @@ pub mod Given
 pub mod Counted
 pub mod Drilled
 pub mod Asking
-pub mod Edges
 pub mod Lines
