@@ -25,5 +25,4 @@ pub mod Given
 pub mod Counted
 pub mod Drilled
 pub mod Asking
-pub mod Edges
 pub mod Lines

@@ -10,12 +10,13 @@ use Rattle.cyclo_points.proofs.SamePoints.{same_point}
 use Rattle.layer_api.specs.declared.format.Format.{Format}
 use Rattle.half_glue.specs.declared.glue_fault.GlueFault.{GlueFault}
 use Rattle.half_glue.specs.declared.glue_fault.GlueFault.TheVariants as glue
-use Rattle.rule_model.specs.Tiling.{Tiling, contacts, children}
+use Rattle.rule_model.specs.Tiling.{Tiling, children}
 use Rattle.list_verify.specs.declared.list_fault.ListFault.TheVariants as listing
 use Rattle.star_walk.specs.Causes.{IsWithinLimits}
 use Rattle.window_cover.specs.declared.cover_fault.CoverFault.{CoverFault}
 use Rattle.window_cover.specs.declared.cover_fault.CoverFault.TheVariants as cover
-use Rattle.tile_place.specs.Crossed.{LiesOnBoundary}
+use Rattle.tile_place.specs.Crossed.{LiesAlongNone, LiesOnBoundary}
+use Rattle.tile_place.proofs.Plane.{part_along}
 use Rattle.tile_place.specs.Placing.{first_refused}
 use Rattle.tile_shape.specs.declared.address_fault.AddressFault.{AddressFault}
 use Rattle.tile_shape.specs.Refused.{IsFaultOf}
@@ -36,7 +37,7 @@ use Rattle.lazy_walk.specs.Paths.{CanBeWalked, IsStoppedAt, LacksEdge}
 use Rattle.tile_app.specs.Walk.{CanWalk, WalksToNoEdge, WalksToLimit, frame_given, frame_at, path_given}
 use Rattle.tile_shape.specs.declared.address.Address as program
 use Rattle.tile_shape.specs.Views.{address_of}
-use Rattle.tile_app.proofs.OnePath.{walked_or_halted, halts_once, stopped_halts, lacking_halts, edge_is_below}
+use Rattle.tile_app.proofs.OnePath.{walked_or_halted, halts_once, stopped_halts, lacking_halts}
 use Rattle.tile_app.proofs.SameAddress.{same_program_address}
 use Rattle.tile_app.specs.Place.{CanBePlaced, PassesLimit}
 use Rattle.tile_app.specs.Request.{Request, Asks, tiling_asked, HasTooLongFile, TellsTooLong, HasRuleFault}
@@ -112,9 +113,6 @@ module _ (laws : Laws) (r : Request) (t : Tiling) (usable : AreUsable (children 
   abbrev Exists : Address → ℕ → Type 0
   Exists a e = e < edges_of t a.kind
 
-  abbrev IsOnNone : Address → ℕ → Type 0
-  IsOnNone a e = (top part : ℕ) → LiesOnBoundary t a e top part → ⊥
-
   abbrev IsAlone : ℕ → ℕ → Address → ℕ → Type 0
   IsAlone edge part a e = (top other : ℕ) → LiesOnBoundary t a e top other → (top ≡ edge) × (other ≡ part)
 
@@ -126,7 +124,7 @@ module _ (laws : Laws) (r : Request) (t : Tiling) (usable : AreUsable (children 
 
   -- an edge is inside or outside
   inside_or_outside : (edge part : ℕ) → CanBeCrossed words t → LiesOutside words t edge part → ⊥
-  inside_or_outside edge part p q = of_given IsOnNone p.address q.address p.edge q.own p.gives q.gives p.inside.on_none edge part q.outside.along
+  inside_or_outside edge part p q = of_given (LiesAlongNone t) p.address q.address p.edge q.own p.gives q.gives p.inside.on_none edge (part_along t q.address q.own edge part q.outside.along)
 
   -- the number of edges, and the place outside, are determined
   same_no_edge : (e es f fs : ℕ) → HasNoEdge words t e es → HasNoEdge words t f fs → NoEdge e es ≡ NoEdge f fs
@@ -212,7 +210,7 @@ module _ (laws : Laws) (r : Request) (t : Tiling) (usable : AreUsable (children 
       let x : LacksEdge t (frame_at words t q.base 64) (path_given words) e es = at_one_base (λ a. LacksEdge t a (path_given words) e es) p.base q.base p.tile q.tile p.lacks in
       let one = halts_once t (frame_at words t q.base 64) x.tile b e f (path_given words) (lacking_halts t (frame_at words t q.base 64) e es (path_given words) x)
       (stopped_halts t (frame_at words t q.base 64) b f (path_given words) q.stopped) x.comes q.stopped.comes in
-      let below : f < edges_of t b.kind = edge_is_below (contacts t) b.kind f q.stopped.edge_exists in
+      let below : f < edges_of t b.kind = q.stopped.edge_exists in
       let count : es ≡ edges_of t b.kind = x.count ∙ ap (λ (a : Address). edges_of t a.kind) one.0 in
       let beyond : es ≤ e = x.beyond in
       omega (arith, below, count, beyond, one.1)

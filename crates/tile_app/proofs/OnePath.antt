@@ -1,21 +1,10 @@
 -- A path leads to one end: to a tile, or to one edge that doesn't exist or is on the boundary.
-use Rattle.std.proofs.Common.{◌≡◌, ℕ, ◌<◌, zero, suc, IsSome, List, [], ◌∷◌, ◌++◌, length, slice_get, refl, sym, ◌∙◌, subst, arith}
+use Rattle.std.proofs.Common.{◌≡◌, ℕ, List, [], ◌∷◌, ◌++◌, refl, sym, ◌∙◌, subst, arith}
 use Rattle.addressing.specs.Address.{Address}
-use Rattle.addressing.specs.Tables.{Tables, kind_tables, type_of}
 use Rattle.lazy_walk.specs.Paths.{Crosses, Leads, ComesTo, IsStoppedAt, LacksEdge}
-use Rattle.rule_model.specs.Tiling.{Tiling, contacts}
+use Rattle.rule_model.specs.Tiling.{Tiling}
 use Rattle.tile_place.specs.Crossed.{IsOnlyAcross}
 use Rattle.tile_place.proofs.OneAcross.{one_across}
-
-below : (xs : List ℕ) (i : ℕ) → IsSome (slice_get xs i) → i < length xs
-below [] i h = absurd (cc h)
-below (x ∷ xs) zero h = omega arith
-below (x ∷ xs) (suc i) h = omega (arith, below xs i h)
-
--- an edge with a type is below their number
-pub edge_is_below : (t : Tables) (kind edge : ℕ) → IsSome (type_of t kind edge) → edge < length (kind_tables t kind).types
-unfolding type_of
-edge_is_below t kind edge h = below (kind_tables t kind).types edge h
 
 head_is : (x y : ℕ) (xs ys : List ℕ) → x ∷ xs ≡ y ∷ ys → (x ≡ y) × (xs ≡ ys)
 head_is x y xs ys e = (cc (e), cc (e))
@@ -62,4 +51,4 @@ pub stopped_halts : (t : Tiling) (a b : Address) (e : ℕ) (path : List ℕ) →
 stopped_halts t a b e path h x f k = k.inside h.on_boundary
 
 pub lacking_halts : (t : Tiling) (a : Address) (e edges : ℕ) (path : List ℕ) (h : LacksEdge t a path e edges) → Halts t h.tile e
-lacking_halts t a e edges path h x f k = let below = edge_is_below (contacts t) h.tile.kind e k.edge_exists in let count = h.count in let beyond = h.beyond in omega (arith, below, count, beyond)
+lacking_halts t a e edges path h x f k = let below = k.edge_exists in let count = h.count in let beyond = h.beyond in omega (arith, below, count, beyond)

@@ -3,6 +3,7 @@ use Rattle.std.proofs.Common.{◌≡◌, ℕ, ◌+◌, ◌<◌, List, [], ◌∷
 use Rattle.addressing.specs.Address.{Address}
 use Rattle.rule_model.specs.Tiling.{Tiling}
 use Rattle.tile_place.specs.Crossed.{IsOnlyAcross, LiesOnBoundary}
+use Rattle.tile_place.proofs.Plane.{part_along}
 use Rattle.lazy_walk.specs.Paths.{Crosses, Leads}
 use Rattle.transducer_core.specs.declared.outside.Outside.{Outside}
 use Rattle.cyclo_points.specs.Text.{blank, newline}
@@ -32,7 +33,7 @@ pieces_of_walk kind own turn shift number address back e k =
 -- an edge that is crossed is inside, so a step across it is answered
 pub ok_inside : (t : Tiling) (a x : Address) (e f : ℕ) (r : Result ℕ Outside) → IfErr r (λ o. LiesOnBoundary t a e o.edge o.part) → Crosses t a e x f → IsOk r
 ok_inside t a x e f (Ok back) on h = refl
-ok_inside t a x e f (Err o) on h = absurd (h.inside (record { own = o.edge; part = o.part; lies = on }))
+ok_inside t a x e f (Err o) on h = absurd (h.inside (record { own = o.edge; along = part_along t a e o.edge o.part on }))
 
 pub of_ok : (r : Result ℕ Outside) (back : ℕ) (Q : ℕ → Type 0) → r ≡ Ok back → IfOk r Q → Q back
 of_ok r back Q e h = subst (λ s. IfOk s Q) e h

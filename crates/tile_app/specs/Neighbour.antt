@@ -5,7 +5,7 @@ use Rattle.std.specs.Fmt.{decimal}
 use Rattle.std.specs.Option.{option_and_then}
 use Rattle.addressing.specs.Address.{Address}
 use Rattle.rule_model.specs.Tiling.{Tiling}
-use Rattle.tile_place.specs.Crossed.{IsOnlyAcross, LiesOnBoundary, IsOutside, edges_of}
+use Rattle.tile_place.specs.Crossed.{IsOnlyAcross, LiesAlongNone, IsOutside, edges_of}
 use Rattle.tile_shape.specs.Text.{address_text}
 use Rattle.tile_app.specs.declared.status.Status.{Status}
 use Rattle.tile_app.specs.declared.status.Status.TheVariants.{BadAddress, NoEdge, Outside}
@@ -31,7 +31,7 @@ pub record GivesEdge (words : List (List ℕ)) (t : Tiling) (a : Address) (edge 
 -- the tile has the edge, and the edge isn't on the boundary of the supertile: it lies along no edge of the supertile's polygon
 pub record IsInside (t : Tiling) (a : Address) (edge : ℕ) : Type 0 where
   pub exists : edge < edges_of t a.kind
-  pub on_none : (top part : ℕ) → LiesOnBoundary t a edge top part → ⊥
+  pub on_none : LiesAlongNone t a edge
 
 -- the words give an edge of a tile that is inside the supertile
 pub record CanBeCrossed (words : List (List ℕ)) (t : Tiling) : Type 0 where

@@ -1,12 +1,12 @@
 use Rattle.std.proofs.Common.{◌<◌, ap, ◌∙◌, subst}
 use Rattle.std.proofs.lemmas.Result.{err_from_is_err_and}
 use Rattle.addressing.specs.Tables.{child_kinds}
-use Rattle.addressing.proofs.EdgesOf.{kind_in_tables, edge_has_type}
+use Rattle.addressing.proofs.EdgesOf.{kind_in_tables}
 use Rattle.rule_model.specs.Checked.{rule_contacts, child_kinds_of}
+use Rattle.tile_place.proofs.KindEdges.{edges_counted}
 use Rattle.tile_shape.specs.Views.{address_of}
-use Rattle.transducer_core.proofs.OneOutside.{ok_or_err, outside_is}
+use Rattle.transducer_core.proofs.OneOutside.{outside_is}
 use Rattle.tile_app.specs.declared.words.Command.TheVariants.{Neighbour}
-use Rattle.tile_app.proofs.Edges.{edges-counted}
 use Rattle.tile_app.proofs.neighbour.neighbour_text.Goals as goal
 
 pub address_given-requires : goal.address_given-requires
@@ -28,7 +28,7 @@ pub returns-then-edge-edges-clause-refused : goal.returns-then-edge-edges-clause
 returns-then-edge-edges-clause-refused g c = record {
   address = address_of c.in_ok-address.address;
   gives = record { tile = c.in_ok-address.ensures.given; given = c.edge_given-edge.ensures };
-  count = edges-counted c.tables.result.now c.checked.result.now c.args.machine.now c.in_ok-address.address.kind c.edges-edges.result c.tables.ensures.contacts c.checked.ensures.rule c.edges-edges.ensures.count;
+  count = edges_counted c.tables.result.now c.checked.result.now c.args.machine.now c.in_ok-address.address.kind c.edges-edges.result c.tables.ensures.contacts c.checked.ensures.rule c.edges-edges.ensures.count;
   beyond = c.if-edge-edges.true;
 }
 
@@ -38,9 +38,8 @@ cross-requires-clause-fits g c = c.in_ok-address.ensures.given.accepted.fits
 pub cross-requires-clause-edge_exists : goal.cross-requires-clause-edge_exists
 cross-requires-clause-edge_exists g c =
     let kind = c.in_ok-address.address.kind in
-    edge_has_type (rule_contacts c.args.machine.now) kind c.edge_given-edge.result
-    (subst (λ n. c.edge_given-edge.result < n)
-    (edges-counted c.tables.result.now c.checked.result.now c.args.machine.now kind c.edges-edges.result c.tables.ensures.contacts c.checked.ensures.rule c.edges-edges.ensures.count) c.if-edge-edges.false)
+    subst (λ n. c.edge_given-edge.result < n)
+    (edges_counted c.tables.result.now c.checked.result.now c.args.machine.now kind c.edges-edges.result c.tables.ensures.contacts c.checked.ensures.rule c.edges-edges.ensures.count) c.if-edge-edges.false
 
 pub returns-in_err-crossing-clause-refused : goal.returns-in_err-crossing-clause-refused
 returns-in_err-crossing-clause-refused g c =
@@ -52,7 +51,7 @@ returns-in_err-crossing-clause-refused g c =
       gives = record { tile = c.in_ok-address.ensures.given; given = c.edge_given-edge.ensures };
       outside = record {
         exists = subst (λ n. edge < n)
-            (edges-counted c.tables.result.now c.checked.result.now c.args.machine.now c.in_ok-address.address.kind c.edges-edges.result c.tables.ensures.contacts c.checked.ensures.rule c.edges-edges.ensures.count) c.if-edge-edges.false;
+            (edges_counted c.tables.result.now c.checked.result.now c.args.machine.now c.in_ok-address.address.kind c.edges-edges.result c.tables.ensures.contacts c.checked.ensures.rule c.edges-edges.ensures.count) c.if-edge-edges.false;
         along = c.in_err-crossing.ensures.outside_on_boundary;
         alone = λ top other on. outside_is _ _ top other c.in_err-crossing.was (c.cross.ensures.boundary_is_outside top other on);
       };
@@ -67,8 +66,8 @@ returns-clause-printed g c =
       gives = record { tile = c.in_ok-address.ensures.given; given = c.edge_given-edge.ensures };
       inside = record {
         exists = subst (λ n. edge < n)
-            (edges-counted c.tables.result.now c.checked.result.now c.args.machine.now c.in_ok-address.address.kind c.edges-edges.result c.tables.ensures.contacts c.checked.ensures.rule c.edges-edges.ensures.count) c.if-edge-edges.false;
-        on_none = λ top part lies. ok_or_err _ _ _ c.in_ok-crossing.was (c.cross.ensures.boundary_is_outside top part lies);
+            (edges_counted c.tables.result.now c.checked.result.now c.args.machine.now c.in_ok-address.address.kind c.edges-edges.result c.tables.ensures.contacts c.checked.ensures.rule c.edges-edges.ensures.count) c.if-edge-edges.false;
+        on_none = c.in_ok-crossing.ensures.inside;
       };
       across = address_of c.in_ok-crossing.crossing.addr;
       back = c.in_ok-crossing.crossing.edge;

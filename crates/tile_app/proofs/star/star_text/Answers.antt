@@ -1,6 +1,7 @@
 use Rattle.std.proofs.Common.{◌≡◌, ◌<◌, All, length, map, string_bytes, sym, ap, ◌∙◌, subst}
 use Rattle.std.specs.List.{flat_map}
 use Rattle.std.proofs.lemmas.Result.{err_from_is_err_and}
+use Rattle.addressing.specs.Address.{Address}
 use Rattle.addressing.specs.Tables.{child_kinds}
 use Rattle.addressing.proofs.EdgesOf.{kind_in_tables}
 use Rattle.lazy_walk.specs.Frames.{GrowsTo}
@@ -12,12 +13,12 @@ use Rattle.star_walk.specs.Causes.{IsWithinLimits}
 use Rattle.star_walk.specs.Corners.{corner_in}
 use Rattle.star_walk.specs.Round.{IsLeastEnough}
 use Rattle.tile_place.specs.Crossed.{edges_of}
+use Rattle.tile_place.proofs.KindEdges.{edges_counted}
 use Rattle.tile_shape.specs.Views.{address_of}
 use Rattle.tile_app.specs.declared.words.Command.TheVariants.{Star}
 use Rattle.tile_app.specs.Star.{corner_line, GivesVertex}
 use Rattle.tile_app.specs.Walk.{frame_given}
 use Rattle.tile_app.specs.Words.{texts}
-use Rattle.tile_app.proofs.Edges.{edges-counted}
 use Rattle.tile_app.proofs.Frames.{begun}
 use Rattle.tile_app.proofs.Turned.{turning_ends}
 use Rattle.tile_app.proofs.star.star_text.Given.{Over}
@@ -39,10 +40,18 @@ returns-in_err-address-clause-refused g c =
     let p = err_from_is_err_and c.from_residual.result c.from_residual.ensures.1 in
     rw (p.1, p.2) c.in_err-address.ensures.refused
 
+pub returns-then-vertex-edges-clause-refused : goal.returns-then-vertex-edges-clause-refused
+returns-then-vertex-edges-clause-refused g c = record {
+  base = address_of c.in_ok-address.address;
+  gives = record { tile = c.in_ok-address.ensures.given; given = c.vertex_given-vertex.ensures };
+  count = edges_counted c.tables.result.now c.checked.result.now c.args.machine.now c.in_ok-address.address.kind c.edges-edges.result c.tables.ensures.contacts c.checked.ensures.rule c.edges-edges.ensures.count;
+  beyond = c.if-vertex-edges.true;
+}
+
 -- the vertex exists, and the frame is that of the words
 exists : (g : Over) (c : After-new-star g) → c.vertex_given-vertex.result < edges_of (tiling_of c.args.machine.now) c.in_ok-address.address.kind
 exists g c = subst (λ n. c.vertex_given-vertex.result < n)
-    (edges-counted c.tables.result.now c.checked.result.now c.args.machine.now c.in_ok-address.address.kind c.edges-edges.result c.tables.ensures.contacts c.checked.ensures.rule c.edges-edges.ensures.count) c.if-vertex-edges.false
+    (edges_counted c.tables.result.now c.checked.result.now c.args.machine.now c.in_ok-address.address.kind c.edges-edges.result c.tables.ensures.contacts c.checked.ensures.rule c.edges-edges.ensures.count) c.if-vertex-edges.false
 
 frame-is : (g : Over) (c : After-new-star g) → c.new-frame.result ≡ frame_given (texts c.args.words.now) (address_of c.in_ok-address.address)
 frame-is g c = begun (texts c.args.words.now) (address_of c.in_ok-address.address) c.new-frame.result c.new-frame.ensures.base (c.new-frame.ensures.start ∙ c.seed_given.ensures) c.new-frame.ensures.digits
@@ -52,6 +61,12 @@ gives g c = record { tile = c.in_ok-address.ensures.given; given = c.vertex_give
 
 pub find-requires-clause-frame : goal.find-requires-clause-frame
 find-requires-clause-frame g c = c.new-frame.ensures.is_frame (tiling_of c.args.machine.now) c.in_ok-address.ensures.given.accepted.fits
+
+pub find-requires-clause-vertex_exists : goal.find-requires-clause-vertex_exists
+find-requires-clause-vertex_exists g c =
+    let vertex = c.vertex_given-vertex.result in
+    subst (λ (a : Address). vertex < edges_of (tiling_of c.args.machine.now) a.kind) (sym c.new-frame.ensures.base)
+    (exists g ((goal.at.find-requires-clause-vertex_exists g c).After-new-star))
 
 pub returns-in_err-find-clause-refused : goal.returns-in_err-find-clause-refused
 returns-in_err-find-clause-refused g c =
