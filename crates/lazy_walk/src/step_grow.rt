@@ -1,8 +1,8 @@
 //! From tile to tile of a frame that grows, each in its place.
-ghost use Rattle.std.specs.Prelude.{◌≡◌, ◌↔◌, ◌<◌, ◌^◌, length, IsErr, IfOk, IfErr, OnErr};
+ghost use Rattle.std.specs.Prelude.{◌≡◌, ◌↔◌, ◌<◌, ◌≤◌, ◌^◌, ℕ, length, IsErr, IfOk, IfErr, OnErr};
 ghost use Rattle.cyclo_points.specs.Order.{points_of};
 ghost use Rattle.cyclo_points.specs.Point.{IsOf, IsWithin};
-ghost use Rattle.frames.specs.Frame.{IsTileOf};
+ghost use Rattle.frames.specs.Frame.{IsTileOf, lifted_in};
 ghost use Rattle.rule_model.specs.Tiling.{tiling_of, children};
 ghost use Rattle.tile_place.specs.Crossed.{edges_of};
 ghost use Rattle.tile_shape.specs.Views.{address_of};
@@ -39,6 +39,9 @@ impl Frame {
         requires in_order { IsOf machine.now.order tile.old.motion.shift }
         ensures frame { GrowsTo (tiling_of machine.now) self.old self.new }
         ensures crossed { IfOk result (λ back. IsCrossedTo (tiling_of machine.now) self.old self.new (address_of tile.old.addr) tile.old.motion edge tile.new back) }
+        ensures inside { IfOk result (λ _. ¬ IsBoundaryEdge (tiling_of machine.now) (lifted_in (whole self.new) (address_of tile.old.addr)) edge) }
+        ensures least { (n : ℕ) → length self.old.digits ≤ n → n < length self.new.digits
+            → IsBoundaryEdge (tiling_of machine.now) (lifted_at (tiling_of machine.now) self.old (address_of tile.old.addr) n) edge }
         ensures limit_exactly { IsErr result ↔ IsBoundaryEdge (tiling_of machine.now) (lifted_at (tiling_of machine.now) self.old (address_of tile.old.addr) 64) edge }
         ensures limit_tile { IfErr result (λ limit. address_of limit.addr ≡ lifted_at (tiling_of machine.now) self.old (address_of tile.old.addr) 64) }
         ensures limit_edge { IfErr result (λ limit. limit.edge ≡ edge) }

@@ -24,13 +24,16 @@ use Rattle.window_cover.specs.InOrder.{AreInOrder, AreSorted}
 use Rattle.window_cover.specs.Keys.{HasKey, keys_from}
 use Rattle.window_cover.specs.Lifted.{CanBeLifted, IsLifted}
 use Rattle.window_cover.specs.Right.{IsFound, IsRight}
+use Rattle.window_cover.specs.Packed.{packed}
 use Rattle.window_cover.specs.Windows.{AreDrawn, CoverWindow}
+use Rattle.window_cover.specs.Working.{working, IsWorking}
 use Rattle.window_cover.proofs.Finished.{HasLaws, all-stand, numbers-distinct, drawn, covered}
 use Rattle.window_cover.proofs.Keyed.{IsKey}
 use Rattle.tile_place.proofs.KeyOrder.{key_cmp}
 use Rattle.window_cover.proofs.Lifting.{zip-placed}
 use Rattle.window_cover.proofs.Shuffled.{AreShuffled, shuffled}
 use Rattle.window_cover.proofs.Sorted.{IsKeyed, in-order, in-sorted}
+use Rattle.window_cover.proofs.Works.{works}
 
 -- the tiles found of a right state can be lifted
 pub right-lifted : (t : Tiling) (f : FrameValue) (c : CoverValue) → IsRight t f c → All (CanBeLifted f) c.found
@@ -94,14 +97,17 @@ module _ (f : FrameValue) (c : CoverValue) (found : List Found) (ks : List Order
 
   -- where the state is right
   module _ (laws : (m : Rule) → IsChecked m → HasLaws m) (r : Rule) (checked : IsChecked r) (right : IsRight (tiling_of r) f c) where
+    work : IsWorking (tiling_of r) f (working c)
+    work = works (tiling_of r) (laws r checked).open_test f c right
+
     pub arranged-drawn : c.border ≡ [] → AreDrawn (tiling_of r) f c.window (map (placed_in r.order) tiles)
-    arranged-drawn closed = drawn r (laws r checked) f c right ks are.mixed tiles zip closed
+    arranged-drawn closed = drawn r (laws r checked) f (working c) work ks are.mixed tiles zip (ap (map packed) closed)
 
     pub arranged-covered : c.border ≡ [] → CoverWindow (tiling_of r) f c.window (map (placed_in r.order) tiles)
-    arranged-covered closed = covered r (laws r checked) f c right ks are.mixed tiles zip closed
+    arranged-covered closed = covered r (laws r checked) f (working c) work ks are.mixed tiles zip (ap (map packed) closed)
 
     pub arranged-stand : All (Stands (tiling_of r) f) tiles
-    arranged-stand = All-from_recursion (Stands (tiling_of r) f) tiles (all-stand r (laws r checked) f c right ks are.mixed tiles zip)
+    arranged-stand = All-from_recursion (Stands (tiling_of r) f) tiles (all-stand r (laws r checked) f (working c) work ks are.mixed tiles zip)
 
     pub arranged-in_order : AreInOrder tiles
-    arranged-in_order = in-order f ks tiles all-keyed are.sorted (numbers-distinct r (laws r checked) f c right ks are.mixed tiles zip)
+    arranged-in_order = in-order f ks tiles all-keyed are.sorted (numbers-distinct r (laws r checked) f (working c) work ks are.mixed tiles zip)

@@ -17,18 +17,18 @@ use Rattle.windows.specs.EnoughDepth.{IsEnough}
 use Rattle.dissection.specs.Accepted.{NamesTile}
 use Rattle.tile_place.proofs.Plane.{its_rule}
 use Rattle.window_cover.specs.Beyond.{IsNotBeyondEnough}
-use Rattle.window_cover.specs.Found.{CoverValue}
 use Rattle.window_cover.specs.Keys.{keys_from}
 use Rattle.windows.specs.Limits.{most_tiles}
-use Rattle.window_cover.specs.Right.{IsRight, growing}
+use Rattle.window_cover.specs.Right.{growing}
 use Rattle.window_cover.specs.Windows.{TileOf, box_of, IsLeastEnough}
+use Rattle.window_cover.specs.Working.{Working, IsWorking}
 use Rattle.window_cover.proofs.Finished.{HasLaws, settled, wide-deep, wide-named, answer, window-within}
 use Rattle.window_cover.proofs.Searches.{beyond-later}
 use Rattle.window_cover.proofs.Shuffled.{shuffled}
 
 -- where a depth is no deeper than the least enough one, if there is one, it isn't beyond any enough one
-module _ (m : Rule) (laws : HasLaws m) (least_law : LeastLaw (points_of m.order)) (old now : FrameValue) (grows : GrowsTo (tiling_of m) old now) (w : Window) (s : CoverValue)
-    (right : IsRight (tiling_of m) now s) (shallow : (n : ℕ) → IsLeastEnough (tiling_of m) old w n → length now.digits ≤ n) (deep : length old.digits ≤ 64) where
+module _ (m : Rule) (laws : HasLaws m) (least_law : LeastLaw (points_of m.order)) (old now : FrameValue) (grows : GrowsTo (tiling_of m) old now) (w : Window) (s : Working)
+    (right : IsWorking (tiling_of m) now s) (shallow : (n : ℕ) → IsLeastEnough (tiling_of m) old w n → length now.digits ≤ n) (deep : length old.digits ≤ 64) where
   abbrev Enough : ℕ → Type 0
   Enough = IsEnough (points_of m.order).real (TileOf (tiling_of m)) (growing (tiling_of m) old) (box_of (tiling_of m) w)
 
@@ -58,7 +58,7 @@ module _ (m : Rule) (laws : HasLaws m) (least_law : LeastLaw (points_of m.order)
   pub not-beyond : IsNotBeyondEnough (tiling_of m) old w (length old.digits) (length now.digits)
   not-beyond = record { not_below = grows.no_shallower; not_beyond = λ k l e. up_to (suc k) k (omega arith) l e }
 
-module _ (m : Rule) (laws : HasLaws m) (old now : FrameValue) (grows : GrowsTo (tiling_of m) old now) (w : Window) (s : CoverValue) (right : IsRight (tiling_of m) now s)
+module _ (m : Rule) (laws : HasLaws m) (old now : FrameValue) (grows : GrowsTo (tiling_of m) old now) (w : Window) (s : Working) (right : IsWorking (tiling_of m) now s)
     (same : s.window ≡ w) (closed : s.border ≡ []) (beyond : IsNotBeyondEnough (tiling_of m) old w (length old.digits) (length now.digits)) (deep : length old.digits ≤ 64) where
   not_beyond : IsNotBeyondEnough (tiling_of m) now s.window (length old.digits) (length now.digits)
   not_beyond = subst (λ u. IsNotBeyondEnough (tiling_of m) now u (length old.digits) (length now.digits)) (sym same) (beyond-later (tiling_of m) old now grows w _ _ beyond)

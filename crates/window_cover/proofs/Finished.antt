@@ -46,18 +46,19 @@ use Rattle.windows.specs.FrameLaws.{FramePatchLaw}
 use Rattle.windows.specs.FramePatch.{frame_patch, lifted_tile}
 use Rattle.windows.specs.FrameWindow.{AreAllThatMeet, IsWindowWithin}
 use Rattle.windows.specs.Patch.{Covers}
-use Rattle.windows.specs.Laws.{OutlineLaw}
+use Rattle.windows.specs.Laws.{OpenTestLaw, OutlineLaw}
 use Rattle.windows.proofs.Members.{same_whole}
 use Rattle.tile_place.specs.declared.order_key.OrderKey.{OrderKey}
 use Rattle.window_cover.specs.Beyond.{IsNotBeyondEnough}
 use Rattle.windows.specs.Limits.{most_tiles}
 use Rattle.window_cover.specs.Checked.{IsChecked}
-use Rattle.window_cover.specs.Found.{Found, address_found, CoverValue}
+use Rattle.window_cover.specs.Found.{Found, address_found}
 use Rattle.window_cover.specs.Lifted.{IsLifted}
-use Rattle.window_cover.specs.Right.{name_of, state_of, IsEdgeWaiting, IsFound, IsRight}
+use Rattle.window_cover.specs.Right.{name_of, IsFound}
 use Rattle.window_cover.specs.Windows.{TileOf, box_of, AreDrawn, CoverWindow}
 use Rattle.window_cover.proofs.Distinct.{distinct-by}
 use Rattle.window_cover.specs.Covered.{tile_of}
+use Rattle.window_cover.specs.Working.{Working, state_of, IsEdgeWaiting, IsWorking}
 use Rattle.window_cover.proofs.Shuffled.{AreShuffled, keyed-distinct, permuted-members}
 use Rattle.window_cover.proofs.Sorted.{numbers_of, numbers_placed, lifted-numbers}
 
@@ -93,21 +94,23 @@ pub record HasLaws (m : Rule) : Type 0 where
   pub points : PointsLaw m.order
   pub patch : FramePatchLaw (points_of m.order)
   pub known : OutlineLaw (points_of m.order)
+  pub open_test : OpenTestLaw (points_of m.order)
   pub finish : FrameFinishLaw (points_of m.order)
 
 -- what the laws and the rule bring
-pub laws_of : (m : Rule) → IsChecked m → ((o : Order) → PointsLaw o) → ((o : Order) → FramePatchLaw (points_of o)) → ((o : Order) → OutlineLaw (points_of o)) → ((o : Order) → FrameFinishLaw (points_of o))
+pub laws_of : (m : Rule) → IsChecked m → ((o : Order) → PointsLaw o) → ((o : Order) → FramePatchLaw (points_of o)) → ((o : Order) → OutlineLaw (points_of o)) → ((o : Order) → OpenTestLaw (points_of o)) → ((o : Order) → FrameFinishLaw (points_of o))
     → ((kinds : List (List ℕ)) (base : Address) (start n : ℕ) → AreUsable kinds → Fits kinds base → Fits kinds (grown_by (uses_in_order kinds) (word start) n base)) → HasLaws m
-laws_of m checked points patch known finish grown = record {
+laws_of m checked points patch known open_test finish grown = record {
   checked = checked;
   still_fits = λ base start n h. grown (children (tiling_of m)) base start n checked.uses_usable h;
   points = points m.order;
   patch = patch m.order;
   known = known m.order;
+  open_test = open_test m.order;
   finish = finish m.order;
 }
 
-module _ (m : Rule) (laws : HasLaws m) (f : FrameValue) (c : CoverValue) (right : IsRight (tiling_of m) f c) where
+module _ (m : Rule) (laws : HasLaws m) (f : FrameValue) (c : Working) (right : IsWorking (tiling_of m) f c) where
   abbrev t : Tiling
   t = tiling_of m
 

@@ -13,15 +13,15 @@ use Rattle.rule_model.specs.Views.{rule_of}
 use Rattle.tile_place.specs.Crossed.{edges_of}
 use Rattle.tile_place.proofs.Plane.{IsSettled}
 use Rattle.window_cover.specs.declared.open_edge.OpenEdge.{OpenEdge}
-use Rattle.window_cover.specs.Border.{first_of}
-use Rattle.window_cover.specs.Found.{Found, CoverValue}
-use Rattle.window_cover.specs.Right.{state_of, IsRight}
+use Rattle.window_cover.specs.Border.{first_waiting}
+use Rattle.window_cover.specs.Found.{Found}
 use Rattle.window_cover.specs.SearchLaws.{HasSearchLaws}
+use Rattle.window_cover.specs.Working.{Working, state_of, IsWorking}
 use Rattle.window_cover.proofs.Names.{edge-exists}
 use Rattle.window_cover.proofs.NextState.{first-in}
 
-pub edge-there : (m : Rule) (settled : IsSettled m) (fits : StillFits (children (tiling_of m))) (L : HasSearchLaws (points_of m.order)) (f : FrameValue) (c : CoverValue) (right : IsRight (tiling_of m) f c)
-    (first : OpenEdge) → first_of c.border ≡ Some first → (x : Found) → slice_get c.found first.tile ≡ Some x → first.edge < edges_of (tiling_of m) x.kind
+pub edge-there : (m : Rule) (settled : IsSettled m) (fits : StillFits (children (tiling_of m))) (L : HasSearchLaws (points_of m.order)) (f : FrameValue) (c : Working) (right : IsWorking (tiling_of m) f c)
+    (first : OpenEdge) → first_waiting c.border ≡ Some first → (x : Found) → slice_get c.found first.tile ≡ Some x → first.edge < edges_of (tiling_of m) x.kind
 edge-there m settled fits L f c right first is_first x at =
     let t = tiling_of m in
     let one = first-in t c.border (state_of t f c).open_edges first right.border is_first in
@@ -35,8 +35,8 @@ slice_get-within (z ∷ zs) zero y h = omega arith
 slice_get-within (z ∷ zs) (suc i) y h = let r = slice_get-within zs i y h in omega (arith, r)
 
 -- the first open edge is of a tile found
-pub tile-there : (m : Rule) (L : HasSearchLaws (points_of m.order)) (f : FrameValue) (c : CoverValue) (right : IsRight (tiling_of m) f c)
-    (first : OpenEdge) → first_of c.border ≡ Some first → first.tile < length c.found
+pub tile-there : (m : Rule) (L : HasSearchLaws (points_of m.order)) (f : FrameValue) (c : Working) (right : IsWorking (tiling_of m) f c)
+    (first : OpenEdge) → first_waiting c.border ≡ Some first → first.tile < length c.found
 tile-there m L f c right first is_first =
     let t = tiling_of m in
     let one = first-in t c.border (state_of t f c).open_edges first right.border is_first in

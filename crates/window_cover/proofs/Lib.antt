@@ -15,6 +15,8 @@ mod Sorted
 mod Finished
 mod Arranged
 mod Searches
+mod Works
+mod Stepped
 mod Ended
 mod Outcomes
 mod BoxTests

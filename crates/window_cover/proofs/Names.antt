@@ -10,11 +10,10 @@ use Rattle.cyclo_points.specs.Order.{NumberOf, points_of, is_refused}
 use Rattle.cyclo_points.specs.Motion.{motion_in}
 use Rattle.dissection.specs.Accepted.{AcceptedRule, NamesTile}
 use Rattle.dissection.specs.Polygons.{tile_polygon}
-use Rattle.dissection.specs.TileEdges.{tile_at}
 use Rattle.edge_to_edge.specs.Contacts.{tables_of}
 use Rattle.frames.specs.Frame.{frame_tiles, IsTileOf, lifted_in}
 use Rattle.lazy_walk.specs.Ancestors.{full}
-use Rattle.lazy_walk.specs.Frames.{FrameValue, whole, at_depth, IsFrameOf}
+use Rattle.lazy_walk.specs.Frames.{FrameValue, whole, IsFrameOf}
 use Rattle.lazy_walk.proofs.InFull.{names, tile-full, whole-level}
 use Rattle.lazy_walk.proofs.Walks.{StillFits}
 use Rattle.rule_model.specs.declared.rule.Rule.{Rule}
@@ -28,10 +27,11 @@ use Rattle.windows.specs.FrameCover.{IsWindowOn}
 use Rattle.windows.specs.FramePatch.{in_frame, line_of}
 use Rattle.windows.specs.OpenEdges.{NumberedEdge}
 use Rattle.windows.specs.Outlines.{edges}
-use Rattle.window_cover.specs.Found.{Found, address_found, CoverValue}
-use Rattle.window_cover.specs.Right.{name_of, state_of, IsFound, IsRight}
+use Rattle.window_cover.specs.Found.{Found, address_found}
+use Rattle.window_cover.specs.Right.{name_of, IsFound}
 use Rattle.window_cover.specs.SearchLaws.{HasSearchLaws}
 use Rattle.window_cover.specs.Windows.{box_of}
+use Rattle.window_cover.specs.Working.{Working, state_of, IsWorking}
 use Rattle.window_cover.proofs.Distinct.{some_one}
 use Rattle.window_cover.proofs.FrameNames.{lifted-self}
 use Rattle.window_cover.proofs.NewOpen.{outline-edges}
@@ -65,7 +65,7 @@ module _ (m : Rule) (settled : IsSettled m) (fits : StillFits (children (tiling_
       let again = (L.renamed T F its-names (depth F) (omega arith) a (subst (λ y. IsTileOf kinds y a) (sym (whole-level m settled fits f is)) (tile-full m settled fits f is a of))).1 in
       at.3 ∙ ap (in_frame P T.rule F) (sym own ∙ ap (λ y. lifted_in y a) (sym (whole-level m settled fits f is))) ∙ again
 
-  module _ (c : CoverValue) (right : IsRight t f c) where
+  module _ (c : Working) (right : IsWorking t f c) where
     pub window-on : IsWindowOn P T F (box_of t c.window)
     window-on = record { frame = its-names; wide = omega (arith, right.window.some_width); high = omega (arith, right.window.some_height) }
 

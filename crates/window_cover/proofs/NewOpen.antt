@@ -24,7 +24,8 @@ use Rattle.plane_geom.specs.declared.window.Window.{Window}
 use Rattle.rule_model.specs.Tiling.{Tiling}
 use Rattle.windows.specs.Distinct.{AreDistinct}
 use Rattle.windows.specs.Outlines.{Polygon, PlaneEdge, edges, is_reverse}
-use Rattle.windows.specs.OpenEdges.{NumberedEdge, edges_of_tile, is_met, open_edges_of}
+use Rattle.windows.specs.OpenEdges.{NumberedEdge, edges_of_tile}
+use Rattle.windows.specs.OpenTest.{is_met, open_edges_of}
 use Rattle.windows.specs.OpenNumbers.{OpenNumbers}
 use Rattle.windows.specs.OpenStep.{closes_one}
 use Rattle.windows.specs.Patch.{Patch, IsDissected}
@@ -34,8 +35,8 @@ use Rattle.windows.proofs.Reverses.{reverse-turned}
 use Rattle.tile_place.specs.Corners.{AreCorners}
 use Rattle.window_cover.specs.Border.{Waiting, have_same_ends}
 use Rattle.window_cover.specs.NewEdges.{reversed, start_at, end_at, ends_at, meets_window, waiting_at, closes, left_open, opened, AreNew}
-use Rattle.window_cover.specs.Right.{IsEdgeWaiting}
 use Rattle.window_cover.specs.Windows.{window_box}
+use Rattle.window_cover.specs.Working.{IsEdgeWaiting}
 use Rattle.window_cover.proofs.NewEdges.{fails}
 use Rattle.window_cover.proofs.OwnLines.{filter-below, any-below, some-same, AllZip-append, AllZip-filter, AllZip-any, AllZip-chosen, line_between, spot, ends-reverse, ends-same}
 use Rattle.window_cover.proofs.SamePoints.{IsShortIn}

@@ -27,7 +27,8 @@ use Rattle.tile_shape.specs.Views.{address_of}
 use Rattle.windows.specs.FrameCover.{IsOpenCrossing}
 use Rattle.windows.specs.FramePatch.{in_frame, frame_patch, level_in, growing_frame}
 use Rattle.windows.specs.FrameSearch.{IsGrownCrossing}
-use Rattle.windows.specs.OpenEdges.{NumberedEdge, open_edges_of, edges_of_tile, is_met}
+use Rattle.windows.specs.OpenEdges.{NumberedEdge, edges_of_tile}
+use Rattle.windows.specs.OpenTest.{open_edges_of, is_met}
 use Rattle.windows.specs.OpenStep.{closes_one}
 use Rattle.windows.specs.Outlines.{edges}
 use Rattle.ordered_plane.specs.BoxTest.{box_test}
@@ -38,14 +39,14 @@ use Rattle.windows.specs.SearchSteps.{IsStep}
 use Rattle.window_cover.specs.declared.open_edge.OpenEdge.{OpenEdge}
 use Rattle.tile_place.specs.Corners.{AreCorners}
 use Rattle.window_cover.specs.Admitted.{IsAdmitted, found_as}
-use Rattle.window_cover.specs.Border.{Waiting, first_of}
+use Rattle.window_cover.specs.Border.{Waiting, first_waiting}
 use Rattle.lazy_walk.specs.Crossed.{IsCrossedTo}
-use Rattle.window_cover.specs.Found.{Found, address_found, CoverValue}
+use Rattle.window_cover.specs.Found.{Found, address_found}
 use Rattle.window_cover.specs.NewEdges.{AreNew, left_open, opened}
-use Rattle.window_cover.specs.Right.{name_of, state_of, growing, IsEdgeWaiting, IsFound, IsRight}
+use Rattle.window_cover.specs.Right.{name_of, growing, IsFound}
 use Rattle.window_cover.specs.SearchLaws.{HasSearchLaws}
-use Rattle.window_cover.specs.Stepping.{StepsTo}
 use Rattle.window_cover.specs.Windows.{TileOf, IsWindow, box_of}
+use Rattle.window_cover.specs.Working.{Working, state_of, IsEdgeWaiting, IsWorking}
 use Rattle.lazy_walk.proofs.InFull.{names}
 use Rattle.window_cover.proofs.FrameNames.{grown}
 use Rattle.window_cover.proofs.Names.{window-on, found-at, name-at, its_found, edge-exists, line-is}
@@ -59,7 +60,7 @@ pub record FirstIn (t : Tiling) (edges : List (NumberedEdge (points_of t.order).
   pub same_tile : first.tile ≡ edge.tile
   pub same_edge : first.edge ≡ edge.edge
 
-pub first-in : (t : Tiling) (border : List Waiting) (edges : List (NumberedEdge (points_of t.order).real)) (first : OpenEdge) → AllZip (IsEdgeWaiting t) border edges → first_of border ≡ Some first → FirstIn t edges first
+pub first-in : (t : Tiling) (border : List Waiting) (edges : List (NumberedEdge (points_of t.order).real)) (first : OpenEdge) → AllZip (IsEdgeWaiting t) border edges → first_waiting border ≡ Some first → FirstIn t edges first
 first-in t [] edges first z h = cc
 first-in t (b ∷ bs) [] first z h = absurd z
 first-in t (b ∷ bs) (e ∷ es) first z h =
@@ -67,7 +68,7 @@ first-in t (b ∷ bs) (e ∷ es) first z h =
     record { edge = e; rest = es; is = refl; same_tile = ap (λ (o : OpenEdge). o.tile) (sym one) ∙ z.0.same_tile; same_edge = ap (λ (o : OpenEdge). o.edge) (sym one) ∙ z.0.same_edge }
 
 module _ (m : Rule) (settled : IsSettled m) (fits : StillFits (children (tiling_of m))) (L : HasSearchLaws (points_of m.order)) (f : FrameValue) (g : FrameValue) (h : GrowsTo (tiling_of m) f g)
-    (c : CoverValue) (right : IsRight (tiling_of m) f c) (first : OpenEdge) (is_first : first_of c.border ≡ Some first) (x : Found) (at : slice_get c.found first.tile ≡ Some x)
+    (c : Working) (right : IsWorking (tiling_of m) f c) (first : OpenEdge) (is_first : first_waiting c.border ≡ Some first) (x : Found) (at : slice_get c.found first.tile ≡ Some x)
     (tile : PlacedTile) (back : ℕ) (crossed : IsCrossedTo (tiling_of m) f g (address_found x) x.motion first.edge tile back) where
   abbrev t : Tiling
   t = tiling_of m
@@ -140,7 +141,7 @@ module _ (m : Rule) (settled : IsSettled m) (fits : StillFits (children (tiling_
       are-new m.order L.points T L.lines L.numbered u exists tile.motion placed corners (its_corners corners are) c.border s.open_edges right.border
       (frame_patch P T.rule F) (λ y. refl) (L.patch T F (names m settled fits f right.frame)) lies_across.of_patch s.found right.state.of_patch (box_of t c.window) L.open_numbers right.state.open_is step.0.new
 
-  module _ (d : CoverValue) (new : IsAdmitted t c d tile) where
+  module _ (d : Working) (new : IsAdmitted t c d tile) where
     abbrev G : PatchWindow P.real (TileOf t)
     G = record {
       growing = growing t f;
@@ -159,7 +160,7 @@ module _ (m : Rule) (settled : IsSettled m) (fits : StillFits (children (tiling_
     abbrev name_by : Address → Found → TileOf t
     name_by y z = record { address = lifted_in y (address_found z); motion = motion_in m.order z.motion }
 
-    new_name : name_of t f (found_as tile) ≡ u
+    pub new_name : name_of t f (found_as tile) ≡ u
     new_name = λ i. record { address = lifted_in F (record { kind = over.its_kind i; digits = b.digits }); motion = placed i }
 
     same_found : map (name_of t g) d.found ≡ s.found ++ u ∷ []
@@ -172,9 +173,6 @@ module _ (m : Rule) (settled : IsSettled m) (fits : StillFits (children (tiling_
       where
         same_edges : (state_of t g d).open_edges ≡ (stepped P.real (TileOf t) (growing t f) (box_of t c.window) s u).open_edges
         same_edges = ap₂ (λ w ns. open_edges_of P.real (box_of t w) (map (λ y. tile_polygon P T.rule (λ z. z) y) ns)) new.same_window same_found ∙ sym next.open_is
-
-    pub steps_to : StepsTo t f g c d
-    steps_to = record { same_window = new.same_window; first = o; is_first = (first_edge.rest, first_edge.is); tile = u; across = lies_across; stepped = state-is }
 
     found_later : AllByRecursion (IsFound t g) c.found
     found_later = AllByRecursion-each (IsFound t f) (IsFound t g) c.found
@@ -203,7 +201,7 @@ module _ (m : Rule) (settled : IsSettled m) (fits : StillFits (children (tiling_
             filter (λ n. not (is_met P.real (edges (tile_polygon P T.rule (λ z. z) u)) n.line)) s.open_edges
             ++ filter (λ n. box_test P.real n.line.from n.line.to (box_of t c.window) && not (closes_one P.real s.open_edges n.line)) (edges_of_tile P.real i (tile_polygon P T.rule (λ z. z) u))
 
-    pub right-next : IsRight t g d
+    pub right-next : IsWorking t g d
     right-next = record {
       frame = h.is_frame;
       window = subst IsWindow (sym new.same_window) right.window;

@@ -7,7 +7,7 @@ use Rattle.std.proofs.lemmas.Option.{slice_get_past}
 use Rattle.window_cover.specs.declared.ends.Ends.{Ends}
 use Rattle.window_cover.specs.declared.open_edge.OpenEdge.{OpenEdge}
 use Rattle.window_cover.specs.declared.border.Listed.{Listed}
-use Rattle.window_cover.specs.Border.{Waiting, have_same_ends, open_of, waits_at, has_ends, first_of}
+use Rattle.window_cover.specs.Border.{Waiting, have_same_ends, open_of, waits_at, has_ends, first_waiting}
 use Rattle.window_cover.proofs.Positions.{position-here, position-later}
 
 abbrev pub listed : Ends → OpenEdge → Bool → Listed
@@ -31,13 +31,13 @@ open_of-pushed ls n g e = ap open_of e ∙ open_of-append ls (listed n g false �
 
 -- what stands at the first open edge
 pub first-at : (ls : List Listed) (i : ℕ) (d : Listed) → i < length ls → open_of (take i ls) ≡ [] → (get_or ls i d).is_open ≡ true
-    → first_of (open_of ls) ≡ option_map (λ l. l.edge) (slice_get ls i)
+    → first_waiting (open_of ls) ≡ option_map (λ l. l.edge) (slice_get ls i)
 first-at [] i d h e f = refl
 first-at (l ∷ ls) zero d h e f = rw f refl
 first-at (l ∷ ls) (suc i) d h e f = step l.is_open e (λ k. first-at ls i d (omega arith) k f)
   where
-    step : (b : Bool) → open_of (listed l.ends l.edge b ∷ take i ls) ≡ [] → (open_of (take i ls) ≡ [] → first_of (open_of ls) ≡ option_map (λ l. l.edge) (slice_get ls i))
-        → first_of (open_of (listed l.ends l.edge b ∷ ls)) ≡ option_map (λ l. l.edge) (slice_get ls i)
+    step : (b : Bool) → open_of (listed l.ends l.edge b ∷ take i ls) ≡ [] → (open_of (take i ls) ≡ [] → first_waiting (open_of ls) ≡ option_map (λ l. l.edge) (slice_get ls i))
+        → first_waiting (open_of (listed l.ends l.edge b ∷ ls)) ≡ option_map (λ l. l.edge) (slice_get ls i)
     step true k r = grind (arith, k)
     step false k r = r k
 
@@ -52,9 +52,9 @@ none_before-more (l ∷ ls) (suc i) d h e f = step l.is_open e (λ k. none_befor
     step false k r = r k
 
 -- where all are closed there is no first
-pub none_left : (ls : List Listed) (i : ℕ) → length ls ≤ i → open_of (take i ls) ≡ [] → first_of (open_of ls) ≡ option_map (λ l. l.edge) (slice_get ls (length ls))
+pub none_left : (ls : List Listed) (i : ℕ) → length ls ≤ i → open_of (take i ls) ≡ [] → first_waiting (open_of ls) ≡ option_map (λ l. l.edge) (slice_get ls (length ls))
 none_left ls i h e =
-    ap first_of (sym (ap open_of (take_all i ls h)) ∙ e) ∙ sym (ap (option_map (λ (l : Listed). l.edge)) (slice_get_past ls (length ls) (omega arith)))
+    ap first_waiting (sym (ap open_of (take_all i ls h)) ∙ e) ∙ sym (ap (option_map (λ (l : Listed). l.edge)) (slice_get_past ls (length ls) (omega arith)))
 
 later : (x : Option ℕ) → is_some (option_map suc x) ≡ is_some x
 later None = refl

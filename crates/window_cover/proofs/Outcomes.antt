@@ -20,3 +20,7 @@ only_memory (Err e) why = inl (ap (λ y. Err y) why)
 pub on_ok-is : {T E : Type 0} (P : Type 0) (r : Result T E) → IsOk r → OnOk r P → P
 on_ok-is P (Ok x) h p = p
 on_ok-is P (Err e) h p = cc
+
+pub on_ok-both : {T E : Type 0} (P Q : Type 0) (r : Result T E) → OnOk r P → OnOk r Q → OnOk r (P × Q)
+on_ok-both P Q (Ok x) p q = (p, q)
+on_ok-both P Q (Err e) p q = tt

@@ -19,11 +19,11 @@ use Rattle.windows.specs.FramePatch.{growing_frame}
 use Rattle.window_cover.specs.declared.cover_fault.CoverFault.{CoverFault}
 use Rattle.window_cover.specs.declared.cover_fault.CoverFault.TheVariants.{DepthLimit, CoordLimit, TooManyTiles, NoMemory}
 use Rattle.window_cover.specs.Beyond.{IsNotBeyondEnough}
-use Rattle.window_cover.specs.Border.{Waiting, first_of}
+use Rattle.window_cover.specs.Found.{PlacedEdge, first_of}
 use Rattle.window_cover.specs.Causes.{HasCause}
 use Rattle.window_cover.specs.Windows.{TileOf, box_of}
 
-pub none-open : (border : List Waiting) → first_of border ≡ None → border ≡ []
+pub none-open : (border : List PlacedEdge) → first_of border ≡ None → border ≡ []
 none-open [] e = refl
 none-open (o ∷ os) e = absurd (cc e)
 

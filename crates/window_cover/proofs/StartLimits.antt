@@ -28,10 +28,10 @@ use Rattle.window_cover.specs.declared.cover_fault.CoverFault.{CoverFault}
 use Rattle.window_cover.specs.declared.cover_fault.CoverFault.TheVariants.{DepthLimit, CoordLimit, TooManyTiles, NoMemory}
 use Rattle.window_cover.specs.Admitted.{IsNotAdmitted}
 use Rattle.window_cover.specs.Causes.{IsRefusedShift, HasCause}
-use Rattle.window_cover.specs.Found.{CoverValue}
 use Rattle.window_cover.specs.Limits.{IsWithinLimits}
 use Rattle.window_cover.specs.SearchLaws.{HasSearchLaws}
 use Rattle.window_cover.specs.Windows.{TileOf, IsWindow, box_of, polygon_of, IsLeastEnough}
+use Rattle.window_cover.specs.Working.{Working}
 use Rattle.lazy_walk.proofs.InFull.{names, deep}
 use Rattle.window_cover.proofs.FrameNames.{level-holds}
 use Rattle.window_cover.proofs.StartState.{u, of_depth}
@@ -90,14 +90,14 @@ module _ (m : Rule) (settled : IsSettled m) (fits : StillFits (children (tiling_
         let there = (d.all_that_meet.meeting at.0 at.1).0 (subst (λ y. PolygonMeetsBox P.real (box_of t w) (polygon_of t y)) at.2 meets) in
         ap (λ (y : TileOf t). is_refused m.order y.motion.shift) at.2 ∙ AllByRecursion-among (λ (y : TileOf t). is_refused m.order y.motion.shift ≡ false) at.0 d.drawn there d.none_refused
 
-    pub answered_first : (c : CoverValue) → length c.found ≡ 0 → IsWithinLimits t f w → {U : Type 0} (r : Result U CoverFault) → IfErr r (IsNotAdmitted t c tile) → (r ≡ Err NoMemory) ⊎ IsOk r
+    pub answered_first : (c : Working) → length c.found ≡ 0 → IsWithinLimits t f w → {U : Type 0} (r : Result U CoverFault) → IfErr r (IsNotAdmitted t c tile) → (r ≡ Err NoMemory) ⊎ IsOk r
     answered_first c none within (Ok y) why = inr refl
     answered_first c none within (Err (DepthLimit addr edge)) why = absurd why
     answered_first c none within (Err (CoordLimit value)) why = let k : true ≡ false = sym why.1 ∙ kept-within within in cc
     answered_first c none within (Err TooManyTiles) why = absurd (omega (arith, why, none))
     answered_first c none within (Err NoMemory) why = inl refl
 
-    pub cause_first : (c : CoverValue) → length c.found ≡ 0 → (fault : CoverFault) → IsNotAdmitted t c tile fault → HasCause t f g w fault
+    pub cause_first : (c : Working) → length c.found ≡ 0 → (fault : CoverFault) → IsNotAdmitted t c tile fault → HasCause t f g w fault
     cause_first c none (DepthLimit addr edge) why = absurd why
     cause_first c none (CoordLimit value) why = inr (refused-first value why.0 why.1)
     cause_first c none TooManyTiles why = absurd (omega (arith, why, none))

@@ -29,15 +29,16 @@ use Rattle.windows.specs.FrameCover.{IsLeastHolding, IsWindowOn}
 use Rattle.windows.specs.FramePatch.{frame_patch, growing_frame, lifted_tile}
 use Rattle.windows.specs.EnoughDepth.{IsNotBeyond}
 use Rattle.windows.specs.GrowingPatch.{IsOfDepth}
-use Rattle.windows.specs.OpenEdges.{open_edges_of}
+use Rattle.windows.specs.OpenTest.{open_edges_of}
 use Rattle.windows.specs.SearchState.{SearchState, IsRightState, started}
 use Rattle.tile_place.specs.Corners.{AreCorners}
 use Rattle.window_cover.specs.Admitted.{IsAdmitted, found_as}
-use Rattle.window_cover.specs.Found.{Found, address_found, CoverValue}
+use Rattle.window_cover.specs.Found.{Found, address_found}
 use Rattle.window_cover.specs.NewEdges.{AreNew, left_open, opened}
-use Rattle.window_cover.specs.Right.{name_of, state_of, growing, IsEdgeWaiting, IsFound, IsRight}
+use Rattle.window_cover.specs.Right.{name_of, growing, IsFound}
 use Rattle.window_cover.specs.SearchLaws.{HasSearchLaws}
 use Rattle.window_cover.specs.Windows.{TileOf, IsWindow, box_of}
+use Rattle.window_cover.specs.Working.{Working, state_of, IsEdgeWaiting, IsWorking}
 use Rattle.lazy_walk.proofs.InFull.{names, deep, level-grown}
 use Rattle.window_cover.proofs.FrameNames.{level-holds}
 use Rattle.window_cover.proofs.NewOpen.{border-next, are-new}
@@ -112,15 +113,15 @@ module _ (m : Rule) (settled : IsSettled m) (fits : StillFits (children (tiling_
       × (is_refused m.order own.motion.shift ≡ false → IsRightState P.real (TileOf t) (growing t f) (box_of t w) (started P.real (TileOf t) (growing t f) (box_of t w) (length g.digits) u))
   begun = L.start T F (is_refused m.order) p w.w w.h window-on (length f.digits) (length g.digits) least_holding own own_among holder.here.holds
 
-  module _ (c d : CoverValue) (empty : c ≡ record { window = w; found = []; border = [] }) (new : IsAdmitted t c d tile) where
+  module _ (c d : Working) (empty : c ≡ record { window = w; found = []; border = [] }) (new : IsAdmitted t c d tile) where
     first : IsRightState P.real (TileOf t) (growing t f) (box_of t w) (started P.real (TileOf t) (growing t f) (box_of t w) (length g.digits) u)
     first = begun.1 new.unrefused
 
     new_found : d.found ≡ found_as tile ∷ []
-    new_found = new.found ∙ ap (λ (y : CoverValue). y.found ++ found_as tile ∷ []) empty
+    new_found = new.found ∙ ap (λ (y : Working). y.found ++ found_as tile ∷ []) empty
 
     same_window : d.window ≡ w
-    same_window = new.same_window ∙ ap (λ (y : CoverValue). y.window) empty
+    same_window = new.same_window ∙ ap (λ (y : Working). y.window) empty
 
     abbrev name_by : Address → Found → TileOf t
     name_by y z = record { address = lifted_in y (address_found z); motion = motion_in m.order z.motion }
@@ -144,12 +145,12 @@ module _ (m : Rule) (settled : IsSettled m) (fits : StillFits (children (tiling_
 
     border_is : AllZip (IsEdgeWaiting t) d.border (state_of t g d).open_edges
     border_is =
-        subst (λ ws. AllZip (IsEdgeWaiting t) ws (state_of t g d).open_edges) (sym (new.border ∙ ap (λ (y : CoverValue). left_open new.corners (length new.corners) y.border ++ opened m.order y.window (length y.found) new.corners (length new.corners) y.border) empty))
+        subst (λ ws. AllZip (IsEdgeWaiting t) ws (state_of t g d).open_edges) (sym (new.border ∙ ap (λ (y : Working). left_open new.corners (length new.corners) y.border ++ opened m.order y.window (length y.found) new.corners (length new.corners) y.border) empty))
         (subst (λ es. AllZip (IsEdgeWaiting t) (left_open new.corners (length new.corners) [] ++ opened m.order w 0 new.corners (length new.corners) []) es)
         (sym (ap (λ (z : SearchState P.real (TileOf t)). z.open_edges) state-is))
         (border-next m.order L.points T L.lines L.numbered u exists tile.motion refl new.corners (its_corners new.corners new.are_corners) [] [] tt w 0))
 
-    pub right-first : IsRight t g d
+    pub right-first : IsWorking t g d
     right-first = record {
       frame = h.is_frame;
       window = subst IsWindow (sym same_window) fit;

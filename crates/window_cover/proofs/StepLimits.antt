@@ -33,15 +33,16 @@ use Rattle.window_cover.specs.declared.cover_fault.CoverFault.{CoverFault}
 use Rattle.window_cover.specs.declared.cover_fault.CoverFault.TheVariants.{DepthLimit, CoordLimit, TooManyTiles, NoMemory}
 use Rattle.window_cover.specs.declared.open_edge.OpenEdge.{OpenEdge}
 use Rattle.window_cover.specs.Admitted.{IsNotAdmitted}
-use Rattle.window_cover.specs.Border.{first_of}
+use Rattle.window_cover.specs.Border.{first_waiting}
 use Rattle.window_cover.specs.Causes.{IsRefusedShift, AreTooMany, HasCause}
 use Rattle.lazy_walk.specs.Crossed.{IsCrossedTo}
-use Rattle.window_cover.specs.Found.{Found, address_found, CoverValue}
+use Rattle.window_cover.specs.Found.{Found, address_found}
 use Rattle.window_cover.specs.Limits.{IsWithinLimits}
 use Rattle.windows.specs.Limits.{most_tiles}
-use Rattle.window_cover.specs.Right.{state_of, growing, IsRight}
+use Rattle.window_cover.specs.Right.{growing}
 use Rattle.window_cover.specs.SearchLaws.{HasSearchLaws}
 use Rattle.window_cover.specs.Windows.{TileOf, box_of, polygon_of, MeetsWindow, IsOfFrame, IsLeastEnough}
+use Rattle.window_cover.specs.Working.{Working, state_of, IsWorking}
 use Rattle.lazy_walk.proofs.InFull.{names, deep, level-grown}
 use Rattle.window_cover.proofs.Names.{window-on}
 use Rattle.window_cover.proofs.NextState.{first_edge, opening, step, placed, lies_across}
@@ -60,7 +61,7 @@ distinct-more {A} (x ∷ xs) y d n = (here, distinct-more xs y d.1 (λ i. n (inr
     here i = elim (at xs i) [ inl j ↦ d.0 j | inr e ↦ n (inl (sym e)) ]
 
 module _ (m : Rule) (settled : IsSettled m) (fits : StillFits (children (tiling_of m))) (L : HasSearchLaws (points_of m.order)) (f : FrameValue) (g : FrameValue) (h : GrowsTo (tiling_of m) f g)
-    (c : CoverValue) (right : IsRight (tiling_of m) f c) where
+    (c : Working) (right : IsWorking (tiling_of m) f c) where
   abbrev t : Tiling
   t = tiling_of m
 
@@ -112,7 +113,7 @@ module _ (m : Rule) (settled : IsSettled m) (fits : StillFits (children (tiling_
         each = ((one.of_frame, one.meets), more.each);
       }
 
-  module _ (first : OpenEdge) (is_first : first_of c.border ≡ Some first) (x : Found) (at : slice_get c.found first.tile ≡ Some x)
+  module _ (first : OpenEdge) (is_first : first_waiting c.border ≡ Some first) (x : Found) (at : slice_get c.found first.tile ≡ Some x)
       (tile : PlacedTile) (back : ℕ) (crossed : IsCrossedTo (tiling_of m) f g (address_found x) x.motion first.edge tile back) where
     abbrev u : TileOf t
     u = in_frame P T.rule F (address_of tile.addr)

@@ -28,20 +28,21 @@ use Rattle.windows.specs.Outlines.{MeetsBox}
 use Rattle.windows.specs.Refusals as patch
 use Rattle.windows.specs.SearchState.{SearchState}
 use Rattle.window_cover.specs.declared.open_edge.OpenEdge.{OpenEdge}
-use Rattle.window_cover.specs.Border.{first_of}
+use Rattle.window_cover.specs.Border.{first_waiting}
 use Rattle.window_cover.specs.Causes.{IsDepthLimit}
-use Rattle.window_cover.specs.Found.{Found, address_found, CoverValue}
+use Rattle.window_cover.specs.Found.{Found, address_found}
 use Rattle.window_cover.specs.Limits.{IsWithinLimits}
 use Rattle.windows.specs.Limits.{most_tiles}
-use Rattle.window_cover.specs.Right.{name_of, state_of, growing, IsRight}
+use Rattle.window_cover.specs.Right.{name_of, growing}
 use Rattle.window_cover.specs.SearchLaws.{HasSearchLaws}
 use Rattle.window_cover.specs.Windows.{TileOf, box_of, IsLeastEnough}
+use Rattle.window_cover.specs.Working.{Working, state_of, IsWorking}
 use Rattle.lazy_walk.proofs.InFull.{names, deep, level-grown, tile-full, whole-level}
 use Rattle.window_cover.proofs.Names.{window-on, its_found, found-at, name-at, edge-exists}
 use Rattle.window_cover.proofs.NextState.{FirstIn, first-in}
 
-module _ (m : Rule) (settled : IsSettled m) (fits : StillFits (children (tiling_of m))) (L : HasSearchLaws (points_of m.order)) (f : FrameValue) (c : CoverValue) (right : IsRight (tiling_of m) f c)
-    (first : OpenEdge) (is_first : first_of c.border ≡ Some first) (x : Found) (at : slice_get c.found first.tile ≡ Some x)
+module _ (m : Rule) (settled : IsSettled m) (fits : StillFits (children (tiling_of m))) (L : HasSearchLaws (points_of m.order)) (f : FrameValue) (c : Working) (right : IsWorking (tiling_of m) f c)
+    (first : OpenEdge) (is_first : first_waiting c.border ≡ Some first) (x : Found) (at : slice_get c.found first.tile ≡ Some x)
     (on : IsBoundaryEdge (tiling_of m) (lifted_in (full (tiling_of m) f) (address_found x)) first.edge) where
   abbrev t : Tiling
   t = tiling_of m

@@ -1,5 +1,5 @@
 -- A new tile taken in.
-use Rattle.std.specs.Prelude.{◌≡◌, ℕ, ◌<◌, ◌≤◌, ◌^◌, true, false, List, [], ◌∷◌, ◌++◌, length}
+use Rattle.std.specs.Prelude.{◌≡◌, ◌<◌, ◌≤◌, ◌^◌, true, false, List, [], ◌∷◌, ◌++◌, length}
 use Rattle.cyclo_points.specs.declared.point.Point.{Point}
 use Rattle.cyclo_points.specs.Order.{is_refused}
 use Rattle.cyclo_points.specs.Point.{point_in, IsWithin}
@@ -9,9 +9,10 @@ use Rattle.tile_place.specs.Corners.{AreCorners}
 use Rattle.tile_shape.specs.Views.{address_of}
 use Rattle.window_cover.specs.declared.cover_fault.CoverFault.{CoverFault}
 use Rattle.window_cover.specs.declared.cover_fault.CoverFault.TheVariants.{DepthLimit, CoordLimit, TooManyTiles, NoMemory}
-use Rattle.window_cover.specs.Found.{Found, CoverValue}
+use Rattle.window_cover.specs.Found.{Found}
 use Rattle.windows.specs.Limits.{most_tiles}
 use Rattle.window_cover.specs.NewEdges.{left_open, opened}
+use Rattle.window_cover.specs.Working.{Working}
 
 -- the tile as it is found
 abbrev pub found_as : PlacedTile → Found
@@ -19,7 +20,7 @@ found_as tile = record { kind = tile.kind; motion = tile.motion; digits = (addre
 
 -- the tile is found, as one of no more than the limit and with no refused shift; the open edges that its edges meet are closed, and those of its own that
 -- meet the window and none of these are open
-pub record IsAdmitted (t : Tiling) (c d : CoverValue) (tile : PlacedTile) : Type 0 where
+pub record IsAdmitted (t : Tiling) (c d : Working) (tile : PlacedTile) : Type 0 where
   pub unrefused : is_refused t.order (point_in t.order tile.motion.shift) ≡ false
   pub shift_within : IsWithin (2 ^ 24) tile.motion.shift
   pub room : length c.found < most_tiles
@@ -30,7 +31,7 @@ pub record IsAdmitted (t : Tiling) (c d : CoverValue) (tile : PlacedTile) : Type
   pub border : d.border ≡ left_open corners (length corners) c.border ++ opened t.order c.window (length c.found) corners (length corners) c.border
 
 -- why it isn't: its shift is refused, or there are as many as the limit already
-abbrev pub IsNotAdmitted : Tiling → CoverValue → PlacedTile → CoverFault → Type 0
+abbrev pub IsNotAdmitted : Tiling → Working → PlacedTile → CoverFault → Type 0
 IsNotAdmitted t c tile (DepthLimit addr edge) = ⊥
 IsNotAdmitted t c tile (CoordLimit value) = (value ≡ tile.motion.shift) × (is_refused t.order (point_in t.order tile.motion.shift) ≡ true)
 IsNotAdmitted t c tile TooManyTiles = most_tiles ≤ length c.found

@@ -30,9 +30,9 @@ abbrev pub has_ends : Ends → List Waiting → Bool
 has_ends k waiting = list_any (λ o. have_same_ends k o.ends) waiting
 
 -- the first of these edges
-abbrev pub first_of : List Waiting → Option OpenEdge
-first_of [] = None
-first_of (o ∷ os) = Some o.edge
+abbrev pub first_waiting : List Waiting → Option OpenEdge
+first_waiting [] = None
+first_waiting (o ∷ os) = Some o.edge
 
 -- no two of these edges have the same ends
 abbrev pub HasDistinctEnds : List Waiting → Type 0

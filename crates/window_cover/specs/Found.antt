@@ -1,10 +1,11 @@
 -- What is found of a window: the tiles, and those of their edges that wait for the tile across.
-use Rattle.std.specs.Prelude.{ℕ, List, map}
+use Rattle.std.specs.Prelude.{ℕ, List, [], ◌∷◌, None, Some}
+use Rattle.std.specs.declared.option.Option.{Option}
 use Rattle.addressing.specs.Address.{Step, Address}
 use Rattle.cyclo_points.specs.declared.motion.Motion.{Motion}
+use Rattle.cyclo_points.specs.declared.point.Point.{Point}
 use Rattle.plane_geom.specs.declared.window.Window.{Window}
 use Rattle.window_cover.specs.declared.open_edge.OpenEdge.{OpenEdge}
-use Rattle.window_cover.specs.Border.{Waiting}
 
 -- a tile found: its kind, its motion in the base's frame, and the digits that it had when it was found
 pub record Found : Type 0 where
@@ -16,12 +17,19 @@ pub record Found : Type 0 where
 abbrev pub address_found : Found → Address
 address_found x = record { kind = x.kind; digits = x.digits }
 
--- the window, the tiles in the order found, and the open edges by tile and then edge, each with its ends
+-- an open edge, and where it starts and ends
+pub record PlacedEdge : Type 0 where
+  pub edge : OpenEdge
+  pub from : Point
+  pub to : Point
+
+-- the window, the tiles in the order found, and the open edges by tile and then edge
 pub record CoverValue : Type 0 where
   pub window : Window
   pub found : List Found
-  pub border : List Waiting
+  pub border : List PlacedEdge
 
--- the open edges
-abbrev pub open_edges : CoverValue → List OpenEdge
-open_edges c = map (λ o. o.edge) c.border
+-- the first of these edges
+abbrev pub first_of : List PlacedEdge → Option OpenEdge
+first_of [] = None
+first_of (o ∷ os) = Some o.edge

@@ -1,5 +1,5 @@
 -- The edges of a new tile against those that are open.
-use Rattle.std.specs.Prelude.{◌≡◌, ℕ, zero, suc, ◌<◌, Bool, false, not, ◌&&◌, cond, nat_lt, List, [], ◌∷◌, ◌++◌, length, get_or}
+use Rattle.std.specs.Prelude.{◌≡◌, ℕ, suc, ◌<◌, Bool, false, not, ◌&&◌, cond, nat_lt, List, length, get_or}
 use Rattle.std.specs.List.{filter}
 use Rattle.ordered_plane.specs.BoxTest.{box_test}
 use Rattle.addressing.specs.Search.{some_below, chosen_below}

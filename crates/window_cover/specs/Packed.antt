@@ -1,8 +1,10 @@
 -- Two points in four words.
-use Rattle.std.specs.Prelude.{ℕ, ◌+◌, ◌*◌, ◌^◌, ℤ, pos, ◌+ℤ◌, nat_abs}
+use Rattle.std.specs.Prelude.{ℕ, ◌+◌, ◌*◌, ◌^◌, ◌/◌, ◌%◌, ℤ, pos, neg_ℤ, ◌+ℤ◌, nat_abs, [], ◌∷◌}
 use Rattle.cyclo_points.specs.declared.point.Point.{Point}
 use Rattle.cyclo_points.specs.Point.{coefficient}
 use Rattle.window_cover.specs.declared.ends.Ends.{Ends}
+use Rattle.window_cover.specs.Border.{Waiting}
+use Rattle.window_cover.specs.Found.{PlacedEdge}
 
 -- a coefficient, raised above 0
 abbrev pub raised : ℤ → ℕ
@@ -20,3 +22,18 @@ ends_of start end = record {
   end_low = word_of (coefficient end 0) (coefficient end 1);
   end_high = word_of (coefficient end 2) (coefficient end 3);
 }
+
+-- the coefficient that is raised to a number
+abbrev pub lowered : ℕ → ℤ
+lowered n = pos n +ℤ neg_ℤ (pos (2 ^ 31))
+
+-- the point in two words
+abbrev pub point_of_words : ℕ → ℕ → Point
+point_of_words low high = record { c = lowered (low / 2 ^ 32) ∷ lowered (low % 2 ^ 32) ∷ lowered (high / 2 ^ 32) ∷ lowered (high % 2 ^ 32) ∷ [] }
+
+-- an open edge with its ends as points, and with its ends in words
+abbrev pub unpacked : Waiting → PlacedEdge
+unpacked w = record { edge = w.edge; from = point_of_words w.ends.start_low w.ends.start_high; to = point_of_words w.ends.end_low w.ends.end_high }
+
+abbrev pub packed : PlacedEdge → Waiting
+packed o = record { ends = ends_of o.from o.to; edge = o.edge }

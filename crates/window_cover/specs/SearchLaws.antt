@@ -4,7 +4,7 @@ use Rattle.windows.specs.FrameCover.{FrameStartLaw, FrameStepLaw, FrameStopLaw, 
 use Rattle.windows.specs.FrameLaws.{FramePatchLaw, LiftLaw, NamedLaw, LinesLaw, NumberedLaw}
 use Rattle.windows.specs.FrameSearch.{RenamedLaw, AtDepthLaw, GluedCrossingLaw, GrownCrossingLaw, HolderLevelLaw}
 use Rattle.windows.specs.FrameWindow.{LeastLaw}
-use Rattle.windows.specs.Laws.{OpenNumberLaw, OpenStepLaw}
+use Rattle.windows.specs.Laws.{OpenTestLaw, OpenNumberLaw, OpenStepLaw}
 
 -- of points, of dissected frames and the names of their tiles, of edges, of crossings, and of the search
 pub record HasSearchLaws (P : Points) : Type 0 where
@@ -18,6 +18,7 @@ pub record HasSearchLaws (P : Points) : Type 0 where
   pub numbered : NumberedLaw P
   pub grown : GrownCrossingLaw P
   pub glued : GluedCrossingLaw P
+  pub open_test : OpenTestLaw P
   pub open_numbers : OpenNumberLaw P
   pub open_step : OpenStepLaw P
   pub levels : HolderLevelLaw P

@@ -1,22 +1,29 @@
 -- One step of the search for the tiles of a window.
-use Rattle.std.specs.Prelude.{◌≡◌}
+use Rattle.std.specs.Prelude.{◌≡◌, ℕ, List, [], ◌∷◌, ◌++◌, Some, slice_get}
 use Rattle.cyclo_points.specs.Order.{points_of}
 use Rattle.rule_model.specs.Tiling.{Tiling}
-use Rattle.lazy_walk.specs.Frames.{FrameValue}
-use Rattle.windows.specs.OpenEdges.{NumberedEdge}
+use Rattle.lazy_walk.specs.Boundary.{IsBoundaryEdge}
+use Rattle.lazy_walk.specs.Frames.{FrameValue, lifted_at}
 use Rattle.windows.specs.PatchWindow.{LiesAcross}
-use Rattle.windows.specs.SearchState.{stepped}
-use Rattle.windows.specs.WholeSearch.{IsFirstOpen}
-use Rattle.window_cover.specs.Found.{CoverValue}
-use Rattle.window_cover.specs.Right.{growing, state_of}
-use Rattle.window_cover.specs.Windows.{TileOf, box_of}
+use Rattle.window_cover.specs.declared.open_edge.OpenEdge.{OpenEdge}
+use Rattle.window_cover.specs.Found.{Found, address_found, PlacedEdge, CoverValue, first_of}
+use Rattle.window_cover.specs.Right.{growing, name_of, line_at}
+use Rattle.window_cover.specs.Windows.{TileOf}
 
--- the tile across the first open edge is found, the open edges that it meets are closed, its own edges that meet the window and have no tile found across them
--- are open, and the frame has grown to the tile's level, where it wasn't as deep already
-pub record StepsTo (t : Tiling) (f g : FrameValue) (c d : CoverValue) : Type 0 where
+-- one tile more is found: the one across the first open edge
+pub record StepsTo (t : Tiling) (f : FrameValue) (c d : CoverValue) : Type 0 where
   pub same_window : d.window ≡ c.window
-  pub first : NumberedEdge (points_of t.order).real
-  pub is_first : IsFirstOpen first (state_of t f c)
-  pub tile : TileOf t
-  pub across : LiesAcross (points_of t.order).real (TileOf t) (growing t f) first.line tile
-  pub stepped : state_of t g d ≡ stepped (points_of t.order).real (TileOf t) (growing t f) (box_of t c.window) (state_of t f c) tile
+  pub first : PlacedEdge
+  pub rest : List PlacedEdge
+  pub is_first : c.border ≡ first ∷ rest
+  pub tile : Found
+  pub one_more : d.found ≡ c.found ++ tile ∷ []
+  pub across : LiesAcross (points_of t.order).real (TileOf t) (growing t f) (line_at t first) (name_of t f tile)
+
+-- in the frame of depth n the first open edge is on the boundary of the frame's supertile
+pub record IsFirstOnBoundary (t : Tiling) (f : FrameValue) (c : CoverValue) (n : ℕ) : Type 0 where
+  pub first : OpenEdge
+  pub is_first : first_of c.border ≡ Some first
+  pub tile : Found
+  pub its_tile : slice_get c.found first.tile ≡ Some tile
+  pub on_boundary : IsBoundaryEdge t (lifted_at t f (address_found tile) n) first.edge

@@ -1,5 +1,5 @@
 //! A new tile taken in.
-ghost use Rattle.std.specs.Prelude.{◌≡◌, ◌<◌, List, length, IfErr, OnOk};
+ghost use Rattle.std.specs.Prelude.{◌≡◌, ◌<◌, List, length, map, IfErr, OnOk};
 ghost use Rattle.cyclo_points.specs.declared.point.Point.{Point};
 ghost use Rattle.cyclo_points.specs.Order.{points_of};
 ghost use Rattle.cyclo_points.specs.Point.{IsOf};
@@ -9,6 +9,8 @@ ghost use Rattle.tile_place.specs.Corners.{AreCorners};
 ghost use Rattle.window_cover.specs.Windows.{IsWindow};
 ghost use Rattle.window_cover.specs.NewEdges.{AreNew};
 ghost use Rattle.window_cover.specs.Admitted.{IsAdmitted, IsNotAdmitted};
+ghost use Rattle.window_cover.specs.Packed.{packed, unpacked};
+ghost use Rattle.window_cover.specs.Working.{working};
 
 use crate::cover::Cover;
 use crate::cover_fault::CoverFault;
@@ -28,9 +30,10 @@ impl Cover {
         requires turn_below { tile.now.motion.turn < (points_of machine.now.order).order }
         requires in_order { IsOf machine.now.order tile.now.motion.shift }
         requires window { IsWindow self.old.window }
-        requires new { (corners : List Point) → AreCorners (tiling_of machine.now) tile.now.kind tile.now.motion corners → AreNew corners self.old.border }
-        ensures admitted { OnOk result (IsAdmitted (tiling_of machine.now) self.old self.new tile.now) }
-        ensures cause { IfErr result (λ fault. IsNotAdmitted (tiling_of machine.now) self.old tile.now fault) }
+        requires new { (corners : List Point) → AreCorners (tiling_of machine.now) tile.now.kind tile.now.motion corners → AreNew corners (working self.old).border }
+        ensures admitted { OnOk result (IsAdmitted (tiling_of machine.now) (working self.old) (working self.new) tile.now) }
+        ensures same_ends { OnOk result (self.new.border ≡ map unpacked (map packed self.new.border)) }
+        ensures cause { IfErr result (λ fault. IsNotAdmitted (tiling_of machine.now) (working self.old) tile.now fault) }
     {
         if refused(&tile.motion.shift) {
             return Err(CoverFault::CoordLimit {

@@ -3,7 +3,7 @@ ghost use Rattle.std.specs.Prelude.{◌≡◌, ◌≤◌, ◌++◌, [], ◌∷�
 ghost use Rattle.std.specs.Result.{OnErr};
 ghost use Rattle.std.specs.List.{filter, slice_get};
 ghost use Rattle.std.specs.Option.{option_map};
-ghost use Rattle.window_cover.specs.Border.{Waiting, have_same_ends, has_ends, first_of, open_of};
+ghost use Rattle.window_cover.specs.Border.{Waiting, have_same_ends, has_ends, first_waiting, open_of};
 
 use crate::ends::Ends;
 use crate::open_edge::OpenEdge;
@@ -64,7 +64,7 @@ impl Border {
 
     /// The first open edge. Only what was closed in front since the last `pass` is looked at before it.
     pub(crate) fn first(&self) -> Option<OpenEdge>
-        ensures { result ≡ first_of self.now }
+        ensures { result ≡ first_waiting self.now }
     {
         let listed = self.listed.as_slice();
         let place = first_open(listed, self.next);
@@ -120,7 +120,7 @@ fn first_open(listed: &[Listed], from: usize) -> usize
     requires none_before { open_of (take from listed.now) ≡ [] }
     ensures within { result ≤ length listed.now }
     ensures none_before { open_of (take result listed.now) ≡ [] }
-    ensures first { first_of (open_of listed.now) ≡ option_map (λ l. l.edge) (slice_get listed.now result) }
+    ensures first { first_waiting (open_of listed.now) ≡ option_map (λ l. l.edge) (slice_get listed.now result) }
 {
     for place in from..listed.len() {
         if listed[place].is_open {

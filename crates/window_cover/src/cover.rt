@@ -1,7 +1,8 @@
 //! What is found of a window, and what is open.
 ghost use Rattle.std.specs.Prelude.{◌≡◌, ◌<◌, ◌≤◌, Some, length, slice_get};
 ghost use Rattle.window_cover.specs.Admitted.{found_as};
-ghost use Rattle.window_cover.specs.Border.{first_of};
+ghost use Rattle.window_cover.specs.Found.{first_of};
+ghost use Rattle.windows.specs.Limits.{most_tiles};
 
 use crate::border::Border;
 use crate::found_tile::FoundTile;
@@ -30,12 +31,14 @@ pub struct Cover {
 }
 
 impl Model for Cover {
+    ghost use Rattle.std.specs.Prelude.{map};
     ghost use Rattle.window_cover.specs.Found.{CoverValue};
     ghost use Rattle.window_cover.specs.Kept.{found_in, IsKept};
+    ghost use Rattle.window_cover.specs.Packed.{unpacked};
 
     ghost Value = { CoverValue };
 
-    ghost view = { λ c. record { window = c.window; found = found_in c.digits.items c.found.items; border = c.border } };
+    ghost view = { λ c. record { window = c.window; found = found_in c.digits.items c.found.items; border = map unpacked c.border } };
 
     ghost invariant = { λ c. IsKept c.digits.items c.found.items c.border };
 }
@@ -43,7 +46,8 @@ impl Model for Cover {
 impl Cover {
     /// How many tiles are found.
     pub fn tiles(&self) -> u32
-        ensures { result ≡ length self.now.found }
+        ensures count { result ≡ length self.now.found }
+        ensures at_most { result ≤ most_tiles }
     {
         self.found.len() as u32
     }

@@ -3,12 +3,12 @@ ghost use Rattle.std.specs.Prelude.{◌≡◌, ◌⊎◌, ◌<◌, ◌≤◌, �
 ghost use Rattle.rule_model.specs.Tiling.{tiling_of};
 ghost use Rattle.lazy_walk.specs.Frames.{FrameValue, IsFrameOf, GrowsTo};
 ghost use Rattle.window_cover.specs.declared.cover_fault.CoverFault.TheVariants.{NoMemory};
-ghost use Rattle.window_cover.specs.Border.{first_of};
+ghost use Rattle.window_cover.specs.Found.{first_of};
 ghost use Rattle.window_cover.specs.Windows.{IsLeastEnough};
 ghost use Rattle.window_cover.specs.Limits.{IsWithinLimits};
 ghost use Rattle.window_cover.specs.Causes.{HasCause};
 ghost use Rattle.window_cover.specs.Right.{IsRight};
-ghost use Rattle.window_cover.specs.Stepping.{StepsTo};
+ghost use Rattle.window_cover.specs.Stepping.{StepsTo, IsFirstOnBoundary};
 
 use crate::cover::{Cover, no_tile};
 use crate::cover_fault::CoverFault;
@@ -36,7 +36,9 @@ fn counted_step<L: Ledger>(
     requires right { IsRight (tiling_of machine.now) frame.old cover.old }
     requires is_first { first_of cover.old.border ≡ Some first }
     ensures frame { GrowsTo (tiling_of machine.now) frame.old frame.new }
-    ensures steps_to { OnOk result (StepsTo (tiling_of machine.now) frame.old frame.new cover.old cover.new) }
+    ensures inside { OnOk result (¬ IsFirstOnBoundary (tiling_of machine.now) frame.old cover.old (length frame.new.digits)) }
+    ensures least { (n : ℕ) → length frame.old.digits ≤ n → n < length frame.new.digits → IsFirstOnBoundary (tiling_of machine.now) frame.old cover.old n }
+    ensures steps_to { OnOk result (StepsTo (tiling_of machine.now) frame.old cover.old cover.new) }
     ensures right { OnOk result (IsRight (tiling_of machine.now) frame.new cover.new) }
     ensures cause { IfErr result (λ fault. HasCause (tiling_of machine.now) frame.old frame.new cover.old.window fault) }
 {
@@ -53,7 +55,10 @@ impl Cover {
         requires right { IsRight (tiling_of machine.now) frame.old self }
         requires some_open { 0 < length self.border }
         ensures frame { GrowsTo (tiling_of machine.now) frame.old frame.new }
-        ensures steps_to { IfOk result (λ next. StepsTo (tiling_of machine.now) frame.old frame.new self next) }
+        // The new depth is the least, not below the old, at which the first open edge is not on the boundary.
+        ensures inside { OnOk result (¬ IsFirstOnBoundary (tiling_of machine.now) frame.old self (length frame.new.digits)) }
+        ensures least { (n : ℕ) → length frame.old.digits ≤ n → n < length frame.new.digits → IsFirstOnBoundary (tiling_of machine.now) frame.old self n }
+        ensures steps_to { IfOk result (λ next. StepsTo (tiling_of machine.now) frame.old self next) }
         ensures right { IfOk result (λ next. IsRight (tiling_of machine.now) frame.new next) }
         ensures cause { IfErr result (λ fault. HasCause (tiling_of machine.now) frame.old frame.new self.window fault) }
     {
@@ -79,7 +84,9 @@ impl Cover {
         requires right { IsRight (tiling_of machine.now) frame.old self.old }
         requires is_first { first_of self.old.border ≡ Some first }
         ensures frame { GrowsTo (tiling_of machine.now) frame.old frame.new }
-        ensures steps_to { OnOk result (StepsTo (tiling_of machine.now) frame.old frame.new self.old self.new) }
+        ensures inside { OnOk result (¬ IsFirstOnBoundary (tiling_of machine.now) frame.old self.old (length frame.new.digits)) }
+        ensures least { (n : ℕ) → length frame.old.digits ≤ n → n < length frame.new.digits → IsFirstOnBoundary (tiling_of machine.now) frame.old self.old n }
+        ensures steps_to { OnOk result (StepsTo (tiling_of machine.now) frame.old self.old self.new) }
         ensures right { OnOk result (IsRight (tiling_of machine.now) frame.new self.new) }
         ensures one_more { OnOk result (length self.new.found ≡ suc (length self.old.found)) }
         // From whatever frame of this base and start number the search began.

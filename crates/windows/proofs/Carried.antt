@@ -17,6 +17,7 @@ use Rattle.windows.proofs.EveryEdge as every
 use Rattle.windows.proofs.Limits as limits
 use Rattle.windows.proofs.OpenNumbers as numbers
 use Rattle.windows.proofs.OpenStep as open_step
+use Rattle.windows.proofs.OpenTest as open_test
 use Rattle.windows.proofs.FromLevel as from_level
 use Rattle.windows.proofs.AnyOrder as order
 use Rattle.windows.proofs.WholeSearch as whole_search
@@ -88,6 +89,9 @@ module _ (P : Points) (W : PointLaws P) where
 
     pub finish_law : is.FinishLaw P
     finish_law = finish.finish_right P.real W.of_real W.of_order divides
+
+    pub open_test_law : is.OpenTestLaw P
+    open_test_law = open_test.open_tested P.real W.of_real W.of_order divides
 
     pub open_number_law : is.OpenNumberLaw P
     open_number_law = numbers.open_numbers P.real W.of_real W.of_order divides

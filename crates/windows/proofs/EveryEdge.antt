@@ -10,7 +10,8 @@ use Rattle.addressing.specs.Search.{IsAmong}
 use Rattle.windows.specs.Outlines.{PlaneEdge, edges, MeetsBox, is_reverse}
 use Rattle.windows.specs.Patch.{Patch, IsDissected, HasAcross, IsClosed}
 use Rattle.windows.specs.GrowingPatch.{GrowingPatch}
-use Rattle.windows.specs.OpenEdges.{NumberedEdge, is_met, is_open, numbered_from}
+use Rattle.windows.specs.OpenEdges.{NumberedEdge, numbered_from}
+use Rattle.windows.specs.OpenTest.{is_met, is_open}
 use Rattle.windows.specs.SearchState.{SearchState, outlines, IsRightState}
 use Rattle.windows.specs.PatchWindow.{PatchWindow}
 use Rattle.windows.specs.EveryEdge.{FoundOrOpen, NoneOpen}

@@ -10,7 +10,8 @@ use Rattle.windows.specs.Outlines.{PlaneEdge, edges, MeetsBox, is_reverse}
 use Rattle.windows.specs.Meeting.{PolygonMeetsBox}
 use Rattle.windows.specs.Patch.{Patch, IsDissected, HasAcross, IsClosed, HasAll}
 use Rattle.windows.specs.GrowingPatch.{GrowingPatch, IsOfDepth}
-use Rattle.windows.specs.OpenEdges.{NumberedEdge, is_met, is_open, numbered_from}
+use Rattle.windows.specs.OpenEdges.{NumberedEdge, numbered_from}
+use Rattle.windows.specs.OpenTest.{is_met, is_open}
 use Rattle.windows.specs.SearchState.{SearchState, outlines, IsFirst, IsRightState}
 use Rattle.windows.specs.EnoughDepth.{IsEnough}
 use Rattle.windows.specs.PatchWindow.{PatchWindow}

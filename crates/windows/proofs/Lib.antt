@@ -19,6 +19,7 @@ pub mod CoveredBox
 pub mod Window
 pub mod WholeTiles
 pub mod OpenEdges
+pub mod OpenTest
 pub mod EnoughDepth
 pub mod OpenFacts
 pub mod Steps

@@ -10,7 +10,8 @@ use Rattle.ordered_plane.specs.Box.{OpenBox}
 use Rattle.ordered_plane.specs.BoxTest.{box_test}
 use Rattle.addressing.specs.Search.{IsAmong}
 use Rattle.windows.specs.Outlines.{PlaneEdge, Polygon, edges, is_reverse}
-use Rattle.windows.specs.OpenEdges.{NumberedEdge, edges_of_tile, numbered_from, is_met, is_open, open_edges_of}
+use Rattle.windows.specs.OpenEdges.{NumberedEdge, edges_of_tile, numbered_from}
+use Rattle.windows.specs.OpenTest.{is_met, is_open, open_edges_of}
 use Rattle.addressing.proofs.Ranges.{among-append}
 use Rattle.addressing.proofs.Lists.{IsAmong-append_left, IsAmong-append_right}
 use Rattle.addressing.proofs.Filters.{IsAmong-kept}

@@ -10,7 +10,8 @@ use Rattle.addressing.specs.Search.{IsAmong}
 use Rattle.windows.specs.Outlines.{PlaneEdge, edges, MeetsBox}
 use Rattle.windows.specs.Patch.{Patch}
 use Rattle.windows.specs.GrowingPatch.{GrowingPatch}
-use Rattle.windows.specs.OpenEdges.{NumberedEdge, is_met, is_open, numbered_from}
+use Rattle.windows.specs.OpenEdges.{NumberedEdge, numbered_from}
+use Rattle.windows.specs.OpenTest.{is_met, is_open}
 use Rattle.windows.specs.SearchState.{SearchState, outlines, IsRightState}
 use Rattle.windows.specs.PatchWindow.{PatchWindow}
 use Rattle.addressing.proofs.Lists.{AllByRecursion-among}

@@ -11,7 +11,8 @@ use Rattle.addressing.proofs.Filters.{IsAmong-filter}
 use Rattle.addressing.proofs.Ranges.{among-append}
 use Rattle.frames.proofs.Fitting.{child-at}
 use Rattle.windows.specs.Outlines.{PlaneEdge, Polygon, edges}
-use Rattle.windows.specs.OpenEdges.{NumberedEdge, edges_of_tile, numbered_from, is_open}
+use Rattle.windows.specs.OpenEdges.{NumberedEdge, edges_of_tile, numbered_from}
+use Rattle.windows.specs.OpenTest.{is_open}
 use Rattle.windows.specs.OpenNumbers.{OpenNumbers}
 use Rattle.windows.proofs.Members.{among-map}
 

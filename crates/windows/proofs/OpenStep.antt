@@ -8,7 +8,8 @@ use Rattle.ordered_plane.specs.BoxTest.{box_test}
 use Rattle.ordered_plane.proofs.BoxMeets.{box_test-meets}
 use Rattle.addressing.specs.Search.{IsAmong}
 use Rattle.windows.specs.Outlines.{PlaneEdge, Polygon, edges, MeetsBox, is_reverse}
-use Rattle.windows.specs.OpenEdges.{NumberedEdge, edges_of_tile, numbered_from, is_met, is_open}
+use Rattle.windows.specs.OpenEdges.{NumberedEdge, edges_of_tile, numbered_from}
+use Rattle.windows.specs.OpenTest.{is_met, is_open}
 use Rattle.windows.specs.SearchState.{SearchState, outlines, IsRightState, stepped}
 use Rattle.windows.specs.PatchWindow.{PatchWindow}
 use Rattle.windows.specs.OpenStep.{closes_one, OpenStep}

@@ -11,7 +11,8 @@ use Rattle.windows.specs.Outlines.{PlaneEdge, edges, MeetsBox, is_reverse}
 use Rattle.windows.specs.Meeting.{PolygonMeetsBox}
 use Rattle.windows.specs.Patch.{Patch, IsDissected}
 use Rattle.windows.specs.GrowingPatch.{GrowingPatch}
-use Rattle.windows.specs.OpenEdges.{NumberedEdge, edges_of_tile, is_met, is_open, open_edges_of}
+use Rattle.windows.specs.OpenEdges.{NumberedEdge, edges_of_tile}
+use Rattle.windows.specs.OpenTest.{is_met, is_open, open_edges_of}
 use Rattle.windows.specs.SearchState.{SearchState, outlines, IsFirst, IsRightState, started, stepped}
 use Rattle.windows.specs.EnoughDepth.{IsNotBeyond}
 use Rattle.windows.specs.PatchWindow.{PatchWindow, LiesAcross, HoldsCentre}

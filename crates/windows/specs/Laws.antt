@@ -12,6 +12,7 @@ use Rattle.windows.specs.AnyOrder.{DrawnSame, DrawnAnyOrder, CoversAnyOrder}
 use Rattle.windows.specs.GrownPolygon.{EnoughByPolygon}
 use Rattle.windows.specs.FromLevel.{OneAcross, InnerFromLevel, HeldFromLevel}
 use Rattle.windows.specs.SearchSteps.{StartRight, StepRight, FinishRight}
+use Rattle.windows.specs.OpenTest.{OpenTested}
 use Rattle.windows.specs.OpenNumbers.{OpenNumbers}
 use Rattle.windows.specs.OpenStep.{OpenStep}
 use Rattle.windows.specs.EveryEdge.{FoundOrOpen, NoneOpen}
@@ -88,6 +89,9 @@ StepLaw P = StepRight P.real (Placed P.ring.carrier)
 
 abbrev pub FinishLaw : Points → Type 0
 FinishLaw P = FinishRight P.real (Placed P.ring.carrier)
+
+abbrev pub OpenTestLaw : Points → Type 0
+OpenTestLaw P = OpenTested P.real
 
 abbrev pub OpenNumberLaw : Points → Type 0
 OpenNumberLaw P = OpenNumbers P.real

@@ -13,6 +13,7 @@ pub mod EnoughDepth
 pub mod AnyOrder
 pub mod GrownPolygon
 pub mod OpenEdges
+pub mod OpenTest
 pub mod SearchState
 pub mod PatchWindow
 pub mod FromLevel

@@ -1,10 +1,10 @@
 -- The open edges of tiles: those that meet a window and have none of the tiles across them.
-use Rattle.std.specs.Prelude.{ℕ, suc, Bool, not, ◌&&◌, List, [], ◌∷◌, ◌++◌, map}
-use Rattle.std.specs.List.{flat_map, filter, list_any, enumerate_from}
+use Rattle.std.specs.Prelude.{◌≡◌, ◌⊎◌, ℕ, suc, false, List, [], ◌∷◌, ◌++◌, map}
+use Rattle.std.specs.List.{flat_map, enumerate_from}
 use Rattle.ordered_ring.specs.Sign.{Signed}
 use Rattle.ordered_plane.specs.Box.{OpenBox}
-use Rattle.ordered_plane.specs.BoxTest.{box_test}
-use Rattle.windows.specs.Outlines.{PlaneEdge, Polygon, edges, is_reverse}
+use Rattle.addressing.specs.Search.{IsAmong}
+use Rattle.windows.specs.Outlines.{PlaneEdge, Polygon, edges, is_reverse, MeetsBox}
 
 -- edge number `edge` of tile number `tile`, and where it lies
 pub record NumberedEdge (S : Signed) : Type 0 where
@@ -20,14 +20,16 @@ abbrev pub numbered_from : (S : Signed) → ℕ → List (Polygon S) → List (N
 numbered_from S i [] = []
 numbered_from S i (polygon ∷ polygons) = edges_of_tile S i polygon ++ numbered_from S (suc i) polygons
 
--- whether one of these edges is the reverse of e
-abbrev pub is_met : (S : Signed) → List (PlaneEdge S) → PlaneEdge S → Bool
-is_met S lines e = list_any (is_reverse S e) lines
+-- e meets the box, and none of these edges is its reverse
+pub record IsOpen (S : Signed) (box : OpenBox S.ops.carrier) (lines : List (PlaneEdge S)) (e : PlaneEdge S) : Type 0 where
+  pub meets : MeetsBox S box e
+  pub unmet : (f : PlaneEdge S) → IsAmong f lines → is_reverse S e f ≡ false
 
--- whether e meets the box, and none of these edges is its reverse
-abbrev pub is_open : (S : Signed) → OpenBox S.ops.carrier → List (PlaneEdge S) → PlaneEdge S → Bool
-is_open S box lines e = box_test S e.from e.to box && not (is_met S lines e)
+-- ys are those of xs that have the property, in their order
+abbrev pub AreThose : {A : Type 0} → (A → Type 0) → List A → List A → Type 0
+AreThose Has [] ys = ys ≡ []
+AreThose {A} Has (x ∷ xs) ys = (Has x × (rest : List A) × (ys ≡ x ∷ rest) × AreThose Has xs rest) ⊎ ((¬ Has x) × AreThose Has xs ys)
 
--- the open edges of tiles, by tile and then edge
-abbrev pub open_edges_of : (S : Signed) → OpenBox S.ops.carrier → List (Polygon S) → List (NumberedEdge S)
-open_edges_of S box polygons = filter (λ n. is_open S box (flat_map edges polygons) n.line) (numbered_from S 0 polygons)
+-- these are, by tile and then edge, those edges of the tiles that meet the box and have none of these tiles' edges for their reverse
+abbrev pub AreOpenEdges : (S : Signed) → OpenBox S.ops.carrier → List (Polygon S) → List (NumberedEdge S) → Type 0
+AreOpenEdges S box polygons open_now = AreThose (λ (n : NumberedEdge S). IsOpen S box (flat_map edges polygons) n.line) (numbered_from S 0 polygons) open_now

@@ -4,7 +4,8 @@ use Rattle.ordered_ring.specs.Sign.{Signed}
 use Rattle.ordered_plane.specs.Box.{OpenBox}
 use Rattle.addressing.specs.Search.{IsAmong}
 use Rattle.windows.specs.Outlines.{Polygon, edges, MeetsBox}
-use Rattle.windows.specs.OpenEdges.{NumberedEdge, open_edges_of}
+use Rattle.windows.specs.OpenEdges.{NumberedEdge}
+use Rattle.windows.specs.OpenTest.{open_edges_of}
 
 -- the edge of that number of the polygon of that number
 pub record IsEdgeAt (S : Signed) (polygons : List (Polygon S)) (o : NumberedEdge S) : Type 0 where

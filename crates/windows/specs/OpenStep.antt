@@ -5,7 +5,8 @@ use Rattle.ordered_ring.specs.Sign.{Signed}
 use Rattle.ordered_plane.specs.BoxTest.{box_test}
 use Rattle.addressing.specs.Search.{IsAmong}
 use Rattle.windows.specs.Outlines.{PlaneEdge, edges, is_reverse}
-use Rattle.windows.specs.OpenEdges.{NumberedEdge, edges_of_tile, is_met}
+use Rattle.windows.specs.OpenEdges.{NumberedEdge, edges_of_tile}
+use Rattle.windows.specs.OpenTest.{is_met}
 use Rattle.windows.specs.SearchState.{SearchState, IsRightState, stepped}
 use Rattle.windows.specs.PatchWindow.{PatchWindow}
 

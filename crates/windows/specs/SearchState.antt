@@ -10,7 +10,8 @@ use Rattle.windows.specs.Distinct.{AreDistinct}
 use Rattle.windows.specs.Outlines.{Polygon, edges}
 use Rattle.windows.specs.Meeting.{PolygonMeetsBox}
 use Rattle.windows.specs.GrowingPatch.{GrowingPatch}
-use Rattle.windows.specs.OpenEdges.{NumberedEdge, edges_of_tile, is_met, is_open, open_edges_of}
+use Rattle.windows.specs.OpenEdges.{NumberedEdge, edges_of_tile}
+use Rattle.windows.specs.OpenTest.{is_met, is_open, open_edges_of}
 
 pub record SearchState (S : Signed) (T : Type 0) : Type 0 where
   pub found : List T

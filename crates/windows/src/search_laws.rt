@@ -1,7 +1,7 @@
 //! The laws of the search for the tiles of a window, for the points of each order. Tiles are named by
 //! address and motion.
 ghost use Rattle.cyclo_points.specs.Order.{points_of};
-ghost use Rattle.windows.specs.Laws.{StartLaw, StepLaw, FinishLaw, OpenNumberLaw, OpenStepLaw};
+ghost use Rattle.windows.specs.Laws.{StartLaw, StepLaw, FinishLaw, OpenTestLaw, OpenNumberLaw, OpenStepLaw};
 ghost use Rattle.windows.specs.Laws.{FoundOrOpenLaw, NoneOpenLaw};
 ghost use Rattle.windows.specs.Laws.{DepthRefusalLaw, AllDrawnLaw, CountRefusalLaw, GoesOnLaw};
 ghost use Rattle.windows.specs.Laws.{EndsWithinLaw};
@@ -16,9 +16,10 @@ pub fn search_law(order: Order)
     ensures finish { FinishLaw (points_of order) }
 {}
 
-/// The law of open edges: each is the edge of its number of the tile of its number, and meets the window;
-/// and the new ones are found by comparing the new tile's edges with open edges alone.
+/// The law of open edges: a test of each edge finds them; each is the edge of its number of the tile of its number,
+/// and meets the window; and the new ones are found by comparing the new tile's edges with open edges alone.
 pub fn open_edge_law(order: Order)
+    ensures tested { OpenTestLaw (points_of order) }
     ensures numbers { OpenNumberLaw (points_of order) }
     ensures step { OpenStepLaw (points_of order) }
 {}

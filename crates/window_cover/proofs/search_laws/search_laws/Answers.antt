@@ -12,6 +12,7 @@ returns c = record {
   numbered = c.frame_edge_law.ensures.numbered;
   grown = c.frame_crossing_law.ensures.grown;
   glued = c.frame_crossing_law.ensures.glued;
+  open_test = c.open_edge_law.ensures.tested;
   open_numbers = c.open_edge_law.ensures.numbers;
   open_step = c.open_edge_law.ensures.step;
   levels = c.frame_holds_law.ensures.level;

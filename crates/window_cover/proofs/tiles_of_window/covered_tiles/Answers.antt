@@ -10,6 +10,9 @@ use Rattle.window_cover.proofs.Arranged.{right-lifted}
 use Rattle.window_cover.proofs.Ended.{not-beyond, ended-least, ended-within}
 use Rattle.window_cover.proofs.Finished.{laws_of}
 use Rattle.lazy_walk.proofs.Outcomes.{if_err-is}
+use Rattle.window_cover.specs.Packed.{packed}
+use Rattle.window_cover.specs.Working.{working}
+use Rattle.window_cover.proofs.Works.{works}
 use Rattle.window_cover.proofs.Outcomes.{no_memory-on, only_memory}
 use Rattle.window_cover.proofs.Searches.{checked_of}
 use Rattle.window_cover.proofs.tiles_of_window.covered_tiles.Goals as goal
@@ -56,23 +59,23 @@ pub returns-clause-least : goal.returns-clause-least
 returns-clause-least c =
     let m = c.args.machine.now in
     let checked = checked_of m _ _ c.checked-checked.ensures.rule c.checked-checked.ensures.accepted c.checked-checked.ensures.usable c.checked-checked.ensures.same_child_kinds c.uses.ensures c.kinds-usable.ensures.limits in
-    let laws = laws_of m checked c.end_laws.ensures.points c.end_laws.ensures.patch c.end_laws.ensures.known c.end_laws.ensures.finish c.grown_fits_law.ensures in
+    let laws = laws_of m checked c.end_laws.ensures.points c.end_laws.ensures.patch c.end_laws.ensures.known c.end_laws.ensures.open_test c.end_laws.ensures.finish c.grown_fits_law.ensures in
     let least : LeastLaw (points_of m.order) = subst (λ o. LeastLaw (points_of o)) (c.order-order.ensures.order ∙ ap (λ (r : Rule). r.order) c.checked-checked.ensures.rule) c.frame_window_law.ensures.least in
-    let beyond = not-beyond m laws least c.args.frame.now c.searched.new.frame c.searched.ensures.frame c.args.window.now c.in_ok-cover.cover c.in_ok-cover.ensures.right c.in_ok-cover.ensures.not_beyond c.requires.frame.at_most_64 in
-    ended-least m laws c.args.frame.now c.searched.new.frame c.searched.ensures.frame c.args.window.now c.in_ok-cover.cover c.in_ok-cover.ensures.right c.in_ok-cover.ensures.its_window
-    c.in_ok-cover.ensures.none_open beyond c.requires.frame.at_most_64
+    let beyond = not-beyond m laws least c.args.frame.now c.searched.new.frame c.searched.ensures.frame c.args.window.now (working c.in_ok-cover.cover) (works (tiling_of m) laws.open_test c.searched.new.frame c.in_ok-cover.cover c.in_ok-cover.ensures.right) c.in_ok-cover.ensures.not_beyond c.requires.frame.at_most_64 in
+    ended-least m laws c.args.frame.now c.searched.new.frame c.searched.ensures.frame c.args.window.now (working c.in_ok-cover.cover) (works (tiling_of m) laws.open_test c.searched.new.frame c.in_ok-cover.cover c.in_ok-cover.ensures.right) c.in_ok-cover.ensures.its_window
+    (ap (map packed) c.in_ok-cover.ensures.none_open) beyond c.requires.frame.at_most_64
 
 pub returns-clause-within : goal.returns-clause-within
 returns-clause-within c =
     let m = c.args.machine.now in
     let checked = checked_of m _ _ c.checked-checked.ensures.rule c.checked-checked.ensures.accepted c.checked-checked.ensures.usable c.checked-checked.ensures.same_child_kinds c.uses.ensures c.kinds-usable.ensures.limits in
-    let laws = laws_of m checked c.end_laws.ensures.points c.end_laws.ensures.patch c.end_laws.ensures.known c.end_laws.ensures.finish c.grown_fits_law.ensures in
+    let laws = laws_of m checked c.end_laws.ensures.points c.end_laws.ensures.patch c.end_laws.ensures.known c.end_laws.ensures.open_test c.end_laws.ensures.finish c.grown_fits_law.ensures in
     let least : LeastLaw (points_of m.order) = subst (λ o. LeastLaw (points_of o)) (c.order-order.ensures.order ∙ ap (λ (r : Rule). r.order) c.checked-checked.ensures.rule) c.frame_window_law.ensures.least in
-    let beyond = not-beyond m laws least c.args.frame.now c.searched.new.frame c.searched.ensures.frame c.args.window.now c.in_ok-cover.cover c.in_ok-cover.ensures.right c.in_ok-cover.ensures.not_beyond c.requires.frame.at_most_64 in
+    let beyond = not-beyond m laws least c.args.frame.now c.searched.new.frame c.searched.ensures.frame c.args.window.now (working c.in_ok-cover.cover) (works (tiling_of m) laws.open_test c.searched.new.frame c.in_ok-cover.cover c.in_ok-cover.ensures.right) c.in_ok-cover.ensures.not_beyond c.requires.frame.at_most_64 in
     let same : c.order-order.result ≡ m.order = c.order-order.ensures.order ∙ ap (λ (r : Rule). r.order) c.checked-checked.ensures.rule in
     let ends : FrameEndsLaw (points_of m.order) = subst (λ o. FrameEndsLaw (points_of o)) same c.frame_limits_law.ensures.end in
     record {
       centre_found = c.in_ok-cover.ensures.centre_found;
-      drawn_within = ended-within m laws c.args.frame.now c.searched.new.frame c.searched.ensures.frame c.args.window.now c.in_ok-cover.cover c.in_ok-cover.ensures.right c.in_ok-cover.ensures.its_window
-          c.in_ok-cover.ensures.none_open beyond c.requires.frame.at_most_64 ends;
+      drawn_within = ended-within m laws c.args.frame.now c.searched.new.frame c.searched.ensures.frame c.args.window.now (working c.in_ok-cover.cover) (works (tiling_of m) laws.open_test c.searched.new.frame c.in_ok-cover.cover c.in_ok-cover.ensures.right) c.in_ok-cover.ensures.its_window
+          (ap (map packed) c.in_ok-cover.ensures.none_open) beyond c.requires.frame.at_most_64 ends;
     }

@@ -12,13 +12,15 @@ use Rattle.rule_model.specs.Usable.{origin}
 use Rattle.window_cover.specs.declared.found_tile.FoundTile.{FoundTile}
 use Rattle.window_cover.specs.Admitted.{IsNotAdmitted, found_as}
 use Rattle.window_cover.specs.Found.{CoverValue}
-use Rattle.window_cover.specs.Kept.{IsKept}
+use Rattle.window_cover.specs.Kept.{found_in, IsKept}
 use Rattle.tile_place.specs.Keys.{FitsKey}
 use Rattle.window_cover.specs.NewEdges.{AreNew, left_open, opened}
 use Rattle.window_cover.specs.declared.cover_fault.CoverFault.TheVariants.{NoMemory}
 use Rattle.tile_place.proofs.EachOrder.{order-fits}
 use Rattle.lazy_walk.proofs.Outcomes.{if_err-is}
 use Rattle.window_cover.proofs.Keeping.{kept-more, kept-one_more, found-one_more}
+use Rattle.window_cover.specs.Working.{Working, working}
+use Rattle.window_cover.proofs.Unpacked.{words-again, points-again}
 use Rattle.window_cover.proofs.cover.Cover.admit.Goals as goal
 
 pub returns-then-refused-clause-cause : goal.returns-then-refused-clause-cause
@@ -35,19 +37,19 @@ pub returns-in_err-extend_from_slice-clause-admitted : goal.returns-in_err-exten
 returns-in_err-extend_from_slice-clause-admitted c = IfOk-from_err c.from_residual.result _ c.from_residual.ensures.0
 
 pub returns-in_err-extend_from_slice-clause-cause : goal.returns-in_err-extend_from_slice-clause-cause
-returns-in_err-extend_from_slice-clause-cause c = if_err-is (IsNotAdmitted (tiling_of c.args.machine.now) c.args.self.now c.args.tile.now) c.from_residual.result NoMemory c.from_residual.ensures.1 tt
+returns-in_err-extend_from_slice-clause-cause c = if_err-is (IsNotAdmitted (tiling_of c.args.machine.now) (working c.args.self.now) c.args.tile.now) c.from_residual.result NoMemory c.from_residual.ensures.1 tt
 
 pub returns-in_err-push-clause-admitted : goal.returns-in_err-push-clause-admitted
 returns-in_err-push-clause-admitted c = IfOk-from_err c.from_residual-in_err-push.result _ c.from_residual-in_err-push.ensures.0
 
 pub returns-in_err-push-clause-cause : goal.returns-in_err-push-clause-cause
-returns-in_err-push-clause-cause c = if_err-is (IsNotAdmitted (tiling_of c.args.machine.now) c.args.self.now c.args.tile.now) c.from_residual-in_err-push.result NoMemory c.from_residual-in_err-push.ensures.1 tt
+returns-in_err-push-clause-cause c = if_err-is (IsNotAdmitted (tiling_of c.args.machine.now) (working c.args.self.now) c.args.tile.now) c.from_residual-in_err-push.result NoMemory c.from_residual-in_err-push.ensures.1 tt
 
 pub returns-in_err-meet_edges-clause-admitted : goal.returns-in_err-meet_edges-clause-admitted
 returns-in_err-meet_edges-clause-admitted c = IfOk-from_err c.from_residual-in_err-meet_edges.result _ c.from_residual-in_err-meet_edges.ensures.0
 
 pub returns-in_err-meet_edges-clause-cause : goal.returns-in_err-meet_edges-clause-cause
-returns-in_err-meet_edges-clause-cause c = if_err-is (IsNotAdmitted (tiling_of c.args.machine.now) c.args.self.now c.args.tile.now) c.from_residual-in_err-meet_edges.result NoMemory c.from_residual-in_err-meet_edges.ensures.1 tt
+returns-in_err-meet_edges-clause-cause c = if_err-is (IsNotAdmitted (tiling_of c.args.machine.now) (working c.args.self.now) c.args.tile.now) c.from_residual-in_err-meet_edges.result NoMemory c.from_residual-in_err-meet_edges.ensures.1 tt
 
 pub as_slice-requires : goal.as_slice-requires
 as_slice-requires c = search rules
@@ -93,7 +95,8 @@ meet_edges-requires-clause-centre_within c =
 pub meet_edges-requires-clause-new : goal.meet_edges-requires-clause-new
 meet_edges-requires-clause-new c =
     subst (λ ps. AreNew ps c.self.inside.border) (sym c.as_slice-2.ensures.value)
-    (subst (λ (v : CoverValue). AreNew c.put_corners.new.corners.items v.border) (sym c.self.view_is) (c.requires.new c.put_corners.new.corners.items c.put_corners.ensures.corners))
+    (subst (λ ws. AreNew c.put_corners.new.corners.items ws) (words-again c.self.inside.border)
+    (subst (λ (v : CoverValue). AreNew c.put_corners.new.corners.items (working v).border) (sym c.self.view_is) (c.requires.new c.put_corners.new.corners.items c.put_corners.ensures.corners)))
 
 pub invariant_of-self-in_err-meet_edges : goal.invariant_of-self-in_err-meet_edges
 invariant_of-self-in_err-meet_edges c =
@@ -138,7 +141,10 @@ returns-clause-admitted c =
     let o = c.args.machine.now.order in
     let w = c.self.inside.window in
     let ps = c.put_corners.new.corners.items in
-    let after = λ (v : CoverValue) (cs : List Point) (i : ℕ) (b : Order). left_open cs (length cs) v.border ++ opened b v.window i cs (length cs) v.border in
+    let after = λ (v : Working) (cs : List Point) (i : ℕ) (b : Order). left_open cs (length cs) v.border ++ opened b v.window i cs (length cs) v.border in
+    let inside : Working = record { window = w; found = found_in c.self.inside.digits.items c.self.inside.found.items; border = c.self.inside.border } in
+    let kept : inside ≡ working c.args.self.now
+    = ap (λ ws. record { window = w; found = found_in c.self.inside.digits.items c.self.inside.found.items; border = ws }) (sym (words-again c.self.inside.border)) ∙ ap working c.self.view_is in
     record {
       unrefused = sym (c.refused.ensures.in_order o c.requires.in_order) ∙ c.if-refused.false;
       shift_within = c.refused.ensures.within c.if-refused.false;
@@ -148,8 +154,20 @@ returns-clause-admitted c =
           ∙ ap (λ (v : CoverValue). v.found ++ found_as c.args.tile.now ∷ []) c.self.view_is;
       corners = ps;
       are_corners = c.put_corners.ensures.corners;
-      border = c.in_ok-meet_edges.ensures.met
-          ∙ ap₂ (λ cs b. after (record { window = w; found = []; border = c.self.inside.border }) cs c.len-number.result b) c.as_slice-2.ensures.value (c.order-order.ensures.order ∙ ap (λ (r : Rule). r.order) c.checked.ensures.rule)
-          ∙ ap (λ i. after (record { window = w; found = []; border = c.self.inside.border }) ps i o) (count ∙ sym seen)
-          ∙ ap (λ (v : CoverValue). after v ps (length c.args.self.now.found) o) c.self.view_is;
+      border = words-again c.meet_edges.new.border ∙ c.in_ok-meet_edges.ensures.met
+          ∙ ap₂ (λ cs b. after inside cs c.len-number.result b) c.as_slice-2.ensures.value (c.order-order.ensures.order ∙ ap (λ (r : Rule). r.order) c.checked.ensures.rule)
+          ∙ ap (λ i. after inside ps i o) (count ∙ sym seen)
+          ∙ ap (λ (v : Working). after v ps (length c.args.self.now.found) o) kept;
     }
+
+pub returns-clause-same_ends : goal.returns-clause-same_ends
+returns-clause-same_ends c = points-again c.meet_edges.new.border
+
+pub returns-in_err-extend_from_slice-clause-same_ends : goal.returns-in_err-extend_from_slice-clause-same_ends
+returns-in_err-extend_from_slice-clause-same_ends c = IfOk-from_err c.from_residual.result _ c.from_residual.ensures.0
+
+pub returns-in_err-push-clause-same_ends : goal.returns-in_err-push-clause-same_ends
+returns-in_err-push-clause-same_ends c = IfOk-from_err c.from_residual-in_err-push.result _ c.from_residual-in_err-push.ensures.0
+
+pub returns-in_err-meet_edges-clause-same_ends : goal.returns-in_err-meet_edges-clause-same_ends
+returns-in_err-meet_edges-clause-same_ends c = IfOk-from_err c.from_residual-in_err-meet_edges.result _ c.from_residual-in_err-meet_edges.ensures.0

@@ -39,7 +39,7 @@ is_arranged c =
     }
 
 laws : (c : After-new) (m : Rule) → IsChecked m → HasLaws m
-laws c m checked = laws_of m checked c.end_laws.ensures.points c.end_laws.ensures.patch c.end_laws.ensures.known c.end_laws.ensures.finish c.grown_fits_law.ensures
+laws c m checked = laws_of m checked c.end_laws.ensures.points c.end_laws.ensures.patch c.end_laws.ensures.known c.end_laws.ensures.open_test c.end_laws.ensures.finish c.grown_fits_law.ensures
 
 pub invariant_of-result : goal.invariant_of-result
 invariant_of-result c =

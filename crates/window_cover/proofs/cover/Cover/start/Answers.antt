@@ -1,5 +1,5 @@
 use Rattle.std.specs.List.{AllByRecursion}
-use Rattle.std.proofs.Common.{◌≡◌, inl, inr, ℕ, ◌≤◌, List, [], length, refl, sym, ap, ap₂, subst, arith}
+use Rattle.std.proofs.Common.{◌≡◌, inl, inr, ℕ, ◌≤◌, List, [], length, map, refl, sym, ap, ap₂, subst, arith}
 use Rattle.std.proofs.lemmas.Result.{IfOk-from_err}
 use Rattle.cyclo_points.specs.declared.point.Point.{Point}
 use Rattle.rule_model.specs.Tiling.{tiling_of}
@@ -7,7 +7,6 @@ use Rattle.window_cover.specs.declared.cover_fault.CoverFault.TheVariants.{Coord
 use Rattle.window_cover.specs.declared.found_tile.FoundTile.{FoundTile}
 use Rattle.tile_place.specs.Corners.{AreCorners}
 use Rattle.window_cover.specs.Causes.{HasCause}
-use Rattle.window_cover.specs.Found.{CoverValue}
 use Rattle.window_cover.specs.Kept.{found_in, AreKept}
 use Rattle.tile_place.specs.Keys.{FitsKey}
 use Rattle.window_cover.specs.NewEdges.{AreNew}
@@ -18,6 +17,9 @@ use Rattle.lazy_walk.proofs.Outcomes.{if_err-is}
 use Rattle.window_cover.proofs.Outcomes.{no_memory-on}
 use Rattle.window_cover.proofs.StartState.{kind_exists, edges_new, right-first, one_tile, its_window}
 use Rattle.window_cover.proofs.StartLimits.{not_beyond_start, answered_first, cause_first}
+use Rattle.window_cover.specs.Packed.{packed, unpacked}
+use Rattle.window_cover.specs.Working.{Working, working}
+use Rattle.window_cover.proofs.Works.{right-of}
 use Rattle.window_cover.proofs.cover.Cover.start.Goals.{After-contain}
 use Rattle.window_cover.proofs.cover.Cover.start.Goals as goal
 
@@ -81,7 +83,7 @@ returns-in_err-admit-clause-answered c =
     let w = c.args.window.now in
     let B = brings (goal.at.returns-in_err-admit-clause-answered c).After-contain in
     let tile = c.in_ok-tile.tile in
-    let c0 : CoverValue = record { window = w; found = found_in c.new-2.result.items c.new.result.items; border = c.new-3.result } in
+    let c0 : Working = record { window = w; found = found_in c.new-2.result.items c.new.result.items; border = map packed (map unpacked c.new-3.result) } in
     let none : length c0.found ≡ 0 = ap (λ xs. length (found_in c.new-2.result.items xs)) c.new.ensures.items in
     λ within. no_memory-on c.admit.result c.from_residual-in_err-admit.result c.in_err-admit.field-0.0 c.in_err-admit.was c.from_residual-in_err-admit.ensures.1 (answered_first m B.settled B.fits B.laws f c.requires.frame k c.contain.ensures.frame w c.requires.window_fits c.contain.ensures.least tile c.in_ok-tile.ensures.stands c.in_ok-tile.ensures.only_tile c0 none within c.admit.result c.admit.ensures.cause)
 
@@ -94,7 +96,7 @@ returns-in_err-admit-clause-cause c =
     let w = c.args.window.now in
     let B = brings (goal.at.returns-in_err-admit-clause-cause c).After-contain in
     let tile = c.in_ok-tile.tile in
-    let c0 : CoverValue = record { window = w; found = found_in c.new-2.result.items c.new.result.items; border = c.new-3.result } in
+    let c0 : Working = record { window = w; found = found_in c.new-2.result.items c.new.result.items; border = map packed (map unpacked c.new-3.result) } in
     let none : length c0.found ≡ 0 = ap (λ xs. length (found_in c.new-2.result.items xs)) c.new.ensures.items in
     if_err-is (HasCause t f k w) c.from_residual-in_err-admit.result c.in_err-admit.field-0.0 c.from_residual-in_err-admit.ensures.1 (cause_first m B.settled B.fits B.laws f c.requires.frame k c.contain.ensures.frame w c.requires.window_fits c.contain.ensures.least tile c.in_ok-tile.ensures.stands c.in_ok-tile.ensures.only_tile c0 none c.in_err-admit.field-0.0 c.in_err-admit.ensures.cause)
 
@@ -133,7 +135,7 @@ admit-requires-clause-new c =
     let w = c.args.window.now in
     let B = brings (goal.at.admit-requires-clause-new c).After-contain in
     let tile = c.in_ok-tile.tile in
-    subst (λ b. (corners : List Point) → AreCorners t tile.kind tile.motion corners → AreNew corners b) (sym c.new-3.ensures) (edges_new m B.settled B.fits B.laws f c.requires.frame k c.contain.ensures.frame w c.requires.window_fits tile c.in_ok-tile.ensures.stands c.in_ok-tile.ensures.only_tile c.contain.ensures.least)
+    subst (λ b. (corners : List Point) → AreCorners t tile.kind tile.motion corners → AreNew corners (map packed (map unpacked b))) (sym c.new-3.ensures) (edges_new m B.settled B.fits B.laws f c.requires.frame k c.contain.ensures.frame w c.requires.window_fits tile c.in_ok-tile.ensures.stands c.in_ok-tile.ensures.only_tile c.contain.ensures.least)
 
 pub returns-clause-frame : goal.returns-clause-frame
 returns-clause-frame c = c.contain.ensures.frame
@@ -146,9 +148,10 @@ returns-clause-right c =
     let w = c.args.window.now in
     let B = brings (goal.at.returns-clause-right c).After-contain in
     let tile = c.in_ok-tile.tile in
-    let c0 : CoverValue = record { window = w; found = found_in c.new-2.result.items c.new.result.items; border = c.new-3.result } in
-    let empty : c0 ≡ record { window = w; found = []; border = [] } = ap₂ (λ xs b. record { window = w; found = found_in c.new-2.result.items xs; border = b }) c.new.ensures.items c.new-3.ensures in
-    right-first m B.settled B.fits B.laws f c.requires.frame k c.contain.ensures.frame w c.requires.window_fits tile c.in_ok-tile.ensures.stands c.in_ok-tile.ensures.only_tile c.contain.ensures.least c0 c.admit.new.self empty c.in_ok-admit.ensures.admitted
+    let c0 : Working = record { window = w; found = found_in c.new-2.result.items c.new.result.items; border = map packed (map unpacked c.new-3.result) } in
+    let empty : c0 ≡ record { window = w; found = []; border = [] } = ap₂ (λ xs b. record { window = w; found = found_in c.new-2.result.items xs; border = map packed (map unpacked b) }) c.new.ensures.items c.new-3.ensures in
+    right-of (tiling_of m) B.laws.open_test k c.admit.new.self c.in_ok-admit.ensures.same_ends
+    (right-first m B.settled B.fits B.laws f c.requires.frame k c.contain.ensures.frame w c.requires.window_fits tile c.in_ok-tile.ensures.stands c.in_ok-tile.ensures.only_tile c.contain.ensures.least c0 (working c.admit.new.self) empty c.in_ok-admit.ensures.admitted)
 
 pub returns-clause-its_window : goal.returns-clause-its_window
 returns-clause-its_window c =
@@ -158,9 +161,9 @@ returns-clause-its_window c =
     let w = c.args.window.now in
     let B = brings (goal.at.returns-clause-its_window c).After-contain in
     let tile = c.in_ok-tile.tile in
-    let c0 : CoverValue = record { window = w; found = found_in c.new-2.result.items c.new.result.items; border = c.new-3.result } in
-    let empty : c0 ≡ record { window = w; found = []; border = [] } = ap₂ (λ xs b. record { window = w; found = found_in c.new-2.result.items xs; border = b }) c.new.ensures.items c.new-3.ensures in
-    its_window m B.settled B.fits B.laws f c.requires.frame k c.contain.ensures.frame w c.requires.window_fits tile c.in_ok-tile.ensures.stands c.in_ok-tile.ensures.only_tile c.contain.ensures.least c0 c.admit.new.self empty c.in_ok-admit.ensures.admitted
+    let c0 : Working = record { window = w; found = found_in c.new-2.result.items c.new.result.items; border = map packed (map unpacked c.new-3.result) } in
+    let empty : c0 ≡ record { window = w; found = []; border = [] } = ap₂ (λ xs b. record { window = w; found = found_in c.new-2.result.items xs; border = map packed (map unpacked b) }) c.new.ensures.items c.new-3.ensures in
+    its_window m B.settled B.fits B.laws f c.requires.frame k c.contain.ensures.frame w c.requires.window_fits tile c.in_ok-tile.ensures.stands c.in_ok-tile.ensures.only_tile c.contain.ensures.least c0 (working c.admit.new.self) empty c.in_ok-admit.ensures.admitted
 
 pub returns-clause-one_tile : goal.returns-clause-one_tile
 returns-clause-one_tile c =
@@ -170,9 +173,9 @@ returns-clause-one_tile c =
     let w = c.args.window.now in
     let B = brings (goal.at.returns-clause-one_tile c).After-contain in
     let tile = c.in_ok-tile.tile in
-    let c0 : CoverValue = record { window = w; found = found_in c.new-2.result.items c.new.result.items; border = c.new-3.result } in
-    let empty : c0 ≡ record { window = w; found = []; border = [] } = ap₂ (λ xs b. record { window = w; found = found_in c.new-2.result.items xs; border = b }) c.new.ensures.items c.new-3.ensures in
-    one_tile m B.settled B.fits B.laws f c.requires.frame k c.contain.ensures.frame w c.requires.window_fits tile c.in_ok-tile.ensures.stands c.in_ok-tile.ensures.only_tile c.contain.ensures.least c0 c.admit.new.self empty c.in_ok-admit.ensures.admitted
+    let c0 : Working = record { window = w; found = found_in c.new-2.result.items c.new.result.items; border = map packed (map unpacked c.new-3.result) } in
+    let empty : c0 ≡ record { window = w; found = []; border = [] } = ap₂ (λ xs b. record { window = w; found = found_in c.new-2.result.items xs; border = map packed (map unpacked b) }) c.new.ensures.items c.new-3.ensures in
+    one_tile m B.settled B.fits B.laws f c.requires.frame k c.contain.ensures.frame w c.requires.window_fits tile c.in_ok-tile.ensures.stands c.in_ok-tile.ensures.only_tile c.contain.ensures.least c0 (working c.admit.new.self) empty c.in_ok-admit.ensures.admitted
 
 pub returns-clause-not_beyond : goal.returns-clause-not_beyond
 returns-clause-not_beyond c = not_beyond (goal.at.returns-clause-not_beyond c).After-contain
