@@ -1,4 +1,4 @@
-//! A layer that refuses at one of its calls, and layers counted as they are dropped.
+//! Layers that refuse one of their calls, and layers counted as they are dropped.
 use crate::calls::check_call;
 use crate::rows::CHAIRS_LIST;
 use layer_api::layer::Layer;
@@ -33,6 +33,29 @@ fn each_call_refused(rt: HostRuntime) -> Result<(), Fail> {
             check_call(&rt, line, layers, 11, "", "11 NoMemory\n")?;
         }
         assert_eq!(&rt; Rc::strong_count(&token), 1);
+    }
+    Ok(())
+}
+
+/// The call refused by the first and by the second of two layers of a format, 0 for none; the status, the text, and the
+/// note.
+const PAIRS: [(u32, u32, u8, &str, &str); 2] = [
+    (1, 0, 11, "", "11 NoMemory\n"),
+    (0, 1, 0, CHAIRS_LIST, ""),
+];
+
+/// Of two layers of a format the first draws, and the second isn't called.
+#[test]
+fn first_of_two(rt: HostRuntime) -> Result<(), Fail> {
+    let alloc = rt.alloc();
+    let line = "draw rule=chair seed=42 addr=0: at=1,1,0,0 half=2,1 layers=list";
+    for (first, second, code, text, note) in &PAIRS {
+        let mut layers: Vec<Box<dyn Layer>> = Vec::new(alloc);
+        for refused in &[*first, *second] {
+            let layer = Refusing::new(ListLayer::new(alloc), *refused);
+            layers.push(Box::new(alloc, layer)?)?;
+        }
+        check_call(&rt, line, layers, *code, text, note)?;
     }
     Ok(())
 }

@@ -1,9 +1,12 @@
 -- Formats read piece by piece.
-use Rattle.std.proofs.Common.{◌≡◌, ℕ, zero, suc, ◌<◌, ◌≤◌, Bool, true, false, not, ◌&&◌, List, [], ◌∷◌, ◌++◌, length, get_or, nat_lt, arith, Some, None, cond, refl, sym, ap, ap₂, ◌∙◌}
+use Rattle.std.proofs.Common.{◌≡◌, ℕ, zero, suc, ◌+◌, ◌<◌, ◌≤◌, Bool, true, false, not, ◌&&◌, List, [], ◌∷◌, ◌++◌, length, get_or, drop, nat_lt, arith, is_some, Some, None, cond, refl, sym, ap, ap₂, ◌∙◌}
 use Rattle.std.proofs.lemmas.Bool.{lt-ltb, le-ltb}
+use Rattle.std.proofs.lemmas.List.{at_drop_more}
+use Rattle.std.specs.declared.option.Option.{Option}
 use Rattle.std.specs.Option.{option_and_then}
 use Rattle.layer_api.specs.declared.format.Format.{Format}
-use Rattle.tile_app.specs.FormatWords.{format_named, is_among, is_new, most_formats, formats_behind, first_lacking}
+use Rattle.layer_api.specs.declared.format.Format.TheVariants.{Svg, List as Listing, Census}
+use Rattle.tile_app.specs.FormatWords.{format_named, same_format, is_among, is_new, most_formats, formats_behind, first_lacking}
 
 -- a piece that names a format
 named : (old : List Format) (piece : List ℕ) (rest : List (List ℕ)) (f : Format) (b : Bool) → format_named piece ≡ Some f → is_new f old ≡ b
@@ -45,3 +48,18 @@ has_layer handed (f ∷ fs) (suc i) d l e = has_layer handed fs i d (omega (arit
     at_test : (b : Bool) → cond (not b) (Some f) (first_lacking handed fs) ≡ None → first_lacking handed fs ≡ None
     at_test true h = h
     at_test false h = absurd (cc h)
+
+-- ---- formats that the test takes for the same are the same
+pub same_formats : (f g : Format) → same_format f g ≡ true → f ≡ g
+same_formats Svg Svg e = refl
+same_formats Listing Listing e = refl
+same_formats Census Census e = refl
+same_formats f g e = absurd (cc e)
+
+-- a format for which there is a layer isn't the first that lacks one
+pub went_on : (handed named : List Format) (i : ℕ) (place : Option ℕ) → i < length named → is_some place ≡ is_among (get_or named i Svg) handed → is_some place ≡ true
+    → first_lacking handed (drop i named) ≡ first_lacking handed named → first_lacking handed (drop (i + 1) named) ≡ first_lacking handed named
+went_on handed named i None below has e before = absurd (cc e)
+went_on handed named i (Some place) below has e before =
+    sym (ap (λ b. cond (not b) (Some (get_or named i Svg)) (first_lacking handed (drop (i + 1) named))) (sym has))
+    ∙ sym (at_drop_more (first_lacking handed) named i Svg below) ∙ before

@@ -141,10 +141,10 @@ fn draw<D: Layer>(
     ensures form { D.form layer.new ≡ D.form layer.old }
 {
     layer.begin(view);
-    let mut drawn = blank();
     for place in 0..picture.len() {
+        let mut drawn = blank();
         picture.fill(&mut drawn, machine, place);
-        layer.put(&drawn)?;
+        layer.put(drawn)?;
     }
     layer.end()
 }

@@ -1,6 +1,6 @@
 //! The layers handed in, and the formats that the words ask them for.
-ghost use Rattle.std.specs.Prelude.{◌≡◌, ◌<◌, ◌≤◌, Ok, IfSome, is_some, length, map, slice_get};
-ghost use Rattle.tile_app.specs.FormatWords.{is_among, first_lacking};
+ghost use Rattle.std.specs.Prelude.{◌≡◌, ◌<◌, ◌≤◌, Ok, IfSome, is_some, length, map, position, slice_get};
+ghost use Rattle.tile_app.specs.FormatWords.{same_format, is_among, first_lacking};
 ghost use Rattle.tile_app.specs.Layers.{formats_given, lacking};
 ghost use Rattle.tile_app.specs.Words.{texts, command_of};
 
@@ -25,6 +25,7 @@ pub fn formats_given(words: &[String]) -> ArrayVec<Format, MOST_FORMATS>
 
 /// The place of the first layer of a format.
 pub fn place_of<D: Layer>(layers: &[D], format: Format) -> Option<usize>
+    ensures first { result ≡ position (λ f. same_format f format) (map D.form layers.now) }
     ensures some { is_some result ≡ is_among format (map D.form layers.now) }
     ensures inside { IfSome result (λ i. i < length layers.now) }
     ensures its_form { IfSome result (λ i. IfSome (slice_get layers.now i) (λ d. D.form d ≡ format)) }
