@@ -144,6 +144,12 @@ def filled(line, front=b"", most=MEBIBYTE):
     return front + line * ((most - len(front)) // len(line))
 
 
+def numbered(line):
+    """The lines that numbers from 0 make of a line, as many as a mebibyte holds."""
+    lines = b"".join(line % number for number in range(MEBIBYTE // (len(line) - 1)))
+    return lines[:MEBIBYTE].rpartition(b"\n")[0]
+
+
 def addresses(table):
     """Addresses of 64 digits: placed, crossed over all levels, walked along, and grown."""
     table.add("place, 64 digits", f"place rule=chair addr=0:{deep('0/0')}")
@@ -203,9 +209,14 @@ def files(table):
     table.add("check, many tables", "check rule=-", filled(b"[[kind]]\n"), status=3)
     table.add("check, many types", "check rule=-", filled(b"[[type]]\nmate = 0\nparts = [0]\n", b"format = 1\norder = 4\nlambda = [2, 0, 0, 0]\nglue = []\n"), status=3)
     table.add("check, nested arrays", "check rule=-", b"a = " + b"[" * (MEBIBYTE - 4), status=3)
-    table.add("check, dots below the bound", "check rule=-", b"a" + b".a" * 199999 + b" = 1\n", status=3)
+    table.add("check, dots alone", "check rule=-", b"." * MEBIBYTE, status=3)
+    table.add("check, dotted keys", "check rule=-", numbered(b"k%d" + b".a" * 79 + b"=1\n"), status=3)
+    table.add("check, headers with dotted keys", "check rule=-", numbered(b"[k%d" + b".a" * 79 + b"]\n"), status=3)
+    table.add("check, headers of lists with dotted keys", "check rule=-", numbered(b"[[k%d" + b".a" * 79 + b"]]\n"), status=3)
+    table.add("check, inline tables with dotted keys", "check rule=-", filled(b"{" + b"a." * 78 + b"a=0},", b"a=[", MEBIBYTE - 1) + b"]", status=3)
+    table.add("check, inline tables", "check rule=-", filled(b"{a=" * 79 + b"0" + b"}" * 79 + b",", b"a=[", MEBIBYTE - 1) + b"]", status=3)
     table.add("check, one long string", "check rule=-", b'a = "' + b"x" * (MEBIBYTE - 6) + b'"', status=3)
-    table.add("check, many keys", "check rule=-", b"".join(b"a%d = 0\n" % n for n in range(90000))[:MEBIBYTE].rpartition(b"\n")[0], status=3)
+    table.add("check, many keys", "check rule=-", numbered(b"a%d = 0\n"), status=3)
     table.add("check, a byte too long", "check rule=-", b"#" * (MEBIBYTE + 1), status=3)
 
 
