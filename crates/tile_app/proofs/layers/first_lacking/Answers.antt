@@ -1,4 +1,4 @@
-use Rattle.std.proofs.Common.{◌≡◌, ◌∙◌, ap, not, map}
+use Rattle.std.proofs.Common.{◌∙◌, ap, not, map}
 use Rattle.tile_app.proofs.Formats.{went_on}
 use Rattle.tile_app.proofs.layers.first_lacking.Goals as goal
 
