@@ -1,4 +1,5 @@
-//! The tiles round vertices: of all tiles of whole supertiles against a list, and some worked out by hand.
+//! The tiles round vertices: of all tiles of whole supertiles against a list, found in one place, and some worked out by
+//! hand, each answered by itself.
 ghost use Rattle.std.specs.Prelude.{◌≡◌, ◌<◌};
 
 use crate::given::{deep, tile_text};
@@ -10,6 +11,7 @@ use plain_tiles::frame_tiles::begun;
 use plain_tiles::vertex_tiles::stars;
 use star_walk::star::Star;
 use star_walk::star_fault::StarFault;
+use star_walk::turn::star;
 use std::alloc::{AllocError, Global};
 use std::marker::Brand;
 use std::sync::ledger::{Blank, Ledger};
@@ -55,9 +57,9 @@ static ROWS: [(Name, &[u8], u8, &str); 3] = [
 ];
 
 /// The tiles round a vertex as lines, or the fault.
-fn told(alloc: Global, found: &Result<(), StarFault>, star: &Star) -> Result<String, AllocError> {
+fn told(alloc: Global, found: &Result<Star, StarFault>) -> Result<String, AllocError> {
     match found {
-        Ok(()) => {
+        Ok(star) => {
             let mut text = String::new(alloc);
             for corner in star.corners.as_slice() {
                 text.push_str(tile_text(alloc, &corner.tile)?.as_str())?;
@@ -70,7 +72,7 @@ fn told(alloc: Global, found: &Result<(), StarFault>, star: &Star) -> Result<Str
     }
 }
 
-/// What comes of a vertex of a built-in rule.
+/// What `star` answers of a vertex of a built-in rule.
 fn star_text<L: Ledger>(
     alloc: Global,
     name: Name,
@@ -91,9 +93,8 @@ fn star_text<L: Ledger>(
     if vertex >= machine.checked().tables().edges(frame.base().kind) {
         return Ok("no vertex".to_string(alloc)?);
     }
-    let mut star = Star::new();
-    let found = star.find(&machine, &mut frame, vertex, &mut steps);
-    Ok(told(alloc, &found, &star)?)
+    let found = star(&machine, &mut frame, vertex, &mut steps);
+    Ok(told(alloc, &found)?)
 }
 
 #[test]
