@@ -18,7 +18,7 @@ use crate::words::Key;
 use edge_tables::steps::Steps;
 use lazy_walk::frame::Frame;
 use star_walk::corner::Corner;
-use star_walk::star::Star;
+use star_walk::turn::star;
 use std::alloc::{AllocError, Global};
 use std::sync::ledger::Ledger;
 use tile_place::machine::Machine;
@@ -62,7 +62,6 @@ pub fn star_text<L: Ledger>(
         return Err(Status::NoVertex { vertex, edges });
     }
     let mut frame = Frame::new(address, seed_given(words));
-    let mut star = Star::new();
-    star.find(machine, &mut frame, vertex, steps)?;
-    Ok(star_lines(alloc, star.corners.as_slice())?)
+    let found = star(machine, &mut frame, vertex, steps)?;
+    Ok(star_lines(alloc, found.corners.as_slice())?)
 }
