@@ -13,10 +13,8 @@ use Rattle.tile_app.specs.Request.{Request, Names}
 use Rattle.tile_app.specs.Words.{command_of}
 use Rattle.rule_model.specs.Tiling.{Tiling}
 
-tells : (r : Request) (t : Tiling) (text : List ℕ) → Names r t → PrintsNeighbour r.words t text → TellsOnlyNeighbour r text
-tells r t text named p = record {
-  tiling = t;
-  named = named;
+tells : (words : List (List ℕ)) (t : Tiling) (text : List ℕ) → PrintsNeighbour words t text → TellsOnlyNeighbour words t text
+tells words t text p = record {
   address = p.address;
   edge = p.edge;
   given = p.gives;
@@ -27,10 +25,8 @@ tells r t text named p = record {
   line = p.line;
 }
 
-writes : (r : Request) (t : Tiling) (text : List ℕ) → Names r t → PrintsDraw r.words t text → WritesExactlyTheWindow r text
-writes r t text named p = record {
-  tiling = t;
-  named = named;
+writes : (words : List (List ℕ)) (t : Tiling) (text : List ℕ) → PrintsDraw words t text → WritesExactlyTheWindow words t text
+writes words t text p = record {
   base = p.pictures.base;
   window = p.window;
   given = p.pictures.gives;
@@ -52,15 +48,15 @@ of_command words r text command same right p =
 
 module _ (words : List (List ℕ)) (handed : List Format) (left rest : Option (List ℕ)) (Took : List ℕ → Type 0)
     (done : OfRequest words handed left rest (λ r. (text : List ℕ) × Prints r text × Took text)) where
-  pub only_neighbour : command_of words ≡ Ok Neighbour → OfRequest words handed left rest (λ r. (text : List ℕ) × TellsOnlyNeighbour r text × Took text)
+  pub only_neighbour : command_of words ≡ Ok Neighbour → OfRequest words handed left rest (λ r. (t : Tiling) × (text : List ℕ) × Names r t × TellsOnlyNeighbour r.words t text × Took text)
   only_neighbour right =
       let p = done.2.1 in
-      (done.0, done.1, (done.2.0, tells done.0 p.tiling done.2.0 p.asks.names (of_command words done.0 done.2.0 Neighbour done.1.by_words right p), done.2.2))
+      (done.0, done.1, (p.tiling, done.2.0, p.asks.names, tells done.0.words p.tiling done.2.0 (of_command words done.0 done.2.0 Neighbour done.1.by_words right p), done.2.2))
 
-  pub exactly_the_window : command_of words ≡ Ok Draw → OfRequest words handed left rest (λ r. (text : List ℕ) × WritesExactlyTheWindow r text × Took text)
+  pub exactly_the_window : command_of words ≡ Ok Draw → OfRequest words handed left rest (λ r. (t : Tiling) × (text : List ℕ) × Names r t × WritesExactlyTheWindow r.words t text × Took text)
   exactly_the_window right =
       let p = done.2.1 in
-      (done.0, done.1, (done.2.0, writes done.0 p.tiling done.2.0 p.asks.names (of_command words done.0 done.2.0 Draw done.1.by_words right p), done.2.2))
+      (done.0, done.1, (p.tiling, done.2.0, p.asks.names, writes done.0.words p.tiling done.2.0 (of_command words done.0 done.2.0 Draw done.1.by_words right p), done.2.2))
 
 -- what holds of equal words and layers
 pub with_same : {D : Type 0} (form : D → Format) (words other : List (List ℕ)) (layers had : List D) (P : List (List ℕ) → List Format → Type 0) → words ≡ other → layers ≡ had

@@ -1,5 +1,6 @@
 //! The top call: all that the program does.
 ghost use Rattle.std.specs.Prelude.{◌≡◌, ◌⊎◌, ◌<◌, ℕ, List, false, map, Ok};
+ghost use Rattle.rule_model.specs.Tiling.{Tiling};
 ghost use Rattle.tile_io.specs.Causes.{Rose};
 ghost use Rattle.tile_io.specs.Taken.{Takes, TakesProperPrefix};
 ghost use Rattle.tile_app.specs.declared.status.Status.{Status};
@@ -10,7 +11,7 @@ ghost use Rattle.tile_app.specs.Causes.{Causes, IsNoLimit, IsRefused};
 ghost use Rattle.tile_app.specs.Headline.{TellsOnlyNeighbour, WritesExactlyTheWindow};
 ghost use Rattle.tile_app.specs.Layers.{reads_file};
 ghost use Rattle.tile_app.specs.Notes.{note_of, IsNoted};
-ghost use Rattle.tile_app.specs.Request.{Request};
+ghost use Rattle.tile_app.specs.Request.{Request, Names};
 ghost use Rattle.tile_app.specs.Status.{IsCutShort, IsLimit, IsRefusal};
 ghost use Rattle.tile_app.specs.Words.{texts, command_of};
 
@@ -101,13 +102,13 @@ pub fn run<R: Source, W: Sink, N: Sink>(
     // placed in their common supertile, and the return edge leads back.
     ensures only_neighbour { result ≡ Status.Done → command_of (texts words.now.items) ≡ Ok Neighbour
         → OfRequest (texts words.now.items) (map (λ d. form d) layers.items) (R.left source.old) (R.left source.new)
-        (λ r. (text : List ℕ) × TellsOnlyNeighbour r text × Takes (W.taken sink.old) (W.taken sink.new) text) }
+        (λ r. (t : Tiling) × (text : List ℕ) × Names r t × TellsOnlyNeighbour r.words t text × Takes (W.taken sink.old) (W.taken sink.new) text) }
 
     // At Done of `draw` the tiles written are exactly those that meet the window, each once, disjoint and covering it, in
     // the supertile grown to the least enough depth; with `glue=yes` the whole tiles of these.
     ensures exactly_the_window { result ≡ Status.Done → command_of (texts words.now.items) ≡ Ok Draw
         → OfRequest (texts words.now.items) (map (λ d. form d) layers.items) (R.left source.old) (R.left source.new)
-        (λ r. (text : List ℕ) × WritesExactlyTheWindow r text × Takes (W.taken sink.old) (W.taken sink.new) text) }
+        (λ r. (t : Tiling) × (text : List ℕ) × Names r t × WritesExactlyTheWindow r.words t text × Takes (W.taken sink.old) (W.taken sink.new) text) }
 
     // What is printed is by cases of the command: for `place` the kind, and the motion by which the
     // tile lies in its supertile; for `neighbour` the one tile and edge across the edge; for `walk` the
