@@ -5,6 +5,8 @@ pub mod Marks
 pub mod OneVerdict
 pub mod Came
 pub mod Crossing
+pub mod Enough
+pub mod Depths
 pub mod Start
 pub mod Edges
 pub mod Sides

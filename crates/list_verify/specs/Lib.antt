@@ -2,6 +2,7 @@ pub mod LineIndex
 pub mod Faults
 pub mod LookedUp
 pub mod Listing
+pub mod Depth
 pub mod Causes
 pub mod FoundLines
 pub mod Walked

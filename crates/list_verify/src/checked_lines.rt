@@ -1,8 +1,8 @@
 //! What a walk tells of lines.
-ghost use Rattle.std.specs.Prelude.{◌≡◌, ◌⊎◌, ◌<◌, ◌*◌, ◌^◌, ℕ, [], true, length, slice_get, Some, IfSome, IfNone, IfErr, OnOk};
+ghost use Rattle.std.specs.Prelude.{◌≡◌, ◌⊎◌, ◌<◌, ◌≤◌, ◌*◌, ◌^◌, ℕ, [], true, length, slice_get, Some, IfSome, IfNone, IfErr, OnOk};
 ghost use Rattle.rule_model.specs.Tiling.{tiling_of};
 ghost use Rattle.lazy_walk.specs.Frames.{GrowsTo};
-ghost use Rattle.window_cover.specs.Windows.{IsWindow};
+ghost use Rattle.window_cover.specs.Windows.{IsWindow, IsLeastEnough};
 ghost use Rattle.list_verify.specs.Faults.{OrNoRoom};
 ghost use Rattle.list_verify.specs.FoundLines.{AreLinesIn, entries_of};
 ghost use Rattle.list_verify.specs.LineIndex.{Indexes};
@@ -55,6 +55,8 @@ pub(crate) fn check_lines<L: Ledger>(
     requires sides { length found.old.crossed.marks.items ≡ length lines.now * 12 }
     requires none_crossed { (i : ℕ) → ¬ (slice_get found.old.crossed.marks.items i ≡ Some true) }
     ensures frame { GrowsTo (tiling_of machine.now) frame.old frame.new }
+    ensures stays { OnOk result (frame.new ≡ frame.old) }
+    ensures not_beyond { (n : ℕ) → IsLeastEnough (tiling_of machine.now) frame.old window.now n → length frame.new.digits ≤ n }
     ensures right { OnOk result (AreRightLines (tiling_of machine.now) frame.old window.now (entries_of lines.now)) }
     ensures fault { IfErr result (OrNoRoom (λ fault. IsStoppedBy (tiling_of machine.now) frame.old frame.new window.now (entries_of lines.now) fault
         ⊎ IsStrayFault (tiling_of machine.now) frame.old window.now (entries_of lines.now) fault)) }

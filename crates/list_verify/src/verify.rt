@@ -1,5 +1,5 @@
 //! Whether a listing is the list of a window.
-ghost use Rattle.std.specs.Prelude.{◌≡◌, ◌⊎◌, ◌↔◌, ◌<◌, ◌*◌, ◌^◌, ℕ, List, [], true, length, slice_get, Some, Ok, Err, IfOk, IfErr, OnOk};
+ghost use Rattle.std.specs.Prelude.{◌≡◌, ◌⊎◌, ◌↔◌, ◌<◌, ◌≤◌, ◌*◌, ◌^◌, ℕ, List, [], true, length, slice_get, Some, Ok, Err, IfOk, IfErr, OnOk};
 ghost use Rattle.std.specs.List.{All};
 ghost use Rattle.addressing.specs.Address.{Fits};
 ghost use Rattle.rule_model.specs.Tiling.{tiling_of, children};
@@ -7,13 +7,16 @@ ghost use Rattle.tile_shape.specs.Views.{address_of};
 ghost use Rattle.lazy_walk.specs.Frames.{IsFrameOf, GrowsTo};
 ghost use Rattle.listing_text.specs.Limits.{most_lines};
 ghost use Rattle.listing_text.specs.Lines.{lines_in};
+ghost use Rattle.listing_text.specs.declared.listing_fault.ListingFault.{ListingFault as TextFault};
 ghost use Rattle.listing_text.specs.Listing.{listing_in};
-ghost use Rattle.window_cover.specs.Windows.{IsWindow};
+ghost use Rattle.window_cover.specs.Windows.{IsWindow, IsLeastEnough};
 ghost use Rattle.list_verify.specs.declared.list_fault.ListFault.{ListFault as Fault};
 ghost use Rattle.list_verify.specs.declared.list_fault.ListFault.TheVariants as faults;
+ghost use Rattle.list_verify.specs.Depth.{IsListedDepth, IsEnoughListed};
 ghost use Rattle.list_verify.specs.Faults.{OrNoRoom};
 ghost use Rattle.list_verify.specs.FoundLines.{entries_of, AreLinesIn};
 ghost use Rattle.list_verify.specs.LineIndex.{Indexes};
+ghost use Rattle.list_verify.specs.Lifted.{deepest_entry};
 ghost use Rattle.list_verify.specs.Listing.{IsVerified};
 ghost use Rattle.list_verify.specs.Verdict.{HasCause, IsTold, IsOfWalk, LacksTiles};
 ghost use Rattle.list_verify.specs.Walked.{IsStoppedBy, AreRightLines, IsStrayFault};
@@ -63,6 +66,12 @@ pub fn verify(
 
     ensures frame { GrowsTo (tiling_of machine.now) frame.old frame.new }
 
+    // At Ok the frame has the greater of its depth and the greatest one of a line. It is never deeper than is enough for
+    // the window and the lines; and a text that cannot be read leaves it as it is.
+    ensures depth { OnOk result (IsListedDepth (tiling_of machine.now) frame.old listing.now (length frame.new.digits)) }
+    ensures not_beyond { (n : ℕ) → IsEnoughListed (tiling_of machine.now) frame.old window.now listing.now n → length frame.new.digits ≤ n }
+    ensures unread { (fault : TextFault) → listing_in (children (tiling_of machine.now)) listing.now ≡ Err fault → frame.new ≡ frame.old }
+
     // Ok comes exactly where the listing is right and nothing of it is refused, but for want of memory.
     ensures right { IfOk result (λ n. IsVerified (tiling_of machine.now) frame.old window.now listing.now n) }
     ensures complete { (n : ℕ) → IsVerified (tiling_of machine.now) frame.old window.now listing.now n → (result ≡ Ok n) ⊎ (result ≡ Err faults.NoMemory) }
@@ -94,6 +103,9 @@ fn verdict(
     requires frame { IsFrameOf (tiling_of machine.now) frame.old }
     requires window_fits { IsWindow window.now }
     ensures frame { GrowsTo (tiling_of machine.now) frame.old frame.new }
+    ensures depth { OnOk result (IsListedDepth (tiling_of machine.now) frame.old listing.now (length frame.new.digits)) }
+    ensures not_beyond { (n : ℕ) → IsEnoughListed (tiling_of machine.now) frame.old window.now listing.now n → length frame.new.digits ≤ n }
+    ensures unread { (fault : TextFault) → listing_in (children (tiling_of machine.now)) listing.now ≡ Err fault → frame.new ≡ frame.old }
     ensures right { IfOk result (λ n. IsVerified (tiling_of machine.now) frame.old window.now listing.now n) }
     ensures cause { IfErr result (λ fault. HasCause (tiling_of machine.now) frame.old frame.new window.now listing.now fault) }
     ensures too_long { (result ≡ Err faults.TooLong) ↔ (most_lines < length (lines_in listing.now)) }
@@ -134,6 +146,9 @@ fn verify_lines(
     requires few { length lines.old < 2 ^ 31 }
     requires multiplier { multiplier < 2305843009213693951 }
     ensures frame { GrowsTo (tiling_of machine.now) frame.old frame.new }
+    ensures depth { OnOk result (length frame.new.digits ≡ deepest_entry (tiling_of machine.now) (length frame.old.digits) (entries_of lines.old)) }
+    ensures not_beyond { (text : List ℕ) (n : ℕ) → listing_in (children (tiling_of machine.now)) text ≡ Ok (entries_of lines.old)
+        → IsEnoughListed (tiling_of machine.now) frame.old window.now text n → length frame.new.digits ≤ n }
     ensures right { (text : List ℕ) → listing_in (children (tiling_of machine.now)) text ≡ Ok (entries_of lines.old)
         → OnOk result (IsVerified (tiling_of machine.now) frame.old window.now text (length lines.old)) }
     ensures cause { (text : List ℕ) → listing_in (children (tiling_of machine.now)) text ≡ Ok (entries_of lines.old)
@@ -189,6 +204,8 @@ fn walk_counted<L: Ledger>(
     requires sides { length found.old.crossed.marks.items ≡ length lines.now * 12 }
     requires none_crossed { (i : ℕ) → ¬ (slice_get found.old.crossed.marks.items i ≡ Some true) }
     ensures frame { GrowsTo (tiling_of machine.now) frame.old frame.new }
+    ensures stays { OnOk result (frame.new ≡ frame.old) }
+    ensures not_beyond { (n : ℕ) → IsLeastEnough (tiling_of machine.now) frame.old window.now n → length frame.new.digits ≤ n }
     ensures right { OnOk result (AreRightLines (tiling_of machine.now) frame.old window.now (entries_of lines.now)) }
     ensures fault { IfErr result (OrNoRoom (λ fault. IsStoppedBy (tiling_of machine.now) frame.old frame.new window.now (entries_of lines.now) fault
         ⊎ IsStrayFault (tiling_of machine.now) frame.old window.now (entries_of lines.now) fault)) }

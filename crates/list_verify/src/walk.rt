@@ -1,11 +1,11 @@
 //! The walk through lines, from tile to tile across edges that meet the window.
-ghost use Rattle.std.specs.Prelude.{◌≡◌, ◌<◌, ◌^◌, ◌+◌, ◌*◌, ℕ, [], true, length, slice_get, Some, None, IfErr, OnOk};
+ghost use Rattle.std.specs.Prelude.{◌≡◌, ◌<◌, ◌≤◌, ◌^◌, ◌+◌, ◌*◌, ℕ, [], true, length, slice_get, Some, None, IfErr, OnOk};
 ghost use Rattle.addressing.specs.Search.{IsAmong};
 ghost use Rattle.windows.specs.Outlines.{MeetsBox};
 ghost use Rattle.cyclo_points.specs.Order.{points_of};
 ghost use Rattle.rule_model.specs.Tiling.{tiling_of};
 ghost use Rattle.lazy_walk.specs.Frames.{GrowsTo};
-ghost use Rattle.window_cover.specs.Windows.{IsWindow, box_of};
+ghost use Rattle.window_cover.specs.Windows.{IsWindow, IsLeastEnough, box_of};
 ghost use Rattle.list_verify.specs.Faults.{OrNoRoom};
 ghost use Rattle.list_verify.specs.FoundLines.{AreLinesIn, AreFound, HasMore, entries_of, IsCrossedOver, AreCrossedOver, AreSides, edges_of_line, edge_of_line};
 ghost use Rattle.list_verify.specs.LineIndex.{Indexes};
@@ -69,6 +69,7 @@ fn cross_edge<L: Ledger>(
     requires edge_meets { MeetsBox (points_of machine.now.order).real (box_of (tiling_of machine.now) window.now) (edge_of_line (tiling_of machine.now) frame.old lines.now line edge) }
     ensures frame { GrowsTo (tiling_of machine.now) frame.old frame.new }
     ensures stays { OnOk result (frame.new ≡ frame.old) }
+    ensures not_beyond { (n : ℕ) → IsLeastEnough (tiling_of machine.now) frame.old window.now n → length frame.new.digits ≤ n }
     ensures found { OnOk result (AreFound (tiling_of machine.now) frame.old window.now lines.now found.new.lines.items found.new.marks.items) }
     ensures sides { OnOk result (AreSides (tiling_of machine.now) frame.old window.now lines.now found.new.lines.items found.new.crossed.marks.items) }
     ensures more { OnOk result (HasMore found.old.lines.items found.new.lines.items) }
@@ -116,6 +117,7 @@ fn find_centre(
     requires unmarked { (i : ℕ) → ¬ (slice_get found.old.marks.items i ≡ Some true) }
     ensures frame { GrowsTo (tiling_of machine.now) frame.old frame.new }
     ensures stays { OnOk result (frame.new ≡ frame.old) }
+    ensures not_beyond { (n : ℕ) → IsLeastEnough (tiling_of machine.now) frame.old window.now n → length frame.new.digits ≤ n }
     ensures centre_found { OnOk result (first_refused_at (tiling_of machine.now) frame.old window.now ≡ None) }
     ensures crossed { found.new.crossed ≡ found.old.crossed }
     ensures found { OnOk result (AreFound (tiling_of machine.now) frame.old window.now lines.now found.new.lines.items found.new.marks.items) }
@@ -153,6 +155,7 @@ fn cross_edges<L: Ledger>(
     requires line_found { IsAmong line found.old.lines.items }
     ensures frame { GrowsTo (tiling_of machine.now) frame.old frame.new }
     ensures stays { OnOk result (frame.new ≡ frame.old) }
+    ensures not_beyond { (n : ℕ) → IsLeastEnough (tiling_of machine.now) frame.old window.now n → length frame.new.digits ≤ n }
     ensures found { OnOk result (AreFound (tiling_of machine.now) frame.old window.now lines.now found.new.lines.items found.new.marks.items) }
     ensures sides { OnOk result (AreSides (tiling_of machine.now) frame.old window.now lines.now found.new.lines.items found.new.crossed.marks.items) }
     ensures more { OnOk result (HasMore found.old.lines.items found.new.lines.items) }
@@ -209,6 +212,7 @@ pub(crate) fn walk<L: Ledger>(
     requires none_crossed { (i : ℕ) → ¬ (slice_get found.old.crossed.marks.items i ≡ Some true) }
     ensures frame { GrowsTo (tiling_of machine.now) frame.old frame.new }
     ensures stays { OnOk result (frame.new ≡ frame.old) }
+    ensures not_beyond { (n : ℕ) → IsLeastEnough (tiling_of machine.now) frame.old window.now n → length frame.new.digits ≤ n }
     ensures count { OnOk result (length found.new.marks.items ≡ length lines.now) }
     ensures centre_found { OnOk result (first_refused_at (tiling_of machine.now) frame.old window.now ≡ None) }
     ensures tells { OnOk result (Tells (tiling_of machine.now) frame.old window.now (entries_of lines.now) found.new.marks.items) }

@@ -32,4 +32,4 @@ mod FirstEdge
 mod StepLimits
 mod StepStops
 mod StartState
-mod StartLimits
+pub mod StartLimits

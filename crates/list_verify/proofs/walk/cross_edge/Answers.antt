@@ -1,4 +1,4 @@
-use Rattle.std.proofs.Common.{◌≡◌, inl, inr, ℕ, ◌+◌, ◌*◌, ◌<◌, ◌^◌, true, List, length, get_or, slice_get, slice_set, Some, refl, sym, ap, ◌∙◌, subst}
+use Rattle.std.proofs.Common.{◌≡◌, inl, inr, ℕ, ◌+◌, ◌*◌, ◌<◌, ◌≤◌, ◌^◌, true, List, length, get_or, slice_get, slice_set, Some, refl, sym, ap, ◌∙◌, subst}
 use Rattle.std.proofs.lemmas.Option.{slice_get_within}
 use Rattle.addressing.specs.Address.{Address}
 use Rattle.cyclo_points.specs.declared.motion.Motion.{Motion}
@@ -29,6 +29,8 @@ use Rattle.list_verify.proofs.Came.{HasCome, IsNext, looked-up, not-found}
 use Rattle.list_verify.proofs.Chains.{get_or-at}
 use Rattle.list_verify.proofs.Crossing.{place, is-line, of-frame, came, crossed-over, back-below, crossed-back, limited}
 use Rattle.list_verify.proofs.Edges.{more-among}
+use Rattle.list_verify.proofs.Enough.{not_beyond-edge}
+use Rattle.window_cover.specs.Windows.{IsLeastEnough}
 use Rattle.list_verify.proofs.Sides.{sides-more, sides-put, mark-exists}
 use Rattle.list_verify.proofs.walk.cross_edge.Given.{Over}
 use Rattle.list_verify.proofs.walk.cross_edge.Goals.{After-kinds-usable, After-put_line}
@@ -168,6 +170,13 @@ module _ (g : Over) (c : After-put_line g) where
       c.args.edge c.requires.edge_exists c.requires.edge_meets k grows at_64 (subst (λ (a : Address). IsBoundaryEdge t (lifted_at t f a 64) c.args.edge) (sym (its_address g c)) on)
       addr edge (named ∙ ap (λ (a : Address). lifted_at t f a 64) (sym (its_address g c))) same
 
+  -- how far the frame grows
+  not_beyond_at : (k : FrameValue) → GrowsTo t f k → ((n : ℕ) → length f.digits ≤ n → n < length k.digits → IsBoundaryEdge t (lifted_at t f (address_of c.put_line.new.tile.addr) n) c.args.edge)
+      → (n : ℕ) → IsLeastEnough t f c.args.window.now n → length k.digits ≤ n
+  not_beyond_at k grows least =
+      not_beyond-edge m B.settled B.fits B.laws f c.args.window.now c.requires.window_fits lines c.requires.lines numbers c.args.found.now.marks.items c.requires.found c.args.line c.requires.line_found
+      c.args.edge c.requires.edge_exists c.requires.edge_meets k grows (λ n l h. subst (λ (a : Address). IsBoundaryEdge t (lifted_at t f a n) c.args.edge) (sym (its_address g c)) (least n l h))
+
 -- what comes of it
 pub put-requires : goal.put-requires
 put-requires g c =
@@ -218,3 +227,12 @@ returns-in-Err-clause-fault g c =
     let p = (goal.at.returns-in-Err-clause-fault g c).After-put_line in
     inr (limit_at g p c.step_grow.new.self c.in-Err.ensures.frame c.in-Err.ensures.deepest_at_limit (c.in-Err.ensures.limit_exactly.0 refl) c.in-Err.limit.addr c.in-Err.limit.edge
     c.in-Err.ensures.limit_tile c.in-Err.ensures.limit_edge)
+
+pub returns-in-Ok-look_up-clause-not_beyond : goal.returns-in-Ok-look_up-clause-not_beyond
+returns-in-Ok-look_up-clause-not_beyond g c = not_beyond_at g (goal.at.returns-in-Ok-look_up-clause-not_beyond g c).After-put_line c.step_grow.new.self c.in-Ok.ensures.frame c.in-Ok.ensures.least
+
+pub returns-in-Err-look_up-clause-not_beyond : goal.returns-in-Err-look_up-clause-not_beyond
+returns-in-Err-look_up-clause-not_beyond g c = not_beyond_at g (goal.at.returns-in-Err-look_up-clause-not_beyond g c).After-put_line c.step_grow.new.self c.in-Ok.ensures.frame c.in-Ok.ensures.least
+
+pub returns-in-Err-clause-not_beyond : goal.returns-in-Err-clause-not_beyond
+returns-in-Err-clause-not_beyond g c = not_beyond_at g (goal.at.returns-in-Err-clause-not_beyond g c).After-put_line c.step_grow.new.self c.in-Err.ensures.frame c.in-Err.ensures.least

@@ -19,6 +19,7 @@ use Rattle.list_verify.specs.LookedUp.{IsLookedUp, IsNotFound}
 use Rattle.list_verify.specs.Walked.{IsStoppedBy}
 use Rattle.lazy_walk.proofs.Brought.{Brings, brought}
 use Rattle.list_verify.specs.ListLaws.{HasListLaws}
+use Rattle.window_cover.proofs.StartLimits.{not_beyond_start}
 use Rattle.list_verify.proofs.Came.{HasCome, IsNext, looked-up, not-found}
 use Rattle.list_verify.proofs.Start.{come, refused-centre}
 use Rattle.list_verify.proofs.walk.find_centre.Goals.{After-kinds-usable}
@@ -101,3 +102,14 @@ returns-in-Err-clause-fault c =
 
 pub returns-in-Ok-clause-centre_found : goal.returns-in-Ok-clause-centre_found
 returns-in-Ok-clause-centre_found c = IfOk-weaker c.look_up.result _ _ (λ number n. c.in-Ok.ensures.found_exactly.0 refl) c.look_up.ensures.looked_up
+
+-- ---- how far the frame grows
+pub returns-in-Ok-clause-not_beyond : goal.returns-in-Ok-clause-not_beyond
+returns-in-Ok-clause-not_beyond c =
+    let B = brings ((goal.at.returns-in-Ok-clause-not_beyond c).After-kinds-usable) in
+    not_beyond_start c.args.machine.now B.settled B.fits B.laws.search c.args.frame.now c.requires.lines.frame c.contain.new.self c.in-Ok.ensures.frame c.args.window.now c.requires.window_fits c.in-Ok.ensures.least
+
+pub returns-in-Err-clause-not_beyond : goal.returns-in-Err-clause-not_beyond
+returns-in-Err-clause-not_beyond c =
+    let B = brings ((goal.at.returns-in-Err-clause-not_beyond c).After-kinds-usable) in
+    not_beyond_start c.args.machine.now B.settled B.fits B.laws.search c.args.frame.now c.requires.lines.frame c.contain.new.self c.in-Err.ensures.frame c.args.window.now c.requires.window_fits c.in-Err.ensures.least

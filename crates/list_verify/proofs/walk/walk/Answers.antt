@@ -17,6 +17,7 @@ use Rattle.list_verify.proofs.Chains.{slice_get-at}
 use Rattle.list_verify.proofs.Edges.{next-before, more-length}
 use Rattle.list_verify.proofs.Ended.{not-more, tells}
 use Rattle.list_verify.proofs.Sides.{sides-start}
+use Rattle.window_cover.specs.Windows.{IsLeastEnough}
 use Rattle.list_verify.proofs.walk.walk.Given.{Over}
 use Rattle.list_verify.proofs.walk.walk.Goals.{After-kinds-usable}
 use Rattle.list_verify.proofs.walk.walk.Goals as goal
@@ -121,3 +122,11 @@ pub cross_edges-requires-clause-sides : goal.cross_edges-requires-clause-sides
 cross_edges-requires-clause-sides g c =
     subst (λ (k : FrameValue). AreSides (tiling_of c.args.machine.now) k c.args.window.now c.args.lines.now c.loop-place.found.lines.items c.loop-place.found.crossed.marks.items) (sym c.loop-place.invariant.0)
     c.loop-place.invariant.4
+
+pub returns-in-Err-cross_edges-clause-not_beyond : goal.returns-in-Err-cross_edges-clause-not_beyond
+returns-in-Err-cross_edges-clause-not_beyond g c =
+    subst (λ (k : FrameValue). (n : ℕ) → IsLeastEnough (tiling_of c.args.machine.now) k c.args.window.now n → length c.cross_edges.new.frame.digits ≤ n) c.loop-place.invariant.0
+    c.in-Err-cross_edges.ensures.not_beyond
+
+pub returns-clause-not_beyond : goal.returns-clause-not_beyond
+returns-clause-not_beyond g c = λ n enough. subst (λ (k : FrameValue). length k.digits ≤ n) (sym c.loop-place.invariant.0) enough.not_below

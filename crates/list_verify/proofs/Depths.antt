@@ -1,0 +1,39 @@
+-- How deep a frame becomes by lines, and what is enough for them.
+use Rattle.std.proofs.Common.{◌≡◌, ℕ, ◌≤◌, List, length, Ok, Result, sym, ◌∙◌, subst, arith}
+use Rattle.addressing.specs.Address.{Address}
+use Rattle.cyclo_points.specs.Order.{points_of}
+use Rattle.lazy_walk.specs.Ancestors.{full}
+use Rattle.lazy_walk.specs.Frames.{FrameValue, GrowsTo}
+use Rattle.lazy_walk.proofs.Ancestors.{full-later}
+use Rattle.listing_text.specs.Listing.{Entry, listing_in}
+use Rattle.listings.proofs.FrameLines.{deepest-first}
+use Rattle.plane_geom.specs.declared.window.Window.{Window}
+use Rattle.rule_model.specs.Tiling.{Tiling, children}
+use Rattle.windows.specs.FrameWindow.{IsLeastDepth}
+use Rattle.window_cover.specs.Windows.{box_of, IsLeastEnough}
+use Rattle.list_verify.specs.Depth.{IsEnoughListed}
+use Rattle.list_verify.specs.Lifted.{deepest_entry}
+use Rattle.list_verify.specs.Listing.{tiles_listed}
+
+ok-same : {T E : Type 0} (x y : T) → ◌≡◌ {A = Result T E} (Ok x) (Ok y) → x ≡ y
+ok-same x y e = cc
+
+module _ (t : Tiling) (f : FrameValue) (w : Window) (text : List ℕ) (n : ℕ) (enough : IsEnoughListed t f w text n) where
+  -- the frame itself isn't deeper
+  pub frame-not_beyond : length f.digits ≤ n
+  frame-not_beyond = let l = deepest-first (length f.digits) (tiles_listed t enough.entries) in let k = enough.least.not_below in omega (arith, l, k)
+
+  module _ (entries : List Entry) (read : listing_in (children t) text ≡ Ok entries) where
+    same : enough.entries ≡ entries
+    same = ok-same enough.entries entries (sym enough.read ∙ read)
+
+    -- nor is it once it has grown to the lines
+    pub lines-not_beyond : deepest_entry t (length f.digits) entries ≤ n
+    lines-not_beyond = subst (λ es. deepest_entry t (length f.digits) es ≤ n) same enough.least.not_below
+
+    -- and n is the least enough depth from there
+    pub enough-grown : (g : FrameValue) → GrowsTo t f g → length g.digits ≡ deepest_entry t (length f.digits) entries → IsLeastEnough t g w n
+    enough-grown g grows deep =
+        subst (λ k. IsLeastDepth (points_of t.order) t.rule (full t g) (box_of t w) k n) (sym deep)
+        (subst (λ (a : Address). IsLeastDepth (points_of t.order) t.rule a (box_of t w) (deepest_entry t (length f.digits) entries) n) (sym (full-later t f g grows))
+        (subst (λ es. IsLeastDepth (points_of t.order) t.rule (full t f) (box_of t w) (deepest_entry t (length f.digits) es) n) same enough.least))
