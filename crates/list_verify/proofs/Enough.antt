@@ -13,6 +13,7 @@ use Rattle.lazy_walk.specs.Ancestors.{full}
 use Rattle.lazy_walk.specs.Boundary.{IsBoundaryEdge}
 use Rattle.lazy_walk.specs.Frames.{FrameValue, whole, at_depth, GrowsTo, lifted_at}
 use Rattle.lazy_walk.proofs.Ancestors.{full-later, level-same}
+use Rattle.lazy_walk.proofs.Crossings.{boundary-part}
 use Rattle.lazy_walk.proofs.InFull.{level-grown, by_tables}
 use Rattle.lazy_walk.proofs.Lifting.{IsTileOf-later}
 use Rattle.lazy_walk.proofs.Walks.{StillFits, later, at_depth-depth, whole-fits}
@@ -127,7 +128,8 @@ module _ (m : Rule) (settled : IsSettled m) (fits : StillFits (children (tiling_
         refute : IsInner P.real (TileOf t) (growing_frame P (is_refused m.order) T.rule F) n (line_of P T.rule u e) → ⊥
         refute x =
             let fine = (L.search.lifted T F all-names (is_refused m.order) n within x.0).0 x.2 in
-            absurd (L.last T (whole g) a e own-edge on.own on.part on.lies (is_refused m.order) fine.0 (record {
+            let at = boundary-part m fits f a are.frame (of-frame m settled fits L f w fit lines are numbers marks found i among) settled e edge g grows on in
+            absurd (L.last T (whole g) a e own-edge at.0 at.1 at.2 (is_refused m.order) fine.0 (record {
               of_patch = subst (λ y. IsAmong fine.0 (frame_tiles P T.rule y)) level-is fine.1;
               edge = x.1;
               among = subst (λ (y : TileOf t). IsAmong x.1 (edges (tile_polygon P T.rule (λ z. z) y))) fine.2 x.3;
