@@ -128,8 +128,8 @@ static DIGITS: [&str; 4] = ["0/0,", "1/0,", "2/0,", "3/0,"];
 /// What nine digits of a number to the base four count.
 static SCALES: [usize; 9] = [65_536, 16_384, 4_096, 1_024, 256, 64, 16, 4, 1];
 
-/// Puts a line of the chair's supertile of depth ten behind others: its first nine digits count in fours, the last of them
-/// fastest.
+/// Puts a line of the chair's supertile of depth ten behind others: its first nine digits count in fours, the
+/// last of them fastest.
 fn put_counted(listing: &mut String, number: usize) -> Result<(), AllocError> {
     listing.push_str("0 0 0,0,0,0 0:")?;
     for scale in &SCALES {

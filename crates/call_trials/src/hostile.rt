@@ -73,8 +73,8 @@ fn check_refused<R: Abort + AllocGlobal>(rt: &R, file: &str, cause: &str) -> Res
     check(rt, file, 3, "", note.as_str())
 }
 
-/// The chair's file with so many kinds like the chair: the children of each are of kind 0, or of the next kind, which
-/// is kind 0 behind the last.
+/// The chair's file with so many kinds like the chair. The children of each are of kind 0, or of the next kind,
+/// which is kind 0 behind the last.
 fn like_chairs(alloc: Global, count: usize, of_next: bool) -> Result<String, AllocError> {
     let mut file = format!(in alloc; "{HEAD}{TYPE}")?;
     for kind in 1..=count {

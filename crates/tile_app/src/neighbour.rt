@@ -33,8 +33,8 @@ fn neighbour_line(alloc: Global, across: &Address, edge: u8) -> Result<String, A
     format!(in alloc; "{across} {edge}\n")
 }
 
-/// What `neighbour` prints for right words, or its refusal. The crossing counts its look-ups in `steps`: at most twice the
-/// depth plus two, so at most 130, since an address has at most 64 digits.
+/// What `neighbour` prints for right words, or its refusal. The crossing counts its look-ups in `steps`: at most
+/// twice the depth plus two, so at most 130, since an address has at most 64 digits.
 pub fn neighbour_text<L: Ledger>(
     alloc: Global,
     machine: &Machine,
