@@ -94,11 +94,11 @@ module _ (m : Rule) (settled : IsSettled m) (fits : StillFits (children (tiling_
     answered_first c none within (Ok y) why = inr refl
     answered_first c none within (Err (DepthLimit addr edge)) why = absurd why
     answered_first c none within (Err (CoordLimit value)) why = let k : true ≡ false = sym why.1 ∙ kept-within within in cc
-    answered_first c none within (Err TooManyTiles) why = absurd (omega (arith, why, none))
+    answered_first c none within (Err TooManyTiles) why = absurd (omega (arith, why.0, none))
     answered_first c none within (Err NoMemory) why = inl refl
 
     pub cause_first : (c : Working) → length c.found ≡ 0 → (fault : CoverFault) → IsNotAdmitted t c tile fault → HasCause t f g w fault
     cause_first c none (DepthLimit addr edge) why = absurd why
     cause_first c none (CoordLimit value) why = inr (refused-first value why.0 why.1)
-    cause_first c none TooManyTiles why = absurd (omega (arith, why, none))
+    cause_first c none TooManyTiles why = absurd (omega (arith, why.0, none))
     cause_first c none NoMemory why = tt

@@ -5,7 +5,7 @@ use Rattle.std.specs.Result.{IsOk}
 use Rattle.std.proofs.Math.ListN.{length-map}
 use Rattle.addressing.specs.Address.{Address, depth}
 use Rattle.addressing.specs.Search.{IsAmong}
-use Rattle.addressing.proofs.Lists.{AllByRecursion-among, AllByRecursion-append, AllByRecursion-from}
+use Rattle.addressing.proofs.Lists.{AllByRecursion-among, AllByRecursion-append, AllByRecursion-from, IsAmong-map}
 use Rattle.cyclo_points.specs.declared.point.Point.{Point}
 use Rattle.cyclo_points.specs.Order.{points_of, is_refused}
 use Rattle.cyclo_points.specs.Point.{point_in, IsOf}
@@ -144,7 +144,7 @@ module _ (m : Rule) (settled : IsSettled m) (fits : StillFits (children (tiling_
         at_result (Ok y) why kept room = inr refl
         at_result (Err (DepthLimit addr edge)) why kept room = absurd why
         at_result (Err (CoordLimit value)) why kept room = let k : true ≡ false = sym why.1 ∙ kept in cc
-        at_result (Err TooManyTiles) why kept room = absurd (omega (arith, why, room))
+        at_result (Err TooManyTiles) why kept room = absurd (omega (arith, why.0, room))
         at_result (Err NoMemory) why kept room = inl refl
 
     own_depth : IsOfDepth P.real (TileOf t) (growing t f) (length g.digits) u
@@ -168,8 +168,8 @@ module _ (m : Rule) (settled : IsSettled m) (fits : StillFits (children (tiling_
           is_refused = ap (is_refused m.order) shift ∙ r;
         }
 
-    too_many : most_tiles ≤ length c.found → AreTooMany t g c.window
-    too_many many =
+    too_many : most_tiles ≤ length c.found → is_refused m.order (point_in m.order tile.motion.shift) ≡ false → AreTooMany t g c.window
+    too_many many kept =
         let d : AllByRecursion Fine s.found = AllByRecursion-from Fine s.found (λ y i. fine-of y (
           AllByRecursion-among (λ z. IsAmong z (frame_tiles P T.rule F)) y s.found i right.state.of_patch,
           let l = AllByRecursion-among (λ (z : TileOf t). level_in F z.address ≤ length f.digits) y s.found i right.state.at_depth in omega (arith, l, h.no_shallower),
@@ -183,11 +183,20 @@ module _ (m : Rule) (settled : IsSettled m) (fits : StillFits (children (tiling_
           count = omega (arith, count, many, right.not_too_many);
           distinct = distinct-unmap (lifted_tile F) all.tiles (subst AreDistinct (sym all.lifts) (distinct-more s.found u right.state.distinct one.0.new));
           of_frame = all.each;
+          none_refused = AllByRecursion-from Unrefused all.tiles (λ y i. AllByRecursion-among Unrefused (lifted_tile F y) (s.found ++ u ∷ [])
+              (subst (IsAmong (lifted_tile F y)) all.lifts (IsAmong-map (lifted_tile F) y all.tiles i))
+              (AllByRecursion-append Unrefused s.found (u ∷ []) right.state.none_refused (own_kept, tt)));
         }
+      where
+        Unrefused : TileOf t → Type 0
+        Unrefused z = is_refused m.order z.motion.shift ≡ false
+
+        own_kept : Unrefused u
+        own_kept = sym (ap (λ k. is_refused m.order k.shift) (placed m settled fits L f g h c right first is_first x at tile back crossed)) ∙ kept
 
     pub cause_next : {U : Type 0} (r : Result U CoverFault) → IfErr r (IsNotAdmitted t c tile) → IfErr r (HasCause t f g c.window)
     cause_next (Ok y) why = tt
     cause_next (Err (DepthLimit addr edge)) why = absurd why
     cause_next (Err (CoordLimit value)) why = inr (refused-shift value why.0 why.1)
-    cause_next (Err TooManyTiles) why = too_many why
+    cause_next (Err TooManyTiles) why = too_many why.0 why.1
     cause_next (Err NoMemory) why = tt

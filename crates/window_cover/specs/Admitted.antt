@@ -30,9 +30,9 @@ pub record IsAdmitted (t : Tiling) (c d : Working) (tile : PlacedTile) : Type 0 
   pub are_corners : AreCorners t tile.kind tile.motion corners
   pub border : d.border ≡ left_open corners (length corners) c.border ++ opened t.order c.window (length c.found) corners (length corners) c.border
 
--- why it isn't: its shift is refused, or there are as many as the limit already
+-- why it isn't: its shift is refused; or it isn't, and there are as many as the limit already
 abbrev pub IsNotAdmitted : Tiling → Working → PlacedTile → CoverFault → Type 0
 IsNotAdmitted t c tile (DepthLimit addr edge) = ⊥
 IsNotAdmitted t c tile (CoordLimit value) = (value ≡ tile.motion.shift) × (is_refused t.order (point_in t.order tile.motion.shift) ≡ true)
-IsNotAdmitted t c tile TooManyTiles = most_tiles ≤ length c.found
+IsNotAdmitted t c tile TooManyTiles = (most_tiles ≤ length c.found) × (is_refused t.order (point_in t.order tile.motion.shift) ≡ false)
 IsNotAdmitted t c tile NoMemory = Unit {0}

@@ -1,5 +1,5 @@
 -- Why a window has no answer.
-use Rattle.std.specs.Prelude.{◌≡◌, ◌⊎◌, ℕ, suc, ◌<◌, true, Some, List, length}
+use Rattle.std.specs.Prelude.{◌≡◌, ◌⊎◌, ℕ, suc, ◌<◌, true, false, Some, List, length}
 use Rattle.std.specs.List.{AllByRecursion}
 use Rattle.substitution.specs.RuleParts.{edge_count}
 use Rattle.cyclo_points.specs.declared.point.Point.{Point}
@@ -45,12 +45,13 @@ pub record IsRefusedShift (t : Tiling) (f : FrameValue) (w : Window) (value : Po
   pub value_in_order : IsOf t.order value
   pub is_refused : is_refused t.order tile.motion.shift ≡ true
 
--- one tile more than the limit is of the frame and meets the window
+-- one tile more than the limit is of the frame and meets the window, and none of these tiles has a refused shift
 pub record AreTooMany (t : Tiling) (f : FrameValue) (w : Window) : Type 0 where
   pub tiles : List (TileOf t)
   pub count : length tiles ≡ suc most_tiles
   pub distinct : AreDistinct tiles
   pub of_frame : AllByRecursion (λ x. IsOfFrame t f x × MeetsWindow t w x) tiles
+  pub none_refused : AllByRecursion (λ (x : TileOf t). is_refused t.order x.motion.shift ≡ false) tiles
 
 -- the cause of each fault; the frame was f, and is g
 abbrev pub HasCause : Tiling → FrameValue → FrameValue → Window → CoverFault → Type 0

@@ -31,7 +31,7 @@ returns-then-number-ge-MOST_TILES-clause-cause c =
     let held = c.self.inside.found.ok in
     let count : c.len-number.result ≡ length c.self.inside.found.items = omega (arith, held, c.len-number.ensures) in
     let seen : length c.args.self.now.found ≡ length c.self.inside.found.items = ap (λ (v : CoverValue). length v.found) (sym c.self.view_is) ∙ length-map c.self.inside.found.items _ in
-    omega (arith, count, seen, c.if-number-ge-MOST_TILES.true)
+    (omega (arith, count, seen, c.if-number-ge-MOST_TILES.true), sym (c.refused.ensures.in_order c.args.machine.now.order c.requires.in_order) ∙ c.if-refused.false)
 
 pub returns-in_err-extend_from_slice-clause-admitted : goal.returns-in_err-extend_from_slice-clause-admitted
 returns-in_err-extend_from_slice-clause-admitted c = IfOk-from_err c.from_residual.result _ c.from_residual.ensures.0
