@@ -1,4 +1,5 @@
 pub mod InTurn
 pub mod Names
 pub mod Turning
+pub mod Beyond
 pub mod Ended

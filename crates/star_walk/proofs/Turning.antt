@@ -300,11 +300,11 @@ module _ (m : Rule) (settled : IsSettled m) (fits : StillFits (children (tiling_
       abbrev a : Address
       a = address_of last.tile.addr
 
-      own-edge : IsEdgeInFrame P T F a (its_edge t last)
+      pub own-edge : IsEdgeInFrame P T F a (its_edge t last)
       own-edge = subst (λ y. IsEdgeInFrame P T y a (its_edge t last)) same
           (record { frame = names m settled fits g now; tile = tile-full m settled fits g now a w.last_found.of_frame; edge_exists = edge-below })
 
-      on-part : (own : ℕ) × (part : ℕ) × LiesOnBoundary t (lifted_in F a) (its_edge t last) own part
+      pub on-part : (own : ℕ) × (part : ℕ) × LiesOnBoundary t (lifted_in F a) (its_edge t last) own part
       on-part = subst (λ y. (own : ℕ) × (part : ℕ) × LiesOnBoundary t (lifted_in y a) (its_edge t last) own part) same
           (boundary-part m fits g a now w.last_found.of_frame settled (its_edge t last) edge-below (at_depth t 64 g) (later t g 64 now now.at_most_64 (omega arith)) on)
 

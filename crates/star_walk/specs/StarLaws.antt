@@ -1,15 +1,18 @@
 -- The laws on which the turn rests.
 use Rattle.substitution.specs.Points.{Points, PointLaws}
-use Rattle.windows.specs.FrameSearch.{RenamedLaw, GluedCrossingLaw}
+use Rattle.windows.specs.FrameLaws.{LinesLaw}
+use Rattle.windows.specs.FrameSearch.{RenamedLaw, GluedCrossingLaw, LastBoundaryLaw}
 use Rattle.vertex_stars.specs.FrameStar.{SimpleFrameLaw, FrameNextLaw, FrameStarLaw, FrameCornersLaw, FrameBaseLaw, FrameBackLaw, TurnStopLaw}
-use Rattle.vertex_stars.specs.Laws.{AnswerLaw, WholeStarLaw, CountLaw}
+use Rattle.vertex_stars.specs.Laws.{AnswerLaw, OnwardLaw, WholeStarLaw, CountLaw}
 use Rattle.vertex_stars.specs.OnPolygon.{FrameOffLaw, FrameLeastLaw}
 
--- of points; of names and gluing in frames; and of the turn
+-- of points; of names, edges and gluing in frames; and of the turn
 pub record HasStarLaws (P : Points) : Type 0 where
   pub points : PointLaws P
   pub renamed : RenamedLaw P
+  pub lines : LinesLaw P
   pub glued : GluedCrossingLaw P
+  pub last : LastBoundaryLaw P
   pub simple : SimpleFrameLaw P
   pub next : FrameNextLaw P
   pub star : FrameStarLaw P
@@ -18,6 +21,7 @@ pub record HasStarLaws (P : Points) : Type 0 where
   pub back : FrameBackLaw P
   pub stop : TurnStopLaw P
   pub answers : AnswerLaw P
+  pub onward : OnwardLaw P
   pub whole : WholeStarLaw P
   pub count : CountLaw P
   pub off : FrameOffLaw P

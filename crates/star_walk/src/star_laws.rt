@@ -5,7 +5,7 @@ ghost use Rattle.star_walk.specs.StarLaws.{HasStarLaws};
 use cyclo_points::order::Order;
 use cyclo_points::points_law;
 use vertex_stars::{frame_base_law, frame_off_law, frame_star_law, star_law, star_refusal_law};
-use windows::frame_laws::{frame_crossing_law, frame_name_law};
+use windows::frame_laws::{frame_crossing_law, frame_edge_law, frame_name_law};
 
 /// The laws of the turn, for the points of each order.
 pub(crate) fn star_laws(order: Order)
@@ -13,6 +13,7 @@ pub(crate) fn star_laws(order: Order)
 {
     points_law(order);
     frame_name_law(order);
+    frame_edge_law(order);
     frame_crossing_law(order);
     frame_star_law(order);
     frame_base_law(order);

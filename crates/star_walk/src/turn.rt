@@ -47,6 +47,10 @@ impl Star {
 
         ensures frame { GrowsTo (tiling_of machine.now) frame.old frame.new }
 
+        // The frame is never deeper than is enough for the vertex, whatever is answered.
+        ensures not_beyond { (n : ℕ) → IsLeastEnough (tiling_of machine.now) frame.old vertex n
+            → length frame.new.digits ≤ n }
+
         // Exactly the tiles of the frame that have the vertex, each once, with its number there and in its place;
         // in turning order, and the last leads back to the base.
         ensures round { OnOk result (AreRound (tiling_of machine.now) frame.new vertex (map (corner_in machine.now.order) self.new.corners.items)) }
@@ -93,6 +97,10 @@ pub fn star<L: Ledger>(
 
     ensures frame { GrowsTo (tiling_of machine.now) frame.old frame.new }
 
+    // The frame is never deeper than is enough for the vertex, whatever is answered.
+    ensures not_beyond { (n : ℕ) → IsLeastEnough (tiling_of machine.now) frame.old vertex n
+        → length frame.new.digits ≤ n }
+
     // Exactly the tiles of the frame that have the vertex, each once, with its number there and in its place;
     // in turning order, and the last leads back to the base.
     ensures round { IfOk result (λ star. AreRound (tiling_of machine.now) frame.new vertex (map (corner_in machine.now.order) star.corners.items)) }
@@ -125,6 +133,8 @@ fn turn<L: Ledger>(
     requires frame { IsFrameOf (tiling_of machine.now) frame.old }
     requires vertex_exists { vertex < edges_of (tiling_of machine.now) frame.old.base.kind }
     ensures frame { GrowsTo (tiling_of machine.now) frame.old frame.new }
+    ensures not_beyond { (n : ℕ) → IsLeastEnough (tiling_of machine.now) frame.old vertex n
+        → length frame.new.digits ≤ n }
     ensures turned { OnOk result (HasTurned (tiling_of machine.now) frame.old frame.new vertex corners.new.items) }
     ensures cause { IfErr result (λ fault. HasCause (tiling_of machine.now) frame.new vertex fault) }
     ensures answered { IsWithinLimits (tiling_of machine.now) frame.old vertex → IsOk result }

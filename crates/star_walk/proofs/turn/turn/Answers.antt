@@ -8,6 +8,7 @@ use Rattle.star_walk.specs.Found.{IsOnTheWay}
 use Rattle.lazy_walk.proofs.Brought.{Brings, brought}
 use Rattle.star_walk.specs.StarLaws.{HasStarLaws}
 use Rattle.lazy_walk.proofs.Outcomes.{if_err-is}
+use Rattle.star_walk.proofs.Beyond.{not_beyond-way, not_beyond-turned, never-enough}
 use Rattle.star_walk.proofs.Turning.{started, last-exists, ended, stepped, too_big, not_too_big, limited, not_limited}
 use Rattle.star_walk.proofs.turn.turn.Given.{Over}
 use Rattle.star_walk.proofs.turn.turn.Goals.{After-base_tile, After-push}
@@ -63,12 +64,32 @@ returns-in_err-step_round-clause-cause g c =
     c.step_round.new.frame c.in_err-step_round.ensures.frame c.in_err-step_round.ensures.deepest_at_limit (c.in_err-step_round.ensures.limit_exactly.0 refl) limit.addr limit.edge
     c.in_err-step_round.ensures.limit_tile c.in_err-step_round.ensures.limit_edge)
 
+pub returns-in_err-step_round-clause-not_beyond : goal.returns-in_err-step_round-clause-not_beyond
+returns-in_err-step_round-clause-not_beyond g c =
+    let p = (goal.at.returns-in_err-step_round-clause-not_beyond g c).After-push in
+    let B = brings g ((goal.at.returns-in_err-step_round-clause-not_beyond g c).After-base_tile) in
+    λ n enough. absurd (never-enough c.args.machine.now B.settled B.fits B.laws c.args.frame.now
+    c.requires.frame c.args.vertex c.requires.vertex_exists c.loop-frame.frame c.push.new.self.items c.loop-frame.corner (way g p)
+    c.step_round.new.frame c.in_err-step_round.ensures.frame c.in_err-step_round.ensures.deepest_at_limit
+    (c.in_err-step_round.ensures.limit_exactly.0 refl) n enough)
+
 pub returns-in_err-step_round-clause-answered : goal.returns-in_err-step_round-clause-answered
 returns-in_err-step_round-clause-answered g c =
     let p = (goal.at.returns-in_err-step_round-clause-answered g c).After-push in
     let B = brings g ((goal.at.returns-in_err-step_round-clause-answered g c).After-base_tile) in
     λ limits. absurd (not_limited c.args.machine.now B.settled B.fits B.laws c.args.frame.now c.requires.frame c.args.vertex c.requires.vertex_exists c.loop-frame.frame c.push.new.self.items c.loop-frame.corner (way g p)
     c.step_round.new.frame c.in_err-step_round.ensures.frame c.in_err-step_round.ensures.deepest_at_limit (c.in_err-step_round.ensures.limit_exactly.0 refl) limits)
+
+pub returns-then-is_base-clause-not_beyond : goal.returns-then-is_base-clause-not_beyond
+returns-then-is_base-clause-not_beyond g c =
+    let p = (goal.at.returns-then-is_base-clause-not_beyond g c).After-push in
+    let B = brings g ((goal.at.returns-then-is_base-clause-not_beyond g c).After-base_tile) in
+    not_beyond-turned c.args.machine.now B.settled B.fits B.laws c.args.frame.now
+    c.requires.frame c.args.vertex c.requires.vertex_exists c.step_round.new.frame c.push.new.self.items
+    (ended c.args.machine.now B.settled B.fits B.laws c.args.frame.now
+    c.requires.frame c.args.vertex c.requires.vertex_exists c.loop-frame.frame c.push.new.self.items c.loop-frame.corner (way g p)
+    c.step_round.new.frame c.in_ok-step_round.ensures.frame c.step_round.new.corner c.in_ok-step_round.ensures.crossed
+    (c.is_base.ensures.0 c.if-is_base.true) (count g p))
 
 pub returns-then-is_base-clause-turned : goal.returns-then-is_base-clause-turned
 returns-then-is_base-clause-turned g c =
@@ -83,6 +104,17 @@ returns-then-len-eq64-clause-cause g c =
     let B = brings g ((goal.at.returns-then-len-eq64-clause-cause g c).After-base_tile) in
     too_big c.args.machine.now B.settled B.fits B.laws c.args.frame.now c.requires.frame c.args.vertex c.requires.vertex_exists c.loop-frame.frame c.push.new.self.items c.loop-frame.corner (way g p)
     c.step_round.new.frame c.in_ok-step_round.ensures.frame c.step_round.new.corner c.in_ok-step_round.ensures.crossed (λ e. absurd (cc (sym c.if-is_base.false ∙ c.is_base.ensures.1 e))) (sym c.len.ensures.value ∙ c.if-len-eq64.true)
+
+pub returns-then-len-eq64-clause-not_beyond : goal.returns-then-len-eq64-clause-not_beyond
+returns-then-len-eq64-clause-not_beyond g c =
+    let p = (goal.at.returns-then-len-eq64-clause-not_beyond g c).After-push in
+    let B = brings g ((goal.at.returns-then-len-eq64-clause-not_beyond g c).After-base_tile) in
+    not_beyond-way c.args.machine.now B.settled B.fits B.laws c.args.frame.now
+    c.requires.frame c.args.vertex c.requires.vertex_exists c.step_round.new.frame (c.push.new.self.items ++ c.step_round.new.corner ∷ []) c.step_round.new.corner
+    (stepped c.args.machine.now B.settled B.fits B.laws c.args.frame.now
+    c.requires.frame c.args.vertex c.requires.vertex_exists c.loop-frame.frame c.push.new.self.items c.loop-frame.corner (way g p)
+    c.step_round.new.frame c.in_ok-step_round.ensures.frame c.step_round.new.corner c.in_ok-step_round.ensures.crossed
+    (λ e. absurd (cc (sym c.if-is_base.false ∙ c.is_base.ensures.1 e))))
 
 pub returns-then-len-eq64-clause-answered : goal.returns-then-len-eq64-clause-answered
 returns-then-len-eq64-clause-answered g c =
