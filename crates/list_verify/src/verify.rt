@@ -66,8 +66,8 @@ pub fn verify(
 
     ensures frame { GrowsTo (tiling_of machine.now) frame.old frame.new }
 
-    // At Ok the frame has the greater of its depth and the greatest one of a line. It is never deeper than is enough for
-    // the window and the lines; and a text that cannot be read leaves it as it is.
+    // At Ok the frame has the greater of its depth and the greatest one of a line. It is never deeper than is
+    // enough for the window and the lines; and a text that cannot be read leaves it as it is.
     ensures depth { OnOk result (IsListedDepth (tiling_of machine.now) frame.old listing.now (length frame.new.digits)) }
     ensures not_beyond { (n : ℕ) → IsEnoughListed (tiling_of machine.now) frame.old window.now listing.now n → length frame.new.digits ≤ n }
     ensures unread { (fault : TextFault) → listing_in (children (tiling_of machine.now)) listing.now ≡ Err fault → frame.new ≡ frame.old }

@@ -52,8 +52,9 @@ pub record IsFound (t : Tiling) (f : FrameValue) (x : Found) : Type 0 where
   pub shift_within : IsWithin (2 ^ 24) x.motion.shift
   pub in_order : IsOf t.order x.motion.shift
 
--- The tiles found are of the frame and distinct, each in its place there, with no refused shift; each meets the window, and tile 0 holds its centre. The open
--- edges are, by tile and then edge, exactly those of their edges that meet the window and have no edge of these tiles for their reverse.
+-- The tiles found are of the frame and distinct, each in its place there, with no refused shift. Each meets the
+-- window, and tile 0 holds its centre. The open edges are, by tile and then edge, exactly those of their edges that
+-- meet the window and have no edge of these tiles for their reverse.
 pub record IsRight (t : Tiling) (f : FrameValue) (c : CoverValue) : Type 0 where
   pub frame : IsFrameOf t f
   pub window : IsWindow c.window

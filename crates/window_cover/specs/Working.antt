@@ -18,7 +18,7 @@ use Rattle.window_cover.specs.Packed.{ends_of, packed}
 use Rattle.window_cover.specs.Right.{growing, name_of, IsFound}
 use Rattle.window_cover.specs.Windows.{TileOf, IsWindow, box_of}
 
--- the window, the tiles in the order found, and the open edges by tile and then edge, each with its ends in words
+-- the window, the tiles in the order found, and the open edges by tile and then edge, with their ends in words
 pub record Working : Type 0 where
   pub window : Window
   pub found : List Found

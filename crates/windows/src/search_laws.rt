@@ -16,8 +16,8 @@ pub fn search_law(order: Order)
     ensures finish { FinishLaw (points_of order) }
 {}
 
-/// The law of open edges: a test of each edge finds them; each is the edge of its number of the tile of its number,
-/// and meets the window; and the new ones are found by comparing the new tile's edges with open edges alone.
+/// The law of open edges: a test of each edge finds them. Each is the edge of its number of the tile of its
+/// number, and meets the window. The new ones are found by comparing the new tile's edges with open edges alone.
 pub fn open_edge_law(order: Order)
     ensures tested { OpenTestLaw (points_of order) }
     ensures numbers { OpenNumberLaw (points_of order) }
