@@ -5,8 +5,8 @@ use Rattle.tile_place.specs.Crossed.{edges_of}
 use Rattle.tile_place.proofs.KindEdges.{edges_counted}
 use Rattle.tile_trials.proofs.stars.star_text.Goals as goal
 
-pub find-found-requires-clause-vertex_exists : goal.find-found-requires-clause-vertex_exists
-find-found-requires-clause-vertex_exists g c =
+pub star-found-requires-clause-vertex_exists : goal.star-found-requires-clause-vertex_exists
+star-found-requires-clause-vertex_exists g c =
     let vertex = c.args.vertex in
     let m = c.deref-3.result.now in
     let same = c.checked.ensures.rule ∙ c.deref-2.ensures ∙ sym c.deref-3.ensures in
