@@ -51,6 +51,15 @@ module _ (t : Tiling) (old now : FrameValue) (grows : GrowsTo t old now) (xs : L
     on_boundary = subst (λ (f : FrameValue). IsBoundaryEdge t (lifted_in (whole f) (address_of s.tile.addr)) s.edge) (at_depth-grown t old now n grows) s.on_boundary;
   }
 
+  -- what the frame has left behind is so for the tiles, where it has grown further for one of them alone
+  pub left-behind : ((n : ℕ) → length old.digits ≤ n → n < length now.digits → IsTooShallow t old xs n)
+      → (after : FrameValue) → ((n : ℕ) → length now.digits ≤ n → n < length after.digits → IsTooShallow t now (x ∷ []) n)
+      → (n : ℕ) → length old.digits ≤ n → n < length after.digits → IsTooShallow t old xs n
+  left-behind before after least n l h = elim (cases_lt n (length now.digits)) [
+    | inl k ↦ before n l k
+    | inr k ↦ shallow-of n (least n k h)
+  ]
+
   -- and the cause of its fault is one of theirs
   pub cause-of : (after : FrameValue) (fault : GlueFault) → HasGlueCause t now after (x ∷ []) fault → HasGlueCause t old after xs fault
   cause-of after (DepthLimit addr edge) h = record {
@@ -98,10 +107,7 @@ module _ (m : Rule) (L : HasGlueLaws m) (old now : FrameValue) (is : IsFrameOf (
     inside = subst (All (IsGluedInside t old (length after.digits))) (sym more)
         (All-push (IsGluedInside t old (length after.digits)) (take i xs) x kept (to_old (length after.digits) x inside));
     joined = subst (All (CanBeJoined t (full t old))) (sym more) (All-push (CanBeJoined t (full t old)) (take i xs) x before.joined (subst (λ y. CanBeJoined t y x) (full-later t old now before.grows) joined));
-    least = λ n l h. elim (cases_lt n (length now.digits)) [
-      | inl k ↦ before.least n l k
-      | inr k ↦ shallow-of t old now before.grows xs x among n (least n k h)
-    ];
+    least = left-behind t old now before.grows xs x among before.least after least;
   }
     where
       grows : GrowsTo t old after

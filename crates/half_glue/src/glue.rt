@@ -1,5 +1,5 @@
 //! Whole tiles.
-ghost use Rattle.std.specs.Prelude.{◌≡◌, ◌⊎◌, ◌<◌, ◌≤◌, length, IsOk, Err, IfOk, IfErr, OnOk};
+ghost use Rattle.std.specs.Prelude.{◌≡◌, ◌⊎◌, ◌<◌, ◌≤◌, ℕ, length, IsOk, Err, IfOk, IfErr, OnOk};
 ghost use Rattle.rule_model.specs.Tiling.{tiling_of};
 ghost use Rattle.lazy_walk.specs.Frames.{IsFrameOf, GrowsTo};
 ghost use Rattle.windows.specs.Limits.{most_tiles};
@@ -7,7 +7,7 @@ ghost use Rattle.half_glue.specs.declared.glue_fault.GlueFault.TheVariants.{NoMe
 ghost use Rattle.half_glue.specs.Given.{AreGiven};
 ghost use Rattle.half_glue.specs.WholeTiles.{AreWholeTilesOf};
 ghost use Rattle.half_glue.specs.InOrder.{AreInOrder};
-ghost use Rattle.half_glue.specs.Depth.{IsLeastForGlue};
+ghost use Rattle.half_glue.specs.Depth.{IsLeastForGlue, IsTooShallow};
 ghost use Rattle.half_glue.specs.Limits.{CanBeGlued};
 ghost use Rattle.half_glue.specs.Causes.{HasGlueCause};
 
@@ -48,6 +48,10 @@ pub fn glue(
     ensures in_order { IfOk result (λ wholes. AreInOrder wholes.items) }
     ensures least { OnOk result (IsLeastForGlue (tiling_of machine.now) frame.old tiles.now.items (length frame.new.digits)) }
 
+    // Whatever is answered, at each depth that the frame has left behind a tile given has its glue edge on the boundary.
+    ensures not_beyond { (n : ℕ) → length frame.old.digits ≤ n → n < length frame.new.digits
+        → IsTooShallow (tiling_of machine.now) frame.old tiles.now.items n }
+
     // Ok comes exactly where all can be glued, but for want of memory, and each fault only for its cause.
     ensures within { OnOk result (CanBeGlued (tiling_of machine.now) frame.old tiles.now.items) }
     ensures answered { CanBeGlued (tiling_of machine.now) frame.old tiles.now.items → (result ≡ Err NoMemory) ⊎ IsOk result }
@@ -74,6 +78,8 @@ fn glued<L: Ledger>(
     ensures whole_tiles { IfOk result (λ wholes. AreWholeTilesOf (tiling_of machine.now) frame.new tiles.now wholes.items) }
     ensures in_order { IfOk result (λ wholes. AreInOrder wholes.items) }
     ensures least { OnOk result (IsLeastForGlue (tiling_of machine.now) frame.old tiles.now (length frame.new.digits)) }
+    ensures not_beyond { (n : ℕ) → length frame.old.digits ≤ n → n < length frame.new.digits
+        → IsTooShallow (tiling_of machine.now) frame.old tiles.now n }
     ensures within { OnOk result (CanBeGlued (tiling_of machine.now) frame.old tiles.now) }
     ensures answered { CanBeGlued (tiling_of machine.now) frame.old tiles.now → (result ≡ Err NoMemory) ⊎ IsOk result }
     ensures cause { IfErr result (λ fault. HasGlueCause (tiling_of machine.now) frame.old frame.new tiles.now fault) }

@@ -1,11 +1,11 @@
 //! The whole tiles of tiles given, by numbers.
-ghost use Rattle.std.specs.Prelude.{◌≡◌, ◌⊎◌, ◌≤◌, length, Err, IsOk, IfOk, IfErr, OnOk};
+ghost use Rattle.std.specs.Prelude.{◌≡◌, ◌⊎◌, ◌<◌, ◌≤◌, ℕ, length, Err, IsOk, IfOk, IfErr, OnOk};
 ghost use Rattle.rule_model.specs.Tiling.{tiling_of};
 ghost use Rattle.lazy_walk.specs.Frames.{IsFrameOf, GrowsTo};
 ghost use Rattle.windows.specs.Limits.{most_tiles};
 ghost use Rattle.half_glue.specs.declared.glue_fault.GlueFault.TheVariants.{NoMemory};
 ghost use Rattle.half_glue.specs.Causes.{HasGlueCause};
-ghost use Rattle.half_glue.specs.Depth.{IsLeastForGlue};
+ghost use Rattle.half_glue.specs.Depth.{IsLeastForGlue, IsTooShallow};
 ghost use Rattle.half_glue.specs.Given.{AreGiven};
 ghost use Rattle.half_glue.specs.Limits.{CanBeGlued};
 ghost use Rattle.half_glue.specs.Pairs.{ArePairsOf};
@@ -38,6 +38,8 @@ pub(crate) fn paired<L: Ledger>(
     ensures frame { GrowsTo (tiling_of machine.now) frame.old frame.new }
     ensures paired { IfOk result (λ made. ArePairsOf (tiling_of machine.now) frame.new tiles.now made.crossed.items made.pairs.items) }
     ensures least { OnOk result (IsLeastForGlue (tiling_of machine.now) frame.old tiles.now (length frame.new.digits)) }
+    ensures not_beyond { (n : ℕ) → length frame.old.digits ≤ n → n < length frame.new.digits
+        → IsTooShallow (tiling_of machine.now) frame.old tiles.now n }
     ensures within { OnOk result (CanBeGlued (tiling_of machine.now) frame.old tiles.now) }
     ensures answered { CanBeGlued (tiling_of machine.now) frame.old tiles.now → (result ≡ Err NoMemory) ⊎ IsOk result }
     ensures cause { IfErr result (λ fault. HasGlueCause (tiling_of machine.now) frame.old frame.new tiles.now fault) }

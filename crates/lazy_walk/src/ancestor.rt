@@ -22,18 +22,18 @@ use tile_shape::step::Step;
 
 /// The base's ancestor at a level: a supertile of that depth.
 #[derive(Clone, Copy)]
-pub(crate) struct Ancestor {
+pub struct Ancestor {
     /// The level.
-    pub(crate) level: u8,
+    pub level: u8,
     /// The inflation factor to the power of the level.
-    pub(crate) power: Point,
+    pub power: Point,
     /// The ancestor's motion in the base's frame.
-    pub(crate) motion: Motion,
+    pub motion: Motion,
 }
 
 impl Ancestor {
     /// The base itself, which stands still.
-    pub(crate) fn base() -> Ancestor
+    pub fn base() -> Ancestor
         ensures level { result.level ≡ 0 }
         ensures base { (t : Tiling) (f : Address) → IsAncestor t f result }
     {

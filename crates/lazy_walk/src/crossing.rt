@@ -49,6 +49,7 @@ impl Frame {
             → IsBoundaryEdge (tiling_of machine.now) (lifted_at (tiling_of machine.now) self.old (address_of tile.now) n) edge }
         ensures limit_exactly { IsErr result ↔ IsBoundaryEdge (tiling_of machine.now) (lifted_at (tiling_of machine.now) self.old (address_of tile.now) 64) edge }
         ensures limit_tile { IfErr result (λ limit. address_of limit.addr ≡ lifted_at (tiling_of machine.now) self.old (address_of tile.now) 64) }
+        ensures deepest_at_limit { OnErr result (length self.new.digits ≡ 64) }
         ensures limit_edge { IfErr result (λ limit. limit.edge ≡ edge) }
     {
         let mut across = tile.copy();

@@ -1,5 +1,5 @@
 //! A base tile and the supertile round it.
-ghost use Rattle.std.specs.Prelude.{◌≡◌, ◌↔◌, ◌+◌, ◌<◌, ◌≤◌, length, map, max, Some, IsOk, OnOk, OnErr};
+ghost use Rattle.std.specs.Prelude.{◌≡◌, ◌↔◌, ◌+◌, ◌<◌, ◌≤◌, length, map, max, Some, IsOk, IfOk, OnOk, OnErr};
 ghost use Rattle.addressing.specs.Address.{depth, kind_at, Fits};
 ghost use Rattle.frames.specs.Frame.{lifted_in};
 ghost use Rattle.rule_model.specs.Tiling.{Tiling, tiling_of, children};
@@ -12,6 +12,7 @@ use seeded_growth::laws::{grown_fits_law, next_digit_law};
 use std::marker::Model;
 use tile_place::machine::Machine;
 use tile_shape::address::{Address, Full};
+use tile_shape::no_memory::NoMemory;
 use tile_shape::step::Step;
 
 /// A base address with the digits grown so far. Contracts see the base, the start number and all digits.
@@ -50,6 +51,20 @@ impl Frame {
             digits,
             growth: Growth::new(start),
         }
+    }
+
+    /// The same frame.
+    pub fn copy(&self) -> Result<Frame, NoMemory>
+        ensures { IfOk result (λ copy. copy ≡ self.now) }
+    {
+        let growth = self.growth.copy()?;
+        let mut digits = ArrayVec::new();
+        let _ = digits.try_extend_from_slice(self.digits.as_slice());
+        Ok(Frame {
+            base: self.base.copy(),
+            digits,
+            growth,
+        })
     }
 
     /// The base's own address.

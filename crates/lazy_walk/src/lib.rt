@@ -6,12 +6,12 @@
 //! a walk but at depth 64. The digits are those of a start number, whatever the walk. No call takes memory.
 #![tactic(auto)]
 
-mod ancestor;
+pub mod ancestor;
 pub mod contain;
 pub mod crossing;
 pub mod depth_limit;
 pub mod frame;
-mod outward;
+pub mod outward;
 pub mod path;
 pub mod path_fault;
 pub mod step;

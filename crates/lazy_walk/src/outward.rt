@@ -21,7 +21,7 @@ use tile_shape::step::Step;
 
 impl Frame {
     /// The kind of the base's ancestor at a level, which is one of the rule.
-    pub(crate) fn kind_of(&self, machine: &Machine, level: u8) -> u8
+    pub fn kind_of(&self, machine: &Machine, level: u8) -> u8
         requires frame { IsFrameOf (tiling_of machine.now) self.now }
         requires deep { level ≤ length self.now.digits }
         ensures kind { result ≡ top_kind (at_level (full (tiling_of machine.now) self.now) level) }
@@ -48,7 +48,7 @@ impl Frame {
 
     /// The next ancestor, to which the frame grows where it is shallower, or the first of its power of the
     /// inflation factor and its shift that is refused.
-    pub(crate) fn next_out(
+    pub fn next_out(
         &mut self,
         machine: &Machine,
         ancestor: &Ancestor,

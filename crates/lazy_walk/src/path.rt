@@ -30,7 +30,8 @@ impl Frame {
         ensures least { (n : ℕ) → length self.old.digits ≤ n → n < length self.new.digits
             → IsStopped (tiling_of machine.now) (whole (at_depth (tiling_of machine.now) n self.old)) path.now }
 
-        // It can be walked at depth 64 then too; and where there is a fault, it is one at depth 64.
+        // It can be walked at depth 64 then too; and where there is a fault, it is one at the new depth and at 64.
+        ensures fault { IfErr result (IsPathFault (tiling_of machine.now) (whole self.new) path.now) }
         ensures walked_at_64 { IfOk result (λ _. CanBeWalked (tiling_of machine.now) (whole (at_depth (tiling_of machine.now) 64 self.old)) path.now) }
         ensures fault_at_64 { IfErr result (IsPathFault (tiling_of machine.now) (whole (at_depth (tiling_of machine.now) 64 self.old)) path.now) }
     {

@@ -22,7 +22,7 @@ impl Frame {
     /// Goes across an edge of a tile in its place, and the frame grows until that edge is not on the boundary: the
     /// tile becomes the one across, in its place at that depth, and the answer is the edge that leads back. The
     /// tile may have the digits of any depth that the frame has had. It is refused exactly where the edge is on
-    /// the boundary at depth 64.
+    /// the boundary at depth 64. At a refusal the tile is the lifted one, in its old place.
     pub fn step_grow<L: Ledger>(
         &mut self,
         machine: &Machine,
@@ -45,6 +45,9 @@ impl Frame {
         ensures limit_exactly { IsErr result ↔ IsBoundaryEdge (tiling_of machine.now) (lifted_at (tiling_of machine.now) self.old (address_of tile.old.addr) 64) edge }
         ensures limit_tile { IfErr result (λ limit. address_of limit.addr ≡ lifted_at (tiling_of machine.now) self.old (address_of tile.old.addr) 64) }
         ensures limit_edge { IfErr result (λ limit. limit.edge ≡ edge) }
+        ensures lifted_at_limit { OnErr result (address_of tile.new.addr ≡ lifted_at (tiling_of machine.now) self.old (address_of tile.old.addr) 64) }
+        ensures same_place_at_limit { OnErr result (tile.new.motion ≡ tile.old.motion) }
+        ensures same_kind_at_limit { OnErr result (tile.new.kind ≡ tile.old.kind) }
         ensures deepest_at_limit { OnErr result (length self.new.digits ≡ 64) }
     {
         let checked = machine.checked();

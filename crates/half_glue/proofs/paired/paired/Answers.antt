@@ -10,7 +10,7 @@ use Rattle.half_glue.specs.Limits.{CanBeJoined}
 use Rattle.half_glue.specs.Pairs.{added_pairs}
 use Rattle.half_glue.proofs.Halves.{given-key}
 use Rattle.lazy_walk.proofs.Outcomes.{if_err-is}
-use Rattle.half_glue.proofs.SettledTiles.{cause-of, one-more}
+use Rattle.half_glue.proofs.SettledTiles.{left-behind, cause-of, one-more}
 use Rattle.half_glue.proofs.Taking.{ArePaired, all-on, paired-on, taken-too, all-paired}
 use Rattle.half_glue.proofs.paired.paired.Goals as goal
 
@@ -68,3 +68,24 @@ returns-clause-least g c = record {
 pub returns-clause-within : goal.returns-clause-within
 returns-clause-within g c =
     subst (All (CanBeJoined (tiling_of c.args.machine.now) (full (tiling_of c.args.machine.now) c.args.frame.now))) (take_all c.loop-number.number c.args.tiles.now c.loop-number-test.false) c.loop-number.invariant.0.joined
+
+pub returns-in_err-found-clause-not_beyond : goal.returns-in_err-found-clause-not_beyond
+returns-in_err-found-clause-not_beyond g c =
+    let tiles : List PlacedTile = c.args.tiles.now in
+    let i = c.loop-number.number in
+    let x = tile_of tiles i in
+    let settled = c.loop-number.invariant.0 in
+    left-behind (tiling_of c.args.machine.now) c.args.frame.now c.loop-number.frame settled.grows tiles x (i, c.loop-number-test.true, get_or_default tiles i x no_tile c.loop-number-test.true)
+    settled.least c.other_half.new.frame c.in_err-found.ensures.least
+
+pub returns-in_err-put-clause-not_beyond : goal.returns-in_err-put-clause-not_beyond
+returns-in_err-put-clause-not_beyond g c =
+    let tiles : List PlacedTile = c.args.tiles.now in
+    let i = c.loop-number.number in
+    let x = tile_of tiles i in
+    let settled = c.loop-number.invariant.0 in
+    left-behind (tiling_of c.args.machine.now) c.args.frame.now c.loop-number.frame settled.grows tiles x (i, c.loop-number-test.true, get_or_default tiles i x no_tile c.loop-number-test.true)
+    settled.least c.other_half.new.frame c.in_ok-found.ensures.least
+
+pub returns-clause-not_beyond : goal.returns-clause-not_beyond
+returns-clause-not_beyond g c = c.loop-number.invariant.0.least

@@ -11,7 +11,7 @@ use Rattle.tile_place.proofs.KindEdges.{edges_counted}
 use Rattle.tile_shape.specs.Views.{address_of}
 use Rattle.lazy_walk.specs.Frames.{FrameValue, whole, at_depth, lifted_at}
 use Rattle.lazy_walk.specs.Paths.{Leads, CanBeWalked, IsStopped, IsStoppedAt}
-use Rattle.lazy_walk.proofs.Walks.{GrowsTo-then}
+use Rattle.lazy_walk.proofs.Walks.{GrowsTo-is, GrowsTo-then}
 use Rattle.lazy_walk.proofs.Walked.{stops_before, laws_are, parted, whole-tile_of, tile_of-whole, base-lifted, IsOnPath, at_base, walked_at_64, comes_at_64, goes_on}
 use Rattle.lazy_walk.proofs.frame.Frame.grow_along.Goals as goal
 
@@ -58,6 +58,19 @@ returns-then-edge-edges-clause-fault_at_64 g c =
       beyond = c.if-edge-edges.true;
     }
 
+pub returns-then-edge-edges-clause-fault : goal.returns-then-edge-edges-clause-fault
+returns-then-edge-edges-clause-fault g c = record {
+  tile = address_of c.loop-edge.tile;
+  comes = record {
+    front = take c.loop-edge.edge-index c.args.path.now;
+    rest = drop (c.loop-edge.edge-index + 1) c.args.path.now;
+    split = parted c.args.path.now c.loop-edge.edge-index c.loop-edge-test.true;
+    leads = c.loop-edge.invariant.leads;
+  };
+  count = edges_counted c.tables.result.now c.checked-checked.result.now c.args.machine.now c.loop-edge.tile.kind c.edges-edges.result c.tables.ensures.contacts c.checked-checked.ensures.rule c.edges-edges.ensures.count;
+  beyond = c.if-edge-edges.true;
+}
+
 pub cross_grow_in_place-requires-clause-of_frame : goal.cross_grow_in_place-requires-clause-of_frame
 cross_grow_in_place-requires-clause-of_frame g c = whole-tile_of (children (tiling_of c.args.machine.now)) (whole c.loop-edge.self) (address_of c.loop-edge.tile) c.loop-edge.invariant.own
 
@@ -89,6 +102,15 @@ returns-in-Err-clause-fault_at_64 g c =
     } in
     subst (λ e. IsStoppedAt t at c.args.path.now (address_of c.in-Err.limit.addr) e) (sym c.in-Err.ensures.limit_edge)
     (subst (λ (a : Address). IsStoppedAt t at c.args.path.now a (get_or c.args.path.now c.loop-edge.edge-index 0)) (sym c.in-Err.ensures.limit_tile) here)
+
+pub returns-in-Err-clause-fault : goal.returns-in-Err-clause-fault
+returns-in-Err-clause-fault g c =
+    let t = tiling_of c.args.machine.now in
+    let old = c.args.self.now in
+    let new = c.cross_grow_in_place.new.self in
+    let grows = GrowsTo-then t old c.loop-edge.self new c.loop-edge.invariant.grows c.in-Err.ensures.frame in
+    let same : new ≡ at_depth t 64 old = GrowsTo-is t old new grows ∙ ap (λ n. at_depth t n old) c.in-Err.ensures.deepest_at_limit in
+    subst (λ (f : FrameValue). IsStoppedAt t (whole f) c.args.path.now (address_of c.in-Err.limit.addr) c.in-Err.limit.edge) (sym same) (returns-in-Err-clause-fault_at_64 g c)
 
 pub loop-edge-preserved : goal.loop-edge-preserved
 loop-edge-preserved g c =
