@@ -31,6 +31,11 @@ impl Draws {
 
     /// A window whose half extents are 1 to 6. The coefficients of its centre are at most so far from 0.
     pub fn window(&mut self, order: Order, far: u32) -> Window {
+        self.sized_window(order, far, 6)
+    }
+
+    /// The same with half extents from 1 to so many units.
+    pub fn sized_window(&mut self, order: Order, far: u32, most: u64) -> Window {
         let mut c = [self.round_0(far), self.round_0(far), 0, 0];
         match order {
             Order::Four | Order::Six => {}
@@ -41,8 +46,8 @@ impl Draws {
         }
         Window {
             centre: Point { c },
-            w: u16::try_from(self.below(6)).unwrap_or(0).wrapping_add(1),
-            h: u16::try_from(self.below(6)).unwrap_or(0).wrapping_add(1),
+            w: u16::try_from(self.below(most)).unwrap_or(0).wrapping_add(1),
+            h: u16::try_from(self.below(most)).unwrap_or(0).wrapping_add(1),
         }
     }
 

@@ -18,6 +18,7 @@ pub mod placing;
 pub mod points;
 pub mod small;
 pub mod supertile;
+pub mod two_ways;
 pub mod vertex_tiles;
 pub mod walks;
 pub mod window_tiles;

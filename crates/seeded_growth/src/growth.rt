@@ -1,5 +1,5 @@
 //! The stream of words that chooses digits.
-ghost use Rattle.std.specs.Prelude.{◌≡◌, ◌+◌, ◌<◌, ◌^◌, Some, length};
+ghost use Rattle.std.specs.Prelude.{◌≡◌, ◌+◌, ◌<◌, ◌^◌, Some, IfOk, length};
 ghost use Rattle.addressing.specs.Address.{child_kind};
 ghost use Rattle.frames.specs.Growth.{chosen};
 ghost use Rattle.tile_shape.specs.UsesInOrder.{uses_in_order};
@@ -9,6 +9,7 @@ ghost use Rattle.seeded_growth.specs.Words.{word};
 use rand_core::utils::NextWord;
 use rand_pcg::Pcg32;
 use std::marker::Model;
+use tile_shape::no_memory::NoMemory;
 use tile_shape::step::Step;
 use tile_shape::uses::Uses;
 
@@ -46,6 +47,18 @@ impl Growth {
             start,
             taken: 0,
         }
+    }
+
+    /// The same stream, of which as many words are taken.
+    pub fn copy(&self) -> Result<Growth, NoMemory>
+        ensures { IfOk result (λ copy. copy ≡ self.now) }
+    {
+        let generator = self.generator.clone()?;
+        Ok(Growth {
+            generator,
+            start: self.start,
+            taken: self.taken,
+        })
     }
 
     /// The next word.

@@ -20,7 +20,7 @@ abbrev pub key_cmp : OrderKey → OrderKey → Ordering
 key_cmp = (key_ord.ghosts).cmp
 
 -- ---- comparing numbers part by part
-carried : {P Q R S T U : Type 0} (o : Ordering) → MatchOrdering o P Q R → (P → S) → (Q → T) → (R → U) → MatchOrdering o S T U
+pub carried : {P Q R S T U : Type 0} (o : Ordering) → MatchOrdering o P Q R → (P → S) → (Q → T) → (R → U) → MatchOrdering o S T U
 carried Less m f g h = f m
 carried Equal m f g h = g m
 carried Greater m f g h = h m
@@ -34,17 +34,17 @@ raised-cmp x y v w = nat_cmp_is (raised_shift x) (raised_shift y) (int_cmp x y) 
 raised-below : (x : ℤ) → Within (2 ^ 24) x → raised_shift x < 2 ^ 26
 raised-below x w = let l = w.low in let h = w.high in omega (arith, ints, l, h)
 
-pos-cmp : (m n : ℕ) → int_cmp (pos m) (pos n) ≡ nat_cmp m n
+pub pos-cmp : (m n : ℕ) → int_cmp (pos m) (pos n) ≡ nat_cmp m n
 pos-cmp m n = nat_cmp_is m n (int_cmp (pos m) (pos n)) (carried (int_cmp (pos m) (pos n)) (int_ranks (pos m) (pos n)) (λ e. omega (arith, ints, e)) (λ e. omega (arith, ints, e)) (λ e. omega (arith, ints, e)))
 
 -- a number in two parts, the second below n
-parts-before : (n p q r s : ℕ) → p < r → q < n → p * n + q < r * n + s
+pub parts-before : (n p q r s : ℕ) → p < r → q < n → p * n + q < r * n + s
 parts-before n p q r s e f =
     let l : suc p * n ≤ r * n = mul-le-mul_right n (omega (arith, e)) in
     let k : suc p * n ≡ p * n + n = suc-mul p n in
     omega (arith, f, l, k)
 
-parts-cmp : (n a b c d : ℕ) → b < n → d < n → nat_cmp (a * n + b) (c * n + d) ≡ ordering_then (nat_cmp a c) (nat_cmp b d)
+pub parts-cmp : (n a b c d : ℕ) → b < n → d < n → nat_cmp (a * n + b) (c * n + d) ≡ ordering_then (nat_cmp a c) (nat_cmp b d)
 parts-cmp n a b c d v w = sym (nat_cmp_is (a * n + b) (c * n + d) (ordering_then (nat_cmp a c) (nat_cmp b d)) (at (nat_cmp a c) (nat_cmp b d) (ranked a c (nat_cmp a c) refl) (ranked b d (nat_cmp b d) refl)))
   where
     at : (o p : Ordering) → MatchOrdering o (a < c) (a ≡ c) (c < a) → MatchOrdering p (b < d) (b ≡ d) (d < b)
@@ -55,7 +55,7 @@ parts-cmp n a b c d v w = sym (nat_cmp_is (a * n + b) (c * n + d) (ordering_then
         let same : a * n ≡ c * n = ap (λ k. k * n) e in
         carried p f (λ l. omega (arith, same, l)) (λ l. omega (arith, same, l)) (λ l. omega (arith, same, l))
 
-then-assoc : (o p q : Ordering) → ordering_then (ordering_then o p) q ≡ ordering_then o (ordering_then p q)
+pub then-assoc : (o p q : Ordering) → ordering_then (ordering_then o p) q ≡ ordering_then o (ordering_then p q)
 then-assoc Less p q = refl
 then-assoc Equal p q = refl
 then-assoc Greater p q = refl
@@ -82,7 +82,7 @@ module _ (m n : Motion) (k l : ℕ) (fm : FitsKey m k) (fn : FitsKey n l) where
   cmp_at i = int_cmp (coefficient m.shift i) (coefficient n.shift i)
 
   -- the two words are compared as the six numbers
-  numbers-cmp : (i j : ℕ) → slice_cmp int_cmp (order_numbers m k) (order_numbers n l)
+  pub numbers-cmp : (i j : ℕ) → slice_cmp int_cmp (order_numbers m k) (order_numbers n l)
       ≡ ordering_then (nat_cmp (key_of m k i).high (key_of n l j).high) (nat_cmp (key_of m k i).low (key_of n l j).low)
   numbers-cmp i j = ap₂ spread (pos-cmp m.turn n.turn) (pos-cmp k l) ∙ sym (ap₂ ordering_then high low ∙ joined)
     where

@@ -15,7 +15,7 @@ use cyclo_points::product::mul;
 
 impl Machine {
     /// The powers of the inflation factor from 0 to a depth, or the first that is refused.
-    pub(crate) fn powers(&self, depth: u8) -> Result<ArrayVec<Point, 65>, CoordLimit>
+    pub fn powers(&self, depth: u8) -> Result<ArrayVec<Point, 65>, CoordLimit>
         requires at_most_64 { depth ≤ 64 }
         ensures powers { IfOk result (λ powers. map (point_in self.now.order) powers.items
             ≡ powers_from (points_of self.now.order) (rule_of self.now).factor 0 (depth + 1)) }

@@ -5,7 +5,7 @@ ghost use Rattle.cyclo_points.specs.Order.{points_of};
 ghost use Rattle.cyclo_points.specs.Point.{IsOf, IsWithin};
 ghost use Rattle.rule_model.specs.Tiling.{tiling_of};
 ghost use Rattle.rule_model.specs.Views.{rule_of};
-ghost use Rattle.tile_place.specs.Corners.{AreCorners};
+ghost use Rattle.tile_place.specs.Corners.{IsCorner, AreCorners};
 
 use crate::machine::Machine;
 use arrayvec::ArrayVec;
@@ -14,6 +14,20 @@ use cyclo_points::motion::Motion;
 use cyclo_points::point::Point;
 
 impl Machine {
+    /// Where a motion takes the vertex of this number of a kind.
+    #[inline]
+    pub fn corner(&self, kind: u8, motion: &Motion, number: usize) -> Point
+        requires exists { kind < length (rule_of self.now).kinds }
+        requires turn_below { motion.now.turn < (points_of self.now.order).order }
+        requires shift_within { IsWithin (2 ^ 24) motion.now.shift }
+        requires in_order { IsOf self.now.order motion.now.shift }
+        requires vertex_exists { number < edge_count (rule_of self.now) kind }
+        ensures { IsCorner (tiling_of self.now) kind motion.now number result }
+    {
+        let turned = self.turned_vertex(kind, motion.turn, number);
+        add(&turned, &motion.shift)
+    }
+
     /// Puts into `corners` where a motion takes the vertices of a kind.
     pub fn put_corners(&self, kind: u8, motion: &Motion, corners: &mut ArrayVec<Point, 12>)
         requires exists { kind < length (rule_of self.now).kinds }
@@ -25,8 +39,7 @@ impl Machine {
     {
         corners.clear();
         for number in 0..self.checked().vertices(kind).len() {
-            let turned = self.turned_vertex(kind, motion.turn, number);
-            corners.push(add(&turned, &motion.shift));
+            corners.push(self.corner(kind, motion, number));
         }
     }
 }

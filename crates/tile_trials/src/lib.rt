@@ -37,6 +37,8 @@ mod supertiles;
 #[cfg(test)]
 mod touching;
 #[cfg(test)]
+mod two_ways;
+#[cfg(test)]
 mod walks;
 #[cfg(test)]
 mod whole_tiles;

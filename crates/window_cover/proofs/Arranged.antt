@@ -1,5 +1,5 @@
 -- The tiles found, lifted and in order, are the answer.
-use Rattle.std.proofs.Common.{◌≡◌, All, ◌<◌, ◌≤◌, List, [], ◌∷◌, map, length, refl, sym, ap, ◌∙◌, subst}
+use Rattle.std.proofs.Common.{◌≡◌, ℕ, All, ◌<◌, ◌≤◌, List, [], ◌∷◌, map, length, refl, sym, ap, ap₂, ◌∙◌, subst}
 use Rattle.std.specs.List.{AllZip, AllByRecursion}
 use Rattle.std.specs.List.Sorted.{IsPermutation, IsSorted}
 use Rattle.std.proofs.lemmas.List.Elements.{All-from_recursion}
@@ -18,17 +18,18 @@ use Rattle.lazy_walk.specs.Frames.{FrameValue}
 use Rattle.lazy_walk.specs.Standing.{Stands}
 use Rattle.tile_place.specs.declared.order_key.OrderKey.{OrderKey}
 use Rattle.window_cover.specs.Checked.{IsChecked}
-use Rattle.window_cover.specs.Covered.{none, tile_of, placed_as, tiles_of, AreCovered}
+use Rattle.window_cover.specs.Covered.{none, placed_as, tiles_of, AreCovered}
 use Rattle.window_cover.specs.Found.{Found, CoverValue}
-use Rattle.window_cover.specs.InOrder.{AreInOrder, AreSorted}
-use Rattle.window_cover.specs.Keys.{HasKey, keys_from}
+use Rattle.window_cover.specs.InOrder.{AreInOrder, AreSorted, numbers_placed}
+use Rattle.windows.specs.Distinct.{AreDistinct}
+use Rattle.window_cover.specs.Keys.{HasKey, keys_from, AreOrdered}
 use Rattle.window_cover.specs.Lifted.{CanBeLifted, IsLifted}
 use Rattle.window_cover.specs.Right.{IsFound, IsRight}
 use Rattle.window_cover.specs.Packed.{packed}
 use Rattle.window_cover.specs.Windows.{AreDrawn, CoverWindow}
 use Rattle.window_cover.specs.Working.{working, IsWorking}
 use Rattle.window_cover.proofs.Finished.{HasLaws, all-stand, numbers-distinct, drawn, covered}
-use Rattle.window_cover.proofs.Keyed.{IsKey}
+use Rattle.window_cover.proofs.Keyed.{keyed_in, IsKey}
 use Rattle.tile_place.proofs.KeyOrder.{key_cmp}
 use Rattle.window_cover.proofs.Lifting.{zip-placed}
 use Rattle.window_cover.proofs.Shuffled.{AreShuffled, shuffled}
@@ -39,10 +40,6 @@ use Rattle.window_cover.proofs.Works.{works}
 pub right-lifted : (t : Tiling) (f : FrameValue) (c : CoverValue) → IsRight t f c → All (CanBeLifted f) c.found
 right-lifted t f c right = All-from_recursion (CanBeLifted f) c.found (AllByRecursion-each (IsFound t f) (CanBeLifted f) c.found (λ x h. h.of_frame.no_deeper) right.found)
 
--- the keys are those of the tiles found, in another order
-pub mixed : (found : List Found) (own ks : List OrderKey) → own ≡ keys_from 0 found → IsPermutation own ks → AreShuffled found ks
-mixed found own ks e p = shuffled found ks (subst (λ (xs : List OrderKey). IsPermutation xs ks) e p)
-
 zip-keys : {A B C : Type 0} (Q : A → Type 0) (R : B → C → Type 0) (S : A → C → Type 0) (g : A → B) (ks : List A) (ys : List C) → AllByRecursion Q ks → AllZip R (map g ks) ys
     → ((k : A) (y : C) → Q k → R (g k) y → S k y) → AllZip S ks ys
 zip-keys Q R S g [] [] q z h = tt
@@ -50,35 +47,49 @@ zip-keys Q R S g [] (y ∷ ys) q z h = absurd z
 zip-keys Q R S g (k ∷ ks) [] q z h = absurd z
 zip-keys Q R S g (k ∷ ks) (y ∷ ys) q z h = (h k y q.0 z.0, zip-keys Q R S g ks ys q.1 z.1 h)
 
-placed-keys : (above : List theory.Step) (found : List Found) (ks : List OrderKey) → map (placed_as above) (map (tile_of found) ks) ≡ tiles_of above found ks
+placed-keys : (above : List theory.Step) (found : List Found) (ks : List OrderKey) → map (placed_as above) (map (keyed_in found) ks) ≡ tiles_of above found (map (λ (k : OrderKey). k.number) ks)
 placed-keys above found [] = refl
-placed-keys above found (k ∷ ks) = ap (λ (ts : List PlacedTile). placed_as above (tile_of found k) ∷ ts) (placed-keys above found ks)
+placed-keys above found (k ∷ ks) = ap (λ (ts : List PlacedTile). placed_as above (keyed_in found k) ∷ ts) (placed-keys above found ks)
 
--- what the answer is made of: the tiles found, their keys in order, and the digits of the frame
-pub record IsArranged (f : FrameValue) (c : CoverValue) (found : List Found) (ks : List OrderKey) (above : List theory.Step) : Type 0 where
+numbers-below : (found : List Found) (ks : List OrderKey) → AllByRecursion (IsKey found) ks → AllByRecursion (λ n. n < length found) (map (λ (k : OrderKey). k.number) ks)
+numbers-below found [] h = tt
+numbers-below found (k ∷ ks) h = (h.0.below, numbers-below found ks h.1)
+
+-- what the answer is made of: the tiles found, their numbers in order, and the digits of the frame
+pub record IsArranged (f : FrameValue) (c : CoverValue) (found : List Found) (numbers : List ℕ) (above : List theory.Step) : Type 0 where
   pub seen : found ≡ c.found
   pub can_be_lifted : AllByRecursion (CanBeLifted f) c.found
   pub keyed : AllByRecursion HasKey c.found
-  pub mixed : AreShuffled c.found ks
-  pub sorted : IsSorted key_cmp ks
+  pub ordered : AreOrdered c.found numbers
   pub same : above ≡ f.digits
 
 -- what follows of its tiles
-module _ (f : FrameValue) (c : CoverValue) (found : List Found) (ks : List OrderKey) (above : List theory.Step) (are : IsArranged f c found ks above) where
+module _ (f : FrameValue) (c : CoverValue) (found : List Found) (numbers : List ℕ) (above : List theory.Step) (are : IsArranged f c found numbers above) where
   abbrev tiles : List PlacedTile
-  tiles = tiles_of above found ks
+  tiles = tiles_of above found numbers
 
-  zip : AllZip (IsLifted f) (map (tile_of c.found) ks) tiles
-  zip = subst (λ xs. AllZip (IsLifted f) (map (tile_of c.found) ks) (tiles_of above xs ks)) (sym are.seen) (zip-placed f above are.same c.found ks)
+  -- the keys of the tiles in order
+  abbrev ks : List OrderKey
+  ks = are.ordered.keys
+
+  mixed : AreShuffled c.found ks
+  mixed = shuffled c.found ks are.ordered.same
+
+  tiles-keyed : tiles_of above c.found (map (λ (k : OrderKey). k.number) ks) ≡ tiles
+  tiles-keyed = ap₂ (tiles_of above) (sym are.seen) (sym are.ordered.numbered)
+
+  zip : AllZip (IsLifted f) (map (keyed_in c.found) ks) tiles
+  zip = subst (AllZip (IsLifted f) (map (keyed_in c.found) ks)) tiles-keyed (zip-placed f above are.same c.found ks)
 
   all-keyed : AllZip (IsKeyed f) ks tiles
-  all-keyed = zip-keys (IsKey c.found) (IsLifted f) (IsKeyed f) (tile_of c.found) ks tiles are.mixed.keys zip (λ k a h l.
-      let i : IsAmong (tile_of c.found k) c.found = place-among (tile_of c.found k) c.found k.number (slice_get-get_or c.found k.number none h.below) in
-      record { tile = tile_of c.found k; lifted = l; has_key = AllByRecursion-among HasKey (tile_of c.found k) c.found i are.keyed; key = h.is })
+  all-keyed = zip-keys (IsKey c.found) (IsLifted f) (IsKeyed f) (keyed_in c.found) ks tiles mixed.keys zip (λ k a h l.
+      let i : IsAmong (keyed_in c.found k) c.found = place-among (keyed_in c.found k) c.found k.number (slice_get-get_or c.found k.number none h.below) in
+      record { tile = keyed_in c.found k; lifted = l; has_key = AllByRecursion-among HasKey (keyed_in c.found k) c.found i are.keyed; key = h.is })
 
-  pub arranged-fit : AreCovered above found ks
+  pub arranged-fit : AreCovered above found numbers
   arranged-fit = record {
-    numbered = subst (λ xs. AllByRecursion (λ (k : OrderKey). k.number < length xs) ks) (sym are.seen) (AllByRecursion-each (IsKey c.found) (λ (k : OrderKey). k.number < length c.found) ks (λ k h. h.below) are.mixed.keys);
+    numbered = subst (λ ns. AllByRecursion (λ n. n < length found) ns) (sym are.ordered.numbered)
+        (subst (λ (xs : List Found). AllByRecursion (λ n. n < length xs) (map (λ (k : OrderKey). k.number) ks)) (sym are.seen) (numbers-below c.found ks mixed.keys));
     no_deeper = subst (λ xs. AllByRecursion (λ (x : Found). length x.digits ≤ length above) xs) (sym are.seen)
         (subst (λ ds. AllByRecursion (λ (x : Found). length x.digits ≤ length ds) c.found) (sym are.same) are.can_be_lifted);
   }
@@ -86,14 +97,18 @@ module _ (f : FrameValue) (c : CoverValue) (found : List Found) (ks : List Order
   pub arranged-lifted : IsPermutation (map (placed_as f.digits) c.found) tiles
   arranged-lifted =
       subst (λ ds. IsPermutation (map (placed_as ds) c.found) tiles) are.same
-      (subst (λ xs. IsPermutation (map (placed_as above) c.found) (tiles_of above xs ks)) (sym are.seen)
-      (subst (IsPermutation (map (placed_as above) c.found)) (placed-keys above c.found ks) (IsPermutation-map (placed_as above) c.found (map (tile_of c.found) ks) are.mixed.tiles)))
+      (subst (IsPermutation (map (placed_as above) c.found)) (placed-keys above c.found ks ∙ tiles-keyed)
+      (IsPermutation-map (placed_as above) c.found (map (keyed_in c.found) ks) mixed.tiles))
 
   pub arranged-sorted : AreSorted tiles
-  arranged-sorted = in-sorted f ks tiles all-keyed are.sorted
+  arranged-sorted = in-sorted f ks tiles all-keyed are.ordered.sorted
 
   pub arranged-as_many : length tiles ≡ length c.found
-  arranged-as_many = AllZip-long (IsLifted f) (map (tile_of c.found) ks) tiles zip ∙ length_permutation c.found (map (tile_of c.found) ks) are.mixed.tiles
+  arranged-as_many = AllZip-long (IsLifted f) (map (keyed_in c.found) ks) tiles zip ∙ length_permutation c.found (map (keyed_in c.found) ks) mixed.tiles
+
+  -- where no two are of one place and kind
+  pub arranged-distinct : AreDistinct (map numbers_placed tiles) → AreInOrder tiles
+  arranged-distinct d = in-order f ks tiles all-keyed are.ordered.sorted d
 
   -- where the state is right
   module _ (laws : (m : Rule) → IsChecked m → HasLaws m) (r : Rule) (checked : IsChecked r) (right : IsRight (tiling_of r) f c) where
@@ -101,13 +116,13 @@ module _ (f : FrameValue) (c : CoverValue) (found : List Found) (ks : List Order
     work = works (tiling_of r) (laws r checked).open_test f c right
 
     pub arranged-drawn : c.border ≡ [] → AreDrawn (tiling_of r) f c.window (map (placed_in r.order) tiles)
-    arranged-drawn closed = drawn r (laws r checked) f (working c) work ks are.mixed tiles zip (ap (map packed) closed)
+    arranged-drawn closed = drawn r (laws r checked) f (working c) work ks mixed tiles zip (ap (map packed) closed)
 
     pub arranged-covered : c.border ≡ [] → CoverWindow (tiling_of r) f c.window (map (placed_in r.order) tiles)
-    arranged-covered closed = covered r (laws r checked) f (working c) work ks are.mixed tiles zip (ap (map packed) closed)
+    arranged-covered closed = covered r (laws r checked) f (working c) work ks mixed tiles zip (ap (map packed) closed)
 
     pub arranged-stand : All (Stands (tiling_of r) f) tiles
-    arranged-stand = All-from_recursion (Stands (tiling_of r) f) tiles (all-stand r (laws r checked) f (working c) work ks are.mixed tiles zip)
+    arranged-stand = All-from_recursion (Stands (tiling_of r) f) tiles (all-stand r (laws r checked) f (working c) work ks mixed tiles zip)
 
     pub arranged-in_order : AreInOrder tiles
-    arranged-in_order = in-order f ks tiles all-keyed are.sorted (numbers-distinct r (laws r checked) f (working c) work ks are.mixed tiles zip)
+    arranged-in_order = in-order f ks tiles all-keyed are.ordered.sorted (numbers-distinct r (laws r checked) f (working c) work ks mixed tiles zip)

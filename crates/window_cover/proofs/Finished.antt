@@ -57,10 +57,11 @@ use Rattle.window_cover.specs.Lifted.{IsLifted}
 use Rattle.window_cover.specs.Right.{name_of, IsFound}
 use Rattle.window_cover.specs.Windows.{TileOf, box_of, AreDrawn, CoverWindow}
 use Rattle.window_cover.proofs.Distinct.{distinct-by}
-use Rattle.window_cover.specs.Covered.{tile_of}
+use Rattle.window_cover.proofs.Keyed.{keyed_in}
 use Rattle.window_cover.specs.Working.{Working, state_of, IsEdgeWaiting, IsWorking}
 use Rattle.window_cover.proofs.Shuffled.{AreShuffled, keyed-distinct, permuted-members}
-use Rattle.window_cover.proofs.Sorted.{numbers_of, numbers_placed, lifted-numbers}
+use Rattle.window_cover.specs.InOrder.{numbers_placed}
+use Rattle.window_cover.proofs.Sorted.{numbers_of, lifted-numbers}
 
 map-same : {A B : Type 0} (f g : A → B) (xs : List A) → ((x : A) → IsAmong x xs → f x ≡ g x) → map f xs ≡ map g xs
 map-same f g [] h = refl
@@ -84,7 +85,7 @@ none-waiting R [] [] z e = refl
 none-waiting R [] (y ∷ ys) z e = absurd z
 none-waiting R (x ∷ xs) ys z e = absurd (cc e)
 
-abbrev quad_at : List ℤ → Quad ℤ
+abbrev pub quad_at : List ℤ → Quad ℤ
 quad_at ns = record { a0 = get_or ns 0 (pos 0); a1 = get_or ns 1 (pos 0); a2 = get_or ns 2 (pos 0); a3 = get_or ns 3 (pos 0) }
 
 -- the laws that are used, over the points of an order
@@ -229,7 +230,7 @@ module _ (m : Rule) (laws : HasLaws m) (f : FrameValue) (c : Working) (right : I
   -- ---- the tiles, in the order of keys
   module _ (ks : List OrderKey) (mixed : AreShuffled c.found ks) where
     abbrev ys : List Found
-    ys = map (tile_of c.found) ks
+    ys = map (keyed_in c.found) ks
 
     from-found : (x : Found) → IsAmong x ys → IsAmong x c.found
     from-found x i = (permuted-members c.found ys mixed.tiles x).1 i

@@ -18,26 +18,30 @@ keys-more n m (suc k) (x ∷ xs) key e l h =
     ap (λ (ks : List OrderKey). key_of x.motion x.kind n ∷ ks) (keys-more (suc n) m k xs key (omega (arith, e)) (omega arith) h)
 
 -- ---- by number
+-- the tile of a key
+abbrev pub keyed_in : List Found → OrderKey → Found
+keyed_in found k = tile_of found k.number
+
 -- a key is the one of its tile, which is there
 pub record IsKey (found : List Found) (key : OrderKey) : Type 0 where
   pub below : key.number < length found
-  pub is : key ≡ key_of (tile_of found key).motion (tile_of found key).kind key.number
+  pub is : key ≡ key_of (keyed_in found key).motion (keyed_in found key).kind key.number
 
-below-behind : {A : Type 0} (xs : List A) (y : A) (ys : List A) → length xs < length (xs ++ y ∷ ys)
+pub below-behind : {A : Type 0} (xs : List A) (y : A) (ys : List A) → length xs < length (xs ++ y ∷ ys)
 below-behind [] y ys = omega arith
 below-behind (x ∷ xs) y ys = let l = below-behind xs y ys in omega (arith, l)
 
-length-one_more : {A : Type 0} (xs : List A) (y : A) → length (xs ++ y ∷ []) ≡ suc (length xs)
+pub length-one_more : {A : Type 0} (xs : List A) (y : A) → length (xs ++ y ∷ []) ≡ suc (length xs)
 length-one_more [] y = refl
 length-one_more (x ∷ xs) y = ap suc (length-one_more xs y)
 
-assoc : {A : Type 0} (xs : List A) (y : A) (ys : List A) → (xs ++ y ∷ []) ++ ys ≡ xs ++ y ∷ ys
+pub assoc : {A : Type 0} (xs : List A) (y : A) (ys : List A) → (xs ++ y ∷ []) ++ ys ≡ xs ++ y ∷ ys
 assoc [] y ys = refl
 assoc (x ∷ xs) y ys = ap (λ zs. x ∷ zs) (assoc xs y ys)
 
 -- what holds of the keys of tiles behind others
 record AreBehind (all : List Found) (n : ℕ) (xs : List Found) : Type 0 where
-  tiles : map (tile_of all) (keys_from n xs) ≡ xs
+  tiles : map (keyed_in all) (keys_from n xs) ≡ xs
   keys : AllByRecursion (IsKey all) (keys_from n xs)
 
 behind : (front xs all : List Found) (n : ℕ) → front ++ xs ≡ all → length front ≡ n → AreBehind all n xs
@@ -52,7 +56,7 @@ behind front (x ∷ xs) all n e l =
     }
 
 -- the tiles of the keys of all tiles are all tiles
-pub keys-tiles : (found : List Found) → map (tile_of found) (keys_from 0 found) ≡ found
+pub keys-tiles : (found : List Found) → map (keyed_in found) (keys_from 0 found) ≡ found
 keys-tiles found = (behind [] found found 0 refl refl).tiles
 
 pub keys-are : (found : List Found) → AllByRecursion (IsKey found) (keys_from 0 found)

@@ -10,8 +10,15 @@ mod SamePoints
 mod Lifting
 mod Keyed
 mod Distinct
+mod PartLists
+mod PartSteps
+mod Permuted
+mod FoundBelow
+mod Descended
 mod Shuffled
 mod Sorted
+mod WordOrder
+mod Words
 mod Finished
 mod Arranged
 mod Searches
@@ -20,7 +27,6 @@ mod Stepped
 mod Ended
 mod Outcomes
 mod BoxTests
-mod Insides
 mod NewEdges
 mod Keeping
 mod OwnLines

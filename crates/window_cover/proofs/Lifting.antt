@@ -10,9 +10,10 @@ use Rattle.tile_shape.specs.Views.{step_of, step_as}
 use Rattle.tile_shape.proofs.Seen.{steps-there}
 use Rattle.tile_place.specs.declared.order_key.OrderKey.{OrderKey}
 use Rattle.window_cover.specs.Admitted.{found_as}
-use Rattle.window_cover.specs.Covered.{tile_of, placed_as, tiles_of}
+use Rattle.window_cover.specs.Covered.{placed_as, tiles_of}
 use Rattle.window_cover.specs.Found.{Found}
 use Rattle.window_cover.specs.Lifted.{IsLifted}
+use Rattle.window_cover.proofs.Keyed.{keyed_in}
 
 map-both : (xs ys : List Step) → map step_as (map step_of xs ++ map step_of ys) ≡ xs ++ ys
 map-both [] [] = refl
@@ -46,6 +47,6 @@ placed-lifted f above x e = record {
 }
 
 -- so are the tiles of keys
-pub zip-placed : (f : FrameValue) (above : List theory.Step) → above ≡ f.digits → (found : List Found) (ks : List OrderKey) → AllZip (IsLifted f) (map (tile_of found) ks) (tiles_of above found ks)
+pub zip-placed : (f : FrameValue) (above : List theory.Step) → above ≡ f.digits → (found : List Found) (ks : List OrderKey) → AllZip (IsLifted f) (map (keyed_in found) ks) (tiles_of above found (map (λ (k : OrderKey). k.number) ks))
 zip-placed f above e found [] = tt
-zip-placed f above e found (k ∷ ks) = (placed-lifted f above (tile_of found k) e, zip-placed f above e found ks)
+zip-placed f above e found (k ∷ ks) = (placed-lifted f above (keyed_in found k) e, zip-placed f above e found ks)

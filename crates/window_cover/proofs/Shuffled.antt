@@ -18,8 +18,8 @@ use Rattle.tile_place.specs.declared.order_key.OrderKey.{OrderKey}
 use Rattle.window_cover.specs.Found.{Found}
 use Rattle.window_cover.specs.Keys.{keys_from}
 use Rattle.window_cover.proofs.Distinct.{distinct-place}
-use Rattle.window_cover.specs.Covered.{none, tile_of}
-use Rattle.window_cover.proofs.Keyed.{IsKey, same_number, keys-tiles, keys-are, keys-distinct}
+use Rattle.window_cover.specs.Covered.{none}
+use Rattle.window_cover.proofs.Keyed.{keyed_in, IsKey, same_number, keys-tiles, keys-are, keys-distinct}
 
 -- ---- members
 among-contains : {A : Type 0} (x : A) (xs : List A) → IsAmong x xs → Contains xs x
@@ -41,30 +41,30 @@ flips k l = grind (arith, nat_tests)
 pub record AreShuffled (found : List Found) (ks : List OrderKey) : Type 0 where
   pub keys : AllByRecursion (IsKey found) ks
   pub numbers : IsDistinct same_number ks
-  pub tiles : IsPermutation found (map (tile_of found) ks)
+  pub tiles : IsPermutation found (map (keyed_in found) ks)
 
 pub shuffled : (found : List Found) (ks : List OrderKey) → IsPermutation (keys_from 0 found) ks → AreShuffled found ks
 shuffled found ks p = record {
   keys = recursion_from_All (IsKey found) ks (All-permutation (IsKey found) (keys_from 0 found) ks p (All-from_recursion (IsKey found) (keys_from 0 found) (keys-are found)));
   numbers = IsDistinct-IsPermutation same_number flips (keys_from 0 found) ks p (keys-distinct 0 found);
-  tiles = subst (λ (xs : List Found). IsPermutation xs (map (tile_of found) ks)) (keys-tiles found) (IsPermutation-map (tile_of found) (keys_from 0 found) ks p);
+  tiles = subst (λ (xs : List Found). IsPermutation xs (map (keyed_in found) ks)) (keys-tiles found) (IsPermutation-map (keyed_in found) (keys_from 0 found) ks p);
 }
 
 module _ {B : Type 0} (found : List Found) (g : Found → B) (d : AreDistinct (map g found)) where
-  image-at : (k : OrderKey) → IsKey found k → slice_get (map g found) k.number ≡ Some (g (tile_of found k))
-  image-at k h = slice_get-image g (tile_of found k) found k.number (slice_get-get_or found k.number none h.below)
+  image-at : (k : OrderKey) → IsKey found k → slice_get (map g found) k.number ≡ Some (g (keyed_in found k))
+  image-at k h = slice_get-image g (keyed_in found k) found k.number (slice_get-get_or found k.number none h.below)
 
-  one_number : (k l : OrderKey) → IsKey found k → IsKey found l → g (tile_of found k) ≡ g (tile_of found l) → k.number ≡ l.number
-  one_number k l h i e = distinct-place (map g found) d k.number l.number (g (tile_of found k)) (image-at k h) (image-at l i ∙ ap Some (sym e))
+  one_number : (k l : OrderKey) → IsKey found k → IsKey found l → g (keyed_in found k) ≡ g (keyed_in found l) → k.number ≡ l.number
+  one_number k l h i e = distinct-place (map g found) d k.number l.number (g (keyed_in found k)) (image-at k h) (image-at l i ∙ ap Some (sym e))
 
   -- the images of the tiles are distinct in the order of the keys too
-  pub keyed-distinct : (ks : List OrderKey) → AllByRecursion (IsKey found) ks → IsDistinct same_number ks → AreDistinct (map g (map (tile_of found) ks))
+  pub keyed-distinct : (ks : List OrderKey) → AllByRecursion (IsKey found) ks → IsDistinct same_number ks → AreDistinct (map g (map (keyed_in found) ks))
   unfolding IsDistinct
   keyed-distinct [] h n = tt
   keyed-distinct (k ∷ ks) h n = (
     λ i.
-        let m = among-map g (g (tile_of found k)) (map (tile_of found) ks) i in
-        let l = among-map (tile_of found) m.0 ks m.1 in
+        let m = among-map g (g (keyed_in found k)) (map (keyed_in found) ks) i in
+        let l = among-map (keyed_in found) m.0 ks m.1 in
         let same : k.number ≡ l.0.number = one_number k l.0 h.0 (AllByRecursion-among (IsKey found) l.0 ks l.1 h.1) (m.2 ∙ ap g l.2) in
         absurd (cc (sym (eq-eqb k.number l.0.number same) ∙ AllByRecursion-among (λ q. same_number k q ≡ false) l.0 ks l.1 n.0)),
     keyed-distinct ks h.1 n.1,

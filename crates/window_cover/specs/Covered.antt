@@ -1,19 +1,18 @@
 -- The tiles of a window in order, each with the digits of a frame behind its own.
-use Rattle.std.specs.Prelude.{◌<◌, ◌≤◌, List, [], ◌++◌, map, drop, length, get_or}
+use Rattle.std.specs.Prelude.{ℕ, ◌<◌, ◌≤◌, List, [], ◌++◌, map, drop, length, get_or}
 use Rattle.std.specs.List.{AllByRecursion}
 use Rattle.addressing.specs.Address as theory
 use Rattle.tile_shape.specs.Views.{step_as}
 use Rattle.tile_place.specs.declared.placed_tile.PlacedTile.{PlacedTile}
-use Rattle.tile_place.specs.declared.order_key.OrderKey.{OrderKey}
 use Rattle.window_cover.specs.Found.{Found}
 
 -- a tile that stands for none
 abbrev pub none : Found
 none = record { kind = 0; motion = record { turn = 0; shift = record { c = [] } }; digits = [] }
 
--- the tile of a key
-abbrev pub tile_of : List Found → OrderKey → Found
-tile_of found key = get_or found key.number none
+-- the tile of a number
+abbrev pub tile_of : List Found → ℕ → Found
+tile_of found number = get_or found number none
 
 -- a tile found, with the digits of a frame, from its depth up, behind its own
 abbrev pub placed_as : List theory.Step → Found → PlacedTile
@@ -23,11 +22,11 @@ placed_as above x = record {
   addr = record { kind = x.kind; digits = record { items = map step_as (x.digits ++ drop (length x.digits) above) } };
 }
 
--- the tiles of these keys
-abbrev pub tiles_of : List theory.Step → List Found → List OrderKey → List PlacedTile
-tiles_of above found keys = map (λ k. placed_as above (tile_of found k)) keys
+-- the tiles of these numbers
+abbrev pub tiles_of : List theory.Step → List Found → List ℕ → List PlacedTile
+tiles_of above found numbers = map (λ n. placed_as above (tile_of found n)) numbers
 
--- each key numbers a tile, and none is deeper than the frame
-pub record AreCovered (above : List theory.Step) (found : List Found) (keys : List OrderKey) : Type 0 where
-  pub numbered : AllByRecursion (λ (k : OrderKey). k.number < length found) keys
+-- each of the numbers is that of a tile, and none is deeper than the frame
+pub record AreCovered (above : List theory.Step) (found : List Found) (numbers : List ℕ) : Type 0 where
+  pub numbered : AllByRecursion (λ n. n < length found) numbers
   pub no_deeper : AllByRecursion (λ (x : Found). length x.digits ≤ length above) found

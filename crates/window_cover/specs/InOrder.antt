@@ -1,10 +1,14 @@
 -- The order of the tiles of a window.
-use Rattle.std.specs.Prelude.{◌≡◌, List, [], ◌∷◌}
+use Rattle.std.specs.Prelude.{◌≡◌, ℤ, List, [], ◌∷◌}
 use Rattle.std.specs.Ordering.{int_cmp}
 use Rattle.std.specs.Cmp.Lexicographic.{slice_cmp}
 use Rattle.std.specs.declared.cmp.Ordering.TheVariants.{Less}
 use Rattle.tile_place.specs.Keys.{order_numbers}
 use Rattle.tile_place.specs.declared.placed_tile.PlacedTile.{PlacedTile}
+
+-- the numbers by which a tile is ordered
+abbrev pub numbers_placed : PlacedTile → List ℤ
+numbers_placed a = order_numbers a.motion a.kind
 
 -- one comes before the other
 abbrev pub ComesBefore : PlacedTile → PlacedTile → Type 0

@@ -3,7 +3,6 @@ pub mod Found
 pub mod Packed
 pub mod Windows
 pub mod NewEdges
-pub mod Inside
 pub mod Right
 pub mod Working
 pub mod Admitted
@@ -14,7 +13,10 @@ pub mod InOrder
 pub mod Kept
 pub mod Stepping
 pub mod Keys
+pub mod Words
 pub mod Lifted
 pub mod Covered
 pub mod Checked
 pub mod Beyond
+pub mod Descending
+pub mod Answered

@@ -2,11 +2,9 @@
 use Rattle.std.specs.Prelude.{ℕ, ◌≤◌, ◌^◌, List, length}
 use Rattle.ordered_plane.specs.Box.{OpenBox}
 use Rattle.addressing.specs.Search.{IsAmong}
-use Rattle.substitution.specs.Plane.{box_at}
 use Rattle.substitution.specs.Supertile.{Placed}
-use Rattle.cyclo_points.specs.declared.order.Order.{Order}
 use Rattle.cyclo_points.specs.Order.{NumberOf, points_of}
-use Rattle.cyclo_points.specs.Point.{point_in, IsWithin}
+use Rattle.cyclo_points.specs.Point.{IsWithin}
 use Rattle.dissection.specs.Polygons.{tile_polygon}
 use Rattle.frames.specs.Frame.{frame_tiles}
 use Rattle.plane_geom.specs.declared.window.Window.{Window}
@@ -18,6 +16,7 @@ use Rattle.windows.specs.FrameWindow.{AreAllThatMeet, IsLeastDepth}
 use Rattle.windows.specs.Outlines.{Polygon}
 use Rattle.windows.specs.Meeting.{PolygonMeetsBox}
 use Rattle.windows.specs.Patch.{Covers}
+pub use Rattle.window_descent.specs.Standing.{window_box}
 
 -- half extents are 1 to 4,096, and the centre's coefficients at most 2^22
 pub record IsWindow (w : Window) : Type 0 where
@@ -26,10 +25,6 @@ pub record IsWindow (w : Window) : Type 0 where
   pub width_fits : w.w ≤ 4096
   pub height_fits : w.h ≤ 4096
   pub centre_within : IsWithin (2 ^ 22) w.centre
-
--- the open box round the centre
-abbrev pub window_box : (o : Order) → Window → OpenBox (points_of o).real.ops.carrier
-window_box o w = box_at (points_of o) (point_in o w.centre) w.w w.h
 
 abbrev pub box_of : (t : Tiling) → Window → OpenBox (points_of t.order).real.ops.carrier
 box_of t w = window_box t.order w

@@ -72,11 +72,27 @@ impl Cover {
         ensures as_found { slice_get self.now.found number ≡ Some (found_as tile.new) }
         ensures its_kind { tile.new.addr.kind ≡ tile.new.kind }
     {
+        self.put_found(number, &mut tile.kind, &mut tile.motion, &mut tile.addr);
+    }
+
+    /// The same by its kind, its motion and its address.
+    pub(crate) fn put_found(
+        &self,
+        number: usize,
+        kind: &mut u8,
+        motion: &mut Motion,
+        addr: &mut Address,
+    )
+        requires found { number < length self.now.found }
+        ensures as_found { slice_get self.now.found number
+            ≡ Some (found_as (record { kind = kind.new; motion = motion.new; addr = addr.new })) }
+        ensures its_kind { addr.new.kind ≡ kind.new }
+    {
         let found = &self.found[number];
-        tile.kind = found.kind;
-        tile.motion = found.motion;
+        *kind = found.kind;
+        *motion = found.motion;
         put_address(
-            &mut tile.addr,
+            addr,
             found.kind,
             &self.digits[found.first..found.first + found.depth as usize],
         );

@@ -3,10 +3,11 @@ ghost use Rattle.std.specs.Prelude.{◌≡◌, ◌<◌, Some, length, slice_get,
 
 use crate::cover::Cover;
 use arrayvec::ArrayVec;
+use cyclo_points::motion::Motion;
 use std::alloc::Global;
 use std::marker::Model;
-use tile_place::order_key::OrderKey;
 use tile_place::placed_tile::PlacedTile;
+use tile_shape::address::Address;
 use tile_shape::no_memory::NoMemory;
 use tile_shape::step::Step;
 
@@ -15,8 +16,8 @@ use tile_shape::step::Step;
 #[derive(Drop)]
 pub struct CoveredTiles {
     pub(crate) cover: Cover,
-    /// The tiles found, by number, in order.
-    pub(crate) keys: Vec<OrderKey>,
+    /// The numbers of the tiles found, in order.
+    pub(crate) numbers: Vec<u32>,
     /// The digits of the frame.
     pub(crate) above: ArrayVec<Step, 64>,
 }
@@ -29,9 +30,9 @@ impl Model for CoveredTiles {
 
     ghost Value = { List PlacedTile };
 
-    ghost view = { λ c. tiles_of (map step_of c.above.items) c.cover.found c.keys.items };
+    ghost view = { λ c. tiles_of (map step_of c.above.items) c.cover.found c.numbers.items };
 
-    ghost invariant = { λ c. AreCovered (map step_of c.above.items) c.cover.found c.keys.items };
+    ghost invariant = { λ c. AreCovered (map step_of c.above.items) c.cover.found c.numbers.items };
 }
 
 impl CoveredTiles {
@@ -39,7 +40,7 @@ impl CoveredTiles {
     pub fn len(&self) -> usize
         ensures { result ≡ length self.now }
     {
-        self.keys.len()
+        self.numbers.len()
     }
 
     /// The tile at a place in the order.
@@ -47,8 +48,19 @@ impl CoveredTiles {
         requires below { place < length self.now }
         ensures { slice_get self.now place ≡ Some result }
     {
-        let number = self.keys[place].number;
+        let number = self.numbers[place];
         self.cover.lifted(self.above.as_slice(), number as usize)
+    }
+
+    /// Puts the tile at a place in the order in the place of another: its kind, its motion and its address.
+    pub fn put(&self, place: usize, kind: &mut u8, motion: &mut Motion, addr: &mut Address)
+        requires below { place < length self.now }
+        ensures { slice_get self.now place ≡ Some (record { kind = kind.new; motion = motion.new; addr = addr.new }) }
+    {
+        let number = self.numbers[place];
+        let above = self.above.as_slice();
+        self.cover
+            .put_lifted(above, number as usize, kind, motion, addr);
     }
 
     /// All of them.

@@ -1,6 +1,5 @@
 //! The tiles found, in order.
-ghost use Rattle.std.specs.Prelude.{◌≡◌, ◌<◌, ◌^◌, All, [], length, map, slice_get, IfOk, IfSome};
-ghost use Rattle.std.specs.List.{AllByRecursion};
+ghost use Rattle.std.specs.Prelude.{◌≡◌, All, [], length, map, IfOk};
 ghost use Rattle.std.specs.List.Sorted.{IsPermutation};
 ghost use Rattle.rule_model.specs.declared.rule.Rule.{Rule};
 ghost use Rattle.rule_model.specs.Tiling.{tiling_of};
@@ -8,9 +7,8 @@ ghost use Rattle.tile_place.specs.Searched.{placed_in};
 ghost use Rattle.lazy_walk.specs.Standing.{Stands};
 ghost use Rattle.window_cover.specs.Checked.{IsChecked};
 ghost use Rattle.window_cover.specs.Covered.{placed_as};
-ghost use Rattle.window_cover.specs.InOrder.{AreInOrder, AreSorted};
-ghost use Rattle.tile_place.specs.Keys.{key_of};
-ghost use Rattle.window_cover.specs.Keys.{HasKey, keys_from};
+ghost use Rattle.window_cover.specs.InOrder.{AreInOrder, AreSorted, numbers_placed};
+ghost use Rattle.windows.specs.Distinct.{AreDistinct};
 ghost use Rattle.window_cover.specs.Lifted.{CanBeLifted};
 ghost use Rattle.window_cover.specs.Right.{IsRight};
 ghost use Rattle.window_cover.specs.Windows.{AreDrawn, CoverWindow};
@@ -23,7 +21,6 @@ use arrayvec::ArrayVec;
 use lazy_walk::frame::Frame;
 use seeded_growth::laws::grown_fits_law;
 use std::alloc::Global;
-use tile_place::order_key::OrderKey;
 use tile_place::placed_tile::PlacedTile;
 use tile_shape::no_memory::NoMemory;
 
@@ -66,39 +63,20 @@ impl Cover {
         ensures stand { IfOk result (λ tiles. (r : Rule) → IsChecked r → IsRight (tiling_of r) frame.now self
             → All (Stands (tiling_of r) frame.now) tiles) }
         ensures in_order { IfOk result (λ tiles. (r : Rule) → IsChecked r → IsRight (tiling_of r) frame.now self → AreInOrder tiles) }
+        // Where no two are of one place and kind.
+        ensures distinct_in_order { IfOk result (λ tiles. AreDistinct (map numbers_placed tiles) → AreInOrder tiles) }
     {
         end_laws();
         grown_fits_law();
-        let mut keys = self.keys(alloc)?;
-        keys.sort_unstable();
+        let numbers = self.ordered(alloc)?;
         let mut above = ArrayVec::new();
         let _ = above.try_extend_from_slice(frame.digits().as_slice());
         let mut cover = self;
         cover.border = Border::new(alloc);
-        Ok(CoveredTiles { cover, keys, above })
-    }
-
-    /// The keys of the tiles found, in the order found.
-    fn keys(&self, alloc: Global) -> Result<Vec<OrderKey>, NoMemory>
-        ensures keyed { AllByRecursion HasKey self.now.found }
-        ensures keys { IfOk result (λ keys. keys.items ≡ keys_from 0 self.now.found) }
-    {
-        let count = self.found.len();
-        let mut keys = Vec::with_capacity(alloc, count)?;
-        for number in 0..count {
-            keys.push(self.key(number))?;
-        }
-        Ok(keys)
-    }
-
-    /// The key of the tile found of a number.
-    fn key(&self, number: usize) -> OrderKey
-        requires few { number < 2 ^ 32 }
-        requires found { number < length self.now.found }
-        requires fits { IfSome (slice_get self.now.found number) HasKey }
-        ensures { IfSome (slice_get self.now.found number) (λ x. result ≡ key_of x.motion x.kind number) }
-    {
-        let tile = &self.found[number];
-        OrderKey::of(&tile.motion, tile.kind, number as u32)
+        Ok(CoveredTiles {
+            cover,
+            numbers,
+            above,
+        })
     }
 }

@@ -7,7 +7,6 @@ ghost use Rattle.window_cover.specs.NewEdges.{meets_window, closes, without, lef
 
 use crate::border::Border;
 use crate::ends::Ends;
-use crate::inside::is_inside;
 use crate::open_edge::OpenEdge;
 use cyclo_points::order::Order;
 use cyclo_points::point::Point;
@@ -15,6 +14,7 @@ use cyclo_points::{divisors_law, points_law};
 use plane_geom::box_edges::edge_meets_box;
 use plane_geom::window::Window;
 use tile_shape::no_memory::NoMemory;
+use window_descent::inside::is_inside;
 
 /// Closes the open edge that the edge between two points meets, or opens this one if it meets the window.
 fn meet_edge(

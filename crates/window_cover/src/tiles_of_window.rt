@@ -13,6 +13,7 @@ ghost use Rattle.window_cover.specs.Causes.{HasCause};
 ghost use Rattle.window_cover.specs.InOrder.{AreInOrder};
 ghost use Rattle.window_cover.specs.Right.{IsRight};
 
+use crate::by_descent::by_descent;
 use crate::cover::{Cover, no_tile};
 use crate::cover_fault::CoverFault;
 use crate::covered_tiles::CoveredTiles;
@@ -60,12 +61,47 @@ pub fn cover(
     ensures answered { IsWithinLimits (tiling_of machine.now) frame.old window.now → (result ≡ Err NoMemory) ⊎ IsOk result }
     ensures cause { IfErr result (λ fault. HasCause (tiling_of machine.now) frame.old frame.new window.now fault) }
 {
-    let tiles = covered_tiles(alloc, machine, frame, window)?;
+    let tiles = by_search(alloc, machine, frame, window)?;
     Ok(tiles.listed(alloc)?)
 }
 
 /// The tiles that [`cover`] lists, to be had one at a time, in a fourth of the memory.
 pub fn covered_tiles(
+    alloc: Global,
+    machine: &Machine,
+    frame: &mut Frame,
+    window: &Window,
+) -> Result<CoveredTiles, CoverFault>
+    requires frame { IsFrameOf (tiling_of machine.now) frame.old }
+    requires window_fits { IsWindow window.now }
+
+    ensures frame { GrowsTo (tiling_of machine.now) frame.old frame.new }
+
+    // Exactly the tiles of the frame that meet the window, each once and in its place, at the least enough depth; they
+    // cover the window.
+    ensures drawn { IfOk result (λ tiles. AreDrawn (tiling_of machine.now) frame.new window.now (map (placed_in machine.now.order) tiles)) }
+    ensures stand { IfOk result (λ tiles. All (Stands (tiling_of machine.now) frame.new) tiles) }
+    ensures in_order { IfOk result (λ tiles. AreInOrder tiles) }
+    ensures least { OnOk result (IsLeastEnough (tiling_of machine.now) frame.old window.now (length frame.new.digits)) }
+    ensures covered { IfOk result (λ tiles. CoverWindow (tiling_of machine.now) frame.new window.now (map (placed_in machine.now.order) tiles)) }
+
+    // Ok comes exactly within the limits, but for want of memory, and each fault only for its cause.
+    ensures within { OnOk result (IsWithinLimits (tiling_of machine.now) frame.old window.now) }
+    ensures answered { IsWithinLimits (tiling_of machine.now) frame.old window.now → (result ≡ Err NoMemory) ⊎ IsOk result }
+    ensures cause { IfErr result (λ fault. HasCause (tiling_of machine.now) frame.old frame.new window.now fault) }
+{
+    let mut grown = frame.copy()?;
+    match by_descent(alloc, machine, &mut grown, window)? {
+        Some(tiles) => {
+            *frame = grown;
+            Ok(tiles)
+        }
+        None => by_search(alloc, machine, frame, window),
+    }
+}
+
+/// The same by search from the tile of the centre.
+fn by_search(
     alloc: Global,
     machine: &Machine,
     frame: &mut Frame,

@@ -9,7 +9,7 @@ use Rattle.window_cover.specs.Checked.{IsChecked}
 use Rattle.window_cover.specs.Found.{Found, CoverValue}
 use Rattle.window_cover.specs.Kept.{found_in}
 use Rattle.window_cover.specs.Lifted.{CanBeLifted}
-use Rattle.window_cover.proofs.Arranged.{IsArranged, mixed, arranged-drawn, arranged-covered, arranged-stand, arranged-lifted, arranged-sorted, arranged-in_order, arranged-as_many, arranged-fit}
+use Rattle.window_cover.proofs.Arranged.{IsArranged, arranged-drawn, arranged-covered, arranged-stand, arranged-lifted, arranged-sorted, arranged-in_order, arranged-as_many, arranged-fit, arranged-distinct}
 use Rattle.window_cover.proofs.Finished.{HasLaws, laws_of}
 use Rattle.window_cover.proofs.Outcomes.{on_ok-is}
 use Rattle.window_cover.proofs.cover.Cover.arranged.Goals.{After-new}
@@ -22,7 +22,7 @@ abbrev above : After-new → List theory.Step
 above c = map step_of c.try_extend_from_slice.new.self.items
 
 -- what the answer is made of
-is_arranged : (c : After-new) → IsArranged c.args.frame.now c.args.self (found c) c.sort_unstable.new.self.items (above c)
+is_arranged : (c : After-new) → IsArranged c.args.frame.now c.args.self (found c) c.in_ok-numbers.numbers.items (above c)
 is_arranged c =
     let held = c.digits.result.now.items in
     let few : length held ≤ 64 = subst (λ ds. length ds ≤ 64) c.as_slice.ensures.value c.as_slice.ensures.fits in
@@ -32,9 +32,8 @@ is_arranged c =
     record {
       seen = ap (λ (v : CoverValue). v.found) c.self.view_is;
       can_be_lifted = recursion_from_All (CanBeLifted c.args.frame.now) c.args.self.found c.requires.no_deeper;
-      keyed = c.keys.ensures.keyed;
-      mixed = mixed c.args.self.found c.in_ok-keys.keys.items c.sort_unstable.new.self.items c.in_ok-keys.ensures.keys c.sort_unstable.ensures.permutation;
-      sorted = c.sort_unstable.ensures.sorted;
+      keyed = c.ordered.ensures.keyed;
+      ordered = c.in_ok-numbers.ensures.ordered;
       same = ap (map step_of) put ∙ c.digits.ensures;
     }
 
@@ -44,39 +43,44 @@ laws c m checked = laws_of m checked c.end_laws.ensures.points c.end_laws.ensure
 pub invariant_of-result : goal.invariant_of-result
 invariant_of-result c =
     let p = (goal.at.invariant_of-result c).After-new in
-    arranged-fit c.args.frame.now c.args.self (found p) c.sort_unstable.new.self.items (above p) (is_arranged p)
+    arranged-fit c.args.frame.now c.args.self (found p) c.in_ok-numbers.numbers.items (above p) (is_arranged p)
 
 pub returns-clause-lifted : goal.returns-clause-lifted
 returns-clause-lifted c =
     let p = (goal.at.returns-clause-lifted c).After-new in
-    arranged-lifted c.args.frame.now c.args.self (found p) c.sort_unstable.new.self.items (above p) (is_arranged p)
+    arranged-lifted c.args.frame.now c.args.self (found p) c.in_ok-numbers.numbers.items (above p) (is_arranged p)
 
 pub returns-clause-sorted : goal.returns-clause-sorted
 returns-clause-sorted c =
     let p = (goal.at.returns-clause-sorted c).After-new in
-    arranged-sorted c.args.frame.now c.args.self (found p) c.sort_unstable.new.self.items (above p) (is_arranged p)
+    arranged-sorted c.args.frame.now c.args.self (found p) c.in_ok-numbers.numbers.items (above p) (is_arranged p)
 
 pub returns-clause-as_many : goal.returns-clause-as_many
 returns-clause-as_many c =
     let p = (goal.at.returns-clause-as_many c).After-new in
-    arranged-as_many c.args.frame.now c.args.self (found p) c.sort_unstable.new.self.items (above p) (is_arranged p)
+    arranged-as_many c.args.frame.now c.args.self (found p) c.in_ok-numbers.numbers.items (above p) (is_arranged p)
 
 pub returns-clause-drawn : goal.returns-clause-drawn
 returns-clause-drawn c =
     let p = (goal.at.returns-clause-drawn c).After-new in
-    λ r checked right. arranged-drawn c.args.frame.now c.args.self (found p) c.sort_unstable.new.self.items (above p) (is_arranged p) (laws p) r checked right c.requires.none_open
+    λ r checked right. arranged-drawn c.args.frame.now c.args.self (found p) c.in_ok-numbers.numbers.items (above p) (is_arranged p) (laws p) r checked right c.requires.none_open
 
 pub returns-clause-covered : goal.returns-clause-covered
 returns-clause-covered c =
     let p = (goal.at.returns-clause-covered c).After-new in
-    λ r checked right. arranged-covered c.args.frame.now c.args.self (found p) c.sort_unstable.new.self.items (above p) (is_arranged p) (laws p) r checked right c.requires.none_open
+    λ r checked right. arranged-covered c.args.frame.now c.args.self (found p) c.in_ok-numbers.numbers.items (above p) (is_arranged p) (laws p) r checked right c.requires.none_open
 
 pub returns-clause-stand : goal.returns-clause-stand
 returns-clause-stand c =
     let p = (goal.at.returns-clause-stand c).After-new in
-    λ r checked right. arranged-stand c.args.frame.now c.args.self (found p) c.sort_unstable.new.self.items (above p) (is_arranged p) (laws p) r checked right
+    λ r checked right. arranged-stand c.args.frame.now c.args.self (found p) c.in_ok-numbers.numbers.items (above p) (is_arranged p) (laws p) r checked right
 
 pub returns-clause-in_order : goal.returns-clause-in_order
 returns-clause-in_order c =
     let p = (goal.at.returns-clause-in_order c).After-new in
-    λ r checked right. arranged-in_order c.args.frame.now c.args.self (found p) c.sort_unstable.new.self.items (above p) (is_arranged p) (laws p) r checked right
+    λ r checked right. arranged-in_order c.args.frame.now c.args.self (found p) c.in_ok-numbers.numbers.items (above p) (is_arranged p) (laws p) r checked right
+
+pub returns-clause-distinct_in_order : goal.returns-clause-distinct_in_order
+returns-clause-distinct_in_order c =
+    let p = (goal.at.returns-clause-distinct_in_order c).After-new in
+    arranged-distinct c.args.frame.now c.args.self (found p) c.in_ok-numbers.numbers.items (above p) (is_arranged p)

@@ -1,0 +1,6 @@
+pub mod Insets
+pub mod MeetingTest
+pub mod Parts
+pub mod Descent
+pub mod Climb
+pub mod Laws

@@ -1,0 +1,77 @@
+//! Windows answered in two ways: by a search from the tile at the centre, and from the top down where the
+//! window is large enough for that.
+use crate::counts::Counts;
+use crate::draws::Draws;
+use crate::frame_tiles::begun;
+use crate::window_tiles::is_window;
+use lazy_walk::frame::Frame;
+use plane_geom::window::Window;
+use std::alloc::Global;
+use tile_place::machine::Machine;
+use tile_place::placed_tile::PlacedTile;
+use tile_shape::address::Address;
+use window_cover::cover_fault::CoverFault;
+use window_cover::covered_tiles::CoveredTiles;
+use window_cover::tiles_of_window::{cover, covered_tiles};
+
+/// Whether both ways come to the same tiles in the same order, or to the same fault.
+fn same(
+    searched: &Result<Vec<PlacedTile>, CoverFault>,
+    found: &Result<CoveredTiles, CoverFault>,
+) -> bool {
+    match (searched, found) {
+        (Ok(searched), Ok(found)) => {
+            let tiles = searched.as_slice();
+            tiles.len() == found.len()
+                && (0..found.len()).all(|place| tiles.get(place) == Some(&found.tile(place)))
+        }
+        (Err(CoverFault::NoMemory), _) => false,
+        (Err(first), Err(second)) => first == second,
+        _ => false,
+    }
+}
+
+/// Whether two frames of one base have the same digits.
+fn same_digits(one: &Frame, other: &Frame) -> bool {
+    one.digits().as_slice() == other.digits().as_slice()
+}
+
+/// Whether a window of the frame of a base with a start number is answered alike in both ways, and in frames
+/// that come to the same depth where there is an answer. None where the calls' conditions aren't met.
+pub fn alike(
+    alloc: Global,
+    machine: &Machine,
+    base: &Address,
+    start: u64,
+    window: &Window,
+) -> Option<bool> {
+    if !is_window(window) {
+        return None;
+    }
+    let mut first = begun(machine, base, start)?;
+    let mut second = begun(machine, base, start)?;
+    let searched = cover(alloc, machine, &mut first, window);
+    let found = covered_tiles(alloc, machine, &mut second, window);
+    Some(same(&searched, &found) && same_digits(&first, &second))
+}
+
+/// So many windows that are drawn, with half extents up to so many units, of bases of depth 0 to 15: how many
+/// are answered alike in both ways, and how many otherwise.
+pub fn alike_windows(alloc: Global, machine: &Machine, number: u32, most: u64) -> Counts {
+    let order = machine.checked().order();
+    let mut draws = Draws { state: 39 };
+    let mut counts = Counts::default();
+    for _ in 0..number {
+        let depth = draws.below(16);
+        let any = draws.below(2) == 0;
+        let start = draws.below(1 << 31);
+        let base = draws.address(machine, depth, any);
+        let window = draws.sized_window(order, 40, most);
+        if let Some(base) = base {
+            if let Some(is_alike) = alike(alloc, machine, &base, start, &window) {
+                counts.count(is_alike);
+            }
+        }
+    }
+    counts
+}

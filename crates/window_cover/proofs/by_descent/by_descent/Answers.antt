@@ -1,0 +1,57 @@
+use Rattle.std.proofs.Common.{◌^◌, IfSome, length, ◌∙◌, subst, lit≤}
+use Rattle.addressing.specs.Address.{Address}
+use Rattle.cyclo_points.proofs.Within.{point_wider}
+use Rattle.rule_model.specs.Tiling.{tiling_of, children}
+use Rattle.tile_place.proofs.Plane.{IsSettled}
+use Rattle.lazy_walk.specs.Ancestors.{full}
+use Rattle.lazy_walk.specs.Frames.{GrowsTo}
+use Rattle.lazy_walk.proofs.Ancestors.{full-later}
+use Rattle.lazy_walk.proofs.Walks.{StillFits, GrowsTo-then}
+use Rattle.window_descent.specs.Climbing.{IsClimbedTo}
+use Rattle.window_cover.specs.Answered.{IsFoundBelow}
+use Rattle.window_cover.specs.Checked.{IsChecked}
+use Rattle.window_cover.proofs.Descended.{can-be-lifted, answered}
+use Rattle.window_cover.proofs.Searches.{checked_of}
+use Rattle.window_cover.proofs.by_descent.by_descent.Goals as goal
+
+pub climb-requires-clause-centre_within : goal.climb-requires-clause-centre_within
+climb-requires-clause-centre_within c = point_wider (2 ^ 22) (2 ^ 25) _ (lit≤ tt) c.requires.window_fits.centre_within
+
+pub arranged-requires-clause-no_deeper : goal.arranged-requires-clause-no_deeper
+arranged-requires-clause-no_deeper c =
+    let m = c.args.machine.now in
+    let t = tiling_of m in
+    let f = c.args.frame.now in
+    let g = c.climb.new.frame in
+    let w = c.args.window.now in
+    let checked : IsChecked m = checked_of m _ _ c.checked-checked.ensures.rule c.checked-checked.ensures.accepted c.checked-checked.ensures.usable c.checked-checked.ensures.same_child_kinds c.uses.ensures c.kinds-usable.ensures.limits in
+    let settled : IsSettled m = record { accepted = checked.accepted; usable = checked.usable; same_child_kinds = checked.same_child_kinds } in
+    let fits : StillFits (children t) = λ base start n h. c.grown_fits_law.ensures (children t) base start n checked.uses_usable h in
+    let grows : GrowsTo t f g = GrowsTo-then t f c.is_contained.new.frame g c.is_contained.ensures.frame c.climb.ensures.frame in
+    let first : IsClimbedTo t (full t f) w (length f.digits) (length g.digits) =
+    subst (λ n. IsClimbedTo t (full t f) w (length f.digits) n) (c.if-top-depth.false ∙ c.depth.ensures.digits)
+    (subst (λ n. IsClimbedTo t (full t f) w n c.in-Some.top.level) c.depth-from.ensures.digits
+    (subst (λ (a : Address). IsClimbedTo t a w c.depth-from.result c.in-Some.top.level)
+    (full-later t f c.is_contained.new.frame c.is_contained.ensures.frame) c.in-Some.ensures.first)) in
+    let found : IsFoundBelow t g w c.in-Some-2.cover = subst (λ x. IfSome x (IsFoundBelow t g w)) c.in-Some-2.is c.in_ok-cover.ensures in
+    can-be-lifted m settled fits f g grows w c.requires.window_fits c.in-Some-2.cover found first
+
+pub returns-in_ok-arranged-in-Some-2-clause-answered : goal.returns-in_ok-arranged-in-Some-2-clause-answered
+returns-in_ok-arranged-in-Some-2-clause-answered c =
+    let m = c.args.machine.now in
+    let t = tiling_of m in
+    let f = c.args.frame.now in
+    let g = c.climb.new.frame in
+    let w = c.args.window.now in
+    let checked : IsChecked m = checked_of m _ _ c.checked-checked.ensures.rule c.checked-checked.ensures.accepted c.checked-checked.ensures.usable c.checked-checked.ensures.same_child_kinds c.uses.ensures c.kinds-usable.ensures.limits in
+    let settled : IsSettled m = record { accepted = checked.accepted; usable = checked.usable; same_child_kinds = checked.same_child_kinds } in
+    let fits : StillFits (children t) = λ base start n h. c.grown_fits_law.ensures (children t) base start n checked.uses_usable h in
+    let grows : GrowsTo t f g = GrowsTo-then t f c.is_contained.new.frame g c.is_contained.ensures.frame c.climb.ensures.frame in
+    let first : IsClimbedTo t (full t f) w (length f.digits) (length g.digits) =
+    subst (λ n. IsClimbedTo t (full t f) w (length f.digits) n) (c.if-top-depth.false ∙ c.depth.ensures.digits)
+    (subst (λ n. IsClimbedTo t (full t f) w n c.in-Some.top.level) c.depth-from.ensures.digits
+    (subst (λ (a : Address). IsClimbedTo t a w c.depth-from.result c.in-Some.top.level)
+    (full-later t f c.is_contained.new.frame c.is_contained.ensures.frame) c.in-Some.ensures.first)) in
+    let found : IsFoundBelow t g w c.in-Some-2.cover = subst (λ x. IfSome x (IsFoundBelow t g w)) c.in-Some-2.is c.in_ok-cover.ensures in
+    answered m settled fits f g grows w c.requires.window_fits c.in-Some-2.cover found first c.in_ok-arranged-in-Some-2.field-0 c.in_ok-arranged-in-Some-2.ensures.lifted c.in_ok-arranged-in-Some-2.ensures.distinct_in_order
+    (c.is_contained.ensures.found c.if-not-is_contained.false)

@@ -1,0 +1,12 @@
+use Rattle.std.proofs.Common.{take}
+use Rattle.std.specs.List.{AllByRecursion}
+use Rattle.window_cover.specs.Found.{Found}
+use Rattle.window_cover.specs.Words.{AreFields, AreHeld}
+use Rattle.window_cover.proofs.cover.Cover.fields.Given as goal
+
+-- the fields hold the tiles before
+abbrev pub invariant-loop-tile : goal.invariant-loop-tile
+invariant-loop-tile l = record {
+  fields : AreFields l.fields;
+  held : AllByRecursion (λ (x : Found). AreHeld l.fields x.motion x.kind) (take l.tile-index l.fn.self.found);
+}

@@ -1,4 +1,0 @@
-use Rattle.window_cover.proofs.tiles_of_window.covered_tiles.Given as goal
-
-abbrev pub ghosts-searched : goal.ghosts-searched
-ghosts-searched a = record { name = a.blank.name; parts = a.blank.parts }

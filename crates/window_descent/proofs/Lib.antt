@@ -1,0 +1,5 @@
+pub mod Standings
+pub mod Insides
+pub mod EdgeTests
+pub mod Placings
+pub mod RowsMade

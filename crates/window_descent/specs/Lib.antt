@@ -1,0 +1,6 @@
+pub mod Standing
+pub mod Sides
+pub mod Inside
+pub mod Parts
+pub mod Rows
+pub mod Climbing

@@ -1,0 +1,68 @@
+-- The children of supertiles, each row of them made once.
+use Rattle.std.specs.Prelude.{◌≡◌, ℕ, ◌+◌, ◌*◌, ◌<◌, ◌≤◌, ◌^◌, All, List, [], map, length, get_or, None}
+use Rattle.std.specs.Option.{IfSome}
+use Rattle.substitution.specs.Rule.{children_of}
+use Rattle.cyclo_points.specs.declared.motion.Motion.{Motion}
+use Rattle.cyclo_points.specs.declared.order.Order.{Order}
+use Rattle.cyclo_points.specs.declared.point.Point.{Point}
+use Rattle.cyclo_points.specs.Order.{points_of}
+use Rattle.cyclo_points.specs.Point.{point_in, IsOf, IsWithin}
+use Rattle.frames.specs.Looked.{powers_from}
+use Rattle.rule_model.specs.declared.rule.Rule.{Rule}
+use Rattle.rule_model.specs.Usable.{origin}
+use Rattle.rule_model.specs.Views.{rule_of}
+use Rattle.window_descent.specs.declared.part.Part.{Part}
+use Rattle.window_descent.specs.declared.rows.Rows.{Rows}
+use Rattle.window_descent.specs.Parts.{IsPartAt}
+
+-- where the row of a level, a kind and a turn is noted
+abbrev pub row_place : ℕ → ℕ → ℕ → ℕ
+row_place level kind turn = (level * 16 + kind) * 16 + turn
+
+-- a motion that only turns
+abbrev pub only_turned : ℕ → Motion
+only_turned turn = record { turn = turn; shift = origin }
+
+-- a part that stands for none
+abbrev pub no_part : Part
+no_part = record { kind = 0; motion = only_turned 0 }
+
+-- the children of a kind stand in a list from a place on, as parts of a supertile that is turned so and not
+-- shifted
+pub record IsChildRow (m : Rule) (scale : Point) (kind turn : ℕ) (parts : List Part)
+    (first : ℕ) : Type 0 where
+  pub fits : first + length (children_of (rule_of m) kind) ≤ length parts
+  pub each : (i : ℕ) → i < length (children_of (rule_of m) kind)
+      → IsPartAt m kind i scale (only_turned turn) (get_or parts (first + i) no_part)
+
+-- how many levels have rows, and the power of the inflation factor at one of them
+abbrev pub levels_of : Rows → ℕ
+levels_of rows = length rows.powers.items
+
+abbrev pub scale_of : Rows → ℕ → Point
+scale_of rows level = get_or rows.powers.items level (record { c = [] })
+
+-- the powers are those of the inflation factor, and each row that is made is right
+pub record AreRows (m : Rule) (rows : Rows) : Type 0 where
+  pub powers : map (point_in m.order) rows.powers.items
+      ≡ powers_from (points_of m.order) (rule_of m).factor 0 (levels_of rows)
+  pub powers_within : All (IsWithin (2 ^ 24)) rows.powers.items
+  pub room : length rows.firsts.items ≡ levels_of rows * 256
+  pub made : (level kind turn : ℕ) → level < levels_of rows → kind < length (rule_of m).kinds
+      → turn < (points_of m.order).order
+      → IfSome (get_or rows.firsts.items (row_place level kind turn) None)
+      (IsChildRow m (scale_of rows level) kind turn rows.children.items)
+
+-- the parts of a list stand in another where they stood, and others may stand behind them
+pub record IsLonger (xs ys : List Part) : Type 0 where
+  pub longer : length xs ≤ length ys
+  pub same : (i : ℕ) → i < length xs → get_or ys i no_part ≡ get_or xs i no_part
+
+-- a part is another, shifted further
+pub record IsShifted (other : Part) (shift : Point) (p : Part) : Type 0 where
+  pub same_kind : p.kind ≡ other.kind
+  pub same_turn : p.motion.turn ≡ other.motion.turn
+  pub sum : (o : Order) → point_in o p.motion.shift
+      ≡ (points_of o).ring.add (point_in o other.motion.shift) (point_in o shift)
+  pub within : IsWithin (2 ^ 24) p.motion.shift
+  pub in_order : (o : Order) → IsOf o other.motion.shift → IsOf o shift → IsOf o p.motion.shift

@@ -1,0 +1,93 @@
+//! How a polygon stands to a window.
+ghost use Rattle.std.specs.Prelude.{◌≡◌, ◌^◌, ◌&&◌, ◌||◌, true, false, All};
+ghost use Rattle.cyclo_points.specs.Point.{IsWithin};
+ghost use Rattle.window_descent.specs.Standing.{IsStanding};
+ghost use Rattle.window_descent.specs.declared.standing.Standing.TheVariants as Standing;
+
+use crate::sides::{Sides, sides_of};
+use cyclo_points::order::Order;
+use cyclo_points::point::Point;
+use plane_geom::window::Window;
+
+/// How a polygon stands to a window.
+#[derive(Clone, Copy, PartialEq, Eq)]
+pub enum Standing {
+    /// All its vertices are beyond one side.
+    Beyond,
+    /// All its vertices are inside.
+    Within,
+    /// Neither is known.
+    Across,
+}
+
+/// How a polygon stands to a window, by its vertices.
+pub fn beside(order: Order, window: &Window, corners: &[Point]) -> Standing
+    requires within { All (IsWithin (2 ^ 25)) corners.now }
+    requires centre_within { IsWithin (2 ^ 25) window.now.centre }
+    ensures { IsStanding order window.now corners.now result }
+{
+    let mut every = Sides {
+        right: true,
+        left: true,
+        upper: true,
+        lower: true,
+    };
+    let mut some = Sides {
+        right: false,
+        left: false,
+        upper: false,
+        lower: false,
+    };
+    for corner in corners {
+        let sides = sides_of(order, window, corner);
+        every = both(&every, &sides);
+        some = either(&some, &sides);
+    }
+    standing_of(&every, &some)
+}
+
+/// By the sides of which every vertex is inside, and those of which one is.
+fn standing_of(every: &Sides, some: &Sides) -> Standing
+    ensures beyond { result ≡ Standing.Beyond → (some.now.right && some.now.left
+        && (some.now.upper && some.now.lower)) ≡ false }
+    ensures within { result ≡ Standing.Within → (every.now.right && every.now.left
+        && (every.now.upper && every.now.lower)) ≡ true }
+{
+    if !(some.right && some.left && (some.upper && some.lower)) {
+        return Standing::Beyond;
+    }
+    if every.right && every.left && (every.upper && every.lower) {
+        return Standing::Within;
+    }
+    Standing::Across
+}
+
+/// Of which sides both are inside.
+fn both(a: &Sides, b: &Sides) -> Sides
+    ensures right { result.right ≡ (a.now.right && b.now.right) }
+    ensures left { result.left ≡ (a.now.left && b.now.left) }
+    ensures upper { result.upper ≡ (a.now.upper && b.now.upper) }
+    ensures lower { result.lower ≡ (a.now.lower && b.now.lower) }
+{
+    Sides {
+        right: a.right && b.right,
+        left: a.left && b.left,
+        upper: a.upper && b.upper,
+        lower: a.lower && b.lower,
+    }
+}
+
+/// Of which sides one is inside.
+fn either(a: &Sides, b: &Sides) -> Sides
+    ensures right { result.right ≡ (a.now.right || b.now.right) }
+    ensures left { result.left ≡ (a.now.left || b.now.left) }
+    ensures upper { result.upper ≡ (a.now.upper || b.now.upper) }
+    ensures lower { result.lower ≡ (a.now.lower || b.now.lower) }
+{
+    Sides {
+        right: a.right || b.right,
+        left: a.left || b.left,
+        upper: a.upper || b.upper,
+        lower: a.lower || b.lower,
+    }
+}
