@@ -13,3 +13,5 @@ pub mod Sides
 pub mod Ended
 pub mod Verdicts
 pub mod SaidOfLifted
+pub mod AsWritten
+pub mod WrittenSoFar

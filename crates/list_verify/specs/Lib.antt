@@ -11,3 +11,4 @@ pub mod FaultText
 pub mod Verdict
 pub mod OneVerdict
 pub mod ListLaws
+pub mod Written

@@ -3,9 +3,10 @@
 //! A listing is a list of the tiles of a window that another program made. A walk through its lines tells whether it is
 //! right: it begins with the tile at the centre of the window, goes on across edges that meet the window, and looks for
 //! each tile that it comes to among the lines. The listing is right exactly where the walk comes to its end and has
-//! found each line. The list of the window's tiles is never made.
+//! found each line. A listing that is the very text of the window's tiles needs no walk.
 #![tactic(auto)]
 
+mod as_written;
 mod checked_lines;
 mod crossed_edges;
 mod found_lines;

@@ -21,6 +21,7 @@ ghost use Rattle.list_verify.specs.Listing.{IsVerified};
 ghost use Rattle.list_verify.specs.Verdict.{HasCause, IsTold, IsOfWalk, LacksTiles};
 ghost use Rattle.list_verify.specs.Walked.{IsStoppedBy, AreRightLines, IsStrayFault};
 
+use crate::as_written::as_written;
 use crate::checked_lines::check_lines;
 use crate::found_lines::FoundLines;
 use crate::laws::one_verdict_law;
@@ -40,7 +41,8 @@ use std::sync::ledger::{Blank, Ledger};
 use tile_place::machine::Machine;
 
 /// Tells whether a listing that another program made is the list of a window: how many lines it has, or its first fault.
-/// The list of the window is never made: a walk goes through the lines themselves.
+/// A listing that is byte for byte what is written of the window's tiles, in their order, is right at a glance. Through any
+/// other one a walk goes, line by line, which makes no list of the window.
 ///
 /// - `frame` has the base and the start number. It grows, at most to the least depth that is enough for the window and for
 ///   the addresses listed, or to 64 where none is.
@@ -94,6 +96,30 @@ pub fn verify(
 
 /// The number of lines, or the first fault: what is answered, and why.
 fn verdict(
+    alloc: Global,
+    machine: &Machine,
+    frame: &mut Frame,
+    window: &Window,
+    listing: &[u8],
+) -> Result<u32, ListFault>
+    requires frame { IsFrameOf (tiling_of machine.now) frame.old }
+    requires window_fits { IsWindow window.now }
+    ensures frame { GrowsTo (tiling_of machine.now) frame.old frame.new }
+    ensures depth { OnOk result (IsListedDepth (tiling_of machine.now) frame.old listing.now (length frame.new.digits)) }
+    ensures not_beyond { (n : ℕ) → IsEnoughListed (tiling_of machine.now) frame.old window.now listing.now n → length frame.new.digits ≤ n }
+    ensures unread { (fault : TextFault) → listing_in (children (tiling_of machine.now)) listing.now ≡ Err fault → frame.new ≡ frame.old }
+    ensures right { IfOk result (λ n. IsVerified (tiling_of machine.now) frame.old window.now listing.now n) }
+    ensures cause { IfErr result (λ fault. HasCause (tiling_of machine.now) frame.old frame.new window.now listing.now fault) }
+    ensures too_long { (result ≡ Err faults.TooLong) ↔ (most_lines < length (lines_in listing.now)) }
+{
+    if let Some(count) = as_written(alloc, machine, frame, window, listing) {
+        return Ok(count);
+    }
+    by_walk(alloc, machine, frame, window, listing)
+}
+
+/// The same by a walk through the lines, in whatever order they stand.
+fn by_walk(
     alloc: Global,
     machine: &Machine,
     frame: &mut Frame,

@@ -6,3 +6,5 @@ pub mod CountedLines
 pub mod AddressAlone
 pub mod LineRead
 pub mod ListingRead
+pub mod Numbers
+pub mod Written

@@ -4,3 +4,4 @@ pub mod Signed
 pub mod Words
 pub mod Listing
 pub mod Views
+pub mod Written

@@ -1,0 +1,117 @@
+//! Listings that are the very text that is written of a window.
+ghost use Rattle.std.specs.Prelude.{◌≡◌, ◌++◌, ◌∷◌, [], length, IfNone, IfSome, IsTrue};
+ghost use Rattle.rule_model.specs.Tiling.{tiling_of};
+ghost use Rattle.lazy_walk.specs.Frames.{IsFrameOf};
+ghost use Rattle.tile_place.specs.declared.placed_tile.PlacedTile.{PlacedTile};
+ghost use Rattle.window_cover.specs.Windows.{IsWindow};
+ghost use Rattle.listing_text.specs.Written.{entry_text};
+ghost use Rattle.cyclo_points.specs.Text.{newline};
+ghost use Rattle.list_verify.specs.Written.{tile_entry, IsListedAs, IsWrittenOf};
+
+use cyclo_points::point::Point;
+use layer_api::line::Line;
+use lazy_walk::frame::Frame;
+use listing_text::laws::written_law;
+use plane_geom::window::Window;
+use seeded_growth::laws::grown_fits_law;
+use std::alloc::Global;
+use tile_place::machine::Machine;
+use tile_place::placed_tile::PlacedTile;
+use window_cover::covered_tiles::CoveredTiles;
+use window_cover::tiles_of_window::covered_tiles;
+
+/// How many lines a listing has, where it is byte for byte what is written of the tiles of the window, in their order; the
+/// frame has grown to their depth then. Else none, and nothing is said of the listing.
+pub(crate) fn as_written(
+    alloc: Global,
+    machine: &Machine,
+    frame: &mut Frame,
+    window: &Window,
+    listing: &[u8],
+) -> Option<u32>
+    requires frame { IsFrameOf (tiling_of machine.now) frame.old }
+    requires window_fits { IsWindow window.now }
+    ensures stays { IfNone result (frame.new ≡ frame.old) }
+    ensures listed { IfSome result (IsListedAs (tiling_of machine.now) frame.old frame.new window.now listing.now) }
+{
+    if !can_be_long_enough(window, listing) {
+        return None;
+    }
+    let Ok(mut own) = frame.copy() else {
+        return None;
+    };
+    let count = written_lines(alloc, machine, &mut own, window, listing)?;
+    *frame = own;
+    Some(count)
+}
+
+/// Whether a listing has at least eight bytes for each unit square of a fourth of the window, as those of built-in rules
+/// have. Of a shorter one the list of the window isn't worth its making.
+fn can_be_long_enough(window: &Window, listing: &[u8]) -> bool {
+    listing.len() >= 8 * usize::from(window.w) * usize::from(window.h)
+}
+
+/// The same on a frame that may grow in any case.
+fn written_lines(
+    alloc: Global,
+    machine: &Machine,
+    frame: &mut Frame,
+    window: &Window,
+    listing: &[u8],
+) -> Option<u32>
+    requires frame { IsFrameOf (tiling_of machine.now) frame.old }
+    requires window_fits { IsWindow window.now }
+    ensures listed { IfSome result (IsListedAs (tiling_of machine.now) frame.old frame.new window.now listing.now) }
+{
+    written_law();
+    let checked = machine.checked();
+    grown_fits_law();
+    let _usable = checked.uses().kinds();
+    let Ok(tiles) = covered_tiles(alloc, machine, frame, window) else {
+        return None;
+    };
+    let count = tiles.len();
+    if count == 0 || !is_text_of(&tiles, listing) {
+        return None;
+    }
+    Some(count as u32)
+}
+
+/// Whether a text is what is written of tiles.
+fn is_text_of(tiles: &CoveredTiles, text: &[u8]) -> bool
+    ensures written { IsTrue result → IsWrittenOf tiles.now text.now }
+{
+    let mut line = Line::new();
+    let mut rest = text;
+    for place in 0..tiles.len() {
+        put_line(&mut line, &tiles.tile(place));
+        match rest.strip_prefix(line.as_bytes()) {
+            Some(behind) => rest = behind,
+            None => return false,
+        }
+    }
+    rest.is_empty()
+}
+
+/// Makes the line of a tile, with its newline.
+fn put_line(line: &mut Line, tile: &PlacedTile)
+    ensures line { line.new ≡ entry_text (tile_entry tile.now) ++ newline ∷ [] }
+    ensures four { length tile.now.motion.shift.c ≡ 4 }
+{
+    line.clear();
+    line.put(b'\n');
+    line.put_address(&tile.addr);
+    line.put(b' ');
+    line.put_motion(&tile.motion);
+    line.put(b' ');
+    line.put_small(tile.addr.kind);
+    four_coefficients(&tile.motion.shift);
+}
+
+/// The law that a point has four coefficients, of which contracts see the list.
+#[inline]
+fn four_coefficients(p: &Point)
+    ensures { length p.now.c ≡ 4 }
+{
+    let _four = p.c.as_slice();
+}
