@@ -2,7 +2,7 @@
 //!
 //! Each function writes a text in front of `end` and answers where it begins. So the figures of a number are written
 //! as division gives them, the last one first.
-ghost use Rattle.std.specs.Prelude.{◌≡◌, ◌+◌, ◌*◌, ◌≤◌, ◌++◌, ◌∷◌, map, length, drop};
+ghost use Rattle.std.specs.Prelude.{◌≡◌, ◌+◌, ◌*◌, ◌%◌, ◌<◌, ◌≤◌, [], ◌++◌, ◌∷◌, map, length, take, drop, IsTrue};
 ghost use Rattle.std.specs.Fmt.{decimal, signed_decimal};
 ghost use Rattle.cyclo_points.specs.Text.{point_text};
 ghost use Rattle.tile_shape.specs.Text.{digit_text, digits_text, comma};
@@ -95,7 +95,84 @@ fn write_step_with_comma(step: Step, buf: &mut [u8], end: usize) -> usize
     write_step(step, buf, end - 1)
 }
 
-/// Writes the digits of an address, joined by commas.
+/// The numbers of a digit, 16 bits apart.
+#[inline]
+fn numbers_of(step: Step) -> u32
+    ensures numbers { result ≡ step.child + step.parent * 65536 }
+    ensures at_most { result ≤ 16711935 }
+{
+    u32::from(step.child) + u32::from(step.parent) * 65536
+}
+
+/// The same with 118 more for each, so that each number of two figures or three passes 127.
+#[inline]
+fn raised_numbers_of(step: Step) -> u32
+    ensures child { result % 65536 < 128 → step.child < 10 }
+    ensures parent { result < 8388608 → step.parent < 10 }
+{
+    numbers_of(step) + 0x76_0076
+}
+
+/// Overwrites all of so many bytes in one move. (`copy_from_slice` asks first whether the two overlap.)
+#[inline]
+pub(crate) fn overwrite<const N: usize>(out: &mut [u8], bytes: &[u8; N])
+    requires { length out.old ≡ N }
+    ensures { out.new ≡ bytes.now }
+{
+    if let Some(all) = out.first_chunk_mut() {
+        *all = *bytes;
+    }
+}
+
+/// Writes a digit and a comma behind it into the four bytes at a place, as if each number had one figure.
+#[inline]
+fn write_word(step: Step, out: &mut [u8], place: usize)
+    requires inside { place + 4 ≤ length out.old }
+    ensures inside { length out.new ≡ length out.old }
+    ensures written { step.child < 10 → step.parent < 10 → take (place + 4) out.new ≡ take place out.old ++ digit_text (step_of step) ++ comma ∷ [] }
+{
+    let word = numbers_of(step) + 0x2c30_2f30;
+    overwrite(&mut out[place..place + 4], &word.to_le_bytes());
+}
+
+/// Writes digits of an address, a comma behind each, as if each number had one figure. It answers whether that is so.
+fn write_words(steps: &[Step], out: &mut [u8]) -> bool
+    requires some { 0 < length steps.now }
+    requires room { length out.old ≡ 4 * length steps.now }
+    ensures room { length out.new ≡ length out.old }
+    ensures written { IsTrue result → out.new ≡ digits_text (map step_of steps.now) ++ comma ∷ [] }
+{
+    let mut joined: u32 = 0;
+    for i in 0..steps.len() {
+        let step = steps[i];
+        joined = joined | raised_numbers_of(step);
+        write_word(step, out, 4 * i);
+    }
+    joined < 0x80_0000 && joined % 65536 < 128
+}
+
+/// Writes the digits of an address, joined by commas, one after the other.
+#[cold]
+#[inline(never)]
+fn write_each_step(steps: &[Step], buf: &mut [u8], end: usize) -> usize
+    requires some { 0 < length steps.now }
+    requires room { 8 * length steps.now ≤ end }
+    requires inside { end ≤ length buf.old }
+    ensures written { drop result buf.new ≡ digits_text (map step_of steps.now) ++ drop end buf.old }
+    ensures before { result ≤ end }
+    ensures at_most { end ≤ result + 8 * length steps.now }
+{
+    let mut level = steps.len() - 1;
+    let mut at = write_step(steps[level], buf, end);
+    while level > 0 {
+        level -= 1;
+        at = write_step_with_comma(steps[level], buf, at);
+    }
+    at
+}
+
+/// Writes the digits of an address, joined by commas: in words, where each number has one figure and a byte follows,
+/// on which the last comma falls.
 pub(crate) fn write_steps(steps: &[Step], buf: &mut [u8], end: usize) -> usize
     requires room { 8 * length steps.now ≤ end }
     requires inside { end ≤ length buf.old }
@@ -106,11 +183,14 @@ pub(crate) fn write_steps(steps: &[Step], buf: &mut [u8], end: usize) -> usize
     if steps.is_empty() {
         return end;
     }
-    let mut level = steps.len() - 1;
-    let mut at = write_step(steps[level], buf, end);
-    while level > 0 {
-        level -= 1;
-        at = write_step_with_comma(steps[level], buf, at);
+    if end < buf.len() {
+        let follows = buf[end];
+        let start = end + 1 - 4 * steps.len();
+        let is_right = write_words(steps, &mut buf[start..end + 1]);
+        buf[end] = follows;
+        if is_right {
+            return start;
+        }
     }
-    at
+    write_each_step(steps, buf, end)
 }

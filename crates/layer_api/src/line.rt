@@ -1,12 +1,12 @@
 //! A line in fixed storage.
-ghost use Rattle.std.specs.Prelude.{◌≡◌, ◌+◌, ◌<◌, ◌≤◌, [], ◌∷◌, ◌++◌, length};
+ghost use Rattle.std.specs.Prelude.{◌≡◌, ◌+◌, ◌-◌, ◌<◌, ◌≤◌, [], ◌∷◌, ◌++◌, length, drop};
 ghost use Rattle.std.specs.Fmt.{decimal, signed_decimal};
 ghost use Rattle.cyclo_points.specs.Text.{motion_text};
 ghost use Rattle.layer_api.specs.declared.line.TheConstants.{LINE_ROOM};
 ghost use Rattle.tile_shape.specs.Text.{address_text};
 ghost use Rattle.tile_shape.specs.Views.{address_of};
 
-use crate::backwards::{write_point, write_signed, write_small, write_steps};
+use crate::backwards::{overwrite, write_point, write_signed, write_small, write_steps};
 use cyclo_points::motion::Motion;
 use itoa::write_digits;
 use std::marker::Model;
@@ -72,6 +72,18 @@ impl Line {
         let end = self.start;
         self.start -= text.len();
         self.bytes[self.start..end].copy_from_slice(text);
+    }
+
+    /// Puts the last `count` bytes of a text of 32. All 32 are moved at once.
+    #[inline]
+    pub fn put_last(&mut self, text: &[u8; 32], count: usize)
+        requires count { count ≤ 32 }
+        requires room { length self.old + 32 ≤ LINE_ROOM }
+        ensures last { self.new ≡ drop (32 - count) text.now ++ self.old }
+        ensures at_most { length self.new ≤ length self.old + 32 }
+    {
+        overwrite(&mut self.bytes[self.start - 32..self.start], text);
+        self.start -= count;
     }
 
     /// Puts a number in decimal.

@@ -1,8 +1,9 @@
 //! The list of tiles.
-ghost use Rattle.std.specs.Prelude.{◌≡◌, ◌+◌, ◌≤◌, ◌++◌, length, IsFalse};
+ghost use Rattle.std.specs.Prelude.{◌≡◌, ◌+◌, ◌≤◌, [], ◌∷◌, ◌++◌, length, IsFalse};
+ghost use Rattle.cyclo_points.specs.Text.{newline};
 ghost use Rattle.layer_api.specs.declared.format.Format.TheVariants.{List as Listing};
 ghost use Rattle.layer_api.specs.declared.line.TheConstants.{LINE_ROOM};
-ghost use Rattle.layer_api.specs.ListText.{part_text, tile_line, list_text};
+ghost use Rattle.layer_api.specs.ListText.{part_text, second_text, list_text};
 
 use cyclo_points::order::Order;
 use cyclo_points::point::Point;
@@ -72,8 +73,10 @@ impl Layer for ListLayer {
     }
 
     fn put(&mut self, tile: Drawn) -> Result<(), NoMemory> {
+        // What isn't listed isn't moved.
+        let Drawn { first, second, .. } = tile;
         self.line.clear();
-        put_line(&mut self.line, &tile);
+        put_line(&mut self.line, &first, &second);
         self.text.extend_from_slice(self.line.as_bytes())?;
         Ok(())
     }
@@ -88,17 +91,17 @@ impl Layer for ListLayer {
     }
 }
 
-/// Puts the line of a tile into an empty line.
-fn put_line(line: &mut Line, tile: &Drawn)
+/// Puts the line of a tile, by its parts, into an empty line.
+fn put_line(line: &mut Line, first: &Part, second: &Option<Part>)
     requires { length line.old ≡ 0 }
-    ensures { line.new ≡ tile_line tile.now }
+    ensures { line.new ≡ part_text first.now ++ second_text second.now ++ newline ∷ [] }
 {
     line.put(b'\n');
-    if let Some(second) = &tile.second {
+    if let Some(second) = second {
         put_part(line, second);
         line.put_text(b" + ");
     }
-    put_part(line, &tile.first);
+    put_part(line, first);
 }
 
 /// Puts a part: its kind, its motion and its address.

@@ -1,3 +1,4 @@
 mod Heads
+mod Keeping
 mod Vertices
 mod Writing

@@ -5,5 +5,6 @@
 #![tactic(auto)]
 
 mod head;
+mod kept;
 mod path;
 pub mod svg_layer;

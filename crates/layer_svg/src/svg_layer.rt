@@ -4,6 +4,7 @@ ghost use Rattle.layer_api.specs.declared.format.Format.TheVariants.{Svg};
 ghost use Rattle.layer_svg.specs.Written.{IsWritten};
 
 use crate::head::put_head;
+use crate::kept::{Kept, empty_places};
 use crate::path::put_path;
 use cyclo_points::order::Order;
 use cyclo_points::point::Point;
@@ -16,6 +17,9 @@ use std::alloc::Global;
 use std::marker::Model;
 use tile_shape::no_memory::NoMemory;
 
+/// From so many bytes on the texts of vertices are kept: it pays for the places from some thousand tiles on.
+const LONG: usize = 131072;
+
 /// Draws the tiles as SVG, a path for each, with its class. It keeps the text alone: the head is written with the
 /// first path, and the tail at the end.
 #[derive(Drop)]
@@ -23,20 +27,25 @@ pub struct SvgLayer {
     view: View,
     begun: bool,
     ended: bool,
+    alloc: Global,
     text: Vec<u8>,
     /// Where a line is written before it is appended.
     line: Line,
+    /// The texts of vertices; no place, as long as the picture is short.
+    kept: Vec<Kept>,
 }
 
 impl Model for SvgLayer {
     ghost use Rattle.layer_api.specs.Drawable.{IsView};
+    ghost use Rattle.std.specs.Prelude.{All};
+    ghost use Rattle.layer_svg.specs.Kept.{IsKept};
     ghost use Rattle.layer_svg.specs.Picture.{Picture};
 
     ghost Value = { Picture };
 
     ghost view = { λ s. record { view = s.view; begun = s.begun; ended = s.ended; text = s.text.items } };
 
-    ghost invariant = { λ s. IsView s.view };
+    ghost invariant = { λ s. IsView s.view × All (IsKept s.view) s.kept.items };
 }
 
 impl SvgLayer {
@@ -55,8 +64,22 @@ impl SvgLayer {
             },
             begun: false,
             ended: false,
+            alloc,
             text: Vec::new(alloc),
             line: Line::new(),
+            kept: Vec::new(alloc),
+        }
+    }
+
+    /// Makes the places for the texts of vertices, where the picture is long, has none yet, and there is memory.
+    #[inline]
+    fn make_places(&mut self)
+        ensures { self.new ≡ self.old }
+    {
+        if self.kept.is_empty() && self.text.len() >= LONG {
+            if let Ok(places) = empty_places(self.alloc) {
+                self.kept = places;
+            }
         }
     }
 }
@@ -77,6 +100,7 @@ impl Layer for SvgLayer {
     }
 
     fn begin(&mut self, view: View) {
+        self.kept.clear();
         self.view = view;
         self.begun = true;
         self.ended = false;
@@ -84,8 +108,17 @@ impl Layer for SvgLayer {
     }
 
     fn put(&mut self, tile: Drawn) -> Result<(), NoMemory> {
+        // What isn't drawn isn't moved.
+        let Drawn { class, outline, .. } = tile;
+        self.make_places();
         self.line.clear();
-        put_path(&mut self.line, &self.view, &tile);
+        put_path(
+            &mut self.line,
+            &self.view,
+            class,
+            &outline,
+            self.kept.as_mut_slice(),
+        );
         if self.text.is_empty() {
             put_head(&mut self.line, &self.view);
         }

@@ -5,6 +5,10 @@
 #[cfg(test)]
 mod boxed;
 #[cfg(test)]
+mod kept;
+#[cfg(test)]
+mod lines;
+#[cfg(test)]
 mod refusing;
 #[cfg(test)]
 mod texts;

@@ -1,7 +1,7 @@
 use Rattle.std.proofs.Common.{◌≡◌, ◌≤◌, ◌<◌, ◌+◌, ◌*◌, ◌++◌, map, drop, length}
 use Rattle.tile_shape.specs.Text.{digits_text}
 use Rattle.tile_shape.specs.Views.{step_of}
-use Rattle.layer_api.proofs.backwards.write_steps.Given as goal
+use Rattle.layer_api.proofs.backwards.write_each_step.Given as goal
 
 abbrev pub invariant-loop-level : goal.invariant-loop-level
 invariant-loop-level l = record {
