@@ -30,6 +30,12 @@ pieces_of_walk kind own turn shift number address back e k =
     joined : (a b c d x f : List ℕ) → a ++ (b ++ (c ++ (d ++ (x ++ f)))) ≡ a ++ b ++ c ++ d ++ x ++ f
     joined a b c d x f = sym (append_assoc a b _) ∙ sym (append_assoc (a ++ b) c _) ∙ sym (append_assoc (a ++ b ++ c) d _) ∙ sym (append_assoc (a ++ b ++ c ++ d) x f)
 
+-- the same, put into an empty line from the end on
+pub line_put : (l0 l1 l2 l3 l4 l5 l6 l7 : List ℕ) {new : List ℕ} (kind motion address back : List ℕ)
+    → l0 ≡ [] → l1 ≡ newline ∷ l0 → l2 ≡ back ++ l1 → l3 ≡ blank ∷ l2 → l4 ≡ address ++ l3 → l5 ≡ blank ∷ l4 → l6 ≡ motion ++ l5 → l7 ≡ blank ∷ l6 → new ≡ kind ++ l7
+    → new ≡ kind ++ (blank ∷ (motion ++ (blank ∷ (address ++ (blank ∷ (back ++ newline ∷ []))))))
+line_put l0 l1 l2 l3 l4 l5 l6 l7 kind motion address back e0 e1 e2 e3 e4 e5 e6 e7 e8 = cc
+
 -- an edge that is crossed is inside, so a step across it is answered
 pub ok_inside : (t : Tiling) (a x : Address) (e f : ℕ) (r : Result ℕ Outside) → IfErr r (λ o. LiesOnBoundary t a e o.edge o.part) → Crosses t a e x f → IsOk r
 ok_inside t a x e f (Ok back) on h = refl

@@ -34,6 +34,10 @@ drawn_of t x = record {
 abbrev pub part_of : PlacedTile → Part
 part_of x = record { kind = x.kind; motion = x.motion; addr = x.addr }
 
+-- a part of what is drawn as a tile
+abbrev pub tile_of : Part → PlacedTile
+tile_of p = record { kind = p.kind; motion = p.motion; addr = p.addr }
+
 -- The whole tile as it is drawn: the kind of its first half is its class, the halves glued are its outline, and they are its parts.
 abbrev pub drawn_whole : Tiling → WholeTile → Drawn
 drawn_whole t w = record {

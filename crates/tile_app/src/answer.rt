@@ -65,11 +65,11 @@ fn machine_text<D: Layer, L: Ledger>(
         Command::Check => Ok(check_text(alloc, machine.checked())?.into_bytes()),
         Command::Place => bytes_of(place_text(alloc, machine.checked(), words)),
         Command::Neighbour => bytes_of(neighbour_text(alloc, machine, words, steps)),
-        Command::Walk => bytes_of(walk_text(alloc, machine, words, steps)),
+        Command::Walk => walk_text(alloc, machine, words, steps),
         Command::Draw => draw_text(alloc, machine, words, layers),
         Command::Calc => calc_text(alloc, machine, file),
         Command::Drill => bytes_of(drill_text(alloc, machine, words)),
-        Command::Star => bytes_of(star_text(alloc, machine, words, steps)),
+        Command::Star => star_text(alloc, machine, words, steps),
         Command::Verify => bytes_of(verify_text(alloc, machine, words, file)),
     }
 }

@@ -38,7 +38,8 @@ use plane_geom::window::Window;
 use std::alloc::Global;
 use tile_place::machine::Machine;
 use tile_shape::no_memory::NoMemory;
-use window_cover::tiles_of_window::{cover, covered_tiles};
+use window_cover::listed_tiles::listed_tiles;
+use window_cover::tiles_of_window::covered_tiles;
 
 /// The centre that right words give, still to be reduced.
 fn at_given(words: &[String]) -> Point
@@ -104,7 +105,7 @@ fn pictured(
         given_law();
         parts_law(machine);
         whole_tiles_law(machine);
-        let tiles = cover(alloc, machine, frame, window)?;
+        let tiles = listed_tiles(alloc, machine, frame, window)?;
         Ok(Picture::Wholes(glue(alloc, machine, frame, &tiles)?))
     } else {
         Ok(Picture::Tiles(covered_tiles(alloc, machine, frame, window)?))

@@ -11,7 +11,7 @@ ghost use Rattle.rule_model.specs.Usable.{IsSmall};
 ghost use Rattle.rule_model.specs.Views.{rule_of};
 ghost use Rattle.substitution.specs.Motion.{moved};
 ghost use Rattle.substitution.specs.RuleParts.{vertices_of, edge_count};
-ghost use Rattle.tile_app.specs.DrawnTile.{point_of, part_of, placed_point, drawn_of, drawn_whole, CanBeDrawn, IsDrawableHalf, CanBeDrawnWhole};
+ghost use Rattle.tile_app.specs.DrawnTile.{point_of, part_of, tile_of, placed_point, drawn_of, drawn_whole, CanBeDrawn, IsDrawableHalf, CanBeDrawnWhole};
 
 use arrayvec::ArrayVec;
 use cyclo_points::motion::Motion;
@@ -75,8 +75,10 @@ fn put_tile(
     ensures near { All (IsNear machine.now.order) outline.new.items }
     ensures placed { outline.new.items ≡ map (λ z. point_of machine.now.order (moved (points_of machine.now.order) (motion_in machine.now.order motion.now) z)) (vertices_of (rule_of machine.now) kind) }
 {
-    let checked = machine.checked();
-    put_vertices(outline, checked.order(), checked.vertices(kind), motion);
+    let vertices = machine.checked().vertices(kind);
+    for number in 0..vertices.len() {
+        outline.push(machine.corner(kind, motion, number));
+    }
 }
 
 /// The number of a half's glue edge.
@@ -172,21 +174,19 @@ fn second_part(whole: &WholeTile) -> Option<Part>
     }
 }
 
-/// Makes a tile drawn the one of this tile, in its place.
-pub fn fill(drawn: &mut Drawn, machine: &Machine, tile: PlacedTile)
-    requires can { CanBeDrawn (tiling_of machine.now) tile }
-    ensures tile { drawn.new ≡ drawn_of (tiling_of machine.now) tile }
+/// Makes a tile drawn the one of its first part, alone.
+pub fn fill(drawn: &mut Drawn, machine: &Machine)
+    requires can { CanBeDrawn (tiling_of machine.now) (tile_of drawn.old.first) }
+    ensures tile { drawn.new ≡ drawn_of (tiling_of machine.now) (tile_of drawn.old.first) }
     ensures drawable { IsDrawable machine.now.order drawn.new }
 {
-    drawn.class = tile.kind;
+    let kind = drawn.first.kind;
+    drawn.class = kind;
     drawn.outline.clear();
-    put_tile(&mut drawn.outline, machine, tile.kind, &tile.motion);
-    drawn.first = Part {
-        kind: tile.kind,
-        motion: tile.motion,
-        addr: tile.addr,
-    };
-    drawn.second = None;
+    put_tile(&mut drawn.outline, machine, kind, &drawn.first.motion);
+    if drawn.second.is_some() {
+        drawn.second = None;
+    }
 }
 
 /// Makes a tile drawn the one of this whole tile, in its place.

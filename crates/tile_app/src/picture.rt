@@ -30,7 +30,9 @@ impl Picture {
         }
     }
 
-    /// Makes a tile drawn the one at a place.
+    /// Makes a tile drawn the one at a place. It stands in code of its own, so that the caller's blank tile is made at
+    /// one stroke.
+    #[inline(never)]
     pub fn fill(&self, drawn: &mut Drawn, machine: &Machine, place: usize)
         requires can { CanBePictured (tiling_of machine.now) self.now }
         requires below { place < length (picture_of (tiling_of machine.now) self.now) }
@@ -38,7 +40,11 @@ impl Picture {
         ensures drawable { IsDrawable machine.now.order drawn.new }
     {
         match self {
-            Picture::Tiles(tiles) => fill(drawn, machine, tiles.tile(place)),
+            Picture::Tiles(tiles) => {
+                let first = &mut drawn.first;
+                tiles.put(place, &mut first.kind, &mut first.motion, &mut first.addr);
+                fill(drawn, machine);
+            }
             Picture::Wholes(wholes) => fill_whole(drawn, machine, &wholes[place]),
         }
     }

@@ -1,5 +1,5 @@
 //! The command `star`: the tiles round a vertex.
-ghost use Rattle.std.specs.Prelude.{◌≡◌, Some, Ok, IfOk, IfErr, All, map, string_bytes};
+ghost use Rattle.std.specs.Prelude.{◌≡◌, Some, Ok, IfOk, IfErr, All, map};
 ghost use Rattle.std.specs.List.{flat_map};
 ghost use Rattle.lazy_walk.specs.Frames.{FrameValue};
 ghost use Rattle.lazy_walk.specs.Standing.{Stands};
@@ -16,6 +16,7 @@ use crate::tile::address_given;
 use crate::walk::{seed_given, write_line};
 use crate::words::Key;
 use edge_tables::steps::Steps;
+use layer_api::line::Line;
 use lazy_walk::frame::Frame;
 use star_walk::corner::Corner;
 use star_walk::turn::star;
@@ -33,13 +34,14 @@ fn vertex_given(words: &[String]) -> u8
 }
 
 /// The lines of tiles round a vertex, each in its place in a frame.
-fn star_lines(alloc: Global, corners: &[Corner]) -> Result<String, AllocError>
+fn star_lines(alloc: Global, corners: &[Corner]) -> Result<Vec<u8>, AllocError>
     ensures { IfOk result (λ text. (t : Tiling) (f : FrameValue) → All (λ (c : Corner). Stands t f c.tile) corners.now
-        → string_bytes text ≡ flat_map (corner_line t) (map (corner_in t.order) corners.now)) }
+        → text.items ≡ flat_map (corner_line t) (map (corner_in t.order) corners.now)) }
 {
-    let mut text = String::new(alloc);
+    let mut text = Vec::new(alloc);
+    let mut line = Line::new();
     for corner in corners {
-        write_line(&mut text, &corner.tile, corner.vertex)?;
+        write_line(&mut text, &mut line, &corner.tile, corner.vertex)?;
     }
     Ok(text)
 }
@@ -50,9 +52,9 @@ pub fn star_text<L: Ledger>(
     machine: &Machine,
     words: &[String],
     steps: &mut Steps<L>,
-) -> Result<String, Status>
+) -> Result<Vec<u8>, Status>
     requires right { command_of (texts words.now) ≡ Ok StarCommand }
-    ensures printed { IfOk result (λ text. PrintsStar (texts words.now) (tiling_of machine.now) (string_bytes text)) }
+    ensures printed { IfOk result (λ text. PrintsStar (texts words.now) (tiling_of machine.now) text.items) }
     ensures refused { IfErr result (OrNoMemory (StarRefuses (texts words.now) (tiling_of machine.now))) }
 {
     let address = address_given(machine, words)?;

@@ -20,6 +20,7 @@ use crate::tile::address_given;
 use crate::words::Key;
 use arrayvec::ArrayVec;
 use edge_tables::steps::Steps;
+use layer_api::line::Line;
 use lazy_walk::frame::Frame;
 use std::alloc::{AllocError, Global};
 use std::sync::ledger::Ledger;
@@ -71,13 +72,27 @@ fn first_line(alloc: Global, tile: &PlacedTile) -> Result<String, AllocError>
     format!(in alloc; "{kind} {motion} {addr} -\n")
 }
 
-/// Writes the line of a tile in its place, with the number of the edge that leads back or of a vertex, behind a text.
-pub(crate) fn write_line(text: &mut String, tile: &PlacedTile, back: u8) -> Result<(), AllocError>
+/// Writes the line of a tile in its place, with the number of the edge that leads back or of a vertex, behind a text. It
+/// is made in the storage of a line.
+pub(crate) fn write_line(
+    text: &mut Vec<u8>,
+    line: &mut Line,
+    tile: &PlacedTile,
+    back: u8,
+) -> Result<(), AllocError>
     ensures { OnOk result ((order : Order) → IsOf order tile.now.motion.shift → tile.now.kind ≡ tile.now.addr.kind
-        → string_bytes text.new ≡ string_bytes text.old ++ walk_line order (address_of tile.now.addr) (motion_in order tile.now.motion) (Some back)) }
+        → text.new.items ≡ text.old.items ++ walk_line order (address_of tile.now.addr) (motion_in order tile.now.motion) (Some back)) }
 {
-    let PlacedTile { kind, motion, addr } = tile;
-    write!(text, "{kind} {motion} {addr} {back}\n")
+    line.clear();
+    line.put(b'\n');
+    line.put_small(back);
+    line.put(b' ');
+    line.put_address(&tile.addr);
+    line.put(b' ');
+    line.put_motion(&tile.motion);
+    line.put(b' ');
+    line.put_small(tile.kind);
+    Ok(text.extend_from_slice(line.as_bytes())?)
 }
 
 /// The text of a path that can be walked in the frame as it is.
@@ -87,17 +102,18 @@ fn lines<L: Ledger>(
     frame: &Frame,
     path: &[u8],
     steps: &mut Steps<L>,
-) -> Result<String, AllocError>
+) -> Result<Vec<u8>, AllocError>
     requires frame { IsFrameOf (tiling_of machine.now) frame.now }
     requires walked { CanBeWalked (tiling_of machine.now) (whole frame.now) path.now }
     requires at_most_1000 { length path.now ≤ longest_path }
-    ensures { IfOk result (λ text. IsWalkText (tiling_of machine.now) (whole frame.now) path.now (string_bytes text)) }
+    ensures { IfOk result (λ text. IsWalkText (tiling_of machine.now) (whole frame.now) path.now text.items) }
 {
     let mut tile = frame.base_tile(machine);
-    let mut text = first_line(alloc, &tile)?;
+    let mut text = first_line(alloc, &tile)?.into_bytes();
+    let mut line = Line::new();
     for edge in path {
         let back = frame.step(machine, &mut tile, *edge, steps).unwrap();
-        write_line(&mut text, &tile, back)?;
+        write_line(&mut text, &mut line, &tile, back)?;
     }
     Ok(text)
 }
@@ -108,9 +124,9 @@ pub fn walk_text<L: Ledger>(
     machine: &Machine,
     words: &[String],
     steps: &mut Steps<L>,
-) -> Result<String, Status>
+) -> Result<Vec<u8>, Status>
     requires right { command_of (texts words.now) ≡ Ok Walk }
-    ensures printed { IfOk result (λ text. PrintsWalk (texts words.now) (tiling_of machine.now) (string_bytes text)) }
+    ensures printed { IfOk result (λ text. PrintsWalk (texts words.now) (tiling_of machine.now) text.items) }
     ensures refused { IfErr result (OrNoMemory (WalkRefuses (texts words.now) (tiling_of machine.now))) }
 {
     let address = address_given(machine, words)?;

@@ -25,8 +25,7 @@ returns-in-Neighbour-clause-printed g c =
 
 pub returns-in-Walk-clause-printed : goal.returns-in-Walk-clause-printed
 returns-in-Walk-clause-printed g c =
-    subst (λ d. IfOk c.bytes_of-in-Walk.result (λ text. IsPrinted d (request_of (texts c.args.words.now) (map g.D.Layer.form c.args.layers.now) c.args.file.now) (tiling_of c.args.machine.now) text.items)) (sym c.in-Walk.is)
-    (bytes-printed string_bytes _ (PrintsWalk (texts c.args.words.now) (tiling_of c.args.machine.now)) c.walk_text.result c.bytes_of-in-Walk.result c.bytes_of-in-Walk.ensures.whether c.bytes_of-in-Walk.ensures.bytes c.walk_text.ensures.printed)
+    subst (λ d. IfOk c.walk_text.result (λ text. IsPrinted d (request_of (texts c.args.words.now) (map g.D.Layer.form c.args.layers.now) c.args.file.now) (tiling_of c.args.machine.now) text.items)) (sym c.in-Walk.is) c.walk_text.ensures.printed
 
 pub returns-in-Drill-clause-printed : goal.returns-in-Drill-clause-printed
 returns-in-Drill-clause-printed g c =
@@ -35,8 +34,7 @@ returns-in-Drill-clause-printed g c =
 
 pub returns-in-Star-clause-printed : goal.returns-in-Star-clause-printed
 returns-in-Star-clause-printed g c =
-    subst (λ d. IfOk c.bytes_of-in-Star.result (λ text. IsPrinted d (request_of (texts c.args.words.now) (map g.D.Layer.form c.args.layers.now) c.args.file.now) (tiling_of c.args.machine.now) text.items)) (sym c.in-Star.is)
-    (bytes-printed string_bytes _ (PrintsStar (texts c.args.words.now) (tiling_of c.args.machine.now)) c.star_text.result c.bytes_of-in-Star.result c.bytes_of-in-Star.ensures.whether c.bytes_of-in-Star.ensures.bytes c.star_text.ensures.printed)
+    subst (λ d. IfOk c.star_text.result (λ text. IsPrinted d (request_of (texts c.args.words.now) (map g.D.Layer.form c.args.layers.now) c.args.file.now) (tiling_of c.args.machine.now) text.items)) (sym c.in-Star.is) c.star_text.ensures.printed
 
 pub returns-in-Draw-clause-printed : goal.returns-in-Draw-clause-printed
 returns-in-Draw-clause-printed g c =

@@ -1,43 +1,74 @@
-use Rattle.std.proofs.Common.{◌≡◌, ◌++◌, List, All, map, length, sym, ap, ◌∙◌, subst, arith}
-use Rattle.std.proofs.lemmas.List.{length-append, length-map}
+use Rattle.std.proofs.Common.{◌≡◌, ℕ, ◌++◌, ◌+◌, ◌<◌, ◌≤◌, List, [], All, map, take, length, pos, sym, ap, ◌∙◌, subst, arith, rules, take_all}
+use Rattle.std.proofs.lemmas.List.{length-map}
+use Rattle.std.proofs.lemmas.List.Elements.{All-push}
 use Rattle.cyclo_points.specs.declared.point.Point.{Point}
+use Rattle.cyclo_points.specs.Motion.{motion_in}
+use Rattle.cyclo_points.specs.Order.{NumberOf, points_of}
+use Rattle.cyclo_points.specs.Point.{point_in}
 use Rattle.layer_api.specs.Drawable.{IsNear}
-use Rattle.rule_model.specs.Usable.{IsSmall}
-use Rattle.rule_model.specs.Views.{rule_of}
 use Rattle.rule_model.specs.declared.rule.Rule.{Rule}
-use Rattle.substitution.specs.RuleParts.{vertices_of}
-use Rattle.tile_app.specs.DrawnTile.{placed_point}
-use Rattle.tile_app.proofs.Outlines.{into-empty, placed-vertices}
-use Rattle.tile_app.proofs.Prototiles.{its-vertices, at-least_3, none-of}
+use Rattle.rule_model.specs.Tiling.{tiling_of}
+use Rattle.rule_model.specs.Views.{rule_of}
+use Rattle.substitution.specs.Motion.{moved}
+use Rattle.substitution.specs.RuleParts.{edge_count, vertices_of}
+use Rattle.tile_app.specs.DrawnTile.{point_of}
+use Rattle.tile_app.proofs.Outlines.{into-empty}
+use Rattle.tile_app.proofs.Placed.{corner_placed, one_more_of}
+use Rattle.tile_app.proofs.Prototiles.{HasVertices, its-vertices, at-least_3, at-most_12, none-of}
 use Rattle.tile_app.proofs.drawn_tile.put_tile.Goals as goal
 
-pub put_vertices-requires-clause-small : goal.put_vertices-requires-clause-small
-put_vertices-requires-clause-small c = subst (λ o. All (IsSmall o) c.vertices.result.now) (sym c.order.ensures.order) c.vertices.ensures.small
+as-many : (m : Rule) (kind : ℕ) (vs : List Point) → HasVertices m kind vs → length vs ≡ length (vertices_of (rule_of m) kind)
+as-many m kind vs h = sym (length-map vs (point_in m.order)) ∙ ap (λ (zs : List (NumberOf m.order)). length zs) h.numbers
+
+pub loop-number-init : goal.loop-number-init
+loop-number-init c = record { count = c.requires.empty; near = none-of (IsNear c.args.machine.now.order) c.args.outline.now.items c.requires.empty; placed = let e = c.requires.empty in search rules }
+
+pub corner-requires-clause-vertex_exists : goal.corner-requires-clause-vertex_exists
+corner-requires-clause-vertex_exists c =
+    subst (λ n. c.loop-number.number < n) (c.vertices-vertices.ensures.each_edge ∙ ap (λ (r : Rule). edge_count (rule_of r) c.args.kind) c.checked.ensures.rule) c.loop-number-test.true
+
+pub push-requires : goal.push-requires
+push-requires c =
+    let vs = c.vertices-vertices.result.now in
+    let h = its-vertices c.args.machine.now c.checked.result.now c.args.kind vs c.checked.ensures.rule c.vertices-vertices.ensures.numbers c.vertices-vertices.ensures.each_edge c.vertices-vertices.ensures.small in
+    let most = at-most_12 c.args.machine.now c.args.kind vs h c.checked.ensures.usable c.requires.exists in
+    let count = c.loop-number.invariant.count in
+    omega (arith, most, count, c.loop-number-test.true)
+
+pub loop-number-preserved : goal.loop-number-preserved
+loop-number-preserved c =
+    let m = c.args.machine.now in
+    let t = tiling_of m in
+    let vs = c.vertices-vertices.result.now in
+    let ns = vertices_of (rule_of m) c.args.kind in
+    let i = c.loop-number.number in
+    let p = c.corner.result in
+    let h = its-vertices m c.checked.result.now c.args.kind vs c.checked.ensures.rule c.vertices-vertices.ensures.numbers c.vertices-vertices.ensures.each_edge c.vertices-vertices.ensures.small in
+    let four : length p.c ≡ 4 = search rules in
+    record {
+      count = let a = c.push.ensures.len in let b = c.loop-number.invariant.count in omega (arith, a, b);
+      near = rw c.push.ensures.items (All-push (IsNear m.order) c.loop-number.outline.items p c.loop-number.invariant.near (record { of_order = c.corner.ensures.in_order; within = c.corner.ensures.within }));
+      placed = one_more_of (λ z. point_of m.order (moved (points_of m.order) (motion_in m.order c.args.motion.now) z)) ns c.args.outline.now.items c.loop-number.outline.items c.push.new.self.items i p ((points_of m.order).ring.int (pos 0))
+          c.loop-number.invariant.placed c.push.ensures.items (subst (λ n. i < n) (as-many m c.args.kind vs h) c.loop-number-test.true) (corner_placed t c.args.kind c.args.motion.now i p four c.corner.ensures);
+    }
 
 pub returns-clause-three : goal.returns-clause-three
 returns-clause-three c =
-    let m = c.args.machine.now in
-    let vs = c.vertices.result.now in
-    let h = its-vertices m c.checked-checked.result.now c.args.kind vs c.checked-checked.ensures.rule c.vertices.ensures.numbers c.vertices.ensures.each_edge c.vertices.ensures.small in
-    let l = at-least_3 m c.args.kind vs h c.checked-checked.ensures.usable c.requires.exists in
-    let a = ap (λ (xs : List Point). length xs) c.put_vertices.ensures.placed in
-    let b = length-append c.args.outline.now.items (map (placed_point c.order.result c.args.motion.now) vs) in
-    let d = length-map vs (placed_point c.order.result c.args.motion.now) in
-    omega (arith, l, a, b, d)
+    let vs = c.vertices-vertices.result.now in
+    let h = its-vertices c.args.machine.now c.checked.result.now c.args.kind vs c.checked.ensures.rule c.vertices-vertices.ensures.numbers c.vertices-vertices.ensures.each_edge c.vertices-vertices.ensures.small in
+    let least = at-least_3 c.args.machine.now c.args.kind vs h c.checked.ensures.usable c.requires.exists in
+    let count = c.loop-number.invariant.count in
+    omega (arith, least, count, c.loop-number-test.false)
 
 pub returns-clause-near : goal.returns-clause-near
-returns-clause-near c =
-    let same = c.order.ensures.order ∙ ap (λ (r : Rule). r.order) c.checked-checked.ensures.rule in
-    subst (λ o. All (IsNear o) c.put_vertices.new.outline.items) same (c.put_vertices.ensures.near (none-of (IsNear c.order.result) c.args.outline.now.items c.requires.empty))
+returns-clause-near c = c.loop-number.invariant.near
 
 pub returns-clause-placed : goal.returns-clause-placed
 returns-clause-placed c =
     let m = c.args.machine.now in
-    let vs = c.vertices.result.now in
-    let os = c.args.outline.now.items in
-    let motion = c.args.motion.now in
-    let same = c.order.ensures.order ∙ ap (λ (r : Rule). r.order) c.checked-checked.ensures.rule in
-    let h = its-vertices m c.checked-checked.result.now c.args.kind vs c.checked-checked.ensures.rule c.vertices.ensures.numbers c.vertices.ensures.each_edge c.vertices.ensures.small in
-    let placed = subst (λ o. c.put_vertices.new.outline.items ≡ os ++ map (placed_point o motion) vs) same c.put_vertices.ensures.placed in
-    into-empty os (map (placed_point m.order motion) vs) c.put_vertices.new.outline.items c.requires.empty placed
-    ∙ placed-vertices m.order motion vs (vertices_of (rule_of m) c.args.kind) h.numbers
+    let vs = c.vertices-vertices.result.now in
+    let ns = vertices_of (rule_of m) c.args.kind in
+    let h = its-vertices m c.checked.result.now c.args.kind vs c.checked.ensures.rule c.vertices-vertices.ensures.numbers c.vertices-vertices.ensures.each_edge c.vertices-vertices.ensures.small in
+    let all : length ns ≤ c.loop-number.number = subst (λ n. n ≤ c.loop-number.number) (as-many m c.args.kind vs h) c.loop-number-test.false in
+    let F : NumberOf m.order → Point = λ z. point_of m.order (moved (points_of m.order) (motion_in m.order c.args.motion.now) z) in
+    into-empty c.args.outline.now.items (map F (take c.loop-number.number ns)) c.loop-number.outline.items c.requires.empty c.loop-number.invariant.placed ∙ ap (map F) (take_all c.loop-number.number ns all)

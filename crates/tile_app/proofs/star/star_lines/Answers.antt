@@ -12,7 +12,7 @@ loop-corner-preserved c = λ t f stands.
     let k = c.corner-item.result in
     let i = c.loop-corner.corner-index in
     let here : Stands t f k.tile = subst (λ (x : Corner). Stands t f x.tile) (sym c.corner-item.is) (stands i k c.loop-corner-test.true) in
-    corners-more t c.args.corners.now i k (string_bytes c.loop-corner.text) (string_bytes c.write_line.new.text) c.loop-corner-test.true c.corner-item.is (c.loop-corner.invariant t f stands)
+    corners-more t c.args.corners.now i k c.loop-corner.text.items c.write_line.new.text.items c.loop-corner-test.true c.corner-item.is (c.loop-corner.invariant t f stands)
     (c.in_ok-write_line.ensures t.order here.in_order here.its_kind)
 
 pub returns : goal.returns

@@ -11,4 +11,4 @@ use Rattle.tile_app.proofs.star.star_lines.Given as goal
 -- the text has the lines of the corners so far
 abbrev pub invariant-loop-corner : goal.invariant-loop-corner
 invariant-loop-corner l = (t : Tiling) (f : FrameValue) → All (λ (c : Corner). Stands t f c.tile) l.corners
-    → string_bytes l.text ≡ flat_map (corner_line t) (map (corner_in t.order) (take l.corner-index l.corners))
+    → l.text.items ≡ flat_map (corner_line t) (map (corner_in t.order) (take l.corner-index l.corners))

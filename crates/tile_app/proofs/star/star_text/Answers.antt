@@ -108,6 +108,6 @@ returns-clause-printed g c =
       corners = map (corner_in m.order) c.in_ok-found.found.corners.items;
       round = c.in_ok-found.ensures.round;
       in_turn = c.in_ok-found.ensures.turning;
-      is_text = subst (λ cs. string_bytes c.in_ok-star_lines.field-0 ≡ flat_map (corner_line t) (map (corner_in m.order) cs)) value
+      is_text = subst (λ cs. c.in_ok-star_lines.field-0.items ≡ flat_map (corner_line t) (map (corner_in m.order) cs)) value
           (c.in_ok-star_lines.ensures t frame (subst (All (λ (k : Corner). Stands t frame k.tile)) (sym value) c.in_ok-found.ensures.stand));
     }

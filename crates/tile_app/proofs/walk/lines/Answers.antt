@@ -1,4 +1,4 @@
-use Rattle.std.proofs.Common.{◌+◌, ◌*◌, ◌^◌, ◌++◌, [], get_or, take, drop, None, Some, string_bytes, refl, sym, ap, ◌∙◌, subst, arith, append_assoc, append-nil}
+use Rattle.std.proofs.Common.{rules, ◌≡◌, ◌+◌, ◌*◌, ◌^◌, ◌++◌, [], get_or, take, drop, None, Some, string_bytes, refl, sym, ap, ◌∙◌, subst, arith, append_assoc, append-nil}
 use Rattle.std.proofs.lemmas.List.{take_more}
 use Rattle.addressing.specs.Address.{Address}
 use Rattle.cyclo_points.specs.Motion.{motion_in}
@@ -18,13 +18,14 @@ loop-edge-init g c =
     let m = c.args.machine.now in
     let tile = c.base_tile-tile.result in
     let stands = c.base_tile-tile.ensures.stands in
+    let same : c.into_bytes-text.result.items ≡ string_bytes c.in_ok-first_line.field-0 = search rules in
     record {
-      first = string_bytes c.in_ok-text.text;
+      first = string_bytes c.in_ok-first_line.field-0;
       after = [];
-      base = subst (λ (a : Address). IsWalkLine (tiling_of m) (whole c.args.frame.now) a None (string_bytes c.in_ok-text.text)) c.base_tile-tile.ensures.base
-          (record { motion = motion_in m.order tile.motion; stands = stands.in_frame; is_line = c.in_ok-text.ensures m.order stands.in_order stands.its_kind });
+      base = subst (λ (a : Address). IsWalkLine (tiling_of m) (whole c.args.frame.now) a None (string_bytes c.in_ok-first_line.field-0)) c.base_tile-tile.ensures.base
+          (record { motion = motion_in m.order tile.motion; stands = stands.in_frame; is_line = c.in_ok-first_line.ensures m.order stands.in_order stands.its_kind });
       along = (c.base_tile-tile.ensures.base, refl);
-      is_text = sym (append-nil (string_bytes c.in_ok-text.text));
+      is_text = same ∙ sym (append-nil (string_bytes c.in_ok-first_line.field-0));
       stands = stands;
       within = c.base_tile-tile.ensures.at_origin;
       ahead = subst (λ (a : Address). CanBeWalked (tiling_of m) a c.args.path.now) (sym c.base_tile-tile.ensures.base) c.requires.walked;

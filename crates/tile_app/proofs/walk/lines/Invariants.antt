@@ -15,7 +15,7 @@ invariant-loop-edge g l = record {
   after : List ℕ;
   base : IsWalkLine (tiling_of l.machine) (whole l.frame) (whole l.frame) None first;
   along : AreLines (tiling_of l.machine) (whole l.frame) (whole l.frame) (take l.edge-index l.path) (address_of l.tile.addr) after;
-  is_text : string_bytes l.text ≡ first ++ after;
+  is_text : l.text.items ≡ first ++ after;
   stands : Stands (tiling_of l.machine) l.frame l.tile;
   within : IsWithin (512 * l.edge-index) l.tile.motion.shift;
   ahead : CanBeWalked (tiling_of l.machine) (address_of l.tile.addr) (drop l.edge-index l.path);

@@ -30,6 +30,6 @@ returns-clause-printed g c =
       no_shallower = subst (λ n. n ≤ length last.digits) deep c.in_ok-grow_along.ensures.frame.no_shallower;
       least = λ n l k. subst (IsStopped t (frame_at words t a n)) path (subst (λ (b : Address). IsStopped t b c.as_slice.result.now) (frame-is words t a f h is c.grow_to.ensures.frame n)
           (c.in_ok-grow_along.ensures.least n (subst (λ m. m ≤ n) (sym deep) l) k));
-      is_text = subst (λ p. IsWalkText t (frame_at words t a (length last.digits)) p (string_bytes c.in_ok-lines.field-0)) path'
-          (subst (λ (b : Address). IsWalkText t b c.as_slice-2.result.now (string_bytes c.in_ok-lines.field-0)) (last-is words t a f h is c.grow_to.ensures.frame last c.in_ok-grow_along.ensures.frame) c.in_ok-lines.ensures);
+      is_text = subst (λ p. IsWalkText t (frame_at words t a (length last.digits)) p (c.in_ok-lines.field-0.items)) path'
+          (subst (λ (b : Address). IsWalkText t b c.as_slice-2.result.now (c.in_ok-lines.field-0.items)) (last-is words t a f h is c.grow_to.ensures.frame last c.in_ok-grow_along.ensures.frame) c.in_ok-lines.ensures);
     }
