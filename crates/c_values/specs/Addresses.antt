@@ -1,0 +1,19 @@
+-- What the plain addresses of C stand for.
+use Rattle.std.specs.Prelude.{◌≤◌, map, take}
+use Rattle.addressing.specs.Address as theory
+use Rattle.rule_model.specs.Tiling.{Tiling, children}
+use Rattle.c_values.specs.declared.plain_address.PlainDigit.{PlainDigit}
+use Rattle.c_values.specs.declared.plain_address.PlainAddress.{PlainAddress}
+
+-- a digit, with its numbers as they are
+abbrev pub digit_in : PlainDigit → theory.Step
+digit_in d = record { child = d.child; parent = d.parent }
+
+-- the kind, and the first `depth` digits
+abbrev pub address_in : PlainAddress → theory.Address
+address_in p = record { kind = p.kind; digits = map digit_in (take p.depth p.digits) }
+
+-- it has at most 64 digits, and is the address of a tile of this tiling
+pub record NamesTile (t : Tiling) (p : PlainAddress) : Type 0 where
+  pub no_deeper : p.depth ≤ 64
+  pub fits : theory.Fits (children t) (address_in p)

@@ -1,0 +1,6 @@
+pub mod Shared
+pub mod Addresses
+pub mod Tiles
+pub mod Frames
+pub mod Windows
+pub mod Statuses

@@ -1,0 +1,16 @@
+-- What the plain tiles of C stand for.
+use Rattle.std.specs.Prelude.{ℕ, pos, [], ◌∷◌}
+use Rattle.cyclo_points.specs.declared.motion.Motion.{Motion}
+use Rattle.c_values.specs.declared.plain_tile.PlainTile.{PlainTile}
+
+-- the motion of a tile: its turn and its shift
+abbrev pub motion_of : PlainTile → Motion
+motion_of p = record { turn = p.turn; shift = record { c = p.shift } }
+
+-- a tile of this kind at its place, with this number: its status is 0, and so is what is kept for later
+abbrev pub tile_as : ℕ → Motion → ℕ → PlainTile
+tile_as kind m number = record { shift = m.shift.c; status = 0; kind = kind; turn = m.turn; number = number; rest = 0 ∷ 0 ∷ 0 ∷ 0 ∷ [] }
+
+-- no tile, for this reason: all its other numbers are 0
+abbrev pub refused_as : ℕ → PlainTile
+refused_as status = record { shift = pos 0 ∷ pos 0 ∷ pos 0 ∷ pos 0 ∷ []; status = status; kind = 0; turn = 0; number = 0; rest = 0 ∷ 0 ∷ 0 ∷ 0 ∷ [] }

@@ -1,0 +1,16 @@
+//! The values that cross to C and what they stand for.
+//!
+//! A machine crosses as a handle, one pointer to a machine that stays for good and is only read: contracts see the
+//! rule of the machine, and it is proved that the handle may go to another thread. Addresses, tiles, frames and windows
+//! cross as plain numbers of fixed width. Every number that a C caller may pass is tested as a plain value is turned
+//! into the engine's own; the definitions in specs/ say which tile, motion, frame or window the numbers stand for.
+#![tactic(auto)]
+
+pub mod machine_slot;
+pub mod opaque;
+pub mod plain_address;
+pub mod plain_frame;
+pub mod plain_tile;
+pub mod plain_window;
+pub mod shared_machine;
+pub mod status;

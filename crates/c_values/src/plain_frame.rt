@@ -1,0 +1,31 @@
+//! Frames as plain numbers.
+ghost use Rattle.std.specs.Prelude.{◌≡◌, ◌↔◌, IsSome, IfSome};
+ghost use Rattle.lazy_walk.specs.Frames.{IsFrameOf};
+ghost use Rattle.rule_model.specs.Tiling.{tiling_of};
+ghost use Rattle.c_values.specs.Addresses.{NamesTile};
+ghost use Rattle.c_values.specs.Frames.{frame_in};
+
+use crate::plain_address::PlainAddress;
+use lazy_walk::frame::Frame;
+use tile_place::machine::Machine;
+
+/// A frame: the supertiles round a base tile, which grow at the coarse end as a seed chooses. The same two numbers
+/// give the same tiling in every call.
+#[repr(C)]
+#[derive(Clone, Copy)]
+pub struct PlainFrame {
+    pub seed: u64,
+    pub base: PlainAddress,
+}
+
+impl PlainFrame {
+    /// The frame of these numbers, with no digit grown. None exactly where the base names no tile.
+    pub fn frame(&self, machine: &Machine) -> Option<Frame>
+        ensures seen { IfSome result (λ f. f ≡ frame_in self.now) }
+        ensures is_frame { IfSome result (IsFrameOf (tiling_of machine.now)) }
+        ensures named { IsSome result ↔ NamesTile (tiling_of machine.now) self.now.base }
+    {
+        let base = self.base.tile(machine)?;
+        Some(Frame::new(base, self.seed))
+    }
+}

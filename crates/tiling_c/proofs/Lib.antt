@@ -1,0 +1,4 @@
+mod Covers
+mod EdgeGiven
+mod Fronts
+mod TextGiven

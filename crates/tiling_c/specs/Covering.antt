@@ -1,0 +1,70 @@
+-- The tiles of a window in a caller's arrays.
+use Rattle.std.specs.Prelude.{◌≡◌, ◌⊎◌, ℕ, List, length, map, min, take, drop}
+use Rattle.addressing.specs.Address as theory
+use Rattle.lazy_walk.specs.Frames.{FrameValue, GrowsTo}
+use Rattle.plane_geom.specs.declared.window.Window.{Window}
+use Rattle.rule_model.specs.Tiling.{Tiling}
+use Rattle.tile_place.specs.declared.placed_tile.PlacedTile.{PlacedTile}
+use Rattle.tile_shape.specs.Views.{address_of}
+use Rattle.tile_app.specs.TilesOfWindow.{TilesOfWindow}
+use Rattle.window_cover.specs.declared.cover_fault.CoverFault.{CoverFault}
+use Rattle.window_cover.specs.declared.cover_fault.CoverFault.TheVariants.{DepthLimit, CoordLimit, TooManyTiles, NoMemory}
+use Rattle.window_cover.specs.Causes.{HasCause}
+use Rattle.c_values.specs.declared.plain_address.PlainAddress.{PlainAddress}
+use Rattle.c_values.specs.declared.plain_tile.PlainTile.{PlainTile}
+use Rattle.c_values.specs.declared.plain_window.PlainWindow.{PlainWindow}
+use Rattle.c_values.specs.Addresses.{address_in}
+use Rattle.c_values.specs.Statuses.{depth_limit, coord_limit, too_many_tiles, no_memory}
+use Rattle.c_values.specs.Tiles.{tile_as}
+use Rattle.c_values.specs.Windows.{GivesWindow}
+
+-- a tile at its place, as plain numbers, and its address
+abbrev pub tile_shown : PlacedTile → PlainTile
+tile_shown x = tile_as x.kind x.motion 0
+
+abbrev pub address_shown : PlacedTile → theory.Address
+address_shown x = address_of x.addr
+
+-- of so many tiles as many stand in an array as it has room for
+abbrev pub held : List PlacedTile → ℕ → ℕ
+held all room = min (length all) room
+
+-- the tiles stand in front in an array, as many as it has room for; behind them it is as it was
+pub record HoldsTiles (all : List PlacedTile) (old new : List PlainTile) : Type 0 where
+  pub front : take (held all (length old)) new ≡ map tile_shown (take (held all (length old)) all)
+  pub behind : drop (held all (length old)) new ≡ drop (held all (length old)) old
+
+-- and so do their addresses in another
+pub record HoldsAddresses (all : List PlacedTile) (old new : List PlainAddress) : Type 0 where
+  pub front : map address_in (take (held all (length old)) new) ≡ map address_shown (take (held all (length old)) all)
+  pub behind : drop (held all (length old)) new ≡ drop (held all (length old)) old
+
+-- These tiles are exactly those of a frame, grown from `start`, that meet the window, each once and in order, and they cover it. Their number is told, and they
+-- and their addresses stand in the arrays, as far as there is room.
+pub record IsCover (t : Tiling) (start : FrameValue) (window : Window) (tiles new_tiles : List PlainTile) (addrs new_addrs : List PlainAddress) (count : ℕ) : Type 0 where
+  pub frame : FrameValue
+  pub all : List PlacedTile
+  pub exactly : TilesOfWindow t start window frame all
+  pub number : count ≡ length all
+  pub held_tiles : HoldsTiles all tiles new_tiles
+  pub held_addresses : HoldsAddresses all addrs new_addrs
+
+-- the status of each fault
+abbrev pub status_of : CoverFault → ℕ
+status_of (DepthLimit addr edge) = depth_limit
+status_of (CoordLimit value) = coord_limit
+status_of TooManyTiles = too_many_tiles
+status_of NoMemory = no_memory
+
+-- the search for the window's tiles, in the frame as it had grown then, has a cause to end, and this is its status
+pub record EndsCover (t : Tiling) (start : FrameValue) (window : Window) (status : ℕ) : Type 0 where
+  pub frame : FrameValue
+  pub grown : GrowsTo t start frame
+  pub fault : CoverFault
+  pub cause : HasCause t start frame window fault
+  pub is_status : status ≡ status_of fault
+
+-- the numbers give a window, and there is room for no addresses, or for as many as tiles
+pub record AsksForWindow (window : PlainWindow) (tiles : List PlainTile) (addrs : List PlainAddress) : Type 0 where
+  pub window_given : GivesWindow window
+  pub lengths : (length addrs ≡ 0) ⊎ (length addrs ≡ length tiles)

@@ -1,0 +1,91 @@
+//! Addresses and their texts.
+ghost use Rattle.std.specs.Prelude.{◌≡◌, ◌↔◌, ◌⊎◌, ◌<◌, ◌≤◌, ◌++◌, Ok, IsOk, length, take, drop};
+ghost use Rattle.rule_model.specs.Tiling.{tiling_of, children};
+ghost use Rattle.tile_shape.specs.AddressIn.{address_in as address_of_text};
+ghost use Rattle.tile_shape.specs.Text.{address_text};
+ghost use Rattle.c_values.specs.Addresses.{address_in, NamesTile};
+ghost use Rattle.c_values.specs.Statuses.{ok, bad_words, bad_address};
+
+use c_values::plain_address::PlainAddress;
+use c_values::shared_machine::SharedMachine;
+use c_values::status::{BAD_ADDRESS, BAD_WORDS, OK};
+use tile_place::machine::Machine;
+use tile_shape::reading::read_address;
+use tile_shape::writing::write_address;
+
+/// The same of a machine's rule.
+pub fn put_address(machine: &Machine, text: &[u8], out: &mut PlainAddress) -> u8
+    ensures read { result ≡ ok → address_of_text (children (tiling_of machine.now)) text.now ≡ Ok (address_in out.new) }
+    ensures names { result ≡ ok → NamesTile (tiling_of machine.now) out.new }
+    ensures bad_address { (result ≡ bad_address) ↔ (¬ IsOk (address_of_text (children (tiling_of machine.now)) text.now)) }
+    ensures unchanged { ¬ result ≡ ok → out.new ≡ out.old }
+    ensures statuses { (result ≡ ok) ⊎ (result ≡ bad_address) }
+{
+    match read_address(machine.checked().uses(), text) {
+        Ok(addr) => {
+            out.write(&addr);
+            OK
+        }
+        Err(_) => BAD_ADDRESS,
+    }
+}
+
+/// The address that a text is.
+#[unsafe(no_mangle)]
+pub extern "C" fn tiling_read_address(t: SharedMachine, text: &[u8], out: &mut PlainAddress) -> u8
+    ensures read { result ≡ ok → address_of_text (children (tiling_of t.rule)) text.now ≡ Ok (address_in out.new) }
+    ensures names { result ≡ ok → NamesTile (tiling_of t.rule) out.new }
+    ensures bad_address { (result ≡ bad_address) ↔ (¬ IsOk (address_of_text (children (tiling_of t.rule)) text.now)) }
+    ensures unchanged { ¬ result ≡ ok → out.new ≡ out.old }
+    ensures statuses { (result ≡ ok) ⊎ (result ≡ bad_address) }
+{
+    put_address(t.get(), text, out)
+}
+
+/// The text of an address, into the first bytes of `text`: at most 515, with no 0 behind them.
+#[unsafe(no_mangle)]
+pub extern "C" fn tiling_write_address(
+    addr: &PlainAddress,
+    text: &mut [u8],
+    bytes: &mut usize,
+) -> u8
+    ensures written { result ≡ ok → text.new ≡ address_text (address_in addr.now) ++ drop bytes.new text.old }
+    ensures bytes { result ≡ ok → bytes.new ≡ length (address_text (address_in addr.now)) }
+    ensures bad_words { (result ≡ bad_words) ↔ ((64 < addr.now.depth) ⊎ (length text.old < length (address_text (address_in addr.now)))) }
+    ensures text_unchanged { ¬ result ≡ ok → text.new ≡ text.old }
+    ensures bytes_unchanged { ¬ result ≡ ok → bytes.new ≡ bytes.old }
+    ensures statuses { (result ≡ ok) ⊎ (result ≡ bad_words) }
+{
+    let Some(tile) = addr.read() else {
+        return BAD_WORDS;
+    };
+    let written = write_address(&tile);
+    let written = written.as_slice();
+    if text.len() < written.len() {
+        return BAD_WORDS;
+    }
+    text[..written.len()].copy_from_slice(written);
+    *bytes = written.len();
+    OK
+}
+
+/// Whether numbers are the address of a tile of a machine's rule.
+pub fn fits(machine: &Machine, addr: &PlainAddress) -> u8
+    ensures named { (result ≡ ok) ↔ NamesTile (tiling_of machine.now) addr.now }
+    ensures statuses { (result ≡ ok) ⊎ (result ≡ bad_address) }
+{
+    if addr.tile(machine).is_some() {
+        OK
+    } else {
+        BAD_ADDRESS
+    }
+}
+
+/// Whether numbers are the address of a tile of the rule.
+#[unsafe(no_mangle)]
+pub extern "C" fn tiling_fits(t: SharedMachine, addr: &PlainAddress) -> u8
+    ensures named { (result ≡ ok) ↔ NamesTile (tiling_of t.rule) addr.now }
+    ensures statuses { (result ≡ ok) ⊎ (result ≡ bad_address) }
+{
+    fits(t.get(), addr)
+}

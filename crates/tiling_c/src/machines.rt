@@ -1,0 +1,87 @@
+//! Machines by the names of built-in rules.
+ghost use Rattle.std.specs.Prelude.{◌≡◌, ◌↔◌, ◌⊎◌, None, Some, option_map};
+ghost use Rattle.tile_app.specs.Tilings.{builtin_tiling, name_in};
+ghost use Rattle.c_values.specs.Statuses.{ok, bad_words, no_memory};
+ghost use Rattle.tiling_c.specs.Machines.{HasMachine};
+
+use builtin_rules::builtin::builtin;
+use builtin_rules::name::Name;
+use c_values::machine_slot::MachineSlot;
+use c_values::shared_machine::SharedMachine;
+use c_values::status::{BAD_WORDS, NO_MEMORY, OK};
+use rule_model::checked::Checked;
+use std::alloc::Global;
+use tile_place::machine::Machine;
+
+/// The number of the header that this library answers.
+#[unsafe(no_mangle)]
+pub extern "C" fn tiling_abi() -> u32
+    ensures { result ≡ 1 }
+{
+    1
+}
+
+/// Puts a handle of the machine of a checked rule, which stays for good, into a slot.
+pub fn put_machine(alloc: Global, checked: Checked, out: &mut MachineSlot) -> u8
+    ensures machine { result ≡ ok → out.new.rule ≡ Some checked }
+    ensures unchanged { ¬ result ≡ ok → out.new ≡ out.old }
+    ensures statuses { (result ≡ ok) ⊎ (result ≡ no_memory) }
+{
+    let Ok(machine) = Machine::new(alloc, checked) else {
+        return NO_MEMORY;
+    };
+    match Box::new(alloc, machine) {
+        Ok(kept) => {
+            *out = MachineSlot::of(Box::leak(kept));
+            OK
+        }
+        Err(_) => NO_MEMORY,
+    }
+}
+
+/// The built-in rule that bytes name.
+fn name_in(name: &[u8]) -> Option<Name>
+    ensures { result ≡ name_in name.now }
+{
+    if name == b"chair".as_slice() {
+        Some(Name::Chair)
+    } else if name == b"p2".as_slice() {
+        Some(Name::P2)
+    } else if name == b"p3".as_slice() {
+        Some(Name::P3)
+    } else if name == b"ab".as_slice() {
+        Some(Name::AmmannBeenker)
+    } else if name == b"halfhex".as_slice() {
+        Some(Name::HalfHex)
+    } else {
+        None
+    }
+}
+
+/// The machine of a built-in rule: its name is "chair", "p2", "p3", "ab" or "halfhex".
+#[unsafe(no_mangle)]
+pub extern "C" fn tiling_open(alloc: Global, name: &[u8], out: &mut MachineSlot) -> u8
+    ensures named { result ≡ ok → HasMachine out.new (option_map builtin_tiling (name_in name.now)) }
+    ensures bad_words { (result ≡ bad_words) ↔ (name_in name.now ≡ None) }
+    ensures unchanged { ¬ result ≡ ok → out.new ≡ out.old }
+    ensures statuses { (result ≡ ok) ⊎ (result ≡ bad_words) ⊎ (result ≡ no_memory) }
+{
+    let Some(name) = name_in(name) else {
+        return BAD_WORDS;
+    };
+    match builtin(alloc, name) {
+        Ok(checked) => put_machine(alloc, checked, out),
+        Err(_) => NO_MEMORY,
+    }
+}
+
+/// Two handles of one machine. What C does where it copies a handle is this call.
+#[unsafe(no_mangle)]
+pub extern "C" fn tiling_share(t: SharedMachine, a: &mut MachineSlot, b: &mut MachineSlot)
+    ensures first { a.new.rule ≡ Some t.rule }
+    ensures second { b.new.rule ≡ Some t.rule }
+{
+    let machine = t.get();
+    *a = MachineSlot::of(machine);
+    *b = MachineSlot::of(machine);
+}

@@ -1,0 +1,141 @@
+/* tiling.h: aperiodic substitution tilings, exactly, inside a program.
+ *
+ * The calls are those of the command `tiling`, on numbers in place of texts. docs/FORMATS.md says what each
+ * means, and docs/PROMISES.md what is proved. A rule is made into a machine once; after that a call takes
+ * from under a microsecond to some microseconds. Nothing here opens a file, prints, starts a thread, or
+ * keeps a state of its own.
+ *
+ * A call that answers a tiling_status answers the command's exit code. After any answer but TILING_OK, what
+ * the call would have filled is as it was, unless the comment on the call says otherwise. No library can
+ * test these, so a caller owes them:
+ *   - each pointer leads to as many values as are said; where the number is 0, any valid pointer does;
+ *   - what a call fills overlaps nothing else that it is passed;
+ *   - a tiling_machine comes from tiling_open or tiling_share of this library.
+ * All else is tested and refused: no number, address or array of numbers makes a call do harm.
+ *
+ * A machine is only read. Any number of threads may use one at a time. It stays until the process ends. */
+#ifndef TILING_H
+#define TILING_H
+
+#include <stddef.h>
+#include <stdint.h>
+
+#ifdef __cplusplus
+extern "C" {
+#endif
+
+/* The number of this header; tiling_abi() answers that of the library. */
+#define TILING_ABI 1
+
+typedef uint8_t tiling_status;
+enum {
+    TILING_OK = 0,
+    TILING_BAD_WORDS = 2,      /* a number out of its range, arrays of different lengths, an unknown name */
+    TILING_BAD_ADDRESS = 4,    /* not the address of a tile of this rule */
+    TILING_DEPTH_LIMIT = 5,    /* even 64 levels leave an edge that is looked at on the boundary */
+    TILING_COORD_LIMIT = 6,    /* a coefficient above 2^24 in absolute value */
+    TILING_TOO_MANY_TILES = 7, /* more than 200,000 tiles meet the window */
+    TILING_OUTSIDE = 8,        /* the edge isn't inside the supertile */
+    TILING_NO_MEMORY = 11,
+    TILING_NO_EDGE = 12        /* the tile hasn't this edge */
+};
+
+/* A machine; nothing may read or write what it points to. */
+typedef struct tiling_opaque *tiling_machine;
+
+/* An address: the kind of a tile, and `depth` digits from fine to coarse, at most 64. A digit says that the
+ * tile below is child number `child` of a supertile of kind `parent`. The digits behind them aren't read. */
+typedef struct {
+    uint8_t child, parent;
+} tiling_digit;
+typedef struct {
+    uint8_t kind, depth;
+    tiling_digit digits[64];
+} tiling_address;
+
+/* A tile at its place: z -> zeta^turn z + shift brings the prototile of its kind there, where zeta is
+ * exp(2 pi i / order) and a shift (a0, a1, a2, a3) is a0 + a1 zeta + a2 zeta^2 + a3 zeta^3. `number` is an
+ * edge or a vertex where a call says so, and 0 elsewhere; `status` and `rest` are 0. */
+typedef struct {
+    int64_t shift[4];
+    uint8_t status, kind, turn, number, rest[4];
+} tiling_tile;
+
+/* A frame: the supertiles round the base tile, which grow at the coarse end as the seed chooses. The same
+ * two values give the same tiling in every call. */
+typedef struct {
+    uint64_t seed;
+    tiling_address base;
+} tiling_frame;
+
+/* A window: the points whose X and Y differ from those of the point `at` by less than `w` and `h`. Each
+ * coefficient is at most 2^20 in absolute value, and w and h are 1 to 4096. docs/COORDINATES.md says what X
+ * and Y are. */
+typedef struct {
+    int64_t at[4];
+    uint16_t w, h;
+} tiling_window;
+
+/* The number of the library's interface, which is TILING_ABI where header and library belong together. */
+uint32_t tiling_abi(void);
+
+/* ---- machines ------------------------------------------------------------------------------------------ */
+
+/* The machine of a built-in rule: "chair", "p2", "p3", "ab" or "halfhex", of so many bytes.
+ * BAD_WORDS: no rule has this name. NO_MEMORY. */
+tiling_status tiling_open(const char *name, size_t name_bytes, tiling_machine *out);
+
+/* Two handles of one machine, both equal to the given one: to copy a tiling_machine is this call. It never
+ * fails. */
+void tiling_share(tiling_machine t, tiling_machine *a, tiling_machine *b);
+
+/* ---- the rule ------------------------------------------------------------------------------------------ */
+
+/* The order n of the rule, 4, 6, 8 or 10: zeta is exp(2 pi i / n), and turns are below n. */
+uint8_t tiling_order(tiling_machine t);
+
+/* How many kinds the rule has, 1 to 16; they are numbered from 0. */
+uint8_t tiling_kinds(tiling_machine t);
+
+/* ---- addresses ----------------------------------------------------------------------------------------- */
+
+/* The address of a tile of the rule that a text is, as "0:1/0,2/0".
+ * BAD_ADDRESS: it is none. */
+tiling_status tiling_read_address(tiling_machine t, const char *text, size_t text_bytes, tiling_address *out);
+
+/* The text of an address into the first bytes of `text`, at most 515, with no 0 behind it; `bytes` is how
+ * many they are.
+ * BAD_WORDS: the depth is above 64, or there is too little room. */
+tiling_status tiling_write_address(const tiling_address *addr, char *text, size_t room, size_t *bytes);
+
+/* Whether these numbers are the address of a tile of the rule: OK or BAD_ADDRESS. */
+tiling_status tiling_fits(tiling_machine t, const tiling_address *addr);
+
+/* ---- tiles of a supertile ------------------------------------------------------------------------------ */
+
+/* Where a tile lies in the supertile that its address names.
+ * BAD_ADDRESS. COORD_LIMIT: a value on the way has a coefficient above 2^24. */
+tiling_status tiling_place(tiling_machine t, const tiling_address *addr, tiling_tile *out);
+
+/* The tile across an edge: `addr` becomes its address, and `back` is its edge that leads back; `part` is as
+ * it was.
+ * BAD_ADDRESS. NO_EDGE. OUTSIDE: the edge lies on the supertile's own edge `back`, in the part `part` of
+ * it, and `addr` is as it was. */
+tiling_status tiling_neighbour(tiling_machine t, tiling_address *addr, uint8_t edge, uint8_t *back,
+                               uint8_t *part);
+
+/* ---- frames -------------------------------------------------------------------------------------------- */
+
+/* Exactly the tiles of the frame that meet a window, each once, in the order of their shifts, turns and
+ * kinds: `count` of them. Where there is room for fewer, the first ones; room for 200,000 is always enough.
+ * `addrs` takes their addresses in the frame; its room is 0 for none, or else the same as that of `tiles`.
+ * BAD_WORDS: the window's numbers, or the rooms. BAD_ADDRESS: the base. DEPTH_LIMIT. COORD_LIMIT.
+ * TOO_MANY_TILES. NO_MEMORY. */
+tiling_status tiling_cover(tiling_machine t, const tiling_frame *frame, const tiling_window *window,
+                           tiling_tile *tiles, size_t tiles_room, tiling_address *addrs, size_t addrs_room,
+                           size_t *count);
+
+#ifdef __cplusplus
+}
+#endif
+#endif

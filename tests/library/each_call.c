@@ -1,0 +1,211 @@
+/* Goes through each function of the library and each status that it can answer. The expected values are
+ * rows of the literature's rules, worked by hand; the tests of the crates have them too, as answers of the
+ * command. */
+#include <stdio.h>
+#include <string.h>
+#include "tiling.h"
+
+static int faults;
+
+static void expect(int right, int line, const char *fact) {
+    if (right) return;
+    faults++;
+    fprintf(stderr, "each_call: line %d: %s\n", line, fact);
+}
+
+#define EXPECT(fact) expect(fact, __LINE__, #fact)
+
+static tiling_machine opened(const char *name) {
+    tiling_machine machine = NULL;
+    EXPECT(tiling_open(name, strlen(name), &machine) == TILING_OK);
+    return machine;
+}
+
+static tiling_address address(tiling_machine machine, const char *text) {
+    tiling_address addr;
+    memset(&addr, 0, sizeof addr);
+    EXPECT(tiling_read_address(machine, text, strlen(text), &addr) == TILING_OK);
+    return addr;
+}
+
+static int has_text(const tiling_address *addr, const char *text) {
+    char out[515];
+    size_t count = 0;
+    return tiling_write_address(addr, out, sizeof out, &count) == TILING_OK && count == strlen(text)
+           && memcmp(out, text, count) == 0;
+}
+
+/* a tile's kind, turn and shift, with no number and no status */
+static int lies(const tiling_tile *tile, int kind, int turn, int64_t a, int64_t b, int64_t c, int64_t d) {
+    static const uint8_t none[4];
+    return tile->kind == kind && tile->turn == turn && tile->shift[0] == a && tile->shift[1] == b
+           && tile->shift[2] == c
+           && tile->shift[3] == d && tile->number == 0 && tile->status == 0
+                  && memcmp(tile->rest, none, 4) == 0;
+}
+
+static void try_machines(void) {
+    tiling_machine slot = NULL, first = NULL, second = NULL;
+    static const char *const names[] = {"chair", "p2", "p3", "ab", "halfhex"};
+    for (size_t i = 0; i < sizeof names / sizeof *names; i++) opened(names[i]);
+    EXPECT(tiling_abi() == TILING_ABI);
+    EXPECT(tiling_open("chairs", 6, &slot) == TILING_BAD_WORDS && slot == NULL);
+    EXPECT(tiling_open("chair", 0, &slot) == TILING_BAD_WORDS && slot == NULL);
+    EXPECT(tiling_open("p\xff", 2, &slot) == TILING_BAD_WORDS && slot == NULL);
+    slot = opened("chair");
+    tiling_share(slot, &first, &second);
+    EXPECT(first == slot && second == slot);
+}
+
+static void try_rule(void) {
+    static const struct {
+        const char *name;
+        int order, kinds;
+    } rules[] = {{"chair", 4, 1}, {"p2", 10, 4}, {"p3", 10, 4}, {"ab", 8, 3}, {"halfhex", 6, 1}};
+    for (size_t i = 0; i < sizeof rules / sizeof *rules; i++) {
+        tiling_machine machine = opened(rules[i].name);
+        EXPECT(tiling_order(machine) == rules[i].order && tiling_kinds(machine) == rules[i].kinds);
+    }
+}
+
+static void try_addresses(void) {
+    tiling_machine chair = opened("chair");
+    tiling_address addr = address(chair, "0:1/0,2/0"), before;
+    char text[515];
+    size_t count = 77;
+    EXPECT(addr.kind == 0 && addr.depth == 2 && addr.digits[0].child == 1 && addr.digits[1].child == 2);
+    EXPECT(has_text(&addr, "0:1/0,2/0"));
+    EXPECT(tiling_fits(chair, &addr) == TILING_OK);
+    before = addr;
+    EXPECT(tiling_read_address(chair, "0:4/0", 5, &addr) == TILING_BAD_ADDRESS);
+    EXPECT(tiling_read_address(chair, "3", 1, &addr) == TILING_BAD_ADDRESS);
+    EXPECT(tiling_read_address(chair, "1:", 2, &addr) == TILING_BAD_ADDRESS);
+    EXPECT(memcmp(&addr, &before, sizeof addr) == 0);
+    EXPECT(tiling_write_address(&addr, text, 8, &count) == TILING_BAD_WORDS && count == 77);
+    EXPECT(tiling_write_address(&addr, text, 9, &count) == TILING_OK && count == 9);
+    addr.depth = 65;
+    EXPECT(tiling_write_address(&addr, text, sizeof text, &count) == TILING_BAD_WORDS);
+    EXPECT(tiling_fits(chair, &addr) == TILING_BAD_ADDRESS);
+    addr.depth = 2;
+    addr.digits[1].parent = 1;
+    EXPECT(tiling_fits(chair, &addr) == TILING_BAD_ADDRESS);
+}
+
+static void try_place(void) {
+    tiling_machine chair = opened("chair"), p3 = opened("p3"), p2 = opened("p2"), ab = opened("ab");
+    tiling_address addr;
+    tiling_tile tile, before;
+    addr = address(chair, "0:");
+    EXPECT(tiling_place(chair, &addr, &tile) == TILING_OK && lies(&tile, 0, 0, 0, 0, 0, 0));
+    addr = address(chair, "0:1/0,2/0");
+    EXPECT(tiling_place(chair, &addr, &tile) == TILING_OK && lies(&tile, 0, 1, 7, 1, 0, 0));
+    addr = address(p3, "0:0/0,0/0");
+    EXPECT(tiling_place(p3, &addr, &tile) == TILING_OK && lies(&tile, 0, 4, 2, 0, 1, -1));
+    addr = address(p2, "1:1/0");
+    EXPECT(tiling_place(p2, &addr, &tile) == TILING_OK && lies(&tile, 1, 4, 2, 0, 1, -1));
+    addr = address(ab, "0:3/0");
+    EXPECT(tiling_place(ab, &addr, &tile) == TILING_OK && lies(&tile, 0, 4, 2, 2, 1, -1));
+    before = tile;
+    addr = address(chair, "0:1/0");
+    addr.digits[0].child = 4;
+    EXPECT(tiling_place(chair, &addr, &tile) == TILING_BAD_ADDRESS
+           && memcmp(&tile, &before, sizeof tile) == 0);
+    addr.depth = 64;
+    for (int i = 0; i < 64; i++) addr.digits[i].child = 2, addr.digits[i].parent = 0;
+    EXPECT(tiling_place(chair, &addr, &tile) == TILING_COORD_LIMIT
+           && memcmp(&tile, &before, sizeof tile) == 0);
+}
+
+static void try_neighbour(void) {
+    static const struct {
+        const char *rule, *from;
+        int edge;
+        const char *to;
+        int back;
+    } rows[] = {
+        {"chair", "0:0/0", 0, "0:1/0", 3},           {"chair", "0:1/0", 3, "0:0/0", 0},
+        {"chair", "0:0/0,1/0", 4, "0:1/0,0/0", 7},   {"p3", "0:0/0", 0, "2:1/0", 0},
+        {"p3", "2:1/0,0/0", 2, "3:1/2,1/0", 0},      {"p2", "1:1/0", 0, "0:2/0", 2},
+        {"ab", "0:0/0", 1, "1:1/0", 2},              {"ab", "1:1/0,6/0", 0, "2:0/2,2/0", 2},
+    };
+    for (size_t i = 0; i < sizeof rows / sizeof *rows; i++) {
+        tiling_machine machine = opened(rows[i].rule);
+        tiling_address addr = address(machine, rows[i].from);
+        uint8_t back = 99, home = 99, part = 77;
+        EXPECT(tiling_neighbour(machine, &addr, rows[i].edge, &back, &part) == TILING_OK);
+        EXPECT(has_text(&addr, rows[i].to) && back == rows[i].back && part == 77);
+        EXPECT(tiling_neighbour(machine, &addr, back, &home, &part) == TILING_OK);
+        EXPECT(has_text(&addr, rows[i].from) && home == rows[i].edge);
+    }
+    tiling_machine chair = opened("chair"), p3 = opened("p3");
+    tiling_address addr = address(chair, "0:0/0"), before = addr;
+    uint8_t back = 99, part = 77;
+    EXPECT(tiling_neighbour(chair, &addr, 8, &back, &part) == TILING_NO_EDGE && back == 99 && part == 77);
+    EXPECT(tiling_neighbour(chair, &addr, 255, &back, &part) == TILING_NO_EDGE && back == 99 && part == 77);
+    EXPECT(tiling_neighbour(chair, &addr, 4, &back, &part) == TILING_OUTSIDE && back == 4 && part == 0);
+    EXPECT(memcmp(&addr, &before, sizeof addr) == 0);
+    addr = address(p3, "0:0/0,0/0");
+    EXPECT(tiling_neighbour(p3, &addr, 2, &back, &part) == TILING_OUTSIDE && back == 0 && part == 1);
+    addr.kind = 9;
+    back = 99, part = 77;
+    EXPECT(tiling_neighbour(p3, &addr, 2, &back, &part) == TILING_BAD_ADDRESS && back == 99 && part == 77);
+}
+
+static void try_cover(void) {
+    tiling_machine chair = opened("chair");
+    tiling_frame frame;
+    tiling_window window = {{1, 1, 0, 0}, 2, 1};
+    tiling_tile tiles[4];
+    tiling_address addrs[4];
+    size_t count = 0;
+    memset(&frame, 0, sizeof frame);
+    memset(tiles, 7, sizeof tiles);
+    memset(addrs, 7, sizeof addrs);
+    frame.seed = 42;
+    EXPECT(tiling_cover(chair, &frame, &window, tiles, 4, addrs, 4, &count) == TILING_OK && count == 2);
+    EXPECT(lies(&tiles[0], 0, 0, 0, 0, 0, 0) && has_text(&addrs[0], "0:3/0"));
+    EXPECT(lies(&tiles[1], 0, 1, 3, 1, 0, 0) && has_text(&addrs[1], "0:1/0"));
+    EXPECT(tiles[2].kind == 7 && addrs[2].kind == 7);
+    memset(tiles, 7, sizeof tiles);
+    EXPECT(tiling_cover(chair, &frame, &window, tiles, 1, addrs, 0, &count) == TILING_OK && count == 2);
+    EXPECT(lies(&tiles[0], 0, 0, 0, 0, 0, 0) && tiles[1].kind == 7);
+    EXPECT(tiling_cover(chair, &frame, &window, tiles, 0, addrs, 0, &count) == TILING_OK && count == 2);
+    count = 77;
+    EXPECT(tiling_cover(chair, &frame, &window, tiles, 4, addrs, 3, &count) == TILING_BAD_WORDS
+           && count == 77);
+    window.w = 0;
+    EXPECT(tiling_cover(chair, &frame, &window, tiles, 4, addrs, 4, &count) == TILING_BAD_WORDS);
+    window.w = 4097;
+    EXPECT(tiling_cover(chair, &frame, &window, tiles, 4, addrs, 4, &count) == TILING_BAD_WORDS);
+    window.w = 1;
+    window.at[3] = 1048577;
+    EXPECT(tiling_cover(chair, &frame, &window, tiles, 4, addrs, 4, &count) == TILING_BAD_WORDS);
+    window.at[3] = INT64_MIN;
+    EXPECT(tiling_cover(chair, &frame, &window, tiles, 4, addrs, 4, &count) == TILING_BAD_WORDS);
+    window.at[3] = 0;
+    frame.base.kind = 1;
+    EXPECT(tiling_cover(chair, &frame, &window, tiles, 4, addrs, 4, &count) == TILING_BAD_ADDRESS);
+    frame.base.kind = 0;
+    frame.base.depth = 64;
+    memset(frame.base.digits, 0, sizeof frame.base.digits);
+    window = (tiling_window){{0, 0, 0, 0}, 2, 1};
+    EXPECT(tiling_cover(chair, &frame, &window, tiles, 4, addrs, 4, &count) == TILING_DEPTH_LIMIT
+           && count == 77);
+    window = (tiling_window){{-1, 0, 0, 0}, 1, 1};
+    EXPECT(tiling_cover(chair, &frame, &window, tiles, 4, addrs, 4, &count) == TILING_COORD_LIMIT
+           && count == 77);
+    frame.base.depth = 0;
+    window.w = window.h = 4096;
+    EXPECT(tiling_cover(chair, &frame, &window, tiles, 4, addrs, 4, &count) == TILING_TOO_MANY_TILES
+           && count == 77);
+}
+
+int main(void) {
+    try_machines();
+    try_rule();
+    try_addresses();
+    try_place();
+    try_neighbour();
+    try_cover();
+    return faults != 0;
+}

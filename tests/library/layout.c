@@ -1,0 +1,34 @@
+/* The sizes and places of the plain values, as crates/c_values has them. */
+#include "tiling.h"
+
+#define PLACE(type, field, bytes) _Static_assert(offsetof(type, field) == (bytes), #type "." #field)
+#define SIZE(type, bytes) _Static_assert(sizeof(type) == (bytes), #type)
+
+SIZE(tiling_status, 1);
+SIZE(tiling_machine, 8);
+
+SIZE(tiling_digit, 2);
+PLACE(tiling_digit, child, 0);
+PLACE(tiling_digit, parent, 1);
+
+SIZE(tiling_address, 130);
+PLACE(tiling_address, kind, 0);
+PLACE(tiling_address, depth, 1);
+PLACE(tiling_address, digits, 2);
+
+SIZE(tiling_tile, 40);
+PLACE(tiling_tile, shift, 0);
+PLACE(tiling_tile, status, 32);
+PLACE(tiling_tile, kind, 33);
+PLACE(tiling_tile, turn, 34);
+PLACE(tiling_tile, number, 35);
+PLACE(tiling_tile, rest, 36);
+
+SIZE(tiling_frame, 144);
+PLACE(tiling_frame, seed, 0);
+PLACE(tiling_frame, base, 8);
+
+SIZE(tiling_window, 40);
+PLACE(tiling_window, at, 0);
+PLACE(tiling_window, w, 32);
+PLACE(tiling_window, h, 34);

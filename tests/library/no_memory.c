@@ -1,0 +1,89 @@
+/* No memory at one call of malloc or realloc, each in turn: the call of the library answers NO_MEMORY,
+ * changes nothing that it was passed, and keeps no block. Linked with --wrap=malloc, --wrap=realloc and
+ * --wrap=free. */
+#include <stdio.h>
+#include <stdlib.h>
+#include <string.h>
+#include "tiling.h"
+
+void *__real_malloc(size_t bytes);
+void *__real_realloc(void *old, size_t bytes);
+void __real_free(void *old);
+void *__wrap_malloc(size_t bytes);
+void *__wrap_realloc(void *old, size_t bytes);
+void __wrap_free(void *old);
+
+static long asked, refused, blocks;
+
+static int is_refused(void) { return ++asked == refused; }
+
+void *__wrap_malloc(size_t bytes) {
+    void *place = is_refused() ? NULL : __real_malloc(bytes);
+    blocks += place != NULL;
+    return place;
+}
+
+void *__wrap_realloc(void *old, size_t bytes) {
+    void *place = is_refused() ? NULL : __real_realloc(old, bytes);
+    blocks += place != NULL && old == NULL;
+    return place;
+}
+
+void __wrap_free(void *old) {
+    blocks -= old != NULL;
+    __real_free(old);
+}
+
+static int faults;
+
+static void expect(int right, const char *what) {
+    if (right) return;
+    faults++;
+    fprintf(stderr, "no_memory: %s, call %ld\n", what, refused);
+}
+
+static long open_each(const char *name, tiling_machine *machine) {
+    tiling_status status = TILING_NO_MEMORY;
+    for (refused = 1; status == TILING_NO_MEMORY; refused++) {
+        long before = blocks;
+        *machine = NULL;
+        asked = 0;
+        status = tiling_open(name, strlen(name), machine);
+        expect(status == TILING_OK || (status == TILING_NO_MEMORY && *machine == NULL
+               && blocks == before), name);
+    }
+    return refused - 2;
+}
+
+static long cover_each(tiling_machine machine) {
+    static tiling_tile tiles[400], kept[400];
+    static tiling_address addrs[400];
+    tiling_frame frame;
+    tiling_window window = {{0, 0, 0, 0}, 8, 8};
+    tiling_status status = TILING_NO_MEMORY;
+    memset(&frame, 0, sizeof frame);
+    memset(tiles, 7, sizeof tiles);
+    memcpy(kept, tiles, sizeof tiles);
+    for (refused = 1; status == TILING_NO_MEMORY; refused++) {
+        long before = blocks;
+        size_t count = 77;
+        asked = 0;
+        status = tiling_cover(machine, &frame, &window, tiles, 400, addrs, 400, &count);
+        expect(blocks == before, "a block was kept");
+        expect(status == TILING_OK || (count == 77
+               && memcmp(tiles, kept, sizeof tiles) == 0), "tiling_cover");
+    }
+    expect(status == TILING_OK, "the last status");
+    return refused - 2;
+}
+
+int main(void) {
+    static const char *const names[] = {"chair", "p2", "p3", "ab", "halfhex"};
+    for (int i = 0; i < 5; i++) {
+        tiling_machine machine;
+        long opening = open_each(names[i], &machine), covering = cover_each(machine);
+        expect(opening > 0 && covering > 0, "no call of malloc");
+        printf("%s: %ld calls of malloc at opening, %ld at covering\n", names[i], opening, covering);
+    }
+    return faults != 0;
+}
