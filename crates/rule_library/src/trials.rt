@@ -6,6 +6,7 @@ use crate::paired::paired;
 use edge_tables::steps::Steps;
 use plain_tiles::counts::Counts;
 use plain_tiles::located::located;
+use plain_tiles::two_ways::alike_windows;
 use plain_tiles::vertex_tiles::stars;
 use plain_tiles::walks::walks;
 use plain_tiles::window_tiles::windows;
@@ -37,6 +38,12 @@ const WALKS: u32 = 1000;
 /// How many windows are drawn.
 const WINDOWS: u32 = 100;
 
+/// How many windows are drawn that are answered in two ways.
+const TWO_WAYS: u32 = 40;
+
+/// The greatest half extent of these, in units: two thirds of them are answered from the top down.
+const MOST_UNITS: u64 = 70;
+
 /// What is located and crossed, and how walks and stars come out.
 fn counted<L: Ledger>(
     alloc: Global,
@@ -67,7 +74,7 @@ fn add(text: &mut String, counts: Counts, wanted: &str, otherwise: &str) -> Resu
 }
 
 /// What is said of trials, in their order: where all came out as wanted, and where some didn't.
-const SAID: [(&str, &str); 6] = [
+const SAID: [(&str, &str); 7] = [
     (
         "points located as listed",
         "points located OTHERWISE than listed",
@@ -83,6 +90,10 @@ const SAID: [(&str, &str); 6] = [
         "windows covered OTHERWISE than listed",
     ),
     (
+        "windows answered alike in two ways",
+        "windows answered OTHERWISE from the top down",
+    ),
+    (
         "stars turned as listed",
         "stars turned OTHERWISE than listed",
     ),
@@ -94,7 +105,8 @@ fn tried(alloc: Global, machine: &Machine) -> Result<String, NoMemory> {
     let [points, edges, walks, turned] = counted::<Brand>(alloc, machine, Blank::new(1))?;
     let pairs = paired(alloc, machine, MOST_PAIRED)?;
     let (windows, _) = windows(alloc, machine, WINDOWS, MOST_IN_FRAME)?;
-    let all = [points, edges, pairs, walks, windows, turned];
+    let alike = alike_windows(alloc, machine, TWO_WAYS, MOST_UNITS);
+    let all = [points, edges, pairs, walks, windows, alike, turned];
     for (counts, (wanted, otherwise)) in all.iter().zip(SAID.iter()) {
         add(&mut text, *counts, wanted, otherwise)?;
     }
