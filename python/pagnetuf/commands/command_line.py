@@ -1,0 +1,182 @@
+"""What the commands have in common: their words, rules by name or file, and how they end."""
+import argparse
+import importlib
+import os
+import re
+import sys
+from typing import List, Optional
+
+from ..engine import Frame
+from ..refusals import NoEngine, Refusal
+from ..built_in import BUILT_IN
+from ..tiling import Tiling
+
+COMMANDS = {
+    "board": "a patch as data: corners, neighbours, vertex numbers",
+    "poster": "a page in millimetres, in colours, or as lines to be cut",
+    "explore": "a page in the browser to pan and zoom",
+    "atlas": "a page about a rule: prototiles, inflation, vertex stars, a patch",
+}
+# below a refusal, what to do
+CURES = {
+    "BadWords": "a number is out of its range: --at has four up to 1048576, --half two from 1 to 4096",
+    "RuleRefused": "docs/TUTORIAL.md has this refusal of a rule file by its name, and what to do",
+    "BadAddress": "an address is KIND:CHILD/PARENT,.. from fine to coarse, as 0:1/0,2/0",
+    "CoordLimit": "so far out this seed has no answer: another --seed, or a nearer point",
+    "DepthLimit": "another --seed",
+    "TooManyTiles": "a smaller window",
+}
+
+
+class Trouble(Exception):
+    """Why a command can't do what it was told to, in a sentence."""
+
+
+def integers(count: int, least: int = -(1 << 20), most: int = 1 << 20):
+    """A type of argparse: so many whole numbers with commas between."""
+
+    def parsed(text: str) -> List[int]:
+        parts = text.split(",")
+        if len(parts) != count or not all(re.fullmatch(r"-?[0-9]{1,9}", part) for part in parts):
+            raise argparse.ArgumentTypeError(f"{text!r} isn't {count} whole numbers with commas between")
+        numbers = [int(part) for part in parts]
+        if not all(least <= number <= most for number in numbers):
+            raise argparse.ArgumentTypeError(f"{text!r} has a number that isn't from {least} to {most}")
+        return numbers
+
+    return parsed
+
+
+def whole_number(least: int, most: int):
+    """A type of argparse: a whole number from `least` to `most`."""
+
+    def parsed(text: str) -> int:
+        if not re.fullmatch(r"-?[0-9]{1,20}", text) or not least <= int(text) <= most:
+            raise argparse.ArgumentTypeError(f"{text!r} isn't a whole number from {least} to {most}")
+        return int(text)
+
+    return parsed
+
+
+def colours(text: str) -> List[str]:
+    """A type of argparse: colours as #rrggbb or #rgb, with commas between."""
+    parts = text.split(",")
+    if not all(re.fullmatch(r"#(?:[0-9A-Fa-f]{3}){1,2}", part) for part in parts):
+        raise argparse.ArgumentTypeError(f"{text!r} isn't colours as #0b3954,#ff6663")
+    return parts
+
+
+def add_rule(parser: argparse.ArgumentParser):
+    parser.add_argument("rule", help="p2, p3, ab, chair, halfhex, or a rule file")
+
+
+def add_frame(parser: argparse.ArgumentParser):
+    """The options that name a plane and a point of it."""
+    parser.add_argument(
+        "--at",
+        metavar="A,A,A,A",
+        type=integers(4),
+        default=[0, 0, 0, 0],
+        help="the centre, four coefficients; 0,0,0,0",
+    )
+    parser.add_argument(
+        "--seed", metavar="N", type=whole_number(0, (1 << 64) - 1), default=0, help="which of the patches; 0"
+    )
+    parser.add_argument("--addr", metavar="ADDRESS", default="0:", help="the base tile; 0:")
+
+
+def tiling_of(name: str) -> Tiling:
+    """The tiling of a name or a rule file."""
+    if name in BUILT_IN:
+        return Tiling(name)
+    try:
+        return Tiling.from_file(name)
+    except OSError as trouble:
+        raise Trouble(
+            f"there is no tiling {name} and no file of this name that can be read: {trouble.strerror}"
+        ) from trouble
+    except (UnicodeDecodeError, ValueError) as trouble:
+        raise Trouble(f"{name} is TOML 1.1, and Python's own reader has 1.0: {trouble}") from trouble
+    except ModuleNotFoundError as trouble:
+        raise Trouble(str(trouble)) from trouble
+
+
+def frame_of(options) -> Frame:
+    return Frame(options.addr, options.seed)
+
+
+def write_text(text: str, path: Optional[str]):
+    """Writes to a file, or to standard output."""
+    if path:
+        with open(path, "w", encoding="utf-8") as file:
+            file.write(text)
+    else:
+        sys.stdout.write(text)
+
+
+def tell(text: str):
+    """A line on standard error."""
+    print(text, file=sys.stderr, flush=True)
+
+
+def joined(words: List[str]) -> List[str]:
+    """The words with `--at VALUE` as one, since the value may begin with a minus."""
+    out: List[str] = []
+    for word in words:
+        if out and out[-1] == "--at":
+            out[-1] += "=" + word
+        else:
+            out.append(word)
+    return out
+
+
+def parser() -> argparse.ArgumentParser:
+    top = argparse.ArgumentParser(
+        prog="pagnetuf", description=__import__("pagnetuf").__doc__, allow_abbrev=False
+    )
+    commands = top.add_subparsers(dest="command", metavar="COMMAND", required=True)
+    for name, line in COMMANDS.items():
+        module = importlib.import_module(f".{name}", __package__)
+        one = commands.add_parser(
+            name,
+            help=line,
+            description=module.__doc__,
+            allow_abbrev=False,
+            formatter_class=argparse.RawDescriptionHelpFormatter,
+        )
+        module.add_words(one)
+        one.set_defaults(run=module.run)
+    return top
+
+
+def status_of(words: List[str]) -> int:
+    """Runs the command that the words name, and gives the exit status; a refusal's is its number."""
+    if not words:
+        parser().print_help(sys.stderr)
+        return 2
+    options = parser().parse_args(joined(words))
+    try:
+        options.run(options)
+        sys.stdout.flush()
+        return 0
+    except Refusal as refused:
+        tell(refused.line)
+        cure = CURES.get(type(refused).__name__, "docs/FORMATS.md has it by its name")
+        tell(f"pagnetuf {options.command}: {cure}")
+        return refused.status
+    except (Trouble, NoEngine) as trouble:
+        tell(f"pagnetuf {options.command}: {trouble}")
+        return 1
+
+
+def run(words: Optional[List[str]] = None):
+    """Ends with the status; without a word where the pipe that is written to is closed."""
+    try:
+        status = status_of(sys.argv[1:] if words is None else words)
+        sys.stdout.flush()
+    except BrokenPipeError:
+        os.dup2(os.open(os.devnull, os.O_WRONLY), sys.stdout.fileno())
+        status = 1
+    except KeyboardInterrupt:
+        status = 130
+    sys.exit(status)

@@ -1,0 +1,117 @@
+"""What the package asks of the engine: an interface with texts where people read, and arrays where numbers
+are wanted.
+
+The arrays have the form of the C library's structs, byte for byte. `TILE` is a placed tile: the motion z ->
+zeta^turn z + shift takes the prototile of its kind there; `number` is an edge or a vertex where a call says
+so; `status` is 0, or the number of the refusal in calls on arrays. `ADDRESS` is a kind and `depth` digits
+from fine to coarse, each a child's number and its parent's kind."""
+from abc import ABC, abstractmethod
+from typing import List, NamedTuple, Optional, Sequence, Tuple
+
+import numpy as np
+
+from .rule import Rule
+
+TILE = np.dtype(
+    [
+        ("shift", "<i8", 4),
+        ("status", "u1"),
+        ("kind", "u1"),
+        ("turn", "u1"),
+        ("number", "u1"),
+        ("rest", "u1", 4),
+    ]
+)
+ADDRESS = np.dtype([("kind", "u1"), ("depth", "u1"), ("digits", "u1", (64, 2))])
+MOST_TILES = 200_000
+
+
+class Frame(NamedTuple):
+    """A plane of tiles: that in which the tile `base` stands on its prototile, and which grows by `seed`."""
+
+    base: str = "0:"
+    seed: int = 0
+
+
+class Box(NamedTuple):
+    """A window: the points whose X and Y differ from those of `at` by less than `half`."""
+
+    at: Tuple[int, int, int, int] = (0, 0, 0, 0)
+    half: Tuple[int, int] = (20, 12)
+
+
+class Found(NamedTuple):
+    """Tiles with their addresses: TILE and ADDRESS arrays (n,); `whole` is the number of the whole tile of
+    each, or None."""
+
+    tiles: np.ndarray
+    addresses: np.ndarray
+    whole: Optional[np.ndarray] = None
+
+
+class Machine(ABC):
+    """One rule, made ready. Its answers are the engine's; a refusal is raised by its name. It can be
+    pickled."""
+
+    name: str  # what stands for it in the words of the command: a name, or "-"
+    rule: Rule
+
+    @abstractmethod
+    def place(self, address: str) -> np.ndarray:
+        """Where a tile lies in its supertile: one TILE. BadAddress, CoordLimit."""
+
+    @abstractmethod
+    def neighbour(self, address: str, edge: int) -> Tuple[str, int]:
+        """The address across an edge, and the edge there that leads back. BadAddress, NoEdge, Outside."""
+
+    @abstractmethod
+    def place_all(self, addresses: Sequence[str]) -> np.ndarray:
+        """`place` of each: TILE (n,), each with its own status."""
+
+    @abstractmethod
+    def neighbour_all(self, addresses: Sequence[str], edges: Sequence[int]) -> Tuple[List[str], np.ndarray]:
+        """`neighbour` of each: the addresses, and uint8 (n, 2) of the edges that lead back and the
+        statuses."""
+
+    @abstractmethod
+    def cover(self, frame: Frame, box: Box, glue: bool = False) -> Found:
+        """Exactly the tiles that meet a window, by shift, turn and kind, or with `glue` the halves of its
+        whole tiles."""
+
+    @abstractmethod
+    def listing(self, frame: Frame, box: Box, glue: bool = False) -> bytes:
+        """The text of `draw layers=list`."""
+
+    @abstractmethod
+    def star(self, frame: Frame, vertex: int) -> Found:
+        """The tiles round a vertex of the base, counterclockwise; `number` is the vertex there. NoVertex,
+        StarTooBig."""
+
+    @abstractmethod
+    def walk(self, frame: Frame, path: Sequence[int], grow: int = 0) -> Found:
+        """The tiles of a path across edges, the base first; `number` is the edge that leads back, 255 for the
+        base."""
+
+    @abstractmethod
+    def pair(self, a: str, b: str) -> str:
+        """How two tiles lie to each other, as `pair` of a script prints it."""
+
+    @abstractmethod
+    def common(self, a: str, b: str) -> Optional[int]:
+        """The least level from which on two addresses agree, or None."""
+
+    @abstractmethod
+    def verify(self, frame: Frame, box: Box, listing: bytes) -> int:
+        """How many lines a right listing has. BadListing."""
+
+
+class Engine(ABC):
+    """Makes machines. It can be pickled."""
+
+    @abstractmethod
+    def machine(self, name: str) -> Machine:
+        """That of a built-in rule: chair, p2, p3, ab or halfhex. BadWords."""
+
+    @abstractmethod
+    def machine_of(self, data: bytes) -> Machine:
+        """That of a rule file's bytes. RuleTooLong, RuleRefused."""

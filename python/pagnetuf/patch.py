@@ -1,0 +1,282 @@
+"""Tiles of a window as exact arrays: corners, vertices, edges, neighbours, stars, pictures."""
+from collections import Counter
+from functools import cached_property
+from typing import Dict, List, Tuple
+
+import numpy as np
+
+from .geometry import unique_points
+from .program import address_text, address_texts
+from .rule import Rule
+
+Star = Tuple[Tuple[int, int], ...]
+
+
+class Patch:
+    """Placed tiles of one plane. All arrays are read only, and have an entry for each of the n tiles, in
+    order.
+
+    kinds, turns   uint8 (n,)       the motion is z -> zeta^turn z + shift; a whole tile has its first half's
+    shifts         int64 (n, 4)
+    addresses      ADDRESS (n,)     see `pagnetuf.engine`; `address(i)` is the text
+    """
+
+    def __init__(self, rule: Rule, tiles: np.ndarray, addresses: np.ndarray):
+        self.rule, self.tiles, self.addresses = rule, tiles, addresses
+        self.kinds, self.turns, self.shifts = tiles["kind"], tiles["turn"], tiles["shift"]
+
+    def __len__(self):
+        return len(self.tiles)
+
+    def address(self, tile: int) -> str:
+        """The address of a tile, as `0:1/0,2/0`; of a whole tile of two halves both, joined by ` + `."""
+        return address_text(self.addresses[tile])
+
+    def address_texts(self) -> List[str]:
+        """`address` of each tile."""
+        return address_texts(self.addresses)
+
+    @cached_property
+    def _outlines(self) -> Tuple[np.ndarray, np.ndarray]:
+        counts = self.rule.corner_counts[self.kinds]
+        return self.rule.corners(self.kinds, self.turns, self.shifts), counts
+
+    @property
+    def counts(self) -> np.ndarray:
+        """How many corners each tile has: int64 (n,)."""
+        return self._outlines[1]
+
+    def outlines(self) -> np.ndarray:
+        """The corners of each tile, counterclockwise, exactly: int64 (n, M, 4), where M is the most that a
+        kind has; a tile with fewer, as `counts` says, has its last corner again."""
+        return self._outlines[0]
+
+    def xy(self) -> np.ndarray:
+        """x and y of the corners, in lengths: float64 (n, M, 2), nan where a tile has fewer than M."""
+        places = self.rule.ring.xy(self.outlines())
+        places[self._is_padding] = np.nan
+        return places
+
+    @property
+    def _is_padding(self) -> np.ndarray:
+        return np.arange(self.outlines().shape[1]) >= self.counts[:, None]
+
+    @cached_property
+    def _woven(self) -> Tuple[np.ndarray, np.ndarray]:
+        """The vertices, and the number of each corner."""
+        outlines = self.outlines()
+        points, numbers = unique_points(outlines.reshape(-1, 4))
+        corners = numbers.reshape(outlines.shape[:2]).astype(np.int32)
+        corners[self._is_padding] = -1
+        return points, corners
+
+    def vertices(self) -> np.ndarray:
+        """Each vertex once, in the order of its coefficients: int64 (V, 4)."""
+        return self._woven[0]
+
+    def corners(self) -> np.ndarray:
+        """The number of the vertex at each corner: int32 (n, M), -1 where a tile has fewer than M."""
+        return self._woven[1]
+
+    @cached_property
+    def _next(self) -> np.ndarray:
+        """The vertex number at the end of each edge: int32 (n, M)."""
+        corners = self.corners()
+        after = np.roll(corners, -1, 1)
+        last = self.counts - 1
+        after[np.arange(len(corners)), last] = corners[:, 0]
+        after[self._is_padding] = -1
+        return after
+
+    @cached_property
+    def _across(self) -> np.ndarray:
+        """For each edge the flat number (tile times M plus edge) of that across, or -1: int64 (n M,)."""
+        start, end = self.corners().astype(np.int64).ravel(), self._next.astype(np.int64).ravel()
+        across = np.full(len(start), -1, np.int64)
+        real = np.flatnonzero(start >= 0)
+        size = len(self.vertices())
+        keys, back = start[real] * size + end[real], end[real] * size + start[real]
+        order = np.argsort(keys, kind="stable")
+        spot = np.minimum(np.searchsorted(keys[order], back), len(keys) - 1) if len(keys) else keys
+        hit = keys[order][spot] == back
+        across[real[hit]] = real[order[spot[hit]]]
+        return across
+
+    def neighbours(self) -> np.ndarray:
+        """The tile across each edge, or -1 at the rim of the patch: int32 (n, M)."""
+        most = self.outlines().shape[1]
+        return np.where(self._across < 0, -1, self._across // most).reshape(-1, most).astype(np.int32)
+
+    def adjacency(self) -> np.ndarray:
+        """Each edge that two tiles have in common, once: int32 (A, 4) of tile, tile, edge of the first, edge
+        of the second; the first tile is the one with the lesser number."""
+        most = self.outlines().shape[1]
+        mine = np.flatnonzero(self._across >= 0)
+        theirs = self._across[mine]
+        rows = np.stack([mine // most, theirs // most, mine % most, theirs % most], 1)
+        return rows[mine < theirs].astype(np.int32)
+
+    def edges(self) -> np.ndarray:
+        """Each edge once, as two vertex numbers, the lesser first: int32 (E, 2), sorted."""
+        start, end = self.corners().ravel(), self._next.ravel()
+        pairs = np.sort(np.stack([start, end], 1)[start >= 0], 1).astype(np.int64)
+        keys = np.unique(pairs[:, 0] * len(self.vertices()) + pairs[:, 1])
+        return np.stack(np.divmod(keys, max(1, len(self.vertices()))), 1).astype(np.int32)
+
+    def perpendicular(self) -> np.ndarray:
+        """The vertices in perpendicular space: float64 (V, 2). For the orders 8 and 10; ValueError for 4 and
+        6."""
+        return self.rule.ring.perpendicular(self.vertices())
+
+    def star_labels(self) -> Tuple[List[Star], np.ndarray]:
+        """The vertex stars that occur, and for each vertex the number of its star, or -1 at the rim: int32
+        (V,).
+
+        A star is the (kind, corner) of each tile round the vertex, counterclockwise, from the least. They
+        come by how often they occur, the most frequent first."""
+        return _stars_of(self)
+
+    def stars(self) -> Dict[Star, int]:
+        """How often each vertex star occurs among the inner vertices, the most frequent first."""
+        names, numbers = self.star_labels()
+        counts = np.bincount(numbers[numbers >= 0], minlength=len(names))
+        return {name: int(count) for name, count in zip(names, counts)}
+
+    def middles(self) -> np.ndarray:
+        """The mean of each tile's corners, in lengths: float64 (n, 2)."""
+        return np.nanmean(self.xy(), 1)
+
+    def chosen(self, tiles: np.ndarray) -> "Patch":
+        """The patch of some of its tiles, given by their numbers or by a mask."""
+        return Patch(self.rule, self.tiles[tiles], self.addresses[tiles])
+
+    def connected(self, count: int, centre=(0.0, 0.0)) -> "Patch":
+        """The patch of `count` tiles, connected by edges, that grows from the tile nearest to a point, always
+        by the tile nearest to it that has an edge in common with one of the patch."""
+        from .growth import nearest_connected
+
+        return self.chosen(nearest_connected(self, count, centre))
+
+    def to_networkx(self):
+        """The tiles as a graph of networkx: nodes 0 to n-1 with kind, turn, address; an edge for neighbours,
+        with `edges`, the pairs of edge numbers that the two have in common. ImportError without networkx."""
+        import networkx
+
+        graph = networkx.Graph()
+        for tile, (kind, turn, address) in enumerate(
+            zip(self.kinds.tolist(), self.turns.tolist(), self.address_texts())
+        ):
+            graph.add_node(tile, kind=kind, turn=turn, address=address)
+        for a, b, mine, theirs in self.adjacency().tolist():
+            if not graph.has_edge(a, b):
+                graph.add_edge(a, b, edges=[])
+            graph[a][b]["edges"].append((mine, theirs))
+        return graph
+
+    def to_svg(self, width: int = 800, colours=None, ids: bool = False) -> str:
+        """A picture, `width` pixels wide: a polygon of the classes `tile`, kK and tT for each tile. `colours`
+        are taken by kind, in the order of the kinds; with `ids` each tile has its number, address and
+        neighbours."""
+        from .picture import svg_of
+
+        return svg_of(self, width, colours, ids)
+
+
+class WholePatch(Patch):
+    """Whole tiles of one or two halves. `halves` is int64 (n, 2): the places of its halves in `half_tiles`,
+    the second -1 where a tile is whole alone. kinds, turns, shifts and addresses are those of the first
+    half."""
+
+    def __init__(self, rule: Rule, tiles: np.ndarray, addresses: np.ndarray, halves: np.ndarray):
+        super().__init__(rule, tiles[halves[:, 0]], addresses[halves[:, 0]])
+        self.half_tiles, self.half_addresses, self.halves = tiles, addresses, halves
+
+    def address(self, tile: int) -> str:
+        return " + ".join(
+            address_text(self.half_addresses[half]) for half in self.halves[tile].tolist() if half >= 0
+        )
+
+    def address_texts(self) -> List[str]:
+        halves = address_texts(self.half_addresses)
+        return [halves[a] if b < 0 else f"{halves[a]} + {halves[b]}" for a, b in self.halves.tolist()]
+
+    def chosen(self, tiles: np.ndarray) -> "WholePatch":
+        return WholePatch(self.rule, self.half_tiles, self.half_addresses, self.halves[tiles])
+
+    @cached_property
+    def _outlines(self) -> Tuple[np.ndarray, np.ndarray]:
+        """As `draw` has it: from the end of the first half's glue edge round it, and then round the second
+        half."""
+        rule, first, second = self.rule, self.halves[:, 0], self.halves[:, 1]
+        counts = rule.corner_counts[self.half_tiles["kind"]]
+        both = second >= 0
+        sizes = np.where(both, counts[first] + counts[np.maximum(second, 0)] - 2, counts[first])
+        out = np.zeros((len(first), int(sizes.max(initial=1)), 4), np.int64)
+        for column in range(out.shape[1]):
+            spot = np.minimum(column, sizes - 1)
+            in_second = both & (spot >= counts[first] - 1)
+            half = np.where(in_second, np.maximum(second, 0), first)
+            kinds = self.half_tiles["kind"][half]
+            step = np.where(
+                both, rule.glue_edges[kinds] + 1 + spot - np.where(in_second, counts[first] - 1, 0), spot
+            )
+            corner = step % counts[half]
+            out[:, column] = (
+                rule.corner_table[kinds, self.half_tiles["turn"][half], corner]
+                + self.half_tiles["shift"][half]
+            )
+        return out, sizes
+
+
+def whole_patch(rule: Rule, tiles: np.ndarray, addresses: np.ndarray, whole: np.ndarray) -> WholePatch:
+    """The whole tiles of the halves that `cover` lists with glue."""
+    halves = np.full((int(whole[-1]) + 1 if len(whole) else 0, 2), -1, np.int64)
+    starts = np.flatnonzero(np.diff(whole, prepend=-1))
+    halves[:, 0] = starts
+    seconds = np.setdiff1d(np.arange(len(whole)), starts)
+    halves[whole[seconds], 1] = seconds
+    return WholePatch(rule, tiles, addresses, halves)
+
+
+def _stars_of(patch: Patch) -> Tuple[List[Star], np.ndarray]:
+    """The stars, from the permutation that leads from a corner to the next tile's corner at the same vertex:
+    across the edge that ends there."""
+    most = patch.outlines().shape[1]
+    flat = patch.corners().ravel()
+    real = np.flatnonzero(flat >= 0)
+    into = np.where(real % most == 0, real + patch.counts[real // most] - 1, real - 1)
+    onward = np.full(len(flat), -1, np.int64)
+    onward[real] = patch._across[into]
+    degrees = np.bincount(flat[real], minlength=len(patch.vertices()))
+    first = np.zeros(len(degrees), np.int64)
+    first[flat[real[::-1]]] = real[::-1]
+    found: Dict[int, Star] = {}
+    for degree in np.unique(degrees[degrees > 0]).tolist():
+        found.update(_stars_of_degree(patch, np.flatnonzero(degrees == degree), first, onward, degree))
+    tally = Counter(found.values())
+    names = [star for star, _ in sorted(tally.items(), key=lambda item: (-item[1], item[0]))]
+    number = {star: i for i, star in enumerate(names)}
+    labels = np.full(len(degrees), -1, np.int32)
+    labels[list(found)] = [number[star] for star in found.values()]
+    return names, labels
+
+
+def _stars_of_degree(patch, vertices, first, onward, degree) -> Dict[int, Star]:
+    """The stars of those of these vertices whose `degree` corners close up."""
+    most = patch.outlines().shape[1]
+    rows, closed, now = (
+        np.zeros((len(vertices), degree), np.int64),
+        np.ones(len(vertices), bool),
+        first[vertices],
+    )
+    for step in range(degree):
+        rows[:, step] = now
+        now = np.where(now >= 0, onward[now], -1)
+        closed &= (now >= 0) & ((now == rows[:, 0]) == (step == degree - 1))
+    labels = patch.kinds[rows // most].astype(np.int64) * most + rows % most
+    kinds, which = np.unique(labels[closed], axis=0, return_inverse=True)
+    stars = []
+    for row in kinds.tolist():
+        turned = min(row[i:] + row[:i] for i in range(degree))
+        stars.append(tuple((label // most, label % most) for label in turned))
+    return {vertex: stars[i] for vertex, i in zip(vertices[closed].tolist(), which.reshape(-1).tolist())}

@@ -1,0 +1,114 @@
+"""Places round which a tiling is turned into itself, exactly and as far as one likes.
+
+A vertex star that a turn by 1/m of a full turn keeps, tile by tile, stays so when it is inflated: cutting
+into children goes with each tile. So the tiling round the k times inflated vertex is kept in a circle
+|factor|^k times as large as the star's."""
+from typing import NamedTuple, Tuple
+
+import numpy as np
+
+from .engine import Frame
+from .patch import Patch
+from .program import address_text
+from .tiling import Tiling
+
+
+class Place(NamedTuple):
+    """A vertex of a base tile, and the radius, in lengths, of the circle round it that is kept for
+    certain."""
+
+    frame: Frame
+    at: Tuple[int, int, int, int]
+    radius: float
+
+
+class NoPlace(Exception):
+    """There is no such place, for the reason that is said."""
+
+
+def kept_stars(patch: Patch, fold: int):
+    """The numbers of the vertex stars of a patch that a turn by 1/fold keeps."""
+    names, _ = patch.star_labels()
+    for number, star in enumerate(names):
+        step, rest = divmod(len(star), fold)
+        if not rest and star == star[step:] + star[:step]:
+            yield number
+
+
+def symmetric_place(
+    tiling: Tiling, fold: int, which: int, radius: float, frame: Frame, at, half=(40, 34)
+) -> Place:
+    """A place that a turn by 1/fold keeps at least so far. `which` counts the kinds of stars that do, from 0,
+    by frequency."""
+    if fold < 2 or tiling.order % fold:
+        raise NoPlace(f"turns of this tiling are by 1/{tiling.order}, so none by 1/{fold} can keep it")
+    window = tiling.window(at, half, frame.seed, frame.base)
+    stars = list(kept_stars(window, fold))
+    if which >= len(stars):
+        raise NoPlace(
+            f"within half={half[0]},{half[1]} of the point {len(stars)} kinds of vertex stars "
+            f"are kept by a turn by 1/{fold}"
+        )
+    vertices = np.flatnonzero(window.star_labels()[1] == stars[which])
+    far = (tiling.ring.xy(window.vertices()[vertices] - np.array(at)) ** 2).sum(1)
+    vertex = vertices[np.argmin(far)]
+    tile, corner = (int(it[0]) for it in np.nonzero(window.corners() == vertex))
+    return inflated(
+        tiling, frame.seed, address_text(window.addresses[tile]), corner, star_radius(window, vertex), radius
+    )
+
+
+def inflated(tiling: Tiling, seed: int, address: str, vertex: int, reach: float, radius: float) -> Place:
+    """Goes down to a child at the vertex until the circle is large enough, or the address has 60 digits."""
+    kind, _, digits = address.partition(":")
+    kind, digits = int(kind), [digit for digit in digits.split(",") if digit]
+    growth = float(np.hypot(*tiling.ring.xy(tiling.rule.factor)))
+    while reach < radius and len(digits) < 60:
+        child, child_kind, vertex = tiling.rule.child_at(kind, vertex)
+        digits.insert(0, f"{child}/{kind}")
+        kind, reach = child_kind, reach * growth
+    at = tiling.rule.kinds[kind].vertices[vertex]
+    return Place(Frame(f"{kind}:" + ",".join(digits), seed), tuple(at.tolist()), reach)
+
+
+def star_radius(patch: Patch, vertex: int) -> float:
+    """How far the tiles round a vertex reach at least: the least distance to a line of an edge that they have
+    elsewhere."""
+    tiles = np.flatnonzero((patch.corners() == vertex).any(1))
+    here, least = complex(*patch.rule.ring.xy(patch.vertices()[vertex])), np.inf
+    for tile in tiles:
+        numbers = patch.corners()[tile][: patch.counts[tile]].tolist()
+        places = [complex(*it) - here for it in patch.xy()[tile][: len(numbers)].tolist()]
+        for i, (a, b) in enumerate(zip(places, places[1:] + places[:1])):
+            if vertex not in (numbers[i], numbers[(i + 1) % len(numbers)]):
+                least = min(least, distance(a, b))
+    return float(least)
+
+
+def distance(a: complex, b: complex) -> float:
+    """How far the segment from a to b is from 0."""
+    along = b - a
+    part = min(1.0, max(0.0, -(a * along.conjugate()).real / abs(along) ** 2))
+    return abs(a + part * along)
+
+
+def kept_radius(patch: Patch, at, fold: int) -> float:
+    """Up to which radius round a point a turn by 1/fold takes each tile of a patch, exactly, to one of it of
+    the same kind; never further than the patch certainly reaches, which is to its nearest rim."""
+    ring, centre = patch.rule.ring, np.array(at, np.int64)
+    far = np.hypot(*np.moveaxis(ring.xy(patch.vertices() - centre), -1, 0))
+    corners, real = patch.corners(), patch.corners() >= 0
+    turned = ring.turn(patch.vertices() - centre, patch.rule.order // fold) + centre
+    rows = {tuple(row): i for i, row in enumerate(patch.vertices().tolist())}
+    image = np.array([rows.get(tuple(row), -1) for row in turned.tolist()] + [-1])
+    sets = {tuple(sorted(row[row >= 0].tolist())): int(kind) for row, kind in zip(corners, patch.kinds)}
+    nearest = np.where(real, far[corners], np.inf).min(1)
+    open_rim = (patch.neighbours() < 0) & real
+    rim = far[corners[open_rim]].min(initial=np.inf)
+    for tile in np.argsort(nearest):
+        if nearest[tile] >= rim:
+            break
+        moved = tuple(sorted(image[corners[tile][real[tile]]].tolist()))
+        if sets.get(moved) != int(patch.kinds[tile]):
+            return float(nearest[tile])
+    return float(rim)

@@ -1,0 +1,249 @@
+"""`Tiling`, from which all of the package is reached, and `Window`."""
+from typing import Iterable, Iterator, List, NamedTuple, Optional, Sequence, Tuple, Union
+
+import numpy as np
+
+from .engine import Box, Engine, Found, Frame, Machine
+from .patch import Patch, WholePatch, whole_patch
+from .program import NO_EDGE, ProgramEngine, address_text, address_texts
+from .refusals import BadWords
+
+Point = Tuple[int, int, int, int]
+
+
+class Placed(NamedTuple):
+    """A tile at its place: the motion z -> zeta^turn z + shift takes the prototile of its kind there."""
+
+    kind: int
+    turn: int
+    shift: Point
+
+
+class Across(NamedTuple):
+    """The tile across an edge, and its own edge that leads back."""
+
+    address: str
+    edge: int
+
+
+class StarTile(NamedTuple):
+    """A tile round a vertex, or of a walk: its place, its address, and its vertex, or its edge that leads
+    back (or None)."""
+
+    kind: int
+    turn: int
+    shift: Point
+    address: str
+    number: Optional[int]
+
+
+class Tiling:
+    """An aperiodic substitution tiling, exactly: places, neighbours, windows, stars.
+
+        >>> from pagnetuf import Tiling
+        >>> t = Tiling("p3")
+        >>> t.place("2:1/0,0/0")
+        Placed(kind=2, turn=9, shift=(1, 1, 0, 0))
+        >>> t.neighbour("2:1/0,0/0", 2)
+        Across(address='3:1/2,1/0', edge=0)
+        >>> w = t.window(half=(20, 12))
+        >>> len(w), w.vertices().shape
+        (760, (419, 4))
+
+    The built-in tilings are "chair"; Penrose's kites and darts "p2" and rhombs "p3", and Ammann and Beenker's
+    rhombs and squares "ab", each in halves; and "halfhex". `Tiling.from_file` takes any rule file.
+
+    An *address* is a text such as "0:1/0,2/0": a tile's kind, and from fine to coarse which child it is of a
+    parent of which kind. A *point* is four integers, for a0 + a1 zeta + a2 zeta^2 + a3 zeta^3, where zeta is
+    a step of length 1 in the direction 360°/order. A *frame* is the plane in which the tile `addr` stands on
+    its prototile, and `seed` chooses how it goes on: the same two, the same tiling.
+
+    Refusals are exceptions under `pagnetuf.Refusal`, named as the program's are: BadAddress, NoEdge, Outside
+    and so on. What is proved of the answers is what docs/PROMISES.md says of the program; this package's own
+    geometry is exact and tested.
+
+    Literature: B. Grünbaum and G. C. Shephard, Tilings and Patterns, chapter 10; N. G. de Bruijn, Algebraic
+    theory of Penrose's non-periodic tilings of the plane, 1981; F. P. M. Beenker, Algebraic theory of
+    non-periodic tilings, 1982; S. Tatham, Combinatorial coordinates for the aperiodic monotile."""
+
+    def __init__(self, name: str, engine: Optional[Engine] = None):
+        """A built-in tiling: "chair", "p2", "p3", "ab" or "halfhex". BadWords for another name; NoEngine."""
+        self._hold((engine or ProgramEngine()).machine(name), name)
+
+    @classmethod
+    def from_bytes(cls, data: bytes, name: str = "-", engine: Optional[Engine] = None) -> "Tiling":
+        """The tiling of a rule file's bytes. RuleRefused with the first fault; RuleTooLong."""
+        self = cls.__new__(cls)
+        self._hold((engine or ProgramEngine()).machine_of(data), name)
+        return self
+
+    @classmethod
+    def from_file(cls, path, engine: Optional[Engine] = None) -> "Tiling":
+        """The tiling of a rule file. OSError where it can't be read; RuleRefused; RuleTooLong."""
+        with open(path, "rb") as file:
+            return cls.from_bytes(file.read(), str(path), engine)
+
+    def _hold(self, machine: Machine, name: str):
+        self.machine, self.name = machine, name
+        self.rule, self.order, self.ring = machine.rule, machine.rule.order, machine.rule.ring
+
+    def __repr__(self):
+        return f"Tiling({self.name!r})"
+
+    def place(self, addr: str) -> Placed:
+        """Where a tile lies in its supertile. BadAddress, CoordLimit."""
+        tile = self.machine.place(addr)
+        return Placed(int(tile["kind"]), int(tile["turn"]), tuple(tile["shift"].tolist()))
+
+    def neighbour(self, addr: str, edge: int) -> Across:
+        """The tile across an edge, in the same supertile. BadAddress, NoEdge, Outside."""
+        return Across(*self.machine.neighbour(addr, edge))
+
+    def place_all(self, addresses: Sequence[str]) -> np.ndarray:
+        """`place` of many: a structured array `pagnetuf.TILE` (n,), each with its `status`, 0 or a refusal's
+        number."""
+        return self.machine.place_all(addresses)
+
+    def neighbour_all(self, addresses: Sequence[str], edges: Sequence[int]) -> Tuple[List[str], np.ndarray]:
+        """`neighbour` of many: the addresses, and uint8 (n, 2) of edge and status. A refused address stays as
+        it was."""
+        if len(addresses) != len(edges):
+            raise ValueError("as many edges as addresses are needed")
+        return self.machine.neighbour_all(addresses, edges)
+
+    def window(
+        self,
+        at: Iterable[int] = (0, 0, 0, 0),
+        half: Tuple[int, int] = (20, 12),
+        seed: int = 0,
+        addr: str = "0:",
+    ) -> "Window":
+        """Exactly the tiles that meet a window, each exactly once, by shift, turn and kind.
+
+        The window is the points whose X = 2 x and Y = y / sin(360°/order) differ from those of the point
+        `at` by less than `half`: it is half[0] lengths wide, and 2 half[1] sin(360°/order) high. `at` has
+        coefficients up to 2^20 in absolute value, `half` two integers from 1 to 4096. TooManyTiles above
+        200,000; CoordLimit far out, where another seed mostly helps; DepthLimit; BadAddress; BadWords."""
+        return Window(
+            self.machine, Frame(addr, int(seed)), Box(tuple(int(a) for a in at), tuple(int(h) for h in half))
+        )
+
+    def star(self, addr: str, vertex: int, seed: int = 0) -> List[StarTile]:
+        """The tiles round a vertex of a tile, counterclockwise, the tile first; each with its number of the
+        vertex. BadAddress, NoVertex, DepthLimit, StarTooBig."""
+        return _told(self.machine.star(Frame(addr, seed), vertex))
+
+    def walk(self, addr: str, path: Sequence[int], seed: int = 0, grow: int = 0) -> List[StarTile]:
+        """The tiles of a path across edges, the tile first; each with its edge that leads back, None for the
+        first. BadAddress, NoEdge, DepthLimit."""
+        return _told(self.machine.walk(Frame(addr, seed), path, grow))
+
+    def pair(self, a: str, b: str) -> Union[str, List[Tuple[int, int]]]:
+        """The edges along which two tiles lie on each other: pairs of an edge of `a` and one of `b`, empty
+        where they are apart. "same" for one tile, "none" where they have no common supertile. For built-in
+        rules; BadWords for rule files."""
+        told = self.machine.pair(a, b)
+        if told in ("same", "none"):
+            return told
+        return [] if told == "apart" else [tuple(map(int, edges.split("/"))) for edges in told.split()]
+
+    def common(self, a: str, b: str) -> Optional[int]:
+        """The least level from which on two addresses agree, or None. For built-in rules; BadWords for rule
+        files."""
+        return self.machine.common(a, b)
+
+    def locate(self, point: Iterable[int], seed: int = 0, addr: str = "0:") -> Patch:
+        """The tiles of a frame that hold a point: one where it is inside, two or more where it is on an edge
+        or a vertex.
+
+        The window of half extents 1, 1 round the point is asked for, and each tile of it tested by exact
+        signs."""
+        from .inside import holding
+
+        window = self.window(point, (1, 1), seed, addr)
+        return window.chosen(holding(window, np.array(list(point), np.int64)))
+
+    def verify(
+        self,
+        listing: Union[str, bytes, Patch],
+        at: Iterable[int] = (0, 0, 0, 0),
+        half=(20, 12),
+        seed: int = 0,
+        addr="0:",
+    ) -> int:
+        """How many tiles a listing of a window has, where it is right: a text as `Window.listing` gives, or a
+        patch of tiles. BadListing with the first fault. For built-in rules; BadWords for rule files."""
+        if isinstance(listing, Patch):
+            listing = listing_of(listing)
+        data = listing.encode() if isinstance(listing, str) else listing
+        return self.machine.verify(Frame(addr, seed), Box(tuple(at), tuple(half)), data)
+
+    def sheet(
+        self,
+        half: Tuple[int, int],
+        at: Iterable[int] = (0, 0, 0, 0),
+        seed: int = 0,
+        addr: str = "0:",
+        executor=None,
+        piece: Optional[Tuple[int, int]] = None,
+        whole: bool = False,
+    ) -> Iterator[Patch]:
+        """The tiles that meet a region of any size, in pieces, each tile in exactly one: see
+        `pagnetuf.sheet`."""
+        from .sheet import Sheet
+
+        return Sheet(self, tuple(half), tuple(at), Frame(addr, seed), piece, whole).pieces(executor)
+
+
+class Window(Patch):
+    """Exactly the tiles that meet a window: see `Tiling.window` and, for its arrays, `Patch`."""
+
+    def __init__(self, machine: Machine, frame: Frame, box: Box):
+        if len(box.at) != 4 or len(box.half) != 2:
+            raise BadWords("at and half have four and two numbers")
+        self.machine, self.frame, self.box = machine, frame, box
+        found = machine.cover(frame, box)
+        super().__init__(machine.rule, found.tiles, found.addresses)
+
+    def whole(self) -> WholePatch:
+        """The whole tiles of the window's tiles, by the program's `glue=yes`: halves are joined, also with
+        halves outside. The tiles themselves where the rule glues none."""
+        return whole_patch(self.rule, *self.machine.cover(self.frame, self.box, True))
+
+    def listing(self, whole: bool = False) -> str:
+        """The text of `draw layers=list`, byte for byte; with `whole` that with glue=yes."""
+        return self.machine.listing(self.frame, self.box, whole).decode()
+
+    def words(self, whole: bool = False) -> str:
+        """The words of `draw` for this window."""
+        return words_of(self.machine, self.frame, self.box, whole)
+
+
+def words_of(machine: Machine, frame: Frame, box: Box, whole: bool = False) -> str:
+    at, half = ",".join(map(str, box.at)), ",".join(map(str, box.half))
+    glue = " glue=yes" if whole and machine.rule.glue else ""
+    place = f"seed={frame.seed} addr={frame.base} at={at} half={half}"
+    return f"draw rule={machine.name} {place}{glue} layers=svg,list"
+
+
+def listing_of(patch: Patch) -> str:
+    """The lines `kind turn shift address` of a patch."""
+    rows = zip(
+        patch.kinds.tolist(), patch.turns.tolist(), patch.shifts.tolist(), address_texts(patch.addresses)
+    )
+    return "".join(
+        f"{kind} {turn} {','.join(map(str, shift))} {address}\n" for kind, turn, shift, address in rows
+    )
+
+
+def _told(found: Found) -> List[StarTile]:
+    return [
+        StarTile(
+            int(tile["kind"]),
+            int(tile["turn"]),
+            tuple(tile["shift"].tolist()),
+            address_text(address),
+            None if tile["number"] == NO_EDGE else int(tile["number"]),
+        )
+        for tile, address in zip(found.tiles, found.addresses)
+    ]

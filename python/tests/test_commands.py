@@ -1,0 +1,132 @@
+"""The commands as they are typed."""
+import json
+import os
+import subprocess
+import sys
+import xml.etree.ElementTree as ElementTree
+
+import numpy as np
+import pytest
+from conftest import BUILT_IN, RULES, TOP
+from pagnetuf.commands.command_line import COMMANDS
+
+SVG = "{http://www.w3.org/2000/svg}"
+
+
+@pytest.fixture
+def pagnetuf(program):
+    """Calls a command, and gives its status and both streams."""
+
+    def call(*words):
+        environment = {**os.environ, "TILING_PROGRAM": program, "PYTHONPATH": os.path.join(TOP, "python")}
+        ran = subprocess.run(
+            [sys.executable, "-m", "pagnetuf", *map(str, words)],
+            capture_output=True,
+            text=True,
+            check=False,
+            env=environment,
+        )
+        assert "Traceback" not in ran.stderr
+        return ran.returncode, ran.stdout, ran.stderr
+
+    return call
+
+
+@pytest.mark.parametrize("name", COMMANDS)
+def test_help_and_wrong_words(pagnetuf, name):
+    status, out, err = pagnetuf(name, "--help")
+    assert status == 0 and f"pagnetuf {name}" in out and not err
+    status, out, err = pagnetuf(name, "--nonsense")
+    assert status == 2 and not out and "usage" in err
+
+
+def test_no_words_print_the_usage(pagnetuf):
+    status, out, err = pagnetuf()
+    assert status == 2 and not out and all(name in err for name in COMMANDS)
+
+
+def test_a_closed_pipe_ends_without_a_word(program):
+    for words in (
+        ["board", "p3", "--half", "100,80"],
+        ["poster", "p3"],
+        ["atlas", "p3"],
+        ["board", "--help"],
+    ):
+        reader, writer = os.pipe()
+        os.close(reader)
+        environment = {**os.environ, "TILING_PROGRAM": program, "PYTHONPATH": os.path.join(TOP, "python")}
+        ran = subprocess.run(
+            [sys.executable, "-m", "pagnetuf", *words],
+            stdout=writer,
+            stderr=subprocess.PIPE,
+            check=False,
+            env=environment,
+        )
+        os.close(writer)
+        told = [line for line in ran.stderr.decode().splitlines() if " tiles; ./tiling draw " not in line]
+        assert not told and ran.returncode > 0
+
+
+@pytest.mark.parametrize(
+    "words, status, told",
+    [
+        (("board", "nosuch"), 1, "nosuch"),
+        (("board", "p3", "--addr", "9:"), 4, "4 BadAddress UnknownKind 0"),
+        (("board", "p3", "--half", "4000,4000"), 7, "7 TooManyTiles"),
+        (("board", "p3", "--half", "0,1"), 2, "0,1"),
+        (("board", "p3", "--to", "npz"), 1, "--out"),
+        (("board", os.path.join(RULES, "README.md")), 3, "3 RuleRefused"),
+    ],
+)
+def test_troubles_are_told(pagnetuf, words, status, told):
+    got, out, err = pagnetuf(*words)
+    assert got == status and not out and told in err
+
+
+@pytest.mark.parametrize(
+    "rule", [*BUILT_IN, os.path.join(RULES, "sphinx.toml"), os.path.join(RULES, "tuebingen_triangles.toml")]
+)
+@pytest.mark.parametrize("count", [1, 60])
+def test_a_board_of_so_many_tiles(pagnetuf, rule, count):
+    status, out, _ = pagnetuf("board", rule, "--tiles", count, "--at", "-3,1,0,0")
+    board = json.loads(out)
+    tiles, vertices = board["tiles"], board["vertices"]
+    assert status == 0 and len(tiles) == count and [it["id"] for it in tiles] == list(range(count))
+    reached, edge = {0}, [0]
+    while edge:
+        for other in tiles[edge.pop()]["neighbours"]:
+            if other is not None and other not in reached:
+                reached.add(other)
+                edge.append(other)
+    assert len(reached) == count
+    sides = {}
+    for tile in tiles:
+        for i, start in enumerate(tile["corners"]):
+            sides[start, tile["corners"][(i + 1) % len(tile["corners"])]] = tile["id"]
+    for tile in tiles:
+        for i, near in enumerate(tile["neighbours"]):
+            start, end = tile["corners"][i], tile["corners"][(i + 1) % len(tile["corners"])]
+            assert sides.get((end, start)) == near
+    assert len(vertices) - len({frozenset(side) for side in sides}) + count == 1
+    assert {corner for tile in tiles for corner in tile["corners"]} == set(range(len(vertices)))
+
+
+def test_board_as_csv_svg_and_arrays(pagnetuf, tmp_path):
+    _, out, _ = pagnetuf("board", "p3", "--half", "6,5", "--to", "csv")
+    vertices, tiles, pairs = (part.splitlines() for part in out.split("\n\n"))
+    _, text, _ = pagnetuf("board", "p3", "--half", "6,5")
+    board = json.loads(text)
+    assert len(tiles) - 1 == len(board["tiles"]) == 68 and len(vertices) - 1 == len(board["vertices"])
+    assert 2 * (len(pairs) - 1) == sum(
+        near is not None for tile in board["tiles"] for near in tile["neighbours"]
+    )
+    _, picture, _ = pagnetuf("board", "p3", "--half", "6,5", "--to", "svg")
+    assert [it.get("id") for it in ElementTree.fromstring(picture).iter(SVG + "polygon")] == [
+        f"tile{i}" for i in range(68)
+    ]
+    status, out, _ = pagnetuf("board", "p3", "--half", "6,5", "--to", "npz", "--out", tmp_path / "board.npz")
+    found = np.load(tmp_path / "board.npz")
+    assert (
+        status == 0 and not out and found["corners"].tolist() == [tile["corners"] for tile in board["tiles"]]
+    )
+    assert np.allclose(found["xy"], [[it["x"], it["y"]] for it in board["vertices"]])

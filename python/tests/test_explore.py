@@ -1,0 +1,371 @@
+"""The page that is panned and zoomed: its server, and in a browser."""
+import http.client
+import json
+import os
+import re
+import subprocess
+import sys
+import time
+import xml.etree.ElementTree as ElementTree
+from urllib.parse import urlencode
+
+import numpy as np
+import pytest
+from browser import browser
+from conftest import RULES, TOP
+from pagnetuf import Tiling
+
+VIEW = {"rule": "p3", "seed": "0", "addr": "0:", "at": "0,0,0,0", "half": "20,12", "halves": "0"}
+
+
+@pytest.fixture(scope="module")
+def port(program):
+    environment = {**os.environ, "TILING_PROGRAM": program, "PYTHONPATH": os.path.join(TOP, "python")}
+    words = [sys.executable, "-m", "pagnetuf", "explore", "--port", "0"]
+    with subprocess.Popen(words, stdout=subprocess.PIPE, text=True, env=environment) as server:
+        yield int(server.stdout.readline().rstrip("/\n").rpartition(":")[2])
+        server.terminate()
+
+
+def ask(port, path, method="GET", body=None, **headers):
+    link = http.client.HTTPConnection("127.0.0.1", port, timeout=30)
+    link.request(method, path, body, headers)
+    answer = link.getresponse()
+    data = answer.read()
+    link.close()
+    return answer.status, data
+
+
+def asked(port, path="/view", **changes):
+    return ask(port, f"{path}?{urlencode({**VIEW, **changes})}")
+
+
+def unpacked(data):
+    length = int.from_bytes(data[:4], "little")
+    head = json.loads(data[4 : 4 + length])
+    places = np.frombuffer(data, "<f4", 2 * head["vertices"], 4 + length).reshape(-1, 2)
+    loops = np.frombuffer(data, "<i4", head["tiles"] * head["corners"], 4 + length + places.nbytes).reshape(
+        head["tiles"], -1
+    )
+    return head, places, loops
+
+
+def test_a_view_is_the_window(port):
+    for rule, at in (
+        ("p3", "0,0,0,0"),
+        ("p3", "1000000,-300000,5,7"),
+        ("ab", "3,0,1,0"),
+        ("sphinx.toml", "9,9,0,0"),
+    ):
+        status, data = asked(port, rule=rule, at=at, seed="3")
+        assert status == 200
+        head, places, loops = unpacked(data)
+        tiling = Tiling(rule) if "." not in rule else Tiling.from_file(os.path.join(RULES, rule))
+        centre = np.array([int(a) for a in at.split(",")])
+        whole = tiling.window(centre, (20, 12), 3).whole()
+        assert np.allclose(places, tiling.ring.xy(whole.vertices() - centre), atol=1e-4)
+        assert (loops == whole.corners()).all()
+        lines = data.decode("utf-8", "replace").split("\n")[-len(whole) :]
+        assert [line.split(" ", 1)[1] for line in lines[1:]] == [
+            whole.address(i) for i in range(1, len(whole))
+        ]
+
+
+@pytest.mark.parametrize(
+    "changes",
+    [
+        {"rule": "../../etc/passwd"},
+        {"rule": "/etc/passwd"},
+        {"rule": ""},
+        {"seed": "-1"},
+        {"seed": "18446744073709551616"},
+        {"seed": "1e3"},
+        {"seed": "٣"},
+        {"at": "0,0,0"},
+        {"at": "0,0,0,1048577"},
+        {"at": "0,0,0,x"},
+        {"at": "0,0,0,0x1"},
+        {"half": "0,1"},
+        {"half": "1,4097"},
+        {"half": "1"},
+        {"addr": "0: layers=svg"},
+        {"addr": ""},
+        {"addr": "0:0/0\n"},
+        {"halves": "2"},
+    ],
+)
+def test_wrong_numbers_are_refused(port, changes):
+    status, data = asked(port, **changes)
+    assert status == 400 and json.loads(data)["fault"]
+    assert asked(port, "/stars", **changes)[0] == asked(port, "/picture", **changes)[0] == 400
+
+
+def test_the_programs_refusals_are_told(port):
+    assert [json.loads(asked(port, **it)[1])["fault"] for it in ({"addr": "9:"}, {"half": "4000,4000"})] == [
+        "4 BadAddress UnknownKind 0",
+        "7 TooManyTiles",
+    ]
+
+
+@pytest.mark.parametrize(
+    "path",
+    [
+        "/explore.html",
+        "/../pyproject.toml",
+        "/rules/../../README.md",
+        "//etc/passwd",
+        "/etc/passwd",
+        "/%2e%2e/x",
+    ],
+)
+def test_no_file_is_served(port, path):
+    assert ask(port, path)[0] == 404
+
+
+def test_only_its_own_page_may_ask(port):
+    assert ask(port, "/", Host="evil.example")[0] == 403
+    assert ask(port, "/", Origin="http://evil.example")[0] == 403
+    assert ask(port, "/rule?name=a.toml", "POST", b"x", Origin="http://evil.example")[0] == 403
+    assert ask(port, "/")[0] == 200
+    with pytest.raises(OSError):  # another of this machine's addresses
+        http.client.HTTPConnection("127.0.0.2", port, timeout=2).request("GET", "/")
+
+
+def test_rules_that_are_dropped(port):
+    with open(os.path.join(RULES, "chair.toml"), "rb") as file:
+        data = file.read()
+    assert json.loads(ask(port, "/rule?name=mine.toml", "POST", data)[1]) == {"name": "mine.toml"}
+    assert asked(port, rule="mine.toml")[0] == 200
+    told = json.loads(
+        ask(port, "/rule?name=bad.toml", "POST", data.replace(b"[0, 1, 4, 0, 0, 0]", b"[0, 1, 3, 0, 0, 0]"))[
+            1
+        ]
+    )
+    assert told["fault"].startswith("3 RuleRefused") and (
+        told["picture"] is None or ElementTree.fromstring(told["picture"]) is not None
+    )
+    assert asked(port, rule="bad.toml")[0] == 400
+    assert ask(port, "/rule?name=p3", "POST", data)[0] == 400
+    assert ask(port, "/rule?name=..%2Fa", "POST", data)[0] == 400
+    assert ask(port, "/rule?name=a.toml", "POST", b"#" * ((1 << 20) + 1))[0] == 413
+
+
+def test_stars_and_the_picture(port):
+    found = json.loads(asked(port, "/stars", half="60,50")[1])
+    assert len(found["stars"]) == 8 and sum(star["count"] for star in found["stars"]) == found["vertices"]
+    assert ElementTree.fromstring(asked(port, "/picture")[1]).tag.endswith("svg")
+
+
+class Page:
+    """The page in a browser, and hands on it."""
+
+    def __init__(self, driver, port, hash_=""):
+        self.driver, self.url = driver, f"http://127.0.0.1:{port}/"
+        driver.get("about:blank")
+        driver.get(self.url + hash_)
+        self.settled()
+
+    def js(self, text, *words):
+        return self.driver.execute_script(text, *words)
+
+    def settled(self, views=1):
+        for _ in range(200):
+            if self.js(
+                "return window.explorer && explorer.report.views >= arguments[0]"
+                " && document.getElementById('fault').hidden",
+                views,
+            ):
+                return
+            time.sleep(0.05)
+        raise AssertionError(self.js("return document.getElementById('fault').textContent"))
+
+    def mouse(self, kind, x, y, **more):
+        self.driver.execute_cdp_cmd("Input.dispatchMouseEvent", {"type": kind, "x": x, "y": y, **more})
+
+    def middle(self):
+        return self.js(
+            "const b = document.getElementById('canvas').getBoundingClientRect();"
+            "return [b.left + b.width / 2, b.top + b.height / 2]"
+        )
+
+    def drag(self, x, y, dx, dy):
+        self.mouse("mousePressed", x, y, button="left", clickCount=1)
+        for i in range(1, 6):
+            self.mouse("mouseMoved", x + dx * i / 5, y + dy * i / 5, button="left")
+        self.mouse("mouseReleased", x + dx, y + dy, button="left", clickCount=1)
+
+    def click(self, x, y):
+        self.mouse("mousePressed", x, y, button="left", clickCount=1)
+        self.mouse("mouseReleased", x, y, button="left", clickCount=1)
+
+    def place(self):
+        """x and y of the middle of the view, and the scale."""
+        here = self.js("return explorer.here")
+        tiling = (
+            Tiling(here["rule"])
+            if "." not in here["rule"]
+            else Tiling.from_file(os.path.join(RULES, here["rule"]))
+        )
+        return tiling.ring.xy(np.array(here["at"])) + (here["x"], here["y"]), here["s"]
+
+    def text(self, name):
+        return self.js("return document.getElementById(arguments[0]).textContent", name)
+
+
+@pytest.fixture(scope="module", params=[(1200, 900), (390, 844)], ids=["desk", "phone"])
+def page(port, request):
+    driver = browser(*request.param)
+    yield Page(driver, port)
+    driver.quit()
+
+
+def test_dragging_and_zooming(page, port):
+    page = Page(page.driver, port)
+    x, y = page.middle()
+    (before, scale) = page.place()
+    page.drag(x, y, -100, 60)
+    after, _ = page.place()
+    assert np.allclose(after - before, np.array([100, 60]) / scale, atol=1e-6)
+    under = page.js(
+        "return [explorer.tileAt(arguments[0], arguments[1])].map(i => explorer.view.lines[i])",
+        x + 40,
+        y - 30,
+    )
+    page.mouse("mouseWheel", x + 40, y - 30, deltaX=0, deltaY=-250)
+    time.sleep(0.5)
+    _, larger = page.place()
+    assert scale * 1.2 < larger < scale * 1.7
+    now = page.js(
+        "return [explorer.tileAt(arguments[0], arguments[1])].map(i => explorer.view.lines[i])",
+        x + 40,
+        y - 30,
+    )
+    assert now[0].split()[0] == under[0].split()[0]  # what is under the pointer stays there
+    for _ in range(6):
+        page.drag(x, y, -150, -100)
+    time.sleep(0.8)
+    assert page.js("return explorer.report.views") >= 2  # new tiles were asked for
+
+
+def test_two_fingers(page, port):
+    page = Page(page.driver, port)
+    x, y = page.middle()
+    (before, scale) = page.place()
+
+    def touch(kind, *points):
+        page.driver.execute_cdp_cmd(
+            "Input.dispatchTouchEvent",
+            {"type": kind, "touchPoints": [{"x": a, "y": b, "id": i} for i, (a, b) in enumerate(points)]},
+        )
+
+    touch("touchStart", (x - 40, y), (x + 40, y))
+    for gap in (50, 60, 70, 80):
+        touch("touchMove", (x - gap, y), (x + gap, y))
+    touch("touchEnd")
+    time.sleep(0.3)
+    after, larger = page.place()
+    assert 1.4 * scale < larger < 2.1 * scale and np.hypot(*(after - before)) < 0.6
+
+
+def test_the_tile_under_the_pointer(page, port):
+    """The tile that the page names is the one that holds the point: `locate` and exact signs against the
+    page's floats."""
+    page = Page(page.driver, port, "#rule=p3&seed=5&at=1000,-700,3,9&s=50")
+    x, y = page.middle()
+    t = Tiling("p3")
+    window = t.window((1000, -700, 3, 9), (20, 20), 5).whole()
+    for dx, dy in ((3, 4), (61, -37), (-83, 92), (110, 15), (-140, -71)):
+        page.mouse("mouseMoved", x + dx, y + dy)
+        time.sleep(0.15)
+        (middle, scale) = page.place()
+        point = middle + np.array([dx, -dy]) / scale
+        named = re.search(r"\. (\d+:[\d/,]+(?: \+ \d+:[\d/,]+)?)", page.text("tile")).group(1)
+        tile = next(i for i in range(len(window)) if inside(window.xy()[i], point))
+        shift = ",".join(map(str, window.shifts[tile].tolist()))
+        assert f"at {shift}." in page.text("tile"), (named, window.address(tile))
+        # (the supertile of another window may have more digits)
+        ours, theirs = window.address(tile).split(" + ")[0], named.split(" + ")[0]
+        assert ours.startswith(theirs) or theirs.startswith(ours)
+        neighbours = re.findall(r"\d+:[\d/,]+ \+ \d+:[\d/,]+", page.text("tile"))
+        assert len(neighbours) == 5
+
+
+def inside(corners, point):
+    at = complex(*point)
+    loop = [complex(*it) for it in corners]
+    return all(((b - a).conjugate() * (at - a)).imag > 0 for a, b in zip(loop, loop[1:] + loop[:1]))
+
+
+def test_a_click_shows_the_star(page, port):
+    page = Page(page.driver, port, "#rule=p3&at=0,0,0,0&s=50&halves=1")
+    x, y = page.middle()
+    page.click(x + 14, y - 6)
+    time.sleep(0.3)
+    text = page.text("star")
+    words = re.search(r"\./tiling (star .*)$", text).group(1).split()
+    found = Tiling("p3").star(words[3][5:], int(words[4][7:]), int(words[2][5:]))
+    assert f"Star of {len(found)} tiles" in text and page.js("return explorer.chosen") >= 0
+
+
+def test_keys_jumps_and_the_pages_address(page, port):
+    page = Page(page.driver, port)
+    page.js("document.getElementById('canvas').focus()")
+    page.driver.switch_to.active_element.send_keys("\ue014")  # right
+    (after, scale) = page.place()
+    assert np.allclose(after, (80 / scale, 0), atol=1e-6)
+    page.driver.switch_to.active_element.send_keys("+")
+    assert np.isclose(page.place()[1], scale * 1.25)
+    page.js("document.getElementById('at').value = '300,-20,7,1'; document.getElementById('go').click()")
+    page.settled(2)
+    time.sleep(0.5)
+    kept = page.driver.current_url
+    assert "300%2C-20%2C7%2C1" in kept and "rule=p3" in kept
+    again = Page(page.driver, port, kept[kept.index("#") :])
+    assert np.allclose(again.place()[0], Tiling("p3").ring.xy(np.array([300, -20, 7, 1])), atol=0.01)
+    again.js("document.getElementById('far').click()")
+    for _ in range(100):
+        time.sleep(0.05)
+        if np.hypot(*again.place()[0]) > 8e5:
+            break
+    assert np.hypot(*again.place()[0]) > 8e5
+
+
+def test_rules_stars_and_faults(page, port):
+    page = Page(page.driver, port)
+    for name in ("ab", "sphinx.toml", "p2"):
+        seen = page.js("return explorer.report.views")
+        page.js("const r = document.getElementById('rule'); r.value = arguments[0]; r.onchange()", name)
+        page.settled(seen + 1)
+        assert page.js("return explorer.here.rule") == name
+    page.js("document.getElementById('find').click()")
+    time.sleep(1)
+    assert page.js("return document.querySelectorAll('#stars button').length") == 7
+    page.js("document.querySelectorAll('#stars button')[3].click()")
+    time.sleep(1)
+    assert "A star of" in page.text("star")
+    drop = """const d = new DataTransfer(); d.items.add(new File([arguments[0]], arguments[1]));
+              const how = {dataTransfer: d, bubbles: true, cancelable: true};
+              window.dispatchEvent(new DragEvent("drop", how))"""
+    with open(os.path.join(RULES, "chair.toml"), encoding="utf-8") as file:
+        text = file.read()
+    page.js(drop, text.replace("[0, 1, 4, 0, 0, 0]", "[0, 1, 3, 0, 0, 0]"), "broken.toml")
+    time.sleep(2)
+    assert (
+        "3 RuleRefused" in page.text("fault")
+        and page.js("return document.querySelectorAll('#fault img').length") == 1
+    )
+    page.js(drop, text, "dropped.toml")
+    time.sleep(1)
+    assert page.js("return explorer.here.rule") == "dropped.toml" and page.js(
+        "return document.getElementById('fault').hidden"
+    )
+
+
+def test_nothing_sticks_out(page, port):
+    page = Page(page.driver, port)
+    page.js("document.getElementById('menu').click()")
+    wide = page.js(
+        "const high = document.getElementById('stage').clientHeight;"
+        "return [document.documentElement.scrollWidth, innerWidth, high]"
+    )
+    assert wide[0] <= wide[1] and wide[2] > 150

@@ -1,0 +1,306 @@
+"""The package against the program's own bytes, and against the literature."""
+import doctest
+import math
+import os
+import pickle
+import random
+import subprocess
+
+import numpy as np
+import pytest
+from conftest import BUILT_IN, RULES, rule_files
+from pagnetuf import (
+    BadAddress,
+    BadListing,
+    BadWords,
+    NoEdge,
+    NoEngine,
+    NoVertex,
+    Outside,
+    Refusal,
+    RuleRefused,
+    RuleTooLong,
+    Tiling,
+    TooManyTiles,
+)
+from pagnetuf.built_in import BUILT_IN as NUMBERS
+from pagnetuf.refusals import refusal_of
+from pagnetuf.rule import document_of
+from pagnetuf.tiling import listing_of
+
+PHI, DELTA = (1 + math.sqrt(5)) / 2, 1 + math.sqrt(2)
+EVERY = [*BUILT_IN, *rule_files()]
+
+
+def command(program, name, *words):
+    file = b"" if name in BUILT_IN else open(os.path.join(RULES, name), "rb").read()
+    rule = name if name in BUILT_IN else "-"
+    return subprocess.run(
+        [program, words[0], f"rule={rule}", *words[1:]], input=file, capture_output=True, check=False
+    )
+
+
+@pytest.mark.parametrize("name", BUILT_IN)
+def test_the_numbers_built_in_are_those_of_the_rule_files(name):
+    with open(os.path.join(RULES, BUILT_IN[name] + ".toml"), "rb") as file:
+        assert document_of(file.read()) == NUMBERS[name]
+
+
+@pytest.mark.parametrize("name", EVERY)
+def test_a_window_is_the_list(tiling, program, name):
+    random.seed(name)
+    t = tiling(name)
+    for seed in (0, 5):
+        at = t.ring.near(random.uniform(-500, 500), random.uniform(-500, 500)).tolist()
+        half = random.randint(1, 14), random.randint(1, 14)
+        words = [
+            "draw",
+            f"seed={seed}",
+            "addr=0:",
+            "at=" + ",".join(map(str, at)),
+            f"half={half[0]},{half[1]}",
+            "layers=list",
+        ]
+        try:
+            window = t.window(at, half, seed)
+        except Refusal as refused:
+            assert command(program, name, *words).stderr.decode().strip() == refused.line
+            continue
+        wanted = command(program, name, *words).stdout.decode()
+        assert window.listing() == wanted == listing_of(window)
+        whole = window.whole()
+        text = command(program, name, *words, "glue=yes").stdout.decode()
+        assert [whole.address(i) for i in range(len(whole))] == [
+            " + ".join(half.split()[3] for half in line.split(" + ")) for line in text.splitlines()
+        ]
+        assert window.listing(True) == text
+
+
+@pytest.mark.parametrize("name", EVERY)
+def test_outlines_are_those_of_the_picture(tiling, program, name):
+    """The numbers of the picture are X and Y of each corner, less those of the centre, in thousandths,
+    rounded down."""
+    t = tiling(name)
+    for whole in (False, True):
+        words = ["draw", "addr=0:", "at=0,0,0,0", "half=9,8", "layers=svg"] + (["glue=yes"] if whole else [])
+        text = command(program, name, *words).stdout.decode()
+        drawn = [
+            [tuple(map(int, corner.split())) for corner in line.split('d="M')[1].split("Z")[0].split("L")]
+            for line in text.splitlines()
+            if line.startswith("<path")
+        ]
+        window = t.window(half=(9, 8))
+        patch = window.whole() if whole else window
+        x, y = t.ring.scaled(patch.outlines())
+        places = np.stack([t.ring.value(x), t.ring.value(y)], -1) * 1000
+        for row, corners, count in zip(drawn, places, patch.counts):
+            assert len(row) == count
+            gap = corners[:count] - row
+            assert (gap > -1e-6).all() and (gap < 1 + 1e-6).all()
+
+
+@pytest.mark.parametrize("name", EVERY)
+def test_a_patch_is_a_disc_whose_neighbours_agree(tiling, name):
+    window = tiling(name).window(half=(12, 9))
+    for patch in (window, window.whole()):
+        assert len(patch.vertices()) - len(patch.edges()) + len(patch) == 1
+        corners, near, rows = patch.corners(), patch.neighbours(), patch.adjacency()
+        for a, b, mine, theirs in rows.tolist():
+            assert near[a, mine] == b and near[b, theirs] == a
+            here = corners[a, mine], corners[a, (mine + 1) % patch.counts[a]]
+            there = corners[b, theirs], corners[b, (theirs + 1) % patch.counts[b]]
+            assert here == there[::-1]
+        assert 2 * len(rows) + (near < 0).sum() - (corners < 0).sum() == (corners >= 0).sum()
+        assert not (patch.vertices()[corners[corners >= 0]] - patch.outlines()[corners >= 0]).any()
+
+
+@pytest.mark.parametrize("name", EVERY)
+def test_neighbours_are_those_of_the_program(tiling, name):
+    t, random_tiles = tiling(name), random.Random(name)
+    window = t.window(half=(8, 6), seed=3)
+    rows = random_tiles.sample(window.adjacency().tolist(), 8)
+    for a, b, mine, theirs in rows:
+        assert t.neighbour(window.address(a), mine) == (window.address(b), theirs)
+    there, numbers = t.neighbour_all([window.address(row[0]) for row in rows], [row[2] for row in rows])
+    assert there == [window.address(row[1]) for row in rows]
+    assert numbers.tolist() == [[row[3], 0] for row in rows]
+
+
+@pytest.mark.parametrize("name", EVERY)
+def test_stars_are_those_of_the_program(tiling, name):
+    """`star` and the window's own neighbours lead round an inner vertex alike."""
+    t = tiling(name)
+    window = t.window(half=(8, 6), seed=1)
+    labels, numbers = window.star_labels()
+    inner = [
+        (tile, corner)
+        for tile in range(len(window))
+        for corner in range(window.counts[tile])
+        if numbers[window.corners()[tile, corner]] >= 0
+    ]
+    for tile, corner in random.Random(name).sample(inner, 5):
+        ring = [(it.kind, it.number) for it in t.star(window.address(tile), corner, seed=1)]
+        assert (
+            min(tuple(ring[i:] + ring[:i]) for i in range(len(ring)))
+            == labels[numbers[window.corners()[tile, corner]]]
+        )
+
+
+# de Bruijn 1981; Grünbaum and Shephard, chapter 10; docs/MATHEMATICS.md, "The tiles around a vertex"
+RHOMBS = {
+    (2, 1): PHI**-2,
+    (3, 2): PHI**-3,
+    (1, 2): PHI**-4,
+    (3, 1): PHI**-5,
+    (3, 4): PHI**-6,
+    (4, 2): PHI**-7,
+}
+
+
+def test_the_eight_stars_of_penrose_rhombs(tiling):
+    stars = tiling("p3").window(half=(130, 130)).whole().stars()
+    total = sum(stars.values())
+    found = {}
+    for star, count in stars.items():
+        thick = sum(kind == 2 for kind, _ in star)
+        found.setdefault((thick, len(star) - thick), []).append(count / total)
+    fives = sorted(found.pop((5, 0)))
+    assert {key: len(shares) for key, shares in found.items()} == {key: 1 for key in RHOMBS}
+    for key, share in RHOMBS.items():
+        assert abs(found[key][0] - share) < 0.004
+    assert (
+        abs(fives[1] - PHI**-5 / math.sqrt(5)) < 0.003 and abs(fives[0] - PHI**-7 / math.sqrt(5)) < 0.003
+    )
+
+
+def test_the_seven_stars_of_kites_and_darts(tiling):
+    stars = tiling("p2").window(half=(130, 130)).whole().stars()
+    shares = sorted((count / sum(stars.values()) for count in stars.values()), reverse=True)
+    wanted = [
+        PHI**-2,
+        PHI**-3,
+        PHI**-4,
+        PHI**-5,
+        PHI**-4 / math.sqrt(5),
+        PHI**-6,
+        PHI**-6 / math.sqrt(5),
+    ]
+    assert np.allclose(shares, sorted(wanted, reverse=True), atol=0.004)
+
+
+def test_perpendicular_space_of_penrose_rhombs(tiling):
+    """De Bruijn's four pentagons: radii 1, phi, phi, 1, one for each class that occurs."""
+    patch = tiling("p3").window(half=(130, 130))
+    points, places = patch.vertices(), patch.perpendicular()
+    classes = (points @ [1, -1, 1, -1]) % 5
+    radii = []
+    for number in np.unique(classes):
+        some = places[classes == number]
+        turned = np.stack([some @ (math.cos(a), math.sin(a)) for a in np.arange(10) * math.pi / 5])
+        radii.append((turned.max(1) - turned.min(1)).max() / (1 + math.cos(math.pi / 5)))
+    assert len(radii) == 4
+    assert np.allclose(sorted(radii), [1, 1, PHI, PHI], atol=0.05)
+
+
+def test_perpendicular_space_of_ammann_beenker(tiling):
+    """Beenker's octagon, 1 + sqrt 2 wide."""
+    places = tiling("ab").window(half=(120, 120)).whole().perpendicular()
+    for angle in np.arange(8) * math.pi / 4:
+        along = places @ (math.cos(angle), math.sin(angle))
+        assert DELTA - 0.06 < along.max() - along.min() < DELTA
+
+
+def test_shares_of_tiles(tiling):
+    """Thick to thin, and kites to darts, as phi to 1; rhombs to squares as sqrt 2 to 1."""
+    for name, first, share in (("p3", 0, PHI**-2), ("p2", 0, PHI**-1), ("ab", 0, None)):
+        kinds = tiling(name).window(half=(120, 120)).whole().kinds
+        part = (kinds == first).mean()
+        wanted = [share, 1 - share] if share else [math.sqrt(2) - 1, 2 - math.sqrt(2)]
+        assert min(abs(part - it) for it in wanted) < 0.005
+
+
+def test_refusals_by_name_and_number(tiling, program):
+    t = tiling("chair")
+    for error, status, fields, ask in [
+        (BadAddress, 4, ("BadText", "0"), lambda: t.place("x")),
+        (BadAddress, 4, ("UnknownKind", "0"), lambda: t.place("1:")),
+        (NoEdge, 12, ("9", "8"), lambda: t.neighbour("0:0/0", 9)),
+        (Outside, 8, ("4", "0"), lambda: t.neighbour("0:0/0", 4)),
+        (NoVertex, 15, ("8", "8"), lambda: t.star("0:", 8)),
+        (TooManyTiles, 7, (), lambda: t.window(half=(4000, 4000))),
+        (BadWords, 2, ("4",), lambda: t.window(half=(0, 1))),
+        (BadListing, 17, ("Missing", "0:1/0"), lambda: t.verify("", (1, 1, 0, 0), (2, 1), 42)),
+        (BadAddress, 4, ("BadText", "0"), lambda: t.pair("x", "0:")),
+    ]:
+        with pytest.raises(error) as caught:
+            ask()
+        assert caught.value.status == status and (caught.value.fields == fields or error is BadWords)
+    with pytest.raises(BadWords):
+        Tiling("penrose")
+    with pytest.raises(RuleRefused) as caught:
+        Tiling.from_bytes(b"")
+    assert caught.value.line == "3 RuleRefused Missing format"
+    with pytest.raises(RuleTooLong):
+        Tiling.from_bytes(b"#" * ((1 << 20) + 1))
+    assert isinstance(refusal_of("killed"), NoEngine)
+
+
+def test_questions_in_bulk_are_those_asked_alone(tiling):
+    for name in ("p3", "sphinx.toml"):
+        t = tiling(name)
+        asked = ["0:0/0", "9:", "", "0:0/0\nshow b", "0:1/0,1/0", "x"]
+        for address, tile in zip(asked, t.place_all(asked)):
+            try:
+                placed, status = t.place(address), 0
+            except Refusal as refused:
+                placed, status = None, refused.status
+            assert tile["status"] == status
+            assert placed is None or placed == (tile["kind"], tile["turn"], tuple(tile["shift"].tolist()))
+        for address, there, (edge, status) in zip(asked, *t.neighbour_all(asked, [0] * 6)):
+            try:
+                assert t.neighbour(address, 0) == (there, edge) and status == 0
+            except Refusal as refused:
+                assert (there, status) == (address, refused.status)
+
+
+def test_pairs_walks_and_common_levels(tiling):
+    t = tiling("chair")  # docs/FORMATS.md, "Scripts" and "Star"
+    assert t.pair("0:0/0,1/0", "0:1/0,0/0") == [(3, 0), (4, 7)]
+    assert t.common("0:0/0,1/0", "0:1/0,0/0") == 2
+    assert t.pair("0:", "0:") == "same" and t.pair("0:", "0:0/0") == "none"
+    assert [(it.address, it.number) for it in t.star("0:", 0, 42)] == [("0:3/0", 0), ("0:1/0", 2)]
+    walk = tiling("p3").walk("0:", [0, 1])
+    assert walk[0].number is None and len(walk) == 3
+
+
+def test_locate_finds_the_tiles_that_hold_a_point(tiling):
+    for name in EVERY[:12]:
+        t = tiling(name)
+        window = t.window(half=(6, 5))
+        labels, numbers = window.star_labels()
+        degrees = np.bincount(window.corners()[window.corners() >= 0], minlength=len(numbers))
+        for vertex in np.flatnonzero(numbers >= 0)[:4]:
+            found = t.locate(window.vertices()[vertex])
+            assert len(found) == degrees[vertex]
+            assert all((corners == window.vertices()[vertex]).all(1).any() for corners in found.outlines())
+
+
+def test_a_tiling_goes_through_a_pickle(tiling):
+    for name in ("ab", "sphinx.toml"):
+        t = tiling(name)
+        again = pickle.loads(pickle.dumps(t))
+        assert again.window(half=(5, 5)).listing() == t.window(half=(5, 5)).listing()
+
+
+def test_the_examples_of_the_help(program):
+    import pagnetuf.tiling
+
+    failed, tried = doctest.testmod(pagnetuf.tiling)
+    assert not failed and tried > 4
+
+
+def test_networkx_graph(tiling):
+    pytest.importorskip("networkx")
+    patch = tiling("p3").window(half=(6, 5)).whole()
+    graph = patch.to_networkx()
+    assert len(graph) == len(patch) and graph.number_of_edges() == len(patch.adjacency())
