@@ -1,5 +1,7 @@
-"""What the documents say beside what the program does: see documents.sh. Called with the top and the program."""
+"""What the documents say beside what the program does: see documents.sh. Called with the top and the
+program."""
 import cmath
+import glob
 import os
 import re
 import shutil
@@ -13,9 +15,12 @@ except ModuleNotFoundError:  # before Python 3.11
     tomllib = None
 
 sys.dont_write_bytecode = True
+if tomllib:
+    import places  # noqa: E402
 TOP, PROGRAM = os.path.abspath(sys.argv[1]), os.path.abspath(sys.argv[2])
 BY_SCRIPT = ("--help", "-h", "help", "--version", "--build")
-# commands that can be run here, by how they begin; the files that they read are there, or made by commands above them
+# commands that can be run here, by how they begin; the files that they read are there, or made by commands
+# above them
 RUNNABLE = re.compile(
     r"(\./tiling|python3 (tools|docs/foreign)/\w+\.py|printf '[^']*' \| \./tiling"
     r"|sed '[^']*' (rules/\w+\.toml|\w+\.list) \| \./tiling)\b"
@@ -94,7 +99,8 @@ def is_runnable(name, command):
 
 
 def commands(name, text, indent, folder):
-    """Runs each line that is indented so and begins with `$ `, and compares with the indented lines below it."""
+    """Runs each line that is indented so and begins with `$ `, and compares with the indented lines below
+    it."""
     lines, i = text.split("\n"), 0
     while i < len(lines):
         if not lines[i].startswith(f"{indent}$ "):
@@ -130,7 +136,8 @@ def section(text, title):
 
 
 def spread(words, cell):
-    """Words in which `..` stands for so many digits as the cell says, as in `addr=0:2/0,..` (40 times `2/0`)."""
+    """Words in which `..` stands for so many digits as the cell says, as in `addr=0:2/0,..` (40 times
+    `2/0`)."""
     times = re.search(r"\((\d+) times `([^`]*)`\)", cell)
     if not times:
         return words
@@ -158,7 +165,8 @@ def refusals(folder):
 
 
 def refused_texts():
-    """The tables of `Refused texts`: each row is a change of one line of the rule file that is named above the table."""
+    """The tables of `Refused texts`: each row is a change of one line of the rule file that is named above
+    the table."""
     below = re.split(r"`(rules/\w+\.toml)` is changed", section(read("docs/TUTORIAL.md"), "Refused texts"))
     for name, table in zip(below[1::2], below[2::2]):
         base = read(name)
@@ -175,7 +183,8 @@ def refused_texts():
 
 
 def typed_in_order():
-    """The tutorial's pieces, typed in its own order, are accepted, and have the numbers of the files that it names."""
+    """The tutorial's pieces, typed in its own order, are accepted, and have the numbers of the files that it
+    names."""
     text = read("docs/TUTORIAL.md")
     for title, name in (
         ("First example: a triangle cut in two", "rules/half_square_two.toml"),
@@ -195,7 +204,8 @@ def typed_in_order():
 
 
 def rule_files():
-    """Each refused file is refused as its first line says, each other one is accepted, as the library's table says."""
+    """Each refused file is refused as its first line says, each other one is accepted, as the library's table
+    says."""
     for name in sorted(os.listdir(f"{TOP}/docs/refused")):
         text = read(f"docs/refused/{name}")
         wanted = re.match(r"# Refused: (.*)", text)[1].strip()
@@ -247,8 +257,8 @@ def rule_text(rule):
 
 
 def turned_rules():
-    """Each rule of the library with its factor times each power of ζ, and its children turned alike: it is accepted in
-    format 2; in format 1 where the factor is real and positive and the order isn't 6."""
+    """Each rule of the library with its factor times each power of ζ, and its children turned alike: it is
+    accepted in format 2; in format 1 where the factor is real and positive and the order isn't 6."""
     for name in sorted(os.listdir(f"{TOP}/rules")) if tomllib else []:
         if not name.endswith(".toml"):
             continue
@@ -320,6 +330,101 @@ def links():
             tally.compare("links", f"{name}: {target}", is_there, True)
 
 
+def named_paths():
+    """Each file or folder of the repository that a document names between backquotes is there; `*` stands for
+    any name."""
+    path = re.compile(r"`((?:crates|docs|rules|tools|checks|python|include|tests)/[\w./*-]*\w[\w./*-]*)`")
+    made = re.compile(r"/out\b")
+    for name in documents():
+        for target in sorted(set(path.findall(re.sub(r"^```.*?^```", "", read(name), flags=re.M | re.S)))):
+            if not made.search(target):
+                tally.compare("paths", f"{name}: {target}", bool(glob.glob(os.path.join(TOP, target))), True)
+
+
+def table(text, first):
+    """The rows of the table whose first cells are these, each as its cells."""
+    known = None
+    for cells in rows(text):
+        if cells[: len(first)] == first:
+            known = cells
+        elif known and len(cells) == len(known):
+            yield cells
+        else:
+            known = None
+
+
+def stars_shown():
+    """Each star of docs/BUILT_IN.md is round the vertex that its row names, and its window is drawn."""
+    for name, star, _, words, vertex in table(section(read("docs/BUILT_IN.md"), "Where to look"), ["rule", "star"]):
+        rule, words = places.Rule(TOP, PROGRAM, quoted(name)[0]), quoted(words)[0].split(" ")
+        where = f"docs/BUILT_IN.md: {rule.name} {star}"
+        tally.compare("stars shown", where, places.star_of(rule, words, vertex), (star, words[1]))
+        tally.compare("stars shown", f"{where}, drawn", len(rule.listed(words, 5, 4, "yes")) > 5, True)
+
+
+def symmetric_places():
+    """Each place of high symmetry of docs/BUILT_IN.md is so to the radius that is told, and with its digits
+    once more further."""
+    head = ["rule", "what is there"]
+    for name, _, turn, radius, words, more in table(section(read("docs/BUILT_IN.md"), "Where to look"), head):
+        rule, words, fold = places.Rule(TOP, PROGRAM, quoted(name)[0]), quoted(words)[0].split(" "), int(turn.partition("/")[2])
+        where = f"docs/BUILT_IN.md: {rule.name} {' '.join(words)}"
+        tally.compare("places of symmetry", where, int(places.symmetric_radius(rule, words, fold, int(radius) + 5)), int(radius))
+        front, _, digits = words[0].partition(":")
+        longer = [f"{front}:{quoted(more)[0]},{digits}", words[1]]
+        further = 19 * int(radius) // 10
+        tally.compare("places of symmetry", f"{where}, further", places.symmetric_radius(rule, longer, fold, further), further)
+
+
+def windows_told():
+    """What docs/COORDINATES.md says of how many tiles a window has, of the largest ones, and of windows side
+    by side."""
+    text = section(read("docs/COORDINATES.md"), "Windows")
+    steps = {int(order): (quoted(right)[0], quoted(up)[0]) for order, right, up in table(text, ["order", "to the right", "up"])}
+    for name, tiles, whole, largest in table(text, ["rule", "tiles", "whole tiles", "largest"]):
+        rule = places.Rule(TOP, PROGRAM, quoted(name)[0])
+        half = int(quoted(largest)[0].partition(",")[2])
+        for what, glue, told in (("tiles", "no", tiles), ("whole tiles", "yes", whole)):
+            if told:
+                got = int(rule.call("draw", "addr=0:", "at=0,0,0,0", f"half={half},{half}", "layers=census", f"glue={glue}")[-1].split()[1])
+                tally.compare("windows told", f"docs/COORDINATES.md: {rule.name}, {what}", abs(got / half**2 - float(told)) < 0.015, True)
+        beyond = rule.call("draw", "addr=0:", "at=0,0,0,0", f"half={half + 1},{half + 1}", "layers=census")
+        tally.compare("windows told", f"docs/COORDINATES.md: {rule.name}, the largest", beyond, ["7 TooManyTiles"])
+        right, up = steps[rule.order]
+        put = lambda step: lambda w, h: [int({"w": w, "h": h, "-h": -h, "2h": 2 * h}.get(a, a)) for a in step.split(",")]  # noqa: E731
+        tally.compare("windows side by side", f"docs/COORDINATES.md: {rule.name}", places.side_by_side(rule, put(right), put(up)), True)
+
+
+def largest_of_files():
+    """The largest square window of each file of the library is as its table says: it is drawn, and one wider
+    isn't."""
+    for cells in rows(read("rules/README.md")):
+        link = re.match(r"\[(\w+)\]", cells[0])
+        if link and len(cells) == 9:
+            text, half = read(f"rules/{link[1]}.toml").encode(), int(cells[7])
+            words = lambda n: ["draw", "rule=-", "addr=0:", "at=0,0,0,0", f"half={n},{n}", "layers=census"]  # noqa: E731
+            got = call(words(half), text)[1], call(words(half + 1), text)[1]
+            tally.compare("largest windows", f"rules/README.md: {link[1]}", got, (0, 7))
+
+
+def pentagons():
+    """Beside the three pentagons of P1 lie five, three and two pentagons, as rules/README.md says."""
+    found = places.pentagons_beside(places.Rule(TOP, PROGRAM, "penrose_p1"))
+    tally.compare("pentagons of P1", "rules/README.md", found, {0: {5}, 1: {3}, 2: {2}})
+
+
+def perpendicular():
+    """The vertices of Ammann-Beenker, of Penrose's rhombs, and of kites and darts fill what
+    docs/COORDINATES.md tells."""
+    root, golden = 2**0.5, (1 + 5**0.5) / 2
+    least, most = places.octagon_width(places.Rule(TOP, PROGRAM, "ab"))
+    tally.compare("perpendicular space", f"the octagon: {least}, {most}", 2.37 < least <= most < 1 + root, True)
+    for name, stars in (("p3", [False] * 4), ("p2", [False, False, True, True])):
+        figures = places.five_fold_figures(places.Rule(TOP, PROGRAM, name))
+        near = [0.96 * r < radius < r + 0.02 for (radius, _), r in zip(figures, (1, 1, golden, golden))]
+        tally.compare("perpendicular space", f"{name}: {figures}", (near, [star for _, star in figures]), ([True] * 4, stars))
+
+
 def main():
     with tempfile.TemporaryDirectory() as folder:
         stand_in(folder)
@@ -335,7 +440,11 @@ def main():
     rule_files()
     turned_rules()
     coefficients()
+    if tomllib:
+        for told in (stars_shown, symmetric_places, windows_told, largest_of_files, pentagons, perpendicular):
+            told()
     links()
+    named_paths()
     return tally.end()
 
 

@@ -19,6 +19,7 @@ from supertiles import Ring, address  # noqa: E402
 
 WINDOWS = 50  # of each rule
 DRILLED = 5  # windows of a drill of each rule
+LONG = {"penrose_p3.toml": ((1, 2755), (1, 2756))}  # half extents, where six numbers of a tile just fit 64 bits, and where not
 DEEPEST = 64
 GREATEST = 2**24  # of the coefficients of a shift
 REFUSED = {5: b"5 DepthLimit ", 6: b"6 CoordLimit ", 7: b"7 TooManyTiles"}
@@ -302,15 +303,20 @@ def text_of(tiling, frame, wholes, centre):
     return "\n".join([*lines, *counts, f"all {len(whole)}", *paths, ""])
 
 
-def trial(tiling, drawn):
-    """The words of a call, and the texts that it must print without glue and with it; None where it is beyond the limits."""
+def drawn_window(tiling, drawn):
+    """A base, a seed, a centre and half extents."""
     kind, digits = drawn_base(tiling, drawn)
     seed, far = drawn.randrange(2**64), drawn.choice((1, 6, 6, 6, 40, 3000))
     centre = [drawn.randint(-far, far) if i < tiling.ring.size else 0 for i in range(4)]
-    half = drawn.randint(1, 5), drawn.randint(1, 5)
+    return (kind, digits), seed, centre, (drawn.randint(1, 5), drawn.randint(1, 5))
+
+
+def trial(tiling, base, seed, centre, half):
+    """The words of a call, and the texts that it must print without glue and with it; None where it is beyond the limits."""
+    kind, digits = base
     frame, box = Frame(tiling, kind, digits, seed), Box(tiling.plane, tiling.point(centre), half)
-    base, at = address((kind, digits)), ",".join(map(str, centre))
-    words = [f"seed={seed}", f"addr={base}", f"at={at}", f"half={half[0]},{half[1]}", "layers=list,census,svg"]
+    at = ",".join(map(str, centre))
+    words = [f"seed={seed}", f"addr={address(base)}", f"at={at}", f"half={half[0]},{half[1]}", "layers=list,census,svg"]
     while not frame.is_enough(box):
         if len(frame.digits) == DEEPEST:
             return words, None, None
@@ -360,7 +366,7 @@ def count_of(frame, box):
 
 
 def drilled(tiling, seed):
-    """What `drill` must print of the first windows of a start number."""
+    """What `drill` must print of the first windows of a seed."""
     words, counts, depths = words_of(seed), [], []
     for _ in range(DRILLED):
         six = [next(words) % 64 for _ in range(6)]
@@ -380,8 +386,10 @@ def compared(program, path):
         text = file.read()
     tiling, drawn = Tiling(tomllib.loads(text.decode())), random.Random(os.path.basename(path))
     refused, wrong = 0, []
-    for _ in range(WINDOWS):
-        words, *texts = trial(tiling, drawn)
+    windows = [drawn_window(tiling, drawn) for _ in range(WINDOWS)]
+    windows += [((0, ()), 42, [0, 0, 0, 0], half) for half in LONG.get(os.path.basename(path), ())]
+    for window in windows:
+        words, *texts = trial(tiling, *window)
         for glue, wanted in zip(("no", "yes"), texts):
             ran = subprocess.run([program, "draw", "rule=-", *words, f"glue={glue}"], input=text, capture_output=True)
             refused += ran.returncode != 0
@@ -394,7 +402,7 @@ def compared(program, path):
     wanted = drilled(tiling, seed)
     if ran.stdout.decode() != wanted:
         wrong.append(f"{os.path.basename(path)}: {' '.join(words)}: {ran.stdout!r} {ran.stderr!r} in place of {wanted!r}")
-    return 2 * WINDOWS + DRILLED, refused, wrong
+    return 2 * len(windows) + DRILLED, refused, wrong
 
 
 def main(top, program):

@@ -1,23 +1,28 @@
 #!/usr/bin/env python3
 """The corners of placed tiles as x and y, by floating point.
 
-    corners.py FILE.toml < LINES    LINES are what `place` prints for this rule; for each its corners, one `x y` a line,
-                                    with an empty line between tiles (Python 3.11 or later)
+    corners.py FILE.toml < LINES    LINES are what `place` prints for this rule, or the list that `draw` prints without
+                                    glue; for each its corners, one `x y` a line, with an empty line between tiles
+                                    (Python 3.11 or later)
 """
 import sys
 
 sys.dont_write_bytecode = True
-from rule_file import Trouble, load  # noqa: E402
+from command_line import Trouble, WrongWords, run  # noqa: E402
+from rule_file import load  # noqa: E402
 
 
 def corners(rule, line):
-    """The vertices of the tile that a line `kind turn shift` places, in order."""
+    """The vertices of the tile that a line `kind turn shift` places, in order; an address may stand
+    behind."""
+    if " + " in line:
+        raise Trouble(f"'{line.strip()}' is a whole tile of two halves: list the halves, without glue=yes")
     try:
-        kind, turn, shift = line.split()
+        kind, turn, shift = line.split()[:3]
         turned, moved = rule.motion(int(turn), rule.point([int(a) for a in shift.split(",")]))
         return [turned * vertex + moved for vertex in rule.kinds[int(kind)].vertices]
     except (ValueError, IndexError) as fault:
-        raise Trouble(f"'{line.strip()}' is no line of `place` for this rule") from fault
+        raise Trouble(f"'{line.strip()}' is no line of `place` or `draw` for this rule") from fault
 
 
 def coordinate(x):
@@ -26,15 +31,12 @@ def coordinate(x):
 
 
 def main(words):
-    if len(words) != 1 or words[0] in ("-h", "--help"):
-        raise Trouble(__doc__)
+    if len(words) != 1:
+        raise WrongWords
     rule = load(words[0])
     tiles = [corners(rule, line) for line in sys.stdin]
     print("\n\n".join("\n".join(f"{coordinate(z.real)} {coordinate(z.imag)}" for z in tile) for tile in tiles))
 
 
 if __name__ == "__main__":
-    try:
-        main(sys.argv[1:])
-    except Trouble as trouble:
-        sys.exit(f"corners.py: {trouble}")
+    run(main, __doc__)

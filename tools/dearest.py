@@ -17,6 +17,7 @@ import sys
 import tempfile
 
 sys.dont_write_bytecode = True
+from command_line import WrongWords, run as answer  # noqa: E402
 from fan_rule import RULES, fan_rule  # noqa: E402
 from hostile_answers import BUILT_IN, LONGEST_LISTING, MOST_LISTED  # noqa: E402
 
@@ -220,8 +221,10 @@ def files(table):
     table.add("check, a byte too long", "check rule=-", b"#" * (MEBIBYTE + 1), status=3)
 
 
-def main(program, counts=False):
-    table = Table(os.path.abspath(program), counts)
+def main(words):
+    if len(words) not in (1, 2) or words[1:] not in ([], ["--count"]):
+        raise WrongWords
+    table = Table(os.path.abspath(words[0]), len(words) == 2)
     for part in (addresses, stars, scripts, files, windows, listings):
         part(table)
     print(f"dearest: {table.wrong} wrong")
@@ -229,6 +232,4 @@ def main(program, counts=False):
 
 
 if __name__ == "__main__":
-    if len(sys.argv) not in (2, 3):
-        sys.exit(__doc__)
-    sys.exit(main(sys.argv[1], len(sys.argv) == 3))
+    answer(main, __doc__)

@@ -6,7 +6,8 @@
 import sys
 
 sys.dont_write_bytecode = True
-from rule_file import Trouble, box, centre, cross, load, sides  # noqa: E402
+from command_line import WrongWords, run  # noqa: E402
+from rule_file import box, centre, cross, load, sides  # noqa: E402
 
 WIDE, HIGH, HEAD, SIZE = 300, 330, 30, 230
 INNER, OUTER, POINT, NEVER = "#1f5fa8", "#e06c3a", "#117a3d", "#c62828"
@@ -118,8 +119,8 @@ def star(panel, inflated, edge):
 
 
 def main(words):
-    if len(words) != 1 or words[0] in ("-h", "--help"):
-        raise Trouble(__doc__)
+    if len(words) != 1:
+        raise WrongWords
     wide = WIDE * 4
     head = f'<svg xmlns="http://www.w3.org/2000/svg" viewBox="0 0 {wide} {HIGH}" width="{wide}" height="{HIGH}" '
     head += 'font-family="sans-serif" font-size="12" text-anchor="middle">'
@@ -128,7 +129,4 @@ def main(words):
 
 
 if __name__ == "__main__":
-    try:
-        main(sys.argv[1:])
-    except Trouble as trouble:
-        sys.exit(f"draw_dissection.py: {trouble}")
+    run(main, __doc__)

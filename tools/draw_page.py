@@ -9,6 +9,9 @@ import os
 import re
 import sys
 
+sys.dont_write_bytecode = True
+from command_line import Trouble, WrongWords, run  # noqa: E402
+
 HEAD = re.compile(r'<svg [^>]*viewBox="[^"]*" width="(\d+)" height="(\d+)">\n<title>([^<]*)</title>\n')
 COLOUR = re.compile(r"^(\.[a-z]\d+)(\{fill:#\w+;stroke:#\w+\})$", re.M)
 
@@ -17,7 +20,7 @@ def words_of(picture):
     """The command that drew a picture, and the word of its rule."""
     found = HEAD.match(picture)
     if not found:
-        sys.exit("draw_page.py: a picture isn't one that tools/paint.py wrote with --title")
+        raise Trouble("a picture isn't one that tools/paint.py wrote with --title")
     words = html.unescape(found[3])
     return words, next(word for word in words.split(" ") if word.startswith("rule="))
 
@@ -25,18 +28,21 @@ def words_of(picture):
 def figure(path):
     """A picture as a figure of the page, and its colours, which hold in that figure alone."""
     name = os.path.basename(path).removesuffix(".svg")
-    with open(path, encoding="utf-8") as file:
-        picture = file.read()
+    try:
+        with open(path, encoding="utf-8") as file:
+            picture = file.read()
+    except OSError as fault:
+        raise Trouble(f"{path} can't be read: {fault.strerror}") from fault
     words, rule = words_of(picture)
     colours = "\n".join(f"#{name} {what}{how}" for what, how in COLOUR.findall(picture))
-    body = re.sub(r"<title>tiling [^<]*</title>\n|<style>.*?</style>\n", "", picture, flags=re.S)
+    body = re.sub(r"<title>tiling [^<]*</title>\n|<style[^>]*>.*?</style>\n", "", picture, flags=re.S)
     words = html.escape(f"./{words}")
     return f'<figure id="{name}" data-name="{name}" data-rule="{rule}" data-words="{words}">\n{body}</figure>', colours
 
 
 def main(paths):
     if not paths:
-        sys.exit(__doc__)
+        raise WrongWords
     with open(os.path.join(os.path.dirname(os.path.abspath(__file__)), "page.html"), encoding="utf-8") as file:
         page = file.read()
     figures = [figure(path) for path in paths]
@@ -44,4 +50,5 @@ def main(paths):
     print(page.replace("<!-- pictures -->", "\n".join(text for text, _ in figures)), end="")
 
 
-main(sys.argv[1:])
+if __name__ == "__main__":
+    run(main, __doc__)

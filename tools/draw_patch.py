@@ -18,7 +18,8 @@ can colour it anew."""
 import sys
 
 sys.dont_write_bytecode = True
-from rule_file import Trouble, box, centre, cross, load, sides  # noqa: E402
+from command_line import Trouble, WrongWords, run  # noqa: E402
+from rule_file import box, centre, cross, load, sides  # noqa: E402
 
 KINDS = ["#3f6c9f", "#6f9ccb", "#e0a344", "#f1cf8e", "#8fae5d", "#c9dba6", "#b5536b", "#e3a8b6"]
 SHAPES = ["#4a7fb5", "#ecc06a", "#8fae5d", "#b5536b"]
@@ -103,7 +104,7 @@ def draw(rule, top, depth, options):
         elif options["colour"] == "kind":
             rules.append(f".k{i}{{fill:{KINDS[i % len(KINDS)]}}}")
     line = "#333" if options["label"] else "#222"
-    body.append(f"<style>path{{stroke-linejoin:round;stroke-linecap:round}} .l{{fill:none;stroke:{line};stroke-width:1.1}}")
+    body.append(f'<style type="text/css">path{{stroke-linejoin:round;stroke-linecap:round}} .l{{fill:none;stroke:{line};stroke-width:1.1}}')
     body.append(" ".join(rules) + "</style>")
     if not options["window"]:
         body.append(f'<rect x="{left:.1f}" y="{up:.1f}" width="{wide:.1f}" height="{high:.1f}" fill="white"/>')
@@ -154,7 +155,7 @@ def main(words):
             options[option], words = True, words[1:]
             continue
         if option not in options or len(words) < 2:
-            raise Trouble(__doc__)
+            raise WrongWords
         value, words = words[1], words[2:]
         if option == "window":
             value = numbers(value, 2, float)
@@ -166,7 +167,7 @@ def main(words):
             raise Trouble(f"'{value}' is none of kind, turn, child, shape")
         options[option] = options[option] + [value] if option in ("mark", "outline") else value
     if len(words) != 3:
-        raise Trouble(__doc__)
+        raise WrongWords
     rule = load(words[0])
     kind, depth = numbers(words[1], 1, int)[0], numbers(words[2], 1, int)[0]
     if not 0 <= kind < len(rule.kinds) or depth < 0:
@@ -182,7 +183,4 @@ def main(words):
 
 
 if __name__ == "__main__":
-    try:
-        main(sys.argv[1:])
-    except Trouble as trouble:
-        sys.exit(f"draw_patch.py: {trouble}")
+    run(main, __doc__)

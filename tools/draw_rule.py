@@ -17,7 +17,8 @@ import os
 import sys
 
 sys.dont_write_bytecode = True
-from rule_file import Trouble, area, box, centre, cross, load, sides  # noqa: E402
+from command_line import Trouble, WrongWords, run  # noqa: E402
+from rule_file import area, box, centre, cross, load, sides  # noqa: E402
 
 GAP, PAD, HEAD = 52, 24, 20
 RED = "#d00000"
@@ -330,7 +331,7 @@ def main(words):
             folder = words[1]
         words = words[2:]
     if not words or words[0].startswith("-") or (folder is None and len(words) != 1):
-        raise Trouble(__doc__)
+        raise WrongWords
     if folder is not None and not os.path.isdir(folder):
         raise Trouble(f"{folder} is no folder")
     for name in words:
@@ -343,7 +344,4 @@ def main(words):
 
 
 if __name__ == "__main__":
-    try:
-        main(sys.argv[1:])
-    except Trouble as trouble:
-        sys.exit(f"draw_rule.py: {trouble}")
+    run(main, __doc__)

@@ -10,7 +10,8 @@ import subprocess
 import sys
 
 sys.dont_write_bytecode = True
-from rule_file import Trouble, load, sides  # noqa: E402
+from command_line import Trouble, WrongWords, run  # noqa: E402
+from rule_file import load, sides  # noqa: E402
 
 CELL, FOOT, UNIT, IN_ROW = 170, 24, 44, 4
 COLOURS = ["#1f5f7a", "#8ecae6", "#f4b860", "#3a9a9c"]  # of whole tiles, each by the lesser kind of its halves
@@ -76,7 +77,7 @@ def draw(program, name, stars):
     wide, high = CELL * min(IN_ROW, len(stars)), (CELL + FOOT) * rows
     out = [
         f'<svg xmlns="http://www.w3.org/2000/svg" version="1.1" width="{wide}" height="{high}" viewBox="0 0 {wide} {high}">',
-        "<style>.line,.red{fill:none;stroke:#222;stroke-width:1.2;stroke-linecap:round}.red{stroke:#c0392b;stroke-width:2}"
+        '<style type="text/css">.line,.red{fill:none;stroke:#222;stroke-width:1.2;stroke-linecap:round}.red{stroke:#c0392b;stroke-width:2}'
         "text{font:15px sans-serif;text-anchor:middle}</style>",
         f'<rect width="{wide}" height="{high}" fill="white"/>',
     ]
@@ -92,13 +93,10 @@ def draw(program, name, stars):
 
 def main(words):
     if len(words) < 5 or len(words) % 3 != 2:
-        raise Trouble(__doc__)
+        raise WrongWords
     stars = list(zip(words[2::3], words[3::3], words[4::3]))
     print(draw(words[0], words[1], stars), end="")
 
 
 if __name__ == "__main__":
-    try:
-        main(sys.argv[1:])
-    except Trouble as trouble:
-        sys.exit(f"draw_stars.py: {trouble}")
+    run(main, __doc__)

@@ -1,14 +1,17 @@
 #!/usr/bin/env python3
-"""Draws the steps 1, ζ, ζ², ζ³ of the four orders, and how a point is reached by them, as SVG.
+"""Draws the steps 1, ζ, ζ², ζ³ of some orders, and how a point is reached by them, as SVG.
 
-    draw_steps.py > PICTURE.svg
+    draw_steps.py ORDER .. > PICTURE.svg      each ORDER 4, 6, 8 or 10
 """
 import cmath
 import sys
 
+sys.dont_write_bytecode = True
+from command_line import WrongWords, run  # noqa: E402
+
 UNIT, CELL, HEAD = 60, 270, 34
 NAMES = ["1", "ζ", "ζ²", "ζ³"]
-PANELS = [(4, [2, 1, 0, 0]), (6, [1, 1, 0, 0]), (8, [1, 1, 0, -1]), (10, [1, 0, 1, -1])]
+POINTS = {"4": [2, 1, 0, 0], "6": [1, 1, 0, 0], "8": [1, 1, 0, -1], "10": [1, 0, 1, -1]}  # by the order
 
 
 def arrow(a, b, colour, width):
@@ -56,9 +59,11 @@ def panel(order, point, x):
     return lines
 
 
-def main():
-    wide, high = CELL * len(PANELS), HEAD + 222
-    body = [line for i, (order, point) in enumerate(PANELS) for line in panel(order, point, i * CELL)]
+def main(words):
+    if not words or not set(words) <= set(POINTS):
+        raise WrongWords
+    wide, high = CELL * len(words), HEAD + 222
+    body = [line for i, order in enumerate(words) for line in panel(int(order), POINTS[order], i * CELL)]
     head = f'<svg xmlns="http://www.w3.org/2000/svg" viewBox="0 0 {wide} {high}" width="{wide}" height="{high}" '
     head += 'font-family="sans-serif" font-size="13" text-anchor="middle">'
     title = "<title>The steps of each order, and a point reached by them</title>"
@@ -66,6 +71,4 @@ def main():
 
 
 if __name__ == "__main__":
-    if len(sys.argv) != 1:
-        sys.exit(f"draw_steps.py: {__doc__}")
-    main()
+    run(main, __doc__)

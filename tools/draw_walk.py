@@ -9,7 +9,8 @@ import cmath
 import sys
 
 sys.dont_write_bytecode = True
-from rule_file import Trouble, box, centre, load, sides  # noqa: E402
+from command_line import Trouble, WrongWords, run  # noqa: E402
+from rule_file import box, centre, load, sides  # noqa: E402
 
 HEAD, UNIT, ROOM = 28, 13, 26
 BASE, NEW, OLD, WAY = "#f3b08a", "#eef2f6", "#cfdfee", "#b04a1c"
@@ -127,7 +128,7 @@ def draw(rule, kind, digits, path):
 
 def main(words):
     if len(words) != 4:
-        raise Trouble(__doc__)
+        raise WrongWords
     try:
         digits = [tuple(int(n) for n in digit.split("/")) for digit in words[2].split(",") if digit]
         path = [int(edge) for edge in words[3].split(",") if edge]
@@ -135,7 +136,7 @@ def main(words):
         if any(len(digit) != 2 for digit in digits):
             raise ValueError
     except ValueError as fault:
-        raise Trouble(__doc__) from fault
+        raise WrongWords from fault
     rule = load(words[0])
     try:
         print(draw(rule, kind, digits, path), end="")
@@ -144,7 +145,4 @@ def main(words):
 
 
 if __name__ == "__main__":
-    try:
-        main(sys.argv[1:])
-    except Trouble as trouble:
-        sys.exit(f"draw_walk.py: {trouble}")
+    run(main, __doc__)

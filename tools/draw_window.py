@@ -9,8 +9,9 @@ yellow, open edges in orange, and in blue the edges round the tiles found that a
 import sys
 
 sys.dont_write_bytecode = True
+from command_line import Trouble, WrongWords, run  # noqa: E402
 from draw_walk import frame, line  # noqa: E402
-from rule_file import Trouble, box, centre, load, sides  # noqa: E402
+from rule_file import box, centre, load, sides  # noqa: E402
 
 WIDE, HEAD, FOOT = 320, 10, 52
 FOUND, OPEN, CHAIN, WINDOW, REST = "#f7e3b0", "#e06c3a", "#1f5fa8", "#117a3d", "#f4f6f8"
@@ -112,7 +113,7 @@ def draw(rule, kind, digits, half, steps):
 
 def main(words):
     if len(words) != 5:
-        raise Trouble(__doc__)
+        raise WrongWords
     try:
         digits = [tuple(int(n) for n in digit.split("/")) for digit in words[2].split(",") if digit]
         half = [float(n) for n in words[3].split(",")]
@@ -120,7 +121,7 @@ def main(words):
         if len(half) != 2 or any(len(digit) != 2 for digit in digits):
             raise ValueError
     except ValueError as fault:
-        raise Trouble(__doc__) from fault
+        raise WrongWords from fault
     rule = load(words[0])
     try:
         print(draw(rule, kind, digits, half, steps), end="")
@@ -129,7 +130,4 @@ def main(words):
 
 
 if __name__ == "__main__":
-    try:
-        main(sys.argv[1:])
-    except Trouble as trouble:
-        sys.exit(f"draw_window.py: {trouble}")
+    run(main, __doc__)

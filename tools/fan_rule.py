@@ -13,6 +13,9 @@ corner 2 one.
 """
 import sys
 
+sys.dont_write_bytecode = True
+from command_line import WrongWords, run  # noqa: E402
+
 SIDE = 4  # of a field and of a fan; a thin triangle has its apex four times as far from its base
 FIELD, FAN, BROAD = range(3)  # the first kinds
 MIDDLE = 1, 2  # the point of a field, in sides, round which the six fields lie
@@ -136,10 +139,10 @@ def fan_rule(cut, corners):
 
 def main(words):
     if len(words) != 1 or words[0] not in map(str, RULES):
-        sys.exit(__doc__.strip())
+        raise WrongWords
     text, _, _ = fan_rule(*RULES[int(words[0])])
     sys.stdout.write(text)
 
 
 if __name__ == "__main__":
-    main(sys.argv[1:])
+    run(main, __doc__)

@@ -1,5 +1,5 @@
 #!/usr/bin/env python3
-"""Hostile use of the program: COUNT inputs made from a start number, each run, and its answer held against the formats.
+"""Hostile use of the program: COUNT inputs made from a seed, each run, and its answer held against the formats.
 
     hostile.py PROGRAM COUNT SEED [PROCESSES]             (Python 3.11 or later, on Linux)
     hostile.py PROGRAM --one NUMBER SEED [FILE]
@@ -22,6 +22,7 @@ import time
 from typing import NamedTuple
 
 sys.dont_write_bytecode = True
+from command_line import WrongWords, run  # noqa: E402
 from hostile_answers import Listing, Wanted  # noqa: E402
 from hostile_inputs import Library, made  # noqa: E402
 
@@ -185,7 +186,7 @@ class Tally:
 
 
 def input_of(library, number, seed):
-    """Input number NUMBER of a start number."""
+    """Input number NUMBER of a seed."""
     return made(library, random.Random(f"{seed} {number}"))
 
 
@@ -250,12 +251,22 @@ def report(tally, count, seed, seconds):
     print(f"hostile: {count} inputs, {tally.twice} of them run twice, {len(tally.wrong)} wrong, in {seconds:.0f} s")
 
 
-def main(program, count, seed, processes=None):
-    if count == "--one":
-        number, seed, *file = seed, processes, *sys.argv[5:6]
-        return one(program, int(number), seed, *file)
-    count, begun, tally = int(count), time.monotonic(), Tally()
-    with concurrent.futures.ProcessPoolExecutor(int(processes or os.cpu_count())) as pool:
+def is_number(word):
+    return word.isascii() and word.isdigit()
+
+
+def main(words):
+    if len(words) in (4, 5) and words[1] == "--one" and is_number(words[2]):
+        return one(os.path.abspath(words[0]), int(words[2]), *words[3:])
+    if len(words) not in (3, 4) or not is_number(words[1]) or not all(map(is_number, words[3:])):
+        raise WrongWords
+    return many(os.path.abspath(words[0]), int(words[1]), words[2], *map(int, words[3:]))
+
+
+def many(program, count, seed, processes=None):
+    """Makes so many inputs, runs each, and reports."""
+    begun, tally = time.monotonic(), Tally()
+    with concurrent.futures.ProcessPoolExecutor(processes or os.cpu_count()) as pool:
         runs = [pool.submit(tried, program, seed, first, min(count, first + CHUNK)) for first in range(0, count, CHUNK)]
         for run in concurrent.futures.as_completed(runs):
             tally.join(run.result())
@@ -264,6 +275,4 @@ def main(program, count, seed, processes=None):
 
 
 if __name__ == "__main__":
-    if len(sys.argv) < 4:
-        sys.exit(__doc__)
-    sys.exit(main(os.path.abspath(sys.argv[1]), *sys.argv[2:5]))
+    run(main, __doc__)

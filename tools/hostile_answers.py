@@ -1,21 +1,22 @@
-"""What a call of the program must answer, as docs/FORMATS.md has it, apart from the engine: which words, addresses and
-lines of scripts and listings are refused and how, which statuses may come else, and what a note and a text look like."""
+"""What a call of the program must answer, as docs/FORMATS.md has it, apart from the engine: which words,
+addresses and lines of scripts and listings are refused and how, which statuses may come else, and what a note
+and a text look like."""
 import functools
 import os
 import re
 import sys
-import tomllib
 
 sys.dont_write_bytecode = True
+from command_line import is_module, run  # noqa: E402
 sys.path.insert(1, os.path.join(os.path.dirname(os.path.dirname(os.path.abspath(__file__))), "checks"))
 from supertiles import Ring  # noqa: E402
+from toml_document import NotToml, document_of  # noqa: E402
 from windows import words_of  # noqa: E402
 
 LONGEST = 1048576  # bytes of a rule file or a script
 LONGEST_LISTING = 67108864  # bytes
 MOST_LISTED = 200000  # lines of a listing
 SHORT = 20000  # bytes of a rule file that is read here as well
-SHALLOW = 70  # levels of one
 MANY_LINES = 5000  # of a text of `calc`, of a longer one both ends are looked at
 DEEPEST = 64
 GREATEST = 2**24  # of the coefficients of a shift
@@ -113,7 +114,8 @@ def are_text(words):
 
 
 class Shape:
-    """Of an accepted rule what addresses need: the children of each kind, how many edges a kind has, and its plane."""
+    """Of an accepted rule what addresses need: the children of each kind, how many edges a kind has, and its
+    plane."""
 
     def __init__(self, rule):
         self.ring, self.factor, self.motions = Ring(rule["order"]), rule["lambda"], [kind["children"] for kind in rule["kind"]]
@@ -134,7 +136,8 @@ class Shape:
         return b"%d,%d,%d,%d" % (point + (0,) * (4 - len(point)))
 
     def placed(self, text):
-        """Whether the tile of an address lies within the limits, and where it lies, or else the first refused value."""
+        """Whether the tile of an address lies within the limits, and where it lies, or else the first refused
+        value."""
         kind, digits = parsed(text)
         turn, shift = 0, (0,) * self.ring.size
         for child, parent in reversed(digits):
@@ -172,7 +175,8 @@ def address_fault(shape, text):
 
 
 NAME = re.compile(rb"[a-z]")
-# for each line of a script its words behind the first: a name that is read, one that is bound, an edge, or an address
+# for each line of a script its words behind the first: a name that is read, one that is bound, an edge, or an
+# address
 LINES = {b"let": "bound address", b"show": "read", b"place": "read", b"across": "read edge bound", b"common": "read read", b"pair": "read read"}
 
 
@@ -195,8 +199,8 @@ def bad_place(words):
 
 
 class Script:
-    """What is known of a script before its crossings: the first line that has a fault for certain, with that fault, and the
-    lines that print before it, by number."""
+    """What is known of a script before its crossings: the first line that has a fault for certain, with that
+    fault, and the lines that print before it, by number."""
 
     def __init__(self, shape, text):
         self.shape, self.names, self.printing, self.fault = shape, {}, {}, None
@@ -211,7 +215,8 @@ class Script:
                     self.printing[number] = words[0]
 
     def line_fault(self, number, words):
-        """The certain fault of a line, or None; binds what the line binds: to an address, or to None where none is known."""
+        """The certain fault of a line, or None; binds what the line binds: to an address, or to None where
+        none is known."""
         place = bad_place(words)
         if place is not None:
             return b"BadLine %d %d" % (number, place)
@@ -242,7 +247,8 @@ class Script:
 
 
 def wrong_place(words):
-    """The number of the first word of a line of a listing that hasn't its form, is one too many or is missing, or None."""
+    """The number of the first word of a line of a listing that hasn't its form, is one too many or is
+    missing, or None."""
     forms = (
         lambda word: is_number(word, 0, 255),
         lambda word: is_number(word, 0, 255),
@@ -256,9 +262,9 @@ def wrong_place(words):
 
 
 class Listing:
-    """What is known of a listing before the walk: its first fault of those from TooLong to Double, as a note tells it, or
-    None, in `fault`; and where it has none, its lines' numbers and motions by their tiles, in `lines`. A tile is a kind
-    and 64 digits, those of the frame behind its own."""
+    """What is known of a listing before the walk: its first fault of those from TooLong to Double, as a note
+    tells it, or None, in `fault`; and where it has none, its lines' numbers and motions by their tiles, in
+    `lines`. A tile is a kind and 64 digits, those of the frame behind its own."""
 
     def __init__(self, shape, values, text):
         self.shape, self.lines = shape, {}
@@ -280,7 +286,8 @@ class Listing:
         return (kind, (*digits, *self.grown[len(digits) :])) if top == own else None
 
     def read(self, line):
-        """The name of a line's fault and what stands behind its number; or None, and the line's tile and motion."""
+        """The name of a line's fault and what stands behind its number; or None, and the line's tile and
+        motion."""
         words = line.split(b" ")
         place = wrong_place(words)
         if place is not None:
@@ -432,30 +439,15 @@ class Reading:
         return 0 <= row[0] <= 15 and 0 <= row[1] < self.order and self.is_point(row[2:])
 
 
-def inner(value):
-    """The values in an array or a table."""
-    return value.values() if isinstance(value, dict) else value if isinstance(value, list) else ()
-
-
-def is_wide(value):
-    """Whether a number in a value needs more than 64 bits: such a file is refused as no TOML document."""
-    return any(map(is_wide, inner(value))) or (is_integer(value) and not -(2**63) <= value < 2**63)
-
-
-def depth(value):
-    """How deep arrays and tables are nested: deeper than some 80, a file is refused as no TOML document."""
-    return max(map(depth, inner(value)), default=0) + 1
-
-
 def file_fault(text):
-    """The fault of a rule file by its form, as a note tells it, None where it has none, and False where it isn't known."""
+    """The fault of a rule file by its form, as a note tells it, None where it has none, and False where it
+    isn't known."""
+    if len(text) > SHORT:
+        return False
     try:
-        document = tomllib.loads(text.decode()) if len(text) <= SHORT else None
-        if document is None or depth(document) > SHALLOW:
-            return False
-        fault = "NotToml" if is_wide(document) else Reading(document).fault
+        fault = Reading(document_of(text)).fault
         return fault.encode() if fault else None
-    except (UnicodeDecodeError, tomllib.TOMLDecodeError):
+    except NotToml:
         return b"NotToml"
     except (RecursionError, ValueError):
         return False
@@ -480,7 +472,8 @@ LISTED = (
     rb"(?:TooLong|BadLine [0-9]+ [0-4]|Address [0-9]+ %b|(?:BadKind|NotOfFrame|Double|Stray) [0-9]+|Missing %b"
     rb"|WrongPlace [0-9]+ [0-9] %b)" % (FAULT, A, P)
 )
-# for each status what stands on standard error. 10 and 14 can't come: standard output takes all, and no layer is missing.
+# for each status what stands on standard error. 10 and 14 can't come: standard output takes all, and no layer
+# is missing.
 NOTES = {
     status: re.compile(form)
     for status, form in {
@@ -536,7 +529,8 @@ def ends_fit(text, first, last):
 
 
 def star_fits(values, text):
-    """Whether a text has lines of a star: the first is of the base, where it stands on its prototile, and no tile comes twice."""
+    """Whether a text has lines of a star: the first is of the base, where it stands on its prototile, and no
+    tile comes twice."""
     lines = text.split(b"\n")[:-1]
     first = rb"[0-9]+ 0 0,0,0,0 %b(?:,?%b/%b)* %b" % (re.escape(values[b"addr"]), N, N, re.escape(values[b"vertex"]))
     if not 0 < len(lines) <= MOST_ROUND or not lines_fit(text, [first] + [TILE + rb" [0-9]+"] * (len(lines) - 1)):
@@ -546,7 +540,8 @@ def star_fits(values, text):
 
 
 def text_fits(command, values, text, shape, script, listing):
-    """Whether standard output looks like an answer of the command; script and listing are what is known of one."""
+    """Whether standard output looks like an answer of the command; script and listing are what is known of
+    one."""
     if command == b"place":
         return text == shape.placed(values[b"addr"])[1] + b"\n" if shape else lines_fit(text, [rb"[0-9]+ [0-9] %b" % P])
     if command == b"neighbour":
@@ -571,9 +566,9 @@ def text_fits(command, values, text, shape, script, listing):
 
 
 class Wanted:
-    """What a call must answer: the statuses with which it may end, and the note where it is known. `shapes` are those of the
-    built-in rules. `shape` is that of the rule file where it is known to be accepted, and `refused` is its note where it is
-    known to be refused. `folder` says that standard input can't be read."""
+    """What a call must answer: the statuses with which it may end, and the note where it is known. `shapes`
+    are those of the built-in rules. `shape` is that of the rule file where it is known to be accepted, and
+    `refused` is its note where it is known to be refused. `folder` says that standard input can't be read."""
 
     def __init__(self, shapes, words, text, shape=None, refused=None, folder=False):
         self.words, self.shape, self.script, self.listing, self.values, self.is_read = words, None, None, None, {}, False
@@ -661,3 +656,7 @@ class Wanted:
         if status == 0 and not text_fits(self.words[0], self.values, out, self.shape, self.script, self.listing):
             return f"the text isn't one of the command: {out[:300]!r}"
         return None
+
+
+if __name__ == "__main__":
+    run(is_module, __doc__)

@@ -7,6 +7,7 @@ import tomllib
 from typing import NamedTuple
 
 sys.dont_write_bytecode = True
+from command_line import is_module, run  # noqa: E402
 from hostile_answers import BUILT_IN, COMMANDS, DEEPEST, LONGEST, LONGEST_LISTING, MOST_LISTED, NOT_OVER_FILES  # noqa: E402
 from hostile_answers import Shape, parsed  # noqa: E402
 from rule_file import Rule, area  # noqa: E402
@@ -158,7 +159,7 @@ def right_call(drawn, command=None):
 
 
 def walk_words(drawn, shape):
-    """A path, a start number and a depth, each of which may be left out."""
+    """A path, a seed and a depth, each of which may be left out."""
     words, most = [], min(shape.edges)
     if not drawn.once_in(4):
         path = [drawn.below(most) for _ in range(drawn.choice((1, 2, 5, 20, drawn.up_to(1000), 1000)))]
@@ -939,3 +940,7 @@ def made(library, stream):
     makers, weights = zip(*WEIGHTS)
     call = stream.choices(makers, weights)[0](Drawn(stream, library))
     return call._replace(words=[word[:LONGEST_WORD] for word in call.words[:MOST_WORDS]])
+
+
+if __name__ == "__main__":
+    run(is_module, __doc__)

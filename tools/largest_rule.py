@@ -1,17 +1,20 @@
 """Prints an accepted rule whose machine for two addresses has very many nodes, for measuring.
 
-    python3 tools/largest_rule.py [STEPS [SEED]] > rule.toml
+    largest_rule.py STEPS SEED > RULE.toml      400 steps with the seed 1 take some 20 seconds
 
-It has 16 kinds, the most that there may be: 15 rectangles of 4 by 2, with a vertex at each unit, so with 12 edges, the
-most that there may be, and one of 3 by 2 with 10; all edges have one type. Each is three times as large cut into tiles of
-these shapes, lying and standing: without the smaller one all tiles would lie at even distances. How each kind is cut, and
-which kinds its children have and which way round, is drawn, and in each step drawn anew for one kind or one child; it stays
-where no fewer pairs of edges meet then. A node is such a pair; there could be (15 * 12 + 10) ** 2 = 36,100 of these. Their
-number is printed to the standard error. It takes nothing from the engine.
-"""
+It has 16 kinds, the most that there may be: 15 rectangles of 4 by 2, with a vertex at each unit, so with 12
+edges, the most that there may be, and one of 3 by 2 with 10; all edges have one type. Each is three times as
+large cut into tiles of these shapes, lying and standing: without the smaller one all tiles would lie at even
+distances. How each kind is cut, and which kinds its children have and which way round, is drawn, and in each
+step drawn anew for one kind or one child; it stays where no fewer pairs of edges meet then. A node is such a
+pair; there could be (15 * 12 + 10) ** 2 = 36,100 of these. Their number is printed to standard error, with
+each tenth of the steps. It takes nothing from the engine."""
 import random
 import sys
 from collections import deque
+
+sys.dont_write_bytecode = True
+from command_line import WrongWords, run  # noqa: E402
 
 FACTOR, KINDS = 3, 16
 LONGER = 0.9  # how often a longer rectangle is tried first
@@ -100,7 +103,9 @@ def drawn_rule(steps, seed):
     draw = random.Random(seed)
     rule = [drawn_children(draw, kind) for kind in range(KINDS)]
     most = 0
-    for _ in range(steps):
+    for step in range(steps):
+        if step % max(1, steps // 10) == 0:
+            print(f"step {step} of {steps}: {most} pairs of edges meet", file=sys.stderr)
         kind = draw.randrange(KINDS)
         own = drawn_children(draw, kind) if draw.random() < 0.5 else changed(draw, rule[kind])
         other = rule[:kind] + [own] + rule[kind + 1:]
@@ -157,12 +162,13 @@ def printed(rule):
     print(f"\n[[type]]\nmate = 0\nparts = [{', '.join('0' for _ in range(FACTOR))}]")
 
 
-def main():
-    steps, seed = (int(word) for word in (sys.argv[1:] + ["400", "1"][len(sys.argv) - 1:])[:2])
-    rule, pairs = drawn_rule(steps, seed)
+def main(words):
+    if len(words) != 2 or not all(word.isascii() and word.isdigit() for word in words):
+        raise WrongWords
+    rule, pairs = drawn_rule(int(words[0]), int(words[1]))
     print(pairs, "pairs of edges meet", file=sys.stderr)
     printed(rule)
 
 
 if __name__ == "__main__":
-    main()
+    run(main, __doc__)

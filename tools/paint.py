@@ -1,20 +1,24 @@
 #!/usr/bin/env python3
 """Colours what the command `draw` prints: reads its picture and its list, and writes the picture in colours.
 
-    ./tiling draw .. layers=svg,list | python3 tools/paint.py [OPTION..] > PICTURE.svg      (Python 3.11 or later)
+    ./tiling draw .. layers=svg,list | python3 tools/paint.py [OPTION..] > PICTURE.svg      (Python 3.9 or later)
 
     --colour kind|turn|child|plain   by the tile's kind, by its turn, by its number as a child, or all alike
     --level N                        with `child`: the digit of that number from 0, the finest; 0 where it isn't given
-    --palette NAME                   the colours: day, earth, sea, rose, stone or turns
+    --palette NAME                   the colours: day, earth, sea, rose, stone or turns; or your own, as '#0b3954,#ff6663'
     --width N                        pixels; 800 where it isn't given
     --title TEXT                     what the picture shows
 
-A whole tile of two halves, which `draw` lists with glue=yes, has the kind, the turn and the number of its first half. The
-shapes are those of the program, to the digit. Path i gets the classes kK and tT (its kind and its turn) and, as its title,
-the address or the two addresses that stand in line i of the list; a style sheet can colour it anew. A line has the same
+A whole tile of two halves, which `draw` lists with glue=yes, has the kind, the turn and the number of its
+first half. The shapes are those of the program, to the digit. Path i gets the classes kK and tT (its kind and
+its turn) and, as its title, the address or the two addresses that stand in line i of the list; a style sheet
+can colour it anew. The last path, of the class l, has each line of the picture once; a line has the same
 width at any size."""
 import re
 import sys
+
+sys.dont_write_bytecode = True
+from command_line import Trouble, WrongWords, run  # noqa: E402
 
 HEAD = re.compile(r'<svg xmlns="[^"]*" version="1.1" viewBox="(\S+ \S+) (\S+) (\S+)">')
 GROUP = re.compile(r'<g transform="scale\((\S+) (\S+)\)" fill="none" stroke="black" stroke-width="40">')
@@ -29,15 +33,13 @@ PALETTES = {
     "stone": ["#e4ddd0", "#a9b4a6", "#6f7f80", "#c9b79c", "#8a7a6a", "#d5d9d2"],
     "turns": ["#3a6378", "#2a7f86", "#2a9d8f", "#8ab17d", "#babb74", "#e9c46a", "#efb366", "#f4a261", "#ee8959", "#e76f51"],
 }
+OWN = re.compile(r"#[0-9A-Fa-f]{6}(?:,#[0-9A-Fa-f]{6})*")
 WORDS = {"colour": ("kind", "turn", "child", "plain"), "palette": tuple(PALETTES)}
 
 
-class Trouble(Exception):
-    """Why there is no picture."""
-
-
 class Tile:
-    """A tile drawn: its kind and turn, its address or those of its halves, and its corners as the texts `x y`."""
+    """A tile drawn: its kind and turn, its address or those of its halves, and its corners as the texts `x
+    y`."""
 
     def __init__(self, path, line):
         self.kind, self.turn, self.name = int(line[1]), int(line[2]), line[3]
@@ -111,12 +113,13 @@ def escaped(text):
 
 def paint(drawn, options):
     """The picture in colours as the text of an SVG file."""
-    palette = PALETTES[options["palette"] or ("turns" if options["colour"] == "turn" else "day")]
+    name = options["palette"] or ("turns" if options["colour"] == "turn" else "day")
+    palette = PALETTES.get(name) or name.split(",")
     classes = [class_of(tile, options) for tile in drawn.tiles]
     high = round(options["width"] * drawn.high / drawn.wide)
     body = [f'<svg xmlns="http://www.w3.org/2000/svg" version="1.1" viewBox="{drawn.box}" width="{options["width"]}" height="{high}">']
     body += [f"<title>{escaped(options['title'])}</title>"] if options["title"] else []
-    body += ["<style>path{stroke-width:20;stroke-linejoin:round} .l{fill:none;stroke:#222;stroke-width:40}"]
+    body += ['<style type="text/css">path{stroke-width:20;stroke-linejoin:round} .l{fill:none;stroke:#222;stroke-width:40}']
     body += ["@supports (vector-effect:non-scaling-stroke){path{vector-effect:non-scaling-stroke;stroke-width:1} .l{stroke-width:1.1}}"]
     body += [*fills(set(classes), options, palette), "</style>", f'<g transform="scale({drawn.scale})">']
     for tile, name in zip(drawn.tiles, classes):
@@ -132,9 +135,10 @@ def given(words):
     while words:
         option, words = words[0].removeprefix("--"), words[1:]
         if option not in options or not words:
-            raise Trouble(__doc__)
+            raise WrongWords
         value, words = words[0], words[1:]
-        if option in WORDS and value not in WORDS[option]:
+        is_own = option == "palette" and OWN.fullmatch(value)
+        if option in WORDS and value not in WORDS[option] and not is_own:
             raise Trouble(f"'{value}' is none of {', '.join(WORDS[option])}")
         if option in ("level", "width"):
             if not re.fullmatch(r"\d{1,5}", value):
@@ -146,11 +150,10 @@ def given(words):
 
 def main(words):
     options = given(words)
+    if sys.stdin is None or sys.stdin.isatty():
+        raise WrongWords
     print(paint(Drawn(sys.stdin.read()), options), end="")
 
 
 if __name__ == "__main__":
-    try:
-        main(sys.argv[1:])
-    except Trouble as trouble:
-        sys.exit(f"paint.py: {trouble}")
+    run(main, __doc__)

@@ -17,6 +17,7 @@ import tempfile
 import tomllib
 
 sys.dont_write_bytecode = True
+from command_line import WrongWords, run  # noqa: E402
 TOP = os.path.dirname(os.path.dirname(os.path.abspath(__file__)))
 sys.path.insert(1, os.path.join(TOP, "checks"))
 from supertiles import address  # noqa: E402
@@ -127,7 +128,7 @@ def tried(trial, call, pool):
         ends = trial.refused(call, most, pool, goes_on)
         counts = collections.Counter(kind_of(end, whole) for end in ends)
         told = ", ".join(f"{many} {kind}" for kind, many in sorted(counts.items()))
-        print(f"refuse_memory: {shown} (status {whole[0]}): {most} allocations, {'all from it on' if goes_on else 'each alone'}: {told}")
+        print(f"refuse_memory: {shown} (status {whole[0]}): {most} allocations, {'all from it on' if goes_on else 'each alone'}: {told}", flush=True)
         wrong += [f"{shown}: {'from' if goes_on else 'at'} allocation {number}: {ends[number - 1]!r:.300}" for number in wrong_ends(ends, whole)]
     return most, wrong
 
@@ -143,13 +144,15 @@ def built(folder):
     return library
 
 
-def main(program):
+def main(words):
+    if len(words) != 1:
+        raise WrongWords
     with tempfile.TemporaryDirectory() as folder, concurrent.futures.ThreadPoolExecutor(2) as pool:
         library = built(folder)
         if not library:
             print("refuse_memory: there is no C compiler cc that makes tools/refuse_memory.c", file=sys.stderr)
             return 2
-        trial = Trial(os.path.abspath(program), library, folder)
+        trial = Trial(os.path.abspath(words[0]), library, folder)
         if trial.run(("check rule=chair", b""))[1] == 0:
             print("refuse_memory: the program takes no memory from libc, or isn't linked with it", file=sys.stderr)
             return 2
@@ -162,4 +165,4 @@ def main(program):
 
 
 if __name__ == "__main__":
-    sys.exit(main(*sys.argv[1:]) if len(sys.argv) == 2 else __doc__)
+    run(main, __doc__)

@@ -2,14 +2,9 @@
 import cmath
 import sys
 
-try:
-    import tomllib
-except ModuleNotFoundError:
-    sys.exit("this script needs Python 3.11 or later")
-
-
-class Trouble(Exception):
-    """What is wrong with a rule file or with the words of a call, in a sentence."""
+sys.dont_write_bytecode = True
+from command_line import Trouble, is_module, run  # noqa: E402
+from toml_document import NotToml, document_of  # noqa: E402
 
 
 class Kind:
@@ -55,13 +50,11 @@ def load(path):
     """The rule of a file."""
     try:
         with open(path, "rb") as file:
-            document = tomllib.load(file)
+            document = document_of(file.read())
         return Rule(document, path.rpartition("/")[2].removesuffix(".toml"))
     except OSError as fault:
         raise Trouble(f"{path} can't be read: {fault.strerror}") from fault
-    except UnicodeDecodeError as fault:
-        raise Trouble(f"{path} isn't text in UTF-8") from fault
-    except tomllib.TOMLDecodeError as fault:
+    except NotToml as fault:
         raise Trouble(f"{path} is no TOML document: {fault}") from fault
     except KeyError as fault:
         raise Trouble(f"{path}: the key {fault} is missing, or stands below a [[type]] or [[kind]]") from fault
@@ -99,3 +92,7 @@ def box(points):
     """The least and greatest x and y."""
     xs, ys = [z.real for z in points], [z.imag for z in points]
     return min(xs), min(ys), max(xs), max(ys)
+
+
+if __name__ == "__main__":
+    run(is_module, __doc__)

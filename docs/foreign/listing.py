@@ -11,6 +11,7 @@ kind that it is a piece of. Decimals become coefficients by going along sides fr
 step in one of ten directions. It takes nothing from `tiling` but what its documents say.
 """
 import cmath
+import signal
 import sys
 
 STEP = cmath.pi / 5
@@ -94,7 +95,9 @@ def meets(corners, width, height):
 
 def main(name, width, height):
     halves = [read(line) for line in sys.stdin]
-    (base,) = [corners for own, _, corners in halves if own == name]
+    base = next((corners for own, _, corners in halves if own == name), None)
+    if base is None:
+        sys.exit(f"listing.py: there is no half of the name {name}")
     known, back = coefficients(halves, base), direction(base[0], base[1])
     window = width / 2, height * cmath.sin(STEP).real
     for own, kind, corners in halves:
@@ -107,4 +110,7 @@ def main(name, width, height):
 
 
 if __name__ == "__main__":
+    if len(sys.argv) != 4 or not all(word.isdecimal() for word in sys.argv[2:]):
+        sys.exit(__doc__)
+    signal.signal(signal.SIGPIPE, signal.SIG_DFL)
     main(sys.argv[1], int(sys.argv[2]), int(sys.argv[3]))

@@ -7,6 +7,7 @@ apex and of the two ends of its base. A name is `h` and behind it, from the firs
 half before. The sides at the apex are 1 long at the end. It knows nothing of `tiling`.
 """
 import cmath
+import signal
 import sys
 
 GOLDEN = (1 + 5**0.5) / 2
@@ -30,4 +31,7 @@ def main(times):
 
 
 if __name__ == "__main__":
+    if len(sys.argv) != 2 or not sys.argv[1].isdecimal():
+        sys.exit(__doc__)
+    signal.signal(signal.SIGPIPE, signal.SIG_DFL)
     main(int(sys.argv[1]))

@@ -1,0 +1,136 @@
+"""Long sentences, wide lines and avoided words of the documents: see sentences.sh. Called with the top, and with the
+names of the documents of which everything is to be listed."""
+import os
+import re
+import sys
+
+LONGEST, WIDEST, SHOWN = 30, 110, 5
+# how many long sentences, wide lines and avoided words a document may have; none without a row here
+ALLOWED = {
+    "docs/NAMES.md": (4, 2, 20),
+}
+# what docs/STYLE.md has a plainer word for, and is never meant otherwise
+AVOIDED = [
+    r"but for", r"but that", r"nothing but", r"be it", r"want of memory", r"memory is wanting", r"is (wanting|lacking)",
+    r"(says?|said) (its|their) words", r"(is|are|was|were) told", r"tells?", r"(isn't|aren't|wasn't) there", r"hasn't (an?|the|its|this|no)\b",
+    r"wherever", r"exactly (there )?where", r"and else", r"else (it|they|the|a)\b", r"each once",
+    r"just one", r"one alone", r"the (only|first) such", r"likewise", r"so too", r"so it is with",
+    r"is so(?= (of|for|with|exactly)|[.,;:])",
+    r"whoever", r"everybody", r"behind", r"beside", r"one like(s|d)\b", r"round (?=(an?|the|it|its|them|each|every|this|that|one|both|vertex)\b)",
+    r"stands?\b(?! (for|on)\b)", r"(is|are|be) had", r"(is|are) due", r"it is meant", r"(has|have|had) to be", r"start numbers?",
+    r"half extents?", r"spoilt", r"foreign", r"dear(est)?", r"cures?", r"some (?=[\d.]+)", r"(only )?so many", r"a (hundredth|fourth) of",
+    r"in place of", r"anew", r"mostly", r"as it must", r"apart from the engine", r"at hand", r"by the clock",
+]
+WORD = re.compile("|".join(rf"\b{word}\b" for word in AVOIDED), re.I)
+
+
+def documents(top):
+    """The names of all documents."""
+    pages = [f"{folder}{name}" for folder in ("", "rules/", "docs/") for name in sorted(os.listdir(f"{top}/{folder}")) if name.endswith(".md")]
+    return [*pages, "docs/HELP.txt", "docs/tiling.1"]
+
+
+def manual_lines(text):
+    """The lines of a man page as prose. A request of the macros ends the sentence before it, unless it only sets a
+    font; what follows .TP is a heading."""
+    is_heading = False
+    for line in text.split("\n"):
+        if is_heading or re.match(r"\.(?!(B|I|BR|IR|BI|RB)\b)", line):
+            yield ""
+        elif line.startswith("."):
+            yield re.sub(r"\s+", " ", line.split(" ", 1)[-1].replace('"', ""))
+        else:
+            yield re.sub(r"\\(f.|\(..|[-e ])", "", line)
+        is_heading = line.startswith(".TP")
+
+
+def blocks(name, text):
+    """The pieces of a document that are prose, each with the number of its first line: paragraphs, entries of lists
+    and cells of tables. No code, no commands and no output."""
+    fenced, piece, first = False, [], 0
+    lines = list(manual_lines(text)) if name.endswith(".1") else text.split("\n")
+    for number, line in enumerate([*lines, ""], 1):
+        if line.startswith("```"):
+            fenced = not fenced
+        is_deep, is_text = line.startswith("    "), name.endswith(".txt")
+        is_code = fenced or (is_deep and not is_text) or re.match(r"```|\[\w+\]: |\s*(\./|\$ )", line)
+        starts = not is_deep if is_text else re.match(r"\s*([-*] |\d+\. |#+ |\|)", line)
+        if piece and (is_code or starts or not line.strip()):
+            yield first, " ".join(piece)
+            piece = []
+        if is_code or not line.strip():
+            continue
+        if line.startswith("|"):
+            for cell in re.split(r"(?<!\\)\|", line):
+                yield number, cell
+            continue
+        if not piece:
+            first = number
+        piece.append(re.sub(r"^\s*([-*] |\d+\. |#+ )", "", line).strip())
+
+
+def plain(text):
+    """A piece of prose without the addresses of links, with one word for each piece of code, formula or quotation."""
+    text = re.sub(r"`[^`]*`", "code", text)
+    text = re.sub(r"“[^”]*”", "quotation", text)
+    return re.sub(r"!?\[([^\]]*)\]\([^)]*\)", r"\1", text)
+
+
+def sentences(text):
+    """The sentences of a piece of prose."""
+    return re.split(r"(?<=[.?!])[*\"')]*\s+(?=[\"'*(\[]*(?:[A-Z0-9]|code\b|quotation\b))", text)
+
+
+def count(sentence):
+    """How many words a sentence has."""
+    return sum(1 for word in sentence.split() if re.search(r"\w", word))
+
+
+def wide_lines(name, text):
+    """The lines that could be broken and aren't: no rows of tables, no code, no commands, no pictures."""
+    fenced = False
+    for number, line in enumerate(text.split("\n"), 1):
+        fenced ^= line.startswith("```")
+        is_free = fenced or re.match(r"```|    |\||!\[|  ?\$? ?\./tiling|\$ tiling|\.", line)
+        if len(line) > WIDEST and not is_free:
+            yield number, f"{len(line)} columns"
+
+
+def faults(top, name):
+    """The long sentences, the wide lines and the avoided words of a document, each with its line and what it is."""
+    with open(os.path.join(top, name), encoding="utf-8") as file:
+        text = file.read()
+    long, avoided = [], []
+    for line, piece in blocks(name, text):
+        for sentence in sentences(plain(piece)):
+            if count(sentence) > LONGEST:
+                long.append((count(sentence), line, f"{count(sentence)} words: {sentence}"))
+        # (the page on style quotes them)
+        avoided += [(line, found[0].strip()) for found in WORD.finditer(plain(piece)) if name != "docs/STYLE.md"]
+    return [(line, what) for _, line, what in sorted(long, reverse=True)], list(wide_lines(name, text)), avoided
+
+
+def main():
+    top, listed = sys.argv[1], sys.argv[2:]
+    bad, total, worst = 0, [0, 0, 0], []
+    for name in listed or documents(top):
+        found = faults(top, name)
+        numbers = [len(it) for it in found]
+        total = [a + b for a, b in zip(total, numbers)]
+        worst += [(int(what.split(" ", 1)[0]), f"{name}:{line}: {what}") for line, what in found[0]]
+        for line, what in [it for kind in found for it in kind] if listed else []:
+            print(f"{name}:{line}: {what}")
+        allowed = ALLOWED.get(name, (0, 0, 0))
+        for what, number, limit in zip(("long sentences", "wide lines", "avoided words"), numbers, allowed):
+            if number > limit:
+                print(f"sentences: {name} has {number} {what}, and may have {limit}", file=sys.stderr)
+                bad += 1
+            elif number < limit:
+                print(f"sentences: {name} has {number} {what}, and may have {limit}: write {number} in checks/sentences.py")
+    for _, what in sorted(worst, reverse=True)[:SHOWN] if not listed else []:
+        print(f"sentences: {what}")
+    print(f"sentences: {total[0]} of more than {LONGEST} words, {total[1]} lines above {WIDEST} columns, {total[2]} avoided words")
+    return 1 if bad else 0
+
+
+sys.exit(main())

@@ -1,0 +1,16 @@
+#!/bin/sh
+# Links the program without the dynamic loader, as `./tiling --build` does where it can, and runs the checks of documents,
+# hostile inputs and streams on it. Ends with 1 where one of them fails. Its object is crates/tiling/out/tiling.o.
+top=$(cd "$(dirname "$0")/.." && pwd) || exit 1
+object=$top/crates/tiling/out/tiling.o
+[ -f "$object" ] || { echo "static: skipped, since there is no $object"; exit 0; }
+work=$(mktemp -d) || exit 1
+trap 'rm -rf "$work"' EXIT
+"$top/tools/link_static.sh" "$object" "$work/program" \
+    || { echo "static: skipped, since there is no C compiler, C library as an archive, or kit"; exit 0; }
+fault=0
+for check in documents hostile streams; do
+    TILING=$work/program "$top/checks/$check.sh" > "$work/said" || { fault=1; cat "$work/said"; }
+    echo "static: $(tail -n 1 "$work/said")"
+done
+exit $fault
