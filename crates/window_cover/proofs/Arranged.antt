@@ -1,8 +1,8 @@
 -- The tiles found, lifted and in order, are the answer.
 use Rattle.std.proofs.Common.{◌≡◌, ℕ, All, ◌<◌, ◌≤◌, List, [], ◌∷◌, map, length, refl, sym, ap, ap₂, ◌∙◌, subst}
 use Rattle.std.specs.List.{AllZip, AllByRecursion}
-use Rattle.std.specs.List.Sorted.{IsPermutation, IsSorted}
-use Rattle.std.proofs.lemmas.List.Elements.{All-from_recursion}
+use Rattle.std.specs.List.Sorted.{IsPermutation}
+use Rattle.std.proofs.lemmas.List.Elements.{All-from_recursion, recursion_from_All}
 use Rattle.std.proofs.lemmas.List.Sorted.{IsPermutation-map, length_permutation}
 use Rattle.std.proofs.lemmas.Option.{slice_get-get_or}
 use Rattle.std.proofs.lemmas.Slice.Zip.{AllZip-long}
@@ -17,12 +17,13 @@ use Rattle.tile_place.specs.Searched.{placed_in}
 use Rattle.lazy_walk.specs.Frames.{FrameValue}
 use Rattle.lazy_walk.specs.Standing.{Stands}
 use Rattle.tile_place.specs.declared.order_key.OrderKey.{OrderKey}
+use Rattle.window_cover.specs.Arranged.{AreArranged}
 use Rattle.window_cover.specs.Checked.{IsChecked}
 use Rattle.window_cover.specs.Covered.{none, placed_as, tiles_of, AreCovered}
 use Rattle.window_cover.specs.Found.{Found, CoverValue}
 use Rattle.window_cover.specs.InOrder.{AreInOrder, AreSorted, numbers_placed}
 use Rattle.windows.specs.Distinct.{AreDistinct}
-use Rattle.window_cover.specs.Keys.{HasKey, keys_from, AreOrdered}
+use Rattle.window_cover.specs.Keys.{HasKey, AreOrdered}
 use Rattle.window_cover.specs.Lifted.{CanBeLifted, IsLifted}
 use Rattle.window_cover.specs.Right.{IsFound, IsRight}
 use Rattle.window_cover.specs.Packed.{packed}
@@ -30,7 +31,6 @@ use Rattle.window_cover.specs.Windows.{AreDrawn, CoverWindow}
 use Rattle.window_cover.specs.Working.{working, IsWorking}
 use Rattle.window_cover.proofs.Finished.{HasLaws, all-stand, numbers-distinct, drawn, covered}
 use Rattle.window_cover.proofs.Keyed.{keyed_in, IsKey}
-use Rattle.tile_place.proofs.KeyOrder.{key_cmp}
 use Rattle.window_cover.proofs.Lifting.{zip-placed}
 use Rattle.window_cover.proofs.Shuffled.{AreShuffled, shuffled}
 use Rattle.window_cover.proofs.Sorted.{IsKeyed, in-order, in-sorted}
@@ -126,3 +126,42 @@ module _ (f : FrameValue) (c : CoverValue) (found : List Found) (numbers : List 
 
     pub arranged-in_order : AreInOrder tiles
     arranged-in_order = in-order f ks tiles all-keyed are.ordered.sorted (numbers-distinct r (laws r checked) f (working c) work ks mixed tiles zip)
+
+-- ---- in order, as it is promised
+module _ (f : FrameValue) (c : CoverValue) (can : All (CanBeLifted f) c.found) (tiles : List PlacedTile) (a : AreArranged f c.found tiles) where
+  own : IsArranged f c c.found a.numbers f.digits
+  own = record {
+    seen = refl;
+    can_be_lifted = recursion_from_All (CanBeLifted f) c.found can;
+    keyed = a.keyed;
+    ordered = a.ordered;
+    same = refl;
+  }
+
+  pub are-lifted : IsPermutation (map (placed_as f.digits) c.found) tiles
+  are-lifted = subst (IsPermutation (map (placed_as f.digits) c.found)) (sym a.are) (arranged-lifted f c c.found a.numbers f.digits own)
+
+  pub are-sorted : AreSorted tiles
+  are-sorted = subst AreSorted (sym a.are) (arranged-sorted f c c.found a.numbers f.digits own)
+
+  pub are-as_many : length tiles ≡ length c.found
+  are-as_many = ap (λ (ts : List PlacedTile). length ts) a.are ∙ arranged-as_many f c c.found a.numbers f.digits own
+
+  pub are-distinct : AreDistinct (map numbers_placed tiles) → AreInOrder tiles
+  are-distinct = subst (λ (ts : List PlacedTile). AreDistinct (map numbers_placed ts) → AreInOrder ts) (sym a.are)
+      (arranged-distinct f c c.found a.numbers f.digits own)
+
+  module _ (laws : (m : Rule) → IsChecked m → HasLaws m) (r : Rule) (checked : IsChecked r) (right : IsRight (tiling_of r) f c) where
+    pub are-drawn : c.border ≡ [] → AreDrawn (tiling_of r) f c.window (map (placed_in r.order) tiles)
+    are-drawn closed = subst (λ ts. AreDrawn (tiling_of r) f c.window (map (placed_in r.order) ts)) (sym a.are)
+        (arranged-drawn f c c.found a.numbers f.digits own laws r checked right closed)
+
+    pub are-covered : c.border ≡ [] → CoverWindow (tiling_of r) f c.window (map (placed_in r.order) tiles)
+    are-covered closed = subst (λ ts. CoverWindow (tiling_of r) f c.window (map (placed_in r.order) ts)) (sym a.are)
+        (arranged-covered f c c.found a.numbers f.digits own laws r checked right closed)
+
+    pub are-stand : All (Stands (tiling_of r) f) tiles
+    are-stand = subst (All (Stands (tiling_of r) f)) (sym a.are) (arranged-stand f c c.found a.numbers f.digits own laws r checked right)
+
+    pub are-in_order : AreInOrder tiles
+    are-in_order = subst AreInOrder (sym a.are) (arranged-in_order f c c.found a.numbers f.digits own laws r checked right)

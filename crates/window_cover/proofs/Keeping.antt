@@ -2,12 +2,13 @@
 use Rattle.std.proofs.Common.{◌≡◌, ℕ, zero, suc, ◌+◌, ◌<◌, ◌≤◌, List, [], ◌∷◌, ◌++◌, map, length, take, drop, slice_get, IfSome, refl, sym, ap, ap₂, ◌∙◌, subst, arith, take_all, length-append, length-drop}
 use Rattle.std.specs.List.{AllByRecursion}
 use Rattle.std.proofs.Math.Seq.{drop-append_seam}
-use Rattle.std.proofs.lemmas.List.{take-append-le, drop-append-le, map-append}
+use Rattle.std.proofs.lemmas.List.{take-append-le, drop-append-le, map-append, length-map}
 use Rattle.addressing.proofs.Lists.{AllByRecursion-each, AllByRecursion-map, AllByRecursion-append}
 use Rattle.tile_shape.specs.declared.step.Step.{Step}
 use Rattle.tile_shape.specs.Views.{step_of}
 use Rattle.window_cover.specs.declared.found_tile.FoundTile.{FoundTile}
 use Rattle.window_cover.specs.Border.{Waiting}
+use Rattle.window_cover.specs.Found.{Found}
 use Rattle.tile_place.specs.Keys.{FitsKey}
 use Rattle.window_cover.specs.Keys.{HasKey}
 use Rattle.window_cover.specs.Kept.{digits_in, found_in, AreKept, IsKept}
@@ -16,6 +17,22 @@ use Rattle.windows.specs.Limits.{most_tiles}
 -- each tile as it is seen has a key
 pub all-found : (all : List Step) (xs : List FoundTile) → {border : List Waiting} → IsKept all xs border → AllByRecursion HasKey (found_in all xs)
 all-found all xs kept = AllByRecursion-map HasKey (λ (x : FoundTile). record { kind = x.kind; motion = x.motion; digits = digits_in all x }) xs kept.keyed
+
+-- and at most 64 digits
+take-few : {A : Type 0} (n : ℕ) (xs : List A) → length (take n xs) ≤ n
+take-few zero xs = omega arith
+take-few (suc n) [] = omega arith
+take-few (suc n) (x ∷ xs) = let h = take-few n xs in omega (arith, h)
+
+pub short-found : (all : List Step) (xs : List FoundTile) → AreKept all xs → AllByRecursion (λ (x : Found). length x.digits ≤ 64) (found_in all xs)
+short-found all [] h = tt
+short-found all (x ∷ xs) h = (
+  let few = take-few x.depth (drop x.first all) in
+      let long = length-map (take x.depth (drop x.first all)) step_of in
+      let depth = h.0.1 in
+      omega (arith, few, long, depth),
+  short-found all xs h.1,
+)
 
 -- so has the one of a number
 pub some-of : {A : Type 0} (Q : A → Type 0) (xs : List A) (k : ℕ) → AllByRecursion Q xs → IfSome (slice_get xs k) Q

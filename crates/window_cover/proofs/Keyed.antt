@@ -17,6 +17,12 @@ keys-more n m zero (x ∷ xs) key e l h = let same : m ≡ n = omega (arith, e) 
 keys-more n m (suc k) (x ∷ xs) key e l h =
     ap (λ (ks : List OrderKey). key_of x.motion x.kind n ∷ ks) (keys-more (suc n) m k xs key (omega (arith, e)) (omega arith) h)
 
+-- what holds of the tile of a number, by its place
+pub some-at : (Q : Found → Type 0) (xs : List Found) (k : ℕ) → k < length xs → Q (tile_of xs k) → IfSome (slice_get xs k) Q
+some-at Q [] k l h = absurd (omega arith)
+some-at Q (x ∷ xs) zero l h = h
+some-at Q (x ∷ xs) (suc k) l h = some-at Q xs k (omega arith) h
+
 -- ---- by number
 -- the tile of a key
 abbrev pub keyed_in : List Found → OrderKey → Found

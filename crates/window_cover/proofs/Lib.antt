@@ -12,6 +12,11 @@ mod Keyed
 mod Distinct
 mod PartLists
 mod PartSteps
+mod MovedParts
+mod RunTiles
+mod BlockTiles
+mod Gathered
+mod TileAt
 mod Permuted
 mod FoundBelow
 mod Descended
@@ -23,6 +28,7 @@ mod Finished
 mod Arranged
 mod Searches
 mod Works
+mod Bisected
 mod Stepped
 mod Ended
 mod Outcomes

@@ -1,8 +1,8 @@
 -- The descent, step by step: a tile by itself, the first of the children of a part, and one child more.
 use Rattle.std.proofs.Common.{◌≡◌, ℕ, suc, ◌+◌, ◌<◌, Bool, true, false, List, [], ◌∷◌, ◌++◌, map, drop, length, get_or, set, refl, sym, ap, ap₂, ◌∙◌}
-use Rattle.std.proofs.Common.{subst, arith}
+use Rattle.std.proofs.Common.{subst, arith, append_assoc}
 use Rattle.std.specs.List.{AllByRecursion}
-use Rattle.std.proofs.lemmas.List.{map-append}
+use Rattle.std.proofs.lemmas.List.{map-append, append-nil}
 use Rattle.ordered_ring.specs.Ring.{power}
 use Rattle.addressing.specs.Address.{Step as TheStep}
 use Rattle.addressing.proofs.Lists.{AllByRecursion-append}
@@ -28,11 +28,18 @@ use Rattle.lazy_walk.specs.Ancestors.{factor_power}
 use Rattle.descents.proofs.Carried as law
 use Rattle.window_descent.specs.declared.part.Part.{Part}
 use Rattle.window_descent.specs.Parts.{IsPlacedPart, IsPartAt}
-use Rattle.window_cover.specs.Descending.{tile_in, tiles_in, IsKeptTile, found_below, found_of, digits_above, IsDescended, IsTakenIn, found_part}
+use Rattle.window_cover.specs.Descending.{tile_in, tiles_in, IsKeptTile, found_below, found_of, digits_above, IsDescended, IsTakenIn, HasMore, found_part}
 use Rattle.window_cover.specs.Descending.{from_number}
-use Rattle.window_cover.specs.Found.{CoverValue}
+use Rattle.window_cover.specs.Found.{Found, CoverValue}
 use Rattle.window_cover.specs.Windows.{TileOf, box_of}
 use Rattle.window_cover.proofs.PartLists.{drop-put, drop-past, drop-put_past, from-first, from-last, one_child}
+
+-- ---- further tiles
+pub no-more : (xs : List Found) → HasMore xs xs
+no-more xs = record { more = []; is = sym (append-nil xs) }
+
+pub more-then : (xs ys zs : List Found) → HasMore xs ys → HasMore ys zs → HasMore xs zs
+more-then xs ys zs h k = record { more = h.more ++ k.more; is = k.is ∙ ap (λ (us : List Found). us ++ k.more) h.is ∙ append_assoc xs h.more k.more }
 
 must : (b : Bool) → (b ≡ false → ⊥) → b ≡ true
 must true f = refl
@@ -59,6 +66,7 @@ module _ (m : Rule) where
     same_window = h.same_window;
     same_border = h.same_border;
     same_above = refl;
+    longer = record { more = found_part p path ∷ []; is = h.found };
     found = ap (tiles_in m.order) h.found ∙ map-append (tile_in m.order) c.found (found_part p path ∷ [])
         ∙ ap (λ ts. tiles_in m.order c.found ++ ts) (sym (one all level (must all (λ e. none-below level zero_level (tile e))) zero_level));
     kept = λ k. subst (AllByRecursion (IsKeptTile t)) (sym h.found) (AllByRecursion-append (IsKeptTile t) c.found (found_part p path ∷ []) k

@@ -53,6 +53,11 @@ found_of t w all level p = found_below (points_of t.order) t.rule (box_of t w) a
 abbrev pub digits_above : ℕ → List Step → List TheStep
 digits_above level path = map step_of (drop level path)
 
+-- further tiles stand behind those before
+pub record HasMore (before after : List Found) : Type 0 where
+  pub more : List Found
+  pub is : after ≡ before ++ more
+
 -- these tiles are found behind those before, with the coarser digits of the path behind their own; the path
 -- keeps these
 pub record IsDescended (t : Tiling) (c d : CoverValue) (before after : List Step) (all : Bool) (level : ℕ)
@@ -60,6 +65,7 @@ pub record IsDescended (t : Tiling) (c d : CoverValue) (before after : List Step
   pub same_window : d.window ≡ c.window
   pub same_border : d.border ≡ c.border
   pub same_above : drop level after ≡ drop level before
+  pub longer : HasMore c.found d.found
   pub found : tiles_in t.order d.found ≡ tiles_in t.order c.found
       ++ map (of_whole (digits_above level before)) (found_of t c.window all level p)
   pub kept : AllByRecursion (IsKeptTile t) c.found → AllByRecursion (IsKeptTile t) d.found

@@ -20,3 +20,8 @@ pub mod Checked
 pub mod Beyond
 pub mod Descending
 pub mod Answered
+pub mod Numbered
+pub mod Runs
+pub mod Blocks
+pub mod Gathering
+pub mod Arranged

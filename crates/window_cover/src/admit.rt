@@ -1,4 +1,4 @@
-//! A new tile taken in.
+//! Adds a new tile.
 ghost use Rattle.std.specs.Prelude.{◌≡◌, ◌<◌, List, length, map, IfErr, OnOk};
 ghost use Rattle.cyclo_points.specs.declared.point.Point.{Point};
 ghost use Rattle.cyclo_points.specs.Order.{points_of};
@@ -20,11 +20,12 @@ use cyclo_points::arithmetic::refused;
 use tile_place::machine::Machine;
 use tile_place::placed_tile::PlacedTile;
 
-/// How many tiles a window may have.
+/// The greatest number of tiles that a window may have.
 pub(crate) const MOST_TILES: usize = 200000;
 
 impl Cover {
-    /// Takes a new tile in, if its shift is not refused and it is not one too many.
+    /// Adds a new tile. Err if its shift is refused, if the window then has too many tiles, or if memory runs
+    /// out.
     pub(crate) fn admit(&mut self, machine: &Machine, tile: &PlacedTile) -> Result<(), CoverFault>
         requires exists { tile.now.kind < length (rule_of machine.now).kinds }
         requires turn_below { tile.now.motion.turn < (points_of machine.now.order).order }

@@ -1,4 +1,4 @@
-//! The border of what is found: the open edges.
+//! The border of the tiles found: the open edges.
 ghost use Rattle.std.specs.Prelude.{◌≡◌, ◌≤◌, ◌++◌, [], ◌∷◌, length, take, not, Bool, false, OnOk};
 ghost use Rattle.std.specs.Result.{OnErr};
 ghost use Rattle.std.specs.List.{filter, slice_get};
@@ -12,7 +12,7 @@ use std::collections::HashMap;
 use std::marker::Model;
 use tile_shape::no_memory::NoMemory;
 
-/// An edge that was opened, and whether it still is open.
+/// An edge that was opened, and true if it is still open.
 #[derive(Clone, Copy, Debug)]
 pub(crate) struct Listed {
     ends: Ends,
@@ -20,12 +20,13 @@ pub(crate) struct Listed {
     is_open: bool,
 }
 
-/// The open edges in the order in which they were opened. Each is found by its two ends, which are those of no other.
+/// The open edges, in the order in which they were opened. Each is looked up by its two ends, which no other
+/// one has.
 #[derive(Drop)]
 pub(crate) struct Border {
     /// All edges opened so far, in order.
     listed: Vec<Listed>,
-    /// Where an open edge stands among these, by its ends.
+    /// The place of each open edge in this list, by its ends.
     places: HashMap<Ends, usize>,
     /// No edge before this place is open.
     next: usize,
@@ -44,7 +45,7 @@ impl Model for Border {
 }
 
 impl Border {
-    /// No edge is open.
+    /// Makes a border without open edges.
     pub(crate) fn new(alloc: Global) -> Border
         ensures { result ≡ [] }
     {
@@ -55,14 +56,15 @@ impl Border {
         }
     }
 
-    /// How many edges are open.
+    /// Returns the number of open edges.
     pub(crate) fn count(&self) -> usize
         ensures { result ≡ length self.now }
     {
         self.places.len()
     }
 
-    /// The first open edge. Only what was closed in front since the last `pass` is looked at before it.
+    /// Returns the first open edge. Before it, only edges that were closed in front since the last `pass` are
+    /// visited.
     pub(crate) fn first(&self) -> Option<OpenEdge>
         ensures { result ≡ first_waiting self.now }
     {
@@ -75,14 +77,14 @@ impl Border {
         }
     }
 
-    /// Passes the closed edges in front, so that `first` need not look at them again.
+    /// Passes over the closed edges in front, so that `first` does not visit them again.
     pub(crate) fn pass(&mut self)
         ensures { self.new ≡ self.old }
     {
         self.next = first_open(self.listed.as_slice(), self.next);
     }
 
-    /// Closes the open edge with these ends, and answers whether there is one.
+    /// Closes the open edge with these ends. Returns true if there was one.
     pub(crate) fn close(&mut self, ends: &Ends) -> bool
         ensures found { result ≡ has_ends ends.now self.old }
         ensures closed { self.new ≡ filter (λ o. not (have_same_ends ends.now o.ends)) self.old }
@@ -96,7 +98,8 @@ impl Border {
         }
     }
 
-    /// Opens an edge with these ends, which no open edge has.
+    /// Opens an edge with these ends. No open edge may have them yet. Err if memory runs out; then the border
+    /// stays as it was.
     pub(crate) fn add(&mut self, ends: Ends, edge: OpenEdge) -> Result<(), NoMemory>
         requires fresh { has_ends ends self.old ≡ false }
         ensures added { OnOk result (self.new ≡ self.old ++ record { ends = ends; edge = edge } ∷ []) }
@@ -114,7 +117,8 @@ impl Border {
     }
 }
 
-/// The place of the first open edge, none before `from` being open; past the end where none is.
+/// Returns the place of the first open edge, or the length if there is none. No edge before `from` may be
+/// open.
 fn first_open(listed: &[Listed], from: usize) -> usize
     requires from_within { from ≤ length listed.now }
     requires none_before { open_of (take from listed.now) ≡ [] }

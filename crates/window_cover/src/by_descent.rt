@@ -1,4 +1,4 @@
-//! The tiles of a window from the top down.
+//! Finds the tiles of a window from the top down.
 ghost use Rattle.std.specs.Prelude.{◌≡◌, [], None, length, IfOk, IfSome, IsTrue};
 ghost use Rattle.cyclo_points.specs.Point.{point_in};
 ghost use Rattle.rule_model.specs.Tiling.{tiling_of};
@@ -7,12 +7,15 @@ ghost use Rattle.lazy_walk.specs.Containing.{first_refused_outward};
 ghost use Rattle.lazy_walk.specs.Frames.{IsFrameOf, GrowsTo};
 ghost use Rattle.window_descent.specs.Climbing.{IsClimbedTo};
 ghost use Rattle.window_cover.specs.Answered.{IsFoundBelow, IsAnswered};
+ghost use Rattle.window_cover.specs.Gathering.{gathered};
+ghost use Rattle.window_cover.specs.Runs.{AreRuns};
 ghost use Rattle.window_cover.specs.Windows.{IsWindow};
 
-use crate::admit::MOST_TILES;
+use crate::blocks::Blocks;
 use crate::border::Border;
 use crate::cover::Cover;
 use crate::covered_tiles::CoveredTiles;
+use crate::runs::Runs;
 use arrayvec::ArrayVec;
 use lazy_walk::ancestor::Ancestor;
 use lazy_walk::frame::Frame;
@@ -26,14 +29,16 @@ use window_descent::climb::climb;
 use window_descent::part::Part;
 use window_descent::rows::Rows;
 
-/// The least product of the half extents, in units, of a window whose tiles are found from the top down. Of a
-/// smaller one most tiles are near a side. Each of these wants exact tests, and a search across edges is
+/// The least product of half-width and half-height, in units, for which the descent is used. In a smaller
+/// window most tiles are near a side, and each of these needs exact tests. There a search across edges is
 /// cheaper.
 const LEAST_EXTENTS: u32 = 500;
 
-/// The tiles of a window, by a pruned descent from the first ancestor of the base that holds it. None where
-/// the window is small, where a value that is looked at is refused, or where the tiles are too many. The
+/// Finds the tiles of a window by a pruned descent from the first ancestor of the base that holds it. The
 /// frame grows to that ancestor.
+///
+/// Returns None if the window is small, if a value on the way is refused, or if there are too many tiles. Err
+/// if memory runs out.
 pub(crate) fn by_descent(
     alloc: Global,
     machine: &Machine,
@@ -61,17 +66,18 @@ pub(crate) fn by_descent(
         return Ok(None);
     }
     match found_below(alloc, machine, frame, window, &top)? {
-        Some(cover) => Ok(Some(cover.arranged(alloc, frame)?)),
+        Some(runs) => Ok(Some(runs.arranged(alloc, frame)?)),
         None => Ok(None),
     }
 }
 
-/// Whether a search from the centre is cheaper.
+/// Returns true if a search from the centre is cheaper.
 fn is_small(window: &Window) -> bool {
     u32::from(window.w) * u32::from(window.h) < LEAST_EXTENTS
 }
 
-/// Whether the centre is found with no refused value looked at. The frame grows until it holds it.
+/// Returns true only if the frame's supertile can be made to hold the centre without a refused value. The
+/// frame grows until it does.
 fn is_contained(machine: &Machine, frame: &mut Frame, window: &Window) -> bool
     requires frame { IsFrameOf (tiling_of machine.now) frame.old }
     requires window_fits { IsWindow window.now }
@@ -83,20 +89,20 @@ fn is_contained(machine: &Machine, frame: &mut Frame, window: &Window) -> bool
     frame.contain(machine, &window.centre).is_ok()
 }
 
-/// The tiles below an ancestor of the base, the frame's supertile, that meet a window.
+/// Finds the tiles that meet a window, below an ancestor of the base, which is the frame's supertile.
 fn found_below(
     alloc: Global,
     machine: &Machine,
     frame: &Frame,
     window: &Window,
     top: &Ancestor,
-) -> Result<Option<Cover>, NoMemory>
+) -> Result<Option<Runs>, NoMemory>
     requires frame { IsFrameOf (tiling_of machine.now) frame.now }
     requires window_fits { IsWindow window.now }
     requires ancestor { IsAncestor (tiling_of machine.now) (full (tiling_of machine.now) frame.now) top.now }
     requires own_level { top.now.level ≡ length frame.now.digits }
-    ensures { IfOk result (λ answer. IfSome answer
-        (IsFoundBelow (tiling_of machine.now) frame.now window.now)) }
+    ensures { IfOk result (λ answer. IfSome answer (λ runs. AreRuns runs
+        × IsFoundBelow (tiling_of machine.now) frame.now window.now (gathered runs))) }
 {
     let mut rows = match Rows::new(alloc, machine, top.level)? {
         Some(rows) => rows,
@@ -110,22 +116,21 @@ fn found_below(
         child: 0,
         parent: 0,
     }; 64];
-    let mut cover = nothing_found(alloc, window);
-    let done = cover.descend(
+    let mut blocks = Blocks::new(alloc, machine)?;
+    let mut runs = Runs::new(alloc, nothing_found(alloc, window));
+    let done = runs.gather(
         machine,
         &mut rows,
+        &mut blocks,
         &mut path[..top.level as usize],
         top.level,
         &part,
         false,
     )?;
-    if !done || cover.found.len() > MOST_TILES {
-        return Ok(None);
-    }
-    Ok(Some(cover))
+    if done { Ok(Some(runs)) } else { Ok(None) }
 }
 
-/// Nothing found of a window.
+/// Makes a state for a window, with nothing found.
 fn nothing_found(alloc: Global, window: &Window) -> Cover
     ensures window { result.window ≡ window.now }
     ensures found { result.found ≡ [] }

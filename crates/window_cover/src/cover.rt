@@ -1,7 +1,11 @@
-//! What is found of a window, and what is open.
-ghost use Rattle.std.specs.Prelude.{◌≡◌, ◌<◌, ◌≤◌, Some, length, slice_get};
+//! The state of a search: the tiles found and the open edges.
+ghost use Rattle.std.specs.Prelude.{◌≡◌, ◌<◌, ◌≤◌, ◌^◌, Some, false, length, nat_abs, nat_lt, slice_get, IsTrue};
+ghost use Rattle.std.specs.List.{AllByRecursion};
+ghost use Rattle.cyclo_points.specs.Point.{IsWithin};
 ghost use Rattle.window_cover.specs.Admitted.{found_as};
+ghost use Rattle.window_cover.specs.Covered.{tile_of};
 ghost use Rattle.window_cover.specs.Found.{first_of};
+ghost use Rattle.window_cover.specs.Keys.{HasKey};
 ghost use Rattle.windows.specs.Limits.{most_tiles};
 
 use crate::border::Border;
@@ -11,22 +15,26 @@ use arrayvec::ArrayVec;
 use cyclo_points::motion::Motion;
 use cyclo_points::point::Point;
 use plane_geom::window::Window;
+use std::alloc::Global;
 use std::marker::Model;
 use tile_place::placed_tile::PlacedTile;
 use tile_shape::address::Address;
 use tile_shape::step::Step;
 
-/// The tiles found of a window, and the open edges: those of their edges that meet the window and have no tile found
-/// across them.
+/// The greatest coefficient of a shift that counts as near the origin.
+const NEAR: u32 = 1 << 20;
+
+/// The tiles found in a window, and the open edges. An open edge is an edge of one of these tiles that meets
+/// the window and has no tile found across it.
 #[derive(Drop)]
 pub struct Cover {
     pub(crate) window: Window,
-    /// The tiles found, in the order found.
+    /// The tiles found, in the order in which they were found.
     pub(crate) found: Vec<FoundTile>,
-    /// The digits of all of them, one tile's behind the other's.
+    /// The digits of all these tiles, one tile's after another's.
     pub(crate) digits: Vec<Step>,
     pub(crate) border: Border,
-    /// Room for the corners of the tile that is taken in.
+    /// Room for the corners of the tile that is being added.
     pub(crate) corners: ArrayVec<Point, 12>,
 }
 
@@ -44,7 +52,7 @@ impl Model for Cover {
 }
 
 impl Cover {
-    /// How many tiles are found.
+    /// Returns the number of tiles found, at most 200,000.
     pub fn tiles(&self) -> u32
         ensures count { result ≡ length self.now.found }
         ensures at_most { result ≤ most_tiles }
@@ -52,21 +60,40 @@ impl Cover {
         self.found.len() as u32
     }
 
-    /// How many edges are open.
+    /// Returns the number of open edges.
     pub fn open_edges(&self) -> u32
         ensures { result ≡ length self.now.border }
     {
         self.border.count() as u32
     }
 
-    /// The first open edge, by tile and then edge; None exactly where no edge is open.
+    /// Returns the first open edge, by number of the tile and then of the edge. None exactly if no edge is
+    /// open.
     pub fn first_open(&self) -> Option<OpenEdge>
         ensures { result ≡ first_of self.now.border }
     {
         self.border.first()
     }
 
-    /// Puts the tile found of a number, with the digits that it had then, in the place of another.
+    /// The law of the tiles found: each has a key and at most 64 digits.
+    pub(crate) fn tiles_law(&self)
+        ensures keyed { AllByRecursion HasKey self.now.found }
+        ensures short { AllByRecursion (λ x. length x.digits ≤ 64) self.now.found }
+    {
+        let _ = &self.window;
+    }
+
+    /// Returns this state with no edge open.
+    pub(crate) fn closed(self, alloc: Global) -> Cover
+        ensures { result.found ≡ self.found }
+    {
+        let _ = &self.window;
+        let mut cover = self;
+        cover.border = Border::new(alloc);
+        cover
+    }
+
+    /// Replaces `tile` by the tile found with this number, with the digits that it had then.
     pub(crate) fn put_tile(&self, number: usize, tile: &mut PlacedTile)
         requires found { number < length self.now.found }
         ensures as_found { slice_get self.now.found number ≡ Some (found_as tile.new) }
@@ -75,7 +102,36 @@ impl Cover {
         self.put_found(number, &mut tile.kind, &mut tile.motion, &mut tile.addr);
     }
 
-    /// The same by its kind, its motion and its address.
+    /// Returns the window.
+    pub(crate) fn window(&self) -> Window
+        ensures { result ≡ self.now.window }
+    {
+        self.window
+    }
+
+    /// Returns the motion and the kind of the tile found with this number.
+    #[inline]
+    pub(crate) fn place(&self, number: usize) -> (Motion, u8)
+        requires found { number < length self.now.found }
+        ensures motion { result.0 ≡ (tile_of self.now.found number).motion }
+        ensures kind { result.1 ≡ (tile_of self.now.found number).kind }
+    {
+        let found = &self.found[number];
+        (found.motion, found.kind)
+    }
+
+    /// Returns true only if the tile found with this number is near the origin and has at most `depth`
+    /// digits.
+    pub(crate) fn is_near(&self, number: usize, depth: u8) -> bool
+        requires found { number < length self.now.found }
+        ensures near { IsTrue result → IsWithin (2 ^ 20) (tile_of self.now.found number).motion.shift }
+        ensures short { IsTrue result → length (tile_of self.now.found number).digits ≤ depth }
+    {
+        let found = &self.found[number];
+        found.depth <= depth && !is_far(&found.motion.shift, NEAR)
+    }
+
+    /// Like [`put`](Self::put), for a kind, a motion and an address.
     pub(crate) fn put_found(
         &self,
         number: usize,
@@ -99,7 +155,7 @@ impl Cover {
     }
 }
 
-/// A tile that stands for none.
+/// Makes a tile that fills a place until a real one is put there.
 pub(crate) fn no_tile() -> PlacedTile {
     PlacedTile {
         kind: 0,
@@ -108,7 +164,7 @@ pub(crate) fn no_tile() -> PlacedTile {
     }
 }
 
-/// Puts a kind and digits in the place of those of an address.
+/// Replaces the kind and the digits of an address.
 fn put_address(addr: &mut Address, kind: u8, digits: &[Step])
     requires at_most_64 { length digits.now ≤ 64 }
     ensures kind { addr.new.kind ≡ kind }
@@ -117,4 +173,21 @@ fn put_address(addr: &mut Address, kind: u8, digits: &[Step])
     addr.kind = kind;
     addr.digits.clear();
     let _ = addr.digits.try_extend_from_slice(digits);
+}
+
+/// Returns true if a coefficient of a point may be above `most` in absolute value. False means that none is.
+pub(crate) fn is_far(p: &Point, most: u32) -> bool
+    ensures { result ≡ false → IsWithin most p.now }
+{
+    is_beyond(p.c[0], most)
+        | is_beyond(p.c[1], most)
+        | is_beyond(p.c[2], most)
+        | is_beyond(p.c[3], most)
+}
+
+/// Returns true if a coefficient is above `most` in absolute value.
+fn is_beyond(coefficient: i64, most: u32) -> bool
+    ensures { result ≡ nat_lt most (nat_abs coefficient) }
+{
+    coefficient.unsigned_abs() > u64::from(most)
 }

@@ -1,29 +1,30 @@
-//! Why a window has no answer.
+//! Why the tiles of a window are not returned.
 use cyclo_points::point::Point;
 use std::alloc::{AllocError, AllocFailed};
 use tile_place::coord_limit::CoordLimit;
 use tile_shape::address::Address;
 use tile_shape::no_memory::NoMemory;
 
-/// Why the tiles of a window are not answered.
+/// Why the tiles of a window are not returned.
 #[derive(Debug, Drop, PartialEq, Eq)]
 pub enum CoverFault {
-    /// A tile that meets the window has this edge, which meets it too, on the boundary at depth 64.
+    /// At depth 64, a tile that meets the window has this edge on the boundary, and the edge meets the window
+    /// too.
     DepthLimit {
-        /// The tile's address, lifted to that depth.
+        /// The tile's address, with 64 digits.
         addr: Address,
-        /// Its edge.
+        /// The number of the edge.
         edge: u8,
     },
-    /// A value is refused: one that is looked at for the tile of the centre, or the shift of a tile that meets the
-    /// window.
+    /// A value has a coefficient above 2^24 in absolute value. It is the first such value on the way to the
+    /// centre, or the shift of a tile that meets the window.
     CoordLimit {
-        /// The value.
+        /// The value that is refused.
         value: Point,
     },
     /// More than 200,000 tiles meet the window.
     TooManyTiles,
-    /// No memory was left.
+    /// Memory ran out.
     NoMemory,
 }
 

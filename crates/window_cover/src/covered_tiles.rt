@@ -1,7 +1,8 @@
-//! The tiles of a window, one at a time.
+//! The tiles of a window, to be read one at a time.
 ghost use Rattle.std.specs.Prelude.{◌≡◌, ◌<◌, Some, length, slice_get, IfOk};
 
-use crate::cover::Cover;
+use crate::fields::tile_number;
+use crate::runs::Runs;
 use arrayvec::ArrayVec;
 use cyclo_points::motion::Motion;
 use std::alloc::Global;
@@ -11,13 +12,13 @@ use tile_shape::address::Address;
 use tile_shape::no_memory::NoMemory;
 use tile_shape::step::Step;
 
-/// The tiles of a window in the order of their shifts, turns and kinds. Contracts see the list of them; what is kept of
-/// each is some fourth of it.
+/// The tiles of a window, ordered by shift, then turn, then kind. Contracts see the list of them. The memory
+/// for each tile is a run, a leaf and a word.
 #[derive(Drop)]
 pub struct CoveredTiles {
-    pub(crate) cover: Cover,
-    /// The numbers of the tiles found, in order.
-    pub(crate) numbers: Vec<u32>,
+    pub(crate) tiles: Runs,
+    /// A word for each tile, in order, with the number of the tile in its low bits.
+    pub(crate) words: Vec<u64>,
     /// The digits of the frame.
     pub(crate) above: ArrayVec<Step, 64>,
 }
@@ -27,43 +28,48 @@ impl Model for CoveredTiles {
     ghost use Rattle.tile_place.specs.declared.placed_tile.PlacedTile.{PlacedTile};
     ghost use Rattle.tile_shape.specs.Views.{step_of};
     ghost use Rattle.window_cover.specs.Covered.{tiles_of, AreCovered};
+    ghost use Rattle.window_cover.specs.Runs.{AreRuns, seen};
+    ghost use Rattle.window_cover.specs.Words.{tile_number};
 
     ghost Value = { List PlacedTile };
 
-    ghost view = { λ c. tiles_of (map step_of c.above.items) c.cover.found c.numbers.items };
+    ghost view = { λ c. tiles_of (map step_of c.above.items) (seen c.tiles) (map tile_number c.words.items) };
 
-    ghost invariant = { λ c. AreCovered (map step_of c.above.items) c.cover.found c.numbers.items };
+    ghost invariant = { λ c. record {
+      runs : AreRuns c.tiles;
+      covered : AreCovered (map step_of c.above.items) (seen c.tiles) (map tile_number c.words.items);
+    } };
 }
 
 impl CoveredTiles {
-    /// How many tiles there are.
+    /// Returns the number of tiles.
     pub fn len(&self) -> usize
         ensures { result ≡ length self.now }
     {
-        self.numbers.len()
+        self.words.len()
     }
 
-    /// The tile at a place in the order.
+    /// Returns the tile at a place in the order, from 0.
     pub fn tile(&self, place: usize) -> PlacedTile
         requires below { place < length self.now }
         ensures { slice_get self.now place ≡ Some result }
     {
-        let number = self.numbers[place];
-        self.cover.lifted(self.above.as_slice(), number as usize)
+        let number = tile_number(self.words[place]);
+        self.tiles.lifted(self.above.as_slice(), number as usize)
     }
 
-    /// Puts the tile at a place in the order in the place of another: its kind, its motion and its address.
+    /// Replaces a kind, a motion and an address by those of the tile at a place in the order.
     pub fn put(&self, place: usize, kind: &mut u8, motion: &mut Motion, addr: &mut Address)
         requires below { place < length self.now }
         ensures { slice_get self.now place ≡ Some (record { kind = kind.new; motion = motion.new; addr = addr.new }) }
     {
-        let number = self.numbers[place];
+        let number = tile_number(self.words[place]);
         let above = self.above.as_slice();
-        self.cover
+        self.tiles
             .put_lifted(above, number as usize, kind, motion, addr);
     }
 
-    /// All of them.
+    /// Returns the list of all tiles. Err if memory runs out.
     pub fn listed(&self, alloc: Global) -> Result<Vec<PlacedTile>, NoMemory>
         ensures { IfOk result (λ tiles. tiles.items ≡ self.now) }
     {

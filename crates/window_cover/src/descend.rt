@@ -1,76 +1,39 @@
-//! The tiles of a part of a supertile that meet a window, part by part.
-ghost use Rattle.std.specs.Prelude.{◌≡◌, ◌<◌, ◌≤◌, false, length, IfOk, IfSome, IsTrue};
+//! Adds the tiles of a part of a supertile, part by part.
+ghost use Rattle.std.specs.Prelude.{◌≡◌, ◌<◌, ◌≤◌, true, length, IfOk, IsTrue};
 ghost use Rattle.rule_model.specs.Tiling.{tiling_of};
 ghost use Rattle.window_descent.specs.Parts.{IsPlacedPart};
 ghost use Rattle.window_descent.specs.Rows.{AreRows, levels_of};
-ghost use Rattle.window_cover.specs.Descending.{IsDescended, IsJudged, IsTakenIn, found_part};
-ghost use Rattle.window_cover.specs.Windows.{IsWindow};
+ghost use Rattle.window_cover.specs.Descending.{IsDescended, IsTakenIn, found_part};
 
 use crate::admit::MOST_TILES;
 use crate::cover::Cover;
 use crate::found_tile::FoundTile;
-use plane_geom::window::Window;
 use tile_place::machine::Machine;
 use tile_shape::no_memory::NoMemory;
 use tile_shape::step::Step;
-use window_descent::part::{Part, place_of};
+use window_descent::part::Part;
 use window_descent::rows::Rows;
-use window_descent::standing::Standing;
 
 impl Cover {
-    /// Takes in the tiles of a part that meet the window, or all of them; false where a value is refused or
-    /// the tiles are too many. The path has the digits that are coarser than the part's level.
-    #[cycle(descent)]
-    pub(crate) fn descend(
+    /// Adds all tiles of a part. Returns false if a value is refused or there are too many tiles. `path` has
+    /// the digits coarser than the part's level.
+    pub(crate) fn take_all(
         &mut self,
         machine: &Machine,
         rows: &mut Rows,
         path: &mut [Step],
         level: u8,
         part: &Part,
-        all: bool,
     ) -> Result<bool, NoMemory>
         requires part { IsPlacedPart machine.now part.now }
         requires on_path { level ≤ length path.old }
         requires at_most_64 { length path.old ≤ 64 }
         requires rows { AreRows machine.now rows.old }
         requires enough { level < levels_of rows.old }
-        requires window { IsWindow self.old.window }
         ensures rows { AreRows machine.now rows.new }
         ensures levels { levels_of rows.new ≡ levels_of rows.old }
         ensures found { IfOk result (λ done. IsTrue done
-            → IsDescended (tiling_of machine.now) self.old self.new path.old path.new all level part.now) }
-    {
-        match judged(machine, &self.window, rows, level, part, all) {
-            Some(Standing::Beyond) => Ok(true),
-            Some(Standing::Within) => self.take_in(machine, rows, path, level, part, true),
-            Some(Standing::Across) => self.take_in(machine, rows, path, level, part, false),
-            None => Ok(false),
-        }
-    }
-
-    /// The same of a part of which it is known that it is to be looked into.
-    #[cycle(descent)]
-    fn take_in(
-        &mut self,
-        machine: &Machine,
-        rows: &mut Rows,
-        path: &mut [Step],
-        level: u8,
-        part: &Part,
-        all: bool,
-    ) -> Result<bool, NoMemory>
-        requires part { IsPlacedPart machine.now part.now }
-        requires on_path { level ≤ length path.old }
-        requires at_most_64 { length path.old ≤ 64 }
-        requires rows { AreRows machine.now rows.old }
-        requires enough { level < levels_of rows.old }
-        requires window { IsWindow self.old.window }
-        requires no_tile { all ≡ false → 0 < level }
-        ensures rows { AreRows machine.now rows.new }
-        ensures levels { levels_of rows.new ≡ levels_of rows.old }
-        ensures found { IfOk result (λ done. IsTrue done
-            → IsDescended (tiling_of machine.now) self.old self.new path.old path.new all level part.now) }
+            → IsDescended (tiling_of machine.now) self.old self.new path.old path.new true level part.now) }
     {
         if level == 0 {
             return self.put(machine, part, path);
@@ -86,14 +49,14 @@ impl Cover {
                 child: number as u8,
                 parent: part.kind,
             };
-            if !self.descend(machine, rows, path, below, &child, all)? {
+            if !self.take_all(machine, rows, path, below, &child)? {
                 return Ok(false);
             }
         }
         Ok(true)
     }
 
-    /// Takes a tile in, if it is not one too many.
+    /// Adds a tile. Returns false if there are too many.
     fn put(&mut self, machine: &Machine, part: &Part, digits: &[Step]) -> Result<bool, NoMemory>
         requires part { IsPlacedPart machine.now part.now }
         requires at_most_64 { length digits.now ≤ 64 }
@@ -115,25 +78,4 @@ impl Cover {
         })?;
         Ok(true)
     }
-}
-
-/// How a part stands to a window, where it isn't known that it is within.
-fn judged(
-    machine: &Machine,
-    window: &Window,
-    rows: &Rows,
-    level: u8,
-    part: &Part,
-    all: bool,
-) -> Option<Standing>
-    requires part { IsPlacedPart machine.now part.now }
-    requires rows { AreRows machine.now rows.now }
-    requires enough { level < levels_of rows.now }
-    requires window { IsWindow window.now }
-    ensures judged { IfSome result (IsJudged (tiling_of machine.now) window.now all level part.now) }
-{
-    if all {
-        return Some(Standing::Within);
-    }
-    place_of(machine, window, level, &rows.scale(machine, level), part)
 }

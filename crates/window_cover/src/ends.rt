@@ -1,4 +1,4 @@
-//! Edges by their two ends.
+//! Keys of edges: their two ends.
 ghost use Rattle.std.specs.Prelude.{◌≡◌, ◌^◌};
 ghost use Rattle.cyclo_points.specs.Point.{Within, IsWithin};
 ghost use Rattle.window_cover.specs.Packed.{word_of, ends_of};
@@ -6,13 +6,13 @@ ghost use Rattle.window_cover.specs.NewEdges.{reversed};
 
 use cyclo_points::point::Point;
 
-/// What is added to a coefficient, so that it is not negative.
+/// Added to each coefficient, so that it is not negative.
 const RAISE: i64 = 1 << 31;
 
-/// What 1 in the upper half of a word is worth.
+/// The value of 1 in the upper half of a word.
 const UPPER: u64 = 1 << 32;
 
-/// The start and the end of an edge, each in two words of two coefficients.
+/// The start and the end of an edge. Each is two words, and each word has two coefficients.
 #[derive(Clone, Copy, Debug, PartialEq, Eq, Hash)]
 pub(crate) struct Ends {
     pub(crate) start_low: u64,
@@ -22,7 +22,7 @@ pub(crate) struct Ends {
 }
 
 impl Ends {
-    /// The ends of the edge from `start` to `end`.
+    /// Makes the ends of the edge from `start` to `end`.
     pub(crate) fn of(start: &Point, end: &Point) -> Ends
         requires start_within { IsWithin (2 ^ 25) start.now }
         requires end_within { IsWithin (2 ^ 25) end.now }
@@ -36,7 +36,7 @@ impl Ends {
         }
     }
 
-    /// The ends of the same edge traversed backwards.
+    /// Returns the ends of the same edge in the opposite direction.
     pub(crate) fn reversed(&self) -> Ends
         ensures { result ≡ reversed self.now }
     {
@@ -49,7 +49,7 @@ impl Ends {
     }
 }
 
-/// Two coefficients in a word.
+/// Packs two coefficients into a word.
 fn word(a: i64, b: i64) -> u64
     requires a_within { Within (2 ^ 25) a }
     requires b_within { Within (2 ^ 25) b }

@@ -1,4 +1,4 @@
-//! Tiles found as words.
+//! Words by which tiles are put in order.
 ghost use Rattle.std.specs.Prelude.{◌≡◌, ◌⊎◌, ℕ, ◌+◌, ◌*◌, ◌^◌, ◌<◌, ◌≤◌, IfSome, IsTrue};
 ghost use Rattle.cyclo_points.specs.declared.motion.Motion.{Motion};
 ghost use Rattle.tile_place.specs.Keys.{FitsKey};
@@ -7,14 +7,15 @@ ghost use Rattle.window_cover.specs.Words.{AreFields, AreHeld, word_count, tile_
 use crate::span::Span;
 use cyclo_points::motion::Motion;
 
-/// How many turns have a place in a word.
+/// The number of turns that a word has room for.
 const TURNS: u64 = 16;
 
-/// How many tiles have a number in a word, which are more than a window may have.
+/// The number of tiles that a word has room for. A window may not have as many.
 const NUMBERS: u64 = 1 << 18;
 
-/// The fields of a word for tiles: the four coefficients of the shift, which lie in these spans, the turn,
-/// the kind, which is below `kinds`, and the number of the tile. The order of words is that of these numbers.
+/// The fields of a word: the four coefficients of the shift, then the turn, the kind, and the number of the
+/// tile. The coefficients lie in these spans, and the kind is below `kinds`. Words are ordered like these
+/// numbers.
 #[derive(Clone, Copy, Debug)]
 pub(crate) struct Fields {
     a0: Span,
@@ -25,7 +26,7 @@ pub(crate) struct Fields {
 }
 
 impl Fields {
-    /// The fields for one tile.
+    /// Makes the fields for one tile.
     pub(crate) fn of(motion: &Motion, kind: u8) -> Fields
         requires fits { FitsKey motion.now kind }
         ensures fields { AreFields result }
@@ -41,7 +42,7 @@ impl Fields {
         }
     }
 
-    /// The fields for the same tiles and a further one.
+    /// Returns fields for the same tiles and one more.
     pub(crate) fn widened(self, motion: &Motion, kind: u8) -> Fields
         requires fields { AreFields self }
         requires fits { FitsKey motion.now kind }
@@ -59,7 +60,7 @@ impl Fields {
         }
     }
 
-    /// Whether all words are below 2^64.
+    /// Returns true only if all words are below 2^64.
     pub(crate) fn fit(&self) -> bool
         requires fields { AreFields self.now }
         ensures { IsTrue result → word_count self.now < 2 ^ 64 }
@@ -67,7 +68,7 @@ impl Fields {
         self.words().is_some()
     }
 
-    /// How many words there are, where this is below 2^64.
+    /// Returns the number of different words, or None if it is not below 2^64.
     fn words(&self) -> Option<u64>
         requires fields { AreFields self.now }
         ensures { IfSome result (λ n. (n ≡ word_count self.now) × (n < 2 ^ 64)) }
@@ -79,7 +80,7 @@ impl Fields {
         tiles.checked_mul(NUMBERS)
     }
 
-    /// The word of a tile.
+    /// Returns the word of a tile.
     pub(crate) fn word(&self, motion: &Motion, kind: u8, number: u32) -> u64
         requires fields { AreFields self.now }
         requires fit { word_count self.now < 2 ^ 64 }
@@ -98,7 +99,7 @@ impl Fields {
     }
 }
 
-/// A number with a further field behind it, of so many values.
+/// Appends a field to a number. The field has `count` values.
 fn joined(number: u64, count: u64, field: u64) -> u64
     requires { number * count + field < 2 ^ 64 }
     ensures { result ≡ number * count + field }
@@ -115,7 +116,7 @@ fn larger(a: u64, b: u64) -> u64
     if a < b { b } else { a }
 }
 
-/// The number of the tile in a word.
+/// Returns the number of the tile in a word.
 pub(crate) fn tile_number(word: u64) -> u32
     ensures { result ≡ tile_number word }
 {

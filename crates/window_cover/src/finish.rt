@@ -1,4 +1,4 @@
-//! The tiles found, in order.
+//! Returns the tiles found, in order.
 ghost use Rattle.std.specs.Prelude.{◌≡◌, All, [], length, map, IfOk};
 ghost use Rattle.std.specs.List.Sorted.{IsPermutation};
 ghost use Rattle.rule_model.specs.declared.rule.Rule.{Rule};
@@ -13,11 +13,10 @@ ghost use Rattle.window_cover.specs.Lifted.{CanBeLifted};
 ghost use Rattle.window_cover.specs.Right.{IsRight};
 ghost use Rattle.window_cover.specs.Windows.{AreDrawn, CoverWindow};
 
-use crate::border::Border;
 use crate::cover::Cover;
 use crate::covered_tiles::CoveredTiles;
 use crate::laws::end_laws;
-use arrayvec::ArrayVec;
+use crate::runs::Runs;
 use lazy_walk::frame::Frame;
 use seeded_growth::laws::grown_fits_law;
 use std::alloc::Global;
@@ -25,16 +24,16 @@ use tile_place::placed_tile::PlacedTile;
 use tile_shape::no_memory::NoMemory;
 
 impl Cover {
-    /// The tiles found, lifted to the frame's depth, in the order of their shifts, turns and kinds. Only want of memory
-    /// is refused.
+    /// Returns the tiles found, lifted to the frame's depth and ordered by shift, then turn, then kind. Fails
+    /// only if memory runs out.
     pub fn finish(self, alloc: Global, frame: &Frame) -> Result<Vec<PlacedTile>, NoMemory>
         requires none_open { self.border ≡ [] }
         requires no_deeper { All (CanBeLifted frame.now) self.found }
-        // Each as often as it was found, with the frame's digits behind its own.
+        // Each tile comes as often as it was found. The frame's digits follow its own.
         ensures lifted { IfOk result (λ tiles. IsPermutation (map (placed_as frame.now.digits) self.found) tiles.items) }
         ensures sorted { IfOk result (λ tiles. AreSorted tiles.items) }
         ensures as_many { IfOk result (λ tiles. length tiles.items ≡ length self.found) }
-        // Where the state is right for a rule: exactly the tiles of the frame that meet the window.
+        // If the state is right for a rule, these are exactly the tiles of the frame that meet the window.
         ensures drawn { IfOk result (λ tiles. (r : Rule) → IsChecked r → IsRight (tiling_of r) frame.now self
             → AreDrawn (tiling_of r) frame.now self.window (map (placed_in r.order) tiles.items)) }
         ensures covered { IfOk result (λ tiles. (r : Rule) → IsChecked r → IsRight (tiling_of r) frame.now self
@@ -47,15 +46,15 @@ impl Cover {
         tiles.listed(alloc)
     }
 
-    /// The same, with no more kept of each tile than is known of it.
+    /// Like [`finish`](Self::finish), but the tiles are to be read one at a time, and need less memory.
     pub fn arranged(self, alloc: Global, frame: &Frame) -> Result<CoveredTiles, NoMemory>
         requires none_open { self.border ≡ [] }
         requires no_deeper { All (CanBeLifted frame.now) self.found }
-        // Each as often as it was found, with the frame's digits behind its own.
+        // Each tile comes as often as it was found. The frame's digits follow its own.
         ensures lifted { IfOk result (λ tiles. IsPermutation (map (placed_as frame.now.digits) self.found) tiles) }
         ensures sorted { IfOk result (λ tiles. AreSorted tiles) }
         ensures as_many { IfOk result (λ tiles. length tiles ≡ length self.found) }
-        // Where the state is right for a rule: exactly the tiles of the frame that meet the window.
+        // If the state is right for a rule, these are exactly the tiles of the frame that meet the window.
         ensures drawn { IfOk result (λ tiles. (r : Rule) → IsChecked r → IsRight (tiling_of r) frame.now self
             → AreDrawn (tiling_of r) frame.now self.window (map (placed_in r.order) tiles)) }
         ensures covered { IfOk result (λ tiles. (r : Rule) → IsChecked r → IsRight (tiling_of r) frame.now self
@@ -63,20 +62,12 @@ impl Cover {
         ensures stand { IfOk result (λ tiles. (r : Rule) → IsChecked r → IsRight (tiling_of r) frame.now self
             → All (Stands (tiling_of r) frame.now) tiles) }
         ensures in_order { IfOk result (λ tiles. (r : Rule) → IsChecked r → IsRight (tiling_of r) frame.now self → AreInOrder tiles) }
-        // Where no two are of one place and kind.
+        // If no two tiles have the same place and kind, the order is strict.
         ensures distinct_in_order { IfOk result (λ tiles. AreDistinct (map numbers_placed tiles) → AreInOrder tiles) }
     {
         end_laws();
         grown_fits_law();
-        let numbers = self.ordered(alloc)?;
-        let mut above = ArrayVec::new();
-        let _ = above.try_extend_from_slice(frame.digits().as_slice());
-        let mut cover = self;
-        cover.border = Border::new(alloc);
-        Ok(CoveredTiles {
-            cover,
-            numbers,
-            above,
-        })
+        let runs = Runs::of(alloc, self)?;
+        runs.arranged(alloc, frame)
     }
 }

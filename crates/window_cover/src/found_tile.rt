@@ -1,7 +1,7 @@
 //! A tile found.
 use cyclo_points::motion::Motion;
 
-/// A tile found: where it lies, and where its digits stand in the list of all digits.
+/// A tile found: its place, and where its digits are in the list of all digits.
 #[derive(Clone, Copy, Debug)]
 pub(crate) struct FoundTile {
     pub(crate) motion: Motion,

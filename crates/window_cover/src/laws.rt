@@ -1,4 +1,4 @@
-//! The laws on which the tiles of a window rest, for the points of every order.
+//! The laws that the tiles of a window need, for the points of each order.
 ghost use Rattle.cyclo_points.specs.Order.{PointsLaw, points_of};
 ghost use Rattle.cyclo_points.specs.declared.order.Order.{Order};
 ghost use Rattle.windows.specs.FrameCover.{FrameFinishLaw};
@@ -12,7 +12,7 @@ use windows::frame_laws::frame_patch_law;
 use windows::patch_laws::outline_law;
 use windows::search_laws::open_edge_law;
 
-/// The laws of the end of a search, for every order.
+/// The laws that the end of a search needs, for each order.
 pub(crate) fn end_laws()
     ensures points { (o : Order) → PointsLaw o }
     ensures patch { (o : Order) → FramePatchLaw (points_of o) }
@@ -26,7 +26,7 @@ pub(crate) fn end_laws()
     end_laws_of(Order::Ten);
 }
 
-/// The laws of the end of a search.
+/// The laws that the end of a search needs, for one order.
 fn end_laws_of(order: Order)
     ensures points { PointsLaw order }
     ensures patch { FramePatchLaw (points_of order) }

@@ -1,14 +1,23 @@
-//! The tiles of a window.
+//! Finds the tiles of a window: all tiles that meet it, and no others.
 //!
-//! A window is an open box round a point in the frame of a base tile, and the frame grows as far as that
-//! needs and no further. A large window is answered from the top down, by a pruned descent from the first
-//! ancestor of the base that holds it. Any other, and each refusal, is answered by a search from the tile at
-//! the centre, across the edges that meet the window. The search keeps the tiles found and, in a map, those
-//! of their edges that meet the window and have no tile found across them, the open edges; when none is left
-//! the tiles found are all that meet it.
+//! A window is an open box around a point in the frame of a base tile. The frame grows only as far as the
+//! window needs.
+//!
+//! [`covered_tiles`](tiles_of_window::covered_tiles) handles a large window from the top down. The descent
+//! starts from the first ancestor of the base that holds the window, and drops each part that lies beyond a
+//! side. A part within the window is not followed down to its tiles. It becomes one *run* of a *block* of
+//! leaves: the tiles of such a part at the origin, which parts share.
+//!
+//! Any other window, and each refusal, is handled by a search, and [`cover`](tiles_of_window::cover) always
+//! searches. The search starts from the tile at the centre, and crosses the edges that meet the window. It
+//! keeps the tiles found. In a map it keeps the *open edges*: edges of these tiles that meet the window and
+//! have no tile found across them. When no edge is open, the tiles found are all that meet the window.
 #![tactic(auto)]
 
 mod admit;
+mod arrange;
+mod block;
+mod blocks;
 mod border;
 mod by_descent;
 pub mod cover;
@@ -19,12 +28,16 @@ mod ends;
 mod fields;
 mod finish;
 mod found_tile;
+mod gather;
 mod laws;
 mod lifted;
-pub mod listed_tiles;
 mod new_edges;
+mod numbered;
 pub mod open_edge;
 mod order;
+mod run;
+mod run_tile;
+mod runs;
 pub mod search_laws;
 mod span;
 mod start;

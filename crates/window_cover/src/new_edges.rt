@@ -16,7 +16,8 @@ use plane_geom::window::Window;
 use tile_shape::no_memory::NoMemory;
 use window_descent::inside::is_inside;
 
-/// Closes the open edge that the edge between two points meets, or opens this one if it meets the window.
+/// Closes the open edge that the edge between two points meets. If there is none, opens this edge, provided
+/// that it meets the window.
 fn meet_edge(
     border: &mut Border,
     order: Order,
@@ -53,8 +54,8 @@ fn meets(order: Order, window: &Window, start: &Point, end: &Point) -> bool
     is_inside(order, window, start) || edge_meets_box(order, start, end, window)
 }
 
-/// Closes the open edges that the edges of a new tile meet, and opens those of its own that meet the window
-/// and none of them. The tile is given by its corners and its number.
+/// Closes the open edges that the edges of a new tile meet. Opens its other edges, if they meet the window.
+/// The tile is given by its corners and its number.
 pub(crate) fn meet_edges(
     border: &mut Border,
     order: Order,

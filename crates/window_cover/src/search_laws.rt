@@ -1,4 +1,4 @@
-//! The laws on which the steps of the search rest.
+//! The laws that each step of the search needs.
 ghost use Rattle.cyclo_points.specs.Order.{points_of};
 ghost use Rattle.window_cover.specs.SearchLaws.{HasSearchLaws};
 

@@ -1,9 +1,9 @@
-//! The values of one coefficient.
+//! The range of one coefficient.
 ghost use Rattle.std.specs.Prelude.{◌≡◌, ◌^◌, ℤ};
 ghost use Rattle.cyclo_points.specs.Point.{Within};
 ghost use Rattle.window_cover.specs.Words.{IsSpan, LiesIn, span_width, offset_in};
 
-/// The whole numbers from the least to the greatest.
+/// The integers from `least` to `greatest`.
 #[derive(Clone, Copy, Debug)]
 pub(crate) struct Span {
     pub(crate) least: i64,
@@ -11,7 +11,7 @@ pub(crate) struct Span {
 }
 
 impl Span {
-    /// One number alone.
+    /// Makes the span of one number.
     pub(crate) fn at(value: i64) -> Span
         requires within { Within (2 ^ 24) value }
         ensures span { IsSpan result }
@@ -23,7 +23,7 @@ impl Span {
         }
     }
 
-    /// The same numbers and a further one, with all between.
+    /// Returns the span of the same numbers and one more, with all between.
     pub(crate) fn widened(self, value: i64) -> Span
         requires span { IsSpan self }
         requires within { Within (2 ^ 24) value }
@@ -46,7 +46,7 @@ impl Span {
         }
     }
 
-    /// How many numbers there are.
+    /// Returns the number of integers in the span.
     pub(crate) fn count(&self) -> u64
         requires { IsSpan self.now }
         ensures { result ≡ span_width self.now }
@@ -54,7 +54,7 @@ impl Span {
         (self.greatest - self.least + 1) as u64
     }
 
-    /// Which of the numbers this is, from the least on.
+    /// Returns the place of an integer in the span, from 0.
     pub(crate) fn place(&self, value: i64) -> u64
         requires span { IsSpan self.now }
         requires held { LiesIn self.now value }

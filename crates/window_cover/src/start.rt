@@ -1,4 +1,4 @@
-//! The tile at the centre of a window.
+//! Finds the tile at the centre of a window.
 ghost use Rattle.std.specs.Prelude.{◌≡◌, ◌⊎◌, ◌<◌, ◌≤◌, ℕ, None, length, IsOk, Err, IfOk, IfErr, OnOk};
 ghost use Rattle.rule_model.specs.Tiling.{tiling_of};
 ghost use Rattle.cyclo_points.specs.Point.{point_in};
@@ -22,8 +22,9 @@ use std::alloc::Global;
 use tile_place::machine::Machine;
 
 impl Cover {
-    /// The tile that holds the centre of the window, with its open edges. The frame grows until it holds the
-    /// centre. A refusal has one of the causes that [`cover`](crate::tiles_of_window::cover) names.
+    /// Begins a search: finds the tile that holds the window's centre, with its open edges. The frame grows
+    /// until it holds the centre. The errors have the causes that [`cover`](crate::tiles_of_window::cover)
+    /// lists.
     pub fn start(
         alloc: Global,
         machine: &Machine,
@@ -37,7 +38,7 @@ impl Cover {
         ensures its_window { IfOk result (λ cover. cover.window ≡ window.now) }
         ensures one_tile { IfOk result (λ cover. length cover.found ≡ 1) }
         ensures centre_found { OnOk result (first_refused_outward (tiling_of machine.now) frame.old (point_in machine.now.order window.now.centre) ≡ None) }
-        // The new depth is the least, not below the old, at which the frame holds the centre.
+        // The new depth is the least, not below the old one, at which the frame holds the centre.
         ensures least { (n : ℕ) → length frame.old.digits ≤ n → n < length frame.new.digits
             → ¬ FrameHolds (tiling_of machine.now) (at_depth (tiling_of machine.now) n frame.old) (point_in machine.now.order window.now.centre) }
         ensures not_beyond { (n : ℕ) → IsLeastEnough (tiling_of machine.now) frame.old window.now n → length frame.new.digits ≤ n }

@@ -1,4 +1,4 @@
-//! From tile to tile, across the first open edge.
+//! Goes from tile to tile, across the first open edge.
 ghost use Rattle.std.specs.Prelude.{◌≡◌, ◌⊎◌, ◌<◌, ◌≤◌, ℕ, suc, length, IsOk, Err, Some, IfOk, IfErr, OnOk};
 ghost use Rattle.rule_model.specs.Tiling.{tiling_of};
 ghost use Rattle.lazy_walk.specs.Frames.{FrameValue, IsFrameOf, GrowsTo};
@@ -22,7 +22,7 @@ use std::sync::ledger::{Blank, Ledger};
 use tile_place::machine::Machine;
 use tile_place::placed_tile::PlacedTile;
 
-/// One step, with look-ups counted on a ledger of this name.
+/// Makes one step. Counts the look-ups on a ledger with this name.
 fn counted_step<L: Ledger>(
     cover: &mut Cover,
     machine: &Machine,
@@ -47,15 +47,19 @@ fn counted_step<L: Ledger>(
 }
 
 impl Cover {
-    /// Crosses the first open edge. The frame grows to the least depth at which that edge is not on the boundary, and
-    /// exactly one tile more is found, the one across: the open edges that it meets are closed, and those of its own
-    /// that meet the window and have no tile found across them are open. A refusal has one of the causes that
-    /// [`cover`](crate::tiles_of_window::cover) names.
+    /// Crosses the first open edge, and so finds exactly one more tile: the one across.
+    ///
+    /// The frame grows to the least depth at which that edge is not on the boundary. The open edges that the
+    /// new tile meets are closed. Its own edges are opened if they meet the window and have no tile found
+    /// across them.
+    ///
+    /// The errors have the causes that [`cover`](crate::tiles_of_window::cover) lists.
     pub fn step(self, machine: &Machine, frame: &mut Frame) -> Result<Cover, CoverFault>
         requires right { IsRight (tiling_of machine.now) frame.old self }
         requires some_open { 0 < length self.border }
         ensures frame { GrowsTo (tiling_of machine.now) frame.old frame.new }
-        // The new depth is the least, not below the old, at which the first open edge is not on the boundary.
+        // The new depth is the least, not below the old one, at which the first open edge is not on the
+        // boundary.
         ensures inside { OnOk result (¬ IsFirstOnBoundary (tiling_of machine.now) frame.old self (length frame.new.digits)) }
         ensures least { (n : ℕ) → length frame.old.digits ≤ n → n < length frame.new.digits → IsFirstOnBoundary (tiling_of machine.now) frame.old self n }
         ensures steps_to { IfOk result (λ next. StepsTo (tiling_of machine.now) frame.old self next) }
@@ -72,7 +76,8 @@ impl Cover {
         }
     }
 
-    /// The same in place, with look-ups counted. In the end `tile` is the one that is found.
+    /// Like [`step`](Self::step), but in place, and counts the look-ups in `steps`. On success, `tile`
+    /// becomes the tile that was found.
     pub(crate) fn advance<L: Ledger>(
         &mut self,
         machine: &Machine,
@@ -89,7 +94,7 @@ impl Cover {
         ensures steps_to { OnOk result (StepsTo (tiling_of machine.now) frame.old self.old self.new) }
         ensures right { OnOk result (IsRight (tiling_of machine.now) frame.new self.new) }
         ensures one_more { OnOk result (length self.new.found ≡ suc (length self.old.found)) }
-        // From whatever frame of this base and start number the search began.
+        // This holds for each frame of the same base and seed from which the search may have begun.
         ensures not_beyond { (f : FrameValue) (n : ℕ) → GrowsTo (tiling_of machine.now) f frame.old → IsLeastEnough (tiling_of machine.now) f self.old.window n
             → length frame.old.digits ≤ n → length frame.new.digits ≤ n }
         ensures within { (f : FrameValue) → GrowsTo (tiling_of machine.now) f frame.old → IsWithinLimits (tiling_of machine.now) f self.old.window

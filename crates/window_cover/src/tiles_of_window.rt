@@ -1,4 +1,4 @@
-//! The tiles of a window.
+//! Finds the tiles of a window.
 ghost use Rattle.std.specs.Prelude.{◌≡◌, ◌⊎◌, ◌<◌, ◌≤◌, ℕ, All, [], length, map, None, IsOk, Err, IfOk, IfErr, OnOk};
 ghost use Rattle.cyclo_points.specs.Point.{point_in};
 ghost use Rattle.rule_model.specs.Tiling.{tiling_of};
@@ -30,13 +30,25 @@ use tile_place::placed_tile::PlacedTile;
 use windows::cover_laws::frame_limits_law;
 use windows::frame_laws::frame_window_law;
 
-/// The tiles of the frame that meet the window, at its depth on return, in the order of their shifts, turns and
-/// kinds. The frame grows to the least depth, not below the one that it has, at which its supertile holds the
-/// centre and no edge of its boundary meets the window. A tile that only touches the window does not meet it.
+/// Finds exactly the tiles of the frame that meet the window, ordered by shift, then turn, then kind. A tile
+/// that only touches the window does not meet it.
 ///
-/// The search begins with the tile that holds the centre and crosses the open edges, in the order in which their tiles
-/// were found and by edge number within a tile. A tile whose shift has a coefficient above 2^24 is refused, and
-/// so is a window with more than 200,000 tiles, or with an edge on the boundary at depth 64.
+/// The frame grows only as far as it must, and never gets shallower. It stops at the least depth
+/// at which its supertile holds the window's centre, and no edge on the supertile's boundary meets the
+/// window.
+///
+/// This call always searches from the tile that holds the centre. [`covered_tiles`] is faster for a large
+/// window.
+///
+/// # Errors
+///
+/// - `DepthLimit`: at depth 64, a tile that meets the window has an edge on the boundary that meets it too.
+/// - `CoordLimit`: the shift of a tile that meets the window, or a value on the way to the centre, has a
+///   coefficient above 2^24 in absolute value.
+/// - `TooManyTiles`: more than 200,000 tiles meet the window.
+/// - `NoMemory`: memory ran out.
+///
+/// A window may pass several limits. Which of them is reported is left open.
 pub fn cover(
     alloc: Global,
     machine: &Machine,
@@ -48,15 +60,19 @@ pub fn cover(
 
     ensures frame { GrowsTo (tiling_of machine.now) frame.old frame.new }
 
-    // Exactly the tiles of the frame that meet the window, each once and in its place, at the least enough depth; they
-    // cover the window.
+    // Exactly the tiles of the frame that meet the window, each once and in its place. The depth is the least
+    // that is enough, and the tiles cover the window.
     ensures drawn { IfOk result (λ tiles. AreDrawn (tiling_of machine.now) frame.new window.now (map (placed_in machine.now.order) tiles.items)) }
     ensures stand { IfOk result (λ tiles. All (Stands (tiling_of machine.now) frame.new) tiles.items) }
     ensures in_order { IfOk result (λ tiles. AreInOrder tiles.items) }
     ensures least { OnOk result (IsLeastEnough (tiling_of machine.now) frame.old window.now (length frame.new.digits)) }
     ensures covered { IfOk result (λ tiles. CoverWindow (tiling_of machine.now) frame.new window.now (map (placed_in machine.now.order) tiles.items)) }
 
-    // Ok comes exactly within the limits, but for want of memory, and each fault only for its cause.
+    // Even on an error the frame is no deeper than is enough for the window.
+    ensures not_beyond { (n : ℕ) → IsLeastEnough (tiling_of machine.now) frame.old window.now n → length frame.new.digits ≤ n }
+
+    // The call succeeds if and only if the window is within the limits, unless memory runs out. Each error
+    // comes only for its cause.
     ensures within { OnOk result (IsWithinLimits (tiling_of machine.now) frame.old window.now) }
     ensures answered { IsWithinLimits (tiling_of machine.now) frame.old window.now → (result ≡ Err NoMemory) ⊎ IsOk result }
     ensures cause { IfErr result (λ fault. HasCause (tiling_of machine.now) frame.old frame.new window.now fault) }
@@ -65,7 +81,8 @@ pub fn cover(
     Ok(tiles.listed(alloc)?)
 }
 
-/// The tiles that [`cover`] lists, to be had one at a time, in a fourth of the memory.
+/// Finds the same tiles as [`cover`], to be read one at a time. Needs a quarter of the memory. It handles a
+/// large window from the top down, and every other window by a search.
 pub fn covered_tiles(
     alloc: Global,
     machine: &Machine,
@@ -77,15 +94,19 @@ pub fn covered_tiles(
 
     ensures frame { GrowsTo (tiling_of machine.now) frame.old frame.new }
 
-    // Exactly the tiles of the frame that meet the window, each once and in its place, at the least enough depth; they
-    // cover the window.
+    // Exactly the tiles of the frame that meet the window, each once and in its place. The depth is the least
+    // that is enough, and the tiles cover the window.
     ensures drawn { IfOk result (λ tiles. AreDrawn (tiling_of machine.now) frame.new window.now (map (placed_in machine.now.order) tiles)) }
     ensures stand { IfOk result (λ tiles. All (Stands (tiling_of machine.now) frame.new) tiles) }
     ensures in_order { IfOk result (λ tiles. AreInOrder tiles) }
     ensures least { OnOk result (IsLeastEnough (tiling_of machine.now) frame.old window.now (length frame.new.digits)) }
     ensures covered { IfOk result (λ tiles. CoverWindow (tiling_of machine.now) frame.new window.now (map (placed_in machine.now.order) tiles)) }
 
-    // Ok comes exactly within the limits, but for want of memory, and each fault only for its cause.
+    // Even on an error the frame is no deeper than is enough for the window.
+    ensures not_beyond { (n : ℕ) → IsLeastEnough (tiling_of machine.now) frame.old window.now n → length frame.new.digits ≤ n }
+
+    // The call succeeds if and only if the window is within the limits, unless memory runs out. Each error
+    // comes only for its cause.
     ensures within { OnOk result (IsWithinLimits (tiling_of machine.now) frame.old window.now) }
     ensures answered { IsWithinLimits (tiling_of machine.now) frame.old window.now → (result ≡ Err NoMemory) ⊎ IsOk result }
     ensures cause { IfErr result (λ fault. HasCause (tiling_of machine.now) frame.old frame.new window.now fault) }
@@ -100,7 +121,8 @@ pub fn covered_tiles(
     }
 }
 
-/// The same by search from the tile of the centre.
+/// Like [`covered_tiles`], by a search from the tile at the centre. It crosses the open edges by tile, in the
+/// order in which tiles were found, and then by number of the edge.
 fn by_search(
     alloc: Global,
     machine: &Machine,
@@ -112,15 +134,19 @@ fn by_search(
 
     ensures frame { GrowsTo (tiling_of machine.now) frame.old frame.new }
 
-    // Exactly the tiles of the frame that meet the window, each once and in its place, at the least enough depth; they
-    // cover the window.
+    // Exactly the tiles of the frame that meet the window, each once and in its place. The depth is the least
+    // that is enough, and the tiles cover the window.
     ensures drawn { IfOk result (λ tiles. AreDrawn (tiling_of machine.now) frame.new window.now (map (placed_in machine.now.order) tiles)) }
     ensures stand { IfOk result (λ tiles. All (Stands (tiling_of machine.now) frame.new) tiles) }
     ensures in_order { IfOk result (λ tiles. AreInOrder tiles) }
     ensures least { OnOk result (IsLeastEnough (tiling_of machine.now) frame.old window.now (length frame.new.digits)) }
     ensures covered { IfOk result (λ tiles. CoverWindow (tiling_of machine.now) frame.new window.now (map (placed_in machine.now.order) tiles)) }
 
-    // Ok comes exactly within the limits, but for want of memory, and each fault only for its cause.
+    // Even on an error the frame is no deeper than is enough for the window.
+    ensures not_beyond { (n : ℕ) → IsLeastEnough (tiling_of machine.now) frame.old window.now n → length frame.new.digits ≤ n }
+
+    // The call succeeds if and only if the window is within the limits, unless memory runs out. Each error
+    // comes only for its cause.
     ensures within { OnOk result (IsWithinLimits (tiling_of machine.now) frame.old window.now) }
     ensures answered { IsWithinLimits (tiling_of machine.now) frame.old window.now → (result ≡ Err NoMemory) ⊎ IsOk result }
     ensures cause { IfErr result (λ fault. HasCause (tiling_of machine.now) frame.old frame.new window.now fault) }
@@ -136,7 +162,7 @@ fn by_search(
     Ok(cover.arranged(alloc, frame)?)
 }
 
-/// The state of the search at its end, with look-ups counted on a ledger of this name.
+/// Returns the state at the end of the search. Counts the look-ups on a ledger with this name.
 fn searched<L: Ledger>(
     alloc: Global,
     machine: &Machine,

@@ -89,7 +89,7 @@ made-longer m powers firsts xs ys l made level kind turn f g h = at_first (get_o
     at_first (Some first) is = row-longer m (get_or powers level no_point) kind turn first xs ys l is
 
 -- ---- a row more is noted
-same_or : (i j : ℕ) → (j ≡ i) ⊎ (¬ (j ≡ i))
+pub same_or : (i j : ℕ) → (j ≡ i) ⊎ (¬ (j ≡ i))
 same_or zero zero = inl refl
 same_or zero (suc j) = inr (λ e. absurd (cc e))
 same_or (suc i) zero = inr (λ e. absurd (cc e))

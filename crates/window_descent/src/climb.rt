@@ -1,4 +1,4 @@
-//! The first of a base's ancestors that holds a window.
+//! Finds the first ancestor of a base that holds a window.
 ghost use Rattle.std.specs.Prelude.{◌≡◌, ◌≤◌, ◌^◌, length, max, IfSome};
 ghost use Rattle.cyclo_points.specs.Point.{IsWithin};
 ghost use Rattle.lazy_walk.specs.Ancestors.{full, IsAncestor};
@@ -12,8 +12,11 @@ use lazy_walk::frame::Frame;
 use plane_geom::window::Window;
 use tile_place::machine::Machine;
 
-/// The first ancestor, of those of a level or above, whose polygon holds the window, if none of the values
-/// looked at on the way is refused. The frame grows to each ancestor where it is shallower.
+/// Finds the first ancestor, at level `from` or above, whose polygon holds the window. The frame grows as
+/// needed to reach each ancestor.
+///
+/// Returns None if a value on the way is refused, or if no ancestor up to level 64 holds the window. No
+/// clause speaks of this case.
 pub fn climb(machine: &Machine, frame: &mut Frame, window: &Window, from: u8) -> Option<Ancestor>
     requires frame { IsFrameOf (tiling_of machine.now) frame.old }
     requires centre_within { IsWithin (2 ^ 25) window.now.centre }
@@ -41,7 +44,7 @@ pub fn climb(machine: &Machine, frame: &mut Frame, window: &Window, from: u8) ->
     }
 }
 
-/// Whether an ancestor is of the level or above, and holds the window.
+/// Tests if an ancestor has the level or a higher one, and holds the window.
 fn tried(
     machine: &Machine,
     frame: &Frame,
@@ -63,7 +66,7 @@ fn tried(
     ancestor_holds(machine, frame, ancestor, window)
 }
 
-/// Whether an ancestor holds the window, if none of its vertices is refused.
+/// Returns true if an ancestor holds the window, or None if one of its vertices is refused.
 fn ancestor_holds(
     machine: &Machine,
     frame: &Frame,

@@ -1,4 +1,4 @@
-//! Points that plainly lie in a window.
+//! Points that lie well inside a window.
 ghost use Rattle.std.specs.Prelude.{◌≡◌, ◌^◌, pos, true, IsTrue};
 ghost use Rattle.std.specs.Ordering.{is_gt};
 ghost use Rattle.ordered_ring.specs.Ring.{difference};
@@ -15,10 +15,11 @@ use cyclo_points::real_sum::rsub;
 use cyclo_points::sign::witness;
 use plane_geom::window::Window;
 
-/// The greatest part of a number that is plainly between two others.
+/// The greatest size of the parts of a number for which the quick test works.
 const GREATEST_PART: i64 = 1 << 24;
 
-/// Whether a point plainly lies in the open box of a window, so that each edge from it meets the window.
+/// Returns true only if a point lies in the open box of a window. Then each edge from it meets the window.
+/// False says nothing about the point.
 pub fn is_inside(order: Order, window: &Window, p: &Point) -> bool
     requires p_within { IsWithin (2 ^ 25) p.now }
     requires centre_within { IsWithin (2 ^ 25) window.now.centre }
@@ -29,7 +30,7 @@ pub fn is_inside(order: Order, window: &Window, p: &Point) -> bool
     is_shorter(order, &wide, window.w) && is_shorter(order, &high, window.h)
 }
 
-/// Whether a number plainly lies between two opposite whole numbers.
+/// Returns true only if a number lies strictly between -`extent` and `extent`, by a quick test.
 fn is_shorter(order: Order, r: &Real, extent: u16) -> bool
     requires within { IsRealWithin (2 ^ 28) r.now }
     ensures below { IsTrue result → is_gt ((points_of order).real.sign

@@ -1,9 +1,11 @@
-//! Parts of supertiles beside a window.
+//! Parts of supertiles, and how they lie relative to a window.
 //!
-//! A part lies beyond a side of a window, within it, or across it, by the sides that its vertices are inside
-//! of. A tile by itself is tested exactly: it meets the window where an edge does, or where it holds the
-//! centre. `climb` finds the first ancestor of the base whose polygon holds the window. `Rows` keeps the
-//! children of each supertile that is met, by its level, kind and turn.
+//! A part lies *beyond* a side of a window, *within* the window, or *across* it, judged by the sides that its
+//! vertices are inside of. A single tile is tested exactly: it meets the window if one of its edges does, or
+//! if it holds the centre.
+//!
+//! - [`climb`](climb::climb) finds the first ancestor of the base whose polygon holds the window.
+//! - [`Rows`](rows::Rows) keeps the children of each supertile that is visited, by level, kind and turn.
 #![tactic(auto)]
 
 pub mod climb;

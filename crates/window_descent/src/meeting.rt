@@ -17,8 +17,8 @@ use plane_geom::box_edges::edge_meets_box;
 use plane_geom::polygons::member;
 use plane_geom::window::Window;
 
-/// Whether a polygon meets a window: one of its edges does, or it holds the centre. Most that do have a
-/// vertex in it.
+/// Returns true exactly if a polygon meets a window: one of its edges does, or it holds the centre. Most
+/// polygons that meet a window have a vertex in it, so this is tested first.
 pub fn meets(order: Order, window: &Window, corners: &[Point]) -> bool
     requires at_least_three { 3 ≤ length corners.now }
     requires at_most_24 { length corners.now ≤ 24 }
@@ -32,7 +32,7 @@ pub fn meets(order: Order, window: &Window, corners: &[Point]) -> bool
         || member(order, corners, &window.centre)
 }
 
-/// Whether a polygon holds a window: it holds the centre, and none of its edges meets the window.
+/// Returns true if a polygon holds a window: it holds the centre, and none of its edges meets the window.
 pub fn holds(order: Order, window: &Window, corners: &[Point]) -> bool
     requires at_least_three { 3 ≤ length corners.now }
     requires at_most_24 { length corners.now ≤ 24 }
@@ -44,7 +44,8 @@ pub fn holds(order: Order, window: &Window, corners: &[Point]) -> bool
     member(order, corners, &window.centre) && !some_edge_meets(order, window, corners)
 }
 
-/// Whether a vertex of a polygon plainly lies in a window, so that an edge from it meets the window.
+/// Returns true only if a vertex of the polygon lies well inside the window. Then an edge from it meets the
+/// window.
 fn some_vertex_inside(order: Order, window: &Window, corners: &[Point]) -> bool
     requires within { All (IsWithin (2 ^ 25)) corners.now }
     requires centre_within { IsWithin (2 ^ 25) window.now.centre }
@@ -59,7 +60,7 @@ fn some_vertex_inside(order: Order, window: &Window, corners: &[Point]) -> bool
     false
 }
 
-/// Whether an edge of a polygon meets a window.
+/// Returns true exactly if an edge of the polygon meets the window.
 fn some_edge_meets(order: Order, window: &Window, corners: &[Point]) -> bool
     requires at_least_three { 3 ≤ length corners.now }
     requires within { All (IsWithin (2 ^ 25)) corners.now }
@@ -79,7 +80,7 @@ fn some_edge_meets(order: Order, window: &Window, corners: &[Point]) -> bool
     edge_meets(order, window, &from, &first)
 }
 
-/// Whether the edge between two points meets a window.
+/// Returns true exactly if the edge between two points meets the window.
 fn edge_meets(order: Order, window: &Window, start: &Point, end: &Point) -> bool
     requires start_within { IsWithin (2 ^ 25) start.now }
     requires end_within { IsWithin (2 ^ 25) end.now }

@@ -1,4 +1,4 @@
-//! The parts of a supertile, and how they stand to a window.
+//! The parts of a supertile, and how they lie relative to a window.
 ghost use Rattle.std.specs.Prelude.{◌≡◌, ◌<◌, ◌^◌, length, IfSome};
 ghost use Rattle.cyclo_points.specs.Order.{points_of};
 ghost use Rattle.cyclo_points.specs.Point.{point_in, IsOf, IsWithin};
@@ -18,14 +18,15 @@ use cyclo_points::product::mul;
 use plane_geom::window::Window;
 use tile_place::machine::Machine;
 
-/// A part of a supertile: its kind, and its motion, that of the supertile included.
+/// A part of a supertile: its kind, and its motion, which is followed by that of the supertile.
 #[derive(Clone, Copy)]
 pub struct Part {
     pub kind: u8,
     pub motion: Motion,
 }
 
-/// A child of a supertile as a part of it, if its shift is not refused. All children are scaled alike.
+/// Returns a child of a supertile as a part of it, or None if its shift is refused. All children have the
+/// same `scale`.
 pub fn part_of(machine: &Machine, kind: u8, number: u8, scale: &Point, at: &Motion) -> Option<Part>
     requires exists { kind < length (rule_of machine.now).kinds }
     requires child_exists { number < length (children_of (rule_of machine.now) kind) }
@@ -52,8 +53,8 @@ pub fn part_of(machine: &Machine, kind: u8, number: u8, scale: &Point, at: &Moti
     })
 }
 
-/// How a part of a level stands to a window, if none of its vertices is refused. A tile is never across: it
-/// is within where it meets the window, and else beyond.
+/// Finds how a part lies relative to a window, or None if one of its vertices is refused. A tile, at level 0,
+/// is never across: it is within if it meets the window, and otherwise beyond.
 pub fn place_of(
     machine: &Machine,
     window: &Window,
@@ -81,7 +82,7 @@ pub fn place_of(
     }
 }
 
-/// How a tile stands to a window that it meets, or doesn't.
+/// Returns `Within` for a tile that meets the window, and `Beyond` for one that does not.
 fn met(meets: bool) -> Standing
     ensures { result ≡ standing_of meets }
 {

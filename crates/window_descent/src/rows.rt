@@ -1,4 +1,4 @@
-//! The children of supertiles, each row of them made once.
+//! The children of supertiles. Each row of children is made once.
 ghost use Rattle.std.specs.Prelude.{◌≡◌, ◌+◌, ◌<◌, ◌≤◌, ◌^◌, length, IfOk, IfSome, IsTrue};
 ghost use Rattle.cyclo_points.specs.Order.{points_of};
 ghost use Rattle.cyclo_points.specs.Point.{point_in, IsWithin};
@@ -19,21 +19,21 @@ use std::alloc::Global;
 use tile_place::machine::Machine;
 use tile_shape::no_memory::NoMemory;
 
-/// The children of supertiles of each level, kind and turn, as parts of such a supertile that is turned and
-/// not shifted. A row is made when a child of it is first asked for.
+/// The children of supertiles, by level, kind and turn. They are parts of a supertile that is turned, and not
+/// shifted. A row is made when one of its children is first needed.
 #[derive(Drop)]
 pub struct Rows {
-    /// The powers of the inflation factor.
+    /// The powers of the inflation factor, from 0.
     powers: ArrayVec<Point, 65>,
-    /// Where the row of a level, a kind and a turn begins, if it is made.
+    /// For a level, a kind and a turn: where the row begins, if it is made.
     firsts: Vec<Option<u32>>,
-    /// The children of all rows that are made.
+    /// The children of all rows that are made, one row after another.
     children: Vec<Part>,
 }
 
 impl Rows {
-    /// Rows of the levels below a depth and of this one; none where a power of the inflation factor is
-    /// refused.
+    /// Makes rows for the levels from 0 to `depth`, all still empty. Returns None if a power of the inflation
+    /// factor is refused, and Err if memory runs out.
     pub fn new(alloc: Global, machine: &Machine, depth: u8) -> Result<Option<Rows>, NoMemory>
         requires at_most_64 { depth ≤ 64 }
         ensures rows { IfOk result (λ made. IfSome made (AreRows machine.now)) }
@@ -51,7 +51,7 @@ impl Rows {
         }))
     }
 
-    /// The inflation factor to the power of a level.
+    /// Returns the inflation factor to the power of a level.
     pub fn scale(&self, machine: &Machine, level: u8) -> Point
         requires rows { AreRows machine.now self.now }
         requires exists { level < levels_of self.now }
@@ -61,7 +61,8 @@ impl Rows {
         self.powers.as_slice()[level as usize]
     }
 
-    /// A child of a part, whose children are of a level, if its shift is not refused.
+    /// Returns a child of a part, or None if a shift is refused. The children are of level `level`. Err if
+    /// memory runs out.
     pub fn child(
         &mut self,
         machine: &Machine,
@@ -88,8 +89,8 @@ impl Rows {
         }
     }
 
-    /// Where the row of a level, a kind and a turn begins, which is made if it isn't yet; none where a shift
-    /// of it is refused.
+    /// Returns where the row of a level, a kind and a turn begins, and makes the row first if needed. Returns
+    /// None if a shift in it is refused.
     fn first(
         &mut self,
         machine: &Machine,
@@ -113,7 +114,8 @@ impl Rows {
         }
     }
 
-    /// Makes the row of a level, a kind and a turn: where it begins, if none of its shifts is refused.
+    /// Makes the row of a level, a kind and a turn, and returns where it begins. Returns None if a shift in
+    /// it is refused.
     #[cold]
     #[inline(never)]
     fn make(
@@ -151,8 +153,8 @@ impl Rows {
     }
 }
 
-/// Puts the children of a kind behind others, as parts of a supertile that is turned and not shifted; false
-/// where the shift of one is refused.
+/// Appends the children of a kind, as parts of a supertile that is turned and not shifted. Returns false if
+/// one of the shifts is refused.
 fn push_row(
     machine: &Machine,
     scale: &Point,
@@ -181,14 +183,14 @@ fn push_row(
     Ok(true)
 }
 
-/// Where the row of a level, a kind and a turn is noted.
+/// Returns the place in the index of rows for a level, a kind and a turn.
 fn place(level: u8, kind: u8, turn: u8) -> usize
     ensures { result ≡ row_place level kind turn }
 {
     (usize::from(level) * 16 + usize::from(kind)) * 16 + usize::from(turn)
 }
 
-/// A child of a turned supertile that is shifted too, if its shift is not refused.
+/// Returns a child of a supertile that is shifted as well, or None if the new shift is refused.
 fn moved(child: &Part, shift: &Point) -> Option<Part>
     requires child_within { IsWithin (2 ^ 24) child.now.motion.shift }
     requires shift_within { IsWithin (2 ^ 24) shift.now }

@@ -1,4 +1,4 @@
-//! The sides of a window that a point is inside of.
+//! Which sides of a window a point is inside of.
 ghost use Rattle.std.specs.Prelude.{◌≡◌, ◌^◌, pos};
 ghost use Rattle.std.specs.Ordering.{is_gt};
 ghost use Rattle.ordered_ring.specs.Ring.{difference};
@@ -16,18 +16,18 @@ use cyclo_points::real_sum::{radd, rsub};
 use cyclo_points::sign::{sign, witness};
 use plane_geom::window::Window;
 
-/// The greatest part of a number that is told by a witness.
+/// The greatest size of the parts of a number for which the quick comparison works.
 const GREATEST_PART: i64 = 1 << 24;
 
-/// Whether a number is below another, and above the negative of that.
+/// How a number compares with an integer, and with the negative of that integer.
 #[derive(Clone, Copy)]
 struct Between {
     below: bool,
     above: bool,
 }
 
-/// Of which sides of a window a point is inside: of that of the greatest X, the least X, the greatest Y, the
-/// least Y.
+/// For each side of a window, true if a point is inside of it. The sides are those of the greatest X, the
+/// least X, the greatest Y and the least Y.
 #[derive(Clone, Copy)]
 pub(crate) struct Sides {
     pub(crate) right: bool,
@@ -36,7 +36,7 @@ pub(crate) struct Sides {
     pub(crate) lower: bool,
 }
 
-/// Of which sides of a window a point is inside.
+/// Finds which sides of a window a point is inside of.
 pub(crate) fn sides_of(order: Order, window: &Window, p: &Point) -> Sides
     requires p_within { IsWithin (2 ^ 25) p.now }
     requires centre_within { IsWithin (2 ^ 25) window.now.centre }
@@ -59,7 +59,7 @@ pub(crate) fn sides_of(order: Order, window: &Window, p: &Point) -> Sides
     }
 }
 
-/// How far a point is right of the centre of a window.
+/// Returns X of a point relative to the centre of a window.
 fn wide_of(order: Order, window: &Window, p: &Point) -> Real
     requires p_within { IsWithin (2 ^ 25) p.now }
     requires centre_within { IsWithin (2 ^ 25) window.now.centre }
@@ -70,7 +70,7 @@ fn wide_of(order: Order, window: &Window, p: &Point) -> Real
     rsub(&x(order, p), &x(order, &window.centre))
 }
 
-/// How far it is above.
+/// Returns Y of a point relative to the centre of a window.
 fn high_of(order: Order, window: &Window, p: &Point) -> Real
     requires p_within { IsWithin (2 ^ 25) p.now }
     requires centre_within { IsWithin (2 ^ 25) window.now.centre }
@@ -81,8 +81,8 @@ fn high_of(order: Order, window: &Window, p: &Point) -> Real
     rsub(&y(order, p), &y(order, &window.centre))
 }
 
-/// Whether a number is below a whole one, and above the negative of it. Of short numbers, as most are, two
-/// comparisons of whole ones tell it.
+/// Compares a number with an integer and with the negative of that integer. For most numbers, which are
+/// short, two comparisons of integers are enough.
 fn compare(order: Order, extent: u16, r: &Real) -> Between
     requires within { IsRealWithin (2 ^ 28) r.now }
     ensures below { result.below ≡ is_gt ((reals_of order).sign
@@ -106,7 +106,7 @@ fn compare(order: Order, extent: u16, r: &Real) -> Between
     }
 }
 
-/// Whether a number is below a whole one.
+/// Returns true if a number is below an integer.
 #[cold]
 #[inline(never)]
 fn is_below(order: Order, extent: u16, r: &Real) -> bool
@@ -117,7 +117,7 @@ fn is_below(order: Order, extent: u16, r: &Real) -> bool
     sign(order, &rsub(&whole(order, extent), r)).is_gt()
 }
 
-/// Whether it is above the negative of a whole one.
+/// Returns true if a number is above the negative of an integer.
 #[cold]
 #[inline(never)]
 fn is_above(order: Order, extent: u16, r: &Real) -> bool
@@ -128,7 +128,7 @@ fn is_above(order: Order, extent: u16, r: &Real) -> bool
     sign(order, &radd(&whole(order, extent), r)).is_gt()
 }
 
-/// A whole number.
+/// Returns an integer as a real number of the order.
 fn whole(order: Order, n: u16) -> Real
     ensures value { real_in order result ≡ (reals_of order).ops.int (pos n) }
     ensures within { IsRealWithin (2 ^ 16) result }

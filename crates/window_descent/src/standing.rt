@@ -1,4 +1,4 @@
-//! How a polygon stands to a window.
+//! How a polygon lies relative to a window.
 ghost use Rattle.std.specs.Prelude.{◌≡◌, ◌^◌, ◌&&◌, ◌||◌, true, false, All};
 ghost use Rattle.cyclo_points.specs.Point.{IsWithin};
 ghost use Rattle.window_descent.specs.Standing.{IsStanding};
@@ -9,18 +9,18 @@ use cyclo_points::order::Order;
 use cyclo_points::point::Point;
 use plane_geom::window::Window;
 
-/// How a polygon stands to a window.
+/// How a polygon lies relative to a window.
 #[derive(Clone, Copy, PartialEq, Eq)]
 pub enum Standing {
-    /// All its vertices are beyond one side.
+    /// All vertices are beyond one side.
     Beyond,
-    /// All its vertices are inside.
+    /// All vertices are inside the window.
     Within,
-    /// Neither is known.
+    /// Neither of these holds.
     Across,
 }
 
-/// How a polygon stands to a window, by its vertices.
+/// Finds how a polygon lies relative to a window, by its vertices.
 pub fn beside(order: Order, window: &Window, corners: &[Point]) -> Standing
     requires within { All (IsWithin (2 ^ 25)) corners.now }
     requires centre_within { IsWithin (2 ^ 25) window.now.centre }
@@ -46,7 +46,8 @@ pub fn beside(order: Order, window: &Window, corners: &[Point]) -> Standing
     standing_of(&every, &some)
 }
 
-/// By the sides of which every vertex is inside, and those of which one is.
+/// Combines two results: `every` has the sides that all vertices are inside of, and `some` those that at
+/// least one vertex is inside of.
 fn standing_of(every: &Sides, some: &Sides) -> Standing
     ensures beyond { result ≡ Standing.Beyond → (some.now.right && some.now.left
         && (some.now.upper && some.now.lower)) ≡ false }
@@ -62,7 +63,7 @@ fn standing_of(every: &Sides, some: &Sides) -> Standing
     Standing::Across
 }
 
-/// Of which sides both are inside.
+/// Returns the sides that both are inside of.
 fn both(a: &Sides, b: &Sides) -> Sides
     ensures right { result.right ≡ (a.now.right && b.now.right) }
     ensures left { result.left ≡ (a.now.left && b.now.left) }
@@ -77,7 +78,7 @@ fn both(a: &Sides, b: &Sides) -> Sides
     }
 }
 
-/// Of which sides one is inside.
+/// Returns the sides that at least one of two is inside of.
 fn either(a: &Sides, b: &Sides) -> Sides
     ensures right { result.right ≡ (a.now.right || b.now.right) }
     ensures left { result.left ≡ (a.now.left || b.now.left) }

@@ -10,6 +10,9 @@ use Rattle.lazy_walk.proofs.Walks.{StillFits, GrowsTo-then}
 use Rattle.window_descent.specs.Climbing.{IsClimbedTo}
 use Rattle.window_cover.specs.Answered.{IsFoundBelow}
 use Rattle.window_cover.specs.Checked.{IsChecked}
+use Rattle.window_cover.specs.Gathering.{gathered}
+use Rattle.window_cover.specs.Runs.{AreRuns}
+use Rattle.window_cover.proofs.Arranged.{are-lifted, are-distinct}
 use Rattle.window_cover.proofs.Descended.{can-be-lifted, answered}
 use Rattle.window_cover.proofs.Searches.{checked_of}
 use Rattle.window_cover.proofs.by_descent.by_descent.Goals as goal
@@ -33,8 +36,8 @@ arranged-requires-clause-no_deeper c =
     (subst (λ n. IsClimbedTo t (full t f) w n c.in-Some.top.level) c.depth-from.ensures.digits
     (subst (λ (a : Address). IsClimbedTo t a w c.depth-from.result c.in-Some.top.level)
     (full-later t f c.is_contained.new.frame c.is_contained.ensures.frame) c.in-Some.ensures.first)) in
-    let found : IsFoundBelow t g w c.in-Some-2.cover = subst (λ x. IfSome x (IsFoundBelow t g w)) c.in-Some-2.is c.in_ok-cover.ensures in
-    can-be-lifted m settled fits f g grows w c.requires.window_fits c.in-Some-2.cover found first
+    let found = subst (λ x. IfSome x (λ runs. AreRuns runs × IsFoundBelow t g w (gathered runs))) c.in-Some-2.is c.in_ok-runs.ensures in
+    can-be-lifted m settled fits f g grows w c.requires.window_fits (gathered c.in-Some-2.runs) found.1 first
 
 pub returns-in_ok-arranged-in-Some-2-clause-answered : goal.returns-in_ok-arranged-in-Some-2-clause-answered
 returns-in_ok-arranged-in-Some-2-clause-answered c =
@@ -52,6 +55,15 @@ returns-in_ok-arranged-in-Some-2-clause-answered c =
     (subst (λ n. IsClimbedTo t (full t f) w n c.in-Some.top.level) c.depth-from.ensures.digits
     (subst (λ (a : Address). IsClimbedTo t a w c.depth-from.result c.in-Some.top.level)
     (full-later t f c.is_contained.new.frame c.is_contained.ensures.frame) c.in-Some.ensures.first)) in
-    let found : IsFoundBelow t g w c.in-Some-2.cover = subst (λ x. IfSome x (IsFoundBelow t g w)) c.in-Some-2.is c.in_ok-cover.ensures in
-    answered m settled fits f g grows w c.requires.window_fits c.in-Some-2.cover found first c.in_ok-arranged-in-Some-2.field-0 c.in_ok-arranged-in-Some-2.ensures.lifted c.in_ok-arranged-in-Some-2.ensures.distinct_in_order
+    let found = subst (λ x. IfSome x (λ runs. AreRuns runs × IsFoundBelow t g w (gathered runs))) c.in-Some-2.is c.in_ok-runs.ensures in
+    let own = gathered c.in-Some-2.runs in
+    let can = can-be-lifted m settled fits f g grows w c.requires.window_fits own found.1 first in
+    let tiles = c.in_ok-arranged-in-Some-2.field-0 in
+    answered m settled fits f g grows w c.requires.window_fits own found.1 first tiles (are-lifted g own can tiles c.in_ok-arranged-in-Some-2.ensures)
+    (are-distinct g own can tiles c.in_ok-arranged-in-Some-2.ensures)
     (c.is_contained.ensures.found c.if-not-is_contained.false)
+
+pub arranged-requires-clause-runs : goal.arranged-requires-clause-runs
+arranged-requires-clause-runs c =
+    (subst (λ x. IfSome x (λ runs. AreRuns runs × IsFoundBelow (tiling_of c.args.machine.now) c.climb.new.frame c.args.window.now (gathered runs)))
+    c.in-Some-2.is c.in_ok-runs.ensures).0

@@ -1,4 +1,4 @@
-use Rattle.std.proofs.Common.{IfSome, length, subst}
+use Rattle.std.proofs.Common.{ℕ, ◌≤◌, IfSome, length, subst}
 use Rattle.rule_model.specs.Tiling.{tiling_of}
 use Rattle.lazy_walk.specs.Frames.{FrameValue, GrowsTo}
 use Rattle.window_cover.specs.Answered.{IsAnswered}
@@ -49,3 +49,16 @@ returns-in-Some-clause-within c =
     subst (λ (f : FrameValue). IsWithinLimits (tiling_of c.args.machine.now) f c.args.window.now) c.in_ok-grown.ensures
     (subst (λ x. IfSome x (IsAnswered
     (tiling_of c.args.machine.now) c.in_ok-grown.grown c.by_descent.new.frame c.args.window.now)) c.in-Some.is c.in_ok-tiles.ensures.answered).within
+
+pub returns-in_err-grown-clause-not_beyond : goal.returns-in_err-grown-clause-not_beyond
+returns-in_err-grown-clause-not_beyond c = λ n enough. enough.not_below
+
+pub returns-in_err-tiles-clause-not_beyond : goal.returns-in_err-tiles-clause-not_beyond
+returns-in_err-tiles-clause-not_beyond c = λ n enough. enough.not_below
+
+pub returns-in-Some-clause-not_beyond : goal.returns-in-Some-clause-not_beyond
+returns-in-Some-clause-not_beyond c =
+    let t = tiling_of c.args.machine.now in
+    let own = (subst (λ x. IfSome x (IsAnswered t c.in_ok-grown.grown c.by_descent.new.frame c.args.window.now)) c.in-Some.is c.in_ok-tiles.ensures.answered).least in
+    subst (λ (f : FrameValue). (n : ℕ) → IsLeastEnough t f c.args.window.now n → length c.by_descent.new.frame.digits ≤ n) c.in_ok-grown.ensures
+    (λ n enough. own.least n enough.not_below enough.within enough.holds)

@@ -1,4 +1,4 @@
-use Rattle.std.proofs.Common.{rules, ◌+◌, ◌<◌, arith}
+use Rattle.std.proofs.Common.{rules, arith}
 use Rattle.cyclo_points.specs.Point.{coefficient}
 use Rattle.window_cover.specs.Words.{LiesIn}
 use Rattle.window_cover.proofs.fields.Fields.widened.Goals as goal

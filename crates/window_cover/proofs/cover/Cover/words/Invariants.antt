@@ -1,6 +1,0 @@
-use Rattle.std.proofs.Common.{◌≡◌, take}
-use Rattle.window_cover.specs.Words.{words_from}
-use Rattle.window_cover.proofs.cover.Cover.words.Given as goal
-
-abbrev pub invariant-loop-number : goal.invariant-loop-number
-invariant-loop-number l = l.words.items ≡ words_from l.fn.fields 0 (take l.number l.fn.self.found)
