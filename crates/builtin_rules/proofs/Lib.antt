@@ -4,3 +4,4 @@ pub mod Numbered
 pub mod Constants
 pub mod Admitted
 pub mod Lists
+pub mod Placeable

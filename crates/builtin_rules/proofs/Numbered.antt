@@ -37,7 +37,7 @@ record HasNumbers (P : Points) (r : Rule P.ring.carrier) : Type 0 where
   turn_below : all_below (length r.kinds) (λ k. all_below (length (children_of r k)) (λ c. nat_lt (child_of P r k c).motion.turn P.order)) ≡ true
 
 -- a test that passes below a number, and below a number for each
-below_each : (n : ℕ) (m : ℕ → ℕ) (p : ℕ → ℕ → Bool) → all_below n (λ k. all_below (m k) (p k)) ≡ true → (k i : ℕ) → k < n → i < m k → p k i ≡ true
+pub below_each : (n : ℕ) (m : ℕ → ℕ) (p : ℕ → ℕ → Bool) → all_below n (λ k. all_below (m k) (p k)) ≡ true → (k i : ℕ) → k < n → i < m k → p k i ≡ true
 below_each n m p h k i l j = all_below-at (m k) (p k) (all_below-at n (λ k. all_below (m k) (p k)) h k l) i j
 
 numbers_exist : (P : Points) (r : Rule P.ring.carrier) → HasNumbers P r → IsNumbered P r

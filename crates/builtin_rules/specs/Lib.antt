@@ -9,3 +9,4 @@ pub mod AcceptedNames
 pub mod Numbers
 pub mod Written
 pub mod WrittenTables
+pub mod Placeable

@@ -1,12 +1,12 @@
-//! The rhombs and squares of Ammann and Beenker, the square cut into two halves along a diagonal.
+//! The rhombs and squares of Ammann and Beenker, with each square cut into two halves along a diagonal.
 use crate::kind_numbers::KindNumbers;
 use crate::notation::{child, edge_type, inner, outer, part, point};
 use crate::rule_numbers::RuleNumbers;
 use cyclo_points::order::Order;
 use rule_model::edition::Edition;
 
-/// ζ is an eighth of a turn, and the factor is 1 + √2. The edge types are the side s, of length 1, and
-/// the square's diagonal h, of length √2, along which halves are glued; each is followed by its mate.
+/// The rule. ζ is an eighth of a turn, and the factor is 1 + √2. The edge types are the side s, of length 1,
+/// and the square's diagonal h, of length √2. Halves are glued along h. Each type is followed by its mate.
 pub(crate) const NUMBERS: RuleNumbers = RuleNumbers {
     edition: Edition::One,
     order: Order::Eight,
@@ -19,7 +19,7 @@ pub(crate) const NUMBERS: RuleNumbers = RuleNumbers {
         edge_type!(2, [0, 2, 1]),
     ],
     kinds: &[
-        // The rhomb: s and its mate, twice.
+        // The rhomb. Its edges are s and its mate, twice.
         KindNumbers {
             vertices: &[
                 point!(0, 0, 0, 0),
@@ -53,7 +53,7 @@ pub(crate) const NUMBERS: RuleNumbers = RuleNumbers {
                 &[part!(5, 2), part!(0, 3)],
             ],
         },
-        // A half of the square: h, s, s. Its vertices are 0, √2 and ζ.
+        // Half of the square, with edges h, s, s and vertices 0, √2 and ζ.
         KindNumbers {
             vertices: &[point!(0, 0, 0, 0), point!(0, 1, 0, -1), point!(0, 1, 0, 0)],
             edges: &[2, 0, 0],
@@ -77,7 +77,7 @@ pub(crate) const NUMBERS: RuleNumbers = RuleNumbers {
                 &[part!(4, 2), part!(1, 0)],
             ],
         },
-        // Its mirror image, with the vertices 0, -ζ³ and √2.
+        // Its mirror image, with vertices 0, -ζ³ and √2.
         KindNumbers {
             vertices: &[point!(0, 0, 0, 0), point!(0, 0, 0, -1), point!(0, 1, 0, -1)],
             edges: &[1, 1, 3],

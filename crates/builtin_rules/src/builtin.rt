@@ -1,5 +1,6 @@
-//! The built-in rules by their names.
+//! The built-in rules, by name.
 ghost use Rattle.std.specs.Prelude.{◌≡◌, IfOk};
+ghost use Rattle.rule_model.specs.Tiling.{tiling_listed, children};
 ghost use Rattle.builtin_rules.specs.Named.{named, contacts_named, IsWritten};
 ghost use Rattle.builtin_rules.specs.Numbers.{fixed_rule};
 ghost use Rattle.builtin_rules.specs.Written.{written};
@@ -15,9 +16,10 @@ use rule_model::checked::Checked;
 use rule_model::rule::Rule;
 use std::alloc::Global;
 use tile_shape::no_memory::NoMemory;
+use tile_shape::uses::Uses;
 
-/// The numbers of a name, with the contact tables of its geometry beside them.
-fn numbers(name: Name) -> RuleNumbers
+/// Returns the numbers of the rule of this name, with the contact tables of its geometry.
+pub(crate) fn numbers(name: Name) -> RuleNumbers
     ensures rule { written (fixed_rule result) ≡ named name }
     ensures contacts { written_tables (fixed_rule result) ≡ contacts_named name }
 {
@@ -30,14 +32,15 @@ fn numbers(name: Name) -> RuleNumbers
     }
 }
 
-/// The rule of a name, as it is written down.
+/// Makes the rule of this name, with exactly the numbers of its definition. Err if memory runs out.
 pub fn rule_of(alloc: Global, name: Name) -> Result<Rule, NoMemory>
     ensures { IfOk result (IsWritten (named name)) }
 {
     rule_from(alloc, &numbers(name))
 }
 
-/// The rule of a name, which is accepted, with its contact tables and its uses.
+/// Makes the rule of this name as an accepted one, with its contact tables and its uses. Err if memory runs
+/// out.
 pub fn builtin(alloc: Global, name: Name) -> Result<Checked, NoMemory>
     ensures { IfOk result (IsWritten (named name)) }
 {
@@ -47,4 +50,11 @@ pub fn builtin(alloc: Global, name: Name) -> Result<Checked, NoMemory>
     let tables = tables_from(alloc, &numbers)?;
     let uses = uses_from(alloc, &numbers)?;
     Ok(Checked::admit(rule, tables, uses))
+}
+
+/// Makes only the uses of the rule of this name. Err if memory runs out.
+pub fn uses_of(alloc: Global, name: Name) -> Result<Uses, NoMemory>
+    ensures { IfOk result (λ uses. uses ≡ children (tiling_listed (named name))) }
+{
+    uses_from(alloc, &numbers(name))
 }

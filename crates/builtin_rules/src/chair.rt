@@ -1,11 +1,11 @@
-//! The chair: an L of three unit squares, each leg two long, cut into four of itself.
+//! The chair: an L of three unit squares, with two outer sides of length 2, cut into four chairs.
 use crate::kind_numbers::KindNumbers;
 use crate::notation::{child, edge_type, inner, outer, part, point};
 use crate::rule_numbers::RuleNumbers;
 use cyclo_points::order::Order;
 use rule_model::edition::Edition;
 
-/// ζ is a quarter turn. The one edge type has length 1 and is its own mate. No halves are glued.
+/// The rule. ζ is a quarter turn. The only edge type has length 1 and is its own mate. No halves are glued.
 pub(crate) const NUMBERS: RuleNumbers = RuleNumbers {
     edition: Edition::One,
     order: Order::Four,
@@ -13,7 +13,7 @@ pub(crate) const NUMBERS: RuleNumbers = RuleNumbers {
     glue: &[],
     types: &[edge_type!(0, [0, 0])],
     kinds: &[
-        // The L, from its inner corner on.
+        // The L, starting at its inner corner.
         KindNumbers {
             vertices: &[
                 point!(1, 1, 0, 0),

@@ -1,4 +1,4 @@
-//! Contact tables and uses, from the numbers of a rule.
+//! Makes contact tables and uses from the numbers of a rule. Each call fails only if memory runs out.
 ghost use Rattle.std.specs.Prelude.{◌≡◌, map, IfOk};
 ghost use Rattle.edge_tables.specs.Views.{as_kind_tables};
 ghost use Rattle.addressing.specs.Coherent.{IsCoherent};
@@ -16,22 +16,22 @@ use std::alloc::Global;
 use tile_shape::no_memory::NoMemory;
 use tile_shape::uses::Uses;
 
-/// The kinds of children.
+/// Returns the kinds of the children.
 fn kinds_of(alloc: Global, children: &[Child]) -> Result<Vec<u8>, NoMemory>
     ensures { IfOk result (λ kinds. kinds.items ≡ map (λ child. child.kind) children.now) }
 {
-    let mut kinds = Vec::new(alloc);
+    let mut kinds = Vec::with_capacity(alloc, children.len())?;
     for child in children {
         kinds.push(child.kind)?;
     }
     Ok(kinds)
 }
 
-/// The same lists, each in memory of its own.
+/// Copies a list of lists into memory of its own.
 fn copied_lists<T: Copy>(alloc: Global, lists: &[&[T]]) -> Result<Vec<Vec<T>>, NoMemory>
     ensures { IfOk result (λ copies. map (λ copy. copy.items) copies.items ≡ map (λ list. list.now) lists.now) }
 {
-    let mut copies = Vec::new(alloc);
+    let mut copies = Vec::with_capacity(alloc, lists.len())?;
     for list in lists {
         let mut copy = Vec::new(alloc);
         copy.extend_from_slice(list)?;
@@ -40,7 +40,7 @@ fn copied_lists<T: Copy>(alloc: Global, lists: &[&[T]]) -> Result<Vec<Vec<T>>, N
     Ok(copies)
 }
 
-/// The contact table of a kind.
+/// Makes the contact table of a kind.
 fn kind_contacts(alloc: Global, numbers: &KindNumbers) -> Result<KindRows, NoMemory>
     ensures { IfOk result (λ rows. as_kind_tables rows ≡ written_tables_of_kind (fixed_kind numbers.now)) }
 {
@@ -52,32 +52,32 @@ fn kind_contacts(alloc: Global, numbers: &KindNumbers) -> Result<KindRows, NoMem
     })
 }
 
-/// The contact tables that are written down, where they are coherent.
+/// Makes the contact tables from the constants, which must be coherent.
 pub(crate) fn tables_from(alloc: Global, numbers: &RuleNumbers) -> Result<Tables, NoMemory>
     requires coherent { IsCoherent (written_tables (fixed_rule numbers.now)) }
     ensures { IfOk result (λ tables. tables ≡ written_tables (fixed_rule numbers.now)) }
 {
-    let mut mates = Vec::new(alloc);
-    let mut subs = Vec::new(alloc);
+    let mut mates = Vec::with_capacity(alloc, numbers.types.len())?;
+    let mut subs = Vec::with_capacity(alloc, numbers.types.len())?;
     for edge_type in numbers.types {
         mates.push(edge_type.mate)?;
         subs.push(edge_type.parts.to_vec(alloc)?)?;
     }
-    let mut rows = Vec::new(alloc);
+    let mut rows = Vec::with_capacity(alloc, numbers.kinds.len())?;
     for kind in numbers.kinds {
         rows.push(kind_contacts(alloc, kind)?)?;
     }
     Ok(Tables::new(mates, subs, rows))
 }
 
-/// The child kinds, where they are usable.
+/// Makes the uses from the constants, whose child kinds must be usable.
 pub(crate) fn uses_from(alloc: Global, numbers: &RuleNumbers) -> Result<Uses, NoMemory>
     requires usable { AreUsable (child_kinds (written_tables (fixed_rule numbers.now))) }
     ensures { IfOk result (λ uses. uses ≡ child_kinds (written_tables (fixed_rule numbers.now))) }
 {
-    let mut rows = Vec::new(alloc);
+    let mut rows = Vec::with_capacity(alloc, numbers.kinds.len())?;
     for kind in numbers.kinds {
         rows.push(kinds_of(alloc, kind.children)?)?;
     }
-    Uses::new(alloc, &rows)
+    Ok(Uses::of(rows))
 }

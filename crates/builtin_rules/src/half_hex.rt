@@ -1,11 +1,12 @@
-//! The half-hex: half of a regular hexagon, cut into four of itself.
+//! The half-hex: half of a regular hexagon, cut into four half-hexes.
 use crate::kind_numbers::KindNumbers;
 use crate::notation::{child, edge_type, inner, outer, part, point};
 use crate::rule_numbers::RuleNumbers;
 use cyclo_points::order::Order;
 use rule_model::edition::Edition;
 
-/// ζ is a sixth of a turn. The one edge type has length 1 and is its own mate. No halves are glued.
+/// The rule. ζ is a sixth of a turn. The only edge type has length 1 and is its own mate. No halves are
+/// glued.
 pub(crate) const NUMBERS: RuleNumbers = RuleNumbers {
     edition: Edition::Two,
     order: Order::Six,
@@ -13,7 +14,7 @@ pub(crate) const NUMBERS: RuleNumbers = RuleNumbers {
     glue: &[],
     types: &[edge_type!(0, [0, 0])],
     kinds: &[
-        // A trapezoid, from the middle of its long side on, which is two edges.
+        // A trapezoid, starting at the middle of its long side, which is two edges.
         KindNumbers {
             vertices: &[
                 point!(1, 0, 0, 0),

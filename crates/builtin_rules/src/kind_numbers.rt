@@ -3,9 +3,13 @@ use edge_tables::child_edge::ChildEdge;
 use edge_tables::contact::Contact;
 use rule_model::child::Child;
 
-/// The numbers of a kind: the vertices of its prototile, counterclockwise, the types of its edges and
-/// its children; and its contact table, which follows from them: for each child what its edges are, in
-/// their order, and for each edge its parts, in order.
+/// The numbers of a kind, and its contact table, which follows from them.
+///
+/// - `vertices`: those of its prototile, counterclockwise.
+/// - `edges`: the type of each edge.
+/// - `children`: its children.
+/// - `contacts`: for each child, the contact of each of its edges, in order.
+/// - `parts`: for each edge, its parts, in order.
 #[derive(Clone, Copy)]
 pub struct KindNumbers<
     Points = &'static [Point],

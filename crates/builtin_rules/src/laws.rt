@@ -1,8 +1,8 @@
-//! A law of the built-in rules: the function here does nothing, and its contract is the law.
+//! A law of the built-in rules. A law is a function that does nothing; its contract is the theorem.
 ghost use Rattle.builtin_rules.specs.declared.name.Name.{Name};
 ghost use Rattle.builtin_rules.specs.AcceptedNames.{IsAcceptedName};
 
-/// Of the rule of each name, as it is written down, all numbers exist and the children fit edge to edge.
+/// In the definition of each named rule all numbers exist, and the children fit edge to edge.
 pub fn accepted_names_law()
     ensures { (name : Name) → IsAcceptedName name }
 {}

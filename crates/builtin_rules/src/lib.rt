@@ -1,14 +1,19 @@
-//! The rules that are built in, known by name: the chair, an L of three squares that is cut into four of
-//! itself; Penrose's rhombs, and his kites and darts, each by halves of the tiles; the rhombs and squares
-//! of Ammann and Beenker, the squares by halves; and the half of a hexagon, which is cut into four of
-//! itself (Grünbaum and Shephard, Tilings and Patterns, chapter 10).
+//! The rules that are built in, by name: the chair, Penrose's rhombs, his kites and darts, the rhombs and
+//! squares of Ammann and Beenker, and the half-hex. All are in Grünbaum and Shephard, Tilings and Patterns,
+//! chapter 10.
 //!
-//! Each rule is written down as a definition, by its edition, its order and its numbers. `rule_of` makes the rule of a
-//! name, with exactly these numbers, and `builtin` answers that rule as an accepted one, with its contact
-//! tables and its uses. The numbers of the program are constants, one rule a file, with the contact tables
-//! of the kinds beside them; that they are those of the definition, and the tables those of its geometry, is
-//! proved by evaluation, as are the ten clauses of acceptance. So a built-in rule is never refused, and only
-//! memory may be wanting; and by a law the rules as they are written down are accepted.
+//! - The chair is an L of three squares, which is cut into four chairs.
+//! - Penrose's rhombs, kites and darts come as halves, and so do the squares of Ammann and Beenker.
+//! - The half-hex is half of a hexagon, which is cut into four half-hexes.
+//!
+//! Each rule is a definition, with its edition, its order and its numbers. `rule_of` makes the rule of a
+//! name, with exactly these numbers. `builtin` returns it as an accepted rule, with its contact tables and
+//! its uses.
+//!
+//! The numbers in the program are constants, with one rule a file and the contact tables next to the kinds.
+//! Evaluation proves three things: the constants are those of the definition, the tables are those of its
+//! geometry, and the ten clauses of acceptance hold. So a built-in rule is never refused; only memory may run
+//! out.
 #![tactic(auto)]
 
 mod ammann_beenker;
@@ -22,6 +27,7 @@ pub mod name;
 mod notation;
 mod p2;
 mod p3;
+pub mod placing;
 mod rule_numbers;
 mod rules;
 mod type_numbers;

@@ -1,4 +1,4 @@
-//! The notation in which the rules are written down.
+//! The notation in which the rules are written.
 
 /// A point, by its coefficients: a0 + a1 ζ + a2 ζ² + a3 ζ³.
 macro_rules! point {
@@ -7,14 +7,14 @@ macro_rules! point {
     };
 }
 
-/// An edge type: its mate, and the types of its parts.
+/// An edge type: its mate, then the types of its parts.
 macro_rules! edge_type {
     ($mate:expr, $parts:expr) => {
         crate::type_numbers::TypeNumbers { mate: $mate, parts: &$parts }
     };
 }
 
-/// A child: its kind, its turn, and the coefficients of its shift.
+/// A child: its kind, its turn, and the four coefficients of its shift.
 macro_rules! child {
     ($kind:expr, $turn:expr, $shift:expr) => {
         rule_model::child::Child { kind: $kind, turn: $turn, shift: cyclo_points::point::Point { c: $shift } }

@@ -1,14 +1,18 @@
-//! Penrose's kites and darts, each cut into two halves along its axis. The halves are the triangles that
-//! are known as Robinson's.
+//! Penrose's kites and darts, each cut into two halves along its axis. The halves are Robinson's triangles.
 use crate::kind_numbers::KindNumbers;
 use crate::notation::{child, edge_type, inner, outer, part, point};
 use crate::rule_numbers::RuleNumbers;
 use cyclo_points::order::Order;
 use rule_model::edition::Edition;
 
-/// ζ is a tenth of a turn, and the factor is φ. The edge types are the long side a, of length φ, the
-/// short side b, of length 1, and the axes c of the kite, of length φ, and f of the dart, of length 1,
-/// along which halves are glued; each is followed by its mate.
+/// The rule. ζ is a tenth of a turn, and the factor is φ. The edge types, each followed by its mate:
+///
+/// - a: the long side, of length φ.
+/// - b: the short side, of length 1.
+/// - c: the axis of the kite, of length φ.
+/// - f: the axis of the dart, of length 1.
+///
+/// Halves are glued along c and f.
 pub(crate) const NUMBERS: RuleNumbers = RuleNumbers {
     edition: Edition::One,
     order: Order::Ten,
@@ -25,7 +29,7 @@ pub(crate) const NUMBERS: RuleNumbers = RuleNumbers {
         edge_type!(6, [4]),
     ],
     kinds: &[
-        // A half of the kite: a, b, and the mate of c. Its vertices are 0, φ and φ ζ.
+        // Half of the kite, with edges a, b and the mate of c. Its vertices are 0, φ and φ ζ.
         KindNumbers {
             vertices: &[point!(0, 0, 0, 0), point!(1, 0, 1, -1), point!(1, 0, 1, 0)],
             edges: &[0, 2, 5],
@@ -65,7 +69,7 @@ pub(crate) const NUMBERS: RuleNumbers = RuleNumbers {
                 &[part!(1, 0), part!(0, 0)],
             ],
         },
-        // A half of the dart: b, a, and the mate of f. Its vertices are 0, 1 and ζ³.
+        // Half of the dart, with edges b, a and the mate of f. Its vertices are 0, 1 and ζ³.
         KindNumbers {
             vertices: &[point!(0, 0, 0, 0), point!(1, 0, 0, 0), point!(0, 0, 0, 1)],
             edges: &[2, 0, 7],

@@ -1,14 +1,18 @@
-//! Penrose's rhombs, each cut into two halves: the thin one along its short diagonal, the thick one along
-//! its long diagonal. The halves are the triangles that are known as Robinson's.
+//! Penrose's rhombs, each cut into two halves: the thin one along its short diagonal, the thick one along its
+//! long diagonal. The halves are Robinson's triangles.
 use crate::kind_numbers::KindNumbers;
 use crate::notation::{child, edge_type, inner, outer, part, point};
 use crate::rule_numbers::RuleNumbers;
 use cyclo_points::order::Order;
 use rule_model::edition::Edition;
 
-/// ζ is a tenth of a turn, and the factor is φ. The edge types are u and v, sides of length 1, and the
-/// diagonals w, of length 1/φ, and x, of length φ, along which halves are glued; each is followed by its
-/// mate.
+/// The rule. ζ is a tenth of a turn, and the factor is φ. The edge types, each followed by its mate:
+///
+/// - u and v: sides, of length 1.
+/// - w: the short diagonal of the thin rhomb, of length 1/φ.
+/// - x: the long diagonal of the thick rhomb, of length φ.
+///
+/// Halves are glued along w and x.
 pub(crate) const NUMBERS: RuleNumbers = RuleNumbers {
     edition: Edition::One,
     order: Order::Ten,
@@ -25,7 +29,7 @@ pub(crate) const NUMBERS: RuleNumbers = RuleNumbers {
         edge_type!(6, [0, 6]),
     ],
     kinds: &[
-        // A half of the thin rhomb: u, w, and the mate of v.
+        // Half of the thin rhomb, with edges u, w and the mate of v.
         KindNumbers {
             vertices: &[point!(0, 0, 0, 0), point!(1, 0, 0, 0), point!(0, 1, 0, 0)],
             edges: &[0, 4, 3],
@@ -53,7 +57,7 @@ pub(crate) const NUMBERS: RuleNumbers = RuleNumbers {
             ],
             parts: &[&[part!(1, 1)], &[part!(0, 0)], &[part!(0, 1), part!(1, 0)]],
         },
-        // A half of the thick rhomb: the mate of u, x, and the mate of v.
+        // Half of the thick rhomb, with edges the mate of u, x, and the mate of v.
         KindNumbers {
             vertices: &[point!(0, 0, 0, 0), point!(1, 0, 0, 0), point!(0, 0, 0, 1)],
             edges: &[1, 6, 3],

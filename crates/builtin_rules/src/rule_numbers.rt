@@ -4,8 +4,8 @@ use cyclo_points::order::Order;
 use cyclo_points::point::Point;
 use rule_model::edition::Edition;
 
-/// The numbers of a rule: its edition, its order, its inflation factor, the edge types along which halves
-/// are glued, its edge types and its kinds.
+/// The numbers of a rule: its edition, its order, its inflation factor, its glue types, its edge types and
+/// its kinds. Halves of tiles are glued along edges of glue types.
 #[derive(Clone, Copy)]
 pub struct RuleNumbers<
     Glue = &'static [u8],

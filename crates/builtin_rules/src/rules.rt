@@ -1,4 +1,4 @@
-//! Rules made from their numbers.
+//! Makes rules from their numbers. Each call fails only if memory runs out.
 ghost use Rattle.std.specs.Prelude.{◌≡◌, map, IfOk};
 ghost use Rattle.rule_model.specs.Views.{as_type, as_kind};
 ghost use Rattle.builtin_rules.specs.Named.{IsWritten};
@@ -14,7 +14,7 @@ use rule_model::type_row::TypeRow;
 use std::alloc::Global;
 use tile_shape::no_memory::NoMemory;
 
-/// An edge type.
+/// Makes an edge type.
 fn type_row(alloc: Global, numbers: &TypeNumbers) -> Result<TypeRow, NoMemory>
     ensures { IfOk result (λ row. as_type row ≡ written_type (fixed_type numbers.now)) }
 {
@@ -24,18 +24,18 @@ fn type_row(alloc: Global, numbers: &TypeNumbers) -> Result<TypeRow, NoMemory>
     })
 }
 
-/// The edge types.
+/// Makes the edge types.
 fn type_rows(alloc: Global, types: &[TypeNumbers]) -> Result<Vec<TypeRow>, NoMemory>
     ensures { IfOk result (λ rows. map as_type rows.items ≡ map written_type (map fixed_type types.now)) }
 {
-    let mut rows = Vec::new(alloc);
+    let mut rows = Vec::with_capacity(alloc, types.len())?;
     for edge_type in types {
         rows.push(type_row(alloc, edge_type)?)?;
     }
     Ok(rows)
 }
 
-/// A kind.
+/// Makes a kind.
 fn kind_row(alloc: Global, numbers: &KindNumbers) -> Result<KindRow, NoMemory>
     ensures { IfOk result (λ row. as_kind row ≡ written_kind (fixed_kind numbers.now)) }
 {
@@ -46,18 +46,18 @@ fn kind_row(alloc: Global, numbers: &KindNumbers) -> Result<KindRow, NoMemory>
     })
 }
 
-/// The kinds.
+/// Makes the kinds.
 fn kind_rows(alloc: Global, kinds: &[KindNumbers]) -> Result<Vec<KindRow>, NoMemory>
     ensures { IfOk result (λ rows. map as_kind rows.items ≡ map written_kind (map fixed_kind kinds.now)) }
 {
-    let mut rows = Vec::new(alloc);
+    let mut rows = Vec::with_capacity(alloc, kinds.len())?;
     for kind in kinds {
         rows.push(kind_row(alloc, kind)?)?;
     }
     Ok(rows)
 }
 
-/// The rule of these numbers.
+/// Makes the rule with these numbers.
 pub(crate) fn rule_from(alloc: Global, numbers: &RuleNumbers) -> Result<Rule, NoMemory>
     ensures { IfOk result (IsWritten (written (fixed_rule numbers.now))) }
 {

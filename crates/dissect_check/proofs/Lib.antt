@@ -19,3 +19,4 @@ pub mod Chains
 pub mod NoFault
 pub mod ListedChildren
 pub mod RowOfKind
+pub mod Parents

@@ -1,5 +1,5 @@
 -- What the program keeps of an inflated prototile stands for that of the theory.
-use Rattle.std.specs.Prelude.{◌≡◌, ℕ, ◌^◌, ◌<◌, map, length, All}
+use Rattle.std.specs.Prelude.{◌≡◌, ℕ, ◌^◌, ◌<◌, List, map, length, get_or, All}
 use Rattle.edge_to_edge.specs.Edges as theory
 use Rattle.edge_to_edge.specs.Edges.{child_edges, inflated_edges}
 use Rattle.edge_to_edge.specs.Lying as theory_lying
@@ -45,3 +45,8 @@ pub record IsInflated (r : Rule) (k : ℕ) (i : Inflated) : Type 0 where
   pub edges : map (edge_in r.order) i.edges.items ≡ child_edges (points_of r.order) (rule_of r) k
   pub edges_fit : All (IsFit r) i.edges.items
   pub lies : map as_lie i.lies.items ≡ map (lie_of (points_of r.order) (rule_of r) k) (child_edges (points_of r.order) (rule_of r) k)
+
+-- these are the inflated prototiles of the first n kinds
+pub record AreInflated (r : Rule) (n : ℕ) (parents : List Inflated) : Type 0 where
+  pub count : length parents ≡ n
+  pub each : (k : ℕ) (d : Inflated) → k < n → IsInflated r k (get_or parents k d)

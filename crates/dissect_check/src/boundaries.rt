@@ -9,14 +9,13 @@ ghost use Rattle.rule_model.specs.Usable.{IsUsable};
 ghost use Rattle.rule_model.specs.Views.{as_rule, rule_of};
 ghost use Rattle.dissect_check.specs.Agrees.{Agrees};
 ghost use Rattle.dissect_check.specs.FirstFault.{boundary_of_kind, boundaries};
-ghost use Rattle.dissect_check.specs.Views.{IsInflated};
+ghost use Rattle.dissect_check.specs.Views.{IsInflated, AreInflated};
 ghost use Rattle.dissect_check.specs.Parts.{AreParts};
 
 use crate::boundary::parts_of_edge;
 use crate::check_fault::CheckFault;
 use crate::contacts::rows_of_kind;
 use crate::inflated::Inflated;
-use crate::inflation::inflated;
 use edge_tables::child_edge::ChildEdge;
 use edge_tables::kind_rows::KindRows;
 use rule_model::rule::Rule;
@@ -35,7 +34,7 @@ fn parts_of_kind(
     ensures fault { Agrees result (boundary_of_kind rule.now.order (as_rule rule.now) kind) }
     ensures parts { IfOk result (λ parts. AreParts rule.now kind parts.items) }
 {
-    let mut parts = Vec::new(alloc);
+    let mut parts = Vec::with_capacity(alloc, rule.edge_count(kind))?;
     for edge in 0..rule.edge_count(kind) {
         parts.push(parts_of_edge(alloc, rule, parent, kind, edge)?)?;
     }
@@ -43,29 +42,39 @@ fn parts_of_kind(
 }
 
 /// The contact tables of a kind, or its first part that fails.
-fn tables_of_kind(alloc: Global, rule: &Rule, kind: usize) -> Result<KindRows, CheckFault>
+fn tables_of_kind(
+    alloc: Global,
+    rule: &Rule,
+    parent: &Inflated,
+    kind: usize,
+) -> Result<KindRows, CheckFault>
     requires usable { IsUsable rule.now }
     requires kind_exists { kind < length (rule_of rule.now).kinds }
+    requires inflated { IsInflated rule.now kind parent.now }
     ensures fault { Agrees result (boundary_of_kind rule.now.order (as_rule rule.now) kind) }
     ensures tables { IfOk result (λ rows. as_kind_tables rows
         ≡ tables_of_kind (points_of rule.now.order) (rule_of rule.now) kind) }
 {
-    let parent = inflated(alloc, rule, kind)?;
-    let parts = parts_of_kind(alloc, rule, &parent, kind)?;
-    Ok(rows_of_kind(alloc, rule, &parent, kind, parts)?)
+    let parts = parts_of_kind(alloc, rule, parent, kind)?;
+    Ok(rows_of_kind(alloc, rule, parent, kind, parts)?)
 }
 
-/// The contact tables of each kind, or the first part that fails, kind by kind.
-pub(crate) fn boundaries(alloc: Global, rule: &Rule) -> Result<Vec<KindRows>, CheckFault>
+/// The contact tables of each kind, from the inflated prototiles, or the first part that fails, kind by kind.
+pub(crate) fn boundaries(
+    alloc: Global,
+    rule: &Rule,
+    parents: &[Inflated],
+) -> Result<Vec<KindRows>, CheckFault>
     requires usable { IsUsable rule.now }
+    requires inflated { AreInflated rule.now (length (rule_of rule.now).kinds) parents.now }
     ensures fault { Agrees result (boundaries rule.now.order (as_rule rule.now)) }
     ensures tables { IfOk result (λ rows. map as_kind_tables rows.items
         ≡ below (tables_of_kind (points_of rule.now.order) (rule_of rule.now))
         (length (rule_of rule.now).kinds)) }
 {
-    let mut rows = Vec::new(alloc);
+    let mut rows = Vec::with_capacity(alloc, rule.kind_count())?;
     for kind in 0..rule.kind_count() {
-        rows.push(tables_of_kind(alloc, rule, kind)?)?;
+        rows.push(tables_of_kind(alloc, rule, &parents[kind], kind)?)?;
     }
     Ok(rows)
 }

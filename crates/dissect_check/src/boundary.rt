@@ -93,7 +93,7 @@ fn parts_among(
         (line_in rule.now.order whole.now) (parts (rule_of rule.now) ty))) }
     ensures few { IfOk result (λ found. IfOk found (λ names. length names.items ≤ 8)) }
 {
-    let mut names = Vec::new(alloc);
+    let mut names = Vec::with_capacity(alloc, rule.part_count(ty))?;
     let mut from = whole.from;
     for part in 0..rule.part_count(ty) {
         let Few::One(next) = edges_from(edges, &from) else {

@@ -22,8 +22,8 @@ use rule_model::checked::Checked;
 use rule_model::rule::Rule;
 use std::alloc::Global;
 
-/// The contact tables of each kind, where no clause on children and none behind them fails. An inflated
-/// prototile is made twice, since every loose edge of every kind is a fault before any boundary.
+/// The contact tables of each kind, where no clause on children and none behind them fails. All inflated
+/// prototiles are kept, since every loose edge of every kind is a fault before any boundary.
 fn tables_of_kinds(alloc: Global, rule: &Rule) -> Result<Vec<KindRows>, CheckFault>
     requires usable { IsUsable rule.now }
     ensures fault { let o = rule.now.order in let l = as_rule rule.now in
@@ -31,8 +31,8 @@ fn tables_of_kinds(alloc: Global, rule: &Rule) -> Result<Vec<KindRows>, CheckFau
     ensures tables { IfOk result (λ rows. map as_kind_tables rows.items
         ≡ below (tables_of_kind (points_of rule.now.order) (rule_of rule.now)) (length (rule_of rule.now).kinds)) }
 {
-    loose_edges(alloc, rule)?;
-    let rows = boundaries(alloc, rule)?;
+    let parents = loose_edges(alloc, rule)?;
+    let rows = boundaries(alloc, rule, parents.as_slice())?;
     behind_children(rule)?;
     Ok(rows)
 }
@@ -50,16 +50,19 @@ fn checked(alloc: Global, rule: Rule) -> Result<Checked, CheckFault>
     Ok(Checked::admit(rule, tables, uses))
 }
 
-/// The law that a rule is accepted exactly where its check finds no fault.
+/// States that a rule is accepted if and only if its check finds no fault.
 pub fn acceptance_law(rule: &Rule)
     ensures { (first_fault rule.now ≡ None) ↔ IsAccepted rule.now }
 {}
 
-/// Checks a rule, which has any numbers: it is accepted exactly where the ten clauses hold, and is then
-/// answered with its contact tables and its uses. Otherwise the answer is the fault of the first
-/// clause that fails, at its first place: the limits in the order of their list, and else the least
-/// kind, child, edge, part or type. The rule is dropped on a refusal. Want of memory may come at any
-/// point.
+/// Checks a rule, which may have any numbers. It returns the rule as an accepted one, with its contact tables
+/// and its uses, if and only if the ten clauses hold, unless memory runs out.
+///
+/// # Errors
+///
+/// The fault of the first clause that fails, at its first place: the limits in the order of their list,
+/// otherwise the least kind, child, edge, part or type. The rule is dropped. `NoMemory` if memory ran out, at
+/// any point.
 pub fn check(alloc: Global, rule: Rule) -> Result<Checked, CheckFault>
     ensures rule_given { IfOk result (λ checked. checked ≡ rule) }
     ensures accepted { IfOk result (λ _. IsAccepted rule) }

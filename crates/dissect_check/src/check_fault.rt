@@ -3,30 +3,31 @@ use std::alloc::{AllocError, AllocFailed};
 use std::fmt;
 use tile_shape::no_memory::NoMemory;
 
-/// Why a rule is refused: the first clause that fails, at its first place.
+/// Why a rule is refused: the first clause that fails, at its first place. Kinds, types, children, edges and
+/// parts are counted from 0.
 #[derive(Clone, Copy, Debug, PartialEq, Eq)]
 pub enum CheckFault {
-    /// A count or a number passes a limit.
+    /// A count or a number is beyond a limit.
     TooMany { what: What },
-    /// The prototile isn't star-shaped from its vertex 0.
+    /// The prototile is not star-shaped as seen from its vertex 0.
     NotStar { kind: u8 },
-    /// The rule's edition doesn't take the inflation factor, or its powers grow too slowly.
+    /// The rule's edition does not take the inflation factor, or its powers grow too slowly.
     WrongFactor,
-    /// The mate's mate isn't the type.
+    /// The mate of the type's mate is another type.
     BadMate { ty: u8 },
-    /// The edge isn't as long as the first edge of its type or its mate.
+    /// The edge is not as long as the first edge of its type or of its mate.
     BadLength { kind: u8, edge: u8 },
-    /// The mate's subdivision isn't the type's mirrored.
+    /// The mate's subdivision is not the type's, mirrored.
     BadSubdivision { ty: u8 },
-    /// The child edge neither meets another one of the mate type nor lies on the boundary.
+    /// The child edge neither meets exactly one other edge, of the mate type, nor lies on the boundary.
     ChildEdgeLoose { kind: u8, child: u8, edge: u8 },
-    /// The boundary child edges of the inflated edge aren't its parts, from this part on.
+    /// The boundary child edges of the inflated edge are not its parts, from this part on.
     BoundaryWrong { kind: u8, edge: u8, part: u8 },
-    /// No child is of the kind.
+    /// No child is of this kind.
     Unused { kind: u8 },
-    /// The glue type doesn't glue two halves.
+    /// The glue type does not glue two halves.
     GlueWrong { ty: u8 },
-    /// There was no memory for the check.
+    /// Memory ran out.
     NoMemory,
 }
 

@@ -99,7 +99,8 @@ pub(crate) fn child_edges(
         ≡ child_edges (points_of rule.now.order) (rule_of rule.now) kind) }
     ensures fit { IfOk result (λ v. All (IsFit rule.now) v.items) }
 {
-    let mut edges = Vec::new(alloc);
+    // Most prototiles have three or four edges.
+    let mut edges = Vec::with_capacity(alloc, 4 * rule.child_count(kind))?;
     for child in 0..rule.child_count(kind) {
         add_child(rule, kind, child, &mut edges)?;
     }

@@ -14,7 +14,7 @@ use tile_shape::uses::Uses;
 fn child_kinds(alloc: Global, rule: &Rule) -> Result<Vec<Vec<u8>>, NoMemory>
     ensures { IfOk result (λ lists. map (λ list. list.items) lists.items ≡ children (tiling_of rule.now)) }
 {
-    let mut lists = Vec::new(alloc);
+    let mut lists = Vec::with_capacity(alloc, rule.kinds.len())?;
     for row in &rule.kinds {
         lists.push(row.children.iter().map(|child| child.kind).collect(alloc)?)?;
     }
@@ -28,5 +28,5 @@ pub(crate) fn uses_of_kinds(alloc: Global, rule: &Rule) -> Result<Uses, NoMemory
     ensures { IfOk result (λ uses. uses ≡ children (tiling_of rule.now)) }
 {
     let kinds = child_kinds(alloc, rule)?;
-    Uses::new(alloc, &kinds)
+    Ok(Uses::of(kinds))
 }

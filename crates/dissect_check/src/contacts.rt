@@ -92,7 +92,7 @@ fn contacts_of_kind(
         ≡ below (contacts_of_child (points_of rule.now.order) (rule_of rule.now) kind)
         (length (children_of (rule_of rule.now) kind))) }
 {
-    let mut lists = Vec::new(alloc);
+    let mut lists = Vec::with_capacity(alloc, rule.child_count(kind))?;
     for child in 0..rule.child_count(kind) {
         lists.push(contacts_of_child(alloc, inflated, parts, child)?)?;
     }

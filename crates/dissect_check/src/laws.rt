@@ -14,15 +14,15 @@ ghost use Rattle.rule_model.specs.Small.{is_small};
 ghost use Rattle.rule_model.specs.Views.{as_edition};
 ghost use Rattle.dissect_check.specs.FirstFault.{fault_of_lists};
 
-/// The law that the check finds no fault of an edition, an order and lists exactly where all ten clauses
-/// hold of them: the limits of counts and numbers, and the nine that make its children fit edge to edge.
+/// States that the check finds no fault of an edition, an order and lists if and only if all ten clauses
+/// hold: the limits of counts and numbers, and the nine by which the children fit edge to edge.
 pub fn clauses_law()
     ensures { (edition : Edition) (o : Order) (l : Rule Point) → (fault_of_lists edition o l ≡ None)
         ↔ (WithinLimits (points_of o).order (is_small o) l
         × IsEdgeToEdge (points_of o) (as_edition edition) (is_refused o) (map_rule (point_in o) l)) }
 {}
 
-/// The law that the child kinds of lists that no clause refuses are usable for addresses.
+/// States that the child kinds of lists that no clause refuses are usable for addresses.
 pub fn accepted_children_law()
     ensures { (edition : Edition) (o : Order) (l : Rule Point) → fault_of_lists edition o l ≡ None
         → AreUsable (child_kinds (map_rule (point_in o) l)) }

@@ -1,22 +1,25 @@
-//! The clause that no child edge is loose.
+//! The clause that no child edge is loose, and the inflated prototiles of which it speaks.
 
-ghost use Rattle.std.specs.Prelude.{◌≡◌, ◌<◌, length};
+ghost use Rattle.std.specs.Prelude.{◌≡◌, ◌<◌, length, IfOk};
 ghost use Rattle.rule_model.specs.Usable.{IsUsable};
 ghost use Rattle.rule_model.specs.Views.{as_rule, rule_of};
 ghost use Rattle.dissect_check.specs.FirstFault.{loose_of_kind, loose_edges};
 ghost use Rattle.dissect_check.specs.Agrees.{Agrees};
+ghost use Rattle.dissect_check.specs.Views.{IsInflated, AreInflated};
 
 use crate::check_fault::CheckFault;
+use crate::inflated::Inflated;
 use crate::inflation::inflated;
 use crate::lie::Lie;
 use rule_model::rule::Rule;
 use std::alloc::Global;
 
-/// Refuses the first loose child edge of a kind.
-fn loose_of_kind(alloc: Global, rule: &Rule, kind: usize) -> Result<(), CheckFault>
+/// The inflated prototile of a kind, or its first loose child edge.
+fn loose_of_kind(alloc: Global, rule: &Rule, kind: usize) -> Result<Inflated, CheckFault>
     requires usable { IsUsable rule.now }
     requires kind_in { kind < length (rule_of rule.now).kinds }
-    ensures { Agrees result (loose_of_kind rule.now.order (as_rule rule.now) kind) }
+    ensures fault { Agrees result (loose_of_kind rule.now.order (as_rule rule.now) kind) }
+    ensures inflated { IfOk result (λ parent. IsInflated rule.now kind parent) }
 {
     let parent = inflated(alloc, rule, kind)?;
     for i in 0..parent.edges.len() {
@@ -29,16 +32,18 @@ fn loose_of_kind(alloc: Global, rule: &Rule, kind: usize) -> Result<(), CheckFau
             });
         }
     }
-    Ok(())
+    Ok(parent)
 }
 
-/// Refuses the first loose child edge, kind by kind.
-pub(crate) fn loose_edges(alloc: Global, rule: &Rule) -> Result<(), CheckFault>
+/// The inflated prototiles of all kinds, or the first loose child edge, kind by kind.
+pub(crate) fn loose_edges(alloc: Global, rule: &Rule) -> Result<Vec<Inflated>, CheckFault>
     requires usable { IsUsable rule.now }
-    ensures { Agrees result (loose_edges rule.now.order (as_rule rule.now)) }
+    ensures fault { Agrees result (loose_edges rule.now.order (as_rule rule.now)) }
+    ensures inflated { IfOk result (λ parents. AreInflated rule.now (length (rule_of rule.now).kinds) parents.items) }
 {
+    let mut parents = Vec::with_capacity(alloc, rule.kind_count())?;
     for kind in 0..rule.kind_count() {
-        loose_of_kind(alloc, rule, kind)?;
+        parents.push(loose_of_kind(alloc, rule, kind)?)?;
     }
-    Ok(())
+    Ok(parents)
 }

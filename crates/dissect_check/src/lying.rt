@@ -126,7 +126,7 @@ pub(crate) fn all_lies(
         map as_lie v.items ≡ map (lie_among (points_of rule.now.order) (rule_of rule.now) placed
         (map (line_in rule.now.order) wholes.now)) placed) }
 {
-    let mut lies = Vec::new(alloc);
+    let mut lies = Vec::with_capacity(alloc, edges.len())?;
     for s in edges {
         lies.push(lie_among(rule, edges, wholes, s))?;
     }

@@ -19,7 +19,7 @@ fn mates_of_types(alloc: Global, rule: &Rule) -> Result<Vec<u8>, NoMemory>
     ensures { IfOk result (λ mates. mates.items
         ≡ map (λ (t : EdgeType). t.mate) (rule_of rule.now).types) }
 {
-    let mut mates = Vec::new(alloc);
+    let mut mates = Vec::with_capacity(alloc, rule.types.len())?;
     for row in &rule.types {
         mates.push(row.mate)?;
     }
@@ -31,7 +31,7 @@ fn parts_of_types(alloc: Global, rule: &Rule) -> Result<Vec<Vec<u8>>, NoMemory>
     ensures { IfOk result (λ subdivisions. map (λ parts. parts.items) subdivisions.items
         ≡ map (λ (t : EdgeType). t.parts) (rule_of rule.now).types) }
 {
-    let mut subdivisions = Vec::new(alloc);
+    let mut subdivisions = Vec::with_capacity(alloc, rule.types.len())?;
     for row in &rule.types {
         let mut parts = Vec::new(alloc);
         parts.extend_from_slice(&row.parts)?;

@@ -67,7 +67,7 @@ pub(crate) fn inflated_edges(alloc: Global, rule: &Rule, kind: usize) -> Result<
         ≡ inflated_edges (points_of rule.now.order) (rule_of rule.now) kind) }
     ensures small { IfOk result (λ v. All (IsSmallLine rule.now.order) v.items) }
 {
-    let mut lines = Vec::new(alloc);
+    let mut lines = Vec::with_capacity(alloc, rule.edge_count(kind))?;
     for edge in 0..rule.edge_count(kind) {
         lines.push(inflated_edge(rule, kind, edge))?;
     }

@@ -20,8 +20,8 @@ use edge_tables::tables::Tables;
 use std::marker::Model;
 use tile_shape::uses::Uses;
 
-/// A rule for which the ten clauses hold, with its contact tables and its uses. Contracts see it as the
-/// rule, which determines both.
+/// An accepted rule, with its contact tables and its uses. Contracts see it as the rule, which determines
+/// both.
 #[derive(Drop)]
 pub struct Checked {
     rule: Rule,
@@ -41,7 +41,7 @@ impl Model for Checked {
 }
 
 impl Checked {
-    /// The rule, which is accepted, with the contact tables that its geometry gives and with its uses.
+    /// Makes the value from an accepted rule, the contact tables that its geometry gives, and its uses.
     pub fn admit(rule: Rule, tables: Tables, uses: Uses) -> Checked
         requires accepted { IsAccepted rule }
         requires its_tables { tables ≡ contacts (tiling_of rule) }
@@ -51,7 +51,7 @@ impl Checked {
         Checked { rule, tables, uses }
     }
 
-    /// The rule. All ten clauses hold, so its numbers may be read.
+    /// Returns the rule. All ten clauses hold, so its numbers may be read.
     pub fn rule(&self) -> &Rule
         ensures rule { result.now ≡ self.now }
         ensures accepted { IsAccepted self.now }
@@ -61,7 +61,7 @@ impl Checked {
         &self.rule
     }
 
-    /// Its order.
+    /// Returns the order: ζ turns by one n-th of a full turn.
     pub fn order(&self) -> Order
         ensures order { result ≡ self.now.order }
         ensures accepted { IsAccepted self.now }
@@ -69,7 +69,7 @@ impl Checked {
         self.rule.order
     }
 
-    /// Its inflation factor.
+    /// Returns the inflation factor, with coefficients of at most 64 in absolute value.
     pub fn factor(&self) -> Point
         ensures factor { result ≡ self.now.factor }
         ensures small { IsSmall self.now.order result }
@@ -77,7 +77,7 @@ impl Checked {
         self.rule().factor
     }
 
-    /// Its contact tables, which have its child kinds.
+    /// Returns the contact tables. Their child kinds are those of the uses.
     pub fn tables(&self) -> &Tables
         ensures contacts { result.now ≡ contacts (tiling_of self.now) }
         ensures same_uses { child_kinds (contacts (tiling_of self.now)) ≡ children (tiling_of self.now) }
@@ -85,14 +85,14 @@ impl Checked {
         &self.tables
     }
 
-    /// Its uses.
+    /// Returns the uses: which child of which parent each kind may be.
     pub fn uses(&self) -> &Uses
         ensures { result.now ≡ children (tiling_of self.now) }
     {
         &self.uses
     }
 
-    /// The vertices of a kind's prototile, as many as edges.
+    /// Returns the vertices of a kind's prototile, counterclockwise. There are as many as edges.
     pub fn vertices(&self, kind: u8) -> &[Point]
         requires exists { kind < length (rule_of self.now).kinds }
         ensures lists { result.now ≡ vertices_of (as_rule self.now) kind }
@@ -103,7 +103,7 @@ impl Checked {
         self.rule().vertices(usize::from(kind))
     }
 
-    /// A child of a kind.
+    /// Returns a child of a kind. Its turn is below the order, and its kind exists.
     pub fn child(&self, kind: u8, child: u8) -> Child
         requires exists { kind < length (rule_of self.now).kinds }
         requires child_exists { child < length (children_of (rule_of self.now) kind) }
@@ -115,8 +115,8 @@ impl Checked {
         self.rule().tile(usize::from(kind), usize::from(child))
     }
 
-    /// The number of the edge along which a kind is glued to another: its only edge of a glue type or of
-    /// the mate of one.
+    /// Returns the number of the edge along which a kind is glued to another, or None if it has no such edge.
+    /// It is the kind's only edge with a glue type or the mate of one.
     pub fn glue_edge(&self, kind: u8) -> Option<u8>
         requires exists { kind < length (rule_of self.now).kinds }
         ensures none { (result ≡ None) ↔ ((e : ℕ) → ¬ IsGlueEdge (rule_of self.now) kind e) }

@@ -1,6 +1,6 @@
 use cyclo_points::point::Point;
 
-/// A child of a kind: the prototile of a kind, turned by ζ^turn and shifted into the parent's
+/// A child of a kind: the prototile of `kind`, turned by ζ^turn, then shifted by `shift` into the parent's
 /// inflated prototile.
 #[derive(Clone, Copy, Debug, Default, PartialEq, Eq)]
 pub struct Child {

@@ -1,4 +1,4 @@
-//! The edges along which halves of a tile are glued.
+//! The edges along which the halves of a tile are glued.
 ghost use Rattle.std.specs.Prelude.{◌≡◌, ◌↔◌, ℕ, ◌<◌, length, None, IfSome};
 ghost use Rattle.rule_model.specs.Glue.{is_glued, IsGlueEdge};
 ghost use Rattle.rule_model.specs.Usable.{IsUsable};
@@ -7,7 +7,7 @@ ghost use Rattle.rule_model.specs.Views.{rule_of};
 use crate::rule::Rule;
 
 impl Rule {
-    /// Whether a type is a glue type or the mate of one.
+    /// Returns true if a type is a glue type or the mate of one.
     fn is_glued(&self, ty: usize) -> bool
         requires { IsUsable self.now }
         ensures { result ≡ is_glued (rule_of self.now) ty }
@@ -21,7 +21,8 @@ impl Rule {
         false
     }
 
-    /// The first edge of a kind whose type is a glue type or the mate of one.
+    /// Returns the first edge of a kind whose type is a glue type or the mate of one, or None if there is no
+    /// such edge.
     pub fn first_glue_edge(&self, kind: usize) -> Option<u8>
         requires usable { IsUsable self.now }
         requires exists { kind < length (rule_of self.now).kinds }

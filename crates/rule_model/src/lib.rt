@@ -1,9 +1,13 @@
-//! Substitution rules as values, and rules that are known to be dissections.
+//! Substitution rules as values, and accepted rules.
 //!
-//! A rule in the sense of Grünbaum and Shephard inflates each prototile and cuts the result into
-//! prototiles; `Rule` has its numbers, which are read by their places. `Checked` holds a rule for which
-//! the ten clauses of acceptance hold, together with the contact tables that its geometry gives and
-//! with its uses: whoever has one may rely on all of them. Nothing here takes memory or refuses.
+//! A rule in the sense of Grünbaum and Shephard (Tilings and Patterns, chapter 10) inflates each prototile
+//! and cuts the result into prototiles. [`Rule`](rule::Rule) holds the numbers of a rule.
+//!
+//! [`Checked`](checked::Checked) holds an accepted rule: one for which the ten clauses of acceptance hold. It
+//! also has the contact tables that the rule's geometry gives, and its uses. Anyone who has one may rely on
+//! all of these.
+//!
+//! Nothing here needs memory, and nothing is refused.
 #![tactic(auto)]
 
 pub mod checked;
@@ -11,6 +15,7 @@ pub mod child;
 pub mod edition;
 pub mod glued;
 pub mod kind_row;
+pub mod placing;
 pub mod rule;
 pub mod rule_parts;
 pub mod small;

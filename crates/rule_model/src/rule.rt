@@ -4,11 +4,11 @@ use crate::type_row::TypeRow;
 use cyclo_points::order::Order;
 use cyclo_points::point::Point;
 
-/// A substitution rule: its order, its inflation factor, the edge types along which halves of a tile
-/// are glued, its edge types and its kinds, each named by its number from 0.
+/// A substitution rule: its order, its inflation factor, its glue types, its edge types and its kinds. A glue
+/// type is an edge type along which halves of a tile are glued. Types and kinds are numbered from 0.
 #[derive(Debug, Drop)]
 pub struct Rule {
-    /// Which inflation factors it may have.
+    /// Decides which inflation factors the rule may have.
     pub edition: Edition,
     pub order: Order,
     pub factor: Point,

@@ -1,4 +1,5 @@
-//! The numbers of a rule by their places, as lists have them and over the numbers of each order.
+//! The numbers of a rule, one by one. Contracts see them as the lists have them, and as numbers of the ring
+//! of each order.
 ghost use Rattle.std.specs.Prelude.{◌≡◌, ◌<◌, length, map, get_or};
 ghost use Rattle.substitution.specs.Rule.{Child as TheChild, kind_of, children_of};
 ghost use Rattle.substitution.specs.RuleParts.{map_kind, mate, parts, vertices_of, edge_count, edge_type, vertex, child_of};
@@ -16,7 +17,7 @@ use crate::rule::Rule;
 use cyclo_points::point::Point;
 
 impl Rule {
-    /// How many edge types there are.
+    /// Returns the number of edge types.
     pub fn type_count(&self) -> usize
         ensures lists { result ≡ length (as_rule self.now).types }
         ensures numbers { (o : Order) → result ≡ length (rule_in o self.now).types }
@@ -24,7 +25,7 @@ impl Rule {
         self.types.len()
     }
 
-    /// How many kinds there are.
+    /// Returns the number of kinds.
     pub fn kind_count(&self) -> usize
         ensures lists { result ≡ length (as_rule self.now).kinds }
         ensures numbers { (o : Order) → result ≡ length (rule_in o self.now).kinds }
@@ -32,7 +33,7 @@ impl Rule {
         self.kinds.len()
     }
 
-    /// How many glue types there are.
+    /// Returns the number of glue types.
     pub fn glue_count(&self) -> usize
         ensures lists { result ≡ length (as_rule self.now).glue }
         ensures numbers { (o : Order) → result ≡ length (rule_in o self.now).glue }
@@ -40,7 +41,7 @@ impl Rule {
         self.glue.len()
     }
 
-    /// A glue type.
+    /// Returns glue type `i`, an edge type.
     pub fn glue_type(&self, i: usize) -> usize
         requires { i < length (as_rule self.now).glue }
         ensures lists { result ≡ glue_type (as_rule self.now) i }
@@ -49,7 +50,7 @@ impl Rule {
         usize::from(self.glue[i])
     }
 
-    /// The mate of a type.
+    /// Returns the mate of an edge type.
     pub fn mate(&self, ty: usize) -> usize
         requires { ty < length (as_rule self.now).types }
         ensures lists { result ≡ mate (as_rule self.now) ty }
@@ -58,7 +59,7 @@ impl Rule {
         usize::from(self.types[ty].mate)
     }
 
-    /// How many parts a type is cut into.
+    /// Returns the number of parts into which an edge type is cut.
     pub fn part_count(&self, ty: usize) -> usize
         requires { ty < length (as_rule self.now).types }
         ensures lists { result ≡ length (parts (as_rule self.now) ty) }
@@ -67,7 +68,7 @@ impl Rule {
         self.types[ty].parts.len()
     }
 
-    /// The type of a part of a type.
+    /// Returns the type of part `i` of an edge type.
     pub fn part(&self, ty: usize, i: usize) -> usize
         requires ty_in { ty < length (as_rule self.now).types }
         requires i_in { i < length (parts (as_rule self.now) ty) }
@@ -77,7 +78,7 @@ impl Rule {
         usize::from(self.types[ty].parts[i])
     }
 
-    /// The row of a kind, by the lists alone.
+    /// Returns the row of a kind, with a contract over the lists alone.
     fn listed_row(&self, kind: usize) -> &KindRow
         requires { kind < length (as_rule self.now).kinds }
         ensures { as_kind result.now ≡ kind_of (as_rule self.now) kind }
@@ -85,7 +86,7 @@ impl Rule {
         &self.kinds[kind]
     }
 
-    /// The row of a kind.
+    /// Returns the row of a kind.
     fn row(&self, kind: usize) -> &KindRow
         requires { kind < length (as_rule self.now).kinds }
         ensures lists { as_kind result.now ≡ kind_of (as_rule self.now) kind }
@@ -94,7 +95,7 @@ impl Rule {
         self.listed_row(kind)
     }
 
-    /// How many edges a kind has.
+    /// Returns the number of edges of a kind.
     pub fn edge_count(&self, kind: usize) -> usize
         requires { kind < length (as_rule self.now).kinds }
         ensures lists { result ≡ edge_count (as_rule self.now) kind }
@@ -103,7 +104,7 @@ impl Rule {
         self.row(kind).edges.len()
     }
 
-    /// The type of an edge of a kind.
+    /// Returns the type of an edge of a kind.
     pub fn edge_type(&self, kind: usize, edge: usize) -> usize
         requires kind_in { kind < length (as_rule self.now).kinds }
         requires edge_in { edge < edge_count (as_rule self.now) kind }
@@ -113,7 +114,7 @@ impl Rule {
         usize::from(self.row(kind).edges[edge])
     }
 
-    /// How many vertices a kind has.
+    /// Returns the number of vertices of a kind.
     pub fn vertex_count(&self, kind: usize) -> usize
         requires { kind < length (as_rule self.now).kinds }
         ensures lists { result ≡ length (vertices_of (as_rule self.now) kind) }
@@ -122,7 +123,7 @@ impl Rule {
         self.row(kind).vertices.len()
     }
 
-    /// The vertices of a kind.
+    /// Returns the vertices of a kind.
     pub fn vertices(&self, kind: usize) -> &[Point]
         requires { kind < length (as_rule self.now).kinds }
         ensures lists { result.now ≡ vertices_of (as_rule self.now) kind }
@@ -131,7 +132,7 @@ impl Rule {
         self.row(kind).vertices.as_slice()
     }
 
-    /// A vertex of a kind.
+    /// Returns vertex `i` of a kind.
     pub fn vertex(&self, kind: usize, i: usize) -> Point
         requires kind_in { kind < length (as_rule self.now).kinds }
         requires i_in { i < length (vertices_of (as_rule self.now) kind) }
@@ -142,7 +143,7 @@ impl Rule {
         self.row(kind).vertices[i]
     }
 
-    /// How many children a kind has.
+    /// Returns the number of children of a kind.
     pub fn child_count(&self, kind: usize) -> usize
         requires { kind < length (as_rule self.now).kinds }
         ensures lists { result ≡ length (children_of (as_rule self.now) kind) }
@@ -151,7 +152,7 @@ impl Rule {
         self.row(kind).children.len()
     }
 
-    /// A child of a kind, by the lists alone.
+    /// Returns child `i` of a kind, with a contract over the lists alone.
     fn listed_child(&self, kind: usize, i: usize) -> Child
         requires kind_in { kind < length (as_rule self.now).kinds }
         requires i_in { i < length (children_of (as_rule self.now) kind) }
@@ -160,7 +161,7 @@ impl Rule {
         self.row(kind).children[i]
     }
 
-    /// A child of a kind.
+    /// Returns child `i` of a kind.
     pub fn child(&self, kind: usize, i: usize) -> Child
         requires kind_in { kind < length (as_rule self.now).kinds }
         requires i_in { i < length (children_of (as_rule self.now) kind) }
@@ -171,7 +172,7 @@ impl Rule {
         self.listed_child(kind, i)
     }
 
-    /// A vertex of a kind, whose coefficients are small.
+    /// Returns vertex `i` of a kind of a usable rule, so its coefficients are at most 64 in absolute value.
     pub fn corner(&self, kind: usize, i: usize) -> Point
         requires usable { IsUsable self.now }
         requires kind_in { kind < length (rule_of self.now).kinds }
@@ -183,7 +184,8 @@ impl Rule {
         self.vertex(kind, i)
     }
 
-    /// A child of a kind, whose shift is small.
+    /// Returns child `i` of a kind of a usable rule. So the coefficients of its shift are at most 64 in
+    /// absolute value, its turn is below the order, and its kind exists.
     pub fn tile(&self, kind: usize, i: usize) -> Child
         requires usable { IsUsable self.now }
         requires kind_in { kind < length (rule_of self.now).kinds }

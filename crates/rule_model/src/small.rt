@@ -1,11 +1,11 @@
-//! Which points a rule may have.
+//! The points that a rule may have.
 ghost use Rattle.std.specs.Prelude.{◌≡◌};
 ghost use Rattle.rule_model.specs.Small.{is_above, is_of, is_small};
 
 use cyclo_points::order::Order;
 use cyclo_points::point::Point;
 
-/// Whether a coefficient is above n in absolute value.
+/// Returns true if a coefficient is above `n` in absolute value.
 fn is_above(n: u64, p: &Point) -> bool
     ensures { result ≡ is_above n p.now }
 {
@@ -15,7 +15,7 @@ fn is_above(n: u64, p: &Point) -> bool
         || p.c[3].unsigned_abs() > n
 }
 
-/// Whether the point is one of the order: in orders four and six the last two coefficients are 0.
+/// Returns true if the point is one of the order: in orders 4 and 6 the last two coefficients must be 0.
 fn is_of(order: Order, p: &Point) -> bool
     ensures { result ≡ is_of order p.now }
 {
@@ -25,7 +25,7 @@ fn is_of(order: Order, p: &Point) -> bool
     }
 }
 
-/// Whether it is a point of the order whose coefficients are at most 64 in absolute value.
+/// Returns true if the point is one of the order, and its coefficients are at most 64 in absolute value.
 pub fn is_small(order: Order, p: &Point) -> bool
     ensures { result ≡ is_small order p.now }
 {

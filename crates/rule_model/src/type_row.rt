@@ -1,5 +1,7 @@
-/// An edge type of a rule: its mate, the type of the same edge traversed backwards; and its
-/// subdivision, the types, in order, into which the inflated edge is cut.
+/// An edge type of a rule.
+///
+/// - `mate`: the type of the same edge in the opposite direction.
+/// - `parts`: the types, in order, into which the inflated edge is cut.
 #[derive(Debug, Drop)]
 pub struct TypeRow {
     pub mate: u8,

@@ -1,11 +1,11 @@
-//! Whether a table has a further key.
+//! Finds out if a table has a key that the format does not.
 ghost use Rattle.std.specs.Prelude.{◌≡◌, map};
 ghost use Rattle.toml.specs.View.{table_view};
 ghost use Rattle.rule_text.specs.Steps.{is_among, has_only};
 
 use toml::Table;
 
-/// Whether the key is one of the names.
+/// Returns true if the key is one of the names.
 fn is_among(names: &[&str], key: &str) -> bool
     ensures { result ≡ is_among (map (λ name. name.now) names.now) key.now }
 {
@@ -17,7 +17,7 @@ fn is_among(names: &[&str], key: &str) -> bool
     false
 }
 
-/// Whether each key of the table is one of the names.
+/// Returns true if each key of the table is one of the names.
 pub(crate) fn has_only(table: &Table, names: &[&str]) -> bool
     ensures { result ≡ has_only (map (λ name. name.now) names.now) (table_view table.now) }
 {

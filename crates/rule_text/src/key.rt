@@ -1,6 +1,6 @@
 use std::fmt;
 
-/// A key of a rule file; the keys of a type and of a kind with the number of their entry.
+/// A key of a rule file. The keys of a type or a kind have the number of its entry, from 0.
 #[derive(Clone, Copy, Debug, PartialEq, Eq)]
 pub enum Key {
     Format,

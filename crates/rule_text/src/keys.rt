@@ -1,4 +1,5 @@
-//! The value of each key: missing, of another form, out of range, or read.
+//! Reads the value of each key. A call that reads one returns `Missing`, `WrongType` or `OutOfRange`, with
+//! the key, if the value is missing, malformed or out of range. `NoMemory` means that memory ran out.
 ghost use Rattle.std.specs.Prelude.{◌≡◌, codes, map, option_map, Some};
 ghost use Rattle.toml.specs.Data.{as_integer, get_member};
 ghost use Rattle.toml.specs.View.{view, table_view};
@@ -18,17 +19,17 @@ use rule_model::edition::Edition;
 use std::alloc::Global;
 use toml::{Table, Value};
 
-/// How many edge types a file may name.
+/// The number of edge types that a file may name. They are numbered from 0 to 31.
 const TYPE_LIMIT: u8 = 32;
 
-/// The value at a name.
+/// Returns the value of the key with this name, if the table has it.
 fn value_named<'a>(table: &'a Table, name: &str) -> Option<&'a Value>
     ensures { option_map (λ v. view v.now) result ≡ get_member name.now (table_view table.now) }
 {
     table.get(name)
 }
 
-/// The edition that the format names.
+/// Reads `format`, and returns its edition.
 #[tactic(auto, unfolding(crate::specs::Steps::value_at))]
 pub(crate) fn format(table: &Table) -> Result<Edition, TextFault>
     ensures { ReadsAs (λ e. e) result (value_at Key.Format (codes "format") as_integer format_of (table_view table.now)) }
@@ -43,7 +44,7 @@ pub(crate) fn format(table: &Table) -> Result<Edition, TextFault>
     ranges::format_of(number).ok_or(TextFault::OutOfRange { key })
 }
 
-/// The order, which is one of the edition.
+/// Reads `order`, which must be an order of the edition.
 #[tactic(auto, unfolding(crate::specs::Steps::value_at))]
 pub(crate) fn order(table: &Table, edition: Edition) -> Result<Order, TextFault>
     ensures { ReadsAs (λ o. o) result (value_at Key.Order (codes "order") as_integer (order_of edition) (table_view table.now)) }
@@ -58,7 +59,7 @@ pub(crate) fn order(table: &Table, edition: Edition) -> Result<Order, TextFault>
     ranges::order_of(edition, number).ok_or(TextFault::OutOfRange { key })
 }
 
-/// The inflation factor.
+/// Reads `lambda`, the inflation factor: four coefficients.
 #[tactic(auto, unfolding(crate::specs::Steps::value_at))]
 pub(crate) fn lambda(alloc: Global, table: &Table, order: Order) -> Result<Point, TextFault>
     ensures { ReadsAs (λ p. p) result (value_at Key.Lambda (codes "lambda") (row 4) (point_of order) (table_view table.now)) }
@@ -73,7 +74,7 @@ pub(crate) fn lambda(alloc: Global, table: &Table, order: Order) -> Result<Point
     ranges::point_of(order, numbers.as_slice()).ok_or(TextFault::OutOfRange { key })
 }
 
-/// An edge type.
+/// Reads an edge type, from 0 to 31.
 #[tactic(auto, unfolding(crate::specs::Steps::value_at))]
 pub(crate) fn type_number(table: &Table, name: &str, key: Key) -> Result<u8, TextFault>
     ensures { ReadsAs (λ n. n) result (value_at key name.now as_integer (number_below 32) (table_view table.now)) }
@@ -87,7 +88,7 @@ pub(crate) fn type_number(table: &Table, name: &str, key: Key) -> Result<u8, Tex
     ranges::number_below(number, TYPE_LIMIT).ok_or(TextFault::OutOfRange { key })
 }
 
-/// A list of edge types.
+/// Reads a list of edge types, each from 0 to 31.
 #[tactic(auto, unfolding(crate::specs::Steps::value_at))]
 pub(crate) fn type_numbers(
     alloc: Global,
@@ -108,7 +109,7 @@ pub(crate) fn type_numbers(
     })
 }
 
-/// The vertices of a kind.
+/// Reads the vertices of a kind: rows of four coefficients.
 #[tactic(auto, unfolding(crate::specs::Steps::value_at))]
 pub(crate) fn vertices(
     alloc: Global,
@@ -127,7 +128,8 @@ pub(crate) fn vertices(
     ranges::points_of(alloc, order, rows.as_slice())?.ok_or(TextFault::OutOfRange { key })
 }
 
-/// The children of a kind.
+/// Reads the children of a kind: rows of six integers, the kind, the turn and the four coefficients of the
+/// shift.
 #[tactic(auto, unfolding(crate::specs::Steps::value_at))]
 pub(crate) fn children(
     alloc: Global,
@@ -146,7 +148,7 @@ pub(crate) fn children(
     ranges::children_of(alloc, order, rows.as_slice())?.ok_or(TextFault::OutOfRange { key })
 }
 
-/// The entries of an array of tables.
+/// Reads an array of tables, and returns its entries.
 #[tactic(auto, unfolding(crate::specs::Steps::value_at))]
 pub(crate) fn entries<'a>(
     alloc: Global,

@@ -1,9 +1,9 @@
-//! Laws of rule files: each function here does nothing, and its contract is the law.
+//! Laws of rule files. A law is a function that does nothing; its contract is the theorem.
 ghost use Rattle.std.specs.Prelude.{◌≡◌};
 ghost use Rattle.rule_text.specs.declared.reading.TheConstants.{LONGEST_FILE};
 ghost use Rattle.rule_text.specs.Limits.{longest_file};
 
-/// The longest rule file that the program takes is a mebibyte.
+/// The longest rule file that the program reads has a mebibyte: 1,048,576 bytes.
 pub fn longest_file_law()
     ensures { LONGEST_FILE ≡ longest_file }
 {}

@@ -1,9 +1,11 @@
-//! Rule files: substitution rules as TOML documents, both ways.
+//! Reads and writes rule files: substitution rules as TOML documents.
 //!
-//! What a document stands for is one total function: a rule, or the first fault in the order in which
-//! the keys are read. `read_rule` answers exactly that, unless memory is wanted. `write_rule` gives a
-//! text that stands for the rule it was given, so that the rule is read back from it. Counts of a rule,
-//! and whether its children dissect its inflated prototiles, are no matter of the text.
+//! A total function of the definitions gives what a file stands for: a rule, or the first fault in the order
+//! in which the keys are read. `read_rule` returns exactly that, unless memory runs out. `write_rule` writes
+//! a text that is read back as the rule it was given.
+//!
+//! The text does not decide how many kinds or types a rule may have, or whether its children dissect its
+//! inflated prototiles. The check of the rule decides that.
 #![tactic(auto)]
 
 mod forms;

@@ -1,6 +1,7 @@
 use std::fmt;
 
-/// A table of a rule file: the whole document, a type's entry, or a kind's entry.
+/// A table of a rule file: the whole document, the entry of a type, or the entry of a kind. Entries are
+/// numbered from 0.
 #[derive(Clone, Copy, Debug, PartialEq, Eq)]
 pub enum Place {
     Top,

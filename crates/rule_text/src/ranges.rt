@@ -1,4 +1,5 @@
-//! The ranges of numbers, and what numbers in range stand for.
+//! The ranges of numbers, and what a number within its range stands for. Each call returns None for a number
+//! out of range.
 ghost use Rattle.std.specs.Prelude.{◌≡◌, All, length, map, option_map, IfOk};
 ghost use Rattle.rule_model.specs.Views.{as_child};
 ghost use Rattle.rule_text.specs.Forms.{each};
@@ -12,7 +13,7 @@ use rule_model::small::is_small;
 use std::alloc::Global;
 use tile_shape::no_memory::NoMemory;
 
-/// The edition whose format has this number, 1 or 2.
+/// Returns the edition whose format has this number, 1 or 2.
 pub(crate) fn format_of(number: i64) -> Option<Edition>
     ensures { result ≡ format_of number }
 {
@@ -25,7 +26,7 @@ pub(crate) fn format_of(number: i64) -> Option<Edition>
     }
 }
 
-/// The order that a number names in the edition.
+/// Returns the order n of this number, if the edition has it.
 pub(crate) fn order_of(edition: Edition, number: i64) -> Option<Order>
     ensures { result ≡ order_of edition number }
 {
@@ -41,7 +42,7 @@ pub(crate) fn order_of(edition: Edition, number: i64) -> Option<Order>
     }
 }
 
-/// The order that a number names in both editions.
+/// Returns the order n of this number, if both editions have it.
 fn shared_order_of(number: i64) -> Option<Order>
     ensures { result ≡ shared_order_of number }
 {
@@ -56,7 +57,7 @@ fn shared_order_of(number: i64) -> Option<Order>
     }
 }
 
-/// The number, where it is from 0 to below the limit.
+/// Returns the number, if it is at least 0 and below the limit.
 pub(crate) fn number_below(number: i64, limit: u8) -> Option<u8>
     ensures { result ≡ number_below limit number }
 {
@@ -67,7 +68,7 @@ pub(crate) fn number_below(number: i64, limit: u8) -> Option<u8>
     }
 }
 
-/// The numbers, where each is from 0 to below the limit.
+/// Returns the numbers, if each is at least 0 and below the limit.
 pub(crate) fn numbers_below(
     alloc: Global,
     numbers: &[i64],
@@ -75,7 +76,7 @@ pub(crate) fn numbers_below(
 ) -> Result<Option<Vec<u8>>, NoMemory>
     ensures { IfOk result (λ found. option_map (λ v. v.items) found ≡ each (number_below limit) numbers.now) }
 {
-    let mut small = Vec::new(alloc);
+    let mut small = Vec::with_capacity(alloc, numbers.len())?;
     for number in numbers {
         let Some(found) = number_below(*number, limit) else {
             return Ok(None);
@@ -85,7 +86,7 @@ pub(crate) fn numbers_below(
     Ok(Some(small))
 }
 
-/// The point of the order with these coefficients, where each is in range.
+/// Returns the point of the order with these four coefficients, if each is in range.
 pub(crate) fn point_of(order: Order, numbers: &[i64]) -> Option<Point>
     requires { length numbers.now ≡ 4 }
     ensures { result ≡ point_of order numbers.now }
@@ -100,7 +101,7 @@ pub(crate) fn point_of(order: Order, numbers: &[i64]) -> Option<Point>
     }
 }
 
-/// The points of the order with these coefficients, where each is in range.
+/// Returns the points of the order with these rows of four coefficients, if each is in range.
 pub(crate) fn points_of(
     alloc: Global,
     order: Order,
@@ -109,7 +110,7 @@ pub(crate) fn points_of(
     requires { All (λ row. length row.items ≡ 4) rows.now }
     ensures { IfOk result (λ found. option_map (λ v. v.items) found ≡ each (λ row. point_of order row.items) rows.now) }
 {
-    let mut points = Vec::new(alloc);
+    let mut points = Vec::with_capacity(alloc, rows.len())?;
     for row in rows {
         let Some(point) = point_of(order, row.as_slice()) else {
             return Ok(None);
@@ -119,7 +120,8 @@ pub(crate) fn points_of(
     Ok(Some(points))
 }
 
-/// The child with these numbers, where each is in range.
+/// Returns the child with these six numbers, if each is in range: kind, turn, and the four coefficients of
+/// the shift.
 fn child_of(order: Order, numbers: &[i64]) -> Option<Child>
     requires { length numbers.now ≡ 6 }
     ensures { option_map as_child result ≡ child_in_row order numbers.now }
@@ -130,7 +132,7 @@ fn child_of(order: Order, numbers: &[i64]) -> Option<Child>
     Some(Child { kind, turn, shift })
 }
 
-/// The children with these numbers, where each is in range.
+/// Returns the children with these rows of six numbers, if each is in range.
 pub(crate) fn children_of(
     alloc: Global,
     order: Order,
@@ -139,7 +141,7 @@ pub(crate) fn children_of(
     requires { All (λ row. length row.items ≡ 6) rows.now }
     ensures { IfOk result (λ found. option_map (λ v. map as_child v.items) found ≡ each (λ row. child_in_row order row.items) rows.now) }
 {
-    let mut children = Vec::new(alloc);
+    let mut children = Vec::with_capacity(alloc, rows.len())?;
     for row in rows {
         let Some(child) = child_of(order, row.as_slice()) else {
             return Ok(None);

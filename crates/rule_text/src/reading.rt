@@ -1,4 +1,4 @@
-//! From a file to its rule.
+//! Reads a rule file.
 ghost use Rattle.std.specs.Prelude.{◌≡◌, ◌≢◌, ◌+◌, ◌<◌, ◌≤◌, ◌^◌, ◌↔◌, length, map, IfOk, IfErr};
 ghost use Rattle.toml.specs.View.{table_view};
 ghost use Rattle.rule_model.specs.Views.{as_type, as_kind};
@@ -22,10 +22,10 @@ use rule_model::type_row::TypeRow;
 use std::alloc::Global;
 use toml::Table;
 
-/// How many bytes a rule file may have: a mebibyte.
+/// The greatest length of a rule file, in bytes: a mebibyte.
 pub const LONGEST_FILE: usize = 1_048_576;
 
-/// The edge type of an entry.
+/// Reads the entry of an edge type. `ty` is its number.
 #[tactic(auto, unfolding(crate::specs::Document::type_in))]
 fn type_row(alloc: Global, entry: &Table, ty: u32) -> Result<TypeRow, TextFault>
     ensures { ReadsAs as_type result (type_in ty (table_view entry.now)) }
@@ -39,7 +39,7 @@ fn type_row(alloc: Global, entry: &Table, ty: u32) -> Result<TypeRow, TextFault>
     Ok(TypeRow { mate, parts })
 }
 
-/// The kind of an entry.
+/// Reads the entry of a kind. `kind` is its number.
 #[tactic(auto, unfolding(crate::specs::Document::kind_in))]
 fn kind_row(alloc: Global, entry: &Table, order: Order, kind: u32) -> Result<KindRow, TextFault>
     ensures { ReadsAs as_kind result (kind_in order kind (table_view entry.now)) }
@@ -58,12 +58,12 @@ fn kind_row(alloc: Global, entry: &Table, order: Order, kind: u32) -> Result<Kin
     })
 }
 
-/// The edge types of the entries.
+/// Reads the entries of the edge types.
 fn type_rows(alloc: Global, entries: &[&Table]) -> Result<Vec<TypeRow>, TextFault>
     requires numbered { length entries.now < 2 ^ 32 }
     ensures { ReadsAs (λ v. map as_type v.items) result (in_order (λ ty entry. type_in ty (table_view entry.now)) 0 entries.now) }
 {
-    let mut rows = Vec::new(alloc);
+    let mut rows = Vec::with_capacity(alloc, entries.len())?;
     for (i, entry) in entries.iter().enumerate() {
         let row = type_row(alloc, entry, i as u32)?;
         rows.push(row)?;
@@ -71,12 +71,12 @@ fn type_rows(alloc: Global, entries: &[&Table]) -> Result<Vec<TypeRow>, TextFaul
     Ok(rows)
 }
 
-/// The kinds of the entries.
+/// Reads the entries of the kinds.
 fn kind_rows(alloc: Global, entries: &[&Table], order: Order) -> Result<Vec<KindRow>, TextFault>
     requires numbered { length entries.now < 2 ^ 32 }
     ensures { ReadsAs (λ v. map as_kind v.items) result (in_order (λ kind entry. kind_in order kind (table_view entry.now)) 0 entries.now) }
 {
-    let mut rows = Vec::new(alloc);
+    let mut rows = Vec::with_capacity(alloc, entries.len())?;
     for (i, entry) in entries.iter().enumerate() {
         let row = kind_row(alloc, entry, order, i as u32)?;
         rows.push(row)?;
@@ -84,7 +84,7 @@ fn kind_rows(alloc: Global, entries: &[&Table], order: Order) -> Result<Vec<Kind
     Ok(rows)
 }
 
-/// The edge types of a document.
+/// Reads the edge types of a document.
 #[tactic(auto, unfolding(crate::specs::Document::types_in))]
 fn types(alloc: Global, table: &Table) -> Result<Vec<TypeRow>, TextFault>
     requires few { AreNarrow (longest_file + 2) (table_view table.now) }
@@ -94,7 +94,7 @@ fn types(alloc: Global, table: &Table) -> Result<Vec<TypeRow>, TextFault>
     type_rows(alloc, entries.as_slice())
 }
 
-/// The kinds of a document.
+/// Reads the kinds of a document.
 #[tactic(auto, unfolding(crate::specs::Document::kinds_in))]
 fn kinds(alloc: Global, table: &Table, order: Order) -> Result<Vec<KindRow>, TextFault>
     requires few { AreNarrow (longest_file + 2) (table_view table.now) }
@@ -104,7 +104,7 @@ fn kinds(alloc: Global, table: &Table, order: Order) -> Result<Vec<KindRow>, Tex
     kind_rows(alloc, entries.as_slice(), order)
 }
 
-/// The rule of a document.
+/// Reads the rule of a document.
 #[tactic(auto, unfolding(crate::specs::Document::rule_of_members))]
 fn rule_of(alloc: Global, table: &Table) -> Result<Rule, TextFault>
     requires few { AreNarrow (longest_file + 2) (table_view table.now) }
@@ -133,19 +133,29 @@ fn rule_of(alloc: Global, table: &Table) -> Result<Rule, TextFault>
     })
 }
 
-/// The rule that a file stands for, or the first fault in the order of its keys: that it is no TOML
-/// document; then `format`, `order`, `lambda` and `glue`; then `type` and each of its entries; then
-/// `kind` and each of its entries; then a further key.
+/// Reads the rule that a file stands for. The file may have 1,048,576 bytes.
+///
+/// # Errors
+///
+/// The first fault is returned. Tests run in this order:
+///
+/// 1. `NotToml`: the bytes are not a TOML document.
+/// 2. `format`, `order`, `lambda` and `glue`: `Missing`, `WrongType` or `OutOfRange`.
+/// 3. `type`, and then each of its entries: the same three, and `UnknownKey` at the end of each entry.
+/// 4. `kind`, and then each of its entries, in the same way.
+/// 5. `UnknownKey`: the document has another key.
+///
+/// `NoMemory` means that memory ran out.
 pub fn read_rule(alloc: Global, bytes: &[u8]) -> Result<Rule, TextFault>
     requires at_most_a_mebibyte { length bytes.now ≤ longest_file }
 
-    // What is read is the rule that the bytes stand for.
+    // A rule that is read is the one that the bytes stand for.
     ensures read { IfOk result (λ rule. rule_in_file bytes.now ≡ Ok (listed rule)) }
 
-    // What is refused has that fault first, unless memory is wanted.
+    // A fault that is returned is the first one, unless memory ran out.
     ensures fault { IfErr result (λ e. e ≢ TextFault.NoMemory → rule_in_file bytes.now ≡ Err e) }
 
-    // The bytes are no document exactly where toml refuses them for another cause than memory.
+    // Unless memory runs out, `NotToml` comes exactly if the bytes are not a TOML document.
     ensures not_toml { result ≢ Err TextFault.NoMemory → (result ≡ Err TextFault.NotToml) ↔ (document_in bytes.now ≡ None) }
 {
     match toml::table_from_slice(alloc, bytes) {

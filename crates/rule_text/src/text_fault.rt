@@ -4,20 +4,20 @@ use std::alloc::{AllocError, AllocFailed};
 use std::fmt;
 use tile_shape::no_memory::NoMemory;
 
-/// Why a text stands for no rule: the first fault in the order of the format.
+/// Why a text does not stand for a rule: its first fault, in the order of the format.
 #[derive(Clone, Copy, Debug, PartialEq, Eq)]
 pub enum TextFault {
-    /// The bytes are no TOML document.
+    /// The bytes are not a TOML document.
     NotToml,
-    /// The key isn't there.
+    /// This key is missing.
     Missing { key: Key },
-    /// The value hasn't the form of its key.
+    /// The value of this key has the wrong form.
     WrongType { key: Key },
-    /// A number of the value is out of its range.
+    /// A number in the value of this key is out of range.
     OutOfRange { key: Key },
-    /// The table has a further key.
+    /// This table has a key that the format does not.
     UnknownKey { place: Place },
-    /// No memory was left for the reading.
+    /// Memory ran out during reading.
     NoMemory,
 }
 

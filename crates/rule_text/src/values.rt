@@ -1,4 +1,5 @@
-//! The values that the parts of a rule are written as.
+//! Makes the TOML values of the parts of a rule. Each call that returns an error does so because memory ran
+//! out.
 ghost use Rattle.std.specs.Prelude.{◌≡◌, All, map, pos, IfOk, OnOk};
 ghost use Rattle.toml.specs.Data.{integer};
 ghost use Rattle.toml.specs.View.{view, table_view};
@@ -16,7 +17,7 @@ use std::alloc::Global;
 use tile_shape::no_memory::NoMemory;
 use toml::{Table, Value};
 
-/// Puts a value at a key.
+/// Puts a value at a key of the table.
 fn put(alloc: Global, table: &mut Table, key: &str, value: Value) -> Result<(), NoMemory>
     ensures { OnOk result (table_view table.new ≡ put_member key.now (view value) (table_view table.old)) }
 {
@@ -27,14 +28,14 @@ fn put(alloc: Global, table: &mut Table, key: &str, value: Value) -> Result<(), 
     }
 }
 
-/// A number.
+/// Makes the value of a number.
 fn number(n: u8) -> Value
     ensures { view result ≡ number_data n }
 {
     Value::from(n)
 }
 
-/// An array of numbers.
+/// Makes an array of numbers.
 fn numbers(alloc: Global, ns: &[u8]) -> Result<Value, NoMemory>
     ensures { IfOk result (λ value. view value ≡ list_data number_data ns.now) }
 {
@@ -45,7 +46,7 @@ fn numbers(alloc: Global, ns: &[u8]) -> Result<Value, NoMemory>
     Ok(Value::from(values))
 }
 
-/// An array of integers.
+/// Makes an array of integers.
 fn integers(alloc: Global, zs: &[i64]) -> Result<Value, NoMemory>
     ensures { IfOk result (λ value. view value ≡ list_data integer zs.now) }
 {
@@ -56,7 +57,7 @@ fn integers(alloc: Global, zs: &[i64]) -> Result<Value, NoMemory>
     Ok(Value::from(values))
 }
 
-/// The coefficients of a point.
+/// Makes the array of the four coefficients of a point.
 fn point(alloc: Global, p: &Point) -> Result<Value, NoMemory>
     ensures value { IfOk result (λ value. view value ≡ point_data p.now) }
     ensures fours { OnOk result (IsFour p.now) }
@@ -64,7 +65,7 @@ fn point(alloc: Global, p: &Point) -> Result<Value, NoMemory>
     integers(alloc, p.c.as_slice())
 }
 
-/// The points of a list.
+/// Makes an array of points.
 fn points(alloc: Global, ps: &[Point]) -> Result<Value, NoMemory>
     ensures value { IfOk result (λ value. view value ≡ list_data point_data ps.now) }
     ensures fours { OnOk result (All IsFour ps.now) }
@@ -76,7 +77,7 @@ fn points(alloc: Global, ps: &[Point]) -> Result<Value, NoMemory>
     Ok(Value::from(values))
 }
 
-/// The numbers of a child.
+/// Makes the array of a child: its kind, its turn and the four coefficients of its shift.
 fn child(alloc: Global, c: &Child) -> Result<Value, NoMemory>
     ensures value { IfOk result (λ value. view value ≡ child_data (as_child c.now)) }
     ensures fours { OnOk result (IsFour c.now.shift) }
@@ -88,7 +89,7 @@ fn child(alloc: Global, c: &Child) -> Result<Value, NoMemory>
     )
 }
 
-/// The children of a list.
+/// Makes an array of children.
 fn children(alloc: Global, cs: &[Child]) -> Result<Value, NoMemory>
     ensures value { IfOk result (λ value. view value ≡ list_data child_data (map as_child cs.now)) }
     ensures fours { OnOk result (All (λ c. IsFour c.motion.shift) (map as_child cs.now)) }
@@ -100,7 +101,7 @@ fn children(alloc: Global, cs: &[Child]) -> Result<Value, NoMemory>
     Ok(Value::from(values))
 }
 
-/// The entry of a type.
+/// Makes the entry of an edge type.
 fn type_entry(alloc: Global, row: &TypeRow) -> Result<Value, NoMemory>
     ensures { IfOk result (λ value. view value ≡ type_data (as_type row.now)) }
 {
@@ -115,7 +116,7 @@ fn type_entry(alloc: Global, row: &TypeRow) -> Result<Value, NoMemory>
     Ok(Value::from(entry))
 }
 
-/// The entries of the types.
+/// Makes the entries of the edge types.
 fn types(alloc: Global, rows: &[TypeRow]) -> Result<Value, NoMemory>
     ensures { IfOk result (λ value. view value ≡ list_data type_data (map as_type rows.now)) }
 {
@@ -126,7 +127,7 @@ fn types(alloc: Global, rows: &[TypeRow]) -> Result<Value, NoMemory>
     Ok(Value::from(values))
 }
 
-/// The entry of a kind.
+/// Makes the entry of a kind.
 fn kind_entry(alloc: Global, row: &KindRow) -> Result<Value, NoMemory>
     ensures value { IfOk result (λ value. view value ≡ kind_data (as_kind row.now)) }
     ensures fours { OnOk result (HasFours (as_kind row.now)) }
@@ -153,7 +154,7 @@ fn kind_entry(alloc: Global, row: &KindRow) -> Result<Value, NoMemory>
     Ok(Value::from(entry))
 }
 
-/// The entries of the kinds.
+/// Makes the entries of the kinds.
 fn kinds(alloc: Global, rows: &[KindRow]) -> Result<Value, NoMemory>
     ensures value { IfOk result (λ value. view value ≡ list_data kind_data (map as_kind rows.now)) }
     ensures fours { OnOk result (All HasFours (map as_kind rows.now)) }
@@ -165,7 +166,7 @@ fn kinds(alloc: Global, rows: &[KindRow]) -> Result<Value, NoMemory>
     Ok(Value::from(values))
 }
 
-/// The number of an edition's format.
+/// Returns the number of an edition's format.
 fn format_number(edition: Edition) -> u8
     ensures { result ≡ format_number edition }
 {
@@ -175,7 +176,7 @@ fn format_number(edition: Edition) -> u8
     }
 }
 
-/// The document of a rule.
+/// Makes the document of a rule.
 pub(crate) fn document(alloc: Global, rule: &Rule) -> Result<Table, NoMemory>
     ensures value { IfOk result (λ table. table_view table ≡ rule_members (listed rule.now)) }
     ensures fours { OnOk result (IsFour rule.now.factor × All HasFours (as_rule rule.now).kinds) }

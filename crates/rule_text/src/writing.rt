@@ -1,4 +1,4 @@
-//! From a rule to its file.
+//! Writes a rule file.
 ghost use Rattle.std.specs.Prelude.{◌≡◌, ◌≤◌, false, Ok, length, string_bytes, IfOk, IfErr};
 ghost use Rattle.toml.specs.Text.{IsDocumentText};
 ghost use Rattle.edge_to_edge.specs.Limited.{WithinLimits};
@@ -19,13 +19,15 @@ use rule_model::rule::Rule;
 use std::alloc::Global;
 use tile_shape::no_memory::NoMemory;
 
-/// The text of a document that stands for the rule, whose counts and numbers are within the limits,
-/// and whose order isn't six in edition one, whose format hasn't it. `read_rule` reads it back to the rule.
+/// Writes the text of a rule file. `read_rule` reads the text back as the rule.
+///
+/// The counts and numbers of the rule must be within the limits. A rule of edition 1 must not have order 6,
+/// which format 1 lacks. Err means that memory ran out.
 pub fn write_rule(alloc: Global, rule: &Rule) -> Result<String, NoMemory>
     requires within_limits { WithinLimits (points_of rule.now.order).order (is_small rule.now.order) (as_rule rule.now) }
     requires order_of_edition { rule.now.edition ≡ Edition.One → ¬ rule.now.order ≡ Order.Six }
 
-    // The text is what `toml` prints for the rule's document, each array on one line.
+    // The text is what `toml` prints for the document of the rule, with each array on one line.
     ensures printed { IfOk result (λ text. IsDocumentText false (rule_members (listed rule.now)) (string_bytes text)) }
     ensures document { IfOk result (λ text. rule_in_file (string_bytes text) ≡ Ok (listed rule.now)) }
 
@@ -39,7 +41,7 @@ pub fn write_rule(alloc: Global, rule: &Rule) -> Result<String, NoMemory>
     }
 }
 
-/// What reading the rule's own text answers: the rule again.
+/// Reads back the rule's own text, and returns the rule again. Fails only if memory runs out.
 pub fn written_and_read(alloc: Global, rule: &Rule) -> Result<Rule, TextFault>
     requires within_limits { WithinLimits (points_of rule.now.order).order (is_small rule.now.order) (as_rule rule.now) }
     requires order_of_edition { rule.now.edition ≡ Edition.One → ¬ rule.now.order ≡ Order.Six }

@@ -21,3 +21,4 @@ pub mod Located
 pub mod EachOrder
 pub mod KeyOrder
 pub mod OneAcross
+pub mod Beside

@@ -1,4 +1,4 @@
-//! Comparisons of points by their coefficients.
+//! Compares points by their coefficients.
 ghost use Rattle.std.specs.Prelude.{◌≡◌};
 ghost use Rattle.std.specs.Bool.{Decides};
 ghost use Rattle.std.specs.Cmp.Lexicographic.{slice_cmp};
@@ -8,14 +8,14 @@ ghost use Rattle.cyclo_points.specs.Point.{point_in, IsOf};
 
 use cyclo_points::point::Point;
 
-/// Whether two coefficients are the same.
+/// Returns true if two coefficients are equal.
 fn is_equal(a: i64, b: i64) -> bool
     ensures { result ≡ int_eq a b }
 {
     a == b
 }
 
-/// Whether two points of one order are the same.
+/// Returns true if two points of the same order are equal.
 pub(crate) fn is_same(p: &Point, q: &Point) -> bool
     ensures { (order : Order) → IsOf order p.now → IsOf order q.now
         → Decides result (point_in order p.now ≡ point_in order q.now) }
@@ -26,7 +26,7 @@ pub(crate) fn is_same(p: &Point, q: &Point) -> bool
         & is_equal(p.c[3], q.c[3])
 }
 
-/// Whether a point has a greater coefficient than another at the first place where they differ.
+/// Returns true if `p` has the greater coefficient at the first place where the two points differ.
 pub(crate) fn is_above(p: &Point, q: &Point) -> bool
     ensures { result ≡ is_gt (slice_cmp int_cmp p.now.c q.now.c) }
 {

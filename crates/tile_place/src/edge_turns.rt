@@ -18,11 +18,11 @@ use std::alloc::Global;
 use std::marker::Model;
 use tile_shape::no_memory::NoMemory;
 
-/// For each edge of each kind the turn by which its vector is greatest. Edges of which one is turned onto the other
-/// have one greatest vector.
+/// For each edge of each kind, the turn by which its vector becomes greatest. If one edge can be turned onto
+/// another, both have the same greatest vector.
 #[derive(Drop)]
 pub(crate) struct EdgeTurns {
-    /// How many places for edges each kind has.
+    /// The number of places for edges that each kind has.
     sides: u8,
     /// The turns, by kind and edge.
     turns: Vec<u8>,
@@ -37,7 +37,7 @@ impl Model for EdgeTurns {
 }
 
 impl EdgeTurns {
-    /// The turns of the edges of a rule, of whose kinds these are the vertices.
+    /// Makes the turns of the edges of a rule. `vertices` are the vertices of its kinds.
     #[inline(never)]
     pub(crate) fn new(
         alloc: Global,
@@ -58,7 +58,7 @@ impl EdgeTurns {
         Ok(EdgeTurns { sides, turns })
     }
 
-    /// The turn of an edge.
+    /// Returns the turn of an edge.
     pub(crate) fn at(&self, kind: u8, edge: u8) -> u8
         requires exists { kind * self.now.sides + edge < length self.now.turns }
         ensures { result ≡ get_or self.now.turns (kind * self.now.sides + edge) 0 }
@@ -67,7 +67,7 @@ impl EdgeTurns {
     }
 }
 
-/// The turn by which the vector of an edge is greatest, or 0 where there is no such edge.
+/// Returns the turn by which the vector of an edge becomes greatest, or 0 if the edge does not exist.
 fn turn_if_edge(checked: &Checked, vertices: &TurnedVertices, kind: u8, edge: usize) -> u8
     requires vertices { AreTurned (tiling_of checked.now) vertices.now }
     requires exists { kind < length (rule_of checked.now).kinds }
@@ -82,7 +82,7 @@ fn turn_if_edge(checked: &Checked, vertices: &TurnedVertices, kind: u8, edge: us
     }
 }
 
-/// The turn by which the vector of an edge is greatest, which ends at this vertex.
+/// Returns the turn by which the vector of the edge that ends at this vertex becomes greatest.
 fn greatest_turn(
     checked: &Checked,
     vertices: &TurnedVertices,
@@ -107,7 +107,7 @@ fn greatest_turn(
     best
 }
 
-/// The vector of an edge, which ends at this vertex, turned by so many steps.
+/// Returns the vector of the edge that ends at this vertex, turned by ζ^steps.
 fn turned_vector(
     checked: &Checked,
     vertices: &TurnedVertices,
@@ -129,7 +129,7 @@ fn turned_vector(
     sub(&to, &from)
 }
 
-/// The vertex at which an edge of so many ends: the next one, and the first behind the last.
+/// Returns the vertex at which an edge ends, by number: the next one, or 0 after the last.
 pub(crate) fn next_of(edges: usize, edge: usize) -> usize
     requires exists { edge < edges }
     ensures { result ≡ cond (nat_lt (suc edge) edges) (suc edge) 0 }

@@ -1,4 +1,4 @@
-//! Edges that meet, the motion that glues them, and the motion of the tile across.
+//! Edges that meet, the motion that glues them, and the motion of the tile across an edge.
 ghost use Rattle.std.specs.Prelude.{◌≡◌, ◌↔◌, ◌+◌, ◌<◌, ◌^◌, ℕ, IsTrue};
 ghost use Rattle.substitution.specs.RuleParts.{next};
 ghost use Rattle.edge_to_edge.specs.EdgeTypes.{edge_vector};
@@ -21,7 +21,7 @@ use cyclo_points::points_law;
 use dissection::laws::glue_law;
 
 impl Machine {
-    /// The vertex at which an edge begins, turned by so many steps.
+    /// Returns the vertex at which an edge begins, turned by ζ^steps.
     fn start_of(&self, kind: u8, edge: u8, steps: u8) -> Point
         requires exists { HasKindEdge (tiling_of self.now) kind edge }
         requires turn_below { steps < (points_of self.now.order).order }
@@ -30,7 +30,7 @@ impl Machine {
         self.turned_vertex(kind, steps, usize::from(edge))
     }
 
-    /// The vertex at which an edge ends, turned by so many steps.
+    /// Returns the vertex at which an edge ends, turned by ζ^steps.
     fn end_of(&self, kind: u8, edge: u8, steps: u8) -> Point
         requires exists { HasKindEdge (tiling_of self.now) kind edge }
         requires turn_below { steps < (points_of self.now.order).order }
@@ -40,7 +40,7 @@ impl Machine {
         self.turned_vertex(kind, steps, end)
     }
 
-    /// The vector of an edge, turned by so many steps.
+    /// Returns the vector of an edge, turned by ζ^steps.
     fn vector_of(&self, kind: u8, edge: u8, steps: u8) -> Point
         requires exists { HasKindEdge (tiling_of self.now) kind edge }
         requires turn_below { steps < (points_of self.now.order).order }
@@ -54,7 +54,7 @@ impl Machine {
         sub(&end, &start)
     }
 
-    /// The turn that takes the vector of the second edge to that of the first, reversed.
+    /// Returns the turn that takes the vector of the second edge to the reverse of the first edge's vector.
     fn glue_turn(&self, kind: u8, edge: u8, other: u8, other_edge: u8) -> u8
         requires edge_exists { HasKindEdge (tiling_of self.now) kind edge }
         requires other_exists { HasKindEdge (tiling_of self.now) other other_edge }
@@ -70,7 +70,8 @@ impl Machine {
         (self.edge_turn(other, other_edge) + back) % n
     }
 
-    /// Whether two edges meet: some turn below n takes the vector of the second to that of the first, reversed.
+    /// Returns true if two edges meet: some turn below n takes the vector of the second edge to the reverse
+    /// of the first edge's vector.
     pub fn meets(&self, kind: u8, edge: u8, other: u8, other_edge: u8) -> bool
         requires edge_exists { HasKindEdge (tiling_of self.now) kind edge }
         requires other_exists { HasKindEdge (tiling_of self.now) other other_edge }
@@ -82,7 +83,8 @@ impl Machine {
         is_same(&own, &its)
     }
 
-    /// The motion that brings the second prototile's edge onto the reverse of the first's.
+    /// Returns the motion that takes the second prototile's edge onto the reverse of the first prototile's
+    /// edge.
     pub fn glue_motion(&self, kind: u8, edge: u8, other: u8, other_edge: u8) -> Motion
         requires edge_exists { HasKindEdge (tiling_of self.now) kind edge }
         requires other_exists { HasKindEdge (tiling_of self.now) other other_edge }
@@ -101,7 +103,8 @@ impl Machine {
         }
     }
 
-    /// The motion of the tile across an edge of a tile of this motion: that of the gluing, followed by the tile's.
+    /// Returns the motion of the tile across an edge of a tile that has this motion: the gluing motion,
+    /// followed by the tile's.
     pub fn motion_across(
         &self,
         motion: &Motion,
@@ -132,8 +135,8 @@ impl Machine {
         }
     }
 
-    /// The law that edges across from each other meet, that one motion alone glues them, and that the tile
-    /// across lies where that motion, and then the motion of the edge's own tile, put it.
+    /// The law of gluing. Edges that lie across from each other meet, and exactly one motion glues them. The
+    /// tile across lies where that motion, followed by the motion of the edge's own tile, puts it.
     pub fn gluing_law(&self)
         ensures { GluingLaw (tiling_of self.now) }
     {

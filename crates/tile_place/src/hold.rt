@@ -1,4 +1,4 @@
-//! Whether a scaled prototile that is moved holds a point, its vertices looked at one after another.
+//! Tests if a prototile that is scaled and moved holds a point, one vertex after another.
 ghost use Rattle.std.specs.Prelude.{◌≡◌, ◌<◌, ◌≤◌, ◌^◌, ◌&&◌, pos, true, false, length, find, None, Some, IfOk, IfErr};
 ghost use Rattle.std.specs.Ordering.{int_eq};
 ghost use Rattle.frames.specs.Outline.{outline, holds_point};
@@ -19,8 +19,8 @@ use cyclo_points::rotation::turn;
 use plane_geom::sides::{crossing_between, is_above};
 
 impl Machine {
-    /// Looks at the vertices of a scaled prototile that is moved, in order. It answers the first that is
-    /// refused, or whether the polygon holds a point, where that is sought.
+    /// Visits the vertices of a prototile that is scaled and moved, in order. Returns true if `sought` is set
+    /// and the polygon holds the point. Err has the first vertex that is refused.
     pub(crate) fn holds_where(
         &self,
         sought: bool,
@@ -54,7 +54,8 @@ impl Machine {
         }
     }
 
-    /// The same in an order, for each of which the compiler makes a body of its own.
+    /// Like [`holds_where`](Self::holds_where), within one order. The compiler makes a body of its own for
+    /// each order.
     #[inline(always)]
     fn holds_in(
         &self,
@@ -89,7 +90,8 @@ impl Machine {
         }
     }
 
-    /// Whether a scaled prototile that is moved holds a point, or its first vertex that is refused.
+    /// Returns true if a prototile that is scaled and moved holds a point. Err has its first vertex that is
+    /// refused.
     #[inline(always)]
     fn holds(
         &self,
@@ -137,8 +139,8 @@ impl Machine {
         Ok(is_once(total + crossed as i32))
     }
 
-    /// Looks at the vertices of a scaled prototile that is moved, and answers false, or the first that is
-    /// refused.
+    /// Visits the vertices of a prototile that is scaled and moved, and returns false. Err has the first
+    /// vertex that is refused.
     #[inline(always)]
     fn look_round(
         &self,
@@ -172,14 +174,14 @@ impl Machine {
     }
 }
 
-/// Whether a polygon that winds so often about a point holds it.
+/// Returns true if a polygon with this winding number about a point holds it: the number is 1.
 fn is_once(count: i32) -> bool
     ensures { result ≡ int_eq count (pos 1) }
 {
     count == 1
 }
 
-/// A vertex times a number, and moved on, if it isn't refused.
+/// Returns a vertex times `scale`, plus `shift`, unless this is refused.
 #[inline(always)]
 fn corner(order: Order, scale: &Point, vertex: &Point, shift: &Point) -> Result<Point, CoordLimit>
     requires scale_within { IsWithin (2 ^ 25) scale.now }

@@ -1,10 +1,16 @@
-//! The tiles of a checked rule: where a tile lies in its supertile, and the tile across an edge.
+//! The tiles of an accepted rule: where a tile lies in its supertile, which tile holds a point, and which
+//! tile is across an edge.
 //!
 //! A substitution (Grünbaum and Shephard, Tilings and Patterns, chapter 10) gives each tile of a supertile
-//! one address and one motion. `place::place` computes the motion by Horner's scheme on the digits of
-//! the address and refuses it exactly where a value on the way is too large; `Machine::cross` finds the
-//! tile across an edge by the contact tables of the rule's own geometry (Tatham's transducers). Both hold
-//! for every rule that is accepted. After `Machine::new` no call takes memory.
+//! one address and one motion.
+//!
+//! - [`place`](place::place) computes the motion from the address, by Horner's scheme on the digits. It
+//!   refuses a motion exactly if a value on the way is too large.
+//! - [`Machine::locate`](machine::Machine::locate) finds the tile that holds a point.
+//! - [`Machine::cross`](machine::Machine::cross) finds the tile across an edge, from the contact tables of
+//!   the rule's own geometry (Tatham's transducers).
+//!
+//! All hold for every accepted rule. After `Machine::new` no call needs memory.
 #![tactic(auto)]
 
 mod compared;

@@ -23,11 +23,21 @@ use cyclo_points::{placement_law, points_law};
 use dissection::laws::dissection_law;
 
 impl Machine {
-    /// The one tile that holds the point in the supertile of a kind and depth that is moved by `at`, with
-    /// its address in that supertile and its motion there followed by `at`. The values are looked at in
-    /// three steps: the powers of the inflation factor up to the depth; the supertile's vertices; and,
-    /// where it holds the point, from it down to the tile, of all children of each supertile that holds
-    /// the point, the shift and then the vertices.
+    /// Finds the only tile that holds a point, in the supertile of this kind and depth, moved by `at`. The
+    /// result has the tile's address in that supertile, and its motion there followed by `at`.
+    ///
+    /// The call computes values in this order:
+    ///
+    /// 1. the powers of the inflation factor, up to the depth;
+    /// 2. the supertile's vertices;
+    /// 3. if the supertile holds the point: level by level down to the tile, the shift and then the vertices
+    ///    of each child.
+    ///
+    /// # Errors
+    ///
+    /// - `CoordLimit`: one of these values has a coefficient above 2^24 in absolute value. It has the first
+    ///   such value.
+    /// - `NotInside`: no value is refused, and the supertile does not hold the point.
     pub fn locate(
         &self,
         kind: u8,
@@ -42,7 +52,7 @@ impl Machine {
         requires at_in_order { IsOf self.now.order at.now.shift }
         requires point_within { IsWithin (2 ^ 24) point.now }
 
-        // In the plane: the only tile that holds the point.
+        // In the plane: this is the only tile that holds the point.
         ensures only_tile { IfOk result (λ tile. IsOnlyTileHolding (tiling_of self.now) kind depth (motion_in self.now.order at.now)
             (point_in self.now.order point.now) (placed_in self.now.order tile)) }
         ensures its_kind { IfOk result (λ tile. tile.kind ≡ tile.addr.kind) }
@@ -59,7 +69,7 @@ impl Machine {
         ensures shift_within { IfOk result (λ tile. IsWithin (2 ^ 24) tile.motion.shift) }
         ensures in_order { IfOk result (λ tile. IsOf self.now.order tile.motion.shift) }
 
-        // By the way down.
+        // As the definition of the descent computes it.
         ensures by_descent { IfOk result (λ tile. tile_holding (points_of self.now.order) (rule_of self.now) kind depth
             (motion_in self.now.order at.now) (point_in self.now.order point.now) ≡ Some (placed_in self.now.order tile)) }
     {

@@ -1,14 +1,14 @@
-//! Why no tile is located.
+//! Why no tile is found for a point.
 use cyclo_points::point::Point;
 
-/// Why no tile is answered for a point.
+/// Why no tile is found for a point.
 #[derive(Clone, Copy, Debug, PartialEq, Eq)]
 pub enum LocateFault {
-    /// The supertile doesn't hold the point.
+    /// The supertile does not hold the point.
     NotInside,
-    /// A value that was looked at has a coefficient above 2^24 in absolute value.
+    /// A value on the way has a coefficient above 2^24 in absolute value.
     CoordLimit {
-        /// The first such value.
+        /// The first value that has one.
         value: Point,
     },
 }

@@ -1,4 +1,4 @@
-//! The child of a part of a supertile that holds a point.
+//! Finds the child of a part of a supertile that holds a point.
 ghost use Rattle.std.specs.Prelude.{◌≡◌, ◌<◌, ◌≤◌, ◌^◌, ◌&&◌, All, length, find, None, Some, IfOk, IfErr, IfSome};
 ghost use Rattle.std.specs.Option.{option_map};
 ghost use Rattle.substitution.specs.Rule.{children_of};
@@ -26,8 +26,8 @@ use cyclo_points::point::Point;
 use cyclo_points::product::mul;
 
 impl Machine {
-    /// Looks at one child of a part: at its shift, and at its vertices. It answers the first of these that is
-    /// refused, or whether the child holds a point, where that is sought.
+    /// Tests one child of a part: its shift first, and then its vertices. Returns the child, and true if
+    /// `sought` is set and it holds the point. Err has the first value that is refused.
     pub(crate) fn look(
         &self,
         kind: u8,
@@ -83,8 +83,8 @@ impl Machine {
         })
     }
 
-    /// Looks at all children of a part, and answers the first of them that holds a point, or the first value
-    /// that is refused.
+    /// Tests all children of a part, and returns the first one that holds the point, if any. Err has the
+    /// first value that is refused.
     pub(crate) fn holder(
         &self,
         kind: u8,
@@ -120,7 +120,7 @@ impl Machine {
     }
 }
 
-/// The part held so far, or else the one that was looked at, where it holds the point.
+/// Returns the part that was held before, if any; otherwise the part just tested, if it holds the point.
 fn first_held(held: Option<Part>, seen: Seen) -> Option<Part>
     ensures { result ≡ or_else held (if_holds seen.holds seen.part) }
 {

@@ -1,4 +1,4 @@
-//! The machine of a checked rule.
+//! An accepted rule, ready for questions about its tiles.
 ghost use Rattle.std.specs.Prelude.{◌≡◌, ◌+◌, ◌*◌, ◌<◌, ◌≤◌, ◌^◌, ℕ, length, IsOk, None, Some, IfOk, IfErr, OnOk, OnErr, Err};
 ghost use Rattle.addressing.specs.Address.{Address as TheAddress, depth, Fits};
 ghost use Rattle.addressing.specs.Tables.{child_kinds};
@@ -38,8 +38,8 @@ use transducer_core::crossing::{Crossing, put_digits};
 use transducer_core::outside::Outside;
 use transducer_core::transducer::Transducer;
 
-/// A checked rule with the transducer of its contact tables, and with its kinds' vertices turned and the turns of
-/// their edges, from which motions come. Contracts see it as the rule, which determines all of them.
+/// An accepted rule with the transducer of its contact tables, the turned vertices of its kinds, and the
+/// turns of its edges. Contracts see it as the rule, which determines all of them.
 #[derive(Drop)]
 pub struct Machine {
     checked: Checked,
@@ -61,7 +61,7 @@ impl Model for Machine {
 }
 
 impl Machine {
-    /// The machine of a checked rule.
+    /// Makes the machine of an accepted rule. Err if memory runs out.
     pub fn new(alloc: Global, checked: Checked) -> Result<Machine, NoMemory>
         ensures its_rule { IfOk result (λ machine. machine ≡ checked) }
     {
@@ -76,7 +76,7 @@ impl Machine {
         })
     }
 
-    /// The checked rule. It is accepted, and its tables and its uses speak of the same children.
+    /// Returns the rule. It is accepted, and its tables and uses name the same children.
     pub fn checked(&self) -> &Checked
         ensures rule { result.now ≡ self.now }
         ensures accepted { IsAccepted self.now }
@@ -88,7 +88,7 @@ impl Machine {
         &self.checked
     }
 
-    /// A vertex of a kind, turned by so many steps.
+    /// Returns a vertex of a kind, turned by ζ^steps.
     pub(crate) fn turned_vertex(&self, kind: u8, steps: u8, number: usize) -> Point
         requires exists { kind < length (rule_of self.now).kinds }
         requires turn_below { steps < (points_of self.now.order).order }
@@ -98,7 +98,7 @@ impl Machine {
         self.vertices.at(kind, steps, number)
     }
 
-    /// The turn by which the vector of an edge is greatest.
+    /// Returns the turn by which the vector of an edge becomes greatest.
     pub(crate) fn edge_turn(&self, kind: u8, edge: u8) -> u8
         requires exists { HasKindEdge (tiling_of self.now) kind edge }
         ensures { IsGreatest self.now.order (edge_vector (points_of self.now.order) (rule_of self.now) kind edge) result }
@@ -106,8 +106,7 @@ impl Machine {
         self.edges.at(kind, edge)
     }
 
-    /// The motion that stands beside the address of a tile in the list of its supertile's tiles, as
-    /// [`place`] says of the rule.
+    /// Returns the motion of a tile in its supertile, like [`place`]. The address must fit the rule.
     pub fn place(&self, addr: &Address) -> Result<Motion, CoordLimit>
         requires fits { Fits (children (tiling_of self.now)) (address_of addr.now) }
         ensures beside { IfOk result (λ motion. IsPlaced (tiling_of self.now) (address_of addr.now) (motion_in self.now.order motion)) }
@@ -122,8 +121,15 @@ impl Machine {
         place(&self.checked, addr)
     }
 
-    /// The tile across an edge with the edge that leads back, or the supertile's own edge on which the
-    /// edge lies.
+    /// Finds the tile across an edge of a tile, and the edge of that tile that leads back. Both tiles are
+    /// taken in the supertile that `addr` names, so both addresses have the same depth.
+    ///
+    /// `steps` counts the table look-ups: at most twice the depth, plus two.
+    ///
+    /// # Errors
+    ///
+    /// `Outside` if and only if the edge lies on the boundary of that supertile. It has the edge of the
+    /// supertile, and the part of that edge.
     pub fn cross<L: Ledger>(
         &self,
         addr: &Address,
@@ -142,8 +148,8 @@ impl Machine {
         ensures across_when { (b : TheAddress) (f : ℕ) → Fits (children (tiling_of self.now)) b
             → Touches (contacts (tiling_of self.now)) (address_of addr.now) edge b f → IsOk result }
 
-        // In the plane, both tiles placed in their common supertile: the answer is the only tile across, the
-        // edge answered leads back, and Outside comes exactly on the supertile's boundary.
+        // In the plane, with both tiles placed in their common supertile: the result is the only tile across,
+        // its edge leads back, and the call fails exactly on the boundary.
         ensures only_tile_across { IfOk result (λ x. IsOnlyAcross (tiling_of self.now) (address_of addr.now) edge (address_of x.addr) x.edge) }
         ensures leads_back { IfOk result (λ x. IsOnlyAcross (tiling_of self.now) (address_of x.addr) x.edge (address_of addr.now) edge) }
         ensures outside_on_boundary { IfErr result (λ o. LiesOnBoundary (tiling_of self.now) (address_of addr.now) edge o.edge o.part) }
@@ -164,8 +170,8 @@ impl Machine {
         }
     }
 
-    /// The same in place: the address becomes that of the tile across, and the answer is the edge that leads
-    /// back. Where the edge lies on the supertile's own edge, the address is unchanged.
+    /// Like [`cross`](Self::cross), but in place: replaces `addr` by the address of the tile across, and
+    /// returns the edge that leads back. On `Outside`, `addr` is unchanged.
     pub fn cross_in_place<L: Ledger>(
         &self,
         addr: &mut Address,

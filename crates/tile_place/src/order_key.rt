@@ -1,26 +1,28 @@
-//! The order of tiles by their places.
+//! Keys by which tiles are put in order of their places.
 ghost use Rattle.std.specs.Prelude.{◌≡◌, ◌<◌, ◌^◌};
 ghost use Rattle.cyclo_points.specs.Point.{Within, IsWithin};
 ghost use Rattle.tile_place.specs.Keys.{raised_shift, pair_of, key_of, are_level};
 
 use cyclo_points::motion::Motion;
 
-/// What is added to a coefficient of a shift, so that it is not negative.
+/// Added to each coefficient of a shift, so that it is not negative.
 const RAISE: i64 = 1 << 24;
 
-/// The four coefficients of a tile's shift, its turn and its kind in two words, and its number.
+/// The key of a tile: the four coefficients of its shift, its turn and its kind, packed into two words, and
+/// its number.
 #[derive(Clone, Copy, Debug, PartialEq, Eq, PartialOrd, Ord)]
 pub struct OrderKey {
     /// The first two coefficients.
     pub high: u64,
     /// The others, the turn and the kind.
     pub low: u64,
-    /// The number of the tile.
+    /// The number of the tile, from 0.
     pub number: u32,
 }
 
 impl OrderKey {
-    /// The key of a tile. Its order is that of the coefficients of the shift, the turn, the kind and the number.
+    /// Makes the key of a tile. Keys are ordered by the coefficients of the shift, then turn, then kind, then
+    /// number.
     pub fn of(motion: &Motion, kind: u8, number: u32) -> OrderKey
         requires within { IsWithin (2 ^ 24) motion.now.shift }
         requires turn_fits { motion.now.turn < 16 }
@@ -35,7 +37,7 @@ impl OrderKey {
         }
     }
 
-    /// Whether two keys are of one place and kind.
+    /// Returns true if two keys have the same place and kind.
     pub fn is_level(&self, other: &OrderKey) -> bool
         ensures { result ≡ are_level self.now other.now }
     {
@@ -43,7 +45,7 @@ impl OrderKey {
     }
 }
 
-/// Two coefficients of a shift in one number.
+/// Packs two coefficients of a shift into one number.
 fn pair(a: i64, b: i64) -> u64
     requires a_within { Within (2 ^ 24) a }
     requires b_within { Within (2 ^ 24) b }
@@ -53,7 +55,7 @@ fn pair(a: i64, b: i64) -> u64
     raised(a) * 67_108_864 + raised(b)
 }
 
-/// A coefficient of a shift, raised above 0.
+/// Returns a coefficient of a shift plus 2^24, which is not negative.
 fn raised(coefficient: i64) -> u64
     requires within { Within (2 ^ 24) coefficient }
     ensures value { result ≡ raised_shift coefficient }

@@ -17,7 +17,8 @@ use cyclo_points::product::mul;
 use cyclo_points::rotation::turn;
 
 impl Machine {
-    /// The vertices of a scaled prototile that is moved, in order, or the first that is refused.
+    /// Returns the vertices of a prototile that is scaled and moved, in order. Err has the first vertex that
+    /// is refused.
     pub fn outline(
         &self,
         kind: u8,

@@ -1,8 +1,8 @@
-//! A tile at its place.
+//! A tile and its place.
 use cyclo_points::motion::Motion;
 use tile_shape::address::Address;
 
-/// A tile of a supertile: its kind, the motion that brings its prototile to its place, and its address.
+/// A tile of a supertile: its kind, the motion that takes its prototile to its place, and its address.
 #[derive(Debug, Drop, PartialEq, Eq)]
 pub struct PlacedTile {
     /// The kind of the tile.

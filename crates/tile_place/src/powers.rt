@@ -14,7 +14,8 @@ use cyclo_points::points_law;
 use cyclo_points::product::mul;
 
 impl Machine {
-    /// The powers of the inflation factor from 0 to a depth, or the first that is refused.
+    /// Returns the powers of the inflation factor, from 0 to the depth. Err has the first power that is
+    /// refused.
     pub fn powers(&self, depth: u8) -> Result<ArrayVec<Point, 65>, CoordLimit>
         requires at_most_64 { depth ≤ 64 }
         ensures powers { IfOk result (λ powers. map (point_in self.now.order) powers.items

@@ -19,8 +19,8 @@ use tile_shape::address::Address;
 use tile_shape::step::Step;
 
 impl Machine {
-    /// The tile of a moved supertile that holds a point, with its address and its motion there, or the first
-    /// value looked at that is refused.
+    /// Finds the tile of a moved supertile that holds a point, with its address and its motion there. Err has
+    /// the first value on the way that is refused, or is `NotInside`.
     pub(crate) fn search(
         &self,
         kind: u8,
@@ -62,7 +62,7 @@ impl Machine {
         self.descend(kind, depth, at, point, powers.as_slice())
     }
 
-    /// From a supertile that holds a point down to the tile that holds it.
+    /// Goes down from a supertile that holds a point to the tile that holds it.
     fn descend(
         &self,
         kind: u8,

@@ -1,11 +1,11 @@
-//! A part that was looked at.
+//! A part, after the test.
 use crate::part::Part;
 
-/// A part of a supertile that was looked at.
+/// A part of a supertile, and the result of testing it.
 #[derive(Clone, Copy)]
 pub(crate) struct Seen {
     /// The part.
     pub(crate) part: Part,
-    /// Whether it holds the point.
+    /// True if the part was tested for a point and holds it.
     pub(crate) holds: bool,
 }

@@ -1,18 +1,18 @@
-//! Points with short coefficients.
+//! Points with small coefficients.
 ghost use Rattle.std.specs.Prelude.{◌≡◌, ◌^◌};
 ghost use Rattle.cyclo_points.specs.Point.{IsWithin};
 ghost use Rattle.tile_place.specs.TurnedVertices.{widened};
 
 use cyclo_points::point::Point;
 
-/// A point whose coefficients are short, in a quarter of the room.
+/// A point with small coefficients, in a quarter of the memory.
 #[derive(Clone, Copy)]
 pub(crate) struct SmallPoint {
     pub(crate) c: [i16; 4],
 }
 
 impl SmallPoint {
-    /// A point with short coefficients.
+    /// Makes it from a point with small coefficients.
     pub(crate) fn of(p: &Point) -> SmallPoint
         requires { IsWithin (2 ^ 7) p.now }
         ensures { widened result ≡ p.now }
@@ -22,7 +22,7 @@ impl SmallPoint {
         }
     }
 
-    /// The point.
+    /// Returns the point.
     pub(crate) fn widened(&self) -> Point
         ensures { result ≡ widened self.now }
     {

@@ -14,7 +14,7 @@ use cyclo_points::motion::Motion;
 use cyclo_points::point::Point;
 
 impl Machine {
-    /// Where a motion takes the vertex of this number of a kind.
+    /// Returns the corner of a tile: vertex `number` of the kind, moved.
     #[inline]
     pub fn corner(&self, kind: u8, motion: &Motion, number: usize) -> Point
         requires exists { kind < length (rule_of self.now).kinds }
@@ -28,7 +28,8 @@ impl Machine {
         add(&turned, &motion.shift)
     }
 
-    /// Puts into `corners` where a motion takes the vertices of a kind.
+    /// Replaces `corners` by the corners of a tile: the vertices of the kind, moved, in order. There are at
+    /// most 12.
     pub fn put_corners(&self, kind: u8, motion: &Motion, corners: &mut ArrayVec<Point, 12>)
         requires exists { kind < length (rule_of self.now).kinds }
         requires turn_below { motion.now.turn < (points_of self.now.order).order }

@@ -1,4 +1,4 @@
-//! The vertices of all kinds, turned.
+//! The vertices of all kinds, in every turn.
 ghost use Rattle.std.specs.Prelude.{◌≡◌, ◌+◌, ◌*◌, ◌<◌, ◌≤◌, ◌^◌, ℕ, All, [], map, length, get_or, IsSome, IfOk, OnOk};
 ghost use Rattle.addressing.specs.Tables.{type_of};
 ghost use Rattle.substitution.specs.RuleParts.{edge_count};
@@ -19,14 +19,14 @@ use std::alloc::Global;
 use std::marker::Model;
 use tile_shape::no_memory::NoMemory;
 
-/// The vertices of all kinds, turned by all numbers of steps below the order.
+/// The vertices of all kinds, turned by each number of steps below the order.
 #[derive(Drop)]
 pub(crate) struct TurnedVertices {
-    /// How many places for vertices each kind has.
+    /// The number of places for vertices that each kind has.
     sides: u8,
-    /// How many turns there are.
+    /// The number of turns: the order n.
     turns: u8,
-    /// The points, by kind, turn and number of the vertex.
+    /// The points, by kind, then turn, then number of the vertex.
     points: Vec<SmallPoint>,
 }
 
@@ -40,7 +40,7 @@ impl Model for TurnedVertices {
 }
 
 impl TurnedVertices {
-    /// The vertices of the kinds of a rule.
+    /// Makes the turned vertices of a rule's kinds.
     pub(crate) fn new(alloc: Global, checked: &Checked) -> Result<TurnedVertices, NoMemory>
         ensures { IfOk result (λ vertices. AreTurned (tiling_of checked.now) vertices) }
     {
@@ -57,14 +57,14 @@ impl TurnedVertices {
         })
     }
 
-    /// How many places for vertices each kind has.
+    /// Returns the number of places for vertices that each kind has.
     pub(crate) fn sides(&self) -> u8
         ensures { result ≡ self.now.sides }
     {
         self.sides
     }
 
-    /// The vertex of this number of a kind, turned by so many steps.
+    /// Returns vertex `number` of a kind, turned by ζ^steps.
     pub(crate) fn at(&self, kind: u8, steps: u8, number: usize) -> Point
         requires exists { place_of self.now kind steps number < length self.now.points }
         ensures { result ≡ get_or self.now.points (place_of self.now kind steps number) origin }
@@ -74,8 +74,8 @@ impl TurnedVertices {
     }
 }
 
-/// Puts the vertices of all kinds, turned by all numbers of steps, into an empty list, by order, so that the turns of
-/// each stand in code of their own.
+/// Appends the vertices of all kinds, in every turn, to an empty list. Each order has compiled code of its
+/// own.
 fn push_by_order(
     checked: &Checked,
     order: Order,
@@ -99,7 +99,7 @@ fn push_by_order(
     }
 }
 
-/// The same.
+/// Like [`push_by_order`], within one order.
 #[inline(always)]
 fn push_rows(
     checked: &Checked,
@@ -127,7 +127,7 @@ fn push_rows(
     Ok(())
 }
 
-/// The point of this number, turned by so many steps, or the point 0 where there is none.
+/// Returns point `number`, turned by ζ^steps, or 0 if there is no such point.
 #[inline(always)]
 fn turned_point(order: Order, steps: u8, points: &[Point], number: usize) -> Point
     requires turn_below { steps < (points_of order).order }
@@ -144,7 +144,7 @@ fn turned_point(order: Order, steps: u8, points: &[Point], number: usize) -> Poi
     }
 }
 
-/// A number of places that is enough for the edges of each kind.
+/// Returns a number of places that is enough for the edges of each kind.
 fn most_edges(tables: &Tables) -> u8
     ensures { (k e : ℕ) → IsSome (type_of tables.now k e) → e < result }
 {
@@ -155,7 +155,7 @@ fn most_edges(tables: &Tables) -> u8
     most
 }
 
-/// The larger of two numbers.
+/// Returns the larger of two numbers.
 fn larger(a: u8, b: u8) -> u8
     ensures first { a ≤ result }
     ensures second { b ≤ result }

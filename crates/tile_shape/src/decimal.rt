@@ -2,7 +2,8 @@
 ghost use Rattle.std.specs.Prelude.{◌≡◌};
 ghost use Rattle.tile_shape.specs.Decimal.{is_figure, begins_right, number_up_to};
 
-/// The number that the text is, where it is at most `most`: `0`, or figures whose first isn't `0`.
+/// Reads a decimal number: `0`, or digits of which the first is not `0`. Returns None for any other text, and
+/// for a number above `most`.
 pub fn read_number(text: &[u8], most: u64) -> Option<u64>
     ensures { result ≡ number_up_to most text.now }
 {
@@ -22,7 +23,7 @@ pub fn read_number(text: &[u8], most: u64) -> Option<u64>
     Some(number as u64)
 }
 
-/// Whether there is a first figure, and it isn't `0` unless it stands alone.
+/// Returns true if the text has a first digit, and this is not `0` unless it is the only one.
 fn begins_right(text: &[u8]) -> bool
     ensures { result ≡ begins_right text.now }
 {
@@ -33,7 +34,7 @@ fn begins_right(text: &[u8]) -> bool
     }
 }
 
-/// Whether the byte is one of `0` to `9`.
+/// Returns true if the byte is one of `0` to `9`.
 pub(crate) fn is_figure(byte: u8) -> bool
     ensures { result ≡ is_figure byte }
 {

@@ -20,7 +20,7 @@ use Rattle.dissect_check.proofs.boundaries.parts_of_kind.Goals as goal
 pub returns-in_err-parts_of_edge-clause-fault : goal.returns-in_err-parts_of_edge-clause-fault
 returns-in_err-parts_of_edge-clause-fault c =
     let r = c.args.rule.now in
-    let p = err_from_is_err_and c.from_residual.result c.from_residual.ensures.1 in
+    let p = err_from_is_err_and c.from_residual-in_err-parts_of_edge.result c.from_residual-in_err-parts_of_edge.ensures.1 in
     rw (p.1, p.2)
     (agrees_below (Vec (Vec ChildEdge Global) Global) c.in_err-parts_of_edge.field-0.0 (λ e. part_fault c.args.kind e (parts_of_edge (points_of r.order) (rule_of r) c.args.kind e)) c.loop-edge.edge (edge_count (rule_of r) c.args.kind)
     c.loop-edge.invariant.no_fault (subst (λ n. c.loop-edge.edge < n) (c.edge_count-edge-end.ensures.numbers r.order) c.loop-edge-test.true) c.in_err-parts_of_edge.ensures.fault)

@@ -20,8 +20,8 @@ lie_at r k p h i l d e =
     let lie = lie_of (points_of r.order) (rule_of r) k in
     same_at as_lie lie (edge_in r.order) p.lies.items p.edges.items i d e loose (h.lies ∙ ap (map lie) (sym h.edges)) l
 
-pub returns-in-Loose : goal.returns-in-Loose
-returns-in-Loose c =
+pub returns-in-Loose-clause-fault : goal.returns-in-Loose-clause-fault
+returns-in-Loose-clause-fault c =
     let r = c.args.rule.now in
     let k = c.args.kind in
     let p = c.in_ok-parent.parent in

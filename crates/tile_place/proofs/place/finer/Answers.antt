@@ -5,43 +5,44 @@ use Rattle.substitution.specs.Placement.{finer}
 use Rattle.cyclo_points.specs.Order.{NumberOf, PointsLaw, points_of}
 use Rattle.cyclo_points.specs.Point.{point_in, IsOf}
 use Rattle.cyclo_points.specs.Motion.{motion_in}
-use Rattle.rule_model.specs.Views.{rule_of, child_in}
+use Rattle.rule_model.specs.Views.{child_in}
 use Rattle.cyclo_points.proofs.Within.{point_wider}
 use Rattle.tile_place.proofs.Finer.{finer_is}
 use Rattle.tile_place.proofs.place.finer.Goals as goal
 
 pub mul-inflated-requires-clause-p_within : goal.mul-inflated-requires-clause-p_within
-mul-inflated-requires-clause-p_within c = point_wider (2 ^ 24) (2 ^ 32) _ (lit≤ tt) c.requires.within
+mul-inflated-requires-clause-p_within g c = point_wider (2 ^ 24) (2 ^ 32) _ (lit≤ tt) c.requires.within
 
 pub mul-inflated-requires-clause-q_within : goal.mul-inflated-requires-clause-q_within
-mul-inflated-requires-clause-q_within c = point_wider 64 (2 ^ 16) _ (lit≤ tt) c.factor.ensures.small.within
+mul-inflated-requires-clause-q_within g c = point_wider 64 (2 ^ 16) _ (lit≤ tt) c.factor.ensures.small.within
 
 pub turn-turned-requires-clause-p_within : goal.turn-turned-requires-clause-p_within
-turn-turned-requires-clause-p_within c = point_wider 64 (2 ^ 40) _ (lit≤ tt) c.child-child.ensures.small.within
+turn-turned-requires-clause-p_within g c = point_wider 64 (2 ^ 40) _ (lit≤ tt) c.child-child.ensures.small.within
 
 pub add-requires-clause-p_within : goal.add-requires-clause-p_within
-add-requires-clause-p_within c = point_wider (8 * 2 ^ 24 * 64) (2 ^ 40) _ (lit≤ tt) (c.mul-inflated.ensures.bounded (2 ^ 24) 64 c.requires.within c.factor.ensures.small.within)
+add-requires-clause-p_within g c = point_wider (8 * 2 ^ 24 * 64) (2 ^ 40) _ (lit≤ tt) (c.mul-inflated.ensures.bounded (2 ^ 24) 64 c.requires.within c.factor.ensures.small.within)
 
 pub add-requires-clause-q_within : goal.add-requires-clause-q_within
-add-requires-clause-q_within c = point_wider (2 * 64) (2 ^ 40) _ (lit≤ tt) (c.turn-turned.ensures.at_most_doubled 64 c.child-child.ensures.small.within)
+add-requires-clause-q_within g c = point_wider (2 * 64) (2 ^ 40) _ (lit≤ tt) (c.turn-turned.ensures.at_most_doubled 64 c.child-child.ensures.small.within)
 
 pub returns-clause-moved : goal.returns-clause-moved
-returns-clause-moved c =
-    let r = c.args.checked.now in
+returns-clause-moved g c =
+    let t = g.P.Placing.tiling c.args.rule.now in
     let m = c.args.motion.now in
     let child = c.child-child.result in
-    let its_order : c.order-order.result ≡ r.order = c.order-order.ensures.order in
-    finer_is (points_of r.order) (subst PointsLaw its_order c.points_law.ensures) (rule_of r) (motion_in r.order m) (child_in r.order child).motion c.n.result
-    (point_in r.order c.factor.result) (point_in r.order c.mul-inflated.result) (point_in r.order c.turn-turned.result) (point_in r.order c.add.result)
+    let its_order : c.args.order ≡ t.order = c.requires.order in
+    finer_is (points_of t.order) (subst PointsLaw its_order c.points_law.ensures) t.rule (motion_in t.order m) (child_in t.order child).motion c.n.result
+    (point_in t.order c.factor.result) (point_in t.order c.mul-inflated.result) (point_in t.order c.turn-turned.result) (point_in t.order c.add.result)
     (subst (λ o. c.n.result ≡ (points_of o).order) its_order c.n.ensures)
-    (ap (point_in r.order) c.factor.ensures.factor)
+    c.factor.ensures.factor
     (subst (λ o. point_in o c.mul-inflated.result ≡ (points_of o).ring.mul (point_in o m.shift) (point_in o c.factor.result)) its_order c.mul-inflated.ensures.product)
     (subst (λ o. point_in o c.turn-turned.result ≡ (points_of o).ring.mul (power (points_of o).ring (points_of o).zeta m.turn) (point_in o child.shift)) its_order c.turn-turned.ensures.turned)
-    (c.add.ensures.sum r.order)
-    ∙ ap (λ (child : Child (NumberOf r.order)). finer (points_of r.order) (rule_of r) (motion_in r.order m) child.motion) c.child-child.ensures.number
+    (c.add.ensures.sum t.order)
+    ∙ ap (λ (child : Child (NumberOf t.order)). finer (points_of t.order) t.rule (motion_in t.order m) child.motion) c.child-child.ensures.number
 
 pub returns-clause-in_order : goal.returns-clause-in_order
-returns-clause-in_order c =
-    let same : c.order-order.result ≡ c.args.checked.now.order = c.order-order.ensures.order in
-    c.add.ensures.in_order c.args.checked.now.order (subst (λ o. IsOf o c.mul-inflated.result) same c.mul-inflated.ensures.in_order)
+returns-clause-in_order g c =
+    let t = g.P.Placing.tiling c.args.rule.now in
+    let same : c.args.order ≡ t.order = c.requires.order in
+    c.add.ensures.in_order t.order (subst (λ o. IsOf o c.mul-inflated.result) same c.mul-inflated.ensures.in_order)
     (subst (λ o. IsOf o c.turn-turned.result) same c.turn-turned.ensures.in_order)
