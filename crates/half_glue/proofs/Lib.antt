@@ -14,6 +14,8 @@ mod Searching
 mod Firsts
 mod KindSides
 mod OtherHalves
+mod AmongTiles
+mod PickedPairs
 mod BegunBehind
 mod GluedPolygon
 mod FirstGlueEdge

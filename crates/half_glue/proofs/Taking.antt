@@ -50,7 +50,7 @@ more-present n k l p h = record { first = omega (arith, h.first, l); second = by
     by_case None h = tt
     by_case (Some m) h = omega (arith, h, l)
 
-map-joined : {A B : Type 0} (g : A → B) (xs ys : List A) → map g (xs ++ ys) ≡ map g xs ++ map g ys
+pub map-joined : {A B : Type 0} (g : A → B) (xs ys : List A) → map g (xs ++ ys) ≡ map g xs ++ map g ys
 map-joined g [] ys = refl
 map-joined {A} {B} g (x ∷ xs) ys = ap (λ (zs : List B). g x ∷ zs) (map-joined g xs ys)
 

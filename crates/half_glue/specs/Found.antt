@@ -14,6 +14,7 @@ use Rattle.tile_place.specs.Keys.{key_of}
 use Rattle.tile_place.specs.declared.order_key.OrderKey.{OrderKey}
 use Rattle.tile_place.specs.declared.placed_tile.PlacedTile.{PlacedTile}
 use Rattle.tile_shape.specs.Views.{address_of}
+use Rattle.window_cover.specs.Numbered.{IsPlacedAt}
 use Rattle.lazy_walk.specs.Frames.{FrameValue, whole}
 use Rattle.lazy_walk.specs.Paths.{Crosses}
 use Rattle.half_glue.specs.declared.glue_side.OtherSide.{OtherSide}
@@ -40,6 +41,11 @@ pub record IsBeside (o : Order) (s : OtherSide) (own m : Motion) : Type 0 where
 abbrev pub StandsBeside : Order → Option OtherSide → Motion → List OrderKey → ℕ → Type 0
 StandsBeside o None own keys n = ⊥
 StandsBeside o (Some s) own keys n = (m : Motion) × IsBeside o s own m × Contains keys (key_of m s.kind n)
+
+-- the tile of that number is of the other kind and stands there
+abbrev pub StandsAmong : Order → Option OtherSide → Motion → List PlacedTile → ℕ → Type 0
+StandsAmong o None own tiles n = ⊥
+StandsAmong o (Some s) own tiles n = (m : Motion) × IsBeside o s own m × IsPlacedAt tiles m s.kind n
 
 -- each of two tiles of the frame is the only one across the only glue edge of the other, and they are of two kinds
 pub record AreGlued (t : Tiling) (f : FrameValue) (x y : PlacedTile) : Type 0 where

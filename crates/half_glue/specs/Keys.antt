@@ -1,11 +1,12 @@
 -- Keys of tiles and of whole tiles.
-use Rattle.std.specs.Prelude.{ℕ, zero, suc, Bool, true, not, cond, List, [], ◌∷◌, ◌++◌, get_or}
+use Rattle.std.specs.Prelude.{ℕ, zero, suc, Bool, true, not, cond, List, [], ◌∷◌, ◌++◌, get_or, None}
 use Rattle.std.specs.List.Sorted.{IsPermutation, IsSorted}
 use Rattle.std.specs.declared.cmp.Ordering.{Ordering}
 use Rattle.tile_place.specs.Keys.{key_of, FitsKey, are_level}
 use Rattle.tile_place.specs.contracts.order_key.OrderKeyOrd.TheImpl as key_ord
 use Rattle.tile_place.specs.declared.order_key.OrderKey.{OrderKey}
 use Rattle.tile_place.specs.declared.placed_tile.PlacedTile.{PlacedTile}
+use Rattle.half_glue.specs.declared.pairs.Pair.{Pair}
 use Rattle.half_glue.specs.declared.whole_tile.WholeTile.{WholeTile}
 
 -- the order by which keys are sorted
@@ -45,3 +46,10 @@ is_new ks (suc i) = not (are_level (get_or ks (suc i) no_key) (get_or ks i no_ke
 -- the whole tile of the key at a place
 abbrev pub whole_at : List WholeTile → WholeTile → List OrderKey → ℕ → WholeTile
 whole_at made blank ks i = get_or made (get_or ks i no_key).number blank
+
+-- the pair of the key at a place
+abbrev pub no_pair : Pair
+no_pair = record { first = 0; second = None }
+
+abbrev pub pair_at : List Pair → List OrderKey → ℕ → Pair
+pair_at pairs ks i = get_or pairs (get_or ks i no_key).number no_pair

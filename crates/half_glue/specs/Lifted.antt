@@ -1,5 +1,5 @@
 -- Whole tiles lifted to the depth of a frame, as the program has them.
-use Rattle.std.specs.Prelude.{◌≤◌, List, length, map, Option, None, Some}
+use Rattle.std.specs.Prelude.{◌≤◌, List, All, length, map, Option, None, Some}
 use Rattle.addressing.specs.Address as theory
 use Rattle.frames.specs.Frame.{lifted_in}
 use Rattle.tile_place.specs.declared.placed_tile.PlacedTile.{PlacedTile}
@@ -9,7 +9,7 @@ use Rattle.tile_shape.specs.Views.{address_of, address_as}
 use Rattle.lazy_walk.specs.Frames.{FrameValue, whole}
 use Rattle.half_glue.specs.declared.pairs.Pair.{Pair}
 use Rattle.half_glue.specs.declared.whole_tile.WholeTile.{WholeTile}
-use Rattle.half_glue.specs.Pairs.{loose_of}
+use Rattle.half_glue.specs.Pairs.{ArePresent, loose_of}
 
 -- the tile is no deeper than the frame
 abbrev pub IsNoDeeper : FrameValue → PlacedTile → Type 0
@@ -34,3 +34,8 @@ whole_of f tiles p = whole_to f (loose_of tiles p)
 -- those of all pairs
 abbrev pub wholes_of : FrameValue → List PlacedTile → List Pair → List WholeTile
 wholes_of f tiles pairs = map (whole_of f tiles) pairs
+
+-- the numbers of these pairs are those of tiles that can be lifted to the frame's depth
+pub record CanBeWholes (f : FrameValue) (tiles : List PlacedTile) (pairs : List Pair) : Type 0 where
+  pub present : All (ArePresent (length tiles)) pairs
+  pub no_deeper : All (IsNoDeeper f) tiles

@@ -1,4 +1,4 @@
-//! Whole tiles in order, each once.
+//! Puts whole tiles in order, each exactly once.
 ghost use Rattle.std.specs.Prelude.{◌≡◌, ◌<◌, ◌^◌, ◌++◌, All, length, IfOk};
 ghost use Rattle.lazy_walk.specs.Frames.{FrameValue};
 ghost use Rattle.half_glue.specs.Found.{tile_of};
@@ -19,7 +19,8 @@ use tile_place::order_key::OrderKey;
 use tile_place::placed_tile::PlacedTile;
 use tile_shape::no_memory::NoMemory;
 
-/// The whole tiles of pairs, in the order of their first halves. Those with one first half come once.
+/// Makes the whole tiles of pairs, in the order of their first halves. Pairs with the same first half become
+/// one whole tile.
 pub(crate) fn arranged(
     alloc: Global,
     frame: &Frame,
@@ -38,7 +39,7 @@ pub(crate) fn arranged(
     picked(alloc, frame, tiles, made, keys.as_slice())
 }
 
-/// The keys of the first halves of pairs, in the order of the pairs.
+/// Returns the keys of the first halves of pairs, in the order of the pairs.
 fn keys(alloc: Global, tiles: &[PlacedTile], made: &Pairs) -> Result<Vec<OrderKey>, NoMemory>
     requires few { length made.now.pairs.items < 2 ^ 32 }
     requires numbered { All (ArePresent (length (tiles.now ++ made.now.crossed.items))) made.now.pairs.items }
@@ -54,7 +55,7 @@ fn keys(alloc: Global, tiles: &[PlacedTile], made: &Pairs) -> Result<Vec<OrderKe
     Ok(keys)
 }
 
-/// The whole tiles of those keys that aren't level with the key before.
+/// Returns the whole tiles of those keys whose place and kind differ from those of the key before.
 fn picked(
     alloc: Global,
     frame: &Frame,
@@ -80,8 +81,8 @@ fn picked(
     Ok(wholes)
 }
 
-/// Whether the key at a place isn't level with the key before.
-fn is_new(keys: &[OrderKey], place: usize) -> bool
+/// Returns true if the key at `place` differs in place or kind from the key before, or has none before it.
+pub(crate) fn is_new(keys: &[OrderKey], place: usize) -> bool
     requires below { place < length keys.now }
     ensures { result ≡ is_new keys.now place }
 {
@@ -93,7 +94,7 @@ fn is_new(keys: &[OrderKey], place: usize) -> bool
     !key.is_level(&before)
 }
 
-/// The whole tile of a pair, each tile of it lifted to the frame's depth.
+/// Makes the whole tile of a pair, with each tile lifted to the frame's depth.
 fn whole(frame: &Frame, tiles: &[PlacedTile], crossed: &[PlacedTile], pair: Pair) -> WholeTile
     requires present { ArePresent (length (tiles.now ++ crossed.now)) pair }
     requires no_deeper { All (IsNoDeeper frame.now) (tiles.now ++ crossed.now) }
@@ -108,7 +109,7 @@ fn whole(frame: &Frame, tiles: &[PlacedTile], crossed: &[PlacedTile], pair: Pair
     }
 }
 
-/// A tile lifted to the frame's depth.
+/// Returns a tile lifted to the frame's depth.
 fn lifted(frame: &Frame, tile: &PlacedTile) -> PlacedTile
     requires no_deeper { IsNoDeeper frame.now tile.now }
     ensures { result ≡ lifted_to frame.now tile.now }
@@ -120,7 +121,7 @@ fn lifted(frame: &Frame, tile: &PlacedTile) -> PlacedTile
     }
 }
 
-/// The tile of a number: first those given have numbers, and then those crossed to.
+/// Returns the tile with this number. The given tiles come first in the numbering, then the tiles crossed to.
 fn tile_of<'a>(tiles: &'a [PlacedTile], crossed: &'a [PlacedTile], number: u32) -> &'a PlacedTile
     requires below { number < length (tiles.now ++ crossed.now) }
     ensures { result.now ≡ tile_of (tiles.now ++ crossed.now) number }

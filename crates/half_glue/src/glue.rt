@@ -24,13 +24,21 @@ use std::sync::ledger::{Blank, Ledger};
 use tile_place::machine::Machine;
 use tile_place::placed_tile::PlacedTile;
 
-/// The whole tiles of tiles of the frame: each tile with a glue edge is joined with the tile across it, whether this
-/// one is given or not, and one whole tile stands for both. A tile without one stands alone. They come in the order
-/// of the shifts, turns and kinds of their first halves, with addresses of the frame's depth on return. That is the
-/// least depth, not below the one that the frame has, at which no glue edge of a tile given is on the boundary.
+/// Joins half tiles into whole tiles. Each given tile with a glue edge is joined with the tile across it,
+/// whether that one is given or not; one whole tile stands for both. A tile without a glue edge stays alone.
 ///
-/// The tiles are taken in the order given. One whose glue edge is on the boundary at depth 64 is refused, and so is
-/// one across whose glue edge lies a tile with a coefficient of its shift above 2^24.
+/// The whole tiles are ordered by shift, then turn, then kind of their first halves. Their addresses have the
+/// frame's depth on return. The frame grows to the least depth, not below the one it has, at which no glue
+/// edge of a given tile is on the boundary.
+///
+/// # Errors
+///
+/// The tiles are taken in the given order.
+///
+/// - `DepthLimit`: the glue edge of a given tile is on the boundary at depth 64.
+/// - `CoordLimit`: the tile across the glue edge of a given tile has a shift with a coefficient above 2^24 in
+///   absolute value.
+/// - `NoMemory`: memory ran out.
 pub fn glue(
     alloc: Global,
     machine: &Machine,
@@ -43,16 +51,18 @@ pub fn glue(
 
     ensures frame { GrowsTo (tiling_of machine.now) frame.old frame.new }
 
-    // Exactly the whole tiles of the tiles given, each once and in its place, at the least depth.
+    // Exactly the whole tiles of the given tiles, each once and in its place, at the least depth.
     ensures whole_tiles { IfOk result (λ wholes. AreWholeTilesOf (tiling_of machine.now) frame.new tiles.now.items wholes.items) }
     ensures in_order { IfOk result (λ wholes. AreInOrder wholes.items) }
     ensures least { OnOk result (IsLeastForGlue (tiling_of machine.now) frame.old tiles.now.items (length frame.new.digits)) }
 
-    // Whatever is answered, at each depth that the frame has left behind a tile given has its glue edge on the boundary.
+    // Even on an error: at each depth that the frame grew past, a given tile has its glue edge on the
+    // boundary.
     ensures not_beyond { (n : ℕ) → length frame.old.digits ≤ n → n < length frame.new.digits
         → IsTooShallow (tiling_of machine.now) frame.old tiles.now.items n }
 
-    // Ok comes exactly where all can be glued, but for want of memory, and each fault only for its cause.
+    // The call succeeds if and only if all given tiles can be glued, unless memory runs out. Each error comes
+    // only for its cause.
     ensures within { OnOk result (CanBeGlued (tiling_of machine.now) frame.old tiles.now.items) }
     ensures answered { CanBeGlued (tiling_of machine.now) frame.old tiles.now.items → (result ≡ Err NoMemory) ⊎ IsOk result }
     ensures cause { IfErr result (λ fault. HasGlueCause (tiling_of machine.now) frame.old frame.new tiles.now.items fault) }
@@ -60,7 +70,7 @@ pub fn glue(
     glued::<Brand>(alloc, machine, frame, tiles.as_slice(), Blank::new(1))
 }
 
-/// The same, with look-ups counted on a ledger of this name.
+/// Like [`glue`], and counts the look-ups on a ledger with this name.
 fn glued<L: Ledger>(
     alloc: Global,
     machine: &Machine,

@@ -5,22 +5,23 @@ use std::alloc::{AllocError, AllocFailed};
 use tile_shape::address::Address;
 use tile_shape::no_memory::NoMemory;
 
-/// Why whole tiles are not answered.
+/// Why no whole tiles are returned.
 #[derive(Debug, Drop, PartialEq, Eq)]
 pub enum GlueFault {
-    /// A tile given has its glue edge on the boundary at depth 64.
+    /// The glue edge of a given tile is on the boundary at depth 64.
     DepthLimit {
-        /// The tile's address, lifted to that depth.
+        /// The tile's address, with 64 digits.
         addr: Address,
-        /// Its glue edge.
+        /// The number of its glue edge.
         edge: u8,
     },
-    /// The tile across the glue edge of a tile given has a refused shift.
+    /// The tile across the glue edge of a given tile has a shift with a coefficient above 2^24 in absolute
+    /// value.
     CoordLimit {
-        /// The shift.
+        /// That shift.
         value: Point,
     },
-    /// No memory was left.
+    /// Memory ran out.
     NoMemory,
 }
 

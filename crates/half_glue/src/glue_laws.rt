@@ -1,4 +1,4 @@
-//! What gluing rests on.
+//! The laws that gluing needs.
 ghost use Rattle.half_glue.specs.Checked.{HasGlueLaws};
 
 use cyclo_points::points_law;
@@ -7,7 +7,7 @@ use seeded_growth::laws::grown_fits_law;
 use tile_place::machine::Machine;
 use windows::frame_laws::frame_name_law;
 
-/// The laws of the machine's tiling on which gluing rests.
+/// The laws of the machine's tiling that gluing needs.
 pub(crate) fn glue_laws(machine: &Machine)
     ensures { HasGlueLaws machine.now }
 {

@@ -10,21 +10,21 @@ use std::alloc::Global;
 use tile_place::machine::Machine;
 use tile_shape::no_memory::NoMemory;
 
-/// The kind of the other half, and the motion that brings its glue edge onto the reverse of this half's.
+/// The other half: its kind, and the motion that takes its glue edge onto the reverse of this half's.
 #[derive(Clone, Copy, Debug)]
 pub(crate) struct OtherSide {
     pub(crate) kind: u8,
     pub(crate) glue: Motion,
 }
 
-/// The glue edge of a kind, and what lies across it.
+/// The glue edge of a kind, and the half across it.
 #[derive(Clone, Copy, Debug)]
 pub(crate) struct GlueSide {
     pub(crate) edge: u8,
     pub(crate) other: Option<OtherSide>,
 }
 
-/// The glue edge of each kind of a rule that has one.
+/// Returns, for each kind of a rule, its glue edge if it has one.
 pub(crate) fn glue_sides(
     alloc: Global,
     machine: &Machine,
@@ -40,7 +40,7 @@ pub(crate) fn glue_sides(
     Ok(sides)
 }
 
-/// The glue edge of a kind.
+/// Returns the glue edge of a kind, if it has one.
 fn glue_side(machine: &Machine, kind: u8) -> Option<GlueSide>
     requires exists { kind < length (tiling_of machine.now).rule.kinds }
     ensures { IsSideOf (tiling_of machine.now) kind result }
@@ -54,7 +54,7 @@ fn glue_side(machine: &Machine, kind: u8) -> Option<GlueSide>
     }
 }
 
-/// The other half of a kind.
+/// Returns the other half of a kind, across this edge.
 fn other_side(machine: &Machine, kind: u8, edge: u8) -> Option<OtherSide>
     requires exists { kind < length (tiling_of machine.now).rule.kinds }
     requires glue_edge { IsGlueEdge (tiling_of machine.now).rule kind edge }
@@ -77,7 +77,7 @@ fn other_side(machine: &Machine, kind: u8, edge: u8) -> Option<OtherSide>
     None
 }
 
-/// Whether the type of one edge is the mate of another's.
+/// Returns true if the types of two edges are mates.
 fn are_mates(machine: &Machine, kind: u8, edge: u8, other: u8, back: u8) -> bool
     requires exists { kind < length (tiling_of machine.now).rule.kinds }
     requires glue_edge { IsGlueEdge (tiling_of machine.now).rule kind edge }

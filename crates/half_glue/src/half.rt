@@ -1,4 +1,4 @@
-//! The other half of a tile.
+//! Finds the other half of a tile.
 ghost use Rattle.std.specs.Prelude.{◌≡◌, ◌<◌, ◌≤◌, ◌^◌, ℕ, [], ◌∷◌, length, IsOk, IfOk, IfErr, IfSome, OnOk};
 ghost use Rattle.std.specs.List.Sorted.{IsSorted};
 ghost use Rattle.addressing.specs.Address.{depth};
@@ -36,19 +36,19 @@ use tile_place::order_key::OrderKey;
 use tile_place::placed_tile::PlacedTile;
 use tile_shape::address::Address;
 
-/// How a tile given is glued.
+/// How a given tile is glued.
 #[derive(Debug, Drop)]
 pub(crate) enum Found {
-    /// It has no glue edge.
+    /// The tile has no glue edge.
     Alone,
-    /// The other half is the tile given of this number.
+    /// The other half is the given tile with this number.
     Given(u32),
-    /// The other half is this tile, to which one crosses.
+    /// The other half is this tile, found by crossing the glue edge.
     Crossed(PlacedTile),
 }
 
-/// The other half of a tile given: it is looked up among the tiles given, and crossed to where it isn't one of them.
-/// The frame grows until the tile's glue edge is inside.
+/// Finds the other half of a given tile. It looks it up among the given tiles, and crosses the glue edge if
+/// it is not one of them. The frame grows until the glue edge is not on the boundary.
 pub(crate) fn other_half<L: Ledger>(
     machine: &Machine,
     frame: &mut Frame,
@@ -85,7 +85,7 @@ pub(crate) fn other_half<L: Ledger>(
     Ok(Found::Crossed(other))
 }
 
-/// The number of the tile given across the glue edge of a tile, where there is one.
+/// Returns the number of the given tile across the glue edge of a tile, if there is one.
 fn given_half(
     machine: &Machine,
     side: &GlueSide,
@@ -107,8 +107,8 @@ fn given_half(
     number_of(keys, &motion, other.kind)
 }
 
-/// Grows the frame until the glue edge of a tile given is inside, and crosses it.
-fn crossed_half<L: Ledger>(
+/// Grows the frame until the glue edge of a given tile is not on the boundary, and crosses it.
+pub(crate) fn crossed_half<L: Ledger>(
     machine: &Machine,
     frame: &mut Frame,
     tile: &PlacedTile,
@@ -139,7 +139,7 @@ fn crossed_half<L: Ledger>(
     Ok(other)
 }
 
-/// The tile to which one came across the glue edge of a tile given, in its place.
+/// Returns the tile across the glue edge of a given tile, in its place.
 fn placed_beside(
     machine: &Machine,
     frame: &Frame,

@@ -1,4 +1,4 @@
-//! Tiles by their places.
+//! Looks up tiles by their places.
 ghost use Rattle.std.specs.Prelude.{◌≡◌, ◌<◌, ◌≤◌, ◌^◌, ℕ, All, length, None, IfOk, IfSome};
 ghost use Rattle.std.specs.List.{Contains};
 ghost use Rattle.std.specs.List.Sorted.{IsPermutation, IsSorted};
@@ -13,7 +13,7 @@ use tile_place::order_key::OrderKey;
 use tile_place::placed_tile::PlacedTile;
 use tile_shape::no_memory::NoMemory;
 
-/// The keys of tiles, in order.
+/// Returns the keys of tiles, sorted.
 pub(crate) fn sorted_keys(alloc: Global, tiles: &[PlacedTile]) -> Result<Vec<OrderKey>, NoMemory>
     requires few { length tiles.now ≤ most_tiles }
     requires fit { All HasKey tiles.now }
@@ -25,7 +25,7 @@ pub(crate) fn sorted_keys(alloc: Global, tiles: &[PlacedTile]) -> Result<Vec<Ord
     Ok(keys)
 }
 
-/// The keys of tiles, in the order of the tiles.
+/// Returns the keys of tiles, in the order of the tiles.
 fn keys(alloc: Global, tiles: &[PlacedTile]) -> Result<Vec<OrderKey>, NoMemory>
     requires few { length tiles.now ≤ most_tiles }
     requires fit { All HasKey tiles.now }
@@ -40,7 +40,7 @@ fn keys(alloc: Global, tiles: &[PlacedTile]) -> Result<Vec<OrderKey>, NoMemory>
     Ok(keys)
 }
 
-/// The number of a tile of this kind at this place, by keys in order.
+/// Returns the number of a tile with this kind and place, from sorted keys, or None if there is none.
 pub(crate) fn number_of(keys: &[OrderKey], motion: &Motion, kind: u8) -> Option<u32>
     requires within { IsWithin (2 ^ 24) motion.now.shift }
     requires turn_fits { motion.now.turn < 16 }

@@ -1,4 +1,4 @@
-//! The whole tiles of tiles given, by numbers.
+//! Finds the whole tiles of given tiles, by numbers.
 ghost use Rattle.std.specs.Prelude.{◌≡◌, ◌⊎◌, ◌<◌, ◌≤◌, ℕ, length, Err, IsOk, IfOk, IfErr, OnOk};
 ghost use Rattle.rule_model.specs.Tiling.{tiling_of};
 ghost use Rattle.lazy_walk.specs.Frames.{IsFrameOf, GrowsTo};
@@ -23,8 +23,8 @@ use std::sync::ledger::Ledger;
 use tile_place::machine::Machine;
 use tile_place::placed_tile::PlacedTile;
 
-/// The whole tiles of tiles given, which are taken in their order. The frame grows to the least depth at which the
-/// glue edges of all of them are inside.
+/// Finds the whole tiles of given tiles, which it takes in their order. The frame grows to the least depth at
+/// which none of their glue edges is on the boundary.
 pub(crate) fn paired<L: Ledger>(
     alloc: Global,
     machine: &Machine,

@@ -1,5 +1,5 @@
-//! Halves in pairs.
-ghost use Rattle.std.specs.Prelude.{◌≡◌, ◌<◌, ◌≤◌, ◌++◌, length, OnOk};
+//! Pairs of halves.
+ghost use Rattle.std.specs.Prelude.{◌≡◌, ◌<◌, ◌≤◌, ◌++◌, nat_lt, length, OnOk};
 ghost use Rattle.half_glue.specs.Found.{IsNumbered};
 ghost use Rattle.half_glue.specs.Pairs.{pair_of, added_pairs, added_tiles};
 ghost use Rattle.windows.specs.Limits.{most_tiles};
@@ -7,13 +7,15 @@ ghost use Rattle.windows.specs.Limits.{most_tiles};
 use crate::half::Found;
 use tile_place::placed_tile::PlacedTile;
 use tile_shape::no_memory::NoMemory;
+use window_cover::covered_tiles::CoveredTiles;
 
-/// A whole tile by the numbers of its tiles: first those given have numbers, and then those crossed to.
+/// A whole tile, by the numbers of its tiles. The given tiles come first in the numbering, then the tiles
+/// crossed to.
 #[derive(Clone, Copy, Debug)]
 pub(crate) struct Pair {
-    /// The tile alone, or the half of the lesser kind.
+    /// The single tile, or the half with the lesser kind.
     pub(crate) first: u32,
-    /// The other half.
+    /// The other half, if there is one.
     pub(crate) second: Option<u32>,
 }
 
@@ -24,8 +26,7 @@ pub(crate) struct Pairs {
     pub(crate) crossed: Vec<PlacedTile>,
 }
 
-/// Puts the whole tile of a tile given to the others. Where the other half is given too, the half of the lesser kind
-/// brings it.
+/// Adds the whole tile of a given tile. If both halves are given, only the half with the lesser kind adds it.
 pub(crate) fn put(
     made: &mut Pairs,
     tiles: &[PlacedTile],
@@ -63,7 +64,55 @@ pub(crate) fn put(
     Ok(())
 }
 
-/// Two halves, that of the lesser kind first.
+/// Like [`put`], for the tiles of a window.
+pub(crate) fn put_covered(
+    made: &mut Pairs,
+    tiles: &CoveredTiles,
+    number: usize,
+    found: Found,
+) -> Result<(), NoMemory>
+    requires few { length tiles.now ≤ most_tiles }
+    requires below { number < length tiles.now }
+    requires few_crossed { length made.old.crossed.items ≤ number }
+    requires numbered { IsNumbered tiles.now found }
+    ensures pairs { OnOk result (made.new.pairs.items ≡ made.old.pairs.items ++ added_pairs tiles.now number (length made.old.crossed.items) found) }
+    ensures crossed { OnOk result (made.new.crossed.items ≡ made.old.crossed.items ++ added_tiles found) }
+{
+    let own = number as u32;
+    let kind = tiles.kind(number);
+    match found {
+        Found::Alone => made.pairs.push(Pair {
+            first: own,
+            second: None,
+        })?,
+        Found::Given(other) => {
+            let other_kind = tiles.kind(other as usize);
+            if is_less(kind, other_kind) {
+                made.pairs.push(Pair {
+                    first: own,
+                    second: Some(other),
+                })?;
+            }
+        }
+        Found::Crossed(other) => {
+            let count = tiles.len();
+            let crossed = made.crossed.len();
+            let both = pair_of(kind, own, other.kind, (count + crossed) as u32);
+            made.pairs.push(both)?;
+            made.crossed.push(other)?;
+        }
+    }
+    Ok(())
+}
+
+/// Returns true if `kind` is less than `other`.
+fn is_less(kind: u8, other: u8) -> bool
+    ensures { result ≡ nat_lt kind other }
+{
+    kind < other
+}
+
+/// Makes a pair of two halves, with the lesser kind first.
 fn pair_of(kind: u8, number: u32, other_kind: u8, other: u32) -> Pair
     ensures { result ≡ pair_of kind number other_kind other }
 {

@@ -8,9 +8,13 @@ use tile_place::machine::Machine;
 use windows::frame_laws::frame_patch_law;
 use windows::patch_laws::gluing_law;
 
-/// The laws of the whole tiles of a machine's tiling. Two halves are glued along the only glue edge of each. At each
-/// test point the outline of a whole tile counts as its parts do together. Whole tiles in order share no part. So
-/// whole tiles of tiles that cover a window cover it: each test point in the window belongs to exactly one of them.
+/// The laws of the whole tiles of a machine's tiling.
+///
+/// - Two halves are glued along the only glue edge of each.
+/// - At each test point, the outline of a whole tile has the count of its parts together.
+/// - Distinct whole tiles, in order, share no part.
+/// - So whole tiles of tiles that cover a window cover it: each test point in the window belongs to exactly
+///   one of them.
 pub fn whole_tiles_law(machine: &Machine)
     ensures glue_edge { FirstGlueEdgeLaw (tiling_of machine.now) }
     ensures counts { WholesCountLaw (tiling_of machine.now) }

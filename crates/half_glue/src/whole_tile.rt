@@ -1,11 +1,11 @@
 //! A whole tile.
 use tile_place::placed_tile::PlacedTile;
 
-/// A tile that is glued along no edge, or two halves glued into one tile.
+/// A tile without a glue edge, or two halves glued into one tile.
 #[derive(Debug, Drop, PartialEq, Eq)]
 pub struct WholeTile {
-    /// The tile alone, or the half of the lesser kind.
+    /// The single tile, or the half with the lesser kind.
     pub first: PlacedTile,
-    /// The other half.
+    /// The other half, if there is one.
     pub second: Option<PlacedTile>,
 }

@@ -1,0 +1,19 @@
+use Rattle.std.proofs.Common.{◌≡◌, ◌<◌, ◌++◌, length, sym, ◌∙◌, subst, rules}
+use Rattle.tile_place.specs.declared.placed_tile.PlacedTile.{PlacedTile}
+use Rattle.half_glue.proofs.AmongTiles.{tile-is, front-there, behind-there}
+use Rattle.half_glue.proofs.glued_tiles.put_loose.Goals as goal
+
+pub returns-then-place-count : goal.returns-then-place-count
+returns-then-place-count c =
+    let tiles = c.args.tiles.now in
+    let n = c.args.number in
+    let below : n < length tiles = subst (λ k. n < k) c.len-count.ensures c.if-place-count.true in
+    sym (front-there tiles c.args.crossed.now n below ∙ tile-is tiles n below _ c.put.ensures)
+
+pub returns-else-place-count : goal.returns-else-place-count
+returns-else-place-count c =
+    let x = c.index-crossed-place.result in
+    let e = behind-there c.args.tiles.now c.args.crossed.now c.args.number c.len-count.result c.len-count.ensures c.if-place-count.false c.requires.below x c.index-crossed-place.is in
+    let own : PlacedTile = record { kind = x.kind; motion = x.motion; addr = c.copy.result } in
+    let same : ◌≡◌ {A = PlacedTile} own x = search rules in
+    same ∙ sym e

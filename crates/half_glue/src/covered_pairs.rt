@@ -1,0 +1,70 @@
+//! Finds the whole tiles of the tiles of a window, by numbers.
+ghost use Rattle.std.specs.Prelude.{◌≡◌, ◌⊎◌, ◌<◌, ◌≤◌, ℕ, length, Err, IsOk, IfOk, IfErr, OnOk};
+ghost use Rattle.rule_model.specs.Tiling.{tiling_of};
+ghost use Rattle.lazy_walk.specs.Frames.{IsFrameOf, GrowsTo};
+ghost use Rattle.windows.specs.Limits.{most_tiles};
+ghost use Rattle.window_cover.specs.InOrder as covered;
+ghost use Rattle.half_glue.specs.declared.glue_fault.GlueFault.TheVariants.{NoMemory};
+ghost use Rattle.half_glue.specs.Causes.{HasGlueCause};
+ghost use Rattle.half_glue.specs.Depth.{IsLeastForGlue, IsTooShallow};
+ghost use Rattle.half_glue.specs.Given.{AreGiven};
+ghost use Rattle.half_glue.specs.Limits.{CanBeGlued};
+ghost use Rattle.half_glue.specs.Pairs.{ArePairsOf};
+
+use crate::covered_half::other_half;
+use crate::glue_fault::GlueFault;
+use crate::glue_laws::glue_laws;
+use crate::glue_side::glue_sides;
+use crate::guesses::Guesses;
+use crate::pairs::{Pairs, put_covered};
+use edge_tables::steps::Steps;
+use lazy_walk::frame::Frame;
+use std::alloc::Global;
+use std::sync::ledger::Ledger;
+use tile_place::machine::Machine;
+use window_cover::covered_tiles::CoveredTiles;
+
+/// Finds the whole tiles of the tiles of a window, which it takes in their order. The frame grows to the
+/// least depth at which none of their glue edges is on the boundary.
+pub(crate) fn paired<L: Ledger>(
+    alloc: Global,
+    machine: &Machine,
+    frame: &mut Frame,
+    tiles: &CoveredTiles,
+    steps: &mut Steps<L>,
+) -> Result<Pairs, GlueFault>
+    requires frame { IsFrameOf (tiling_of machine.now) frame.old }
+    requires few { length tiles.now ≤ most_tiles }
+    requires given { AreGiven (tiling_of machine.now) frame.old tiles.now }
+    requires in_order { covered.AreInOrder tiles.now }
+    ensures frame { GrowsTo (tiling_of machine.now) frame.old frame.new }
+    ensures paired { IfOk result (λ made. ArePairsOf (tiling_of machine.now) frame.new tiles.now made.crossed.items made.pairs.items) }
+    ensures least { OnOk result (IsLeastForGlue (tiling_of machine.now) frame.old tiles.now (length frame.new.digits)) }
+    ensures not_beyond { (n : ℕ) → length frame.old.digits ≤ n → n < length frame.new.digits
+        → IsTooShallow (tiling_of machine.now) frame.old tiles.now n }
+    ensures within { OnOk result (CanBeGlued (tiling_of machine.now) frame.old tiles.now) }
+    ensures answered { CanBeGlued (tiling_of machine.now) frame.old tiles.now → (result ≡ Err NoMemory) ⊎ IsOk result }
+    ensures cause { IfErr result (λ fault. HasGlueCause (tiling_of machine.now) frame.old frame.new tiles.now fault) }
+{
+    glue_laws(machine);
+    let sides = glue_sides(alloc, machine)?;
+    let mut guesses = Guesses::new(alloc, tiles)?;
+    let mut made = Pairs {
+        pairs: Vec::new(alloc),
+        crossed: Vec::new(alloc),
+    };
+    let count = tiles.len();
+    for number in 0..count {
+        let found = other_half(
+            machine,
+            frame,
+            sides.as_slice(),
+            tiles,
+            &mut guesses,
+            number,
+            steps,
+        )?;
+        put_covered(&mut made, tiles, number, found)?;
+    }
+    Ok(made)
+}

@@ -1,0 +1,134 @@
+//! The whole tiles of a window, to be read one at a time.
+ghost use Rattle.std.specs.Prelude.{◌≡◌, ◌<◌, ◌++◌, All, Some, length, slice_get, IfSome, IsTrue};
+ghost use Rattle.std.specs.Option.{is_some};
+ghost use Rattle.half_glue.specs.Found.{tile_of};
+ghost use Rattle.half_glue.specs.Lifted.{IsNoDeeper, lifted_to};
+
+use crate::pairs::Pair;
+use cyclo_points::motion::Motion;
+use lazy_walk::frame::Frame;
+use std::marker::Model;
+use tile_place::placed_tile::PlacedTile;
+use tile_shape::address::Address;
+use window_cover::covered_tiles::CoveredTiles;
+
+/// The whole tiles of the tiles of a window, in the order of their first halves. Contracts see the list of
+/// them. The memory for each is the numbers of its tiles.
+#[derive(Drop)]
+pub struct GluedTiles {
+    pub(crate) tiles: CoveredTiles,
+    /// The tiles across glue edges that are not tiles of the window.
+    pub(crate) crossed: Vec<PlacedTile>,
+    /// The whole tiles, in order.
+    pub(crate) pairs: Vec<Pair>,
+    /// The frame after it has grown.
+    pub(crate) frame: Frame,
+}
+
+impl Model for GluedTiles {
+    ghost use Rattle.std.specs.Prelude.{List, ◌++◌};
+    ghost use Rattle.half_glue.specs.declared.whole_tile.WholeTile.{WholeTile};
+    ghost use Rattle.half_glue.specs.Lifted.{wholes_of, CanBeWholes};
+
+    ghost Value = { List WholeTile };
+
+    ghost view = { λ g. wholes_of g.frame (g.tiles ++ g.crossed.items) g.pairs.items };
+
+    ghost invariant = { λ g. CanBeWholes g.frame (g.tiles ++ g.crossed.items) g.pairs.items };
+}
+
+impl GluedTiles {
+    /// Returns the number of whole tiles.
+    pub fn len(&self) -> usize
+        ensures { result ≡ length self.now }
+    {
+        self.pairs.len()
+    }
+
+    /// Returns true if the whole tile at a place in the order, from 0, has a second half.
+    pub fn is_pair(&self, place: usize) -> bool
+        requires below { place < length self.now }
+        ensures { IfSome (slice_get self.now place) (λ w. result ≡ is_some w.second) }
+    {
+        self.pairs[place].second.is_some()
+    }
+
+    /// Replaces a kind, a motion and an address by those of the first half of the whole tile at a place in
+    /// the order.
+    pub fn put_first(&self, place: usize, kind: &mut u8, motion: &mut Motion, addr: &mut Address)
+        requires below { place < length self.now }
+        ensures { IfSome (slice_get self.now place) (λ w. w.first ≡ record { kind = kind.new; motion = motion.new; addr = addr.new }) }
+    {
+        let number = self.pairs[place].first;
+        put_part(
+            &self.tiles,
+            self.crossed.as_slice(),
+            &self.frame,
+            number,
+            kind,
+            motion,
+            addr,
+        );
+    }
+
+    /// Like [`put_first`](Self::put_first), for the second half, which must exist.
+    pub fn put_second(&self, place: usize, kind: &mut u8, motion: &mut Motion, addr: &mut Address)
+        requires below { place < length self.now }
+        requires is_pair { IfSome (slice_get self.now place) (λ w. IsTrue (is_some w.second)) }
+        ensures { IfSome (slice_get self.now place) (λ w. w.second ≡ Some (record { kind = kind.new; motion = motion.new; addr = addr.new })) }
+    {
+        let number = self.pairs[place].second.unwrap();
+        put_part(
+            &self.tiles,
+            self.crossed.as_slice(),
+            &self.frame,
+            number,
+            kind,
+            motion,
+            addr,
+        );
+    }
+}
+
+/// Replaces a kind, a motion and an address by those of the tile with this number, lifted to the frame's
+/// depth. The tiles of the window come first in the numbering, then the tiles crossed to.
+fn put_part(
+    tiles: &CoveredTiles,
+    crossed: &[PlacedTile],
+    frame: &Frame,
+    number: u32,
+    kind: &mut u8,
+    motion: &mut Motion,
+    addr: &mut Address,
+)
+    requires below { number < length (tiles.now ++ crossed.now) }
+    requires no_deeper { All (IsNoDeeper frame.now) (tiles.now ++ crossed.now) }
+    ensures { record { kind = kind.new; motion = motion.new; addr = addr.new } ≡ lifted_to frame.now (tile_of (tiles.now ++ crossed.now) number) }
+{
+    put_loose(tiles, crossed, number, kind, motion, addr);
+    frame.raise(addr);
+}
+
+/// Like [`put_part`], for the tile as it was found, not lifted.
+fn put_loose(
+    tiles: &CoveredTiles,
+    crossed: &[PlacedTile],
+    number: u32,
+    kind: &mut u8,
+    motion: &mut Motion,
+    addr: &mut Address,
+)
+    requires below { number < length (tiles.now ++ crossed.now) }
+    ensures { record { kind = kind.new; motion = motion.new; addr = addr.new } ≡ tile_of (tiles.now ++ crossed.now) number }
+{
+    let place = number as usize;
+    let count = tiles.len();
+    if place < count {
+        tiles.put(place, kind, motion, addr);
+    } else {
+        let tile = &crossed[place - count];
+        *kind = tile.kind;
+        *motion = tile.motion;
+        *addr = tile.addr.copy();
+    }
+}
