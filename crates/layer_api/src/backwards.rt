@@ -1,7 +1,7 @@
-//! Texts written from their end to their beginning, into a buffer that already has what follows them.
+//! Writes texts from the end to the beginning, into a buffer that already holds what follows them.
 //!
-//! Each function writes a text in front of `end` and answers where it begins. So the figures of a number are written
-//! as division gives them, the last one first.
+//! Each function writes a text that ends before `end`, and returns where the text begins. Division gives the
+//! digits of a number from the last one on, so this order needs no second pass.
 ghost use Rattle.std.specs.Prelude.{◌≡◌, ◌+◌, ◌*◌, ◌%◌, ◌<◌, ◌≤◌, [], ◌++◌, ◌∷◌, map, length, take, drop, IsTrue};
 ghost use Rattle.std.specs.Fmt.{decimal, signed_decimal};
 ghost use Rattle.cyclo_points.specs.Text.{point_text};
@@ -29,7 +29,7 @@ pub(crate) fn write_signed(number: i64, buf: &mut [u8], end: usize) -> usize
     start - 1
 }
 
-/// Writes a point: its four coefficients, joined by commas.
+/// Writes a point: its four coefficients, with commas between them.
 pub(crate) fn write_point(point: &Point, buf: &mut [u8], end: usize) -> usize
     requires room { 87 ≤ end }
     requires inside { end ≤ length buf.old }
@@ -76,7 +76,7 @@ fn write_step(step: Step, buf: &mut [u8], end: usize) -> usize
     write_small(step.child, buf, parent)
 }
 
-/// Writes a digit of an address and a comma behind it.
+/// Writes a digit of an address and the comma that follows it.
 #[inline]
 fn write_step_with_comma(step: Step, buf: &mut [u8], end: usize) -> usize
     requires room { 8 ≤ end }
@@ -95,7 +95,7 @@ fn write_step_with_comma(step: Step, buf: &mut [u8], end: usize) -> usize
     write_step(step, buf, end - 1)
 }
 
-/// The numbers of a digit, 16 bits apart.
+/// Packs the two numbers of a digit into one, 16 bits apart.
 #[inline]
 fn numbers_of(step: Step) -> u32
     ensures numbers { result ≡ step.child + step.parent * 65536 }
@@ -104,7 +104,8 @@ fn numbers_of(step: Step) -> u32
     u32::from(step.child) + u32::from(step.parent) * 65536
 }
 
-/// The same with 118 more for each, so that each number of two figures or three passes 127.
+/// Like [`numbers_of`], with 118 added to each, so that a number with two or three decimal digits is above
+/// 127.
 #[inline]
 fn raised_numbers_of(step: Step) -> u32
     ensures child { result % 65536 < 128 → step.child < 10 }
@@ -113,7 +114,7 @@ fn raised_numbers_of(step: Step) -> u32
     numbers_of(step) + 0x76_0076
 }
 
-/// Overwrites all of so many bytes in one move. (`copy_from_slice` asks first whether the two overlap.)
+/// Overwrites all bytes of `out` in one move. `copy_from_slice` would first test if the two overlap.
 #[inline]
 pub(crate) fn overwrite<const N: usize>(out: &mut [u8], bytes: &[u8; N])
     requires { length out.old ≡ N }
@@ -124,7 +125,8 @@ pub(crate) fn overwrite<const N: usize>(out: &mut [u8], bytes: &[u8; N])
     }
 }
 
-/// Writes a digit and a comma behind it into the four bytes at a place, as if each number had one figure.
+/// Writes a digit and a comma into the four bytes at `place`, as if each of its numbers had one decimal
+/// digit.
 #[inline]
 fn write_word(step: Step, out: &mut [u8], place: usize)
     requires inside { place + 4 ≤ length out.old }
@@ -135,7 +137,8 @@ fn write_word(step: Step, out: &mut [u8], place: usize)
     overwrite(&mut out[place..place + 4], &word.to_le_bytes());
 }
 
-/// Writes digits of an address, a comma behind each, as if each number had one figure. It answers whether that is so.
+/// Writes digits of an address, each followed by a comma, as if each number had one decimal digit. Returns
+/// true only if all have.
 fn write_words(steps: &[Step], out: &mut [u8]) -> bool
     requires some { 0 < length steps.now }
     requires room { length out.old ≡ 4 * length steps.now }
@@ -151,7 +154,7 @@ fn write_words(steps: &[Step], out: &mut [u8]) -> bool
     joined < 0x80_0000 && joined % 65536 < 128
 }
 
-/// Writes the digits of an address, joined by commas, one after the other.
+/// Writes the digits of an address, with commas between them, one after another.
 #[cold]
 #[inline(never)]
 fn write_each_step(steps: &[Step], buf: &mut [u8], end: usize) -> usize
@@ -171,8 +174,8 @@ fn write_each_step(steps: &[Step], buf: &mut [u8], end: usize) -> usize
     at
 }
 
-/// Writes the digits of an address, joined by commas: in words, where each number has one figure and a byte follows,
-/// on which the last comma falls.
+/// Writes the digits of an address, with commas between them. If each number has one decimal digit and a byte
+/// follows, it writes four bytes at a time, and the last comma falls on that byte.
 pub(crate) fn write_steps(steps: &[Step], buf: &mut [u8], end: usize) -> usize
     requires room { 8 * length steps.now ≤ end }
     requires inside { end ≤ length buf.old }

@@ -1,4 +1,4 @@
-//! A layer in a box is a layer.
+//! A boxed layer is a layer.
 use crate::drawn::Drawn;
 use crate::format::Format;
 use crate::layer::Layer;
@@ -26,6 +26,10 @@ impl Layer for Box<dyn Layer> {
 
     fn put(&mut self, tile: Drawn) -> Result<(), NoMemory> {
         (**self).put(tile)
+    }
+
+    fn put_copy(&mut self, tile: &Drawn) -> Result<(), NoMemory> {
+        (**self).put_copy(tile)
     }
 
     fn end(&mut self) -> Result<(), NoMemory> {

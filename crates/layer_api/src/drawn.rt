@@ -1,28 +1,28 @@
-//! A tile as it is drawn.
+//! A tile to be drawn.
 ghost use Rattle.std.specs.Prelude.{◌≡◌};
 
 use crate::part::Part;
 use arrayvec::ArrayVec;
 use cyclo_points::point::Point;
 
-/// How many vertices an outline has at most.
+/// The greatest number of vertices of an outline.
 pub const MOST_VERTICES: usize = 24;
 
-/// A tile as it is drawn: a tile of the tiling, or two halves that are glued to a whole one.
+/// A tile to be drawn: a tile of the tiling, or two halves glued into a whole tile.
 #[derive(Debug, Drop, PartialEq, Eq)]
 pub struct Drawn {
-    /// The class, by which a picture is coloured: the kind of the tile, or of the first half.
+    /// The class, which a picture colours: the kind of the tile, or of the first half.
     pub class: u8,
-    /// The vertices, in their order.
+    /// The vertices of the outline, in order around it.
     pub outline: ArrayVec<Point, MOST_VERTICES>,
     /// The tile, or the first half.
     pub first: Part,
-    /// The second half of a whole tile.
+    /// The second half of a whole tile, if it has one.
     pub second: Option<Part>,
 }
 
 impl Drawn {
-    /// An equal tile, without memory: for a caller that puts one tile into several layers.
+    /// Returns an equal tile. Needs no memory. For a caller that gives one tile to several layers.
     pub fn copy(&self) -> Drawn
         ensures { result ≡ self.now }
     {

@@ -3,11 +3,11 @@
 /// The format of a layer's text.
 #[derive(Clone, Copy, Debug, Default, PartialEq, Eq, PartialOrd, Ord)]
 pub enum Format {
-    /// The outlines of the tiles, as a picture.
+    /// The outlines of the tiles, as an SVG picture.
     #[default]
     Svg,
-    /// The tiles, one a line.
+    /// The tiles, one per line.
     List,
-    /// How many tiles there are, by class and in all.
+    /// The number of tiles, by class and in total.
     Census,
 }

@@ -1,4 +1,4 @@
-//! What draws tiles into a text.
+//! What a layer must do.
 ghost use Rattle.std.specs.Prelude.{◌≡◌, Bool, List, [], ◌∷◌, ◌++◌, true, false, OnOk, OnErr, IsTrue, IsFalse, ◌↔◌};
 ghost use Rattle.layer_api.specs.declared.drawn.Drawn.{Drawn};
 ghost use Rattle.layer_api.specs.declared.format.Format.{Format};
@@ -11,29 +11,29 @@ use crate::format::Format;
 use crate::view::View;
 use tile_shape::no_memory::NoMemory;
 
-/// What draws the tiles of a view into the text of its format. It begins with a view, takes the tiles one after the
-/// other, and ends; from then on it has the text. It may begin anew at any time.
+/// Writes the tiles of a view in its format. A layer begins with a view, takes the tiles one after another,
+/// and ends; from then on it has the text. It may begin again at any time.
 pub trait Layer: Drop {
-    // The format, which no call changes.
+    // The format. No call changes it.
     ghost form: { Self → Format };
 
-    // The view that it began with.
+    // The view with which it began.
     ghost seen: { Self → View };
 
-    // Whether it has begun, and whether it has ended since.
+    // True if it has begun, and true if it has ended since.
     ghost begun: { Self → Bool };
 
     ghost ended: { Self → Bool };
 
-    // These are the tiles put since it began, in their order, as far as its text depends on them: a layer that keeps
-    // its text, and not the tiles, stands for each list that has this text.
+    // True of the list of tiles put since it began, in order, as far as the text depends on them. A layer
+    // that keeps its text, and not its tiles, draws each list that has this text.
     ghost draws: { Self → List Drawn → Type 0 };
 
-    /// The format.
+    /// Returns the format.
     fn format(&self) -> Format
         ensures { result ≡ form self.now };
 
-    /// Begins with this view and no tile. It takes no memory.
+    /// Begins with this view and no tiles. Needs no memory.
     fn begin(&mut self, view: View)
         requires { IsView view }
         ensures seen { seen self.new ≡ view }
@@ -42,7 +42,7 @@ pub trait Layer: Drop {
         ensures open { IsFalse (ended self.new) }
         ensures form { form self.new ≡ form self.old };
 
-    /// Adds a tile at the end of the list. Where there is no memory, nothing is changed.
+    /// Adds a tile at the end of the list. If memory runs out, nothing changes.
     fn put(&mut self, tile: Drawn) -> Result<(), NoMemory>
         requires begun { IsTrue (begun self.old) }
         requires open { IsFalse (ended self.old) }
@@ -54,7 +54,23 @@ pub trait Layer: Drop {
         ensures open { IsFalse (ended self.new) }
         ensures form { form self.new ≡ form self.old };
 
-    /// Ends, and makes the text. Where there is no memory, nothing is changed.
+    /// Adds a copy of a tile at the end of the list. For a caller that keeps the tile, and changes it into
+    /// the next one. A layer that only reads its tiles needs no copy. If memory runs out, nothing changes.
+    fn put_copy(&mut self, tile: &Drawn) -> Result<(), NoMemory>
+        requires begun { IsTrue (begun self.old) }
+        requires open { IsFalse (ended self.old) }
+        requires drawable { IsDrawable (seen self.old).order tile.now }
+        ensures ok { OnOk result ((tiles : List Drawn) → draws self.old tiles → draws self.new (tiles ++ tile.now ∷ [])) }
+        ensures err { OnErr result ((tiles : List Drawn) → draws self.old tiles → draws self.new tiles) }
+        ensures seen { seen self.new ≡ seen self.old }
+        ensures begun { IsTrue (begun self.new) }
+        ensures open { IsFalse (ended self.new) }
+        ensures form { form self.new ≡ form self.old }
+    {
+        self.put(tile.copy())
+    }
+
+    /// Ends, and makes the text. If memory runs out, the layer has not ended, and its tiles are as before.
     fn end(&mut self) -> Result<(), NoMemory>
         requires begun { IsTrue (begun self.old) }
         requires open { IsFalse (ended self.old) }
@@ -65,7 +81,7 @@ pub trait Layer: Drop {
         ensures err { OnErr result (IsFalse (ended self.new)) }
         ensures form { form self.new ≡ form self.old };
 
-    /// The text, made by `end`.
+    /// Returns the text, once the layer has ended.
     fn bytes(&self) -> &[u8]
         requires { IsTrue (ended self.now) }
         ensures { (tiles : List Drawn) → draws self.now tiles → result.now ≡ layer_text (form self.now) (seen self.now) tiles };

@@ -1,9 +1,10 @@
-//! Layers: what a picture of a tiling is written by.
+//! Layers: writers of pictures, lists and counts of tiles.
 //!
-//! A layer has a format. It is given a view, then the tiles of that view one after the other, and at its end it has
-//! the text of its format: the picture as SVG, the list of the tiles, or the census that counts them by class. What
-//! that text is, `layer_text` says for every view and every list of tiles. Layers are handed in by the caller, so
-//! that the engine draws through layers that it doesn't know.
+//! A layer has a format. It begins with a view, and takes the tiles of that view one after another. At the
+//! end it has the text of its format: the picture as SVG, the list of the tiles, or the census, which counts
+//! them by class. The definition `layer_text` gives this text, for each view and each list of tiles.
+//!
+//! The caller hands layers in, so the engine can draw with layers that it does not know.
 #![tactic(auto)]
 
 mod backwards;

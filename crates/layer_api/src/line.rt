@@ -12,11 +12,11 @@ use itoa::write_digits;
 use std::marker::Model;
 use tile_shape::address::Address;
 
-/// How many bytes a line has room for.
+/// The number of bytes for which a line has room.
 pub const LINE_ROOM: usize = 1536;
 
-/// A line in fixed storage that is written from its end to its beginning: what is put stands before what was put
-/// earlier. So the figures of a number are written as division gives them, the last one first.
+/// A line in fixed storage, written from the end to the beginning: each call puts its text in front of the
+/// line. Division gives the digits of a number from the last one on, so this order needs no second pass.
 #[derive(Drop)]
 pub struct Line {
     bytes: [u8; LINE_ROOM],
@@ -35,7 +35,7 @@ impl Model for Line {
 }
 
 impl Line {
-    /// An empty line.
+    /// Makes an empty line.
     pub fn new() -> Line
         ensures { result ≡ [] }
     {
@@ -53,7 +53,7 @@ impl Line {
         self.start = LINE_ROOM;
     }
 
-    /// Puts a byte.
+    /// Puts a byte in front. There must be room.
     #[inline]
     pub fn put(&mut self, byte: u8)
         requires room { length self.old < LINE_ROOM }
@@ -63,7 +63,7 @@ impl Line {
         self.bytes[self.start] = byte;
     }
 
-    /// Puts a text.
+    /// Puts a text in front. There must be room.
     #[inline]
     pub fn put_text(&mut self, text: &[u8])
         requires room { length text.now + length self.old ≤ LINE_ROOM }
@@ -74,7 +74,7 @@ impl Line {
         self.bytes[self.start..end].copy_from_slice(text);
     }
 
-    /// Puts the last `count` bytes of a text of 32. All 32 are moved at once.
+    /// Puts the last `count` bytes of a text of 32 bytes in front. It moves all 32 at once.
     #[inline]
     pub fn put_last(&mut self, text: &[u8; 32], count: usize)
         requires count { count ≤ 32 }
@@ -86,7 +86,7 @@ impl Line {
         self.start -= count;
     }
 
-    /// Puts a number in decimal.
+    /// Puts a number in front, in decimal.
     #[inline]
     pub fn put_number(&mut self, number: u64)
         requires room { length self.old + 20 ≤ LINE_ROOM }
@@ -96,7 +96,7 @@ impl Line {
         self.start = write_digits(number, &mut self.bytes, self.start);
     }
 
-    /// Puts a number below 256 in decimal.
+    /// Puts a number below 256 in front, in decimal.
     #[inline]
     pub fn put_small(&mut self, number: u8)
         requires room { length self.old + 3 ≤ LINE_ROOM }
@@ -106,7 +106,7 @@ impl Line {
         self.start = write_small(number, &mut self.bytes, self.start);
     }
 
-    /// Puts a signed number in decimal.
+    /// Puts a signed number in front, in decimal.
     #[inline]
     pub fn put_signed(&mut self, number: i64)
         requires room { length self.old + 21 ≤ LINE_ROOM }
@@ -116,7 +116,7 @@ impl Line {
         self.start = write_signed(number, &mut self.bytes, self.start);
     }
 
-    /// Puts a motion: its turn and its shift, with a blank between.
+    /// Puts a motion in front: its turn and its shift, with a space between.
     pub fn put_motion(&mut self, motion: &Motion)
         requires room { length self.old + 91 ≤ LINE_ROOM }
         ensures motion { self.new ≡ motion_text motion.now ++ self.old }
@@ -127,7 +127,7 @@ impl Line {
         self.start = write_small(motion.turn, &mut self.bytes, shift);
     }
 
-    /// Puts the text of an address.
+    /// Puts the text of an address in front.
     pub fn put_address(&mut self, addr: &Address)
         requires room { length self.old + 516 ≤ LINE_ROOM }
         ensures address { self.new ≡ address_text (address_of addr.now) ++ self.old }
@@ -138,7 +138,7 @@ impl Line {
         self.start = write_small(addr.kind, &mut self.bytes, digits);
     }
 
-    /// The bytes of the line.
+    /// Returns the bytes of the line.
     #[inline]
     pub fn as_bytes(&self) -> &[u8]
         ensures { result.now ≡ self.now }

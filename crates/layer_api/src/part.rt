@@ -1,10 +1,11 @@
-//! A part of a tile drawn.
+//! A part of a tile to be drawn.
 ghost use Rattle.std.specs.Prelude.{◌≡◌};
 
 use cyclo_points::motion::Motion;
 use tile_shape::address::Address;
 
-/// A part of a tile drawn, a tile of the tiling at its place: its kind, the motion of its prototile, and its address.
+/// A part of a tile to be drawn: a tile of the tiling in its place, with its kind, the motion of its
+/// prototile, and its address.
 #[derive(Debug, Drop, PartialEq, Eq)]
 pub struct Part {
     pub kind: u8,
@@ -13,7 +14,7 @@ pub struct Part {
 }
 
 impl Part {
-    /// An equal part, without memory.
+    /// Returns an equal part. Needs no memory.
     pub fn copy(&self) -> Part
         ensures { result ≡ self.now }
     {

@@ -15,26 +15,26 @@ use layer_api::view::View;
 use std::alloc::{AllocError, Global};
 use tile_shape::no_memory::NoMemory;
 
-/// How many classes there may be.
+/// The number of classes that there may be.
 const CLASSES: usize = 256;
 
-/// Counts the tiles by class. It keeps the counts alone; where a count would pass its type, a tile is refused as for
-/// want of memory.
+/// Counts the tiles by class, and keeps only the counts. A tile whose count does not fit is refused as out of
+/// memory.
 #[derive(Drop)]
 pub struct CensusLayer {
     view: View,
     begun: bool,
     ended: bool,
-    /// How many tiles of each class were put.
+    /// The number of tiles of each class so far.
     counts: [u64; CLASSES],
-    /// How many tiles were put.
+    /// The number of tiles so far.
     all: u64,
     alloc: Global,
     text: Vec<u8>,
 }
 
 impl CensusLayer {
-    /// A layer that hasn't begun. It takes no memory.
+    /// Makes a layer that has not begun. Needs no memory.
     pub fn new(alloc: Global) -> CensusLayer
         ensures not_begun { IsFalse (⟦<CensusLayer as Layer>⟧.begun result) }
         ensures not_ended { IsFalse (⟦<CensusLayer as Layer>⟧.ended result) }
@@ -81,6 +81,10 @@ impl Layer for CensusLayer {
     }
 
     fn put(&mut self, tile: Drawn) -> Result<(), NoMemory> {
+        self.put_copy(&tile)
+    }
+
+    fn put_copy(&mut self, tile: &Drawn) -> Result<(), NoMemory> {
         let class = tile.class as usize;
         let Some(count) = self.counts[class].checked_add(1) else {
             return Err(NoMemory);
@@ -104,7 +108,7 @@ impl Layer for CensusLayer {
     }
 }
 
-/// The census of these counts.
+/// Writes the census of these counts.
 fn census(
     alloc: Global,
     counts: &[u64; CLASSES],

@@ -16,20 +16,20 @@ use layer_api::view::View;
 use std::alloc::Global;
 use tile_shape::no_memory::NoMemory;
 
-/// Lists the tiles, one a line: `kind turn shift address`, and for a whole tile both its halves, with ` + ` between.
-/// It keeps the lines alone, each written as its tile is put.
+/// Lists the tiles, one per line, as `kind turn shift address`. A whole tile has both halves in its line,
+/// with ` + ` between them. The layer keeps only the lines. It writes each line when the tile is put.
 #[derive(Drop)]
 pub struct ListLayer {
     view: View,
     begun: bool,
     ended: bool,
     text: Vec<u8>,
-    /// Where a line is written before it is appended.
+    /// The line before it is appended.
     line: Line,
 }
 
 impl ListLayer {
-    /// A layer that hasn't begun. It takes no memory.
+    /// Makes a layer that has not begun. Needs no memory.
     pub fn new(alloc: Global) -> ListLayer
         ensures not_begun { IsFalse (⟦<ListLayer as Layer>⟧.begun result) }
         ensures not_ended { IsFalse (⟦<ListLayer as Layer>⟧.ended result) }
@@ -73,10 +73,12 @@ impl Layer for ListLayer {
     }
 
     fn put(&mut self, tile: Drawn) -> Result<(), NoMemory> {
-        // What isn't listed isn't moved.
-        let Drawn { first, second, .. } = tile;
+        self.put_copy(&tile)
+    }
+
+    fn put_copy(&mut self, tile: &Drawn) -> Result<(), NoMemory> {
         self.line.clear();
-        put_line(&mut self.line, &first, &second);
+        put_line(&mut self.line, &tile.first, &tile.second);
         self.text.extend_from_slice(self.line.as_bytes())?;
         Ok(())
     }
@@ -91,7 +93,7 @@ impl Layer for ListLayer {
     }
 }
 
-/// Puts the line of a tile, by its parts, into an empty line.
+/// Puts the line of a tile, given by its parts, into an empty line.
 fn put_line(line: &mut Line, first: &Part, second: &Option<Part>)
     requires { length line.old ≡ 0 }
     ensures { line.new ≡ part_text first.now ++ second_text second.now ++ newline ∷ [] }
@@ -104,7 +106,7 @@ fn put_line(line: &mut Line, first: &Part, second: &Option<Part>)
     put_part(line, first);
 }
 
-/// Puts a part: its kind, its motion and its address.
+/// Puts a part in front: its kind, its motion and its address.
 fn put_part(line: &mut Line, part: &Part)
     requires room { length line.old + 612 ≤ LINE_ROOM }
     ensures part { line.new ≡ part_text part.now ++ line.old }

@@ -7,7 +7,7 @@ use cyclo_points::order::Order;
 use layer_api::line::Line;
 use layer_api::view::View;
 
-/// The height of the coordinate Y in the plane, in millionths.
+/// Returns the length, in millionths, of one unit of the coordinate Y in the plane, rounded.
 fn height(order: Order) -> u64
     ensures value { result ≡ height order }
     ensures at_most { result ≤ 1000000 }
@@ -20,7 +20,7 @@ fn height(order: Order) -> u64
     }
 }
 
-/// A thousandth of that, as a decimal.
+/// Returns a thousandth of that length, as a decimal.
 fn scale_text(order: Order) -> &'static [u8]
     ensures text { result.now ≡ scale_text order }
     ensures at_most { length result.now ≤ 11 }
@@ -33,7 +33,7 @@ fn scale_text(order: Order) -> &'static [u8]
     }
 }
 
-/// Puts half a number, as its whole part and `.0` or `.5`.
+/// Puts half of a number in front: its integer part, then `.0` or `.5`.
 fn put_half(line: &mut Line, number: u16)
     requires room { length line.old + 22 ≤ LINE_ROOM }
     ensures half { line.new ≡ half_text number ++ line.old }
@@ -47,7 +47,7 @@ fn put_half(line: &mut Line, number: u16)
     line.put_number(u64::from(number / 2));
 }
 
-/// Puts the six figures of a number below 1,000,000.
+/// Puts a number below 1,000,000 in front, with six digits.
 fn put_six_figures(line: &mut Line, number: u64)
     requires small { number < 1000000 }
     requires room { length line.old + 6 ≤ LINE_ROOM }
@@ -61,7 +61,7 @@ fn put_six_figures(line: &mut Line, number: u64)
     line.put(b'0' + (number / 100000 % 10) as u8);
 }
 
-/// Puts so many millionths, as the whole part, a point and six figures.
+/// Puts a number of millionths in front: the integer part, a point, and six digits.
 fn put_millionths(line: &mut Line, number: u64)
     requires room { length line.old + 27 ≤ LINE_ROOM }
     ensures millionths { line.new ≡ millionths_text number ++ line.old }
@@ -72,7 +72,7 @@ fn put_millionths(line: &mut Line, number: u64)
     line.put_number(number / 1000000);
 }
 
-/// Puts the head of a picture of this view.
+/// Puts the head of a picture of this view in front.
 pub(crate) fn put_head(line: &mut Line, view: &View)
     requires room { length line.old + 300 ≤ LINE_ROOM }
     ensures { line.new ≡ head_text view.now ++ line.old }

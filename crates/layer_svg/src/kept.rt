@@ -1,4 +1,4 @@
-//! The texts of vertices, kept for the other tiles that have them.
+//! The texts of vertices, kept for other tiles with the same vertex.
 ghost use Rattle.std.specs.Prelude.{◌≡◌, ◌-◌, ◌≤◌, All, IfOk, IfSome, drop};
 ghost use Rattle.layer_api.specs.declared.view.View.{View};
 ghost use Rattle.layer_api.specs.SvgText.{vertex_text};
@@ -7,10 +7,10 @@ ghost use Rattle.layer_svg.specs.Kept.{IsKept};
 use cyclo_points::point::Point;
 use std::alloc::{AllocError, Global};
 
-/// How many places there are: those of the vertices of some three columns of the greatest windows.
+/// The number of places: enough for the vertices of about three columns of the largest windows.
 const PLACES: usize = 8192;
 
-/// A vertex with its text, which stands at the end of 32 bytes; none, where the length is 0.
+/// A vertex with its text, at the end of 32 bytes. If the length is 0, there is none.
 #[derive(Clone, Copy, Drop)]
 pub(crate) struct Kept {
     vertex: Point,
@@ -19,7 +19,7 @@ pub(crate) struct Kept {
 }
 
 impl Kept {
-    /// No vertex.
+    /// Makes an empty place.
     fn none() -> Kept
         ensures { (v : View) → IsKept v result }
     {
@@ -30,7 +30,7 @@ impl Kept {
         }
     }
 
-    /// The text of a vertex at the end of 32 bytes, and its length, where it is kept.
+    /// Returns the text of a vertex and its length, if it is kept here. The text is at the end of 32 bytes.
     #[inline]
     pub(crate) fn text_of(&self, vertex: &Point) -> Option<(&[u8; 32], usize)>
         ensures { (v : View) → IsKept v self.now → IfSome result (λ found. (found.1 ≤ 32) × (drop (32 - found.1) found.0.now ≡ vertex_text v vertex.now)) }
@@ -41,7 +41,7 @@ impl Kept {
         Some((&self.text, self.length))
     }
 
-    /// Keeps the text of a vertex in place of what it has, where it isn't too long.
+    /// Keeps the text of this vertex instead, unless it is too long.
     #[inline(never)]
     pub(crate) fn keep(&mut self, vertex: &Point, text: &[u8])
         ensures { (v : View) → IsKept v self.old → text.now ≡ vertex_text v vertex.now → IsKept v self.new }
@@ -54,7 +54,7 @@ impl Kept {
     }
 }
 
-/// Places that are all empty.
+/// Makes places that are all empty.
 pub(crate) fn empty_places(alloc: Global) -> Result<Vec<Kept>, AllocError>
     ensures { (v : View) → IfOk result (λ places. All (IsKept v) places.items) }
 {
@@ -65,7 +65,7 @@ pub(crate) fn empty_places(alloc: Global) -> Result<Vec<Kept>, AllocError>
     Ok(places)
 }
 
-/// The place of a vertex.
+/// Returns the number of the place for a vertex.
 #[inline]
 pub(crate) fn place_of(vertex: &Point) -> usize {
     let sum = vertex.c[0]

@@ -1,7 +1,8 @@
 //! The layer that draws tiles as SVG.
 //!
-//! It keeps the text that it has written, and no tile: a head with the view's box and scale, then a path for each
-//! tile. The points are exact up to there: a vertex is written in whole thousandths of its coordinates, rounded down.
+//! It keeps the text that it has written, and no tiles. A head has the box and the scale of the view, and a
+//! path for each tile follows. Points are exact until they are written. Then the coordinates X and Y of a
+//! vertex are rounded down to thousandths.
 #![tactic(auto)]
 
 mod head;

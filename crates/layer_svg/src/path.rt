@@ -16,7 +16,8 @@ use layer_api::drawn::MOST_VERTICES;
 use layer_api::line::Line;
 use layer_api::view::View;
 
-/// Puts a vertex: its coordinates X and Y from the view's centre, in whole thousandths, rounded down.
+/// Puts a vertex in front: its coordinates X and Y relative to the view's centre, in thousandths, rounded
+/// down.
 fn put_vertex(line: &mut Line, view: &View, vertex: &Point)
     requires room { length line.old + 43 ≤ LINE_ROOM }
     requires centre { IsView view.now }
@@ -32,7 +33,7 @@ fn put_vertex(line: &mut Line, view: &View, vertex: &Point)
     line.put_signed(across as i64);
 }
 
-/// Puts a vertex, and keeps its text at a place.
+/// Puts a vertex in front, and keeps its text in a place.
 #[inline(never)]
 fn put_and_keep(line: &mut Line, view: &View, vertex: &Point, place: &mut Kept)
     requires room { length line.old + 43 ≤ LINE_ROOM }
@@ -49,7 +50,7 @@ fn put_and_keep(line: &mut Line, view: &View, vertex: &Point, place: &mut Kept)
     place.keep(vertex, &after[..after.len() - before]);
 }
 
-/// Puts a vertex by its text, where that is kept, and else as above.
+/// Puts a vertex in front, from its kept text if there is one.
 #[inline(always)]
 fn put_kept_vertex(line: &mut Line, view: &View, vertex: &Point, kept: &mut [Kept])
     requires room { length line.old + 43 ≤ LINE_ROOM }
@@ -70,7 +71,7 @@ fn put_kept_vertex(line: &mut Line, view: &View, vertex: &Point, kept: &mut [Kep
     }
 }
 
-/// Puts the path of a tile, by its class and its outline, into an empty line.
+/// Puts the path of a tile, given by its class and outline, into an empty line.
 pub(crate) fn put_path(
     line: &mut Line,
     view: &View,

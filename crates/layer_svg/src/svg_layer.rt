@@ -1,4 +1,4 @@
-//! The picture as SVG.
+//! The layer that draws a picture as SVG.
 ghost use Rattle.std.specs.Prelude.{◌≡◌, IsFalse};
 ghost use Rattle.layer_api.specs.declared.format.Format.TheVariants.{Svg};
 ghost use Rattle.layer_svg.specs.Written.{IsWritten};
@@ -17,11 +17,12 @@ use std::alloc::Global;
 use std::marker::Model;
 use tile_shape::no_memory::NoMemory;
 
-/// From so many bytes on the texts of vertices are kept: it pays for the places from some thousand tiles on.
+/// The length of a picture, in bytes, from which the texts of vertices are kept. This pays from several
+/// thousand tiles on.
 const LONG: usize = 131072;
 
-/// Draws the tiles as SVG, a path for each, with its class. It keeps the text alone: the head is written with the
-/// first path, and the tail at the end.
+/// Draws the tiles as SVG, with one path and its class for each. It keeps only the text. The head is written
+/// with the first path, and the tail at the end.
 #[derive(Drop)]
 pub struct SvgLayer {
     view: View,
@@ -29,9 +30,9 @@ pub struct SvgLayer {
     ended: bool,
     alloc: Global,
     text: Vec<u8>,
-    /// Where a line is written before it is appended.
+    /// The line before it is appended.
     line: Line,
-    /// The texts of vertices; no place, as long as the picture is short.
+    /// The texts of vertices. There are no places while the picture is short.
     kept: Vec<Kept>,
 }
 
@@ -49,7 +50,7 @@ impl Model for SvgLayer {
 }
 
 impl SvgLayer {
-    /// A layer that hasn't begun. It takes no memory.
+    /// Makes a layer that has not begun. Needs no memory.
     pub fn new(alloc: Global) -> SvgLayer
         ensures not_begun { IsFalse (⟦<SvgLayer as Layer>⟧.begun result) }
         ensures not_ended { IsFalse (⟦<SvgLayer as Layer>⟧.ended result) }
@@ -71,7 +72,7 @@ impl SvgLayer {
         }
     }
 
-    /// Makes the places for the texts of vertices, where the picture is long, has none yet, and there is memory.
+    /// Makes the places for the texts of vertices, if the picture is long, has none yet, and memory allows.
     #[inline]
     fn make_places(&mut self)
         ensures { self.new ≡ self.old }
@@ -108,15 +109,17 @@ impl Layer for SvgLayer {
     }
 
     fn put(&mut self, tile: Drawn) -> Result<(), NoMemory> {
-        // What isn't drawn isn't moved.
-        let Drawn { class, outline, .. } = tile;
+        self.put_copy(&tile)
+    }
+
+    fn put_copy(&mut self, tile: &Drawn) -> Result<(), NoMemory> {
         self.make_places();
         self.line.clear();
         put_path(
             &mut self.line,
             &self.view,
-            class,
-            &outline,
+            tile.class,
+            &tile.outline,
             self.kept.as_mut_slice(),
         );
         if self.text.is_empty() {

@@ -39,7 +39,7 @@ fn put_all(layer: &mut SvgLayer, tile: &Drawn) -> Result<(), NoMemory>
     ensures open { IsFalse layer.new.ended }
 {
     for _ in 0..TILES {
-        layer.put(tile.copy())?;
+        layer.put_copy(tile)?;
     }
     Ok(())
 }

@@ -127,14 +127,15 @@ pub(crate) const CHAIRS: [[[i8; 4]; 8]; 2] = [
     ],
 ];
 
-/// Draws two chairs in the window round 1,1.
+/// Draws two chairs in the window round 1,1: one that is handed over, and one that is kept.
 pub(crate) fn draw_chairs<L: Layer>(layer: &mut L) -> Result<(), NoMemory>
     ensures { OnOk result (IsTrue (L.ended layer.new)) }
 {
     let order = Order::Four;
     layer.begin(view(order, &[1, 1, 0, 0], (2, 1), 1));
     layer.put(whole(order, &CHAIRS[0], part(0, 0, [0; 4], &[(3, 0)])))?;
-    layer.put(whole(order, &CHAIRS[1], part(0, 1, [3, 1, 0, 0], &[(1, 0)])))?;
+    let second = whole(order, &CHAIRS[1], part(0, 1, [3, 1, 0, 0], &[(1, 0)]));
+    layer.put_copy(&second)?;
     layer.end()?;
     Ok(())
 }

@@ -6,7 +6,7 @@ use layer_api::view::View;
 use std::rc::Rc;
 use tile_shape::no_memory::NoMemory;
 
-/// Another layer, with a share of a token: as long as it stands, the token has one owner more.
+/// A layer with a share of a token. As long as it exists, the token has one more owner.
 #[derive(Drop)]
 pub struct Counted<L: Layer> {
     layer: L,
@@ -14,7 +14,7 @@ pub struct Counted<L: Layer> {
 }
 
 impl<L: Layer> Counted<L> {
-    /// The layer, counted by this share of a token.
+    /// Wraps a layer, counted by this share of a token.
     pub fn new(layer: L, token: Rc<u8>) -> Counted<L> {
         Counted { layer, token }
     }

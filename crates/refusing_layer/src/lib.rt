@@ -1,8 +1,7 @@
-//! Layers for the trials of what draws through layers: one that refuses, and one that is counted.
+//! Layers for testing code that draws through layers: one that refuses, and one that is counted.
 //!
-//! Both hand their calls on to another layer and meet the trait, so that whatever draws through layers may be tried with
-//! them. The one refuses a call, and is unchanged by it; the other has a share of a token, so that whoever made it sees
-//! whether it was dropped.
+//! Both pass their calls on to another layer and implement the trait. The first refuses one call, and does
+//! not change on it. The second has a share of a token, so its maker can see if it was dropped.
 #![tactic(auto)]
 
 pub mod counted;

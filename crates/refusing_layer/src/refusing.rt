@@ -7,8 +7,8 @@ use layer_api::layer::Layer;
 use layer_api::view::View;
 use tile_shape::no_memory::NoMemory;
 
-/// Another layer, but for one call that is refused: the one of this number, of all calls of `put` and `end`, which
-/// count from 1.
+/// A layer that refuses one call: the one with this number among all calls of `put` and `end`, counted from
+/// 1.
 #[derive(Drop)]
 pub struct Refusing<L: Layer> {
     layer: L,
@@ -17,7 +17,7 @@ pub struct Refusing<L: Layer> {
 }
 
 impl<L: Layer> Refusing<L> {
-    /// The layer that refuses the call of a number.
+    /// Wraps a layer so that it refuses the call with this number.
     pub fn new(layer: L, refused: u32) -> Refusing<L> {
         Refusing {
             layer,
@@ -26,7 +26,7 @@ impl<L: Layer> Refusing<L> {
         }
     }
 
-    /// Counts a call: whether it is refused.
+    /// Counts a call, and returns true if it is refused.
     fn refuses(&mut self) -> bool
         ensures { self.new.layer ≡ self.old.layer }
     {

@@ -4,8 +4,8 @@ use Rattle.std.proofs.lemmas.List.Elements.{All-same}
 use Rattle.layer_api.specs.SvgText.{head_text}
 use Rattle.layer_svg.specs.Kept.{IsKept}
 use Rattle.layer_svg.proofs.Writing.{first_put, next_put}
-use Rattle.layer_svg.proofs.svg_layer.SvgLayerLayer.put.Goals.{then-is_empty, else-is_empty}
-use Rattle.layer_svg.proofs.svg_layer.SvgLayerLayer.put.Goals as goal
+use Rattle.layer_svg.proofs.svg_layer.SvgLayerLayer.put_copy.Goals.{then-is_empty, else-is_empty}
+use Rattle.layer_svg.proofs.svg_layer.SvgLayerLayer.put_copy.Goals as goal
 
 pub invariant_of-self : goal.invariant_of-self
 invariant_of-self c =
@@ -36,12 +36,12 @@ returns-clause-ok c =
     elim c.if-is_empty.branch [
       | then-is_empty w ↦
           rw (w.self-inside-is, ← c.make_places.ensures, ← c.self.view_is)
-          (first_put s.view s.ended s.text.items line c.extend_from_slice.new.self.items c.args.tile going (search rules)
+          (first_put s.view s.ended s.text.items line c.extend_from_slice.new.self.items c.args.tile.now going (search rules)
           (c.as_bytes.ensures ∙ ap (λ t. t.line) w.self-inside-is ∙ w.put_head.ensures ∙ ap (λ t. head_text s.view ++ t) c.put_path.ensures.path)
           (c.in_ok-extend_from_slice.ensures.items ∙ ap (λ t. t.text.items ++ line) w.self-inside-is))
       | else-is_empty w ↦
           rw (w.self-inside-is, ← c.make_places.ensures, ← c.self.view_is)
-          (next_put s.view s.ended s.text.items line c.extend_from_slice.new.self.items c.args.tile going (λ e. absurd (search rules))
+          (next_put s.view s.ended s.text.items line c.extend_from_slice.new.self.items c.args.tile.now going (λ e. absurd (search rules))
           (c.as_bytes.ensures ∙ ap (λ t. t.line) w.self-inside-is ∙ c.put_path.ensures.path)
           (c.in_ok-extend_from_slice.ensures.items ∙ ap (λ t. t.text.items ++ line) w.self-inside-is))
     ]
