@@ -1,6 +1,8 @@
 -- The vertices of a kind's prototile as the program has them.
-use Rattle.std.proofs.Common.{◌≡◌, ℕ, ◌<◌, ◌≤◌, List, All, map, length, sym, subst, arith}
+use Rattle.std.proofs.Common.{◌≡◌, ℕ, ◌<◌, ◌≤◌, List, All, map, length, sym, ap, ◌∙◌, subst, arith}
+use Rattle.std.proofs.lemmas.List.{length-map}
 use Rattle.cyclo_points.specs.declared.point.Point.{Point}
+use Rattle.cyclo_points.specs.Order.{NumberOf}
 use Rattle.cyclo_points.specs.Point.{point_in}
 use Rattle.rule_model.specs.declared.rule.Rule.{Rule}
 use Rattle.rule_model.specs.Usable.{IsSmall, IsUsable}
@@ -16,6 +18,10 @@ pub record HasVertices (m : Rule) (kind : ℕ) (vs : List Point) : Type 0 where
 pub its-vertices : (m r : Rule) (kind : ℕ) (vs : List Point) → r ≡ m → map (point_in r.order) vs ≡ vertices_of (rule_of r) kind → length vs ≡ edge_count (rule_of r) kind → All (IsSmall r.order) vs
     → HasVertices m kind vs
 its-vertices m r kind vs same numbers each small = subst (λ q. HasVertices q kind vs) same (record { numbers = numbers; each_edge = each; small = small })
+
+-- as many vertices
+pub as-many : (m : Rule) (kind : ℕ) (vs : List Point) → HasVertices m kind vs → length vs ≡ length (vertices_of (rule_of m) kind)
+as-many m kind vs h = sym (length-map vs (point_in m.order)) ∙ ap (λ (zs : List (NumberOf m.order)). length zs) h.numbers
 
 -- at least 3 and at most 12
 module _ (m : Rule) (kind : ℕ) (vs : List Point) (h : HasVertices m kind vs) (usable : IsUsable m) (exists : kind < length (rule_of m).kinds) where

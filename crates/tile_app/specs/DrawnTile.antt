@@ -38,6 +38,10 @@ part_of x = record { kind = x.kind; motion = x.motion; addr = x.addr }
 abbrev pub tile_of : Part → PlacedTile
 tile_of p = record { kind = p.kind; motion = p.motion; addr = p.addr }
 
+-- the whole tile of these parts
+abbrev pub whole_by : Part → Option Part → WholeTile
+whole_by first second = record { first = tile_of first; second = option_map tile_of second }
+
 -- The whole tile as it is drawn: the kind of its first half is its class, the halves glued are its outline, and they are its parts.
 abbrev pub drawn_whole : Tiling → WholeTile → Drawn
 drawn_whole t w = record {

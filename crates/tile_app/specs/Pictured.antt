@@ -21,9 +21,9 @@ pub record Begins (words : List (List ℕ)) (t : Tiling) (frame : FrameValue) (w
 -- the tiles as they are drawn
 abbrev pub picture_of : Tiling → Picture → List Drawn
 picture_of t (Tiles tiles) = map (drawn_of t) tiles
-picture_of t (Wholes wholes) = map (drawn_whole t) wholes.items
+picture_of t (Wholes wholes) = map (drawn_whole t) wholes
 
 -- each can be drawn
 abbrev pub CanBePictured : Tiling → Picture → Type 0
 CanBePictured t (Tiles tiles) = All (CanBeDrawn t) tiles
-CanBePictured t (Wholes wholes) = All (CanBeDrawnWhole t) wholes.items
+CanBePictured t (Wholes wholes) = All (CanBeDrawnWhole t) wholes

@@ -1,4 +1,4 @@
-//! The text that answers a request, or why there is none.
+//! The text of a request, or its refusal.
 ghost use Rattle.std.specs.Prelude.{◌≡◌, ◌≤◌, false, length, map, Ok, IfOk, IfErr, IsErrOf, is_ok, string_bytes};
 ghost use Rattle.rule_model.specs.Tiling.{tiling_of};
 ghost use Rattle.tile_io.specs.Causes.{Rose};
@@ -18,7 +18,8 @@ use crate::drill::drill_text;
 use crate::file_given::{file_given, has_file};
 use crate::layers::lacking;
 use crate::neighbour::neighbour_text;
-use crate::place::place_text;
+use crate::place::{named_place_text, place_text};
+use crate::rule_choice::RuleChoice;
 use crate::rule_given::{choice_given, rule_chosen};
 use crate::star::star_text;
 use crate::status::Status;
@@ -33,7 +34,7 @@ use std::sync::ledger::Ledger;
 use tile_io::source::Source;
 use tile_place::machine::Machine;
 
-/// The bytes of a text, where there is one.
+/// Returns the bytes of a text, or its refusal.
 fn bytes_of(text: Result<String, Status>) -> Result<Vec<u8>, Status>
     ensures whether { is_ok result ≡ is_ok text }
     ensures bytes { IfOk text (λ t. IfOk result (λ bytes. bytes.items ≡ string_bytes t)) }
@@ -45,7 +46,8 @@ fn bytes_of(text: Result<String, Status>) -> Result<Vec<u8>, Status>
     }
 }
 
-/// What a command prints for right words, the machine of a checked rule and the file that was read, or its refusal.
+/// Returns what a command prints for right arguments, the machine of an accepted rule and the file that was
+/// read, or its refusal.
 fn machine_text<D: Layer, L: Ledger>(
     alloc: Global,
     command: Command,
@@ -74,8 +76,8 @@ fn machine_text<D: Layer, L: Ledger>(
     }
 }
 
-/// What a command prints for right words, a checked rule and the file that was read, or its refusal. No machine is made
-/// for the commands that cross no edge.
+/// Returns what a command prints for right arguments, an accepted rule and the file that was read, or its
+/// refusal. Commands that cross no edge need no machine.
 fn command_text<D: Layer, L: Ledger>(
     alloc: Global,
     command: Command,
@@ -101,9 +103,10 @@ fn command_text<D: Layer, L: Ledger>(
     }
 }
 
-/// The whole text that answers the request, or its refusal. The source is read where the words are right, each
-/// format that they ask for has a layer, and they choose the rule of a file, have a script read, or have a listing read
-/// and name a tile.
+/// Returns the whole text for the request, or its refusal.
+///
+/// The source is read only if the arguments are right and each format they name has a layer. They must also
+/// choose the rule of a file, or need a script, or need a list of tiles and name a tile.
 pub fn answer_text<R: Source, D: Layer, L: Ledger>(
     alloc: Global,
     words: &[String],
@@ -127,6 +130,9 @@ pub fn answer_text<R: Source, D: Layer, L: Ledger>(
     let choice = choice_given(words);
     let reads = has_file(alloc, command, choice, words)?;
     let file = file_given(alloc, command, reads, source)?;
+    if let (Command::Place, RuleChoice::Builtin { name }) = (command, choice) {
+        return bytes_of(named_place_text(alloc, name, words));
+    }
     let checked = rule_chosen(alloc, choice, file.as_slice())?;
     command_text(
         alloc,

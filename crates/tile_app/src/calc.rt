@@ -1,4 +1,4 @@
-//! The command `calc`: what comes of a script.
+//! The command `calc`: the output of a script.
 ghost use Rattle.std.specs.Prelude.{◌≤◌, length, IfOk, IfErr};
 ghost use Rattle.rule_model.specs.Tiling.{tiling_of};
 ghost use Rattle.rule_text.specs.Limits.{longest_file};
@@ -10,7 +10,7 @@ use addr_calc::calc::calc;
 use std::alloc::Global;
 use tile_place::machine::Machine;
 
-/// The text of a script, or the fault of its first line that has one.
+/// Returns the output of a script, or the fault of its first line that has one.
 pub fn calc_text(alloc: Global, machine: &Machine, script: &[u8]) -> Result<Vec<u8>, Status>
     requires at_most_a_mebibyte { length script.now ≤ longest_file }
     ensures printed { IfOk result (λ text. PrintsCalc script.now (tiling_of machine.now) text.items) }

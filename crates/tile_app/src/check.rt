@@ -6,7 +6,8 @@ ghost use Rattle.tile_app.specs.Check.{check_line};
 use rule_model::checked::Checked;
 use std::alloc::{AllocError, Global};
 
-/// What `check` prints of a rule accepted: its order, and how many kinds and edge types it has.
+/// Returns what `check` prints for an accepted rule: its order, its number of kinds, and its number of edge
+/// types.
 pub fn check_text(alloc: Global, checked: &Checked) -> Result<String, AllocError>
     ensures { IfOk result (λ text. string_bytes text ≡ check_line (tiling_of checked.now)) }
 {

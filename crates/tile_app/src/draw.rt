@@ -1,4 +1,4 @@
-//! The command `draw`: the tiles of a window, through the layers handed in.
+//! The command `draw`: the tiles of a window, through the layers of the caller.
 ghost use Rattle.std.specs.Prelude.{◌≡◌, ◌^◌, ◌++◌, map, None, Some, Ok, IfOk, IfErr, OnOk, IsTrue};
 ghost use Rattle.cyclo_points.specs.Point.{IsOf, IsWithin};
 ghost use Rattle.layer_api.specs.Drawable.{IsView};
@@ -27,7 +27,7 @@ use cyclo_points::coordinates::reduce;
 use cyclo_points::order::Order;
 use cyclo_points::point::Point;
 use half_glue::given_law::given_law;
-use half_glue::glue::glue;
+use half_glue::glue_covered::glue_covered;
 use half_glue::parts_law::parts_law;
 use half_glue::whole_laws::whole_tiles_law;
 use layer_api::format::Format;
@@ -38,10 +38,9 @@ use plane_geom::window::Window;
 use std::alloc::Global;
 use tile_place::machine::Machine;
 use tile_shape::no_memory::NoMemory;
-use window_cover::listed_tiles::listed_tiles;
 use window_cover::tiles_of_window::covered_tiles;
 
-/// The centre that right words give, still to be reduced.
+/// Returns the centre that right arguments give, before it is reduced to the order.
 fn at_given(words: &[String]) -> Point
     requires right { AskAboutWindow (texts words.now) }
     ensures given { at_given (texts words.now) ≡ Some result }
@@ -51,7 +50,7 @@ fn at_given(words: &[String]) -> Point
     at_in(text).unwrap()
 }
 
-/// The half extents that right words give.
+/// Returns the half-width and half-height that right arguments give.
 fn half_given(words: &[String]) -> HalfExtents
     requires right { AskAboutWindow (texts words.now) }
     ensures given { half_given (texts words.now) ≡ Some result }
@@ -61,7 +60,7 @@ fn half_given(words: &[String]) -> HalfExtents
     half_in(text).unwrap()
 }
 
-/// The window that right words give.
+/// Returns the window that right arguments give.
 pub fn window_given(order: Order, words: &[String]) -> Window
     requires right { AskAboutWindow (texts words.now) }
     ensures given { window_given order (texts words.now) ≡ Some result }
@@ -77,7 +76,7 @@ pub fn window_given(order: Order, words: &[String]) -> Window
     }
 }
 
-/// Whether right words ask for whole tiles.
+/// Returns true if the arguments, which are right, have `glue=yes`.
 fn glue_given(words: &[String]) -> bool
     ensures { result ≡ asks_glue (texts words.now) }
 {
@@ -87,7 +86,7 @@ fn glue_given(words: &[String]) -> bool
     }
 }
 
-/// The picture of a window: of its tiles, or where the words ask for them of the whole tiles of its tiles.
+/// Returns the picture of a window: its tiles, or their whole tiles if the arguments have `glue=yes`.
 fn pictured(
     alloc: Global,
     machine: &Machine,
@@ -105,14 +104,14 @@ fn pictured(
         given_law();
         parts_law(machine);
         whole_tiles_law(machine);
-        let tiles = listed_tiles(alloc, machine, frame, window)?;
-        Ok(Picture::Wholes(glue(alloc, machine, frame, &tiles)?))
+        let tiles = covered_tiles(alloc, machine, frame, window)?;
+        Ok(Picture::Wholes(glue_covered(alloc, machine, frame, tiles)?))
     } else {
         Ok(Picture::Tiles(covered_tiles(alloc, machine, frame, window)?))
     }
 }
 
-/// What is seen of the machine's tiling in a window.
+/// Returns the view of the machine's tiling in a window.
 fn view_of(machine: &Machine, window: &Window) -> View
     ensures { result ≡ view_of (tiling_of machine.now) window.now }
 {
@@ -126,7 +125,7 @@ fn view_of(machine: &Machine, window: &Window) -> View
     }
 }
 
-/// Draws a picture through a layer, from its beginning to its end.
+/// Draws a picture through a layer, from beginning to end.
 fn draw<D: Layer>(
     layer: &mut D,
     machine: &Machine,
@@ -142,15 +141,15 @@ fn draw<D: Layer>(
     ensures form { D.form layer.new ≡ D.form layer.old }
 {
     layer.begin(view);
+    let mut drawn = blank();
     for place in 0..picture.len() {
-        let mut drawn = blank();
         picture.fill(&mut drawn, machine, place);
-        layer.put(drawn)?;
+        layer.put_copy(&drawn)?;
     }
     layer.end()
 }
 
-/// Draws a picture through the first layer of a format, and puts its text behind another.
+/// Draws a picture through the first layer with a format, and appends its text.
 fn put_text<D: Layer>(
     text: &mut Vec<u8>,
     layers: &mut [D],
@@ -172,7 +171,7 @@ fn put_text<D: Layer>(
     Ok(())
 }
 
-/// The texts of some formats for a picture, one behind the other.
+/// Returns the texts of a picture in several formats, one after another.
 fn texts_of<D: Layer>(
     alloc: Global,
     layers: &mut [D],
@@ -194,8 +193,8 @@ fn texts_of<D: Layer>(
     Ok(text)
 }
 
-/// What `draw` prints for right words each of whose formats has a layer, or its refusal. Each format is drawn
-/// by the first layer that has it; a layer that refuses ends the drawing as want of memory.
+/// Returns what `draw` prints for right arguments, or its refusal. Each format must have a layer, and the
+/// first layer with the format draws it. If a layer refuses, the refusal is out of memory.
 pub fn draw_text<D: Layer>(
     alloc: Global,
     machine: &Machine,

@@ -1,6 +1,5 @@
-//! Tiles and whole tiles as they are drawn.
+//! Tiles and whole tiles, ready to be drawn.
 ghost use Rattle.std.specs.Prelude.{◌≡◌, ◌+◌, ◌<◌, ◌≤◌, ◌^◌, ◌++◌, All, length, map};
-ghost use Rattle.std.specs.Option.{option_map};
 ghost use Rattle.cyclo_points.specs.Motion.{motion_in};
 ghost use Rattle.cyclo_points.specs.Order.{points_of};
 ghost use Rattle.cyclo_points.specs.Point.{IsOf, IsWithin};
@@ -11,35 +10,38 @@ ghost use Rattle.rule_model.specs.Usable.{IsSmall};
 ghost use Rattle.rule_model.specs.Views.{rule_of};
 ghost use Rattle.substitution.specs.Motion.{moved};
 ghost use Rattle.substitution.specs.RuleParts.{vertices_of, edge_count};
-ghost use Rattle.tile_app.specs.DrawnTile.{point_of, part_of, tile_of, placed_point, drawn_of, drawn_whole, CanBeDrawn, IsDrawableHalf, CanBeDrawnWhole};
+ghost use Rattle.tile_app.specs.DrawnTile.{point_of, tile_of, whole_by, placed_point, drawn_of, drawn_whole, CanBeDrawn, IsDrawableHalf, CanBeDrawnWhole};
 
 use arrayvec::ArrayVec;
 use cyclo_points::motion::Motion;
 use cyclo_points::movement::apply;
 use cyclo_points::order::Order;
 use cyclo_points::point::Point;
-use half_glue::whole_tile::WholeTile;
 use layer_api::drawn::{Drawn, MOST_VERTICES};
 use layer_api::part::Part;
 use tile_place::machine::Machine;
-use tile_place::placed_tile::PlacedTile;
 use tile_shape::address::Address;
 
-/// A tile to be filled in.
+/// Makes an empty tile, to be filled.
 pub fn blank() -> Drawn {
     Drawn {
         class: 0,
         outline: ArrayVec::new(),
-        first: Part {
-            kind: 0,
-            motion: Motion::default(),
-            addr: Address::new(0),
-        },
+        first: blank_part(),
         second: None,
     }
 }
 
-/// Puts vertices of a prototile behind an outline, each in its place.
+/// Makes an empty part, to be filled.
+pub fn blank_part() -> Part {
+    Part {
+        kind: 0,
+        motion: Motion::default(),
+        addr: Address::new(0),
+    }
+}
+
+/// Appends the vertices of a prototile to an outline, each moved to its place.
 fn put_vertices(
     outline: &mut ArrayVec<Point, MOST_VERTICES>,
     order: Order,
@@ -81,28 +83,63 @@ fn put_tile(
     }
 }
 
-/// The number of a half's glue edge.
-fn glue_edge(machine: &Machine, half: &PlacedTile) -> usize
-    requires half { IsDrawableHalf (tiling_of machine.now) half.now }
+/// Overwrites as many points with the vertices of a tile, in order.
+fn overwrite_tile(outline: &mut [Point], machine: &Machine, kind: u8, motion: &Motion)
+    requires as_many { length outline.old ≡ edge_count (rule_of machine.now) kind }
+    requires exists { kind < length (rule_of machine.now).kinds }
+    requires turn_below { motion.now.turn < (points_of machine.now.order).order }
+    requires in_order { IsOf machine.now.order motion.now.shift }
+    requires within { IsWithin (2 ^ 24) motion.now.shift }
+    ensures three { 3 ≤ length outline.new }
+    ensures near { All (IsNear machine.now.order) outline.new }
+    ensures placed { outline.new ≡ map (λ z. point_of machine.now.order (moved (points_of machine.now.order) (motion_in machine.now.order motion.now) z)) (vertices_of (rule_of machine.now) kind) }
+{
+    let _each_edge = machine.checked().vertices(kind);
+    for number in 0..outline.len() {
+        outline[number] = machine.corner(kind, motion, number);
+    }
+}
+
+/// Replaces an outline by that of a tile.
+fn put_outline(
+    outline: &mut ArrayVec<Point, MOST_VERTICES>,
+    machine: &Machine,
+    kind: u8,
+    motion: &Motion,
+)
+    requires exists { kind < length (rule_of machine.now).kinds }
+    requires turn_below { motion.now.turn < (points_of machine.now.order).order }
+    requires in_order { IsOf machine.now.order motion.now.shift }
+    requires within { IsWithin (2 ^ 24) motion.now.shift }
+    ensures three { 3 ≤ length outline.new.items }
+    ensures near { All (IsNear machine.now.order) outline.new.items }
+    ensures placed { outline.new.items ≡ map (λ z. point_of machine.now.order (moved (points_of machine.now.order) (motion_in machine.now.order motion.now) z)) (vertices_of (rule_of machine.now) kind) }
+{
+    if outline.len() == machine.checked().vertices(kind).len() {
+        return overwrite_tile(outline.as_mut_slice(), machine, kind, motion);
+    }
+    outline.clear();
+    put_tile(outline, machine, kind, motion);
+}
+
+/// Returns the number of the glue edge of a half.
+fn glue_edge(machine: &Machine, half: &Part) -> usize
+    requires half { IsDrawableHalf (tiling_of machine.now) (tile_of half.now) }
     ensures edge { result ≡ glue_edge_of (rule_of machine.now) half.now.kind }
     ensures exists { result < edge_count (rule_of machine.now) half.now.kind }
 {
     usize::from(machine.checked().glue_edge(half.kind).unwrap())
 }
 
-/// Puts the vertices of the first half of a whole tile, from the end of its glue edge round to its start, into an
-/// empty outline.
-fn put_first_half(
-    outline: &mut ArrayVec<Point, MOST_VERTICES>,
-    machine: &Machine,
-    half: &PlacedTile,
-)
+/// Puts the vertices of the first half of a whole tile into an empty outline. They run from the end of its
+/// glue edge around to the start of that edge.
+fn put_first_half(outline: &mut ArrayVec<Point, MOST_VERTICES>, machine: &Machine, half: &Part)
     requires empty { length outline.old.items ≡ 0 }
-    requires half { IsDrawableHalf (tiling_of machine.now) half.now }
+    requires half { IsDrawableHalf (tiling_of machine.now) (tile_of half.now) }
     ensures three { 3 ≤ length outline.new.items }
     ensures at_most { length outline.new.items ≤ 12 }
     ensures near { All (IsNear machine.now.order) outline.new.items }
-    ensures placed { outline.new.items ≡ map (point_of machine.now.order) (begun_behind (glue_edge_of (rule_of machine.now) half.now.kind) (vertices_in_place (tiling_of machine.now) half.now)) }
+    ensures placed { outline.new.items ≡ map (point_of machine.now.order) (begun_behind (glue_edge_of (rule_of machine.now) half.now.kind) (vertices_in_place (tiling_of machine.now) (tile_of half.now))) }
 {
     let checked = machine.checked();
     let order = checked.order();
@@ -112,16 +149,12 @@ fn put_first_half(
     put_vertices(outline, order, &vertices[..edge + 1], &half.motion);
 }
 
-/// Puts the vertices of the second half that aren't on its glue edge, from its end round, behind an outline.
-fn put_second_half(
-    outline: &mut ArrayVec<Point, MOST_VERTICES>,
-    machine: &Machine,
-    half: &PlacedTile,
-)
+/// Appends the vertices of the second half that are not on its glue edge, from the end of that edge around.
+fn put_second_half(outline: &mut ArrayVec<Point, MOST_VERTICES>, machine: &Machine, half: &Part)
     requires room { length outline.old.items ≤ 12 }
-    requires half { IsDrawableHalf (tiling_of machine.now) half.now }
+    requires half { IsDrawableHalf (tiling_of machine.now) (tile_of half.now) }
     ensures near { All (IsNear machine.now.order) outline.old.items → All (IsNear machine.now.order) outline.new.items }
-    ensures placed { outline.new.items ≡ outline.old.items ++ map (point_of machine.now.order) (inner_of (begun_behind (glue_edge_of (rule_of machine.now) half.now.kind) (vertices_in_place (tiling_of machine.now) half.now))) }
+    ensures placed { outline.new.items ≡ outline.old.items ++ map (point_of machine.now.order) (inner_of (begun_behind (glue_edge_of (rule_of machine.now) half.now.kind) (vertices_in_place (tiling_of machine.now) (tile_of half.now)))) }
 {
     let checked = machine.checked();
     let order = checked.order();
@@ -135,16 +168,20 @@ fn put_second_half(
     }
 }
 
-/// Puts the outline of a whole tile into an empty one.
-fn put_whole(outline: &mut ArrayVec<Point, MOST_VERTICES>, machine: &Machine, whole: &WholeTile)
+/// Puts the outline of the whole tile with these parts into an empty outline.
+fn put_whole(
+    outline: &mut ArrayVec<Point, MOST_VERTICES>,
+    machine: &Machine,
+    first: &Part,
+    second: &Option<Part>,
+)
     requires empty { length outline.old.items ≡ 0 }
-    requires can { CanBeDrawnWhole (tiling_of machine.now) whole.now }
+    requires can { CanBeDrawnWhole (tiling_of machine.now) (whole_by first.now second.now) }
     ensures three { 3 ≤ length outline.new.items }
     ensures near { All (IsNear machine.now.order) outline.new.items }
-    ensures placed { outline.new.items ≡ map (point_of machine.now.order) (outline_of (tiling_of machine.now) whole.now) }
+    ensures placed { outline.new.items ≡ map (point_of machine.now.order) (outline_of (tiling_of machine.now) (whole_by first.now second.now)) }
 {
-    let first = &whole.first;
-    match &whole.second {
+    match second {
         None => put_tile(outline, machine, first.kind, &first.motion),
         Some(second) => {
             put_first_half(outline, machine, first);
@@ -153,28 +190,7 @@ fn put_whole(outline: &mut ArrayVec<Point, MOST_VERTICES>, machine: &Machine, wh
     }
 }
 
-/// A tile as a part of what is drawn.
-fn part(tile: &PlacedTile) -> Part
-    ensures { result ≡ part_of tile.now }
-{
-    Part {
-        kind: tile.kind,
-        motion: tile.motion,
-        addr: tile.addr.copy(),
-    }
-}
-
-/// The second half of a whole tile as a part of what is drawn.
-fn second_part(whole: &WholeTile) -> Option<Part>
-    ensures { result ≡ option_map part_of whole.now.second }
-{
-    match &whole.second {
-        Some(second) => Some(part(second)),
-        None => None,
-    }
-}
-
-/// Makes a tile drawn the one of its first part, alone.
+/// Fills in a tile from its first part alone.
 pub fn fill(drawn: &mut Drawn, machine: &Machine)
     requires can { CanBeDrawn (tiling_of machine.now) (tile_of drawn.old.first) }
     ensures tile { drawn.new ≡ drawn_of (tiling_of machine.now) (tile_of drawn.old.first) }
@@ -182,22 +198,19 @@ pub fn fill(drawn: &mut Drawn, machine: &Machine)
 {
     let kind = drawn.first.kind;
     drawn.class = kind;
-    drawn.outline.clear();
-    put_tile(&mut drawn.outline, machine, kind, &drawn.first.motion);
+    put_outline(&mut drawn.outline, machine, kind, &drawn.first.motion);
     if drawn.second.is_some() {
         drawn.second = None;
     }
 }
 
-/// Makes a tile drawn the one of this whole tile, in its place.
-pub fn fill_whole(drawn: &mut Drawn, machine: &Machine, whole: &WholeTile)
-    requires can { CanBeDrawnWhole (tiling_of machine.now) whole.now }
-    ensures tile { drawn.new ≡ drawn_whole (tiling_of machine.now) whole.now }
+/// Fills in a whole tile from its parts.
+pub fn fill_whole(drawn: &mut Drawn, machine: &Machine)
+    requires can { CanBeDrawnWhole (tiling_of machine.now) (whole_by drawn.old.first drawn.old.second) }
+    ensures tile { drawn.new ≡ drawn_whole (tiling_of machine.now) (whole_by drawn.old.first drawn.old.second) }
     ensures drawable { IsDrawable machine.now.order drawn.new }
 {
-    drawn.class = whole.first.kind;
+    drawn.class = drawn.first.kind;
     drawn.outline.clear();
-    put_whole(&mut drawn.outline, machine, whole);
-    drawn.first = part(&whole.first);
-    drawn.second = second_part(whole);
+    put_whole(&mut drawn.outline, machine, &drawn.first, &drawn.second);
 }

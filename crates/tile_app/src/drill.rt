@@ -1,4 +1,4 @@
-//! The command `drill`: a summary of windows that are made from the start number.
+//! The command `drill`: totals over pseudorandom windows, which the seed determines.
 ghost use Rattle.std.specs.Prelude.{◌≡◌, ◌+◌, ◌*◌, ◌<◌, ◌≤◌, ◌^◌, Some, Ok, IfOk, IfErr, OnOk, string_bytes};
 ghost use Rattle.cyclo_points.specs.Point.{Within, IsWithin};
 ghost use Rattle.lazy_walk.specs.Frames.{IsFrameOf};
@@ -28,7 +28,7 @@ use tile_shape::no_memory::NoMemory;
 use window_cover::cover_fault::CoverFault;
 use window_cover::tiles_of_window::covered_tiles;
 
-/// How many windows right words ask for.
+/// Returns the number of windows that right arguments ask for, at most 200.
 fn count_given(words: &[String]) -> u8
     requires right { command_of (texts words.now) ≡ Ok Drill }
     ensures given { count_given (texts words.now) ≡ Some result }
@@ -38,7 +38,7 @@ fn count_given(words: &[String]) -> u8
     windows_in(text).unwrap()
 }
 
-/// The next word of a stream as a coefficient of a centre.
+/// Returns the next output of the generator as a coefficient of a centre, at most 32 in absolute value.
 fn next_coefficient(growth: &mut Growth) -> i64
     requires few_taken { growth.old.taken < 2 ^ 32 }
     ensures number { result ≡ coefficient_of (word growth.old.start growth.old.taken) }
@@ -49,7 +49,7 @@ fn next_coefficient(growth: &mut Growth) -> i64
     i64::from(growth.next_word() % 64) - 32
 }
 
-/// The next word of a stream as a half extent.
+/// Returns the next output of the generator as a half-width or half-height, from 1 to 64.
 fn next_extent(growth: &mut Growth) -> u16
     requires few_taken { growth.old.taken < 2 ^ 32 }
     ensures number { result ≡ extent_of (word growth.old.start growth.old.taken) }
@@ -61,7 +61,7 @@ fn next_extent(growth: &mut Growth) -> u16
     1 + (growth.next_word() % 64) as u16
 }
 
-/// The next four words of a stream as a centre, still to be reduced.
+/// Returns the next four outputs of the generator as a centre, before it is reduced to the order.
 fn next_centre(growth: &mut Growth) -> Point
     requires few_taken { growth.old.taken + 4 ≤ 2 ^ 32 }
     ensures centre { result ≡ centre_from growth.old.start growth.old.taken }
@@ -78,7 +78,7 @@ fn next_centre(growth: &mut Growth) -> Point
     }
 }
 
-/// The next six words of a stream as a window.
+/// Returns the next six outputs of the generator as a window.
 fn next_window(order: Order, growth: &mut Growth) -> Window
     requires few_taken { growth.old.taken + 6 ≤ 2 ^ 32 }
     ensures window { result ≡ window_from order growth.old.start growth.old.taken }
@@ -96,7 +96,7 @@ fn next_window(order: Order, growth: &mut Growth) -> Window
     }
 }
 
-/// The frame of the base `0:`, before it grows.
+/// Returns the frame of the base `0:`, before it grows.
 fn fresh_frame(machine: &Machine, start: u64) -> Frame
     ensures fresh { result ≡ fresh_frame start }
     ensures is_frame { IsFrameOf (tiling_of machine.now) result }
@@ -105,8 +105,8 @@ fn fresh_frame(machine: &Machine, start: u64) -> Frame
     Frame::new(Address::new(0), start)
 }
 
-/// Adds a window to a summary: its tiles and the depth of its frame, which grows as they are found, or that it is
-/// refused.
+/// Adds a window to the totals: its number of tiles and the depth of its frame, or its refusal. The frame
+/// grows as needed.
 fn add_window(
     alloc: Global,
     machine: &Machine,
@@ -135,7 +135,7 @@ fn add_window(
     Ok(())
 }
 
-/// The summary of the first windows of a start number.
+/// Returns the totals over the first `count` windows of a seed.
 fn summed(alloc: Global, machine: &Machine, start: u64, count: u8) -> Result<Summary, NoMemory>
     requires at_most_200 { count ≤ 200 }
     ensures { IfOk result (λ summary. IsSummary (tiling_of machine.now) start count summary) }
@@ -151,7 +151,7 @@ fn summed(alloc: Global, machine: &Machine, start: u64, count: u8) -> Result<Sum
     Ok(summary)
 }
 
-/// What `drill` prints for right words; want of memory alone keeps it from that.
+/// Returns what `drill` prints for right arguments. Fails only if memory runs out.
 pub fn drill_text(alloc: Global, machine: &Machine, words: &[String]) -> Result<String, Status>
     requires right { command_of (texts words.now) ≡ Ok Drill }
     ensures printed { IfOk result (λ text. PrintsDrill (texts words.now) (tiling_of machine.now) (string_bytes text)) }

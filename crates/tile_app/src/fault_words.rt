@@ -1,4 +1,4 @@
-//! Faults as words of a line.
+//! Writes faults as fields of a line.
 ghost use Rattle.std.specs.Prelude.{◌≡◌, ◌+◌, ◌≤◌, ◌∷◌, ◌++◌, codes, decimal, length};
 ghost use Rattle.arrayvec.specs.ArrayString.{array_string_len};
 ghost use Rattle.addr_calc.specs.FaultText as scripts;
@@ -74,7 +74,7 @@ fn put_place(line: &mut ArrayString<LINE_ROOM>, place: Place)
     }
 }
 
-/// Puts a word and a key of a rule file.
+/// Puts a name, and a key of a rule file.
 fn put_keyed(line: &mut ArrayString<LINE_ROOM>, word: &str, key: Key)
     requires room { array_string_len line.old + length word.now + 41 ≤ LINE_ROOM }
     ensures keyed { line.new.bytes ≡ line.old.bytes ++ blank ∷ (word.now ++ blank ∷ texts.key_text key) }
@@ -103,7 +103,7 @@ fn put_text_fault(line: &mut ArrayString<LINE_ROOM>, fault: TextFault)
     }
 }
 
-/// Puts what passes a limit.
+/// Puts what exceeds a limit.
 fn put_what(line: &mut ArrayString<LINE_ROOM>, what: What)
     requires room { array_string_len line.old + 40 ≤ LINE_ROOM }
     ensures what { line.new.bytes ≡ line.old.bytes ++ blank ∷ checks.what_text what }
@@ -231,7 +231,7 @@ fn put_calc_fault(line: &mut ArrayString<LINE_ROOM>, fault: CalcFault)
     }
 }
 
-/// Puts why a script is refused.
+/// Puts why a script is refused: its length, or the line and its fault.
 pub fn put_script_fault(line: &mut ArrayString<LINE_ROOM>, fault: ScriptFault)
     requires room { array_string_len line.old + 140 ≤ LINE_ROOM }
     ensures fault { line.new.bytes ≡ line.old.bytes ++ blank ∷ script_fault_text fault }
@@ -243,7 +243,7 @@ pub fn put_script_fault(line: &mut ArrayString<LINE_ROOM>, fault: ScriptFault)
     }
 }
 
-/// Puts the name of a fault and the number of a line.
+/// Puts the name of a fault, and the number of a line.
 fn put_line_fault(text: &mut ArrayString<LINE_ROOM>, word: &str, line: u32)
     requires room { array_string_len text.old + length word.now + 22 ≤ LINE_ROOM }
     ensures fault { text.new.bytes ≡ text.old.bytes ++ blank ∷ (word.now ++ blank ∷ decimal line) }
@@ -252,7 +252,7 @@ fn put_line_fault(text: &mut ArrayString<LINE_ROOM>, word: &str, line: u32)
     put_numbered(text, word, u64::from(line));
 }
 
-/// Puts the fault of a listing.
+/// Puts the fault of a list of tiles.
 pub fn put_list_fault(text: &mut ArrayString<LINE_ROOM>, fault: &ListFault)
     requires room { array_string_len text.old + 549 ≤ LINE_ROOM }
     ensures fault { text.new.bytes ≡ text.old.bytes ++ blank ∷ listings.list_fault_text fault.now }

@@ -1,4 +1,4 @@
-//! The file that a call has read: that of its rule, a script, or a listing.
+//! The file that a call reads: a rule file, a script, or a list of tiles.
 ghost use Rattle.std.specs.Prelude.{◌≡◌, ◌≤◌, true, false, length, Ok, IfOk, IfErr, OnErr, IsErrOf};
 ghost use Rattle.tile_io.specs.Causes.{Rose};
 ghost use Rattle.tile_app.specs.declared.words.Command.TheVariants.{Verify};
@@ -11,9 +11,9 @@ ghost use Rattle.tile_app.specs.Words.{texts, command_of};
 use crate::rule_choice::RuleChoice;
 use crate::script_fault::ScriptFault;
 use crate::status::Status;
-use crate::tile::address_read;
+use crate::tile::address_among;
 use crate::words::Command;
-use builtin_rules::builtin::builtin;
+use builtin_rules::builtin::uses_of;
 use list_verify::list_fault::ListFault;
 use rule_text::reading::LONGEST_FILE;
 use std::alloc::Global;
@@ -21,10 +21,11 @@ use tile_io::read_all_fault::ReadAllFault;
 use tile_io::reading::read_all;
 use tile_io::source::Source;
 
-/// The most bytes of a listing.
+/// The greatest length of a list of tiles, in bytes.
 const LONGEST_LISTING: usize = 67_108_864;
 
-/// Tests that right words of `verify` name a tile of the built-in rule that is chosen.
+/// Tests if right arguments of `verify` name a tile of the chosen rule. This is tested only for a built-in
+/// rule.
 fn test_tile(alloc: Global, choice: RuleChoice, words: &[String]) -> Result<bool, Status>
     requires right { command_of (texts words.now) ≡ Ok Verify }
     ensures named { IfOk result (λ named. named ≡ name_tile (texts words.now) choice) }
@@ -32,16 +33,16 @@ fn test_tile(alloc: Global, choice: RuleChoice, words: &[String]) -> Result<bool
 {
     match choice {
         RuleChoice::Builtin { name } => {
-            let checked = builtin(alloc, name)?;
-            address_read(&checked, words)?;
+            let uses = uses_of(alloc, name)?;
+            address_among(&uses, words)?;
             Ok(true)
         }
         RuleChoice::File => Ok(false),
     }
 }
 
-/// Whether right words have a file read, where this rule is chosen: a script, that of the rule, or a listing, for which
-/// they have to name a tile first.
+/// Returns true if a call with right arguments and this rule reads a file: a script, a rule file, or a list
+/// of tiles. For a list, the arguments must first name a tile.
 pub fn has_file(
     alloc: Global,
     command: Command,
@@ -60,7 +61,7 @@ pub fn has_file(
     }
 }
 
-/// The most bytes of the file of a command.
+/// Returns the greatest length of a command's file, in bytes.
 fn longest_for(command: Command) -> usize
     ensures { result ≡ longest_for command }
 {
@@ -70,7 +71,7 @@ fn longest_for(command: Command) -> usize
     }
 }
 
-/// That the file is too long, by the command that has it read.
+/// Returns the refusal for a file that is too long, by command.
 fn too_long_for(command: Command) -> Status
     ensures { result ≡ too_long_for command }
 {
@@ -85,7 +86,8 @@ fn too_long_for(command: Command) -> Status
     }
 }
 
-/// The bytes of the file that a command has read, to the end of the source; none where it has none read.
+/// Returns the bytes of the file that a command reads, to the end of the source. Returns no bytes if it reads
+/// none.
 pub fn file_given<R: Source>(
     alloc: Global,
     command: Command,

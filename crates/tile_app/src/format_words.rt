@@ -1,4 +1,4 @@
-//! Formats in words.
+//! Formats as arguments.
 ghost use Rattle.std.specs.Prelude.{◌≡◌, ◌∷◌, ℕ, List, None, true, false};
 ghost use Rattle.std.specs.Option.{option_map};
 ghost use Rattle.tile_app.specs.FormatWords.{format_text, format_named, is_among, formats_behind, formats_in};
@@ -6,10 +6,10 @@ ghost use Rattle.tile_app.specs.FormatWords.{format_text, format_named, is_among
 use arrayvec::ArrayVec;
 use layer_api::format::Format;
 
-/// How many formats may be named.
+/// The greatest number of formats that may be named.
 pub const MOST_FORMATS: usize = 3;
 
-/// The name of a format.
+/// Returns the name of a format.
 pub fn format_text(format: Format) -> &'static str
     ensures { result.now ≡ format_text format }
 {
@@ -20,7 +20,7 @@ pub fn format_text(format: Format) -> &'static str
     }
 }
 
-/// The format that a text names.
+/// Returns the format that a text names.
 fn format_named(text: &str) -> Option<Format>
     ensures { result ≡ format_named text.now }
 {
@@ -32,7 +32,7 @@ fn format_named(text: &str) -> Option<Format>
     }
 }
 
-/// Whether a format is one of these.
+/// Returns true if the format is one of these.
 pub fn is_among(format: Format, formats: &[Format]) -> bool
     ensures { result ≡ is_among format formats.now }
 {
@@ -44,8 +44,8 @@ pub fn is_among(format: Format, formats: &[Format]) -> bool
     false
 }
 
-/// Puts the format that a piece of a text names behind others. Whether it names one, there is room for it,
-/// and it is none of them.
+/// Appends the format that a piece of text names. Returns true if it names one, there is room for it, and it
+/// is not there yet.
 fn put_format(formats: &mut ArrayVec<Format, MOST_FORMATS>, piece: &str) -> bool
     ensures read { result ≡ true → (rest : List (List ℕ)) → formats_behind formats.new.items rest ≡ formats_behind formats.old.items (piece.now ∷ rest) }
     ensures refused { result ≡ false → (rest : List (List ℕ)) → formats_behind formats.old.items (piece.now ∷ rest) ≡ None }
@@ -56,7 +56,7 @@ fn put_format(formats: &mut ArrayVec<Format, MOST_FORMATS>, piece: &str) -> bool
     }
 }
 
-/// The formats that a text names: one to three, joined by commas, each once.
+/// Returns the formats that a text names: one to three different ones, with commas between them.
 pub fn formats_in(text: &str) -> Option<ArrayVec<Format, MOST_FORMATS>>
     ensures { option_map (λ formats. formats.items) result ≡ formats_in text.now }
 {

@@ -1,4 +1,4 @@
-//! The layers handed in, and the formats that the words ask them for.
+//! The layers of the caller, and the formats that the arguments name.
 ghost use Rattle.std.specs.Prelude.{◌≡◌, ◌<◌, ◌≤◌, Ok, IfSome, is_some, length, map, position, slice_get};
 ghost use Rattle.tile_app.specs.FormatWords.{same_format, is_among, first_lacking};
 ghost use Rattle.tile_app.specs.Layers.{formats_given, lacking};
@@ -10,7 +10,7 @@ use arrayvec::ArrayVec;
 use layer_api::format::Format;
 use layer_api::layer::Layer;
 
-/// The formats that the words name, in their order.
+/// Returns the formats that the arguments name, in order.
 pub fn formats_given(words: &[String]) -> ArrayVec<Format, MOST_FORMATS>
     ensures { result.items ≡ formats_given (texts words.now) }
 {
@@ -23,7 +23,7 @@ pub fn formats_given(words: &[String]) -> ArrayVec<Format, MOST_FORMATS>
     }
 }
 
-/// The place of the first layer of a format.
+/// Returns the place of the first layer with a format, if there is one.
 pub fn place_of<D: Layer>(layers: &[D], format: Format) -> Option<usize>
     ensures first { result ≡ position (λ f. same_format f format) (map D.form layers.now) }
     ensures some { is_some result ≡ is_among format (map D.form layers.now) }
@@ -38,7 +38,7 @@ pub fn place_of<D: Layer>(layers: &[D], format: Format) -> Option<usize>
     None
 }
 
-/// The first of these formats that no layer has.
+/// Returns the first of these formats that no layer has.
 fn first_lacking<D: Layer>(layers: &[D], named: &[Format]) -> Option<Format>
     ensures { result ≡ first_lacking (map D.form layers.now) named.now }
 {
@@ -50,7 +50,7 @@ fn first_lacking<D: Layer>(layers: &[D], named: &[Format]) -> Option<Format>
     None
 }
 
-/// The first format that right words ask for and no layer has.
+/// Returns the first format that right arguments name and no layer has.
 pub fn lacking<D: Layer>(command: Command, words: &[String], layers: &[D]) -> Option<Format>
     requires right { command_of (texts words.now) ≡ Ok command }
     ensures { result ≡ lacking (texts words.now) (map D.form layers.now) }

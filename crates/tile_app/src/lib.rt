@@ -1,7 +1,8 @@
-//! The top call of the engine, `run`: from the words of a command line to the bytes that a sink
-//! takes. Its clauses carry what the program promises: what is printed when it succeeds, the cause of
-//! every refusal but want of memory, and what the notes take. Each command has a file of its own, with
-//! its text and its line, and beside it one of definitions.
+//! The top call of the engine, `run`: from the arguments of a command line to the bytes that a sink takes.
+//!
+//! Its clauses carry what the program promises: what is printed on success, the cause of every refusal except
+//! out of memory, and what the notes take. Each command has a file of its own, with its text and its line,
+//! and a file of definitions. In names and clauses, *words* are the arguments.
 #![tactic(auto)]
 
 mod answer;

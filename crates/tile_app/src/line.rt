@@ -1,4 +1,4 @@
-//! A line in fixed storage, to which words are put, each behind a blank.
+//! A line in fixed storage. Each field that is put follows a space.
 ghost use Rattle.std.specs.Prelude.{◌≡◌, ◌+◌, ◌≤◌, ◌∷◌, ◌++◌, codes, length, decimal};
 ghost use Rattle.std.specs.Fmt.{signed_decimal};
 ghost use Rattle.arrayvec.specs.ArrayString.{array_string_len};
@@ -13,10 +13,10 @@ use itoa::Buffer;
 use tile_shape::address::Address;
 use tile_shape::writing::write_address;
 
-/// How many bytes a line has room for.
+/// The number of bytes for which a line has room.
 pub const LINE_ROOM: usize = 640;
 
-/// Puts a word behind a blank.
+/// Puts a space and a name.
 pub fn put_word(line: &mut ArrayString<LINE_ROOM>, word: &str)
     requires room { array_string_len line.old + length word.now + 1 ≤ LINE_ROOM }
     ensures { line.new.bytes ≡ line.old.bytes ++ blank ∷ word.now }
@@ -25,7 +25,7 @@ pub fn put_word(line: &mut ArrayString<LINE_ROOM>, word: &str)
     line.push_str(word);
 }
 
-/// Puts a number behind a blank, in decimal.
+/// Puts a space and a number, in decimal.
 pub fn put_number(line: &mut ArrayString<LINE_ROOM>, number: u64)
     requires room { array_string_len line.old + 21 ≤ LINE_ROOM }
     ensures number { line.new.bytes ≡ line.old.bytes ++ blank ∷ decimal number }
@@ -35,7 +35,7 @@ pub fn put_number(line: &mut ArrayString<LINE_ROOM>, number: u64)
     put_word(line, figures.format(number));
 }
 
-/// Puts a word and a number, each behind a blank.
+/// Puts a name and a number, each after a space.
 pub fn put_numbered(line: &mut ArrayString<LINE_ROOM>, word: &str, number: u64)
     requires room { array_string_len line.old + length word.now + 22 ≤ LINE_ROOM }
     ensures numbered { line.new.bytes ≡ line.old.bytes ++ blank ∷ (word.now ++ blank ∷ decimal number) }
@@ -45,7 +45,7 @@ pub fn put_numbered(line: &mut ArrayString<LINE_ROOM>, word: &str, number: u64)
     put_number(line, number);
 }
 
-/// Puts a word and two numbers, each behind a blank.
+/// Puts a name and two numbers, each after a space.
 pub fn put_pair(line: &mut ArrayString<LINE_ROOM>, word: &str, first: u8, second: u8)
     requires room { array_string_len line.old + length word.now + 43 ≤ LINE_ROOM }
     ensures pair { line.new.bytes ≡ line.old.bytes ++ blank ∷ (word.now ++ blank ∷ decimal first ++ blank ∷ decimal second) }
@@ -55,7 +55,7 @@ pub fn put_pair(line: &mut ArrayString<LINE_ROOM>, word: &str, first: u8, second
     put_number(line, u64::from(second));
 }
 
-/// Puts a signed number, in decimal.
+/// Puts a signed number in decimal, without a space.
 fn put_signed(line: &mut ArrayString<LINE_ROOM>, number: i64)
     requires room { array_string_len line.old + 20 ≤ LINE_ROOM }
     ensures number { line.new.bytes ≡ line.old.bytes ++ signed_decimal number }
@@ -65,7 +65,7 @@ fn put_signed(line: &mut ArrayString<LINE_ROOM>, number: i64)
     line.push_str(figures.format(number));
 }
 
-/// Puts the text of an address behind a blank.
+/// Puts a space and the text of an address.
 pub fn put_address(line: &mut ArrayString<LINE_ROOM>, addr: &Address)
     requires room { array_string_len line.old + 516 ≤ LINE_ROOM }
     ensures address { line.new.bytes ≡ line.old.bytes ++ blank ∷ address_text (address_of addr.now) }
@@ -75,7 +75,7 @@ pub fn put_address(line: &mut ArrayString<LINE_ROOM>, addr: &Address)
     put_word(line, str::from_utf8(text.as_slice()).unwrap());
 }
 
-/// Puts a point behind a blank: its four coefficients, joined by commas.
+/// Puts a space and a point: its four coefficients, with commas between them.
 pub fn put_point(line: &mut ArrayString<LINE_ROOM>, point: &Point)
     requires room { array_string_len line.old + 84 ≤ LINE_ROOM }
     ensures point { line.new.bytes ≡ line.old.bytes ++ blank ∷ point_text point.now }
@@ -91,7 +91,7 @@ pub fn put_point(line: &mut ArrayString<LINE_ROOM>, point: &Point)
     put_signed(line, point.c[3]);
 }
 
-/// Puts a motion behind a blank: its turn, and its shift behind another.
+/// Puts a motion: its turn and its shift, each after a space.
 pub fn put_motion(line: &mut ArrayString<LINE_ROOM>, motion: &Motion)
     requires room { array_string_len line.old + 105 ≤ LINE_ROOM }
     ensures motion { line.new.bytes ≡ line.old.bytes ++ blank ∷ motion_text motion.now }
@@ -101,7 +101,7 @@ pub fn put_motion(line: &mut ArrayString<LINE_ROOM>, motion: &Motion)
     put_point(line, &motion.shift);
 }
 
-/// Puts that an edge of a tile is on the boundary at the greatest depth.
+/// Puts a `DepthLimit`: the tile and the edge that is on the boundary at depth 64.
 pub fn put_depth_limit(line: &mut ArrayString<LINE_ROOM>, addr: &Address, edge: u8)
     requires room { array_string_len line.old + 548 ≤ LINE_ROOM }
     ensures limit { line.new.bytes ≡ line.old.bytes ++ blank ∷ (codes "DepthLimit " ++ address_text (address_of addr.now) ++ blank ∷ decimal edge) }

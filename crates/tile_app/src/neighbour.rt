@@ -17,7 +17,7 @@ use std::sync::ledger::Ledger;
 use tile_place::machine::Machine;
 use tile_shape::address::Address;
 
-/// The number of the edge that right words give.
+/// Returns the number of the edge that right arguments give.
 fn edge_given(words: &[String]) -> u8
     requires { command_of (texts words.now) ≡ Ok Neighbour }
     ensures { edge_given (texts words.now) ≡ Some result }
@@ -26,15 +26,15 @@ fn edge_given(words: &[String]) -> u8
     number_up_to_255(text).unwrap()
 }
 
-/// The line of the tile across an edge: its address, and the number of its edge that leads back.
+/// Returns the line of the tile across an edge: its address, and the number of its edge that leads back.
 fn neighbour_line(alloc: Global, across: &Address, edge: u8) -> Result<String, AllocError>
     ensures { IfOk result (λ text. string_bytes text ≡ neighbour_line (address_of across.now) edge) }
 {
     format!(in alloc; "{across} {edge}\n")
 }
 
-/// What `neighbour` prints for right words, or its refusal. The crossing counts its look-ups in `steps`: at most
-/// twice the depth plus two, so at most 130, since an address has at most 64 digits.
+/// Returns what `neighbour` prints for right arguments, or its refusal. Adds its table look-ups to `steps`:
+/// at most twice the depth, plus two, so at most 130.
 pub fn neighbour_text<L: Ledger>(
     alloc: Global,
     machine: &Machine,

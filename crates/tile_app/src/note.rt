@@ -59,7 +59,7 @@ fn put_status(line: &mut ArrayString<LINE_ROOM>, status: &Status)
     }
 }
 
-/// The one line of a refusal, its code, its name and its fields. It is built in fixed storage and takes
+/// Returns the line of a refusal: its code, its name and its fields. The line is in fixed storage and needs
 /// no memory.
 fn note(status: &Status) -> ArrayString<LINE_ROOM>
     requires refusal { ¬ status.now ≡ Status.Done }
@@ -73,7 +73,7 @@ fn note(status: &Status) -> ArrayString<LINE_ROOM>
     line
 }
 
-/// Writes the note of a status, nothing where all is done. A fault of the notes is passed over.
+/// Writes the note of a status, and nothing for `Done`. A failure of the notes is ignored.
 pub fn write_note<N: Sink>(notes: &mut N, status: &Status)
     ensures noted { IsNoted (N.faults notes.old) (N.faults notes.new) (N.taken notes.old) (N.taken notes.new) (note_of status.now) }
     ensures not_noted { status.now ≡ Status.Done → notes.new ≡ notes.old }

@@ -1,4 +1,4 @@
-//! Paths in words.
+//! Paths as arguments.
 ghost use Rattle.std.specs.Prelude.{◌≡◌, ◌≤◌, ◌∷◌, ℕ, List, None, true, false, length};
 ghost use Rattle.std.specs.Option.{option_map};
 ghost use Rattle.tile_shape.specs.Decimal.{number_up_to};
@@ -7,10 +7,10 @@ ghost use Rattle.tile_app.specs.PathWords.{put, numbers, unless_long, longest_pa
 use arrayvec::ArrayVec;
 use tile_shape::decimal::read_number;
 
-/// How many edges a path may have.
+/// The greatest number of edges of a path.
 pub const LONGEST_PATH: usize = 1000;
 
-/// The number of an edge that a piece of a text is.
+/// Reads the number of an edge.
 fn edge_in(piece: &[u8]) -> Option<u8>
     ensures { result ≡ number_up_to 255 piece.now }
 {
@@ -18,8 +18,7 @@ fn edge_in(piece: &[u8]) -> Option<u8>
     u8::try_from(number).ok()
 }
 
-/// Puts the number of an edge that a piece of a text is behind a path. Whether the piece is one, and there is
-/// room for it.
+/// Reads the number of an edge and appends it to a path. Returns true if the text is one and there is room.
 fn put_edge(path: &mut ArrayVec<u8, LONGEST_PATH>, piece: &[u8]) -> bool
     requires room { length path.old.items ≤ longest_path }
     ensures room { length path.new.items ≤ longest_path }
@@ -32,7 +31,7 @@ fn put_edge(path: &mut ArrayVec<u8, LONGEST_PATH>, piece: &[u8]) -> bool
     }
 }
 
-/// The path that a text is: numbers of edges, joined by commas.
+/// Reads a path: numbers of edges, with commas between them.
 pub fn path_in(text: &str) -> Option<ArrayVec<u8, LONGEST_PATH>>
     ensures { option_map (λ path. path.items) result ≡ path_in text.now }
 {

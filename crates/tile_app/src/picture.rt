@@ -1,26 +1,27 @@
-//! What is drawn of a window.
+//! The tiles that are drawn of a window.
 ghost use Rattle.std.specs.Prelude.{◌≡◌, ◌<◌, Some, length, slice_get};
 ghost use Rattle.layer_api.specs.Drawable.{IsDrawable};
 ghost use Rattle.rule_model.specs.Tiling.{Tiling, tiling_of};
+ghost use Rattle.tile_app.specs.DrawnTile.{whole_by};
 ghost use Rattle.tile_app.specs.Pictured.{picture_of, CanBePictured};
 
-use crate::drawn_tile::{fill, fill_whole};
-use half_glue::whole_tile::WholeTile;
+use crate::drawn_tile::{blank_part, fill, fill_whole};
+use half_glue::glued_tiles::GluedTiles;
 use layer_api::drawn::Drawn;
 use tile_place::machine::Machine;
 use window_cover::covered_tiles::CoveredTiles;
 
-/// What is drawn of a window.
+/// The tiles that are drawn of a window.
 #[derive(Drop)]
 pub enum Picture {
     /// Its tiles, each alone.
     Tiles(CoveredTiles),
     /// The whole tiles of its tiles.
-    Wholes(Vec<WholeTile>),
+    Wholes(GluedTiles),
 }
 
 impl Picture {
-    /// How many tiles or whole tiles there are.
+    /// Returns the number of tiles or whole tiles.
     pub fn len(&self) -> usize
         ensures { (t : Tiling) → result ≡ length (picture_of t self.now) }
     {
@@ -30,8 +31,8 @@ impl Picture {
         }
     }
 
-    /// Makes a tile drawn the one at a place. It stands in code of its own, so that the caller's blank tile is made at
-    /// one stroke.
+    /// Replaces `drawn` by the tile at a place. This is a function of its own so that the caller's blank tile
+    /// is made only once.
     #[inline(never)]
     pub fn fill(&self, drawn: &mut Drawn, machine: &Machine, place: usize)
         requires can { CanBePictured (tiling_of machine.now) self.now }
@@ -45,7 +46,31 @@ impl Picture {
                 tiles.put(place, &mut first.kind, &mut first.motion, &mut first.addr);
                 fill(drawn, machine);
             }
-            Picture::Wholes(wholes) => fill_whole(drawn, machine, &wholes[place]),
+            Picture::Wholes(wholes) => {
+                put_parts(drawn, wholes, place);
+                fill_whole(drawn, machine);
+            }
         }
+    }
+}
+
+/// Replaces the parts of `drawn` by those of the whole tile at a place.
+fn put_parts(drawn: &mut Drawn, wholes: &GluedTiles, place: usize)
+    requires below { place < length wholes.now }
+    ensures { slice_get wholes.now place ≡ Some (whole_by drawn.new.first drawn.new.second) }
+{
+    let first = &mut drawn.first;
+    wholes.put_first(place, &mut first.kind, &mut first.motion, &mut first.addr);
+    if wholes.is_pair(place) {
+        let mut second = blank_part();
+        wholes.put_second(
+            place,
+            &mut second.kind,
+            &mut second.motion,
+            &mut second.addr,
+        );
+        drawn.second = Some(second);
+    } else {
+        drawn.second = None;
     }
 }

@@ -1,4 +1,4 @@
-//! What the value of the key `rule` chooses.
+//! The choice that the value of the key `rule` makes.
 ghost use Rattle.std.specs.Prelude.{◌≡◌};
 ghost use Rattle.tile_app.specs.Choices.{choice_in};
 ghost use Rattle.tile_app.specs.Tilings.{name_in};
@@ -8,13 +8,13 @@ use builtin_rules::name::Name;
 /// A built-in rule, or the rule of a file.
 #[derive(Clone, Copy, Debug, PartialEq, Eq)]
 pub enum RuleChoice {
-    /// The built-in rule of a name.
+    /// The built-in rule with this name.
     Builtin { name: Name },
     /// The rule of the file that is read from the source.
     File,
 }
 
-/// The built-in rule that a text names.
+/// Returns the built-in rule that a text names.
 pub fn name_in(text: &str) -> Option<Name>
     ensures { result ≡ name_in text.now }
 {
@@ -28,7 +28,7 @@ pub fn name_in(text: &str) -> Option<Name>
     }
 }
 
-/// What a text chooses: a built-in rule by its name, or by `-` the rule of a file.
+/// Returns the choice of a text: a built-in rule by name, or the rule of a file for `-`.
 pub fn choice_in(text: &str) -> Option<RuleChoice>
     ensures { result ≡ choice_in text.now }
 {

@@ -2,12 +2,12 @@
 use dissect_check::check_fault::CheckFault;
 use rule_text::text_fault::TextFault;
 
-/// Why a rule file is refused: the first fault of its text, or the first of the ten clauses that its
-/// rule doesn't meet.
+/// Why a rule file is refused: the first fault of its text, or the first of the ten clauses that its rule
+/// fails.
 #[derive(Clone, Copy, Debug, PartialEq, Eq)]
 pub enum RuleFault {
-    /// The text stands for no rule.
+    /// The text does not stand for a rule.
     Text(TextFault),
-    /// The rule isn't accepted.
+    /// The rule is not accepted.
     Check(CheckFault),
 }

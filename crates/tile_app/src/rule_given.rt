@@ -1,4 +1,4 @@
-//! The rule that the words choose, checked.
+//! The rule that the arguments choose, checked.
 ghost use Rattle.std.specs.Prelude.{◌≡◌, ◌≤◌, length, Ok, Some, IfOk, IfErr};
 ghost use Rattle.rule_text.specs.Limits.{longest_file};
 ghost use Rattle.rule_model.specs.Tiling.{tiling_of};
@@ -17,7 +17,7 @@ use rule_model::checked::Checked;
 use rule_text::reading::read_rule;
 use std::alloc::Global;
 
-/// The rule that right words choose.
+/// Returns the choice that right arguments make.
 pub fn choice_given(words: &[String]) -> RuleChoice
     requires right { AreRight (texts words.now) }
     ensures { choice_given (texts words.now) ≡ Some result }
@@ -26,7 +26,7 @@ pub fn choice_given(words: &[String]) -> RuleChoice
     choice_in(text).unwrap()
 }
 
-/// The accepted rule that the bytes of a file stand for.
+/// Returns the accepted rule that the bytes of a file stand for.
 fn rule_in(alloc: Global, bytes: &[u8]) -> Result<Checked, Status>
     requires at_most_a_mebibyte { length bytes.now ≤ longest_file }
     ensures accepted { IfOk result (λ checked. tiling_in_file bytes.now ≡ Ok (tiling_of checked)) }
@@ -36,7 +36,7 @@ fn rule_in(alloc: Global, bytes: &[u8]) -> Result<Checked, Status>
     Ok(check(alloc, rule)?)
 }
 
-/// The rule of a choice: a built-in one, or that of the file that was read.
+/// Returns the chosen rule: a built-in one, or the one of the file that was read.
 pub fn rule_chosen(alloc: Global, choice: RuleChoice, file: &[u8]) -> Result<Checked, Status>
     requires at_most_a_mebibyte { choice ≡ File → length file.now ≤ longest_file }
     ensures chosen { IfOk result (λ checked. tiling_chosen file.now choice ≡ Ok (tiling_of checked)) }

@@ -32,8 +32,8 @@ use tile_io::source::Source;
 use tile_io::writing::write_all;
 use tile_shape::laws::{short_numbers_law, text_law};
 
-/// Writes the text that answers the request, built whole before the first byte is written. The steps
-/// of the crossings are counted on a counter made here, which nobody reads.
+/// Writes the text for the request, which is complete in memory before its first byte is written. It counts
+/// the look-ups of crossings on a counter that nobody reads.
 fn answer<R: Source, W: Sink, D: Layer, L: Ledger>(
     alloc: Global,
     words: &[String],
@@ -66,30 +66,44 @@ fn answer<R: Source, W: Sink, D: Layer, L: Ledger>(
     }
 }
 
-/// Does all that the program does: reads the words, and the rule file, the script or the listing where they
-/// ask for it, and writes what they ask for to the sink. A refusal writes its one line to the notes; a fault of
-/// the notes changes no status.
+/// Runs one call of the program: reads the arguments, reads the source if they ask for it, and writes the
+/// answer to `sink`. The answer is complete in memory before its first byte is written.
 ///
-/// - `words` are those behind the program's name: a command, and then `key=value` words in any order.
-/// - `source` has the rule file, or the script of `calc`, of at most 1,048,576 bytes, or the listing of
-///   `verify`, of at most 67,108,864. It is read to its end where the words are right, each format that they
-///   name has a layer, and they have `rule=-`, the command `calc`, or the command `verify` and the address of
-///   a tile, and else left as it was.
-/// - `sink` takes the text, which is built whole before its first byte is written.
-/// - `notes` take the line of a refusal.
-/// - `layers` are what `draw` draws through, each format named through the first layer that has it. All
-///   are dropped in the end, used or not.
-/// - `alloc` gives all memory.
+/// - `words` are the arguments after the program's name: a command, then `key=value` in any order.
+/// - `source` holds a rule file (for `rule=-`), a script (for `calc`), or a list of tiles (for `verify`). It
+///   is read to its end, but only if the arguments are right and each format they name has a layer. `verify`
+///   must also have a valid address. Otherwise it is left untouched. A rule file or script may have 1,048,576
+///   bytes, and a list 67,108,864.
+/// - `sink` takes the answer.
+/// - `notes` takes one line for a refusal. A failure of `notes` does not change the status.
+/// - `layers` are what `draw` writes its texts with. If several layers have a format, the first is used. All
+///   of them are dropped before the call returns.
+/// - `alloc` provides all memory.
 ///
-/// The clauses speak of the request, which is the words, the formats of the layers, and the file that was
-/// read. It is tested in this order: the words (`BadWords`), the layers (`NoLayer`), the source and the
-/// file (`ReadFault`, `RuleTooLong`, `BadScript`, `BadListing`, `RuleRefused`), the address (`BadAddress`; that
-/// of `verify` before its source), and then what the command refuses: `place` a value (`CoordLimit`),
-/// `neighbour` an edge (`NoEdge`, `Outside`), `walk` an edge of its path (`NoEdge`, `DepthLimit`), `draw` its
-/// window (`DepthLimit`, `CoordLimit`, `TooManyTiles`), `calc` a line of its script (`BadScript`), `star` a
-/// vertex (`NoVertex`, `DepthLimit`, `StarTooBig`), `verify` its listing (`BadListing`, `DepthLimit`,
-/// `CoordLimit`), and `check` and `drill` nothing more. In place of any answer but the first two `NoMemory`
-/// may come, and in place of `Done` also `WriteFault`. What each refusal tells stands at `Status`.
+/// # Refusals
+///
+/// Tests run in this order, and the first that fails decides:
+///
+/// 1. the arguments: `BadWords`
+/// 2. the layers: `NoLayer`
+/// 3. the source and its content: `ReadFault`, `RuleTooLong`, `BadScript`, `BadListing`, `RuleRefused`
+/// 4. the address: `BadAddress` (in `verify`, before the source is read)
+/// 5. what the command asks for, in the table below
+///
+/// | Command | Refusals |
+/// |---|---|
+/// | `place` | `CoordLimit` |
+/// | `neighbour` | `NoEdge`, `Outside` |
+/// | `walk` | `NoEdge`, `DepthLimit` |
+/// | `draw` | `DepthLimit`, `CoordLimit`, `TooManyTiles` |
+/// | `star` | `NoVertex`, `DepthLimit`, `StarTooBig` |
+/// | `verify` | `BadListing`, `DepthLimit`, `CoordLimit` |
+/// | `calc` | `BadScript` |
+///
+/// `NoMemory` may replace any status except `BadWords` and `NoLayer`, and `WriteFault` may replace `Done`.
+/// [`Status`] says what each refusal reports.
+///
+/// The clauses speak of the request: the arguments, the formats of the layers, and the file that was read.
 pub fn run<R: Source, W: Sink, N: Sink>(
     alloc: Global,
     words: &Vec<String>,
@@ -98,40 +112,48 @@ pub fn run<R: Source, W: Sink, N: Sink>(
     notes: &mut N,
     mut layers: Vec<Box<dyn Layer>>,
 ) -> Status
-    // The headline. At Done of `neighbour` the tile printed is the only one across the edge asked for, when both are
-    // placed in their common supertile, and the return edge leads back.
+    // The headline. On `Done`, `neighbour` printed the only tile across the edge, with both tiles placed in
+    // their common supertile, and the return edge leads back.
     ensures only_neighbour { result ≡ Status.Done → command_of (texts words.now.items) ≡ Ok Neighbour
         → OfRequest (texts words.now.items) (map (λ d. form d) layers.items) (R.left source.old) (R.left source.new)
         (λ r. (t : Tiling) × (text : List ℕ) × Names r t × TellsOnlyNeighbour r.words t text × Takes (W.taken sink.old) (W.taken sink.new) text) }
 
-    // At Done of `draw` the tiles written are exactly those that meet the window, each once, disjoint and covering it, in
-    // the supertile grown to the least enough depth; with `glue=yes` the whole tiles of these.
+    // On `Done`, `draw` wrote exactly the tiles that meet the window. Each comes once; they are disjoint and
+    // cover the window. The supertile has the least depth that is enough. With `glue=yes` these are the whole
+    // tiles.
     ensures exactly_the_window { result ≡ Status.Done → command_of (texts words.now.items) ≡ Ok Draw
         → OfRequest (texts words.now.items) (map (λ d. form d) layers.items) (R.left source.old) (R.left source.new)
         (λ r. (t : Tiling) × (text : List ℕ) × Names r t × WritesExactlyTheWindow r.words t text × Takes (W.taken sink.old) (W.taken sink.new) text) }
 
-    // What is printed is by cases of the command: for `place` the kind, and the motion by which the
-    // tile lies in its supertile; for `neighbour` the one tile and edge across the edge; for `walk` the
-    // tiles of the path; for `draw` the layers' texts of exactly the tiles that meet the window, each
-    // once, disjoint and covering it, or with `glue=yes` of their whole tiles, so too; for `check` that the
-    // rule is accepted; for `calc` what its script prints; for `drill` the summary of its windows; for
-    // `star` exactly the tiles that have the vertex, each once, in turning order; for `verify` the number of
-    // lines of a right listing, which are exactly the tiles that meet the window, each once and with its
-    // motion. The file, where one is read, was read to its end.
+    // On `Done` the sink took exactly the text that the command prints for this request:
+    // - `place`: the kind, and the motion by which the tile lies in its supertile;
+    // - `neighbour`: the only tile across the edge, and the edge that leads back;
+    // - `walk`: the tiles along the path;
+    // - `draw`: the layers' texts over exactly the tiles that meet the window. The tiles are disjoint and
+    //   cover the window. With `glue=yes` the same holds for whole tiles;
+    // - `star`: exactly the tiles that have the vertex, each once, counterclockwise;
+    // - `check`: that the rule is accepted;
+    // - `verify`: the number of lines of a list that has exactly the tiles that meet the window, each once
+    //   and with its motion;
+    // - `calc`: what the script prints;
+    // - `drill`: the totals over its windows.
+    //
+    // A file that was read was read to its end.
     ensures done { result ≡ Status.Done
         → OfRequest (texts words.now.items) (map (λ d. form d) layers.items) (R.left source.old) (R.left source.new)
         (λ r. (text : List ℕ) × Prints r text × Takes (W.taken sink.old) (W.taken sink.new) text) }
 
-    // A refusal comes only for its cause, by the table `Causes`, and where there is a cause it comes,
-    // but that the source may fail, and memory be wanted. Of the limits of a window or a vertex several
-    // may be passed, and of a listing several tiles be missing or misplaced: then one of them comes.
+    // A refusal comes only if its cause, in the table `Causes`, holds. Conversely, if a cause holds, its
+    // refusal comes, unless the source fails or memory runs out. Several limits of a window or vertex may be
+    // passed at once, and several tiles of a list may be missing or misplaced. Then one of those refusals
+    // comes; which one is left open.
     ensures refused { IsRefusal result → IsRefused (texts words.now.items) (map (λ d. form d) layers.items) (R.left source.old) (R.left source.new) result }
     ensures refused_when { (r : Request) (status : Status) → IsAsked (texts words.now.items) (map (λ d. form d) layers.items) (R.left source.old) r
         → Causes r status → IsNoLimit r status → (result ≡ status) ⊎ IsCutShort result }
     ensures beyond_limits { (r : Request) → IsAsked (texts words.now.items) (map (λ d. form d) layers.items) (R.left source.old) r
         → IsBeyondLimits r → IsLimit result ⊎ IsCutShort result }
 
-    // Where a source or a sink is to blame, it failed; and what was written is a part.
+    // If a source or a sink is to blame, it failed. What was written is then a part of the text.
     ensures read_fault { result ≡ Status.ReadFault → Rose (R.faults source.old) (R.faults source.new) }
     ensures write_fault { result ≡ Status.WriteFault → Rose (W.faults sink.old) (W.faults sink.new) }
     ensures part { result ≡ Status.WriteFault
@@ -145,14 +167,14 @@ pub fn run<R: Source, W: Sink, N: Sink>(
         → ¬ Rose (W.faults sink.old) (W.faults sink.new) → ¬ Rose (R.faults source.old) (R.faults source.new)
         → (result ≡ Status.Done) ⊎ (result ≡ Status.NoMemory) }
 
-    // What the notes take: nothing where all is done, and else the one line of the refusal, or a part
-    // from its front where the notes fail.
+    // The notes take nothing on `Done`, and otherwise the one line of the refusal. If the notes fail, they
+    // took the start of that line.
     ensures noted { IsNoted (N.faults notes.old) (N.faults notes.new) (N.taken notes.old) (N.taken notes.new) (note_of result) }
     ensures not_noted { result ≡ Status.Done → notes.new ≡ notes.old }
 {
-    // Laws, whose calls do nothing, by which a request has one answer, so that where a cause holds its
-    // status comes: no two addresses that fit have one text, the child kinds of an accepted rule are a
-    // table that addresses can fit, a script has one outcome, and one thing is said of a listing.
+    // These calls do nothing: their contracts are laws by which a request has only one answer. So a status
+    // comes if its cause holds. No two addresses that fit have the same text. An accepted rule's child kinds
+    // are a table that addresses can fit. A script has one outcome, and a list one verdict.
     text_law();
     short_numbers_law();
     accepted_children_law();

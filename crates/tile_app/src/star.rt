@@ -1,4 +1,4 @@
-//! The command `star`: the tiles round a vertex.
+//! The command `star`: the tiles around a vertex.
 ghost use Rattle.std.specs.Prelude.{◌≡◌, Some, Ok, IfOk, IfErr, All, map};
 ghost use Rattle.std.specs.List.{flat_map};
 ghost use Rattle.lazy_walk.specs.Frames.{FrameValue};
@@ -24,7 +24,7 @@ use std::alloc::{AllocError, Global};
 use std::sync::ledger::Ledger;
 use tile_place::machine::Machine;
 
-/// The number of the vertex that right words give.
+/// Returns the number of the vertex that right arguments give.
 fn vertex_given(words: &[String]) -> u8
     requires { command_of (texts words.now) ≡ Ok StarCommand }
     ensures { vertex_given (texts words.now) ≡ Some result }
@@ -33,7 +33,7 @@ fn vertex_given(words: &[String]) -> u8
     number_up_to_255(text).unwrap()
 }
 
-/// The lines of tiles round a vertex, each in its place in a frame.
+/// Returns the lines of the tiles around a vertex, each in its place in a frame.
 fn star_lines(alloc: Global, corners: &[Corner]) -> Result<Vec<u8>, AllocError>
     ensures { IfOk result (λ text. (t : Tiling) (f : FrameValue) → All (λ (c : Corner). Stands t f c.tile) corners.now
         → text.items ≡ flat_map (corner_line t) (map (corner_in t.order) corners.now)) }
@@ -46,7 +46,7 @@ fn star_lines(alloc: Global, corners: &[Corner]) -> Result<Vec<u8>, AllocError>
     Ok(text)
 }
 
-/// What `star` prints for right words, or its refusal. The crossings count their look-ups in `steps`.
+/// Returns the text that `star` prints, or its refusal. Adds the look-ups of all crossings to `steps`.
 pub fn star_text<L: Ledger>(
     alloc: Global,
     machine: &Machine,

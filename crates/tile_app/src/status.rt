@@ -24,53 +24,54 @@ use window_cover::cover_fault::CoverFault;
 /// How a call of `run` ended.
 #[derive(Debug, Drop, PartialEq, Eq)]
 pub enum Status {
-    /// The whole text was taken by the sink.
+    /// The sink took the whole text.
     Done,
-    /// The words aren't right: the number, from 0, of the first wrong word, or the number of words
-    /// where a required key is missing.
+    /// The arguments are not right. This is the position of the first wrong argument, counted from 0, or the
+    /// number of arguments if a required key is missing.
     BadWords { place: usize },
-    /// No layer handed in has this format, the first such of those named.
+    /// No layer has this format, which is the first such format that the arguments name.
     NoLayer { format: Format },
     /// A call of the source failed.
     ReadFault,
-    /// The rule file holds more than 1,048,576 bytes, the most that it may have.
+    /// The rule file has more than 1,048,576 bytes.
     RuleTooLong,
-    /// The rule file stands for no rule, or for one that isn't accepted: its first fault.
+    /// The rule file does not stand for a rule, or its rule is not accepted. This is its first fault.
     RuleRefused { fault: RuleFault },
     /// The text of the address is refused.
     BadAddress { fault: AddressFault },
-    /// The tile has only so many edges, and not this one.
+    /// The tile has no edge with the first number. The second number is how many edges it has.
     NoEdge { edge: u8, edges: u8 },
-    /// The tile has only so many edges, and as many vertices, and not this vertex.
+    /// The tile has no vertex with the first number. The second number is how many vertices it has, which is
+    /// its number of edges.
     NoVertex { vertex: u8, edges: u8 },
     /// The edge lies on this edge of the supertile, in this part of it.
     Outside { edge: u8, part: u8 },
-    /// An edge is on the boundary of the frame at depth 64, one of a walk, one that meets a window drawn or
-    /// listed, one along which a tile of a window is glued, or one that ends at a vertex: the tile, and its
-    /// edge.
+    /// This edge of this tile is on the boundary of the frame at depth 64. It is on a walk, it meets a
+    /// window, it is the glue edge of a tile of a window, or it ends at a vertex.
     DepthLimit { addr: Address, edge: u8 },
-    /// A value has a coefficient above 2^24 in absolute value: of a tile placed, the first such value from
-    /// coarse to fine; of a window, one looked at for its centre, or the shift of a tile that meets it or of
-    /// the other half of one.
+    /// This value has a coefficient above 2^24 in absolute value. For a tile, it is the first such value,
+    /// from coarse to fine. For a window, it is a value on the way to the centre, or the shift of a tile that
+    /// meets the window or of its other half.
     CoordLimit { value: Point },
     /// More than 200,000 tiles meet the window.
     TooManyTiles,
     /// More than 64 tiles have the vertex.
     StarTooBig,
-    /// The script is too long, or a line of it has a fault: the first such line, and its first fault.
+    /// The script is too long, or a line of it has a fault. This is the first line that has one, with its
+    /// first fault.
     BadScript { fault: ScriptFault },
-    /// The listing isn't the list of the window: it is too long, has a faulty line or an address that isn't of the
-    /// frame or stands twice, lacks a tile that meets the window, has one with another motion, or has one that
-    /// doesn't meet it.
+    /// The list is not that of the window. It is too long, has a bad line, or has an address that is not of
+    /// the frame or is repeated. Or it omits a tile, has one with another motion, or has one that does not
+    /// meet the window.
     BadListing { fault: ListFault },
-    /// The sink failed: it took a proper prefix of the text.
+    /// The sink failed. It took a part of the text, from its start, and not the whole.
     WriteFault,
-    /// No memory was left, or a layer took no more.
+    /// Memory ran out, or a layer refused a tile.
     NoMemory,
 }
 
 impl Status {
-    /// The exit code of the program.
+    /// Returns the exit code of the program.
     pub fn code(&self) -> u8
         ensures { result ≡ code_of self.now }
     {

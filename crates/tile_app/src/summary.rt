@@ -1,9 +1,13 @@
-//! What `drill` counts.
+//! The totals of `drill`.
 ghost use Rattle.std.specs.Prelude.{◌≡◌, ◌+◌, ◌<◌, ◌^◌};
 ghost use Rattle.tile_app.specs.Drill.{none_covered, with_window, with_refused};
 
-/// Of some windows, each in a frame of its own: how many tiles meet them in all, the most that meet one of them, the
-/// greatest depth of their frames, and how many of them are refused.
+/// The totals over several windows, each in a frame of its own.
+///
+/// - `tiles`: how many tiles meet them, in total.
+/// - `largest`: the greatest number of tiles that meet one of them.
+/// - `depth`: the greatest depth of their frames.
+/// - `refused`: how many of them are refused.
 #[derive(Clone, Copy, Debug, PartialEq, Eq)]
 pub struct Summary {
     pub tiles: u32,
@@ -13,7 +17,7 @@ pub struct Summary {
 }
 
 impl Summary {
-    /// Of no window.
+    /// Makes the totals over no window.
     pub fn new() -> Summary
         ensures { result ≡ none_covered }
     {
@@ -25,7 +29,7 @@ impl Summary {
         }
     }
 
-    /// Adds a window that so many tiles meet, in a frame of this depth.
+    /// Adds a window with this number of tiles, in a frame of this depth.
     pub fn add(&mut self, count: u32, depth: u8)
         requires few_tiles { self.old.tiles + count < 2 ^ 32 }
         ensures { self.new ≡ with_window count depth self.old }

@@ -1,4 +1,4 @@
-//! The command `verify`: whether a listing that another program made is the list of a window.
+//! The command `verify`: checks a list of tiles from another program.
 ghost use Rattle.std.specs.Prelude.{◌≡◌, Ok, IfOk, IfErr, string_bytes};
 ghost use Rattle.rule_model.specs.Tiling.{tiling_of};
 ghost use Rattle.tile_app.specs.declared.words.Command.TheVariants.{Verify as VerifyCommand};
@@ -18,14 +18,14 @@ use list_verify::verify::verify;
 use std::alloc::{AllocError, Global};
 use tile_place::machine::Machine;
 
-/// What is printed of a right listing.
+/// Returns what is printed for a right list.
 fn right_line(alloc: Global, lines: u32) -> Result<String, AllocError>
     ensures { IfOk result (λ text. string_bytes text ≡ right_line lines) }
 {
     format!(in alloc; "right {lines}\n")
 }
 
-/// What `verify` prints for right words and a listing, or its refusal.
+/// Returns what `verify` prints for right arguments and a list, or its refusal.
 pub fn verify_text(
     alloc: Global,
     machine: &Machine,
@@ -43,7 +43,7 @@ pub fn verify_text(
     Ok(right_line(alloc, lines)?)
 }
 
-/// The law that one thing is said of a listing of a window, in a frame of the tiling of a built-in rule.
+/// The law that a list has only one verdict, for a window in a frame of a built-in rule's tiling.
 pub fn builtin_verdict_law()
     ensures { BuiltinVerdictLaw }
 {

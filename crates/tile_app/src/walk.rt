@@ -1,4 +1,4 @@
-//! The command `walk`: the tiles of a path, in a frame that grows.
+//! The command `walk`: the tiles along a path, in a frame that grows.
 ghost use Rattle.std.specs.Prelude.{◌≡◌, ◌≤◌, ◌++◌, None, Some, Ok, IfOk, IfErr, OnOk, length, string_bytes};
 ghost use Rattle.cyclo_points.specs.declared.order.Order.{Order};
 ghost use Rattle.cyclo_points.specs.Motion.{motion_in};
@@ -28,7 +28,7 @@ use tile_place::machine::Machine;
 use tile_place::placed_tile::PlacedTile;
 use tile_shape::decimal::read_number;
 
-/// The start number that the words give, or 0.
+/// Returns the seed that the arguments give, or 0.
 pub fn seed_given(words: &[String]) -> u64
     ensures { result ≡ seed_given (texts words.now) }
 {
@@ -38,7 +38,7 @@ pub fn seed_given(words: &[String]) -> u64
     }
 }
 
-/// The depth to which the words have the frame grow first, or 0.
+/// Returns the depth to which the frame grows first, or 0 if the arguments give none.
 fn grow_given(words: &[String]) -> u8
     ensures given { result ≡ grow_given (texts words.now) }
     ensures at_most_64 { result ≤ 64 }
@@ -49,7 +49,7 @@ fn grow_given(words: &[String]) -> u8
     }
 }
 
-/// The path that the words give, or one of no edge.
+/// Returns the path that the arguments give, or an empty one.
 fn path_given(words: &[String]) -> ArrayVec<u8, LONGEST_PATH>
     ensures given { result.items ≡ path_given (texts words.now) }
     ensures at_most_1000 { length result.items ≤ longest_path }
@@ -63,7 +63,7 @@ fn path_given(words: &[String]) -> ArrayVec<u8, LONGEST_PATH>
     }
 }
 
-/// The line of the base.
+/// Returns the line of the base.
 fn first_line(alloc: Global, tile: &PlacedTile) -> Result<String, AllocError>
     ensures { IfOk result (λ text. (order : Order) → IsOf order tile.now.motion.shift → tile.now.kind ≡ tile.now.addr.kind
         → string_bytes text ≡ walk_line order (address_of tile.now.addr) (motion_in order tile.now.motion) None) }
@@ -72,8 +72,8 @@ fn first_line(alloc: Global, tile: &PlacedTile) -> Result<String, AllocError>
     format!(in alloc; "{kind} {motion} {addr} -\n")
 }
 
-/// Writes the line of a tile in its place, with the number of the edge that leads back or of a vertex, behind a text. It
-/// is made in the storage of a line.
+/// Appends the line of a tile in its place, with the number of the edge that leads back, or of a vertex. The
+/// line is made in fixed storage.
 pub(crate) fn write_line(
     text: &mut Vec<u8>,
     line: &mut Line,
@@ -95,7 +95,7 @@ pub(crate) fn write_line(
     Ok(text.extend_from_slice(line.as_bytes())?)
 }
 
-/// The text of a path that can be walked in the frame as it is.
+/// Returns the text of a path that can be walked in the frame as it is.
 fn lines<L: Ledger>(
     alloc: Global,
     machine: &Machine,
@@ -118,7 +118,7 @@ fn lines<L: Ledger>(
     Ok(text)
 }
 
-/// What `walk` prints for right words, or its refusal.
+/// Returns what `walk` prints for right arguments, or its refusal.
 pub fn walk_text<L: Ledger>(
     alloc: Global,
     machine: &Machine,

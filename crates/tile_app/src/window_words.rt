@@ -1,4 +1,4 @@
-//! Windows in words.
+//! Windows as arguments.
 ghost use Rattle.std.specs.Prelude.{◌≡◌, ◌≤◌, ◌^◌, [], ◌∷◌, IfSome};
 ghost use Rattle.cyclo_points.specs.Point.{Within, IsWithin};
 ghost use Rattle.cyclo_points.specs.Text.{point_of_texts as point_by};
@@ -11,20 +11,20 @@ use tile_shape::decimal::read_number;
 /// The greatest coefficient of a centre, in absolute value.
 const MOST_COEFFICIENT: u64 = 1048576;
 
-/// The greatest half extent.
+/// The greatest half-width or half-height.
 const MOST_EXTENT: u64 = 4096;
 
-/// The most windows of a drill.
+/// The greatest number of windows of a drill.
 const MOST_WINDOWS: u64 = 200;
 
-/// Half a width and half a height.
+/// The half-width and half-height of a window.
 #[derive(Clone, Copy, Debug, PartialEq, Eq)]
 pub struct HalfExtents {
     pub w: u16,
     pub h: u16,
 }
 
-/// The signed number that a text is.
+/// Reads a signed number, at most 2^20 in absolute value.
 fn coefficient_in(text: &str) -> Option<i64>
     ensures number { result ≡ coefficient_in text.now }
     ensures within { IfSome result (Within (2 ^ 20)) }
@@ -39,7 +39,7 @@ fn coefficient_in(text: &str) -> Option<i64>
     }
 }
 
-/// The half extent that a text is: a number from 1.
+/// Reads a half-width or half-height, from 1 to 4096.
 fn extent_in(text: &str) -> Option<u16>
     ensures number { result ≡ extent_in text.now }
     ensures some { IfSome result (λ n. 1 ≤ n) }
@@ -51,7 +51,7 @@ fn extent_in(text: &str) -> Option<u16>
     }
 }
 
-/// The point of four coefficients.
+/// Reads the four coefficients of a point.
 fn point_of_texts(first: &str, second: &str, third: &str, fourth: &str) -> Option<Point>
     ensures point { result ≡ point_by coefficient_in (first.now ∷ second.now ∷ third.now ∷ fourth.now ∷ []) }
     ensures within { IfSome result (λ p. IsWithin (2 ^ 20) p) }
@@ -66,7 +66,7 @@ fn point_of_texts(first: &str, second: &str, third: &str, fourth: &str) -> Optio
     })
 }
 
-/// The point that a text is: four coefficients, joined by commas.
+/// Reads a point: four coefficients, with commas between them.
 pub fn at_in(text: &str) -> Option<Point>
     ensures point { result ≡ at_in text.now }
     ensures within { IfSome result (λ p. IsWithin (2 ^ 20) p) }
@@ -77,7 +77,7 @@ pub fn at_in(text: &str) -> Option<Point>
     point_of_texts(first, second, third, fourth)
 }
 
-/// Two half extents.
+/// Reads a half-width and a half-height.
 fn extents_of_texts(width: &str, height: &str) -> Option<HalfExtents>
     ensures half { result ≡ extents_of_pieces (width.now ∷ height.now ∷ []) }
     ensures fit { IfSome result FitWindow }
@@ -88,7 +88,7 @@ fn extents_of_texts(width: &str, height: &str) -> Option<HalfExtents>
     })
 }
 
-/// The half extents that a text is: two, joined by a comma.
+/// Reads a half-width and a half-height, with a comma between them.
 pub fn half_in(text: &str) -> Option<HalfExtents>
     ensures half { result ≡ half_in text.now }
     ensures fit { IfSome result FitWindow }
@@ -97,7 +97,7 @@ pub fn half_in(text: &str) -> Option<HalfExtents>
     extents_of_texts(width, height)
 }
 
-/// The number of windows that a text is: 1 to 200.
+/// Reads a number of windows, from 1 to 200.
 pub fn windows_in(text: &str) -> Option<u8>
     ensures number { result ≡ windows_in text.now }
     ensures some { IfSome result (λ n. 1 ≤ n) }

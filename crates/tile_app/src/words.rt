@@ -1,4 +1,5 @@
-//! The words of a command line: a command, and behind it `key=value` words in any order.
+//! The arguments of a command line: a command, then `key=value` arguments in any order. In the code they are
+//! *words*.
 ghost use Rattle.std.specs.Prelude.{◌≡◌, is_some};
 ghost use Rattle.std.specs.Option.{option_map};
 ghost use Rattle.std.specs.List.{list_all};
@@ -25,47 +26,47 @@ pub enum Command {
     Draw,
     /// Prints that a rule is accepted.
     Check,
-    /// Computes with addresses, by a script that is read.
+    /// Runs a script of questions about addresses.
     Calc,
-    /// Covers windows made from a start number, and prints a summary.
+    /// Covers pseudorandom windows, which the seed determines, and prints totals.
     Drill,
-    /// Prints the tiles round a vertex.
+    /// Prints the tiles around a vertex.
     Star,
-    /// Tells whether a listing that is read is the list of a window.
+    /// Checks if a list of tiles is that of a window.
     Verify,
 }
 
-/// A key of a word `key=value`.
+/// A key of an argument `key=value`.
 #[derive(Clone, Copy, Debug, PartialEq, Eq)]
 pub enum Key {
-    /// The rule's name, or `-` for the rule file that is read.
+    /// The name of a rule, or `-` for a rule file that is read.
     Rule,
-    /// A tile's address.
+    /// The address of a tile.
     Addr,
     /// The number of an edge.
     Edge,
-    /// The start number of growth.
+    /// The seed of growth.
     Seed,
     /// The depth to which a frame grows first.
     Grow,
-    /// Numbers of edges that are crossed, one after the other.
+    /// The numbers of the edges that are crossed, one after another.
     Path,
-    /// The centre of a window, by four coefficients.
+    /// The centre of a window, as four coefficients.
     At,
-    /// Half a window's width and half its height.
+    /// The half-width and half-height of a window.
     Half,
-    /// The formats of what is drawn.
+    /// The formats of a drawing.
     Layers,
-    /// Whether halves are drawn as whole tiles.
+    /// `yes` if halves are drawn as whole tiles.
     Glue,
-    /// How many windows are covered.
+    /// The number of windows that are covered.
     Count,
     /// The number of a vertex.
     Vertex,
 }
 
 impl Command {
-    /// The command that a word names.
+    /// Returns the command that an argument names.
     fn named(word: &str) -> Option<Command>
         ensures { result ≡ command_named word.now }
     {
@@ -92,7 +93,7 @@ impl Command {
         }
     }
 
-    /// Its keys.
+    /// Returns the keys of the command.
     fn keys(self) -> &'static [Key]
         ensures { result.now ≡ keys_of self }
     {
@@ -116,7 +117,7 @@ impl Command {
         }
     }
 
-    /// The keys that it can't do without.
+    /// Returns the keys that the command requires.
     fn required_keys(self) -> &'static [Key]
         ensures { result.now ≡ required_keys self }
     {
@@ -132,8 +133,8 @@ impl Command {
         }
     }
 
-    /// Whether a text is a rule for it: `calc` has a script read, and `verify` a listing, where the others may
-    /// have a rule file.
+    /// Returns true if a text names a rule for this command. `calc` reads a script and `verify` reads a list,
+    /// so they take no rule file.
     fn is_rule(self, value: &str) -> bool
         ensures { result ≡ is_rule_for self value.now }
     {
@@ -145,7 +146,7 @@ impl Command {
 }
 
 impl Key {
-    /// Its name.
+    /// Returns the name of the key.
     fn text(self) -> &'static str
         ensures { result.now ≡ key_text self }
     {
@@ -165,7 +166,7 @@ impl Key {
         }
     }
 
-    /// Whether a value has the key's form for a command.
+    /// Returns true if a value is well formed for this key of a command.
     fn has_form(self, command: Command, value: &str) -> bool
         ensures { result ≡ has_form command self value.now }
     {
@@ -184,7 +185,7 @@ impl Key {
         }
     }
 
-    /// The value that a word gives this key.
+    /// Returns the value that an argument gives this key.
     fn value_in(self, word: &str) -> Option<&str>
         ensures { option_map (λ v. v.now) result ≡ value_in self word.now }
     {
@@ -196,7 +197,7 @@ impl Key {
         }
     }
 
-    /// The value that the first such word gives this key.
+    /// Returns the value that the first argument with this key gives it.
     pub fn value_given(self, words: &[String]) -> Option<&str>
         ensures { option_map (λ v. v.now) result ≡ value_given self (texts words.now) }
     {
@@ -209,7 +210,7 @@ impl Key {
     }
 }
 
-/// Whether a word is right for the command behind the words before it.
+/// Returns true if an argument is right for the command, after the arguments before it.
 fn is_right(command: Command, before: &[String], word: &str) -> bool
     ensures { result ≡ is_right command (texts before.now) word.now }
 {
@@ -221,7 +222,7 @@ fn is_right(command: Command, before: &[String], word: &str) -> bool
     false
 }
 
-/// Whether the words give each key that the command can't do without.
+/// Returns true if the arguments give each key that the command requires.
 fn has_required(command: Command, words: &[String]) -> bool
     ensures { result ≡ list_all (λ key. is_some (value_given key (texts words.now))) (required_keys command) }
 {
@@ -233,8 +234,8 @@ fn has_required(command: Command, words: &[String]) -> bool
     true
 }
 
-/// The command of the words, or the number, from 0, of the first wrong word; where a required key
-/// is missing it is the number of words.
+/// Returns the command of the arguments. Err has the position of the first wrong argument, counted from 0, or
+/// the number of arguments if a required key is missing.
 pub fn command_of(words: &[String]) -> Result<Command, usize>
     ensures { result ≡ command_of (texts words.now) }
 {

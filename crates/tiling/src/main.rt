@@ -1,8 +1,8 @@
-//! The program `tiling`: its words, the standard streams, and the exit status.
+//! The program `tiling`: its arguments, the standard streams, and the exit code.
 //!
-//! It hands the words behind the program's name, the standard streams, and a layer of each format to
-//! `run`, and ends with the status's code. Words that aren't UTF-8 end it with 1, and want of memory for
-//! them or for the layers with 11; nothing is written in either case.
+//! It passes the arguments after the program's name, the standard streams, and a layer of each format to
+//! `run`. It ends with the exit code of the status. If an argument is not UTF-8, the code is 1. If memory
+//! runs out for the arguments or the layers, it is 11. In both cases nothing is written.
 #![tactic(auto)]
 
 use layer_api::layer::Layer;
@@ -20,14 +20,14 @@ use tile_io::std_source::StdSource;
 /// Why the call could not begin.
 #[derive(Clone, Copy, Debug, PartialEq, Eq)]
 enum NotBegun {
-    /// The words aren't text.
+    /// An argument is not UTF-8.
     NotText,
-    /// There is no memory for the words or the layers.
+    /// Memory ran out for the arguments or the layers.
     NoMemory,
 }
 
 impl NotBegun {
-    /// The exit status.
+    /// Returns the exit code.
     fn code(self) -> u8 {
         match self {
             NotBegun::NotText => 1,
@@ -42,7 +42,7 @@ impl<T: Drop> From<AllocFailed<T>> for NotBegun {
     }
 }
 
-/// The words behind the program's name.
+/// Returns the arguments after the program's name.
 fn words<R: Env + AllocGlobal>(rt: &R) -> Result<Vec<String>, NotBegun> {
     let args = match env::args(rt) {
         Ok(args) => args,
@@ -58,8 +58,7 @@ fn words<R: Env + AllocGlobal>(rt: &R) -> Result<Vec<String>, NotBegun> {
         .map_err(|_error: AllocError| NotBegun::NoMemory)
 }
 
-/// Makes the layers, does all that the words ask for over the standard streams, and answers the exit
-/// status.
+/// Makes the layers, runs the call over the standard streams, and returns the exit code.
 fn program(rt: &HostRuntime) -> Result<u8, NotBegun> {
     let words = words(rt)?;
     let alloc = rt.alloc();

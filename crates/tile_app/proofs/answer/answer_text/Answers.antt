@@ -1,16 +1,20 @@
-use Rattle.std.proofs.Common.{rules, ◌≡◌, ◌≤◌, length, map, Ok, IfErr, ◌∙◌, sym, ap, subst}
+use Rattle.std.specs.Global.{Global}
+use Rattle.std.proofs.Common.{rules, ◌≡◌, ◌≤◌, ℕ, Vec, string_bytes, length, map, Ok, IfErr, ◌∙◌, sym, ap, subst}
 use Rattle.std.proofs.lemmas.Result.{IfOk-weaker}
 use Rattle.rule_model.specs.Tiling.{tiling_of}
 use Rattle.rule_text.specs.Limits.{longest_file}
+use Rattle.tile_app.specs.declared.words.Command.TheVariants.{Place}
 use Rattle.tile_app.specs.Asked.{WasFileIn}
 use Rattle.tile_app.specs.Causes.{IsRefused}
 use Rattle.tile_app.specs.Choices.{tiling_chosen}
 use Rattle.tile_app.specs.Files.{longest_for}
+use Rattle.tile_app.specs.Place.{PrintsPlace, PlaceRefuses}
 use Rattle.tile_app.specs.Reading.{NamesNoTile, IsReadingRefused, IsChoiceRefused}
 use Rattle.tile_app.specs.Request.{request_of}
 use Rattle.tile_app.specs.Status.{OrNoMemory}
+use Rattle.tile_app.specs.Tilings.{builtin_tiling}
 use Rattle.tile_app.specs.Words.{texts}
-use Rattle.tile_app.proofs.Answered.{prints_asked, command_refused, reads_no_more, wrong_words, no_layer}
+use Rattle.tile_app.proofs.Answered.{bytes-printed, bytes-refused, prints_asked, command_refused, reads_no_more, wrong_words, no_layer}
 use Rattle.tile_app.proofs.Read.{short_for_rule, was_asked, names, reading_refused, choice_refused, no_tile_refused, refused_by}
 use Rattle.tile_app.proofs.answer.answer_text.Goals as goal
 
@@ -106,3 +110,43 @@ returns-clause-refused g c =
 
 pub returns-clause-read_fault : goal.returns-clause-read_fault
 returns-clause-read_fault g c = λ e. absurd (reads_no_more (request_of (texts c.args.words.now) (map g.D.Layer.form c.args.layers.now) c.as_slice-2.result.now) (tiling_of c.in_ok-checked.checked) c.in-Ok.command c.command_text.result c.command_text.ensures.refused e)
+
+-- a tile of a built-in rule is placed without its machine
+pub returns-in-Place-Builtin-clause-printed : goal.returns-in-Place-Builtin-clause-printed
+returns-in-Place-Builtin-clause-printed g c =
+    let words = texts c.args.words.now in
+    let handed = map g.D.Layer.form c.args.layers.now in
+    let left = g.R.Source.left c.args.source.now in
+    let rest = g.R.Source.left c.file_given.new.source in
+    let right = sym c.command_of.ensures ∙ c.in-Ok.is in
+    let have = sym c.lacking.ensures ∙ c.in_default.is in
+    let file = c.in_ok-file.file.items in
+    let t = builtin_tiling c.in-Place-Builtin.name in
+    let tiling = ap (tiling_chosen file) c.in-Place-Builtin.is-1 in
+    let asked = was_asked words handed c.in-Ok.command c.choice_given-choice.result right have c.choice_given-choice.ensures c.in_ok-reads.reads c.in_ok-reads.ensures.has_file left rest file c.in_ok-file.ensures.read in
+    let named = names words handed c.in-Ok.command c.choice_given-choice.result right have c.choice_given-choice.ensures c.in_ok-reads.reads c.in_ok-reads.ensures.has_file left rest file c.in_ok-file.ensures.not_too_long t tiling in
+    IfOk-weaker c.bytes_of.result _ _ (λ text h. prints_asked words handed left rest Place t (right ∙ ap (λ x. Ok x) c.in-Place-Builtin.is-0) have file asked named text.items h)
+    (bytes-printed string_bytes (λ (v : Vec ℕ Global). v.items) (PrintsPlace words t) c.named_place_text.result c.bytes_of.result c.bytes_of.ensures.whether c.bytes_of.ensures.bytes c.named_place_text.ensures.printed)
+
+pub returns-in-Place-Builtin-clause-refused : goal.returns-in-Place-Builtin-clause-refused
+returns-in-Place-Builtin-clause-refused g c =
+    let words = texts c.args.words.now in
+    let handed = map g.D.Layer.form c.args.layers.now in
+    let left = g.R.Source.left c.args.source.now in
+    let rest = g.R.Source.left c.file_given.new.source in
+    let right = sym c.command_of.ensures ∙ c.in-Ok.is in
+    let have = sym c.lacking.ensures ∙ c.in_default.is in
+    let file = c.in_ok-file.file.items in
+    let t = builtin_tiling c.in-Place-Builtin.name in
+    let tiling = ap (tiling_chosen file) c.in-Place-Builtin.is-1 in
+    let asked = was_asked words handed c.in-Ok.command c.choice_given-choice.result right have c.choice_given-choice.ensures c.in_ok-reads.reads c.in_ok-reads.ensures.has_file left rest file c.in_ok-file.ensures.read in
+    let named = names words handed c.in-Ok.command c.choice_given-choice.result right have c.choice_given-choice.ensures c.in_ok-reads.reads c.in_ok-reads.ensures.has_file left rest file c.in_ok-file.ensures.not_too_long t tiling in
+    refused_by _ (IsRefused words handed left rest) (command_refused words handed left rest Place t (right ∙ ap (λ x. Ok x) c.in-Place-Builtin.is-0) have file asked named) c.bytes_of.result
+    (bytes-refused (OrNoMemory (PlaceRefuses words t)) c.named_place_text.result c.bytes_of.result c.bytes_of.ensures.whether c.bytes_of.ensures.refusal c.named_place_text.ensures.refused)
+
+pub returns-in-Place-Builtin-clause-read_fault : goal.returns-in-Place-Builtin-clause-read_fault
+returns-in-Place-Builtin-clause-read_fault g c = λ e.
+    let words = texts c.args.words.now in
+    let t = builtin_tiling c.in-Place-Builtin.name in
+    absurd (reads_no_more (request_of words (map g.D.Layer.form c.args.layers.now) c.in_ok-file.file.items) t Place c.bytes_of.result
+    (bytes-refused (OrNoMemory (PlaceRefuses words t)) c.named_place_text.result c.bytes_of.result c.bytes_of.ensures.whether c.bytes_of.ensures.refusal c.named_place_text.ensures.refused) e)

@@ -8,7 +8,7 @@ use Rattle.tile_app.proofs.draw.draw.Goals as goal
 pub loop-place-preserved : goal.loop-place-preserved
 loop-place-preserved g c =
     let before = c.loop-place.invariant in
-    let put = c.in_ok-put.ensures in
+    let put = c.in_ok-put_copy.ensures in
     let i = c.loop-place.place in
     let t = tiling_of c.args.machine.now in
     let tiles = picture_of t c.args.picture.now in
@@ -19,7 +19,7 @@ loop-place-preserved g c =
       going = put.open;
       seen = put.seen ∙ before.seen;
       form = put.form ∙ before.form;
-      draws = subst (g.D.Layer.draws c.put.new.self) (sym (take_more tiles i last below ∙ ap (λ x. take i tiles ++ x ∷ []) (get_or_from_slice_get tiles i last last c.fill.ensures.tile)))
+      draws = subst (g.D.Layer.draws c.put_copy.new.self) (sym (take_more tiles i last below ∙ ap (λ x. take i tiles ++ x ∷ []) (get_or_from_slice_get tiles i last last c.fill.ensures.tile)))
           (put.ok (take i tiles) before.draws);
     }
 

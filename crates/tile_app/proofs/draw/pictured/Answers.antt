@@ -12,69 +12,69 @@ pub returns-in_err-tiles-clause-refused : goal.returns-in_err-tiles-clause-refus
 returns-in_err-tiles-clause-refused c =
     let b = c.requires.begins in
     let p = err_from_is_err_and c.from_residual.result c.from_residual.ensures.1 in
-    rw (p.1, p.2) (refused_if_err (texts c.args.words.now) (tiling_of c.args.machine.now) b.base c.args.window.now b.gives c.args.frame.now c.listed_tiles.new.frame b.begun c.listed_tiles.ensures.frame c.listed_tiles.result c.in_err-tiles.field-0.0 c.in_err-tiles.was
-    c.in_err-tiles.ensures.cause c.listed_tiles.ensures.answered)
+    rw (p.1, p.2) (refused_if_err (texts c.args.words.now) (tiling_of c.args.machine.now) b.base c.args.window.now b.gives c.args.frame.now c.covered_tiles.new.frame b.begun c.covered_tiles.ensures.frame c.covered_tiles.result c.in_err-tiles.field-0.0 c.in_err-tiles.was
+    c.in_err-tiles.ensures.cause c.covered_tiles.ensures.answered)
 
 pub returns-in_err-covered_tiles-clause-refused : goal.returns-in_err-covered_tiles-clause-refused
 returns-in_err-covered_tiles-clause-refused c =
     let b = c.requires.begins in
     let p = err_from_is_err_and c.from_residual-in_err-covered_tiles.result c.from_residual-in_err-covered_tiles.ensures.1 in
-    rw (p.1, p.2) (refused_if_err (texts c.args.words.now) (tiling_of c.args.machine.now) b.base c.args.window.now b.gives c.args.frame.now c.covered_tiles.new.frame b.begun c.covered_tiles.ensures.frame c.covered_tiles.result c.in_err-covered_tiles.field-0.0
-    c.in_err-covered_tiles.was c.in_err-covered_tiles.ensures.cause c.covered_tiles.ensures.answered)
+    rw (p.1, p.2) (refused_if_err (texts c.args.words.now) (tiling_of c.args.machine.now) b.base c.args.window.now b.gives c.args.frame.now c.covered_tiles-else-glue_given.new.frame b.begun c.covered_tiles-else-glue_given.ensures.frame c.covered_tiles-else-glue_given.result c.in_err-covered_tiles.field-0.0
+    c.in_err-covered_tiles.was c.in_err-covered_tiles.ensures.cause c.covered_tiles-else-glue_given.ensures.answered)
 
 -- ---- what is given to be glued
-pub glue-requires-clause-few : goal.glue-requires-clause-few
-glue-requires-clause-few c =
+pub glue_covered-requires-clause-few : goal.glue_covered-requires-clause-few
+glue_covered-requires-clause-few c =
     let x = c.in_ok-tiles.ensures in
-    at_most_limit (tiling_of c.args.machine.now) c.args.frame.now c.listed_tiles.new.frame c.args.window.now c.requires.begins.is_frame x.frame x.within x.least c.in_ok-tiles.tiles.items x.drawn
+    at_most_limit (tiling_of c.args.machine.now) c.args.frame.now c.covered_tiles.new.frame c.args.window.now c.requires.begins.is_frame x.frame x.within x.least c.in_ok-tiles.tiles x.drawn
 
-pub glue-requires-clause-given : goal.glue-requires-clause-given
-glue-requires-clause-given c =
+pub glue_covered-requires-clause-given : goal.glue_covered-requires-clause-given
+glue_covered-requires-clause-given c =
     let t = tiling_of c.args.machine.now in
-    let g = c.listed_tiles.new.frame in
-    let tiles = c.in_ok-tiles.tiles.items in
+    let g = c.covered_tiles.new.frame in
+    let tiles = c.in_ok-tiles.tiles in
     let x = c.in_ok-tiles.ensures in
     may-be-given t g tiles (c.given_law.ensures t g) x.stand (can_be_drawn t c.args.frame.now g c.args.window.now c.requires.begins.is_frame x.frame x.within x.least tiles x.drawn x.stand)
 
-pub returns-in_err-glue-clause-refused : goal.returns-in_err-glue-clause-refused
-returns-in_err-glue-clause-refused c =
+pub returns-in_err-glue_covered-clause-refused : goal.returns-in_err-glue_covered-clause-refused
+returns-in_err-glue_covered-clause-refused c =
     let b = c.requires.begins in
     let x = c.in_ok-tiles.ensures in
-    let p = err_from_is_err_and c.from_residual-in_err-glue.result c.from_residual-in_err-glue.ensures.1 in
-    rw (p.1, p.2) (glue_refused_if_err (texts c.args.words.now) (tiling_of c.args.machine.now) b.base c.args.window.now b.gives (sym c.glue_given.ensures ∙ c.if-glue_given.true) c.args.frame.now c.listed_tiles.new.frame b.begun x.within
-    c.in_ok-tiles.tiles.items (record { grown = x.frame; least = x.least; stand = x.stand; drawn = x.drawn; in_order = x.in_order; covered = x.covered }) c.glue.new.frame c.glue.ensures.frame c.glue.result c.in_err-glue.field-0.0 c.in_err-glue.was c.in_err-glue.ensures.cause c.glue.ensures.answered)
+    let p = err_from_is_err_and c.from_residual-in_err-glue_covered.result c.from_residual-in_err-glue_covered.ensures.1 in
+    rw (p.1, p.2) (glue_refused_if_err (texts c.args.words.now) (tiling_of c.args.machine.now) b.base c.args.window.now b.gives (sym c.glue_given.ensures ∙ c.if-glue_given.true) c.args.frame.now c.covered_tiles.new.frame b.begun x.within
+    c.in_ok-tiles.tiles (record { grown = x.frame; least = x.least; stand = x.stand; drawn = x.drawn; in_order = x.in_order; covered = x.covered }) c.glue_covered.new.frame c.glue_covered.ensures.frame c.glue_covered.result c.in_err-glue_covered.field-0.0 c.in_err-glue_covered.was c.in_err-glue_covered.ensures.cause c.glue_covered.ensures.answered)
 
 -- ---- the pictures
-pub returns-in_ok-glue-clause-can : goal.returns-in_ok-glue-clause-can
-returns-in_ok-glue-clause-can c =
+pub returns-in_ok-glue_covered-clause-can : goal.returns-in_ok-glue_covered-clause-can
+returns-in_ok-glue_covered-clause-can c =
     let t = tiling_of c.args.machine.now in
-    let g = c.listed_tiles.new.frame in
-    let h = c.glue.new.frame in
-    let tiles = c.in_ok-tiles.tiles.items in
-    let wholes = c.in_ok-glue.field-0.items in
+    let g = c.covered_tiles.new.frame in
+    let h = c.glue_covered.new.frame in
+    let tiles = c.in_ok-tiles.tiles in
+    let wholes = c.in_ok-glue_covered.field-0 in
     let x = c.in_ok-tiles.ensures in
-    let y = c.in_ok-glue.ensures in
+    let y = c.in_ok-glue_covered.ensures in
     let given = may-be-given t g tiles (c.given_law.ensures t g) x.stand (can_be_drawn t c.args.frame.now g c.args.window.now c.requires.begins.is_frame x.frame x.within x.least tiles x.drawn x.stand) in
     wholes-drawn t h c.whole_tiles_law.ensures.glue_edge tiles wholes y.whole_tiles (c.parts_law.ensures g h tiles wholes x.frame.is_frame y.frame given y.within y.whole_tiles)
 
-pub returns-in_ok-glue-clause-pictures : goal.returns-in_ok-glue-clause-pictures
-returns-in_ok-glue-clause-pictures c =
+pub returns-in_ok-glue_covered-clause-pictures : goal.returns-in_ok-glue_covered-clause-pictures
+returns-in_ok-glue_covered-clause-pictures c =
     let t = tiling_of c.args.machine.now in
     let x = c.in_ok-tiles.ensures in
-    let y = c.in_ok-glue.ensures in
+    let y = c.in_ok-glue_covered.ensures in
     let laws = c.whole_tiles_law.ensures in
-    pictures-wholes (texts c.args.words.now) t c.args.window.now c.args.frame.now c.listed_tiles.new.frame c.requires.begins x.within c.in_ok-tiles.tiles.items
+    pictures-wholes (texts c.args.words.now) t c.args.window.now c.args.frame.now c.covered_tiles.new.frame c.requires.begins x.within c.in_ok-tiles.tiles
     (record { grown = x.frame; least = x.least; stand = x.stand; drawn = x.drawn; in_order = x.in_order; covered = x.covered })
-    (sym c.glue_given.ensures ∙ c.if-glue_given.true) laws.counts laws.covering c.glue.new.frame y.frame y.least y.within c.in_ok-glue.field-0.items y.whole_tiles y.in_order
+    (sym c.glue_given.ensures ∙ c.if-glue_given.true) laws.counts laws.covering c.glue_covered.new.frame y.frame y.least y.within c.in_ok-glue_covered.field-0 y.whole_tiles y.in_order
 
 pub returns-in_ok-covered_tiles-clause-can : goal.returns-in_ok-covered_tiles-clause-can
 returns-in_ok-covered_tiles-clause-can c =
     let x = c.in_ok-covered_tiles.ensures in
-    can_be_drawn (tiling_of c.args.machine.now) c.args.frame.now c.covered_tiles.new.frame c.args.window.now c.requires.begins.is_frame x.frame x.within x.least c.in_ok-covered_tiles.field-0 x.drawn x.stand
+    can_be_drawn (tiling_of c.args.machine.now) c.args.frame.now c.covered_tiles-else-glue_given.new.frame c.args.window.now c.requires.begins.is_frame x.frame x.within x.least c.in_ok-covered_tiles.field-0 x.drawn x.stand
 
 pub returns-in_ok-covered_tiles-clause-pictures : goal.returns-in_ok-covered_tiles-clause-pictures
 returns-in_ok-covered_tiles-clause-pictures c =
     let x = c.in_ok-covered_tiles.ensures in
-    pictures-tiles (texts c.args.words.now) (tiling_of c.args.machine.now) c.args.window.now c.args.frame.now c.covered_tiles.new.frame c.requires.begins x.within c.in_ok-covered_tiles.field-0
+    pictures-tiles (texts c.args.words.now) (tiling_of c.args.machine.now) c.args.window.now c.args.frame.now c.covered_tiles-else-glue_given.new.frame c.requires.begins x.within c.in_ok-covered_tiles.field-0
     (record { grown = x.frame; least = x.least; stand = x.stand; drawn = x.drawn; in_order = x.in_order; covered = x.covered })
     (sym c.glue_given.ensures ∙ c.if-glue_given.false)

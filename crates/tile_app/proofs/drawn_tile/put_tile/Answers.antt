@@ -1,10 +1,8 @@
-use Rattle.std.proofs.Common.{◌≡◌, ℕ, ◌++◌, ◌+◌, ◌<◌, ◌≤◌, List, [], All, map, take, length, pos, sym, ap, ◌∙◌, subst, arith, rules, take_all}
-use Rattle.std.proofs.lemmas.List.{length-map}
+use Rattle.std.proofs.Common.{◌≡◌, ◌<◌, ◌≤◌, map, take, length, pos, ap, ◌∙◌, subst, arith, rules, take_all}
 use Rattle.std.proofs.lemmas.List.Elements.{All-push}
 use Rattle.cyclo_points.specs.declared.point.Point.{Point}
 use Rattle.cyclo_points.specs.Motion.{motion_in}
 use Rattle.cyclo_points.specs.Order.{NumberOf, points_of}
-use Rattle.cyclo_points.specs.Point.{point_in}
 use Rattle.layer_api.specs.Drawable.{IsNear}
 use Rattle.rule_model.specs.declared.rule.Rule.{Rule}
 use Rattle.rule_model.specs.Tiling.{tiling_of}
@@ -14,11 +12,8 @@ use Rattle.substitution.specs.RuleParts.{edge_count, vertices_of}
 use Rattle.tile_app.specs.DrawnTile.{point_of}
 use Rattle.tile_app.proofs.Outlines.{into-empty}
 use Rattle.tile_app.proofs.Placed.{corner_placed, one_more_of}
-use Rattle.tile_app.proofs.Prototiles.{HasVertices, its-vertices, at-least_3, at-most_12, none-of}
+use Rattle.tile_app.proofs.Prototiles.{its-vertices, as-many, at-least_3, at-most_12, none-of}
 use Rattle.tile_app.proofs.drawn_tile.put_tile.Goals as goal
-
-as-many : (m : Rule) (kind : ℕ) (vs : List Point) → HasVertices m kind vs → length vs ≡ length (vertices_of (rule_of m) kind)
-as-many m kind vs h = sym (length-map vs (point_in m.order)) ∙ ap (λ (zs : List (NumberOf m.order)). length zs) h.numbers
 
 pub loop-number-init : goal.loop-number-init
 loop-number-init c = record { count = c.requires.empty; near = none-of (IsNear c.args.machine.now.order) c.args.outline.now.items c.requires.empty; placed = let e = c.requires.empty in search rules }

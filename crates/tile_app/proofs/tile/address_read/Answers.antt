@@ -1,31 +1,11 @@
-use Rattle.std.proofs.Common.{rules, Some, sym, ap, ◌∙◌, option_map}
 use Rattle.rule_model.specs.Tiling.{tiling_of}
-use Rattle.tile_shape.specs.Views.{address_of}
-use Rattle.tile_app.specs.Words.{texts}
-use Rattle.tile_app.proofs.Asking.{tile_read, no_tile_read, tile_told}
-use Rattle.tile_app.proofs.Given.{GivesText-right}
 use Rattle.tile_app.proofs.tile.address_read.Goals as goal
 
-pub unwrap-text-requires : goal.unwrap-text-requires
-unwrap-text-requires c =
-    let k = GivesText-right c.requires.right.0 (texts c.args.words.now) c.requires.right.1 c.requires.right.2 in
-    let h = c.value_given.ensures ∙ k.1 in
-    search (rules, h)
-
 pub returns-clause-given : goal.returns-clause-given
-returns-clause-given c =
-    tile_read (texts c.args.words.now) (tiling_of c.args.checked.now) c.as_bytes.result.now
-    (sym c.value_given.ensures ∙ ap (option_map (λ v. v.now)) c.unwrap-text.ensures ∙ ap (λ t. Some t) (sym c.as_bytes.ensures.value))
-    c.uses.result.now c.uses.ensures address_of c.read_address.result c.read_address.ensures.read
+returns-clause-given c = c.address_among.ensures.given (tiling_of c.args.checked.now) c.uses.ensures
 
 pub returns-clause-refused : goal.returns-clause-refused
-returns-clause-refused c =
-    no_tile_read (texts c.args.words.now) (tiling_of c.args.checked.now) c.as_bytes.result.now
-    (sym c.value_given.ensures ∙ ap (option_map (λ v. v.now)) c.unwrap-text.ensures ∙ ap (λ t. Some t) (sym c.as_bytes.ensures.value))
-    c.uses.result.now c.uses.ensures c.read_address.result c.read_address.ensures.refused c.read_address.ensures.fault
+returns-clause-refused c = c.address_among.ensures.refused (tiling_of c.args.checked.now) c.uses.ensures
 
 pub returns-clause-told : goal.returns-clause-told
-returns-clause-told c =
-    tile_told (texts c.args.words.now) (tiling_of c.args.checked.now) c.as_bytes.result.now
-    (sym c.value_given.ensures ∙ ap (option_map (λ v. v.now)) c.unwrap-text.ensures ∙ ap (λ t. Some t) (sym c.as_bytes.ensures.value))
-    c.uses.result.now c.uses.ensures c.read_address.result c.read_address.ensures.exact
+returns-clause-told c = c.address_among.ensures.told (tiling_of c.args.checked.now) c.uses.ensures
