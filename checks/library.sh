@@ -1,12 +1,12 @@
 #!/bin/sh
-# Holds the C library to its word. The exports of crates/tiling_c, with their parameters as C sees them, are those
-# of include/tiling.h and of the built archive. The sizes and places of the plain values are the header's. A C
-# program goes through each function and each status. Hostile numbers do no harm, under sanitizers and under
-# valgrind. Eight threads on one machine get the answers of one. Want of memory at any one call is answered by its
-# status. The answers are the command's, byte for byte. Ends with 1 where one of these fails, and says which tools
-# are missing.
-# The library is the one that TILING_ARCHIVE names, or .tiling/libtiling.a; the program is the one that TILING
-# names, or crates/tiling/out/tiling. ROUNDS and WATCHED_ROUNDS say how many rounds of hostile numbers are tried.
+# Checks the C library. The exports of crates/tiling_c, with their parameters as C sees them, are those of
+# include/tiling.h and of the built archive. The sizes and places of the plain values are the header's. A C program goes
+# through each function and each status. Hostile numbers do no harm, under sanitizers and under valgrind. Eight threads
+# on one machine get the answers of one. Running out of memory at any one call is answered by its status. The answers
+# are the command's, byte for byte. Ends with 1 if one of these fails, and says which tools are missing. The library is
+# the one that TILING_ARCHIVE names, or .tiling/libtiling.a; the program is the one that TILING names, or
+# crates/tiling/out/tiling. ROUNDS and WATCHED_ROUNDS say how many rounds of hostile numbers are tried.
+case ${1:-} in -h | --help) sed -n '2,/^[^#]/s/^# \{0,1\}//p' "$0"; exit 0 ;; esac
 top=$(cd "$(dirname "$0")/.." && pwd) || exit 1
 tests=$top/tests/library
 header=$top/include/tiling.h

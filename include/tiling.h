@@ -13,7 +13,7 @@
  *   - a tiling_machine comes from tiling_open or tiling_share of this library.
  * All else is tested and refused: no number, address or array of numbers makes a call do harm.
  *
- * A machine is only read. Any number of threads may use one at a time. It stays until the process ends. */
+ * A machine is only read. Any number of threads may use one simultaneously. It stays until the process ends. */
 #ifndef TILING_H
 #define TILING_H
 
@@ -35,9 +35,9 @@ enum {
     TILING_DEPTH_LIMIT = 5,    /* even 64 levels leave an edge that is looked at on the boundary */
     TILING_COORD_LIMIT = 6,    /* a coefficient above 2^24 in absolute value */
     TILING_TOO_MANY_TILES = 7, /* more than 200,000 tiles meet the window */
-    TILING_OUTSIDE = 8,        /* the edge isn't inside the supertile */
+    TILING_OUTSIDE = 8,        /* the edge, or the point, isn't inside the supertile */
     TILING_NO_MEMORY = 11,
-    TILING_NO_EDGE = 12        /* the tile hasn't this edge */
+    TILING_NO_EDGE = 12        /* the tile has no such edge */
 };
 
 /* A machine; nothing may read or write what it points to. */
@@ -53,13 +53,25 @@ typedef struct {
     tiling_digit digits[64];
 } tiling_address;
 
-/* A tile at its place: z -> zeta^turn z + shift brings the prototile of its kind there, where zeta is
- * exp(2 pi i / order) and a shift (a0, a1, a2, a3) is a0 + a1 zeta + a2 zeta^2 + a3 zeta^3. `number` is an
- * edge or a vertex where a call says so, and 0 elsewhere; `status` and `rest` are 0. */
+/* A point: (a0, a1, a2, a3) is a0 + a1 zeta + a2 zeta^2 + a3 zeta^3, where zeta is exp(2 pi i / order). A
+ * point that is passed has coefficients up to 2^20 in absolute value. */
+typedef struct {
+    int64_t c[4];
+} tiling_point;
+
+/* A tile at its place: z -> zeta^turn z + shift brings the prototile of its kind there. `number` is an edge
+ * or a vertex where a call says so, and 0 elsewhere; `status` and `rest` are 0. */
 typedef struct {
     int64_t shift[4];
     uint8_t status, kind, turn, number, rest[4];
 } tiling_tile;
+
+/* The corners of a tile, counterclockwise, `count` of them: 3 to 12, as many as its edges. Edge i runs from
+ * corner i to the next, and the last edge back to corner 0. The places behind them keep what they had. */
+typedef struct {
+    tiling_point corners[12];
+    uint8_t count;
+} tiling_outline;
 
 /* A frame: the supertiles round the base tile, which grow at the coarse end as the seed chooses. The same
  * two values give the same tiling in every call. */
@@ -97,6 +109,23 @@ uint8_t tiling_order(tiling_machine t);
 /* How many kinds the rule has, 1 to 16; they are numbered from 0. */
 uint8_t tiling_kinds(tiling_machine t);
 
+/* How many edges a kind has, 3 to 12, and as many corners.
+ * BAD_WORDS: the rule has no such kind. */
+tiling_status tiling_edges(tiling_machine t, uint8_t kind, uint8_t *count);
+
+/* The corners of a kind's prototile, as the rule has them.
+ * BAD_WORDS: the rule has no such kind. */
+tiling_status tiling_prototile(tiling_machine t, uint8_t kind, tiling_outline *out);
+
+/* The edge along which a kind, a half of a tile, is glued to the other half.
+ * BAD_WORDS: the rule has no such kind. NO_EDGE: the kind is a whole tile. */
+tiling_status tiling_glue_edge(tiling_machine t, uint8_t kind, uint8_t *edge);
+
+/* The corners of a tile at its place, by its kind, turn and shift.
+ * BAD_WORDS: no such kind; a turn that isn't below the order; a shift with a coefficient above 2^24 in
+ * absolute value, or, in the orders 4 and 6, with another c[2] or c[3] than 0. */
+tiling_status tiling_corners(tiling_machine t, const tiling_tile *tile, tiling_outline *out);
+
 /* ---- addresses ----------------------------------------------------------------------------------------- */
 
 /* The address of a tile of the rule that a text is, as "0:1/0,2/0".
@@ -124,16 +153,30 @@ tiling_status tiling_place(tiling_machine t, const tiling_address *addr, tiling_
 tiling_status tiling_neighbour(tiling_machine t, tiling_address *addr, uint8_t edge, uint8_t *back,
                                uint8_t *part);
 
+/* The only tile that holds a point, of the supertile of `depth` levels whose kind, turn and shift `top` has;
+ * `addr` becomes its address in that supertile. A point on an edge belongs to just one of the tiles there.
+ * BAD_WORDS: `top`, as for tiling_corners; a depth above 64; the point. OUTSIDE: the supertile doesn't hold
+ * the point. COORD_LIMIT. */
+tiling_status tiling_locate(tiling_machine t, const tiling_tile *top, uint8_t depth,
+                            const tiling_point *point, tiling_tile *tile, tiling_address *addr);
+
 /* ---- frames -------------------------------------------------------------------------------------------- */
 
 /* Exactly the tiles of the frame that meet a window, each once, in the order of their shifts, turns and
- * kinds: `count` of them. Where there is room for fewer, the first ones; room for 200,000 is always enough.
+ * kinds: `count` is their total, even if there is room for fewer; then the first ones are filled. Room for 200,000 is
+ * always enough.
  * `addrs` takes their addresses in the frame; its room is 0 for none, or else the same as that of `tiles`.
  * BAD_WORDS: the window's numbers, or the rooms. BAD_ADDRESS: the base. DEPTH_LIMIT. COORD_LIMIT.
  * TOO_MANY_TILES. NO_MEMORY. */
 tiling_status tiling_cover(tiling_machine t, const tiling_frame *frame, const tiling_window *window,
                            tiling_tile *tiles, size_t tiles_room, tiling_address *addrs, size_t addrs_room,
                            size_t *count);
+
+/* The only tile of the frame that holds a point, with its address in the frame, at the least depth at which
+ * the frame holds the point. A point on an edge belongs to just one of the tiles there.
+ * BAD_WORDS: the point. BAD_ADDRESS: the base. COORD_LIMIT. */
+tiling_status tiling_at(tiling_machine t, const tiling_frame *frame, const tiling_point *point,
+                        tiling_tile *tile, tiling_address *addr);
 
 #ifdef __cplusplus
 }

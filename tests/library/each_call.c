@@ -200,6 +200,118 @@ static void try_cover(void) {
            && count == 77);
 }
 
+/* the first four coefficients of a corner are these */
+static int corner_is(const tiling_outline *out, int corner, int64_t a, int64_t b) {
+    const int64_t *c = out->corners[corner].c;
+    return c[0] == a && c[1] == b && c[2] == 0 && c[3] == 0;
+}
+
+static void try_shapes(void) {
+    static const struct {
+        const char *name;
+        int kind, edges, glue;
+    } rows[] = {{"chair", 0, 8, -1}, {"p3", 0, 3, 1}, {"p3", 3, 3, 1}, {"halfhex", 0, 5, -1}};
+    /* the L-tromino of three unit squares, its inner corner first */
+    static const int64_t chair_corners[8][2] = {{1, 1}, {1, 2}, {0, 2}, {0, 1},
+                                                {0, 0}, {1, 0}, {2, 0}, {2, 1}};
+    for (size_t i = 0; i < sizeof rows / sizeof *rows; i++) {
+        tiling_machine machine = opened(rows[i].name);
+        uint8_t count = 99, edge = 99;
+        EXPECT(tiling_edges(machine, rows[i].kind, &count) == TILING_OK && count == rows[i].edges);
+        EXPECT(tiling_glue_edge(machine, rows[i].kind, &edge)
+               == (rows[i].glue < 0 ? TILING_NO_EDGE : TILING_OK));
+        EXPECT(edge == (rows[i].glue < 0 ? 99 : rows[i].glue));
+    }
+    tiling_machine chair = opened("chair");
+    tiling_outline out, before;
+    tiling_tile tile;
+    uint8_t count = 99;
+    memset(&out, 7, sizeof out);
+    before = out;
+    EXPECT(tiling_edges(chair, 1, &count) == TILING_BAD_WORDS && count == 99);
+    EXPECT(tiling_glue_edge(chair, 255, &count) == TILING_BAD_WORDS && count == 99);
+    EXPECT(tiling_prototile(chair, 1, &out) == TILING_BAD_WORDS && memcmp(&out, &before, sizeof out) == 0);
+    EXPECT(tiling_prototile(chair, 0, &out) == TILING_OK && out.count == 8 && out.corners[8].c[0] != 0);
+    for (int i = 0; i < 8; i++) EXPECT(corner_is(&out, i, chair_corners[i][0], chair_corners[i][1]));
+    /* turned by 90 degrees about 0 and moved by 4: (x, y) goes to (4 - y, x) */
+    memset(&tile, 0, sizeof tile);
+    tile.turn = 1;
+    tile.shift[0] = 4;
+    EXPECT(tiling_corners(chair, &tile, &out) == TILING_OK && out.count == 8);
+    for (int i = 0; i < 8; i++) EXPECT(corner_is(&out, i, 4 - chair_corners[i][1], chair_corners[i][0]));
+    before = out;
+    tile.turn = 4;
+    EXPECT(tiling_corners(chair, &tile, &out) == TILING_BAD_WORDS);
+    tile.turn = 0;
+    tile.kind = 1;
+    EXPECT(tiling_corners(chair, &tile, &out) == TILING_BAD_WORDS);
+    tile.kind = 0;
+    tile.shift[0] = 16777217;
+    EXPECT(tiling_corners(chair, &tile, &out) == TILING_BAD_WORDS);
+    tile.shift[0] = 16777216;
+    tile.shift[3] = 1;
+    EXPECT(tiling_corners(chair, &tile, &out) == TILING_BAD_WORDS && memcmp(&out, &before, sizeof out) == 0);
+    tile.shift[3] = 0;
+    EXPECT(tiling_corners(chair, &tile, &out) == TILING_OK && corner_is(&out, 4, 16777216, 0));
+}
+
+static void try_locate(void) {
+    tiling_machine chair = opened("chair");
+    tiling_tile top, tile, before;
+    tiling_point point = {{1, 1, 0, 0}};
+    tiling_address addr, kept;
+    memset(&top, 0, sizeof top);
+    EXPECT(tiling_locate(chair, &top, 1, &point, &tile, &addr) == TILING_OK);
+    EXPECT(lies(&tile, 0, 0, 1, 1, 0, 0) && has_text(&addr, "0:1/0"));
+    point.c[0] = 3, point.c[1] = 0;
+    EXPECT(tiling_locate(chair, &top, 1, &point, &tile, &addr) == TILING_OK);
+    EXPECT(lies(&tile, 0, 1, 4, 0, 0, 0) && has_text(&addr, "0:2/0"));
+    before = tile, kept = addr;
+    point.c[0] = 4;
+    EXPECT(tiling_locate(chair, &top, 1, &point, &tile, &addr) == TILING_OUTSIDE);
+    point.c[0] = 0;
+    EXPECT(tiling_locate(chair, &top, 25, &point, &tile, &addr) == TILING_COORD_LIMIT);
+    EXPECT(tiling_locate(chair, &top, 65, &point, &tile, &addr) == TILING_BAD_WORDS);
+    top.kind = 1;
+    EXPECT(tiling_locate(chair, &top, 1, &point, &tile, &addr) == TILING_BAD_WORDS);
+    top.kind = 0, top.turn = 4;
+    EXPECT(tiling_locate(chair, &top, 1, &point, &tile, &addr) == TILING_BAD_WORDS);
+    top.turn = 0, point.c[2] = 1048577;
+    EXPECT(tiling_locate(chair, &top, 1, &point, &tile, &addr) == TILING_BAD_WORDS);
+    EXPECT(memcmp(&tile, &before, sizeof tile) == 0 && memcmp(&addr, &kept, sizeof addr) == 0);
+    /* a lone tile has its lower and left edges, and not the others; in order 4 zeta^2 is -1 */
+    point = (tiling_point){{1, 0, 1, 0}};
+    EXPECT(tiling_locate(chair, &top, 0, &point, &tile, &addr) == TILING_OK && lies(&tile, 0, 0, 0, 0, 0, 0));
+    point = (tiling_point){{2, 0, 0, 0}};
+    EXPECT(tiling_locate(chair, &top, 0, &point, &tile, &addr) == TILING_OUTSIDE);
+}
+
+static void try_at(void) {
+    tiling_machine chair = opened("chair");
+    tiling_frame frame;
+    tiling_tile tile, before;
+    tiling_point point = {{1, 1, 0, 0}};
+    tiling_address addr;
+    memset(&frame, 0, sizeof frame);
+    frame.seed = 42;
+    EXPECT(tiling_at(chair, &frame, &point, &tile, &addr) == TILING_OK);
+    EXPECT(lies(&tile, 0, 1, 3, 1, 0, 0) && has_text(&addr, "0:1/0"));
+    point.c[0] = point.c[1] = 0;
+    EXPECT(tiling_at(chair, &frame, &point, &tile, &addr) == TILING_OK);
+    EXPECT(lies(&tile, 0, 0, 0, 0, 0, 0) && has_text(&addr, "0:"));
+    before = tile;
+    point.c[3] = -1048577;
+    EXPECT(tiling_at(chair, &frame, &point, &tile, &addr) == TILING_BAD_WORDS);
+    point.c[3] = 0;
+    frame.base.kind = 1;
+    EXPECT(tiling_at(chair, &frame, &point, &tile, &addr) == TILING_BAD_ADDRESS);
+    /* below and left of a tile that stands in the corner of each of its ancestors */
+    frame.base.kind = 0, frame.base.depth = 64;
+    point.c[0] = -1;
+    EXPECT(tiling_at(chair, &frame, &point, &tile, &addr) == TILING_COORD_LIMIT);
+    EXPECT(memcmp(&tile, &before, sizeof tile) == 0);
+}
+
 int main(void) {
     try_machines();
     try_rule();
@@ -207,5 +319,8 @@ int main(void) {
     try_place();
     try_neighbour();
     try_cover();
+    try_shapes();
+    try_locate();
+    try_at();
     return faults != 0;
 }

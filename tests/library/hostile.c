@@ -124,6 +124,65 @@ static void try_window(tiling_machine machine) {
     free(number);
 }
 
+static int64_t coefficient(int64_t reach) {
+    return any() % 64 ? (int64_t)(any() % (2 * reach)) - reach : (int64_t)any();
+}
+
+static void try_shape(tiling_machine machine) {
+    tiling_outline *out = block(sizeof *out), kept;
+    tiling_tile *tile = block(sizeof *tile);
+    uint8_t *number = block(1), kind = any() % 4 ? any() % 4 : any();
+    int status;
+    fill(out, sizeof *out);
+    kept = *out;
+    count(status = tiling_prototile(machine, kind, out));
+    if (status) same(out, &kept, sizeof kept, "tiling_prototile");
+    if (status == TILING_OK && (out->count < 3 || out->count > 12)) exit(1);
+    count(tiling_edges(machine, kind, number));
+    count(tiling_glue_edge(machine, kind, number));
+    fill(tile, sizeof *tile);
+    if (any() % 8) tile->kind = any() % 4, tile->turn = any() % 11;
+    for (int i = 0; i < 4; i++) tile->shift[i] = coefficient(i < 2 || any() % 2 ? 20000000 : 1);
+    kept = *out;
+    count(status = tiling_corners(machine, tile, out));
+    if (status) same(out, &kept, sizeof kept, "tiling_corners");
+    free(out);
+    free(tile);
+    free(number);
+}
+
+static void try_point(tiling_machine machine) {
+    tiling_tile *top = block(sizeof *top), *tile = block(sizeof *tile), kept;
+    tiling_point *point = block(sizeof *point);
+    tiling_address *addr = block(sizeof *addr), before;
+    tiling_frame *frame = block(sizeof *frame);
+    int64_t reach = any() % 3 ? 100 : 1048580;
+    int status;
+    fill(top, sizeof *top);
+    fill(tile, sizeof *tile);
+    fill(addr, sizeof *addr);
+    fill(frame, sizeof *frame);
+    fill_address(&frame->base);
+    if (any() % 2) frame->base.kind = any() % 3, frame->base.depth = 0;
+    if (any() % 8) top->kind = any() % 3, top->turn = any() % 9;
+    for (int i = 0; i < 4; i++) top->shift[i] = coefficient(i < 2 ? 100 : 1);
+    for (int i = 0; i < 4; i++) point->c[i] = coefficient(reach);
+    kept = *tile;
+    before = *addr;
+    count(status = tiling_locate(machine, top, any() % 8 ? any() % 30 : any(), point, tile, addr));
+    if (status) same(tile, &kept, sizeof kept, "tiling_locate");
+    if (status) same(addr, &before, sizeof before, "tiling_locate");
+    kept = *tile;
+    before = *addr;
+    count(status = tiling_at(machine, frame, point, tile, addr));
+    if (status) same(tile, &kept, sizeof kept, "tiling_at"), same(addr, &before, sizeof before, "tiling_at");
+    free(top);
+    free(tile);
+    free(point);
+    free(addr);
+    free(frame);
+}
+
 int main(int many, char **words) {
     static const char *const names[] = {"chair", "p2", "p3", "ab", "halfhex"};
     long rounds = many > 1 ? atol(words[1]) : 10000;
@@ -134,6 +193,8 @@ int main(int many, char **words) {
         tiling_machine machine = machines[any() % 5];
         try_tile(machine);
         if (round % 10 == 0) try_text(machine);
+        if (round % 10 == 1) try_shape(machine);
+        if (round % 20 == 2) try_point(machine);
         if (round % 50 == 0) try_window(machine);
     }
     for (int i = 0; i < 256; i++)

@@ -32,3 +32,10 @@ SIZE(tiling_window, 40);
 PLACE(tiling_window, at, 0);
 PLACE(tiling_window, w, 32);
 PLACE(tiling_window, h, 34);
+
+SIZE(tiling_point, 32);
+PLACE(tiling_point, c, 0);
+
+SIZE(tiling_outline, 392);
+PLACE(tiling_outline, corners, 0);
+PLACE(tiling_outline, count, 384);

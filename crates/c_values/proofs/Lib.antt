@@ -1,1 +1,2 @@
+mod Outlines
 mod Windows

@@ -1,4 +1,4 @@
--- What the plain windows of C stand for.
+-- What the plain points and windows of C stand for.
 use Rattle.std.specs.Prelude.{ℕ, ℤ, List, ◌≤◌, ◌^◌}
 use Rattle.cyclo_points.specs.declared.order.Order.{Order}
 use Rattle.cyclo_points.specs.declared.point.Point.{Point}
@@ -15,6 +15,10 @@ point_given o c = record { c = coefficients o (combination (points_of o) (quad_o
 -- the window of these numbers, in an order
 abbrev pub window_in : Order → PlainWindow → Window
 window_in o p = record { centre = point_given o p.at; w = p.w; h = p.h }
+
+-- coefficients that a caller may give: up to 2^20 in absolute value
+abbrev pub IsNearby : List ℤ → Type 0
+IsNearby c = IsWithin (2 ^ 20) (record { c = c })
 
 -- half extents are 1 to 4,096
 pub record IsExtent (n : ℕ) : Type 0 where

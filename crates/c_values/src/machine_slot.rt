@@ -9,8 +9,8 @@ use crate::opaque::Opaque;
 use std::marker::Model;
 use tile_place::machine::Machine;
 
-/// Room for a handle, in which C may have left anything. Contracts see the rule of the machine whose handle a call
-/// has put there, or None.
+/// Room for a handle, in which C may have left any bytes. Contracts see the rule of the machine whose handle
+/// a call has put there, or None.
 #[repr(C)]
 #[derive(Drop)]
 pub struct MachineSlot {
@@ -23,7 +23,7 @@ impl Model for MachineSlot {
 }
 
 impl MachineSlot {
-    /// A handle of a machine that stays for good.
+    /// Makes a slot with the handle of a machine that is never freed.
     pub fn of(machine: &'static Machine) -> MachineSlot
         ensures { result.rule ≡ Some machine.now }
     {

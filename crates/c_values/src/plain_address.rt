@@ -17,7 +17,7 @@ pub struct PlainDigit {
     pub parent: u8,
 }
 
-/// An address: the kind of the tile, and `depth` digits from fine to coarse. The digits behind them are not read.
+/// An address: the kind of the tile, and `depth` digits, finest first. The digits after them are not read.
 #[repr(C)]
 #[derive(Clone, Copy)]
 pub struct PlainAddress {
@@ -27,7 +27,7 @@ pub struct PlainAddress {
 }
 
 impl PlainAddress {
-    /// The address of these numbers. None exactly where the depth is above 64.
+    /// Returns the address of these numbers, or None exactly if the depth is above 64.
     pub fn read(&self) -> Option<Address>
         ensures seen { IfSome result (λ a. address_of a ≡ address_in self.now) }
         ensures too_deep { (result ≡ None) ↔ (64 < self.now.depth) }
@@ -47,7 +47,7 @@ impl PlainAddress {
         Some(addr)
     }
 
-    /// The tile of a machine's rule that these numbers name. None exactly where they name none.
+    /// Returns the tile of the machine's rule that these numbers name, or None exactly if they name none.
     pub fn tile(&self, machine: &Machine) -> Option<Address>
         ensures seen { IfSome result (λ a. address_of a ≡ address_in self.now) }
         ensures fits { IfSome result (λ a. Fits (children (tiling_of machine.now)) (address_of a)) }
@@ -61,7 +61,7 @@ impl PlainAddress {
         }
     }
 
-    /// Becomes these numbers of an address.
+    /// Replaces these numbers by those of an address.
     pub fn write(&mut self, addr: &Address)
         ensures seen { address_in self.new ≡ address_of addr.now }
         ensures no_deeper { self.new.depth ≤ 64 }

@@ -9,8 +9,8 @@ use crate::plain_address::PlainAddress;
 use lazy_walk::frame::Frame;
 use tile_place::machine::Machine;
 
-/// A frame: the supertiles round a base tile, which grow at the coarse end as a seed chooses. The same two numbers
-/// give the same tiling in every call.
+/// A frame: the supertiles around a base tile. They grow at the coarse end, and the seed chooses how. The
+/// same two values give the same tiling in every call.
 #[repr(C)]
 #[derive(Clone, Copy)]
 pub struct PlainFrame {
@@ -19,7 +19,7 @@ pub struct PlainFrame {
 }
 
 impl PlainFrame {
-    /// The frame of these numbers, with no digit grown. None exactly where the base names no tile.
+    /// Returns the frame of these numbers before it grows, or None exactly if the base names no tile.
     pub fn frame(&self, machine: &Machine) -> Option<Frame>
         ensures seen { IfSome result (λ f. f ≡ frame_in self.now) }
         ensures is_frame { IfSome result (IsFrameOf (tiling_of machine.now)) }

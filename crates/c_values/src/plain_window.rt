@@ -12,7 +12,7 @@ use plane_geom::window::Window;
 /// The greatest coefficient of a centre, in absolute value.
 const MOST_COEFFICIENT: i64 = 1048576;
 
-/// The greatest half extent.
+/// The greatest half-width or half-height.
 const MOST_EXTENT: u16 = 4096;
 
 /// A window: the points whose X and Y differ from those of the point `at` by less than `w` and `h`.
@@ -24,15 +24,15 @@ pub struct PlainWindow {
     pub h: u16,
 }
 
-/// Whether a coefficient is small enough.
+/// Returns true if a coefficient is at most 2^20 in absolute value.
 fn is_near(coefficient: i64) -> bool
     ensures { IsTrue result ↔ Within (2 ^ 20) coefficient }
 {
     -MOST_COEFFICIENT <= coefficient && coefficient <= MOST_COEFFICIENT
 }
 
-/// Whether each coefficient of a point is small enough.
-fn are_near(p: &Point) -> bool
+/// Returns true if each coefficient of a point is at most 2^20 in absolute value.
+pub(crate) fn are_near(p: &Point) -> bool
     ensures { IsTrue result ↔ IsWithin (2 ^ 20) p.now }
 {
     if !is_near(p.c[0]) {
@@ -47,7 +47,7 @@ fn are_near(p: &Point) -> bool
     is_near(p.c[3])
 }
 
-/// Whether a number is a half extent.
+/// Returns true if a number may be a half-width or half-height.
 fn is_extent(extent: u16) -> bool
     ensures { IsTrue result ↔ IsExtent extent }
 {
@@ -55,7 +55,7 @@ fn is_extent(extent: u16) -> bool
 }
 
 impl PlainWindow {
-    /// The window of these numbers, in an order. None exactly where they give none.
+    /// Returns the window of these numbers in an order, or None exactly if they give none.
     pub fn window(&self, order: Order) -> Option<Window>
         ensures window { IfSome result (λ w. w ≡ window_in order self.now) }
         ensures fits { IfSome result IsWindow }

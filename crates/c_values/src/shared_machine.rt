@@ -8,8 +8,8 @@ use crate::opaque::Opaque;
 use std::marker::{Model, Send};
 use tile_place::machine::Machine;
 
-/// The handle of a machine that stays for good. Contracts see the rule of the machine. C sees a pointer, which any
-/// number of threads may pass to calls.
+/// The handle of a machine that is never freed. Contracts see the rule of the machine. C sees a pointer,
+/// which any number of threads may pass to calls.
 #[repr(C)]
 #[derive(Drop)]
 pub struct SharedMachine {
@@ -24,7 +24,7 @@ impl Model for SharedMachine {
 unsafe impl Send for SharedMachine {}
 
 impl SharedMachine {
-    /// A handle of a machine that stays for good.
+    /// Makes the handle of a machine that is never freed.
     pub fn of(machine: &'static Machine) -> SharedMachine
         ensures { result.rule ≡ machine.now }
     {
@@ -33,7 +33,7 @@ impl SharedMachine {
         }
     }
 
-    /// The machine of a handle.
+    /// Returns the machine of a handle.
     pub fn get(self) -> &'static Machine
         ensures { result.now ≡ self.rule }
     {
@@ -41,7 +41,7 @@ impl SharedMachine {
     }
 }
 
-/// The same value, of a type whose values may go to another thread.
+/// Returns the same value. Its type must allow values to go to another thread.
 pub fn sent<T: Send>(value: T) -> T
     ensures { result ≡ value }
 {

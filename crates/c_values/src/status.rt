@@ -1,15 +1,15 @@
-//! The statuses that calls answer: the exit codes of the command.
+//! The statuses that calls return: the exit codes of the command.
 
-/// The call did what it does.
+/// The call succeeded.
 pub const OK: u8 = 0;
 
-/// A number out of its range, arrays of different lengths, or an unknown name.
+/// A number is out of range, arrays have different lengths, or a name is unknown.
 pub const BAD_WORDS: u8 = 2;
 
-/// Not the address of a tile of the rule.
+/// The address is not that of a tile of the rule.
 pub const BAD_ADDRESS: u8 = 4;
 
-/// Even 64 levels leave an edge that is looked at on the boundary.
+/// Even with 64 levels, an edge on the way is on the boundary.
 pub const DEPTH_LIMIT: u8 = 5;
 
 /// A value has a coefficient above 2^24 in absolute value.

@@ -1,8 +1,6 @@
--- The status of a search that ended, and what its frame and its window are.
-use Rattle.std.proofs.Common.{◌≡◌, ◌⊎◌, inl, inr, ℕ, Bool, false, Ok, Err, IsOk, IsTrue, sym, ap, ◌∙◌, subst}
+-- The status of a search that ended.
+use Rattle.std.proofs.Common.{◌≡◌, ◌⊎◌, inl, inr, ℕ, Ok, Err, IsOk, sym, ap, ◌∙◌}
 use Rattle.std.specs.Prelude.{Result}
-use Rattle.lazy_walk.specs.Frames.{FrameValue}
-use Rattle.plane_geom.specs.declared.window.Window.{Window}
 use Rattle.window_cover.specs.declared.cover_fault.CoverFault.{CoverFault}
 use Rattle.window_cover.specs.declared.cover_fault.CoverFault.TheVariants.{DepthLimit, CoordLimit, TooManyTiles, NoMemory}
 use Rattle.c_values.specs.Statuses.{ok, bad_words, bad_address, no_memory}
@@ -40,11 +38,3 @@ never_ok (DepthLimit addr edge) status is e = absurd (cc (sym is ∙ e))
 never_ok (CoordLimit value) status is e = absurd (cc (sym is ∙ e))
 never_ok TooManyTiles status is e = absurd (cc (sym is ∙ e))
 never_ok NoMemory status is e = absurd (cc (sym is ∙ e))
-
--- what is so of a frame and a window is so of the same
-pub given_moved : (P : FrameValue → Window → Type 0) (f g : FrameValue) (v w : Window) → f ≡ g → v ≡ w → P f v → P g w
-given_moved P f g v w ef ev p = subst (λ x. P x w) ef (subst (λ y. P f y) ev p)
-
--- a test isn't both
-pub no_true : {A : Type 0} (b : Bool) → b ≡ false → IsTrue b → A
-no_true b e f = absurd (cc (sym e ∙ f))

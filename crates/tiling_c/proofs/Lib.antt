@@ -1,4 +1,6 @@
 mod Covers
 mod EdgeGiven
 mod Fronts
+mod Holder
+mod Moved
 mod TextGiven

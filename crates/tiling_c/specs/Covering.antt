@@ -1,11 +1,9 @@
 -- The tiles of a window in a caller's arrays.
 use Rattle.std.specs.Prelude.{◌≡◌, ◌⊎◌, ℕ, List, length, map, min, take, drop}
-use Rattle.addressing.specs.Address as theory
 use Rattle.lazy_walk.specs.Frames.{FrameValue, GrowsTo}
 use Rattle.plane_geom.specs.declared.window.Window.{Window}
 use Rattle.rule_model.specs.Tiling.{Tiling}
 use Rattle.tile_place.specs.declared.placed_tile.PlacedTile.{PlacedTile}
-use Rattle.tile_shape.specs.Views.{address_of}
 use Rattle.tile_app.specs.TilesOfWindow.{TilesOfWindow}
 use Rattle.window_cover.specs.declared.cover_fault.CoverFault.{CoverFault}
 use Rattle.window_cover.specs.declared.cover_fault.CoverFault.TheVariants.{DepthLimit, CoordLimit, TooManyTiles, NoMemory}
@@ -15,15 +13,8 @@ use Rattle.c_values.specs.declared.plain_tile.PlainTile.{PlainTile}
 use Rattle.c_values.specs.declared.plain_window.PlainWindow.{PlainWindow}
 use Rattle.c_values.specs.Addresses.{address_in}
 use Rattle.c_values.specs.Statuses.{depth_limit, coord_limit, too_many_tiles, no_memory}
-use Rattle.c_values.specs.Tiles.{tile_as}
 use Rattle.c_values.specs.Windows.{GivesWindow}
-
--- a tile at its place, as plain numbers, and its address
-abbrev pub tile_shown : PlacedTile → PlainTile
-tile_shown x = tile_as x.kind x.motion 0
-
-abbrev pub address_shown : PlacedTile → theory.Address
-address_shown x = address_of x.addr
+use Rattle.tiling_c.specs.Shown.{tile_shown, address_shown}
 
 -- of so many tiles as many stand in an array as it has room for
 abbrev pub held : List PlacedTile → ℕ → ℕ

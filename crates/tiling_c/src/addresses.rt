@@ -30,7 +30,7 @@ pub fn put_address(machine: &Machine, text: &[u8], out: &mut PlainAddress) -> u8
     }
 }
 
-/// The address that a text is.
+/// Reads the text of an address. The address must be that of a tile of the rule.
 #[unsafe(no_mangle)]
 pub extern "C" fn tiling_read_address(t: SharedMachine, text: &[u8], out: &mut PlainAddress) -> u8
     ensures read { result ≡ ok → address_of_text (children (tiling_of t.rule)) text.now ≡ Ok (address_in out.new) }
@@ -42,7 +42,7 @@ pub extern "C" fn tiling_read_address(t: SharedMachine, text: &[u8], out: &mut P
     put_address(t.get(), text, out)
 }
 
-/// The text of an address, into the first bytes of `text`: at most 515, with no 0 behind them.
+/// Writes the text of an address into the first bytes of `text`: at most 515, with no 0 after them.
 #[unsafe(no_mangle)]
 pub extern "C" fn tiling_write_address(
     addr: &PlainAddress,
@@ -69,7 +69,7 @@ pub extern "C" fn tiling_write_address(
     OK
 }
 
-/// Whether numbers are the address of a tile of a machine's rule.
+/// Tests if numbers are the address of a tile of a machine's rule.
 pub fn fits(machine: &Machine, addr: &PlainAddress) -> u8
     ensures named { (result ≡ ok) ↔ NamesTile (tiling_of machine.now) addr.now }
     ensures statuses { (result ≡ ok) ⊎ (result ≡ bad_address) }
@@ -81,7 +81,7 @@ pub fn fits(machine: &Machine, addr: &PlainAddress) -> u8
     }
 }
 
-/// Whether numbers are the address of a tile of the rule.
+/// Tests if numbers are the address of a tile of the rule.
 #[unsafe(no_mangle)]
 pub extern "C" fn tiling_fits(t: SharedMachine, addr: &PlainAddress) -> u8
     ensures named { (result ≡ ok) ↔ NamesTile (tiling_of t.rule) addr.now }

@@ -151,8 +151,8 @@ fn cover(
     put_window(alloc, machine, &mut frame, &window, tiles, addrs, count)
 }
 
-/// The tiles of a frame that meet a window, in the order of their shifts, turns and kinds: how many, and as many of
-/// them as there is room for, with their addresses unless `addrs` has no room.
+/// Finds the tiles of a frame that meet a window, ordered by shift, then turn, then kind. Returns how many
+/// there are, and as many of them as there is room for, with their addresses unless `addrs` has no room.
 #[unsafe(no_mangle)]
 pub extern "C" fn tiling_cover(
     alloc: Global,
@@ -163,12 +163,13 @@ pub extern "C" fn tiling_cover(
     addrs: &mut [PlainAddress],
     count: &mut usize,
 ) -> u8
-    // Exactly the tiles of the frame that meet the window, each once and in its place, at the least enough depth; they
-    // cover the window.
+    // Exactly the tiles of the frame that meet the window, each once and in its place. The depth is the least
+    // that is enough, and the tiles cover the window.
     ensures covers { result ≡ ok → IsCover (tiling_of t.rule) (frame_in frame.now) (window_in t.rule.order window.now)
         tiles.old tiles.new addrs.old addrs.new count.new }
 
-    // Answered exactly within the limits, but for want of memory, and each refusal for its cause.
+    // The call succeeds exactly within the limits, unless memory runs out, and each refusal comes only for
+    // its cause.
     ensures within { result ≡ ok → IsWithinLimits (tiling_of t.rule) (frame_in frame.now) (window_in t.rule.order window.now) }
     ensures answered { AsksForWindow window.now tiles.old addrs.old → NamesTile (tiling_of t.rule) frame.now.base
         → IsWithinLimits (tiling_of t.rule) (frame_in frame.now) (window_in t.rule.order window.now) → (result ≡ ok) ⊎ (result ≡ no_memory) }
@@ -177,7 +178,7 @@ pub extern "C" fn tiling_cover(
     ensures ended { ¬ result ≡ ok → ¬ result ≡ bad_words → ¬ result ≡ bad_address
         → EndsCover (tiling_of t.rule) (frame_in frame.now) (window_in t.rule.order window.now) result }
 
-    // After a refusal all is as it was.
+    // After a refusal nothing has changed.
     ensures tiles_unchanged { ¬ result ≡ ok → tiles.new ≡ tiles.old }
     ensures addresses_unchanged { ¬ result ≡ ok → addrs.new ≡ addrs.old }
     ensures count_unchanged { ¬ result ≡ ok → count.new ≡ count.old }

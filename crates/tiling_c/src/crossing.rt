@@ -58,8 +58,8 @@ pub fn cross<L: Ledger>(
     }
 }
 
-/// The tile across an edge: `addr` becomes its address, and `back` is its edge that leads back. Where the edge lies on
-/// the supertile's own edge, `back` is that edge and `part` the part of it.
+/// Finds the tile across an edge. `addr` becomes its address, and `back` its edge that leads back. If the
+/// edge is on the boundary of the supertile, `back` is the supertile's edge, and `part` the part of it.
 #[unsafe(no_mangle)]
 pub extern "C" fn tiling_neighbour(
     t: SharedMachine,
@@ -68,13 +68,14 @@ pub extern "C" fn tiling_neighbour(
     back: &mut u8,
     part: &mut u8,
 ) -> u8
-    // In the plane, both tiles placed in their common supertile: the only tile across the edge, and back.
+    // In the plane, with both tiles placed in their common supertile: the only tile across the edge, and the
+    // edge back.
     ensures across { result ≡ ok → IsOnlyAcross (tiling_of t.rule) (address_in addr.old) edge (address_in addr.new) back.new }
     ensures leads_back { result ≡ ok → IsOnlyAcross (tiling_of t.rule) (address_in addr.new) back.new (address_in addr.old) edge }
     ensures names { result ≡ ok → NamesTile (tiling_of t.rule) addr.new }
     ensures inside { result ≡ ok → LiesAlongNone (tiling_of t.rule) (address_in addr.old) edge }
 
-    // Each refusal for its cause, and after it the address is as it was.
+    // Each refusal comes only for its cause, and leaves the address unchanged.
     ensures outside { result ≡ outside → IsOutside (tiling_of t.rule) (address_in addr.old) edge back.new part.new }
     ensures bad_address { (result ≡ bad_address) ↔ (¬ NamesTile (tiling_of t.rule) addr.old) }
     ensures no_edge { (result ≡ no_edge) ↔ (NamesTile (tiling_of t.rule) addr.old × (edges_of (tiling_of t.rule) addr.old.kind ≤ edge)) }

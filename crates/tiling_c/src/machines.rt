@@ -13,7 +13,7 @@ use rule_model::checked::Checked;
 use std::alloc::Global;
 use tile_place::machine::Machine;
 
-/// The number of the header that this library answers.
+/// Returns the version of the header that this library was made for.
 #[unsafe(no_mangle)]
 pub extern "C" fn tiling_abi() -> u32
     ensures { result ≡ 1 }
@@ -39,7 +39,7 @@ pub fn put_machine(alloc: Global, checked: Checked, out: &mut MachineSlot) -> u8
     }
 }
 
-/// The built-in rule that bytes name.
+/// Returns the built-in rule that these bytes name.
 fn name_in(name: &[u8]) -> Option<Name>
     ensures { result ≡ name_in name.now }
 {
@@ -58,7 +58,7 @@ fn name_in(name: &[u8]) -> Option<Name>
     }
 }
 
-/// The machine of a built-in rule: its name is "chair", "p2", "p3", "ab" or "halfhex".
+/// Makes the machine of a built-in rule, named "chair", "p2", "p3", "ab" or "halfhex".
 #[unsafe(no_mangle)]
 pub extern "C" fn tiling_open(alloc: Global, name: &[u8], out: &mut MachineSlot) -> u8
     ensures named { result ≡ ok → HasMachine out.new (option_map builtin_tiling (name_in name.now)) }
@@ -75,7 +75,7 @@ pub extern "C" fn tiling_open(alloc: Global, name: &[u8], out: &mut MachineSlot)
     }
 }
 
-/// Two handles of one machine. What C does where it copies a handle is this call.
+/// Makes two handles of one machine. This is what C does when it copies a handle.
 #[unsafe(no_mangle)]
 pub extern "C" fn tiling_share(t: SharedMachine, a: &mut MachineSlot, b: &mut MachineSlot)
     ensures first { a.new.rule ≡ Some t.rule }

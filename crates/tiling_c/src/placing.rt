@@ -39,18 +39,18 @@ pub fn put_place(machine: &Machine, addr: &PlainAddress, out: &mut PlainTile) ->
     }
 }
 
-/// Where a tile lies: the motion that stands beside its address in the list of its supertile's tiles.
+/// Computes where a tile lies in its supertile: its motion.
 #[unsafe(no_mangle)]
 pub extern "C" fn tiling_place(t: SharedMachine, addr: &PlainAddress, out: &mut PlainTile) -> u8
-    // The tile's motion in the supertile that its address names; the shift's coefficients are those of the order, and
-    // no value of Horner's scheme is refused.
+    // The tile's motion in the supertile that its address names. The shift's coefficients are those of the
+    // order, and no value of Horner's scheme is refused.
     ensures placed { result ≡ ok → IsPlaced (tiling_of t.rule) (address_in addr.now) (motion_in t.rule.order (motion_of out.new)) }
     ensures plain { result ≡ ok → out.new ≡ tile_as addr.now.kind (motion_of out.new) 0 }
     ensures turn_below { result ≡ ok → out.new.turn < (points_of t.rule.order).order }
     ensures in_order { result ≡ ok → IsOf t.rule.order (motion_of out.new).shift }
     ensures within { result ≡ ok → first_refused (tiling_of t.rule) (address_in addr.now).digits ≡ None }
 
-    // Each refusal for its cause, and after it `out` is as it was.
+    // Each refusal comes only for its cause, and leaves `out` unchanged.
     ensures bad_address { (result ≡ bad_address) ↔ (¬ NamesTile (tiling_of t.rule) addr.now) }
     ensures coord_limit { result ≡ coord_limit → IsSome (first_refused (tiling_of t.rule) (address_in addr.now).digits) }
     ensures unchanged { ¬ result ≡ ok → out.new ≡ out.old }

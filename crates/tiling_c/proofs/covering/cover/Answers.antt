@@ -4,7 +4,7 @@ use Rattle.window_cover.specs.Limits.{IsWithinLimits}
 use Rattle.c_values.specs.Statuses.{ok, no_memory}
 use Rattle.c_values.specs.Windows.{window_in}
 use Rattle.tiling_c.specs.Covering.{IsCover, EndsCover}
-use Rattle.tiling_c.proofs.Covers.{given_moved, no_true}
+use Rattle.tiling_c.proofs.Moved.{given_moved, no_true}
 use Rattle.tiling_c.proofs.covering.cover.Goals as goal
 
 pub returns-then-not-are_rooms-clause-within : goal.returns-then-not-are_rooms-clause-within

@@ -1,6 +1,6 @@
 use Rattle.std.proofs.Common.{◌≡◌, ◌<◌, length, slice_set, rules}
 use Rattle.c_values.specs.Addresses.{address_in}
-use Rattle.tiling_c.specs.Covering.{tile_shown, address_shown}
+use Rattle.tiling_c.specs.Shown.{tile_shown, address_shown}
 use Rattle.tiling_c.proofs.Fronts.{front_more, seen_more, behind_more}
 use Rattle.tiling_c.proofs.covering.put_both.Goals as goal
 

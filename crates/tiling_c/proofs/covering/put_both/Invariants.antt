@@ -1,6 +1,6 @@
 use Rattle.std.proofs.Common.{◌≡◌, length, map, take, drop}
 use Rattle.c_values.specs.Addresses.{address_in}
-use Rattle.tiling_c.specs.Covering.{tile_shown, address_shown}
+use Rattle.tiling_c.specs.Shown.{tile_shown, address_shown}
 use Rattle.tiling_c.proofs.covering.put_both.Given as goal
 
 -- the tiles and the addresses so far, and behind them what was there

@@ -1,5 +1,5 @@
 use Rattle.std.proofs.Common.{◌≡◌, ◌<◌, length, slice_set, rules}
-use Rattle.tiling_c.specs.Covering.{tile_shown}
+use Rattle.tiling_c.specs.Shown.{tile_shown}
 use Rattle.tiling_c.proofs.Fronts.{front_more, behind_more}
 use Rattle.tiling_c.proofs.covering.put_tiles.Goals as goal
 

@@ -1,5 +1,5 @@
 use Rattle.std.proofs.Common.{◌≡◌, length, map, take, drop}
-use Rattle.tiling_c.specs.Covering.{tile_shown}
+use Rattle.tiling_c.specs.Shown.{tile_shown}
 use Rattle.tiling_c.proofs.covering.put_tiles.Given as goal
 
 -- the tiles so far, and behind them what was there

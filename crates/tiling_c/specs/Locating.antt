@@ -1,0 +1,47 @@
+-- The tile of a supertile that holds a point, as plain numbers.
+use Rattle.std.specs.Prelude.{◌≡◌, ◌↔◌, ◌≤◌, ℕ, None}
+use Rattle.addressing.specs.Address.{depth as depth_of}
+use Rattle.cyclo_points.specs.Order.{NumberOf}
+use Rattle.cyclo_points.specs.Point.{point_in}
+use Rattle.cyclo_points.specs.Motion.{motion_in}
+use Rattle.rule_model.specs.Tiling.{Tiling, MotionOf}
+use Rattle.tile_place.specs.declared.placed_tile.PlacedTile.{PlacedTile}
+use Rattle.tile_place.specs.Located.{IsOnlyTileHolding, HasInside, first_refused_looked_at}
+use Rattle.tile_place.specs.Searched.{placed_in}
+use Rattle.tile_shape.specs.Views.{address_of}
+use Rattle.c_values.specs.declared.plain_address.PlainAddress.{PlainAddress}
+use Rattle.c_values.specs.declared.plain_point.PlainPoint.{PlainPoint}
+use Rattle.c_values.specs.declared.plain_tile.PlainTile.{PlainTile}
+use Rattle.c_values.specs.Addresses.{address_in}
+use Rattle.c_values.specs.Statuses.{ok, outside}
+use Rattle.c_values.specs.Tiles.{motion_of}
+use Rattle.c_values.specs.Windows.{point_given, IsNearby}
+use Rattle.tiling_c.specs.Shown.{tile_shown}
+use Rattle.tiling_c.specs.Shapes.{IsTile}
+
+-- the motion and the point that the numbers give, in the order of a tiling
+abbrev pub motion_given : (t : Tiling) → PlainTile → MotionOf t
+motion_given t top = motion_in t.order (motion_of top)
+
+abbrev pub number_given : (t : Tiling) → PlainPoint → NumberOf t.order
+number_given t p = point_in t.order (point_given t.order p.c)
+
+-- the numbers give a supertile of at most 64 levels at its place, and a point
+pub record AsksToLocate (t : Tiling) (top : PlainTile) (depth : ℕ) (p : PlainPoint) : Type 0 where
+  pub tile : IsTile t top
+  pub no_deeper : depth ≤ 64
+  pub near : IsNearby p.c
+
+-- of the tiles of the supertile of this kind and depth, moved by m, this one holds the point and no other does; these are its numbers and its address there
+pub record ShowsLocated (t : Tiling) (kind depth : ℕ) (m : MotionOf t) (p : NumberOf t.order) (numbers : PlainTile) (addr : PlainAddress) : Type 0 where
+  pub tile : PlacedTile
+  pub only : IsOnlyTileHolding t kind depth m p (placed_in t.order tile)
+  pub its_kind : tile.kind ≡ tile.addr.kind
+  pub its_depth : depth_of (address_of tile.addr) ≡ depth
+  pub its_numbers : numbers ≡ tile_shown tile
+  pub its_address : address_in addr ≡ address_of tile.addr
+
+-- the status is the first exactly where no value looked at is refused and the supertile holds the point, and that of outside where it doesn't hold it
+pub record IsLocatedBy (t : Tiling) (kind depth : ℕ) (m : MotionOf t) (p : NumberOf t.order) (status : ℕ) : Type 0 where
+  pub found : (status ≡ ok) ↔ ((first_refused_looked_at t kind depth m p ≡ None) × HasInside t kind depth m p)
+  pub not_inside : (status ≡ outside) ↔ ((first_refused_looked_at t kind depth m p ≡ None) × (¬ HasInside t kind depth m p))
