@@ -11,7 +11,7 @@ use tile_shape::address::Address;
 /// How many names there are.
 const NAMES: usize = 26;
 
-/// For each name the address to which it is bound, where it is.
+/// For each name the address to which it is bound, if it is.
 #[derive(Drop)]
 pub struct Bindings {
     addresses: Vec<Option<Address>>,
@@ -31,7 +31,7 @@ impl Model for Bindings {
 }
 
 impl Bindings {
-    /// The names, none of which is bound.
+    /// Makes the names, none of which is bound.
     pub fn new(alloc: Global) -> Result<Bindings, AllocError>
         ensures { IfOk result (λ names. names ≡ none_bound) }
     {
@@ -42,7 +42,7 @@ impl Bindings {
         Ok(Bindings { addresses })
     }
 
-    /// The address to which a name is bound.
+    /// Returns the address to which a name is bound.
     #[inline]
     pub fn get(&self, name: Name) -> Option<&Address>
         ensures { option_map (λ a. address_of a.now) result ≡ address_of_name self.now name.number }
@@ -50,7 +50,7 @@ impl Bindings {
         self.addresses[name.number()].as_ref()
     }
 
-    /// Binds a name to an address, in place of the one to which it was bound before.
+    /// Binds a name to an address, instead of the one to which it was bound before.
     pub fn bind(&mut self, name: Name, address: Address)
         ensures { self.new ≡ bind self.old name.number (address_of address) }
     {

@@ -15,25 +15,30 @@ use std::marker::Brand;
 use std::sync::ledger::{Blank, Ledger};
 use tile_place::machine::Machine;
 
-/// The text of a script, or the fault of its first line that has one; every line before that is run.
+/// Runs a script, and returns its text.
 ///
-/// - `machine` is that of the rule of whose tiles the script speaks.
-/// - `script` has lines, divided by newlines, of which the last may be missing. Empty lines and lines that begin with
-///   `#` do nothing. Words are divided by single blanks, and names are the letters `a` to `z`: `let a 0:1/0` binds a
-///   name to an address, `show a` prints it, `place a` prints where its tile lies in the supertile, `across a 3 b`
-///   binds `b` to the tile across edge 3 and prints it, `common a b` prints the level from which on two addresses
-///   agree, and `pair a b` prints by which edges two tiles lie on each other.
-/// - `alloc` gives all memory. In place of any answer `NoMemory` may come.
+/// - `machine` is that of the rule whose tiles the script speaks of.
+/// - `script` has lines, each ended by a newline; the last newline may be missing. Empty lines and lines that
+///   begin with `#` do nothing, but are counted. Fields have single blanks between them, and names are the
+///   letters `a` to `z`. `let a 0:1/0` binds a name to an address, `show a` prints it, and `place a` prints
+///   where its tile lies in the supertile. `across a 3 b` binds `b` to the tile across edge 3 and prints it.
+///   `common a b` prints the level from which on two addresses agree, and `pair a b` by which edges two tiles
+///   meet.
+/// - `alloc` provides all memory.
+///
+/// # Errors
+///
+/// The fault of the first line that has one, counted from 1. `NoMemory` may come instead of any result.
 pub fn calc(alloc: Global, machine: &Machine, script: &[u8]) -> Result<Vec<u8>, CalcFault>
     requires { length script.now ≤ longest_script }
-    // The text is what the script prints, and the fault that of its first line that has one.
+    // The text is what the script prints; a fault is that of the first line that has one.
     ensures ran { IfOk result (λ text. IsAnswer (tiling_of machine.now) script.now (Ok text.items)) }
     ensures fault { IfErr result (OrNoMemory (λ fault. IsAnswer (tiling_of machine.now) script.now (Err fault))) }
 
-    // And what comes of the script is answered, but that memory may be wanted.
+    // The outcome of the script is returned, unless memory runs out.
     ensures answered { (outcome : Outcome) → IsAnswer (tiling_of machine.now) script.now outcome → IsOrNoMemory (outcome_of result) outcome }
 {
-    // The law by which what comes of a script is what is answered, and what it asks of the child kinds.
+    // The law by which the outcome of a script is what is returned, and what it requires of the child kinds.
     one_answer_law();
     let _limits = machine.checked().uses().kinds();
     calculated::<Brand>(alloc, machine, script, Blank::new(1))

@@ -8,23 +8,24 @@ use std::fmt;
 use tile_shape::address_fault::AddressFault;
 use tile_shape::no_memory::NoMemory;
 
-/// The fault of a line of a script. Lines are counted from 1, empty ones and comments too.
+/// The fault of a line of a script. Lines are counted from 1, with empty ones and comments.
 #[derive(Clone, Copy, Debug, PartialEq, Eq)]
 pub enum CalcFault {
-    /// The line has not the form of its command. The place is the number, from 0, of the first word that hasn't
-    /// its form or is one too many, or the number of words where one is missing.
+    /// The line does not have the form of its command. `place` is the position, counted from 0, of the first
+    /// field that is malformed or one too many. If a field is missing, it is the number of fields.
     BadLine { line: u32, place: u8 },
-    /// A name that the line reads isn't bound.
+    /// A name that the line reads is not bound.
     UnknownName { line: u32 },
-    /// The text is no address.
+    /// The text is not an address.
     Address { line: u32, fault: AddressFault },
-    /// The tile hasn't that edge.
+    /// The tile does not have that edge.
     NoEdge { line: u32 },
     /// The edge lies on this edge of the supertile, in this part of it.
     Outside { line: u32, edge: u8, part: u8 },
-    /// On the way to the tile this value, the first such, is out of bounds.
+    /// A value on the way to the tile has a coefficient above 2^24 in absolute value; this is the first such
+    /// value.
     CoordLimit { line: u32, value: Point },
-    /// There was no memory for the text.
+    /// Memory ran out.
     NoMemory,
 }
 

@@ -39,7 +39,7 @@ pub struct Calculation {
 }
 
 impl Calculation {
-    /// No name is bound, nothing is printed, and no line was run.
+    /// Makes a calculation in which no name is bound, nothing is printed, and no line was run.
     pub fn new(alloc: Global) -> Result<Calculation, AllocError>
         ensures names { IfOk result (λ c. c.names ≡ none_bound) }
         ensures text { IfOk result (λ c. c.text.items ≡ []) }
@@ -53,7 +53,7 @@ impl Calculation {
         })
     }
 
-    /// The text printed.
+    /// Returns the text printed.
     pub fn into_text(self) -> Vec<u8>
         ensures { result.items ≡ self.text.items }
     {

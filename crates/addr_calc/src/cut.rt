@@ -3,7 +3,7 @@ ghost use Rattle.std.specs.Prelude.{◌≡◌, ◌<◌, ◌∷◌, length, IfSom
 ghost use Rattle.tile_shape.specs.Words.{texts_between};
 ghost use Rattle.addr_calc.specs.Views.{parts_behind};
 
-/// What stands before the first mark, and what stands behind it, where there is one.
+/// Returns what precedes the first mark, and what follows it, if there is one.
 #[inline]
 pub fn cut(text: &[u8], mark: u8) -> (&[u8], Option<&[u8]>)
     ensures parts { texts_between mark text.now ≡ result.0.now ∷ parts_behind mark (option_map (λ rest. rest.now) result.1) }

@@ -6,7 +6,7 @@ ghost use Rattle.addr_calc.specs.Script.{Outcome, IsAnswer};
 
 use tile_shape::laws::{short_numbers_law, text_law};
 
-/// A script has one answer for a tiling: one text, or one fault.
+/// States that a script has one outcome for a tiling: one text, or one fault.
 pub fn one_answer_law()
     ensures { (t : Tiling) (script : List ℕ) (one other : Outcome) → AreUsable (children t)
         → IsAnswer t script one → IsAnswer t script other → one ≡ other }

@@ -5,8 +5,8 @@ ghost use Rattle.tile_shape.specs.Views.{address_of};
 
 use tile_shape::address::Address;
 
-/// The least level from which on two addresses agree: their kinds there are equal, and so are all digits from its
-/// number up. There is none where their depths differ, or their topmost kinds.
+/// Returns the least level from which on two addresses agree: their kinds there are equal, and so are all
+/// digits from its number up. It returns None if and only if their depths differ, or their topmost kinds.
 pub fn common_level(one: &Address, other: &Address) -> Option<u8>
     ensures { IsCommonLevel (address_of one.now) (address_of other.now) result }
 {

@@ -1,9 +1,10 @@
 //! A calculator with the addresses of tiles, by a script.
 //!
-//! A script is read line by line. It binds the names `a` to `z` to addresses, and prints them, where their tiles lie in
-//! the supertile, the tile across an edge, the level from which on two addresses agree, and by which edges two tiles lie
-//! on each other (Tatham's combinatorial coordinates). `calc::calc` answers the text of the script, or the fault of the
-//! first line that has one; a definition over the lines says which, and that a script has one answer is a law.
+//! A script is read line by line. It binds the names `a` to `z` to addresses, and prints them. It prints
+//! where their tiles lie in the supertile, the tile across an edge, the level from which on two addresses
+//! agree, and by which edges two tiles meet (S. Tatham's combinatorial coordinates). `calc::calc` returns the
+//! text of the script, or the fault of the first line that has one. A definition over the lines says which,
+//! and a law that a script has one outcome.
 #![tactic(auto)]
 
 mod bindings;

@@ -11,7 +11,7 @@ pub struct Name {
 }
 
 impl Name {
-    /// The name that a word is.
+    /// Returns the name that a field is, if it is one.
     pub fn named(word: &[u8]) -> Option<Name>
         ensures { option_map (λ name. name.number) result ≡ name_in word.now }
     {
@@ -23,7 +23,7 @@ impl Name {
         }
     }
 
-    /// Its number.
+    /// Returns its number, 0 to 25.
     #[inline]
     pub fn number(self) -> usize
         ensures number { result ≡ self.number }
@@ -32,7 +32,7 @@ impl Name {
         usize::from(self.number)
     }
 
-    /// Its letter.
+    /// Returns its letter.
     #[inline]
     pub fn letter(self) -> u8
         ensures { result ≡ letter self.number }

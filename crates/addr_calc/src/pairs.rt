@@ -15,7 +15,7 @@ use tile_place::machine::Machine;
 use tile_shape::address::Address;
 use tile_shape::no_memory::NoMemory;
 
-/// The pair machine of a rule, which is compiled when it is asked for the first time.
+/// The pair machine of a rule, compiled when it is first needed.
 #[derive(Drop)]
 pub struct Pairs {
     alloc: Global,
@@ -23,7 +23,7 @@ pub struct Pairs {
 }
 
 impl Pairs {
-    /// Nothing is compiled yet.
+    /// Makes a pair machine that is not compiled yet.
     pub fn new(alloc: Global) -> Pairs
         ensures { (t : Tiling) → AreOf t result }
     {
@@ -48,7 +48,8 @@ impl Pairs {
         }
     }
 
-    /// How two tiles of the machine's rule lie to each other: by all edges of the one that have the other across them.
+    /// Decides how two tiles of the machine's rule lie to each other: by all edges of one that have the other
+    /// across them. It fails only if memory runs out.
     pub fn decide(
         &mut self,
         machine: &Machine,
@@ -75,7 +76,7 @@ fn decide(machine: &Machine, pairs: &PairMachine, one: &Address, other: &Address
     requires other_fits { Fits (children (tiling_of machine.now)) (address_of other.now) }
     ensures { IsRelation (tiling_of machine.now) (address_of one.now) (address_of other.now) (relation_of result) }
 {
-    // The law by which the edges that touch are those across, and what it asks of the tables.
+    // The law by which the edges that touch are those across, and what it requires of the tables.
     across_law(machine.checked().order());
     let _coherent = machine.checked().tables().kinds();
     pairs.decide(one, other)

@@ -8,7 +8,7 @@ use layer_api::line::Line;
 use pair_machine::edge_pair::EdgePair;
 use pair_machine::verdict::Verdict;
 
-/// Puts how two tiles lie to each other.
+/// Puts how two tiles lie to each other into a line.
 pub fn put_relation(line: &mut Line, verdict: &Verdict)
     requires room { length line.old < 1000 }
     ensures relation { line.new ≡ relation_text (relation_of verdict.now) ++ line.old }

@@ -15,22 +15,26 @@ use tile_shape::decimal::read_number;
 pub enum Statement<'a> {
     /// Nothing: the line is empty or a comment.
     Nothing,
-    /// To bind a name to the address of this text.
+    /// Binds a name to the address of this text.
     Let { name: Name, text: &'a [u8] },
-    /// To print the address of a name.
+    /// Prints the address of a name.
     Show { name: Name },
-    /// To print where the tile of a name lies.
+    /// Prints where the tile of a name lies.
     Place { name: Name },
-    /// To cross this edge of the tile of a name, and to bind the other name to the tile across.
+    /// Crosses this edge of the tile of a name, and binds the other name to the tile across.
     Across { name: Name, edge: u8, other: Name },
-    /// To print the level from which on the addresses of two names agree.
+    /// Prints the level from which on the addresses of two names agree.
     Common { one: Name, other: Name },
-    /// To print by which edges the tiles of two names lie on each other.
+    /// Prints by which edges the tiles of two names meet.
     Pair { one: Name, other: Name },
 }
 
-/// The statement of a line, or the number, from 0, of the first word that hasn't its form or is one too many; where a
-/// word is missing it is the number of words. Words are divided by single blanks.
+/// Reads the statement of a line. Fields have single blanks between them.
+///
+/// # Errors
+///
+/// The position, counted from 0, of the first field that is malformed or one too many; the number of fields
+/// if one is missing.
 #[tactic(auto, unfolding(crate::specs::Reading::statement_in))]
 pub fn statement_in(line: &[u8]) -> Result<Statement<'_>, u8>
     ensures { AnswersAs statement_of result (statement_in line.now) }

@@ -11,7 +11,7 @@ use crate::point::Point;
 /// The largest absolute value of a coefficient that is not refused.
 const LIMIT: i64 = 1 << 24;
 
-/// The sum p + q, the same in each order. Coefficients may be up to 2^40.
+/// Returns the sum p + q, which is the same in each order. Coefficients may be up to 2^40 in absolute value.
 pub fn add(p: &Point, q: &Point) -> Point
     requires p_within { IsWithin (2 ^ 40) p.now }
     requires q_within { IsWithin (2 ^ 40) q.now }
@@ -30,7 +30,8 @@ pub fn add(p: &Point, q: &Point) -> Point
     }
 }
 
-/// The difference p - q, the same in each order. Coefficients may be up to 2^40.
+/// Returns the difference p - q, which is the same in each order. Coefficients may be up to 2^40 in absolute
+/// value.
 pub fn sub(p: &Point, q: &Point) -> Point
     requires p_within { IsWithin (2 ^ 40) p.now }
     requires q_within { IsWithin (2 ^ 40) q.now }
@@ -56,7 +57,7 @@ fn is_beyond(coefficient: i64) -> bool
     coefficient > LIMIT || coefficient < -LIMIT
 }
 
-/// Whether a point is refused: a coefficient is above 2^24 in absolute value.
+/// Returns true if a point is refused: one of its coefficients is above 2^24 in absolute value.
 pub fn refused(p: &Point) -> bool
     ensures above { IsTrue result ↔ (¬ IsWithin (2 ^ 24) p.now) }
     ensures within { result ≡ false → IsWithin (2 ^ 24) p.now }

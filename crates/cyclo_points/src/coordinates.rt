@@ -11,7 +11,7 @@ use crate::order::Order;
 use crate::point::Point;
 use crate::real::{Real, from_parts};
 
-/// The complex conjugate of p. Coefficients may be up to 2^40.
+/// Returns the complex conjugate of p. Coefficients may be up to 2^40 in absolute value.
 pub fn conj(order: Order, p: &Point) -> Point
     requires p_within { IsWithin (2 ^ 40) p.now }
     ensures conjugate { point_in order result ≡ (points_of order).conj (point_in order p.now) }
@@ -36,9 +36,9 @@ pub fn conj(order: Order, p: &Point) -> Point
     }
 }
 
-/// The number a0 + a1 ζ + a2 ζ² + a3 ζ³ of any four coefficients as a point of the order: in order
-/// four, where ζ² = -1, and in order six, where ζ² = ζ - 1 and ζ³ = -1, the last two are reduced.
-/// Coefficients may be up to 2^40.
+/// Returns the number a0 + a1 ζ + a2 ζ² + a3 ζ³ of any four coefficients as a point of the order. In order 4,
+/// where ζ² = -1, and in order 6, where ζ² = ζ - 1, the last two coefficients become 0. In orders 8 and 10
+/// nothing changes. Coefficients may be up to 2^40 in absolute value.
 pub fn reduce(order: Order, p: &Point) -> Point
     requires p_within { IsWithin (2 ^ 40) p.now }
     ensures same_number { point_in order result ≡ combination (points_of order) (quad_of p.now) }
@@ -59,7 +59,8 @@ pub fn reduce(order: Order, p: &Point) -> Point
     }
 }
 
-/// The coordinate X of a point, twice its real part. Coefficients may be up to 2^40.
+/// Returns the coordinate X of a point, twice its real part. Coefficients may be up to 2^40 in absolute
+/// value.
 pub fn x(order: Order, p: &Point) -> Real
     requires p_within { IsWithin (2 ^ 40) p.now }
     ensures coordinate { real_in order result ≡ (points_of order).x (point_in order p.now) }
@@ -78,7 +79,8 @@ pub fn x(order: Order, p: &Point) -> Real
     }
 }
 
-/// The coordinate Y of a point, its imaginary part by that of ζ. Coefficients may be up to 2^40.
+/// Returns the coordinate Y of a point, its imaginary part divided by that of ζ. Coefficients may be up to
+/// 2^40 in absolute value.
 pub fn y(order: Order, p: &Point) -> Real
     requires p_within { IsWithin (2 ^ 40) p.now }
     ensures coordinate { real_in order result ≡ (points_of order).y (point_in order p.now) }

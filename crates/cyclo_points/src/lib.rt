@@ -1,12 +1,13 @@
-//! Points of the plane as cyclotomic integers: whole combinations of the powers of
-//! ζ = e^(2πi/n), for the orders n = 4, 6, 8 and 10.
+//! Points of the plane as cyclotomic integers: integer combinations of the powers of ζ = e^(2πi/n), for the
+//! orders n = 4, 6, 8 and 10.
 //!
-//! De Bruijn's work on Penrose tilings and Beenker's on the tilings with eightfold symmetry put
-//! every vertex into such a ring Z[ζ], in which a turn is a product by a power of ζ and no number
-//! is ever rounded; order six has the triangular lattice. Sums, turns and products here are exact in
-//! the ring of each order, and their bounds are proved, so that nothing overflows. The four rings,
-//! with their coordinates X and Y, meet the laws of points on which the theory of substitutions
-//! rests.
+//! De Bruijn put the vertices of Penrose's tilings into such a ring Z[ζ], and Beenker those of the tilings of
+//! order 8. In it a turn is a product by a power of ζ, and nothing is ever rounded. Order 4 has the square
+//! lattice, and order 6 the triangular one.
+//!
+//! Sums, turns and products are exact in the ring of each order. Each call states how large coefficients may
+//! be, and how large those of its result are, so nothing overflows. The four rings, with their coordinates X
+//! and Y, meet the laws of points on which the theory of substitutions rests.
 #![tactic(auto)]
 
 ghost use Rattle.std.specs.Prelude.{◌≡◌};
@@ -36,31 +37,30 @@ use motion::Motion;
 use order::Order;
 use std::cmp::Ordering;
 
-/// The law that the points of each order meet the laws of points.
+/// States that the points of the order meet the laws of points.
 pub fn points_law(order: Order)
     ensures { PointsLaw order }
 {}
 
-/// The law that the motion beside an address, in the list of its supertile's tiles, is the one that
-/// Horner's scheme computes from the digits, for the points of each order and every rule.
+/// States that the motion of an address, in the list of its supertile's tiles, is the one that Horner's
+/// scheme computes from its digits. It holds for the points of each order and for every rule.
 pub fn placement_law(order: Order)
     ensures { PlacementLaw order }
 {}
 
-/// The law that a positive number of the ring of coordinates divides a whole number, at least 1, for
-/// the points of each order: so each point of the plane with fractions for coordinates is a test
-/// point.
+/// States that a positive number of the order's ring of coordinates divides an integer of at least 1. So each
+/// point of the plane with rational coordinates X and Y is a test point.
 pub fn divisors_law(order: Order)
     ensures { DividesWhole (points_of order).real }
 {}
 
-/// The law that a number of coordinates in whole thousandths is the greatest whole number not above a thousand
-/// times it.
+/// States that a number of coordinates in thousandths, rounded down, is the greatest integer not above a
+/// thousand times the number.
 pub fn thousandths_law(order: Order)
     ensures { (r : RealOf order) → IsFloorThousandths order r (thousandths order r) }
 {}
 
-/// The law of the order of motions: by turn, and those of one turn by shift.
+/// Compares two motions, and states the law of their order: by turn, then by shift.
 pub fn motion_order_law(motion: &Motion, other: &Motion) -> Ordering
     ensures { result ≡ motion_cmp motion.now other.now }
 {

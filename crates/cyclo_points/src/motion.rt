@@ -2,8 +2,8 @@
 use crate::point::Point;
 use std::fmt;
 
-/// The motion z ↦ ζ^turn z + shift; in an order n, `turn` is below n. Motions are ordered by turn, and
-/// those of one turn by shift. A motion is printed as its turn and its shift, with a blank between.
+/// The motion z ↦ ζ^turn z + shift. In order n, `turn` is below n. Motions are ordered by turn, then by
+/// shift. A motion is printed as its turn and its shift, with a blank between.
 #[derive(Clone, Copy, Debug, Default, PartialEq, Eq, PartialOrd, Ord)]
 pub struct Motion {
     pub turn: u8,

@@ -12,7 +12,7 @@ use crate::order::Order;
 use crate::point::Point;
 use crate::rotation::{opposite, turn};
 
-/// The point that m moves p to: ζ^turn p + shift. Coefficients may be up to 2^38.
+/// Returns the point to which m moves p: ζ^turn p + shift. Coefficients may be up to 2^38 in absolute value.
 pub fn apply(order: Order, m: &Motion, p: &Point) -> Point
     requires below_order { m.now.turn < (points_of order).order }
     requires shift_within { IsWithin (2 ^ 38) m.now.shift }
@@ -27,7 +27,7 @@ pub fn apply(order: Order, m: &Motion, p: &Point) -> Point
     add(&turned, &m.shift)
 }
 
-/// The motion that is first g, then f. Coefficients may be up to 2^38.
+/// Returns the motion that is first g, then f. Coefficients may be up to 2^38 in absolute value.
 pub fn compose(order: Order, f: &Motion, g: &Motion) -> Motion
     requires f_below_order { f.now.turn < (points_of order).order }
     requires g_below_order { g.now.turn < (points_of order).order }
@@ -50,7 +50,7 @@ pub fn compose(order: Order, f: &Motion, g: &Motion) -> Motion
     }
 }
 
-/// The motion back: it undoes m, and m undoes it. Coefficients may be up to 2^38.
+/// Returns the motion back: it undoes m, and m undoes it. Coefficients may be up to 2^38 in absolute value.
 pub fn inverse(order: Order, m: &Motion) -> Motion
     requires below_order { m.now.turn < (points_of order).order }
     requires shift_within { IsWithin (2 ^ 38) m.now.shift }

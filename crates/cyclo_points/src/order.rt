@@ -1,7 +1,7 @@
 ghost use Rattle.std.specs.Prelude.{◌≡◌};
 ghost use Rattle.cyclo_points.specs.Order.{points_of};
 
-/// The order n: points are whole combinations of the powers of ζ = e^(2πi/n).
+/// The order n. Points are integer combinations of the powers of ζ = e^(2πi/n).
 #[derive(Clone, Copy, Debug, PartialEq, Eq, PartialOrd, Ord)]
 pub enum Order {
     Four,
@@ -11,7 +11,7 @@ pub enum Order {
 }
 
 impl Order {
-    /// The number n: 4, 6, 8 or 10. A turn by ζ is an n-th of a full turn.
+    /// Returns the number n: 4, 6, 8 or 10. A turn by ζ is an n-th of a full turn.
     pub fn n(self) -> u8
         ensures { result ≡ (points_of self).order }
     {

@@ -1,9 +1,8 @@
 //! A point, by its coefficients.
 use std::fmt;
 
-/// The point a0 + a1 ζ + a2 ζ² + a3 ζ³ of the ring Z[ζ] of an order; `c` has the coefficients, a0
-/// first. In orders four and six, where ζ² is -1 and ζ - 1, the last two are 0. It is printed as its
-/// four coefficients, decimal, joined by commas.
+/// The point a0 + a1 ζ + a2 ζ² + a3 ζ³ of the ring Z[ζ] of an order. `c` has the coefficients, a0 first. In
+/// orders 4 and 6 the last two are 0. A point is printed as its four coefficients, decimal, joined by commas.
 #[derive(Clone, Copy, Debug, Default, PartialEq, Eq, PartialOrd, Ord)]
 pub struct Point {
     pub c: [i64; 4],

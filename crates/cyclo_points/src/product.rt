@@ -8,8 +8,8 @@ ghost use Rattle.cyclo_points.specs.Product.{product_of, dot_of};
 use crate::order::Order;
 use crate::point::Point;
 
-/// The product p q in the ring of the order. Coefficients of p may be up to 2^32, and of q up to
-/// 2^16.
+/// Returns the product p q in the ring of the order. Coefficients may be up to 2^32 in absolute value for p,
+/// and up to 2^16 for q.
 pub fn mul(order: Order, p: &Point, q: &Point) -> Point
     requires p_within { IsWithin (2 ^ 32) p.now }
     requires q_within { IsWithin (2 ^ 16) q.now }

@@ -1,7 +1,7 @@
 ghost use Rattle.std.specs.Prelude.{◌≡◌};
 
-/// The number a + bθ, in which the coordinates of points lie: θ is √2 in order eight and the golden
-/// ratio in order ten. In orders four and six b is 0.
+/// The number a + bθ, a coordinate of a point. θ is √2 in order 8 and the golden ratio in order 10. In orders
+/// 4 and 6 coordinates are integers, and b is 0.
 #[derive(Clone, Copy, Debug, Default, PartialEq, Eq, PartialOrd, Ord)]
 pub struct Real {
     pub a: i128,

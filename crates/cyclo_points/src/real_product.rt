@@ -11,8 +11,8 @@ use crate::real::{Real, from_parts};
 use crate::short::are_short;
 use std::cmp::Ordering;
 
-/// The product r s in the ring of the order; of positive numbers it is positive. Parts may be up to
-/// 2^60.
+/// Returns the product r s in the ring of the order. The product of positive numbers is positive. Parts may
+/// be up to 2^60 in absolute value.
 pub fn rmul(order: Order, r: &Real, s: &Real) -> Real
     requires r_within { IsRealWithin (2 ^ 60) r.now }
     requires s_within { IsRealWithin (2 ^ 60) s.now }

@@ -9,8 +9,8 @@ ghost use Rattle.cyclo_points.specs.Real.{real_in, IsRealOf, IsRealWithin};
 use crate::real::Real;
 use std::cmp::Ordering;
 
-/// The sum r + s, the same in each order; of positive numbers it is positive. Parts may be up to
-/// 2^100.
+/// Returns the sum r + s, which is the same in each order. The sum of positive numbers is positive. Parts may
+/// be up to 2^100 in absolute value.
 pub fn radd(r: &Real, s: &Real) -> Real
     requires r_within { IsRealWithin (2 ^ 100) r.now }
     requires s_within { IsRealWithin (2 ^ 100) s.now }
@@ -31,7 +31,7 @@ pub fn radd(r: &Real, s: &Real) -> Real
     }
 }
 
-/// The difference r - s, the same in each order. Parts may be up to 2^100.
+/// Returns the difference r - s, which is the same in each order. Parts may be up to 2^100 in absolute value.
 pub fn rsub(r: &Real, s: &Real) -> Real
     requires r_within { IsRealWithin (2 ^ 100) r.now }
     requires s_within { IsRealWithin (2 ^ 100) s.now }

@@ -8,7 +8,8 @@ ghost use Rattle.cyclo_points.specs.Point.{point_in, IsOf, IsWithin};
 use crate::order::Order;
 use crate::point::Point;
 
-/// The point turned by k steps: ζ^k p. k is below n, and coefficients may be up to 2^40.
+/// Returns the point turned by k steps of 360°/n, counterclockwise around 0: ζ^k p. k is below n, and
+/// coefficients may be up to 2^40 in absolute value.
 pub fn turn(order: Order, k: u8, p: &Point) -> Point
     requires below_order { k < (points_of order).order }
     requires p_within { IsWithin (2 ^ 40) p.now }

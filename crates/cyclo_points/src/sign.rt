@@ -27,7 +27,7 @@ const FIBONACCI: i64 = 102334155;
 /// Its numerator, the next one.
 const NEXT_FIBONACCI: i64 = 165580141;
 
-/// The order of r and 0. Parts may be up to 2^61.
+/// Returns whether r is less than, equal to or greater than 0. Parts may be up to 2^61 in absolute value.
 pub fn sign(order: Order, r: &Real) -> Ordering
     requires r_within { IsRealWithin (2 ^ 61) r.now }
     ensures { result ≡ (points_of order).real.sign (real_in order r.now) }
@@ -39,8 +39,8 @@ pub fn sign(order: Order, r: &Real) -> Ordering
     }
 }
 
-/// A whole number with the sign of a + bθ, for short parts, at most 2^25 in absolute value: qa + pb,
-/// where p/q is a convergent of θ.
+/// Returns an integer with the sign of a + bθ, at most 2^25 in absolute value: qa + pb, where p/q is a
+/// convergent of θ. The parts are short.
 pub fn witness(order: Order, a: i64, b: i64) -> i64
     requires a_within { Within (2 ^ 25) a }
     requires b_within { Within (2 ^ 25) b }

@@ -28,8 +28,8 @@ const ROOT_TWO_REST: i64 = 7514057999150;
 /// What 1000 times the golden ratio has beyond 1618, times 2^45, rounded down.
 const GOLDEN_RATIO_REST: i64 = 1195872823134;
 
-/// The greatest whole number not above 1000 r: the one f with f ≤ 1000 r < f + 1. Parts may be up to
-/// 2^30.
+/// Returns the greatest integer not above 1000 r: the one f with f ≤ 1000 r < f + 1. Parts may be up to 2^30
+/// in absolute value.
 pub fn floor_thousandths(order: Order, r: &Real) -> i128
     requires r_within { IsRealWithin (2 ^ 30) r.now }
     ensures floor { IsFloorThousandths order (real_in order r.now) result }

@@ -6,9 +6,9 @@ ghost use Rattle.descents.specs.Laws.{FrameBelowLaw, FrameDescentLaw, HoldsLaw, 
 
 use cyclo_points::order::Order;
 
-/// The law of polygons and a window, by their vertices: one beyond a side of the window has no point in it,
-/// and one within it has its points in it. A left fan meets the window where an edge of it does or it holds
-/// the centre, and it has a point.
+/// States how the vertices of a polygon decide. One beyond a side of the window has no point in it, and one
+/// within it has all its points in it. A left fan meets the window if and only if one of its edges does or it
+/// holds the centre. It has a point.
 pub fn extent_law(order: Order)
     ensures beyond { BeyondLaw (points_of order) }
     ensures within { InsideLaw (points_of order) }
@@ -16,9 +16,9 @@ pub fn extent_law(order: Order)
     ensures point { PointLaw (points_of order) }
 {}
 
-/// The law of the descent: of a part beyond a side of the window no tile meets it, of one within it each
-/// does, and of any other those of its parts do; so by right tests of parts the descent finds the tiles that
-/// meet the window, in the order of the list of all.
+/// States what a descent finds. No tile of a part beyond a side of the window meets it; each tile of a part
+/// within it does; the tiles of any other part that meet it are those of its parts. So with right tests of
+/// parts the descent finds the tiles that meet the window, in the order of the list of all.
 pub fn descent_law(order: Order)
     ensures pruned { PrunedLaw (points_of order) }
     ensures taken { TakenLaw (points_of order) }
@@ -26,9 +26,10 @@ pub fn descent_law(order: Order)
     ensures whole { DescentLaw (points_of order) }
 {}
 
-/// The law of the climb and of the descent on a frame: the first ancestor of the base whose polygon holds the
-/// centre and has no edge that meets the window is at the least enough depth; its tiles are those below it;
-/// and what the descent finds are all that meet the window, each once, and they cover it.
+/// States how the climb and the descent go on a frame. The first ancestor of the base whose polygon holds the
+/// centre and has no edge that meets the window is at the least enough depth. The frame's tiles there are
+/// those below it. What the descent finds are all tiles that meet the window, each exactly once, and they
+/// cover it.
 pub fn frame_descent_law(order: Order)
     ensures below { FrameBelowLaw (points_of order) }
     ensures drawn { FrameDescentLaw (points_of order) }

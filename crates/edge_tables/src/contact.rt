@@ -1,20 +1,20 @@
-//! What a child's edge is.
+//! What an edge of a child meets.
 
-/// What an edge of a child is.
+/// What an edge of a child meets: an edge of another child, or the parent's boundary.
 #[derive(Clone, Copy, Debug, PartialEq, Eq)]
 pub enum Contact {
-    /// The same as another child's edge, in the opposite direction.
+    /// The edge is the edge of another child, in the opposite direction.
     Inner {
-        /// The other child.
+        /// The number of the other child, from 0.
         child: u8,
-        /// Its edge.
+        /// The number of its edge, from 0.
         edge: u8,
     },
-    /// A part of an edge of the parent.
+    /// The edge is a part of an edge of the parent.
     Outer {
-        /// The parent's edge.
+        /// The number of the parent's edge, from 0.
         edge: u8,
-        /// The number of the part, from 0.
+        /// The number of the part along that edge, from 0.
         part: u8,
     },
 }

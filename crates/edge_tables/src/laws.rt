@@ -1,10 +1,10 @@
-//! Laws of contact tables.
+//! Laws of contact tables. A law is a function that does nothing; its contract is the theorem.
 ghost use Rattle.std.specs.Prelude.{◌≡◌, true};
 ghost use Rattle.addressing.specs.Coherent.{IsCoherent};
 ghost use Rattle.addressing.specs.CoherenceTest.{coherence_test};
 ghost use Rattle.addressing.specs.Tables.{Tables};
 
-/// The law that tables which pass the test are coherent.
+/// Tables that pass the test are coherent.
 pub fn coherence_law()
     ensures { (t : Tables) → coherence_test t ≡ true → IsCoherent t }
 {}

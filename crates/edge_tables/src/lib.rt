@@ -1,7 +1,11 @@
-//! Contact tables, the numbers on which Tatham's address transducers run: which child edge of a parent is the same as which
-//! other one in the opposite direction, and which lies on the parent's own edge, as which part of it.
-//! `Tables` promises that its tables fit together: contacts are mutual, and the edges that meet are cut alike.
-//! The two look-ups by which a crossing is counted raise a counter by one each, so that whoever calls them can bound his steps.
+//! Contact tables: the numbers on which Tatham's address transducers run. For each edge of a child they list
+//! the edge of another child that it meets, or the part of the parent's own edge that it is.
+//!
+//! [`Tables`](tables::Tables) promises that its tables fit together: contacts are mutual, and edges that meet
+//! are cut alike. Each of the two look-ups that a crossing makes adds one to a counter, so that callers can
+//! bound the steps.
+//!
+//! Source: Tatham, *Combinatorial coordinates for the aperiodic monotile*.
 #![tactic(auto)]
 
 pub mod child_edge;

@@ -1,10 +1,10 @@
-//! A counter that takes no bytes.
+//! A counter of table look-ups, which takes no bytes.
 ghost use Rattle.std.specs.Prelude.{◌≡◌, ℕ, ◌+◌, ◌<◌};
 
 use std::marker::Model;
 use std::sync::ledger::{Blank, Book, Ledger, Share};
 
-/// How many look-ups were made. It takes no bytes, and only `tick` changes it.
+/// The number of look-ups so far. It takes no bytes in the program, and only `tick` changes it.
 #[derive(Drop)]
 pub struct Steps<L: Ledger> {
     book: Book<L>,
@@ -20,7 +20,7 @@ impl<L: Ledger> Model for Steps<L> {
 }
 
 impl<L: Ledger> Steps<L> {
-    /// A counter at 0.
+    /// Makes a counter at 0.
     pub fn new(blank: Blank) -> Steps<L>
         requires name { blank.name ≡ L.name }
         requires parts { blank.parts ≡ L.parts }
@@ -31,7 +31,7 @@ impl<L: Ledger> Steps<L> {
         Steps { book, share }
     }
 
-    /// One look-up more.
+    /// Adds one look-up.
     pub fn tick(&mut self)
         ensures { self.new ≡ self.old + 1 }
     {

@@ -14,7 +14,8 @@ use std::marker::Model;
 use std::sync::ledger::Ledger;
 use tile_shape::no_memory::NoMemory;
 
-/// Contact tables that fit together: the mate of each edge type, the types into which each is cut, and the tables of each kind.
+/// Coherent contact tables: the mate of each edge type, the types into which each is cut, and the tables of
+/// each kind. Kinds, edges, children, types and parts are numbered from 0.
 #[derive(Drop)]
 pub struct Tables {
     mates: Vec<u8>,
@@ -35,7 +36,7 @@ impl Model for Tables {
 }
 
 impl Tables {
-    /// The tables of these lists. It takes no memory.
+    /// Makes the tables from these lists, which must be coherent. Needs no memory.
     pub fn new(mates: Vec<u8>, subs: Vec<Vec<u8>>, rows: Vec<KindRows>) -> Tables
         requires coherent { IsCoherent (as_tables mates subs rows) }
         ensures value { result ≡ as_tables mates subs rows }
@@ -43,7 +44,7 @@ impl Tables {
         Tables { mates, subs, rows }
     }
 
-    /// Equal tables.
+    /// Returns equal tables. Err if memory runs out.
     pub fn copy(&self, alloc: Global) -> Result<Tables, NoMemory>
         ensures { IfOk result (λ tables. tables ≡ self.now) }
     {
@@ -58,21 +59,21 @@ impl Tables {
         })
     }
 
-    /// The mate of each type.
+    /// Returns the mate of each type, by the number of the type.
     pub fn mates(&self) -> &Vec<u8>
         ensures { result.now.items ≡ self.now.mates }
     {
         &self.mates
     }
 
-    /// The types into which each type is cut.
+    /// Returns, for each type, the types into which it is cut.
     pub fn subs(&self) -> &Vec<Vec<u8>>
         ensures { map (λ v. v.items) result.now.items ≡ self.now.subs }
     {
         &self.subs
     }
 
-    /// The lists of each kind.
+    /// Returns the tables of each kind.
     pub fn rows(&self) -> &Vec<KindRows>
         ensures lists { map as_kind_tables result.now.items ≡ self.now.kinds }
         ensures coherent { IsCoherent self.now }
@@ -80,7 +81,7 @@ impl Tables {
         &self.rows
     }
 
-    /// How many kinds there are.
+    /// Returns the number of kinds.
     pub fn kinds(&self) -> u8
         ensures count { result ≡ length self.now.kinds }
         ensures coherent { IsCoherent self.now }
@@ -88,7 +89,7 @@ impl Tables {
         self.rows.len() as u8
     }
 
-    /// The lists of a kind.
+    /// Returns the tables of one kind.
     fn row(&self, kind: u8) -> &KindRows
         requires { kind < length self.now.kinds }
         ensures lists { as_kind_tables result.now ≡ kind_tables self.now kind }
@@ -97,7 +98,7 @@ impl Tables {
         &self.rows[kind as usize]
     }
 
-    /// How many edges a kind has.
+    /// Returns the number of edges of a kind.
     pub fn edges(&self, kind: u8) -> u8
         requires exists { kind < length self.now.kinds }
         ensures count { result ≡ length (kind_tables self.now kind).types }
@@ -106,7 +107,7 @@ impl Tables {
         self.row(kind).types.len() as u8
     }
 
-    /// How many children a kind has.
+    /// Returns the number of children of a kind.
     pub fn children(&self, kind: u8) -> u8
         requires exists { kind < length self.now.kinds }
         ensures count { result ≡ length (kind_tables self.now kind).children }
@@ -115,7 +116,7 @@ impl Tables {
         self.row(kind).children.len() as u8
     }
 
-    /// The kind of a child.
+    /// Returns the kind of a child, which must exist.
     pub fn child_kind(&self, kind: u8, child: u8) -> u8
         requires exists { IsSome (child_kind_of self.now kind child) }
         ensures { child_kind_of self.now kind child ≡ Some result }
@@ -124,7 +125,7 @@ impl Tables {
         row.children[child as usize]
     }
 
-    /// The type of an edge.
+    /// Returns the type of an edge, which must exist.
     pub fn edge_type(&self, kind: u8, edge: u8) -> u8
         requires exists { IsSome (type_of self.now kind edge) }
         ensures { type_of self.now kind edge ≡ Some result }
@@ -133,7 +134,7 @@ impl Tables {
         row.types[edge as usize]
     }
 
-    /// The mate of a type: the type of the same edge in the opposite direction.
+    /// Returns the mate of a type: the type of the same edge in the opposite direction.
     pub fn mate(&self, ty: u8) -> u8
         requires exists { IsSome (mate_of self.now ty) }
         ensures { mate_of self.now ty ≡ Some result }
@@ -141,7 +142,7 @@ impl Tables {
         self.mates[ty as usize]
     }
 
-    /// Into how many parts an edge is cut, which are at least one.
+    /// Returns the number of parts into which an edge is cut, from 1 to 8.
     pub fn parts(&self, kind: u8, edge: u8) -> u8
         requires exists { IsSome (type_of self.now kind edge) }
         ensures count { result ≡ part_count self.now kind edge }
@@ -152,7 +153,7 @@ impl Tables {
         row.parts[edge as usize].len() as u8
     }
 
-    /// What an edge of a child is. It takes one step.
+    /// Returns the contact of an edge of a child. Adds one to `steps`.
     pub fn contact<L: Ledger>(&self, kind: u8, child: u8, edge: u8, steps: &mut Steps<L>) -> Contact
         requires exists { IsSome (contact_of self.now kind child edge) }
         ensures value { contact_of self.now kind child edge ≡ Some (as_contact result) }
@@ -164,7 +165,7 @@ impl Tables {
         contacts[edge as usize]
     }
 
-    /// The child edge that is a part of an edge. It takes one step.
+    /// Returns the child edge that is one part of an edge. Adds one to `steps`.
     pub fn part<L: Ledger>(&self, kind: u8, edge: u8, part: u8, steps: &mut Steps<L>) -> ChildEdge
         requires exists { IsSome (part_of self.now kind edge part) }
         ensures value { part_of self.now kind edge part ≡ Some (as_child_edge result) }

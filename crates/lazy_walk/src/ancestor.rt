@@ -23,7 +23,7 @@ use tile_shape::step::Step;
 /// The base's ancestor at a level: a supertile of that depth.
 #[derive(Clone, Copy)]
 pub struct Ancestor {
-    /// The level.
+    /// The level, 0 for the base.
     pub level: u8,
     /// The inflation factor to the power of the level.
     pub power: Point,
@@ -32,7 +32,7 @@ pub struct Ancestor {
 }
 
 impl Ancestor {
-    /// The base itself, which stands still.
+    /// Returns the base itself, with the motion that moves nothing.
     pub fn base() -> Ancestor
         ensures level { result.level ≡ 0 }
         ensures base { (t : Tiling) (f : Address) → IsAncestor t f result }

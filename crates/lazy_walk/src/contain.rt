@@ -24,28 +24,37 @@ use tile_place::machine::Machine;
 use tile_place::placed_tile::PlacedTile;
 
 impl Frame {
-    /// The tile of the frame that holds a point, in its place there. From the base outward the ancestors are
-    /// looked at, and the frame grows to each where it is shallower, up to the first that holds the point;
-    /// then it is searched down to the tile. At each level the power of the inflation factor comes first, then
-    /// the ancestor's shift and its vertices. Coefficients of the point may be up to 2^22.
+    /// Finds the only tile of the frame that holds a point, and its motion. The frame grows to the least
+    /// depth at which its supertile holds the point, and not below its present depth.
+    ///
+    /// Coefficients of the point may be up to 2^22 in absolute value.
+    ///
+    /// The search goes outward from the base, ancestor by ancestor, until one holds the point, and then down
+    /// to the tile. At each level it computes the power of the inflation factor, then the ancestor's shift,
+    /// then its vertices.
+    ///
+    /// # Errors
+    ///
+    /// `CoordLimit` if and only if one of these values has a coefficient above 2^24 in absolute value. It has
+    /// the first such value in the order of the search.
     pub fn contain(&mut self, machine: &Machine, point: &Point) -> Result<PlacedTile, CoordLimit>
         requires frame { IsFrameOf (tiling_of machine.now) self.old }
         requires point_within { IsWithin (2 ^ 22) point.now }
 
         ensures frame { GrowsTo (tiling_of machine.now) self.old self.new }
 
-        // In the plane: the only tile of the frame, at its new depth, that holds the point, and its motion is
-        // the only one that stands beside its address there.
+        // In the plane: this is the only tile of the frame, at its new depth, that holds the point, and its
+        // motion is the only one of its address there.
         ensures only_tile { IfOk result (λ tile. IsOnlyHolder (tiling_of machine.now) self.new (point_in machine.now.order point.now) (placed_in machine.now.order tile)) }
         ensures stands { IfOk result (λ tile. Stands (tiling_of machine.now) self.new tile) }
         ensures shift_within { IfOk result (λ tile. IsWithin (2 ^ 24) tile.motion.shift) }
 
-        // The new depth is the least, not below the old, at which the frame holds the point.
+        // The new depth is the least, not below the old one, at which the frame holds the point.
         ensures held { OnOk result (FrameHolds (tiling_of machine.now) self.new (point_in machine.now.order point.now)) }
         ensures least { (n : ℕ) → length self.old.digits ≤ n → n < length self.new.digits
             → ¬ FrameHolds (tiling_of machine.now) (at_depth (tiling_of machine.now) n self.old) (point_in machine.now.order point.now) }
 
-        // It is refused exactly where a value looked at is, and with the first such value.
+        // It is refused if and only if a value on the way is, with the first such value.
         ensures found_exactly { IsOk result ↔ (first_refused_outward (tiling_of machine.now) self.old (point_in machine.now.order point.now) ≡ None) }
         ensures limit { IfErr result (λ limit. first_refused_outward (tiling_of machine.now) self.old (point_in machine.now.order point.now)
             ≡ Some (point_in machine.now.order limit.value)) }

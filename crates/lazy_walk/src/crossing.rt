@@ -20,7 +20,13 @@ use tile_shape::address::Address;
 use transducer_core::crossing::Crossing;
 
 impl Frame {
-    /// The tile across an edge of a tile of the frame, which grows until that edge is not on the boundary.
+    /// Finds the tile across an edge of a tile of the frame, and the edge that leads back. The frame grows to
+    /// the least depth at which the edge is not on the boundary. The tile may have the digits of any depth
+    /// that the frame has had; the result has those of the new depth.
+    ///
+    /// # Errors
+    ///
+    /// `DepthLimit` if and only if the edge is on the boundary at depth 64.
     pub fn cross_grow<L: Ledger>(
         &mut self,
         machine: &Machine,
@@ -42,8 +48,8 @@ impl Frame {
         ensures at_new_depth { IfOk result (λ x. depth (address_of x.addr) ≡ length self.new.digits) }
         ensures answer_of_frame { IfOk result (λ x. IsTileOf (children (tiling_of machine.now)) (whole self.new) (address_of x.addr)) }
 
-        // The new depth is the least, not below the old, at which the edge is not on the boundary; DepthLimit
-        // comes exactly where it is on the boundary at depth 64.
+        // The new depth is the least, not below the old one, at which the edge is not on the boundary.
+        // DepthLimit comes if and only if the edge is on the boundary at depth 64.
         ensures inside { IfOk result (λ _. ¬ IsBoundaryEdge (tiling_of machine.now) (lifted_in (whole self.new) (address_of tile.now)) edge) }
         ensures least { (n : ℕ) → length self.old.digits ≤ n → n < length self.new.digits
             → IsBoundaryEdge (tiling_of machine.now) (lifted_at (tiling_of machine.now) self.old (address_of tile.now) n) edge }
@@ -62,8 +68,8 @@ impl Frame {
         }
     }
 
-    /// Goes across an edge of a tile of the frame, as `cross_grow` does: the tile becomes the one across, and
-    /// the answer is the edge that leads back. At a refusal the tile is the lifted one.
+    /// Like [`cross_grow`](Self::cross_grow), but in place: the tile becomes the one across, and the edge
+    /// that leads back is returned. On `DepthLimit` the tile is the old one, lifted to depth 64.
     pub fn cross_grow_in_place<L: Ledger>(
         &mut self,
         machine: &Machine,

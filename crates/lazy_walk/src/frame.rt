@@ -15,7 +15,7 @@ use tile_shape::address::{Address, Full};
 use tile_shape::no_memory::NoMemory;
 use tile_shape::step::Step;
 
-/// A base address with the digits grown so far. Contracts see the base, the start number and all digits.
+/// A base address with the digits grown so far. Contracts see the base, the seed and all digits.
 #[derive(Drop)]
 pub struct Frame {
     base: Address,
@@ -36,7 +36,7 @@ impl Model for Frame {
 }
 
 impl Frame {
-    /// The frame of a base that has grown no digit.
+    /// Makes the frame of a base that has grown no digit. `start` is the seed.
     pub fn new(base: Address, start: u64) -> Frame
         ensures base { result.base ≡ address_of base }
         ensures start { result.start ≡ start }
@@ -53,7 +53,7 @@ impl Frame {
         }
     }
 
-    /// The same frame.
+    /// Makes an equal frame. It fails only if memory runs out.
     pub fn copy(&self) -> Result<Frame, NoMemory>
         ensures { IfOk result (λ copy. copy ≡ self.now) }
     {
@@ -67,14 +67,14 @@ impl Frame {
         })
     }
 
-    /// The base's own address.
+    /// Returns the base's own address.
     pub fn base(&self) -> &Address
         ensures { address_of result.now ≡ self.now.base }
     {
         &self.base
     }
 
-    /// How many digits there are.
+    /// Returns how many digits there are, from 0 to 64.
     pub fn depth(&self) -> u8
         ensures digits { result ≡ length self.now.digits }
         ensures at_most_64 { result ≤ 64 }
@@ -82,14 +82,14 @@ impl Frame {
         self.digits.len() as u8
     }
 
-    /// The base's digits, and behind them the grown ones.
+    /// Returns the base's digits, followed by the grown ones, from fine to coarse.
     pub fn digits(&self) -> &ArrayVec<Step, 64>
         ensures { map step_of result.now.items ≡ self.now.digits }
     {
         &self.digits
     }
 
-    /// The kind of the base's ancestor at a level.
+    /// Returns the kind of the base's ancestor at a level.
     pub fn kind_at(&self, level: u8) -> u8
         requires deep { level ≤ length self.now.digits }
         ensures { Some result ≡ kind_at (whole self.now) level }
@@ -101,7 +101,11 @@ impl Frame {
         }
     }
 
-    /// One digit more. Full exactly at depth 64; then nothing changes.
+    /// Grows by one digit.
+    ///
+    /// # Errors
+    ///
+    /// `Full` if and only if the depth is 64; then nothing changes.
     pub fn grow(&mut self, machine: &Machine) -> Result<(), Full>
         requires frame { IsFrameOf (tiling_of machine.now) self.old }
         ensures room { IsOk result ↔ (length self.old.digits < 64) }
@@ -123,7 +127,7 @@ impl Frame {
         Ok(())
     }
 
-    /// Grows to a depth, where the frame is shallower.
+    /// Grows to a depth, unless the frame is as deep already.
     pub fn grow_to(&mut self, machine: &Machine, depth: u8)
         requires frame { IsFrameOf (tiling_of machine.now) self.old }
         requires at_most_64 { depth ≤ 64 }
@@ -135,8 +139,8 @@ impl Frame {
         }
     }
 
-    /// A tile of the frame as one of the whole frame: the frame's digits from the tile's depth up stand
-    /// behind its own.
+    /// Returns a tile of the frame as one of the whole frame: the frame's digits, from the tile's depth up,
+    /// are appended to its own.
     pub fn lift(&self, tile: &Address) -> Address
         requires no_deeper { depth (address_of tile.now) ≤ length self.now.digits }
         ensures { address_of result ≡ lifted_in (whole self.now) (address_of tile.now) }
@@ -146,7 +150,7 @@ impl Frame {
         lifted
     }
 
-    /// Lifts a tile where it stands.
+    /// Like [`lift`](Self::lift), but in place.
     pub fn raise(&self, tile: &mut Address)
         requires no_deeper { depth (address_of tile.old) ≤ length self.now.digits }
         ensures { address_of tile.new ≡ lifted_in (whole self.now) (address_of tile.old) }

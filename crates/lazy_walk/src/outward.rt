@@ -20,7 +20,7 @@ use tile_place::machine::Machine;
 use tile_shape::step::Step;
 
 impl Frame {
-    /// The kind of the base's ancestor at a level, which is one of the rule.
+    /// Returns the kind of the base's ancestor at a level, which is one of the rule.
     pub fn kind_of(&self, machine: &Machine, level: u8) -> u8
         requires frame { IsFrameOf (tiling_of machine.now) self.now }
         requires deep { level ≤ length self.now.digits }
@@ -46,8 +46,11 @@ impl Frame {
         self.digits()[level as usize]
     }
 
-    /// The next ancestor, to which the frame grows where it is shallower, or the first of its power of the
-    /// inflation factor and its shift that is refused.
+    /// Returns the next ancestor outward. The frame grows to it, unless it is as deep already.
+    ///
+    /// # Errors
+    ///
+    /// `CoordLimit` with the first refused value: the power of the inflation factor, then the shift.
     pub fn next_out(
         &mut self,
         machine: &Machine,

@@ -14,8 +14,13 @@ use std::sync::ledger::Ledger;
 use tile_place::machine::Machine;
 
 impl Frame {
-    /// Goes along a path from the base, and grows as far as that needs: each edge is crossed from the tile
-    /// reached.
+    /// Crosses the edges of a path, from the base, each from the tile reached. The frame grows as far as that
+    /// needs.
+    ///
+    /// # Errors
+    ///
+    /// For the first edge of the path that fails: `NoEdge` if the tile reached does not have it, `DepthLimit`
+    /// if it is on the boundary at depth 64.
     pub fn grow_along<L: Ledger>(
         &mut self,
         machine: &Machine,
@@ -25,12 +30,12 @@ impl Frame {
         requires frame { IsFrameOf (tiling_of machine.now) self.old }
         ensures frame { GrowsTo (tiling_of machine.now) self.old self.new }
 
-        // The path can be walked at the new depth, which is the least such depth, not below the old.
+        // The path can be walked at the new depth, which is the least such depth, not below the old one.
         ensures walked { IfOk result (λ _. CanBeWalked (tiling_of machine.now) (whole self.new) path.now) }
         ensures least { (n : ℕ) → length self.old.digits ≤ n → n < length self.new.digits
             → IsStopped (tiling_of machine.now) (whole (at_depth (tiling_of machine.now) n self.old)) path.now }
 
-        // It can be walked at depth 64 then too; and where there is a fault, it is one at the new depth and at 64.
+        // It can then be walked at depth 64 too. A fault is one at the new depth and at 64.
         ensures fault { IfErr result (IsPathFault (tiling_of machine.now) (whole self.new) path.now) }
         ensures walked_at_64 { IfOk result (λ _. CanBeWalked (tiling_of machine.now) (whole (at_depth (tiling_of machine.now) 64 self.old)) path.now) }
         ensures fault_at_64 { IfErr result (IsPathFault (tiling_of machine.now) (whole (at_depth (tiling_of machine.now) 64 self.old)) path.now) }

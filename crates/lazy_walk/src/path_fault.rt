@@ -1,10 +1,10 @@
 //! Why a path can't be walked to its end.
 use crate::depth_limit::DepthLimit;
 
-/// Where a path ends before its last edge.
+/// Why a path ends before its last edge.
 #[derive(Debug, Drop, PartialEq, Eq)]
 pub enum PathFault {
-    /// The tile reached has only so many edges, and not the next one of the path.
+    /// The tile reached does not have the next edge of the path, `edge`. It has only `edges` edges.
     NoEdge { edge: u8, edges: u8 },
     /// The next edge is on the boundary at depth 64.
     DepthLimit(DepthLimit),

@@ -19,7 +19,7 @@ use tile_place::placed_tile::PlacedTile;
 use transducer_core::outside::Outside;
 
 impl Frame {
-    /// The base in its place: it stands on its prototile.
+    /// Returns the base in its place, which is that of its prototile.
     pub fn base_tile(&self, machine: &Machine) -> PlacedTile
         requires frame { IsFrameOf (tiling_of machine.now) self.now }
         ensures base { address_of result.addr ≡ whole self.now }
@@ -40,9 +40,13 @@ impl Frame {
         }
     }
 
-    /// Goes across an edge of a tile in its place: the tile becomes the one across, in its place too, and the
-    /// answer is the edge that leads back. Its motion is the one that glues the two edges, followed by the
-    /// motion of the tile before. Where the edge is on the boundary of the frame's supertile, nothing changes.
+    /// Crosses an edge of a placed tile within the frame as it is: the tile becomes the one across, placed
+    /// too, and the edge that leads back is returned. Its motion is the one that glues the two edges,
+    /// followed by the motion of the tile before.
+    ///
+    /// # Errors
+    ///
+    /// `Outside` if and only if the edge is on the boundary of the frame's supertile; then nothing changes.
     pub fn step<L: Ledger>(
         &self,
         machine: &Machine,

@@ -19,10 +19,14 @@ use tile_place::machine::Machine;
 use tile_place::placed_tile::PlacedTile;
 
 impl Frame {
-    /// Goes across an edge of a tile in its place, and the frame grows until that edge is not on the boundary: the
-    /// tile becomes the one across, in its place at that depth, and the answer is the edge that leads back. The
-    /// tile may have the digits of any depth that the frame has had. It is refused exactly where the edge is on
-    /// the boundary at depth 64. At a refusal the tile is the lifted one, in its old place.
+    /// Crosses an edge of a placed tile, and lets the frame grow until that edge is not on the boundary. The
+    /// tile becomes the one across, placed at that depth, and the edge that leads back is returned. The tile
+    /// may have the digits of any depth that the frame has had.
+    ///
+    /// # Errors
+    ///
+    /// `DepthLimit` if and only if the edge is on the boundary at depth 64. The tile is then the old one,
+    /// lifted to that depth, in its old place.
     pub fn step_grow<L: Ledger>(
         &mut self,
         machine: &Machine,

@@ -5,9 +5,9 @@ use crate::list_laws::list_laws;
 use cyclo_points::order::Order;
 use seeded_growth::laws::grown_fits_law;
 
-/// One thing is said of a listing of a window on a frame of an accepted rule: a right one has one number of lines and no
-/// fault; of two faults that have a cause both are the same, or both are faults by which the walk ends; and where a tile
-/// is lacking the listing isn't right, nor has it a fault of its text, of its addresses, or a stray line.
+/// States that a list of a window, on a frame of an accepted rule, has one verdict. A right list has one
+/// number of lines and no fault. Two faults that have a cause are the same, or both end the walk. If a tile
+/// is missing, the list is not right, and has no fault of its text or its addresses and no stray line.
 pub fn one_verdict_law(order: Order)
     ensures { OneVerdictLaw order }
 {

@@ -8,24 +8,25 @@ use tile_place::coord_limit::CoordLimit;
 use tile_shape::address::Address;
 use tile_shape::address_fault::AddressFault;
 
-/// Why a listing is not the list of a window. Lines are counted from 1. The faults of the text come first, in their
-/// order; then those of the addresses; and of the others the walk decides.
+/// Why a list is not the list of a window. Lines are counted from 1. Faults of the text come first, in their
+/// order, then those of the addresses. Of the others the walk decides.
 #[derive(Debug, Drop, PartialEq, Eq)]
 pub enum ListFault {
     /// There are more than 200,000 lines.
     TooLong,
-    /// A word of this line hasn't its form. The place is its number, from 0, or that of the first word too many, or the
-    /// number of words where one is missing.
+    /// This line has the wrong number of fields, or a malformed one. `place` is the position of the first
+    /// wrong field, counted from 0: a malformed one, or the first one too many. If a field is missing, it is
+    /// the number of fields.
     BadLine {
         line: u32,
         place: u8,
     },
-    /// The words of this line have their forms, and the fourth is the text of no address, for this fault.
+    /// The fields of this line are well formed, but the fourth is not the text of an address, for this fault.
     Address {
         line: u32,
         fault: AddressFault,
     },
-    /// The address of this line has another kind than the first word.
+    /// The kind of the address of this line is not the first field.
     BadKind {
         line: u32,
     },
@@ -33,7 +34,7 @@ pub enum ListFault {
     NotOfFrame {
         line: u32,
     },
-    /// The address of this line, lifted, is that of an earlier one.
+    /// The address of this line, lifted, is that of an earlier line.
     Double {
         line: u32,
     },
@@ -41,7 +42,7 @@ pub enum ListFault {
     Missing {
         addr: Address,
     },
-    /// The tile of this line meets the window, and has this motion.
+    /// The tile of this line meets the window, and has this motion, which is not the line's.
     WrongPlace {
         line: u32,
         motion: Motion,
@@ -50,20 +51,21 @@ pub enum ListFault {
     Stray {
         line: u32,
     },
-    /// A tile that meets the window has this edge, which meets it too, on the boundary at depth 64.
+    /// At depth 64, a tile that meets the window has this edge on the boundary, and the edge meets the window
+    /// too.
     DepthLimit {
         /// The tile's address, lifted to that depth.
         addr: Address,
-        /// Its edge.
+        /// The number of its edge.
         edge: u8,
     },
-    /// A value is refused: one that is looked at for the tile of the centre, or the shift of a tile that meets the
-    /// window.
+    /// A value has a coefficient above 2^24 in absolute value: a value on the way to the centre, or the shift
+    /// of a tile that meets the window.
     CoordLimit {
         /// The value.
         value: Point,
     },
-    /// No memory was left.
+    /// Memory ran out.
     NoMemory,
 }
 

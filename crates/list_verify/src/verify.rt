@@ -40,22 +40,29 @@ use std::marker::Brand;
 use std::sync::ledger::{Blank, Ledger};
 use tile_place::machine::Machine;
 
-/// Tells whether a listing that another program made is the list of a window: how many lines it has, or its first fault.
-/// A listing that is byte for byte what is written of the window's tiles, in their order, is right at a glance. Through any
-/// other one a walk goes, line by line, which makes no list of the window.
+/// Checks whether a list from another program has exactly the tiles that meet a window, and returns its
+/// number of lines. The list is right if its lines, lifted to the depth of the frame, are those tiles, each
+/// exactly once and with its motion.
 ///
-/// - `frame` has the base and the start number. It grows, at most to the least depth that is enough for the window and for
-///   the addresses listed, or to 64 where none is.
+/// - `frame` has the base and the seed. It grows at most to the least depth that is enough for the window and
+///   for the listed addresses, or to 64 if none is. It is unchanged if the text has a fault.
 /// - `window` has its centre in the base's frame.
-/// - `listing` is text: a line for each tile, with its kind, its turn, its shift as four coefficients in the base's frame, and
-///   its address, of any depth, divided by single blanks. The lines may stand in any order.
-/// - `alloc` gives all memory, some 300 bytes a line.
+/// - `listing` has a line for each tile, in any order: its kind, its turn, its shift as four coefficients in
+///   the base's frame, and its address, of any depth, with single blanks between.
+/// - `alloc` provides all memory, about 300 bytes a line.
 ///
-/// The listing is right where its lines, lifted to the depth of the frame, are exactly the tiles that meet the window,
-/// each once and with its motion. The faults of the text are tested first (`TooLong`; then of the first faulty line
-/// `BadLine`, `Address` or `BadKind`), then the addresses (`NotOfFrame`, `Double`); then the walk ends with the first
-/// fault that it comes to (`Missing`, `WrongPlace`, `DepthLimit`, `CoordLimit`), and last the first line that it has not
-/// found is told (`Stray`). `NoMemory` comes for want of memory alone.
+/// A list that is byte for byte what is written of the window's tiles, in their order, is right at once. Any
+/// other one is walked through line by line, from the tile at the centre across edges that meet the window.
+///
+/// # Errors
+///
+/// 1. In the text: `TooLong`; then, for the first line with one of them, `BadLine`, `Address` or `BadKind`.
+/// 2. In the addresses, each for the first line that has it: `NotOfFrame`, then `Double`.
+/// 3. On the walk: `Missing`, `WrongPlace`, `DepthLimit` or `CoordLimit`. If several apply, one of them
+///    comes; which one is left open.
+/// 4. After a walk without an error: `Stray`, for the first line whose tile does not meet the window.
+///
+/// `NoMemory` only if memory ran out; `TooLong` comes before it.
 pub fn verify(
     alloc: Global,
     machine: &Machine,
@@ -68,25 +75,25 @@ pub fn verify(
 
     ensures frame { GrowsTo (tiling_of machine.now) frame.old frame.new }
 
-    // At Ok the frame has the greater of its depth and the greatest one of a line. It is never deeper than is
-    // enough for the window and the lines; and a text that cannot be read leaves it as it is.
+    // At Ok the frame has the greater of its own depth and the greatest depth of a line. It is never deeper
+    // than is enough for the window and the lines. A text with a fault leaves it as it is.
     ensures depth { OnOk result (IsListedDepth (tiling_of machine.now) frame.old listing.now (length frame.new.digits)) }
     ensures not_beyond { (n : ℕ) → IsEnoughListed (tiling_of machine.now) frame.old window.now listing.now n → length frame.new.digits ≤ n }
     ensures unread { (fault : TextFault) → listing_in (children (tiling_of machine.now)) listing.now ≡ Err fault → frame.new ≡ frame.old }
 
-    // Ok comes exactly where the listing is right and nothing of it is refused, but for want of memory.
+    // The call succeeds if and only if the list is right and no value is refused, unless memory runs out.
     ensures right { IfOk result (λ n. IsVerified (tiling_of machine.now) frame.old window.now listing.now n) }
     ensures complete { (n : ℕ) → IsVerified (tiling_of machine.now) frame.old window.now listing.now n → (result ≡ Ok n) ⊎ (result ≡ Err faults.NoMemory) }
 
-    // A fault comes only for its cause; and where there is a cause it comes, but that memory may be wanted. Of the faults
-    // of the walk several may have a cause: where a tile is lacking one of them comes.
+    // Each error comes only for its cause. If a cause holds, its error comes, unless memory runs out. For the
+    // errors of the walk this holds of the four together.
     ensures cause { IfErr result (λ fault. HasCause (tiling_of machine.now) frame.old frame.new window.now listing.now fault) }
     ensures told { (fault : Fault) → IsTold fault → HasCause (tiling_of machine.now) frame.old frame.new window.now listing.now fault
         → (result ≡ Err fault) ⊎ (result ≡ Err faults.NoMemory) }
     ensures lacking { LacksTiles (tiling_of machine.now) frame.old window.now listing.now
         → (result ≡ Err faults.NoMemory) ⊎ (fault : Fault) × (result ≡ Err fault) × IsOfWalk fault }
 
-    // Too many lines are told whatever memory there is.
+    // A list with too many lines is refused even if memory runs out.
     ensures too_long { (result ≡ Err faults.TooLong) ↔ (most_lines < length (lines_in listing.now)) }
 {
     let checked = machine.checked();

@@ -1,7 +1,7 @@
-//! The text of a listing: tiles that another program lists, a line for each.
+//! The text of a list of tiles, a line for each.
 //!
-//! What a listing says is one total function of its bytes: the entries of its lines, or the first fault. The reader
-//! answers what that function gives, whatever the bytes are.
+//! What a list means is one total function of its bytes: the entries of its lines, or the first fault. The
+//! reader returns what that function gives, whatever the bytes are.
 #![tactic(auto)]
 
 pub mod entry;

@@ -2,19 +2,20 @@
 use std::alloc::{AllocError, AllocFailed};
 use tile_shape::address_fault::AddressFault;
 
-/// The first fault of a listing. Lines are counted from 1.
+/// The first fault of a list. Lines are counted from 1.
 #[derive(Clone, Copy, Debug, PartialEq, Eq)]
 pub enum ListingFault {
     /// There are more than 200,000 lines.
     TooLong,
-    /// A word hasn't its form. The place is its number, from 0, or that of the first word too many, or the number of
-    /// words where one is missing.
+    /// This line has the wrong number of fields, or a malformed one. `place` is the position of the first
+    /// wrong field, counted from 0: a malformed one, or the first one too many. If a field is missing, it is
+    /// the number of fields.
     BadLine { line: u32, place: u8 },
-    /// The words have their forms, and the fourth is the text of no address, for this fault.
+    /// The fields are well formed, but the fourth is not the text of an address, for this fault.
     Address { line: u32, fault: AddressFault },
-    /// The address has another kind than the first word.
+    /// The kind of the address is not the first field.
     BadKind { line: u32 },
-    /// There was no memory for the entries.
+    /// Memory ran out.
     NoMemory,
 }
 

@@ -28,30 +28,31 @@ use tile_shape::uses::Uses;
 /// The most lines of a listing.
 const MOST_LINES: usize = 200_000;
 
-/// The entries of a listing, line by line, or its first fault.
+/// Reads the entries of a list, line by line.
 ///
 /// - `uses` is the table that the addresses must fit.
-/// - `listing` has lines, each of which ends with a newline; the last newline may be missing. A line has four words
-///   divided by single blanks: a kind and a turn, from 0 to 255, a shift of four signed numbers joined by commas, each
-///   at most 2^24 in absolute value, and the text of an address.
-/// - `alloc` gives the memory of the entries.
+/// - `listing` has lines, each ended by a newline; the last newline may be missing. A line has four fields,
+///   with single blanks between: a kind and a turn, from 0 to 255; a shift of four signed numbers joined by
+///   commas, each at most 2^24 in absolute value; and the text of an address.
+/// - `alloc` provides the memory of the entries.
 ///
-/// More than 200,000 lines are refused before anything else. Else the first line that has a fault decides: a word
-/// hasn't its form, or the fourth is the text of no address, or its kind isn't the first word. `NoMemory` comes for
-/// want of memory alone.
+/// # Errors
+///
+/// `TooLong` for more than 200,000 lines, before anything else. Otherwise the first line that has a fault
+/// decides: `BadLine`, then `Address`, then `BadKind`. `NoMemory` only if memory ran out.
 pub fn read_listing(alloc: Global, uses: &Uses, listing: &[u8]) -> Result<Vec<Entry>, ListingFault>
-    // The entries are those of the lines, in order; and a fault is that of the first line that has one.
+    // The entries are those of the lines, in order; a fault is that of the first line that has one.
     ensures read { IfOk result (λ entries. listing_in uses.now listing.now ≡ Ok (map entry_of entries.items)) }
     ensures fault { IfErr result (OrWantsMemory (λ fault. listing_in uses.now listing.now ≡ Err fault)) }
 
-    // There is one for each line, and its address is one of the table.
+    // There is an entry for each line, and its address fits the table.
     ensures lines { IfOk result (λ entries. length entries.items ≡ length (lines_in listing.now)) }
     ensures accepted { IfOk result (λ entries. All (λ entry. IsAcceptedAddress uses.now (address_of entry.address)) entries.items) }
 
-    // Each fault comes where the listing has it, but that memory may be wanted.
+    // If the list has a fault, that fault comes, unless memory runs out.
     ensures refused { (fault : Fault) → listing_in uses.now listing.now ≡ Err fault → (result ≡ Err fault) ⊎ (result ≡ Err faults.NoMemory) }
 
-    // Too many lines are told whatever memory there is.
+    // A list with too many lines is refused even if memory runs out.
     ensures too_long { (result ≡ Err faults.TooLong) ↔ (most_lines < length (lines_in listing.now)) }
 {
     let mut entries = Vec::new(alloc);
@@ -76,7 +77,7 @@ fn put_line(uses: &Uses, line: &[u8], entries: &mut Vec<Entry>) -> Result<(), Li
     ensures put { IfOk result (λ _. IsPut uses.now line.now entries.old.items entries.new.items) }
     ensures fault { IfErr result (OrWantsMemory (λ fault. entry_in uses.now (length entries.old.items + 1) line.now ≡ Err fault)) }
 {
-    // The law by which the text of an address has no blank, and what it asks of the table.
+    // The law by which the text of an address has no blank, and what it requires of the table.
     short_numbers_law();
     let _limits = uses.kinds();
     let number = entries.len() as u32 + 1;

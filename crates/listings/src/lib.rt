@@ -1,10 +1,10 @@
-//! Foreign listings of a window: lists that another program made, and whether they are right.
+//! Lists of the tiles of a window from other programs, and when they are right.
 //!
-//! A line of a listing is an address and a motion. The listing is right when its lines are exactly the tiles
-//! that meet the window, each once and in its place. A walk through the lines tells: from the tile at the
-//! centre, across edges that meet the window, each tile that it comes to is looked for among them. Where it
-//! comes to its end, the tiles found are all that meet the window; so the listing is right exactly where each
-//! line's tile is found. It has definitions, proofs and laws, and no other code.
+//! A line of a list is an address and a motion. The list is right if its lines are exactly the tiles that
+//! meet the window, each exactly once and with its motion. A walk through the lines decides: it goes from the
+//! tile at the centre across edges that meet the window, and looks for each tile that it comes to among the
+//! lines. If it comes to its end, the tiles found are all that meet the window. So the list is right if and
+//! only if each line's tile is found. The crate has definitions, proofs and laws, and no other code.
 #![tactic(auto)]
 
 ghost use Rattle.cyclo_points.specs.Order.{points_of};
@@ -16,15 +16,15 @@ ghost use Rattle.listings.specs.FrameLifted.{LiftedListingLaw};
 
 use cyclo_points::order::Order;
 
-/// The theorem of the walk through a listing, in any dissected patch that grows. Each tile that it comes to meets
-/// the window, and each that is new is one line more; where it stops, that has its cause; where it comes to its end,
-/// all tiles that meet the window are found, and the listing is right exactly where each line's tile is.
+/// States the theorem of the walk through a list, in any dissected patch that grows. Each tile that it comes
+/// to meets the window, and each new one is one line more. If it stops, it has a cause. If it comes to its
+/// end, all tiles that meet the window are found, and the list is right if and only if each line's tile is.
 pub fn walk_law(order: Order)
     ensures { WalkLaw (points_of order) }
 {}
 
-/// The laws of the walk in a frame of an accepted rule, through lines that are addresses and motions: its start,
-/// a step, that each step finds one line more, and its end.
+/// States how the walk goes in a frame of an accepted rule, through lines that are addresses and motions: its
+/// start, a step, that each step finds one line more, and its end.
 pub fn frame_walk_law(order: Order)
     ensures start { FrameWalkStartLaw (points_of order) }
     ensures step { FrameWalkStepLaw (points_of order) }
@@ -32,8 +32,8 @@ pub fn frame_walk_law(order: Order)
     ensures end { FrameWalkEndLaw (points_of order) }
 {}
 
-/// The laws of its faults: a tile beyond the depth to which the lines grow the frame has no line; where no tile
-/// lies across an edge that meets the window, no depth is enough; and where each tile that meets the window is
+/// States what its faults mean. A tile beyond the depth to which the lines grow the frame has no line. If no
+/// tile is across an edge that meets the window, no depth is enough. If each tile that meets the window is
 /// listed, no fault has a cause.
 pub fn walk_fault_law(order: Order)
     ensures beyond { FrameBeyondLaw (points_of order) }
@@ -41,8 +41,9 @@ pub fn walk_fault_law(order: Order)
     ensures none { FrameNoFaultLaw (points_of order) }
 {}
 
-/// The laws of a right listing: its depth is that to which its lines grow the frame; each tile that meets the
-/// window is listed; and it has none of a listing's faults. And a listing says the same with its addresses lifted to that depth.
+/// States what a right list is. Its depth is that to which its lines grow the frame, each tile that meets the
+/// window is listed, and it has none of the faults. A list means the same with its addresses lifted to that
+/// depth.
 pub fn right_listing_law(order: Order)
     ensures right { FrameRightLaw (points_of order) }
     ensures no_fault { FrameNoListFaultLaw (points_of order) }

@@ -1,6 +1,11 @@
-//! The pair machine: two addresses are read from coarse to fine at once, and what is left at the end are the edges by which the tiles meet.
-//! A node stands for an edge of one kind against an edge of another; its row lists the pairs of child edges that meet along it.
-//! `PairMachine::decide` promises all pairs of edges that touch, in the order of the first tile's edges.
+//! The pair machine: by which edges two tiles of one supertile meet, found by reading both addresses at once,
+//! from coarse to fine.
+//!
+//! A node is an edge of one kind against an edge of another, in opposite directions. Its row lists the pairs
+//! of child edges that meet along it. If the addresses differ at two digits of one parent, the inner contacts
+//! between these children are the pairs, and each finer pair of digits keeps of each pair's row what belongs
+//! to these children (after S. Tatham's transducers). `PairMachine::decide` promises all pairs of edges that
+//! touch, in the order of the first tile's edges.
 #![tactic(auto)]
 
 mod alike;

@@ -27,12 +27,12 @@ use tile_shape::address::Address;
 use tile_shape::no_memory::NoMemory;
 use tile_shape::step::Step;
 
-/// The machine of contact tables, which contracts see as those tables. It has all their nodes and the rows of these, equal ones
-/// once, and finds the row of a node by the node's number.
+/// The pair machine of contact tables. Contracts see it as those tables. It has all their nodes and the rows
+/// of these, equal ones once, and finds the row of a node by the node's number.
 #[derive(Drop)]
 pub struct PairMachine {
     tables: Tables,
-    /// Whether some child meets itself: then two addresses may meet above the level where they part.
+    /// True if some child meets itself. Then two addresses may meet above the level where they part.
     meets_itself: bool,
     nodes: Vec<Node>,
     numbers: Vec<u16>,
@@ -53,7 +53,7 @@ impl Model for PairMachine {
 }
 
 impl PairMachine {
-    /// The machine of these tables, of which it keeps a copy; NoMemory where memory is wanting.
+    /// Makes the machine of these tables, and keeps a copy of them. It fails only if memory runs out.
     pub fn compile(alloc: Global, tables: &Tables) -> Result<PairMachine, NoMemory>
         ensures tables { IfOk result (λ machine. machine ≡ tables.now) }
     {
@@ -74,7 +74,7 @@ impl PairMachine {
         })
     }
 
-    /// How many nodes there are: edges of kinds against edges of kinds, as they meet in the supertiles of these tables.
+    /// Returns how many nodes there are, at most 36,864.
     pub fn nodes(&self) -> u32
         ensures number { IsNumber (IsNode self.now) result }
         ensures at_most_36864 { result ≤ 36864 }
@@ -82,7 +82,7 @@ impl PairMachine {
         self.nodes.len() as u32
     }
 
-    /// How many rows the nodes have, equal ones counted once.
+    /// Returns how many different rows the nodes have.
     pub fn rows(&self) -> u32
         ensures number { IsNumber (IsRow self.now) result }
         ensures at_most_36864 { result ≤ 36864 }
@@ -163,9 +163,14 @@ impl PairMachine {
         partners
     }
 
-    /// How two tiles lie to each other: Strangers where they have no common supertile, Same where they are one tile, Beside with
-    /// all pairs of edges that touch, in the order of the first tile's edges, and Apart where there is no such pair. It reads the
-    /// digits of both from coarse to fine by the rows of the nodes, and takes no memory.
+    /// Decides how two tiles lie to each other, by their addresses:
+    ///
+    /// - `Strangers` if they have no common supertile: their depths, or their kinds at that depth, differ;
+    /// - `Same` if they are one tile;
+    /// - `Beside` with all pairs of edges that touch, in the order of the first tile's edges;
+    /// - `Apart` if no edges touch.
+    ///
+    /// It reads the digits of both from coarse to fine, by the rows of the nodes, and needs no memory.
     pub fn decide(&self, a: &Address, b: &Address) -> Verdict
         requires fits_a { Fits (child_kinds self.now) (address_of a.now) }
         requires fits_b { Fits (child_kinds self.now) (address_of b.now) }

@@ -14,8 +14,8 @@ use cyclo_points::order::Order;
 use cyclo_points::point::Point;
 use cyclo_points::{divisors_law, points_law};
 
-/// Whether the closed edge a→b has a point in the open box of the window: whether some test point in
-/// the box lies on the edge. Coefficients may be up to 2^25.
+/// Returns true if the closed edge a→b meets the open box of the window: a test point in the box lies on the
+/// edge. Coefficients may be up to 2^25 in absolute value.
 pub fn edge_meets_box(order: Order, a: &Point, b: &Point, window: &Window) -> bool
     requires a_within { IsWithin (2 ^ 25) a.now }
     requires b_within { IsWithin (2 ^ 25) b.now }

@@ -14,8 +14,7 @@ use cyclo_points::real_product::rmul;
 use cyclo_points::real_sum::{radd, rsub};
 use cyclo_points::sign::sign;
 
-/// How far the start and the end of an edge are inside a half plane, and whether each is strictly
-/// inside.
+/// How far the start and the end of an edge are inside a half plane, and whether each is strictly inside.
 #[derive(Clone, Copy)]
 pub struct Measured {
     pub start: Real,
@@ -32,7 +31,7 @@ fn is_positive(order: Order, r: &Real) -> bool
     sign(order, r).is_gt()
 }
 
-/// An edge in a half plane, from the depths of its two ends.
+/// Measures an edge in a half plane, by the depths of its two ends.
 pub fn measure(order: Order, start: Real, end: Real) -> Measured
     requires start_within { IsRealWithin (2 ^ 29) start }
     requires end_within { IsRealWithin (2 ^ 29) end }
@@ -50,8 +49,8 @@ pub fn measure(order: Order, start: Real, end: Real) -> Measured
     }
 }
 
-/// The half plane below the greatest coordinate of a box, of an edge whose ends have these
-/// coordinates, counted from the box's centre.
+/// Measures an edge in the half plane below the greatest coordinate of a box. `start` and `end` are the
+/// coordinates of its ends, counted from the box's centre.
 pub fn below(order: Order, extent: u16, start: &Real, end: &Real) -> Measured
     requires start_within { IsRealWithin (2 ^ 28) start.now }
     requires end_within { IsRealWithin (2 ^ 28) end.now }
@@ -64,8 +63,8 @@ pub fn below(order: Order, extent: u16, start: &Real, end: &Real) -> Measured
     measure(order, rsub(&extent, start), rsub(&extent, end))
 }
 
-/// The half plane above the least coordinate of a box, of an edge whose ends have these
-/// coordinates, counted from the box's centre.
+/// Measures an edge in the half plane above the least coordinate of a box. `start` and `end` are the
+/// coordinates of its ends, counted from the box's centre.
 pub fn above(order: Order, extent: u16, start: &Real, end: &Real) -> Measured
     requires start_within { IsRealWithin (2 ^ 28) start.now }
     requires end_within { IsRealWithin (2 ^ 28) end.now }
@@ -121,8 +120,8 @@ fn meets_two(order: Order, f: &Measured, g: &Measured) -> bool
         || passes(order, g, f)
 }
 
-/// Whether an edge has a point in each two of four half planes, and so, by Helly's theorem on a
-/// line, one in all of them.
+/// Returns true if an edge has a point in each two of four half planes. By Helly's theorem on a line it then
+/// has one in all of them.
 pub fn meets_four(order: Order, f: &Measured, g: &Measured, h: &Measured, k: &Measured) -> bool
     requires f_measured { IsMeasured order f.now }
     requires g_measured { IsMeasured order g.now }

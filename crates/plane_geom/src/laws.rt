@@ -8,8 +8,8 @@ ghost use Rattle.plane_geom.specs.Products.{ProductLaw, FactorLaw, FactorPowersL
 use cyclo_points::order::Order;
 use cyclo_points::points_law;
 
-/// The law of crossings: that of an edge turned round is the negative, and that of an edge is the
-/// sum over the two parts into which a point of it cuts it.
+/// States that the crossing of a reversed edge is the negative, and that the crossing of an edge is the sum
+/// over the two parts into which a point of it cuts it.
 pub fn crossing_law(order: Order)
     ensures antisymmetric { AntisymmetryLaw order }
     ensures additive { AdditivityLaw order }
@@ -17,15 +17,15 @@ pub fn crossing_law(order: Order)
     points_law(order);
 }
 
-/// The law that a polygon's count is the sum over its fan.
+/// States that a polygon's count is the sum over its fan.
 pub fn fan_law(order: Order)
     ensures { FanLaw order }
 {
     points_law(order);
 }
 
-/// The law of triangles that turn left: each counts 0 or 1 at every test point, and no test point
-/// belongs to both of two that are separated.
+/// States that each triangle that turns left counts 0 or 1 at every test point, and that no test point
+/// belongs to both of two separated ones.
 pub fn triangle_law(order: Order)
     ensures zero_or_one { TriangleLaw order }
     ensures nothing_shared { SeparationLaw order }
@@ -33,14 +33,15 @@ pub fn triangle_law(order: Order)
     points_law(order);
 }
 
-/// The law that a point is on a closed segment exactly where it is a mean of the ends.
+/// States that a point is on a closed segment if and only if it is a mean of the ends with non-negative
+/// weights.
 pub fn segment_law(order: Order)
     ensures { SegmentLaw order }
 {
     points_law(order);
 }
 
-/// The law that motions keep left turns, segments and lengths.
+/// States that motions keep left turns, segments and lengths.
 pub fn motion_law(order: Order)
     ensures keeps { MotionLaw order }
     ensures isometry { IsometryLaw order }
@@ -48,8 +49,8 @@ pub fn motion_law(order: Order)
     points_law(order);
 }
 
-/// The law of products: one by any number multiplies orientations and squared lengths by the squared
-/// length of the number; where that is positive, it keeps left turns, segments and equal lengths.
+/// States that a product by any number multiplies orientations and squared lengths by the squared length of
+/// the number. If that is positive, it keeps left turns, segments and equal lengths.
 pub fn product_law(order: Order)
     ensures orientations { OrientationLaw order }
     ensures lengths { LengthLaw order }
@@ -58,8 +59,8 @@ pub fn product_law(order: Order)
     points_law(order);
 }
 
-/// The law that a factor of squared length above 1, and each power of it, keeps left turns, segments
-/// and equal lengths. The factor may turn the plane; a real one greater than 1 is such a factor.
+/// States that a factor of squared length above 1, and each power of it, keeps left turns, segments and equal
+/// lengths. The factor may turn the plane; a real one above 1 is such a factor.
 pub fn factor_law(order: Order)
     ensures keeps { FactorLaw order }
     ensures powers_keep { FactorPowersLaw order }

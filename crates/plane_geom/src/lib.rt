@@ -1,10 +1,11 @@
-//! Exact geometry of the plane, over the ordered rings in which the coordinates X and Y lie.
+//! Exact geometry of the plane: sides, crossings and winding numbers, triangles, segments, and edges against
+//! open boxes, over the ordered rings in which the coordinates X and Y lie.
 //!
-//! A point belongs to a polygon when the polygon's winding number about it is 1; the winding number
-//! is counted by signed crossings of directed edges, by a rule that is half open: an edge has its
-//! lower end and not its upper one, and a point on it is on neither side. Sides, crossings, counts,
-//! membership, segments and lengths are exact here, each by one definition over an ordered ring,
-//! and the laws on which dissections rest are proved for every order at once.
+//! A point belongs to a polygon if the polygon's winding number about it is 1. The winding number is a sum of
+//! signed crossings of directed edges, by a half-open rule: an edge has its lower end and not its upper one,
+//! and a point on an edge is on neither side of it. Sides, crossings, counts, membership, segments and
+//! lengths are exact, each by one definition over an ordered ring. The laws on which dissections rest are
+//! proved for every order at once.
 #![tactic(auto)]
 
 pub mod box_edges;

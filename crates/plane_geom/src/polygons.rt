@@ -10,9 +10,9 @@ use crate::sides::{crossing_between, is_above};
 use cyclo_points::order::Order;
 use cyclo_points::point::Point;
 
-/// The winding number of a polygon about p: the sum of the crossings of its edges, which run from
-/// each vertex to the next, and from the last to the first. There are 3 to 24 vertices, and
-/// coefficients may be up to 2^25.
+/// Returns the winding number of a polygon about p: the sum of the crossings of its edges. They run from each
+/// vertex to the next, and from the last to the first. There are 3 to 24 vertices, and coefficients may be up
+/// to 2^25 in absolute value.
 pub fn count(order: Order, poly: &[Point], p: &Point) -> i32
     requires at_least_three { 3 ≤ length poly.now }
     requires at_most_24 { length poly.now ≤ 24 }
@@ -37,8 +37,8 @@ pub fn count(order: Order, poly: &[Point], p: &Point) -> i32
     total + crossed as i32
 }
 
-/// Whether p belongs to a polygon: its winding number is 1. There are 3 to 24 vertices, and
-/// coefficients may be up to 2^25.
+/// Returns true if p belongs to a polygon: the winding number about p is 1. There are 3 to 24 vertices, and
+/// coefficients may be up to 2^25 in absolute value.
 pub fn member(order: Order, poly: &[Point], p: &Point) -> bool
     requires at_least_three { 3 ≤ length poly.now }
     requires at_most_24 { length poly.now ≤ 24 }

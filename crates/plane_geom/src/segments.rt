@@ -63,7 +63,7 @@ fn is_between_in_y(order: Order, a: &Point, p: &Point, b: &Point) -> bool
     is_between(order, &y(order, a), &y(order, p), &y(order, b))
 }
 
-/// Whether p is on the closed segment ab. Coefficients may be up to 2^25.
+/// Returns true if p is on the closed segment ab. Coefficients may be up to 2^25 in absolute value.
 pub fn on_segment(order: Order, a: &Point, b: &Point, p: &Point) -> bool
     requires a_within { IsWithin (2 ^ 25) a.now }
     requires b_within { IsWithin (2 ^ 25) b.now }
@@ -86,8 +86,8 @@ fn is_same_place(order: Order, a: &Point, b: &Point) -> bool
         && sign(order, &y_gap(order, a, b)) == Ordering::Equal
 }
 
-/// Whether the edge c→d lies along a→b: c differs from d, d is on the segment ab, and c is on the
-/// segment ad. Coefficients may be up to 2^25.
+/// Returns true if the edge c→d lies along a→b: c differs from d, d is on the segment ab, and c is on the
+/// segment ad. Coefficients may be up to 2^25 in absolute value.
 pub fn along(order: Order, a: &Point, b: &Point, c: &Point, d: &Point) -> bool
     requires a_within { IsWithin (2 ^ 25) a.now }
     requires b_within { IsWithin (2 ^ 25) b.now }
@@ -108,7 +108,8 @@ fn twice_squared_length(order: Order, d: &Point) -> Real
     x(order, &mul(order, d, &conj(order, d)))
 }
 
-/// Whether two differences of points have equal squared lengths. Coefficients may be up to 2^8.
+/// Returns true if two differences of points have equal squared lengths. Coefficients may be up to 2^8 in
+/// absolute value.
 pub fn same_length(order: Order, d: &Point, e: &Point) -> bool
     requires d_within { IsWithin (2 ^ 8) d.now }
     requires e_within { IsWithin (2 ^ 8) e.now }

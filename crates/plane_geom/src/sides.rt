@@ -19,8 +19,8 @@ use cyclo_points::real_sum::rsub;
 use cyclo_points::sign::sign;
 use std::cmp::Ordering;
 
-/// The side of the directed edge a→b on which p lies: Greater strictly left of it, Equal on its
-/// line, Less strictly right. Coefficients may be up to 2^25.
+/// Returns the side of the directed edge a→b on which p lies: `Greater` strictly left of it, `Equal` on its
+/// line, `Less` strictly right. Coefficients may be up to 2^25 in absolute value.
 #[inline(always)]
 pub fn side(order: Order, a: &Point, b: &Point, p: &Point) -> Ordering
     requires a_within { IsWithin (2 ^ 25) a.now }
@@ -56,7 +56,7 @@ pub(crate) fn y_gap(order: Order, a: &Point, b: &Point) -> Real
     rsub(&y(order, b), &y(order, a))
 }
 
-/// Whether the vertex lies above p.
+/// Returns true if the vertex lies strictly above p.
 #[inline(always)]
 pub fn is_above(order: Order, vertex: &Point, p: &Point) -> bool
     requires vertex_within { IsWithin (2 ^ 25) vertex.now }
@@ -66,9 +66,9 @@ pub fn is_above(order: Order, vertex: &Point, p: &Point) -> bool
     sign(order, &y_gap(order, p, vertex)) == Ordering::Greater
 }
 
-/// The crossing of the directed edge a→b about p: 1 where Y(a) ≤ Y(p) < Y(b) and p is strictly left
-/// of it, -1 where Y(b) ≤ Y(p) < Y(a) and p is strictly right of it, and else 0. Coefficients may
-/// be up to 2^25.
+/// Returns the crossing of the directed edge a→b about p. It is 1 if Y(a) ≤ Y(p) < Y(b) and p is strictly
+/// left of the edge, and -1 if Y(b) ≤ Y(p) < Y(a) and p is strictly right of it. Otherwise it is 0.
+/// Coefficients may be up to 2^25 in absolute value.
 pub fn crossing(order: Order, a: &Point, b: &Point, p: &Point) -> i8
     requires a_within { IsWithin (2 ^ 25) a.now }
     requires b_within { IsWithin (2 ^ 25) b.now }
@@ -82,7 +82,7 @@ pub fn crossing(order: Order, a: &Point, b: &Point, p: &Point) -> i8
     crossing_between(order, a, b, p, starts_above, ends_above)
 }
 
-/// The crossing of an edge of which it is known whether each end lies above the point.
+/// Like [`crossing`], for an edge of which it is known whether each end lies above the point.
 #[inline(always)]
 pub fn crossing_between(
     order: Order,

@@ -47,8 +47,8 @@ fn is_beyond_an_edge(order: Order, s: &[Point; 3], t: &[Point; 3]) -> bool
         || is_beyond(order, &s[2], &s[0], t)
 }
 
-/// Whether an edge of one of two triangles that turn left has the whole other one on it or to its
-/// right. Coefficients may be up to 2^25.
+/// Returns true if two triangles that turn left are separated: an edge of one has the whole other triangle on
+/// its line or to its right. Coefficients may be up to 2^25 in absolute value.
 pub fn separated(order: Order, s: &[Point; 3], t: &[Point; 3]) -> bool
     requires s_within { All (IsWithin (2 ^ 25)) s.now }
     requires t_within { All (IsWithin (2 ^ 25)) t.now }

@@ -1,7 +1,7 @@
 use cyclo_points::point::Point;
 
-/// The open box round a centre: the points whose X and Y differ from those of the centre by less
-/// than `w` and `h`.
+/// The open box around a centre: the points whose X differs from the centre's by less than `w`, and whose Y
+/// differs by less than `h`.
 #[derive(Clone, Copy, Debug, Default, PartialEq, Eq, PartialOrd, Ord)]
 pub struct Window {
     pub centre: Point,

@@ -16,7 +16,7 @@ use tile_shape::uses::Uses;
 /// The generator's stream, the same for every start number.
 const STREAM: u64 = 54;
 
-/// A stream of words, which contracts see as its start number and how many words were taken.
+/// A stream of outputs of the generator. Contracts see it as its seed, and how many outputs were taken.
 #[derive(Drop)]
 pub struct Growth {
     generator: Pcg32,
@@ -37,7 +37,7 @@ impl Model for Growth {
 }
 
 impl Growth {
-    /// The stream of a start number, of which no word is taken.
+    /// Makes the stream of a seed, of which no output is taken.
     pub fn new(start: u64) -> Growth
         ensures start { result.start ≡ start }
         ensures none_taken { result.taken ≡ 0 }
@@ -49,7 +49,7 @@ impl Growth {
         }
     }
 
-    /// The same stream, of which as many words are taken.
+    /// Makes an equal stream, of which as many outputs are taken.
     pub fn copy(&self) -> Result<Growth, NoMemory>
         ensures { IfOk result (λ copy. copy ≡ self.now) }
     {
@@ -61,7 +61,7 @@ impl Growth {
         })
     }
 
-    /// The next word.
+    /// Returns the next output of the generator.
     pub fn next_word(&mut self) -> u32
         requires few_taken { self.old.taken < 2 ^ 32 }
         ensures next { result ≡ word self.old.start self.old.taken }
@@ -73,7 +73,7 @@ impl Growth {
         word
     }
 
-    /// The digit that the next word chooses on top of a kind: one of the kind's uses.
+    /// Returns the digit that the next output chooses on top of a kind: one of the kind's uses.
     pub fn next_digit(&mut self, uses: &Uses, kind: u8) -> Step
         requires exists { kind < length uses.now }
         requires few_taken { self.old.taken < 2 ^ 32 }

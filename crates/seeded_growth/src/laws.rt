@@ -8,7 +8,7 @@ ghost use Rattle.seeded_growth.specs.Words.{word};
 
 use tile_shape::laws::uses_law;
 
-/// An address that fits a table still fits with grown digits, whatever the start number.
+/// States that an address that fits a table still fits with grown digits, whatever the seed.
 pub fn grown_fits_law()
     ensures { (children : List (List ℕ)) (base : Address) (start n : ℕ) →
         AreUsable children → Fits children base → Fits children (grown_by (uses_in_order children) (word start) n base) }
@@ -16,8 +16,8 @@ pub fn grown_fits_law()
     uses_law();
 }
 
-/// One grown digit more is the one that the next word chooses on the kind then on top, so that the digits are
-/// the same however growth is divided.
+/// States that one more grown digit is the one that the next output chooses on the kind then on top. So the
+/// digits are the same however growth is divided into steps.
 pub fn next_digit_law()
     ensures { (children : List (List ℕ)) (base : Address) (start n : ℕ) →
         (grown_by (uses_in_order children) (word start) (n + 1) base).digits
@@ -25,7 +25,7 @@ pub fn next_digit_law()
         ++ chosen (uses_in_order children (top_kind (grown_by (uses_in_order children) (word start) n base))) (word start n) ∷ [] }
 {}
 
-/// The words are those of the reference generator: of start number 42 the first six.
+/// States that the outputs are those of the reference generator: the first six of seed 42.
 pub fn reference_words_law()
     ensures { map (word 42) (0 ∷ 1 ∷ 2 ∷ 3 ∷ 4 ∷ 5 ∷ []) ≡ 0xa15c02b7 ∷ 0x7b47f409 ∷ 0xba1d3330 ∷ 0x83d2f293 ∷ 0xbfa4784b ∷ 0xcbed606e ∷ [] }
 {}

@@ -1,9 +1,10 @@
-//! Growth at the coarse end: which digit comes next is told by a seeded stream of words.
+//! Growth at the coarse end: a seeded random stream chooses the next digit.
 //!
-//! Combinatorial coordinates (Tatham) say nothing of what lies beyond the coarsest digit of an address; to
-//! choose further digits is to choose the tiling around it. Here the choice is a function of the rule, the
-//! start number and the kind on top: digit j is the use whose number is word j modulo how many uses the kind
-//! has. The words are those of the PCG generator of the crate `rand_pcg`. No call takes memory.
+//! Combinatorial coordinates (S. Tatham, Combinatorial coordinates for the aperiodic monotile) say nothing of
+//! what is beyond the coarsest digit of an address. To choose further digits is to choose the tiling around
+//! it. Here the choice is a function of the rule, the seed and the kind on top: digit j is the use whose
+//! number is output j, modulo the number of uses that the kind has. Uses are ordered by parent, then by
+//! child. The outputs are those of the PCG generator of the crate `rand_pcg`. No call except `Growth::copy` can run out of memory.
 #![tactic(auto)]
 
 pub mod growth;

@@ -5,10 +5,10 @@ use cyclo_points::motion::Motion;
 use tile_place::placed_tile::PlacedTile;
 use tile_shape::address::Address;
 
-/// A tile in its place, and the number of one of its vertices.
+/// A placed tile, and the number of one of its vertices.
 #[derive(Debug, Drop, PartialEq, Eq)]
 pub struct Corner {
-    /// The tile.
+    /// The tile, with its address and its motion in the base's frame.
     pub tile: PlacedTile,
     /// The number of its vertex.
     pub vertex: u8,

@@ -1,8 +1,8 @@
-//! The tiles round a vertex of a base tile.
+//! The tiles around a vertex of a base tile.
 //!
-//! From the base one turns round the vertex from tile to tile, each across the edge of the one before that ends
-//! at the vertex, and the frame grows as far as that needs and no further. The turn comes back to the base, and
-//! has then gone round exactly the tiles that have the vertex: no list of tiles is searched.
+//! From the base the walk turns around the vertex from tile to tile, each across the edge of the one before
+//! that ends at the vertex. The frame grows only as far as that needs. The turn comes back to the base, and
+//! has then visited exactly the tiles that have the vertex. No list of tiles is searched.
 #![tactic(auto)]
 
 pub mod corner;

@@ -4,15 +4,15 @@ ghost use Rattle.std.specs.Prelude.{◌≡◌, []};
 use crate::corner::Corner;
 use arrayvec::ArrayVec;
 
-/// The tiles round a vertex, in turning order from the base.
+/// The tiles around a vertex, counterclockwise from the base.
 #[derive(Debug, Drop, PartialEq, Eq)]
 pub struct Star {
-    /// Each tile, with the number of the vertex.
+    /// Each tile, with the number that the vertex has in it.
     pub corners: ArrayVec<Corner, 64>,
 }
 
 impl Star {
-    /// A star of no tile.
+    /// Makes a star without a tile.
     pub fn new() -> Star
         ensures { result.corners.items ≡ [] }
     {

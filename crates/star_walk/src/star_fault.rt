@@ -2,14 +2,14 @@
 use lazy_walk::depth_limit::DepthLimit;
 use tile_shape::address::Address;
 
-/// Why the tiles round a vertex are not answered.
+/// Why the tiles around a vertex are not found.
 #[derive(Debug, Drop, PartialEq, Eq)]
 pub enum StarFault {
-    /// A tile with the vertex has its edge that ends there on the boundary at depth 64.
+    /// A tile that has the vertex has its edge that ends there on the boundary at depth 64.
     DepthLimit {
         /// The tile's address, lifted to that depth.
         addr: Address,
-        /// The edge.
+        /// The number of the edge.
         edge: u8,
     },
     /// More than 64 tiles have the vertex.

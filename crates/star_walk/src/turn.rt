@@ -27,14 +27,20 @@ use tile_place::machine::Machine;
 use tile_shape::address::Address;
 
 impl Star {
-    /// Puts the tiles of the frame that have a vertex of the base among their vertices in the place of those that it has:
-    /// at the frame's depth on return, in turning order from the base, where after a tile comes the one across the edge
-    /// of it that ends at the vertex. The frame grows to the least depth, not below the one that it has, at which the
-    /// vertex lies on no edge of the frame's polygon.
+    /// Finds exactly the tiles of the frame that have a vertex of the base, in turning order from the base,
+    /// and puts them in place of those that the star has. After each tile comes the one across the edge of it
+    /// that ends at the vertex.
     ///
-    /// The vertex is refused where no depth up to 64 is enough for it, and where more than 64 tiles have it. After a
-    /// refusal there is no tile. This is for a caller that finds many stars and keeps one place for them; `star`
-    /// answers a single one.
+    /// The frame grows to the least depth, not below its own, at which the vertex is on no edge of the
+    /// frame's polygon. This call is for a caller that finds many stars and keeps one place for them;
+    /// [`star`] returns a single one.
+    ///
+    /// # Errors
+    ///
+    /// - `DepthLimit`: at depth 64, a tile that has the vertex has its edge that ends there on the boundary.
+    /// - `TooBig`: more than 64 tiles have the vertex.
+    ///
+    /// If both hold, it is open which one is returned. After an error the star has no tile.
     pub fn find<L: Ledger>(
         &mut self,
         machine: &Machine,
@@ -47,20 +53,20 @@ impl Star {
 
         ensures frame { GrowsTo (tiling_of machine.now) frame.old frame.new }
 
-        // The frame is never deeper than is enough for the vertex, whatever is answered.
+        // The frame is never deeper than is enough for the vertex, whatever is returned.
         ensures not_beyond { (n : ℕ) → IsLeastEnough (tiling_of machine.now) frame.old vertex n
             → length frame.new.digits ≤ n }
 
-        // Exactly the tiles of the frame that have the vertex, each once, with its number there and in its place;
-        // in turning order, and the last leads back to the base.
+        // Exactly the tiles of the frame that have the vertex, each exactly once and in its place, with the
+        // number of the vertex there. They are in turning order, and the last one leads back to the base.
         ensures round { OnOk result (AreRound (tiling_of machine.now) frame.new vertex (map (corner_in machine.now.order) self.new.corners.items)) }
         ensures turning { OnOk result (AreInTurn (tiling_of machine.now) frame.new vertex (map (corner_in machine.now.order) self.new.corners.items)) }
         ensures stand { OnOk result (All (λ (c : Corner). Stands (tiling_of machine.now) frame.new c.tile) self.new.corners.items) }
         ensures shifts_within { OnOk result (All (λ (c : Corner). IsWithin (2 ^ 24) c.tile.motion.shift) self.new.corners.items) }
         ensures least { OnOk result (IsLeastEnough (tiling_of machine.now) frame.old vertex (length frame.new.digits)) }
 
-        // There is an answer exactly where depth 64 is enough and few enough tiles have the vertex there; each fault
-        // comes only for its cause, and leaves no tile.
+        // The call succeeds if and only if depth 64 is enough and at most 64 tiles have the vertex there.
+        // Each error comes only for its cause, and leaves no tile.
         ensures within { OnOk result (IsWithinLimits (tiling_of machine.now) frame.old vertex) }
         ensures cause { IfErr result (λ fault. HasCause (tiling_of machine.now) frame.new vertex fault) }
         ensures answered { IsWithinLimits (tiling_of machine.now) frame.old vertex → IsOk result }
@@ -80,12 +86,11 @@ impl Star {
     }
 }
 
-/// The tiles of the frame that have a vertex of the base among their vertices, as `Star::find` finds them: at the
-/// frame's depth on return, in turning order from the base. The frame grows to the least depth, not below the one that
-/// it has, at which the vertex lies on no edge of the frame's polygon.
+/// Returns the tiles of the frame that have a vertex of the base, as [`Star::find`] finds them, with its
+/// errors.
 ///
-/// This is for a caller that wants one star. The answer has room for 64 tiles, 12.8 kB that are made anew for each;
-/// whoever finds many keeps one `Star` and calls `find` on it.
+/// The result has room for 64 tiles, which clears 12.8 kB for each call. A caller that finds many stars keeps
+/// one `Star` and calls `find` on it.
 pub fn star<L: Ledger>(
     machine: &Machine,
     frame: &mut Frame,
@@ -97,20 +102,20 @@ pub fn star<L: Ledger>(
 
     ensures frame { GrowsTo (tiling_of machine.now) frame.old frame.new }
 
-    // The frame is never deeper than is enough for the vertex, whatever is answered.
+    // The frame is never deeper than is enough for the vertex, whatever is returned.
     ensures not_beyond { (n : ℕ) → IsLeastEnough (tiling_of machine.now) frame.old vertex n
         → length frame.new.digits ≤ n }
 
-    // Exactly the tiles of the frame that have the vertex, each once, with its number there and in its place;
-    // in turning order, and the last leads back to the base.
+    // Exactly the tiles of the frame that have the vertex, each exactly once and in its place, with the
+    // number of the vertex there. They are in turning order, and the last one leads back to the base.
     ensures round { IfOk result (λ star. AreRound (tiling_of machine.now) frame.new vertex (map (corner_in machine.now.order) star.corners.items)) }
     ensures turning { IfOk result (λ star. AreInTurn (tiling_of machine.now) frame.new vertex (map (corner_in machine.now.order) star.corners.items)) }
     ensures stand { IfOk result (λ star. All (λ (c : Corner). Stands (tiling_of machine.now) frame.new c.tile) star.corners.items) }
     ensures shifts_within { IfOk result (λ star. All (λ (c : Corner). IsWithin (2 ^ 24) c.tile.motion.shift) star.corners.items) }
     ensures least { OnOk result (IsLeastEnough (tiling_of machine.now) frame.old vertex (length frame.new.digits)) }
 
-    // There is an answer exactly where depth 64 is enough and few enough tiles have the vertex there; and each fault
-    // comes only for its cause.
+    // The call succeeds if and only if depth 64 is enough and at most 64 tiles have the vertex there. Each
+    // error comes only for its cause.
     ensures within { OnOk result (IsWithinLimits (tiling_of machine.now) frame.old vertex) }
     ensures cause { IfErr result (λ fault. HasCause (tiling_of machine.now) frame.new vertex fault) }
     ensures answered { IsWithinLimits (tiling_of machine.now) frame.old vertex → IsOk result }

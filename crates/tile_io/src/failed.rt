@@ -1,5 +1,5 @@
 //! What a call on the outside answers where it failed.
 
-/// A call on the outside failed, and the count of faults of what was called rose.
+/// A call of a source or a sink failed, and its count of faults rose.
 #[derive(Clone, Copy, Debug, PartialEq, Eq)]
 pub struct Failed;

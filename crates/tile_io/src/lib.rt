@@ -1,12 +1,13 @@
-//! Bytes in and bytes out, with faults that are counted.
+//! Bytes in and bytes out, with counted faults.
 //!
-//! A `Source` gives bytes and a `Sink` takes them. Each tells, where it can, which bytes it still
-//! has or has taken, and each counts its faults, so that a call answers `Failed` only where a fault
-//! of the object that was handed in stands behind it. `SteadySource` and `SteadySink` lie in memory
-//! and never fail, `MemSource` and `MemSink` fail at the calls that are listed; `StdSource` and
-//! `StdSink` are the edge to readers and writers of std, whose bytes nothing tells. `write_all`
-//! promises that all bytes were taken, or else a proper prefix and a fault; `read_all` that all bytes
-//! were read up to the end, or else a fault, or one byte more than was asked for.
+//! A `Source` gives bytes and a `Sink` takes them. Each reports, if it can, which bytes it still has or has
+//! taken. Each counts its faults, so a call returns `Failed` only if the object that was passed in failed.
+//! `SteadySource` and `SteadySink` are in memory and never fail. `MemSource` and `MemSink` are in memory too,
+//! and fail at the calls that are listed. `StdSource` and `StdSink` connect to readers and writers of std,
+//! which report no bytes.
+//!
+//! `write_all` promises that all bytes were taken, or a proper prefix of them and a fault. `read_all`
+//! promises that all bytes were read to the end, or a fault, or one byte more than was asked for.
 #![tactic(auto)]
 
 pub mod failed;

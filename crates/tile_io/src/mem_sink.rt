@@ -13,7 +13,8 @@ use std::alloc::Global;
 use std::marker::Model;
 use tile_shape::no_memory::NoMemory;
 
-/// A sink in memory that takes small pieces, and whose calls fail by a list and at a full room.
+/// A sink in memory that takes small pieces. It fails at the calls that are listed, and when its room is
+/// full.
 #[derive(Drop)]
 pub struct MemSink {
     bytes: Vec<u8>,
@@ -35,10 +36,11 @@ impl Model for MemSink {
 }
 
 impl MemSink {
-    /// An empty sink with room for `room` bytes, whose memory it takes here; no write takes more.
-    /// It takes at most `most` bytes a call, and fails at the calls whose numbers are listed. The
-    /// first call is number 1, and calls are counted in a u64: none after number 2 ^ 64 - 1 fails by
-    /// the list.
+    /// Makes an empty sink with room for `room` bytes. It allocates that memory here, and no write allocates
+    /// more.
+    ///
+    /// It takes at most `most` bytes a call, and fails at the calls whose numbers are in `fails`. The first
+    /// call is number 1. Calls are counted in a u64: none after number 2 ^ 64 - 1 fails by the list.
     pub fn new(
         alloc: Global,
         room: usize,
@@ -59,7 +61,7 @@ impl MemSink {
         })
     }
 
-    /// The bytes that were taken.
+    /// Returns the bytes that were taken.
     pub fn taken(&self) -> &[u8]
         ensures kept { result.now ≡ self.now.kept }
         ensures told { ⟦<MemSink as Sink>⟧.taken self.now ≡ Some result.now }

@@ -11,7 +11,7 @@ use crate::fault_plan::FaultPlan;
 use crate::source::Source;
 use std::marker::Model;
 
-/// A source in memory that gives its bytes in small pieces, and whose calls fail by a list.
+/// A source in memory that gives its bytes in small pieces, and fails at the calls that are listed.
 #[derive(Drop)]
 pub struct MemSource {
     bytes: Vec<u8>,
@@ -32,9 +32,9 @@ impl Model for MemSource {
 }
 
 impl MemSource {
-    /// A source that gives `bytes`, at most `most` of them a call, and that fails at the calls whose
-    /// numbers are listed. The first call is number 1, and calls are counted in a u64: none after
-    /// number 2 ^ 64 - 1 fails.
+    /// Makes a source that gives `bytes`, at most `most` of them a call. It fails at the calls whose numbers
+    /// are in `fails`. The first call is number 1. Calls are counted in a u64: none after number 2 ^ 64 - 1
+    /// fails.
     pub fn new(bytes: Vec<u8>, most: usize, fails: Vec<u64>) -> MemSource
         requires gives_some { 1 ≤ most }
         ensures begins { result ≡ first_given bytes.items most fails.items }

@@ -2,14 +2,14 @@
 use crate::failed::Failed;
 use std::alloc::AllocError;
 
-/// Why the bytes of a source aren't all read.
+/// Why not all bytes of a source were read.
 #[derive(Clone, Copy, Debug, PartialEq, Eq)]
 pub enum ReadAllFault {
-    /// There are more bytes than were asked for: one more was read.
+    /// There are more bytes than were asked for; one more was read.
     TooLong,
     /// A call of the source failed.
     Fault,
-    /// There was no memory for the bytes.
+    /// Memory ran out.
     NoMemory,
 }
 

@@ -9,13 +9,18 @@ use crate::read_all_fault::ReadAllFault;
 use crate::source::Source;
 use std::alloc::Global;
 
-// The bytes that one call of a source is asked for, at most.
+// The most bytes that one call of a source is asked for.
 const PIECE: usize = 4096;
 
-/// Reads all bytes of the source to its end, where there are at most `most` of them.
+/// Reads all bytes of the source to its end, at most `most` of them.
 ///
-/// `TooLong` comes exactly where `most + 1` bytes were read. `Fault` comes only where the source's
-/// count of faults rose. At a refusal at most `most + 1` bytes were read, and they are gone.
+/// # Errors
+///
+/// - `TooLong` if and only if `most + 1` bytes were read.
+/// - `Fault` only if the source's count of faults rose.
+/// - `NoMemory` if memory ran out.
+///
+/// After an error at most `most + 1` bytes were read, and they are lost.
 pub fn read_all<R: Source>(
     alloc: Global,
     source: &mut R,

@@ -7,12 +7,12 @@ ghost use Rattle.tile_io.specs.Taken.{WriteTakes, Advances};
 
 use crate::failed::Failed;
 
-/// What takes bytes, one call after the other.
+/// Takes bytes, one call after another.
 pub trait Sink {
-    // The bytes taken so far, where they are told.
+    // The bytes taken so far, if they are reported.
     ghost taken: { Self → Option (List ℕ) };
 
-    // How many of its calls failed so far, a count that stays at 2 ^ 64 - 1 once it is there.
+    // How many of its calls have failed so far. The count stays at 2 ^ 64 - 1 once it is there.
     ghost faults: { Self → ℕ };
 
     /// Takes the first bytes of `buf` and answers how many they are, at least one where `buf` isn't

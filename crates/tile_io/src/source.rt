@@ -7,12 +7,12 @@ ghost use Rattle.tile_io.specs.Left.{ReadGives, EndsExactly};
 
 use crate::failed::Failed;
 
-/// What gives bytes, one call after the other, to an end.
+/// Gives bytes, one call after another, to an end.
 pub trait Source {
-    // The bytes that reads will give from here on, where they are told.
+    // The bytes that reads will give from here on, if they are reported.
     ghost left: { Self → Option (List ℕ) };
 
-    // How many of its calls failed so far, a count that stays at 2 ^ 64 - 1 once it is there.
+    // How many of its calls have failed so far. The count stays at 2 ^ 64 - 1 once it is there.
     ghost faults: { Self → ℕ };
 
     /// Puts the next bytes in front of `buf` and answers how many they are: none, where `buf` has

@@ -10,7 +10,7 @@ use crate::failed::Failed;
 use crate::sink::Sink;
 use std::io::Write;
 
-/// A sink over a writer of std: it tells no bytes, and counts the writer's failures.
+/// A sink over a writer of std. It reports no bytes, and counts the writer's failures.
 #[derive(Drop)]
 pub struct StdSink<W: Write + Drop> {
     writer: W,
@@ -18,7 +18,7 @@ pub struct StdSink<W: Write + Drop> {
 }
 
 impl<W: Write + Drop> StdSink<W> {
-    /// A sink that writes to `writer`.
+    /// Makes a sink that writes to `writer`.
     pub fn new(writer: W) -> StdSink<W>
         ensures writer { writer_of result ≡ writer }
         ensures no_faults { ⟦<StdSink<W> as Sink>⟧.faults result ≡ 0 }

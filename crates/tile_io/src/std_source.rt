@@ -10,7 +10,7 @@ use crate::failed::Failed;
 use crate::source::Source;
 use std::io::Read;
 
-/// A source over a reader of std: it tells no bytes, and counts the reader's failures.
+/// A source over a reader of std. It reports no bytes, and counts the reader's failures.
 #[derive(Drop)]
 pub struct StdSource<R: Read + Drop> {
     reader: R,
@@ -18,7 +18,7 @@ pub struct StdSource<R: Read + Drop> {
 }
 
 impl<R: Read + Drop> StdSource<R> {
-    /// A source that reads from `reader`.
+    /// Makes a source that reads from `reader`.
     pub fn new(reader: R) -> StdSource<R>
         ensures reader { reader_of result ≡ reader }
         ensures no_faults { ⟦<StdSource<R> as Source>⟧.faults result ≡ 0 }

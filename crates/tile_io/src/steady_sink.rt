@@ -13,7 +13,7 @@ use tile_shape::no_memory::NoMemory;
 
 /// A sink in memory that never fails, and keeps the bytes that fit its room.
 ///
-/// A piece that doesn't fit is taken and dropped, and from then on the sink tells no bytes.
+/// A piece that does not fit is taken and dropped; from then on the sink reports no bytes.
 #[derive(Drop)]
 pub struct SteadySink {
     bytes: Vec<u8>,
@@ -33,7 +33,8 @@ impl Model for SteadySink {
 }
 
 impl SteadySink {
-    /// An empty sink with room for `room` bytes, whose memory it takes here; no write takes more.
+    /// Makes an empty sink with room for `room` bytes. It allocates that memory here, and no write allocates
+    /// more.
     pub fn new(alloc: Global, room: usize) -> Result<SteadySink, NoMemory>
         ensures empty { IfOk result (λ sink. sink ≡ empty_held room) }
         ensures tells { IfOk result (λ sink. ⟦<SteadySink as Sink>⟧.taken sink ≡ Some []) }
@@ -47,7 +48,7 @@ impl SteadySink {
         })
     }
 
-    /// The bytes that were kept: where the sink tells its bytes, all that it took.
+    /// Returns the bytes that were kept: all that it took, if the sink reports its bytes.
     pub fn taken(&self) -> &[u8]
         ensures kept { result.now ≡ self.now.kept }
         ensures told { IfSome (⟦<SteadySink as Sink>⟧.taken self.now) (λ bytes. result.now ≡ bytes) }

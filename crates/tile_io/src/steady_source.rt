@@ -8,7 +8,7 @@ use crate::failed::Failed;
 use crate::source::Source;
 use std::marker::Model;
 
-/// A source in memory that never fails, seen as the bytes that it has left.
+/// A source in memory that never fails. Contracts see it as the bytes that it has left.
 #[derive(Drop)]
 pub struct SteadySource {
     bytes: Vec<u8>,
@@ -26,7 +26,7 @@ impl Model for SteadySource {
 }
 
 impl SteadySource {
-    /// A source that gives `bytes`.
+    /// Makes a source that gives `bytes`.
     pub fn new(bytes: Vec<u8>) -> SteadySource
         ensures bytes { result ≡ bytes.items }
         ensures tells { ⟦<SteadySource as Source>⟧.left result ≡ Some bytes.items }

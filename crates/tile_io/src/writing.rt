@@ -6,10 +6,12 @@ ghost use Rattle.tile_io.specs.Taken.{Takes, TakesProperPrefix};
 use crate::failed::Failed;
 use crate::sink::Sink;
 
-/// Writes all of `bytes`, in as many calls as the sink needs; none where there is nothing to write.
+/// Writes all of `bytes`, in as many calls as the sink needs, and in none if there is nothing to write. It
+/// needs no memory.
 ///
-/// `Failed` comes only where the sink's count of faults rose, and then a proper prefix of `bytes` was
-/// taken. No memory is taken.
+/// # Errors
+///
+/// `Failed` only if the sink's count of faults rose; then a proper prefix of `bytes` was taken.
 pub fn write_all<W: Sink>(sink: &mut W, bytes: &[u8]) -> Result<(), Failed>
     ensures all { OnOk result (Takes (W.taken sink.old) (W.taken sink.new) bytes.now) }
     ensures part { OnErr result (TakesProperPrefix (W.taken sink.old) (W.taken sink.new) bytes.now) }

@@ -4,16 +4,17 @@ ghost use Rattle.tile_shape.specs.Views.{address_of};
 
 use tile_shape::address::Address;
 
-/// The tile across an edge, and the edge there that leads back.
+/// The tile across an edge, and its edge that leads back.
 #[derive(Debug, Drop, PartialEq, Eq)]
 pub struct Crossing {
-    /// The address of the tile across.
+    /// The address of the tile across, of the same depth.
     pub addr: Address,
-    /// Its edge, which leads back.
+    /// The number of its edge that leads back.
     pub edge: u8,
 }
 
-/// Puts the digits of an address into the address of a lone tile of its kind. (`Address::copy` moves the whole once more.)
+/// Puts the digits of an address into `there`, the address of a single tile of its kind. (`Address::copy`
+/// moves the whole once more.)
 #[inline]
 pub fn put_digits(there: &mut Address, addr: &Address)
     requires kind { there.old.kind ≡ addr.now.kind }

@@ -23,9 +23,11 @@ use std::marker::Model;
 use std::sync::ledger::Ledger;
 use tile_shape::no_memory::NoMemory;
 
-/// Contact tables in flat lists, which contracts see as those tables. The contact block of a child is what its edges are, the part
-/// block of an edge the child edges that are its parts, in order; equal blocks are kept once. Where the block of a number of a
-/// kind begins stands at 256 times the kind and the number. The other lists of the tables stand one behind the other.
+/// Contact tables in flat lists. Contracts see them as those tables.
+///
+/// The contact block of a child says what each of its edges is. The part block of an edge has the child edges
+/// that are its parts, in order. Equal blocks are kept once. Where the block of a number of a kind begins is
+/// at 256 times the kind plus the number. The other lists of the tables follow one another.
 #[derive(Drop)]
 pub struct FlatTable {
     lists: Joined,
@@ -47,7 +49,7 @@ impl Model for FlatTable {
 }
 
 impl FlatTable {
-    /// The flat table of these tables.
+    /// Builds the flat table of these tables. It fails only if memory runs out.
     pub fn build(alloc: Global, tables: &Tables) -> Result<FlatTable, NoMemory>
         ensures tables { IfOk result (λ flat. flat ≡ tables.now) }
         ensures coherent { IsCoherent tables.now }
@@ -65,7 +67,8 @@ impl FlatTable {
         })
     }
 
-    /// What an edge of a child is. It takes one step.
+    /// Returns what an edge of a child is: inner, with the child and edge that it is opposite to, or outer,
+    /// with the edge of the parent and the part. It counts one step.
     pub fn contact<L: Ledger>(&self, kind: u8, child: u8, edge: u8, steps: &mut Steps<L>) -> Contact
         requires exists { IsSome (contact_of self.now kind child edge) }
         ensures value { contact_of self.now kind child edge ≡ Some (as_contact result) }
@@ -76,7 +79,8 @@ impl FlatTable {
         contact_in(contacts.look_up(cell(kind, child), usize::from(edge), steps))
     }
 
-    /// The child edge that is a part of an edge. It takes one step.
+    /// Returns the child edge that is a part of an edge; parts are counted along the edge, from 0. It counts
+    /// one step.
     pub fn part<L: Ledger>(&self, kind: u8, edge: u8, part: u8, steps: &mut Steps<L>) -> ChildEdge
         requires exists { IsSome (part_of self.now kind edge part) }
         ensures value { part_of self.now kind edge part ≡ Some (as_child_edge result) }
@@ -124,14 +128,14 @@ impl FlatTable {
         (high - low) as u8
     }
 
-    /// How many different contact blocks there are.
+    /// Returns how many different contact blocks there are.
     pub fn contact_blocks(&self) -> u16
         ensures { HasDifferent (contact_blocks self.now) result }
     {
         self.contacts.count
     }
 
-    /// How many different part blocks there are.
+    /// Returns how many different part blocks there are.
     pub fn part_blocks(&self) -> u16
         ensures { HasDifferent (part_blocks self.now) result }
     {

@@ -14,7 +14,8 @@ use edge_tables::steps::Steps;
 use std::sync::ledger::Ledger;
 use tile_shape::address::Address;
 
-/// The law that the way across an edge and back again leads home. None exactly where the edge lies on the supertile's own edge.
+/// Crosses an edge and goes back, and states that this leads home. It returns None if and only if the edge
+/// lies on the supertile's own edge.
 pub fn return_law<L: Ledger>(
     transducer: &Transducer,
     addr: &Address,
@@ -37,17 +38,17 @@ pub fn return_law<L: Ledger>(
     }
 }
 
-/// The law that what is touched touches back.
+/// States that touch is mutual.
 pub fn touch_law()
     ensures { (t : Tables) (a b : TheAddress) (e f : ℕ) → IsCoherent t → Fits (child_kinds t) a → Fits (child_kinds t) b → IsSome (type_of t a.kind e) → Touches t a e b f → Touches t b f a e }
 {}
 
-/// The law that an edge has one trace.
+/// States that an edge has at most one trace.
 pub fn trace_law()
     ensures { (t : Tables) (a : TheAddress) (e top other : ℕ) (cuts others : List Cut) → HasTrace t a e top cuts → HasTrace t a e other others → (top ≡ other) × (cuts ≡ others) }
 {}
 
-/// The law that an edge with a trace touches none.
+/// States that an edge with a trace touches no other.
 pub fn boundary_law()
     ensures { (t : Tables) (a b : TheAddress) (e f top : ℕ) (cuts : List Cut) → IsCoherent t → Fits (child_kinds t) a → Fits (child_kinds t) b → IsSome (type_of t a.kind e) → HasTrace t a e top cuts → Touches t a e b f → ⊥ }
 {}

@@ -1,8 +1,13 @@
-//! Tatham's address transducers: the tile across an edge, found by its address alone, without any point of the plane.
-//! A climb from the fine digits ends at the first level where the edge is another child's edge as well; a descent from there
-//! writes the digits of the tile on the other side, part for mirrored part.
-//! `Transducer::step_across` promises the one tile and edge that the edge touches, at the same depth, in at most two look-ups a
-//! level and two more; that the way back leads back; and the supertile's own edge exactly where the edge lies on it.
+//! Address transducers: the tile across an edge, found by its address alone, without any point of the plane
+//! (S. Tatham, Combinatorial coordinates for the aperiodic monotile).
+//!
+//! A climb from the fine digits ends at the first level at which the edge is another child's edge as well. A
+//! descent from there writes the digits of the tile on the other side; part for part, the numbers are
+//! mirrored.
+//!
+//! `Transducer::step_across` promises the only pair of tile and edge that the edge touches, at the same
+//! depth, in at most two look-ups a level and two more, and that the return edge leads back. If the edge lies
+//! on the supertile's own edge, it returns that edge with the part.
 #![tactic(auto)]
 
 mod blocks;

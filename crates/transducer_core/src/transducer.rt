@@ -20,7 +20,7 @@ use std::sync::ledger::Ledger;
 use tile_shape::address::Address;
 use tile_shape::no_memory::NoMemory;
 
-/// Finds the tile across an edge by a flat table of contact tables, which contracts see as those tables.
+/// Finds the tile across an edge by contact tables. Contracts see it as those tables.
 #[derive(Drop)]
 pub struct Transducer {
     flat: FlatTable,
@@ -38,7 +38,7 @@ impl Model for Transducer {
 }
 
 impl Transducer {
-    /// The machine of these tables.
+    /// Makes the transducer of these tables. It fails only if memory runs out.
     pub fn compile(alloc: Global, tables: &Tables) -> Result<Transducer, NoMemory>
         ensures tables { IfOk result (λ machine. machine ≡ tables.now) }
         ensures coherent { IsCoherent tables.now }
@@ -49,14 +49,22 @@ impl Transducer {
         })
     }
 
-    /// Its flat table.
+    /// Returns its flat table.
     pub fn flat(&self) -> &FlatTable
         ensures { result.now ≡ self.now }
     {
         &self.flat
     }
 
-    /// The tile across an edge with the edge that leads back, or the supertile's own edge on which the edge lies.
+    /// Finds the tile across an edge, and the edge of that tile that leads back. Both tiles are of the
+    /// supertile that `addr` names, so both addresses have one depth.
+    ///
+    /// `steps` counts the look-ups: at most twice the depth, plus two.
+    ///
+    /// # Errors
+    ///
+    /// `Outside` if and only if the edge lies on the supertile's own edge. It says on which edge, and on
+    /// which part.
     pub fn step_across<L: Ledger>(
         &self,
         addr: &Address,
@@ -66,7 +74,8 @@ impl Transducer {
         requires fits { Fits (child_kinds self.now) (address_of addr.now) }
         requires edge_exists { IsSome (type_of self.now addr.now.kind edge) }
 
-        // Across exactly where a pair is touched, and on the boundary exactly where there is a trace to the top.
+        // The result is a tile if and only if a pair is touched, and the boundary if and only if there is a
+        // trace to the top.
         ensures across { IfOk result (λ x. IsAcross self.now (address_of addr.now) edge (address_of x.addr) x.edge) }
         ensures on_boundary { IfErr result (λ o. LiesOn self.now (address_of addr.now) edge o.edge o.part) }
         ensures across_when { (b : TheAddress) (f : ℕ) → Fits (child_kinds self.now) b → Touches self.now (address_of addr.now) edge b f → IsOk result }
@@ -85,8 +94,8 @@ impl Transducer {
         }
     }
 
-    /// The same in place: the address becomes that of the tile across, and the answer is the edge that leads back. Where the edge
-    /// lies on the supertile's own edge, the address is unchanged.
+    /// Like [`step_across`](Self::step_across), but in place: replaces the address by that of the tile
+    /// across, and returns the edge that leads back. On `Outside` the address is unchanged.
     pub fn step_across_in_place<L: Ledger>(
         &self,
         addr: &mut Address,

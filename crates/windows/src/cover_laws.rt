@@ -6,18 +6,18 @@ ghost use Rattle.windows.specs.FrameCover.{FrameStopLaw, FrameGoesOnLaw, FrameEn
 
 use cyclo_points::order::Order;
 
-/// The law that the search on a frame is right: from the tile that holds the centre, at the least depth at
-/// which the frame holds it, by crossings that grow the frame; and that where no edge is open the tiles
-/// found are all that meet the window, cover it, and the depth is the least.
+/// States that the search on a frame is right. It starts with the tile that holds the centre, at the least
+/// depth at which the frame holds the centre, and goes on by crossings that grow the frame. If no edge is
+/// open, the tiles found are all that meet the window, they cover it, and the depth is the least.
 pub fn frame_search_law(order: Order)
     ensures start { FrameStartLaw (points_of order) }
     ensures step { FrameStepLaw (points_of order) }
     ensures finish { FrameFinishLaw (points_of order) }
 {}
 
-/// The law of the limits of a frame: an open edge on the boundary at the frame's own depth is beyond them;
-/// within them no tile across an open edge is refused or one too many; and where the search comes to its
-/// end, the window is within them.
+/// States the limits of a frame. An open edge on the boundary at the frame's own depth is beyond them. Within
+/// them no tile across an open edge is refused, or one too many. If the search comes to its end, the window
+/// is within them.
 pub fn frame_limits_law(order: Order)
     ensures stop { FrameStopLaw (points_of order) }
     ensures onward { FrameGoesOnLaw (points_of order) }

@@ -11,25 +11,25 @@ ghost use Rattle.windows.specs.FrameWindow.{DrawnLaw, CoversLaw, LeastLaw, Withi
 
 use cyclo_points::order::Order;
 
-/// The law of levels: of two lists of as many digits, the level is at most n exactly where the digits
-/// from number n up are the same; so it is with digits of depth n, lifted, and with no others.
+/// States what levels are. For two lists with equally many digits, the level is at most n if and only if the
+/// digits from number n up are equal. This holds for digits of depth n, lifted, and for no others.
 pub fn level_law()
     ensures level { LevelLaw }
     ensures lifts { LiftLevelLaw }
 {}
 
-/// The law that the tiles of a frame are a dissected patch, and grow as the frame does: at a depth they
-/// are the tiles of the base's ancestor's frame there, lifted, each with the motion that it has there.
+/// States that the tiles of a frame are a dissected patch, which grows as the frame does. At a depth they are
+/// the tiles of the base's ancestor's frame there, lifted, each with the motion that it has there.
 pub fn frame_patch_law(order: Order)
     ensures dissected { FramePatchLaw (points_of order) }
     ensures lifted { LiftLaw (points_of order) }
     ensures named { NamedLaw (points_of order) }
 {}
 
-/// The law of the edges of a frame's tiles. They are those of the outline, by their numbers; whether one
-/// is the reverse of another is seen by the points between which they run. The tile across an edge in the supertile is the tile across
-/// it in the frame; at a depth an edge is inner exactly where there is one, and it isn't exactly where
-/// it lies on the supertile's boundary.
+/// States what the edges of a frame's tiles are. They are those of the outline, by their numbers. Whether one
+/// is the reverse of another is seen by their ends. The tile across an edge in the supertile is the tile
+/// across it in the frame. At a depth an edge is inner if and only if there is such a tile, and it is not
+/// inner if and only if it lies on the supertile's boundary.
 pub fn frame_edge_law(order: Order)
     ensures lines { LinesLaw (points_of order) }
     ensures numbered { NumberedLaw (points_of order) }
@@ -39,16 +39,16 @@ pub fn frame_edge_law(order: Order)
     ensures outside { OutsideLaw (points_of order) }
 {}
 
-/// The law that the frame's polygon at a depth is that of its tiles there, so that the depth is enough
-/// for a window exactly where this polygon holds the centre and none of its edges meets the window.
+/// States that the frame's polygon at a depth is that of its tiles there. So the depth is enough for a window
+/// if and only if this polygon holds the centre and none of its edges meets the window.
 pub fn frame_polygon_law(order: Order)
     ensures whole { FramePolygonLaw (points_of order) }
     ensures enough { FrameEnoughLaw (points_of order) }
 {}
 
-/// The law of names: the frame of an ancestor is the frame before it grew beyond; a tile lifted there
-/// has the same name in the whole frame; all tiles are there at the frame's own depth; and each is known
-/// by its kind and motion.
+/// States what the names of a frame's tiles are. The frame of an ancestor is the frame before it grew
+/// further. A tile lifted there has the same name in the whole frame. All tiles exist at the frame's own
+/// depth, and each is known by its kind and motion.
 pub fn frame_name_law(order: Order)
     ensures before_growth { GrownLevelLaw }
     ensures renamed { RenamedLaw (points_of order) }
@@ -56,10 +56,10 @@ pub fn frame_name_law(order: Order)
     ensures known { KnownLaw (points_of order) }
 {}
 
-/// The law of crossings in a frame that grows: the tile across in the supertile lies across in the frame;
-/// the least depth at which it is found is its level, where the frame isn't as deep already; it stands
-/// where the motion that glues the two edges puts it; and where the edge is on the boundary at the frame's
-/// own depth, no tile lies across it.
+/// States how crossings and growth go together. The tile across in the supertile is across in the frame. The
+/// least depth at which it is found is its level, unless the frame is as deep already. Its motion is the one
+/// that glues the two edges, followed by the tile's. If the edge is on the boundary at the frame's own depth,
+/// no tile is across it.
 pub fn frame_crossing_law(order: Order)
     ensures across { FrameAcrossLaw (points_of order) }
     ensures grown { GrownCrossingLaw (points_of order) }
@@ -67,16 +67,16 @@ pub fn frame_crossing_law(order: Order)
     ensures last { LastBoundaryLaw (points_of order) }
 {}
 
-/// The law that a frame holds a point at the depths from the level of the tile that holds it on, and that
-/// these are the levels of the base's ancestors, found from level to level, that hold it.
+/// States that a frame holds a point at the depths from the level of its holder on. These are the levels of
+/// the base's ancestors, found level by level, that hold it.
 pub fn frame_holds_law(order: Order)
     ensures level { HolderLevelLaw (points_of order) }
     ensures outward { AncestorHoldsLaw (points_of order) }
 {}
 
-/// The law of a window on a frame: the frame's own tiles that meet it are those drawn of the patch, and
-/// cover what they do; the least depth at which the frame's polygon holds the centre and none of its
-/// edges meets the window is the least enough one; and the limits are the same.
+/// States what a window is on a frame. The frame's own tiles that meet it are those of the patch that do, and
+/// cover the same. The least depth at which the frame's polygon holds the centre and none of its edges meets
+/// the window is the least enough one. The limits are the same.
 pub fn frame_window_law(order: Order)
     ensures drawn { DrawnLaw (points_of order) }
     ensures covers { CoversLaw (points_of order) }

@@ -8,39 +8,37 @@ ghost use Rattle.windows.specs.Laws.{EndsWithinLaw};
 
 use cyclo_points::order::Order;
 
-/// The law that a search for the tiles of a window keeps its state right, from the tile of the centre
-/// by steps across open edges; and that where no edge is open it has found what it is to find.
+/// States that a search for the tiles of a window keeps its state right, from the tile at the centre by steps
+/// across open edges. If no edge is open, it has found all that it must find.
 pub fn search_law(order: Order)
     ensures start { StartLaw (points_of order) }
     ensures step { StepLaw (points_of order) }
     ensures finish { FinishLaw (points_of order) }
 {}
 
-/// The law of open edges: a test of each edge finds them. Each is the edge of its number of the tile of its
-/// number, and meets the window. The new ones are found by comparing the new tile's edges with open edges alone.
+/// States that a test of each edge finds the open ones. Each is named by its tile's number and its own, and
+/// meets the window. The new ones are found by comparing the new tile's edges with open edges only.
 pub fn open_edge_law(order: Order)
     ensures tested { OpenTestLaw (points_of order) }
     ensures numbers { OpenNumberLaw (points_of order) }
     ensures step { OpenStepLaw (points_of order) }
 {}
 
-/// The law that a search that crosses each edge that meets the window, open or not, finds the same
-/// tiles.
+/// States that a search that crosses each edge that meets the window, open or not, finds the same tiles.
 pub fn every_edge_law(order: Order)
     ensures found_or_open { FoundOrOpenLaw (points_of order) }
     ensures none_open { NoneOpenLaw (points_of order) }
 {}
 
-/// The law of refusals: an open edge with no tile across it means that no depth is enough; a tile
-/// found is drawn at each enough depth; and tiles found are no more than are drawn there.
+/// States why a search stops. If no tile is across an open edge, no depth is enough. A tile found meets the
+/// window at each enough depth, and the tiles found are no more than meet it there.
 pub fn refusal_law(order: Order)
     ensures depth { DepthRefusalLaw (points_of order) }
     ensures drawn { AllDrawnLaw (points_of order) }
     ensures count { CountRefusalLaw (points_of order) }
 {}
 
-/// The law that the search goes on where the window is within the limits, and comes to its end only
-/// there.
+/// States that the search goes on if the window is within the limits, and comes to its end only then.
 pub fn limits_law(order: Order)
     ensures onward { GoesOnLaw (points_of order) }
     ensures end { EndsWithinLaw (points_of order) }
