@@ -6,7 +6,7 @@ zeta^turn z + shift takes the prototile of its kind there; `number` is an edge o
 so; `status` is 0, or the number of the refusal in calls on arrays. `ADDRESS` is a kind and `depth` digits
 from fine to coarse, each a child's number and its parent's kind."""
 from abc import ABC, abstractmethod
-from typing import List, NamedTuple, Optional, Sequence, Tuple
+from typing import NamedTuple, Optional, Sequence, Tuple, Union
 
 import numpy as np
 
@@ -24,6 +24,8 @@ TILE = np.dtype(
 )
 ADDRESS = np.dtype([("kind", "u1"), ("depth", "u1"), ("digits", "u1", (64, 2))])
 MOST_TILES = 200_000
+# addresses as texts, or as an ADDRESS array
+Addresses = Union[Sequence[str], np.ndarray]
 
 
 class Frame(NamedTuple):
@@ -65,13 +67,13 @@ class Machine(ABC):
         """The address across an edge, and the edge there that leads back. BadAddress, NoEdge, Outside."""
 
     @abstractmethod
-    def place_all(self, addresses: Sequence[str]) -> np.ndarray:
+    def place_all(self, addresses: Addresses) -> np.ndarray:
         """`place` of each: TILE (n,), each with its own status."""
 
     @abstractmethod
-    def neighbour_all(self, addresses: Sequence[str], edges: Sequence[int]) -> Tuple[List[str], np.ndarray]:
-        """`neighbour` of each: the addresses, and uint8 (n, 2) of the edges that lead back and the
-        statuses."""
+    def neighbour_all(self, addresses: Addresses, edges: Sequence[int]) -> Tuple[Addresses, np.ndarray]:
+        """`neighbour` of each: the addresses, of the form in which they were given, and uint8 (n, 2) of the
+        edges that lead back and the statuses."""
 
     @abstractmethod
     def cover(self, frame: Frame, box: Box, glue: bool = False) -> Found:

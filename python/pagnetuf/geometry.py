@@ -122,7 +122,7 @@ class Ring:
     def conjugate(self, points: np.ndarray) -> np.ndarray:
         """The points with zeta^3 for zeta, exactly, for the orders 8 and 10. ValueError for 4 and 6."""
         if self.order in (4, 6):
-            raise ValueError("perpendicular space is there for the orders 8 and 10 only")
+            raise ValueError("perpendicular space exists only in orders 8 and 10")
         rows = self.powers[[0, 3, 6, 9 % self.order], 0]
         return np.asarray(points, np.int64) @ rows
 

@@ -1,7 +1,25 @@
 """Pictures of patches as SVG."""
 import numpy as np
 
-COLOURS = ("#1f5f7a", "#8ecae6", "#f2e9d8", "#3a9a9c", "#f4b860", "#8e3b5e")
+# by kind; so many that the sixteen kinds of a rule are all different
+COLOURS = (
+    "#1f5f7a",
+    "#8ecae6",
+    "#f2e9d8",
+    "#3a9a9c",
+    "#f4b860",
+    "#8e3b5e",
+    "#d9694a",
+    "#6b8e4e",
+    "#c9a9d0",
+    "#2b3a55",
+    "#b7d3a8",
+    "#e7a1a8",
+    "#7a5a3a",
+    "#9aa5ad",
+    "#5d5aa8",
+    "#c8b23c",
+)
 
 # by turn, for tilings whose tiles are all of one kind
 TURN_COLOURS = (

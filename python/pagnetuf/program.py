@@ -1,17 +1,17 @@
 """The engine as the program `tiling`, called for each question, or once for many through a script of `calc`.
 
-The program is that which the variable TILING_PROGRAM names; else .tiling/program of the checkout that holds
-this package; else `tiling` on the PATH. A call takes one to two milliseconds beside its work; a window's text
-is parsed in bulk by numpy."""
+The program is that which the variable TILING_PROGRAM names, or .tiling/program of the checkout that holds
+this package, or the installed one, or `tiling` on the PATH. A call takes one to two milliseconds beside its
+work; a window's text is parsed in bulk by numpy."""
 import os
-import shutil
 import subprocess
 from typing import List, Optional, Sequence, Tuple
 
 import numpy as np
 
+from . import places
 from .built_in import BUILT_IN
-from .engine import ADDRESS, TILE, Box, Engine, Found, Frame, Machine
+from .engine import ADDRESS, TILE, Addresses, Box, Engine, Found, Frame, Machine
 from .refusals import BY_NAME, BadScript, BadWords, NoEngine, Refusal, refusal_of
 from .rule import Rule, document_of
 
@@ -21,10 +21,7 @@ NO_EDGE = 255
 
 def find_program() -> str:
     """The path of the program `tiling`. NoEngine."""
-    named = os.environ.get("TILING_PROGRAM")
-    here = os.path.dirname(os.path.abspath(__file__))
-    built = os.path.join(here, os.pardir, os.pardir, ".tiling", "program")
-    found = named or (os.path.normpath(built) if os.access(built, os.X_OK) else shutil.which("tiling"))
+    found = places.program()
     if not found or not os.access(found, os.X_OK):
         raise NoEngine("no program `tiling`: name it by TILING_PROGRAM, or build it by ./tiling --build")
     return found
@@ -71,8 +68,9 @@ class ProgramMachine(Machine):
 
     def ask(self, command: str, given: Optional[bytes] = None, **keys) -> bytes:
         """Calls a command with this rule and these keys."""
-        words = [command, f"rule={self.name}", *(f"{key}={value}" for key, value in keys.items())]
-        return self.engine.call(words, self.file if given is None else given)
+        # (no argument may have the character 0; a question mark is refused at the same place)
+        words = [f"{key}={value}".replace("\0", "?") for key, value in {"rule": self.name, **keys}.items()]
+        return self.engine.call([command, *words], self.file if given is None else given)
 
     def place(self, address: str) -> np.ndarray:
         return parsed_motions(self.ask("place", addr=address))[0]
@@ -81,7 +79,9 @@ class ProgramMachine(Machine):
         there, back = self.ask("neighbour", addr=address, edge=edge).decode().split()
         return there, int(back)
 
-    def place_all(self, addresses: Sequence[str]) -> np.ndarray:
+    def place_all(self, addresses: Addresses) -> np.ndarray:
+        if isinstance(addresses, np.ndarray):
+            addresses = address_texts(addresses)
         answers = self._answers(
             [f"let a {plain(address)}\nplace a\n" for address in addresses],
             lambda i: ("place", {"addr": addresses[i]}),
@@ -96,19 +96,18 @@ class ProgramMachine(Machine):
             tiles["status"][i] = answer.status if isinstance(answer, Refusal) else 0
         return tiles
 
-    def neighbour_all(self, addresses: Sequence[str], edges: Sequence[int]) -> Tuple[List[str], np.ndarray]:
-        scripts = [
-            f"let a {plain(address)}\nacross a {int(edge)} a\n" for address, edge in zip(addresses, edges)
-        ]
-        answers = self._answers(scripts, lambda i: ("neighbour", {"addr": addresses[i], "edge": edges[i]}))
-        there, numbers = list(addresses), np.zeros((len(answers), 2), np.uint8)
+    def neighbour_all(self, addresses: Addresses, edges: Sequence[int]) -> Tuple[Addresses, np.ndarray]:
+        given = address_texts(addresses) if isinstance(addresses, np.ndarray) else addresses
+        scripts = [f"let a {plain(address)}\nacross a {int(edge)} a\n" for address, edge in zip(given, edges)]
+        answers = self._answers(scripts, lambda i: ("neighbour", {"addr": given[i], "edge": edges[i]}))
+        there, numbers = list(given), np.zeros((len(answers), 2), np.uint8)
         for i, answer in enumerate(answers):
             if isinstance(answer, Refusal):
                 numbers[i] = 0, answer.status
             else:
                 there[i], back = answer.decode().split()[-2:]
                 numbers[i] = int(back), 0
-        return there, numbers
+        return (read_texts(there) if isinstance(addresses, np.ndarray) else there), numbers
 
     def _answers(self, scripts: Sequence[str], alone) -> list:
         """A line, or a refusal, for each script of two lines that prints one. Rules of files are asked one by
@@ -262,6 +261,17 @@ def addresses_of(line: np.ndarray, begins: np.ndarray, ends: np.ndarray) -> np.n
         return addresses
     numbers = numbers_of(pieces(line, begins, ends)).reshape(len(begins), 1 + 2 * depth)
     addresses["kind"], addresses["digits"][:, :depth] = numbers[:, 0], numbers[:, 1:].reshape(-1, depth, 2)
+    return addresses
+
+
+def read_texts(texts: Sequence[str]) -> np.ndarray:
+    """The addresses of the program's own texts as ADDRESS (n,)."""
+    addresses = np.zeros(len(texts), ADDRESS)
+    for i, text in enumerate(texts):
+        kind, _, digits = text.partition(":")
+        numbers = [number.split("/") for number in digits.split(",")] if digits else []
+        addresses["kind"][i], addresses["depth"][i] = int(kind), len(numbers)
+        addresses["digits"][i, : len(numbers)] = np.array(numbers, np.uint8).reshape(-1, 2)
     return addresses
 
 

@@ -23,7 +23,7 @@ import numpy as np
 
 from .engine import MOST_TILES, Box, Frame, Machine
 from .inside import fan
-from .patch import Patch, WholePatch, whole_patch
+from .patch import Patch, whole_patch
 
 USUAL_TILES = 50_000
 # what added to a point adds 2 to X and leaves Y, and what adds 2 to Y and leaves X

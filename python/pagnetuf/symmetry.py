@@ -46,7 +46,7 @@ def symmetric_place(
     stars = list(kept_stars(window, fold))
     if which >= len(stars):
         raise NoPlace(
-            f"within half={half[0]},{half[1]} of the point {len(stars)} kinds of vertex stars "
+            f"within half={half[0]},{half[1]} of the point, {len(stars) or 'no'} kinds of vertex stars "
             f"are kept by a turn by 1/{fold}"
         )
     vertices = np.flatnonzero(window.star_labels()[1] == stars[which])

@@ -3,9 +3,10 @@ from typing import Iterable, Iterator, List, NamedTuple, Optional, Sequence, Tup
 
 import numpy as np
 
-from .engine import Box, Engine, Found, Frame, Machine
+from .engine import Addresses, Box, Engine, Found, Frame, Machine
+from .library import usual_engine
 from .patch import Patch, WholePatch, whole_patch
-from .program import NO_EDGE, ProgramEngine, address_text, address_texts
+from .program import NO_EDGE, address_text, address_texts
 from .refusals import BadWords
 
 Point = Tuple[int, int, int, int]
@@ -67,14 +68,15 @@ class Tiling:
     non-periodic tilings, 1982; S. Tatham, Combinatorial coordinates for the aperiodic monotile."""
 
     def __init__(self, name: str, engine: Optional[Engine] = None):
-        """A built-in tiling: "chair", "p2", "p3", "ab" or "halfhex". BadWords for another name; NoEngine."""
-        self._hold((engine or ProgramEngine()).machine(name), name)
+        """A built-in tiling: "chair", "p2", "p3", "ab" or "halfhex". BadWords for another name, NoEngine. For
+        other rules, such as rules/sphinx.toml, use `from_file`."""
+        self._hold((engine or usual_engine()).machine(name), name)
 
     @classmethod
     def from_bytes(cls, data: bytes, name: str = "-", engine: Optional[Engine] = None) -> "Tiling":
         """The tiling of a rule file's bytes. RuleRefused with the first fault; RuleTooLong."""
         self = cls.__new__(cls)
-        self._hold((engine or ProgramEngine()).machine_of(data), name)
+        self._hold((engine or usual_engine()).machine_of(data), name)
         return self
 
     @classmethod
@@ -99,14 +101,14 @@ class Tiling:
         """The tile across an edge, in the same supertile. BadAddress, NoEdge, Outside."""
         return Across(*self.machine.neighbour(addr, edge))
 
-    def place_all(self, addresses: Sequence[str]) -> np.ndarray:
-        """`place` of many: a structured array `pagnetuf.TILE` (n,), each with its `status`, 0 or a refusal's
-        number."""
+    def place_all(self, addresses: Addresses) -> np.ndarray:
+        """`place` of many, given as texts or as an ADDRESS array (n,): a structured array `pagnetuf.TILE`
+        (n,), each with its `status`, 0 or a refusal's number."""
         return self.machine.place_all(addresses)
 
-    def neighbour_all(self, addresses: Sequence[str], edges: Sequence[int]) -> Tuple[List[str], np.ndarray]:
-        """`neighbour` of many: the addresses, and uint8 (n, 2) of edge and status. A refused address stays as
-        it was."""
+    def neighbour_all(self, addresses: Addresses, edges: Sequence[int]) -> Tuple[Addresses, np.ndarray]:
+        """`neighbour` of many: the addresses, as texts or as an ADDRESS array, as they were given, and uint8
+        (n, 2) of edge and status. A refused address stays as it was."""
         if len(addresses) != len(edges):
             raise ValueError("as many edges as addresses are needed")
         return self.machine.neighbour_all(addresses, edges)

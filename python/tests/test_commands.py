@@ -130,3 +130,9 @@ def test_board_as_csv_svg_and_arrays(pagnetuf, tmp_path):
         status == 0 and not out and found["corners"].tolist() == [tile["corners"] for tile in board["tiles"]]
     )
     assert np.allclose(found["xy"], [[it["x"], it["y"]] for it in board["vertices"]])
+
+
+def test_a_rule_of_the_library_by_its_name(pagnetuf, tmp_path):
+    told = [pagnetuf("board", name, "--tiles", 12) for name in ("sphinx", os.path.join(RULES, "sphinx.toml"))]
+    assert told[0][0] == 0 and json.loads(told[0][1])["tiles"] == json.loads(told[1][1])["tiles"]
+    assert pagnetuf("board", "../rules/sphinx")[0] == 1

@@ -36,7 +36,9 @@ def test_the_commands(program, tmp_path):
         os.symlink(os.path.join(TOP, folder), tmp_path / folder)
     both = text() + text(os.path.join(TOP, "README.md"))
     lines = [
-        line for line in re.findall(r"^    \$ (python3 -m pagnetuf .*)$", both, re.M) if SERVES not in line
+        line
+        for line in re.findall(r"^(?:    \$|\| .* \| `)\s*(python3 -m pagnetuf [^`\n]*)(?:`.*)?$", both, re.M)
+        if SERVES not in line
     ]
     assert len(lines) > 8
     for line in lines:

@@ -41,13 +41,34 @@ def asked(port, path="/view", **changes):
 
 
 def unpacked(data):
-    length = int.from_bytes(data[:4], "little")
-    head = json.loads(data[4 : 4 + length])
-    places = np.frombuffer(data, "<f4", 2 * head["vertices"], 4 + length).reshape(-1, 2)
-    loops = np.frombuffer(data, "<i4", head["tiles"] * head["corners"], 4 + length + places.nbytes).reshape(
-        head["tiles"], -1
+    """The header of a view, and its arrays by name."""
+    spot = 4 + int.from_bytes(data[:4], "little")
+    head, arrays = json.loads(data[4:spot]), {}
+    tiles = head["tiles"]
+    for name, kind, *shape in (
+        ("places", "<f4", head["vertices"], 2),
+        ("loops", "<i4", tiles, head["corners"]),
+        ("near", "<i4", tiles, head["corners"]),
+        ("shifts", "<i4", tiles, 4),
+        ("halves", "<i4", tiles, 2),
+        ("kinds", "u1", tiles),
+        ("turns", "u1", tiles),
+        ("addresses", "u1", head["parts"], 1 + 2 * head["depth"]),
+    ):
+        count = int(np.prod(shape))
+        arrays[name] = np.frombuffer(data, kind, count, spot).reshape(shape)
+        spot += arrays[name].nbytes
+    assert spot == len(data)
+    return head, arrays
+
+
+def address_of(arrays, tile):
+    """The text of a tile's address, both halves of a tile that has two."""
+    parts = [arrays["addresses"][half].tolist() for half in arrays["halves"][tile] if half >= 0]
+    return " + ".join(
+        f"{kind}:" + ",".join(f"{a}/{b}" for a, b in zip(digits[::2], digits[1::2]))
+        for kind, *digits in parts
     )
-    return head, places, loops
 
 
 def test_a_view_is_the_window(port):
@@ -59,16 +80,29 @@ def test_a_view_is_the_window(port):
     ):
         status, data = asked(port, rule=rule, at=at, seed="3")
         assert status == 200
-        head, places, loops = unpacked(data)
+        head, arrays = unpacked(data)
         tiling = Tiling(rule) if "." not in rule else Tiling.from_file(os.path.join(RULES, rule))
         centre = np.array([int(a) for a in at.split(",")])
         whole = tiling.window(centre, (20, 12), 3).whole()
-        assert np.allclose(places, tiling.ring.xy(whole.vertices() - centre), atol=1e-4)
-        assert (loops == whole.corners()).all()
-        lines = data.decode("utf-8", "replace").split("\n")[-len(whole) :]
-        assert [line.split(" ", 1)[1] for line in lines[1:]] == [
-            whole.address(i) for i in range(1, len(whole))
-        ]
+        assert np.allclose(arrays["places"], tiling.ring.xy(whole.vertices() - centre), atol=1e-4)
+        assert (arrays["loops"] == whole.corners()).all() and (arrays["near"] == whole.neighbours()).all()
+        assert (arrays["shifts"] == whole.shifts).all() and (arrays["kinds"] == whole.kinds).all()
+        assert [address_of(arrays, i) for i in range(len(whole))] == whole.address_texts()
+        assert set(whole.kinds.tolist()) <= set(head["kinds_of_tiles"])
+
+
+def test_the_kinds_of_whole_tiles(port):
+    """They are those of first halves: the two rhombs, kite and dart, squares and rhombs."""
+    found = {
+        rule: [unpacked(asked(port, rule=rule, halves=halves)[1])[0]["kinds_of_tiles"] for halves in "01"]
+        for rule in ("p3", "p2", "ab", "chair")
+    }
+    assert found == {
+        "p3": [[0, 2], [0, 1, 2, 3]],
+        "p2": [[0, 2], [0, 1, 2, 3]],
+        "ab": [[0, 1], [0, 1, 2]],
+        "chair": [[0], [0]],
+    }
 
 
 @pytest.mark.parametrize(
@@ -126,7 +160,7 @@ def test_only_its_own_page_may_ask(port):
     assert ask(port, "/", Host="evil.example")[0] == 403
     assert ask(port, "/", Origin="http://evil.example")[0] == 403
     assert ask(port, "/rule?name=a.toml", "POST", b"x", Origin="http://evil.example")[0] == 403
-    assert ask(port, "/")[0] == 200
+    assert ask(port, "/")[0] == ask(port, "/raster.js")[0] == 200
     with pytest.raises(OSError):  # another of this machine's addresses
         http.client.HTTPConnection("127.0.0.2", port, timeout=2).request("GET", "/")
 
@@ -148,6 +182,46 @@ def test_rules_that_are_dropped(port):
     assert ask(port, "/rule?name=p3", "POST", data)[0] == 400
     assert ask(port, "/rule?name=..%2Fa", "POST", data)[0] == 400
     assert ask(port, "/rule?name=a.toml", "POST", b"#" * ((1 << 20) + 1))[0] == 413
+
+
+def test_polygons_side_by_side(page, port):
+    """A page's picture is the mean of what lies in each pixel: triangles that fill a square leave no seam, a
+    pixel that is cut in half has half of each colour, and what no polygon covers has the background."""
+    colours = page.js(
+        """const r = new Raster(16), red = Raster.ink([200, 0, 0]), black = Raster.ink([0, 0, 0]);
+        const found = [], data = r.image.data;
+        const at = (x, y) => Array.from(data.slice(4 * (16 * y + x), 4 * (16 * y + x) + 4));
+        r.begin();
+        const wheel = i => [8 + 100 * Math.cos(i * 2 * Math.PI / 7), 8 + 100 * Math.sin(i * 2 * Math.PI / 7)];
+        for (let i = 0; i < 7; i++) r.fill([8.3, 7.9, ...wheel(i), ...wheel(i + 1)], 3, red);
+        r.end(black);
+        found.push([...Array(256).keys()].map(i => r.image.data[4 * i]).reduce((a, b) => Math.min(a, b)));
+        r.begin();
+        r.fill([2.5, 2, 8, 2, 8, 5.25, 2.5, 5.25], 4, red);
+        r.fill([9, 9, 13, 13, 9, 13], 3, red);
+        r.fill([-9, 14, 40, 14, 40, 40, -9, 40], 4, red);
+        r.end(black);
+        const spots = [[2, 3], [5, 3], [5, 5], [8, 3], [10, 10], [12, 9], [0, 13], [0, 14], [15, 15]];
+        return [...found, ...spots.map(([x, y]) => at(x, y))]"""
+    )
+    assert colours[0] >= 190  # (seven triangles meet in a pixel, and the part of each is rounded down)
+    half, full, none = [99, 0, 0, 255], [200, 0, 0, 255], [0, 0, 0, 255]
+    assert colours[1:] == [half, full, [49, 0, 0, 255], none, half, none, none, full, full]
+
+
+def test_moving_draws_no_block_twice(page, port):
+    """Of a view that is moved only what comes into view is drawn, also when other tiles were fetched."""
+    page = Page(page.driver, port, "#rule=p3&at=0,0,0,0&s=20")
+    time.sleep(0.5)
+    x, y = page.middle()
+    before = page.js("return [explorer.report.blocks, explorer.report.views]")
+    for _ in range(8):
+        page.drag(x, y, -160, 0)
+    time.sleep(1)
+    blocks, views = page.js("return [explorer.report.blocks, explorer.report.views]")
+    tall = page.js("return Math.ceil(document.getElementById('canvas').height / 256) + 1")
+    wide = page.js("return Math.ceil(8 * 160 * devicePixelRatio / 256) + 2")
+    assert views > before[1] and blocks - before[0] <= 2 * tall * wide
 
 
 def test_stars_and_the_picture(port):
@@ -227,7 +301,7 @@ def test_dragging_and_zooming(page, port):
     after, _ = page.place()
     assert np.allclose(after - before, np.array([100, 60]) / scale, atol=1e-6)
     under = page.js(
-        "return [explorer.tileAt(arguments[0], arguments[1])].map(i => explorer.view.lines[i])",
+        "return [explorer.tileAt(arguments[0], arguments[1])].map(i => explorer.lineOf(i))",
         x + 40,
         y - 30,
     )
@@ -236,7 +310,7 @@ def test_dragging_and_zooming(page, port):
     _, larger = page.place()
     assert scale * 1.2 < larger < scale * 1.7
     now = page.js(
-        "return [explorer.tileAt(arguments[0], arguments[1])].map(i => explorer.view.lines[i])",
+        "return [explorer.tileAt(arguments[0], arguments[1])].map(i => explorer.lineOf(i))",
         x + 40,
         y - 30,
     )
@@ -245,6 +319,11 @@ def test_dragging_and_zooming(page, port):
         page.drag(x, y, -150, -100)
     time.sleep(0.8)
     assert page.js("return explorer.report.views") >= 2  # new tiles were asked for
+
+
+def test_a_view_with_too_many_tiles_is_zoomed(page, port):
+    page = Page(page.driver, port, "#rule=p2&at=0,0,0,0&s=1")
+    assert page.place()[1] > 1 and page.js("return explorer.report.tiles") > 1000
 
 
 def test_two_fingers(page, port):

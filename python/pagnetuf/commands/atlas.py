@@ -11,6 +11,7 @@ from typing import List, Tuple
 
 import numpy as np
 
+from .. import places
 from ..patch import Patch
 from ..picture import TURN_COLOURS, colours_of, escaped, number
 from ..rule import Rule
@@ -20,16 +21,21 @@ from .command_line import add_frame, add_rule, frame_of, tiling_of, write_text
 STYLE = """body{font:16px/1.5 system-ui,sans-serif;color:#1c2a33;
 margin:2em auto;max-width:1000px;padding:0 16px}
 h1{font-weight:600}h2{margin-top:2em;font-weight:600}
-figure{margin:0;display:inline-block;vertical-align:top;padding:6px 10px}
-figcaption{font-size:14px;max-width:220px}
+.row{display:grid;gap:8px 24px;margin:1em 0}
+.row figure{margin:0 0 12px;display:grid;grid-row:span 2;grid-template-rows:subgrid;align-items:end}
+.prototiles{grid-template-columns:repeat(auto-fill,minmax(180px,1fr))}
+.inflations{grid-template-columns:repeat(auto-fill,minmax(210px,1fr))}
+.stars{grid-template-columns:repeat(auto-fill,minmax(120px,1fr))}
+figcaption{font-size:14px;line-height:1.35;align-self:start}
 svg{display:block;max-width:100%;height:auto}code{overflow-wrap:anywhere}"""
 HEAD = """<!DOCTYPE html>
 <html lang="en"><head><meta charset="utf-8">
 <meta name="viewport" content="width=device-width,initial-scale=1">"""
-LABEL = (
-    'text-anchor="middle" dominant-baseline="central" font-size="0.42" '
-    'stroke="#fff" stroke-width="0.12" paint-order="stroke" fill="#111"'
+LABELS = (
+    'text-anchor="middle" dominant-baseline="central" stroke="#fff" stroke-width="{}" paint-order="stroke" '
+    'fill="#111"'
 )
+LINE = 1.3  # pixels
 
 
 def add_words(parser):
@@ -48,16 +54,17 @@ def run(options):
 
 def page(tiling: Tiling, counted: Patch, shown) -> str:
     name, rule = escaped(title_of(tiling)), tiling.rule
-    colours = Colours(rule, len(np.unique(counted.kinds)) == 1)
+    colours = Colours(rule, counted)
     parts = {
         "Prototiles": [prototiles(rule, colours)],
         "Inflation": [
-            f"<p>Each prototile, inflated by {factor_text(rule)}, is cut into its children.</p>",
+            f"<p>Each prototile, inflated by {factor_text(rule, ' and turned by ')}, is cut into its "
+            f"children. They have the numbers that addresses call them by. Colours are by {colours.by}.</p>",
             inflations(rule, colours),
         ],
         "A patch": [
-            drawn(shown.whole(), colours, 940),
-            f"<p><code>./tiling {escaped(shown.words(True))}{escaped(source(tiling))}</code></p>",
+            drawn(shown.whole(), colours, 33.5, frame=frame_box(shown)),
+            f"<p><code>{places.command()} {escaped(shown.words(True))}{escaped(source(tiling))}</code></p>",
         ],
         "Vertex stars": [stars(counted, colours)],
     }
@@ -67,15 +74,22 @@ def page(tiling: Tiling, counted: Patch, shown) -> str:
 
 
 class Colours:
-    """A colour for each tile: by kind, or by turn where the whole tiles are all of one kind."""
+    """A colour for each tile: by kind; by turn where the whole tiles are all of one kind; by child where they
+    all have one turn too."""
 
-    def __init__(self, rule: Rule, by_turn: bool):
-        self.order, self.by_turn, self.by_kind = rule.order, by_turn, colours_of(np.arange(len(rule.kinds)))
+    def __init__(self, rule: Rule, patch: Patch):
+        self.by = "kind"
+        if len(np.unique(patch.kinds)) == 1:
+            self.by = "turn" if len(np.unique(patch.turns)) > 1 else "child"
+        self.steps = rule.order if self.by == "turn" else max(len(kind.children) for kind in rule.kinds)
+        self.by_kind = colours_of(np.arange(len(rule.kinds)))
 
     def of(self, patch: Patch) -> List[str]:
-        if self.by_turn:
-            return [TURN_COLOURS[turn * len(TURN_COLOURS) // self.order] for turn in patch.turns.tolist()]
-        return [self.by_kind[kind] for kind in patch.kinds.tolist()]
+        if self.by == "kind":
+            return [self.by_kind[kind] for kind in patch.kinds.tolist()]
+        numbers = patch.turns if self.by == "turn" else patch.addresses["digits"][:, 0, 0]
+        most = len(TURN_COLOURS)
+        return [TURN_COLOURS[step * most // self.steps % most] for step in numbers.tolist()]
 
 
 def title_of(tiling: Tiling) -> str:
@@ -88,12 +102,12 @@ def source(tiling: Tiling) -> str:
     return f" < {tiling.name}" if tiling.machine.name == "-" else ""
 
 
-def factor_text(rule: Rule) -> str:
+def factor_text(rule: Rule, joint: str) -> str:
+    """The factor's absolute value, and behind `joint` its angle where it turns."""
     x, y = rule.ring.xy(rule.factor).tolist()
     turn = np.degrees(np.arctan2(y, x))
-    return f"{number(float(np.hypot(x, y)), 6)}" + (
-        f", and turned by {number(float(turn), 2)}°," if abs(turn) > 1e-9 else ""
-    )
+    turned = f"{joint}{number(float(turn), 2)}°" if abs(turn) > 1e-9 else ""
+    return number(float(np.hypot(x, y)), 6) + turned
 
 
 def summary(rule: Rule) -> str:
@@ -101,7 +115,7 @@ def summary(rule: Rule) -> str:
     kinds = (
         f"There are {len(rule.kinds)} kinds of tiles" if len(rule.kinds) > 1 else "There is one kind of tile"
     )
-    factor = factor_text(rule).rstrip(",")
+    factor = factor_text(rule, ", turned by ")
     return f"Order {rule.order}: turns by {360 // rule.order}°. Factor {factor}. {kinds}{glue}."
 
 
@@ -119,94 +133,141 @@ def shares(rule: Rule) -> np.ndarray:
     return share
 
 
-def figure(picture: str, caption: str) -> str:
-    return f"<figure>{picture}<figcaption>{caption}</figcaption></figure>"
+def row(name: str, pictures: List[str], captions: List[str]) -> str:
+    """Pictures side by side, each with a caption."""
+    figures = (
+        f"<figure>{picture}<figcaption>{caption}</figcaption></figure>"
+        for picture, caption in zip(pictures, captions)
+    )
+    return f'<div class="row {name}">{"".join(figures)}</div>'
 
 
 def prototiles(rule: Rule, colours: Colours) -> str:
-    out = []
-    for kind, share in enumerate(shares(rule)):
-        alone = polygon_patch(rule, [(kind, 0, np.zeros(4, np.int64))])
-        out.append(
-            figure(drawn(alone, colours, 200, 60, True), f"kind {kind}, {100 * share:.2f} % of all tiles")
-        )
-    return "".join(out)
+    alone = [polygon_patch(rule, [(kind, 0, np.zeros(4, np.int64))]) for kind in range(len(rule.kinds))]
+    scale = fitting(alone, 140, 80)
+    captions = [f"kind {kind}, {100 * share:.2f} % of all tiles" for kind, share in enumerate(shares(rule))]
+    return row("prototiles", [drawn(it, colours, scale) for it in alone], captions)
 
 
 def polygon_patch(rule: Rule, motions) -> Patch:
-    """A patch of tiles that are named by their motions alone."""
+    """A patch of tiles that are named by their motions alone; its addresses number them as children."""
     from ..engine import ADDRESS, TILE
 
     tiles = np.zeros(len(motions), TILE)
     for i, (kind, turn, shift) in enumerate(motions):
         tiles[i]["kind"], tiles[i]["turn"], tiles[i]["shift"] = kind, turn, shift
-    return Patch(rule, tiles, np.zeros(len(motions), ADDRESS))
+    addresses = np.zeros(len(motions), ADDRESS)
+    addresses["digits"][:, 0, 0] = np.arange(len(motions))
+    return Patch(rule, tiles, addresses)
 
 
 def inflations(rule: Rule, colours: Colours) -> str:
-    out = []
-    for kind, entry in enumerate(rule.kinds):
-        patch = polygon_patch(rule, [(int(child[0]), int(child[1]), child[2:]) for child in entry.children])
-        out.append(
-            figure(drawn(patch, colours, 300, 46, True), f"kind {kind} becomes {children_text(entry)}")
-        )
-    return "".join(out)
+    cut = [
+        polygon_patch(rule, [(int(child[0]), int(child[1]), child[2:]) for child in entry.children])
+        for entry in rule.kinds
+    ]
+    scale = fitting(cut, 205, 80)
+    captions = [f"kind {kind} becomes {children_text(entry)}" for kind, entry in enumerate(rule.kinds)]
+    return row("inflations", [drawn(it, colours, scale, True) for it in cut], captions)
 
 
 def children_text(entry) -> str:
     kinds, counts = np.unique(entry.children[:, 0], return_counts=True)
-    return " and ".join(f"{count} of kind {kind}" for kind, count in zip(kinds.tolist(), counts.tolist()))
+    parts = [f"{count} of kind {kind}" for kind, count in zip(kinds.tolist(), counts.tolist())]
+    return " and ".join([*([", ".join(parts[:-1])] if parts[1:] else []), parts[-1]])
 
 
 def stars(patch: Patch, colours: Colours) -> str:
     """Each vertex star, the most frequent first, with its share."""
     names, numbers = patch.star_labels()
-    total, out = int((numbers >= 0).sum()), []
+    total, found, spots, captions = int((numbers >= 0).sum()), [], [], []
     for star in range(min(len(names), 60)):
         mine = np.flatnonzero(numbers == star)
         tiles = np.flatnonzero((patch.corners() == mine[0]).any(1))
-        caption = f"{100 * len(mine) / total:.2f} %, {len(tiles)} tiles"
-        out.append(figure(drawn(patch.chosen(tiles), colours, 150, 26), caption))
+        found.append(patch.chosen(tiles))
+        spots.append(patch.rule.ring.xy(patch.vertices()[mine[0]]))
+        captions.append(f"{100 * len(mine) / total:.2f} %, {len(tiles)} tiles")
+    scale = fitting(found, 115, 34)
     more = f" The {len(names) - 60} rarest are left out." if len(names) > 60 else ""
     said = f"<p>{len(names)} stars, up to turns, were found round {total} vertices of a window.{more}</p>"
-    return said + "".join(out)
+    pictures = [drawn(star, colours, scale, spot=spot) for star, spot in zip(found, spots)]
+    return said + row("stars", pictures, captions)
 
 
-def drawn(patch: Patch, colours: Colours, most: int, scale: float = 33.5, marks: bool = False) -> str:
-    """A picture at most so many pixels wide, with `scale` pixels a length where that fits; `marks` numbers
-    tiles of several."""
+def frame_box(window) -> np.ndarray:
+    """The rectangle of a window on its picture, y downwards: its least and its greatest corner."""
+    ring, (wide, high) = window.rule.ring, window.box.half
+    middle = ring.xy(np.array(window.box.at)) * (1, -1)
+    half = np.array([wide / 2, high * ring.sine])
+    return np.stack([middle - half, middle + half])
+
+
+def box_of(patch: Patch) -> np.ndarray:
+    """The rectangle round a patch, y downwards."""
     xy = patch.xy() * (1, -1)
-    low, high = np.nanmin(xy, (0, 1)) - 0.08, np.nanmax(xy, (0, 1)) + 0.08
+    return np.stack([np.nanmin(xy, (0, 1)), np.nanmax(xy, (0, 1))])
+
+
+def fitting(patches: List[Patch], most: float, scale: float) -> float:
+    """One scale for several pictures: the widest has at most so many pixels, a length at most `scale`."""
+    return min([scale, *(most / float((box_of(it)[1] - box_of(it)[0])[0]) for it in patches)])
+
+
+def drawn(patch: Patch, colours: Colours, scale: float, marks: bool = False, frame=None, spot=None) -> str:
+    """A picture with `scale` pixels a length, of the whole patch or cut off at a frame. `marks` numbers tiles
+    of several; a dot is at `spot`."""
+    xy = patch.xy() * (1, -1)
+    low, high = box_of(patch) + np.array([[-1], [1]]) * LINE / scale if frame is None else frame
     wide, tall = (high - low).tolist()
-    scale = min(scale, most / wide)
     out = [
         f'<svg xmlns="http://www.w3.org/2000/svg" '
         f'width="{number(wide * scale, 1)}" height="{number(tall * scale, 1)}" '
         f'viewBox="{number(low[0])} {number(low[1])} {number(wide)} {number(tall)}" '
-        f'stroke="#22303a" stroke-width="0.04" stroke-linejoin="round">'
+        f'stroke="#22303a" stroke-width="{number(LINE / scale)}" stroke-linejoin="round">'
     ]
     for colour, corners, count in zip(colours.of(patch), xy.tolist(), patch.counts.tolist()):
         points = " ".join(f"{number(x)},{number(y)}" for x, y in corners[:count])
         out.append(f'<polygon fill="{colour}" points="{points}"/>')
-    out += labels(xy, patch.counts.tolist()) if marks and len(patch) > 1 else []
+    out += labels(xy, patch.counts.tolist(), scale) if marks and len(patch) > 1 else []
+    if spot is not None:
+        x, y = spot.tolist()
+        look = f'r="{number(2.6 / scale)}" fill="#22303a" stroke="#fff"'
+        out.append(f'<circle cx="{number(x)}" cy="{number(-y)}" {look}/>')
     return "".join([*out, "</svg>"])
 
 
-def labels(xy: np.ndarray, counts: List[int]) -> List[str]:
-    """The number of each child, in its middle of area."""
-    out = []
+def labels(xy: np.ndarray, counts: List[int], scale: float) -> List[str]:
+    """The number of each child, in the middle of its widest place and as large as that is."""
+    out = [f"<g {LABELS.format(number(3 / scale))}>"]
     for number_, (corners, count) in enumerate(zip(xy, counts)):
-        x, y = middle(corners[:count])
-        out.append(f'<text x="{number(x)}" y="{number(y)}" {LABEL}>{number_}</text>')
-    return out
+        x, y, room = widest_place(corners[:count])
+        size = min(max(room * (1.25 if number_ < 10 else 1), 9 / scale), 17 / scale)
+        out.append(f'<text x="{number(x)}" y="{number(y)}" font-size="{number(size)}">{number_}</text>')
+    return [*out, "</g>"]
 
 
-def middle(corners: np.ndarray) -> Tuple[float, float]:
-    """The middle of area of a polygon, seen whole from its first corner: of the largest triangle of its
-    fan."""
-    best = max(
-        range(1, len(corners) - 1),
-        key=lambda i: abs(np.cross(corners[i] - corners[0], corners[i + 1] - corners[0])),
-    )
-    x, y = (corners[0] + corners[best] + corners[best + 1]) / 3
-    return float(x), float(y)
+def widest_place(corners: np.ndarray) -> Tuple[float, float, float]:
+    """The middle and the radius of a circle in a polygon, nearly the largest: the best point of a grid, and
+    of finer ones about it. Of several that are as good, the one nearest to the mean of the corners."""
+    low, high = corners.min(0), corners.max(0)
+    middle, half, mean = (low + high) / 2, (high - low) / 2, corners.mean(0)
+    for _ in range(3):
+        steps = np.linspace(-1, 1, 25)
+        points = middle + np.stack(np.meshgrid(steps, steps), -1).reshape(-1, 2) * half
+        rooms = room_at(points, corners)
+        middle = points[np.argmax(rooms - 1e-3 * np.hypot(*(points - mean).T))]
+        half = half / 8
+    return float(middle[0]), float(middle[1]), float(room_at(middle[None], corners)[0])
+
+
+def room_at(points: np.ndarray, corners: np.ndarray) -> np.ndarray:
+    """How far each point is from the rim of a polygon, negative outside: float64 (n,)."""
+    start, end = corners, np.roll(corners, -1, 0)
+    along, to = end - start, points[:, None] - start
+    part = np.clip((to * along).sum(-1) / (along**2).sum(-1), 0, 1)
+    far = np.hypot(*np.moveaxis(to - part[..., None] * along, -1, 0)).min(1)
+    above = (start[:, 1] > points[:, 1:]) != (end[:, 1] > points[:, 1:])
+    with np.errstate(divide="ignore", invalid="ignore"):
+        crossing = start[:, 0] + (points[:, 1:] - start[:, 1]) / along[:, 1] * along[:, 0]
+    inside = (above & (points[:, :1] < crossing)).sum(1) % 2 == 1
+    return np.where(inside, far, -far)

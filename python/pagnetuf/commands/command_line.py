@@ -6,6 +6,7 @@ import re
 import sys
 from typing import List, Optional
 
+from .. import places
 from ..engine import Frame
 from ..refusals import NoEngine, Refusal
 from ..built_in import BUILT_IN
@@ -67,7 +68,9 @@ def colours(text: str) -> List[str]:
 
 
 def add_rule(parser: argparse.ArgumentParser):
-    parser.add_argument("rule", help="p2, p3, ab, chair, halfhex, or a rule file")
+    parser.add_argument(
+        "rule", help="p2, p3, ab, chair, halfhex, a rule file, or the name of one of rules/, as sphinx"
+    )
 
 
 def add_frame(parser: argparse.ArgumentParser):
@@ -90,15 +93,23 @@ def tiling_of(name: str) -> Tiling:
     if name in BUILT_IN:
         return Tiling(name)
     try:
-        return Tiling.from_file(name)
+        return Tiling.from_file(rule_file(name))
     except OSError as trouble:
         raise Trouble(
-            f"there is no tiling {name} and no file of this name that can be read: {trouble.strerror}"
+            f"there is no tiling {name} and no file of this name that can be read: {trouble.strerror}; "
+            f"rule files are in {places.shared('rules')}"
         ) from trouble
     except (UnicodeDecodeError, ValueError) as trouble:
         raise Trouble(f"{name} is TOML 1.1, and Python's own reader has 1.0: {trouble}") from trouble
     except ModuleNotFoundError as trouble:
         raise Trouble(str(trouble)) from trouble
+
+
+def rule_file(name: str) -> str:
+    """The path of a rule file: the name itself, or that of a file of rules/, as `sphinx`."""
+    kept = places.shared("rules", f"{name}.toml")
+    known = re.fullmatch(r"[a-z0-9_]{1,60}", name) and not os.path.exists(name) and os.path.exists(kept)
+    return kept if known else name
 
 
 def frame_of(options) -> Frame:
@@ -130,9 +141,14 @@ def joined(words: List[str]) -> List[str]:
     return out
 
 
+def called() -> str:
+    """What a user types before a command's name: `tiling` where it is installed, as its launcher says."""
+    return os.environ.get("TILING_COMMAND") or "python3 -m pagnetuf"
+
+
 def parser() -> argparse.ArgumentParser:
     top = argparse.ArgumentParser(
-        prog="pagnetuf", description=__import__("pagnetuf").__doc__, allow_abbrev=False
+        prog=called(), description=__import__("pagnetuf").__doc__, allow_abbrev=False
     )
     commands = top.add_subparsers(dest="command", metavar="COMMAND", required=True)
     for name, line in COMMANDS.items():
@@ -140,7 +156,7 @@ def parser() -> argparse.ArgumentParser:
         one = commands.add_parser(
             name,
             help=line,
-            description=module.__doc__,
+            description=module.__doc__.replace("python3 -m pagnetuf", called()),
             allow_abbrev=False,
             formatter_class=argparse.RawDescriptionHelpFormatter,
         )
@@ -162,10 +178,10 @@ def status_of(words: List[str]) -> int:
     except Refusal as refused:
         tell(refused.line)
         cure = CURES.get(type(refused).__name__, "docs/FORMATS.md has it by its name")
-        tell(f"pagnetuf {options.command}: {cure}")
+        tell(f"{called()} {options.command}: {cure}")
         return refused.status
     except (Trouble, NoEngine) as trouble:
-        tell(f"pagnetuf {options.command}: {trouble}")
+        tell(f"{called()} {options.command}: {trouble}")
         return 1
 
 

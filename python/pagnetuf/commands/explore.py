@@ -14,21 +14,22 @@ import sys
 import tempfile
 from collections import OrderedDict
 from http.server import BaseHTTPRequestHandler, ThreadingHTTPServer
-from typing import Dict, Optional
+from typing import Dict, List, Optional, Tuple
 from urllib.parse import parse_qs, urlparse
 
 import numpy as np
 
+from .. import places
 from ..built_in import BUILT_IN
 from ..engine import Box, Frame
+from ..library import usual_engine
+from ..patch import Patch, WholePatch, whole_patch
 from ..picture import svg_of
-from ..program import ProgramEngine
 from ..refusals import NoEngine, Refusal
-from ..tiling import Tiling, Window
-from .command_line import CURES, Trouble, tell, whole_number
+from ..tiling import Tiling, words_of
+from .command_line import CURES, Trouble, whole_number
 
 HERE = os.path.dirname(os.path.abspath(__file__))
-TOP = os.path.normpath(os.path.join(HERE, os.pardir, os.pardir, os.pardir))
 MOST_RULE, MOST_DROPPED = 1 << 20, 64
 INTEGER = re.compile(r"-?[0-9]{1,20}")
 ADDRESS = re.compile(r"[0-9]{1,3}:(?:[0-9]{1,3}/[0-9]{1,3}(?:,[0-9]{1,3}/[0-9]{1,3}){0,63})?")
@@ -64,12 +65,14 @@ class Server(ThreadingHTTPServer):
     daemon_threads = True
 
     def __init__(self, port: int, files):
-        self.engine = ProgramEngine()
+        self.engine = usual_engine()
         self.files = rule_files(files)
         self.dropped: Dict[str, bytes] = {}
         self.tilings: "OrderedDict[str, Tiling]" = OrderedDict()
-        with open(os.path.join(HERE, "explore.html"), "rb") as file:
-            self.page = file.read()
+        self.pages = {
+            "/": ("text/html; charset=utf-8", page_file("explore.html")),
+            "/raster.js": ("text/javascript; charset=utf-8", page_file("raster.js")),
+        }
         try:
             super().__init__(("127.0.0.1", port), Answers)
         except OSError as trouble:
@@ -114,14 +117,19 @@ class Server(ThreadingHTTPServer):
         return {"name": name}
 
 
+def page_file(name: str) -> bytes:
+    with open(os.path.join(HERE, name), "rb") as file:
+        return file.read()
+
+
 def rule_files(given) -> Dict[str, str]:
-    """The rule files that the page offers, by name: those given, and those of the checkout."""
+    """The rule files that the page offers, by name: those given, and those of rules/."""
     found = {}
     for path in given:
         if not os.path.isfile(path):
             raise Trouble(f"there is no file {path}")
         found[os.path.basename(path)] = path
-    folder = os.path.join(TOP, "rules")
+    folder = places.shared("rules")
     for name in sorted(os.listdir(folder)) if os.path.isdir(folder) else []:
         if name.endswith(".toml"):
             found.setdefault(name, os.path.join(folder, name))
@@ -129,9 +137,8 @@ def rule_files(given) -> Dict[str, str]:
 
 
 def fault_picture(line: str, data: bytes) -> Optional[str]:
-    """The picture of a rule's fault by the script of the checkout, where it is there and the fault has a
-    place."""
-    script = os.path.join(TOP, "tools", "draw_rule.py")
+    """The picture of a rule's fault by tools/draw_rule.py, if that is there and the fault has a place."""
+    script = places.shared("tools", "draw_rule.py")
     if not os.path.exists(script):
         return None
     with tempfile.TemporaryDirectory() as folder:
@@ -172,51 +179,68 @@ class View:
             raise WrongQuestion(f"{missing} is missing") from missing
         if not ADDRESS.fullmatch(base) or self.halves not in ("0", "1"):
             raise WrongQuestion("the address hasn't its form, or halves is neither 0 nor 1")
-        self.window = Window(self.tiling.machine, Frame(base, seed), box)
-        self.patch = self.window if self.halves == "1" else self.window.whole()
+        machine, frame, is_whole = self.tiling.machine, Frame(base, seed), self.halves == "0"
+        self.box, self.draw_words = box, words_of(machine, frame, box, is_whole)
+        found = machine.cover(frame, box, is_whole)
+        self.patch = whole_patch(machine.rule, *found) if is_whole else Patch(machine.rule, *found[:2])
 
     def words(self) -> str:
         name = self.tiling.name
-        file = (
-            ""
-            if name in BUILT_IN
-            else f" < {'rules/' if os.path.exists(os.path.join(TOP, 'rules', name)) else ''}{name}"
-        )
-        return "./tiling " + self.window.words(self.halves == "0") + file
+        path = places.shared("rules", name)
+        known = os.path.relpath(path, places.CHECKOUT) if places.is_checkout() else path
+        file = "" if name in BUILT_IN else f" < {known if os.path.exists(path) else name}"
+        return f"{places.command()} {self.draw_words}{file}"
 
     def packed(self) -> bytes:
         """A header in JSON behind its length, and then arrays: see the page's `unpacked`."""
-        patch, ring = self.patch, self.tiling.ring
-        places = ring.xy(patch.vertices() - np.array(self.window.box.at)).astype("<f4")
-        rows = zip(patch.shifts.tolist(), patch.address_texts())
-        text = "\n".join(f"{','.join(map(str, shift))} {address}" for shift, address in rows).encode()
-        head = json.dumps(
-            {
-                "order": ring.order,
-                "tiles": len(patch),
-                "vertices": len(places),
-                "corners": int(patch.outlines().shape[1]),
-                "at": self.window.box.at,
-                "half": self.window.box.half,
-                "words": self.words(),
-            }
-        ).encode()
-        head += b" " * (-len(head) % 4)
+        patch, ring, at = self.patch, self.tiling.ring, np.array(self.box.at)
+        halves, addresses = parts_of(patch)
+        depth = int(addresses["depth"].max(initial=0))
         arrays = [
-            places,
+            ring.xy(patch.vertices() - at).astype("<f4"),
             patch.corners().astype("<i4"),
             patch.neighbours().astype("<i4"),
+            patch.shifts.astype("<i4"),
+            halves.astype("<i4"),
             patch.kinds,
             patch.turns,
+            np.hstack([addresses["kind"][:, None], addresses["digits"].reshape(-1, 128)[:, : 2 * depth]]),
         ]
-        return len(head).to_bytes(4, "little") + head + b"".join(it.tobytes() for it in arrays) + text
+        head = {
+            "order": ring.order,
+            "kinds_of_tiles": self.kinds(),
+            "tiles": len(patch),
+            "vertices": len(patch.vertices()),
+            "corners": int(patch.outlines().shape[1]),
+            "parts": len(addresses),
+            "depth": depth,
+            "at": self.box.at,
+            "half": self.box.half,
+            "command": places.command(),
+            "words": self.words(),
+        }
+        text = json.dumps(head).encode()
+        text += b" " * (-len(text) % 4)
+        return len(text).to_bytes(4, "little") + text + b"".join(it.tobytes() for it in arrays)
+
+    def kinds(self) -> List[int]:
+        """The kinds that a tile of such a view may have: of whole tiles those of their first halves."""
+        rule = self.tiling.rule
+        if self.halves == "1":
+            return list(range(len(rule.kinds)))
+        glued = [kind.edges[edge] if edge >= 0 else None for kind, edge in zip(rule.kinds, rule.glue_edges)]
+        return [
+            kind
+            for kind, type_of in enumerate(glued)
+            if type_of is None or rule.mates[type_of] in glued[kind:]
+        ]
 
     def stars(self) -> dict:
         """Each vertex star of the view, with how often it occurs, and the vertex nearest to the centre that
         has it."""
         names, numbers = self.patch.star_labels()
         points = self.patch.vertices()
-        far = (self.tiling.ring.xy(points - np.array(self.window.box.at)) ** 2).sum(1)
+        far = (self.tiling.ring.xy(points - np.array(self.box.at)) ** 2).sum(1)
         found = []
         for number, star in enumerate(names):
             mine = np.flatnonzero(numbers == number)
@@ -230,6 +254,14 @@ class View:
                 }
             )
         return {"stars": found, "vertices": int((numbers >= 0).sum())}
+
+
+def parts_of(patch: Patch) -> Tuple[np.ndarray, np.ndarray]:
+    """For each tile the numbers of its two halves, -1 if it has no second, and the halves' addresses."""
+    if isinstance(patch, WholePatch):
+        return patch.halves, patch.half_addresses
+    numbers = np.arange(len(patch))
+    return np.stack([numbers, np.full(len(patch), -1)], 1), patch.addresses
 
 
 class Answers(BaseHTTPRequestHandler):
@@ -250,8 +282,8 @@ class Answers(BaseHTTPRequestHandler):
         asked = {key: values[0] for key, values in parse_qs(url.query, keep_blank_values=True).items()}
         if not self.is_own():
             self.answer(403, "text/plain", b"not from here\n")
-        elif url.path == "/":
-            self.answer(200, "text/html; charset=utf-8", self.server.page)
+        elif url.path in self.server.pages:
+            self.answer(200, *self.server.pages[url.path])
         elif url.path == "/rules":
             self.tell(
                 {
@@ -292,9 +324,16 @@ class Answers(BaseHTTPRequestHandler):
         elif url.path != "/rule" or not re.fullmatch(r"[\w .()+-]{1,80}", name) or name in BUILT_IN:
             self.tell({"fault": "a rule file has a name of letters, digits and blanks", "cure": ""}, 400)
         elif not re.fullmatch(r"[0-9]{1,7}", size) or int(size) > MOST_RULE:
+            self.pass_over(size)
             self.tell({"fault": "3 RuleTooLong", "cure": "a rule file has at most 1,048,576 bytes"}, 413)
         else:
             self.tell(self.server.drop(name, self.rfile.read(int(size))))
+
+    def pass_over(self, size: str):
+        """Reads what a browser sends that is too long, since it listens to the answer only after that."""
+        left = int(size) if re.fullmatch(r"[0-9]{1,7}", size) else 0
+        while left > 0 and self.rfile.read(min(left, 1 << 16)):
+            left -= 1 << 16
 
     def tell(self, what: dict, status: int = 200):
         self.answer(status, "application/json", json.dumps(what).encode())

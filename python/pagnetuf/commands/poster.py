@@ -13,6 +13,7 @@ from typing import Dict, List, Optional, Tuple
 
 import numpy as np
 
+from .. import places
 from ..engine import Box, Frame
 from ..patch import Patch, WholePatch
 from ..picture import COLOURS, escaped, number
@@ -100,7 +101,7 @@ def run(options):
         frame, at = symmetric(tiling, page, frame, at, options)
     patch = tiles_of_page(tiling, page, frame, at, not options.halves)
     words = words_of(tiling.machine, frame, Box(at, page.half(tiling)), not options.halves)
-    tell(f"{len(patch)} tiles; ./tiling {words}")
+    tell(f"{len(patch)} tiles; {places.command()} {words}")
     page.centre = np.array(at)
     if options.cut:
         edges, ends = clipped_edges(patch, page)

@@ -1,0 +1,277 @@
+"""The engine as the C library, called in the process by ctypes: tens of times faster a call than the program,
+and the tiles of a window come as arrays.
+
+What the library's header, include/tiling.h, has no call for is asked of the program: rule files, whole tiles
+whose halves reach out of the supertile, stars, walks, pairs and listings. The library is that which
+TILING_LIBRARY names, or one beside the package's files, or .tiling/libtiling.so.0 of a checkout, or the
+installed one."""
+import ctypes
+import os
+from typing import Optional, Sequence, Tuple
+
+import numpy as np
+
+from . import places
+from .built_in import BUILT_IN
+from .engine import ADDRESS, MOST_TILES, TILE, Addresses, Box, Engine, Found, Frame, Machine
+from .glue import glued
+from .program import ProgramEngine, ProgramMachine, address_texts
+from .refusals import BadWords, NoEngine, NoMemory, Refusal
+from .rule import Rule
+
+ABI = 1
+FRAME = np.dtype([("seed", "<u8"), ("base", ADDRESS), ("rest", "u1", 6)])
+WINDOW = np.dtype([("at", "<i8", 4), ("w", "<u2"), ("h", "<u2"), ("rest", "u1", 4)])
+OK, BAD_ADDRESS = 0, 4
+NOTHING = Found(np.zeros(0, TILE), np.zeros(0, ADDRESS), np.zeros(0, np.int64))
+BY_STATUS = {kind.status: kind for kind in reversed(Refusal.__subclasses__())}
+STATUS, SIZE, POINTER = ctypes.c_uint8, ctypes.c_size_t, ctypes.c_void_p
+# the result and the parameters of each function that is called
+CALLS = {
+    "abi": (ctypes.c_uint32,),
+    "open": (STATUS, ctypes.c_char_p, SIZE, POINTER),
+    "read_address": (STATUS, POINTER, ctypes.c_char_p, SIZE, POINTER),
+    "write_address": (STATUS, POINTER, ctypes.c_char_p, SIZE, POINTER),
+    "place": (STATUS, POINTER, POINTER, POINTER),
+    "neighbour": (STATUS, POINTER, POINTER, ctypes.c_uint8, POINTER, POINTER),
+    "cover": (STATUS, POINTER, POINTER, POINTER, POINTER, SIZE, POINTER, SIZE, POINTER),
+}
+# functions that a library may lack; without them the calls on arrays ask for each item by itself
+MORE_CALLS = {
+    "place_all": (STATUS, POINTER, POINTER, SIZE, POINTER, SIZE),
+    "neighbour_all": (STATUS, POINTER, POINTER, SIZE, POINTER, SIZE, POINTER, SIZE),
+}
+CROSSING = np.dtype([("status", "u1"), ("back", "u1"), ("part", "u1")])
+LONGEST_TEXT = 515
+
+
+class OneAddress(ctypes.Structure):
+    """One ADDRESS, for calls on single tiles, where an array would cost more than the call."""
+
+    _fields_ = [("kind", ctypes.c_uint8), ("depth", ctypes.c_uint8), ("digits", ctypes.c_uint8 * 128)]
+
+
+class Library:
+    """The functions of the library at a path. NoEngine if it can't be loaded, or has another interface."""
+
+    def __init__(self, path: str):
+        self.path = path
+        try:
+            loaded = ctypes.CDLL(path)
+            for name, (result, *parameters) in {**CALLS, **MORE_CALLS}.items():
+                call = getattr(loaded, "tiling_" + name, None)
+                if call is None and name in CALLS:
+                    raise AttributeError(f"it has no tiling_{name}")
+                if call is not None:
+                    call.restype, call.argtypes = result, parameters
+                setattr(self, name, call)
+        except (OSError, AttributeError) as trouble:
+            raise NoEngine(f"{path} can't be loaded: {trouble}") from trouble
+        if self.abi() != ABI:
+            raise NoEngine(f"{path} has the interface {self.abi()}, and this package needs {ABI}")
+
+
+class LibraryEngine(Engine):
+    """Machines over the library at a path, or over the one that is found; the program answers the rest."""
+
+    def __init__(self, path: Optional[str] = None, program: Optional[str] = None):
+        found = path or places.library()
+        if not found:
+            raise NoEngine("no C library: name it by TILING_LIBRARY, or build it by ./tiling --build")
+        self.library, self.program = Library(found), program
+
+    def __reduce__(self):
+        return LibraryEngine, (self.library.path, self.program)
+
+    def asking(self) -> ProgramEngine:
+        """The engine over the program. NoEngine where there is none."""
+        return ProgramEngine(self.program)
+
+    def machine(self, name: str) -> "LibraryMachine":
+        if name not in BUILT_IN:
+            raise BadWords(1)
+        return LibraryMachine(self, name)
+
+    def machine_of(self, data: bytes) -> ProgramMachine:
+        return self.asking().machine_of(data)
+
+
+class LibraryMachine(Machine):
+    """A machine of a built-in rule. It is only read, so threads may share it."""
+
+    def __init__(self, engine: LibraryEngine, name: str):
+        self.engine, self.name, self.rule, self.library = engine, name, Rule.built_in(name), engine.library
+        handle, text = ctypes.c_void_p(), name.encode()
+        status = self.library.open(text, len(text), ctypes.byref(handle))
+        if status != OK:
+            raise NoMemory() if status == NoMemory.status else NoEngine(f"tiling_open answered {status}")
+        self.handle = handle
+
+    def __reduce__(self):
+        return self.engine.machine, (self.name,)
+
+    def asking(self) -> Machine:
+        """The same rule over the program, for what the library has no call for, and for the line of a
+        refusal."""
+        return self.engine.asking().machine(self.name)
+
+    def address(self, text: str) -> Optional[OneAddress]:
+        """The address of a text, or None where it is none of this rule."""
+        address, line = OneAddress(), str(text).encode("utf-8", "surrogateescape")
+        status = self.library.read_address(self.handle, line, len(line), ctypes.byref(address))
+        return address if status == OK else None
+
+    def place(self, address: str) -> np.ndarray:
+        tile, read, status = np.zeros((), TILE), self.address(address), BAD_ADDRESS
+        if read is not None:
+            status = self.library.place(self.handle, ctypes.byref(read), tile.ctypes.data)
+        return tile if status == OK else self._refused(status, lambda: self.asking().place(address))
+
+    def neighbour(self, address: str, edge: int) -> Tuple[str, int]:
+        read, status = self.address(address), BAD_ADDRESS
+        if read is not None and fits(edge, "u1"):
+            back, part = ctypes.c_uint8(), ctypes.c_uint8()
+            status = self.library.neighbour(
+                self.handle, ctypes.byref(read), edge, ctypes.byref(back), ctypes.byref(part)
+            )
+            if status == OK:
+                return self._text(read), back.value
+        return self._refused(status, lambda: self.asking().neighbour(address, edge))
+
+    def _text(self, address: OneAddress) -> str:
+        text, size = ctypes.create_string_buffer(LONGEST_TEXT), ctypes.c_size_t()
+        self.library.write_address(ctypes.byref(address), text, LONGEST_TEXT, ctypes.byref(size))
+        return text.raw[: size.value].decode()
+
+    def place_all(self, addresses: Addresses) -> np.ndarray:
+        read, wrong = self._read_all(addresses)
+        tiles, count = np.zeros(len(read), TILE), len(read)
+        from_, to = read.ctypes.data, tiles.ctypes.data
+        if self.library.place_all:
+            self.library.place_all(self.handle, from_, count, to, count)
+        else:
+            place, handle, step, out = self.library.place, self.handle, ADDRESS.itemsize, TILE.itemsize
+            tiles["status"] = [place(handle, from_ + i * step, to + i * out) for i in range(count)]
+        tiles[wrong] = np.zeros((), TILE)
+        tiles["status"][wrong] = BAD_ADDRESS
+        return tiles
+
+    def neighbour_all(self, addresses: Addresses, edges: Sequence[int]) -> Tuple[Addresses, np.ndarray]:
+        read, wrong = self._read_all(addresses)
+        asked = np.asarray(edges)
+        far = (asked < 0) | (asked > 255)
+        crossings = self._crossings(read, np.where(far, 0, asked).astype(np.uint8))
+        numbers = np.stack([crossings["back"], crossings["status"]], 1)
+        numbers[numbers[:, 1] != OK, 0] = 0
+        numbers[wrong] = 0, BAD_ADDRESS
+        numbers[far] = 0, BadWords.status
+        refused = numbers[:, 1] != OK
+        if isinstance(addresses, np.ndarray):
+            read[refused] = addresses[refused]
+            return read, numbers
+        there = zip(address_texts(read), addresses, refused)
+        return [old if is_refused else text for text, old, is_refused in there], numbers
+
+    def _crossings(self, read: np.ndarray, edges: np.ndarray) -> np.ndarray:
+        """What `neighbour` answers for each, as CROSSING (n,); the addresses become those across."""
+        crossings, count = np.zeros(len(read), CROSSING), len(read)
+        if self.library.neighbour_all:
+            given = (read.ctypes.data, count, edges.ctypes.data, count, crossings.ctypes.data, count)
+            self.library.neighbour_all(self.handle, *given)
+            return crossings
+        back, part = ctypes.c_uint8(), ctypes.c_uint8()
+        to_back, to_part = ctypes.byref(back), ctypes.byref(part)
+        neighbour, handle, at, told = self.library.neighbour, self.handle, read.ctypes.data, []
+        for i, edge in enumerate(edges.tolist()):
+            status = neighbour(handle, at + i * ADDRESS.itemsize, edge, to_back, to_part)
+            told.append((status, back.value, part.value))
+        crossings[:] = told
+        return crossings
+
+    def _read_all(self, addresses: Addresses) -> Tuple[np.ndarray, np.ndarray]:
+        """The addresses as a new ADDRESS array, and which of the texts are none of this rule: bool (n,)."""
+        if isinstance(addresses, np.ndarray):
+            return np.array(addresses, ADDRESS), np.zeros(len(addresses), bool)
+        read, statuses = np.zeros(len(addresses), ADDRESS), np.zeros(len(addresses), np.uint8)
+        at = read.ctypes.data
+        for i, text in enumerate(addresses):
+            line = str(text).encode("utf-8", "surrogateescape")
+            statuses[i] = self.library.read_address(self.handle, line, len(line), at + i * ADDRESS.itemsize)
+        return read, statuses != OK
+
+    def cover(self, frame: Frame, box: Box, glue: bool = False) -> Found:
+        found, status = self._covered(frame, box)
+        if status != OK:
+            return self._refused(status, lambda: self.asking().cover(frame, box, glue))
+        if not glue or not self.rule.glue:
+            return found
+        return glued(self.rule, found, self._mate) or self.asking().cover(frame, box, True)
+
+    def _covered(self, frame: Frame, box: Box) -> Tuple[Found, int]:
+        base, window, plane = self.address(frame.base), np.zeros((), WINDOW), np.zeros((), FRAME)
+        if base is None:
+            return NOTHING, BAD_ADDRESS
+        if not fits(frame.seed, "<u8") or not all(fits(half, "<u2") for half in box.half):
+            return NOTHING, BadWords.status
+        if not all(fits(a, "<i8") for a in box.at):
+            return NOTHING, BadWords.status
+        plane["seed"], plane["base"], window["at"] = frame.seed, np.frombuffer(base, ADDRESS)[0], box.at
+        window["w"], window["h"] = box.half
+        # (zeros of this size are pages that nobody has touched yet)
+        tiles, addresses, count = np.zeros(MOST_TILES, TILE), np.zeros(MOST_TILES, ADDRESS), ctypes.c_size_t()
+        status = self.library.cover(
+            *(self.handle, plane.ctypes.data, window.ctypes.data, tiles.ctypes.data, MOST_TILES),
+            *(addresses.ctypes.data, MOST_TILES, ctypes.byref(count)),
+        )
+        found = [it[: count.value].copy() for it in (tiles, addresses)]
+        return Found(*found, np.arange(count.value)), status
+
+    def _mate(self, address: np.ndarray, edge: int) -> Optional[Tuple[np.ndarray, int]]:
+        """The ADDRESS across an edge of a tile, and its edge that leads back; None on the supertile's rim."""
+        there, back, part = np.array(address, ADDRESS), ctypes.c_uint8(), ctypes.c_uint8()
+        status = self.library.neighbour(
+            self.handle, there.ctypes.data, edge, ctypes.byref(back), ctypes.byref(part)
+        )
+        return (there, back.value) if status == OK else None
+
+    def _refused(self, status: int, ask):
+        """The program's own refusal, with its fields, or that of the status where there is no program."""
+        try:
+            return ask()
+        except NoEngine:
+            raise BY_STATUS.get(status, NoEngine)() from None
+
+    def listing(self, frame: Frame, box: Box, glue: bool = False) -> bytes:
+        return self.asking().listing(frame, box, glue)
+
+    def star(self, frame: Frame, vertex: int) -> Found:
+        return self.asking().star(frame, vertex)
+
+    def walk(self, frame: Frame, path: Sequence[int], grow: int = 0) -> Found:
+        return self.asking().walk(frame, path, grow)
+
+    def pair(self, a: str, b: str) -> str:
+        return self.asking().pair(a, b)
+
+    def common(self, a: str, b: str) -> Optional[int]:
+        return self.asking().common(a, b)
+
+    def verify(self, frame: Frame, box: Box, listing: bytes) -> int:
+        return self.asking().verify(frame, box, listing)
+
+
+def usual_engine() -> Engine:
+    """The engine over the library if there is one that can be loaded, else over the program. NoEngine."""
+    if places.library():
+        try:
+            return LibraryEngine()
+        except NoEngine:
+            if os.environ.get("TILING_LIBRARY"):
+                raise
+    return ProgramEngine()
+
+
+def fits(number: int, kind: str) -> bool:
+    """True if a number is one of a dtype."""
+    limits = np.iinfo(kind)
+    return limits.min <= number <= limits.max
