@@ -1,7 +1,8 @@
 #!/bin/sh
-# The program rule_library reads copies of the rule files, which must lie in its folder data/: each copy is its
-# file of rules/ or docs/refused/, and each of these has its copy. Those named `_round_a_vertex` are of tools/fan_rule.py, and
-# checks/stars.sh compares them. Ends with 1 where one differs or is missing.
+# Compares the copies of rule files that the program rule_library reads, in crates/rule_library/data, with the files of
+# rules/ and docs/refused/. Each has its copy, and each copy its file. (Those named `_round_a_vertex` are made by
+# tools/fan_rule.py, and checks/stars.sh compares them.) Ends with 1 if one differs or is missing.
+case ${1:-} in -h | --help) sed -n '2,/^[^#]/s/^# \{0,1\}//p' "$0"; exit 0 ;; esac
 top=$(cd "$(dirname "$0")/.." && pwd) || exit 1
 data="$top/crates/rule_library/data"
 fault=0

@@ -61,7 +61,7 @@ def read(name):
 
 def documents():
     """The names of all documents."""
-    return ["README.md", "rules/README.md"] + sorted(f"docs/{name}" for name in os.listdir(f"{TOP}/docs") if name.endswith(".md"))
+    return ["README.md", "CONTRIBUTING.md", "crates/README.md", "rules/README.md"] + sorted(f"docs/{name}" for name in os.listdir(f"{TOP}/docs") if name.endswith(".md"))
 
 
 def stand_in(folder):
@@ -113,6 +113,15 @@ def commands(name, text, indent, folder):
             i += 1
         if is_runnable(name, command):
             tally.compare("commands", f"{name}:{at}: $ {command}", shell(command, folder), wanted or [""])
+
+
+def recipes(folder):
+    """Runs each command of README's table of recipes, in its order: those of the program write a file and nothing
+    else. (The package's own tests run those of the package.)"""
+    for cells in table(read("README.md"), ["You want"]):
+        for command in quoted(cells[1]):
+            if re.match(r"\./|python3", command) and is_runnable("README.md", command):
+                tally.compare("commands", f"README.md: {cells[0]}", shell(command, folder), [""])
 
 
 def rows(text):
@@ -334,7 +343,7 @@ def named_paths():
     """Each file or folder of the repository that a document names between backquotes is there; `*` stands for
     any name."""
     path = re.compile(r"`((?:crates|docs|rules|tools|checks|python|include|tests)/[\w./*-]*\w[\w./*-]*)`")
-    made = re.compile(r"/out\b")
+    made = re.compile(r"/out\b|/NAME\b")
     for name in documents():
         for target in sorted(set(path.findall(re.sub(r"^```.*?^```", "", read(name), flags=re.M | re.S)))):
             if not made.search(target):
@@ -354,21 +363,21 @@ def table(text, first):
 
 
 def stars_shown():
-    """Each star of docs/BUILT_IN.md is round the vertex that its row names, and its window is drawn."""
-    for name, star, _, words, vertex in table(section(read("docs/BUILT_IN.md"), "Where to look"), ["rule", "star"]):
+    """Each star of docs/TILINGS.md is round the vertex that its row names, and its window is drawn."""
+    for name, star, _, words, vertex in table(section(read("docs/TILINGS.md"), "Where to look"), ["rule", "star"]):
         rule, words = places.Rule(TOP, PROGRAM, quoted(name)[0]), quoted(words)[0].split(" ")
-        where = f"docs/BUILT_IN.md: {rule.name} {star}"
+        where = f"docs/TILINGS.md: {rule.name} {star}"
         tally.compare("stars shown", where, places.star_of(rule, words, vertex), (star, words[1]))
         tally.compare("stars shown", f"{where}, drawn", len(rule.listed(words, 5, 4, "yes")) > 5, True)
 
 
 def symmetric_places():
-    """Each place of high symmetry of docs/BUILT_IN.md is so to the radius that is told, and with its digits
+    """Each place of high symmetry of docs/TILINGS.md is so to the radius that is told, and with its digits
     once more further."""
     head = ["rule", "what is there"]
-    for name, _, turn, radius, words, more in table(section(read("docs/BUILT_IN.md"), "Where to look"), head):
+    for name, _, turn, radius, words, more in table(section(read("docs/TILINGS.md"), "Where to look"), head):
         rule, words, fold = places.Rule(TOP, PROGRAM, quoted(name)[0]), quoted(words)[0].split(" "), int(turn.partition("/")[2])
-        where = f"docs/BUILT_IN.md: {rule.name} {' '.join(words)}"
+        where = f"docs/TILINGS.md: {rule.name} {' '.join(words)}"
         tally.compare("places of symmetry", where, int(places.symmetric_radius(rule, words, fold, int(radius) + 5)), int(radius))
         front, _, digits = words[0].partition(":")
         longer = [f"{front}:{quoted(more)[0]},{digits}", words[1]]
@@ -430,6 +439,7 @@ def main():
         stand_in(folder)
         for name in documents():
             commands(name, read(name), "    ", folder)
+        recipes(folder)
         commands("docs/HELP.txt", read("docs/HELP.txt"), "  ", folder)
         manual = read("docs/tiling.1").replace("\\-", "-")
         manual = manual.replace("\n$ tiling", "\n    $ ./tiling").replace("| tiling", "| ./tiling")

@@ -1,8 +1,9 @@
 #!/bin/sh
-# Draws the gallery anew with the program and compares it with docs/gallery, byte for byte: each picture of
-# docs/gallery/drawn and the page docs/gallery/tilings.html. Each file of rules/ has its picture, one shows stars, each is XML, and
-# the command of README.md draws the picture above it. Ends with 1 where one differs, is missing, or is drawn by nothing.
-# The program is the one that TILING names, or crates/tiling/out/tiling.
+# Draws the gallery again with the program, and compares it with docs/gallery, byte for byte: each picture of
+# docs/gallery/drawn, and the page docs/gallery/tilings.html. Each file of rules/ has its picture, each is XML, and the
+# command of README.md draws the picture above it. Ends with 1 if one differs, is missing, or is drawn by nothing. The
+# program is the one that TILING names, or crates/tiling/out/tiling.
+case ${1:-} in -h | --help) sed -n '2,/^[^#]/s/^# \{0,1\}//p' "$0"; exit 0 ;; esac
 top=$(cd "$(dirname "$0")/.." && pwd) || exit 1
 program=${TILING:-$top/crates/tiling/out/tiling}
 python=${PYTHON:-python3}

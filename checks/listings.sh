@@ -1,8 +1,8 @@
 #!/bin/sh
-# Makes listings of windows of the built-in rules, as their definition says, with whole numbers and apart from the engine,
-# right ones in any order and with addresses of any depth, and each of them spoilt in many ways; and compares what
-# `verify` says of them with what is due. Ends with 1 where one differs. The program is the one that TILING names, or
-# crates/tiling/out/tiling.
+# Makes lists of windows of the built-in rules, by their definition, with integers and without the engine: right ones in
+# any order and with addresses of any depth, and each of them corrupted in many ways. Compares what `verify` prints with
+# what it must print. Ends with 1 if one differs. The program is the one that TILING names, or crates/tiling/out/tiling.
+case ${1:-} in -h | --help) sed -n '2,/^[^#]/s/^# \{0,1\}//p' "$0"; exit 0 ;; esac
 top=$(cd "$(dirname "$0")/.." && pwd) || exit 1
 program=${TILING:-$top/crates/tiling/out/tiling}
 python=${PYTHON:-python3}

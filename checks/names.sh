@@ -1,6 +1,8 @@
 #!/bin/sh
-# Each word of the definitions (crates/*/specs) that two crates have stands in the table of docs/NAMES.md, with those
-# crates; and each word of that table is in the specs of those crates. Ends with 1 where one is missing.
+# Compares docs/NAMES.md with the definitions (crates/*/specs). Each word of the definitions that two crates have is in
+# its table, with those crates, and each word of the table is in the specs of those crates. Ends with 1 if one is
+# missing.
+case ${1:-} in -h | --help) sed -n '2,/^[^#]/s/^# \{0,1\}//p' "$0"; exit 0 ;; esac
 cd "$(dirname "$0")/.." || exit 1
 work=$(mktemp -d) || exit 1
 trap 'rm -rf "$work"' EXIT

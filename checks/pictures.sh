@@ -1,7 +1,8 @@
 #!/bin/sh
-# Draws every picture that scripts make from rule files anew, and compares each with the file in the repository: the
-# same text, and numbers that differ by no more than rounding. Ends with 1 where one differs, is missing, or is drawn by
-# nothing. gallery.sh does so for those that the program draws.
+# Draws every picture that scripts make from rule files again, and compares each with the file in the repository: the
+# same text, and numbers that differ by no more than rounding. Ends with 1 if one differs, is missing, or is drawn by
+# nothing. gallery.sh does the same for the pictures that the program draws.
+case ${1:-} in -h | --help) sed -n '2,/^[^#]/s/^# \{0,1\}//p' "$0"; exit 0 ;; esac
 top=$(cd "$(dirname "$0")/.." && pwd) || exit 1
 python=${PYTHON:-python3}
 if ! "$python" -c 'import tomllib' 2> /dev/null; then

@@ -1,4 +1,4 @@
-"""What docs/BUILT_IN.md and docs/COORDINATES.md say of places, windows and perpendicular space, beside what
+"""What docs/TILINGS.md and docs/COORDINATES.md say of places, windows and perpendicular space, beside what
 the program draws: corners by the numbers of the rule files, exactly and apart from the engine. documents.py
 calls it."""
 import math

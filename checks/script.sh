@@ -1,8 +1,9 @@
 #!/bin/sh
-# Tries the script `tiling` in a small repository of its own, with a stand-in for `rt` that proves nothing and
-# takes no time: what it answers before and after the program is built, on which stream, with which status.
-# Ends with 1 where something is otherwise. What the script says of words that aren't right is compared with
-# the program, where there is one: that which TILING names, or crates/tiling/out/tiling.
+# Tries the script `tiling` in a small repository of its own, with a stand-in for `rt` that proves nothing and takes no
+# time: its answers before and after the program is built, on which stream, and with which status. Ends with 1 if one is
+# wrong. What the script says of wrong arguments is compared with the program, if there is one. The program is the one
+# that TILING names, or crates/tiling/out/tiling.
+case ${1:-} in -h | --help) sed -n '2,/^[^#]/s/^# \{0,1\}//p' "$0"; exit 0 ;; esac
 top=$(cd "$(dirname "$0")/.." && pwd) || exit 1
 for need in flock sha256sum awk nproc; do
     command -v $need > /dev/null || { echo "script: skipped, since there is no $need"; exit 0; }

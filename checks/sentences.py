@@ -6,9 +6,9 @@ import sys
 
 LONGEST, WIDEST, SHOWN = 30, 110, 5
 # how many long sentences, wide lines and avoided words a document may have; none without a row here
-ALLOWED = {
-    "docs/NAMES.md": (4, 2, 20),
-}
+ALLOWED = {}
+# how many lines a document may have
+LENGTHS = {"README.md": 110, "docs/PROMISES.md": 200, "docs/DECISIONS.md": 150, "docs/COST.md": 120}
 # what docs/STYLE.md has a plainer word for, and is never meant otherwise
 AVOIDED = [
     r"but for", r"but that", r"nothing but", r"be it", r"want of memory", r"memory is wanting", r"is (wanting|lacking)",
@@ -110,6 +110,12 @@ def faults(top, name):
     return [(line, what) for _, line, what in sorted(long, reverse=True)], list(wide_lines(name, text)), avoided
 
 
+def length(top, name):
+    """How many lines a document has."""
+    with open(os.path.join(top, name), encoding="utf-8") as file:
+        return sum(1 for _ in file)
+
+
 def main():
     top, listed = sys.argv[1], sys.argv[2:]
     bad, total, worst = 0, [0, 0, 0], []
@@ -127,6 +133,10 @@ def main():
                 bad += 1
             elif number < limit:
                 print(f"sentences: {name} has {number} {what}, and may have {limit}: write {number} in checks/sentences.py")
+    for name, limit in LENGTHS.items():
+        if length(top, name) > limit:
+            print(f"sentences: {name} has {length(top, name)} lines, and may have {limit}", file=sys.stderr)
+            bad += 1
     for _, what in sorted(worst, reverse=True)[:SHOWN] if not listed else []:
         print(f"sentences: {what}")
     print(f"sentences: {total[0]} of more than {LONGEST} words, {total[1]} lines above {WIDEST} columns, {total[2]} avoided words")

@@ -1,8 +1,9 @@
 #!/bin/sh
-# Finds the tiles round vertices of every file of rules/, as their definition says, with whole numbers and apart from the
-# engine, and compares what `star` prints with them; counts the stars of whole tiles of Penrose's tilings and of
-# Ammann-Beenker, which are those of the literature; and tries stars of 61 to 66 tiles. Ends with 1 where one differs. The
-# program is the one that TILING names, or crates/tiling/out/tiling.
+# Finds the tiles around vertices of every file of rules/, by their definition, with integers and without the engine,
+# and compares what `star` prints with them. Counts the stars of whole tiles of Penrose's tilings and of Ammann-Beenker,
+# which are those of the literature, and tries stars of 61 to 66 tiles. Ends with 1 if one differs. The program is the
+# one that TILING names, or crates/tiling/out/tiling.
+case ${1:-} in -h | --help) sed -n '2,/^[^#]/s/^# \{0,1\}//p' "$0"; exit 0 ;; esac
 top=$(cd "$(dirname "$0")/.." && pwd) || exit 1
 program=${TILING:-$top/crates/tiling/out/tiling}
 python=${PYTHON:-python3}

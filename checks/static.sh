@@ -1,6 +1,7 @@
 #!/bin/sh
-# Links the program without the dynamic loader, as `./tiling --build` does where it can, and runs the checks of documents,
-# hostile inputs and streams on it. Ends with 1 where one of them fails. Its object is crates/tiling/out/tiling.o.
+# Links the program without the dynamic loader, as `./tiling --build` does if it can, and runs the checks of documents,
+# hostile inputs and streams on it. Ends with 1 if one of them fails. Its object is crates/tiling/out/tiling.o.
+case ${1:-} in -h | --help) sed -n '2,/^[^#]/s/^# \{0,1\}//p' "$0"; exit 0 ;; esac
 top=$(cd "$(dirname "$0")/.." && pwd) || exit 1
 object=$top/crates/tiling/out/tiling.o
 [ -f "$object" ] || { echo "static: skipped, since there is no $object"; exit 0; }

@@ -26,11 +26,15 @@ CALLS = {
     "draw_window.py": "rules/penrose_p3.toml 0 2/3,1/1,0/1,2/2,0/2,0/2,1/3,1/1 2.2,1.6 9",
     "fan_rule.py": "64",
     "hostile.py": "PROGRAM 20 1 1",
+    "install.sh": None,
     "largest_rule.py": "0 1",
     "link_static.sh": None,
+    "make_deb.sh": None,
     "make_library.sh": None,
+    "make_usage.py": "man docs/usage.toml",
     "paint.py": "--colour turn < DRAWN",
     "refuse_memory.py": None,
+    "uninstall.sh": None,
 }
 wrong, tried = [], 0
 
@@ -40,6 +44,7 @@ def stand_in(folder):
     one."""
     for name in ("checks", "docs", "rules", "tools"):
         shutil.copytree(os.path.join(TOP, name), os.path.join(folder, name))
+    shutil.copy(os.path.join(TOP, "check"), os.path.join(folder, "check"))
     with open(os.path.join(folder, "LINES"), "w", encoding="utf-8") as file:
         file.write("0 1 7,1,0,0 0:1/0,2/0\n" * 5000)
     path, line = '<path class="k0" d="M0 0L0 1000L-2000 1000Z"/>\n', "0 0 0,0,0,0 0:3/0\n"
@@ -107,6 +112,15 @@ def foreign(folder):
         count(f"docs/foreign/{name} without words", ran.returncode == 1 and not ran.stdout and name in err and "Traceback" not in err, err)
 
 
+def checks(folder):
+    """The scripts of checks/, and `check` itself, print what they do with --help."""
+    for name in ["check", *sorted(f"checks/{it}" for it in os.listdir(os.path.join(folder, "checks")) if it.endswith(".sh"))]:
+        with open(os.path.join(folder, name), encoding="utf-8") as file:
+            answers = "-h | --help)" in file.read()
+        ran = subprocess.run(["sh", name, "--help"], cwd=folder, stdin=subprocess.DEVNULL, capture_output=True) if answers else None
+        count(f"{name} --help", ran and ran.returncode == 0 and ran.stdout and not ran.stderr, ran)
+
+
 def main():
     with tempfile.TemporaryDirectory() as folder:
         stand_in(folder)
@@ -122,6 +136,7 @@ def main():
                 words, _, source = text.replace("PROGRAM", PROGRAM).partition(" < ")
                 closed(folder, name, words.split(" "), source and os.path.join(folder, source))
         foreign(folder)
+        checks(folder)
         count("what is in the folders", state(folder) == before, set(state(folder).items()) ^ set(before.items()))
     for line in wrong:
         print(f"tools: {line}", file=sys.stderr)

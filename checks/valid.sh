@@ -1,9 +1,9 @@
 #!/bin/sh
-# Each picture of rules/ and docs/ is valid by the document type of SVG 1.1, and so is what the commands of
-# docs/FORMATS.md make that put a style sheet behind the first line, where there is a program. It needs
-# xmllint and the W3C's document types (in Debian libxml2-utils and w3c-sgml-lib), and is skipped where they
-# are missing. Ends with 1 where one isn't valid. The program is the one that TILING names, or
-# crates/tiling/out/tiling.
+# Tests that each picture of rules/ and docs/ is valid by the document type of SVG 1.1, and so is what the commands of
+# docs/FORMATS.md make that put a style sheet after the first line, if there is a program. It needs xmllint and the
+# W3C's document types (in Debian libxml2-utils and w3c-sgml-lib), and is skipped without them. Ends with 1 if one is
+# not valid. The program is the one that TILING names, or crates/tiling/out/tiling.
+case ${1:-} in -h | --help) sed -n '2,/^[^#]/s/^# \{0,1\}//p' "$0"; exit 0 ;; esac
 top=$(cd "$(dirname "$0")/.." && pwd) || exit 1
 program=${TILING:-$top/crates/tiling/out/tiling}
 case $program in /*) ;; *) program=$PWD/$program ;; esac

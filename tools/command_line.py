@@ -1,6 +1,5 @@
-"""What all scripts of this folder do alike when they are called: they answer --help, tell their usage where
-the words are wrong, tell a trouble in a sentence, and end without a word where the pipe that they write to is
-closed."""
+"""What all scripts of this folder do when they are called. They answer --help, print their usage if the arguments are
+wrong, report a trouble in a sentence, and end without a message if the pipe that they write to is closed."""
 import os
 import sys
 

@@ -1,9 +1,9 @@
 #!/usr/bin/env python3
-"""The corners of placed tiles as x and y, by floating point.
+"""Prints the corners of placed tiles as x and y, in floating point.
 
     corners.py FILE.toml < LINES    LINES are what `place` prints for this rule, or the list that `draw` prints without
-                                    glue; for each its corners, one `x y` a line, with an empty line between tiles
-                                    (Python 3.11 or later)
+                                    glue. For each tile it prints its corners, one `x y` a line, with an empty line
+                                    between tiles (Python 3.11 or later)
 """
 import sys
 

@@ -1,15 +1,15 @@
 #!/usr/bin/env python3
-"""The dearest calls that can be written of each command: how long each takes and how much memory.
+"""Makes the most expensive calls of each command that can be written, and prints how long each takes and how much memory.
 
     dearest.py PROGRAM [--count]          (Python 3.11 or later, on Linux)
 
-A window is taken for each file of rules/: as many tiles as may be drawn, at most 200,000, round the middle of the plane,
-as a picture, a list and a census at once, without and with glued halves; and of each built-in rule the list of that
-window is verified. Then addresses of 64 digits, paths of 1,000 edges, stars of 64 tiles, drills of 200 windows, scripts
-and rule files of a mebibyte, listings of 200,000 lines and of 64 mebibytes. Prints a line for each: its status, the bytes
-that it read and printed, the seconds of processor and the greatest memory, which is that of this script at least; with
---count also its instructions, by valgrind, for all but the windows and the listings. Ends with 1 where a call ends
-otherwise than it must, takes more than two seconds, or more than a gigabyte."""
+For each file of rules/ it draws the largest window around the middle of the plane, of at most 200,000 tiles, as a picture,
+a list and a census at once, without and with glued halves. For each built-in rule it verifies the list of that window.
+Then come addresses of 64 digits, paths of 1,000 edges, stars of 64 tiles, drills of 200 windows, scripts and rule files of
+a mebibyte, and listings of 200,000 lines and of 64 mebibytes. It prints a line for each: its status, the bytes that it
+read and printed, the seconds of processor, and the most memory, which is at least that of this script. With --count it
+also prints the instructions, by valgrind, except for the windows and the listings. Ends with 1 if a call ends in another
+way than it must, takes more than two seconds, or needs more than a gigabyte."""
 import os
 import re
 import subprocess

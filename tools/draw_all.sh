@@ -1,5 +1,5 @@
 #!/bin/sh
-# Draws the pictures that scripts make from rule files anew, in the folders below FOLDER; the repository's own
+# Draws again the pictures that scripts make from rule files, in the folders below FOLDER; the repository's own
 # are those below its top, `.`:
 #   tools/draw_all.sh FOLDER        (Python 3.11 or later)
 # tools/draw_gallery.sh draws those that the program makes.

@@ -3,9 +3,9 @@
 
     draw_descent.py FILE.toml KIND DIGITS HALF_W,HALF_H LEVEL,LEVEL,LEVEL > PICTURE.svg      (Python 3.11 or later)
 
-The frame is that of a tile of KIND with DIGITS, as in 3/0,1/0, the finest first. The window is the box round the tile's
-middle with these half extents. A panel shows the parts of the supertile at which the descent stands when it has come
-down to a LEVEL: in grey those left out, in yellow those taken, and in white those that it looks into further."""
+The frame is that of a tile of KIND with DIGITS, as in 3/0,1/0, the finest first. The window is the box around the tile's
+middle with this half-width and half-height. A panel shows the parts of the supertile when the descent has come down to a LEVEL: in grey
+those left out, in yellow those taken, and in white those that it looks into further."""
 import sys
 
 sys.dont_write_bytecode = True

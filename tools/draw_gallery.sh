@@ -1,5 +1,5 @@
 #!/bin/sh
-# Draws the gallery anew with the program, docs/gallery/drawn and docs/gallery/tilings.html, below FOLDER; the
+# Draws the gallery again with the program, docs/gallery/drawn and docs/gallery/tilings.html, below FOLDER; the
 # repository's own is that below its top, `.`:
 #   tools/draw_gallery.sh FOLDER        (Python 3.11 or later; the program is the one that TILING names, or ./tiling)
 # Each picture is a window far out in a deep supertile: what `draw` prints, coloured by tools/paint.py; and

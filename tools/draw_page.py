@@ -1,5 +1,5 @@
 #!/usr/bin/env python3
-"""Puts pictures of tools/paint.py into one page, where the tile under the pointer says its address.
+"""Puts pictures of tools/paint.py into one page that shows the address of the tile under the pointer.
 
     draw_page.py PICTURE.svg .. > PAGE.html
 

@@ -1,20 +1,20 @@
 #!/usr/bin/env python3
-"""Draws tiles of a supertile of a rule file as SVG, by floating point, from the file's numbers.
+"""Draws tiles of a supertile of a rule file as SVG, in floating point, from the file's numbers.
 
     draw_patch.py [OPTION..] FILE.toml KIND DEPTH > PICTURE.svg      the supertile of that kind and depth (Python 3.11)
 
     --colour kind|turn|child|shape   by the tile's kind, by its turn, by its coarsest child, or by kind with one colour
                                      for the two halves of a glued tile
     --whole                          no line along glue edges, so that two halves look like one tile
-    --window W,H                     only what lies in a window of W by H about the supertile's middle
+    --window W,H                     only what is in a window of W by H around the supertile's middle
     --centre X,Y                     the middle of that window
     --label                          each tile's child numbers, from fine to coarse
-    --outline LEVEL                  thick lines round the supertiles of that level; may be given more than once
+    --outline LEVEL                  thick lines around the supertiles of that level; may be given more than once
     --mark ADDRESS                   that tile in another colour; may be given more than once
-    --width N                        pixels; 800 where it isn't given
+    --width N                        pixels; 800 by default
 
-Each tile is a path of the classes kK and tT (its kind and turn) with its address as its title, so that a style sheet
-can colour it anew."""
+Each tile is a path of the classes kK and tT (its kind and turn) with its address as its title, so a style sheet can
+colour it again."""
 import sys
 
 sys.dont_write_bytecode = True

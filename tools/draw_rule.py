@@ -1,16 +1,16 @@
 #!/usr/bin/env python3
-"""Draws the substitution of rule files as SVG, by floating point, from the numbers of the files.
+"""Draws the substitution of rule files as SVG, in floating point, from the numbers of the files.
 
     draw_rule.py FILE.toml > PICTURE.svg                   one picture (Python 3.11 or later)
     draw_rule.py --to FOLDER FILE.toml ..                  FOLDER/NAME.svg for each FILE NAME.toml
-    draw_rule.py --fault 'REFUSAL' FILE.toml > PICTURE.svg the same with the place in red that the refusal names, as
-                                                           'ChildEdgeLoose 0 0 0' or the whole line of `check`
+    draw_rule.py --fault 'REFUSAL' FILE.toml > PICTURE.svg the same, with the place that the refusal names in red:
+                                                           'ChildEdgeLoose 0 0 0', or the whole line of `check`
 
-Each kind has its prototile on the left, and on the right, as much larger as the factor says, the prototile cut into
-its children. Black numbers are children, and k with a number the child's kind. Blue numbers at edges are edge types; an
-arrow shows which way a directed type runs, so the arrow of a type and that of its mate are the same. The black dot is
-beside vertex 0, the small circles are the other vertices. A file whose first line is '# Refused: ' and a refusal is
-drawn with that refusal's place in red."""
+Each kind has its prototile on the left. On the right is the prototile enlarged by the factor, and cut into its children.
+Black numbers are children, and k with a number is the child's kind. Blue numbers at edges are edge types. An arrow shows
+which way a directed type runs, so the arrow of a type and that of its mate are the same. The black dot is next to vertex
+0, and the small circles are the other vertices. A file whose first line is '# Refused: ' and a refusal is drawn with that
+refusal's place in red."""
 import cmath
 import math
 import os

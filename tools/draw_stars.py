@@ -1,11 +1,11 @@
 #!/usr/bin/env python3
-"""Draws the tiles round some vertices, as the program prints them, side by side as SVG.
+"""Draws the tiles around some vertices, as the program prints them, side by side as SVG.
 
     draw_stars.py PROGRAM FILE.toml NAME ADDRESS VERTEX .. > PICTURE.svg      (Python 3.11 or later)
 
-For each vertex three words: what is written below it, the address of a tile, and the number of a vertex of it. What `star`
-prints is drawn; and of a half whose other half hasn't the vertex, this other one in a lighter colour, as its image in a mirror.
-Where two halves are glued no line is drawn. Edges of type 0 and of its mate are red."""
+Each vertex takes three arguments: the text below it, the address of a tile, and the number of a vertex of it. What `star`
+prints is drawn. If only one half of a tile has the vertex, the other half is drawn in a lighter colour, as its mirror
+image. No line is drawn where two halves are glued. Edges of type 0 and of its mate are red."""
 import subprocess
 import sys
 
@@ -13,7 +13,7 @@ sys.dont_write_bytecode = True
 from command_line import Trouble, WrongWords, run  # noqa: E402
 from rule_file import load, sides  # noqa: E402
 
-CELL, FOOT, UNIT, IN_ROW = 170, 24, 44, 4
+CELL, FOOT, UNIT, IN_ROW = 170, 32, 44, 4
 COLOURS = ["#1f5f7a", "#8ecae6", "#f4b860", "#3a9a9c"]  # of whole tiles, each by the lesser kind of its halves
 
 
@@ -87,7 +87,7 @@ def draw(program, name, stars):
         out.append(f"<g><title>{label}: star addr={address} vertex={vertex}</title>")
         out += star(rule, printed(program, name, address, vertex), middle)
         out.append(f'<circle cx="{middle.real:.1f}" cy="{middle.imag:.1f}" r="3"/>')
-        out.append(f'<text x="{middle.real:.1f}" y="{middle.imag + CELL / 2 + 12:.1f}">{label}</text></g>')
+        out.append(f'<text x="{middle.real:.1f}" y="{middle.imag + CELL / 2 + 20:.1f}">{label}</text></g>')
     return "\n".join([*out, "</svg>", ""])
 
 

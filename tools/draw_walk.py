@@ -3,7 +3,7 @@
 
     draw_walk.py FILE.toml KIND DIGITS PATH > PICTURE.svg      (Python 3.11 or later)
 
-The base is a tile of that kind; DIGITS are those that it grows, as in 3/0,1/0, the finest first; PATH are the numbers of
+The base is a tile of that kind. DIGITS are those that it grows, as in 3/0,1/0, the finest first. PATH has the numbers of
 the edges crossed, as in 0,3. The base stays where it is, and so does every tile found."""
 import cmath
 import sys

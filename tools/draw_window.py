@@ -3,9 +3,9 @@
 
     draw_window.py FILE.toml KIND DIGITS HALF_W,HALF_H STEPS > PICTURE.svg      (Python 3.11 or later)
 
-The frame is that of a tile of KIND with DIGITS, as in 3/0,1/0, the finest first. The window is the box round the tile's
-middle with these half extents. The panels show the start, the tiles after so many STEPS, and the end: found tiles in
-yellow, open edges in orange, and in blue the edges round the tiles found that are not open, which avoid the window."""
+The frame is that of a tile of KIND with DIGITS, as in 3/0,1/0, the finest first. The window is the box around the tile's
+middle with this half-width and half-height. The panels show the start, the tiles after STEPS steps, and the end. Found tiles are yellow,
+open edges orange. The edges around the tiles found that are not open, which avoid the window, are blue."""
 import sys
 
 sys.dont_write_bytecode = True

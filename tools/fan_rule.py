@@ -1,15 +1,17 @@
 #!/usr/bin/env python3
-"""Prints the file of a rule that puts so many tiles round the vertex 1 of the tile 3:0/1,6/0,0/0:
+"""Prints a rule file with this number of tiles around the vertex 1 of the tile 3:0/1,6/0,0/0:
+
     fan_rule.py TILES        (61, 64, 65 or 66)
+
 A rule of order 6 with factor 4, made to try stars that are as large as they may be, or larger.
 
-A *fan* is a triangle with angles of 60°, which the rule cuts from one corner, its apex, into thin triangles, and each of
-these into sixteen of its own kind. So where apexes meet, six fans become a star of many tiles. A *broad fan* is cut
-likewise but for its middle, where a broad triangle stands for several thin ones. Fans lie in pairs, base on base. A
+A *fan* is a triangle with angles of 60°. The rule cuts it from one corner, its apex, into thin triangles, and each of
+these into sixteen of its own kind. So where apexes meet, six fans become a star of many tiles. A *broad fan* is cut in the
+same way, except in its middle, where one broad triangle replaces several thin ones. Fans lie in pairs, base on base. A
 *field* is a triangle that is cut into fields, with a pair of fans in its corner 0, a pair of broad fans in its corner 1,
-and a field in its corner 2. Six of the fields round one point turn to it the corners that are asked for: round that
-point, three levels below, are for each corner 0 the tiles of a fan, for each corner 1 those of a broad fan, and for each
-corner 2 one.
+and a field in its corner 2. Six of the fields around one point turn to it the corners that are asked for. Three levels
+below, there are around that point the tiles of a fan for each corner 0, those of a broad fan for each corner 1, and one
+for each corner 2.
 """
 import sys
 

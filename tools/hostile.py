@@ -1,14 +1,15 @@
 #!/usr/bin/env python3
-"""Hostile use of the program: COUNT inputs made from a seed, each run, and its answer held against the formats.
+"""Hostile use of the program: makes COUNT inputs from a seed, runs each, and compares each answer with the formats.
 
     hostile.py PROGRAM COUNT SEED [PROCESSES]             (Python 3.11 or later, on Linux)
     hostile.py PROGRAM --one NUMBER SEED [FILE]
 
-The inputs are words, addresses, rule files, scripts, windows, walks, drills and listings: right ones, ones with one thing
-wrong, and ones with much wrong. Input NUMBER depends on SEED and its number alone, so that `--one` makes it again: it prints the
-words and the answer, and puts the standard input into FILE. Of each call the status, what stands on both streams, the time
-of processor and the memory are looked at, of every twentieth whether it answers the same twice, of a neighbour whether
-the way back leads back, and of a listing whether it is judged by what `draw` lists. Ends with 1 where something is wrong. Memory is told only where a call takes more than this script, whose memory it has before it begins."""
+The inputs are arguments, addresses, rule files, scripts, windows, walks, drills and listings: right ones, ones with one
+fault, and ones with many. Input NUMBER depends only on SEED and its number, so `--one` makes it again: it prints the
+arguments and the answer, and puts the standard input into FILE. Of each call the status, both streams, the time of
+processor and the memory are checked. Every twentieth call is made twice and must answer the same. Of a neighbour the
+return edge must lead back, and of a listing the verdict must be that by what `draw` lists. Ends with 1 if something is
+wrong. Memory is reported only if a call needs more than this script."""
 import collections
 import concurrent.futures
 import hashlib

@@ -1,6 +1,5 @@
-"""What a call of the program must answer, as docs/FORMATS.md has it, apart from the engine: which words,
-addresses and lines of scripts and listings are refused and how, which statuses may come else, and what a note
-and a text look like."""
+"""What a call of the program must answer, by docs/FORMATS.md and without the engine: which arguments, addresses and lines
+of scripts and listings are refused and how, which other statuses may come, and what a note and a text look like."""
 import functools
 import os
 import re

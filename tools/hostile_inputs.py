@@ -1,5 +1,5 @@
-"""Inputs for the program, each from its own stream of drawn numbers: words and what stands on standard input, right ones,
-ones with one thing wrong, and ones with much wrong."""
+"""Inputs for the program, each from its own stream of random numbers: arguments and standard input, right ones, ones with
+one fault, and ones with many."""
 import os
 import re
 import sys

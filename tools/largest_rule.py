@@ -1,14 +1,13 @@
 """Prints an accepted rule whose machine for two addresses has very many nodes, for measuring.
 
-    largest_rule.py STEPS SEED > RULE.toml      400 steps with the seed 1 take some 20 seconds
+    largest_rule.py STEPS SEED > RULE.toml      400 steps with the seed 1 take about 20 seconds
 
-It has 16 kinds, the most that there may be: 15 rectangles of 4 by 2, with a vertex at each unit, so with 12
-edges, the most that there may be, and one of 3 by 2 with 10; all edges have one type. Each is three times as
-large cut into tiles of these shapes, lying and standing: without the smaller one all tiles would lie at even
-distances. How each kind is cut, and which kinds its children have and which way round, is drawn, and in each
-step drawn anew for one kind or one child; it stays where no fewer pairs of edges meet then. A node is such a
-pair; there could be (15 * 12 + 10) ** 2 = 36,100 of these. Their number is printed to standard error, with
-each tenth of the steps. It takes nothing from the engine."""
+It has 16 kinds, the most that are allowed: 15 rectangles of 4 by 2, with a vertex at each unit, so with 12 edges, the most
+that are allowed, and one of 3 by 2 with 10. All edges have one type. Each is three times as large when cut into tiles of
+these shapes, lying and standing. Without the smaller one all tiles would be at even distances. It chooses at random how
+each kind is cut, and which kinds its children have and which way around. Each step chooses again for one kind or one
+child, and keeps the change unless fewer pairs of edges meet. A node is such a pair; there could be (15 * 12 + 10) ** 2 =
+36,100 of these. Their number is printed to standard error, with each tenth of the steps. It uses nothing of the engine."""
 import random
 import sys
 from collections import deque

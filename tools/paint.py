@@ -3,17 +3,16 @@
 
     ./tiling draw .. layers=svg,list | python3 tools/paint.py [OPTION..] > PICTURE.svg      (Python 3.9 or later)
 
-    --colour kind|turn|child|plain   by the tile's kind, by its turn, by its number as a child, or all alike
-    --level N                        with `child`: the digit of that number from 0, the finest; 0 where it isn't given
+    --colour kind|turn|child|plain   by the tile's kind, by its turn, by its number as a child, or all the same
+    --level N                        with `child`: the number of the digit, counted from 0, the finest; 0 by default
     --palette NAME                   the colours: day, earth, sea, rose, stone or turns; or your own, as '#0b3954,#ff6663'
-    --width N                        pixels; 800 where it isn't given
+    --width N                        pixels; 800 by default
     --title TEXT                     what the picture shows
 
-A whole tile of two halves, which `draw` lists with glue=yes, has the kind, the turn and the number of its
-first half. The shapes are those of the program, to the digit. Path i gets the classes kK and tT (its kind and
-its turn) and, as its title, the address or the two addresses that stand in line i of the list; a style sheet
-can colour it anew. The last path, of the class l, has each line of the picture once; a line has the same
-width at any size."""
+A whole tile of two halves, which `draw` lists with glue=yes, has the kind, the turn and the number of its first half. The
+shapes are those of the program, to the digit. Path i gets the classes kK and tT (its kind and its turn) and, as its title,
+the address or the two addresses in line i of the list; a style sheet can colour it again. The last path, of the class l,
+has each line of the picture once. A line has the same width at any size."""
 import re
 import sys
 
@@ -134,12 +133,15 @@ def given(words):
     options = {"colour": "kind", "level": 0, "palette": None, "width": 800, "title": None}
     while words:
         option, words = words[0].removeprefix("--"), words[1:]
-        if option not in options or not words:
-            raise WrongWords
+        if option not in options:
+            raise Trouble(f"there is no option --{option}; --help names them all")
+        if not words:
+            raise Trouble(f"--{option} wants a value")
         value, words = words[0], words[1:]
         is_own = option == "palette" and OWN.fullmatch(value)
         if option in WORDS and value not in WORDS[option] and not is_own:
-            raise Trouble(f"'{value}' is none of {', '.join(WORDS[option])}")
+            own = ", and no list of colours such as '#0b3954,#ff6663'" if option == "palette" else ""
+            raise Trouble(f"'{value}' is none of {', '.join(WORDS[option])}{own}")
         if option in ("level", "width"):
             if not re.fullmatch(r"\d{1,5}", value):
                 raise Trouble(f"'{value}' is no number")

@@ -1,13 +1,13 @@
 #!/usr/bin/env python3
-"""Refuses each allocation of a call in turn, for a call of each command, and looks at how the call ends.
+"""Refuses each allocation of a call in turn, for a call of each command, and checks how the call ends.
 
     refuse_memory.py PROGRAM        (Python 3.11 or later, on Linux, with a C compiler `cc` and a program that uses libc)
 
 A library made of tools/refuse_memory.c is loaded before the program's own and counts what `main` allocates. A call is run
-once undisturbed, and then once for each number up to its last allocation, where that one gets no memory, and once where
-all from it on get none. It must end with 11, nothing on standard output and its note, or without a note as long as the
-words themselves may want memory, or answer as if nothing had been. Ends with 1 where a call does otherwise, and with 2
-where what it needs is missing."""
+once undisturbed. Then, for each number up to its last allocation, it is run once with no memory for that one, and once
+with none from it on. It must end with 11, nothing on standard output and its note, or give its full answer. While the
+arguments are read, it may end without a note. Ends with 1 if a call does anything else, and with 2 if what the script
+needs is missing."""
 import collections
 import concurrent.futures
 import os

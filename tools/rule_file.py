@@ -1,4 +1,4 @@
-"""Rule files as complex numbers, for pictures and corners: floating point, apart from the engine, which is exact."""
+"""Rule files as complex numbers, for pictures and corners: in floating point and without the engine, which is exact."""
 import cmath
 import sys
 

@@ -1,10 +1,9 @@
 """Rule files as the program reads them: TOML 1.1 in UTF-8, with a byte order mark or without.
 
-Python's own reader has TOML 1.0. So what 1.1 has beyond it is written as 1.0 has it, and then read: in inline
-tables newlines, comments and a comma behind the last entry; in strings the escapes \\e and \\xHH; times
-without seconds. Like the program, it takes brackets and braces in one another up to 80 deep, keys of up to 80
-parts, whole numbers of 64 bits, and floats that 64 bits hold; and a leap second, which is read as the second
-before it."""
+Python's own reader has TOML 1.0. So what 1.1 adds is written as 1.0 has it, and then read: in inline tables newlines,
+comments and a comma after the last entry; in strings the escapes \\e and \\xHH; times without seconds. Like the program,
+it takes brackets and braces nested up to 80 deep, keys of up to 80 parts, integers of 64 bits, and floats that 64 bits
+hold; and a leap second, which is read as the second before it."""
 import math
 import re
 import sys

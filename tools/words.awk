@@ -1,8 +1,8 @@
-# Prints what the program says of words that aren't right, `2 BadWords PLACE`, and in a second line what is
-# wrong with them, by its name; nothing of words that are right. The words of a call stand behind it:
-#   LC_ALL=C awk -f tools/words.awk -- WORD ..
-# docs/FORMATS.md, "Arguments", has this table in words. The script ./tiling asks it, and checks/script.sh
-# compares it with the program.
+# Prints what the program prints about wrong arguments, `2 BadWords PLACE`, and in a second line what is wrong with
+# them; nothing about right ones. The arguments of a call follow it:
+#   LC_ALL=C awk -f tools/words.awk -- ARGUMENT ..
+# docs/FORMATS.md, "Arguments", explains this table. The script ./tiling uses it, checks/script.sh compares it with the
+# program, and checks/usage.sh its keys with docs/usage.toml.
 function is_one_of(word, text) { return word ~ /^[a-z0-9]+$/ && index(" " text " ", " " word " ") }
 function is_number(word, most) {
     if (word !~ /^(0|[1-9][0-9]*)$/) return 0
@@ -65,10 +65,10 @@ function why_command(word,    near) {
     near = meant(word, commands)
     gsub(/ /, ", ", commands)
     if (near) return "there is no command " plain(word) "; did you mean " near "?"
-    return (word == "" ? "the first word is a command" : "there is no command " plain(word)) "; the commands are " commands
+    return (word == "" ? "the first argument is a command" : "there is no command " plain(word)) "; the commands are " commands
 }
 function why_key(word, key,    near) {
-    if (!index(word, "=")) return (word == "" ? "an empty word" : plain(word)) " is not of the form key=value, as rule=chair is"
+    if (!index(word, "=")) return (word == "" ? "an empty argument" : plain(word)) " is not of the form key=value, as rule=chair is"
     near = meant(key, required " " allowed)
     return command " has no key " plain(key) "=; " (near ? "did you mean " near "=?" : "its keys are " with_signs(required " " allowed))
 }
@@ -94,9 +94,9 @@ BEGIN {
     forms["seed"] = "a number from 0 to 18446744073709551615"
     forms["grow"] = "a number from 0 to 64"
     forms["path"] = "1 to 1,000 numbers from 0 to 255 with commas between"
-    forms["at"] = "four whole numbers up to 1048576 with commas between, as 0,0,0,0"
+    forms["at"] = "four integers up to 1048576 with commas between, as 0,0,0,0"
     forms["half"] = "two numbers from 1 to 4096 with a comma between, as 20,12"
-    forms["layers"] = "one to three of svg, list and census with commas between, each once"
+    forms["layers"] = "one to three of svg, list and census with commas between, each at most once"
     forms["glue"] = "yes or no"
     forms["n"] = "a number from 1 to 200"
     command = ARGV[1]

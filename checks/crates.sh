@@ -1,0 +1,60 @@
+#!/bin/sh
+# Makes crates/README.md from crates.txt and the first sentence of each crate's root file, and compares it with the file.
+# Ends with 1 if it differs.
+#   checks/crates.sh --write      writes the file
+case ${1:-} in -h | --help) sed -n '2,/^[^#]/s/^# \{0,1\}//p' "$0"; exit 0 ;; esac
+top=$(cd "$(dirname "$0")/.." && pwd) || exit 1
+command -v python3 > /dev/null || { echo "crates: skipped, since there is no python3"; exit 0; }
+exec python3 - "$top" "$@" << 'END'
+import os, re, sys, textwrap
+
+top, words = sys.argv[1], sys.argv[2:]
+page = f"{top}/crates/README.md"
+HELPS_TRIALS = ("plain_tiles", "refusing_layer", "rule_library")
+PARTS = (
+    ("The program", "From the top down. A crate uses the contracts of crates below it, and the theorems of the theory."),
+    ("The theory", "Definitions, proofs and laws, and no other code. They name no type of the program."),
+    ("Tests", "In crates of their own, since a crate with tests is proved twice."),
+)
+
+
+def read(name):
+    with open(name, encoding="utf-8") as file:
+        return file.read()
+
+
+def root(crate):
+    return next(f"{crate}/src/{name}.rt" for name in ("lib", "main") if os.path.exists(f"{top}/crates/{crate}/src/{name}.rt"))
+
+
+def comment(crate):
+    return " ".join(re.findall(r"^//! ?(.*)$", read(f"{top}/crates/{root(crate)}"), re.M)).strip()
+
+
+def part_of(crate):
+    """Which part of the page has a crate."""
+    if crate.startswith("trial_") or crate.endswith("_trials") or crate in HELPS_TRIALS:
+        return 2
+    return 1 if crate.startswith("theory_") or "and no other code" in comment(crate) else 0
+
+
+crates = [line.split("#")[0].split(":")[0].split()[0] for line in read(f"{top}/crates.txt").split("\n") if line.split("#")[0].strip()]
+lines = ["# The crates", ""]
+lines += textwrap.wrap("Each crate with the first sentence of its root file, which has more. This page is made by `checks/crates.sh --write` "
+                       "from `crates.txt` and these files. See also: [what each promises to those above](../docs/ARCHITECTURE.md), "
+                       "[how to change something](../CONTRIBUTING.md).", 110)
+for number, (title, text) in enumerate(PARTS):
+    lines += ["", f"## {title}", "", text, "", "| Crate | What it is |", "|---|---|"]
+    chosen = [crate for crate in crates if part_of(crate) == number]
+    for crate in reversed(chosen) if number == 0 else chosen:
+        plain = re.sub(r" \([^()]*\)", "", comment(crate))
+        first = re.match(r".*?[.](?=\s+[A-Z`]|$)", plain)[0].replace("|", "\\|")
+        lines.append(f"| [`{crate}`]({root(crate)}) | {first} |")
+made = "\n".join(lines) + "\n"
+if words == ["--write"]:
+    with open(page, "w", encoding="utf-8") as file:
+        file.write(made)
+elif not os.path.exists(page) or read(page) != made:
+    sys.exit("crates: crates/README.md isn't what checks/crates.sh --write makes")
+print(f"crates: {len(crates)} crates on the page")
+END

@@ -1,0 +1,37 @@
+#!/bin/sh
+# Reads the rows of docs/PROMISES.md that have a clause: each promise has at most 40 words, and each name in the column
+# of clauses is a clause, a call, a type or a definition of crates/*/src or crates/*/specs. Ends with 1 if one is not.
+case ${1:-} in -h | --help) sed -n '2,/^[^#]/s/^# \{0,1\}//p' "$0"; exit 0 ;; esac
+top=$(cd "$(dirname "$0")/.." && pwd) || exit 1
+command -v python3 > /dev/null || { echo "promises: skipped, since there is no python3"; exit 0; }
+exec python3 - "$top" << 'END'
+import glob, re, sys
+
+top, most = sys.argv[1], 40
+names = set()
+for kind in ("src/*.rt", "specs/*.antt"):
+    for file in glob.glob(f"{top}/crates/*/{kind}"):
+        names |= set(re.findall(r"[A-Za-z_]\w*", open(file, encoding="utf-8").read()))
+names |= {name.split("/")[-2] for name in glob.glob(f"{top}/crates/*/")}
+bad, rows, is_proved = [], 0, False
+for number, line in enumerate(open(f"{top}/docs/PROMISES.md", encoding="utf-8"), 1):
+    if not line.startswith("|"):
+        is_proved = False
+        continue
+    cells = re.split(r"(?<!\\)\|", line.strip()[1:-1])
+    if re.search(r"[Cc]lause", cells[-1]) and not is_proved:
+        is_proved = True
+        continue
+    if not is_proved or re.fullmatch(r"[-| ]+", line.strip()):
+        continue
+    rows += 1
+    words = sum(1 for word in cells[0].split() if re.search(r"\w", word))
+    if words > most:
+        bad.append(f"line {number} has {words} words, and may have {most}")
+    for code in re.findall(r"`([^`]*)`", cells[-1]):
+        bad += [f"line {number} names {name}, which no crate has" for name in re.findall(r"[A-Za-z_]\w*", code) if name not in names]
+for fault in bad:
+    print(f"promises: {fault}", file=sys.stderr)
+print(f"promises: {rows} rows with a clause, {len(bad)} faults")
+sys.exit(1 if bad else 0)
+END
