@@ -210,7 +210,8 @@ def test_polygons_side_by_side(page, port):
 
 
 def test_moving_draws_no_block_twice(page, port):
-    """Of a view that is moved only what comes into view is drawn, also when other tiles were fetched."""
+    """Of a view that is moved only what comes into view is drawn, and again one column at the rim of each view
+    that is fetched on the way, where the tiles had ended."""
     page = Page(page.driver, port, "#rule=p3&at=0,0,0,0&s=20")
     time.sleep(0.5)
     x, y = page.middle()
@@ -221,7 +222,7 @@ def test_moving_draws_no_block_twice(page, port):
     blocks, views = page.js("return [explorer.report.blocks, explorer.report.views]")
     tall = page.js("return Math.ceil(document.getElementById('canvas').height / 256) + 1")
     wide = page.js("return Math.ceil(8 * 160 * devicePixelRatio / 256) + 2")
-    assert views > before[1] and blocks - before[0] <= 2 * tall * wide
+    assert views > before[1] and blocks - before[0] <= tall * (wide + views - before[1])
 
 
 def test_stars_and_the_picture(port):
