@@ -81,7 +81,7 @@ pub fn cover(
     Ok(tiles.listed(alloc)?)
 }
 
-/// Finds the same tiles as [`cover`], to be read one at a time. Needs a quarter of the memory. It handles a
+/// Finds the same tiles as [`cover`], to be read one at a time. Needs less memory. It handles a
 /// large window from the top down, and every other window by a search.
 pub fn covered_tiles(
     alloc: Global,
