@@ -27,6 +27,7 @@ use Rattle.window_cover.specs.declared.block.Block.{Block}
 use Rattle.window_cover.specs.declared.blocks.Blocks.{Blocks}
 use Rattle.window_cover.specs.declared.runs.Runs.{Runs}
 use Rattle.window_descent.specs.declared.rows.Rows.{Rows}
+use Rattle.window_descent.specs.Rows.{AreRows, levels_of}
 use Rattle.window_cover.specs.Blocks.{IsBlock}
 use Rattle.window_cover.specs.Covered.{tile_of}
 use Rattle.window_cover.specs.Descending.{tile_in, tiles_in, IsKeptTile, digits_above, found_of, IsDescended}
@@ -143,13 +144,19 @@ module _ (m : Rule) (level : ℕ) (p : Part) (is : IsPlacedPart m p) (leaves : L
     }
 
 -- ---- what is known of a part without a look at it
-module _ (m : Rule) (r : Runs) (children : Rows) (bs : Blocks) (path : List Step) (all : Bool) (level : ℕ) (p : Part) where
+-- the rows may have more bounds then
+pub gathering-with : (m : Rule) (r : Runs) (children between : Rows) (bs : Blocks) → AreGathering m r children bs → AreRows m between
+    → AreGathering m r between bs
+gathering-with m r children between bs state rows = record { runs = state.runs; rows = rows; blocks = state.blocks; window = state.window }
+
+module _ (m : Rule) (r : Runs) (children between : Rows) (bs : Blocks) (path : List Step) (all : Bool) (level : ℕ) (p : Part)
+    (levels : levels_of between ≡ levels_of children) where
   -- one that has no tile that is sought
-  pub gathered-none : AreGathering m r children bs → found_of (tiling_of m) r.leaves.window all level p ≡ []
-      → IsGathered m r r children children bs path path all level p
-  gathered-none state none = record {
-    state = state;
-    levels = refl;
+  pub gathered-none : AreGathering m r children bs → AreRows m between → found_of (tiling_of m) r.leaves.window all level p ≡ []
+      → IsGathered m r r children between bs path path all level p
+  gathered-none state rows none = record {
+    state = gathering-with m r children between bs state rows;
+    levels = levels;
     descended = record {
       same_window = refl;
       same_border = refl;
@@ -163,10 +170,10 @@ module _ (m : Rule) (r : Runs) (children : Rows) (bs : Blocks) (path : List Step
   -- one whose tiles that are sought are known to be these
   pub gathered-as : (known : Bool) (s : Runs) (later : Rows) (bs_later : Blocks) (after : List Step)
       → found_of (tiling_of m) r.leaves.window all level p ≡ found_of (tiling_of m) r.leaves.window known level p
-      → IsGathered m r s children later bs_later path after known level p → IsGathered m r s children later bs_later path after all level p
+      → IsGathered m r s between later bs_later path after known level p → IsGathered m r s children later bs_later path after all level p
   gathered-as known s later bs_later after e h = record {
     state = h.state;
-    levels = h.levels;
+    levels = h.levels ∙ levels;
     descended = record {
       same_window = h.descended.same_window;
       same_border = h.descended.same_border;

@@ -14,6 +14,7 @@ mod PartLists
 mod PartSteps
 mod MovedParts
 mod RunTiles
+mod Reached
 mod BlockTiles
 mod Gathered
 mod TileAt

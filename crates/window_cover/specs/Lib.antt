@@ -22,6 +22,7 @@ pub mod Descending
 pub mod Answered
 pub mod Numbered
 pub mod Runs
+pub mod Reach
 pub mod Blocks
 pub mod Gathering
 pub mod Arranged

@@ -1,7 +1,8 @@
 //! The state of a search: the tiles found and the open edges.
-ghost use Rattle.std.specs.Prelude.{◌≡◌, ◌<◌, ◌≤◌, ◌^◌, Some, false, length, nat_abs, nat_lt, slice_get, IsTrue};
+ghost use Rattle.std.specs.Prelude.{◌≡◌, ◌<◌, ◌≤◌, ◌^◌, Some, false, length, map, nat_abs, nat_lt, slice_get, IsTrue};
 ghost use Rattle.std.specs.List.{AllByRecursion};
 ghost use Rattle.cyclo_points.specs.Point.{IsWithin};
+ghost use Rattle.tile_shape.specs.Views.{step_of};
 ghost use Rattle.window_cover.specs.Admitted.{found_as};
 ghost use Rattle.window_cover.specs.Covered.{tile_of};
 ghost use Rattle.window_cover.specs.Found.{first_of};
@@ -118,6 +119,16 @@ impl Cover {
     {
         let found = &self.found[number];
         (found.motion, found.kind)
+    }
+
+    /// Returns the digits of the tile found with this number.
+    #[inline]
+    pub(crate) fn digits_of(&self, number: usize) -> &[Step]
+        requires found { number < length self.now.found }
+        ensures { map step_of result.now ≡ (tile_of self.now.found number).digits }
+    {
+        let found = &self.found[number];
+        &self.digits[found.first..found.first + found.depth as usize]
     }
 
     /// Returns true only if the tile found with this number is near the origin and has at most `depth`

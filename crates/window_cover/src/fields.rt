@@ -1,7 +1,11 @@
 //! Words by which tiles are put in order.
 ghost use Rattle.std.specs.Prelude.{◌≡◌, ◌⊎◌, ℕ, ◌+◌, ◌*◌, ◌^◌, ◌<◌, ◌≤◌, IfSome, IsTrue};
 ghost use Rattle.cyclo_points.specs.declared.motion.Motion.{Motion};
+ghost use Rattle.cyclo_points.specs.declared.point.Point.{Point};
+ghost use Rattle.std.specs.declared.option.Option.{Option};
 ghost use Rattle.tile_place.specs.Keys.{FitsKey};
+ghost use Rattle.window_cover.specs.Reach.{still};
+ghost use Rattle.window_cover.specs.Runs.{shifted_by};
 ghost use Rattle.window_cover.specs.Words.{AreFields, AreHeld, word_count, tile_word, tile_number};
 
 use crate::span::Span;
@@ -58,6 +62,25 @@ impl Fields {
             a3: self.a3.widened(c[3]),
             kinds: larger(self.kinds, u64::from(kind) + 1),
         }
+    }
+
+    /// Returns fields for the same tiles, each moved by a shift that has a place in `shifts`. Returns None if
+    /// a moved coefficient may be too large.
+    pub(crate) fn moved(&self, shifts: &Fields) -> Option<Fields>
+        requires fields { AreFields self.now }
+        requires shifts { AreFields shifts.now }
+        ensures fields { IfSome result AreFields }
+        ensures held { IfSome result (λ fields. (m : Motion) (kind : ℕ) (by : Option Point)
+            → AreHeld self.now m kind → AreHeld shifts.now (still by) 0
+            → AreHeld fields (record { turn = m.turn; shift = shifted_by by m.shift }) kind) }
+    {
+        Some(Fields {
+            a0: self.a0.moved(&shifts.a0)?,
+            a1: self.a1.moved(&shifts.a1)?,
+            a2: self.a2.moved(&shifts.a2)?,
+            a3: self.a3.moved(&shifts.a3)?,
+            kinds: self.kinds,
+        })
     }
 
     /// Returns true only if all words are below 2^64.

@@ -15,7 +15,8 @@ use plane_geom::window::Window;
 use tile_place::machine::Machine;
 use tile_shape::no_memory::NoMemory;
 use tile_shape::step::Step;
-use window_descent::part::{Part, place_of};
+use window_descent::part::Part;
+use window_descent::placing::place_of;
 use window_descent::rows::Rows;
 use window_descent::standing::Standing;
 
@@ -56,16 +57,19 @@ impl Runs {
     fn stands(
         &self,
         machine: &Machine,
-        rows: &Rows,
+        rows: &mut Rows,
         level: u8,
         part: &Part,
         all: bool,
     ) -> Option<Standing>
         requires part { IsPlacedPart machine.now part.now }
-        requires rows { AreRows machine.now rows.now }
-        requires enough { level < levels_of rows.now }
+        requires rows { AreRows machine.now rows.old }
+        requires enough { level < levels_of rows.old }
         requires window { IsWindow self.now.leaves.window }
-        ensures { IfSome result (IsJudged (tiling_of machine.now) self.now.leaves.window all level part.now) }
+        ensures rows { AreRows machine.now rows.new }
+        ensures levels { levels_of rows.new ≡ levels_of rows.old }
+        ensures judged { IfSome result
+            (IsJudged (tiling_of machine.now) self.now.leaves.window all level part.now) }
     {
         judged(machine, &self.leaves.window(), rows, level, part, all)
     }
@@ -158,19 +162,21 @@ fn is_run(blocks: &Blocks, level: u8, all: bool) -> bool
 fn judged(
     machine: &Machine,
     window: &Window,
-    rows: &Rows,
+    rows: &mut Rows,
     level: u8,
     part: &Part,
     all: bool,
 ) -> Option<Standing>
     requires part { IsPlacedPart machine.now part.now }
-    requires rows { AreRows machine.now rows.now }
-    requires enough { level < levels_of rows.now }
+    requires rows { AreRows machine.now rows.old }
+    requires enough { level < levels_of rows.old }
     requires window { IsWindow window.now }
+    ensures rows { AreRows machine.now rows.new }
+    ensures levels { levels_of rows.new ≡ levels_of rows.old }
     ensures judged { IfSome result (IsJudged (tiling_of machine.now) window.now all level part.now) }
 {
     if all {
         return Some(Standing::Within);
     }
-    place_of(machine, window, level, &rows.scale(machine, level), part)
+    place_of(machine, window, rows, level, part)
 }

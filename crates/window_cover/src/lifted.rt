@@ -1,18 +1,47 @@
-//! Appends the digits of a frame to an address.
-ghost use Rattle.std.specs.Prelude.{◌≡◌, ◌≤◌, ◌++◌, drop, length};
+//! Replaces the digits of an address by those of a tile found, of its run, and of a frame.
+ghost use Rattle.std.specs.Prelude.{◌≡◌, ◌+◌, ◌≤◌, ◌++◌, drop, length};
 
-use tile_shape::address::Address;
+use arrayvec::ArrayVec;
 use tile_shape::step::Step;
 
-/// Appends those digits of `above` that an address lacks: the ones from its depth up.
-pub(crate) fn put_behind(addr: &mut Address, above: &[Step])
-    requires no_deeper { length addr.old.digits.items ≤ length above.now }
-    requires at_most_64 { length above.now ≤ 64 }
-    ensures kind { addr.new.kind ≡ addr.old.kind }
-    ensures digits { addr.new.digits.items ≡ addr.old.digits.items ++ drop (length addr.old.digits.items) above.now }
+/// Returns those digits of a frame that a tile with `depth` digits lacks: the ones from its depth up.
+pub(crate) fn behind(above: &[Step], depth: usize) -> &[Step]
+    requires { depth ≤ length above.now }
+    ensures { result.now ≡ drop depth above.now }
 {
-    let depth = addr.digits.len();
-    if depth < above.len() {
-        let _ = addr.digits.try_extend_from_slice(&above[depth..]);
+    &above[depth..]
+}
+
+/// Replaces a list of digits by three lists, one behind another. A list of the same length is overwritten in
+/// place.
+pub(crate) fn put_digits(
+    digits: &mut ArrayVec<Step, 64>,
+    fine: &[Step],
+    middle: &[Step],
+    coarse: &[Step],
+)
+    requires at_most_64 { length fine.now + length middle.now + length coarse.now ≤ 64 }
+    ensures { digits.new.items ≡ fine.now ++ middle.now ++ coarse.now }
+{
+    if digits.len() == fine.len() + middle.len() + coarse.len() {
+        overwrite(digits.as_mut_slice(), fine, middle, coarse);
+    } else {
+        digits.clear();
+        let _ = digits.try_extend_from_slice(fine);
+        let _ = digits.try_extend_from_slice(middle);
+        let _ = digits.try_extend_from_slice(coarse);
     }
+}
+
+/// Overwrites digits by three lists that have as many together.
+fn overwrite(digits: &mut [Step], fine: &[Step], middle: &[Step], coarse: &[Step])
+    requires as_many { length digits.old ≡ length fine.now + length middle.now + length coarse.now }
+    requires at_most_64 { length digits.old ≤ 64 }
+    ensures { digits.new ≡ fine.now ++ middle.now ++ coarse.now }
+{
+    let from = fine.len();
+    let to = from + middle.len();
+    digits[..from].copy_from_slice(fine);
+    digits[from..to].copy_from_slice(middle);
+    digits[to..].copy_from_slice(coarse);
 }

@@ -13,6 +13,7 @@ use std::cmp::Ordering;
 
 impl CoveredTiles {
     /// Returns the kind of the tile at a place in the order.
+    #[inline]
     pub fn kind(&self, place: usize) -> u8
         requires below { place < length self.now }
         ensures { IfSome (slice_get self.now place) (λ x. result ≡ x.kind) }
@@ -23,6 +24,7 @@ impl CoveredTiles {
     }
 
     /// Returns the motion of the tile at a place in the order.
+    #[inline]
     pub fn motion(&self, place: usize) -> Motion
         requires below { place < length self.now }
         ensures { IfSome (slice_get self.now place) (λ x. result ≡ x.motion) }
@@ -53,7 +55,7 @@ impl CoveredTiles {
     }
 
     /// Compares the tile at a place in the order with a motion and a kind.
-    fn compared(&self, place: usize, motion: &Motion, kind: u8) -> Ordering
+    pub fn compared(&self, place: usize, motion: &Motion, kind: u8) -> Ordering
         requires below { place < length self.now }
         ensures { IfSome (slice_get self.now place)
             (λ x. result ≡ slice_cmp int_cmp (numbers_placed x) (order_numbers motion.now kind)) }

@@ -1,12 +1,12 @@
 //! The order of tiles.
-ghost use Rattle.std.specs.Prelude.{◌≡◌, ◌<◌, ◌≤◌, ◌^◌, length, map, IfOk, IfSome};
+ghost use Rattle.std.specs.Prelude.{◌≡◌, ◌<◌, ◌^◌, length, map, IfOk, IfSome};
 ghost use Rattle.std.specs.List.{AllByRecursion};
 ghost use Rattle.tile_place.specs.declared.order_key.OrderKey as key;
 ghost use Rattle.tile_place.specs.Keys.{key_of};
 ghost use Rattle.window_cover.specs.Covered.{tile_of};
 ghost use Rattle.window_cover.specs.Keys.{HasKey, keys_from, AreOrdered};
 ghost use Rattle.window_cover.specs.Runs.{AreRuns, seen};
-ghost use Rattle.window_cover.specs.Words.{AreFields, HoldAll, words_from, tile_number};
+ghost use Rattle.window_cover.specs.Words.{HoldAll, words_from, tile_number};
 
 use crate::fields::Fields;
 use crate::runs::Runs;
@@ -51,32 +51,14 @@ impl Runs {
         numbers_in_keys(alloc, keys.as_slice())
     }
 
-    /// Returns the fields of the tiles' words, or None if there are no tiles or a word needs more than 64
-    /// bits.
+    /// Returns the fields of the tiles' words, or None if there are no tiles, if a tile may be too far, or if a
+    /// word needs more than 64 bits.
     fn fields(&self) -> Option<Fields>
         requires runs { AreRuns self.now }
         ensures { IfSome result (λ fields. HoldAll fields (seen self.now)) }
     {
-        let count = self.len();
-        if count == 0 {
-            return None;
-        }
-        let mut fields = self.first_fields();
-        for number in 0..count {
-            let (motion, kind) = self.place(number);
-            fields = fields.widened(&motion, kind);
-        }
+        let fields = self.leaves.fields()?.moved(&self.shifts()?)?;
         if fields.fit() { Some(fields) } else { None }
-    }
-
-    /// Returns the fields for the first tile alone.
-    fn first_fields(&self) -> Fields
-        requires runs { AreRuns self.now }
-        requires some { 0 < length (seen self.now) }
-        ensures { AreFields result }
-    {
-        let (motion, kind) = self.place(0);
-        Fields::of(&motion, kind)
     }
 
     /// Returns the words of the tiles, in the order of their numbers.

@@ -8,7 +8,7 @@ ghost use Rattle.window_cover.specs.Runs.{AreRuns, CanRun, IsPushed, run_tiles, 
 use crate::admit::MOST_TILES;
 use crate::block::Block;
 use crate::cover::{Cover, no_tile};
-use crate::lifted::put_behind;
+use crate::lifted::{behind, put_digits};
 use crate::run::Run;
 use crate::run_tile::RunTile;
 use cyclo_points::motion::Motion;
@@ -27,7 +27,7 @@ use tile_shape::step::Step;
 #[derive(Drop)]
 pub(crate) struct Runs {
     pub(crate) leaves: Cover,
-    runs: Vec<Run>,
+    pub(crate) runs: Vec<Run>,
     /// The digits of all runs, one run's after another's.
     spans: Vec<Step>,
     tiles: Vec<RunTile>,
@@ -163,11 +163,17 @@ impl Runs {
     {
         let tile = &self.tiles[number];
         let run = &self.runs[tile.run as usize];
-        self.leaves
-            .put_found(tile.leaf as usize, kind, motion, addr);
-        motion.shift = shifted(&motion.shift, &run.shift);
-        put_more(addr, &self.spans, run.first, run.depth);
-        put_behind(addr, above);
+        let (own, own_kind) = self.leaves.place(tile.leaf as usize);
+        *kind = own_kind;
+        *motion = Motion {
+            turn: own.turn,
+            shift: shifted(&own.shift, &run.shift),
+        };
+        addr.kind = own_kind;
+        let fine = self.leaves.digits_of(tile.leaf as usize);
+        let middle = span(&self.spans, run.first, run.depth);
+        let coarse = behind(above, fine.len() + middle.len());
+        put_digits(&mut addr.digits, fine, middle, coarse);
     }
 }
 
@@ -185,16 +191,13 @@ fn push_tiles(tiles: &mut Vec<RunTile>, run: u32, first: u32, count: u32) -> Res
     Ok(())
 }
 
-/// Appends the digits of a run to an address.
-fn put_more(addr: &mut Address, spans: &[Step], first: usize, depth: u8)
-    requires there { first + depth ≤ length spans.now }
-    requires at_most_64 { length addr.old.digits.items + depth ≤ 64 }
-    ensures kind { addr.new.kind ≡ addr.old.kind }
-    ensures digits { addr.new.digits.items ≡ addr.old.digits.items ++ take depth (drop first spans.now) }
+/// Returns the digits of a run.
+#[inline]
+fn span(spans: &[Step], first: usize, depth: u8) -> &[Step]
+    requires { first + depth ≤ length spans.now }
+    ensures { result.now ≡ take depth (drop first spans.now) }
 {
-    let _ = addr
-        .digits
-        .try_extend_from_slice(&spans[first..first + depth as usize]);
+    &spans[first..first + depth as usize]
 }
 
 /// Returns the shift of a leaf as part of a run.

@@ -11,7 +11,7 @@ use windows::frame_laws::{
 };
 use windows::search_laws::open_edge_law;
 
-/// The laws of the search, for the points of each order.
+/// States the laws of the search, for the points of each order.
 pub fn search_laws(order: Order)
     ensures { HasSearchLaws (points_of order) }
 {

@@ -1,7 +1,10 @@
 //! The range of one coefficient.
-ghost use Rattle.std.specs.Prelude.{◌≡◌, ◌^◌, ℤ};
+ghost use Rattle.std.specs.Prelude.{◌≡◌, ◌^◌, ℤ, ◌+ℤ◌, IfSome};
 ghost use Rattle.cyclo_points.specs.Point.{Within};
 ghost use Rattle.window_cover.specs.Words.{IsSpan, LiesIn, span_width, offset_in};
+
+/// The greatest coefficient.
+const LIMIT: i64 = 1 << 24;
 
 /// The integers from `least` to `greatest`.
 #[derive(Clone, Copy, Debug)]
@@ -44,6 +47,23 @@ impl Span {
         } else {
             self
         }
+    }
+
+    /// Returns the span of all sums of a number of this span and one of another. Returns None if a sum may be
+    /// too large for a coefficient.
+    pub(crate) fn moved(&self, other: &Span) -> Option<Span>
+        requires span { IsSpan self.now }
+        requires other { IsSpan other.now }
+        ensures span { IfSome result IsSpan }
+        ensures held { IfSome result (λ sums. (x y : ℤ) → LiesIn self.now x → LiesIn other.now y
+            → LiesIn sums (x +ℤ y)) }
+    {
+        let least = self.least + other.least;
+        let greatest = self.greatest + other.greatest;
+        if least < -LIMIT || greatest > LIMIT {
+            return None;
+        }
+        Some(Span { least, greatest })
     }
 
     /// Returns the number of integers in the span.

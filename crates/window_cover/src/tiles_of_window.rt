@@ -33,9 +33,8 @@ use windows::frame_laws::frame_window_law;
 /// Finds exactly the tiles of the frame that meet the window, ordered by shift, then turn, then kind. A tile
 /// that only touches the window does not meet it.
 ///
-/// The frame grows only as far as it must, and never gets shallower. It stops at the least depth
-/// at which its supertile holds the window's centre, and no edge on the supertile's boundary meets the
-/// window.
+/// The frame grows only as far as needed, and never gets shallower. It stops at the least depth at which its
+/// supertile holds the window's centre, and no edge on the supertile's boundary meets the window.
 ///
 /// This call always searches from the tile that holds the centre. [`covered_tiles`] is faster for a large
 /// window.
@@ -60,8 +59,8 @@ pub fn cover(
 
     ensures frame { GrowsTo (tiling_of machine.now) frame.old frame.new }
 
-    // Exactly the tiles of the frame that meet the window, each once and in its place. The depth is the least
-    // that is enough, and the tiles cover the window.
+    // Exactly the tiles of the frame that meet the window, each exactly once and in its place. The depth is
+    // the least that is enough, and the tiles cover the window.
     ensures drawn { IfOk result (λ tiles. AreDrawn (tiling_of machine.now) frame.new window.now (map (placed_in machine.now.order) tiles.items)) }
     ensures stand { IfOk result (λ tiles. All (Stands (tiling_of machine.now) frame.new) tiles.items) }
     ensures in_order { IfOk result (λ tiles. AreInOrder tiles.items) }
@@ -94,8 +93,8 @@ pub fn covered_tiles(
 
     ensures frame { GrowsTo (tiling_of machine.now) frame.old frame.new }
 
-    // Exactly the tiles of the frame that meet the window, each once and in its place. The depth is the least
-    // that is enough, and the tiles cover the window.
+    // Exactly the tiles of the frame that meet the window, each exactly once and in its place. The depth is
+    // the least that is enough, and the tiles cover the window.
     ensures drawn { IfOk result (λ tiles. AreDrawn (tiling_of machine.now) frame.new window.now (map (placed_in machine.now.order) tiles)) }
     ensures stand { IfOk result (λ tiles. All (Stands (tiling_of machine.now) frame.new) tiles) }
     ensures in_order { IfOk result (λ tiles. AreInOrder tiles) }
@@ -134,8 +133,8 @@ fn by_search(
 
     ensures frame { GrowsTo (tiling_of machine.now) frame.old frame.new }
 
-    // Exactly the tiles of the frame that meet the window, each once and in its place. The depth is the least
-    // that is enough, and the tiles cover the window.
+    // Exactly the tiles of the frame that meet the window, each exactly once and in its place. The depth is
+    // the least that is enough, and the tiles cover the window.
     ensures drawn { IfOk result (λ tiles. AreDrawn (tiling_of machine.now) frame.new window.now (map (placed_in machine.now.order) tiles)) }
     ensures stand { IfOk result (λ tiles. All (Stands (tiling_of machine.now) frame.new) tiles) }
     ensures in_order { IfOk result (λ tiles. AreInOrder tiles) }

@@ -24,7 +24,7 @@ use Rattle.window_descent.specs.Parts.{IsPartAt}
 use Rattle.window_descent.specs.Rows.{row_place, only_turned, no_part, IsChildRow, IsLonger, IsShifted}
 
 -- the origin is 0
-origin-zero : (o : Order) → point_in o origin ≡ (points_of o).ring.int (pos 0)
+pub origin-zero : (o : Order) → point_in o origin ≡ (points_of o).ring.int (pos 0)
 origin-zero Four = refl
 origin-zero Six = refl
 origin-zero Eight = refl
@@ -99,23 +99,27 @@ same_or (suc i) (suc j) = at_lesser (same_or i j)
     at_lesser (inl e) = inl (ap suc e)
     at_lesser (inr n) = inr (λ e. n (omega arith))
 
-module _ (m : Rule) (few_kinds : length (rule_of m).kinds ≤ 16) (few_turns : (points_of m.order).order ≤ 16) (powers : List Point)
-    (firsts : List (Option ℕ)) (parts : List Part) (level kind turn first : ℕ) (a : kind < length (rule_of m).kinds)
-    (b : turn < (points_of m.order).order)
-    (there : row_place level kind turn < length firsts) (row : IsChildRow m (get_or powers level no_point) kind turn parts first)
-    (made : AreMade m powers firsts parts) where
-  abbrev noted : List (Option ℕ)
-  noted = set firsts (row_place level kind turn) (Some first)
+-- what is noted by level, kind and turn is right
+abbrev pub AreNoted : (m : Rule) {A : Type 0} (levels : ℕ) (Q : ℕ → ℕ → ℕ → A → Type 0) (noted : List (Option A)) → Type 0
+AreNoted m levels Q noted =
+    (level kind turn : ℕ) → level < levels → kind < length (rule_of m).kinds → turn < (points_of m.order).order
+    → IfSome (get_or noted (row_place level kind turn) None) (Q level kind turn)
+
+module _ (m : Rule) (few_kinds : length (rule_of m).kinds ≤ 16) (few_turns : (points_of m.order).order ≤ 16) {A : Type 0} (levels : ℕ)
+    (Q : ℕ → ℕ → ℕ → A → Type 0) (before : List (Option A)) (level kind turn : ℕ) (new : Option A) (a : kind < length (rule_of m).kinds)
+    (b : turn < (points_of m.order).order) (there : row_place level kind turn < length before) (right : IfSome new (Q level kind turn))
+    (all : AreNoted m levels Q before) where
+  abbrev noted : List (Option A)
+  noted = set before (row_place level kind turn) new
 
   abbrev IsNoted : ℕ → ℕ → ℕ → Type 0
-  IsNoted l k t = IfSome (get_or noted (row_place l k t) None) (IsChildRow m (get_or powers l no_point) k t parts)
+  IsNoted l k t = IfSome (get_or noted (row_place l k t) None) (Q l k t)
 
-  pub made-noted : AreMade m powers noted parts
-  made-noted l k t f g h = at_place (same_or (row_place level kind turn) (row_place l k t))
+  pub noted-more : AreNoted m levels Q noted
+  noted-more l k t f g h = at_place (same_or (row_place level kind turn) (row_place l k t))
     where
       own : IsNoted level kind turn
-      own = subst (λ x. IfSome x (IsChildRow m (get_or powers level no_point) kind turn parts))
-          (sym (get_or-set_same firsts (row_place level kind turn) (Some first) None there)) row
+      own = subst (λ x. IfSome x (Q level kind turn)) (sym (get_or-set_same before (row_place level kind turn) new None there)) right
 
       same_level : row_place l k t ≡ row_place level kind turn → level ≡ l
       same_level e = omega arith
@@ -129,8 +133,8 @@ module _ (m : Rule) (few_kinds : length (rule_of m).kinds ≤ 16) (few_turns : (
       at_place : (row_place l k t ≡ row_place level kind turn) ⊎ (¬ (row_place l k t ≡ row_place level kind turn)) → IsNoted l k t
       at_place (inl e) = subst (λ x. IsNoted x k t) (same_level e) (subst (λ x. IsNoted level x t) (same_kind_ e)
           (subst (λ x. IsNoted level kind x) (same_turn_ e) own))
-      at_place (inr n) = subst (λ x. IfSome x (IsChildRow m (get_or powers l no_point) k t parts))
-          (sym (get_or-set_other firsts (row_place level kind turn) (row_place l k t) (Some first) None n)) (made l k t f g h)
+      at_place (inr n) = subst (λ x. IfSome x (Q l k t))
+          (sym (get_or-set_other before (row_place level kind turn) (row_place l k t) new None n)) (all l k t f g h)
 
 -- ---- no row is made
 pub none-made : (m : Rule) (powers : List Point) (firsts : List (Option ℕ)) (parts : List Part)

@@ -10,12 +10,17 @@ use Rattle.frames.specs.Part.{child_motion}
 use Rattle.plane_geom.specs.declared.window.Window.{Window}
 use Rattle.rule_model.specs.declared.rule.Rule.{Rule}
 use Rattle.rule_model.specs.Tiling.{Tiling, tiling_of, its_child}
+use Rattle.rule_model.specs.Usable.{origin}
 use Rattle.rule_model.specs.Views.{rule_of}
 use Rattle.descents.specs.Parts.{tiles_below, drawn_below}
 use Rattle.window_descent.specs.declared.part.Part.{Part}
 use Rattle.window_descent.specs.declared.standing.Standing.{Standing}
 use Rattle.window_descent.specs.declared.standing.Standing.TheVariants.{Beyond, Within, Across}
 use Rattle.window_descent.specs.Standing.{window_box}
+
+-- a motion that only turns
+abbrev pub only_turned : ℕ → Motion
+only_turned turn = record { turn = turn; shift = origin }
 
 -- its kind exists, and its motion is within the limit of coordinates
 pub record IsPlacedPart (m : Rule) (p : Part) : Type 0 where

@@ -1,27 +1,23 @@
--- The children of supertiles, each row of them made once.
+-- The children of supertiles and the bounds of their polygons, each made once.
 use Rattle.std.specs.Prelude.{◌≡◌, ℕ, ◌+◌, ◌*◌, ◌<◌, ◌≤◌, ◌^◌, All, List, [], map, length, get_or, None}
 use Rattle.std.specs.Option.{IfSome}
 use Rattle.substitution.specs.Rule.{children_of}
-use Rattle.cyclo_points.specs.declared.motion.Motion.{Motion}
 use Rattle.cyclo_points.specs.declared.order.Order.{Order}
 use Rattle.cyclo_points.specs.declared.point.Point.{Point}
 use Rattle.cyclo_points.specs.Order.{points_of}
 use Rattle.cyclo_points.specs.Point.{point_in, IsOf, IsWithin}
 use Rattle.frames.specs.Looked.{powers_from}
 use Rattle.rule_model.specs.declared.rule.Rule.{Rule}
-use Rattle.rule_model.specs.Usable.{origin}
 use Rattle.rule_model.specs.Views.{rule_of}
 use Rattle.window_descent.specs.declared.part.Part.{Part}
 use Rattle.window_descent.specs.declared.rows.Rows.{Rows}
+use Rattle.window_descent.specs.Bounds.{AreBounds}
+pub use Rattle.window_descent.specs.Parts.{only_turned}
 use Rattle.window_descent.specs.Parts.{IsPartAt}
 
--- where the row of a level, a kind and a turn is noted
+-- where the row and the bounds of a level, a kind and a turn are noted
 abbrev pub row_place : ℕ → ℕ → ℕ → ℕ
 row_place level kind turn = (level * 16 + kind) * 16 + turn
-
--- a motion that only turns
-abbrev pub only_turned : ℕ → Motion
-only_turned turn = record { turn = turn; shift = origin }
 
 -- a part that stands for none
 abbrev pub no_part : Part
@@ -42,7 +38,7 @@ levels_of rows = length rows.powers.items
 abbrev pub scale_of : Rows → ℕ → Point
 scale_of rows level = get_or rows.powers.items level (record { c = [] })
 
--- the powers are those of the inflation factor, and each row that is made is right
+-- the powers are those of the inflation factor, and each row and all bounds that are made are right
 pub record AreRows (m : Rule) (rows : Rows) : Type 0 where
   pub powers : map (point_in m.order) rows.powers.items
       ≡ powers_from (points_of m.order) (rule_of m).factor 0 (levels_of rows)
@@ -52,6 +48,11 @@ pub record AreRows (m : Rule) (rows : Rows) : Type 0 where
       → turn < (points_of m.order).order
       → IfSome (get_or rows.firsts.items (row_place level kind turn) None)
       (IsChildRow m (scale_of rows level) kind turn rows.children.items)
+  pub bounds_room : length rows.bounds.items ≡ levels_of rows * 256
+  pub bounded : (level kind turn : ℕ) → level < levels_of rows → kind < length (rule_of m).kinds
+      → turn < (points_of m.order).order
+      → IfSome (get_or rows.bounds.items (row_place level kind turn) None)
+      (AreBounds m (scale_of rows level) kind turn)
 
 -- the parts of a list stand in another where they stood, and others may stand behind them
 pub record IsLonger (xs ys : List Part) : Type 0 where

@@ -1,4 +1,4 @@
-//! The children of supertiles. Each row of children is made once.
+//! The children of supertiles, and the bounds of supertiles. Each row of children is made once.
 ghost use Rattle.std.specs.Prelude.{◌≡◌, ◌+◌, ◌<◌, ◌≤◌, ◌^◌, length, IfOk, IfSome, IsTrue};
 ghost use Rattle.cyclo_points.specs.Order.{points_of};
 ghost use Rattle.cyclo_points.specs.Point.{point_in, IsWithin};
@@ -10,6 +10,7 @@ ghost use Rattle.window_descent.specs.Parts.{IsPartAt, IsPlacedPart};
 ghost use Rattle.window_descent.specs.Rows.{AreRows, IsChildRow, IsLonger, IsShifted, row_place, scale_of};
 ghost use Rattle.window_descent.specs.Rows.{levels_of};
 
+use crate::bounds::Bounds;
 use crate::part::{Part, part_of};
 use arrayvec::ArrayVec;
 use cyclo_points::arithmetic::{add, refused};
@@ -19,16 +20,18 @@ use std::alloc::Global;
 use tile_place::machine::Machine;
 use tile_shape::no_memory::NoMemory;
 
-/// The children of supertiles, by level, kind and turn. They are parts of a supertile that is turned, and not
-/// shifted. A row is made when one of its children is first needed.
+/// The children and the bounds of supertiles, by level, kind and turn. They are those of a supertile that is
+/// turned, and not shifted. A row is made when one of its children is first needed.
 #[derive(Drop)]
 pub struct Rows {
     /// The powers of the inflation factor, from 0.
-    powers: ArrayVec<Point, 65>,
+    pub(crate) powers: ArrayVec<Point, 65>,
     /// For a level, a kind and a turn: where the row begins, if it is made.
     firsts: Vec<Option<u32>>,
     /// The children of all rows that are made, one row after another.
     children: Vec<Part>,
+    /// For a level, a kind and a turn: the bounds of the supertile's vertices, if they are made.
+    pub(crate) bounds: Vec<Option<Bounds>>,
 }
 
 impl Rows {
@@ -48,6 +51,7 @@ impl Rows {
             powers,
             firsts: vec![in alloc; None; places]?,
             children: Vec::new(alloc),
+            bounds: vec![in alloc; None; places]?,
         }))
     }
 
@@ -184,7 +188,7 @@ fn push_row(
 }
 
 /// Returns the place in the index of rows for a level, a kind and a turn.
-fn place(level: u8, kind: u8, turn: u8) -> usize
+pub(crate) fn place(level: u8, kind: u8, turn: u8) -> usize
     ensures { result ≡ row_place level kind turn }
 {
     (usize::from(level) * 16 + usize::from(kind)) * 16 + usize::from(turn)

@@ -60,7 +60,7 @@ pub(crate) fn sides_of(order: Order, window: &Window, p: &Point) -> Sides
 }
 
 /// Returns X of a point relative to the centre of a window.
-fn wide_of(order: Order, window: &Window, p: &Point) -> Real
+pub(crate) fn wide_of(order: Order, window: &Window, p: &Point) -> Real
     requires p_within { IsWithin (2 ^ 25) p.now }
     requires centre_within { IsWithin (2 ^ 25) window.now.centre }
     ensures value { real_in order result
@@ -71,7 +71,7 @@ fn wide_of(order: Order, window: &Window, p: &Point) -> Real
 }
 
 /// Returns Y of a point relative to the centre of a window.
-fn high_of(order: Order, window: &Window, p: &Point) -> Real
+pub(crate) fn high_of(order: Order, window: &Window, p: &Point) -> Real
     requires p_within { IsWithin (2 ^ 25) p.now }
     requires centre_within { IsWithin (2 ^ 25) window.now.centre }
     ensures value { real_in order result

@@ -14,12 +14,11 @@ nothing-below n k e h = omega arith
 pub loop-ancestor-init : goal.loop-ancestor-init
 loop-ancestor-init c =
     let t = tiling_of c.args.machine.now in
-    let f = c.args.frame.now in
     let zero = c.base-ancestor.ensures.level in
     record {
-      grown = GrowsTo-self t f c.requires.frame;
+      grown = GrowsTo-self t c.args.frame.now c.requires.frame;
       deep = omega (arith, zero);
-      ancestor = c.base-ancestor.ensures.base t (full t f);
+      ancestor = c.base-ancestor.ensures.base t (full t c.args.frame.now);
       none_before = λ k l h. absurd (nothing-below c.base-ancestor.result.level k zero h);
     }
 

@@ -70,16 +70,13 @@ overflow_cast-first g c = search rules
 
 pub put_tile-requires : goal.put_tile-requires
 put_tile-requires g c =
-    let m = c.args.machine.now in
-    let t = tiling_of m in
-    let f = c.args.frame.now in
-    let v = c.args.self.now in
-    let B = brought HasSearchLaws m _ _ _ c.checked-checked.ensures.rule c.checked-checked.ensures.accepted c.checked-checked.ensures.usable c.checked-checked.ensures.same_child_kinds c.uses.ensures c.kinds-usable.ensures.limits
+    let t = tiling_of c.args.machine.now in
+    let B = brought HasSearchLaws c.args.machine.now _ _ _ c.checked-checked.ensures.rule c.checked-checked.ensures.accepted c.checked-checked.ensures.usable c.checked-checked.ensures.same_child_kinds c.uses.ensures c.kinds-usable.ensures.limits
     c.order.ensures.order c.search_laws.ensures c.grown_fits_law.ensures in
     let inside = c.self.inside in
-    let same : ◌≡◌ {A = CoverValue} (record { window = inside.window; found = found_in inside.digits.items inside.found.items; border = map unpacked c.pass.new.self }) v =
+    let same : ◌≡◌ {A = CoverValue} (record { window = inside.window; found = found_in inside.digits.items inside.found.items; border = map unpacked c.pass.new.self }) c.args.self.now =
     ap (λ (b : List Waiting). record { window = inside.window; found = found_in inside.digits.items inside.found.items; border = map unpacked b }) c.pass.ensures ∙ c.self.view_is in
-    record { found = subst (λ (y : CoverValue). c.args.first.tile < length y.found) (sym same) (tile-there m B.laws f (working v) (works t B.laws.open_test f v c.requires.right) c.args.first (first-packed v.border ∙ c.requires.is_first)) }
+    record { found = subst (λ (y : CoverValue). c.args.first.tile < length y.found) (sym same) (tile-there c.args.machine.now B.laws c.args.frame.now (working c.args.self.now) (works t B.laws.open_test c.args.frame.now c.args.self.now c.requires.right) c.args.first (first-packed c.args.self.now.border ∙ c.requires.is_first)) }
 
 pub step_grow-requires-clause-frame : goal.step_grow-requires-clause-frame
 step_grow-requires-clause-frame g c = c.requires.right.frame
@@ -89,25 +86,20 @@ step_grow-requires-clause-its_kind g c = sym c.put_tile.ensures.its_kind
 
 pub step_grow-requires-clause-of_frame : goal.step_grow-requires-clause-of_frame
 step_grow-requires-clause-of_frame g c =
-    let m = c.args.machine.now in
-    let t = tiling_of m in
-    let f = c.args.frame.now in
+    let t = tiling_of c.args.machine.now in
     let p = (goal.at.step_grow-requires-clause-of_frame g c).After-put_tile in
     let it = is_found g p in
     let a_is = its_address g p in
-    subst (IsTileOf (children t) (whole f)) a_is it.of_frame
+    subst (IsTileOf (children t) (whole c.args.frame.now)) a_is it.of_frame
 
 pub step_grow-requires-clause-edge_exists : goal.step_grow-requires-clause-edge_exists
 step_grow-requires-clause-edge_exists g c =
-    let m = c.args.machine.now in
-    let t = tiling_of m in
-    let f = c.args.frame.now in
-    let v = c.args.self.now in
+    let t = tiling_of c.args.machine.now in
     let p = (goal.at.step_grow-requires-clause-edge_exists g c).After-put_tile in
     let B = brings g p in
     let x = found_as c.put_tile.new.tile in
     let at = at_first g p in
-    subst (λ n. c.args.first.edge < edges_of t n) (sym c.put_tile.ensures.its_kind) (edge-there m B.settled B.fits B.laws f (working v) (works t B.laws.open_test f v c.requires.right) c.args.first (first-packed v.border ∙ c.requires.is_first) x at)
+    subst (λ n. c.args.first.edge < edges_of t n) (sym c.put_tile.ensures.its_kind) (edge-there c.args.machine.now B.settled B.fits B.laws c.args.frame.now (working c.args.self.now) (works t B.laws.open_test c.args.frame.now c.args.self.now c.requires.right) c.args.first (first-packed c.args.self.now.border ∙ c.requires.is_first) x at)
 
 pub step_grow-requires-clause-turn_below : goal.step_grow-requires-clause-turn_below
 step_grow-requires-clause-turn_below g c =
@@ -129,10 +121,7 @@ step_grow-requires-clause-in_order g c =
 
 pub admit-requires-clause-exists : goal.admit-requires-clause-exists
 admit-requires-clause-exists g c =
-    let m = c.args.machine.now in
-    let t = tiling_of m in
-    let f = c.args.frame.now in
-    let v = c.args.self.now in
+    let t = tiling_of c.args.machine.now in
     let p = (goal.at.admit-requires-clause-exists g c).After-put_tile in
     let B = brings g p in
     let x = found_as c.put_tile.new.tile in
@@ -141,9 +130,9 @@ admit-requires-clause-exists g c =
     let k = c.step_grow.new.self in
     let tile = c.step_grow.new.tile in
     let back = c.in-Ok.field-0 in
-    let h : GrowsTo t f k = c.in-Ok.ensures.frame in
-    let crossed : IsCrossedTo t f k (address_found x) x.motion c.args.first.edge tile back = subst (λ a. IsCrossedTo t f k a x.motion c.args.first.edge tile back) (sym a_is) c.in-Ok.ensures.crossed in
-    kind_exists m B.settled B.fits B.laws f k h (working v) (works t B.laws.open_test f v c.requires.right) c.args.first (first-packed v.border ∙ c.requires.is_first) x at tile back crossed
+    let h : GrowsTo t c.args.frame.now k = c.in-Ok.ensures.frame in
+    let crossed : IsCrossedTo t c.args.frame.now k (address_found x) x.motion c.args.first.edge tile back = subst (λ a. IsCrossedTo t c.args.frame.now k a x.motion c.args.first.edge tile back) (sym a_is) c.in-Ok.ensures.crossed in
+    kind_exists c.args.machine.now B.settled B.fits B.laws c.args.frame.now k h (working c.args.self.now) (works t B.laws.open_test c.args.frame.now c.args.self.now c.requires.right) c.args.first (first-packed c.args.self.now.border ∙ c.requires.is_first) x at tile back crossed
 
 pub admit-requires-clause-turn_below : goal.admit-requires-clause-turn_below
 admit-requires-clause-turn_below g c = c.in-Ok.ensures.crossed.turn_below
@@ -156,10 +145,7 @@ admit-requires-clause-window g c = subst (λ (y : CoverValue). IsWindow y.window
 
 pub admit-requires-clause-new : goal.admit-requires-clause-new
 admit-requires-clause-new g c =
-    let m = c.args.machine.now in
-    let t = tiling_of m in
-    let f = c.args.frame.now in
-    let v = c.args.self.now in
+    let t = tiling_of c.args.machine.now in
     let p = (goal.at.admit-requires-clause-new g c).After-put_tile in
     let B = brings g p in
     let same = passed g p in
@@ -169,19 +155,16 @@ admit-requires-clause-new g c =
     let k = c.step_grow.new.self in
     let tile = c.step_grow.new.tile in
     let back = c.in-Ok.field-0 in
-    let h : GrowsTo t f k = c.in-Ok.ensures.frame in
-    let crossed : IsCrossedTo t f k (address_found x) x.motion c.args.first.edge tile back = subst (λ a. IsCrossedTo t f k a x.motion c.args.first.edge tile back) (sym a_is) c.in-Ok.ensures.crossed in
-    subst (λ (y : CoverValue). (corners : List Point) → AreCorners t tile.kind tile.motion corners → AreNew corners (working y).border) (sym same) (edges_new m B.settled B.fits B.laws f k h (working v) (works t B.laws.open_test f v c.requires.right) c.args.first (first-packed v.border ∙ c.requires.is_first) x at tile back crossed)
+    let h : GrowsTo t c.args.frame.now k = c.in-Ok.ensures.frame in
+    let crossed : IsCrossedTo t c.args.frame.now k (address_found x) x.motion c.args.first.edge tile back = subst (λ a. IsCrossedTo t c.args.frame.now k a x.motion c.args.first.edge tile back) (sym a_is) c.in-Ok.ensures.crossed in
+    subst (λ (y : CoverValue). (corners : List Point) → AreCorners t tile.kind tile.motion corners → AreNew corners (working y).border) (sym same) (edges_new c.args.machine.now B.settled B.fits B.laws c.args.frame.now k h (working c.args.self.now) (works t B.laws.open_test c.args.frame.now c.args.self.now c.requires.right) c.args.first (first-packed c.args.self.now.border ∙ c.requires.is_first) x at tile back crossed)
 
 pub returns-in-Ok-clause-frame : goal.returns-in-Ok-clause-frame
 returns-in-Ok-clause-frame g c = c.in-Ok.ensures.frame
 
 pub returns-in-Ok-clause-steps_to : goal.returns-in-Ok-clause-steps_to
 returns-in-Ok-clause-steps_to g c =
-    let m = c.args.machine.now in
-    let t = tiling_of m in
-    let f = c.args.frame.now in
-    let v = c.args.self.now in
+    let t = tiling_of c.args.machine.now in
     let p = (goal.at.returns-in-Ok-clause-steps_to g c).After-put_tile in
     let B = brings g p in
     let same = passed g p in
@@ -191,17 +174,14 @@ returns-in-Ok-clause-steps_to g c =
     let k = c.step_grow.new.self in
     let tile = c.step_grow.new.tile in
     let back = c.in-Ok.field-0 in
-    let h : GrowsTo t f k = c.in-Ok.ensures.frame in
-    let crossed : IsCrossedTo t f k (address_found x) x.motion c.args.first.edge tile back = subst (λ a. IsCrossedTo t f k a x.motion c.args.first.edge tile back) (sym a_is) c.in-Ok.ensures.crossed in
-    let admitted : OnOk c.admit.result (IsAdmitted t (working v) (working c.admit.new.self) tile) = subst (λ y. OnOk c.admit.result (IsAdmitted t (working y) (working c.admit.new.self) tile)) same c.admit.ensures.admitted in
-    on_ok_weaker c.admit.result (λ n. stepped.steps_to m B.settled B.fits B.laws f k h v c.requires.right c.args.first c.requires.is_first x at tile back crossed c.admit.new.self n) admitted
+    let h : GrowsTo t c.args.frame.now k = c.in-Ok.ensures.frame in
+    let crossed : IsCrossedTo t c.args.frame.now k (address_found x) x.motion c.args.first.edge tile back = subst (λ a. IsCrossedTo t c.args.frame.now k a x.motion c.args.first.edge tile back) (sym a_is) c.in-Ok.ensures.crossed in
+    let admitted : OnOk c.admit.result (IsAdmitted t (working c.args.self.now) (working c.admit.new.self) tile) = subst (λ y. OnOk c.admit.result (IsAdmitted t (working y) (working c.admit.new.self) tile)) same c.admit.ensures.admitted in
+    on_ok_weaker c.admit.result (λ n. stepped.steps_to c.args.machine.now B.settled B.fits B.laws c.args.frame.now k h c.args.self.now c.requires.right c.args.first c.requires.is_first x at tile back crossed c.admit.new.self n) admitted
 
 pub returns-in-Ok-clause-right : goal.returns-in-Ok-clause-right
 returns-in-Ok-clause-right g c =
-    let m = c.args.machine.now in
-    let t = tiling_of m in
-    let f = c.args.frame.now in
-    let v = c.args.self.now in
+    let t = tiling_of c.args.machine.now in
     let p = (goal.at.returns-in-Ok-clause-right g c).After-put_tile in
     let B = brings g p in
     let same = passed g p in
@@ -211,20 +191,17 @@ returns-in-Ok-clause-right g c =
     let k = c.step_grow.new.self in
     let tile = c.step_grow.new.tile in
     let back = c.in-Ok.field-0 in
-    let h : GrowsTo t f k = c.in-Ok.ensures.frame in
-    let crossed : IsCrossedTo t f k (address_found x) x.motion c.args.first.edge tile back = subst (λ a. IsCrossedTo t f k a x.motion c.args.first.edge tile back) (sym a_is) c.in-Ok.ensures.crossed in
-    let admitted : OnOk c.admit.result (IsAdmitted t (working v) (working c.admit.new.self) tile) = subst (λ y. OnOk c.admit.result (IsAdmitted t (working y) (working c.admit.new.self) tile)) same c.admit.ensures.admitted in
+    let h : GrowsTo t c.args.frame.now k = c.in-Ok.ensures.frame in
+    let crossed : IsCrossedTo t c.args.frame.now k (address_found x) x.motion c.args.first.edge tile back = subst (λ a. IsCrossedTo t c.args.frame.now k a x.motion c.args.first.edge tile back) (sym a_is) c.in-Ok.ensures.crossed in
+    let admitted : OnOk c.admit.result (IsAdmitted t (working c.args.self.now) (working c.admit.new.self) tile) = subst (λ y. OnOk c.admit.result (IsAdmitted t (working y) (working c.admit.new.self) tile)) same c.admit.ensures.admitted in
     on_ok_weaker c.admit.result
     (λ n. right-of t B.laws.open_test k c.admit.new.self n.1
-    (right-next m B.settled B.fits B.laws f k h (working v) (works t B.laws.open_test f v c.requires.right) c.args.first (first-packed v.border ∙ c.requires.is_first) x at tile back crossed (working c.admit.new.self) n.0))
+    (right-next c.args.machine.now B.settled B.fits B.laws c.args.frame.now k h (working c.args.self.now) (works t B.laws.open_test c.args.frame.now c.args.self.now c.requires.right) c.args.first (first-packed c.args.self.now.border ∙ c.requires.is_first) x at tile back crossed (working c.admit.new.self) n.0))
     (on_ok-both _ _ c.admit.result admitted c.admit.ensures.same_ends)
 
 pub returns-in-Ok-clause-one_more : goal.returns-in-Ok-clause-one_more
 returns-in-Ok-clause-one_more g c =
-    let m = c.args.machine.now in
-    let t = tiling_of m in
-    let f = c.args.frame.now in
-    let v = c.args.self.now in
+    let t = tiling_of c.args.machine.now in
     let p = (goal.at.returns-in-Ok-clause-one_more g c).After-put_tile in
     let B = brings g p in
     let same = passed g p in
@@ -234,17 +211,14 @@ returns-in-Ok-clause-one_more g c =
     let k = c.step_grow.new.self in
     let tile = c.step_grow.new.tile in
     let back = c.in-Ok.field-0 in
-    let h : GrowsTo t f k = c.in-Ok.ensures.frame in
-    let crossed : IsCrossedTo t f k (address_found x) x.motion c.args.first.edge tile back = subst (λ a. IsCrossedTo t f k a x.motion c.args.first.edge tile back) (sym a_is) c.in-Ok.ensures.crossed in
-    let admitted : OnOk c.admit.result (IsAdmitted t (working v) (working c.admit.new.self) tile) = subst (λ y. OnOk c.admit.result (IsAdmitted t (working y) (working c.admit.new.self) tile)) same c.admit.ensures.admitted in
-    on_ok_weaker c.admit.result (λ n. one_more m B.settled B.fits B.laws f k h (working v) (works t B.laws.open_test f v c.requires.right) c.args.first (first-packed v.border ∙ c.requires.is_first) x at tile back crossed (working c.admit.new.self) n ∙ add-one (length v.found)) admitted
+    let h : GrowsTo t c.args.frame.now k = c.in-Ok.ensures.frame in
+    let crossed : IsCrossedTo t c.args.frame.now k (address_found x) x.motion c.args.first.edge tile back = subst (λ a. IsCrossedTo t c.args.frame.now k a x.motion c.args.first.edge tile back) (sym a_is) c.in-Ok.ensures.crossed in
+    let admitted : OnOk c.admit.result (IsAdmitted t (working c.args.self.now) (working c.admit.new.self) tile) = subst (λ y. OnOk c.admit.result (IsAdmitted t (working y) (working c.admit.new.self) tile)) same c.admit.ensures.admitted in
+    on_ok_weaker c.admit.result (λ n. one_more c.args.machine.now B.settled B.fits B.laws c.args.frame.now k h (working c.args.self.now) (works t B.laws.open_test c.args.frame.now c.args.self.now c.requires.right) c.args.first (first-packed c.args.self.now.border ∙ c.requires.is_first) x at tile back crossed (working c.admit.new.self) n ∙ add-one (length c.args.self.now.found)) admitted
 
 pub returns-in-Ok-clause-not_beyond : goal.returns-in-Ok-clause-not_beyond
 returns-in-Ok-clause-not_beyond g c =
-    let m = c.args.machine.now in
-    let t = tiling_of m in
-    let f = c.args.frame.now in
-    let v = c.args.self.now in
+    let t = tiling_of c.args.machine.now in
     let p = (goal.at.returns-in-Ok-clause-not_beyond g c).After-put_tile in
     let B = brings g p in
     let x = found_as c.put_tile.new.tile in
@@ -253,16 +227,13 @@ returns-in-Ok-clause-not_beyond g c =
     let k = c.step_grow.new.self in
     let tile = c.step_grow.new.tile in
     let back = c.in-Ok.field-0 in
-    let h : GrowsTo t f k = c.in-Ok.ensures.frame in
-    let crossed : IsCrossedTo t f k (address_found x) x.motion c.args.first.edge tile back = subst (λ a. IsCrossedTo t f k a x.motion c.args.first.edge tile back) (sym a_is) c.in-Ok.ensures.crossed in
-    not_beyond_next m B.settled B.fits B.laws f k h (working v) (works t B.laws.open_test f v c.requires.right) c.args.first (first-packed v.border ∙ c.requires.is_first) x at tile back crossed
+    let h : GrowsTo t c.args.frame.now k = c.in-Ok.ensures.frame in
+    let crossed : IsCrossedTo t c.args.frame.now k (address_found x) x.motion c.args.first.edge tile back = subst (λ a. IsCrossedTo t c.args.frame.now k a x.motion c.args.first.edge tile back) (sym a_is) c.in-Ok.ensures.crossed in
+    not_beyond_next c.args.machine.now B.settled B.fits B.laws c.args.frame.now k h (working c.args.self.now) (works t B.laws.open_test c.args.frame.now c.args.self.now c.requires.right) c.args.first (first-packed c.args.self.now.border ∙ c.requires.is_first) x at tile back crossed
 
 pub returns-in-Ok-clause-within : goal.returns-in-Ok-clause-within
 returns-in-Ok-clause-within g c =
-    let m = c.args.machine.now in
-    let t = tiling_of m in
-    let f = c.args.frame.now in
-    let v = c.args.self.now in
+    let t = tiling_of c.args.machine.now in
     let p = (goal.at.returns-in-Ok-clause-within g c).After-put_tile in
     let B = brings g p in
     let same = passed g p in
@@ -272,17 +243,14 @@ returns-in-Ok-clause-within g c =
     let k = c.step_grow.new.self in
     let tile = c.step_grow.new.tile in
     let back = c.in-Ok.field-0 in
-    let h : GrowsTo t f k = c.in-Ok.ensures.frame in
-    let crossed : IsCrossedTo t f k (address_found x) x.motion c.args.first.edge tile back = subst (λ a. IsCrossedTo t f k a x.motion c.args.first.edge tile back) (sym a_is) c.in-Ok.ensures.crossed in
-    let why : IfErr c.admit.result (IsNotAdmitted t (working v) tile) = subst (λ y. IfErr c.admit.result (IsNotAdmitted t (working y) tile)) same c.admit.ensures.cause in
-    λ f0 grows within. within_next m B.settled B.fits B.laws f k h (working v) (works t B.laws.open_test f v c.requires.right) c.args.first (first-packed v.border ∙ c.requires.is_first) x at tile back crossed f0 grows within c.admit.result why
+    let h : GrowsTo t c.args.frame.now k = c.in-Ok.ensures.frame in
+    let crossed : IsCrossedTo t c.args.frame.now k (address_found x) x.motion c.args.first.edge tile back = subst (λ a. IsCrossedTo t c.args.frame.now k a x.motion c.args.first.edge tile back) (sym a_is) c.in-Ok.ensures.crossed in
+    let why : IfErr c.admit.result (IsNotAdmitted t (working c.args.self.now) tile) = subst (λ y. IfErr c.admit.result (IsNotAdmitted t (working y) tile)) same c.admit.ensures.cause in
+    λ f0 grows within. within_next c.args.machine.now B.settled B.fits B.laws c.args.frame.now k h (working c.args.self.now) (works t B.laws.open_test c.args.frame.now c.args.self.now c.requires.right) c.args.first (first-packed c.args.self.now.border ∙ c.requires.is_first) x at tile back crossed f0 grows within c.admit.result why
 
 pub returns-in-Ok-clause-cause : goal.returns-in-Ok-clause-cause
 returns-in-Ok-clause-cause g c =
-    let m = c.args.machine.now in
-    let t = tiling_of m in
-    let f = c.args.frame.now in
-    let v = c.args.self.now in
+    let t = tiling_of c.args.machine.now in
     let p = (goal.at.returns-in-Ok-clause-cause g c).After-put_tile in
     let B = brings g p in
     let same = passed g p in
@@ -292,55 +260,46 @@ returns-in-Ok-clause-cause g c =
     let k = c.step_grow.new.self in
     let tile = c.step_grow.new.tile in
     let back = c.in-Ok.field-0 in
-    let h : GrowsTo t f k = c.in-Ok.ensures.frame in
-    let crossed : IsCrossedTo t f k (address_found x) x.motion c.args.first.edge tile back = subst (λ a. IsCrossedTo t f k a x.motion c.args.first.edge tile back) (sym a_is) c.in-Ok.ensures.crossed in
-    let why : IfErr c.admit.result (IsNotAdmitted t (working v) tile) = subst (λ y. IfErr c.admit.result (IsNotAdmitted t (working y) tile)) same c.admit.ensures.cause in
-    cause_next m B.settled B.fits B.laws f k h (working v) (works t B.laws.open_test f v c.requires.right) c.args.first (first-packed v.border ∙ c.requires.is_first) x at tile back crossed c.admit.result why
+    let h : GrowsTo t c.args.frame.now k = c.in-Ok.ensures.frame in
+    let crossed : IsCrossedTo t c.args.frame.now k (address_found x) x.motion c.args.first.edge tile back = subst (λ a. IsCrossedTo t c.args.frame.now k a x.motion c.args.first.edge tile back) (sym a_is) c.in-Ok.ensures.crossed in
+    let why : IfErr c.admit.result (IsNotAdmitted t (working c.args.self.now) tile) = subst (λ y. IfErr c.admit.result (IsNotAdmitted t (working y) tile)) same c.admit.ensures.cause in
+    cause_next c.args.machine.now B.settled B.fits B.laws c.args.frame.now k h (working c.args.self.now) (works t B.laws.open_test c.args.frame.now c.args.self.now c.requires.right) c.args.first (first-packed c.args.self.now.border ∙ c.requires.is_first) x at tile back crossed c.admit.result why
 
 pub returns-in-Err-clause-frame : goal.returns-in-Err-clause-frame
 returns-in-Err-clause-frame g c = c.in-Err.ensures.frame
 
 pub returns-in-Err-clause-not_beyond : goal.returns-in-Err-clause-not_beyond
 returns-in-Err-clause-not_beyond g c =
-    let m = c.args.machine.now in
-    let t = tiling_of m in
-    let f = c.args.frame.now in
-    let v = c.args.self.now in
+    let t = tiling_of c.args.machine.now in
     let p = (goal.at.returns-in-Err-clause-not_beyond g c).After-put_tile in
     let B = brings g p in
     let x = found_as c.put_tile.new.tile in
     let at = at_first g p in
     let a_is = its_address g p in
-    let on : IsBoundaryEdge t (lifted_in (full t f) (address_found x)) c.args.first.edge = subst (λ a. IsBoundaryEdge t (lifted_in (full t f) a) c.args.first.edge) (sym a_is) (c.in-Err.ensures.limit_exactly.0 refl) in
-    λ f0 n grows enough below. absurd (not_enough m B.settled B.fits B.laws f (working v) (works t B.laws.open_test f v c.requires.right) c.args.first (first-packed v.border ∙ c.requires.is_first) x at on f0 n grows enough)
+    let on : IsBoundaryEdge t (lifted_in (full t c.args.frame.now) (address_found x)) c.args.first.edge = subst (λ a. IsBoundaryEdge t (lifted_in (full t c.args.frame.now) a) c.args.first.edge) (sym a_is) (c.in-Err.ensures.limit_exactly.0 refl) in
+    λ f0 n grows enough below. absurd (not_enough c.args.machine.now B.settled B.fits B.laws c.args.frame.now (working c.args.self.now) (works t B.laws.open_test c.args.frame.now c.args.self.now c.requires.right) c.args.first (first-packed c.args.self.now.border ∙ c.requires.is_first) x at on f0 n grows enough)
 
 pub returns-in-Err-clause-within : goal.returns-in-Err-clause-within
 returns-in-Err-clause-within g c =
-    let m = c.args.machine.now in
-    let t = tiling_of m in
-    let f = c.args.frame.now in
-    let v = c.args.self.now in
+    let t = tiling_of c.args.machine.now in
     let p = (goal.at.returns-in-Err-clause-within g c).After-put_tile in
     let B = brings g p in
     let x = found_as c.put_tile.new.tile in
     let at = at_first g p in
     let a_is = its_address g p in
-    let on : IsBoundaryEdge t (lifted_in (full t f) (address_found x)) c.args.first.edge = subst (λ a. IsBoundaryEdge t (lifted_in (full t f) a) c.args.first.edge) (sym a_is) (c.in-Err.ensures.limit_exactly.0 refl) in
-    λ f0 grows within. absurd (not_within m B.settled B.fits B.laws f (working v) (works t B.laws.open_test f v c.requires.right) c.args.first (first-packed v.border ∙ c.requires.is_first) x at on f0 grows within)
+    let on : IsBoundaryEdge t (lifted_in (full t c.args.frame.now) (address_found x)) c.args.first.edge = subst (λ a. IsBoundaryEdge t (lifted_in (full t c.args.frame.now) a) c.args.first.edge) (sym a_is) (c.in-Err.ensures.limit_exactly.0 refl) in
+    λ f0 grows within. absurd (not_within c.args.machine.now B.settled B.fits B.laws c.args.frame.now (working c.args.self.now) (works t B.laws.open_test c.args.frame.now c.args.self.now c.requires.right) c.args.first (first-packed c.args.self.now.border ∙ c.requires.is_first) x at on f0 grows within)
 
 pub returns-in-Err-clause-cause : goal.returns-in-Err-clause-cause
 returns-in-Err-clause-cause g c =
-    let m = c.args.machine.now in
-    let t = tiling_of m in
-    let f = c.args.frame.now in
-    let v = c.args.self.now in
+    let t = tiling_of c.args.machine.now in
     let p = (goal.at.returns-in-Err-clause-cause g c).After-put_tile in
     let B = brings g p in
     let x = found_as c.put_tile.new.tile in
     let at = at_first g p in
     let a_is = its_address g p in
-    let on : IsBoundaryEdge t (lifted_in (full t f) (address_found x)) c.args.first.edge = subst (λ a. IsBoundaryEdge t (lifted_in (full t f) a) c.args.first.edge) (sym a_is) (c.in-Err.ensures.limit_exactly.0 refl) in
-    depth_limit m B.settled B.fits B.laws f (working v) (works t B.laws.open_test f v c.requires.right) c.args.first (first-packed v.border ∙ c.requires.is_first) x at on c.step_grow.new.self c.in-Err.ensures.frame c.in-Err.ensures.deepest_at_limit c.in-Err.limit.addr (c.in-Err.ensures.limit_tile ∙ ap (lifted_in (full t f)) (sym a_is)) c.in-Err.limit.edge c.in-Err.ensures.limit_edge
+    let on : IsBoundaryEdge t (lifted_in (full t c.args.frame.now) (address_found x)) c.args.first.edge = subst (λ a. IsBoundaryEdge t (lifted_in (full t c.args.frame.now) a) c.args.first.edge) (sym a_is) (c.in-Err.ensures.limit_exactly.0 refl) in
+    depth_limit c.args.machine.now B.settled B.fits B.laws c.args.frame.now (working c.args.self.now) (works t B.laws.open_test c.args.frame.now c.args.self.now c.requires.right) c.args.first (first-packed c.args.self.now.border ∙ c.requires.is_first) x at on c.step_grow.new.self c.in-Err.ensures.frame c.in-Err.ensures.deepest_at_limit c.in-Err.limit.addr (c.in-Err.ensures.limit_tile ∙ ap (lifted_in (full t c.args.frame.now)) (sym a_is)) c.in-Err.limit.edge c.in-Err.ensures.limit_edge
 
 -- ---- how far the frame grows
 pub returns-in-Ok-clause-inside : goal.returns-in-Ok-clause-inside
@@ -355,15 +314,13 @@ returns-in-Ok-clause-inside g c =
 pub returns-in-Ok-clause-least : goal.returns-in-Ok-clause-least
 returns-in-Ok-clause-least g c = λ n l h.
     let t = tiling_of c.args.machine.now in
-    let f = c.args.frame.now in
     let p = (goal.at.returns-in-Ok-clause-least g c).After-put_tile in
-    first-outside t f c.step_grow.new.self c.in-Ok.ensures.frame c.args.self.now c.args.first c.requires.is_first (found_as c.put_tile.new.tile) (at_first g p) n
-    (subst (λ a. IsBoundaryEdge t (lifted_at t f a n) c.args.first.edge) (sym (its_address g p)) (c.in-Ok.ensures.least n l h))
+    first-outside t c.args.frame.now c.step_grow.new.self c.in-Ok.ensures.frame c.args.self.now c.args.first c.requires.is_first (found_as c.put_tile.new.tile) (at_first g p) n
+    (subst (λ a. IsBoundaryEdge t (lifted_at t c.args.frame.now a n) c.args.first.edge) (sym (its_address g p)) (c.in-Ok.ensures.least n l h))
 
 pub returns-in-Err-clause-least : goal.returns-in-Err-clause-least
 returns-in-Err-clause-least g c = λ n l h.
     let t = tiling_of c.args.machine.now in
-    let f = c.args.frame.now in
     let p = (goal.at.returns-in-Err-clause-least g c).After-put_tile in
-    first-outside t f c.step_grow.new.self c.in-Err.ensures.frame c.args.self.now c.args.first c.requires.is_first (found_as c.put_tile.new.tile) (at_first g p) n
-    (subst (λ a. IsBoundaryEdge t (lifted_at t f a n) c.args.first.edge) (sym (its_address g p)) (c.in-Err.ensures.least n l h))
+    first-outside t c.args.frame.now c.step_grow.new.self c.in-Err.ensures.frame c.args.self.now c.args.first c.requires.is_first (found_as c.put_tile.new.tile) (at_first g p) n
+    (subst (λ a. IsBoundaryEdge t (lifted_at t c.args.frame.now a n) c.args.first.edge) (sym (its_address g p)) (c.in-Err.ensures.least n l h))

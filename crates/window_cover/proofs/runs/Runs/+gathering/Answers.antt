@@ -20,30 +20,31 @@ use Rattle.window_cover.proofs.runs.Runs.+gathering.Goals as goal
 pub gather-returns-in-Some-Beyond : goal.gather-returns-in-Some-Beyond
 gather-returns-in-Some-Beyond t c = λ _.
     let m = c.args.machine.now in
-    let judged = subst (λ x. IfSome x (IsJudged (tiling_of m) c.args.self.now.leaves.window c.args.all c.args.level c.args.part.now)) c.in-Some-Beyond.is c.stands.ensures in
-    gathered-none m c.args.self.now c.args.rows.now c.args.blocks.now c.args.path.now c.args.all c.args.level c.args.part.now c.requires.state
+    let judged = subst (λ x. IfSome x (IsJudged (tiling_of m) c.args.self.now.leaves.window c.args.all c.args.level c.args.part.now)) c.in-Some-Beyond.is c.stands.ensures.judged in
+    gathered-none m c.args.self.now c.args.rows.now c.stands.new.rows c.args.blocks.now c.args.path.now c.args.all c.args.level c.args.part.now
+    c.stands.ensures.levels c.requires.state c.stands.ensures.rows
     (subst (IsJudged (tiling_of m) c.args.self.now.leaves.window c.args.all c.args.level c.args.part.now) c.in-Some-Beyond.field-0-is judged)
 
 pub gather-returns-in-Some-Within : goal.gather-returns-in-Some-Within
 gather-returns-in-Some-Within t c =
     let m = c.args.machine.now in
-    let judged = subst (λ x. IfSome x (IsJudged (tiling_of m) c.args.self.now.leaves.window c.args.all c.args.level c.args.part.now)) c.in-Some-Within.is c.stands.ensures in
+    let judged = subst (λ x. IfSome x (IsJudged (tiling_of m) c.args.self.now.leaves.window c.args.all c.args.level c.args.part.now)) c.in-Some-Within.is c.stands.ensures.judged in
     let same : found_of (tiling_of m) c.args.self.now.leaves.window c.args.all c.args.level c.args.part.now
     ≡ found_of (tiling_of m) c.args.self.now.leaves.window true c.args.level c.args.part.now =
     subst (IsJudged (tiling_of m) c.args.self.now.leaves.window c.args.all c.args.level c.args.part.now) c.in-Some-Within.field-0-is judged in
     IfOk-weaker c.take_in.result _ _
-    (λ done h d. gathered-as m c.args.self.now c.args.rows.now c.args.blocks.now c.args.path.now c.args.all c.args.level c.args.part.now true
-    c.take_in.new.self c.take_in.new.rows c.take_in.new.blocks c.take_in.new.path same (h d)) c.take_in.ensures
+    (λ done h d. gathered-as m c.args.self.now c.args.rows.now c.stands.new.rows c.args.blocks.now c.args.path.now c.args.all c.args.level c.args.part.now
+    c.stands.ensures.levels true c.take_in.new.self c.take_in.new.rows c.take_in.new.blocks c.take_in.new.path same (h d)) c.take_in.ensures
 
 pub gather-returns-in-Some-Across : goal.gather-returns-in-Some-Across
 gather-returns-in-Some-Across t c =
     let m = c.args.machine.now in
-    let judged = subst (λ x. IfSome x (IsJudged (tiling_of m) c.args.self.now.leaves.window c.args.all c.args.level c.args.part.now)) c.in-Some-Across.is c.stands.ensures in
+    let judged = subst (λ x. IfSome x (IsJudged (tiling_of m) c.args.self.now.leaves.window c.args.all c.args.level c.args.part.now)) c.in-Some-Across.is c.stands.ensures.judged in
     let known : (c.args.all ≡ false) × (0 < c.args.level) =
     subst (IsJudged (tiling_of m) c.args.self.now.leaves.window c.args.all c.args.level c.args.part.now) c.in-Some-Across.field-0-is judged in
     IfOk-weaker c.take_in-in-Some-Across.result _ _
-    (λ done h d. gathered-as m c.args.self.now c.args.rows.now c.args.blocks.now c.args.path.now c.args.all c.args.level c.args.part.now false
-    c.take_in-in-Some-Across.new.self c.take_in-in-Some-Across.new.rows c.take_in-in-Some-Across.new.blocks c.take_in-in-Some-Across.new.path
+    (λ done h d. gathered-as m c.args.self.now c.args.rows.now c.stands.new.rows c.args.blocks.now c.args.path.now c.args.all c.args.level c.args.part.now
+    c.stands.ensures.levels false c.take_in-in-Some-Across.new.self c.take_in-in-Some-Across.new.rows c.take_in-in-Some-Across.new.blocks c.take_in-in-Some-Across.new.path
     (ap (λ (a : Bool). found_of (tiling_of m) c.args.self.now.leaves.window a c.args.level c.args.part.now) known.0) (h d)) c.take_in-in-Some-Across.ensures
 
 pub take_in-put_run-requires-clause-low : goal.take_in-put_run-requires-clause-low
@@ -56,8 +57,8 @@ pub take_in-returns-then-is_run : goal.take_in-returns-then-is_run
 take_in-returns-then-is_run t c =
     let m = c.args.machine.now in
     IfOk-weaker c.put_run.result _ _
-    (λ done h d. gathered-as m c.args.self.now c.args.rows.now c.args.blocks.now c.args.path.now c.args.all c.args.level c.args.part.now true
-    c.put_run.new.self c.put_run.new.rows c.put_run.new.blocks c.args.path.now
+    (λ done h d. gathered-as m c.args.self.now c.args.rows.now c.args.rows.now c.args.blocks.now c.args.path.now c.args.all c.args.level c.args.part.now
+    refl true c.put_run.new.self c.put_run.new.rows c.put_run.new.blocks c.args.path.now
     (ap (λ (a : Bool). found_of (tiling_of m) c.args.self.now.leaves.window a c.args.level c.args.part.now) (c.is_run.ensures.all c.if-is_run.true)) (h d)) c.put_run.ensures
 
 pub take_in-overflow_sub-below : goal.take_in-overflow_sub-below

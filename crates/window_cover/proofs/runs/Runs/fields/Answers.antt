@@ -1,50 +1,10 @@
-use Rattle.std.proofs.Common.{ℕ, ◌<◌, ◌≤◌, length, take, sym, subst, arith, take_all}
-use Rattle.std.specs.List.{AllByRecursion}
-use Rattle.addressing.proofs.Lists.{AllByRecursion-each}
-use Rattle.cyclo_points.specs.declared.motion.Motion.{Motion}
-use Rattle.tile_place.specs.Keys.{FitsKey}
-use Rattle.window_cover.specs.declared.fields.Fields.{Fields}
-use Rattle.window_cover.specs.Covered.{tile_of}
-use Rattle.window_cover.specs.Found.{Found}
-use Rattle.window_cover.specs.Keys.{HasKey}
-use Rattle.window_cover.specs.Runs.{seen}
-use Rattle.window_cover.specs.Words.{AreHeld}
-use Rattle.window_cover.proofs.BlockTiles.{each-of}
-use Rattle.window_cover.proofs.RunTiles.{runs-keyed}
-use Rattle.window_cover.proofs.Words.{held-one_more}
+use Rattle.window_cover.proofs.Reached.{held-seen}
 use Rattle.window_cover.proofs.runs.Runs.fields.Goals as goal
 
-pub widened-fields-requires-clause-fits : goal.widened-fields-requires-clause-fits
-widened-fields-requires-clause-fits c =
-    let found = seen c.args.self.now in
-    let k = c.loop-number.number in
-    let below : k < length found = omega (arith, c.loop-number-test.true, c.len-count.ensures) in
-    subst (λ (i : ℕ). FitsKey c.place-kind.result.0 i) (sym c.place-kind.ensures.kind) (subst (λ (m : Motion). FitsKey m (tile_of found k).kind) (sym c.place-kind.ensures.motion)
-    (each-of HasKey found (runs-keyed c.args.self.now c.requires.runs) k below))
-
-pub loop-number-preserved : goal.loop-number-preserved
-loop-number-preserved c =
-    let found = seen c.args.self.now in
-    let k = c.loop-number.number in
-    let below : k < length found = omega (arith, c.loop-number-test.true, c.len-count.ensures) in
-    let Held : Fields → Found → Type 0 = λ f x. AreHeld f x.motion x.kind in
-    let before = AllByRecursion-each (Held c.loop-number.fields) (Held c.widened-fields.result) (take k found) (λ x h. c.widened-fields.ensures.kept x.motion x.kind h) c.loop-number.invariant.held in
-    record {
-      fields = c.widened-fields.ensures.fields;
-      held = held-one_more (Held c.widened-fields.result) found k below before
-          (subst (λ (i : ℕ). AreHeld c.widened-fields.result (tile_of found k).motion i) c.place-kind.ensures.kind
-          (subst (λ (m : Motion). AreHeld c.widened-fields.result m c.place-kind.result.1) c.place-kind.ensures.motion c.widened-fields.ensures.held));
-    }
-
-pub loop-number-init : goal.loop-number-init
-loop-number-init c = record { fields = c.first_fields-fields.ensures; held = tt }
-
 pub returns-then-fit : goal.returns-then-fit
-returns-then-fit c =
-    let found = seen c.args.self.now in
-    let all : length found ≤ c.loop-number.number = omega (arith, c.loop-number-test.false, c.len-count.ensures) in
-    record {
-      fields = c.loop-number.invariant.fields;
-      fit = c.fit.ensures c.if-fit.true;
-      held = subst (AllByRecursion (λ (x : Found). AreHeld c.loop-number.fields x.motion x.kind)) (take_all c.loop-number.number found all) c.loop-number.invariant.held;
-    }
+returns-then-fit c = record {
+  fields = c.in_ok-fields-2.ensures.fields;
+  fit = c.fit.ensures c.if-fit.true;
+  held = held-seen c.args.self.now c.requires.runs c.in_ok-fields.field-0 c.in_ok-shifts.field-0 c.in_ok-fields-2.fields c.in_ok-fields.ensures.hold
+      c.in_ok-shifts.ensures.hold c.in_ok-fields-2.ensures.held;
+}

@@ -1,10 +1,10 @@
-use Rattle.std.proofs.Common.{◌≡◌, ◌<◌, List, [], Some, length, get_or, set, sym, ◌∙◌, subst, arith}
+use Rattle.std.proofs.Common.{◌≡◌, ℕ, ◌<◌, List, [], Some, length, get_or, set, sym, ◌∙◌, subst, arith}
 use Rattle.std.proofs.lemmas.List.{length-set}
 use Rattle.cyclo_points.specs.declared.point.Point.{Point}
 use Rattle.tile_place.proofs.EachOrder.{order-fits}
 use Rattle.window_descent.specs.declared.part.Part.{Part}
 use Rattle.window_descent.specs.Rows.{IsChildRow, levels_of, row_place}
-use Rattle.window_descent.proofs.RowsMade.{AreMade, made-noted, made-longer, place-there}
+use Rattle.window_descent.proofs.RowsMade.{AreMade, noted-more, made-longer, place-there}
 use Rattle.window_descent.proofs.rows.Rows.make.Goals as goal
 
 pub index_mut-requires : goal.index_mut-requires
@@ -43,6 +43,9 @@ returns-clause-rows c =
       powers_within = rows.powers_within;
       room = length-set c.args.self.now.firsts.items c.place.result (Some c.in-Ok.first) ∙ rows.room;
       made = subst (λ place. AreMade m powers (set c.args.self.now.firsts.items place (Some c.in-Ok.first)) children) (sym c.place.ensures)
-          (made-noted m kinds turns powers c.args.self.now.firsts.items children level kind turn c.in-Ok.first c.requires.kind_exists c.requires.turn_below there row
+          (noted-more m kinds turns (length powers) (λ (l k t : ℕ). IsChildRow m (get_or powers l (record { c = [] })) k t children)
+          c.args.self.now.firsts.items level kind turn (Some c.in-Ok.first) c.requires.kind_exists c.requires.turn_below there row
           (made-longer m powers c.args.self.now.firsts.items c.args.self.now.children.items children c.push_row.ensures.longer rows.made));
+      bounds_room = rows.bounds_room;
+      bounded = rows.bounded;
     }

@@ -8,7 +8,7 @@ use Rattle.descents.specs.MeetingTest.{polygon_meets}
 use Rattle.window_descent.specs.Parts.{IsPlacedBy}
 use Rattle.window_descent.specs.Standing.{window_box, IsStanding}
 use Rattle.window_descent.proofs.Placings.{placed-met, placed-beside}
-use Rattle.window_descent.proofs.part.place_of.Goals as goal
+use Rattle.window_descent.proofs.placing.by_outline.Goals as goal
 
 pub returns-then-level-eq0 : goal.returns-then-level-eq0
 returns-then-level-eq0 c =

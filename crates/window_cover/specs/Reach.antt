@@ -1,0 +1,24 @@
+-- Fields that hold tiles by their runs and their leaves.
+use Rattle.std.specs.Prelude.{List, None, Some}
+use Rattle.std.specs.declared.option.Option.{Option}
+use Rattle.std.specs.List.{AllByRecursion}
+use Rattle.cyclo_points.specs.declared.motion.Motion.{Motion}
+use Rattle.cyclo_points.specs.declared.point.Point.{Point}
+use Rattle.rule_model.specs.Usable.{origin}
+use Rattle.window_cover.specs.declared.fields.Fields.{Fields}
+use Rattle.window_cover.specs.declared.run.Run.{Run}
+use Rattle.window_cover.specs.Found.{Found}
+use Rattle.window_cover.specs.Words.{AreHeld}
+
+-- the motion of a run, which only shifts
+abbrev pub still : Option Point → Motion
+still None = record { turn = 0; shift = origin }
+still (Some by) = record { turn = 0; shift = by }
+
+-- the fields hold each tile
+abbrev pub HoldEach : Fields → List Found → Type 0
+HoldEach f found = AllByRecursion (λ (x : Found). AreHeld f x.motion x.kind) found
+
+-- they hold the motion of a run, as that of a tile of kind 0
+abbrev pub HoldRun : Fields → Run → Type 0
+HoldRun f r = AreHeld f (still r.shift) 0
