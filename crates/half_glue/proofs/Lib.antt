@@ -16,6 +16,11 @@ mod KindSides
 mod OtherHalves
 mod AmongTiles
 mod PickedPairs
+mod InnerPairs
+mod Merging
+mod PlaceAmong
+mod NextMerged
+mod MergedWholes
 mod BegunBehind
 mod GluedPolygon
 mod FirstGlueEdge

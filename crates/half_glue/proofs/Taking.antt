@@ -21,9 +21,9 @@ use Rattle.half_glue.proofs.Chosen.{get_or-front, contains-left}
 use Rattle.half_glue.proofs.Settling.{given-on, glued-on}
 use Rattle.half_glue.proofs.Wholes.{of-all, glued-back}
 
--- the pairs that the tiles in front have brought
-pub record ArePaired (t : Tiling) (f : FrameValue) (tiles : List PlacedTile) (i : ℕ) (crossed : List PlacedTile) (pairs : List Pair) : Type 0 where
-  pub few : length pairs ≤ i
+-- the pairs that the tiles in front have brought, behind so many others
+pub record ArePaired (t : Tiling) (f : FrameValue) (tiles : List PlacedTile) (base i : ℕ) (crossed : List PlacedTile) (pairs : List Pair) : Type 0 where
+  pub few : length pairs ≤ base + i
   pub few_crossed : length crossed ≤ i
   pub given : All (IsGiven t f) (tiles ++ crossed)
   pub present : All (ArePresent (length (tiles ++ crossed))) pairs
@@ -85,8 +85,8 @@ module _ (m : Rule) (L : HasGlueLaws m) (now after : FrameValue) (is : IsFrameOf
   pub all-on : All (IsGiven t now) tiles → All (IsGiven t after) tiles
   all-on all k d l = given-on m L now is (get_or tiles k d) (all k d l) after up
 
-  pub paired-on : (i : ℕ) (crossed : List PlacedTile) (pairs : List Pair) → i ≤ length tiles → All (IsGiven t now) tiles → ArePaired t now tiles i crossed pairs → ArePaired t after tiles i crossed pairs
-  paired-on i crossed pairs within all h = record {
+  pub paired-on : (base i : ℕ) (crossed : List PlacedTile) (pairs : List Pair) → i ≤ length tiles → All (IsGiven t now) tiles → ArePaired t now tiles base i crossed pairs → ArePaired t after tiles base i crossed pairs
+  paired-on base i crossed pairs within all h = record {
     few = h.few;
     few_crossed = h.few_crossed;
     given = λ k d l. given-on m L now is (get_or (tiles ++ crossed) k d) (h.given k d l) after up;
@@ -96,7 +96,7 @@ module _ (m : Rule) (L : HasGlueLaws m) (now after : FrameValue) (is : IsFrameOf
   }
 
 -- ---- one more tile
-module _ (t : Tiling) (f : FrameValue) (tiles : List PlacedTile) (i : ℕ) (below : i < length tiles) (crossed : List PlacedTile) (pairs : List Pair) (all : All (IsGiven t f) tiles) (h : ArePaired t f tiles i crossed pairs) where
+module _ (t : Tiling) (f : FrameValue) (tiles : List PlacedTile) (base i : ℕ) (below : i < length tiles) (crossed : List PlacedTile) (pairs : List Pair) (all : All (IsGiven t f) tiles) (h : ArePaired t f tiles base i crossed pairs) where
   abbrev own : PlacedTile
   own = tile_of tiles i
 
@@ -124,7 +124,7 @@ module _ (t : Tiling) (f : FrameValue) (tiles : List PlacedTile) (i : ℕ) (belo
     at k l = get_or-front tiles (crossed ++ added) k no_tile l
 
     taking : length added ≤ 1 → length more ≤ 1 → All (IsGiven t f) added → All (ArePresent (length halves)) more → All (IsLoose t f tiles) made → IsTaken t f tiles made own
-        → ArePaired t f tiles (i + 1) (crossed ++ added) (pairs ++ more)
+        → ArePaired t f tiles base (i + 1) (crossed ++ added) (pairs ++ more)
     taking one two given present loose taken = record {
       few = omega (arith, h.few, two, length-append pairs more);
       few_crossed = omega (arith, h.few_crossed, one, length-append crossed added);
@@ -145,7 +145,7 @@ module _ (t : Tiling) (f : FrameValue) (tiles : List PlacedTile) (i : ℕ) (belo
     two-loose : (n k : ℕ) (a b : PlacedTile) → tile_of halves n ≡ a → tile_of halves k ≡ b → loose_of halves (record { first = n; second = Some k }) ≡ record { first = a; second = Some b }
     two-loose n k a b e g = λ j. record { first = e j; second = Some (g j) }
 
-  pub alone : IsFound t f tiles own Alone → ArePaired t f tiles (i + 1) (crossed ++ []) (pairs ++ added_pairs tiles i (length crossed) Alone)
+  pub alone : IsFound t f tiles own Alone → ArePaired t f tiles base (i + 1) (crossed ++ []) (pairs ++ added_pairs tiles i (length crossed) Alone)
   alone none =
       let p : Pair = record { first = i; second = None } in
       let w : WholeTile = record { first = own; second = None } in
@@ -172,7 +172,7 @@ module _ (t : Tiling) (f : FrameValue) (tiles : List PlacedTile) (i : ℕ) (belo
       | inr l ↦ elim (cases_lt other.kind own.kind) [ inl g ↦ g | inr g ↦ absurd (found.1.other_kind (omega (arith, l, g))) ]
     ]
 
-    given-by : (b : Bool) → nat_lt own.kind other.kind ≡ b → ArePaired t f tiles (i + 1) (crossed ++ []) (pairs ++ cond b (both ∷ []) [])
+    given-by : (b : Bool) → nat_lt own.kind other.kind ≡ b → ArePaired t f tiles base (i + 1) (crossed ++ []) (pairs ++ cond b (both ∷ []) [])
     given-by true e =
         let is = two-loose [] (both ∷ []) i k own other (at [] (both ∷ []) i below) (at [] (both ∷ []) k found.0) in
         taking [] (both ∷ []) (omega arith) (omega arith) (All-nil (IsGiven t f))
@@ -183,7 +183,7 @@ module _ (t : Tiling) (f : FrameValue) (tiles : List PlacedTile) (i : ℕ) (belo
     given-by false e =
         taking [] [] (omega arith) (omega arith) (All-nil (IsGiven t f)) (All-nil (ArePresent (length (halves [] [])))) (All-nil (IsLoose t f tiles)) (inr (other, its, found.1, its-lesser e))
 
-    given-too : ArePaired t f tiles (i + 1) (crossed ++ []) (pairs ++ added_pairs tiles i (length crossed) (Given k))
+    given-too : ArePaired t f tiles base (i + 1) (crossed ++ []) (pairs ++ added_pairs tiles i (length crossed) (Given k))
     given-too = given-by (nat_lt own.kind other.kind) refl
 
   -- or crossed to
@@ -212,7 +212,7 @@ module _ (t : Tiling) (f : FrameValue) (tiles : List PlacedTile) (i : ℕ) (belo
       | inr l ↦ elim (cases_lt y.kind own.kind) [ inl g ↦ g | inr g ↦ absurd (found.1.other_kind (omega (arith, l, g))) ]
     ]
 
-    crossed-by : (b : Bool) → nat_lt own.kind y.kind ≡ b → ArePaired t f tiles (i + 1) (crossed ++ y ∷ []) (pairs ++ cond b own_first own_second ∷ [])
+    crossed-by : (b : Bool) → nat_lt own.kind y.kind ≡ b → ArePaired t f tiles base (i + 1) (crossed ++ y ∷ []) (pairs ++ cond b own_first own_second ∷ [])
     crossed-by true e =
         let is = two-loose (y ∷ []) (own_first ∷ []) i n own y (at (y ∷ []) (own_first ∷ []) i below) (at-new (own_first ∷ [])) in
         taking (y ∷ []) (own_first ∷ []) (omega arith) (omega arith) (one-of-all (IsGiven t f) y found.0)
@@ -228,18 +228,33 @@ module _ (t : Tiling) (f : FrameValue) (tiles : List PlacedTile) (i : ℕ) (belo
         (subst (IsLoose t f tiles) (sym is) (record { glued = (found.0, all i no_tile below, glued-back t f own y found.1, crossed-lesser e); of_given = (own, among, inr refl) })))
         (inl (loose_of (halves (y ∷ []) (own_second ∷ [])) own_second, the-first (loose_of (halves (y ∷ []) (own_second ∷ [])) own_second), inr (at (y ∷ []) (own_second ∷ []) i below)))
 
-    crossed-to : ArePaired t f tiles (i + 1) (crossed ++ y ∷ []) (pairs ++ added_pairs tiles i (length crossed) (Crossed y))
+    crossed-to : ArePaired t f tiles base (i + 1) (crossed ++ y ∷ []) (pairs ++ added_pairs tiles i (length crossed) (Crossed y))
     crossed-to = crossed-by (nat_lt own.kind y.kind) refl
 
-  pub taken-too : (found : Found) → IsFound t f tiles own found → ArePaired t f tiles (i + 1) (crossed ++ added_tiles found) (pairs ++ added_pairs tiles i (length crossed) found)
+  pub taken-too : (found : Found) → IsFound t f tiles own found → ArePaired t f tiles base (i + 1) (crossed ++ added_tiles found) (pairs ++ added_pairs tiles i (length crossed) found)
   taken-too Alone h = alone h
   taken-too (Given k) h = given-too k h
   taken-too (Crossed y) h = crossed-to y h
 
+-- a tile that is taken already
+pub taken-before : (t : Tiling) (f : FrameValue) (tiles : List PlacedTile) (base i : ℕ) (crossed : List PlacedTile) (pairs : List Pair) → ArePaired t f tiles base i crossed pairs
+    → IsTaken t f tiles (map (loose_of (tiles ++ crossed)) pairs) (tile_of tiles i) → ArePaired t f tiles base (i + 1) crossed pairs
+taken-before t f tiles base i crossed pairs h own = record {
+  few = let l = h.few in omega (arith, l);
+  few_crossed = let l = h.few_crossed in omega (arith, l);
+  given = h.given;
+  present = h.present;
+  loose = h.loose;
+  taken = λ k l. elim (cases_lt k i) [
+    | inl b ↦ h.taken k b
+    | inr b ↦ let same : i ≡ k = omega (arith, l, b) in subst (λ n. IsTaken t f tiles (map (loose_of (tiles ++ crossed)) pairs) (tile_of tiles n)) same own
+  ];
+}
+
 -- ---- all of them
-pub all-paired : (t : Tiling) (f : FrameValue) (tiles : List PlacedTile) (i : ℕ) (crossed : List PlacedTile) (pairs : List Pair) → i ≤ length tiles → (i < length tiles → ⊥) → ArePaired t f tiles i crossed pairs → ArePairsOf t f tiles crossed pairs
-all-paired t f tiles i crossed pairs within done h = record {
-  few = omega (arith, h.few, within);
+pub all-paired : (t : Tiling) (f : FrameValue) (tiles : List PlacedTile) (base i : ℕ) (crossed : List PlacedTile) (pairs : List Pair) → base ≤ length tiles → i ≤ length tiles → (i < length tiles → ⊥) → ArePaired t f tiles base i crossed pairs → ArePairsOf t f tiles crossed pairs
+all-paired t f tiles base i crossed pairs low within done h = record {
+  few = omega (arith, h.few, low, within);
   given = h.given;
   present = h.present;
   loose = h.loose;

@@ -1,5 +1,5 @@
 -- The whole tiles of pairs, arranged, are the whole tiles of the tiles given.
-use Rattle.std.proofs.Common.{◌≡◌, inl, inr, None, Some, Option, ℕ, ◌<◌, List, [], ◌∷◌, ◌++◌, All, length, map, get_or, refl, sym, ap, ◌∙◌, subst, arith}
+use Rattle.std.proofs.Common.{◌≡◌, inl, inr, None, Some, Option, ℕ, ◌<◌, List, ◌++◌, All, length, map, get_or, sym, ap, ◌∙◌, subst, arith}
 use Rattle.std.specs.List.{Contains}
 use Rattle.std.proofs.lemmas.List.{get_or_default, get_or-map, length-map}
 use Rattle.addressing.specs.Address as theory
@@ -14,7 +14,6 @@ use Rattle.rule_model.specs.Tiling.{Tiling, tiling_of, children}
 use Rattle.tile_place.specs.Crossed.{placed_tile}
 use Rattle.tile_place.specs.Searched.{placed_in}
 use Rattle.tile_place.specs.declared.placed_tile.PlacedTile.{PlacedTile}
-use Rattle.tile_shape.specs.declared.address.Address.{Address}
 use Rattle.tile_shape.specs.Views.{address_of}
 use Rattle.tile_shape.proofs.Seen.{address-there}
 use Rattle.lazy_walk.specs.Frames.{FrameValue, whole, IsFrameOf}
@@ -39,10 +38,10 @@ use Rattle.half_glue.proofs.Halves.{given-whole, given-key}
 pub of-all : {A : Type 0} (Q : A → Type 0) (xs : List A) (x : A) → All Q xs → Contains xs x → Q x
 of-all Q xs x all c = subst Q c.2 (all c.0 x c.1)
 
-contains-map : {A B : Type 0} (g : A → B) (xs : List A) (x : A) → Contains xs x → Contains (map g xs) (g x)
+pub contains-map : {A B : Type 0} (g : A → B) (xs : List A) (x : A) → Contains xs x → Contains (map g xs) (g x)
 contains-map g xs x c = (c.0, omega (arith, c.1, length-map xs g), get_or-map g xs c.0 x (g x) c.1 ∙ ap g c.2)
 
-contained : {A B : Type 0} (g : A → B) (xs : List A) (d : A) (y : B) → Contains (map g xs) y → (x : A) × Contains xs x × (g x ≡ y)
+pub contained : {A B : Type 0} (g : A → B) (xs : List A) (d : A) (y : B) → Contains (map g xs) y → (x : A) × Contains xs x × (g x ≡ y)
 contained g xs d y c =
     let below : c.0 < length xs = omega (arith, c.1, length-map xs g) in
     (get_or xs c.0 d, (c.0, below, get_or_default xs c.0 (get_or xs c.0 d) d below), sym (get_or-map g xs c.0 d y below) ∙ c.2)

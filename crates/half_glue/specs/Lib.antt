@@ -9,6 +9,8 @@ pub mod Checked
 pub mod Sides
 pub mod Found
 pub mod Pairs
+pub mod Inner
+pub mod Merged
 pub mod Lifted
 pub mod Arranged
 pub mod Outline

@@ -1,5 +1,5 @@
 -- Whole tiles by the numbers of their tiles.
-use Rattle.std.specs.Prelude.{◌≡◌, ◌⊎◌, ℕ, ◌+◌, ◌<◌, ◌≤◌, nat_lt, cond, List, [], ◌∷◌, ◌++◌, All, length, map, Option, None, Some, IfSome}
+use Rattle.std.specs.Prelude.{◌≡◌, ◌⊎◌, ℕ, ◌+◌, ◌*◌, ◌<◌, ◌≤◌, nat_lt, cond, List, [], ◌∷◌, ◌++◌, All, length, map, Option, None, Some, IfSome}
 use Rattle.std.specs.List.{Contains}
 use Rattle.rule_model.specs.Tiling.{Tiling}
 use Rattle.tile_place.specs.declared.placed_tile.PlacedTile.{PlacedTile}
@@ -63,7 +63,7 @@ IsTaken t f tiles made x =
 
 -- the pairs of tiles given and crossed to, so that each tile given is taken
 pub record ArePairsOf (t : Tiling) (f : FrameValue) (tiles crossed : List PlacedTile) (pairs : List Pair) : Type 0 where
-  pub few : length pairs ≤ length tiles
+  pub few : length pairs ≤ 2 * length tiles
   pub given : All (IsGiven t f) (tiles ++ crossed)
   pub present : All (ArePresent (length (tiles ++ crossed))) pairs
   pub loose : All (IsLoose t f tiles) (map (loose_of (tiles ++ crossed)) pairs)

@@ -71,7 +71,7 @@ pub(crate) fn other_half<L: Ledger>(
 
 /// Returns the number of the tile across the glue edge of a tile with this motion and kind, if it is a tile
 /// of the window.
-fn half_among(
+pub(crate) fn half_among(
     machine: &Machine,
     side: &GlueSide,
     tiles: &CoveredTiles,

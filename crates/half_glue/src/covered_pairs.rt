@@ -1,5 +1,5 @@
 //! Finds the whole tiles of the tiles of a window, by numbers.
-ghost use Rattle.std.specs.Prelude.{◌≡◌, ◌⊎◌, ◌<◌, ◌≤◌, ℕ, length, Err, IsOk, IfOk, IfErr, OnOk};
+ghost use Rattle.std.specs.Prelude.{◌≡◌, ◌⊎◌, ◌<◌, ◌≤◌, ◌++◌, ℕ, length, Err, IsOk, IfOk, IfErr, OnOk};
 ghost use Rattle.rule_model.specs.Tiling.{tiling_of};
 ghost use Rattle.lazy_walk.specs.Frames.{IsFrameOf, GrowsTo};
 ghost use Rattle.windows.specs.Limits.{most_tiles};
@@ -8,6 +8,7 @@ ghost use Rattle.half_glue.specs.declared.glue_fault.GlueFault.TheVariants.{NoMe
 ghost use Rattle.half_glue.specs.Causes.{HasGlueCause};
 ghost use Rattle.half_glue.specs.Depth.{IsLeastForGlue, IsTooShallow};
 ghost use Rattle.half_glue.specs.Given.{AreGiven};
+ghost use Rattle.half_glue.specs.Inner.{AreRising};
 ghost use Rattle.half_glue.specs.Limits.{CanBeGlued};
 ghost use Rattle.half_glue.specs.Pairs.{ArePairsOf};
 
@@ -16,7 +17,8 @@ use crate::glue_fault::GlueFault;
 use crate::glue_laws::glue_laws;
 use crate::glue_side::glue_sides;
 use crate::guesses::Guesses;
-use crate::pairs::{Pairs, put_covered};
+use crate::inner_pairs::inner_pairs;
+use crate::pairs::{Pair, Pairs, put_covered};
 use edge_tables::steps::Steps;
 use lazy_walk::frame::Frame;
 use std::alloc::Global;
@@ -24,21 +26,33 @@ use std::sync::ledger::Ledger;
 use tile_place::machine::Machine;
 use window_cover::covered_tiles::CoveredTiles;
 
-/// Finds the whole tiles of the tiles of a window, which it takes in their order. The frame grows to the
-/// least depth at which none of their glue edges is on the boundary.
+/// The whole tiles of the tiles of a window, by numbers.
+#[derive(Drop)]
+pub(crate) struct CoveredPairs {
+    /// Those whose tiles are all tiles of the window, by the numbers of their first tiles.
+    pub(crate) inner: Vec<Pair>,
+    /// The others, in the order found, and the tiles crossed to.
+    pub(crate) outer: Pairs,
+}
+
+/// Finds the whole tiles of the tiles of a window. An edge is crossed only from a tile that is in none of the
+/// whole tiles found without. The frame grows to the least depth at which none of the tiles' glue edges is on
+/// the boundary.
 pub(crate) fn paired<L: Ledger>(
     alloc: Global,
     machine: &Machine,
     frame: &mut Frame,
     tiles: &CoveredTiles,
     steps: &mut Steps<L>,
-) -> Result<Pairs, GlueFault>
+) -> Result<CoveredPairs, GlueFault>
     requires frame { IsFrameOf (tiling_of machine.now) frame.old }
     requires few { length tiles.now ≤ most_tiles }
     requires given { AreGiven (tiling_of machine.now) frame.old tiles.now }
     requires in_order { covered.AreInOrder tiles.now }
     ensures frame { GrowsTo (tiling_of machine.now) frame.old frame.new }
-    ensures paired { IfOk result (λ made. ArePairsOf (tiling_of machine.now) frame.new tiles.now made.crossed.items made.pairs.items) }
+    ensures paired { IfOk result (λ made. ArePairsOf (tiling_of machine.now) frame.new tiles.now made.outer.crossed.items
+        (made.inner.items ++ made.outer.pairs.items)) }
+    ensures rising { IfOk result (λ made. AreRising (length tiles.now) made.inner.items) }
     ensures least { OnOk result (IsLeastForGlue (tiling_of machine.now) frame.old tiles.now (length frame.new.digits)) }
     ensures not_beyond { (n : ℕ) → length frame.old.digits ≤ n → n < length frame.new.digits
         → IsTooShallow (tiling_of machine.now) frame.old tiles.now n }
@@ -49,12 +63,24 @@ pub(crate) fn paired<L: Ledger>(
     glue_laws(machine);
     let sides = glue_sides(alloc, machine)?;
     let mut guesses = Guesses::new(alloc, tiles)?;
-    let mut made = Pairs {
+    let count = tiles.len();
+    let mut taken = vec![in alloc; false; count]?;
+    let inner = inner_pairs(
+        alloc,
+        machine,
+        sides.as_slice(),
+        tiles,
+        &mut guesses,
+        taken.as_mut_slice(),
+    )?;
+    let mut outer = Pairs {
         pairs: Vec::new(alloc),
         crossed: Vec::new(alloc),
     };
-    let count = tiles.len();
     for number in 0..count {
+        if taken[number] {
+            continue;
+        }
         let found = other_half(
             machine,
             frame,
@@ -64,7 +90,7 @@ pub(crate) fn paired<L: Ledger>(
             number,
             steps,
         )?;
-        put_covered(&mut made, tiles, number, found)?;
+        put_covered(&mut outer, tiles, number, found)?;
     }
-    Ok(made)
+    Ok(CoveredPairs { inner, outer })
 }

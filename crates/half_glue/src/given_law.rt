@@ -7,7 +7,7 @@ ghost use Rattle.lazy_walk.specs.Frames.{FrameValue};
 ghost use Rattle.lazy_walk.specs.Standing.{Stands};
 ghost use Rattle.half_glue.specs.Given.{IsGiven};
 
-/// A tile in its place at the frame's depth may be given, unless its shift is refused.
+/// States that a tile in its place at the frame's depth may be given, unless its shift is refused.
 pub fn given_law()
     ensures { (t : Tiling) (f : FrameValue) (x : tile.PlacedTile) → Stands t f x → IsWithin (2 ^ 24) x.motion.shift → IsGiven t f x }
 {}

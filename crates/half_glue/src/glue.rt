@@ -51,7 +51,7 @@ pub fn glue(
 
     ensures frame { GrowsTo (tiling_of machine.now) frame.old frame.new }
 
-    // Exactly the whole tiles of the given tiles, each once and in its place, at the least depth.
+    // Exactly the whole tiles of the given tiles, each exactly once and in its place, at the least depth.
     ensures whole_tiles { IfOk result (λ wholes. AreWholeTilesOf (tiling_of machine.now) frame.new tiles.now.items wholes.items) }
     ensures in_order { IfOk result (λ wholes. AreInOrder wholes.items) }
     ensures least { OnOk result (IsLeastForGlue (tiling_of machine.now) frame.old tiles.now.items (length frame.new.digits)) }

@@ -18,6 +18,7 @@ use crate::covered_pairs::paired;
 use crate::glue_fault::GlueFault;
 use crate::glue_laws::glue_laws;
 use crate::glued_tiles::GluedTiles;
+use crate::merged::merged;
 use crate::pairs::Pairs;
 use edge_tables::steps::Steps;
 use lazy_walk::frame::Frame;
@@ -42,7 +43,7 @@ pub fn glue_covered(
 
     ensures frame { GrowsTo (tiling_of machine.now) frame.old frame.new }
 
-    // Exactly the whole tiles of the given tiles, each once and in its place, at the least depth.
+    // Exactly the whole tiles of the given tiles, each exactly once and in its place, at the least depth.
     ensures whole_tiles { IfOk result (λ wholes. AreWholeTilesOf (tiling_of machine.now) frame.new tiles wholes) }
     ensures in_order { IfOk result (λ wholes. AreInOrder wholes) }
     ensures least { OnOk result (IsLeastForGlue (tiling_of machine.now) frame.old tiles (length frame.new.digits)) }
@@ -98,9 +99,17 @@ fn glued<L: Ledger>(
     glue_laws(machine);
     let mut steps = Steps::<L>::new(blank);
     let made = paired(alloc, machine, frame, tiles, &mut steps)?;
-    let pairs = ordered(alloc, tiles, &made)?;
+    let outer = made.outer;
+    let sorted = ordered(alloc, tiles, &outer)?;
+    let pairs = merged(
+        alloc,
+        tiles,
+        outer.crossed.as_slice(),
+        made.inner.as_slice(),
+        sorted.as_slice(),
+    )?;
     Ok(Pairs {
         pairs,
-        crossed: made.crossed,
+        crossed: outer.crossed,
     })
 }

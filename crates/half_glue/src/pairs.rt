@@ -106,7 +106,7 @@ pub(crate) fn put_covered(
 }
 
 /// Returns true if `kind` is less than `other`.
-fn is_less(kind: u8, other: u8) -> bool
+pub(crate) fn is_less(kind: u8, other: u8) -> bool
     ensures { result ≡ nat_lt kind other }
 {
     kind < other

@@ -5,7 +5,7 @@ ghost use Rattle.half_glue.specs.Parts.{PartsWithinLaw};
 use crate::glue_laws::glue_laws;
 use tile_place::machine::Machine;
 
-/// If tiles can be glued, no part of their whole tiles has a refused shift.
+/// States that no part of whole tiles has a refused shift, if the tiles can be glued.
 pub fn parts_law(machine: &Machine)
     ensures { PartsWithinLaw (tiling_of machine.now) }
 {

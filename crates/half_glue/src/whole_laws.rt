@@ -8,7 +8,7 @@ use tile_place::machine::Machine;
 use windows::frame_laws::frame_patch_law;
 use windows::patch_laws::gluing_law;
 
-/// The laws of the whole tiles of a machine's tiling.
+/// States the laws of the whole tiles of a machine's tiling.
 ///
 /// - Two halves are glued along the only glue edge of each.
 /// - At each test point, the outline of a whole tile has the count of its parts together.

@@ -1,5 +1,6 @@
-use Rattle.std.proofs.Common.{◌+◌, ◌<◌, ◌≤◌, All, List, ◌++◌, length, sym, subst, arith, take_all}
+use Rattle.std.proofs.Common.{◌+◌, ◌<◌, ◌≤◌, ◌∙◌, [], All, List, ◌++◌, length, sym, ap, subst, arith, take_all, append_assoc}
 use Rattle.std.proofs.lemmas.List.{get_or_default}
+use Rattle.std.proofs.lemmas.List.Elements.{All-nil}
 use Rattle.rule_model.specs.Tiling.{tiling_of}
 use Rattle.tile_place.specs.declared.placed_tile.PlacedTile.{PlacedTile}
 use Rattle.lazy_walk.specs.Ancestors.{full}
@@ -8,10 +9,12 @@ use Rattle.half_glue.specs.Depth.{IsGluedInside}
 use Rattle.half_glue.specs.Found.{no_tile, tile_of}
 use Rattle.half_glue.specs.Limits.{CanBeJoined}
 use Rattle.half_glue.specs.Pairs.{added_pairs}
-use Rattle.half_glue.proofs.Halves.{given-key}
+use Rattle.half_glue.proofs.InnerPairs.{are-placed, read-mark, none-crossed, taken-settled, taken-too as inner-taken}
+use Rattle.lazy_walk.proofs.Ancestors.{full-later}
 use Rattle.lazy_walk.proofs.Outcomes.{if_err-is}
+use Rattle.lazy_walk.proofs.Walks.{GrowsTo-self}
 use Rattle.half_glue.proofs.SettledTiles.{left-behind, cause-of, one-more}
-use Rattle.half_glue.proofs.Taking.{ArePaired, all-on, paired-on, taken-too, all-paired}
+use Rattle.half_glue.proofs.Taking.{ArePaired, all-on, paired-on, taken-too, taken-before, all-paired}
 use Rattle.half_glue.proofs.covered_pairs.paired.Goals as goal
 
 pub other_half-requires-clause-given : goal.other_half-requires-clause-given
@@ -29,32 +32,32 @@ returns-in_err-found-clause-cause g c =
 
 pub loop-number-preserved : goal.loop-number-preserved
 loop-number-preserved g c =
-    let m = c.args.machine.now in
     let L = c.glue_laws.ensures in
-    let t = tiling_of m in
+    let t = tiling_of c.args.machine.now in
     let old = c.args.frame.now in
     let now = c.loop-number.frame in
     let after = c.other_half.new.frame in
     let tiles : List PlacedTile = c.args.tiles.now in
+    let inner : List Pair = c.in_ok-inner.inner.items in
     let i = c.loop-number.number in
     let below = (subst (λ n. c.loop-number.number < n) c.len-count.ensures c.loop-number-test.true) in
     let x = tile_of tiles i in
     let settled = c.loop-number.invariant.0 in
     let up = c.in_ok-found.ensures.frame in
-    let all_now = all-on m L old now c.requires.frame settled.grows tiles c.requires.given in
-    let all_after = all-on m L now after settled.grows.is_frame up tiles all_now in
-    let paired = paired-on m L now after settled.grows.is_frame up tiles i c.loop-number.made.crossed.items c.loop-number.made.pairs.items (omega (arith, below)) all_now c.loop-number.invariant.1 in
-    let ps : List Pair = c.loop-number.made.pairs.items ++ added_pairs tiles i (length c.loop-number.made.crossed.items) c.in_ok-found.found in (
-      one-more m L old now c.requires.frame tiles c.requires.given i below x (get_or_default tiles i x no_tile below) settled after up c.in_ok-found.ensures.inside c.in_ok-found.ensures.can_be_joined c.in_ok-found.ensures.least,
-      subst (λ (ps : List Pair). ArePaired t after tiles (i + 1) c.put_covered.new.made.crossed.items ps) (sym c.in_ok-put_covered.ensures.pairs)
-          (subst (λ (xs : List PlacedTile). ArePaired t after tiles (i + 1) xs ps) (sym c.in_ok-put_covered.ensures.crossed)
-          (taken-too t after tiles i below c.loop-number.made.crossed.items c.loop-number.made.pairs.items all_after paired c.in_ok-found.found c.in_ok-found.ensures.found)),
+    let all_now = all-on c.args.machine.now L old now c.requires.frame settled.grows tiles c.requires.given in
+    let all_after = all-on c.args.machine.now L now after settled.grows.is_frame up tiles all_now in
+    let paired = paired-on c.args.machine.now L now after settled.grows.is_frame up tiles (length inner) i c.loop-number.outer.crossed.items (inner ++ c.loop-number.outer.pairs.items) (omega (arith, below)) all_now c.loop-number.invariant.1 in
+    let more : List Pair = added_pairs tiles i (length c.loop-number.outer.crossed.items) c.in_ok-found.found in (
+      one-more c.args.machine.now L old now c.requires.frame tiles c.requires.given i below x (get_or_default tiles i x no_tile below) settled after up c.in_ok-found.ensures.inside c.in_ok-found.ensures.can_be_joined c.in_ok-found.ensures.least,
+      subst (λ (ps : List Pair). ArePaired t after tiles (length inner) (i + 1) c.put_covered.new.made.crossed.items ps) (sym (ap (λ (ps : List Pair). inner ++ ps) c.in_ok-put_covered.ensures.pairs ∙ sym (append_assoc inner c.loop-number.outer.pairs.items more)))
+          (subst (λ (xs : List PlacedTile). ArePaired t after tiles (length inner) (i + 1) xs ((inner ++ c.loop-number.outer.pairs.items) ++ more)) (sym c.in_ok-put_covered.ensures.crossed)
+          (taken-too t after tiles (length inner) i below c.loop-number.outer.crossed.items (inner ++ c.loop-number.outer.pairs.items) all_after paired c.in_ok-found.found c.in_ok-found.ensures.found)),
     )
 
 pub returns-clause-paired : goal.returns-clause-paired
 returns-clause-paired g c =
-    all-paired (tiling_of c.args.machine.now) c.loop-number.frame c.args.tiles.now c.loop-number.number c.loop-number.made.crossed.items c.loop-number.made.pairs.items
-    (omega (arith, c.loop-number.auto.number-end, c.len-count.ensures)) (λ l. omega (arith, l, c.loop-number-test.false, c.len-count.ensures)) c.loop-number.invariant.1
+    all-paired (tiling_of c.args.machine.now) c.loop-number.frame c.args.tiles.now (length c.in_ok-inner.inner.items) c.loop-number.number c.loop-number.outer.crossed.items (c.in_ok-inner.inner.items ++ c.loop-number.outer.pairs.items)
+    c.in_ok-inner.ensures.rising.few (omega (arith, c.loop-number.auto.number-end, c.len-count.ensures)) (λ l. omega (arith, l, c.loop-number-test.false, c.len-count.ensures)) c.loop-number.invariant.1
 
 pub returns-clause-least : goal.returns-clause-least
 returns-clause-least g c = record {
@@ -86,3 +89,53 @@ returns-in_err-put_covered-clause-not_beyond g c =
 
 pub returns-clause-not_beyond : goal.returns-clause-not_beyond
 returns-clause-not_beyond g c = c.loop-number.invariant.0.least
+
+pub inner_pairs-requires-clause-placed : goal.inner_pairs-requires-clause-placed
+inner_pairs-requires-clause-placed g c = are-placed c.args.machine.now c.glue_laws.ensures c.args.frame.now c.requires.frame c.args.tiles.now c.requires.given
+
+pub loop-number-init : goal.loop-number-init
+loop-number-init g c =
+    let t = tiling_of c.args.machine.now in
+    let f = c.args.frame.now in
+    let tiles : List PlacedTile = c.args.tiles.now in
+    let inner : List Pair = c.in_ok-inner.inner.items in (
+      record { grows = GrowsTo-self t f c.requires.frame; inside = All-nil (IsGluedInside t f (length f.digits)); joined = All-nil (CanBeJoined t (full t f)); least = λ k l h. absurd (omega (arith, l, h)) },
+      subst (λ (xs : List PlacedTile). ArePaired t f tiles (length inner) 0 xs (inner ++ c.new-2.result.items)) (sym c.new-3.ensures.items)
+          (subst (λ (ps : List Pair). ArePaired t f tiles (length inner) 0 [] (inner ++ ps)) (sym c.new-2.ensures.items)
+          (none-crossed c.args.machine.now c.glue_laws.ensures f c.requires.frame tiles inner c.inner_pairs.new.taken (c.in_ok-inner.ensures.inner f c.requires.frame c.requires.given) c.requires.given)),
+    )
+
+pub loop-number-preserved-then-index : goal.loop-number-preserved-then-index
+loop-number-preserved-then-index g c =
+    let L = c.glue_laws.ensures in
+    let t = tiling_of c.args.machine.now in
+    let old = c.args.frame.now in
+    let now = c.loop-number.frame in
+    let tiles : List PlacedTile = c.args.tiles.now in
+    let inner : List Pair = c.in_ok-inner.inner.items in
+    let outer : List Pair = c.loop-number.outer.pairs.items in
+    let crossed : List PlacedTile = c.loop-number.outer.crossed.items in
+    let i = c.loop-number.number in
+    let below : i < length tiles = subst (λ n. c.loop-number.number < n) c.len-count.ensures c.loop-number-test.true in
+    let x = tile_of tiles i in
+    let settled = c.loop-number.invariant.0 in
+    let is = settled.grows.is_frame in
+    let marks = c.inner_pairs.new.taken in
+    let long = c.in_ok-taken.ensures.len in
+    let many = c.in_ok-inner.ensures.as_many in
+    let room : i < c.in_ok-taken.taken.len = omega (arith, long, c.loop-number-test.true) in
+    let inside : i < length marks = omega (arith, many, below) in
+    let set = read-mark c.in_ok-taken.taken.len marks _ i _ c.index.result.now c.index.ensures room inside c.if-index.true in
+    let h = c.in_ok-inner.ensures.inner now is (all-on c.args.machine.now L old now c.requires.frame settled.grows tiles c.requires.given) in
+    let own = taken-settled c.args.machine.now L now is tiles inner marks h i set in (
+      one-more c.args.machine.now L old now c.requires.frame tiles c.requires.given i below x (get_or_default tiles i x no_tile below) settled now (GrowsTo-self t now is) own.0 own.1 (λ n l k. absurd (omega (arith, l, k))),
+      taken-before t now tiles (length inner) i crossed (inner ++ outer) c.loop-number.invariant.1 (inner-taken c.args.machine.now L now is tiles inner marks h crossed outer i set),
+    )
+
+pub returns-in_err-found-clause-answered : goal.returns-in_err-found-clause-answered
+returns-in_err-found-clause-answered g c = λ can.
+    let t = tiling_of c.args.machine.now in
+    let tiles : List PlacedTile = c.args.tiles.now in
+    let i = c.loop-number.number in
+    let below : i < length tiles = subst (λ n. i < n) c.len-count.ensures c.loop-number-test.true in
+    absurd (cc (c.in_err-found.ensures.answered (subst (λ y. CanBeJoined t y (tile_of tiles i)) (sym (full-later t c.args.frame.now c.loop-number.frame c.loop-number.invariant.0.grows)) (can i no_tile below))))

@@ -1,4 +1,4 @@
-use Rattle.std.proofs.Common.{take}
+use Rattle.std.proofs.Common.{◌++◌, take, length}
 use Rattle.rule_model.specs.Tiling.{tiling_of}
 use Rattle.half_glue.proofs.SettledTiles.{AreSettled}
 use Rattle.half_glue.proofs.Taking.{ArePaired}
@@ -7,4 +7,4 @@ use Rattle.half_glue.proofs.covered_pairs.paired.Given as goal
 abbrev pub invariant-loop-number : goal.invariant-loop-number
 invariant-loop-number g l =
     AreSettled (tiling_of l.fn.machine) l.fn.frame l.frame l.fn.tiles (take l.number l.fn.tiles)
-    × ArePaired (tiling_of l.fn.machine) l.frame l.fn.tiles l.number l.made.crossed.items l.made.pairs.items
+    × ArePaired (tiling_of l.fn.machine) l.frame l.fn.tiles (length l.inner.items) l.number l.outer.crossed.items (l.inner.items ++ l.outer.pairs.items)

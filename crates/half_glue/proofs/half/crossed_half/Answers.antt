@@ -14,18 +14,15 @@ use Rattle.half_glue.proofs.half.crossed_half.Goals as goal
 
 pub cross_grow_in_place-requires-clause-edge_exists : goal.cross_grow_in_place-requires-clause-edge_exists
 cross_grow_in_place-requires-clause-edge_exists g c =
-    let m = c.args.machine.now in
-    let x = c.args.tile.now in
-    subst (λ k. c.args.edge < edges_of (tiling_of m) k) (c.requires.given.its_kind ∙ sym c.copy-across.ensures.kind) (glue-edge-there m c.glue_laws.ensures x.kind c.args.edge c.requires.glue_edge.glue_edge)
+    subst (λ k. c.args.edge < edges_of (tiling_of c.args.machine.now) k) (c.requires.given.its_kind ∙ sym c.copy-across.ensures.kind) (glue-edge-there c.args.machine.now c.glue_laws.ensures c.args.tile.now.kind c.args.edge c.requires.glue_edge.glue_edge)
 
 pub returns-in_err-back-clause-least : goal.returns-in_err-back-clause-least
 returns-in_err-back-clause-least g c = λ n l h.
     let t = tiling_of c.args.machine.now in
-    let x = c.args.tile.now in
     record {
-      tile = x;
+      tile = c.args.tile.now;
       edge = c.args.edge;
-      is_given = the-one x;
+      is_given = the-one c.args.tile.now;
       glue_edge = c.requires.glue_edge.glue_edge;
       on_boundary = subst (λ a. IsBoundaryEdge t (lifted_at t c.args.frame.now a n) c.args.edge) c.copy-across.ensures.seen (c.in_err-back.ensures.least n l h);
     }
@@ -34,16 +31,15 @@ pub returns-in_err-back-clause-cause : goal.returns-in_err-back-clause-cause
 returns-in_err-back-clause-cause g c =
     let t = tiling_of c.args.machine.now in
     let f = c.args.frame.now in
-    let x = c.args.tile.now in
     let limit = c.in_err-back.field-0.0 in
-    let seen : address_of c.copy-across.result ≡ address_of x.addr = c.copy-across.ensures.seen in
+    let seen : address_of c.copy-across.result ≡ address_of c.args.tile.now.addr = c.copy-across.ensures.seen in
     if_err-is _ c.from_residual.result (DepthLimit limit.addr limit.edge) c.from_residual.ensures.1
     (record {
-      tile = x;
-      is_given = the-one x;
+      tile = c.args.tile.now;
+      is_given = the-one c.args.tile.now;
       its_address = c.in_err-back.ensures.limit_tile ∙ ap (λ a. lifted_at t f a 64) seen;
-      glue_edge = subst (λ e. IsGlueEdge t.rule x.kind e) (sym c.in_err-back.ensures.limit_edge) c.requires.glue_edge.glue_edge;
-      on_boundary = subst (λ e. IsBoundaryEdge t (lifted_at t f (address_of x.addr) 64) e) (sym c.in_err-back.ensures.limit_edge)
+      glue_edge = subst (λ e. IsGlueEdge t.rule c.args.tile.now.kind e) (sym c.in_err-back.ensures.limit_edge) c.requires.glue_edge.glue_edge;
+      on_boundary = subst (λ e. IsBoundaryEdge t (lifted_at t f (address_of c.args.tile.now.addr) 64) e) (sym c.in_err-back.ensures.limit_edge)
           (subst (λ a. IsBoundaryEdge t (lifted_at t f a 64) c.args.edge) seen (c.in_err-back.ensures.limit_exactly.0 refl));
     })
 
@@ -59,62 +55,55 @@ placed_beside-other-requires-clause-only_tile_across g c =
 pub returns-then-refused-clause-least : goal.returns-then-refused-clause-least
 returns-then-refused-clause-least g c = λ n l h.
     let t = tiling_of c.args.machine.now in
-    let x = c.args.tile.now in
     record {
-      tile = x;
+      tile = c.args.tile.now;
       edge = c.args.edge;
-      is_given = the-one x;
+      is_given = the-one c.args.tile.now;
       glue_edge = c.requires.glue_edge.glue_edge;
       on_boundary = subst (λ a. IsBoundaryEdge t (lifted_at t c.args.frame.now a n) c.args.edge) c.copy-across.ensures.seen (c.in_ok-back.ensures.least n l h);
     }
 
 pub returns-then-refused-clause-answered : goal.returns-then-refused-clause-answered
 returns-then-refused-clause-answered g c = λ can.
-    let m = c.args.machine.now in
-    let fine = not-refused m c.glue_laws.ensures c.args.frame.now c.requires.frame c.args.tile.now c.requires.given c.cross_grow_in_place.new.self c.in_ok-back.ensures.frame c.args.edge c.requires.glue_edge.glue_edge
+    let fine = not-refused c.args.machine.now c.glue_laws.ensures c.args.frame.now c.requires.frame c.args.tile.now c.requires.given c.cross_grow_in_place.new.self c.in_ok-back.ensures.frame c.args.edge c.requires.glue_edge.glue_edge
     c.placed_beside-other.result c.placed_beside-other.ensures.stands c.in_ok-back.back c.placed_beside-other.ensures.across can in
-    sym fine ∙ sym (c.refused.ensures.in_order m.order c.placed_beside-other.ensures.stands.in_order) ∙ c.if-refused.true
+    sym fine ∙ sym (c.refused.ensures.in_order c.args.machine.now.order c.placed_beside-other.ensures.stands.in_order) ∙ c.if-refused.true
 
 pub returns-then-refused-clause-cause : goal.returns-then-refused-clause-cause
 returns-then-refused-clause-cause g c =
-    let m = c.args.machine.now in
-    refused-shift m c.glue_laws.ensures c.args.frame.now c.requires.frame c.args.tile.now c.requires.given c.cross_grow_in_place.new.self c.in_ok-back.ensures.frame c.args.edge c.requires.glue_edge.glue_edge
+    refused-shift c.args.machine.now c.glue_laws.ensures c.args.frame.now c.requires.frame c.args.tile.now c.requires.given c.cross_grow_in_place.new.self c.in_ok-back.ensures.frame c.args.edge c.requires.glue_edge.glue_edge
     c.placed_beside-other.result c.placed_beside-other.ensures.stands c.in_ok-back.back c.placed_beside-other.ensures.across
-    (sym (c.refused.ensures.in_order m.order c.placed_beside-other.ensures.stands.in_order) ∙ c.if-refused.true)
+    (sym (c.refused.ensures.in_order c.args.machine.now.order c.placed_beside-other.ensures.stands.in_order) ∙ c.if-refused.true)
 
 pub returns-clause-crossed : goal.returns-clause-crossed
 returns-clause-crossed g c =
-    let m = c.args.machine.now in
-    crossed-glued m c.glue_laws.ensures c.args.frame.now c.requires.frame c.args.tile.now c.requires.given c.cross_grow_in_place.new.self c.in_ok-back.ensures.frame c.args.edge c.requires.glue_edge.glue_edge
+    crossed-glued c.args.machine.now c.glue_laws.ensures c.args.frame.now c.requires.frame c.args.tile.now c.requires.given c.cross_grow_in_place.new.self c.in_ok-back.ensures.frame c.args.edge c.requires.glue_edge.glue_edge
     c.placed_beside-other.result c.placed_beside-other.ensures.stands c.in_ok-back.back c.placed_beside-other.ensures.across
-    (sym (c.refused.ensures.in_order m.order c.placed_beside-other.ensures.stands.in_order) ∙ c.if-refused.false)
+    (sym (c.refused.ensures.in_order c.args.machine.now.order c.placed_beside-other.ensures.stands.in_order) ∙ c.if-refused.false)
 
 pub returns-clause-inside : goal.returns-clause-inside
 returns-clause-inside g c =
-    let m = c.args.machine.now in
     let now = c.cross_grow_in_place.new.self in
-    let h = crossed-glued m c.glue_laws.ensures c.args.frame.now c.requires.frame c.args.tile.now c.requires.given now c.in_ok-back.ensures.frame c.args.edge c.requires.glue_edge.glue_edge
+    let h = crossed-glued c.args.machine.now c.glue_laws.ensures c.args.frame.now c.requires.frame c.args.tile.now c.requires.given now c.in_ok-back.ensures.frame c.args.edge c.requires.glue_edge.glue_edge
     c.placed_beside-other.result c.placed_beside-other.ensures.stands c.in_ok-back.back c.placed_beside-other.ensures.across
-    (sym (c.refused.ensures.in_order m.order c.placed_beside-other.ensures.stands.in_order) ∙ c.if-refused.false) in
-    settled-inside m c.glue_laws.ensures c.args.frame.now c.requires.frame c.args.tile.now c.requires.given now c.in_ok-back.ensures.frame c.placed_beside-other.result h.0 h.1
+    (sym (c.refused.ensures.in_order c.args.machine.now.order c.placed_beside-other.ensures.stands.in_order) ∙ c.if-refused.false) in
+    settled-inside c.args.machine.now c.glue_laws.ensures c.args.frame.now c.requires.frame c.args.tile.now c.requires.given now c.in_ok-back.ensures.frame c.placed_beside-other.result h.0 h.1
 
 pub returns-clause-can_be_joined : goal.returns-clause-can_be_joined
 returns-clause-can_be_joined g c =
-    let m = c.args.machine.now in
     let now = c.cross_grow_in_place.new.self in
-    let h = crossed-glued m c.glue_laws.ensures c.args.frame.now c.requires.frame c.args.tile.now c.requires.given now c.in_ok-back.ensures.frame c.args.edge c.requires.glue_edge.glue_edge
+    let h = crossed-glued c.args.machine.now c.glue_laws.ensures c.args.frame.now c.requires.frame c.args.tile.now c.requires.given now c.in_ok-back.ensures.frame c.args.edge c.requires.glue_edge.glue_edge
     c.placed_beside-other.result c.placed_beside-other.ensures.stands c.in_ok-back.back c.placed_beside-other.ensures.across
-    (sym (c.refused.ensures.in_order m.order c.placed_beside-other.ensures.stands.in_order) ∙ c.if-refused.false) in
-    settled-joined m c.glue_laws.ensures c.args.frame.now c.requires.frame c.args.tile.now c.requires.given now c.in_ok-back.ensures.frame c.placed_beside-other.result h.0 h.1
+    (sym (c.refused.ensures.in_order c.args.machine.now.order c.placed_beside-other.ensures.stands.in_order) ∙ c.if-refused.false) in
+    settled-joined c.args.machine.now c.glue_laws.ensures c.args.frame.now c.requires.frame c.args.tile.now c.requires.given now c.in_ok-back.ensures.frame c.placed_beside-other.result h.0 h.1
 
 pub returns-clause-least : goal.returns-clause-least
 returns-clause-least g c = λ n l h.
     let t = tiling_of c.args.machine.now in
-    let x = c.args.tile.now in
     record {
-      tile = x;
+      tile = c.args.tile.now;
       edge = c.args.edge;
-      is_given = the-one x;
+      is_given = the-one c.args.tile.now;
       glue_edge = c.requires.glue_edge.glue_edge;
       on_boundary = subst (λ a. IsBoundaryEdge t (lifted_at t c.args.frame.now a n) c.args.edge) c.copy-across.ensures.seen (c.in_ok-back.ensures.least n l h);
     }

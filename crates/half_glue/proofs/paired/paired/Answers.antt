@@ -46,18 +46,18 @@ loop-number-preserved g c =
     let up = c.in_ok-found.ensures.frame in
     let all_now = all-on m L old now c.requires.frame settled.grows tiles c.requires.given in
     let all_after = all-on m L now after settled.grows.is_frame up tiles all_now in
-    let paired = paired-on m L now after settled.grows.is_frame up tiles i c.loop-number.made.crossed.items c.loop-number.made.pairs.items (omega (arith, below)) all_now c.loop-number.invariant.1 in
+    let paired = paired-on m L now after settled.grows.is_frame up tiles 0 i c.loop-number.made.crossed.items c.loop-number.made.pairs.items (omega (arith, below)) all_now c.loop-number.invariant.1 in
     let ps : List Pair = c.loop-number.made.pairs.items ++ added_pairs tiles i (length c.loop-number.made.crossed.items) c.in_ok-found.found in (
       one-more m L old now c.requires.frame tiles c.requires.given i below x (get_or_default tiles i x no_tile below) settled after up c.in_ok-found.ensures.inside c.in_ok-found.ensures.can_be_joined c.in_ok-found.ensures.least,
-      subst (λ (ps : List Pair). ArePaired t after tiles (i + 1) c.put.new.made.crossed.items ps) (sym c.in_ok-put.ensures.pairs)
-          (subst (λ (xs : List PlacedTile). ArePaired t after tiles (i + 1) xs ps) (sym c.in_ok-put.ensures.crossed)
-          (taken-too t after tiles i below c.loop-number.made.crossed.items c.loop-number.made.pairs.items all_after paired c.in_ok-found.found c.in_ok-found.ensures.found)),
+      subst (λ (ps : List Pair). ArePaired t after tiles 0 (i + 1) c.put.new.made.crossed.items ps) (sym c.in_ok-put.ensures.pairs)
+          (subst (λ (xs : List PlacedTile). ArePaired t after tiles 0 (i + 1) xs ps) (sym c.in_ok-put.ensures.crossed)
+          (taken-too t after tiles 0 i below c.loop-number.made.crossed.items c.loop-number.made.pairs.items all_after paired c.in_ok-found.found c.in_ok-found.ensures.found)),
     )
 
 pub returns-clause-paired : goal.returns-clause-paired
 returns-clause-paired g c =
-    all-paired (tiling_of c.args.machine.now) c.loop-number.frame c.args.tiles.now c.loop-number.number c.loop-number.made.crossed.items c.loop-number.made.pairs.items
-    c.loop-number.auto.number-end (λ l. omega (arith, l, c.loop-number-test.false)) c.loop-number.invariant.1
+    all-paired (tiling_of c.args.machine.now) c.loop-number.frame c.args.tiles.now 0 c.loop-number.number c.loop-number.made.crossed.items c.loop-number.made.pairs.items
+    (omega arith) c.loop-number.auto.number-end (λ l. omega (arith, l, c.loop-number-test.false)) c.loop-number.invariant.1
 
 pub returns-clause-least : goal.returns-clause-least
 returns-clause-least g c = record {

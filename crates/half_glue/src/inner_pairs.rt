@@ -1,0 +1,105 @@
+//! Finds the whole tiles whose tiles are all in a window.
+ghost use Rattle.std.specs.Prelude.{◌≡◌, ◌⊎◌, ℕ, ◌<◌, ◌≤◌, All, false, get_or, length, IfOk, IfSome, IsTrue};
+ghost use Rattle.lazy_walk.specs.Frames.{FrameValue, IsFrameOf};
+ghost use Rattle.rule_model.specs.Tiling.{tiling_of};
+ghost use Rattle.windows.specs.Limits.{most_tiles};
+ghost use Rattle.window_cover.specs.InOrder as covered;
+ghost use Rattle.half_glue.specs.Given.{AreGiven};
+ghost use Rattle.half_glue.specs.Inner.{IsPlaced, IsOfPair, IsInner, AreInner, AreRising};
+ghost use Rattle.half_glue.specs.Pairs.{ArePresent};
+ghost use Rattle.half_glue.specs.Sides.{AreSides};
+
+use crate::covered_half::half_among;
+use crate::glue_laws::glue_laws;
+use crate::glue_side::GlueSide;
+use crate::guesses::Guesses;
+use crate::pairs::{Pair, is_less};
+use std::alloc::Global;
+use tile_place::machine::Machine;
+use tile_shape::no_memory::NoMemory;
+use window_cover::covered_tiles::CoveredTiles;
+
+/// Finds the whole tiles whose tiles are all in a window, by the numbers of their first tiles. Each is found
+/// by its first tile alone. Marks the tiles of those found as taken.
+pub(crate) fn inner_pairs(
+    alloc: Global,
+    machine: &Machine,
+    sides: &[Option<GlueSide>],
+    tiles: &CoveredTiles,
+    guesses: &mut Guesses,
+    taken: &mut [bool],
+) -> Result<Vec<Pair>, NoMemory>
+    requires few { length tiles.now ≤ most_tiles }
+    requires placed { All (IsPlaced (tiling_of machine.now)) tiles.now }
+    requires in_order { covered.AreInOrder tiles.now }
+    requires sides { AreSides (tiling_of machine.now) sides.now }
+    requires as_many { length taken.old ≡ length tiles.now }
+    requires none_taken { (k : ℕ) → ¬ IsTrue (get_or taken.old k false) }
+    ensures as_many { length taken.new ≡ length tiles.now }
+    ensures rising { IfOk result (λ pairs. AreRising (length tiles.now) pairs.items) }
+    ensures inner { IfOk result (λ pairs. (f : FrameValue) → IsFrameOf (tiling_of machine.now) f → AreGiven (tiling_of machine.now) f tiles.now
+        → AreInner (tiling_of machine.now) f tiles.now pairs.items taken.new) }
+{
+    let mut pairs = Vec::new(alloc);
+    for number in 0..tiles.len() {
+        if let Some(pair) = inner_pair(machine, sides, tiles, guesses, number) {
+            mark(taken, &pair);
+            pairs.push(pair)?;
+        }
+    }
+    Ok(pairs)
+}
+
+/// Returns the whole tile whose first tile has this number, if all its tiles are found in the window.
+fn inner_pair(
+    machine: &Machine,
+    sides: &[Option<GlueSide>],
+    tiles: &CoveredTiles,
+    guesses: &mut Guesses,
+    number: usize,
+) -> Option<Pair>
+    requires few { length tiles.now ≤ most_tiles }
+    requires placed { All (IsPlaced (tiling_of machine.now)) tiles.now }
+    requires in_order { covered.AreInOrder tiles.now }
+    requires sides { AreSides (tiling_of machine.now) sides.now }
+    requires below { number < length tiles.now }
+    ensures first { IfSome result (λ pair. pair.first ≡ number) }
+    ensures present { IfSome result (ArePresent (length tiles.now)) }
+    ensures inner { IfSome result (λ pair. (f : FrameValue) → IsFrameOf (tiling_of machine.now) f → AreGiven (tiling_of machine.now) f tiles.now
+        → IsInner (tiling_of machine.now) f tiles.now pair) }
+{
+    glue_laws(machine);
+    let kind = tiles.kind(number);
+    let own = number as u32;
+    let side = match &sides[usize::from(kind)] {
+        Some(side) => side,
+        None => {
+            return Some(Pair {
+                first: own,
+                second: None,
+            });
+        }
+    };
+    let other = side.other?;
+    if !is_less(kind, other.kind) {
+        return None;
+    }
+    let motion = tiles.motion(number);
+    let second = half_among(machine, side, tiles, guesses, &motion, kind)?;
+    Some(Pair {
+        first: own,
+        second: Some(second),
+    })
+}
+
+/// Marks the tiles of a pair as taken.
+fn mark(taken: &mut [bool], pair: &Pair)
+    requires present { ArePresent (length taken.old) pair.now }
+    ensures as_many { length taken.new ≡ length taken.old }
+    ensures marked { (k : ℕ) → IsTrue (get_or taken.new k false) → IsTrue (get_or taken.old k false) ⊎ IsOfPair k pair.now }
+{
+    taken[pair.first as usize] = true;
+    if let Some(second) = pair.second {
+        taken[second as usize] = true;
+    }
+}
