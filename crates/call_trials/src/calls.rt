@@ -36,7 +36,8 @@ pub fn one_list(alloc: Global) -> Result<Vec<Box<dyn Layer>>, Fail> {
     Ok(layers)
 }
 
-/// What is told of a call with this exit code that prints and notes these lines, given without their newlines.
+/// Returns the expected outcome of a call: its exit code, and the lines that it prints and notes. Both lines
+/// are given without their newlines.
 pub fn wanted(alloc: Global, code: u8, text: &str, note: &str) -> Result<String, AllocError> {
     let text = line_of(alloc, text)?;
     let note = line_of(alloc, note)?;

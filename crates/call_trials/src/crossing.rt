@@ -59,8 +59,8 @@ fn grown(uses: &Uses, draws: &mut Draws) -> Address {
     addr
 }
 
-/// Goes across an edge of a tile of a tiling, and back where there is a tile: whether there is one; None where the tile
-/// has no such edge.
+/// Crosses an edge of a tile, and then crosses back. Returns whether there is a tile across, or None if the
+/// tile has no such edge.
 fn cross<R: Abort + AllocGlobal>(
     rt: &R,
     name: &str,

@@ -48,7 +48,8 @@ static CALLS: [(&str, &str, &str); 9] = [
     ),
 ];
 
-/// A refused call of each command: its words, what its source holds, its exit code, and its note without the newline.
+/// A refused call of each command: its arguments, the content of its source, its exit code, and its note
+/// without the newline.
 static REFUSED: [(&str, &str, u8, &str); 9] = [
     (
         "place rule=- addr=0:4/0",
@@ -124,7 +125,7 @@ fn sinks_that_fail(rt: HostRuntime) -> Result<(), Fail> {
     Ok(())
 }
 
-// So many calls give the bytes, and one more the end.
+// The given number of calls gives the bytes, and one more the end.
 #[test]
 fn sources_that_fail(rt: HostRuntime) -> Result<(), Fail> {
     let alloc = rt.alloc();

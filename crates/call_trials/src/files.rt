@@ -343,7 +343,7 @@ static HALF_SQUARE_ROWS: [(&str, &str, &str, u8, &str, &str); 8] = [
     ),
 ];
 
-// The text with the first place where the old text stands replaced by the new one.
+// Returns the text with the first occurrence of the old text replaced by the new one.
 fn changed(alloc: Global, text: &str, old: &str, new: &str) -> Result<String, AllocError> {
     match text.split_once(old) {
         Some((before, behind)) => format!(in alloc; "{before}{new}{behind}"),
@@ -351,8 +351,8 @@ fn changed(alloc: Global, text: &str, old: &str, new: &str) -> Result<String, Al
     }
 }
 
-/// Runs a line of words over a file, and compares what comes of it; how many bytes the source still gives in one call
-/// more, which is at most 16.
+/// Runs a line of arguments over a file, and compares the outcome. Returns how many bytes the source gives in
+/// one more call, at most 16.
 fn check_file<R: Abort + AllocGlobal>(
     rt: &R,
     line: &str,
@@ -370,7 +370,8 @@ fn check_file<R: Abort + AllocGlobal>(
     Ok(source.read(&mut buf).unwrap_or(1000))
 }
 
-/// Compares what comes of changed files, which are read to their end where the words are right and name no rule.
+/// Compares the outcomes of changed files. A file is read to its end if the arguments are right and name no
+/// rule.
 fn check_rows<R: Abort + AllocGlobal>(
     rt: &R,
     file: &str,

@@ -5,7 +5,7 @@ use std::process::Abort;
 use std::test::Fail;
 use tile_io::mem_source::MemSource;
 
-/// The window of two chairs round the base.
+/// The window of two chairs around the base.
 const WINDOW: &str = "verify rule=chair seed=42 addr=0: at=1,1,0,0 half=2,1";
 
 /// Right listings of it.
@@ -111,7 +111,7 @@ fn faulty_listings(rt: HostRuntime) -> Result<(), Fail> {
     )
 }
 
-// So many lines, all the same, and one more.
+// The greatest number of lines, all the same, and one line more.
 #[test]
 fn long_listings(rt: HostRuntime) -> Result<(), Fail> {
     let alloc = rt.alloc();
@@ -128,8 +128,8 @@ static DIGITS: [&str; 4] = ["0/0,", "1/0,", "2/0,", "3/0,"];
 /// What nine digits of a number to the base four count.
 static SCALES: [usize; 9] = [65_536, 16_384, 4_096, 1_024, 256, 64, 16, 4, 1];
 
-/// Puts a line of the chair's supertile of depth ten behind others: its first nine digits count in fours, the
-/// last of them fastest.
+/// Appends a line of the chair's supertile of depth ten. Its first nine digits count in fours, the last of
+/// them fastest.
 fn put_counted(listing: &mut String, number: usize) -> Result<(), AllocError> {
     listing.push_str("0 0 0,0,0,0 0:")?;
     for scale in &SCALES {
@@ -138,7 +138,7 @@ fn put_counted(listing: &mut String, number: usize) -> Result<(), AllocError> {
     listing.push_str("0/0\n")
 }
 
-// So many lines of different tiles, but for the last, which is of the first line's tile.
+// The greatest number of lines, of different tiles; only the last line repeats the tile of the first.
 #[test]
 fn long_listing_of_different_tiles(rt: HostRuntime) -> Result<(), Fail> {
     let alloc = rt.alloc();

@@ -5,7 +5,7 @@ use std::alloc::{AllocError, Global};
 use std::process::Abort;
 use std::test::Fail;
 
-/// What stands before the types.
+/// The text in front of the types.
 const HEAD: &str = "format = 1\norder = 4\nlambda = [2, 0, 0, 0]\nglue = []\n";
 
 /// The type.
@@ -37,7 +37,7 @@ const CHILDREN: &str = "[0,0, 0,0,0,0],[0,0, 1,1,0,0],[0,1, 4,0,0,0],[0,3, 0,4,0
 /// The first child.
 const FIRST: &str = "[0,0, 0,0,0,0]";
 
-/// Vertices, edges and children of a kind, what stands behind these children, and how often, and the refusal.
+/// Vertices, edges and children of a kind, further children and how often they come, and the refusal.
 static KIND_ROWS: [(&str, &str, &str, &str, usize, &str); 4] = [
     (VERTICES, EIGHT, CHILDREN, FIRST, 13, "TooMany child 0"),
     (REVERSED, EIGHT, CHILDREN, "", 0, "NotStar 0"),
@@ -73,8 +73,8 @@ fn check_refused<R: Abort + AllocGlobal>(rt: &R, file: &str, cause: &str) -> Res
     check(rt, file, 3, "", note.as_str())
 }
 
-/// The chair's file with so many kinds like the chair. The children of each are of kind 0, or of the next kind,
-/// which is kind 0 behind the last.
+/// Returns the chair's file with `count` kinds like the chair. Their children are of kind 0, or of the next
+/// kind. After the last kind, the next one is kind 0.
 fn like_chairs(alloc: Global, count: usize, of_next: bool) -> Result<String, AllocError> {
     let mut file = format!(in alloc; "{HEAD}{TYPE}")?;
     for kind in 1..=count {

@@ -1,5 +1,5 @@
-//! Trials of the top call, `run`: what the program prints and notes, on values from outside, with sound streams and
-//! with streams that fail. There is no other code here.
+//! Trials of the top call, `run`: what the program prints and notes, compared with values from outside.
+//! Streams work, or fail at a given call. There is no other code here.
 #![tactic(auto)]
 
 #[cfg(test)]

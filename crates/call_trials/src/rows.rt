@@ -295,7 +295,7 @@ static ROWS: [(&str, u8, &str, &str); 93] = [
     ),
 ];
 
-// What stands before an address of kind 0, and then its digits, each so many times.
+// Returns the text in front of an address of kind 0, and then its digits, each repeated.
 fn with_digits(
     alloc: Global,
     front: &str,

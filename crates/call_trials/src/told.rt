@@ -43,7 +43,8 @@ impl Sink for Trickle {
     }
 }
 
-/// Which calls fail: the read of this number, from 1, where 0 is none, and the writes and the notes behind so many.
+/// Which calls fail: the read of this number, counted from 1, and all writes and notes after these numbers.
+/// If `read` is 0, no read fails.
 #[derive(Clone, Copy)]
 pub struct Failing {
     pub read: u64,
@@ -58,8 +59,8 @@ pub const SOUND: Failing = Failing {
     notes: 100_000,
 };
 
-/// Runs a line of words over a source, with a layer that lists tiles: the exit code, what was printed, and behind a bar what
-/// was noted.
+/// Runs a line of arguments over a source, with a layer that lists tiles. Returns the exit code, the output,
+/// and after a bar the notes.
 pub fn told_over(
     alloc: Global,
     line: &str,
@@ -76,7 +77,7 @@ pub fn told_over(
     Ok(format!(in alloc; "{} {printed}|{noted}", status.code())?)
 }
 
-/// The same over a source of these bytes, 16 a call.
+/// Like [`told_over`], over a source of these bytes that gives 16 a call.
 pub fn told(alloc: Global, line: &str, file: &str, failing: &Failing) -> Result<String, Fail> {
     let bytes = file.as_bytes().to_vec(alloc)?;
     let mut source = MemSource::new(bytes, 16, vec![in alloc; failing.read]?);

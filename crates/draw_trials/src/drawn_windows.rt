@@ -1,5 +1,6 @@
-//! Windows against lists of all tiles of the frame: windows that are drawn, and windows round vertices and middles of
-//! edges, whose sides run through vertices, along edges and through corners of tiles that they only touch.
+//! Windows compared with lists of all tiles of the frame. Some windows are random. Others have vertices and
+//! midpoints of edges as centres: their sides run through vertices, along edges, and through corners of tiles
+//! that they only touch.
 use crate::listed::check_window;
 use builtin_rules::name::Name;
 use plain_tiles::built_in::machine_of;
@@ -63,8 +64,8 @@ fn drawn_windows(rt: HostRuntime) -> Result<(), Fail> {
     Ok(())
 }
 
-// Draws windows round the vertices, the middles of edges and points inside the tiles of a supertile of depth 2, in
-// the frame of a tile of it: how many of these windows can be listed.
+// Draws windows around the vertices, the midpoints of edges and points inside the tiles of a supertile of
+// depth 2, in the frame of one of its tiles. Returns how many of these windows can be listed.
 fn check_touching<R: Abort + AllocGlobal>(
     rt: &R,
     rule: &str,

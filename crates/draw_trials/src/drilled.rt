@@ -34,7 +34,7 @@ fn printed<R: Abort + AllocGlobal>(rt: &R, line: &str) -> Result<String, Fail> {
     Ok(if code == 0 { text } else { String::new(alloc) })
 }
 
-// The number behind the last blank of a text without its last newline.
+// Returns the number after the last blank of a text, without its last newline.
 fn last_number(text: &str) -> u64 {
     text.trim_end()
         .rsplit(' ')
@@ -50,7 +50,7 @@ fn depth(text: &str) -> u64 {
     address.matches('/').count() as u64
 }
 
-// The five lines of so many windows of a start number, by drawing each of them.
+// Returns the five lines of the windows of a seed, by drawing each of them.
 fn summary<R: Abort + AllocGlobal>(
     rt: &R,
     rule: &str,

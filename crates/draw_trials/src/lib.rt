@@ -1,7 +1,8 @@
-//! Trials of drawing by `run`, through layers handed in, with values from outside; also through a layer that
-//! refuses, and without a layer for a format. Windows that are drawn, and windows that graze edges and vertices, are
-//! compared with lists of all tiles of the frame, and the summaries of `drill` with what `draw` counts. There is no
-//! other code here.
+//! Trials of drawing by `run`, through layers that are passed in, with values from outside.
+//!
+//! One layer refuses, and one format has no layer. Random windows, and windows that graze edges and vertices,
+//! are compared with lists of all tiles of the frame. The summaries of `drill` are compared with the counts
+//! of `draw`. There is no other code here.
 #![tactic(auto)]
 
 #[cfg(test)]

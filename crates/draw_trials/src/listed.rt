@@ -65,8 +65,8 @@ fn words(
     Ok(line)
 }
 
-// Draws a window in the frame of a base, and compares the texts with the tiles that are listed: how many these are;
-// None where the frame has too many tiles to list.
+// Draws a window in the frame of a base, and compares the texts with the listed tiles. Returns how many there
+// are, or None if the frame has too many tiles to list.
 pub fn check_window<R: Abort + AllocGlobal>(
     rt: &R,
     rule: &str,

@@ -10,8 +10,8 @@ use refusing_layer::refusing::Refusing;
 use std::rc::Rc;
 use std::test::Fail;
 
-/// Two tiles, where the first `put`, the second, the end, or no call is refused. Each layer is dropped by the time the
-/// call ends, one that isn't named too.
+/// Two tiles: the first `put`, the second, the end, or no call is refused. Each layer is dropped by the time
+/// the call ends, even one that is not named.
 #[test]
 fn each_call_refused(rt: HostRuntime) -> Result<(), Fail> {
     let alloc = rt.alloc();
@@ -37,8 +37,8 @@ fn each_call_refused(rt: HostRuntime) -> Result<(), Fail> {
     Ok(())
 }
 
-/// The call refused by the first and by the second of two layers of a format, 0 for none; the status, the text, and the
-/// note.
+/// The calls refused by the first and by the second of two layers of a format, 0 for none; then the status,
+/// the text and the note.
 const PAIRS: [(u32, u32, u8, &str, &str); 2] = [
     (1, 0, 11, "", "11 NoMemory\n"),
     (0, 1, 0, CHAIRS_LIST, ""),

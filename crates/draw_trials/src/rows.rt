@@ -152,7 +152,7 @@ fn rows(rt: HostRuntime) -> Result<(), Fail> {
     Ok(())
 }
 
-/// Three texts, one behind the other, in the order named, whatever the order of the layers.
+/// Three texts, one after another, in the order named, whatever the order of the layers.
 #[test]
 fn three_texts(rt: HostRuntime) -> Result<(), Fail> {
     let alloc = rt.alloc();
@@ -163,7 +163,7 @@ fn three_texts(rt: HostRuntime) -> Result<(), Fail> {
     check_call(&rt, line, layers_of(alloc, &other)?, 0, text.as_str(), "")
 }
 
-/// No layer of a format that is named, the first such; the rule isn't read then.
+/// No layer has a format that is named. The first such format is reported, and the rule is not read.
 #[test]
 fn no_layer(rt: HostRuntime) -> Result<(), Fail> {
     let alloc = rt.alloc();
@@ -206,7 +206,7 @@ fn no_layer(rt: HostRuntime) -> Result<(), Fail> {
     )
 }
 
-// A digit, so many times, joined by commas.
+// Returns a digit, repeated and joined by commas.
 fn digits(alloc: Global, first: &str, digit: &str, times: usize) -> Result<String, AllocError> {
     let mut text = first.to_string(alloc)?;
     for _ in 1..times {
@@ -216,7 +216,8 @@ fn digits(alloc: Global, first: &str, digit: &str, times: usize) -> Result<Strin
     Ok(text)
 }
 
-/// Frames of depth 64: a window at the corner of the supertile, one whose centre is held by none, and one far inside.
+/// Frames of depth 64: a window at the corner of the supertile, one whose centre no tile holds, and one far
+/// inside.
 #[test]
 fn depth_64(rt: HostRuntime) -> Result<(), Fail> {
     let alloc = rt.alloc();

@@ -5,7 +5,7 @@ use std::alloc::Global;
 use std::process::Abort;
 use std::test::Fail;
 
-// Whether the picture of the window round the vertex 0 of a tile, with whole tiles, has this path.
+// Returns whether the picture of the window around vertex 0 of a tile, with whole tiles, has this path.
 fn has_path<R: Abort + AllocGlobal>(rt: &R, tile: &str, path: &str) -> Result<bool, Fail> {
     let alloc = rt.alloc();
     let line = format!(in alloc; "draw {tile} at=0,0,0,0 half=1,1 glue=yes layers=svg")?;
@@ -85,8 +85,8 @@ fn depth_of(address: &str) -> usize {
     address.split(',').count()
 }
 
-// Whether a line of the list is a whole tile as it must be: a rhomb alone, or a square of both halves, the lesser first;
-// and each address has 12 digits.
+// Returns whether a line of the list is a right whole tile: a rhomb alone, or a square of both halves, the
+// lesser first. Each address has 12 digits.
 fn is_whole(line: &str) -> bool {
     let words = line.split(' ').count();
     let deep = line.split(' ').filter(|word| depth_of(word) == 12).count();
@@ -103,8 +103,8 @@ fn counted(text: &str) -> (usize, usize) {
     (wholes, text.split('\n').count().saturating_sub(wholes))
 }
 
-/// Squares and rhombs, far inside a supertile of depth 12: the last four lines are the census, of which the second is that
-/// of the second halves, none.
+/// Squares and rhombs, far inside a supertile of depth 12. The last four lines are the census; its second
+/// line counts the second halves, and is 0.
 #[test]
 fn squares_and_rhombs(rt: HostRuntime) -> Result<(), Fail> {
     let alloc = rt.alloc();

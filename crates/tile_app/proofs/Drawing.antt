@@ -1,5 +1,5 @@
--- The window that the words give, why its search is refused, and that its tiles, within the limits, can be drawn.
-use Rattle.std.proofs.Common.{◌≡◌, ◌⊎◌, inl, inr, ◌<◌, ◌≤◌, ◌^◌, ℕ, ℤ, false, List, map, length, Some, None, Result, Ok, Err, IsOk, sym, ap, ap₂, ◌∙◌, subst, arith}
+-- Why the search of a window is refused, and that its tiles, within the limits, can be drawn.
+use Rattle.std.proofs.Common.{◌≡◌, ◌⊎◌, inl, inr, ◌<◌, ◌≤◌, ◌^◌, ℤ, Bool, false, List, map, length, Result, Ok, Err, IsOk, sym, ap, ◌∙◌, subst, arith}
 use Rattle.std.specs.Prelude.{All}
 use Rattle.std.proofs.lemmas.List.{length-map}
 use Rattle.std.proofs.lemmas.List.Elements.{All-from_recursion, recursion_from_All}
@@ -24,27 +24,19 @@ use Rattle.window_cover.specs.Windows.{TileOf, box_of, AreDrawn, IsLeastEnough}
 use Rattle.windows.specs.FramePatch.{frame_patch}
 use Rattle.windows.specs.FrameWindow.{AreAllThatMeet}
 use Rattle.windows.proofs.Members.{no-more}
-use Rattle.std.specs.Option.{option_map, option_and_then}
 use Rattle.cyclo_points.specs.declared.order.Order.{Order}
 use Rattle.cyclo_points.specs.declared.point.Point.{Point}
 use Rattle.cyclo_points.specs.Point.{point_in, quad_of, IsOf, IsWithin}
 use Rattle.cyclo_points.specs.Reduced.{combination}
 use Rattle.cyclo_points.proofs.Coefficients.{coefficients_of}
-use Rattle.layer_api.specs.declared.format.Format.{Format}
 use Rattle.window_cover.specs.declared.cover_fault.CoverFault.{CoverFault}
 use Rattle.window_cover.specs.declared.cover_fault.CoverFault.TheVariants.{DepthLimit, CoordLimit, TooManyTiles, NoMemory}
 use Rattle.window_cover.specs.Causes.{HasCause}
-use Rattle.tile_app.specs.declared.words.Command.TheVariants.{Draw}
-use Rattle.tile_app.specs.declared.window_words.HalfExtents.{HalfExtents}
-use Rattle.tile_app.specs.Draw.{reduced, at_given, half_given, window_given, GivesWindow, EndsDrawing, DrawRefuses}
+use Rattle.tile_app.specs.Draw.{EndsDrawing, DrawRefuses}
+use Rattle.tile_app.specs.Windows.{reduced}
 use Rattle.tile_app.specs.DrawnTile.{point_of, CanBeDrawn}
-use Rattle.tile_app.specs.FormatWords.{first_lacking}
-use Rattle.tile_app.specs.Layers.{HaveLayers, formats_given, lacking_for}
 use Rattle.tile_app.specs.Status.{OrNoMemory}
-use Rattle.tile_app.specs.Tile.{GivesTile}
 use Rattle.tile_app.specs.Turned.{status_of_cover}
-use Rattle.tile_app.specs.Walk.{frame_given}
-use Rattle.tile_app.specs.Words.{command_of}
 
 -- a tile that stands in the frame with a shift that isn't refused
 pub drawable_within : (t : Tiling) (g : FrameValue) (x : PlacedTile) → Stands t g x → IsWithin (2 ^ 24) x.motion.shift → CanBeDrawn t x
@@ -103,19 +95,6 @@ module _ (t : Tiling) (f g : FrameValue) (w : Window) (is_frame : IsFrameOf t f)
 pub reduced-is : (o : Order) (p q : Point) → length q.c ≡ 4 → IsOf o q → point_in o q ≡ combination (points_of o) (quad_of p) → q ≡ reduced o p
 reduced-is o p q four of e = ap (λ (c : List ℤ). (let s : Point = record { c = c } in s)) (coefficients_of o q four of) ∙ ap (point_of o) e
 
-pub window-is : (o : Order) (words : List (List ℕ)) (p q : Point) (half : HalfExtents) → at_given words ≡ Some p → half_given words ≡ Some half → q ≡ reduced o p
-    → window_given o words ≡ Some (record { centre = q; w = half.w; h = half.h })
-window-is o words p q half at h e =
-    ap₂ (λ x y. option_and_then (λ a. option_map (λ (b : HalfExtents). (let v : Window = record { centre = reduced o a; w = b.w; h = b.h } in v)) y) x) at h
-    ∙ ap (λ c. Some (let v : Window = record { centre = c; w = half.w; h = half.h } in v)) (sym e)
-
-pub gives_window : (words : List (List ℕ)) (t : Tiling) (a : Address) (w : Window) (o : Order) → o ≡ t.order → GivesTile words t a → window_given o words ≡ Some w → GivesWindow words t a w
-gives_window words t a w o same tile given = record { tile = tile; given = subst (λ q. window_given q words ≡ Some w) same given }
-
--- ---- where no layer lacks, none lacks of those that `draw` asks for
-pub none-lacks : (words : List (List ℕ)) (handed : List Format) → command_of words ≡ Ok Draw → HaveLayers words handed → first_lacking handed (formats_given words) ≡ None
-none-lacks words handed right have = sym (ap (lacking_for words handed) right) ∙ have
-
 -- ---- why it is refused
 pub fault-or_ok : {T E : Type 0} (none : E) (r : Result T E) (fault : E) → r ≡ Err fault → (r ≡ Err none) ⊎ IsOk r → fault ≡ none
 fault-or_ok {T} {E} none r fault e (inl f) = some_fault fault none (sym e ∙ f)
@@ -128,24 +107,16 @@ fault-or_ok {T} {E} none r fault e (inr f) = absurd (no_ok r fault e f)
     no_ok (Ok y) x e f = absurd (cc e)
     no_ok (Err y) x e f = absurd (cc f)
 
-module _ (words : List (List ℕ)) (t : Tiling) (a : Address) (w : Window) (gives : GivesWindow words t a w) (f g : FrameValue) (is : f ≡ frame_given words a) (grown : GrowsTo t f g) where
-  ends : (fault : CoverFault) → HasCause t f g w fault → (IsWithinLimits t f w → ⊥) → EndsDrawing words t fault
-  ends fault cause beyond = record {
-    base = a;
-    window = w;
-    gives = gives;
-    beyond = λ h. beyond (subst (λ x. IsWithinLimits t x w) (sym is) h);
-    frame = g;
-    grown = subst (λ x. GrowsTo t x g) is grown;
-    cause = subst (λ x. HasCause t x g w fault) is cause;
-  }
+module _ (asked : Bool) (t : Tiling) (w : Window) (f g : FrameValue) (grown : GrowsTo t f g) where
+  ends : (fault : CoverFault) → HasCause t f g w fault → (IsWithinLimits t f w → ⊥) → EndsDrawing t f w fault
+  ends fault cause beyond = record { beyond = beyond; frame = g; grown = grown; cause = cause }
 
-  pub cover_refused : (fault : CoverFault) → HasCause t f g w fault → (IsWithinLimits t f w → fault ≡ NoMemory) → OrNoMemory (DrawRefuses words t) (status_of_cover fault)
+  pub cover_refused : (fault : CoverFault) → HasCause t f g w fault → (IsWithinLimits t f w → fault ≡ NoMemory) → OrNoMemory (DrawRefuses asked t f w) (status_of_cover fault)
   cover_refused (DepthLimit addr edge) cause only = inl (ends (DepthLimit addr edge) cause (λ h. absurd (cc (only h))))
   cover_refused (CoordLimit value) cause only = inl (ends (CoordLimit value) cause (λ h. absurd (cc (only h))))
   cover_refused TooManyTiles cause only = ends TooManyTiles cause (λ h. absurd (cc (only h)))
   cover_refused NoMemory cause only = tt
 
   pub refused_if_err : {T : Type 0} (r : Result T CoverFault) (fault : CoverFault) → r ≡ Err fault → HasCause t f g w fault → (IsWithinLimits t f w → (r ≡ Err NoMemory) ⊎ IsOk r)
-      → OrNoMemory (DrawRefuses words t) (status_of_cover fault)
+      → OrNoMemory (DrawRefuses asked t f w) (status_of_cover fault)
   refused_if_err r fault e cause answered = cover_refused fault cause (λ h. fault-or_ok NoMemory r fault e (answered h))

@@ -1,39 +1,10 @@
--- Formats read piece by piece.
-use Rattle.std.proofs.Common.{◌≡◌, ℕ, zero, suc, ◌+◌, ◌<◌, ◌≤◌, Bool, true, false, not, ◌&&◌, List, [], ◌∷◌, ◌++◌, length, get_or, drop, nat_lt, arith, is_some, Some, None, cond, refl, sym, ap, ap₂, ◌∙◌}
-use Rattle.std.proofs.lemmas.Bool.{lt-ltb, le-ltb}
+-- Formats, and the layers that have them.
+use Rattle.std.proofs.Common.{◌≡◌, ℕ, zero, suc, ◌+◌, ◌<◌, Bool, true, false, not, List, [], ◌∷◌, length, get_or, drop, arith, is_some, Some, None, cond, refl, sym, ap, ◌∙◌}
 use Rattle.std.proofs.lemmas.List.{at_drop_more}
 use Rattle.std.specs.declared.option.Option.{Option}
-use Rattle.std.specs.Option.{option_and_then}
 use Rattle.layer_api.specs.declared.format.Format.{Format}
 use Rattle.layer_api.specs.declared.format.Format.TheVariants.{Svg, List as Listing, Census}
-use Rattle.tile_app.specs.FormatWords.{format_named, same_format, is_among, is_new, most_formats, formats_behind, first_lacking}
-
--- a piece that names a format
-named : (old : List Format) (piece : List ℕ) (rest : List (List ℕ)) (f : Format) (b : Bool) → format_named piece ≡ Some f → is_new f old ≡ b
-    → formats_behind old (piece ∷ rest) ≡ cond b (formats_behind (old ++ f ∷ []) rest) None
-named old piece rest f b e n =
-    ap (option_and_then (λ g. cond (is_new g old) (formats_behind (old ++ g ∷ []) rest) None)) e ∙ ap (λ c. cond c (formats_behind (old ++ f ∷ []) rest) None) n
-
--- a new one
-pub read_on : (old new : List Format) (piece : List ℕ) (rest : List (List ℕ)) (f : Format) → format_named piece ≡ Some f → is_among f old ≡ false → length old < most_formats → new ≡ old ++ f ∷ []
-    → formats_behind new rest ≡ formats_behind old (piece ∷ rest)
-read_on old new piece rest f e fresh room is =
-    ap (λ fs. formats_behind fs rest) is ∙ sym (named old piece rest f true e (ap₂ (λ a b. a && not b) (lt-ltb (length old) most_formats room) fresh))
-
--- one that was named, or for which there is no room
-and-false : (b : Bool) → b && false ≡ false
-and-false true = refl
-and-false false = refl
-
-pub read_again : (old : List Format) (piece : List ℕ) (rest : List (List ℕ)) (f : Format) → format_named piece ≡ Some f → is_among f old ≡ true → formats_behind old (piece ∷ rest) ≡ None
-read_again old piece rest f e again = named old piece rest f false e (ap (λ b. nat_lt (length old) most_formats && not b) again ∙ and-false (nat_lt (length old) most_formats))
-
-pub read_full : (old : List Format) (piece : List ℕ) (rest : List (List ℕ)) (f : Format) → format_named piece ≡ Some f → most_formats ≤ length old → formats_behind old (piece ∷ rest) ≡ None
-read_full old piece rest f e full = named old piece rest f false e (ap (λ a. a && not (is_among f old)) (le-ltb (length old) most_formats full))
-
--- and a piece that names none
-pub read_none : (old : List Format) (piece : List ℕ) (rest : List (List ℕ)) → format_named piece ≡ None → formats_behind old (piece ∷ rest) ≡ None
-read_none old piece rest e = ap (option_and_then (λ g. cond (is_new g old) (formats_behind (old ++ g ∷ []) rest) None)) e
+use Rattle.call_words.specs.FormatWords.{same_format, is_among, first_lacking}
 
 -- ---- where none lacks, each has a layer
 pub has_layer : (handed named : List Format) (i : ℕ) (d : Format) → i < length named → first_lacking handed named ≡ None → is_among (get_or named i d) handed ≡ true

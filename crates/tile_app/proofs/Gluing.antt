@@ -1,5 +1,5 @@
 -- Whole tiles of the tiles of a window: that they can be drawn, when the window's tiles can be glued, and why they aren't.
-use Rattle.std.proofs.Common.{◌≡◌, ◌⊎◌, inr, ◌^◌, ℕ, true, List, Option, None, Some, map, length, get_or, Result, Err, IsOk, sym, ap, ◌∙◌, subst, arith}
+use Rattle.std.proofs.Common.{◌≡◌, ◌⊎◌, inr, ◌^◌, Bool, true, List, Option, None, Some, map, length, get_or, Result, Err, IsOk, sym, ap, ◌∙◌, subst, arith}
 use Rattle.std.specs.Prelude.{All}
 use Rattle.std.proofs.lemmas.List.Elements.{All-from_recursion, recursion_from_All}
 use Rattle.addressing.specs.Address.{Address}
@@ -33,13 +33,12 @@ use Rattle.windows.specs.FramePatch.{frame_patch}
 use Rattle.windows.proofs.Members.{among-map}
 use Rattle.window_cover.specs.Limits.{IsWithinLimits}
 use Rattle.window_cover.specs.Windows.{TileOf, AreDrawn, IsLeastEnough}
-use Rattle.tile_app.specs.Draw.{GivesWindow, EndsGluing, DrawRefuses}
+use Rattle.tile_app.specs.Draw.{EndsGluing, DrawRefuses}
 use Rattle.tile_app.specs.TilesOfWindow.{TilesOfWindow}
 use Rattle.tile_app.specs.DrawnTile.{CanBeDrawn, CanBeDrawnBy, CanBeDrawnWhole}
-use Rattle.tile_app.specs.Glue.{asks_glue, CanBeGluedInWindow}
+use Rattle.tile_app.specs.Glue.{CanBeGluedInWindow}
 use Rattle.tile_app.specs.Status.{OrNoMemory}
 use Rattle.tile_app.specs.Turned.{status_of_glue}
-use Rattle.tile_app.specs.Walk.{frame_given}
 use Rattle.tile_app.proofs.Drawing.{drawable_within, fault-or_ok}
 
 -- ---- whole tiles can be drawn
@@ -104,29 +103,26 @@ module _ (t : Tiling) where
         (all-glued others (subst (λ x. All (Stands t x) others) (sym same) its_stand) (subst (λ x. AreDrawn t x w (map (placed_in t.order) others)) (sym same) its_drawn))
 
 -- ---- why they aren't glued
-module _ (words : List (List ℕ)) (t : Tiling) (a : Address) (w : Window) (gives : GivesWindow words t a w) (asked : asks_glue words ≡ true) (f g : FrameValue) (is : f ≡ frame_given words a)
-    (within : IsWithinLimits t f w) (tiles : List PlacedTile) (exactly : TilesOfWindow t f w g tiles) (h : FrameValue) (grown_on : GrowsTo t g h) where
-  ends : (fault : GlueFault) → HasGlueCause t g h tiles fault → (CanBeGlued t g tiles → ⊥) → EndsGluing words t fault
+module _ (asked : Bool) (t : Tiling) (w : Window) (is_asked : asked ≡ true) (f g : FrameValue) (within : IsWithinLimits t f w) (tiles : List PlacedTile) (exactly : TilesOfWindow t f w g tiles)
+    (h : FrameValue) (grown_on : GrowsTo t g h) where
+  ends : (fault : GlueFault) → HasGlueCause t g h tiles fault → (CanBeGlued t g tiles → ⊥) → EndsGluing asked t f w fault
   ends fault cause beyond = record {
-    asked = asked;
-    base = a;
-    window = w;
-    gives = gives;
-    within = subst (λ x. IsWithinLimits t x w) is within;
+    is_asked = is_asked;
+    within = within;
     frame = g;
     tiles = tiles;
-    exactly = subst (λ x. TilesOfWindow t x w g tiles) is exactly;
+    exactly = exactly;
     beyond = beyond;
     later = h;
     grown_on = grown_on;
     cause = cause;
   }
 
-  glue_refused : (fault : GlueFault) → HasGlueCause t g h tiles fault → (CanBeGlued t g tiles → fault ≡ NoMemory) → OrNoMemory (DrawRefuses words t) (status_of_glue fault)
+  glue_refused : (fault : GlueFault) → HasGlueCause t g h tiles fault → (CanBeGlued t g tiles → fault ≡ NoMemory) → OrNoMemory (DrawRefuses asked t f w) (status_of_glue fault)
   glue_refused (DepthLimit addr edge) cause only = inr (ends (DepthLimit addr edge) cause (λ can. absurd (cc (only can))))
   glue_refused (CoordLimit value) cause only = inr (ends (CoordLimit value) cause (λ can. absurd (cc (only can))))
   glue_refused NoMemory cause only = tt
 
   pub glue_refused_if_err : {T : Type 0} (r : Result T GlueFault) (fault : GlueFault) → r ≡ Err fault → HasGlueCause t g h tiles fault → (CanBeGlued t g tiles → (r ≡ Err NoMemory) ⊎ IsOk r)
-      → OrNoMemory (DrawRefuses words t) (status_of_glue fault)
+      → OrNoMemory (DrawRefuses asked t f w) (status_of_glue fault)
   glue_refused_if_err r fault e cause answered = glue_refused fault cause (λ can. fault-or_ok NoMemory r fault e (answered can))

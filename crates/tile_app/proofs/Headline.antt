@@ -1,35 +1,30 @@
 -- The headline, of what the two commands that carry it print.
-use Rattle.std.proofs.Common.{◌≡◌, ℕ, List, map, Result, Ok, sym, ap, subst, ◌∙◌}
+use Rattle.std.proofs.Common.{◌≡◌, ℕ, Bool, List, map, Result, Ok, sym, ap, subst, ◌∙◌}
 use Rattle.std.specs.declared.option.Option.{Option}
+use Rattle.addressing.specs.Address.{Address}
+use Rattle.call_words.specs.declared.rule_choice.RuleChoice.{RuleChoice}
+use Rattle.call_words.specs.Given.{WindowAsked}
+use Rattle.call_words.specs.Request.{Request, request_in}
+use Rattle.call_words.specs.Request.Request.{Neighbour, Draw}
 use Rattle.layer_api.specs.declared.format.Format.{Format}
-use Rattle.tile_app.specs.declared.words.Command.{Command}
-use Rattle.tile_app.specs.declared.words.Command.TheVariants.{Neighbour, Draw}
+use Rattle.lazy_walk.specs.Frames.{FrameValue}
+use Rattle.plane_geom.specs.declared.window.Window.{Window}
+use Rattle.rule_model.specs.Tiling.{Tiling}
 use Rattle.tile_app.specs.Answer.{IsPrinted, Prints}
-use Rattle.tile_app.specs.Asked.{OfRequest}
+use Rattle.tile_app.specs.Asked.{OfCall}
+use Rattle.tile_app.specs.BaseFrame.{frame_of}
+use Rattle.tile_app.specs.Call.{Names}
 use Rattle.tile_app.specs.Draw.{PrintsDraw}
 use Rattle.tile_app.specs.Headline.{TellsOnlyNeighbour, WritesExactlyTheWindow}
 use Rattle.tile_app.specs.Neighbour.{PrintsNeighbour}
-use Rattle.tile_app.specs.Request.{Request, Names}
-use Rattle.tile_app.specs.Words.{command_of}
-use Rattle.rule_model.specs.Tiling.{Tiling}
+use Rattle.tile_app.specs.Tile.{OfTile}
+use Rattle.tile_app.specs.Windows.{window_in}
 
-tells : (words : List (List ℕ)) (t : Tiling) (text : List ℕ) → PrintsNeighbour words t text → TellsOnlyNeighbour words t text
-tells words t text p = record {
-  address = p.address;
-  edge = p.edge;
-  given = p.gives;
-  across = p.across;
-  back = p.back;
-  only_across = p.only_across;
-  leads_back = p.leads_back;
-  line = p.line;
-}
+tells : (t : Tiling) (a : Address) (edge : ℕ) (text : List ℕ) → PrintsNeighbour t a edge text → TellsOnlyNeighbour t a edge text
+tells t a edge text p = record { across = p.across; back = p.back; only_across = p.only_across; leads_back = p.leads_back; line = p.line }
 
-writes : (words : List (List ℕ)) (t : Tiling) (text : List ℕ) → PrintsDraw words t text → WritesExactlyTheWindow words t text
-writes words t text p = record {
-  base = p.pictures.base;
-  window = p.window;
-  given = p.pictures.gives;
+writes : (t : Tiling) (f : FrameValue) (window : Window) (glue : Bool) (formats : List Format) (text : List ℕ) → PrintsDraw glue formats t f window text → WritesExactlyTheWindow t f window glue formats text
+writes t f window glue formats text p = record {
   frame = p.pictures.frame;
   tiles = p.pictures.tiles;
   exactly = p.pictures.exactly;
@@ -38,25 +33,39 @@ writes words t text p = record {
   texts = p.is_text;
 }
 
--- the words have one command
-ok_is : (c d : Command) → (let o : Result Command ℕ = Ok c in o) ≡ Ok d → c ≡ d
-ok_is c d e = cc
-
-of_command : (words : List (List ℕ)) (r : Request) (text : List ℕ) (command : Command) → r.words ≡ words → command_of words ≡ Ok command → (p : Prints r text) → IsPrinted command r p.tiling text
-of_command words r text command same right p =
-    subst (λ c. IsPrinted c r p.tiling text) (ok_is p.command command (sym p.asks.right ∙ ap command_of same ∙ right)) p.holds
+-- the words ask for one thing
+ok_is : (p q : Request) → (let o : Result Request ℕ = Ok p in o) ≡ Ok q → p ≡ q
+ok_is p q e = cc
 
 module _ (words : List (List ℕ)) (handed : List Format) (left rest : Option (List ℕ)) (Took : List ℕ → Type 0)
-    (done : OfRequest words handed left rest (λ r. (text : List ℕ) × Prints r text × Took text)) where
-  pub only_neighbour : command_of words ≡ Ok Neighbour → OfRequest words handed left rest (λ r. (t : Tiling) × (text : List ℕ) × Names r t × TellsOnlyNeighbour r.words t text × Took text)
-  only_neighbour right =
-      let p = done.2.1 in
-      (done.0, done.1, (p.tiling, done.2.0, p.asks.names, tells done.0.words p.tiling done.2.0 (of_command words done.0 done.2.0 Neighbour done.1.by_words right p), done.2.2))
+    (done : OfCall words handed left rest (λ c. (text : List ℕ) × Prints c text × Took text)) where
+  -- what is printed is what the request asks for
+  abbrev printed : Prints done.0 done.2.0
+  printed = done.2.1
 
-  pub exactly_the_window : command_of words ≡ Ok Draw → OfRequest words handed left rest (λ r. (t : Tiling) × (text : List ℕ) × Names r t × WritesExactlyTheWindow r.words t text × Took text)
-  exactly_the_window right =
-      let p = done.2.1 in
-      (done.0, done.1, (p.tiling, done.2.0, p.asks.names, writes done.0.words p.tiling done.2.0 (of_command words done.0 done.2.0 Draw done.1.by_words right p), done.2.2))
+  same : (q : Request) → request_in words ≡ Ok q → printed.request ≡ q
+  same q right = ok_is printed.request q (sym printed.asks.right.asked ∙ ap request_in done.1.by_words ∙ right)
+
+  names : (q : Request) → request_in words ≡ Ok q → Names done.0 q printed.tiling
+  names q right = subst (λ p. Names done.0 p printed.tiling) (same q right) printed.asks.names
+
+  of_request : (q : Request) → request_in words ≡ Ok q → IsPrinted q done.0.file printed.tiling done.2.0
+  of_request q right = subst (λ p. IsPrinted p done.0.file printed.tiling done.2.0) (same q right) printed.holds
+
+  pub only_neighbour : (rule : RuleChoice) (addr : List ℕ) (edge : ℕ) → request_in words ≡ Ok (Neighbour rule addr edge)
+      → OfCall words handed left rest (λ c. (t : Tiling) × (text : List ℕ) × Names c (Neighbour rule addr edge) t × OfTile t addr (λ a. TellsOnlyNeighbour t a edge text) × Took text)
+  only_neighbour rule addr edge right =
+      let p = of_request (Neighbour rule addr edge) right in
+      let tells_it = tells printed.tiling p.address edge done.2.0 p.holds in
+      (done.0, done.1, (printed.tiling, done.2.0, names (Neighbour rule addr edge) right, record { address = p.address; tile = p.tile; holds = tells_it }, done.2.2))
+
+  pub exactly_the_window : (rule : RuleChoice) (addr : List ℕ) (seed : ℕ) (window : WindowAsked) (formats : List Format) (glue : Bool) → request_in words ≡ Ok (Draw rule addr seed window formats glue)
+      → OfCall words handed left rest (λ c. (t : Tiling) × (text : List ℕ) × Names c (Draw rule addr seed window formats glue) t
+      × OfTile t addr (λ a. WritesExactlyTheWindow t (frame_of a seed) (window_in t.order window) glue formats text) × Took text)
+  exactly_the_window rule addr seed window formats glue right =
+      let p = of_request (Draw rule addr seed window formats glue) right in
+      let writes_it = writes printed.tiling (frame_of p.address seed) (window_in printed.tiling.order window) glue formats done.2.0 p.holds in
+      (done.0, done.1, (printed.tiling, done.2.0, names (Draw rule addr seed window formats glue) right, record { address = p.address; tile = p.tile; holds = writes_it }, done.2.2))
 
 -- what holds of equal words and layers
 pub with_same : {D : Type 0} (form : D → Format) (words other : List (List ℕ)) (layers had : List D) (P : List (List ℕ) → List Format → Type 0) → words ≡ other → layers ≡ had

@@ -1,8 +1,5 @@
 pub mod Requested
-pub mod Read
 pub mod Tilings
-pub mod Pieces
-pub mod Commas
 pub mod Formats
 pub mod Drawing
 pub mod Gluing
@@ -16,13 +13,21 @@ mod Walking
 mod Turned
 mod SameAddress
 mod OnePath
-mod GivenWindow
 mod Verdicts
 mod OneAnswer
 pub mod Answered
+pub mod Handing
 pub mod Headline
-pub mod Given
-pub mod Counted
 pub mod Drilled
-pub mod Asking
 pub mod Lines
+pub mod Named
+pub mod Once
+pub mod Tiles
+pub mod Windows
+pub mod Unrefused
+pub mod FileRead
+pub mod Chosen
+pub mod Read
+pub mod Own
+pub mod TextAnswer
+pub mod PlacedByName

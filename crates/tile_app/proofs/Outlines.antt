@@ -24,6 +24,12 @@ pub placed-numbers : (o : Order) (m : Motion) (vs : List Point) (ns : List (Numb
     → map (point_of o) (map (moved (points_of o) (motion_in o m)) ns) ≡ map (placed_point o m) vs
 placed-numbers o m vs ns e = map-map (point_of o) (moved (points_of o) (motion_in o m)) ns ∙ sym (placed-vertices o m vs ns e)
 
+-- some of them, from a number on
+pub corner-piece : (o : Order) (m : Motion) (vs : List Point) (ns : List (NumberOf o)) → map (point_in o) vs ≡ ns → (k n : ℕ)
+    → map (λ z. point_of o (moved (points_of o) (motion_in o m) z)) (take k (drop n ns)) ≡ map (placed_point o m) (take k (drop n vs))
+corner-piece o m vs ns e k n =
+    sym (placed-vertices o m (take k (drop n vs)) (take k (drop n ns)) (sym (take-map (point_in o) k (drop n vs)) ∙ ap (take k) (sym (drop-map (point_in o) n vs) ∙ ap (drop n) e)))
+
 -- ---- images of lists begun elsewhere
 map-begun : {A B : Type 0} (f : A → B) (e : ℕ) (xs : List A) → map f (begun_behind e xs) ≡ begun_behind e (map f xs)
 map-begun f e xs = map-append f (drop (suc e) xs) (take (suc e) xs) ∙ ap₂ (λ a b. a ++ b) (sym (drop-map f (suc e) xs)) (sym (take-map f (suc e) xs))

@@ -1,5 +1,5 @@
 -- The picture of a window's tiles, and that of their whole tiles.
-use Rattle.std.proofs.Common.{◌≡◌, ℕ, true, false, List, map, length, get_or, refl, sym, subst}
+use Rattle.std.proofs.Common.{◌≡◌, Bool, true, false, List, map, length, get_or, refl, sym, subst}
 use Rattle.half_glue.specs.declared.whole_tile.WholeTile.{WholeTile}
 use Rattle.half_glue.specs.Covering.{WholesCoverLaw}
 use Rattle.half_glue.specs.Depth.{IsLeastForGlue}
@@ -16,31 +16,28 @@ use Rattle.window_cover.specs.Limits.{IsWithinLimits}
 use Rattle.window_cover.specs.Windows.{box_of}
 use Rattle.tile_app.specs.Draw.{Pictures}
 use Rattle.tile_app.specs.DrawnTile.{drawn_of, drawn_whole}
-use Rattle.tile_app.specs.Glue.{asks_glue, CanBeGluedInWindow, IsWithinTheirLimits}
-use Rattle.tile_app.specs.Pictured.{Begins}
+use Rattle.tile_app.specs.Glue.{CanBeGluedInWindow}
 use Rattle.tile_app.specs.Pictures.{IsPictureOf, AreDrawnWhole}
 use Rattle.tile_app.specs.TilesOfWindow.{TilesOfWindow}
 use Rattle.tile_app.proofs.Gluing.{glued-in_window}
 
-module _ (words : List (List ℕ)) (t : Tiling) (w : Window) (f g : FrameValue) (begins : Begins words t f w) (within : IsWithinLimits t f w) (tiles : List PlacedTile) (exactly : TilesOfWindow t f w g tiles) where
-  pictures : (picture : List Drawn) → (asks_glue words ≡ true → CanBeGluedInWindow t f w) → IsPictureOf (asks_glue words) t w g tiles picture → Pictures words t w picture
+module _ (glue : Bool) (t : Tiling) (w : Window) (f g : FrameValue) (within : IsWithinLimits t f w) (tiles : List PlacedTile) (exactly : TilesOfWindow t f w g tiles) where
+  pictures : (picture : List Drawn) → (glue ≡ true → CanBeGluedInWindow t f w) → IsPictureOf glue t w g tiles picture → Pictures glue t f w picture
   pictures picture can_be_glued is_picture = record {
-    base = begins.base;
-    gives = begins.gives;
-    within = subst (λ y. IsWithinTheirLimits words t y w) begins.begun (record { within = within; can_be_glued = can_be_glued });
+    within = record { within = within; can_be_glued = can_be_glued };
     frame = g;
     tiles = tiles;
-    exactly = subst (λ y. TilesOfWindow t y w g tiles) begins.begun exactly;
+    exactly = exactly;
     is_picture = is_picture;
   }
 
   -- without glue the window's tiles
-  pub pictures-tiles : asks_glue words ≡ false → Pictures words t w (map (drawn_of t) tiles)
+  pub pictures-tiles : glue ≡ false → Pictures glue t f w (map (drawn_of t) tiles)
   pictures-tiles asked =
       pictures (map (drawn_of t) tiles) (λ e. absurd (cc (asked, e))) (subst (λ b. IsPictureOf b t w g tiles (map (drawn_of t) tiles)) (sym asked) refl)
 
   -- and with glue the whole tiles of theirs, by the laws of whole tiles
-  module _ (asked : asks_glue words ≡ true) (counts : WholesCountLaw t) (covering : WholesCoverLaw t) (h : FrameValue) (grown_on : GrowsTo t g h) (depth : IsLeastForGlue t g tiles (length h.digits))
+  module _ (asked : glue ≡ true) (counts : WholesCountLaw t) (covering : WholesCoverLaw t) (h : FrameValue) (grown_on : GrowsTo t g h) (depth : IsLeastForGlue t g tiles (length h.digits))
       (can : CanBeGlued t g tiles) (wholes : List WholeTile) (whole_tiles : AreWholeTilesOf t h tiles wholes) (ordered : glued.AreInOrder wholes) where
     are-whole : AreDrawnWhole t w g tiles (map (drawn_whole t) wholes)
     are-whole = record {
@@ -56,7 +53,7 @@ module _ (words : List (List ℕ)) (t : Tiling) (w : Window) (f g : FrameValue) 
       is_picture = refl;
     }
 
-    pub pictures-wholes : Pictures words t w (map (drawn_whole t) wholes)
+    pub pictures-wholes : Pictures glue t f w (map (drawn_whole t) wholes)
     pictures-wholes =
         pictures (map (drawn_whole t) wholes) (λ _. glued-in_window t f g w exactly.grown exactly.least tiles exactly.stand exactly.drawn can)
         (subst (λ b. IsPictureOf b t w g tiles (map (drawn_whole t) wholes)) (sym asked) are-whole)

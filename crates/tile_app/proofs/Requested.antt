@@ -1,14 +1,15 @@
--- What is asked is one request: the file that was read is the one that the source had, or a part of one that is too long.
-use Rattle.std.proofs.Common.{◌≡◌, ℕ, ◌<◌, ◌≤◌, Bool, true, false, IsTrue, List, [], ◌++◌, length, Some, None, Ok, IfSome, sym, ap, ap₂, ◌∙◌, subst, arith}
+-- What is asked is one call: the file that was read is the one that the source had, or a part of one that is too long.
+use Rattle.std.proofs.Common.{◌≡◌, ℕ, ◌<◌, ◌≤◌, Bool, true, false, List, [], ◌++◌, length, Some, None, Ok, IfSome, sym, ap, ap₂, ◌∙◌, subst, arith}
 use Rattle.std.proofs.lemmas.List.{length-append, append-nil as append_nil}
 use Rattle.std.specs.declared.option.Option.{Option}
 use Rattle.layer_api.specs.declared.format.Format.{Format}
 use Rattle.tile_io.specs.Left.{Gives}
 use Rattle.tile_app.specs.declared.status.Status.{Status}
 use Rattle.tile_app.specs.Asked.{IsFileIn, WasFileIn, IsAsked, WasAsked}
-use Rattle.tile_app.specs.Request.{Request, HasTooLongFile, TellsTooLong}
-use Rattle.tile_app.specs.Layers.{reads_file, longest_read}
-use Rattle.tile_app.specs.Words.{command_of}
+use Rattle.call_words.specs.Request.{Request, request_in}
+use Rattle.tile_app.specs.Call.{Call, TellsTooLong, reads_file, longest_in, longest_read}
+use Rattle.tile_app.specs.Files.{longest_for}
+use Rattle.tile_app.specs.Layers.{HaveLayers}
 
 pub some_is : {A : Type 0} (x y : A) → Some x ≡ Some y → x ≡ y
 some_is x y e = cc
@@ -23,12 +24,16 @@ same_file : (longest : ℕ) (b : Bool) (left rest : Option (List ℕ)) (file oth
 same_file longest true left rest file other h k l = all_read file other left rest h k.given (k.to_the_end l)
 same_file longest false left rest file other h k l = k ∙ sym h
 
-pub same_request : (words : List (List ℕ)) (handed : List Format) (left rest : Option (List ℕ)) (r q : Request) → IsAsked words handed left r → WasAsked words handed left rest q
-    → length q.file ≤ longest_read q.words → q ≡ r
-same_request words handed left rest r q h k l =
-    ap₂ (λ (w : List (List ℕ)) (f : List ℕ). (let s : Request = record { words = w; handed = q.handed; file = f } in s)) (k.by_words ∙ sym h.by_words)
-    (same_file (longest_read words) (reads_file words handed) left rest r.file q.file h.in_source k.from_source (subst (λ ws. length q.file ≤ longest_read ws) k.by_words l))
-    ∙ ap (λ (hs : List Format). (let s : Request = record { words = r.words; handed = hs; file = r.file } in s)) (k.by_layers ∙ sym h.by_layers)
+pub same_call : (words : List (List ℕ)) (handed : List Format) (left rest : Option (List ℕ)) (c d : Call) → IsAsked words handed left c → WasAsked words handed left rest d
+    → length d.file ≤ longest_read d.words → d ≡ c
+same_call words handed left rest c d h k l =
+    ap₂ (λ (w : List (List ℕ)) (f : List ℕ). (let s : Call = record { words = w; handed = d.handed; file = f } in s)) (k.by_words ∙ sym h.by_words)
+    (same_file (longest_read words) (reads_file words handed) left rest c.file d.file h.in_source k.from_source (subst (λ ws. length d.file ≤ longest_read ws) k.by_words l))
+    ∙ ap (λ (hs : List Format). (let s : Call = record { words = c.words; handed = hs; file = c.file } in s)) (k.by_layers ∙ sym h.by_layers)
+
+-- the length of a file is told by the request
+pub longest_is : (words : List (List ℕ)) (q : Request) → request_in words ≡ Ok q → longest_read words ≡ longest_for q
+longest_is words q e = ap longest_in e
 
 -- ---- of a file that is too long a part was read, which is too long
 module _ (longest : ℕ) where
@@ -44,15 +49,20 @@ module _ (longest : ℕ) where
   too_long_file true left rest file other h k l = gives_longer file other left rest h k.given l
   too_long_file false left rest file other h k l = subst (λ (xs : List ℕ). longest < length xs) (k ∙ sym h) l
 
-pub same_too_long : (words : List (List ℕ)) (handed : List Format) (left rest : Option (List ℕ)) (r q : Request) → IsAsked words handed left r → WasAsked words handed left rest q → HasTooLongFile q → HasTooLongFile r
-same_too_long words handed left rest r q h k l = (
-  subst (λ hs. IsTrue (reads_file r.words hs)) (k.by_layers ∙ sym h.by_layers) (subst (λ ws. IsTrue (reads_file ws q.handed)) (k.by_words ∙ sym h.by_words) l.0),
-  subst (λ ws. longest_read ws < length r.file) (sym h.by_words)
-      (too_long_file (longest_read words) (reads_file words handed) left rest r.file q.file h.in_source k.from_source (subst (λ ws. longest_read ws < length q.file) k.by_words l.1)),
-)
-
 -- and so it is told
-pub same_told : (words : List (List ℕ)) (handed : List Format) (left rest : Option (List ℕ)) (r q : Request) (s : Status) → IsAsked words handed left r → WasAsked words handed left rest q
-    → TellsTooLong q s → TellsTooLong r s
-same_told words handed left rest r q s h k l =
-    (same_too_long words handed left rest r q h k l.0, l.1, subst (λ ws. command_of ws ≡ Ok l.1) (k.by_words ∙ sym h.by_words) l.2, l.3)
+pub same_told : (words : List (List ℕ)) (handed : List Format) (left rest : Option (List ℕ)) (c d : Call) (s : Status) → IsAsked words handed left c → WasAsked words handed left rest d
+    → TellsTooLong d s → TellsTooLong c s
+same_told words handed left rest c d s h k l =
+    let asked : request_in words ≡ Ok l.request = subst (λ ws. request_in ws ≡ Ok l.request) k.by_words l.right.asked in
+    let longest : longest_read words ≡ longest_for l.request = longest_is words l.request asked in
+    record {
+      request = l.request;
+      right = record {
+        asked = subst (λ ws. request_in ws ≡ Ok l.request) (sym h.by_words) asked;
+        layers = subst (HaveLayers l.request) (k.by_layers ∙ sym h.by_layers) l.right.layers;
+      };
+      reads = l.reads;
+      too_long = subst (λ n. n < length c.file) longest
+          (too_long_file (longest_read words) (reads_file words handed) left rest c.file d.file h.in_source k.from_source (subst (λ n. n < length d.file) (sym longest) l.too_long));
+      told = l.told;
+    }

@@ -1,7 +1,6 @@
 -- The tilings that are named: of a rule that is made for a name, of one that is read, and of which child kinds.
-use Rattle.std.proofs.Common.{◌≡◌, ℕ, List, Result, Ok, Err, Some, None, refl, sym, ap, ◌∙◌, subst}
+use Rattle.std.proofs.Common.{◌≡◌, ℕ, List, Result, Ok, Err, Some, None, refl, ap, ◌∙◌, subst}
 use Rattle.std.specs.declared.option.Option.{Option}
-use Rattle.std.specs.Option.{option_map}
 use Rattle.substitution.specs.RuleParts.{map_rule}
 use Rattle.substitution.specs.Rule.{Rule as TheRule, child_kinds}
 use Rattle.cyclo_points.specs.declared.order.Order.{Order}
@@ -18,14 +17,12 @@ use Rattle.tile_shape.specs.Usable.{AreUsable}
 use Rattle.builtin_rules.specs.declared.name.Name.{Name}
 use Rattle.builtin_rules.specs.Named.{named, IsWritten}
 use Rattle.builtin_rules.proofs.Constants.{rows_usable}
-use Rattle.tile_app.specs.declared.rule_choice.RuleChoice.{RuleChoice}
-use Rattle.tile_app.specs.declared.rule_choice.RuleChoice.TheVariants.{Builtin, File}
+use Rattle.call_words.specs.declared.rule_choice.RuleChoice.{RuleChoice}
+use Rattle.call_words.specs.declared.rule_choice.RuleChoice.TheVariants.{Builtin, File}
 use Rattle.tile_app.specs.declared.rule_fault.RuleFault.{RuleFault}
 use Rattle.tile_app.specs.Choices.{tiling_chosen}
-use Rattle.tile_app.specs.Request.{Request, tiling_asked}
 use Rattle.tile_app.specs.RuleFiles.{tiling_unless, tiling_of_text}
 use Rattle.tile_app.specs.Tilings.{builtin_tiling}
-use Rattle.tile_app.specs.Words.{choice_given}
 
 pub tiling_is : (name : Name) (r : Rule) → IsWritten (named name) r → tiling_of r ≡ builtin_tiling name
 tiling_is name r is =
@@ -49,24 +46,11 @@ file_is_usable law t (Ok x) h = at_fault (fault_of_lists x.edition x.order x.rul
     at_fault None f g = subst (λ (s : Tiling). AreUsable (child_kinds s.rule)) (ok_is (tiling_listed x) t (Ok (tiling_listed x)) refl g) (law x.edition x.order x.rule f)
     at_fault (Some e) f g = absurd (cc g)
 
-chosen_is_usable : AcceptedAreUsable → (file : List ℕ) (t : Tiling) (choice : RuleChoice) → tiling_chosen file choice ≡ Ok t → AreUsable (child_kinds t.rule)
+pub chosen_is_usable : AcceptedAreUsable → (file : List ℕ) (t : Tiling) (choice : RuleChoice) → tiling_chosen file choice ≡ Ok t → AreUsable (child_kinds t.rule)
 chosen_is_usable law file t File h = file_is_usable law t (rule_in_file file) h
 chosen_is_usable law file t (Builtin name) h =
     subst (λ (s : Tiling). AreUsable (child_kinds s.rule)) (ok_is (builtin_tiling name) t (Ok (builtin_tiling name)) refl h) (rows_usable name)
 
-pub named_is_usable : AcceptedAreUsable → (r : Request) (t : Tiling) → tiling_asked r ≡ Some (Ok t) → AreUsable (child_kinds t.rule)
-named_is_usable law r t h = at_choice (choice_given r.words) h
-  where
-    some_is : (x y : Result Tiling RuleFault) → Some x ≡ Some y → x ≡ y
-    some_is x y e = cc
-
-    at_choice : (o : Option RuleChoice) → option_map (tiling_chosen r.file) o ≡ Some (Ok t) → AreUsable (child_kinds t.rule)
-    at_choice None e = absurd (cc e)
-    at_choice (Some choice) e = chosen_is_usable law r.file t choice (some_is (tiling_chosen r.file choice) (Ok t) e)
-
 -- where a built-in rule is chosen its tiling is named
-pub builtin-asked : (r : Request) (name : Name) (t : Tiling) → choice_given r.words ≡ Some (Builtin name) → tiling_asked r ≡ Some (Ok t) → builtin_tiling name ≡ t
-builtin-asked r name t chosen asked = tiling (sym (ap (option_map (tiling_chosen r.file)) chosen) ∙ asked)
-  where
-    tiling : (let o : Option (Result Tiling RuleFault) = Some (Ok (builtin_tiling name)) in o) ≡ Some (Ok t) → builtin_tiling name ≡ t
-    tiling e = cc
+pub builtin-chosen : (file : List ℕ) (name : Name) (t : Tiling) → tiling_chosen file (Builtin name) ≡ Ok t → builtin_tiling name ≡ t
+builtin-chosen file name t h = ok_is (builtin_tiling name) t (Ok (builtin_tiling name)) refl h

@@ -7,7 +7,7 @@ use Rattle.tile_place.proofs.Plane.{part_along}
 use Rattle.lazy_walk.specs.Paths.{Crosses, Leads}
 use Rattle.transducer_core.specs.declared.outside.Outside.{Outside}
 use Rattle.cyclo_points.specs.Text.{blank, newline}
-use Rattle.tile_app.proofs.Pieces.{at_place}
+use Rattle.call_words.proofs.Pieces.{at_place}
 use Rattle.tile_app.specs.Walk.{IsWalkLine, AreLines}
 
 -- one line more

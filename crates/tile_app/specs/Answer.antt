@@ -1,86 +1,98 @@
--- What a request is answered, by cases of its command.
+-- What a request is answered, by its cases.
 use Rattle.std.specs.Prelude.{◌≡◌, ℕ, List}
+use Rattle.addressing.specs.Address.{Address}
+use Rattle.call_words.specs.Request.{Request}
+use Rattle.call_words.specs.Request.Request.{Place, Neighbour, Walk, Draw, Check, Calc, Drill, Star, Verify}
+use Rattle.list_verify.specs.Verdict.{LacksTiles}
 use Rattle.rule_model.specs.Tiling.{Tiling}
 use Rattle.tile_app.specs.declared.status.Status.{Status}
-use Rattle.tile_app.specs.declared.words.Command.{Command}
-use Rattle.tile_app.specs.declared.words.Command.TheVariants.{Place, Neighbour, Walk, Draw, Check, Calc, Drill, Star, Verify}
+use Rattle.tile_app.specs.declared.status.Status.TheVariants.{BadAddress}
+use Rattle.tile_app.specs.BaseFrame.{frame_of}
 use Rattle.tile_app.specs.Calc.{CanCalculate, PrintsCalc, CalcRefuses}
+use Rattle.tile_app.specs.Call.{Call, Asks}
 use Rattle.tile_app.specs.Check.{check_line}
-use Rattle.tile_app.specs.Draw.{CanDraw, PrintsDraw, PassesLimits, DrawRefuses}
+use Rattle.tile_app.specs.Draw.{PrintsDraw, PassesLimits, DrawRefuses}
 use Rattle.tile_app.specs.Drill.{PrintsDrill}
-use Rattle.tile_app.specs.Neighbour.{CanBeCrossed, PrintsNeighbour, NeighbourRefuses}
+use Rattle.tile_app.specs.Glue.{IsWithinTheirLimits}
+use Rattle.tile_app.specs.Neighbour.{IsInside, PrintsNeighbour, NeighbourRefuses}
 use Rattle.tile_app.specs.Place.{CanBePlaced, PrintsPlace, PlaceRefuses}
-use Rattle.tile_app.specs.Request.{Request, Asks}
 use Rattle.tile_app.specs.Star.{HasStar, PrintsStar, PassesStarLimits, StarRefuses}
 use Rattle.tile_app.specs.Status.{IsLimit}
-use Rattle.tile_app.specs.Verify.{CanVerify, PrintsVerify, LacksListed, VerifyRefuses}
+use Rattle.tile_app.specs.Tile.{OfTile, IsNoTile}
+use Rattle.tile_app.specs.Verify.{CanVerify, PrintsVerify, VerifyRefuses}
 use Rattle.tile_app.specs.Walk.{CanWalk, PrintsWalk, WalkRefuses}
+use Rattle.tile_app.specs.Windows.{window_in}
 
--- the command prints this text for a request and a tiling
-abbrev pub IsPrinted : Command → Request → Tiling → List ℕ → Type 0
-IsPrinted Place r = PrintsPlace r.words
-IsPrinted Neighbour r = PrintsNeighbour r.words
-IsPrinted Walk r = PrintsWalk r.words
-IsPrinted Draw r = PrintsDraw r.words
-IsPrinted Check r = λ t text. text ≡ check_line t
-IsPrinted Calc r = PrintsCalc r.file
-IsPrinted Drill r = PrintsDrill r.words
-IsPrinted Star r = PrintsStar r.words
-IsPrinted Verify r = PrintsVerify r.words r.file
+-- this text is printed for a request, the file that is read and a tiling
+abbrev pub IsPrinted : Request → List ℕ → Tiling → List ℕ → Type 0
+IsPrinted (Place rule addr) file t text = OfTile t addr (λ a. PrintsPlace t a text)
+IsPrinted (Neighbour rule addr edge) file t text = OfTile t addr (λ a. PrintsNeighbour t a edge text)
+IsPrinted (Walk rule addr seed grow path) file t text = OfTile t addr (λ a. PrintsWalk t (frame_of a seed) grow path text)
+IsPrinted (Draw rule addr seed window layers glue) file t text = OfTile t addr (λ a. PrintsDraw glue layers t (frame_of a seed) (window_in t.order window) text)
+IsPrinted (Check rule) file t text = text ≡ check_line t
+IsPrinted (Calc name) file t text = PrintsCalc file t text
+IsPrinted (Drill rule count seed) file t text = PrintsDrill t seed count text
+IsPrinted (Star rule addr seed vertex) file t text = OfTile t addr (λ a. PrintsStar t (frame_of a seed) vertex text)
+IsPrinted (Verify name addr seed window) file t text = OfTile t addr (λ a. PrintsVerify t (frame_of a seed) (window_in t.order window) file text)
 
--- the command has something to print for a request and a tiling
-abbrev pub HasAnswer : Command → Request → Tiling → Type 0
-HasAnswer Place r = CanBePlaced r.words
-HasAnswer Neighbour r = CanBeCrossed r.words
-HasAnswer Walk r = CanWalk r.words
-HasAnswer Draw r = CanDraw r.words
-HasAnswer Check r = λ t. Unit {0}
-HasAnswer Calc r = CanCalculate r.file
-HasAnswer Drill r = λ t. Unit {0}
-HasAnswer Star r = HasStar r.words
-HasAnswer Verify r = CanVerify r.words r.file
+-- there is something to print for a request, the file that is read and a tiling
+abbrev pub HasAnswer : Request → List ℕ → Tiling → Type 0
+HasAnswer (Place rule addr) file t = OfTile t addr (CanBePlaced t)
+HasAnswer (Neighbour rule addr edge) file t = OfTile t addr (λ a. IsInside t a edge)
+HasAnswer (Walk rule addr seed grow path) file t = OfTile t addr (λ a. CanWalk t (frame_of a seed) path)
+HasAnswer (Draw rule addr seed window layers glue) file t = OfTile t addr (λ a. IsWithinTheirLimits glue t (frame_of a seed) (window_in t.order window))
+HasAnswer (Check rule) file t = Unit {0}
+HasAnswer (Calc name) file t = CanCalculate file t
+HasAnswer (Drill rule count seed) file t = Unit {0}
+HasAnswer (Star rule addr seed vertex) file t = OfTile t addr (λ a. HasStar t (frame_of a seed) vertex)
+HasAnswer (Verify name addr seed window) file t = OfTile t addr (λ a. CanVerify t (frame_of a seed) (window_in t.order window) file)
 
--- the command refuses a request for a tiling with this status, for its cause
-abbrev pub Refuses : Command → Request → Tiling → Status → Type 0
-Refuses Place r = PlaceRefuses r.words
-Refuses Neighbour r = NeighbourRefuses r.words
-Refuses Walk r = WalkRefuses r.words
-Refuses Draw r = DrawRefuses r.words
-Refuses Check r = λ t status. ⊥
-Refuses Calc r = CalcRefuses r.file
-Refuses Drill r = λ t status. ⊥
-Refuses Star r = StarRefuses r.words
-Refuses Verify r = VerifyRefuses r.words r.file
+-- what a request for a tile is refused for: the text is the address of no tile, or what is asked of the tile is refused
+abbrev pub TileRefuses : Tiling → List ℕ → (Address → Status → Type 0) → Status → Type 0
+TileRefuses t addr P (BadAddress fault) = IsNoTile t addr fault
+TileRefuses t addr P status = OfTile t addr (λ a. P a status)
 
--- the status is one of the limits of the command: of the window of `draw`, of the vertex of `star`, or of the listing of `verify`
-abbrev pub IsLimitOf : Command → Status → Type 0
-IsLimitOf Draw status = IsLimit status
-IsLimitOf Star status = IsLimit status
-IsLimitOf Verify status = IsLimit status
-IsLimitOf command status = ⊥
+-- a request, with the file that is read, is refused for a tiling with this status, for its cause; `check` and `drill` refuse nothing
+abbrev pub Refuses : Request → List ℕ → Tiling → Status → Type 0
+Refuses (Place rule addr) file t status = TileRefuses t addr (PlaceRefuses t) status
+Refuses (Neighbour rule addr edge) file t status = TileRefuses t addr (λ a. NeighbourRefuses t a edge) status
+Refuses (Walk rule addr seed grow path) file t status = TileRefuses t addr (λ a. WalkRefuses t (frame_of a seed) path) status
+Refuses (Draw rule addr seed window layers glue) file t status = TileRefuses t addr (λ a. DrawRefuses glue t (frame_of a seed) (window_in t.order window)) status
+Refuses (Check rule) file t status = ⊥
+Refuses (Calc name) file t status = CalcRefuses file t status
+Refuses (Drill rule count seed) file t status = ⊥
+Refuses (Star rule addr seed vertex) file t status = TileRefuses t addr (λ a. StarRefuses t (frame_of a seed) vertex) status
+Refuses (Verify name addr seed window) file t status = TileRefuses t addr (λ a. VerifyRefuses t (frame_of a seed) (window_in t.order window) file) status
 
--- the command's window or vertex, for a request and a tiling, passes a limit, or its listing lacks a tile
-abbrev pub IsBeyond : Command → Request → Tiling → Type 0
-IsBeyond Draw r = PassesLimits r.words
-IsBeyond Star r = PassesStarLimits r.words
-IsBeyond Verify r = LacksListed r.words r.file
-IsBeyond command r = λ t. ⊥
+-- the status is one of the limits of the request: of the window of `draw`, of the vertex of `star`, or of the listing of `verify`
+abbrev pub IsLimitOf : Request → Status → Type 0
+IsLimitOf (Draw rule addr seed window layers glue) status = IsLimit status
+IsLimitOf (Star rule addr seed vertex) status = IsLimit status
+IsLimitOf (Verify name addr seed window) status = IsLimit status
+IsLimitOf _ status = ⊥
 
--- right words ask a command of a tiling, and this holds of the command, of the request and of the tiling
-pub record OfCommand (P : Command → Request → Tiling → Type 0) (r : Request) : Type 0 where
-  pub command : Command
+-- the request's window or vertex passes a limit in a tiling, or the listing that is read lacks a tile
+abbrev pub IsBeyond : Request → List ℕ → Tiling → Type 0
+IsBeyond (Draw rule addr seed window layers glue) file t = OfTile t addr (λ a. PassesLimits glue t (frame_of a seed) (window_in t.order window))
+IsBeyond (Star rule addr seed vertex) file t = OfTile t addr (λ a. PassesStarLimits t (frame_of a seed) vertex)
+IsBeyond (Verify name addr seed window) file t = OfTile t addr (λ a. LacksTiles t (frame_of a seed) (window_in t.order window) file)
+IsBeyond _ file t = ⊥
+
+-- right words ask something of a tiling, and this holds of the request, of the file and of the tiling
+pub record OfRequest (P : Request → List ℕ → Tiling → Type 0) (c : Call) : Type 0 where
+  pub request : Request
   pub tiling : Tiling
-  pub asks : Asks r command tiling
-  pub holds : P command r tiling
+  pub asks : Asks c request tiling
+  pub holds : P request c.file tiling
 
--- the request is answered by this text
-abbrev pub Prints : Request → List ℕ → Type 0
-Prints r text = OfCommand (λ command q t. IsPrinted command q t text) r
+-- the call is answered by this text
+abbrev pub Prints : Call → List ℕ → Type 0
+Prints c text = OfRequest (λ q file t. IsPrinted q file t text) c
 
--- there is a text that answers the request
-abbrev pub CanBeAnswered : Request → Type 0
-CanBeAnswered r = OfCommand HasAnswer r
+-- there is a text that answers the call
+abbrev pub CanBeAnswered : Call → Type 0
+CanBeAnswered c = OfRequest HasAnswer c
 
--- the request is for a window or a vertex that isn't within its limits, or for a listing that lacks a tile
-abbrev pub IsBeyondLimits : Request → Type 0
-IsBeyondLimits r = OfCommand IsBeyond r
+-- the call is for a window or a vertex that isn't within its limits, or for a listing that lacks a tile
+abbrev pub IsBeyondLimits : Call → Type 0
+IsBeyondLimits c = OfRequest IsBeyond c

@@ -1,10 +1,9 @@
--- The request of a call: its words, the formats of the layers handed in, and what its source has left, or had and gave.
+-- The call that words, layers and a source make: its file is what the source has left, or had and gave.
 use Rattle.std.specs.Prelude.{◌≡◌, ℕ, ◌+◌, ◌≤◌, Bool, true, false, List, [], length, Some, IfSome}
 use Rattle.std.specs.declared.option.Option.{Option}
 use Rattle.layer_api.specs.declared.format.Format.{Format}
 use Rattle.tile_io.specs.Left.{Gives}
-use Rattle.tile_app.specs.Request.{Request}
-use Rattle.tile_app.specs.Layers.{reads_file, longest_read}
+use Rattle.tile_app.specs.Call.{Call, reads_file, longest_read}
 
 -- the file in a source that has these bytes left: all of them, where a file is read
 abbrev pub IsFileIn : Bool → Option (List ℕ) → List ℕ → Type 0
@@ -23,18 +22,18 @@ abbrev pub WasFileIn : ℕ → Bool → Option (List ℕ) → Option (List ℕ) 
 WasFileIn longest true left rest file = WasRead longest left rest file
 WasFileIn longest false left rest file = file ≡ []
 
--- the words, with layers of these formats, ask this of a source that has these bytes left
-pub record IsAsked (words : List (List ℕ)) (handed : List Format) (left : Option (List ℕ)) (r : Request) : Type 0 where
-  pub by_words : r.words ≡ words
-  pub by_layers : r.handed ≡ handed
-  pub in_source : IsFileIn (reads_file words handed) left r.file
+-- the words, layers of these formats and a source that has these bytes left make this call
+pub record IsAsked (words : List (List ℕ)) (handed : List Format) (left : Option (List ℕ)) (c : Call) : Type 0 where
+  pub by_words : c.words ≡ words
+  pub by_layers : c.handed ≡ handed
+  pub in_source : IsFileIn (reads_file words handed) left c.file
 
--- they asked this of a source that had some bytes left and now has the rest
-pub record WasAsked (words : List (List ℕ)) (handed : List Format) (left rest : Option (List ℕ)) (r : Request) : Type 0 where
-  pub by_words : r.words ≡ words
-  pub by_layers : r.handed ≡ handed
-  pub from_source : WasFileIn (longest_read words) (reads_file words handed) left rest r.file
+-- they made it with a source that had some bytes left and now has the rest
+pub record WasAsked (words : List (List ℕ)) (handed : List Format) (left rest : Option (List ℕ)) (c : Call) : Type 0 where
+  pub by_words : c.words ≡ words
+  pub by_layers : c.handed ≡ handed
+  pub from_source : WasFileIn (longest_read words) (reads_file words handed) left rest c.file
 
--- what they asked of such a source has this property
-abbrev pub OfRequest : List (List ℕ) → List Format → Option (List ℕ) → Option (List ℕ) → (Request → Type 0) → Type 0
-OfRequest words handed left rest P = (r : Request) × WasAsked words handed left rest r × P r
+-- the call that they made has this property
+abbrev pub OfCall : List (List ℕ) → List Format → Option (List ℕ) → Option (List ℕ) → (Call → Type 0) → Type 0
+OfCall words handed left rest P = (c : Call) × WasAsked words handed left rest c × P c

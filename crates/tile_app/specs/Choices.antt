@@ -1,18 +1,11 @@
--- What the value of the key `rule` chooses: a built-in rule by its name, or by `-` the rule of a file.
-use Rattle.std.specs.Prelude.{ℕ, Bool, true, false, List, codes, Some, Result, Ok, if◌then◌else◌}
-use Rattle.std.specs.declared.option.Option.{Option}
-use Rattle.std.specs.Option.{option_map}
-use Rattle.std.specs.Str.{bytes_eq}
-use Rattle.tile_app.specs.declared.rule_choice.RuleChoice.{RuleChoice}
-use Rattle.tile_app.specs.declared.rule_choice.RuleChoice.TheVariants.{Builtin, File}
+-- The tiling of the rule that is chosen: a built-in one, or that of a file.
+use Rattle.std.specs.Prelude.{ℕ, Bool, true, false, List, Result, Ok}
+use Rattle.call_words.specs.declared.rule_choice.RuleChoice.{RuleChoice}
+use Rattle.call_words.specs.declared.rule_choice.RuleChoice.TheVariants.{Builtin, File}
+use Rattle.rule_model.specs.Tiling.{Tiling}
 use Rattle.tile_app.specs.declared.rule_fault.RuleFault.{RuleFault}
 use Rattle.tile_app.specs.RuleFiles.{tiling_in_file}
-use Rattle.tile_app.specs.Tilings.{builtin_tiling, name_in}
-use Rattle.rule_model.specs.Tiling.{Tiling}
-
--- what a text chooses
-abbrev pub choice_in : List ℕ → Option RuleChoice
-choice_in text = if bytes_eq text (codes "-") then Some File else option_map Builtin (name_in text)
+use Rattle.tile_app.specs.Tilings.{builtin_tiling}
 
 -- a file is read for it
 abbrev pub is_file : RuleChoice → Bool

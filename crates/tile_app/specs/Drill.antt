@@ -1,8 +1,6 @@
 -- What `drill` prints: a summary of windows that are made from the start number, each covered in a fresh frame. It refuses nothing.
-use Rattle.std.specs.Prelude.{◌≡◌, ◌⊎◌, ℕ, zero, suc, ◌+◌, ◌*◌, ◌%◌, max, ℤ, pos, ◌-ℤ◌, Some, List, [], ◌∷◌, ◌++◌, codes, length, map, All}
-use Rattle.std.specs.declared.option.Option.{Option}
+use Rattle.std.specs.Prelude.{◌≡◌, ◌⊎◌, ℕ, zero, suc, ◌+◌, ◌*◌, ◌%◌, max, ℤ, pos, ◌-ℤ◌, List, [], ◌∷◌, ◌++◌, codes, length, map, All}
 use Rattle.std.specs.Fmt.{decimal}
-use Rattle.std.specs.Option.{option_and_then}
 use Rattle.cyclo_points.specs.Text.{newline}
 use Rattle.cyclo_points.specs.declared.order.Order.{Order}
 use Rattle.cyclo_points.specs.declared.point.Point.{Point}
@@ -17,15 +15,7 @@ use Rattle.window_cover.specs.InOrder.{AreInOrder}
 use Rattle.window_cover.specs.Limits.{IsWithinLimits}
 use Rattle.window_cover.specs.Windows.{AreDrawn, IsLeastEnough}
 use Rattle.tile_app.specs.declared.summary.Summary.{Summary}
-use Rattle.tile_app.specs.declared.words.Key.TheVariants.{Count}
-use Rattle.tile_app.specs.Commands.{windows_in}
-use Rattle.tile_app.specs.Draw.{reduced}
-use Rattle.tile_app.specs.Walk.{seed_given}
-use Rattle.tile_app.specs.Words.{value_given}
-
--- how many windows the words ask for
-abbrev pub count_given : List (List ℕ) → Option ℕ
-count_given words = option_and_then windows_in (value_given Count words)
+use Rattle.tile_app.specs.Windows.{reduced}
 
 -- what a word of the start number's stream is as a coefficient, -32 to 31, and as a half extent, 1 to 64
 abbrev pub coefficient_of : ℕ → ℤ
@@ -97,10 +87,8 @@ summary_text n s =
     codes "windows " ++ decimal n ++ newline ∷ codes "tiles " ++ decimal s.tiles ++ newline ∷ codes "largest " ++ decimal s.largest
     ++ newline ∷ codes "depth " ++ decimal s.depth ++ newline ∷ codes "refused " ++ decimal s.refused ++ newline ∷ []
 
--- the words give a number of windows, and the text is the summary of so many windows of their start number
-pub record PrintsDrill (words : List (List ℕ)) (t : Tiling) (text : List ℕ) : Type 0 where
-  pub count : ℕ
-  pub given : count_given words ≡ Some count
+-- the text is the summary of so many windows of the seed
+pub record PrintsDrill (t : Tiling) (seed count : ℕ) (text : List ℕ) : Type 0 where
   pub summary : Summary
-  pub is_summary : IsSummary t (seed_given words) count summary
+  pub is_summary : IsSummary t seed count summary
   pub is_text : text ≡ summary_text count summary

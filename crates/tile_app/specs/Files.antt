@@ -1,46 +1,34 @@
--- The files that commands have read: which commands have one, and how long it may be.
-use Rattle.std.specs.Prelude.{ℕ, Bool, true, false, List, Result, Ok, Err}
-use Rattle.rule_text.specs.Limits.{longest_file}
-use Rattle.list_verify.specs.declared.list_fault.ListFault.TheVariants as listing
-use Rattle.tile_app.specs.declared.rule_choice.RuleChoice.{RuleChoice}
-use Rattle.tile_app.specs.declared.rule_choice.RuleChoice.TheVariants.{Builtin, File}
-use Rattle.tile_app.specs.declared.script_fault.ScriptFault.TheVariants as script
+-- The files that requests have read: which have one, and how long it may be.
+use Rattle.std.specs.Prelude.{ℕ, Bool, true, false, ◌||◌}
+use Rattle.call_words.specs.Request.{Request, rule_of}
+use Rattle.call_words.specs.Request.Request.{Calc, Verify}
+use Rattle.tile_app.specs.declared.file_kind.FileKind.{FileKind}
+use Rattle.tile_app.specs.declared.file_kind.FileKind.TheVariants.{Rule, Script, Listing}
 use Rattle.tile_app.specs.declared.status.Status.{Status}
-use Rattle.tile_app.specs.declared.status.Status.TheVariants.{RuleTooLong, BadScript, BadListing}
-use Rattle.tile_app.specs.declared.words.Command.{Command}
-use Rattle.tile_app.specs.declared.words.Command.TheVariants.{Calc, Verify}
 use Rattle.tile_app.specs.Choices.{is_file}
-use Rattle.tile_app.specs.Tile.{gives_tile}
+use Rattle.tile_app.specs.FileKinds.{longest_of, too_long_of}
+use Rattle.tile_app.specs.Tile.{is_tile}
 use Rattle.tile_app.specs.Tilings.{builtin_tiling}
 
--- the words name a tile of the built-in rule that is chosen
-abbrev pub name_tile : List (List ℕ) → RuleChoice → Bool
-name_tile words (Builtin name) = gives_tile (builtin_tiling name) words
-name_tile words File = false
+-- a request has a file of its own read: `calc` its script, and `verify` its listing where it names a tile
+abbrev pub has_own_file : Request → Bool
+has_own_file (Calc name) = true
+has_own_file (Verify name addr seed window) = is_tile (builtin_tiling name) addr
+has_own_file _ = false
 
--- a command has a file read, where this rule is chosen: `calc` its script, `verify` its listing once the words name a tile, and each other command the file of the
--- rule
-abbrev pub has_file : List (List ℕ) → Command → RuleChoice → Bool
-has_file words Calc choice = true
-has_file words Verify choice = name_tile words choice
-has_file words command choice = is_file choice
+-- a request has a file read: that of its rule, or its own
+abbrev pub has_file : Request → Bool
+has_file q = is_file (rule_of q) || has_own_file q
 
--- the most bytes of a listing, which is 2^26
-abbrev pub longest_listing : ℕ
-longest_listing = 67108864
+-- the kind of the file that a request may have read
+abbrev pub kind_of : Request → FileKind
+kind_of (Calc name) = Script
+kind_of (Verify name addr seed window) = Listing
+kind_of _ = Rule
 
--- the most bytes of the file of a command: a listing, a script or a rule file
-abbrev pub longest_for : Command → ℕ
-longest_for Verify = longest_listing
-longest_for command = longest_file
+-- the most bytes of it, and that it is too long
+abbrev pub longest_for : Request → ℕ
+longest_for q = longest_of (kind_of q)
 
--- that a file is too long: the script of `calc`, the listing of `verify`, or a rule file
-abbrev pub too_long_for : Command → Status
-too_long_for Calc = BadScript script.TooLong
-too_long_for Verify = BadListing listing.TooLong
-too_long_for command = RuleTooLong
-
--- the most bytes of the file of the command of right words
-abbrev pub longest_of : Result Command ℕ → ℕ
-longest_of (Ok command) = longest_for command
-longest_of (Err place) = longest_file
+abbrev pub too_long_for : Request → Status
+too_long_for q = too_long_of (kind_of q)

@@ -11,7 +11,7 @@ use Rattle.tile_shape.specs.Views.{address_of}
 use Rattle.list_verify.specs.FaultText.{list_fault_text}
 use Rattle.tile_app.specs.declared.status.Status.{Status}
 use Rattle.tile_app.specs.declared.status.Status.TheVariants.{Done, BadWords, NoLayer, ReadFault, RuleTooLong, RuleRefused, BadAddress, NoEdge, NoVertex, Outside, DepthLimit, CoordLimit, TooManyTiles, StarTooBig, BadScript, BadListing, WriteFault, NoMemory}
-use Rattle.tile_app.specs.FormatWords.{format_text}
+use Rattle.call_words.specs.FormatWords.{format_text}
 use Rattle.tile_app.specs.RuleFaultText.{rule_fault_text}
 use Rattle.tile_app.specs.ScriptFaultText.{script_fault_text}
 use Rattle.tile_app.specs.Status.{code_of}

@@ -1,30 +1,49 @@
--- What the reading of a file is refused for, and the rule that is chosen with it.
-use Rattle.std.specs.Prelude.{◌≡◌, ℕ, ◌<◌, false, List, length, Err}
+-- What is read of a source: the file of a rule, a script, or a listing; and why it is refused.
+use Rattle.std.specs.Prelude.{◌≡◌, ◌⊎◌, ℕ, ◌<◌, ◌≤◌, true, false, List, length, Ok, Err}
 use Rattle.std.specs.declared.option.Option.{Option}
-use Rattle.tile_app.specs.declared.rule_choice.RuleChoice.{RuleChoice}
-use Rattle.tile_app.specs.declared.rule_choice.RuleChoice.TheVariants.{Builtin}
+use Rattle.call_words.specs.declared.rule_choice.RuleChoice.{RuleChoice}
+use Rattle.call_words.specs.Given.{WindowAsked}
+use Rattle.call_words.specs.Request.{Request}
+use Rattle.call_words.specs.Request.Request.{Calc, Verify}
+use Rattle.rule_model.specs.Tiling.{Tiling}
+use Rattle.rule_text.specs.Limits.{longest_file}
+use Rattle.tile_app.specs.declared.file_kind.FileKind.{FileKind}
+use Rattle.tile_app.specs.declared.file_kind.FileKind.TheVariants.{Script, Listing}
 use Rattle.tile_app.specs.declared.status.Status.{Status}
-use Rattle.tile_app.specs.declared.status.Status.TheVariants.{ReadFault, RuleRefused, BadAddress, NoMemory}
-use Rattle.tile_app.specs.declared.words.Command.{Command}
-use Rattle.tile_app.specs.Asked.{WasRead}
-use Rattle.tile_app.specs.Choices.{tiling_chosen}
-use Rattle.tile_app.specs.Files.{name_tile, longest_for, too_long_for}
+use Rattle.tile_app.specs.declared.status.Status.TheVariants.{ReadFault, RuleTooLong, RuleRefused, BadAddress, NoMemory}
+use Rattle.tile_app.specs.Answer.{Refuses}
+use Rattle.tile_app.specs.Asked.{WasRead, WasFileIn}
+use Rattle.tile_app.specs.BaseFrame.{frame_of}
+use Rattle.tile_app.specs.Calc.{PrintsCalc, CalcRefuses}
+use Rattle.tile_app.specs.Choices.{is_file, tiling_chosen}
+use Rattle.tile_app.specs.FileKinds.{longest_of, too_long_of}
+use Rattle.tile_app.specs.Files.{has_own_file, longest_for, too_long_for}
 use Rattle.tile_app.specs.RuleFiles.{tiling_in_file}
 use Rattle.tile_app.specs.Status.{IsTrueFault}
-use Rattle.tile_app.specs.Tile.{GivesNoTile}
+use Rattle.tile_app.specs.Tile.{OfTile, IsNoTile, is_tile}
 use Rattle.tile_app.specs.Tilings.{builtin_tiling}
+use Rattle.tile_app.specs.Verify.{PrintsVerify, VerifyRefuses}
+use Rattle.tile_app.specs.Windows.{window_in}
 
--- why no file is read for a built-in rule that is chosen: the words name no tile of it, for this fault of the address
-abbrev pub NamesNoTile : List (List ℕ) → RuleChoice → Status → Type 0
-NamesNoTile words (Builtin name) (BadAddress fault) = (name_tile words (Builtin name) ≡ false) × GivesNoTile words (builtin_tiling name) fault
-NamesNoTile words choice status = ⊥
+-- a file of this kind was read, from a source that had some bytes left and now has the rest, to its end, and this holds of it
+pub record OfFile (kind : FileKind) (left rest : Option (List ℕ)) (P : List ℕ → Type 0) : Type 0 where
+  pub file : List ℕ
+  pub read : WasRead (longest_of kind) left rest file
+  pub not_too_long : length file ≤ longest_of kind
+  pub holds : P file
 
--- why the reading of a command's file is refused, from a source that had some bytes left and now has the rest
-abbrev pub IsReadingRefused : Command → Option (List ℕ) → Option (List ℕ) → Status → Type 0
-IsReadingRefused command left rest NoMemory = Unit {0}
-IsReadingRefused command left rest ReadFault = Unit {0}
-IsReadingRefused command left rest status =
-    (status ≡ too_long_for command) × (file : List ℕ) × WasRead (longest_for command) left rest file × (longest_for command < length file)
+-- a file of this kind was read so far, and is too long, which this status tells
+pub record IsTooLong (kind : FileKind) (left rest : Option (List ℕ)) (status : Status) : Type 0 where
+  pub told : status ≡ too_long_of kind
+  pub file : List ℕ
+  pub read : WasRead (longest_of kind) left rest file
+  pub too_long : longest_of kind < length file
+
+-- why a file of this kind can't be read
+abbrev pub IsFileUnread : FileKind → Option (List ℕ) → Option (List ℕ) → Status → Type 0
+IsFileUnread kind left rest NoMemory = Unit {0}
+IsFileUnread kind left rest ReadFault = Unit {0}
+IsFileUnread kind left rest status = IsTooLong kind left rest status
 
 -- why the bytes of a rule file are refused
 abbrev pub IsFileRefused : List ℕ → Status → Type 0
@@ -32,8 +51,67 @@ IsFileRefused file NoMemory = Unit {0}
 IsFileRefused file (RuleRefused fault) = (tiling_in_file file ≡ Err fault) × IsTrueFault fault
 IsFileRefused file _ = ⊥
 
--- why a rule that is chosen is refused, with the file that was read
-abbrev pub IsChoiceRefused : List ℕ → RuleChoice → Status → Type 0
-IsChoiceRefused file choice NoMemory = Unit {0}
-IsChoiceRefused file choice (RuleRefused fault) = (tiling_chosen file choice ≡ Err fault) × IsTrueFault fault
-IsChoiceRefused file choice _ = ⊥
+-- the rule file of a choice was read to its end, where there is one, and with it the choice is this tiling
+pub record IsRuleRead (choice : RuleChoice) (left rest : Option (List ℕ)) (t : Tiling) : Type 0 where
+  pub file : List ℕ
+  pub read : WasFileIn longest_file (is_file choice) left rest file
+  pub not_too_long : length file ≤ longest_file
+  pub chosen : tiling_chosen file choice ≡ Ok t
+
+-- why a choice is refused: its rule file can't be read, or stands for no accepted rule
+abbrev pub IsRuleRefused : RuleChoice → Option (List ℕ) → Option (List ℕ) → Status → Type 0
+IsRuleRefused choice left rest NoMemory = Unit {0}
+IsRuleRefused choice left rest ReadFault = is_file choice ≡ true
+IsRuleRefused choice left rest RuleTooLong =
+    (is_file choice ≡ true) × (file : List ℕ) × WasRead longest_file left rest file × (longest_file < length file)
+IsRuleRefused choice left rest (RuleRefused fault) =
+    IsTrueFault fault × (file : List ℕ) × WasFileIn longest_file (is_file choice) left rest file × (length file ≤ longest_file) × (tiling_chosen file choice ≡ Err fault)
+IsRuleRefused choice left rest _ = ⊥
+
+-- ---- `calc`
+abbrev pub IsScriptPrinted : Tiling → Option (List ℕ) → Option (List ℕ) → List ℕ → Type 0
+IsScriptPrinted t left rest text = OfFile Script left rest (λ file. PrintsCalc file t text)
+
+abbrev pub IsScriptRefused : Tiling → Option (List ℕ) → Option (List ℕ) → Status → Type 0
+IsScriptRefused t left rest NoMemory = Unit {0}
+IsScriptRefused t left rest ReadFault = Unit {0}
+IsScriptRefused t left rest status = IsTooLong Script left rest status ⊎ OfFile Script left rest (λ file. CalcRefuses file t status)
+
+-- ---- `verify`, whose listing is read once its address is that of a tile
+abbrev pub IsListingPrinted : Tiling → List ℕ → ℕ → WindowAsked → Option (List ℕ) → Option (List ℕ) → List ℕ → Type 0
+IsListingPrinted t addr seed asked left rest text =
+    (is_tile t addr ≡ true) × OfTile t addr (λ a. OfFile Listing left rest (λ file. PrintsVerify t (frame_of a seed) (window_in t.order asked) file text))
+
+abbrev pub IsListingRefused : Tiling → List ℕ → ℕ → WindowAsked → Option (List ℕ) → Option (List ℕ) → Status → Type 0
+IsListingRefused t addr seed asked left rest NoMemory = Unit {0}
+IsListingRefused t addr seed asked left rest ReadFault = is_tile t addr ≡ true
+IsListingRefused t addr seed asked left rest (BadAddress fault) = (is_tile t addr ≡ false) × IsNoTile t addr fault
+IsListingRefused t addr seed asked left rest status =
+    (is_tile t addr ≡ true) × OfTile t addr (λ a. IsTooLong Listing left rest status ⊎ OfFile Listing left rest (λ file. VerifyRefuses t (frame_of a seed) (window_in t.order asked) file status))
+
+-- ---- a request, of the tiling of its rule
+abbrev pub IsItsTiling : Request → Tiling → Type 0
+IsItsTiling (Calc name) t = t ≡ builtin_tiling name
+IsItsTiling (Verify name addr seed window) t = t ≡ builtin_tiling name
+IsItsTiling _ t = Unit {0}
+
+-- its own file was read, to its end, where it has one, and this holds of it
+pub record OfOwnFile (q : Request) (left rest : Option (List ℕ)) (P : List ℕ → Type 0) : Type 0 where
+  pub file : List ℕ
+  pub read : WasFileIn (longest_for q) (has_own_file q) left rest file
+  pub not_too_long : length file ≤ longest_for q
+  pub holds : P file
+
+-- its own file was read so far, and is too long, which this status tells
+pub record IsOwnTooLong (q : Request) (left rest : Option (List ℕ)) (status : Status) : Type 0 where
+  pub reads : has_own_file q ≡ true
+  pub file : List ℕ
+  pub read : WasRead (longest_for q) left rest file
+  pub too_long : longest_for q < length file
+  pub told : status ≡ too_long_for q
+
+-- why it is refused for a tiling: its own file can't be read, or it has its cause
+abbrev pub IsRequestRefused : Request → Tiling → Option (List ℕ) → Option (List ℕ) → Status → Type 0
+IsRequestRefused q t left rest NoMemory = Unit {0}
+IsRequestRefused q t left rest ReadFault = has_own_file q ≡ true
+IsRequestRefused q t left rest status = IsOwnTooLong q left rest status ⊎ OfOwnFile q left rest (λ file. Refuses q file t status)

@@ -1,146 +1,141 @@
-//! The text of a request, or its refusal.
-ghost use Rattle.std.specs.Prelude.{◌≡◌, ◌≤◌, false, length, map, Ok, IfOk, IfErr, IsErrOf, is_ok, string_bytes};
+//! The answer to a call, or its refusal.
+ghost use Rattle.std.specs.Prelude.{◌≡◌, ℕ, List, None, false, map, IfOk, IfErr, IsErrOf};
+ghost use Rattle.call_words.specs.FormatWords.{first_lacking};
+ghost use Rattle.call_words.specs.Request.{formats_of};
+ghost use Rattle.call_words.specs.Views.{IsWithinForms, request_of};
+ghost use Rattle.call_words.specs.Words.{texts};
 ghost use Rattle.rule_model.specs.Tiling.{tiling_of};
 ghost use Rattle.tile_io.specs.Causes.{Rose};
-ghost use Rattle.tile_app.specs.Answer.{IsPrinted, Prints, Refuses};
-ghost use Rattle.tile_app.specs.Asked.{OfRequest};
+ghost use Rattle.tile_app.specs.Answer.{IsPrinted, Prints};
+ghost use Rattle.tile_app.specs.Asked.{OfCall};
+ghost use Rattle.tile_app.specs.Call.{reads_file};
 ghost use Rattle.tile_app.specs.Causes.{IsRefused};
-ghost use Rattle.tile_app.specs.Files.{longest_for};
-ghost use Rattle.tile_app.specs.Layers.{HaveLayers, reads_file};
-ghost use Rattle.tile_app.specs.Request.{request_of};
-ghost use Rattle.tile_app.specs.Status.{OrNoMemory};
-ghost use Rattle.tile_app.specs.Words.{texts, command_of};
+ghost use Rattle.tile_app.specs.Files.{has_own_file};
+ghost use Rattle.tile_app.specs.LayerTexts.{IsTextOf};
+ghost use Rattle.tile_app.specs.Reading.{IsItsTiling, OfOwnFile, IsRequestRefused};
 
 use crate::calc::calc_text;
 use crate::check::check_text;
 use crate::draw::draw_text;
 use crate::drill::drill_text;
-use crate::file_given::{file_given, has_file};
-use crate::layers::lacking;
+use crate::layers::first_lacking;
 use crate::neighbour::neighbour_text;
 use crate::place::{named_place_text, place_text};
-use crate::rule_choice::RuleChoice;
-use crate::rule_given::{choice_given, rule_chosen};
+use crate::rule_chosen::rule_chosen;
 use crate::star::star_text;
 use crate::status::Status;
 use crate::verify::verify_text;
 use crate::walk::walk_text;
-use crate::words::{Command, command_of};
+use crate::whole_answer::WholeAnswer;
+use arrayvec::ArrayVec;
+use call_words::request::{Request, request_in};
+use call_words::rule_choice::RuleChoice;
 use edge_tables::steps::Steps;
 use layer_api::layer::Layer;
 use rule_model::checked::Checked;
 use std::alloc::Global;
 use std::sync::ledger::Ledger;
 use tile_io::source::Source;
-use tile_place::machine::Machine;
 
-/// Returns the bytes of a text, or its refusal.
-fn bytes_of(text: Result<String, Status>) -> Result<Vec<u8>, Status>
-    ensures whether { is_ok result ≡ is_ok text }
-    ensures bytes { IfOk text (λ t. IfOk result (λ bytes. bytes.items ≡ string_bytes t)) }
-    ensures refusal { IfErr text (λ s. IfErr result (λ status. status ≡ s)) }
-{
-    match text {
-        Ok(text) => Ok(text.into_bytes()),
-        Err(status) => Err(status),
-    }
-}
-
-/// Returns what a command prints for right arguments, the machine of an accepted rule and the file that was
-/// read, or its refusal.
-fn machine_text<D: Layer, L: Ledger>(
+/// Returns the answer to a request with an accepted rule, or its refusal. `calc` and `verify` read the
+/// source, `verify` only if it names a tile.
+fn request_text<R: Source, D: Layer, L: Ledger>(
     alloc: Global,
-    command: Command,
-    machine: &Machine,
-    words: &[String],
-    file: &[u8],
-    layers: &mut [D],
-    steps: &mut Steps<L>,
-) -> Result<Vec<u8>, Status>
-    requires right { command_of (texts words.now) ≡ Ok command }
-    requires have_layers { HaveLayers (texts words.now) (map D.form layers.old) }
-    requires not_too_long { length file.now ≤ longest_for command }
-    ensures printed { IfOk result (λ text. IsPrinted command (request_of (texts words.now) (map D.form layers.old) file.now) (tiling_of machine.now) text.items) }
-    ensures refused { IfErr result (OrNoMemory (Refuses command (request_of (texts words.now) (map D.form layers.old) file.now) (tiling_of machine.now))) }
-{
-    match command {
-        Command::Check => Ok(check_text(alloc, machine.checked())?.into_bytes()),
-        Command::Place => bytes_of(place_text(alloc, machine.checked(), words)),
-        Command::Neighbour => bytes_of(neighbour_text(alloc, machine, words, steps)),
-        Command::Walk => walk_text(alloc, machine, words, steps),
-        Command::Draw => draw_text(alloc, machine, words, layers),
-        Command::Calc => calc_text(alloc, machine, file),
-        Command::Drill => bytes_of(drill_text(alloc, machine, words)),
-        Command::Star => star_text(alloc, machine, words, steps),
-        Command::Verify => bytes_of(verify_text(alloc, machine, words, file)),
-    }
-}
-
-/// Returns what a command prints for right arguments, an accepted rule and the file that was read, or its
-/// refusal. Commands that cross no edge need no machine.
-fn command_text<D: Layer, L: Ledger>(
-    alloc: Global,
-    command: Command,
+    request: &Request<'_>,
     checked: Checked,
-    words: &[String],
-    file: &[u8],
+    source: &mut R,
     layers: &mut [D],
     steps: &mut Steps<L>,
-) -> Result<Vec<u8>, Status>
-    requires right { command_of (texts words.now) ≡ Ok command }
-    requires have_layers { HaveLayers (texts words.now) (map D.form layers.old) }
-    requires not_too_long { length file.now ≤ longest_for command }
-    ensures printed { IfOk result (λ text. IsPrinted command (request_of (texts words.now) (map D.form layers.old) file.now) (tiling_of checked) text.items) }
-    ensures refused { IfErr result (OrNoMemory (Refuses command (request_of (texts words.now) (map D.form layers.old) file.now) (tiling_of checked))) }
+) -> Result<WholeAnswer, Status>
+    requires within { IsWithinForms request.now }
+    requires have_layers { first_lacking (map D.form layers.old) (formats_of (request_of request.now))
+        ≡ None }
+    requires its_tiling { IsItsTiling (request_of request.now) (tiling_of checked) }
+    ensures printed { IfOk result (λ answer. (text : List ℕ)
+        × OfOwnFile (request_of request.now) (R.left source.old) (R.left source.new)
+        (λ file. IsPrinted (request_of request.now) file (tiling_of checked) text)
+        × IsTextOf D.form D.seen D.ended D.draws layers.new answer text) }
+    ensures refused { IfErr result (IsRequestRefused (request_of request.now) (tiling_of checked)
+        (R.left source.old) (R.left source.new)) }
+    ensures read_fault { IsErrOf result Status.ReadFault → Rose (R.faults source.old) (R.faults source.new) }
+    ensures untouched { has_own_file (request_of request.now) ≡ false → source.new ≡ source.old }
 {
-    match command {
-        Command::Check => Ok(check_text(alloc, &checked)?.into_bytes()),
-        Command::Place => bytes_of(place_text(alloc, &checked, words)),
-        _ => {
-            let machine = Machine::new(alloc, checked)?;
-            machine_text(alloc, command, &machine, words, file, layers, steps)
+    match request {
+        Request::Place { addr, .. } => place_text(alloc, &checked, addr).map(WholeAnswer::Text),
+        Request::Neighbour { addr, edge, .. } => {
+            neighbour_text(alloc, checked, addr, *edge, steps).map(WholeAnswer::Text)
         }
+        Request::Walk {
+            addr,
+            seed,
+            grow,
+            path,
+            ..
+        } => walk_text(alloc, checked, addr, *seed, *grow, path.as_slice(), steps).map(
+            WholeAnswer::Text,
+        ),
+        Request::Draw {
+            addr,
+            seed,
+            window,
+            layers: formats,
+            glue,
+            ..
+        } => draw_text(alloc, checked, addr, *seed, window, formats, *glue, layers),
+        Request::Check { .. } => Ok(WholeAnswer::Text(check_text(alloc, &checked)?.into_bytes())),
+        Request::Calc { .. } => calc_text(alloc, checked, source).map(WholeAnswer::Text),
+        Request::Drill { count, seed, .. } => {
+            drill_text(alloc, checked, *count, *seed).map(WholeAnswer::Text)
+        }
+        Request::Star {
+            addr,
+            seed,
+            vertex,
+            ..
+        } => star_text(alloc, checked, addr, *seed, *vertex, steps).map(WholeAnswer::Text),
+        Request::Verify {
+            addr,
+            seed,
+            window,
+            ..
+        } => verify_text(alloc, checked, addr, *seed, window, source).map(WholeAnswer::Text),
     }
 }
 
-/// Returns the whole text for the request, or its refusal.
+/// Returns the whole answer to the call, or its refusal.
 ///
-/// The source is read only if the arguments are right and each format they name has a layer. They must also
-/// choose the rule of a file, or need a script, or need a list of tiles and name a tile.
+/// The arguments are read once, into a request, and each format that they name must have a layer. Then the
+/// rule is made, which may read a rule file. Then the address is read, and last a script or a list of tiles.
+/// `place` does not make a built-in rule.
 pub fn answer_text<R: Source, D: Layer, L: Ledger>(
     alloc: Global,
     words: &[String],
     source: &mut R,
     layers: &mut [D],
     steps: &mut Steps<L>,
-) -> Result<Vec<u8>, Status>
-    ensures printed { IfOk result (λ text. OfRequest (texts words.now) (map D.form layers.old) (R.left source.old) (R.left source.new)
-        (λ r. Prints r text.items)) }
-    ensures refused { IfErr result (IsRefused (texts words.now) (map D.form layers.old) (R.left source.old) (R.left source.new)) }
+) -> Result<WholeAnswer, Status>
+    ensures printed { IfOk result (λ answer. OfCall (texts words.now) (map D.form layers.old)
+        (R.left source.old) (R.left source.new)
+        (λ c. (text : List ℕ) × Prints c text
+        × IsTextOf D.form D.seen D.ended D.draws layers.new answer text)) }
+    ensures refused { IfErr result (IsRefused (texts words.now) (map D.form layers.old) (R.left source.old)
+        (R.left source.new)) }
     ensures read_fault { IsErrOf result Status.ReadFault → Rose (R.faults source.old) (R.faults source.new) }
-    ensures untouched { reads_file (texts words.now) (map D.form layers.old) ≡ false → source.new ≡ source.old }
+    ensures untouched { reads_file (texts words.now) (map D.form layers.old) ≡ false
+        → source.new ≡ source.old }
 {
-    let command = match command_of(words) {
-        Ok(command) => command,
+    let mut room = ArrayVec::new();
+    let request = match request_in(words, &mut room) {
+        Ok(request) => request,
         Err(place) => return Err(Status::BadWords { place }),
     };
-    if let Some(format) = lacking(command, words, layers) {
+    if let Some(format) = first_lacking(layers, request.formats()) {
         return Err(Status::NoLayer { format });
     }
-    let choice = choice_given(words);
-    let reads = has_file(alloc, command, choice, words)?;
-    let file = file_given(alloc, command, reads, source)?;
-    if let (Command::Place, RuleChoice::Builtin { name }) = (command, choice) {
-        return bytes_of(named_place_text(alloc, name, words));
+    let rule = request.rule();
+    if let (Request::Place { addr, .. }, RuleChoice::Builtin { name }) = (&request, rule) {
+        return named_place_text(alloc, name, addr).map(WholeAnswer::Text);
     }
-    let checked = rule_chosen(alloc, choice, file.as_slice())?;
-    command_text(
-        alloc,
-        command,
-        checked,
-        words,
-        file.as_slice(),
-        layers,
-        steps,
-    )
+    let checked = rule_chosen(alloc, rule, source)?;
+    request_text(alloc, &request, checked, source, layers, steps)
 }

@@ -1,20 +1,31 @@
 //! The command `calc`: the output of a script.
-ghost use Rattle.std.specs.Prelude.{◌≤◌, length, IfOk, IfErr};
+ghost use Rattle.std.specs.Prelude.{◌≡◌, ◌≤◌, length, IfOk, IfErr, IsErrOf};
 ghost use Rattle.rule_model.specs.Tiling.{tiling_of};
-ghost use Rattle.rule_text.specs.Limits.{longest_file};
-ghost use Rattle.tile_app.specs.Calc.{PrintsCalc, CalcRefuses};
-ghost use Rattle.tile_app.specs.Status.{OrNoMemory};
+ghost use Rattle.tile_io.specs.Causes.{Rose};
+ghost use Rattle.tile_app.specs.Reading.{IsScriptPrinted, IsScriptRefused};
 
+use crate::file::file_read;
+use crate::file_kind::FileKind;
 use crate::status::Status;
 use addr_calc::calc::calc;
+use rule_model::checked::Checked;
 use std::alloc::Global;
+use tile_io::source::Source;
 use tile_place::machine::Machine;
 
-/// Returns the output of a script, or the fault of its first line that has one.
-pub fn calc_text(alloc: Global, machine: &Machine, script: &[u8]) -> Result<Vec<u8>, Status>
-    requires at_most_a_mebibyte { length script.now ≤ longest_file }
-    ensures printed { IfOk result (λ text. PrintsCalc script.now (tiling_of machine.now) text.items) }
-    ensures refused { IfErr result (OrNoMemory (CalcRefuses script.now (tiling_of machine.now))) }
+/// Returns the output of the script that is read, or the fault of its first line that has one.
+pub fn calc_text<R: Source>(
+    alloc: Global,
+    checked: Checked,
+    source: &mut R,
+) -> Result<Vec<u8>, Status>
+    ensures printed { IfOk result (λ text. IsScriptPrinted (tiling_of checked) (R.left source.old)
+        (R.left source.new) text.items) }
+    ensures refused { IfErr result (IsScriptRefused (tiling_of checked) (R.left source.old)
+        (R.left source.new)) }
+    ensures read_fault { IsErrOf result Status.ReadFault → Rose (R.faults source.old) (R.faults source.new) }
 {
-    Ok(calc(alloc, machine, script)?)
+    let script = file_read(alloc, FileKind::Script, source)?;
+    let machine = Machine::new(alloc, checked)?;
+    Ok(calc(alloc, &machine, script.as_slice())?)
 }

@@ -1,31 +1,31 @@
 //! The command `draw`: the tiles of a window, through the layers of the caller.
-ghost use Rattle.std.specs.Prelude.{◌≡◌, ◌^◌, ◌++◌, map, None, Some, Ok, IfOk, IfErr, OnOk, IsTrue};
-ghost use Rattle.cyclo_points.specs.Point.{IsOf, IsWithin};
+ghost use Rattle.std.specs.Prelude.{◌≡◌, ℕ, List, All, map, None, IfOk, IfErr, OnOk, IsTrue};
+ghost use Rattle.call_words.specs.FormatWords.{is_among, first_lacking};
+ghost use Rattle.call_words.specs.Views.{IsWindowAsked, window_of};
 ghost use Rattle.layer_api.specs.Drawable.{IsView};
-ghost use Rattle.layer_api.specs.LayerText.{layer_text};
+ghost use Rattle.layer_api.specs.declared.format.Format.{Format};
+ghost use Rattle.lazy_walk.specs.Frames.{IsFrameOf};
 ghost use Rattle.rule_model.specs.Tiling.{tiling_of};
 ghost use Rattle.window_cover.specs.Windows.{IsWindow};
-ghost use Rattle.tile_app.specs.declared.words.Command.TheVariants.{Draw};
-ghost use Rattle.tile_app.specs.Draw.{at_given, half_given, window_given, view_of, texts_of, Pictures, PrintsDraw, DrawRefuses};
-ghost use Rattle.tile_app.specs.FormatWords.{is_among, first_lacking};
-ghost use Rattle.tile_app.specs.Glue.{asks_glue};
-ghost use Rattle.tile_app.specs.Layers.{HaveLayers};
-ghost use Rattle.tile_app.specs.Pictured.{picture_of, CanBePictured, Begins};
+ghost use Rattle.tile_app.specs.Answer.{TileRefuses};
+ghost use Rattle.tile_app.specs.BaseFrame.{frame_of, IsBegun};
+ghost use Rattle.tile_app.specs.Draw.{view_of, Pictures, PrintsDraw, DrawRefuses};
+ghost use Rattle.tile_app.specs.LayerTexts.{FirstHasDrawn, IsTextOf};
+ghost use Rattle.tile_app.specs.Pictured.{picture_of, CanBePictured};
 ghost use Rattle.tile_app.specs.Status.{OrNoMemory};
-ghost use Rattle.tile_app.specs.WindowWords.{FitWindow};
-ghost use Rattle.tile_app.specs.Words.{texts, command_of, AskAboutWindow};
+ghost use Rattle.tile_app.specs.Tile.{OfTile};
+ghost use Rattle.tile_app.specs.Windows.{window_in};
 
+use crate::base_frame::base_frame;
 use crate::drawn_tile::blank;
-use crate::layers::{formats_given, place_of};
+use crate::layers::place_of;
 use crate::picture::Picture;
 use crate::status::Status;
-use crate::tile::address_given;
-use crate::walk::seed_given;
-use crate::window_words::{HalfExtents, at_in, half_in};
-use crate::words::Key;
-use cyclo_points::coordinates::reduce;
-use cyclo_points::order::Order;
-use cyclo_points::point::Point;
+use crate::whole_answer::WholeAnswer;
+use crate::window::window_in;
+use arrayvec::ArrayVec;
+use call_words::format_words::MOST_FORMATS;
+use call_words::window_words::WindowWords;
 use half_glue::given_law::given_law;
 use half_glue::glue_covered::glue_covered;
 use half_glue::parts_law::parts_law;
@@ -35,72 +35,30 @@ use layer_api::layer::Layer;
 use layer_api::view::View;
 use lazy_walk::frame::Frame;
 use plane_geom::window::Window;
+use rule_model::checked::Checked;
 use std::alloc::Global;
 use tile_place::machine::Machine;
 use tile_shape::no_memory::NoMemory;
 use window_cover::tiles_of_window::covered_tiles;
 
-/// Returns the centre that right arguments give, before it is reduced to the order.
-fn at_given(words: &[String]) -> Point
-    requires right { AskAboutWindow (texts words.now) }
-    ensures given { at_given (texts words.now) ≡ Some result }
-    ensures within { IsWithin (2 ^ 20) result }
-{
-    let text = Key::At.value_given(words).unwrap();
-    at_in(text).unwrap()
-}
-
-/// Returns the half-width and half-height that right arguments give.
-fn half_given(words: &[String]) -> HalfExtents
-    requires right { AskAboutWindow (texts words.now) }
-    ensures given { half_given (texts words.now) ≡ Some result }
-    ensures fit { FitWindow result }
-{
-    let text = Key::Half.value_given(words).unwrap();
-    half_in(text).unwrap()
-}
-
-/// Returns the window that right arguments give.
-pub fn window_given(order: Order, words: &[String]) -> Window
-    requires right { AskAboutWindow (texts words.now) }
-    ensures given { window_given order (texts words.now) ≡ Some result }
-    ensures fits { IsWindow result }
-    ensures in_order { IsOf order result.centre }
-{
-    let at = at_given(words);
-    let half = half_given(words);
-    Window {
-        centre: reduce(order, &at),
-        w: half.w,
-        h: half.h,
-    }
-}
-
-/// Returns true if the arguments, which are right, have `glue=yes`.
-fn glue_given(words: &[String]) -> bool
-    ensures { result ≡ asks_glue (texts words.now) }
-{
-    match Key::Glue.value_given(words) {
-        Some(value) => value == "yes",
-        None => false,
-    }
-}
-
-/// Returns the picture of a window: its tiles, or their whole tiles if the arguments have `glue=yes`.
+/// Returns the picture of a window in the frame of a base: its tiles, or with glue their whole tiles.
 fn pictured(
     alloc: Global,
     machine: &Machine,
-    words: &[String],
+    whole: bool,
     frame: &mut Frame,
     window: &Window,
 ) -> Result<Picture, Status>
-    requires begins { Begins (texts words.now) (tiling_of machine.now) frame.old window.now }
+    requires frame { IsFrameOf (tiling_of machine.now) frame.old }
+    requires begun { IsBegun frame.old }
     requires fits { IsWindow window.now }
     ensures can { IfOk result (λ picture. CanBePictured (tiling_of machine.now) picture) }
-    ensures pictures { IfOk result (λ picture. Pictures (texts words.now) (tiling_of machine.now) window.now (picture_of (tiling_of machine.now) picture)) }
-    ensures refused { IfErr result (OrNoMemory (DrawRefuses (texts words.now) (tiling_of machine.now))) }
+    ensures pictures { IfOk result (λ picture. Pictures whole (tiling_of machine.now) frame.old window.now
+        (picture_of (tiling_of machine.now) picture)) }
+    ensures refused { IfErr result
+        (OrNoMemory (DrawRefuses whole (tiling_of machine.now) frame.old window.now)) }
 {
-    if glue_given(words) {
+    if whole {
         given_law();
         parts_law(machine);
         whole_tiles_law(machine);
@@ -149,9 +107,8 @@ fn draw<D: Layer>(
     layer.end()
 }
 
-/// Draws a picture through the first layer with a format, and appends its text.
-fn put_text<D: Layer>(
-    text: &mut Vec<u8>,
+/// Draws a picture through the first layer with a format.
+fn draw_format<D: Layer>(
     layers: &mut [D],
     format: Format,
     machine: &Machine,
@@ -162,55 +119,94 @@ fn put_text<D: Layer>(
     requires view { IsView view }
     requires its_order { view.order ≡ machine.now.order }
     requires can { CanBePictured (tiling_of machine.now) picture.now }
-    ensures text { OnOk result (text.new.items ≡ text.old.items ++ layer_text format view (picture_of (tiling_of machine.now) picture.now)) }
+    ensures drawn { OnOk result (FirstHasDrawn D.form D.seen D.ended D.draws view
+        (picture_of (tiling_of machine.now) picture.now) layers.new format) }
+    ensures others { OnOk result ((other : Format)
+        → FirstHasDrawn D.form D.seen D.ended D.draws view
+        (picture_of (tiling_of machine.now) picture.now) layers.old other
+        → FirstHasDrawn D.form D.seen D.ended D.draws view
+        (picture_of (tiling_of machine.now) picture.now) layers.new other) }
     ensures same_forms { OnOk result (map D.form layers.new ≡ map D.form layers.old) }
 {
     let place = place_of(layers, format).unwrap();
     draw(&mut layers[place], machine, view, picture)?;
-    text.extend_from_slice(layers[place].bytes())?;
     Ok(())
 }
 
-/// Returns the texts of a picture in several formats, one after another.
-fn texts_of<D: Layer>(
-    alloc: Global,
+/// Draws a picture through the first layer with each of several formats.
+fn draw_formats<D: Layer>(
     layers: &mut [D],
     formats: &[Format],
     machine: &Machine,
     view: View,
     picture: &Picture,
-) -> Result<Vec<u8>, NoMemory>
+) -> Result<(), NoMemory>
     requires have_layers { first_lacking (map D.form layers.old) formats.now ≡ None }
     requires view { IsView view }
     requires its_order { view.order ≡ machine.now.order }
     requires can { CanBePictured (tiling_of machine.now) picture.now }
-    ensures { IfOk result (λ text. text.items ≡ texts_of view (picture_of (tiling_of machine.now) picture.now) formats.now) }
+    ensures drawn { OnOk result (All (FirstHasDrawn D.form D.seen D.ended D.draws view
+        (picture_of (tiling_of machine.now) picture.now) layers.new) formats.now) }
+    ensures same_forms { OnOk result (map D.form layers.new ≡ map D.form layers.old) }
 {
-    let mut text = Vec::new(alloc);
     for format in formats {
-        put_text(&mut text, layers, *format, machine, view, picture)?;
+        draw_format(layers, *format, machine, view, picture)?;
     }
-    Ok(text)
+    Ok(())
 }
 
-/// Returns what `draw` prints for right arguments, or its refusal. Each format must have a layer, and the
-/// first layer with the format draws it. If a layer refuses, the refusal is out of memory.
-pub fn draw_text<D: Layer>(
+/// Draws a window in the frame of a base. Returns the answer, whose texts stay in the layers, or the refusal.
+fn drawn<D: Layer>(
     alloc: Global,
     machine: &Machine,
-    words: &[String],
+    frame: &mut Frame,
+    asked: &WindowWords,
+    formats: &ArrayVec<Format, MOST_FORMATS>,
+    whole: bool,
     layers: &mut [D],
-) -> Result<Vec<u8>, Status>
-    requires right { command_of (texts words.now) ≡ Ok Draw }
-    requires have_layers { HaveLayers (texts words.now) (map D.form layers.old) }
-    ensures printed { IfOk result (λ text. PrintsDraw (texts words.now) (tiling_of machine.now) text.items) }
-    ensures refused { IfErr result (OrNoMemory (DrawRefuses (texts words.now) (tiling_of machine.now))) }
+) -> Result<WholeAnswer, Status>
+    requires frame { IsFrameOf (tiling_of machine.now) frame.old }
+    requires begun { IsBegun frame.old }
+    requires asked { IsWindowAsked asked.now }
+    requires have_layers { first_lacking (map D.form layers.old) formats.now.items ≡ None }
+    ensures printed { IfOk result (λ answer. (text : List ℕ)
+        × PrintsDraw whole formats.now.items (tiling_of machine.now) frame.old
+        (window_in machine.now.order (window_of asked.now)) text
+        × IsTextOf D.form D.seen D.ended D.draws layers.new answer text) }
+    ensures refused { IfErr result (OrNoMemory (DrawRefuses whole (tiling_of machine.now) frame.old
+        (window_in machine.now.order (window_of asked.now)))) }
 {
-    let address = address_given(machine, words)?;
-    let window = window_given(machine.checked().order(), words);
-    let mut frame = Frame::new(address, seed_given(words));
-    let picture = pictured(alloc, machine, words, &mut frame, &window)?;
-    let formats = formats_given(words);
+    let window = window_in(machine.checked().order(), asked);
+    let picture = pictured(alloc, machine, whole, frame, &window)?;
     let view = view_of(machine, &window);
-    Ok(texts_of(alloc, layers, formats.as_slice(), machine, view, &picture)?)
+    draw_formats(layers, formats.as_slice(), machine, view, &picture)?;
+    Ok(WholeAnswer::of_layers(formats))
+}
+
+/// Draws a window in the frame of the tile with this address. Returns the answer, whose texts stay in the
+/// layers, or the refusal. Each format must have a layer, and the first layer with the format draws it. If a
+/// layer refuses, the refusal is out of memory.
+pub fn draw_text<D: Layer>(
+    alloc: Global,
+    checked: Checked,
+    addr: &str,
+    seed: u64,
+    asked: &WindowWords,
+    formats: &ArrayVec<Format, MOST_FORMATS>,
+    whole: bool,
+    layers: &mut [D],
+) -> Result<WholeAnswer, Status>
+    requires asked { IsWindowAsked asked.now }
+    requires have_layers { first_lacking (map D.form layers.old) formats.now.items ≡ None }
+    ensures printed { IfOk result (λ answer. (text : List ℕ) × OfTile (tiling_of checked) addr.now
+        (λ a. PrintsDraw whole formats.now.items (tiling_of checked) (frame_of a seed)
+        (window_in checked.order (window_of asked.now)) text)
+        × IsTextOf D.form D.seen D.ended D.draws layers.new answer text) }
+    ensures refused { IfErr result (OrNoMemory (TileRefuses (tiling_of checked) addr.now
+        (λ a. DrawRefuses whole (tiling_of checked) (frame_of a seed)
+        (window_in checked.order (window_of asked.now))))) }
+{
+    let mut frame = base_frame(&checked, addr, seed)?;
+    let machine = Machine::new(alloc, checked)?;
+    drawn(alloc, &machine, &mut frame, asked, formats, whole, layers)
 }

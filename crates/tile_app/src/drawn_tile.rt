@@ -1,21 +1,18 @@
 //! Tiles and whole tiles, ready to be drawn.
-ghost use Rattle.std.specs.Prelude.{◌≡◌, ◌+◌, ◌<◌, ◌≤◌, ◌^◌, ◌++◌, All, length, map};
+ghost use Rattle.std.specs.Prelude.{◌≡◌, ◌+◌, ◌-◌, ◌<◌, ◌≤◌, ◌^◌, ◌++◌, All, drop, length, map, take};
 ghost use Rattle.cyclo_points.specs.Motion.{motion_in};
 ghost use Rattle.cyclo_points.specs.Order.{points_of};
 ghost use Rattle.cyclo_points.specs.Point.{IsOf, IsWithin};
 ghost use Rattle.half_glue.specs.Outline.{glue_edge_of, begun_behind, inner_of, vertices_in_place, outline_of};
 ghost use Rattle.layer_api.specs.Drawable.{IsNear, IsDrawable};
 ghost use Rattle.rule_model.specs.Tiling.{tiling_of};
-ghost use Rattle.rule_model.specs.Usable.{IsSmall};
 ghost use Rattle.rule_model.specs.Views.{rule_of};
 ghost use Rattle.substitution.specs.Motion.{moved};
 ghost use Rattle.substitution.specs.RuleParts.{vertices_of, edge_count};
-ghost use Rattle.tile_app.specs.DrawnTile.{point_of, tile_of, whole_by, placed_point, drawn_of, drawn_whole, CanBeDrawn, IsDrawableHalf, CanBeDrawnWhole};
+ghost use Rattle.tile_app.specs.DrawnTile.{point_of, tile_of, whole_by, drawn_of, drawn_whole, CanBeDrawn, IsDrawableHalf, CanBeDrawnWhole};
 
 use arrayvec::ArrayVec;
 use cyclo_points::motion::Motion;
-use cyclo_points::movement::apply;
-use cyclo_points::order::Order;
 use cyclo_points::point::Point;
 use layer_api::drawn::{Drawn, MOST_VERTICES};
 use layer_api::part::Part;
@@ -41,23 +38,26 @@ pub fn blank_part() -> Part {
     }
 }
 
-/// Appends the vertices of a prototile to an outline, each moved to its place.
-fn put_vertices(
+/// Appends vertices of a tile to an outline: those from one number on, up to another.
+fn put_corners(
     outline: &mut ArrayVec<Point, MOST_VERTICES>,
-    order: Order,
-    vertices: &[Point],
-    motion: &Motion,
+    machine: &Machine,
+    half: &Part,
+    first: usize,
+    end: usize,
 )
-    requires room { length outline.old.items + length vertices.now ≤ 24 }
-    requires small { All (IsSmall order) vertices.now }
-    requires turn_below { motion.now.turn < (points_of order).order }
-    requires in_order { IsOf order motion.now.shift }
-    requires within { IsWithin (2 ^ 24) motion.now.shift }
-    ensures placed { outline.new.items ≡ outline.old.items ++ map (placed_point order motion.now) vertices.now }
-    ensures near { All (IsNear order) outline.old.items → All (IsNear order) outline.new.items }
+    requires in_turn { first ≤ end }
+    requires there { end ≤ edge_count (rule_of machine.now) half.now.kind }
+    requires room { length outline.old.items + end ≤ 24 }
+    requires can { CanBeDrawn (tiling_of machine.now) (tile_of half.now) }
+    ensures placed { outline.new.items ≡ outline.old.items
+        ++ map (λ z. point_of machine.now.order (moved (points_of machine.now.order) (motion_in machine.now.order half.now.motion) z))
+        (take (end - first) (drop first (vertices_of (rule_of machine.now) half.now.kind))) }
+    ensures near { All (IsNear machine.now.order) outline.old.items → All (IsNear machine.now.order) outline.new.items }
 {
-    for vertex in vertices {
-        outline.push(apply(order, motion, vertex));
+    let _each_edge = machine.checked().vertices(half.kind);
+    for number in first..end {
+        outline.push(machine.corner(half.kind, &half.motion, number));
     }
 }
 
@@ -141,12 +141,10 @@ fn put_first_half(outline: &mut ArrayVec<Point, MOST_VERTICES>, machine: &Machin
     ensures near { All (IsNear machine.now.order) outline.new.items }
     ensures placed { outline.new.items ≡ map (point_of machine.now.order) (begun_behind (glue_edge_of (rule_of machine.now) half.now.kind) (vertices_in_place (tiling_of machine.now) (tile_of half.now))) }
 {
-    let checked = machine.checked();
-    let order = checked.order();
     let edge = glue_edge(machine, half);
-    let vertices = checked.vertices(half.kind);
-    put_vertices(outline, order, &vertices[edge + 1..], &half.motion);
-    put_vertices(outline, order, &vertices[..edge + 1], &half.motion);
+    let count = machine.checked().vertices(half.kind).len();
+    put_corners(outline, machine, half, edge + 1, count);
+    put_corners(outline, machine, half, 0, edge + 1);
 }
 
 /// Appends the vertices of the second half that are not on its glue edge, from the end of that edge around.
@@ -156,15 +154,13 @@ fn put_second_half(outline: &mut ArrayVec<Point, MOST_VERTICES>, machine: &Machi
     ensures near { All (IsNear machine.now.order) outline.old.items → All (IsNear machine.now.order) outline.new.items }
     ensures placed { outline.new.items ≡ outline.old.items ++ map (point_of machine.now.order) (inner_of (begun_behind (glue_edge_of (rule_of machine.now) half.now.kind) (vertices_in_place (tiling_of machine.now) (tile_of half.now)))) }
 {
-    let checked = machine.checked();
-    let order = checked.order();
     let edge = glue_edge(machine, half);
-    let vertices = checked.vertices(half.kind);
-    if edge + 1 < vertices.len() {
-        put_vertices(outline, order, &vertices[edge + 2..], &half.motion);
-        put_vertices(outline, order, &vertices[..edge], &half.motion);
+    let count = machine.checked().vertices(half.kind).len();
+    if edge + 1 < count {
+        put_corners(outline, machine, half, edge + 2, count);
+        put_corners(outline, machine, half, 0, edge);
     } else {
-        put_vertices(outline, order, &vertices[1..edge], &half.motion);
+        put_corners(outline, machine, half, 1, edge);
     }
 }
 

@@ -1,42 +1,28 @@
 //! The command `drill`: totals over pseudorandom windows, which the seed determines.
-ghost use Rattle.std.specs.Prelude.{◌≡◌, ◌+◌, ◌*◌, ◌<◌, ◌≤◌, ◌^◌, Some, Ok, IfOk, IfErr, OnOk, string_bytes};
+ghost use Rattle.std.specs.Prelude.{◌≡◌, ◌+◌, ◌*◌, ◌<◌, ◌≤◌, ◌^◌, IfOk, IfErr, OnOk, string_bytes};
 ghost use Rattle.cyclo_points.specs.Point.{Within, IsWithin};
 ghost use Rattle.lazy_walk.specs.Frames.{IsFrameOf};
 ghost use Rattle.rule_model.specs.Tiling.{tiling_of};
 ghost use Rattle.seeded_growth.specs.Words.{word};
 ghost use Rattle.windows.specs.Limits.{most_tiles};
 ghost use Rattle.window_cover.specs.Windows.{IsWindow};
-ghost use Rattle.tile_app.specs.declared.words.Command.TheVariants.{Drill};
-ghost use Rattle.tile_app.specs.Drill.{count_given, coefficient_of, extent_of, centre_from, window_from, fresh_frame, Adds, IsSummary, PrintsDrill};
-ghost use Rattle.tile_app.specs.Words.{texts, command_of};
+ghost use Rattle.tile_app.specs.Drill.{coefficient_of, extent_of, centre_from, window_from, fresh_frame, Adds, IsSummary, summary_text, PrintsDrill};
 
 use crate::status::Status;
 use crate::summary::Summary;
-use crate::walk::seed_given;
-use crate::window_words::windows_in;
-use crate::words::Key;
 use cyclo_points::coordinates::reduce;
 use cyclo_points::order::Order;
 use cyclo_points::point::Point;
 use lazy_walk::frame::Frame;
 use plane_geom::window::Window;
+use rule_model::checked::Checked;
 use seeded_growth::growth::Growth;
-use std::alloc::Global;
+use std::alloc::{AllocError, Global};
 use tile_place::machine::Machine;
 use tile_shape::address::Address;
 use tile_shape::no_memory::NoMemory;
 use window_cover::cover_fault::CoverFault;
 use window_cover::tiles_of_window::covered_tiles;
-
-/// Returns the number of windows that right arguments ask for, at most 200.
-fn count_given(words: &[String]) -> u8
-    requires right { command_of (texts words.now) ≡ Ok Drill }
-    ensures given { count_given (texts words.now) ≡ Some result }
-    ensures at_most_200 { result ≤ 200 }
-{
-    let text = Key::Count.value_given(words).unwrap();
-    windows_in(text).unwrap()
-}
 
 /// Returns the next output of the generator as a coefficient of a centre, at most 32 in absolute value.
 fn next_coefficient(growth: &mut Growth) -> i64
@@ -151,21 +137,28 @@ fn summed(alloc: Global, machine: &Machine, start: u64, count: u8) -> Result<Sum
     Ok(summary)
 }
 
-/// Returns what `drill` prints for right arguments. Fails only if memory runs out.
-pub fn drill_text(alloc: Global, machine: &Machine, words: &[String]) -> Result<String, Status>
-    requires right { command_of (texts words.now) ≡ Ok Drill }
-    ensures printed { IfOk result (λ text. PrintsDrill (texts words.now) (tiling_of machine.now) (string_bytes text)) }
-    ensures refused { IfErr result (λ status. status ≡ Status.NoMemory) }
+/// Returns the five lines of the totals over this number of windows.
+fn summary_text(alloc: Global, count: u8, summary: &Summary) -> Result<String, AllocError>
+    ensures { IfOk result (λ text. string_bytes text ≡ summary_text count summary.now) }
 {
-    let count = count_given(words);
-    let summary = summed(alloc, machine, seed_given(words), count)?;
     let Summary {
         tiles,
         largest,
         depth,
         refused,
     } = summary;
-    Ok(format!(in alloc;
+    format!(in alloc;
         "windows {count}\ntiles {tiles}\nlargest {largest}\ndepth {depth}\nrefused {refused}\n"
-    )?)
+    )
+}
+
+/// Returns what `drill` prints for this number of windows of a seed. Fails only if memory runs out.
+pub fn drill_text(alloc: Global, checked: Checked, count: u8, seed: u64) -> Result<Vec<u8>, Status>
+    requires at_most_200 { count ≤ 200 }
+    ensures printed { IfOk result (λ text. PrintsDrill (tiling_of checked) seed count text.items) }
+    ensures refused { IfErr result (λ status. status ≡ Status.NoMemory) }
+{
+    let machine = Machine::new(alloc, checked)?;
+    let summary = summed(alloc, &machine, seed, count)?;
+    Ok(summary_text(alloc, count, &summary)?.into_bytes())
 }

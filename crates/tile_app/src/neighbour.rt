@@ -1,30 +1,21 @@
 //! The command `neighbour`: the tile across an edge.
-ghost use Rattle.std.specs.Prelude.{◌≡◌, ◌≤◌, ◌+◌, Some, Ok, IfOk, IfErr, string_bytes};
-ghost use Rattle.rule_model.specs.Tiling.{tiling_of};
+ghost use Rattle.std.specs.Prelude.{◌≡◌, ◌≤◌, ◌+◌, IfOk, IfErr, string_bytes};
+ghost use Rattle.rule_model.specs.Tiling.{tiling_of, children};
+ghost use Rattle.tile_shape.specs.Accepted.{IsAcceptedAddress};
 ghost use Rattle.tile_shape.specs.Views.{address_of};
-ghost use Rattle.tile_app.specs.declared.words.Command.TheVariants.{Neighbour};
-ghost use Rattle.tile_app.specs.Neighbour.{neighbour_line, edge_given, PrintsNeighbour, NeighbourRefuses};
+ghost use Rattle.tile_app.specs.Answer.{TileRefuses};
+ghost use Rattle.tile_app.specs.Neighbour.{neighbour_line, PrintsNeighbour, NeighbourRefuses};
 ghost use Rattle.tile_app.specs.Status.{OrNoMemory};
-ghost use Rattle.tile_app.specs.Words.{texts, command_of};
+ghost use Rattle.tile_app.specs.Tile.{OfTile};
 
-use crate::number::number_up_to_255;
 use crate::status::Status;
-use crate::tile::address_given;
-use crate::words::Key;
+use crate::tile::tile_at;
 use edge_tables::steps::Steps;
+use rule_model::checked::Checked;
 use std::alloc::{AllocError, Global};
 use std::sync::ledger::Ledger;
 use tile_place::machine::Machine;
 use tile_shape::address::Address;
-
-/// Returns the number of the edge that right arguments give.
-fn edge_given(words: &[String]) -> u8
-    requires { command_of (texts words.now) ≡ Ok Neighbour }
-    ensures { edge_given (texts words.now) ≡ Some result }
-{
-    let text = Key::Edge.value_given(words).unwrap();
-    number_up_to_255(text).unwrap()
-}
 
 /// Returns the line of the tile across an edge: its address, and the number of its edge that leads back.
 fn neighbour_line(alloc: Global, across: &Address, edge: u8) -> Result<String, AllocError>
@@ -33,25 +24,45 @@ fn neighbour_line(alloc: Global, across: &Address, edge: u8) -> Result<String, A
     format!(in alloc; "{across} {edge}\n")
 }
 
-/// Returns what `neighbour` prints for right arguments, or its refusal. Adds its table look-ups to `steps`:
+/// Returns what `neighbour` prints for an edge of a tile, or its refusal. Adds its table look-ups to `steps`:
 /// at most twice the depth, plus two, so at most 130.
-pub fn neighbour_text<L: Ledger>(
+fn across<L: Ledger>(
     alloc: Global,
     machine: &Machine,
-    words: &[String],
+    address: &Address,
+    edge: u8,
     steps: &mut Steps<L>,
 ) -> Result<String, Status>
-    requires right { command_of (texts words.now) ≡ Ok Neighbour }
-    ensures printed { IfOk result (λ text. PrintsNeighbour (texts words.now) (tiling_of machine.now) (string_bytes text)) }
-    ensures refused { IfErr result (OrNoMemory (NeighbourRefuses (texts words.now) (tiling_of machine.now))) }
+    requires accepted { IsAcceptedAddress (children (tiling_of machine.now)) (address_of address.now) }
+    ensures printed { IfOk result (λ text. PrintsNeighbour (tiling_of machine.now)
+        (address_of address.now) edge (string_bytes text)) }
+    ensures refused { IfErr result (OrNoMemory (NeighbourRefuses (tiling_of machine.now)
+        (address_of address.now) edge)) }
     ensures steps_within_bound { steps.new ≤ steps.old + 130 }
 {
-    let address = address_given(machine, words)?;
-    let edge = edge_given(words);
     let edges = machine.checked().tables().edges(address.kind);
     if edge >= edges {
         return Err(Status::NoEdge { edge, edges });
     }
-    let crossing = machine.cross(&address, edge, steps)?;
+    let crossing = machine.cross(address, edge, steps)?;
     Ok(neighbour_line(alloc, &crossing.addr, crossing.edge)?)
+}
+
+/// Returns what `neighbour` prints for an edge of the tile with this address, or its refusal.
+pub fn neighbour_text<L: Ledger>(
+    alloc: Global,
+    checked: Checked,
+    addr: &str,
+    edge: u8,
+    steps: &mut Steps<L>,
+) -> Result<Vec<u8>, Status>
+    ensures printed { IfOk result (λ text. OfTile (tiling_of checked) addr.now
+        (λ a. PrintsNeighbour (tiling_of checked) a edge text.items)) }
+    ensures refused { IfErr result (OrNoMemory (TileRefuses (tiling_of checked) addr.now
+        (λ a. NeighbourRefuses (tiling_of checked) a edge))) }
+    ensures steps_within_bound { steps.new ≤ steps.old + 130 }
+{
+    let address = tile_at(&checked, addr)?;
+    let machine = Machine::new(alloc, checked)?;
+    Ok(across(alloc, &machine, &address, edge, steps)?.into_bytes())
 }

@@ -5,10 +5,10 @@ ghost use Rattle.tile_app.specs.Notes.{status_text, note_of, IsNoted};
 ghost use Rattle.cyclo_points.specs.Text.{blank};
 
 use crate::fault_words::{put_address_fault, put_list_fault, put_rule_fault, put_script_fault};
-use crate::format_words::format_text;
 use crate::line::{LINE_ROOM, put_depth_limit, put_numbered, put_pair, put_point, put_word};
 use crate::status::Status;
 use arrayvec::ArrayString;
+use call_words::format_words::format_text;
 use itoa::Buffer;
 use tile_io::sink::Sink;
 use tile_io::writing::write_all;

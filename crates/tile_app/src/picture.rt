@@ -1,13 +1,15 @@
 //! The tiles that are drawn of a window.
-ghost use Rattle.std.specs.Prelude.{◌≡◌, ◌<◌, Some, length, slice_get};
+ghost use Rattle.std.specs.Prelude.{◌≡◌, ◌<◌, Some, length, slice_get, IfSome, IsTrue};
+ghost use Rattle.std.specs.Option.{is_some, option_map};
 ghost use Rattle.layer_api.specs.Drawable.{IsDrawable};
 ghost use Rattle.rule_model.specs.Tiling.{Tiling, tiling_of};
-ghost use Rattle.tile_app.specs.DrawnTile.{whole_by};
+ghost use Rattle.tile_app.specs.DrawnTile.{tile_of, whole_by};
 ghost use Rattle.tile_app.specs.Pictured.{picture_of, CanBePictured};
 
 use crate::drawn_tile::{blank_part, fill, fill_whole};
 use half_glue::glued_tiles::GluedTiles;
 use layer_api::drawn::Drawn;
+use layer_api::part::Part;
 use tile_place::machine::Machine;
 use window_cover::covered_tiles::CoveredTiles;
 
@@ -62,15 +64,25 @@ fn put_parts(drawn: &mut Drawn, wholes: &GluedTiles, place: usize)
     let first = &mut drawn.first;
     wholes.put_first(place, &mut first.kind, &mut first.motion, &mut first.addr);
     if wholes.is_pair(place) {
-        let mut second = blank_part();
-        wholes.put_second(
-            place,
-            &mut second.kind,
-            &mut second.motion,
-            &mut second.addr,
-        );
-        drawn.second = Some(second);
+        put_second(&mut drawn.second, wholes, place);
     } else {
         drawn.second = None;
+    }
+}
+
+/// Replaces a second part by that of the whole tile at a place, which must have one. A part that is there is
+/// overwritten.
+fn put_second(second: &mut Option<Part>, wholes: &GluedTiles, place: usize)
+    requires below { place < length wholes.now }
+    requires is_pair { IfSome (slice_get wholes.now place) (λ w. IsTrue (is_some w.second)) }
+    ensures { IfSome (slice_get wholes.now place) (λ w. w.second ≡ option_map tile_of second.new) }
+{
+    match second {
+        Some(part) => wholes.put_second(place, &mut part.kind, &mut part.motion, &mut part.addr),
+        None => {
+            let mut part = blank_part();
+            wholes.put_second(place, &mut part.kind, &mut part.motion, &mut part.addr);
+            *second = Some(part);
+        }
     }
 }

@@ -1,24 +1,31 @@
 //! The top call: all that the program does.
-ghost use Rattle.std.specs.Prelude.{◌≡◌, ◌⊎◌, ◌<◌, ℕ, List, false, map, Ok};
+ghost use Rattle.std.specs.Prelude.{◌≡◌, ◌⊎◌, ◌<◌, ℕ, Bool, List, false, map, Ok};
+ghost use Rattle.call_words.specs.declared.rule_choice.RuleChoice.{RuleChoice};
+ghost use Rattle.call_words.specs.Given.{WindowAsked};
+ghost use Rattle.call_words.specs.Request.{request_in};
+ghost use Rattle.call_words.specs.Request.Request.{Neighbour, Draw};
+ghost use Rattle.call_words.specs.Words.{texts};
+ghost use Rattle.layer_api.specs.declared.format.Format.{Format};
 ghost use Rattle.rule_model.specs.Tiling.{Tiling};
 ghost use Rattle.tile_io.specs.Causes.{Rose};
 ghost use Rattle.tile_io.specs.Taken.{Takes, TakesProperPrefix};
 ghost use Rattle.tile_app.specs.declared.status.Status.{Status};
-ghost use Rattle.tile_app.specs.declared.words.Command.TheVariants.{Neighbour, Draw};
 ghost use Rattle.tile_app.specs.Answer.{Prints, CanBeAnswered, IsBeyondLimits};
-ghost use Rattle.tile_app.specs.Asked.{OfRequest, IsAsked};
+ghost use Rattle.tile_app.specs.Asked.{OfCall, IsAsked};
 ghost use Rattle.tile_app.specs.Causes.{Causes, IsNoLimit, IsRefused};
 ghost use Rattle.tile_app.specs.Headline.{TellsOnlyNeighbour, WritesExactlyTheWindow};
-ghost use Rattle.tile_app.specs.Layers.{reads_file};
 ghost use Rattle.tile_app.specs.Notes.{note_of, IsNoted};
-ghost use Rattle.tile_app.specs.Request.{Request, Names};
+ghost use Rattle.tile_app.specs.BaseFrame.{frame_of};
+ghost use Rattle.tile_app.specs.Call.{Call, Names, reads_file};
 ghost use Rattle.tile_app.specs.Status.{IsCutShort, IsLimit, IsRefusal};
-ghost use Rattle.tile_app.specs.Words.{texts, command_of};
+ghost use Rattle.tile_app.specs.Tile.{OfTile};
+ghost use Rattle.tile_app.specs.Windows.{window_in};
 
 use crate::answer::answer_text;
 use crate::note::write_note;
 use crate::status::Status;
 use crate::verify::builtin_verdict_law;
+use crate::whole_answer::write_answer;
 use addr_calc::laws::one_answer_law;
 use dissect_check::laws::accepted_children_law;
 use edge_tables::steps::Steps;
@@ -29,11 +36,10 @@ use std::sync::ledger::{Blank, Ledger};
 use tile_io::failed::Failed;
 use tile_io::sink::Sink;
 use tile_io::source::Source;
-use tile_io::writing::write_all;
 use tile_shape::laws::{short_numbers_law, text_law};
 
-/// Writes the text for the request, which is complete in memory before its first byte is written. It counts
-/// the look-ups of crossings on a counter that nobody reads.
+/// Writes the answer to the call, which is complete in memory before its first byte is written. It counts the
+/// look-ups of crossings on a counter that nobody reads.
 fn answer<R: Source, W: Sink, D: Layer, L: Ledger>(
     alloc: Global,
     words: &[String],
@@ -45,22 +51,22 @@ fn answer<R: Source, W: Sink, D: Layer, L: Ledger>(
     requires name { blank.name ≡ L.name }
     requires parts { blank.parts ≡ L.parts }
     requires some { 0 < blank.parts }
-    ensures done { result ≡ Status.Done → OfRequest (texts words.now) (map D.form layers.old) (R.left source.old) (R.left source.new)
-        (λ r. (text : List ℕ) × Prints r text × Takes (W.taken sink.old) (W.taken sink.new) text) }
+    ensures done { result ≡ Status.Done → OfCall (texts words.now) (map D.form layers.old) (R.left source.old) (R.left source.new)
+        (λ c. (text : List ℕ) × Prints c text × Takes (W.taken sink.old) (W.taken sink.new) text) }
     ensures write_fault { result ≡ Status.WriteFault → Rose (W.faults sink.old) (W.faults sink.new) }
-    ensures part { result ≡ Status.WriteFault → OfRequest (texts words.now) (map D.form layers.old) (R.left source.old) (R.left source.new)
-        (λ r. (text : List ℕ) × Prints r text × TakesProperPrefix (W.taken sink.old) (W.taken sink.new) text) }
+    ensures part { result ≡ Status.WriteFault → OfCall (texts words.now) (map D.form layers.old) (R.left source.old) (R.left source.new)
+        (λ c. (text : List ℕ) × Prints c text × TakesProperPrefix (W.taken sink.old) (W.taken sink.new) text) }
     ensures refused { IsRefusal result → IsRefused (texts words.now) (map D.form layers.old) (R.left source.old) (R.left source.new) result }
     ensures read_fault { result ≡ Status.ReadFault → Rose (R.faults source.old) (R.faults source.new) }
     ensures nothing_written { IsRefusal result → sink.new ≡ sink.old }
     ensures untouched { reads_file (texts words.now) (map D.form layers.old) ≡ false → source.new ≡ source.old }
 {
     let mut steps = Steps::<L>::new(blank);
-    let text = match answer_text(alloc, words, source, layers, &mut steps) {
-        Ok(text) => text,
+    let answer = match answer_text(alloc, words, source, layers, &mut steps) {
+        Ok(answer) => answer,
         Err(status) => return status,
     };
-    match write_all(sink, text.as_slice()) {
+    match write_answer(sink, layers, &answer) {
         Ok(()) => Status::Done,
         Err(Failed) => Status::WriteFault,
     }
@@ -86,9 +92,10 @@ fn answer<R: Source, W: Sink, D: Layer, L: Ledger>(
 ///
 /// 1. the arguments: `BadWords`
 /// 2. the layers: `NoLayer`
-/// 3. the source and its content: `ReadFault`, `RuleTooLong`, `BadScript`, `BadListing`, `RuleRefused`
-/// 4. the address: `BadAddress` (in `verify`, before the source is read)
-/// 5. what the command asks for, in the table below
+/// 3. the rule and its file: `ReadFault`, `RuleTooLong`, `RuleRefused`
+/// 4. the address: `BadAddress`
+/// 5. a script or a list of tiles: `ReadFault`, `BadScript`, `BadListing`
+/// 6. what the command asks for, in the table below
 ///
 /// | Command | Refusals |
 /// |---|---|
@@ -103,7 +110,7 @@ fn answer<R: Source, W: Sink, D: Layer, L: Ledger>(
 /// `NoMemory` may replace any status except `BadWords` and `NoLayer`, and `WriteFault` may replace `Done`.
 /// [`Status`] says what each refusal reports.
 ///
-/// The clauses speak of the request: the arguments, the formats of the layers, and the file that was read.
+/// The clauses speak of the call: the arguments, the formats of the layers, and the file that was read.
 pub fn run<R: Source, W: Sink, N: Sink>(
     alloc: Global,
     words: &Vec<String>,
@@ -114,16 +121,22 @@ pub fn run<R: Source, W: Sink, N: Sink>(
 ) -> Status
     // The headline. On `Done`, `neighbour` printed the only tile across the edge, with both tiles placed in
     // their common supertile, and the return edge leads back.
-    ensures only_neighbour { result ≡ Status.Done → command_of (texts words.now.items) ≡ Ok Neighbour
-        → OfRequest (texts words.now.items) (map (λ d. form d) layers.items) (R.left source.old) (R.left source.new)
-        (λ r. (t : Tiling) × (text : List ℕ) × Names r t × TellsOnlyNeighbour r.words t text × Takes (W.taken sink.old) (W.taken sink.new) text) }
+    ensures only_neighbour { (rule : RuleChoice) (addr : List ℕ) (edge : ℕ)
+        → result ≡ Status.Done → request_in (texts words.now.items) ≡ Ok (Neighbour rule addr edge)
+        → OfCall (texts words.now.items) (map (λ d. form d) layers.items) (R.left source.old) (R.left source.new)
+        (λ c. (t : Tiling) × (text : List ℕ) × Names c (Neighbour rule addr edge) t
+        × OfTile t addr (λ a. TellsOnlyNeighbour t a edge text) × Takes (W.taken sink.old) (W.taken sink.new) text) }
 
     // On `Done`, `draw` wrote exactly the tiles that meet the window. Each comes once; they are disjoint and
     // cover the window. The supertile has the least depth that is enough. With `glue=yes` these are the whole
     // tiles.
-    ensures exactly_the_window { result ≡ Status.Done → command_of (texts words.now.items) ≡ Ok Draw
-        → OfRequest (texts words.now.items) (map (λ d. form d) layers.items) (R.left source.old) (R.left source.new)
-        (λ r. (t : Tiling) × (text : List ℕ) × Names r t × WritesExactlyTheWindow r.words t text × Takes (W.taken sink.old) (W.taken sink.new) text) }
+    ensures exactly_the_window { (rule : RuleChoice) (addr : List ℕ) (seed : ℕ) (window : WindowAsked)
+        (formats : List Format) (glue : Bool)
+        → result ≡ Status.Done → request_in (texts words.now.items) ≡ Ok (Draw rule addr seed window formats glue)
+        → OfCall (texts words.now.items) (map (λ d. form d) layers.items) (R.left source.old) (R.left source.new)
+        (λ c. (t : Tiling) × (text : List ℕ) × Names c (Draw rule addr seed window formats glue) t
+        × OfTile t addr (λ a. WritesExactlyTheWindow t (frame_of a seed) (window_in t.order window) glue formats text)
+        × Takes (W.taken sink.old) (W.taken sink.new) text) }
 
     // On `Done` the sink took exactly the text that the command prints for this request:
     // - `place`: the kind, and the motion by which the tile lies in its supertile;
@@ -131,39 +144,39 @@ pub fn run<R: Source, W: Sink, N: Sink>(
     // - `walk`: the tiles along the path;
     // - `draw`: the layers' texts over exactly the tiles that meet the window. The tiles are disjoint and
     //   cover the window. With `glue=yes` the same holds for whole tiles;
-    // - `star`: exactly the tiles that have the vertex, each once, counterclockwise;
+    // - `star`: exactly the tiles that have the vertex, each exactly once, counterclockwise;
     // - `check`: that the rule is accepted;
-    // - `verify`: the number of lines of a list that has exactly the tiles that meet the window, each once
-    //   and with its motion;
+    // - `verify`: the number of lines of a list that has exactly the tiles that meet the window, each exactly
+    //   once and with its motion;
     // - `calc`: what the script prints;
     // - `drill`: the totals over its windows.
     //
     // A file that was read was read to its end.
     ensures done { result ≡ Status.Done
-        → OfRequest (texts words.now.items) (map (λ d. form d) layers.items) (R.left source.old) (R.left source.new)
-        (λ r. (text : List ℕ) × Prints r text × Takes (W.taken sink.old) (W.taken sink.new) text) }
+        → OfCall (texts words.now.items) (map (λ d. form d) layers.items) (R.left source.old) (R.left source.new)
+        (λ c. (text : List ℕ) × Prints c text × Takes (W.taken sink.old) (W.taken sink.new) text) }
 
     // A refusal comes only if its cause, in the table `Causes`, holds. Conversely, if a cause holds, its
     // refusal comes, unless the source fails or memory runs out. Several limits of a window or vertex may be
     // passed at once, and several tiles of a list may be missing or misplaced. Then one of those refusals
     // comes; which one is left open.
     ensures refused { IsRefusal result → IsRefused (texts words.now.items) (map (λ d. form d) layers.items) (R.left source.old) (R.left source.new) result }
-    ensures refused_when { (r : Request) (status : Status) → IsAsked (texts words.now.items) (map (λ d. form d) layers.items) (R.left source.old) r
-        → Causes r status → IsNoLimit r status → (result ≡ status) ⊎ IsCutShort result }
-    ensures beyond_limits { (r : Request) → IsAsked (texts words.now.items) (map (λ d. form d) layers.items) (R.left source.old) r
-        → IsBeyondLimits r → IsLimit result ⊎ IsCutShort result }
+    ensures refused_when { (c : Call) (status : Status) → IsAsked (texts words.now.items) (map (λ d. form d) layers.items) (R.left source.old) c
+        → Causes c status → IsNoLimit c status → (result ≡ status) ⊎ IsCutShort result }
+    ensures beyond_limits { (c : Call) → IsAsked (texts words.now.items) (map (λ d. form d) layers.items) (R.left source.old) c
+        → IsBeyondLimits c → IsLimit result ⊎ IsCutShort result }
 
     // If a source or a sink is to blame, it failed. What was written is then a part of the text.
     ensures read_fault { result ≡ Status.ReadFault → Rose (R.faults source.old) (R.faults source.new) }
     ensures write_fault { result ≡ Status.WriteFault → Rose (W.faults sink.old) (W.faults sink.new) }
     ensures part { result ≡ Status.WriteFault
-        → OfRequest (texts words.now.items) (map (λ d. form d) layers.items) (R.left source.old) (R.left source.new)
-        (λ r. (text : List ℕ) × Prints r text × TakesProperPrefix (W.taken sink.old) (W.taken sink.new) text) }
+        → OfCall (texts words.now.items) (map (λ d. form d) layers.items) (R.left source.old) (R.left source.new)
+        (λ c. (text : List ℕ) × Prints c text × TakesProperPrefix (W.taken sink.old) (W.taken sink.new) text) }
 
     // What stays untouched, and when the call succeeds.
     ensures nothing_written { IsRefusal result → sink.new ≡ sink.old }
     ensures source_untouched { reads_file (texts words.now.items) (map (λ d. form d) layers.items) ≡ false → source.new ≡ source.old }
-    ensures complete { (r : Request) → IsAsked (texts words.now.items) (map (λ d. form d) layers.items) (R.left source.old) r → CanBeAnswered r
+    ensures complete { (c : Call) → IsAsked (texts words.now.items) (map (λ d. form d) layers.items) (R.left source.old) c → CanBeAnswered c
         → ¬ Rose (W.faults sink.old) (W.faults sink.new) → ¬ Rose (R.faults source.old) (R.faults source.new)
         → (result ≡ Status.Done) ⊎ (result ≡ Status.NoMemory) }
 

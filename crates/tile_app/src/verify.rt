@@ -1,21 +1,31 @@
 //! The command `verify`: checks a list of tiles from another program.
-ghost use Rattle.std.specs.Prelude.{◌≡◌, Ok, IfOk, IfErr, string_bytes};
+ghost use Rattle.std.specs.Prelude.{◌≡◌, ◌≤◌, false, length, IfOk, IfErr, IsErrOf, string_bytes};
+ghost use Rattle.call_words.specs.Views.{IsWindowAsked, window_of};
+ghost use Rattle.lazy_walk.specs.Frames.{IsFrameOf};
 ghost use Rattle.rule_model.specs.Tiling.{tiling_of};
-ghost use Rattle.tile_app.specs.declared.words.Command.TheVariants.{Verify as VerifyCommand};
+ghost use Rattle.tile_io.specs.Causes.{Rose};
+ghost use Rattle.tile_app.specs.BaseFrame.{IsBegun};
 ghost use Rattle.tile_app.specs.Status.{OrNoMemory};
+ghost use Rattle.tile_app.specs.Tile.{is_tile};
 ghost use Rattle.tile_app.specs.Verify.{right_line, PrintsVerify, VerifyRefuses, BuiltinVerdictLaw};
-ghost use Rattle.tile_app.specs.Words.{texts, command_of};
+ghost use Rattle.tile_app.specs.Reading.{IsListingPrinted, IsListingRefused};
+ghost use Rattle.window_cover.specs.Windows.{IsWindow};
 
-use crate::draw::window_given;
+use crate::base_frame::base_frame;
+use crate::file::file_read;
+use crate::file_kind::FileKind;
 use crate::status::Status;
-use crate::tile::address_given;
-use crate::walk::seed_given;
+use crate::window::window_in;
 use builtin_rules::laws::accepted_names_law;
+use call_words::window_words::WindowWords;
 use cyclo_points::order::Order;
 use lazy_walk::frame::Frame;
 use list_verify::laws::one_verdict_law;
 use list_verify::verify::verify;
+use plane_geom::window::Window;
+use rule_model::checked::Checked;
 use std::alloc::{AllocError, Global};
+use tile_io::source::Source;
 use tile_place::machine::Machine;
 
 /// Returns what is printed for a right list.
@@ -25,22 +35,49 @@ fn right_line(alloc: Global, lines: u32) -> Result<String, AllocError>
     format!(in alloc; "right {lines}\n")
 }
 
-/// Returns what `verify` prints for right arguments and a list, or its refusal.
-pub fn verify_text(
+/// Returns what `verify` prints for a list of the tiles of a window in the frame of a base, or its refusal.
+fn verified(
     alloc: Global,
     machine: &Machine,
-    words: &[String],
+    frame: &mut Frame,
+    window: &Window,
     listing: &[u8],
 ) -> Result<String, Status>
-    requires right { command_of (texts words.now) ≡ Ok VerifyCommand }
-    ensures printed { IfOk result (λ text. PrintsVerify (texts words.now) listing.now (tiling_of machine.now) (string_bytes text)) }
-    ensures refused { IfErr result (OrNoMemory (VerifyRefuses (texts words.now) listing.now (tiling_of machine.now))) }
+    requires frame { IsFrameOf (tiling_of machine.now) frame.old }
+    requires begun { IsBegun frame.old }
+    requires window_fits { IsWindow window.now }
+    ensures printed { IfOk result (λ text. PrintsVerify
+        (tiling_of machine.now) frame.old window.now listing.now (string_bytes text)) }
+    ensures refused { IfErr result (OrNoMemory (VerifyRefuses
+        (tiling_of machine.now) frame.old window.now listing.now)) }
 {
-    let address = address_given(machine, words)?;
-    let window = window_given(machine.checked().order(), words);
-    let mut frame = Frame::new(address, seed_given(words));
-    let lines = verify(alloc, machine, &mut frame, &window, listing)?;
+    let lines = verify(alloc, machine, frame, window, listing)?;
     Ok(right_line(alloc, lines)?)
+}
+
+/// Returns what `verify` prints for the list that is read, of a window in the frame of the tile with this
+/// address, or its refusal. The address is read before the source.
+pub fn verify_text<R: Source>(
+    alloc: Global,
+    checked: Checked,
+    addr: &str,
+    seed: u64,
+    asked: &WindowWords,
+    source: &mut R,
+) -> Result<Vec<u8>, Status>
+    requires asked { IsWindowAsked asked.now }
+    ensures printed { IfOk result (λ text. IsListingPrinted (tiling_of checked) addr.now seed
+        (window_of asked.now) (R.left source.old) (R.left source.new) text.items) }
+    ensures refused { IfErr result (IsListingRefused (tiling_of checked) addr.now seed (window_of asked.now)
+        (R.left source.old) (R.left source.new)) }
+    ensures read_fault { IsErrOf result Status.ReadFault → Rose (R.faults source.old) (R.faults source.new) }
+    ensures untouched { is_tile (tiling_of checked) addr.now ≡ false → source.new ≡ source.old }
+{
+    let mut frame = base_frame(&checked, addr, seed)?;
+    let window = window_in(checked.order(), asked);
+    let listing = file_read(alloc, FileKind::Listing, source)?;
+    let machine = Machine::new(alloc, checked)?;
+    Ok(verified(alloc, &machine, &mut frame, &window, listing.as_slice())?.into_bytes())
 }
 
 /// The law that a list has only one verdict, for a window in a frame of a built-in rule's tiling.

@@ -19,9 +19,14 @@ loop-place-preserved g c =
       going = put.open;
       seen = put.seen ∙ before.seen;
       form = put.form ∙ before.form;
-      draws = subst (g.D.Layer.draws c.put_copy.new.self) (sym (take_more tiles i last below ∙ ap (λ x. take i tiles ++ x ∷ []) (get_or_from_slice_get tiles i last last c.fill.ensures.tile)))
+      draws = subst (g.D.Layer.draws c.put_copy.new.self)
+          (sym (take_more tiles i last below ∙ ap (λ x. take i tiles ++ x ∷ []) (get_or_from_slice_get tiles i last last c.fill.ensures.tile)))
           (put.ok (take i tiles) before.draws);
     }
 
 pub fill-requires : goal.fill-requires
-fill-requires g c = record { can = c.requires.can; below = subst (λ n. c.loop-place.place < n) (c.len-place-end.ensures (tiling_of c.args.machine.now)) c.loop-place-test.true }
+fill-requires g c = record {
+  can = c.requires.can;
+  below = subst (λ n. c.loop-place.place < n)
+      (c.len-place-end.ensures (tiling_of c.args.machine.now)) c.loop-place-test.true;
+}

@@ -1,60 +1,49 @@
-use Rattle.std.proofs.Common.{◌^◌, map, sym, ap, ap₂, ◌∙◌, subst, lit≤}
-use Rattle.std.proofs.lemmas.Result.{err_from_is_err_and}
-use Rattle.cyclo_points.specs.Point.{IsOf}
-use Rattle.cyclo_points.proofs.Within.{point_wider}
-use Rattle.layer_api.specs.Drawable.{IsView}
-use Rattle.layer_api.specs.declared.view.View.{View}
-use Rattle.rule_model.specs.Tiling.{tiling_of}
+use Rattle.std.proofs.Common.{IfErr, sym, subst}
+use Rattle.std.proofs.lemmas.Result.{err_from_is_err_and, IfOk-weaker}
+use Rattle.call_words.specs.Views.{window_of}
+use Rattle.lazy_walk.specs.Frames.{IsFrameOf}
 use Rattle.rule_model.specs.declared.rule.Rule.{Rule}
-use Rattle.tile_shape.specs.Views.{address_of}
-use Rattle.tile_app.specs.Draw.{texts_of}
-use Rattle.tile_app.specs.FormatWords.{first_lacking}
-use Rattle.tile_app.specs.Pictured.{picture_of}
-use Rattle.tile_app.specs.Words.{texts}
-use Rattle.tile_app.proofs.Drawing.{gives_window, none-lacks}
-use Rattle.tile_app.proofs.Frames.{begun}
+use Rattle.rule_model.specs.Tiling.{tiling_of}
+use Rattle.tile_app.specs.Draw.{PrintsDraw, DrawRefuses}
+use Rattle.tile_app.specs.Status.{OrNoMemory}
+use Rattle.tile_app.specs.Windows.{window_in}
+use Rattle.tile_app.proofs.Tiles.{begun, frame_holds, frame_refused}
 use Rattle.tile_app.proofs.draw.draw_text.Goals as goal
 
-pub pictured-requires-clause-begins : goal.pictured-requires-clause-begins
-pictured-requires-clause-begins g c =
-    let words = texts c.args.words.now in
-    let t = tiling_of c.args.machine.now in
-    let a = address_of c.in_ok-address.address in
-    let f = c.new-frame.result in
-    let same = c.order.ensures.order ∙ ap (λ (r : Rule). r.order) c.checked.ensures.rule in
-    record {
-      base = a;
-      gives = gives_window words t a c.window_given-window.result c.order.result same c.in_ok-address.ensures.given c.window_given-window.ensures.given;
-      is_frame = c.new-frame.ensures.is_frame t c.in_ok-address.ensures.given.accepted.fits;
-      begun = begun words a f c.new-frame.ensures.base (c.new-frame.ensures.start ∙ c.seed_given.ensures) c.new-frame.ensures.digits;
-    }
+pub returns-in_err-frame-clause-refused : goal.returns-in_err-frame-clause-refused
+returns-in_err-frame-clause-refused g c =
+    let p = err_from_is_err_and c.from_residual.result c.from_residual.ensures.1 in
+    rw (p.1, p.2) c.in_err-frame.ensures.refused
 
-pub texts_of-requires-clause-have_layers : goal.texts_of-requires-clause-have_layers
-texts_of-requires-clause-have_layers g c =
-    ap (first_lacking (map g.D.Layer.form c.args.layers.now)) (c.as_slice.ensures.value ∙ c.formats_given-formats.ensures)
-    ∙ none-lacks (texts c.args.words.now) (map g.D.Layer.form c.args.layers.now) c.requires.right c.requires.have_layers
+pub drawn-requires-clause-frame : goal.drawn-requires-clause-frame
+drawn-requires-clause-frame g c = subst (λ m. IsFrameOf (tiling_of m) c.in_ok-frame.frame)
+    (sym c.in_ok-machine.ensures.its_rule) c.in_ok-frame.ensures.base.is_frame
 
-pub texts_of-requires-clause-view : goal.texts_of-requires-clause-view
-texts_of-requires-clause-view g c =
-    let same = c.order.ensures.order ∙ ap (λ (r : Rule). r.order) c.checked.ensures.rule in
-    let w = c.window_given-window.ensures in
-    subst IsView (sym c.view_of-view.ensures) (record { of_order = subst (λ o. IsOf o c.window_given-window.result.centre) same w.in_order; within = point_wider (2 ^ 22) (2 ^ 25) _ (lit≤ tt) w.fits.centre_within })
+pub drawn-requires-clause-begun : goal.drawn-requires-clause-begun
+drawn-requires-clause-begun g c = begun (tiling_of c.args.checked) c.args.addr.now c.args.seed c.in_ok-frame.frame c.in_ok-frame.ensures.base
 
-pub texts_of-requires-clause-its_order : goal.texts_of-requires-clause-its_order
-texts_of-requires-clause-its_order g c = ap (λ (v : View). v.order) c.view_of-view.ensures
-
-pub returns-in_err-texts_of-clause-refused : goal.returns-in_err-texts_of-clause-refused
-returns-in_err-texts_of-clause-refused g c =
-    let p = err_from_is_err_and c.from_residual-in_err-texts_of.result c.from_residual-in_err-texts_of.ensures.1 in
-    rw (p.1, p.2) tt
-
+-- the machine's rule is the checked rule, and the frame that of the tile
 pub returns-clause-printed : goal.returns-clause-printed
 returns-clause-printed g c =
-    let t = tiling_of c.args.machine.now in
-    let picture = picture_of t c.in_ok-picture.picture in
-    record {
-      window = c.window_given-window.result;
-      picture = picture;
-      pictures = c.in_ok-picture.ensures.pictures;
-      is_text = c.in_ok-texts_of.ensures ∙ ap₂ (λ v fs. texts_of v picture fs) c.view_of-view.ensures (c.as_slice.ensures.value ∙ c.formats_given-formats.ensures);
-    }
+    let t = tiling_of c.args.checked in
+    let f = c.in_ok-frame.frame in
+    let asked = window_of c.args.asked.now in
+    let formats = c.args.formats.now.items in
+    IfOk-weaker c.drawn.result _ _
+    (λ answer h.
+    let prints = subst (λ (m : Rule). PrintsDraw c.args.whole formats (tiling_of m) f (window_in m.order asked) h.0)
+    c.in_ok-machine.ensures.its_rule h.1 in
+    let of_tile = frame_holds t c.args.addr.now c.args.seed f c.in_ok-frame.ensures.base
+    (λ x. PrintsDraw c.args.whole formats t x (window_in t.order asked) h.0) prints in
+    (h.0, of_tile, h.2))
+    c.drawn.ensures.printed
+
+pub returns-clause-refused : goal.returns-clause-refused
+returns-clause-refused g c =
+    let t = tiling_of c.args.checked in
+    let f = c.in_ok-frame.frame in
+    let asked = window_of c.args.asked.now in
+    let its = subst (λ (m : Rule). IfErr c.drawn.result (OrNoMemory (DrawRefuses c.args.whole (tiling_of m) f (window_in m.order asked))))
+    c.in_ok-machine.ensures.its_rule c.drawn.ensures.refused in
+    frame_refused t c.args.addr.now c.args.seed f c.in_ok-frame.ensures.base (λ x. DrawRefuses c.args.whole t x (window_in t.order asked))
+    (λ x fault k. k) c.drawn.result its

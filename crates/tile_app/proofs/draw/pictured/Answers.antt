@@ -1,7 +1,5 @@
-use Rattle.std.proofs.Common.{sym, ◌∙◌}
 use Rattle.std.proofs.lemmas.Result.{err_from_is_err_and}
 use Rattle.rule_model.specs.Tiling.{tiling_of}
-use Rattle.tile_app.specs.Words.{texts}
 use Rattle.tile_app.proofs.Drawing.{refused_if_err, at_most_limit, can_be_drawn}
 use Rattle.tile_app.proofs.Gluing.{wholes-drawn, may-be-given, glue_refused_if_err}
 use Rattle.tile_app.proofs.Pictured.{pictures-tiles, pictures-wholes}
@@ -10,23 +8,23 @@ use Rattle.tile_app.proofs.draw.pictured.Goals as goal
 -- ---- the search
 pub returns-in_err-tiles-clause-refused : goal.returns-in_err-tiles-clause-refused
 returns-in_err-tiles-clause-refused c =
-    let b = c.requires.begins in
     let p = err_from_is_err_and c.from_residual.result c.from_residual.ensures.1 in
-    rw (p.1, p.2) (refused_if_err (texts c.args.words.now) (tiling_of c.args.machine.now) b.base c.args.window.now b.gives c.args.frame.now c.covered_tiles.new.frame b.begun c.covered_tiles.ensures.frame c.covered_tiles.result c.in_err-tiles.field-0.0 c.in_err-tiles.was
+    rw (p.1, p.2) (refused_if_err c.args.whole
+    (tiling_of c.args.machine.now) c.args.window.now c.args.frame.now c.covered_tiles.new.frame c.covered_tiles.ensures.frame c.covered_tiles.result c.in_err-tiles.field-0.0 c.in_err-tiles.was
     c.in_err-tiles.ensures.cause c.covered_tiles.ensures.answered)
 
 pub returns-in_err-covered_tiles-clause-refused : goal.returns-in_err-covered_tiles-clause-refused
 returns-in_err-covered_tiles-clause-refused c =
-    let b = c.requires.begins in
     let p = err_from_is_err_and c.from_residual-in_err-covered_tiles.result c.from_residual-in_err-covered_tiles.ensures.1 in
-    rw (p.1, p.2) (refused_if_err (texts c.args.words.now) (tiling_of c.args.machine.now) b.base c.args.window.now b.gives c.args.frame.now c.covered_tiles-else-glue_given.new.frame b.begun c.covered_tiles-else-glue_given.ensures.frame c.covered_tiles-else-glue_given.result c.in_err-covered_tiles.field-0.0
-    c.in_err-covered_tiles.was c.in_err-covered_tiles.ensures.cause c.covered_tiles-else-glue_given.ensures.answered)
+    rw (p.1, p.2) (refused_if_err c.args.whole
+    (tiling_of c.args.machine.now) c.args.window.now c.args.frame.now c.covered_tiles-else-whole.new.frame c.covered_tiles-else-whole.ensures.frame c.covered_tiles-else-whole.result c.in_err-covered_tiles.field-0.0
+    c.in_err-covered_tiles.was c.in_err-covered_tiles.ensures.cause c.covered_tiles-else-whole.ensures.answered)
 
 -- ---- what is given to be glued
 pub glue_covered-requires-clause-few : goal.glue_covered-requires-clause-few
 glue_covered-requires-clause-few c =
     let x = c.in_ok-tiles.ensures in
-    at_most_limit (tiling_of c.args.machine.now) c.args.frame.now c.covered_tiles.new.frame c.args.window.now c.requires.begins.is_frame x.frame x.within x.least c.in_ok-tiles.tiles x.drawn
+    at_most_limit (tiling_of c.args.machine.now) c.args.frame.now c.covered_tiles.new.frame c.args.window.now c.requires.frame x.frame x.within x.least c.in_ok-tiles.tiles x.drawn
 
 pub glue_covered-requires-clause-given : goal.glue_covered-requires-clause-given
 glue_covered-requires-clause-given c =
@@ -34,14 +32,15 @@ glue_covered-requires-clause-given c =
     let g = c.covered_tiles.new.frame in
     let tiles = c.in_ok-tiles.tiles in
     let x = c.in_ok-tiles.ensures in
-    may-be-given t g tiles (c.given_law.ensures t g) x.stand (can_be_drawn t c.args.frame.now g c.args.window.now c.requires.begins.is_frame x.frame x.within x.least tiles x.drawn x.stand)
+    may-be-given t g tiles (c.given_law.ensures t g) x.stand
+    (can_be_drawn t c.args.frame.now g c.args.window.now c.requires.frame x.frame x.within x.least tiles x.drawn x.stand)
 
 pub returns-in_err-glue_covered-clause-refused : goal.returns-in_err-glue_covered-clause-refused
 returns-in_err-glue_covered-clause-refused c =
-    let b = c.requires.begins in
     let x = c.in_ok-tiles.ensures in
     let p = err_from_is_err_and c.from_residual-in_err-glue_covered.result c.from_residual-in_err-glue_covered.ensures.1 in
-    rw (p.1, p.2) (glue_refused_if_err (texts c.args.words.now) (tiling_of c.args.machine.now) b.base c.args.window.now b.gives (sym c.glue_given.ensures ∙ c.if-glue_given.true) c.args.frame.now c.covered_tiles.new.frame b.begun x.within
+    rw (p.1, p.2) (glue_refused_if_err c.args.whole
+    (tiling_of c.args.machine.now) c.args.window.now c.if-whole.true c.args.frame.now c.covered_tiles.new.frame x.within
     c.in_ok-tiles.tiles (record { grown = x.frame; least = x.least; stand = x.stand; drawn = x.drawn; in_order = x.in_order; covered = x.covered }) c.glue_covered.new.frame c.glue_covered.ensures.frame c.glue_covered.result c.in_err-glue_covered.field-0.0 c.in_err-glue_covered.was c.in_err-glue_covered.ensures.cause c.glue_covered.ensures.answered)
 
 -- ---- the pictures
@@ -54,8 +53,10 @@ returns-in_ok-glue_covered-clause-can c =
     let wholes = c.in_ok-glue_covered.field-0 in
     let x = c.in_ok-tiles.ensures in
     let y = c.in_ok-glue_covered.ensures in
-    let given = may-be-given t g tiles (c.given_law.ensures t g) x.stand (can_be_drawn t c.args.frame.now g c.args.window.now c.requires.begins.is_frame x.frame x.within x.least tiles x.drawn x.stand) in
-    wholes-drawn t h c.whole_tiles_law.ensures.glue_edge tiles wholes y.whole_tiles (c.parts_law.ensures g h tiles wholes x.frame.is_frame y.frame given y.within y.whole_tiles)
+    let given = may-be-given t g tiles (c.given_law.ensures t g) x.stand
+    (can_be_drawn t c.args.frame.now g c.args.window.now c.requires.frame x.frame x.within x.least tiles x.drawn x.stand) in
+    wholes-drawn t h c.whole_tiles_law.ensures.glue_edge tiles wholes y.whole_tiles
+    (c.parts_law.ensures g h tiles wholes x.frame.is_frame y.frame given y.within y.whole_tiles)
 
 pub returns-in_ok-glue_covered-clause-pictures : goal.returns-in_ok-glue_covered-clause-pictures
 returns-in_ok-glue_covered-clause-pictures c =
@@ -63,18 +64,19 @@ returns-in_ok-glue_covered-clause-pictures c =
     let x = c.in_ok-tiles.ensures in
     let y = c.in_ok-glue_covered.ensures in
     let laws = c.whole_tiles_law.ensures in
-    pictures-wholes (texts c.args.words.now) t c.args.window.now c.args.frame.now c.covered_tiles.new.frame c.requires.begins x.within c.in_ok-tiles.tiles
+    pictures-wholes c.args.whole t c.args.window.now c.args.frame.now c.covered_tiles.new.frame x.within c.in_ok-tiles.tiles
     (record { grown = x.frame; least = x.least; stand = x.stand; drawn = x.drawn; in_order = x.in_order; covered = x.covered })
-    (sym c.glue_given.ensures ∙ c.if-glue_given.true) laws.counts laws.covering c.glue_covered.new.frame y.frame y.least y.within c.in_ok-glue_covered.field-0 y.whole_tiles y.in_order
+    c.if-whole.true laws.counts laws.covering c.glue_covered.new.frame y.frame y.least y.within c.in_ok-glue_covered.field-0 y.whole_tiles y.in_order
 
 pub returns-in_ok-covered_tiles-clause-can : goal.returns-in_ok-covered_tiles-clause-can
 returns-in_ok-covered_tiles-clause-can c =
     let x = c.in_ok-covered_tiles.ensures in
-    can_be_drawn (tiling_of c.args.machine.now) c.args.frame.now c.covered_tiles-else-glue_given.new.frame c.args.window.now c.requires.begins.is_frame x.frame x.within x.least c.in_ok-covered_tiles.field-0 x.drawn x.stand
+    can_be_drawn (tiling_of c.args.machine.now) c.args.frame.now c.covered_tiles-else-whole.new.frame c.args.window.now c.requires.frame x.frame x.within x.least c.in_ok-covered_tiles.field-0 x.drawn x.stand
 
 pub returns-in_ok-covered_tiles-clause-pictures : goal.returns-in_ok-covered_tiles-clause-pictures
 returns-in_ok-covered_tiles-clause-pictures c =
     let x = c.in_ok-covered_tiles.ensures in
-    pictures-tiles (texts c.args.words.now) (tiling_of c.args.machine.now) c.args.window.now c.args.frame.now c.covered_tiles-else-glue_given.new.frame c.requires.begins x.within c.in_ok-covered_tiles.field-0
+    pictures-tiles c.args.whole
+    (tiling_of c.args.machine.now) c.args.window.now c.args.frame.now c.covered_tiles-else-whole.new.frame x.within c.in_ok-covered_tiles.field-0
     (record { grown = x.frame; least = x.least; stand = x.stand; drawn = x.drawn; in_order = x.in_order; covered = x.covered })
-    (sym c.glue_given.ensures ∙ c.if-glue_given.false)
+    c.if-whole.false

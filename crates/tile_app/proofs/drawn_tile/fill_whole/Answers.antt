@@ -1,6 +1,5 @@
-use Rattle.std.proofs.Common.{◌≡◌, Option, None, Some, refl, sym, ap, ◌∙◌}
+use Rattle.std.proofs.Common.{◌≡◌, Option, None, Some, refl}
 use Rattle.std.specs.Option.{option_map}
-use Rattle.layer_api.specs.declared.drawn.Drawn.{Drawn}
 use Rattle.layer_api.specs.declared.part.Part.{Part}
 use Rattle.tile_app.specs.DrawnTile.{part_of, tile_of}
 use Rattle.tile_app.proofs.drawn_tile.fill_whole.Goals as goal

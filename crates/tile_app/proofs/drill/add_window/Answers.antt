@@ -11,13 +11,15 @@ use Rattle.tile_app.proofs.drill.add_window.Goals as goal
 pub overflow_cast-count : goal.overflow_cast-count
 overflow_cast-count c =
     let x = c.in-Ok.ensures in
-    let few = at_most_limit (tiling_of c.args.machine.now) c.args.frame.now c.covered_tiles.new.frame c.args.window.now c.requires.frame x.frame x.within x.least c.in-Ok.tiles x.drawn in
+    let few = at_most_limit
+    (tiling_of c.args.machine.now) c.args.frame.now c.covered_tiles.new.frame c.args.window.now c.requires.frame x.frame x.within x.least c.in-Ok.tiles x.drawn in
     omega (arith, few, c.len-count.ensures)
 
 pub add-requires : goal.add-requires
 add-requires c =
     let x = c.in-Ok.ensures in
-    let few = at_most_limit (tiling_of c.args.machine.now) c.args.frame.now c.covered_tiles.new.frame c.args.window.now c.requires.frame x.frame x.within x.least c.in-Ok.tiles x.drawn in
+    let few = at_most_limit
+    (tiling_of c.args.machine.now) c.args.frame.now c.covered_tiles.new.frame c.args.window.now c.requires.frame x.frame x.within x.least c.in-Ok.tiles x.drawn in
     record { few_tiles = omega (arith, few, c.len-count.ensures) }
 
 pub returns-in-Ok-clause-adds : goal.returns-in-Ok-clause-adds
@@ -45,7 +47,8 @@ returns-in-Ok-clause-adds c =
 pub returns-in-Ok-clause-most_tiles_more : goal.returns-in-Ok-clause-most_tiles_more
 returns-in-Ok-clause-most_tiles_more c =
     let x = c.in-Ok.ensures in
-    let few = at_most_limit (tiling_of c.args.machine.now) c.args.frame.now c.covered_tiles.new.frame c.args.window.now c.requires.frame x.frame x.within x.least c.in-Ok.tiles x.drawn in
+    let few = at_most_limit
+    (tiling_of c.args.machine.now) c.args.frame.now c.covered_tiles.new.frame c.args.window.now c.requires.frame x.frame x.within x.least c.in-Ok.tiles x.drawn in
     omega (arith, few, c.len-count.ensures, ap (λ (s : Summary). s.tiles) c.add.ensures)
 
 pub returns-in-Ok-clause-one_refused_more : goal.returns-in-Ok-clause-one_refused_more
@@ -56,7 +59,11 @@ pub returns-in_default : goal.returns-in_default
 returns-in_default c =
     let other = c.in_default.not-NoMemory in
     record {
-      adds = inr (λ h. absurd (other (fault-or_ok NoMemory c.covered_tiles.result c.in-Err.fault c.in-Err.is (c.covered_tiles.ensures.answered h))), c.add_refused.ensures);
+      adds = inr (
+        λ h. absurd (other
+            (fault-or_ok NoMemory c.covered_tiles.result c.in-Err.fault c.in-Err.is (c.covered_tiles.ensures.answered h))),
+        c.add_refused.ensures,
+      );
       most_tiles_more = omega (arith, ap (λ (s : Summary). s.tiles) c.add_refused.ensures);
       one_refused_more = omega (arith, ap (λ (s : Summary). s.refused) c.add_refused.ensures);
     }

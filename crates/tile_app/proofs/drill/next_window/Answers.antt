@@ -1,7 +1,7 @@
 use Rattle.std.proofs.Common.{◌≡◌, ◌+◌, ◌*◌, ◌^◌, length, ap, ap₂, ◌∙◌, lit≤, rules, arith}
 use Rattle.cyclo_points.proofs.Within.{point_wider}
 use Rattle.seeded_growth.specs.Words.{word}
-use Rattle.tile_app.specs.Draw.{reduced}
+use Rattle.tile_app.specs.Windows.{reduced}
 use Rattle.tile_app.specs.Drill.{extent_of}
 use Rattle.tile_app.proofs.Drawing.{reduced-is}
 use Rattle.tile_app.proofs.drill.next_window.Goals as goal
@@ -18,7 +18,8 @@ returns-clause-window c =
     let height = c.next_extent-height in
     let four : length c.reduce.result.c ≡ 4 = search rules in
     let s1 = centre.ensures.same_start in
-    let e0 = reduced-is o centre.result c.reduce.result four c.reduce.ensures.in_order c.reduce.ensures.same_number ∙ ap (reduced o) centre.ensures.centre in
+    let e0 = reduced-is o centre.result c.reduce.result four c.reduce.ensures.in_order c.reduce.ensures.same_number ∙ ap
+    (reduced o) centre.ensures.centre in
     let t1 : centre.new.growth.taken ≡ stream.taken + 4 = centre.ensures.four_words in
     let t2 : width.new.growth.taken ≡ stream.taken + 5 = omega arith in
     let e1 = width.ensures.number ∙ ap₂ (λ s t. extent_of (word s t)) s1 t1 in

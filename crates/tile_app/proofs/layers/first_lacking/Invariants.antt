@@ -1,5 +1,5 @@
 use Rattle.std.proofs.Common.{◌≡◌, map, drop}
-use Rattle.tile_app.specs.FormatWords.{first_lacking}
+use Rattle.call_words.specs.FormatWords.{first_lacking}
 use Rattle.tile_app.proofs.layers.first_lacking.Given as goal
 
 -- no format before lacks a layer

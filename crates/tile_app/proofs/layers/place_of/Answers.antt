@@ -1,7 +1,7 @@
 use Rattle.std.proofs.Common.{◌≡◌, ◌∙◌, sym, refl, map, subst, IfSome, Some, slice_get}
 use Rattle.std.proofs.lemmas.Iterator.Adapters.{position_from-zero}
 use Rattle.std.proofs.lemmas.Option.{slice_get_read}
-use Rattle.tile_app.specs.FormatWords.{same_format}
+use Rattle.call_words.specs.FormatWords.{same_format}
 use Rattle.tile_app.proofs.Formats.{same_formats}
 use Rattle.tile_app.proofs.layers.place_of.Goals as goal
 

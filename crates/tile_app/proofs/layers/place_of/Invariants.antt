@@ -1,6 +1,6 @@
 use Rattle.std.proofs.Common.{◌≡◌, map, drop}
 use Rattle.std.specs.List.{position, position_from}
-use Rattle.tile_app.specs.FormatWords.{same_format, is_among}
+use Rattle.call_words.specs.FormatWords.{same_format, is_among}
 use Rattle.tile_app.proofs.layers.place_of.Given as goal
 
 -- no layer before has the format

@@ -1,77 +1,45 @@
-use Rattle.std.proofs.Common.{◌<◌, ap, ◌∙◌, subst}
+use Rattle.std.proofs.Common.{rules, ◌≡◌, string_bytes, sym, subst, IfErr}
 use Rattle.std.proofs.lemmas.Result.{err_from_is_err_and}
-use Rattle.addressing.specs.Tables.{child_kinds}
-use Rattle.addressing.proofs.EdgesOf.{kind_in_tables}
-use Rattle.rule_model.specs.Checked.{rule_contacts, child_kinds_of}
-use Rattle.tile_place.proofs.KindEdges.{edges_counted}
+use Rattle.rule_model.specs.Tiling.{tiling_of, children}
+use Rattle.tile_shape.specs.Accepted.{IsAcceptedAddress}
 use Rattle.tile_shape.specs.Views.{address_of}
-use Rattle.transducer_core.proofs.OneOutside.{outside_is}
-use Rattle.tile_app.specs.declared.words.Command.TheVariants.{Neighbour}
+use Rattle.tile_app.specs.Answer.{TileRefuses}
+use Rattle.tile_app.specs.Neighbour.{PrintsNeighbour, NeighbourRefuses}
+use Rattle.tile_app.specs.Status.{OrNoMemory}
+use Rattle.tile_app.proofs.Tiles.{tile_refused}
 use Rattle.tile_app.proofs.neighbour.neighbour_text.Goals as goal
-
-pub address_given-requires : goal.address_given-requires
-address_given-requires g c = record { right = (Neighbour, c.requires.right, tt) }
-
-pub edges-edges-requires : goal.edges-edges-requires
-edges-edges-requires g c = record {
-  exists = kind_in_tables c.tables.result.now (child_kinds_of c.args.machine.now) c.in_ok-address.address.kind
-      (ap child_kinds (c.tables.ensures.contacts ∙ ap rule_contacts c.checked.ensures.rule) ∙ c.checked.ensures.same_child_kinds)
-      c.in_ok-address.ensures.given.accepted.fits.kind_exists;
-}
 
 pub returns-in_err-address-clause-refused : goal.returns-in_err-address-clause-refused
 returns-in_err-address-clause-refused g c =
     let p = err_from_is_err_and c.from_residual.result c.from_residual.ensures.1 in
     rw (p.1, p.2) c.in_err-address.ensures.refused
 
-pub returns-then-edge-edges-clause-refused : goal.returns-then-edge-edges-clause-refused
-returns-then-edge-edges-clause-refused g c = record {
-  address = address_of c.in_ok-address.address;
-  gives = record { tile = c.in_ok-address.ensures.given; given = c.edge_given-edge.ensures };
-  count = edges_counted c.tables.result.now c.checked.result.now c.args.machine.now c.in_ok-address.address.kind c.edges-edges.result c.tables.ensures.contacts c.checked.ensures.rule c.edges-edges.ensures.count;
-  beyond = c.if-edge-edges.true;
+pub across-requires : goal.across-requires
+across-requires g c = record {
+  accepted = subst (λ m. IsAcceptedAddress (children (tiling_of m)) (address_of c.in_ok-address.address))
+      (sym c.in_ok-machine.ensures.its_rule) c.in_ok-address.ensures.named.accepted;
 }
 
-pub cross-requires-clause-fits : goal.cross-requires-clause-fits
-cross-requires-clause-fits g c = c.in_ok-address.ensures.given.accepted.fits
-
-pub cross-requires-clause-edge_exists : goal.cross-requires-clause-edge_exists
-cross-requires-clause-edge_exists g c =
-    let kind = c.in_ok-address.address.kind in
-    subst (λ n. c.edge_given-edge.result < n)
-    (edges_counted c.tables.result.now c.checked.result.now c.args.machine.now kind c.edges-edges.result c.tables.ensures.contacts c.checked.ensures.rule c.edges-edges.ensures.count) c.if-edge-edges.false
-
-pub returns-in_err-crossing-clause-refused : goal.returns-in_err-crossing-clause-refused
-returns-in_err-crossing-clause-refused g c =
-    let p = err_from_is_err_and c.from_residual-in_err-crossing.result c.from_residual-in_err-crossing.ensures.1 in
-    let edge = c.edge_given-edge.result in
-    rw (p.1, p.2) (record {
-      address = address_of c.in_ok-address.address;
-      own = edge;
-      gives = record { tile = c.in_ok-address.ensures.given; given = c.edge_given-edge.ensures };
-      outside = record {
-        exists = subst (λ n. edge < n)
-            (edges_counted c.tables.result.now c.checked.result.now c.args.machine.now c.in_ok-address.address.kind c.edges-edges.result c.tables.ensures.contacts c.checked.ensures.rule c.edges-edges.ensures.count) c.if-edge-edges.false;
-        along = c.in_err-crossing.ensures.outside_on_boundary;
-        alone = λ top other on. outside_is _ _ top other c.in_err-crossing.was (c.cross.ensures.boundary_is_outside top other on);
-      };
-    })
+-- the machine's rule is the checked rule
+pub returns-in_err-across-clause-refused : goal.returns-in_err-across-clause-refused
+returns-in_err-across-clause-refused g c =
+    let t = tiling_of c.args.checked in
+    let a = address_of c.in_ok-address.address in
+    let its = subst (λ m. IfErr c.across.result
+    (OrNoMemory (NeighbourRefuses (tiling_of m) a c.args.edge))) c.in_ok-machine.ensures.its_rule c.across.ensures.refused in
+    let h = tile_refused t c.args.addr.now a (λ b. NeighbourRefuses t b c.args.edge) c.in_ok-address.ensures.named
+    (λ fault k. k) c.across.result its in
+    let p = err_from_is_err_and c.from_residual-in_err-across.result c.from_residual-in_err-across.ensures.1 in
+    rw (p.1, p.2) (subst (λ r. IfErr r (OrNoMemory (TileRefuses t c.args.addr.now (λ b. NeighbourRefuses t b c.args.edge)))) c.in_err-across.was h)
 
 pub returns-clause-printed : goal.returns-clause-printed
 returns-clause-printed g c =
-    let edge = c.edge_given-edge.result in
+    let a = address_of c.in_ok-address.address in
+    let same : c.into_bytes.result.items ≡ string_bytes c.in_ok-across.field-0 = search rules in
     record {
-      address = address_of c.in_ok-address.address;
-      edge = edge;
-      gives = record { tile = c.in_ok-address.ensures.given; given = c.edge_given-edge.ensures };
-      inside = record {
-        exists = subst (λ n. edge < n)
-            (edges_counted c.tables.result.now c.checked.result.now c.args.machine.now c.in_ok-address.address.kind c.edges-edges.result c.tables.ensures.contacts c.checked.ensures.rule c.edges-edges.ensures.count) c.if-edge-edges.false;
-        on_none = c.in_ok-crossing.ensures.inside;
-      };
-      across = address_of c.in_ok-crossing.crossing.addr;
-      back = c.in_ok-crossing.crossing.edge;
-      only_across = c.in_ok-crossing.ensures.only_tile_across;
-      leads_back = c.in_ok-crossing.ensures.leads_back;
-      line = c.in_ok-neighbour_line.ensures;
+      address = a;
+      tile = c.in_ok-address.ensures.named;
+      holds = subst (PrintsNeighbour (tiling_of c.args.checked) a c.args.edge) (sym same)
+          (subst (λ m. PrintsNeighbour (tiling_of m) a c.args.edge
+          (string_bytes c.in_ok-across.field-0)) c.in_ok-machine.ensures.its_rule c.in_ok-across.ensures.printed);
     }

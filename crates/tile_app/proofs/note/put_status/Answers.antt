@@ -2,7 +2,7 @@ use Rattle.std.proofs.Common.{◌∷◌, ◌++◌, codes, sym, ap, ◌∙◌}
 use Rattle.cyclo_points.specs.Text.{point_text, blank}
 use Rattle.list_verify.specs.FaultText.{list_fault_text}
 use Rattle.tile_shape.specs.FaultText.{address_fault_text}
-use Rattle.tile_app.specs.FormatWords.{format_text}
+use Rattle.call_words.specs.FormatWords.{format_text}
 use Rattle.tile_app.specs.Notes.{status_text}
 use Rattle.tile_app.specs.RuleFaultText.{rule_fault_text}
 use Rattle.tile_app.specs.ScriptFaultText.{script_fault_text}

@@ -1,57 +1,34 @@
-use Rattle.std.proofs.Common.{◌≡◌, None, Some, length, map, sym, ap, ◌∙◌, subst, arith}
-use Rattle.std.specs.Prelude.{string_bytes}
+use Rattle.std.proofs.Common.{rules, ◌≡◌, string_bytes, sym, subst}
 use Rattle.std.proofs.lemmas.Result.{err_from_is_err_and}
-use Rattle.addressing.specs.Address.{Fits}
-use Rattle.cyclo_points.specs.Motion.{motion_in}
-use Rattle.cyclo_points.specs.Point.{point_in}
-use Rattle.cyclo_points.proofs.Coefficients.{coefficients_of}
-use Rattle.rule_model.specs.Tiling.{ListedRule, tiling_listed, children, IsPlaced}
-use Rattle.tile_place.specs.Placing.{first_refused}
-use Rattle.tile_shape.specs.Views.{address_of, step_of}
-use Rattle.tile_app.specs.declared.words.Command.TheVariants.{Place}
-use Rattle.tile_app.specs.Place.{PrintsPlace, PassesLimit}
+use Rattle.tile_shape.specs.Views.{address_of}
+use Rattle.tile_app.specs.Place.{PrintsPlace, PlaceRefuses}
 use Rattle.tile_app.specs.Tilings.{builtin_tiling}
-use Rattle.tile_app.specs.Words.{texts}
+use Rattle.tile_app.proofs.Tiles.{tile_refused}
 use Rattle.tile_app.proofs.place.named_place_text.Goals as goal
 
-pub address_among-requires : goal.address_among-requires
-address_among-requires c = record { right = (Place, c.requires.right, tt) }
+pub returns-in_err-address-clause-refused : goal.returns-in_err-address-clause-refused
+returns-in_err-address-clause-refused c =
+    let p = err_from_is_err_and c.from_residual-in_err-address.result c.from_residual-in_err-address.ensures.1 in
+    rw (p.1, p.2) (c.in_err-address.ensures.refused (builtin_tiling c.args.name) c.in_ok-uses.ensures)
 
--- the digits are those of an address of a tile of the rule that is named
-pub place_digits-requires : goal.place_digits-requires
-place_digits-requires c =
-    let a = c.in_ok-address.address in
-    let gives = c.in_ok-address.ensures.given (builtin_tiling c.args.name) c.in_ok-uses.ensures in
-    record {
-      fits = subst (λ (w : ListedRule). Fits (children (tiling_listed w)) (record { kind = a.kind; digits = map step_of c.as_slice.result.now })) (sym c.of-rule.ensures)
-          (subst (λ xs. Fits (children (builtin_tiling c.args.name)) (record { kind = a.kind; digits = map step_of xs })) (sym c.as_slice.ensures.value) gives.accepted.fits);
-    }
+pub placed_by_name-requires : goal.placed_by_name-requires
+placed_by_name-requires c = record { fits = (c.in_ok-address.ensures.named (builtin_tiling c.args.name) c.in_ok-uses.ensures).accepted.fits }
 
-pub returns-in_err-motion-clause-refused : goal.returns-in_err-motion-clause-refused
-returns-in_err-motion-clause-refused c =
-    let p = err_from_is_err_and c.from_residual-in_err-motion.result c.from_residual-in_err-motion.ensures.1 in
-    let value = c.in_err-motion.field-0.0.value in
-    let w = c.of-rule.result in
-    let l : length value.c ≡ 4 = omega arith in
-    rw (p.1, p.2) (subst (λ (w : ListedRule). PassesLimit (texts c.args.words.now) (tiling_listed w) value) c.of-rule.ensures (record {
-      address = address_of c.in_ok-address.address;
-      tile = c.in_ok-address.ensures.given (tiling_listed w) (c.in_ok-uses.ensures ∙ ap (λ (w : ListedRule). children (tiling_listed w)) (sym c.of-rule.ensures));
-      number = point_in w.order value;
-      first = subst (λ xs. first_refused (tiling_listed w) (map step_of xs) ≡ Some (point_in w.order value)) c.as_slice.ensures.value c.in_err-motion.ensures.limit;
-      is_value = coefficients_of w.order value l c.in_err-motion.ensures.limit_in_order;
-    }))
+pub returns-in_err-placed_by_name-clause-refused : goal.returns-in_err-placed_by_name-clause-refused
+returns-in_err-placed_by_name-clause-refused c =
+    let t = builtin_tiling c.args.name in
+    let tile = c.in_ok-address.ensures.named t c.in_ok-uses.ensures in
+    let h = tile_refused t c.args.addr.now (address_of c.in_ok-address.address) (PlaceRefuses t) tile
+    (λ fault k. k) c.placed_by_name.result c.placed_by_name.ensures.refused in
+    search (rules, h)
 
 pub returns-clause-printed : goal.returns-clause-printed
 returns-clause-printed c =
-    let a = c.in_ok-address.address in
-    let w = c.of-rule.result in
-    let m = c.in_ok-motion.motion in
-    let text = c.in_ok-place_line.field-0 in
-    subst (λ (w : ListedRule). PrintsPlace (texts c.args.words.now) (tiling_listed w) (string_bytes text)) c.of-rule.ensures (record {
-      address = address_of a;
-      tile = c.in_ok-address.ensures.given (tiling_listed w) (c.in_ok-uses.ensures ∙ ap (λ (w : ListedRule). children (tiling_listed w)) (sym c.of-rule.ensures));
-      within = subst (λ xs. first_refused (tiling_listed w) (map step_of xs) ≡ None) c.as_slice.ensures.value c.in_ok-motion.ensures.within;
-      motion = motion_in w.order m;
-      placed = subst (λ xs. IsPlaced (tiling_listed w) (record { kind = a.kind; digits = map step_of xs }) (motion_in w.order m)) c.as_slice.ensures.value c.in_ok-motion.ensures.beside;
-      line = c.in_ok-place_line.ensures w.order c.in_ok-motion.ensures.in_order;
-    })
+    let t = builtin_tiling c.args.name in
+    let a = address_of c.in_ok-address.address in
+    let same : c.into_bytes.result.items ≡ string_bytes c.in_ok-placed_by_name.field-0 = search rules in
+    record {
+      address = a;
+      tile = c.in_ok-address.ensures.named t c.in_ok-uses.ensures;
+      holds = subst (PrintsPlace t a) (sym same) c.in_ok-placed_by_name.ensures.printed;
+    }

@@ -9,5 +9,6 @@ use Rattle.tile_app.proofs.place.place_line.Goals as goal
 pub returns : goal.returns
 returns c =
     IfOk-weaker c.format.result _ _
-    (λ text e. λ order h. e ∙ pieces_of_line (decimal c.args.kind) (decimal c.args.motion.now.turn) (point_text c.args.motion.now.shift) (number_text order (point_in order c.args.motion.now.shift))
+    (λ text e. λ order h. e ∙ pieces_of_line (decimal c.args.kind) (decimal c.args.motion.now.turn) (point_text c.args.motion.now.shift)
+    (number_text order (point_in order c.args.motion.now.shift))
     (point_text-number order c.args.motion.now.shift h)) c.format.ensures.ok

@@ -1,9 +1,9 @@
 use Rattle.std.proofs.Common.{ℕ, List, ap}
 use Rattle.tile_io.specs.Taken.{Takes}
 use Rattle.tile_app.specs.Answer.{Prints}
-use Rattle.tile_app.specs.Asked.{OfRequest}
+use Rattle.tile_app.specs.Asked.{OfCall}
 use Rattle.tile_app.specs.Causes.{IsRefused}
-use Rattle.tile_app.specs.Words.{texts}
+use Rattle.call_words.specs.Words.{texts}
 use Rattle.tile_app.proofs.Answered.{same_asked, refused_when, beyond_limits, complete}
 use Rattle.tile_app.proofs.Headline.{only_neighbour, exactly_the_window, with_same}
 use Rattle.tile_app.proofs.run.run.Goals as goal
@@ -12,15 +12,16 @@ use Rattle.tile_app.proofs.run.run.Goals as goal
 pub returns-clause-done : goal.returns-clause-done
 returns-clause-done g c = λ e.
     with_same _ (texts c.as_slice.result.now) _ _ _
-    (λ words handed. OfRequest words handed (g.R.Source.left c.args.source.now) (g.R.Source.left c.answer-status.new.source)
-    (λ r. (text : List ℕ) × Prints r text × Takes (g.W.Sink.taken c.args.sink.now) (g.W.Sink.taken c.answer-status.new.sink) text))
+    (λ words handed. OfCall words handed (g.R.Source.left c.args.source.now) (g.R.Source.left c.answer-status.new.source)
+    (λ call. (text : List ℕ) × Prints call text × Takes (g.W.Sink.taken c.args.sink.now) (g.W.Sink.taken c.answer-status.new.sink) text))
     (ap texts c.as_slice.ensures.value) c.as_mut_slice.ensures.value (c.answer-status.ensures.done e)
 
 pub returns-clause-only_neighbour : goal.returns-clause-only_neighbour
-returns-clause-only_neighbour g c = λ e right. only_neighbour _ _ _ _ _ (returns-clause-done g c e) right
+returns-clause-only_neighbour g c = λ rule addr edge e right. only_neighbour _ _ _ _ _ (returns-clause-done g c e) rule addr edge right
 
 pub returns-clause-exactly_the_window : goal.returns-clause-exactly_the_window
-returns-clause-exactly_the_window g c = λ e right. exactly_the_window _ _ _ _ _ (returns-clause-done g c e) right
+returns-clause-exactly_the_window g c = λ rule addr seed window formats glue e right.
+    exactly_the_window _ _ _ _ _ (returns-clause-done g c e) rule addr seed window formats glue right
 
 pub returns-clause-refused : goal.returns-clause-refused
 returns-clause-refused g c = λ e.

@@ -1,4 +1,4 @@
-use Rattle.std.proofs.Common.{◌≡◌, All, map, take, string_bytes}
+use Rattle.std.proofs.Common.{◌≡◌, All, map, take}
 use Rattle.std.specs.List.{flat_map}
 use Rattle.lazy_walk.specs.Frames.{FrameValue}
 use Rattle.lazy_walk.specs.Standing.{Stands}

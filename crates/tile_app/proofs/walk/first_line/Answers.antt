@@ -12,5 +12,8 @@ use Rattle.tile_app.proofs.walk.first_line.Goals as goal
 pub returns : goal.returns
 returns c =
     IfOk-weaker c.format.result _ _
-    (λ text e. λ order h kind. e ∙ pieces_of_walk (decimal c.args.tile.now.kind) (decimal c.args.tile.now.addr.kind) (decimal c.args.tile.now.motion.turn) (point_text c.args.tile.now.motion.shift) (number_text order (point_in order c.args.tile.now.motion.shift))
-    (address_text (address_of c.args.tile.now.addr)) (codes "-") (point_text-number order c.args.tile.now.motion.shift h) (ap decimal kind)) c.format.ensures.ok
+    (λ text e. λ order h kind. e ∙ pieces_of_walk (decimal c.args.tile.now.kind) (decimal c.args.tile.now.addr.kind)
+    (decimal c.args.tile.now.motion.turn) (point_text c.args.tile.now.motion.shift)
+    (number_text order (point_in order c.args.tile.now.motion.shift))
+    (address_text (address_of c.args.tile.now.addr)) (codes "-") (point_text-number order c.args.tile.now.motion.shift h)
+    (ap decimal kind)) c.format.ensures.ok

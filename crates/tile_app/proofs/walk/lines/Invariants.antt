@@ -1,4 +1,4 @@
-use Rattle.std.proofs.Common.{◌≡◌, ℕ, ◌*◌, ◌++◌, List, take, drop, None, string_bytes}
+use Rattle.std.proofs.Common.{◌≡◌, ℕ, ◌*◌, ◌++◌, List, take, drop, None}
 use Rattle.cyclo_points.specs.Point.{IsWithin}
 use Rattle.lazy_walk.specs.Frames.{whole}
 use Rattle.lazy_walk.specs.Paths.{CanBeWalked}

@@ -1,35 +1,38 @@
-use Rattle.std.proofs.Common.{◌≡◌, ◌≤◌, max, length, string_bytes, sym, ap, ◌∙◌, subst}
-use Rattle.addressing.specs.Address.{Address, depth}
-use Rattle.lazy_walk.specs.Paths.{CanBeWalked, IsStopped}
+use Rattle.std.proofs.Common.{IfErr, sym, subst}
+use Rattle.std.proofs.lemmas.Result.{err_from_is_err_and, IfOk-weaker}
+use Rattle.lazy_walk.specs.Frames.{IsFrameOf}
 use Rattle.rule_model.specs.Tiling.{tiling_of}
-use Rattle.tile_shape.specs.Views.{address_of}
-use Rattle.tile_app.specs.Walk.{frame_at, grow_given, path_given, IsWalkText}
-use Rattle.tile_app.specs.Words.{texts}
-use Rattle.tile_app.proofs.Frames.{begun, frame-is, last-is}
+use Rattle.tile_app.specs.Walk.{PrintsWalk, WalkRefuses}
+use Rattle.tile_app.specs.Status.{OrNoMemory}
+use Rattle.tile_app.proofs.Tiles.{begun, frame_holds, frame_refused}
 use Rattle.tile_app.proofs.walk.walk_text.Goals as goal
 
+pub returns-in_err-frame-clause-refused : goal.returns-in_err-frame-clause-refused
+returns-in_err-frame-clause-refused g c =
+    let p = err_from_is_err_and c.from_residual.result c.from_residual.ensures.1 in
+    rw (p.1, p.2) c.in_err-frame.ensures.refused
+
+pub walked-requires-clause-frame : goal.walked-requires-clause-frame
+walked-requires-clause-frame g c = subst (λ m. IsFrameOf (tiling_of m) c.in_ok-frame.frame)
+    (sym c.in_ok-machine.ensures.its_rule) c.in_ok-frame.ensures.base.is_frame
+
+pub walked-requires-clause-begun : goal.walked-requires-clause-begun
+walked-requires-clause-begun g c = begun (tiling_of c.args.checked) c.args.addr.now c.args.seed c.in_ok-frame.frame c.in_ok-frame.ensures.base
+
+-- the machine's rule is the checked rule, and the frame that of the tile
 pub returns-clause-printed : goal.returns-clause-printed
 returns-clause-printed g c =
-    let words = texts c.args.words.now in
-    let t = tiling_of c.args.machine.now in
-    let a = address_of c.in_ok-address.address in
-    let f = c.new-frame.result in
-    let h = c.grow_to.new.self in
-    let last = c.grow_along.new.self in
-    let is = begun words a f c.new-frame.ensures.base (c.new-frame.ensures.start ∙ c.seed_given.ensures) c.new-frame.ensures.digits in
-    let path : c.as_slice.result.now ≡ path_given words = c.as_slice.ensures.value ∙ c.path_given-path.ensures.given in
-    let path' : c.as_slice-2.result.now ≡ path_given words = c.as_slice-2.ensures.value ∙ c.path_given-path.ensures.given in
-    let deep : length h.digits ≡ max (depth a) (grow_given words) =
-    c.grow_to.ensures.depth ∙ ap (λ n. max n c.grow_given.result) (ap (λ ds. length ds) c.new-frame.ensures.digits) ∙ ap (max (depth a)) c.grow_given.ensures.given in
-    record {
-      base = a;
-      tile = c.in_ok-address.ensures.given;
-      walked = subst (CanBeWalked t (frame_at words t a 64)) path (subst (λ (b : Address). CanBeWalked t b c.as_slice.result.now) (frame-is words t a f h is c.grow_to.ensures.frame 64) c.in_ok-grow_along.ensures.walked_at_64);
-      level = length last.digits;
-      at_most_64 = c.in_ok-grow_along.ensures.frame.is_frame.at_most_64;
-      no_shallower = subst (λ n. n ≤ length last.digits) deep c.in_ok-grow_along.ensures.frame.no_shallower;
-      least = λ n l k. subst (IsStopped t (frame_at words t a n)) path (subst (λ (b : Address). IsStopped t b c.as_slice.result.now) (frame-is words t a f h is c.grow_to.ensures.frame n)
-          (c.in_ok-grow_along.ensures.least n (subst (λ m. m ≤ n) (sym deep) l) k));
-      is_text = subst (λ p. IsWalkText t (frame_at words t a (length last.digits)) p (c.in_ok-lines.field-0.items)) path'
-          (subst (λ (b : Address). IsWalkText t b c.as_slice-2.result.now (c.in_ok-lines.field-0.items)) (last-is words t a f h is c.grow_to.ensures.frame last c.in_ok-grow_along.ensures.frame) c.in_ok-lines.ensures);
-    }
+    let t = tiling_of c.args.checked in
+    let f = c.in_ok-frame.frame in
+    IfOk-weaker c.walked.result _ _
+    (λ text h. frame_holds t c.args.addr.now c.args.seed f c.in_ok-frame.ensures.base (λ x. PrintsWalk t x c.args.grow c.args.path.now text.items)
+    (subst (λ m. PrintsWalk (tiling_of m) f c.args.grow c.args.path.now text.items) c.in_ok-machine.ensures.its_rule h)) c.walked.ensures.printed
+
+pub returns-clause-refused : goal.returns-clause-refused
+returns-clause-refused g c =
+    let t = tiling_of c.args.checked in
+    let f = c.in_ok-frame.frame in
+    let its = subst (λ m. IfErr c.walked.result
+    (OrNoMemory (WalkRefuses (tiling_of m) f c.args.path.now))) c.in_ok-machine.ensures.its_rule c.walked.ensures.refused in
+    frame_refused t c.args.addr.now c.args.seed f c.in_ok-frame.ensures.base (λ x. WalkRefuses t x c.args.path.now)
+    (λ x fault k. k) c.walked.result its

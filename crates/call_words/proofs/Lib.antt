@@ -1,0 +1,4 @@
+pub mod Commas
+pub mod Pieces
+pub mod RightWords
+pub mod Within

@@ -1,0 +1,9 @@
+use Rattle.std.proofs.Common.{◌≡◌, drop, take}
+use Rattle.call_words.specs.Request.{asked_behind}
+use Rattle.call_words.specs.Words.{texts}
+use Rattle.call_words.proofs.request.words_read.Given as goal
+
+-- what the words ask for is asked by those behind
+abbrev pub invariant-loop-place : goal.invariant-loop-place
+invariant-loop-place l =
+    asked_behind l.command (texts (take l.place l.words)) (texts (drop l.place l.words)) ≡ asked_behind l.command (texts (take 1 l.words)) (texts (drop 1 l.words))

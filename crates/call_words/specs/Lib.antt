@@ -1,0 +1,10 @@
+pub mod Choices
+pub mod FormatWords
+pub mod PathWords
+pub mod WindowWords
+pub mod Commands
+pub mod Words
+pub mod WrongWord
+pub mod Given
+pub mod Request
+pub mod Views

@@ -1,7 +1,0 @@
-use Rattle.std.proofs.Common.{◌≡◌, drop}
-use Rattle.tile_app.specs.FormatWords.{is_among}
-use Rattle.tile_app.proofs.format_words.is_among.Given as goal
-
--- the format is none of those before
-abbrev pub invariant-loop-other : goal.invariant-loop-other
-invariant-loop-other l = is_among l.format (drop l.other-index l.formats) ≡ is_among l.format l.formats

@@ -1,0 +1,20 @@
+-- The frame of a base, before it grows.
+use Rattle.std.specs.Prelude.{◌≡◌, ℕ, List}
+use Rattle.addressing.specs.Address.{Address}
+use Rattle.lazy_walk.specs.Frames.{FrameValue, IsFrameOf}
+use Rattle.rule_model.specs.Tiling.{Tiling}
+use Rattle.tile_app.specs.Tile.{IsTile}
+
+-- by the address of the base and the seed of growth
+abbrev pub frame_of : Address → ℕ → FrameValue
+frame_of base seed = record { base = base; start = seed; digits = base.digits }
+
+-- the frame hasn't grown yet
+abbrev pub IsBegun : FrameValue → Type 0
+IsBegun f = f ≡ frame_of f.base f.start
+
+-- the frame, before it grows, of the tile whose address a text is
+pub record IsBaseFrame (t : Tiling) (text : List ℕ) (seed : ℕ) (f : FrameValue) : Type 0 where
+  pub tile : IsTile t text f.base
+  pub begun : f ≡ frame_of f.base seed
+  pub is_frame : IsFrameOf t f

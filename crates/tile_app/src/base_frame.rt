@@ -1,0 +1,19 @@
+//! The frame of a base, before it grows.
+ghost use Rattle.std.specs.Prelude.{◌≡◌, IfOk, IfErr, is_ok};
+ghost use Rattle.rule_model.specs.Tiling.{tiling_of};
+ghost use Rattle.tile_app.specs.BaseFrame.{IsBaseFrame};
+ghost use Rattle.tile_app.specs.Tile.{IsNoTile, is_tile};
+
+use crate::tile::tile_at;
+use lazy_walk::frame::Frame;
+use rule_model::checked::Checked;
+use tile_shape::address_fault::AddressFault;
+
+/// Returns the frame of the tile with this address, with the seed of its growth.
+pub fn base_frame(checked: &Checked, text: &str, seed: u64) -> Result<Frame, AddressFault>
+    ensures base { IfOk result (IsBaseFrame (tiling_of checked.now) text.now seed) }
+    ensures refused { IfErr result (IsNoTile (tiling_of checked.now) text.now) }
+    ensures told { is_ok result ≡ is_tile (tiling_of checked.now) text.now }
+{
+    Ok(Frame::new(tile_at(checked, text)?, seed))
+}
