@@ -1,19 +1,20 @@
 /* tiling.h: aperiodic substitution tilings, exactly, inside a program.
  *
- * The calls are those of the command `tiling`, on numbers in place of texts. docs/FORMATS.md says what each
+ * The calls are those of the command `tiling`, with numbers instead of texts. docs/FORMATS.md says what each
  * means, and docs/PROMISES.md what is proved. A rule is made into a machine once; after that a call takes
- * from under a microsecond to some microseconds. Nothing here opens a file, prints, starts a thread, or
+ * from under a microsecond to a few microseconds. Nothing here opens a file, prints, starts a thread, or
  * keeps a state of its own.
  *
- * A call that answers a tiling_status answers the command's exit code. After any answer but TILING_OK, what
- * the call would have filled is as it was, unless the comment on the call says otherwise. No library can
- * test these, so a caller owes them:
- *   - each pointer leads to as many values as are said; where the number is 0, any valid pointer does;
+ * A call that returns a tiling_status returns the command's exit code. After any status except TILING_OK, the
+ * outputs of the call are unchanged, unless its comment says otherwise. No library can test the following, so
+ * a caller must ensure it:
+ *   - each pointer leads to the stated number of values; if the number is 0, any valid pointer will do;
  *   - what a call fills overlaps nothing else that it is passed;
  *   - a tiling_machine comes from tiling_open or tiling_share of this library.
  * All else is tested and refused: no number, address or array of numbers makes a call do harm.
  *
- * A machine is only read. Any number of threads may use one simultaneously. It stays until the process ends. */
+ * A machine is only read, so any number of threads may use it at the same time. It stays until the process
+ * ends. */
 #ifndef TILING_H
 #define TILING_H
 
@@ -24,7 +25,7 @@
 extern "C" {
 #endif
 
-/* The number of this header; tiling_abi() answers that of the library. */
+/* The number of this header; tiling_abi() returns that of the library. */
 #define TILING_ABI 1
 
 typedef uint8_t tiling_status;
@@ -32,7 +33,7 @@ enum {
     TILING_OK = 0,
     TILING_BAD_WORDS = 2,      /* a number out of its range, arrays of different lengths, an unknown name */
     TILING_BAD_ADDRESS = 4,    /* not the address of a tile of this rule */
-    TILING_DEPTH_LIMIT = 5,    /* even 64 levels leave an edge that is looked at on the boundary */
+    TILING_DEPTH_LIMIT = 5,    /* at depth 64, an edge that must be crossed is still on the boundary */
     TILING_COORD_LIMIT = 6,    /* a coefficient above 2^24 in absolute value */
     TILING_TOO_MANY_TILES = 7, /* more than 200,000 tiles meet the window */
     TILING_OUTSIDE = 8,        /* the edge, or the point, isn't inside the supertile */
@@ -44,7 +45,7 @@ enum {
 typedef struct tiling_opaque *tiling_machine;
 
 /* An address: the kind of a tile, and `depth` digits from fine to coarse, at most 64. A digit says that the
- * tile below is child number `child` of a supertile of kind `parent`. The digits behind them aren't read. */
+ * tile below is child number `child` of a supertile of kind `parent`. The digits after them are not read. */
 typedef struct {
     uint8_t child, parent;
 } tiling_digit;
@@ -60,18 +61,25 @@ typedef struct {
 } tiling_point;
 
 /* A tile at its place: z -> zeta^turn z + shift brings the prototile of its kind there. `number` is an edge
- * or a vertex where a call says so, and 0 elsewhere; `status` and `rest` are 0. */
+ * or a vertex where a call says so, and 0 elsewhere. `status` is 0, except in an array that says otherwise:
+ * there it tells why this entry is no tile. `rest` is 0. */
 typedef struct {
     int64_t shift[4];
     uint8_t status, kind, turn, number, rest[4];
 } tiling_tile;
 
 /* The corners of a tile, counterclockwise, `count` of them: 3 to 12, as many as its edges. Edge i runs from
- * corner i to the next, and the last edge back to corner 0. The places behind them keep what they had. */
+ * corner i to the next, and the last edge back to corner 0. Entries after them are unchanged. */
 typedef struct {
     tiling_point corners[12];
     uint8_t count;
 } tiling_outline;
+
+/* How an edge was crossed, in an array: a status, and `back` and `part` as tiling_neighbour fills them. They
+ * are 0 where it leaves them as they were. */
+typedef struct {
+    uint8_t status, back, part;
+} tiling_crossing;
 
 /* A frame: the supertiles round the base tile, which grow at the coarse end as the seed chooses. The same
  * two values give the same tiling in every call. */
@@ -93,7 +101,8 @@ uint32_t tiling_abi(void);
 
 /* ---- machines ------------------------------------------------------------------------------------------ */
 
-/* The machine of a built-in rule: "chair", "p2", "p3", "ab" or "halfhex", of so many bytes.
+/* Opens the machine of a built-in rule: "chair", "p2", "p3", "ab" or "halfhex". The name has `name_bytes`
+ * bytes.
  * BAD_WORDS: no rule has this name. NO_MEMORY. */
 tiling_status tiling_open(const char *name, size_t name_bytes, tiling_machine *out);
 
@@ -128,12 +137,12 @@ tiling_status tiling_corners(tiling_machine t, const tiling_tile *tile, tiling_o
 
 /* ---- addresses ----------------------------------------------------------------------------------------- */
 
-/* The address of a tile of the rule that a text is, as "0:1/0,2/0".
- * BAD_ADDRESS: it is none. */
+/* Reads the address of a tile of the rule from a text such as "0:1/0,2/0".
+ * BAD_ADDRESS: the text is not the address of a tile of the rule. */
 tiling_status tiling_read_address(tiling_machine t, const char *text, size_t text_bytes, tiling_address *out);
 
-/* The text of an address into the first bytes of `text`, at most 515, with no 0 behind it; `bytes` is how
- * many they are.
+/* Writes the text of an address into the first bytes of `text`: at most 515, with no 0 after them. `bytes` is
+ * their number.
  * BAD_WORDS: the depth is above 64, or there is too little room. */
 tiling_status tiling_write_address(const tiling_address *addr, char *text, size_t room, size_t *bytes);
 
@@ -146,10 +155,10 @@ tiling_status tiling_fits(tiling_machine t, const tiling_address *addr);
  * BAD_ADDRESS. COORD_LIMIT: a value on the way has a coefficient above 2^24. */
 tiling_status tiling_place(tiling_machine t, const tiling_address *addr, tiling_tile *out);
 
-/* The tile across an edge: `addr` becomes its address, and `back` is its edge that leads back; `part` is as
- * it was.
+/* Finds the tile across an edge. `addr` becomes its address, and `back` its edge that leads back; `part` is
+ * unchanged.
  * BAD_ADDRESS. NO_EDGE. OUTSIDE: the edge lies on the supertile's own edge `back`, in the part `part` of
- * it, and `addr` is as it was. */
+ * it, and `addr` is unchanged. */
 tiling_status tiling_neighbour(tiling_machine t, tiling_address *addr, uint8_t edge, uint8_t *back,
                                uint8_t *part);
 
@@ -160,11 +169,24 @@ tiling_status tiling_neighbour(tiling_machine t, tiling_address *addr, uint8_t e
 tiling_status tiling_locate(tiling_machine t, const tiling_tile *top, uint8_t depth,
                             const tiling_point *point, tiling_tile *tile, tiling_address *addr);
 
+/* Where each tile of an array lies, as tiling_place answers. Each tile of the answer has a status of its own;
+ * if that isn't OK, its other numbers are 0.
+ * BAD_WORDS: the two arrays have different lengths. */
+tiling_status tiling_place_all(tiling_machine t, const tiling_address *addrs, size_t addrs_count,
+                               tiling_tile *tiles, size_t tiles_count);
+
+/* The tile across an edge of each tile of an array, in place, as tiling_neighbour answers. Each crossing has
+ * a status of its own; if that isn't OK, the address is as it was.
+ * BAD_WORDS: the three arrays have different lengths. */
+tiling_status tiling_neighbour_all(tiling_machine t, tiling_address *addrs, size_t addrs_count,
+                                   const uint8_t *edges, size_t edges_count, tiling_crossing *crossings,
+                                   size_t crossings_count);
+
 /* ---- frames -------------------------------------------------------------------------------------------- */
 
 /* Exactly the tiles of the frame that meet a window, each once, in the order of their shifts, turns and
- * kinds: `count` is their total, even if there is room for fewer; then the first ones are filled. Room for 200,000 is
- * always enough.
+ * kinds. `count` is their total, even if there is room for fewer: then the first ones are filled. Room for
+ * 200,000 is always enough.
  * `addrs` takes their addresses in the frame; its room is 0 for none, or else the same as that of `tiles`.
  * BAD_WORDS: the window's numbers, or the rooms. BAD_ADDRESS: the base. DEPTH_LIMIT. COORD_LIMIT.
  * TOO_MANY_TILES. NO_MEMORY. */
@@ -173,7 +195,7 @@ tiling_status tiling_cover(tiling_machine t, const tiling_frame *frame, const ti
                            size_t *count);
 
 /* The only tile of the frame that holds a point, with its address in the frame, at the least depth at which
- * the frame holds the point. A point on an edge belongs to just one of the tiles there.
+ * the frame holds the point. A point on an edge belongs to exactly one of the tiles there.
  * BAD_WORDS: the point. BAD_ADDRESS: the base. COORD_LIMIT. */
 tiling_status tiling_at(tiling_machine t, const tiling_frame *frame, const tiling_point *point,
                         tiling_tile *tile, tiling_address *addr);

@@ -312,6 +312,37 @@ static void try_at(void) {
     EXPECT(memcmp(&tile, &before, sizeof tile) == 0);
 }
 
+static void try_arrays(void) {
+    tiling_machine chair = opened("chair");
+    tiling_address addrs[4], before[4];
+    tiling_tile tiles[4];
+    tiling_crossing crossings[4];
+    uint8_t edges[4] = {0, 4, 8, 0};
+    addrs[0] = address(chair, "0:1/0,2/0");
+    addrs[1] = addrs[2] = addrs[3] = address(chair, "0:0/0");
+    addrs[2].depth = 64;
+    for (int i = 0; i < 64; i++) addrs[2].digits[i].child = 2, addrs[2].digits[i].parent = 0;
+    addrs[3].kind = 1;
+    EXPECT(tiling_place_all(chair, addrs, 4, tiles, 4) == TILING_OK);
+    EXPECT(lies(&tiles[0], 0, 1, 7, 1, 0, 0) && lies(&tiles[1], 0, 0, 0, 0, 0, 0));
+    EXPECT(tiles[2].status == TILING_COORD_LIMIT && tiles[2].shift[0] == 0);
+    EXPECT(tiles[3].status == TILING_BAD_ADDRESS && tiles[3].kind == 0);
+    memset(tiles, 7, sizeof tiles);
+    EXPECT(tiling_place_all(chair, addrs, 4, tiles, 3) == TILING_BAD_WORDS && tiles[0].kind == 7);
+    EXPECT(tiling_place_all(chair, addrs, 0, tiles, 0) == TILING_OK && tiles[0].kind == 7);
+    addrs[0] = addrs[2] = address(chair, "0:0/0");
+    memcpy(before, addrs, sizeof addrs);
+    memset(crossings, 7, sizeof crossings);
+    EXPECT(tiling_neighbour_all(chair, addrs, 4, edges, 3, crossings, 4) == TILING_BAD_WORDS);
+    EXPECT(tiling_neighbour_all(chair, addrs, 4, edges, 4, crossings, 3) == TILING_BAD_WORDS);
+    EXPECT(memcmp(addrs, before, sizeof addrs) == 0 && crossings[0].status == 7);
+    EXPECT(tiling_neighbour_all(chair, addrs, 4, edges, 4, crossings, 4) == TILING_OK);
+    EXPECT(has_text(&addrs[0], "0:1/0") && crossings[0].status == TILING_OK && crossings[0].back == 3);
+    EXPECT(crossings[1].status == TILING_OUTSIDE && crossings[1].back == 4 && crossings[1].part == 0);
+    EXPECT(crossings[2].status == TILING_NO_EDGE && crossings[3].status == TILING_BAD_ADDRESS);
+    EXPECT(memcmp(&addrs[1], &before[1], 3 * sizeof *addrs) == 0);
+}
+
 int main(void) {
     try_machines();
     try_rule();
@@ -322,5 +353,6 @@ int main(void) {
     try_shapes();
     try_locate();
     try_at();
+    try_arrays();
     return faults != 0;
 }

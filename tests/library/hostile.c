@@ -183,6 +183,30 @@ static void try_point(tiling_machine machine) {
     free(frame);
 }
 
+static void try_many(tiling_machine machine) {
+    size_t many = any() % 12, others = any() % 8 ? many : any() % 12;
+    tiling_address *addrs = block(many * sizeof *addrs), *kept = block(many * sizeof *kept);
+    tiling_tile *tiles = block(others * sizeof *tiles);
+    uint8_t *edges = block(many);
+    tiling_crossing *crossings = block(others * sizeof *crossings);
+    int status;
+    for (size_t i = 0; i < many; i++) fill_address(&addrs[i]), edges[i] = any() % 5 ? any() % 4 : any();
+    memcpy(kept, addrs, many * sizeof *addrs);
+    count(status = tiling_place_all(machine, addrs, many, tiles, others));
+    for (size_t i = 0; i < many && status == TILING_OK; i++) count(tiles[i].status);
+    count(status = tiling_neighbour_all(machine, addrs, many, edges, many, crossings, others));
+    if (status) same(addrs, kept, many * sizeof *addrs, "tiling_neighbour_all");
+    for (size_t i = 0; i < many && status == TILING_OK; i++) {
+        count(crossings[i].status);
+        if (crossings[i].status) same(&addrs[i], &kept[i], sizeof *addrs, "tiling_neighbour_all");
+    }
+    free(addrs);
+    free(kept);
+    free(tiles);
+    free(edges);
+    free(crossings);
+}
+
 int main(int many, char **words) {
     static const char *const names[] = {"chair", "p2", "p3", "ab", "halfhex"};
     long rounds = many > 1 ? atol(words[1]) : 10000;
@@ -195,6 +219,7 @@ int main(int many, char **words) {
         if (round % 10 == 0) try_text(machine);
         if (round % 10 == 1) try_shape(machine);
         if (round % 20 == 2) try_point(machine);
+        if (round % 10 == 4) try_many(machine);
         if (round % 50 == 0) try_window(machine);
     }
     for (int i = 0; i < 256; i++)

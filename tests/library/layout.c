@@ -39,3 +39,8 @@ PLACE(tiling_point, c, 0);
 SIZE(tiling_outline, 392);
 PLACE(tiling_outline, corners, 0);
 PLACE(tiling_outline, count, 384);
+
+SIZE(tiling_crossing, 3);
+PLACE(tiling_crossing, status, 0);
+PLACE(tiling_crossing, back, 1);
+PLACE(tiling_crossing, part, 2);

@@ -11,6 +11,7 @@
 pub mod machine_slot;
 pub mod opaque;
 pub mod plain_address;
+pub mod plain_crossing;
 pub mod plain_frame;
 pub mod plain_outline;
 pub mod plain_point;

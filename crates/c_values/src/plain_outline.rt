@@ -6,7 +6,7 @@ use crate::plain_point::PlainPoint;
 use cyclo_points::point::Point;
 
 /// The corners of a tile, counterclockwise. There are `count` of them, one for each edge: edge i runs from
-/// corner i to the next. The places after them keep what they had.
+/// corner i to the next. Entries after them are unchanged.
 #[repr(C)]
 #[derive(Clone, Copy)]
 pub struct PlainOutline {

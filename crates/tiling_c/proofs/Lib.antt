@@ -1,3 +1,4 @@
+mod Arrays
 mod Covers
 mod EdgeGiven
 mod Fronts

@@ -1,3 +1,4 @@
+pub mod Arrays
 pub mod Covering
 pub mod Holding
 pub mod Locating

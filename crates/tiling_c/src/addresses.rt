@@ -13,7 +13,7 @@ use tile_place::machine::Machine;
 use tile_shape::reading::read_address;
 use tile_shape::writing::write_address;
 
-/// The same of a machine's rule.
+/// Like [`tiling_read_address`], for a machine.
 pub fn put_address(machine: &Machine, text: &[u8], out: &mut PlainAddress) -> u8
     ensures read { result ≡ ok → address_of_text (children (tiling_of machine.now)) text.now ≡ Ok (address_in out.new) }
     ensures names { result ≡ ok → NamesTile (tiling_of machine.now) out.new }

@@ -64,7 +64,7 @@ fn put_covered(covered: &CoveredTiles, tiles: &mut [PlainTile], addrs: &mut [Pla
     }
 }
 
-/// The status of a fault.
+/// Returns the status of a fault.
 fn status_of(fault: &CoverFault) -> u8
     ensures { result ≡ status_of fault.now }
 {
@@ -76,7 +76,7 @@ fn status_of(fault: &CoverFault) -> u8
     }
 }
 
-/// The tiles of a frame that meet a window.
+/// Puts the tiles of a frame that meet a window.
 fn put_window(
     alloc: Global,
     machine: &Machine,
@@ -109,14 +109,14 @@ fn put_window(
     }
 }
 
-/// Whether there is room for no addresses, or for as many as tiles.
+/// Returns true if there is room for no addresses, or for as many addresses as tiles.
 fn are_rooms(tiles: &[PlainTile], addrs: &[PlainAddress]) -> bool
     ensures { IsTrue result ↔ ((length addrs.now ≡ 0) ⊎ (length addrs.now ≡ length tiles.now)) }
 {
     addrs.len() == 0 || addrs.len() == tiles.len()
 }
 
-/// The same for plain numbers.
+/// Like [`put_window`], for plain numbers.
 fn cover(
     alloc: Global,
     machine: &Machine,
@@ -163,8 +163,8 @@ pub extern "C" fn tiling_cover(
     addrs: &mut [PlainAddress],
     count: &mut usize,
 ) -> u8
-    // Exactly the tiles of the frame that meet the window, each once and in its place. The depth is the least
-    // that is enough, and the tiles cover the window.
+    // Exactly the tiles of the frame that meet the window, each exactly once and in its place. The depth is
+    // the least that is enough, and the tiles cover the window.
     ensures covers { result ≡ ok → IsCover (tiling_of t.rule) (frame_in frame.now) (window_in t.rule.order window.now)
         tiles.old tiles.new addrs.old addrs.new count.new }
 

@@ -13,7 +13,7 @@ use std::marker::Brand;
 use std::sync::ledger::{Blank, Ledger};
 use tile_place::machine::Machine;
 
-/// The tile across an edge, in place, with look-ups counted on a ledger of this name, which nobody reads.
+/// Finds the tile across an edge, in place. Nobody reads the ledger that counts the look-ups.
 pub fn cross<L: Ledger>(
     machine: &Machine,
     addr: &mut PlainAddress,

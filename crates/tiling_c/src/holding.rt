@@ -46,7 +46,7 @@ fn put_holder(
     }
 }
 
-/// The same for plain numbers.
+/// Like [`put_holder`], for plain numbers.
 fn at(
     machine: &Machine,
     frame: &PlainFrame,
@@ -85,8 +85,7 @@ pub extern "C" fn tiling_at(
     // frame holds it.
     ensures holds { result ≡ ok → ShowsHolder (tiling_of t.rule) (frame_in frame.now) (point_in t.rule.order (point_given t.rule.order point.now.c)) tile.new addr.new }
 
-    // Each refusal comes only for its cause. That of coordinates comes exactly if a value on the way is
-    // refused.
+    // Each refusal comes only for its cause. `coord_limit` comes exactly if a value on the way is refused.
     ensures found { NamesTile (tiling_of t.rule) frame.now.base → IsNearby point.now.c
         → (result ≡ ok) ↔ (first_refused_outward (tiling_of t.rule) (frame_in frame.now) (point_in t.rule.order (point_given t.rule.order point.now.c)) ≡ None) }
     ensures bad_words { (result ≡ bad_words) ↔ (¬ IsNearby point.now.c) }

@@ -10,10 +10,12 @@
 
 pub mod addresses;
 pub mod covering;
+pub mod cross_arrays;
 pub mod crossing;
 pub mod holding;
 pub mod locating;
 pub mod machines;
+pub mod place_arrays;
 pub mod placing;
 pub mod rule_numbers;
 pub mod shapes;

@@ -19,7 +19,7 @@ use cyclo_points::point::Point;
 use tile_place::locate_fault::LocateFault;
 use tile_place::machine::Machine;
 
-/// Puts the tile that holds a point in the supertile of a kind and a depth that a motion brings to its place.
+/// Puts the tile that holds a point in a supertile of this kind and depth, moved to its place by a motion.
 fn put_located(
     machine: &Machine,
     kind: u8,
@@ -54,7 +54,7 @@ fn put_located(
     }
 }
 
-/// The same for plain numbers.
+/// Like [`put_located`], for plain numbers.
 pub fn locate(
     machine: &Machine,
     top: &PlainTile,

@@ -1,6 +1,7 @@
 //! Machines by the names of built-in rules.
 ghost use Rattle.std.specs.Prelude.{◌≡◌, ◌↔◌, ◌⊎◌, None, Some, option_map};
-ghost use Rattle.tile_app.specs.Tilings.{builtin_tiling, name_in};
+ghost use Rattle.call_words.specs.Choices.{name_in};
+ghost use Rattle.tile_app.specs.Tilings.{builtin_tiling};
 ghost use Rattle.c_values.specs.Statuses.{ok, bad_words, no_memory};
 ghost use Rattle.tiling_c.specs.Machines.{HasMachine};
 
@@ -21,7 +22,7 @@ pub extern "C" fn tiling_abi() -> u32
     1
 }
 
-/// Puts a handle of the machine of a checked rule, which stays for good, into a slot.
+/// Puts the handle of a checked rule's machine into a slot. The machine is never freed.
 pub fn put_machine(alloc: Global, checked: Checked, out: &mut MachineSlot) -> u8
     ensures machine { result ≡ ok → out.new.rule ≡ Some checked }
     ensures unchanged { ¬ result ≡ ok → out.new ≡ out.old }

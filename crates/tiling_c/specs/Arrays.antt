@@ -1,0 +1,48 @@
+-- Calls on arrays: what is answered of each item.
+use Rattle.std.specs.Prelude.{◌≡◌, ◌↔◌, ◌⊎◌, ◌≤◌, ℕ, List, [], get_or, IsSome}
+use Rattle.cyclo_points.specs.Motion.{motion_in}
+use Rattle.rule_model.specs.Tiling.{Tiling, IsPlaced}
+use Rattle.tile_place.specs.Crossed.{IsOnlyAcross, IsOutside, edges_of}
+use Rattle.tile_place.specs.Placing.{first_refused}
+use Rattle.c_values.specs.declared.plain_address.PlainAddress.{PlainAddress}
+use Rattle.c_values.specs.declared.plain_crossing.PlainCrossing.{PlainCrossing}
+use Rattle.c_values.specs.declared.plain_tile.PlainTile.{PlainTile}
+use Rattle.c_values.specs.Addresses.{address_in, NamesTile}
+use Rattle.c_values.specs.Statuses.{ok, bad_address, coord_limit, outside, no_edge}
+use Rattle.c_values.specs.Tiles.{motion_of, tile_as, refused_as}
+
+-- what stands for no address
+abbrev pub no_address : PlainAddress
+no_address = record { kind = 0; depth = 0; digits = [] }
+
+-- number i of an array of tiles, and of one of addresses
+abbrev pub tile_at : List PlainTile → ℕ → PlainTile
+tile_at tiles i = get_or tiles i (refused_as 0)
+
+abbrev pub address_at : List PlainAddress → ℕ → PlainAddress
+address_at addrs i = get_or addrs i no_address
+
+-- the numbers tell where the tile of an address lies in its supertile, or by their status why it isn't told
+pub record ShowsPlace (t : Tiling) (addr : PlainAddress) (tile : PlainTile) : Type 0 where
+  pub placed : tile.status ≡ ok → IsPlaced t (address_in addr) (motion_in t.order (motion_of tile))
+  pub plain : tile.status ≡ ok → tile ≡ tile_as addr.kind (motion_of tile) 0
+  pub names_none : (tile.status ≡ bad_address) ↔ (¬ NamesTile t addr)
+  pub too_far : tile.status ≡ coord_limit → IsSome (first_refused t (address_in addr).digits)
+  pub refused : ¬ tile.status ≡ ok → tile ≡ refused_as tile.status
+  pub statuses : (tile.status ≡ ok) ⊎ (tile.status ≡ bad_address) ⊎ (tile.status ≡ coord_limit)
+
+-- number i of an array of crossings
+abbrev pub crossing_at : List PlainCrossing → ℕ → PlainCrossing
+crossing_at crossings i = get_or crossings i (record { status = 0; back = 0; part = 0 })
+
+-- The address has become that of the only tile across the edge, and the numbers tell its edge that leads back; or the address is as it was, and the numbers tell
+-- why.
+pub record ShowsCrossing (t : Tiling) (old : PlainAddress) (edge : ℕ) (new : PlainAddress) (crossing : PlainCrossing) : Type 0 where
+  pub across : crossing.status ≡ ok → IsOnlyAcross t (address_in old) edge (address_in new) crossing.back
+  pub leads_back : crossing.status ≡ ok → IsOnlyAcross t (address_in new) crossing.back (address_in old) edge
+  pub names : crossing.status ≡ ok → NamesTile t new
+  pub on_boundary : crossing.status ≡ outside → IsOutside t (address_in old) edge crossing.back crossing.part
+  pub names_none : (crossing.status ≡ bad_address) ↔ (¬ NamesTile t old)
+  pub lacks_edge : (crossing.status ≡ no_edge) ↔ (NamesTile t old × (edges_of t old.kind ≤ edge))
+  pub unchanged : ¬ crossing.status ≡ ok → new ≡ old
+  pub statuses : (crossing.status ≡ ok) ⊎ (crossing.status ≡ bad_address) ⊎ (crossing.status ≡ outside) ⊎ (crossing.status ≡ no_edge)
