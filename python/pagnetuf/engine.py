@@ -52,7 +52,7 @@ class Found(NamedTuple):
 
 
 class Machine(ABC):
-    """One rule, made ready. Its answers are the engine's; a refusal is raised by its name. It can be
+    """One rule, prepared once. Its answers are the engine's; a refusal is raised by its name. It can be
     pickled."""
 
     name: str  # what stands for it in the words of the command: a name, or "-"
@@ -86,7 +86,7 @@ class Machine(ABC):
 
     @abstractmethod
     def star(self, frame: Frame, vertex: int) -> Found:
-        """The tiles round a vertex of the base, counterclockwise; `number` is the vertex there. NoVertex,
+        """The tiles around a vertex of the base, counterclockwise; `number` is the vertex there. NoVertex,
         StarTooBig."""
 
     @abstractmethod

@@ -1,12 +1,12 @@
-"""A connected patch that grows round a point."""
+"""A connected patch that grows around a point."""
 import heapq
 
 import numpy as np
 
 
 def nearest_connected(patch, count: int, centre) -> np.ndarray:
-    """The numbers of `count` tiles, sorted: see `Patch.connected`. ValueError where the patch has fewer that
-    are connected."""
+    """The numbers of `count` tiles, sorted: see `Patch.connected`. ValueError if the patch has fewer
+    connected tiles."""
     middles = patch.middles() - np.asarray(centre, float)
     # (rounded, so that tiles at one distance come in the order of the patch)
     far = np.round((middles**2).sum(1), 9).tolist()

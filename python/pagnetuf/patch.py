@@ -47,12 +47,12 @@ class Patch:
         return self._outlines[1]
 
     def outlines(self) -> np.ndarray:
-        """The corners of each tile, counterclockwise, exactly: int64 (n, M, 4), where M is the most that a
-        kind has; a tile with fewer, as `counts` says, has its last corner again."""
+        """The exact corners of each tile, counterclockwise: int64 (n, M, 4). M is the greatest number of
+        corners of a kind. A tile with fewer, as `counts` says, repeats its last corner."""
         return self._outlines[0]
 
     def xy(self) -> np.ndarray:
-        """x and y of the corners, in lengths: float64 (n, M, 2), nan where a tile has fewer than M."""
+        """x and y of the corners, in lengths: float64 (n, M, 2), nan after the last corner of a tile."""
         places = self.rule.ring.xy(self.outlines())
         places[self._is_padding] = np.nan
         return places
@@ -71,11 +71,11 @@ class Patch:
         return points, corners
 
     def vertices(self) -> np.ndarray:
-        """Each vertex once, in the order of its coefficients: int64 (V, 4)."""
+        """Each vertex exactly once, in the order of their coefficients: int64 (V, 4)."""
         return self._woven[0]
 
     def corners(self) -> np.ndarray:
-        """The number of the vertex at each corner: int32 (n, M), -1 where a tile has fewer than M."""
+        """The number of the vertex at each corner: int32 (n, M), -1 after the last corner of a tile."""
         return self._woven[1]
 
     @cached_property
@@ -108,8 +108,8 @@ class Patch:
         return np.where(self._across < 0, -1, self._across // most).reshape(-1, most).astype(np.int32)
 
     def adjacency(self) -> np.ndarray:
-        """Each edge that two tiles have in common, once: int32 (A, 4) of tile, tile, edge of the first, edge
-        of the second; the first tile is the one with the lesser number."""
+        """Each edge that two tiles share, exactly once: int32 (A, 4), with two tiles, the edge of the
+        first, and the edge of the second. The first tile has the lesser number."""
         most = self.outlines().shape[1]
         mine = np.flatnonzero(self._across >= 0)
         theirs = self._across[mine]
@@ -117,7 +117,7 @@ class Patch:
         return rows[mine < theirs].astype(np.int32)
 
     def edges(self) -> np.ndarray:
-        """Each edge once, as two vertex numbers, the lesser first: int32 (E, 2), sorted."""
+        """Each edge exactly once, as two vertex numbers, the lesser first: int32 (E, 2), sorted."""
         start, end = self.corners().ravel(), self._next.ravel()
         pairs = np.sort(np.stack([start, end], 1)[start >= 0], 1).astype(np.int64)
         keys = np.unique(pairs[:, 0] * len(self.vertices()) + pairs[:, 1])
@@ -132,12 +132,13 @@ class Patch:
         """The vertex stars that occur, and for each vertex the number of its star, or -1 at the rim: int32
         (V,).
 
-        A star is the (kind, corner) of each tile round the vertex, counterclockwise, from the least. They
-        come by how often they occur, the most frequent first."""
+        A star is a tuple with the pair (kind, corner) of each tile around the vertex, counterclockwise,
+        from the least pair. The most frequent star is the first."""
         return _stars_of(self)
 
     def stars(self) -> Dict[Star, int]:
-        """How often each vertex star occurs among the inner vertices, the most frequent first."""
+        """How often each vertex star occurs among the inner vertices, the most frequent first. A key is a
+        star as in `star_labels`: a tuple of pairs (kind, corner)."""
         names, numbers = self.star_labels()
         counts = np.bincount(numbers[numbers >= 0], minlength=len(names))
         return {name: int(count) for name, count in zip(names, counts)}
@@ -151,15 +152,15 @@ class Patch:
         return Patch(self.rule, self.tiles[tiles], self.addresses[tiles])
 
     def connected(self, count: int, centre=(0.0, 0.0)) -> "Patch":
-        """The patch of `count` tiles, connected by edges, that grows from the tile nearest to a point, always
-        by the tile nearest to it that has an edge in common with one of the patch."""
+        """The patch of `count` tiles, connected by edges, that grows from the tile nearest to a point. The
+        next tile is always the one nearest to that point that shares an edge with the patch."""
         from .growth import nearest_connected
 
         return self.chosen(nearest_connected(self, count, centre))
 
     def to_networkx(self):
-        """The tiles as a graph of networkx: nodes 0 to n-1 with kind, turn, address; an edge for neighbours,
-        with `edges`, the pairs of edge numbers that the two have in common. ImportError without networkx."""
+        """The tiles as a graph of networkx. The nodes 0 to n-1 have kind, turn and address. Neighbours have
+        an edge, with `edges`, the pairs of edge numbers that they share. ImportError without networkx."""
         import networkx
 
         graph = networkx.Graph()
@@ -175,8 +176,8 @@ class Patch:
 
     def to_svg(self, width: int = 800, colours=None, ids: bool = False) -> str:
         """A picture, `width` pixels wide: a polygon of the classes `tile`, kK and tT for each tile. `colours`
-        are taken by kind, in the order of the kinds; with `ids` each tile has its number, address and
-        neighbours."""
+        are taken by kind, in the order of the kinds; without them the colours are by kind, or by turn if the
+        tiles have only one kind. With `ids` each tile has its number, address and neighbours."""
         from .picture import svg_of
 
         return svg_of(self, width, colours, ids)

@@ -24,7 +24,7 @@ def program() -> Optional[str]:
 
 
 def library() -> Optional[str]:
-    """The path of the C library: TILING_LIBRARY, beside the package's files, the built one of a checkout, or
+    """The path of the C library: TILING_LIBRARY, next to the package's files, the built one of a checkout, or
     the installed one. The empty text in TILING_LIBRARY means none."""
     named = os.environ.get("TILING_LIBRARY")
     if named is not None:
@@ -40,11 +40,17 @@ def shared(*names: str) -> str:
     return there if is_checkout() else os.path.join(PREFIX, "share", "tiling", *names)
 
 
+def shown(path: str) -> str:
+    """A path as a user types it: that of a file of a checkout from there."""
+    inside = is_checkout() and os.path.abspath(path).startswith(CHECKOUT + os.sep)
+    return os.path.relpath(path, CHECKOUT) if inside else path
+
+
 def is_checkout() -> bool:
     """True if the package lies in a checkout of the repository."""
     return os.path.exists(os.path.join(CHECKOUT, "crates.txt"))
 
 
 def command() -> str:
-    """What a user types before the words of the program."""
+    """What a user types before the program's arguments."""
     return "./tiling" if is_checkout() else "tiling"

@@ -1,7 +1,7 @@
 """The engine's refusals as exceptions: each has the name of a refusal of the program `tiling`, and its number
 as `status`.
 
-docs/FORMATS.md, "Notes and exit codes", says what each means. `fields` are the words behind the name, as
+docs/FORMATS.md, "Notes and exit codes", says what each means. `fields` are the fields after the name, as
 texts."""
 
 
@@ -17,7 +17,7 @@ class Refusal(Exception):
 
     @property
     def line(self) -> str:
-        """The line that the program writes, as `12 NoEdge 9 8`."""
+        """The line that the program writes, such as `12 NoEdge 9 8`."""
         return " ".join([str(self.status), type(self).__name__, *self.fields])
 
     def __str__(self):
@@ -28,7 +28,7 @@ class Refusal(Exception):
 
 
 class BadWords(Refusal):
-    """A value doesn't have its form, or is out of its range."""
+    """A value is malformed or out of range."""
 
     status = 2
 
@@ -40,7 +40,7 @@ class RuleTooLong(Refusal):
 
 
 class RuleRefused(Refusal):
-    """The rule file has a fault; docs/TUTORIAL.md has each by its name."""
+    """The rule file has a fault; docs/TUTORIAL.md explains each."""
 
     status = 3
 
@@ -52,7 +52,7 @@ class BadAddress(Refusal):
 
 
 class DepthLimit(Refusal):
-    """Even 64 levels leave an edge that is needed on the boundary."""
+    """At depth 64, an edge that must be crossed is still on the boundary."""
 
     status = 5
 

@@ -1,8 +1,11 @@
 """The numbers of a rule, as a rule file has them: see docs/FORMATS.md, "The rule file"."""
+import os
+import runpy
 from typing import List, Tuple
 
 import numpy as np
 
+from . import places
 from .built_in import BUILT_IN
 from .geometry import Ring
 
@@ -39,6 +42,15 @@ class Rule:
     def _glue_edge(self, kind: Kind) -> int:
         """The edge along which two halves are one whole tile, or -1."""
         return next((edge for edge, type_of in enumerate(kind.edges) if type_of in self.glue), -1)
+
+    def whole_kinds(self) -> List[int]:
+        """The kinds that whole tiles may have: those without a glue edge, and those of first halves."""
+        types = [kind.edges[edge] if edge >= 0 else None for kind, edge in zip(self.kinds, self.glue_edges)]
+        return [
+            kind
+            for kind, type_of in enumerate(types)
+            if type_of is None or self.mates[type_of] in types[kind:]
+        ]
 
     def _corner_table(self) -> np.ndarray:
         """The corners of each kind in each turn: int64 (kinds, order, M, 4), the last corner again up to M,
@@ -79,8 +91,8 @@ class Rule:
 
 
 def document_of(data: bytes) -> dict:
-    """The TOML document of a rule file's bytes, by tomllib (Python 3.11 or later), else by the package
-    tomli."""
+    """The TOML document of a rule file's bytes, by tomllib (Python 3.11 or later), else by the package tomli.
+    They read TOML 1.0; a file of TOML 1.1, which the program reads, is first written so."""
     try:
         import tomllib
     except ModuleNotFoundError:
@@ -91,4 +103,15 @@ def document_of(data: bytes) -> dict:
                 "to read a rule file, Python before 3.11 needs the package tomli"
             ) from None
     text = data.decode("utf-8-sig").replace("\r\n", "\n")
-    return tomllib.loads(text)
+    try:
+        return tomllib.loads(text)
+    except tomllib.TOMLDecodeError:
+        return tomllib.loads(older_text(text))
+
+
+def older_text(text: str) -> str:
+    """A text of TOML 1.1 as one of 1.0, by tools/older_toml.py; the text itself without that file."""
+    path = places.shared("tools", "older_toml.py")
+    if not os.path.exists(path):
+        return text
+    return "".join(runpy.run_path(path)["Older"](text).pieces)

@@ -8,7 +8,7 @@ A tile belongs to the first window that it meets: rows from below, each from the
 exactly the tiles that meet a window. Whether one of them meets an earlier window too is decided here by exact
 signs: two convex sets without their boundaries, a triangle of the tile and the window, are apart exactly if
 the direction of a side of one of them separates them. So the pieces have together exactly the tiles that meet
-the region, each exactly once; a whole tile counts as its halves do.
+the region, each exactly once. A whole tile counts as its halves do.
 
     for piece in Tiling("p3").sheet((2000, 1500), executor=ProcessPoolExecutor()):
         ...  # a Patch
@@ -23,7 +23,7 @@ import numpy as np
 
 from .engine import MOST_TILES, Box, Frame, Machine
 from .inside import fan
-from .patch import Patch, whole_patch
+from .patch import Patch, WholePatch, whole_patch
 
 USUAL_TILES = 50_000
 # what added to a point adds 2 to X and leaves Y, and what adds 2 to Y and leaves X
@@ -117,6 +117,25 @@ def patch_of(
     return whole_patch(machine.rule, tiles, addresses, numbers)
 
 
+def gathered(pieces: List[Patch]) -> Patch:
+    """One patch of several."""
+    rule = pieces[0].rule
+    if not isinstance(pieces[0], WholePatch):
+        return Patch(
+            rule, np.concatenate([it.tiles for it in pieces]), np.concatenate([it.addresses for it in pieces])
+        )
+    starts = np.cumsum([0] + [len(it.half_tiles) for it in pieces])
+    halves = np.concatenate(
+        [np.where(it.halves < 0, -1, it.halves + start) for it, start in zip(pieces, starts)]
+    )
+    return WholePatch(
+        rule,
+        np.concatenate([it.half_tiles for it in pieces]),
+        np.concatenate([it.half_addresses for it in pieces]),
+        halves,
+    )
+
+
 def meeting(patch: Patch, box: Box) -> np.ndarray:
     """Which tiles of a patch meet a window, exactly: bool (n,)."""
     ring, (wide, tall) = patch.rule.ring, box.half
@@ -159,11 +178,11 @@ def split(half: int, most: int) -> List[int]:
     """Half widths of side by side windows that fill `half`, each at most `most`, all odd or all even as
     `half` is, so that each centre lies an even number from that of the whole."""
     if half < 1 or most < 1:
-        raise ValueError("half extents are at least 1")
+        raise ValueError("half and piece are at least 1 in each direction")
     odd = half % 2
     steps, size = (half - odd) // 2, (most - odd) // 2
     if size < 1 and half > most:
-        raise ValueError("a piece has to be larger")
+        raise ValueError("a piece must be larger")
     count = 1 if half <= most else -(-half // (2 * size + odd))
     count += odd and count % 2 == 0
     whole = (half - odd * count) // 2 if odd else steps
@@ -183,8 +202,8 @@ def tile_extent(rule) -> Tuple[int, int]:
 
 
 def usual_piece(rule, widest: Tuple[int, int]) -> Tuple[int, int]:
-    """The half extents of a window with some tens of thousands of tiles, and never more than the program
-    lists."""
+    """The half-width and half-height of a window with tens of thousands of tiles, and never more than the
+    program lists."""
     side = math.isqrt(int(USUAL_TILES * rule.least_area())) // 2
     half = tuple(min(4096, max(side, extent + 1)) for extent in widest)
     room = (2 * half[0] + 2 * widest[0]) * (2 * half[1] + 2 * widest[1]) / rule.least_area()

@@ -1,7 +1,7 @@
-"""Places round which a tiling is turned into itself, exactly and as far as one likes.
+"""Places around which a turn takes a tiling to itself, exactly and arbitrarily far.
 
-A vertex star that a turn by 1/m of a full turn keeps, tile by tile, stays so when it is inflated: cutting
-into children goes with each tile. So the tiling round the k times inflated vertex is kept in a circle
+If a turn by 1/m of a full turn keeps a vertex star, tile by tile, it also keeps the inflated star: cutting
+into children goes with each tile. So around the k times inflated vertex the tiling is kept in a circle
 |factor|^k times as large as the star's."""
 from typing import NamedTuple, Tuple
 
@@ -14,8 +14,8 @@ from .tiling import Tiling
 
 
 class Place(NamedTuple):
-    """A vertex of a base tile, and the radius, in lengths, of the circle round it that is kept for
-    certain."""
+    """A vertex of a base tile, and the radius, in lengths, of the circle around it that is certainly
+    kept."""
 
     frame: Frame
     at: Tuple[int, int, int, int]
@@ -23,7 +23,7 @@ class Place(NamedTuple):
 
 
 class NoPlace(Exception):
-    """There is no such place, for the reason that is said."""
+    """There is no such place; the message says why."""
 
 
 def kept_stars(patch: Patch, fold: int):
@@ -72,8 +72,8 @@ def inflated(tiling: Tiling, seed: int, address: str, vertex: int, reach: float,
 
 
 def star_radius(patch: Patch, vertex: int) -> float:
-    """How far the tiles round a vertex reach at least: the least distance to a line of an edge that they have
-    elsewhere."""
+    """How far the tiles around a vertex reach at least: the least distance to one of their edges that does
+    not end there."""
     tiles = np.flatnonzero((patch.corners() == vertex).any(1))
     here, least = complex(*patch.rule.ring.xy(patch.vertices()[vertex])), np.inf
     for tile in tiles:
@@ -86,15 +86,15 @@ def star_radius(patch: Patch, vertex: int) -> float:
 
 
 def distance(a: complex, b: complex) -> float:
-    """How far the segment from a to b is from 0."""
+    """The distance of the segment from a to b from 0."""
     along = b - a
     part = min(1.0, max(0.0, -(a * along.conjugate()).real / abs(along) ** 2))
     return abs(a + part * along)
 
 
 def kept_radius(patch: Patch, at, fold: int) -> float:
-    """Up to which radius round a point a turn by 1/fold takes each tile of a patch, exactly, to one of it of
-    the same kind; never further than the patch certainly reaches, which is to its nearest rim."""
+    """The radius around a point up to which a turn by 1/fold takes each tile of a patch, exactly, to one of
+    its tiles of the same kind. It is never greater than the distance to the patch's nearest rim."""
     ring, centre = patch.rule.ring, np.array(at, np.int64)
     far = np.hypot(*np.moveaxis(ring.xy(patch.vertices() - centre), -1, 0))
     corners, real = patch.corners(), patch.corners() >= 0

@@ -1,8 +1,12 @@
 """`Tiling`, from which all of the package is reached, and `Window`."""
+import os
+import re
 from typing import Iterable, Iterator, List, NamedTuple, Optional, Sequence, Tuple, Union
 
 import numpy as np
 
+from . import places
+from .built_in import BUILT_IN
 from .engine import Addresses, Box, Engine, Found, Frame, Machine
 from .library import usual_engine
 from .patch import Patch, WholePatch, whole_patch
@@ -13,7 +17,7 @@ Point = Tuple[int, int, int, int]
 
 
 class Placed(NamedTuple):
-    """A tile at its place: the motion z -> zeta^turn z + shift takes the prototile of its kind there."""
+    """A placed tile: the motion z -> zeta^turn z + shift takes the prototile of its kind to the tile."""
 
     kind: int
     turn: int
@@ -28,8 +32,8 @@ class Across(NamedTuple):
 
 
 class StarTile(NamedTuple):
-    """A tile round a vertex, or of a walk: its place, its address, and its vertex, or its edge that leads
-    back (or None)."""
+    """A tile around a vertex, or of a walk: its motion, its address, and a number. The number is its own
+    one for the vertex, or that of its edge that leads back; None for the first tile of a walk."""
 
     kind: int
     turn: int
@@ -56,12 +60,13 @@ class Tiling:
 
     An *address* is a text such as "0:1/0,2/0": a tile's kind, and from fine to coarse which child it is of a
     parent of which kind. A *point* is four integers, for a0 + a1 zeta + a2 zeta^2 + a3 zeta^3, where zeta is
-    a step of length 1 in the direction 360°/order. A *frame* is the plane in which the tile `addr` stands on
-    its prototile, and `seed` chooses how it goes on: the same two, the same tiling.
+    a step of length 1 in the direction 360°/order. A *frame* is the plane in which the tile `addr` is in the
+    position of its prototile. `seed` chooses how the tiling goes on; the same `addr` and `seed` give the same
+    tiling.
 
-    Refusals are exceptions under `pagnetuf.Refusal`, named as the program's are: BadAddress, NoEdge, Outside
-    and so on. What is proved of the answers is what docs/PROMISES.md says of the program; this package's own
-    geometry is exact and tested.
+    Refusals are exceptions under `pagnetuf.Refusal` with the names that the program uses: BadAddress, NoEdge,
+    Outside and so on. docs/PROMISES.md lists what is proved of the program's answers. The package's own
+    geometry is exact, and tested.
 
     Literature: B. Grünbaum and G. C. Shephard, Tilings and Patterns, chapter 10; N. G. de Bruijn, Algebraic
     theory of Penrose's non-periodic tilings of the plane, 1981; F. P. M. Beenker, Algebraic theory of
@@ -70,6 +75,8 @@ class Tiling:
     def __init__(self, name: str, engine: Optional[Engine] = None):
         """A built-in tiling: "chair", "p2", "p3", "ab" or "halfhex". BadWords for another name, NoEngine. For
         other rules, such as rules/sphinx.toml, use `from_file`."""
+        if name not in BUILT_IN:
+            raise BadWords(not_built_in(name))
         self._hold((engine or usual_engine()).machine(name), name)
 
     @classmethod
@@ -81,7 +88,7 @@ class Tiling:
 
     @classmethod
     def from_file(cls, path, engine: Optional[Engine] = None) -> "Tiling":
-        """The tiling of a rule file. OSError where it can't be read; RuleRefused; RuleTooLong."""
+        """The tiling of a rule file. OSError if it cannot be read; RuleRefused; RuleTooLong."""
         with open(path, "rb") as file:
             return cls.from_bytes(file.read(), str(path), engine)
 
@@ -102,15 +109,15 @@ class Tiling:
         return Across(*self.machine.neighbour(addr, edge))
 
     def place_all(self, addresses: Addresses) -> np.ndarray:
-        """`place` of many, given as texts or as an ADDRESS array (n,): a structured array `pagnetuf.TILE`
-        (n,), each with its `status`, 0 or a refusal's number."""
+        """`place` for many addresses, given as texts or as an ADDRESS array (n,). Returns a structured array
+        `pagnetuf.TILE` (n,), each entry with its `status`: 0, or the number of a refusal."""
         return self.machine.place_all(addresses)
 
     def neighbour_all(self, addresses: Addresses, edges: Sequence[int]) -> Tuple[Addresses, np.ndarray]:
-        """`neighbour` of many: the addresses, as texts or as an ADDRESS array, as they were given, and uint8
-        (n, 2) of edge and status. A refused address stays as it was."""
+        """`neighbour` for many addresses. Returns the addresses across, in the form that was given: texts, or
+        an ADDRESS array. Returns with them uint8 (n, 2), edge and status. A refused address is unchanged."""
         if len(addresses) != len(edges):
-            raise ValueError("as many edges as addresses are needed")
+            raise ValueError("addresses and edges have different lengths")
         return self.machine.neighbour_all(addresses, edges)
 
     def window(
@@ -125,14 +132,14 @@ class Tiling:
         The window is the points whose X = 2 x and Y = y / sin(360°/order) differ from those of the point
         `at` by less than `half`: it is half[0] lengths wide, and 2 half[1] sin(360°/order) high. `at` has
         coefficients up to 2^20 in absolute value, `half` two integers from 1 to 4096. TooManyTiles above
-        200,000; CoordLimit far out, where another seed mostly helps; DepthLimit; BadAddress; BadWords."""
+        200,000; CoordLimit far out, where another seed usually helps; DepthLimit; BadAddress; BadWords."""
         return Window(
             self.machine, Frame(addr, int(seed)), Box(tuple(int(a) for a in at), tuple(int(h) for h in half))
         )
 
     def star(self, addr: str, vertex: int, seed: int = 0) -> List[StarTile]:
-        """The tiles round a vertex of a tile, counterclockwise, the tile first; each with its number of the
-        vertex. BadAddress, NoVertex, DepthLimit, StarTooBig."""
+        """The tiles around a vertex of a tile, counterclockwise, the tile first, each with its own number
+        for the vertex. BadAddress, NoVertex, DepthLimit, StarTooBig."""
         return _told(self.machine.star(Frame(addr, seed), vertex))
 
     def walk(self, addr: str, path: Sequence[int], seed: int = 0, grow: int = 0) -> List[StarTile]:
@@ -141,8 +148,8 @@ class Tiling:
         return _told(self.machine.walk(Frame(addr, seed), path, grow))
 
     def pair(self, a: str, b: str) -> Union[str, List[Tuple[int, int]]]:
-        """The edges along which two tiles lie on each other: pairs of an edge of `a` and one of `b`, empty
-        where they are apart. "same" for one tile, "none" where they have no common supertile. For built-in
+        """The edges that two tiles share: pairs of an edge of `a` and one of `b`, and no pair if the tiles
+        lie apart. "same" for one and the same tile, "none" if they have no common supertile. For built-in
         rules; BadWords for rule files."""
         told = self.machine.pair(a, b)
         if told in ("same", "none"):
@@ -155,11 +162,10 @@ class Tiling:
         return self.machine.common(a, b)
 
     def locate(self, point: Iterable[int], seed: int = 0, addr: str = "0:") -> Patch:
-        """The tiles of a frame that hold a point: one where it is inside, two or more where it is on an edge
-        or a vertex.
+        """The tiles of a frame that hold a point: one if the point is inside a tile, two or more if it is
+        on an edge or a vertex.
 
-        The window of half extents 1, 1 round the point is asked for, and each tile of it tested by exact
-        signs."""
+        The window half=(1, 1) around the point is computed, and each of its tiles tested by exact signs."""
         from .inside import holding
 
         window = self.window(point, (1, 1), seed, addr)
@@ -173,8 +179,8 @@ class Tiling:
         seed: int = 0,
         addr="0:",
     ) -> int:
-        """How many tiles a listing of a window has, where it is right: a text as `Window.listing` gives, or a
-        patch of tiles. BadListing with the first fault. For built-in rules; BadWords for rule files."""
+        """The number of tiles of a right listing of a window: a text in the form of `Window.listing`, or a
+        patch of tiles. BadListing with its fault. For built-in rules; BadWords for rule files."""
         if isinstance(listing, Patch):
             listing = listing_of(listing)
         data = listing.encode() if isinstance(listing, str) else listing
@@ -208,17 +214,26 @@ class Window(Patch):
         super().__init__(machine.rule, found.tiles, found.addresses)
 
     def whole(self) -> WholePatch:
-        """The whole tiles of the window's tiles, by the program's `glue=yes`: halves are joined, also with
-        halves outside. The tiles themselves where the rule glues none."""
+        """The whole tiles of the window's tiles, by the program's `glue=yes`. Halves are joined, also with
+        halves outside the window. If the rule glues none, these are the tiles themselves."""
         return whole_patch(self.rule, *self.machine.cover(self.frame, self.box, True))
 
     def listing(self, whole: bool = False) -> str:
-        """The text of `draw layers=list`, byte for byte; with `whole` that with glue=yes."""
+        """The text of `draw layers=list`, byte for byte; with `whole`, the text with glue=yes."""
         return self.machine.listing(self.frame, self.box, whole).decode()
 
     def words(self, whole: bool = False) -> str:
-        """The words of `draw` for this window."""
+        """The arguments of `draw` for this window."""
         return words_of(self.machine, self.frame, self.box, whole)
+
+
+def not_built_in(name) -> str:
+    """Why a name is not that of a built-in tiling, and how to open a rule file."""
+    file = places.shared("rules", f"{name}.toml")
+    if re.fullmatch(r"[a-z0-9_]{1,60}", str(name)) and os.path.exists(file):
+        return f"{name} is a rule file, not a built-in tiling: use Tiling.from_file({file!r})"
+    known = ", ".join(sorted(BUILT_IN))
+    return f"{name!r} is not a built-in tiling ({known}): for a rule file use Tiling.from_file(PATH)"
 
 
 def words_of(machine: Machine, frame: Frame, box: Box, whole: bool = False) -> str:

@@ -1,5 +1,9 @@
 """Where the tests find the program: as the package does; a test is skipped where there is none."""
+import glob
 import os
+import re
+import shutil
+import subprocess
 import sys
 
 import pytest
@@ -15,6 +19,20 @@ BUILT_IN = {
     "ab": "ammann_beenker",
     "halfhex": "half_hex",
 }
+
+
+DTD = "/usr/share/xml/w3c-sgml-lib/schema/dtd/REC-SVG11-*/svg11.dtd"
+
+
+def invalid(text):
+    """Why a picture isn't SVG 1.1, or nothing. What is of other namespaces doesn't count, as the
+    recommendation says. The test is skipped without xmllint or the document type."""
+    types = glob.glob(DTD)
+    if not types or not shutil.which("xmllint"):
+        pytest.skip("there is no xmllint, or no document type of SVG 1.1")
+    own = re.sub(r' (?:xmlns:)?inkscape(?::\w+)?="[^"]*"', "", text)
+    words = ["xmllint", "--nonet", "--noout", "--dtdvalid", types[-1], "-"]
+    return subprocess.run(words, input=own, capture_output=True, text=True, check=False).stderr
 
 
 def rule_files():

@@ -63,7 +63,7 @@ def test_a_closed_pipe_ends_without_a_word(program):
             env=environment,
         )
         os.close(writer)
-        told = [line for line in ran.stderr.decode().splitlines() if " tiles; ./tiling draw " not in line]
+        told = [line for line in ran.stderr.decode().splitlines() if " tiles; the same window: ./tiling draw " not in line]
         assert not told and ran.returncode > 0
 
 
@@ -109,6 +109,27 @@ def test_a_board_of_so_many_tiles(pagnetuf, rule, count):
             assert sides.get((end, start)) == near
     assert len(vertices) - len({frozenset(side) for side in sides}) + count == 1
     assert {corner for tile in tiles for corner in tile["corners"]} == set(range(len(vertices)))
+
+
+@pytest.mark.parametrize("words", [(), ("--halves",)])
+def test_a_board_of_more_tiles_than_a_window(pagnetuf, monkeypatch, tiling, words):
+    """The program lists no more than 200,000 tiles of a window; then the board is of windows side by side."""
+    from pagnetuf.commands import board
+    from pagnetuf.engine import Box, Frame
+    from pagnetuf.refusals import TooManyTiles
+
+    t, frame, box = tiling("p3"), Frame(), Box((0, 0, 0, 0), (50, 40))
+    one = board.in_windows(t, frame, box, not words)
+
+    def refused(*_):
+        raise TooManyTiles
+
+    monkeypatch.setattr(board, "in_window", refused)
+    several = board.in_windows(t, frame, box, not words)
+    motions = [sorted(zip(it.kinds, it.turns, map(tuple, it.shifts.tolist()))) for it in (one, several)]
+    assert motions[0] == motions[1]
+    status, out, _ = pagnetuf("board", "p3", "--tiles", "50000", "--to", "csv", *words)
+    assert status == 0 and out.count("\ntile,") == 2 and out.count("\n") > 140_000
 
 
 def test_board_as_csv_svg_and_arrays(pagnetuf, tmp_path):

@@ -14,6 +14,7 @@ import pytest
 from browser import browser
 from conftest import RULES, TOP
 from pagnetuf import Tiling
+from pagnetuf.picture import Colours
 
 VIEW = {"rule": "p3", "seed": "0", "addr": "0:", "at": "0,0,0,0", "half": "20,12", "halves": "0"}
 
@@ -126,6 +127,7 @@ def test_the_kinds_of_whole_tiles(port):
         {"addr": ""},
         {"addr": "0:0/0\n"},
         {"halves": "2"},
+        {"by": "size"},
     ],
 )
 def test_wrong_numbers_are_refused(port, changes):
@@ -253,6 +255,13 @@ class Page:
                 return
             time.sleep(0.05)
         raise AssertionError(self.js("return document.getElementById('fault').textContent"))
+
+    def drawn(self):
+        """Waits until the whole view is drawn."""
+        for _ in range(400):
+            if self.js("return explorer.report.drawn > 0"):
+                return
+            time.sleep(0.05)
 
     def mouse(self, kind, x, y, **more):
         self.driver.execute_cdp_cmd("Input.dispatchMouseEvent", {"type": kind, "x": x, "y": y, **more})
@@ -449,3 +458,117 @@ def test_nothing_sticks_out(page, port):
         "return [document.documentElement.scrollWidth, innerWidth, high]"
     )
     assert wide[0] <= wide[1] and wide[2] > 150
+
+
+@pytest.mark.parametrize("wide, rows", [(1600, 1), (1280, 1), (1024, 2), (800, 2), (390, 4)])
+def test_rows_of_buttons(port, wide, rows):
+    """The buttons fill so few rows, none is broken in two lines, and at phone width the last row is full."""
+    driver = browser(wide, 844)
+    try:
+        page = Page(driver, port)
+        page.js("document.getElementById('menu').click()")
+        boxes = page.js(
+            "return [...document.querySelectorAll('#bar > :is(select, label, button), #more > *')]"
+            ".map(it => it.getBoundingClientRect()).filter(it => it.width)"
+            ".map(it => [it.top + it.height / 2, it.right, it.height])"
+        )
+        assert max(height for *_, height in boxes) < 32
+        middles = sorted(middle for middle, *_ in boxes)
+        assert 1 + sum(b - a > 12 for a, b in zip(middles, middles[1:])) == rows
+        assert wide > 500 or max(right for middle, right, _ in boxes if middle > middles[-1] - 12) > wide - 20
+    finally:
+        driver.quit()
+
+
+PIXELS = """const ratio = devicePixelRatio, [w, h] = size(), [x, y] = offset(), n = got.corners, found = [];
+for (let i = 0; i < got.tiles; i++) {
+  let a = 0, b = 0, m = 0;
+  for (; m < n && got.loops[i * n + m] >= 0; m++) {
+    a += got.places[2 * got.loops[i * n + m]]; b += got.places[2 * got.loops[i * n + m] + 1];
+  }
+  const left = (w / 2 + (a / m - x) * here.s) * ratio, top = (h / 2 - (b / m - y) * here.s) * ratio;
+  if (Math.min(left, top) < 4 || left > canvas.width - 4 || top > canvas.height - 4) continue;
+  const seen = [...pen.getImageData(left, top, 1, 1).data.slice(0, 3)];
+  const text = "#" + seen.map(it => it.toString(16).padStart(2, "0")).join("");
+  found.push([got.kinds[i], got.turns[i], nameOf(i), text, a / m, b / m]);
+}
+return found"""
+
+
+def child_of(address):
+    return int(re.match(r"\d+:(\d+)/", address)[1])
+
+
+@pytest.mark.parametrize("rule, by", [("p3", "kind"), ("chair", "turn"), ("square_four.toml", "child")])
+def test_the_colours_are_those_of_the_package(page, port, tmp_path, rule, by):
+    """In the middle of each tile in view is the colour that atlases, boards and posters have, and so it is in
+    the picture that is saved."""
+    page = Page(page.driver, port, f"#rule={rule}&at=0,0,0,0&s=60")
+    page.drawn()
+    tiling = Tiling(rule) if "." not in rule else Tiling.from_file(os.path.join(RULES, rule))
+    palette, seen = Colours(tiling.rule).by[by], page.js(PIXELS)
+    assert page.js("return document.getElementById('colour').value") == by and len(seen) > 20
+    for kind, turn, address, colour, *_ in seen:
+        number = {"kind": kind, "turn": turn, "child": child_of(address)}[by]
+        assert colour == palette[number], (address, colour)
+    assert len({row[3] for row in seen}) > 1
+    page.driver.execute_cdp_cmd(
+        "Browser.setDownloadBehavior", {"behavior": "allow", "downloadPath": str(tmp_path)}
+    )
+    page.js("document.getElementById('save').click()")
+    path = tmp_path / (rule.partition(".")[0] + ".svg")
+    for _ in range(100):
+        if path.exists():
+            break
+        time.sleep(0.05)
+    root = ElementTree.parse(path).getroot()
+    fills = dict(re.findall(r"\.([kct]\d+){fill:(#\w+)}", "".join(root.itertext())))
+    saved, inks = [], []
+    for tile in root.iter("{http://www.w3.org/2000/svg}polygon"):
+        corners = [[float(it) for it in pair.split(",")] for pair in tile.get("points").split()]
+        saved.append(np.mean(corners, 0) * (1, -1))
+        inks.append(next(fills[name] for name in tile.get("class").split() if name in fills))
+    for *_, colour, x, y in seen:
+        far = np.hypot(*(np.array(saved) - (x, y)).T)
+        assert far.min() < 0.001 and inks[int(far.argmin())] == colour
+
+
+def test_the_words_that_are_copied(page, port, program):
+    """They are those of a call that prints what is in view."""
+    page = Page(page.driver, port, "#rule=p3&seed=5&at=1000,-700,3,9&s=50")
+    rights = {"permissions": ["clipboardReadWrite", "clipboardSanitizedWrite"], "origin": page.url.rstrip("/")}
+    page.driver.execute_cdp_cmd("Browser.grantPermissions", rights)
+    page.js("document.getElementById('copy').click()")
+    time.sleep(0.3)
+    read = "const done = arguments[0]; navigator.clipboard.readText().then(done, it => done(String(it)))"
+    words = page.driver.execute_async_script(read)
+    assert words == page.text("words") and words.startswith("./tiling draw rule=p3 ")
+    ran = subprocess.run([program, *words.split()[1:]], capture_output=True, text=True, check=True)
+    named = page.js("return [...Array(got.tiles).keys()].map(nameOf)")
+    halves = [half for name in named[:50] for half in name.split(" + ")]
+    assert len(halves) > 50 and all(half in ran.stdout for half in halves)
+
+
+def test_a_tap_names_the_tile(page, port):
+    """A finger that touches a tile names it and shows a star; one that moves does not."""
+    page = Page(page.driver, port, "#rule=p3&at=0,0,0,0&s=60")
+    x, y = page.middle()
+
+    def finger(kind, *points):
+        page.driver.execute_cdp_cmd(
+            "Input.dispatchTouchEvent", {"type": kind, "touchPoints": [{"x": a, "y": b} for a, b in points]}
+        )
+
+    finger("touchStart", (x + 40, y + 25))
+    finger("touchEnd")
+    time.sleep(0.3)
+    named = page.js(
+        "return nameOf(explorer.tileAt(arguments[0], arguments[1]))", round(x + 40), round(y + 25)
+    )
+    assert named in page.text("tile") and "Star of" in page.text("star")
+    page = Page(page.driver, port, "#rule=p3&at=0,0,0,0&s=60")
+    finger("touchStart", (x, y))
+    for step in range(1, 6):
+        finger("touchMove", (x + 20 * step, y))
+    finger("touchEnd")
+    assert "Star of" not in page.text("star") and page.place()[0][0] < -1

@@ -9,9 +9,10 @@ from collections import Counter
 
 import numpy as np
 import pytest
-from conftest import RULES
+from conftest import RULES, invalid
 from pagnetuf import Tiling
 from pagnetuf.engine import Frame
+from pagnetuf.picture import Colours
 from pagnetuf.strokes import strokes
 from pagnetuf.symmetry import kept_radius, symmetric_place
 from test_commands import SVG, pagnetuf  # noqa: F401
@@ -83,6 +84,30 @@ def test_a_poster_in_layers(pagnetuf):  # noqa: F811
     assert corners.min(0).max() < 0 and (corners.max(0) > (200, 140)).all()  # the page is full
 
 
+@pytest.mark.parametrize(
+    "words", [(), ("--joined", "--by", "turn"), ("--by", "star", "--line", "0"), ("--cut",), ("--star", "5")]
+)
+def test_it_is_valid(pagnetuf, words):  # noqa: F811
+    _, text, _ = pagnetuf("poster", "p3", "--size", "150,100", *words)
+    assert text.startswith("<svg ") and not invalid(text)
+
+
+def test_a_picture_is_valid(tiling):
+    """Without ids it is SVG 1.1; with them it has attributes of SVG 2, and doesn't say 1.1."""
+    for rule in ("p3", "chair", "square_four.toml"):
+        patch = tiling(rule).window(half=(8, 6)).whole()
+        assert not invalid(patch.to_svg()) and 'version="1.1"' not in patch.to_svg(ids=True)
+
+
+def test_the_usual_colours(pagnetuf, tiling):  # noqa: F811
+    """Without --colours a poster has the colours of atlases and of the page to pan."""
+    for by in ("kind", "turn"):
+        _, text, _ = pagnetuf("poster", "p3", "--size", "200,140", "--by", by, "--line", "0")
+        palette = Colours(tiling("p3").rule).by[by]
+        found = {name: group.get("fill") for name, group in layers(text)[1].items()}
+        assert len(found) > 1 and all(palette[int(name[4:])] == fill for name, fill in found.items())
+
+
 def test_joined_areas_are_those_of_the_tiles(pagnetuf):  # noqa: F811
     _, apart, _ = pagnetuf("poster", "p3", "--size", "200,140", "--line", "0")
     _, joined, _ = pagnetuf("poster", "p3", "--size", "200,140", "--line", "0", "--joined")
@@ -150,7 +175,7 @@ def test_the_star_in_the_centre(pagnetuf):  # noqa: F811
     status, text, err = pagnetuf("poster", "p3", "--size", "400,300", "--star", "5", "--line", "0")
     assert status == 0
     certain, compared = (
-        float(it) for it in re.search(r"kept to ([\d.]+) lengths.*tile by tile to ([\d.]+)", err).groups()
+        float(it) for it in re.search(r"within ([\d.]+) lengths.*within ([\d.]+) lengths", err).groups()
     )
     assert certain > 25 and compared > 14
     loops = [loop for group in layers(text)[1].values() for loop in paths_of(group)]
@@ -160,6 +185,44 @@ def test_the_star_in_the_centre(pagnetuf):  # noqa: F811
         [[np.cos(2 * np.pi / 5), np.sin(2 * np.pi / 5)], [-np.sin(2 * np.pi / 5), np.cos(2 * np.pi / 5)]]
     )
     assert len(inner) > 400 and all(np.hypot(*(middles - it).T).min() < 0.02 for it in turned)
+
+
+def test_long_paths_come_in_parts(tiling, monkeypatch):
+    """Some readers of XML take no attribute of more than ten million characters."""
+    from pagnetuf.commands import poster
+
+    t = tiling("p3")
+    page = poster.Page((200, 140), 5)
+    patch = t.window(half=page.half(t)).whole()
+    words = ("poster", "p3", "--size", "200,140", "--tile", "5", "--joined")
+    options = poster_options(words)
+    whole = paths_by_layer(poster.poster_svg(patch, page, options))
+    monkeypatch.setattr(poster, "MOST_TEXT", 2000)
+    monkeypatch.setattr(poster, "MOST_CORNERS", 5)
+    parts = paths_by_layer(poster.poster_svg(patch, page, options))
+    assert {name: len(texts) for name, texts in whole.items()} == {"kind0": 1, "kind2": 1, "lines": 1}
+    for name, texts in parts.items():
+        assert len(texts) > 1 and max(map(len, texts)) <= (2100 if name == "lines" else 8000)
+    both = [steps_of(lines["lines"]) for lines in (whole, parts)]
+    assert both[0] == both[1]
+
+
+def poster_options(words):
+    from pagnetuf.commands.command_line import joined, parser
+
+    return parser().parse_args(joined(list(words)))
+
+
+def paths_by_layer(text):
+    return {
+        name: [path.get("d") for path in group.iter(SVG + "path")] for name, group in layers(text)[1].items()
+    }
+
+
+def steps_of(texts):
+    """The steps of the lines of some paths, in either direction."""
+    lines = [piece.split("L") for text in texts for piece in text.split("M")[1:]]
+    return Counter(tuple(sorted(step)) for line in lines for step in zip(line, line[1:]))
 
 
 @pytest.mark.parametrize(

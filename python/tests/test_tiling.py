@@ -46,6 +46,19 @@ def test_the_numbers_built_in_are_those_of_the_rule_files(name):
         assert document_of(file.read()) == NUMBERS[name]
 
 
+def test_a_rule_file_of_toml_1_1(program, tmp_path):
+    """A byte order mark, and inline tables over several lines with a comma at the end: the program takes
+    them, and so does the package."""
+    with open(os.path.join(RULES, "square_four.toml"), encoding="utf-8") as file:
+        head, _, rest = file.read().partition("[[type]]")
+        kind = "[[kind]]" + rest.partition("[[kind]]")[2]
+    entry = "type = [{\n  mate = 0, # its own\n  parts = [0, 0],\n}]\n"
+    path = tmp_path / "square.toml"
+    path.write_bytes(b"\xef\xbb\xbf" + (head + entry + kind).encode())
+    known = Tiling.from_file(os.path.join(RULES, "square_four.toml"))
+    assert Tiling.from_file(path).window(half=(6, 4)).listing() == known.window(half=(6, 4)).listing()
+
+
 @pytest.mark.parametrize("name", EVERY)
 def test_a_window_is_the_list(tiling, program, name):
     random.seed(name)
@@ -235,8 +248,11 @@ def test_refusals_by_name_and_number(tiling, program):
         with pytest.raises(error) as caught:
             ask()
         assert caught.value.status == status and (caught.value.fields == fields or error is BadWords)
-    with pytest.raises(BadWords):
+    with pytest.raises(BadWords, match="not a built-in tiling .*p3.*from_file"):
         Tiling("penrose")
+    with pytest.raises(BadWords, match="sphinx is a rule file.*from_file.*rules/sphinx.toml") as caught:
+        Tiling("sphinx")
+    assert caught.value.status == 2
     with pytest.raises(RuleRefused) as caught:
         Tiling.from_bytes(b"")
     assert caught.value.line == "3 RuleRefused Missing format"

@@ -13,7 +13,7 @@ import numpy as np
 
 from .. import places
 from ..patch import Patch
-from ..picture import TURN_COLOURS, colours_of, escaped, number
+from ..picture import Colours, escaped, number, numbers_by
 from ..rule import Rule
 from ..tiling import Tiling
 from .command_line import add_frame, add_rule, frame_of, tiling_of, write_text
@@ -41,7 +41,7 @@ LINE = 1.3  # pixels
 def add_words(parser):
     add_rule(parser)
     add_frame(parser)
-    parser.add_argument("--out", metavar="FILE", help="a file, in place of standard output")
+    parser.add_argument("--out", metavar="FILE", help="a file instead of standard output")
 
 
 def run(options):
@@ -54,12 +54,12 @@ def run(options):
 
 def page(tiling: Tiling, counted: Patch, shown) -> str:
     name, rule = escaped(title_of(tiling)), tiling.rule
-    colours = Colours(rule, counted)
+    colours = Colours(rule)
     parts = {
         "Prototiles": [prototiles(rule, colours)],
         "Inflation": [
             f"<p>Each prototile, inflated by {factor_text(rule, ' and turned by ')}, is cut into its "
-            f"children. They have the numbers that addresses call them by. Colours are by {colours.by}.</p>",
+            f"children. They have the numbers that addresses call them by. Colours are by {colours.usual}.</p>",
             inflations(rule, colours),
         ],
         "A patch": [
@@ -73,25 +73,6 @@ def page(tiling: Tiling, counted: Patch, shown) -> str:
     return "\n".join([head, f"<h1>{name}</h1>", f"<p>{summary(rule)}</p>", *body, "</body></html>", ""])
 
 
-class Colours:
-    """A colour for each tile: by kind; by turn where the whole tiles are all of one kind; by child where they
-    all have one turn too."""
-
-    def __init__(self, rule: Rule, patch: Patch):
-        self.by = "kind"
-        if len(np.unique(patch.kinds)) == 1:
-            self.by = "turn" if len(np.unique(patch.turns)) > 1 else "child"
-        self.steps = rule.order if self.by == "turn" else max(len(kind.children) for kind in rule.kinds)
-        self.by_kind = colours_of(np.arange(len(rule.kinds)))
-
-    def of(self, patch: Patch) -> List[str]:
-        if self.by == "kind":
-            return [self.by_kind[kind] for kind in patch.kinds.tolist()]
-        numbers = patch.turns if self.by == "turn" else patch.addresses["digits"][:, 0, 0]
-        most = len(TURN_COLOURS)
-        return [TURN_COLOURS[step * most // self.steps % most] for step in numbers.tolist()]
-
-
 def title_of(tiling: Tiling) -> str:
     name = os.path.basename(tiling.name)
     return name[:-5].replace("_", " ") if name.endswith(".toml") else name
@@ -99,7 +80,7 @@ def title_of(tiling: Tiling) -> str:
 
 def source(tiling: Tiling) -> str:
     """What is typed behind the words of `draw` for a rule file."""
-    return f" < {tiling.name}" if tiling.machine.name == "-" else ""
+    return f" < {places.shown(tiling.name)}" if tiling.machine.name == "-" else ""
 
 
 def factor_text(rule: Rule, joint: str) -> str:
@@ -189,7 +170,8 @@ def stars(patch: Patch, colours: Colours) -> str:
         captions.append(f"{100 * len(mine) / total:.2f} %, {len(tiles)} tiles")
     scale = fitting(found, 115, 34)
     more = f" The {len(names) - 60} rarest are left out." if len(names) > 60 else ""
-    said = f"<p>{len(names)} stars, up to turns, were found round {total} vertices of a window.{more}</p>"
+    stars_ = "1 star" if len(names) == 1 else f"{len(names)} stars"
+    said = f"<p>Up to turns, {stars_} around {total} vertices of a window.{more}</p>"
     pictures = [drawn(star, colours, scale, spot=spot) for star, spot in zip(found, spots)]
     return said + row("stars", pictures, captions)
 
@@ -225,9 +207,10 @@ def drawn(patch: Patch, colours: Colours, scale: float, marks: bool = False, fra
         f'viewBox="{number(low[0])} {number(low[1])} {number(wide)} {number(tall)}" '
         f'stroke="#22303a" stroke-width="{number(LINE / scale)}" stroke-linejoin="round">'
     ]
-    for colour, corners, count in zip(colours.of(patch), xy.tolist(), patch.counts.tolist()):
+    fills = [colours.by[colours.usual][it] for it in numbers_by(patch, colours.usual).tolist()]
+    for fill, corners, count in zip(fills, xy.tolist(), patch.counts.tolist()):
         points = " ".join(f"{number(x)},{number(y)}" for x, y in corners[:count])
-        out.append(f'<polygon fill="{colour}" points="{points}"/>')
+        out.append(f'<polygon fill="{fill}" points="{points}"/>')
     out += labels(xy, patch.counts.tolist(), scale) if marks and len(patch) > 1 else []
     if spot is not None:
         x, y = spot.tolist()

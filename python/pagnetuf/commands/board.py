@@ -16,10 +16,12 @@ import math
 
 import numpy as np
 
-from ..engine import Box
+from ..engine import Box, Frame
 from ..patch import Patch
 from ..picture import svg_of
-from ..tiling import Tiling, Window, words_of
+from ..refusals import TooManyTiles
+from ..sheet import Sheet, gathered
+from ..tiling import Tiling, words_of
 from .command_line import (
     Trouble,
     add_frame,
@@ -38,51 +40,63 @@ def add_words(parser):
     add_rule(parser)
     size = parser.add_mutually_exclusive_group()
     size.add_argument(
-        "--tiles", metavar="N", type=whole_number(1, MOST), help="so many tiles, connected, round the centre"
+        "--tiles", metavar="N", type=whole_number(1, MOST), help="N connected tiles around the centre"
     )
     size.add_argument(
         "--half",
         metavar="W,H",
         type=integers(2, 1, 4096),
-        help="all tiles of a window, as `draw` has it; 20,12",
+        help="all tiles of a window, as in `draw`; default 20,12",
     )
     add_frame(parser)
-    parser.add_argument("--halves", action="store_true", help="the rule's own tiles, and no whole ones")
-    parser.add_argument("--to", choices=("json", "csv", "svg", "npz"), default="json", help="the form; json")
-    parser.add_argument("--out", metavar="FILE", help="a file, in place of standard output")
+    parser.add_argument("--halves", action="store_true", help="half tiles, not joined to whole ones")
+    forms = "the format; default json"
+    parser.add_argument("--to", choices=("json", "csv", "svg", "npz"), default="json", help=forms)
+    parser.add_argument("--out", metavar="FILE", help="a file instead of standard output")
 
 
 def run(options):
     if options.to == "npz" and not options.out:
         raise Trouble("npz needs --out FILE.npz")
     tiling = tiling_of(options.rule)
-    window, patch = board(tiling, options)
+    box, patch = board(tiling, options)
     if options.to == "npz":
         np.savez_compressed(options.out, **arrays(patch))
     else:
         made = {"json": as_json, "csv": as_csv, "svg": lambda patch, _: svg_of(patch, 900, None, True)}[
             options.to
         ]
-        write_text(
-            made(patch, words_of(tiling.machine, window.frame, window.box, not options.halves)), options.out
-        )
+        words = words_of(tiling.machine, frame_of(options), box, not options.halves)
+        write_text(made(patch, words), options.out)
 
 
 def board(tiling: Tiling, options):
-    """The window that is asked of the program, and the patch of it that is the board."""
-    frame = frame_of(options)
-    half = options.half or (20, 12)
-    if options.tiles:
-        half = first_half(tiling, options.tiles)
+    """The window in which the board is, and the board."""
+    frame, at, whole = frame_of(options), tuple(options.at), not options.halves
+    if not options.tiles:
+        box = Box(at, tuple(options.half or (20, 12)))
+        return box, in_window(tiling, frame, box, whole)
+    box = Box(at, first_half(tiling, options.tiles))
     while True:
-        window = Window(tiling.machine, frame, Box(tuple(options.at), tuple(half)))
-        patch = window if options.halves else window.whole()
-        if not options.tiles:
-            return window, patch
+        patch = in_windows(tiling, frame, box, whole)
         if len(patch) >= 2 * options.tiles + 8:
-            centre = tiling.ring.xy(np.array(options.at))
-            return window, patch.connected(options.tiles, tuple(centre))
-        half = tuple(min(4096, side * 3 // 2 + 1) for side in half)
+            centre = tiling.ring.xy(np.array(at))
+            return box, patch.connected(options.tiles, tuple(centre))
+        box = Box(at, tuple(min(4096, side * 3 // 2 + 1) for side in box.half))
+
+
+def in_window(tiling: Tiling, frame: Frame, box: Box, whole: bool) -> Patch:
+    """The tiles of a window."""
+    window = tiling.window(box.at, box.half, frame.seed, frame.base)
+    return window.whole() if whole else window
+
+
+def in_windows(tiling: Tiling, frame: Frame, box: Box, whole: bool) -> Patch:
+    """The tiles of a window, also of one with more than the program lists."""
+    try:
+        return in_window(tiling, frame, box, whole)
+    except TooManyTiles:
+        return gathered(list(Sheet(tiling, box.half, box.at, frame, None, whole).pieces()))
 
 
 def first_half(tiling: Tiling, tiles: int):

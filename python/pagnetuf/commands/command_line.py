@@ -1,4 +1,4 @@
-"""What the commands have in common: their words, rules by name or file, and how they end."""
+"""What the commands have in common: their arguments, rules by name or file, and how they end."""
 import argparse
 import importlib
 import os
@@ -14,46 +14,46 @@ from ..tiling import Tiling
 
 COMMANDS = {
     "board": "a patch as data: corners, neighbours, vertex numbers",
-    "poster": "a page in millimetres, in colours, or as lines to be cut",
-    "explore": "a page in the browser to pan and zoom",
+    "poster": "a page in millimetres, in colours or as lines for a cutter",
+    "explore": "a page to pan and zoom in the browser",
     "atlas": "a page about a rule: prototiles, inflation, vertex stars, a patch",
 }
-# below a refusal, what to do
+# what to do, printed after a refusal
 CURES = {
-    "BadWords": "a number is out of its range: --at has four up to 1048576, --half two from 1 to 4096",
-    "RuleRefused": "docs/TUTORIAL.md has this refusal of a rule file by its name, and what to do",
-    "BadAddress": "an address is KIND:CHILD/PARENT,.. from fine to coarse, as 0:1/0,2/0",
-    "CoordLimit": "so far out this seed has no answer: another --seed, or a nearer point",
-    "DepthLimit": "another --seed",
-    "TooManyTiles": "a smaller window",
+    "BadWords": "a number is out of range: --at has four up to 1048576, --half two from 1 to 4096",
+    "RuleRefused": "docs/TUTORIAL.md explains this refusal of a rule file, and how to fix it",
+    "BadAddress": "an address is KIND:CHILD/PARENT,.. from fine to coarse, such as 0:1/0,2/0",
+    "CoordLimit": "this seed has no tiles so far out: use another --seed, or a nearer point",
+    "DepthLimit": "use another --seed",
+    "TooManyTiles": "use a smaller window",
 }
 
 
 class Trouble(Exception):
-    """Why a command can't do what it was told to, in a sentence."""
+    """Why a command cannot do what was asked, in a sentence."""
 
 
 def integers(count: int, least: int = -(1 << 20), most: int = 1 << 20):
-    """A type of argparse: so many whole numbers with commas between."""
+    """A type of argparse: `count` integers with commas between."""
 
     def parsed(text: str) -> List[int]:
         parts = text.split(",")
         if len(parts) != count or not all(re.fullmatch(r"-?[0-9]{1,9}", part) for part in parts):
-            raise argparse.ArgumentTypeError(f"{text!r} isn't {count} whole numbers with commas between")
+            raise argparse.ArgumentTypeError(f"{text!r} is not {count} integers with commas between")
         numbers = [int(part) for part in parts]
         if not all(least <= number <= most for number in numbers):
-            raise argparse.ArgumentTypeError(f"{text!r} has a number that isn't from {least} to {most}")
+            raise argparse.ArgumentTypeError(f"{text!r} has a number that is not from {least} to {most}")
         return numbers
 
     return parsed
 
 
 def whole_number(least: int, most: int):
-    """A type of argparse: a whole number from `least` to `most`."""
+    """A type of argparse: an integer from `least` to `most`."""
 
     def parsed(text: str) -> int:
         if not re.fullmatch(r"-?[0-9]{1,20}", text) or not least <= int(text) <= most:
-            raise argparse.ArgumentTypeError(f"{text!r} isn't a whole number from {least} to {most}")
+            raise argparse.ArgumentTypeError(f"{text!r} is not an integer from {least} to {most}")
         return int(text)
 
     return parsed
@@ -63,13 +63,13 @@ def colours(text: str) -> List[str]:
     """A type of argparse: colours as #rrggbb or #rgb, with commas between."""
     parts = text.split(",")
     if not all(re.fullmatch(r"#(?:[0-9A-Fa-f]{3}){1,2}", part) for part in parts):
-        raise argparse.ArgumentTypeError(f"{text!r} isn't colours as #0b3954,#ff6663")
+        raise argparse.ArgumentTypeError(f"{text!r} is not a list of colours such as #0b3954,#ff6663")
     return parts
 
 
 def add_rule(parser: argparse.ArgumentParser):
     parser.add_argument(
-        "rule", help="p2, p3, ab, chair, halfhex, a rule file, or the name of one of rules/, as sphinx"
+        "rule", help="p2, p3, ab, chair, halfhex, a rule file, or the name of one in rules/, such as sphinx"
     )
 
 
@@ -80,12 +80,12 @@ def add_frame(parser: argparse.ArgumentParser):
         metavar="A,A,A,A",
         type=integers(4),
         default=[0, 0, 0, 0],
-        help="the centre, four coefficients; 0,0,0,0",
+        help="the centre, as four coefficients; default 0,0,0,0",
     )
     parser.add_argument(
-        "--seed", metavar="N", type=whole_number(0, (1 << 64) - 1), default=0, help="which of the patches; 0"
+        "--seed", metavar="N", type=whole_number(0, (1 << 64) - 1), default=0, help="which patch; default 0"
     )
-    parser.add_argument("--addr", metavar="ADDRESS", default="0:", help="the base tile; 0:")
+    parser.add_argument("--addr", metavar="ADDRESS", default="0:", help="the base tile; default 0:")
 
 
 def tiling_of(name: str) -> Tiling:
@@ -96,17 +96,17 @@ def tiling_of(name: str) -> Tiling:
         return Tiling.from_file(rule_file(name))
     except OSError as trouble:
         raise Trouble(
-            f"there is no tiling {name} and no file of this name that can be read: {trouble.strerror}; "
+            f"there is no tiling {name}, and no file {name} can be read ({trouble.strerror}); "
             f"rule files are in {places.shared('rules')}"
         ) from trouble
     except (UnicodeDecodeError, ValueError) as trouble:
-        raise Trouble(f"{name} is TOML 1.1, and Python's own reader has 1.0: {trouble}") from trouble
+        raise Trouble(f"{name} is TOML 1.1, and Python reads only TOML 1.0: {trouble}") from trouble
     except ModuleNotFoundError as trouble:
         raise Trouble(str(trouble)) from trouble
 
 
 def rule_file(name: str) -> str:
-    """The path of a rule file: the name itself, or that of a file of rules/, as `sphinx`."""
+    """The path of a rule file: the name itself, or that of a file of rules/, such as `sphinx`."""
     kept = places.shared("rules", f"{name}.toml")
     known = re.fullmatch(r"[a-z0-9_]{1,60}", name) and not os.path.exists(name) and os.path.exists(kept)
     return kept if known else name
@@ -131,7 +131,7 @@ def tell(text: str):
 
 
 def joined(words: List[str]) -> List[str]:
-    """The words with `--at VALUE` as one, since the value may begin with a minus."""
+    """The arguments with `--at VALUE` as one, since the value may begin with a minus."""
     out: List[str] = []
     for word in words:
         if out and out[-1] == "--at":
@@ -142,7 +142,7 @@ def joined(words: List[str]) -> List[str]:
 
 
 def called() -> str:
-    """What a user types before a command's name: `tiling` where it is installed, as its launcher says."""
+    """What a user types before a command's name: `tiling` if it is installed, as its launcher reports."""
     return os.environ.get("TILING_COMMAND") or "python3 -m pagnetuf"
 
 
@@ -166,7 +166,7 @@ def parser() -> argparse.ArgumentParser:
 
 
 def status_of(words: List[str]) -> int:
-    """Runs the command that the words name, and gives the exit status; a refusal's is its number."""
+    """Runs the command that the arguments name, and returns the exit status: for a refusal its number."""
     if not words:
         parser().print_help(sys.stderr)
         return 2
@@ -177,7 +177,7 @@ def status_of(words: List[str]) -> int:
         return 0
     except Refusal as refused:
         tell(refused.line)
-        cure = CURES.get(type(refused).__name__, "docs/FORMATS.md has it by its name")
+        cure = CURES.get(type(refused).__name__, "docs/FORMATS.md explains this refusal")
         tell(f"{called()} {options.command}: {cure}")
         return refused.status
     except (Trouble, NoEngine) as trouble:
@@ -186,7 +186,7 @@ def status_of(words: List[str]) -> int:
 
 
 def run(words: Optional[List[str]] = None):
-    """Ends with the status; without a word where the pipe that is written to is closed."""
+    """Ends with the status, and silently if standard output is a closed pipe."""
     try:
         status = status_of(sys.argv[1:] if words is None else words)
         sys.stdout.flush()

@@ -24,7 +24,7 @@ from ..built_in import BUILT_IN
 from ..engine import Box, Frame
 from ..library import usual_engine
 from ..patch import Patch, WholePatch, whole_patch
-from ..picture import svg_of
+from ..picture import Colours, svg_of
 from ..refusals import NoEngine, Refusal
 from ..tiling import Tiling, words_of
 from .command_line import CURES, Trouble, whole_number
@@ -33,6 +33,7 @@ HERE = os.path.dirname(os.path.abspath(__file__))
 MOST_RULE, MOST_DROPPED = 1 << 20, 64
 INTEGER = re.compile(r"-?[0-9]{1,20}")
 ADDRESS = re.compile(r"[0-9]{1,3}:(?:[0-9]{1,3}/[0-9]{1,3}(?:,[0-9]{1,3}/[0-9]{1,3}){0,63})?")
+BY = ("", "kind", "turn", "child")
 POLICY = (
     "default-src 'self'; img-src 'self' data: blob:; "
     "style-src 'self' 'unsafe-inline'; script-src 'self' 'unsafe-inline'"
@@ -40,9 +41,13 @@ POLICY = (
 
 
 def add_words(parser):
-    parser.add_argument("files", metavar="FILE", nargs="*", help="rule files that the page offers too")
+    parser.add_argument("files", metavar="FILE", nargs="*", help="further rule files for the page to offer")
     parser.add_argument(
-        "--port", metavar="N", type=whole_number(0, 65535), default=8080, help="8080; 0 for any that is free"
+        "--port",
+        metavar="N",
+        type=whole_number(0, 65535),
+        default=8080,
+        help="default 8080; 0 for any free port",
     )
 
 
@@ -145,13 +150,16 @@ def fault_picture(line: str, data: bytes) -> Optional[str]:
         path = os.path.join(folder, "rule.toml")
         with open(path, "wb") as file:
             file.write(data)
-        ran = subprocess.run(
-            [sys.executable, script, "--fault", line, path],
-            stdin=subprocess.DEVNULL,
-            capture_output=True,
-            check=False,
-            timeout=20,
-        )
+        try:
+            ran = subprocess.run(
+                [sys.executable, script, "--fault", line, path],
+                stdin=subprocess.DEVNULL,
+                capture_output=True,
+                check=False,
+                timeout=20,
+            )
+        except subprocess.TimeoutExpired:
+            return None
     return ran.stdout.decode() if ran.returncode == 0 and ran.stdout.startswith(b"<svg") else None
 
 
@@ -174,12 +182,13 @@ class View:
             self.tiling = server.tiling(asked["rule"])
             seed = integers(asked["seed"], 1, 0, (1 << 64) - 1)[0]
             box = Box(integers(asked["at"], 4, -(1 << 20), 1 << 20), integers(asked["half"], 2, 1, 4096))
-            base, self.halves = asked["addr"], asked["halves"]
+            base, halves, self.by = asked["addr"], asked["halves"], asked.get("by", "")
         except KeyError as missing:
             raise WrongQuestion(f"{missing} is missing") from missing
-        if not ADDRESS.fullmatch(base) or self.halves not in ("0", "1"):
-            raise WrongQuestion("the address hasn't its form, or halves is neither 0 nor 1")
-        machine, frame, is_whole = self.tiling.machine, Frame(base, seed), self.halves == "0"
+        if not ADDRESS.fullmatch(base) or halves not in ("0", "1") or self.by not in BY:
+            raise WrongQuestion("the address, or what halves or colours are, hasn't its form")
+        machine, frame, is_whole = self.tiling.machine, Frame(base, seed), halves == "0"
+        self.is_whole, self.colours = is_whole, Colours(machine.rule, is_whole)
         self.box, self.draw_words = box, words_of(machine, frame, box, is_whole)
         found = machine.cover(frame, box, is_whole)
         self.patch = whole_patch(machine.rule, *found) if is_whole else Patch(machine.rule, *found[:2])
@@ -187,8 +196,7 @@ class View:
     def words(self) -> str:
         name = self.tiling.name
         path = places.shared("rules", name)
-        known = os.path.relpath(path, places.CHECKOUT) if places.is_checkout() else path
-        file = "" if name in BUILT_IN else f" < {known if os.path.exists(path) else name}"
+        file = "" if name in BUILT_IN else f" < {places.shown(path) if os.path.exists(path) else name}"
         return f"{places.command()} {self.draw_words}{file}"
 
     def packed(self) -> bytes:
@@ -209,6 +217,9 @@ class View:
         head = {
             "order": ring.order,
             "kinds_of_tiles": self.kinds(),
+            "halved": bool(self.tiling.rule.glue),
+            "colours": self.colours.by,
+            "usual": self.colours.usual,
             "tiles": len(patch),
             "vertices": len(patch.vertices()),
             "corners": int(patch.outlines().shape[1]),
@@ -226,14 +237,7 @@ class View:
     def kinds(self) -> List[int]:
         """The kinds that a tile of such a view may have: of whole tiles those of their first halves."""
         rule = self.tiling.rule
-        if self.halves == "1":
-            return list(range(len(rule.kinds)))
-        glued = [kind.edges[edge] if edge >= 0 else None for kind, edge in zip(rule.kinds, rule.glue_edges)]
-        return [
-            kind
-            for kind, type_of in enumerate(glued)
-            if type_of is None or rule.mates[type_of] in glued[kind:]
-        ]
+        return rule.whole_kinds() if self.is_whole else list(range(len(rule.kinds)))
 
     def stars(self) -> dict:
         """Each vertex star of the view, with how often it occurs, and the vertex nearest to the centre that
@@ -307,7 +311,7 @@ class Answers(BaseHTTPRequestHandler):
             elif path == "/stars":
                 self.tell(view.stars())
             else:
-                self.answer(200, "image/svg+xml", svg_of(view.patch, 1200, None, True).encode())
+                self.answer(200, "image/svg+xml", svg_of(view.patch, 1200, None, True, view.by).encode())
         except Refusal as refused:
             self.tell({"fault": refused.line, "cure": CURES.get(type(refused).__name__, "")}, 422)
         except WrongQuestion as wrong:

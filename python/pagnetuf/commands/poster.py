@@ -4,21 +4,21 @@
   python3 -m pagnetuf poster p3 --size 600,600 --star 5 > star.svg
   python3 -m pagnetuf poster ab --size 300,200 --cut --to dxf --out cut.dxf
 
-Each colour is a layer of Inkscape (and a group with an id), with its colour in one place, the layer's own.
-Numbers are millimetres. More tiles than one window has are put together of several. The words of `draw` for
-the place are on standard error."""
+Each colour is a layer of Inkscape, and a group with an id; the layer has the colour, so one change recolours
+its tiles. All numbers are millimetres. A page with more tiles than a window may have is put together from
+several windows. The command `draw` for the same window is printed on standard error."""
 import re
 from argparse import ArgumentTypeError
-from typing import Dict, List, Optional, Tuple
+from typing import Dict, Iterable, Iterator, List, Optional, Tuple
 
 import numpy as np
 
 from .. import places
 from ..engine import Box, Frame
-from ..patch import Patch, WholePatch
-from ..picture import COLOURS, escaped, number
+from ..patch import Patch
+from ..picture import COLOURS, Colours, escaped, number
 from ..refusals import CoordLimit, DepthLimit
-from ..sheet import Sheet
+from ..sheet import Sheet, gathered
 from ..strokes import strokes
 from ..symmetry import NoPlace, kept_radius, symmetric_place
 from ..tiling import Tiling, words_of
@@ -26,12 +26,14 @@ from .command_line import Trouble, add_frame, add_rule, colours, frame_of, tell,
 
 MOST_TILES = 4_000_000
 INK = "#222222"
+# (some readers of XML, such as librsvg's, take no attribute of more than ten million characters)
+MOST_TEXT, MOST_CORNERS = 2_000_000, 100_000
 ROUND = 'stroke-linejoin="round" stroke-linecap="round"'
 CLIP = 'clip-path="url(#page)"'
 
 
 def millimetres(count: int, least: float, most: float):
-    """A type of argparse: so many lengths with commas between."""
+    """A type of argparse: `count` lengths with commas between."""
 
     def parsed(text: str) -> List[float]:
         parts = text.split(",")
@@ -46,7 +48,7 @@ def millimetres(count: int, least: float, most: float):
 
 
 def line(text: str) -> Tuple[float, str]:
-    """A type of argparse: a width in mm, and a colour behind a comma or none."""
+    """A type of argparse: a width in mm, and perhaps a colour after a comma."""
     width, _, colour = text.partition(",")
     return millimetres(1, 0, 100)(width)[0], colours(colour)[0] if colour else INK
 
@@ -63,29 +65,33 @@ def add_words(parser):
     add_rule(parser)
     add_look(parser)
     star = (
-        "the centre is a vertex that a turn by 1/M keeps as far as the page goes; N counts their kinds from 0"
+        "puts a vertex in the centre around which the whole page has M-fold symmetry; N is the number of "
+        "the vertex star, from 0"
     )
     parser.add_argument("--star", metavar="M[,N]", type=symmetry, help=star)
     add_frame(parser)
-    parser.add_argument("--halves", action="store_true", help="the rule's own tiles, and no whole ones")
-    forms = "the form; dxf has the lines only"
+    parser.add_argument("--halves", action="store_true", help="half tiles, not joined to whole ones")
+    forms = "the format (default svg); dxf is for --cut"
     parser.add_argument("--to", choices=("svg", "dxf"), default="svg", help=forms)
-    parser.add_argument("--out", metavar="FILE", help="a file, in place of standard output")
+    parser.add_argument("--out", metavar="FILE", help="a file instead of standard output")
 
 
 def add_look(parser):
     """The options of the page, its colours and its lines."""
     size, tile = millimetres(2, 1, 20000), millimetres(1, 0.1, 10000)
-    by = "what a colour is for: a kind, a turn, or the rarest vertex star at a tile's corners; kind"
-    inks = "colours, in the order of the layers"
-    lines = "lines of this width; 0 for none; 0.3,#222222"
+    by = (
+        "what decides the colour (--colour of paint.py): kind (default), turn, or the rarest vertex star at a "
+        "tile's corners"
+    )
+    inks = "the colours, in the order of the layers (--palette of paint.py)"
+    lines = "the width and colour of the lines, 0 for none; default 0.3,#222222"
     joined_ = "one area for each colour, without seams between its tiles"
-    cut = "no areas: each edge once, in the fewest strokes, cut off at the page, and a frame"
+    cut = "no areas: each edge exactly once, in the fewest strokes, clipped to the page, and a frame"
     add = parser.add_argument
     add("--size", metavar="W,H", type=size, default=[1000, 700], help="the page in mm; 1000,700")
     add("--tile", metavar="MM", type=tile, default=[10.0], help="one length in mm; 10")
     add("--by", choices=("kind", "turn", "star"), default="kind", help=by)
-    add("--colours", metavar="C,C,..", type=colours, default=list(COLOURS), help=inks)
+    add("--colours", metavar="C,C,..", type=colours, help=inks)
     add("--line", metavar="MM[,C]", type=line, default=(0.3, INK), help=lines)
     add("--joined", action="store_true", help=joined_)
     add("--cut", action="store_true", help=cut)
@@ -101,12 +107,12 @@ def run(options):
         frame, at = symmetric(tiling, page, frame, at, options)
     patch = tiles_of_page(tiling, page, frame, at, not options.halves)
     words = words_of(tiling.machine, frame, Box(at, page.half(tiling)), not options.halves)
-    tell(f"{len(patch)} tiles; {places.command()} {words}")
+    tell(f"{len(patch)} tiles; the same window: {places.command()} {words}")
     page.centre = np.array(at)
     if options.cut:
         edges, ends = clipped_edges(patch, page)
         trails = strokes(edges)
-        tell(f"{len(edges)} edges, each once, in {len(trails)} strokes")
+        tell(f"{len(edges)} edges in {len(trails)} strokes, each edge exactly once")
         text = (dxf if options.to == "dxf" else cut_svg)([[ends[v] for v in trail] for trail in trails], page)
     else:
         text = poster_svg(patch, page, options)
@@ -114,18 +120,18 @@ def run(options):
 
 
 class Page:
-    """A page of so many millimetres, and how large a length is on it."""
+    """A page with its size in millimetres, and the size of a length on it."""
 
     def __init__(self, size, tile: float):
         self.wide, self.high, self.tile = size[0], size[1], tile
         self.centre = np.zeros(4, np.int64)
 
     def half(self, tiling: Tiling) -> Tuple[int, int]:
-        """The window that has the page in it, and a little more."""
+        """The window that contains the page, and a little more."""
         return int(self.wide / self.tile) + 2, int(self.high / self.tile / 2 / tiling.ring.sine) + 2
 
     def places(self, patch: Patch, points: np.ndarray) -> np.ndarray:
-        """Where points are on the page, in mm from its upper left corner: float64 (n, 2)."""
+        """The positions of points on the page, in mm from its upper left corner: float64 (n, 2)."""
         return patch.rule.ring.xy(points - self.centre) * (self.tile, -self.tile) + (
             self.wide / 2,
             self.high / 2,
@@ -133,7 +139,7 @@ class Page:
 
 
 def symmetric(tiling: Tiling, page: Page, frame: Frame, at, options):
-    """The frame and the point of the place that --star asks for; tells where it is, and how far it is
+    """The frame and the point of the place that --star asks for. Prints where it is, and how far it is
     symmetric."""
     fold, which = options.star
     radius = float(np.hypot(page.wide, page.high)) / 2 / page.tile + 2
@@ -145,12 +151,12 @@ def symmetric(tiling: Tiling, page: Page, frame: Frame, at, options):
     except NoPlace as none:
         raise Trouble(str(none)) from none
     except (CoordLimit, DepthLimit) as refused:
-        raise Trouble(f"{refused}: another --seed") from refused
+        raise Trouble(f"{refused}: use another --seed") from refused
     seen = kept_radius(window if options.halves else window.whole(), place.at, fold)
     where = f"addr={place.frame.base} seed={place.frame.seed} at={','.join(map(str, place.at))}"
     tell(
-        f"{fold}-fold about {where}: kept to {place.radius:.1f} lengths, since an inflated star is; "
-        f"compared tile by tile to {min(seen, place.radius):.1f}"
+        f"{fold}-fold symmetry around {where}, within {place.radius:.1f} lengths: an inflated vertex star. "
+        f"Tested tile by tile within {min(seen, place.radius):.1f} lengths"
     )
     return place.frame, place.at
 
@@ -161,34 +167,15 @@ def tiles_of_page(tiling: Tiling, page: Page, frame: Frame, at, whole: bool) -> 
     guess = 4 * half[0] * half[1] / tiling.rule.least_area()
     if guess > 4 * MOST_TILES:
         raise Trouble(
-            f"that is up to {guess:.0f} tiles, and a page has at most {MOST_TILES}: a larger --tile"
+            f"the page would have up to {guess:.0f} tiles, and may have {MOST_TILES}: use a larger --tile"
         )
     sheet = Sheet(tiling, half, at, frame, None, whole)
     pieces, count = [], len(sheet.rows) * len(sheet.columns)
     for piece in sheet.pieces():
         pieces.append(piece)
         if count > 4:
-            tell(f"window {len(pieces)} of {count}: {sum(map(len, pieces))} tiles")
+            tell(f"window {len(pieces)} of {count}: {sum(map(len, pieces))} tiles so far")
     return gathered(pieces)
-
-
-def gathered(pieces: List[Patch]) -> Patch:
-    """One patch of several."""
-    rule = pieces[0].rule
-    if not isinstance(pieces[0], WholePatch):
-        return Patch(
-            rule, np.concatenate([it.tiles for it in pieces]), np.concatenate([it.addresses for it in pieces])
-        )
-    starts = np.cumsum([0] + [len(it.half_tiles) for it in pieces])
-    halves = np.concatenate(
-        [np.where(it.halves < 0, -1, it.halves + start) for it, start in zip(pieces, starts)]
-    )
-    return WholePatch(
-        rule,
-        np.concatenate([it.half_tiles for it in pieces]),
-        np.concatenate([it.half_addresses for it in pieces]),
-        halves,
-    )
 
 
 def classes(patch: Patch, by: str) -> Tuple[np.ndarray, Dict[int, str]]:
@@ -216,8 +203,7 @@ def poster_svg(patch: Patch, page: Page, options) -> str:
     on_page = within(patch, page, places)
     of, names = classes(patch, options.by)
     out = head(page)
-    for spot, (name, label) in enumerate(names.items()):
-        colour = options.colours[spot % len(options.colours)]
+    for (name, label), colour in zip(names.items(), layer_colours(patch, options, list(names))):
         look = f'fill="{colour}" stroke="{colour}" stroke-width="0.1" stroke-linejoin="round" {CLIP}'
         out.append(layer(f"{options.by}{name}", label, look))
         out += (joined if options.joined else apart)(patch, np.flatnonzero((of == name) & on_page), texts)
@@ -227,12 +213,40 @@ def poster_svg(patch: Patch, page: Page, options) -> str:
         trails = strokes(shown(patch.edges(), places, page))
         look = f'fill="none" stroke="{ink}" stroke-width="{number(width)}" {ROUND} {CLIP}'
         out.append(layer("lines", "lines", look))
-        out.append(f'<path d="{"".join("M" + "L".join(texts[v] for v in trail) for trail in trails)}"/></g>')
+        out += [*paths("M" + "L".join(texts[v] for v in trail) for trail in shorter(trails)), "</g>"]
     return "\n".join([*out, "</svg>", ""])
 
 
+def shorter(trails: List[List[int]]) -> Iterator[List[int]]:
+    """The same lines, with long trails in parts."""
+    for trail in trails:
+        for start in range(0, max(1, len(trail) - 1), MOST_CORNERS):
+            yield trail[start : start + MOST_CORNERS + 1]
+
+
+def paths(pieces: Iterable[str]) -> Iterator[str]:
+    """Pieces of paths put together to few elements, none with too long an attribute."""
+    some, size = [], 0
+    for piece in pieces:
+        if some and size + len(piece) > MOST_TEXT:
+            yield f'<path d="{"".join(some)}"/>'
+            some, size = [], 0
+        some.append(piece)
+        size += len(piece)
+    yield f'<path d="{"".join(some)}"/>'
+
+
+def layer_colours(patch: Patch, options, names: List[int]) -> List[str]:
+    """The colour of each layer: the given ones in order, or the usual one of each kind or turn."""
+    own = Colours(patch.rule).by.get(options.by)
+    if own and not options.colours:
+        return [own[name] for name in names]
+    given = options.colours or COLOURS
+    return [given[spot % len(given)] for spot in range(len(names))]
+
+
 def within(patch: Patch, page: Page, places: np.ndarray) -> np.ndarray:
-    """Which tiles reach on the page, by their boxes: bool (n,)."""
+    """Which tiles are partly on the page, by their boxes: bool (n,)."""
     corners = patch.corners()
     far = np.where((corners >= 0)[:, :, None], places[corners], np.nan)
     low, high = np.nanmin(far, 1), np.nanmax(far, 1)
@@ -240,7 +254,7 @@ def within(patch: Patch, page: Page, places: np.ndarray) -> np.ndarray:
 
 
 def shown(edges: np.ndarray, places: np.ndarray, page: Page) -> List[Tuple[int, int]]:
-    """The edges that reach on the page, by their boxes."""
+    """The edges that are partly on the page, by their boxes."""
     low, high = np.minimum(*(places[edges[:, i]] for i in (0, 1))), np.maximum(
         *(places[edges[:, i]] for i in (0, 1))
     )
@@ -261,7 +275,8 @@ def apart(patch: Patch, tiles: np.ndarray, texts: List[str]) -> List[str]:
 
 
 def joined(patch: Patch, tiles: np.ndarray, texts: List[str]) -> List[str]:
-    """One path round all of these tiles: the edges across which none of them lies."""
+    """One path around all of these tiles: the edges across which none of them lies. If its text is too long for
+    some readers of XML, one path goes around the tiles on the left, and one around the others."""
     inside = np.zeros(len(patch) + 1, bool)
     inside[tiles] = True
     corners, after = patch.corners()[tiles], patch._next[tiles]
@@ -277,11 +292,16 @@ def joined(patch: Patch, tiles: np.ndarray, texts: List[str]) -> List[str]:
                 loop.append(now)
                 now = onward[now].pop()
             out.append("M" + "L".join([texts[v] for v in loop]) + "Z")
-    return [f'<path d="{"".join(out)}"/>']
+    text = "".join(out)
+    if len(text) <= 4 * MOST_TEXT:
+        return [f'<path d="{text}"/>']
+    left = patch.middles()[tiles, 0]
+    is_left = left < np.median(left)
+    return joined(patch, tiles[is_left], texts) + joined(patch, tiles[~is_left], texts)
 
 
 def clipped_edges(patch: Patch, page: Page):
-    """Each edge once, as far as it is on the page: pairs of numbers of ends, and the ends in mm."""
+    """Each edge exactly once, clipped to the page: pairs of numbers of ends, and the ends in mm."""
     places = page.places(patch, patch.vertices())
     ends: List[Tuple[float, float]] = [tuple(it) for it in places.tolist()]
     edges = []
@@ -332,14 +352,14 @@ def layer(name: str, label: str, style: str) -> str:
 
 
 def cut_svg(trails, page: Page) -> str:
-    text = "".join("M" + "L".join(" ".join(pair) for pair in hundredths(np.array(trail))) for trail in trails)
+    texts = ("M" + "L".join(" ".join(pair) for pair in hundredths(np.array(trail))) for trail in trails)
     style = 'fill="none" stroke="{}" stroke-width="0.1" ' + ROUND
     frame = f'<path d="M0 0H{number(page.wide)}V{number(page.high)}H0Z"/>'
     return "\n".join(
         [
             *head(page),
             layer("cut", "cut", style.format("#ff0000")),
-            f'<path d="{text}"/>',
+            *paths(texts),
             "</g>",
             layer("frame", "frame", style.format("#0000ff")),
             frame,
