@@ -20,6 +20,6 @@ IsBound names name a = address_of_name names name ≡ Some a
 abbrev pub IsUnbound : Bindings → ℕ → Type 0
 IsUnbound names name = address_of_name names name ≡ None
 
--- with a name bound to an address, in place of the one to which it may have been bound before
+-- with a name bound to an address, which replaces an earlier one
 abbrev pub bind : Bindings → ℕ → Address → Bindings
 bind names name a = set names name (Some a)

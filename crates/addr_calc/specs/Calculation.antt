@@ -11,7 +11,7 @@ use Rattle.addr_calc.specs.Statement.{Statement}
 abbrev pub AllFit : Tiling → Bindings → Type 0
 AllFit t names = (name : ℕ) (a : Address) → IsBound names name a → Fits (children t) a
 
--- a statement was done: the names are bound as it says, and what it prints stands behind what was printed before
+-- a statement was done: the names are bound as it says, and what it prints was appended
 pub record WasDone (t : Tiling) (statement : Statement) (before after : Calculation) : Type 0 where
   pub printed : List ℕ
   pub does : Does t before.names statement after.names printed

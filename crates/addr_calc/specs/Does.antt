@@ -29,7 +29,8 @@ pub record Shows (names : Bindings) (name : ℕ) (after : Bindings) (printed : L
   pub keeps : after ≡ names
   pub line : printed ≡ show_line name address
 
--- none of the tile's Horner values is refused, and its kind and the motion by which it lies in its supertile are printed
+-- none of the tile's Horner values is refused, and its kind and the motion by which it lies in its supertile
+-- are printed
 pub record Places (t : Tiling) (names : Bindings) (name : ℕ) (after : Bindings) (printed : List ℕ) : Type 0 where
   pub address : Address
   pub bound : IsBound names name address
@@ -39,8 +40,9 @@ pub record Places (t : Tiling) (names : Bindings) (name : ℕ) (after : Bindings
   pub keeps : after ≡ names
   pub line : printed ≡ place_line t.order name address.kind motion
 
--- The tile has the edge, which isn't on the boundary of the supertile; and the other name is bound to the one tile across it: both tiles placed in their common
--- supertile, it is the only tile across the edge. Its address is printed, and the edge there that leads back.
+-- The tile has the edge, which is not on the boundary of the supertile. The other name is bound to the tile
+-- across it. With both tiles placed in their common supertile, this is the only tile across the edge. Its
+-- address is printed, and the edge there that leads back.
 pub record Crosses (t : Tiling) (names : Bindings) (name edge other : ℕ) (after : Bindings) (printed : List ℕ) : Type 0 where
   pub address : Address
   pub bound : IsBound names name address
@@ -64,8 +66,8 @@ pub record Compares (names : Bindings) (one other : ℕ) (after : Bindings) (pri
   pub keeps : after ≡ names
   pub line : printed ≡ common_line one other level
 
--- how the two tiles lie to each other is printed: the edges of the one that have the other across them in their common supertile, with the edges there that lead
--- back
+-- The relation of the two tiles is printed: the edges of the first that have the second across them in their
+-- common supertile, with the edges there that lead back.
 pub record Relates (t : Tiling) (names : Bindings) (one other : ℕ) (after : Bindings) (printed : List ℕ) : Type 0 where
   pub address : Address
   pub bound : IsBound names one address

@@ -1,4 +1,4 @@
--- How the faults of a script are printed: a name, and each of its fields behind a blank.
+-- How the faults of a script are printed: a name, and each of its fields after a blank.
 use Rattle.std.specs.Prelude.{List, ℕ, ◌++◌, codes, decimal}
 use Rattle.cyclo_points.specs.Text.{point_text}
 use Rattle.tile_shape.specs.FaultText.{address_fault_text}

@@ -14,7 +14,7 @@ pub record IsLeastLevel (a b : Address) (level : ℕ) : Type 0 where
   pub agree : AgreeFrom a b level
   pub least : (lower : ℕ) → lower < level → AgreeFrom a b lower → ⊥
 
--- the least level from which two addresses agree, or that there is none: their depths differ, or they agree from none
+-- the least level from which two addresses agree, or none: their depths differ, or they agree from none
 abbrev pub IsCommonLevel : Address → Address → Option ℕ → Type 0
 IsCommonLevel a b (Some level) = IsLeastLevel a b level
 IsCommonLevel a b None = depth a ≡ depth b → (level : ℕ) → AgreeFrom a b level → ⊥

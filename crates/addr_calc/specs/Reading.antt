@@ -1,5 +1,5 @@
--- Reading a line, its words from left to right. Each reader answers what it has read, or the number, from 0, of the first word that hasn't its form or is one
--- too many; where a word is missing it is the number of words.
+-- Reading a line, its fields from left to right. Each reader gives what it has read, or the number, from 0,
+-- of the first field that is malformed or one too many. If a field is missing, it is the number of fields.
 use Rattle.std.specs.Prelude.{ℕ, ◌-◌, ◌&&◌, List, [], ◌∷◌, codes, Option, Some, None, Result, Ok, Err, nat_le, ◌==◌, if◌then◌else◌}
 use Rattle.std.specs.Str.{bytes_eq}
 use Rattle.cyclo_points.specs.Text.{blank}
@@ -24,7 +24,7 @@ abbrev pub no_word : Statement → ℕ → List (List ℕ) → Result Statement 
 no_word statement place [] = Ok statement
 no_word statement place (word ∷ words) = Err place
 
--- the statement of each command, by the words behind it
+-- the statement of each command, by the fields after it
 unfoldable pub let_in : List (List ℕ) → Result Statement ℕ
 let_in words = do
   name ← word_by name_in 1 words
@@ -66,7 +66,7 @@ command_in (word ∷ words) =
     (if bytes_eq word (codes "common") then two_names_in Common words else
     (if bytes_eq word (codes "pair") then two_names_in Pair words else Err 0)))))
 
--- the statement of a line: nothing where it is empty or a comment; else its words stand between single blanks
+-- the statement of a line: nothing if it is empty or a comment; otherwise single blanks separate its fields
 unfoldable pub statement_in : List ℕ → Result Statement ℕ
 statement_in [] = Ok Nothing
 statement_in (byte ∷ bytes) = if byte == number_sign then Ok Nothing else command_in (texts_between blank (byte ∷ bytes))

@@ -1,5 +1,6 @@
--- The faults of a line. Each says that those before it don't hold, so that a line has one: it has not the form of a statement; a name that it reads isn't bound; its text is no
--- address; the tile hasn't the edge; the edge is on the boundary of the supertile; a Horner value is refused.
+-- The faults of a line. Each says that those before it do not hold, so that a line has one. They are: it is
+-- no statement; a name that it reads is not bound; its text is no address; the tile does not have the edge.
+-- Or the edge is on the boundary of the supertile; or a Horner value is refused.
 use Rattle.std.specs.Prelude.{◌≡◌, ◌⊎◌, ℕ, ◌≤◌, List, Some, Ok, Err}
 use Rattle.addressing.specs.Address.{Address}
 use Rattle.cyclo_points.specs.Order.{NumberOf, coefficients}
@@ -27,18 +28,20 @@ ReadsUnbound names (Common one other) = IsUnbound names one ⊎ IsUnbound names 
 ReadsUnbound names (Pair one other) = IsUnbound names one ⊎ IsUnbound names other
 ReadsUnbound names _ = ⊥
 
--- the text is that of no tile of the tiling, and has this fault: the first in the order of the faults of addresses
+-- the text is that of no tile of the tiling, and has this fault: the first in the order of the faults of
+-- addresses
 pub record IsNoAddress (t : Tiling) (text : List ℕ) (fault : AddressFault) : Type 0 where
   pub none : (a : Address) → IsAcceptedAddress (children t) a → text ≡ address_text a → ⊥
   pub first : IsFaultOf (children t) text fault
 
--- the tile of the name hasn't the edge
+-- the tile of the name does not have the edge
 pub record LacksEdge (t : Tiling) (names : Bindings) (name edge : ℕ) : Type 0 where
   pub address : Address
   pub bound : IsBound names name address
   pub beyond : edges_of t address.kind ≤ edge
 
--- the edge of the tile of the name lies along this edge of the polygon of its supertile, on this part of it, and along no other
+-- the edge of the tile of the name lies along this edge of the polygon of its supertile, on this part of it,
+-- and along no other
 pub record LiesOutside (t : Tiling) (names : Bindings) (name own edge part : ℕ) : Type 0 where
   pub address : Address
   pub bound : IsBound names name address
@@ -52,7 +55,7 @@ pub record PassesLimit (t : Tiling) (names : Bindings) (name : ℕ) (value : Poi
   pub first : first_refused t address.digits ≡ Some number
   pub is_value : value.c ≡ coefficients t.order number
 
--- a statement is refused by this fault, which has the number of its line; want of memory is no fault
+-- a statement is refused by this fault, which has the number of its line; out of memory is no fault
 abbrev pub Refuses : Tiling → Bindings → Statement → ℕ → CalcFault → Type 0
 Refuses t names statement number (UnknownName at) = (at ≡ number) × ReadsUnbound names statement
 Refuses t names (Let name text) number (BadAddress at fault) = (at ≡ number) × IsNoAddress t text fault

@@ -16,14 +16,16 @@ pub data Relation : Type 0 where
   -- these edges of the first lie on these of the second
   Beside : List Pair → Relation
 
--- all (e, f) for which edge f of b is across edge e of a, both tiles placed in their common supertile, and no other edge of a tile of it is; in the order of e.
--- And edge e of a is the only one across edge f of b.
+-- All (e, f) for which edge f of b is across edge e of a, with both tiles placed in their common supertile,
+-- and no other edge of a tile there is; in the order of e. And edge e of a is the only one across edge f of
+-- b.
 pub record AreAllAcross (t : Tiling) (a b : Address) (pairs : List Pair) : Type 0 where
   pub in_order : IsInOrder pairs
   pub only_across : (e f : ℕ) → IsAmong (record { mine = e; theirs = f }) pairs ↔ ((e < edges_of t a.kind) × IsOnlyAcross t a e b f)
   pub leads_back : (e f : ℕ) → IsAmong (record { mine = e; theirs = f }) pairs → IsOnlyAcross t b f a e
 
--- Strangers: no common supertile. Else Same: one address. Else Apart or Beside: the edges that lie on each other, none or some
+-- Strangers: no common supertile. Otherwise Same: one address. Otherwise Apart or Beside: the edges that lie
+-- on each other, none or some.
 abbrev pub IsRelation : Tiling → Address → Address → Relation → Type 0
 IsRelation t a b Strangers = HaveCommon a b → ⊥
 IsRelation t a b Same = HaveCommon a b × (a ≡ b)

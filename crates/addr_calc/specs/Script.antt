@@ -18,15 +18,16 @@ abbrev pub put_before : List ℕ → Outcome → Outcome
 put_before text (Ok rest) = Ok (text ++ rest)
 put_before text (Err fault) = Err fault
 
--- What comes of lines from a line number on: nothing is printed where there are none; the first has a fault, and that is it; or it can be run, and what it prints
--- stands before what comes of those behind it, which see the names as it leaves them bound.
+-- The outcome of lines from a line number on. Nothing is printed if there are none. If the first has a fault,
+-- that is the outcome. Otherwise it can be run, and what it prints comes before the outcome of the lines
+-- after it, which see the names as it leaves them bound.
 abbrev pub ComesOf : Tiling → Bindings → ℕ → List (List ℕ) → Outcome → Type 0
 ComesOf t names number [] outcome = outcome ≡ Ok []
 ComesOf t names number (line ∷ lines) outcome =
     ((fault : CalcFault) × HasFault t names number line fault × (outcome ≡ Err fault))
     ⊎ ((after : Bindings) × (printed : List ℕ) × (rest : Outcome) × Runs t names line after printed × ComesOf t after (number + 1) lines rest × (outcome ≡ put_before printed rest))
 
--- what comes of a script: its lines stand between newlines, are counted from 1, and begin with no name bound
+-- the outcome of a script: newlines separate its lines, which are counted from 1 and begin with no name bound
 abbrev pub IsAnswer : Tiling → List ℕ → Outcome → Type 0
 IsAnswer t script outcome = ComesOf t none_bound 1 (texts_between newline script) outcome
 
@@ -35,7 +36,7 @@ abbrev pub OrNoMemory : (CalcFault → Type 0) → CalcFault → Type 0
 OrNoMemory P NoMemory = Unit {0}
 OrNoMemory P fault = P fault
 
--- an answer is want of memory, or this one
+-- a result is out of memory, or this one
 abbrev pub IsOrNoMemory : Outcome → Outcome → Type 0
 IsOrNoMemory (Err NoMemory) outcome = Unit {0}
 IsOrNoMemory answer outcome = answer ≡ outcome

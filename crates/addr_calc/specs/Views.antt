@@ -30,7 +30,7 @@ relation_of verdict.Same = Same
 relation_of verdict.Apart = Apart
 relation_of (verdict.Beside pairs) = Beside (map as_pair pairs.items)
 
--- the parts of what stands behind a mark, where there is a mark
+-- the parts of the text after a mark, if there is a mark
 abbrev pub parts_behind : ℕ → Option (List ℕ) → List (List ℕ)
 parts_behind mark None = []
 parts_behind mark (Some rest) = texts_between mark rest

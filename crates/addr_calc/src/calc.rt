@@ -44,7 +44,7 @@ pub fn calc(alloc: Global, machine: &Machine, script: &[u8]) -> Result<Vec<u8>, 
     calculated::<Brand>(alloc, machine, script, Blank::new(1))
 }
 
-/// The same. The steps of the crossings are counted on a counter made here, which nobody reads.
+/// Like [`calc`]. A counter that is made here, and that nobody reads, counts the steps of the crossings.
 fn calculated<L: Ledger>(
     alloc: Global,
     machine: &Machine,

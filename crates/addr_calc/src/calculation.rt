@@ -239,7 +239,7 @@ impl Calculation {
         self.print(name)
     }
 
-    /// Prints the line behind a name.
+    /// Prints the line, after a name.
     fn print(&mut self, name: Name) -> Result<(), AllocError>
         requires room { length self.old.line + 2 < 1000 }
         ensures printed { OnOk result (self.new.text.items ≡ self.old.text.items ++ letter name.number ∷ blank ∷ self.old.line) }

@@ -20,7 +20,7 @@ pub fn common_level(one: &Address, other: &Address) -> Option<u8>
     Some(level)
 }
 
-/// Whether two addresses that agree from a level on agree from the one below it, too.
+/// Returns true if two addresses that agree from a level on agree from the one below it, too.
 fn agree_below(one: &Address, other: &Address, level: u8) -> bool
     requires agree { AgreeFrom (address_of one.now) (address_of other.now) level }
     requires one_depth { length one.now.digits.items ≡ length other.now.digits.items }

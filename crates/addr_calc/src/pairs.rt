@@ -1,4 +1,4 @@
-//! How two tiles lie to each other.
+//! The relation of two tiles.
 ghost use Rattle.std.specs.Prelude.{◌≡◌, IfOk};
 ghost use Rattle.addressing.specs.Address.{Fits};
 ghost use Rattle.rule_model.specs.Tiling.{Tiling, tiling_of, contacts, children};
@@ -33,7 +33,7 @@ impl Pairs {
         }
     }
 
-    /// The machine, which is compiled if it wasn't yet.
+    /// Returns the machine, and compiles it if that has not been done.
     fn take(&mut self, machine: &Machine) -> Result<Box<PairMachine>, NoMemory>
         requires compiled { AreOf (tiling_of machine.now) self.old }
         ensures compiled { AreOf (tiling_of machine.now) self.new }
@@ -69,7 +69,7 @@ impl Pairs {
     }
 }
 
-/// How two tiles lie to each other, in the plane.
+/// Returns the relation of two tiles in the plane.
 fn decide(machine: &Machine, pairs: &PairMachine, one: &Address, other: &Address) -> Verdict
     requires tables { pairs.now ≡ contacts (tiling_of machine.now) }
     requires one_fits { Fits (children (tiling_of machine.now)) (address_of one.now) }

@@ -1,4 +1,4 @@
-//! How two tiles lie to each other, put into a line.
+//! The relation of two tiles, written into a line.
 ghost use Rattle.std.specs.Prelude.{◌≡◌, ◌+◌, ◌*◌, ◌<◌, ◌≤◌, ◌++◌, length, map};
 ghost use Rattle.pair_machine.specs.Views.{as_pair};
 ghost use Rattle.addr_calc.specs.Printed.{pair_text, pairs_text, relation_text};

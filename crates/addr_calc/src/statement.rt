@@ -48,7 +48,7 @@ pub fn statement_in(line: &[u8]) -> Result<Statement<'_>, u8>
     }
 }
 
-/// The statement of a command and the words behind it.
+/// Reads the statement of a command from the fields after it.
 #[tactic(auto, unfolding(crate::specs::Reading::command_in))]
 fn command_in<'a>(command: &[u8], words: Option<&'a [u8]>) -> Result<Statement<'a>, u8>
     ensures { AnswersAs statement_of result (command_in (command.now ∷ words_left words.entry)) }
@@ -115,7 +115,7 @@ fn across_in(words: Option<&[u8]>) -> Result<Statement<'_>, u8>
     Ok(Statement::Across { name, edge, other })
 }
 
-/// The two names of a statement that asks something of two.
+/// Reads the two names of a statement about two tiles.
 #[tactic(auto, unfolding(crate::specs::Reading::two_names_in))]
 fn two_names_in(words: Option<&[u8]>) -> Result<(Name, Name), u8>
     ensures { (asks : ℕ → ℕ → TheStatement) → AnswersAs (λ names. asks names.0.number names.1.number) result (two_names_in asks (words_left words.entry)) }
@@ -126,7 +126,7 @@ fn two_names_in(words: Option<&[u8]>) -> Result<(Name, Name), u8>
     Ok((one, other))
 }
 
-/// The name that the first word is, the word of this place, and the words behind it.
+/// Reads the name in the first field, and returns the fields after it.
 fn name_at(place: u8, words: Option<&[u8]>) -> Result<(Name, Option<&[u8]>), u8>
     ensures { AnswersAs (λ found. (found.0.number, words_left found.1)) result (word_by name_in place (words_left words.entry)) }
 {
@@ -135,7 +135,7 @@ fn name_at(place: u8, words: Option<&[u8]>) -> Result<(Name, Option<&[u8]>), u8>
     Ok((name, words))
 }
 
-/// The number of an edge that the first word is.
+/// Reads the number of an edge in the first field.
 fn edge_at(place: u8, words: Option<&[u8]>) -> Result<(u8, Option<&[u8]>), u8>
     ensures { AnswersAs (λ found. (found.0, words_left found.1)) result (word_by (number_up_to 255) place (words_left words.entry)) }
 {
@@ -144,7 +144,7 @@ fn edge_at(place: u8, words: Option<&[u8]>) -> Result<(u8, Option<&[u8]>), u8>
     Ok((number as u8, words))
 }
 
-/// The first word, where it isn't empty.
+/// Reads the first field, if it is not empty.
 fn text_at(place: u8, words: Option<&[u8]>) -> Result<(&[u8], Option<&[u8]>), u8>
     ensures { AnswersAs (λ found. (found.0.now, words_left found.1)) result (word_by some_text place (words_left words.entry)) }
 {
@@ -155,7 +155,7 @@ fn text_at(place: u8, words: Option<&[u8]>) -> Result<(&[u8], Option<&[u8]>), u8
     Ok((word, words))
 }
 
-/// The first word, whatever it is.
+/// Reads the first field, whatever it is.
 fn word_at(place: u8, words: Option<&[u8]>) -> Result<(&[u8], Option<&[u8]>), u8>
     ensures { AnswersAs (λ found. (found.0.now, words_left found.1)) result (word_by any_in place (words_left words.entry)) }
 {
@@ -165,7 +165,7 @@ fn word_at(place: u8, words: Option<&[u8]>) -> Result<(&[u8], Option<&[u8]>), u8
     }
 }
 
-/// That no word is left: one is too many, and has this place.
+/// Tests that no field is left. Err has the position of the first one too many.
 fn end_at(place: u8, words: Option<&[u8]>) -> Result<(), u8>
     ensures { (s : TheStatement) → AnswersAs (λ _. s) result (no_word s place (words_left words.entry)) }
 {

@@ -5,8 +5,8 @@ use Rattle.addressing.specs.Tables.{Tables, type_of}
 use Rattle.addressing.specs.Touch.{IsOnlyTouched}
 use Rattle.addressing.specs.Trace.{Cut, HasTrace, first_part}
 
--- Edge f of the tile b is across edge e of the tile a: it is touched, and nothing else is; b has the depth of a and has that edge; and from there the one
--- pair touched is (a, e)
+-- Edge f of the tile b is across edge e of the tile a. It is touched, and nothing else is. The tile b has the
+-- depth of a, and has that edge. From there, the only pair touched is (a, e).
 pub record IsAcross (t : Tables) (a : Address) (e : ℕ) (b : Address) (f : ℕ) : Type 0 where
   pub only : IsOnlyTouched t a e b f
   pub same_depth : depth b ≡ depth a

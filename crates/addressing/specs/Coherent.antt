@@ -3,8 +3,9 @@ use Rattle.std.specs.Prelude.{◌≡◌, ◌↔◌, ◌<◌, ◌≤◌, ℕ, Som
 use Rattle.addressing.specs.Contact.{inner, outer}
 use Rattle.addressing.specs.Tables.{Tables, kind_tables, type_of, child_kind_of, contacts_of, parts_of, contact_of, part_of, mate_of, subs_of, child_type_of}
 
--- The tables are within the limits, each number in them exists, the mate of a mate is the type itself, a mate's subdivision is the type's read backwards,
--- inner contacts are mutual and between mates, and outer contacts are the parts of the edges, which have the types of the subdivision
+-- The tables are within the limits, and each number in them exists. The mate of a mate is the type itself,
+-- and a mate's subdivision is the type's read backwards. Inner contacts are mutual and between mates. Outer
+-- contacts are the parts of the edges, which have the types of the subdivision.
 pub record IsCoherent (t : Tables) : Type 0 where
   pub some_kind : 0 < length t.kinds
   pub at_most_16_kinds : length t.kinds ≤ 16
@@ -16,7 +17,8 @@ pub record IsCoherent (t : Tables) : Type 0 where
   pub at_most_32_types : length t.mates ≤ 32
   pub some_part : (ty : ℕ) → ty < length t.mates → 0 < length (subs_of t ty)
   pub at_most_8_parts : (ty : ℕ) → length (subs_of t ty) ≤ 8
-  -- there is a subdivision for each type, contacts for each child, one for each edge of its kind, and parts for each edge
+  -- there is a subdivision for each type, contacts for each child, one for each edge of its kind, and parts
+  -- for each edge
   pub sub_each : length t.subs ≡ length t.mates
   pub contacts_each : (k : ℕ) → length (kind_tables t k).contacts ≡ length (kind_tables t k).children
   pub contact_each : (k c kind : ℕ) → child_kind_of t k c ≡ Some kind → length (contacts_of t k c) ≡ length (kind_tables t kind).types
@@ -33,7 +35,7 @@ pub record IsCoherent (t : Tables) : Type 0 where
   pub mated : (k a e b f ty : ℕ) → contact_of t k a e ≡ Some (inner b f)
       → child_type_of t k (record { child = a; edge = e }) ≡ Some ty
       → child_type_of t k (record { child = b; edge = f }) ≡ mate_of t ty
-  -- the contact of a child edge is outer {E, p} exactly where part p of E, which exists, is that child edge
+  -- the contact of a child edge is outer {E, p} if and only if part p of E, which exists, is that child edge
   pub outer_part : (k c e f p : ℕ) → (contact_of t k c e ≡ Some (outer f p)) ↔ (part_of t k f p ≡ Some (record { child = c; edge = e }))
   pub outer_edge : (k c e f p : ℕ) → contact_of t k c e ≡ Some (outer f p) → IsSome (type_of t k f)
   -- the parts of an edge have the types of its type's subdivision, in order

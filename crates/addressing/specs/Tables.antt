@@ -1,10 +1,11 @@
--- Contact tables: all that is known of a rule without geometry, as lists of numbers, and the look-ups in them.
--- A look-up answers None where a number that it is asked for does not exist.
+-- Contact tables: all that is known of a rule without geometry, as lists of numbers, and the look-ups in
+-- them. A look-up gives None if a number that it is asked for does not exist.
 use Rattle.std.specs.Prelude.{ℕ, List, [], Option, map, length, slice_get, unwrap_or}
 use Rattle.std.specs.Option.{option_and_then}
 use Rattle.addressing.specs.Contact.{Contact, ChildEdge}
 
--- of one kind: the type of each edge, the kind of each child, what each edge of each child is, and the child edges that are the parts of each edge, in order
+-- of one kind: the type of each edge, the kind of each child, the contact of each edge of each child, and the
+-- child edges that are the parts of each edge, in order
 pub record KindTables : Type 0 where
   pub types : List ℕ
   pub children : List ℕ

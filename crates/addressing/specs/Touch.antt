@@ -5,7 +5,8 @@ use Rattle.addressing.specs.Contact.{inner}
 use Rattle.addressing.specs.Tables.{Tables, child_kinds, contact_of}
 use Rattle.addressing.specs.Trace.{Cut, IsTrace}
 
--- at each place the second number is s - 1 - the first, where s is the number of parts of the edge that is cut there
+-- at each place the second number is s - 1 minus the first, where s is the number of parts of the edge that
+-- is cut there
 abbrev pub AreMirrored : List Cut → List Cut → Type 0
 AreMirrored [] [] = Unit {0}
 AreMirrored [] (d ∷ ds) = ⊥

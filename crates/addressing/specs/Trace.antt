@@ -9,8 +9,9 @@ pub record Cut : Type 0 where
   pub part : ℕ
   pub parts : ℕ
 
--- Edge e of the tile with these digits has the trace (top, cuts), the coarsest cut first. Without digits it has the trace (e, no cuts). Where it has the
--- trace (E, cuts), and the contact of child c, edge E in kind K is outer {F, p}, it has with the further digit (c, K) the trace (F, p followed by the cuts).
+-- Edge e of the tile with these digits has the trace (top, cuts), the coarsest cut first. Without digits it
+-- has the trace (e, no cuts). Let it have the trace (E, cuts), and let the contact of child c, edge E in kind
+-- K be outer {F, p}. Then with the further digit (c, K) it has the trace (F, p followed by the cuts).
 -- Otherwise there is none.
 pub data IsTrace (t : Tables) (e : ℕ) : List Step → ℕ → List Cut → Type 0 where
   bare : IsTrace t e [] e []

@@ -7,7 +7,8 @@ use Rattle.rule_model.specs.Views.{as_edition}
 use Rattle.builtin_rules.specs.declared.name.Name.{Name}
 use Rattle.builtin_rules.specs.Named.{named}
 
--- the numbers of the rule of a name exist, and its children fit edge to edge, in its edition and where its order refuses values
+-- the numbers of the rule of a name exist, and its children fit edge to edge, in its edition and with the
+-- values that its order refuses
 pub record IsAcceptedName (name : Name) : Type 0 where
   pub numbered : IsNumbered (points_of (named name).order) (tiling_listed (named name)).rule
   pub edge_to_edge : IsEdgeToEdge (points_of (named name).order) (as_edition (named name).edition) (is_refused (named name).order) (tiling_listed (named name)).rule

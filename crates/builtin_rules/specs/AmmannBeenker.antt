@@ -7,8 +7,8 @@ use Rattle.rule_model.specs.declared.edition.Edition.TheVariants.{One}
 use Rattle.rule_model.specs.Tiling.{ListedRule}
 use Rattle.builtin_rules.specs.Notation.{at, mated_type, child, prototile, -1, +0, +1, +2}
 
--- ζ is an eighth of a turn, and the factor is 1 + √2 = 1 + ζ - ζ³. The side s has length 1; the square's diagonal h, of length √2, is glued; and t- is the
--- mate of t.
+-- ζ is an eighth of a turn, and the factor is 1 + √2 = 1 + ζ - ζ³. The side s has length 1. The square's
+-- diagonal h, of length √2, is glued. t- is the mate of t.
 abbrev pub rhombs_and_halves_of_squares : (s s- h h- : ℕ) → Rule Point
 rhombs_and_halves_of_squares s s- h h- = record {
   factor = at +1 +1 +0 -1;

@@ -5,7 +5,8 @@ use Rattle.rule_model.specs.declared.edition.Edition.TheVariants.{Two}
 use Rattle.rule_model.specs.Tiling.{ListedRule}
 use Rattle.builtin_rules.specs.Notation.{at, mated_type, child, prototile, +0, +1, +2, +4}
 
--- ζ is a sixth of a turn, and the factor is 2. The one edge type, number 0, has length 1, is its own mate and is cut into two of itself. Nothing is glued.
+-- ζ is a sixth of a turn, and the factor is 2. The one edge type, number 0, has length 1, is its own mate and
+-- is cut into two of itself. Nothing is glued.
 abbrev pub half_hex : ListedRule
 half_hex = record {
   edition = Two;
@@ -14,7 +15,8 @@ half_hex = record {
     factor = at +2 +0 +0 +0;
     glue = [];
     types = mated_type 0 (0 ∷ 0 ∷ []) ∷ [];
-    -- a trapezoid, from the middle of its long side on, which is two edges; and a trapezoid on the middle of that side, and one along each other side
+    -- a trapezoid, from the middle of its long side on, which is two edges; and a trapezoid on the middle of
+    -- that side, and one along each other side
     kinds =
         prototile
         (at +1 +0 +0 +0 ∷ at +2 +0 +0 +0 ∷ at +1 +1 +0 +0 ∷ at +0 +1 +0 +0 ∷ at +0 +0 +0 +0 ∷ [])

@@ -1,5 +1,6 @@
--- The numbers of a rule as the program holds them, their lists behind references. A reference of a running program has a place, and one of a constant
--- has none, so each type is given for any R that stands for references.
+-- The numbers of a rule as the program holds them, with their lists as references. A reference of a running
+-- program has a place, and one of a constant has none, so each type is given for any R that stands for
+-- references.
 use Rattle.std.specs.Prelude.{ℕ, List, map}
 use Rattle.std.specs.Borrow.{Bor}
 use Rattle.cyclo_points.specs.declared.point.Point.{Point}

@@ -7,8 +7,9 @@ use Rattle.rule_model.specs.declared.edition.Edition.TheVariants.{One}
 use Rattle.rule_model.specs.Tiling.{ListedRule}
 use Rattle.builtin_rules.specs.Notation.{at, mated_type, child, prototile, -1, +0, +1, +2}
 
--- ζ is a tenth of a turn, and the factor is φ = 1 + ζ² - ζ³. The long side a has length φ, and the short side b length 1; the axes c of the kite, of
--- length φ, and f of the dart, of length 1, are glued; and t- is the mate of t.
+-- ζ is a tenth of a turn, and the factor is φ = 1 + ζ² - ζ³. The long side a has length φ, and the short side
+-- b length 1. The axes c of the kite, of length φ, and f of the dart, of length 1, are glued. t- is the mate
+-- of t.
 abbrev pub halves_of_kites_and_darts : (a a- b b- c c- f f- : ℕ) → Rule Point
 halves_of_kites_and_darts a a- b b- c c- f f- = record {
   factor = at +1 +0 +1 -1;

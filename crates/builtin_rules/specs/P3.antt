@@ -1,4 +1,5 @@
--- Penrose's rhombs, each cut into two halves: the thin one along its short diagonal, the thick one along its long diagonal.
+-- Penrose's rhombs, each cut into two halves: the thin one along its short diagonal, the thick one along its
+-- long diagonal.
 use Rattle.std.specs.Prelude.{ℕ, [], ◌∷◌}
 use Rattle.substitution.specs.Rule.{Rule}
 use Rattle.cyclo_points.specs.declared.order.Order.TheVariants.{Ten}
@@ -7,8 +8,8 @@ use Rattle.rule_model.specs.declared.edition.Edition.TheVariants.{One}
 use Rattle.rule_model.specs.Tiling.{ListedRule}
 use Rattle.builtin_rules.specs.Notation.{at, mated_type, child, prototile, -1, +0, +1}
 
--- ζ is a tenth of a turn, and the factor is φ = 1 + ζ² - ζ³. The sides u and v have length 1; the diagonals w, of length 1/φ, and x, of length φ, are
--- glued; and t- is the mate of t.
+-- ζ is a tenth of a turn, and the factor is φ = 1 + ζ² - ζ³. The sides u and v have length 1. The diagonals
+-- w, of length 1/φ, and x, of length φ, are glued. t- is the mate of t.
 abbrev pub halves_of_rhombs : (u u- v v- w w- x x- : ℕ) → Rule Point
 halves_of_rhombs u u- v v- w w- x x- = record {
   factor = at +1 +0 +1 -1;

@@ -1,4 +1,4 @@
--- The contact tables that are written down beside the numbers of a rule.
+-- The contact tables that are written down with the numbers of a rule.
 use Rattle.std.specs.Prelude.{map}
 use Rattle.addressing.specs.Tables.{Tables, KindTables}
 use Rattle.edge_tables.specs.Views.{as_contact, as_child_edge}

@@ -2,7 +2,7 @@
 ghost use Rattle.builtin_rules.specs.declared.name.Name.{Name};
 ghost use Rattle.builtin_rules.specs.AcceptedNames.{IsAcceptedName};
 
-/// In the definition of each named rule all numbers exist, and the children fit edge to edge.
+/// States that in the definition of each named rule all numbers exist, and the children fit edge to edge.
 pub fn accepted_names_law()
     ensures { (name : Name) → IsAcceptedName name }
 {}

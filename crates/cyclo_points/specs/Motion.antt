@@ -12,6 +12,7 @@ use Rattle.cyclo_points.specs.Point.{point_in}
 abbrev pub motion_in : (o : Order) → Motion → MotionOf (NumberOf o)
 motion_in o m = record { turn = m.turn; shift = point_in o m.shift }
 
--- motions are ordered by their turns; of one turn, by the coefficients of their shifts, of which the first that differ decide
+-- motions are ordered by their turns; motions of one turn by the coefficients of their shifts, of which the
+-- first that differ decide
 abbrev pub motion_cmp : Motion → Motion → Ordering
 motion_cmp m n = ordering_then (nat_cmp m.turn n.turn) (slice_cmp int_cmp m.shift.c n.shift.c)

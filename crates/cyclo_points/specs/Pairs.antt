@@ -1,4 +1,5 @@
--- The numbers a + bζ over any ring, of the orders in which ζ² is such a number, and the operations in which no power of ζ has to be reduced.
+-- The numbers a + bζ over any ring, of the orders in which ζ² is such a number, and the operations in which
+-- no power of ζ has to be reduced.
 use Rattle.std.specs.Prelude.{ℤ, pos, Bool, ◌&&◌}
 use Rattle.std.specs.Ordering.{int_eq}
 use Rattle.ordered_ring.specs.Ring.{Ops}

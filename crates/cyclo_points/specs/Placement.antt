@@ -6,6 +6,7 @@ use Rattle.substitution.specs.Placement.{placement}
 use Rattle.cyclo_points.specs.declared.order.Order.{Order}
 use Rattle.cyclo_points.specs.Order.{NumberOf, points_of}
 
--- under every rule, the motion that stands beside an address that fits, in the list of its supertile's tiles, is that of Horner's scheme
+-- under every rule, the motion listed with an address that fits, in the list of its supertile's tiles, is
+-- that of Horner's scheme
 abbrev pub PlacementLaw : Order → Type 0
 PlacementLaw o = (r : Rule (NumberOf o)) (a : Address) → Fits (child_kinds r) a → StandsBeside (points_of o) r a (placement (points_of o) r a.digits)

@@ -1,4 +1,5 @@
--- What a real number of the program stands for: a number of the ordered ring of each order's coordinates, and the size of its parts.
+-- What a real number of the program stands for: a number of the ordered ring of each order's coordinates, and
+-- the size of its parts.
 use Rattle.std.specs.Prelude.{◌≡◌, ℕ, ℤ, pos}
 use Rattle.cyclo_points.specs.declared.order.Order.{Order}
 use Rattle.cyclo_points.specs.declared.order.Order.TheVariants.{Four, Six, Eight, Ten}

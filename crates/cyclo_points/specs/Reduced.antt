@@ -1,4 +1,4 @@
--- The number that four coefficients stand for in each order, also where orders four and six reduce the last two.
+-- The number that four coefficients stand for in each order. Orders four and six reduce the last two.
 use Rattle.std.specs.Prelude.{ℤ}
 use Rattle.ordered_ring.specs.Ring.{power}
 use Rattle.substitution.specs.Points.{Points}

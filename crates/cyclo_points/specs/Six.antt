@@ -1,4 +1,5 @@
--- The points of order six: Z[ζ] with ζ² = ζ - 1, so that ζ³ = -1, as pairs a + bζ. They are the triangular lattice; the coordinates are whole numbers.
+-- The points of order six: Z[ζ] with ζ² = ζ - 1, so that ζ³ = -1, as pairs a + bζ. They are the triangular
+-- lattice; the coordinates are integers.
 use Rattle.ordered_ring.specs.Ring.{Ops, difference, integers}
 use Rattle.ordered_ring.specs.Surd.{Pair}
 use Rattle.ordered_ring.specs.Sign.{signed_integers}

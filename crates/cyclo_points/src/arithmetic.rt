@@ -50,7 +50,7 @@ pub fn sub(p: &Point, q: &Point) -> Point
     }
 }
 
-/// Whether a coefficient is above 2^24 in absolute value.
+/// Returns true if a coefficient is above 2^24 in absolute value.
 fn is_beyond(coefficient: i64) -> bool
     ensures { result ≡ nat_lt (2 ^ 24) (nat_abs coefficient) }
 {

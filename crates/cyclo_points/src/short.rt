@@ -13,7 +13,7 @@ const BELOW_ZERO: i64 = 1 << 25;
 /// There are 2^26 short parts, of which 2^25 - 1 is the greatest.
 const SHORT_PARTS: u64 = 1 << 26;
 
-/// Whether both parts of a number are short.
+/// Returns true if both parts of a number are short.
 pub(crate) fn is_short(r: &Real) -> bool
     requires r_within { IsRealWithin (2 ^ 61) r.now }
     ensures only_short { IsTrue result → IsRealWithin (2 ^ 25) r.now }
@@ -22,7 +22,7 @@ pub(crate) fn is_short(r: &Real) -> bool
     offsets(r) < SHORT_PARTS
 }
 
-/// Whether all parts of two numbers are short, by one comparison.
+/// Returns true if all parts of two numbers are short, by one comparison.
 pub(crate) fn are_short(r: &Real, s: &Real) -> bool
     requires r_within { IsRealWithin (2 ^ 61) r.now }
     requires s_within { IsRealWithin (2 ^ 61) s.now }
@@ -34,7 +34,7 @@ pub(crate) fn are_short(r: &Real, s: &Real) -> bool
     (offsets(r) | offsets(s)) < SHORT_PARTS
 }
 
-/// The bits that stand in the offset of a part or of the other: below 2^26 for short parts alone.
+/// Returns the bits that are set in the offset of either part: below 2^26 for short parts only.
 fn offsets(r: &Real) -> u64
     requires r_within { IsRealWithin (2 ^ 61) r.now }
     ensures only_short { result < 2 ^ 26 → IsRealWithin (2 ^ 25) r.now }

@@ -1,6 +1,7 @@
-//! The sign of a number a + bθ, decided by a whole number that has it: of a short number qa + pb,
-//! where p/q is a convergent of θ with a denominator above the short parts, and of the others
-//! u|u| + m v|v|, where u + v√m is the number or twice the number.
+//! The sign of a number a + bθ, decided by an integer that has the same sign.
+//!
+//! For a short number it is qa + pb, where p/q is a convergent of θ with a denominator above the parts. For
+//! any other number it is u|u| + m v|v|, where u + v√m is the number or twice the number.
 
 ghost use Rattle.std.specs.Prelude.{◌≡◌, ℕ, ◌^◌, ◌*◌, pos, unsigned_abs};
 ghost use Rattle.std.specs.Ordering.{int_cmp};

@@ -57,8 +57,8 @@ fn thousandfold_multiple(order: Order, b: i128) -> i128
     }
 }
 
-/// The same for a short b: 1000θ is a whole number and a fraction of 2^45, so near that no whole number lies between
-/// the products, and these fit a word.
+/// Like the multiple of any b, for a short b. 1000θ is so near to an integer and a fraction of 2^45 that no
+/// integer lies between the products, and these fit a word.
 #[inline]
 fn short_multiple(order: Order, b: i64) -> i64
     requires b_within { Within (2 ^ 15) b }

@@ -1,5 +1,5 @@
--- The descent through the parts of a supertile to the tiles that meet a box: parts that a test finds beyond
--- the box are left out, and the tiles of those that a test finds within it are taken with no further test.
+-- The descent through the parts of a supertile to the tiles that meet a box. Parts that a test finds beyond
+-- the box are left out. The tiles of parts that a test finds within it are taken without a further test.
 use Rattle.std.specs.Prelude.{◌≡◌, ℕ, zero, suc, Bool, true, cond, List, [], ◌∷◌, map}
 use Rattle.std.specs.List.{flat_map, filter, enumerate_from}
 use Rattle.ordered_ring.specs.Ring.{power}

@@ -78,7 +78,7 @@ FrameBelowLaw P =
     → frame_tiles P T.rule (at_level f n) ≡ tiles_below P T.rule (top_kind (at_level f n)) n
     (ancestor_motion P T.rule f n)
 
--- and those that meet the window, each once, are what the descent finds
+-- and the descent finds those that meet the window, each exactly once
 abbrev pub FrameDescentLaw : Points → Type 0
 FrameDescentLaw P =
     (T : AcceptedRule P) (f : Address) → NamesTile P T.rule f → (n : ℕ) → n ≤ depth f

@@ -13,7 +13,7 @@ abbrev pub polygon_meets : (S : Signed) → OpenBox S.ops.carrier → Polygon S 
 polygon_meets S box polygon = list_any (λ e. box_test S e.from e.to box) (edges polygon)
     || member S polygon (test_point S.ops box.centre)
 
--- it tells whether a test point in the box belongs to the polygon
+-- the test is true if and only if a test point in the box belongs to the polygon
 abbrev pub MeetsByTest : Signed → Type 0
 MeetsByTest S =
     (box : OpenBox S.ops.carrier) → 0 < box.w → 0 < box.h → (polygon : Polygon S) → IsLeftFan S polygon

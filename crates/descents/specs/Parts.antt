@@ -1,5 +1,5 @@
--- The tiles of a supertile that is moved, by its parts: each part's tiles, with a digit more; the polygon of
--- a part; and those of the tiles that meet a box.
+-- The tiles of a supertile that is moved, by its parts: the tiles of each part, with one digit more; the
+-- polygon of a part; and the tiles of a part that meet a box.
 use Rattle.std.specs.Prelude.{ℕ, zero, suc, Bool, List, [], ◌∷◌, map}
 use Rattle.std.specs.List.{flat_map, filter, enumerate_from}
 use Rattle.ordered_ring.specs.Ring.{power}

@@ -16,9 +16,9 @@ pub fn extent_law(order: Order)
     ensures point { PointLaw (points_of order) }
 {}
 
-/// States what a descent finds. No tile of a part beyond a side of the window meets it; each tile of a part
-/// within it does; the tiles of any other part that meet it are those of its parts. So with right tests of
-/// parts the descent finds the tiles that meet the window, in the order of the list of all.
+/// States what a descent finds. No tile of a part beyond a side of the window meets it, and each tile of a
+/// part within the window does. The tiles of any other part that meet it are those of its parts. So with
+/// right tests of parts the descent finds the tiles that meet the window, in the order of the full list.
 pub fn descent_law(order: Order)
     ensures pruned { PrunedLaw (points_of order) }
     ensures taken { TakenLaw (points_of order) }

@@ -14,7 +14,7 @@ Agrees (Err NoMemory) f = Unit {0}
 Agrees (Ok x) f = f ≡ None
 Agrees (Err e) f = f ≡ Some e
 
--- the answer is no fault but want of memory
+-- the result is no fault except out of memory
 abbrev pub IsOkOrMemory : {A : Type 0} → Result A CheckFault → Type 0
 IsOkOrMemory (Ok x) = Unit {0}
 IsOkOrMemory (Err NoMemory) = Unit {0}

@@ -1,4 +1,4 @@
--- How faults are printed: a name, and each of its fields as a decimal number behind a space.
+-- How faults are printed: a name, and each of its fields as a decimal number after a space.
 use Rattle.std.specs.Prelude.{ℕ, List, ◌++◌, codes, decimal}
 use Rattle.dissect_check.specs.declared.what.What.{What}
 use Rattle.dissect_check.specs.declared.what.What.TheVariants.{Kinds, Types, Factor, Glue, Mate, Parts, Edges, Vertex, Child}

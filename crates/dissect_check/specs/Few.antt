@@ -9,7 +9,7 @@ few_of [] = None
 few_of (x ∷ []) = One x
 few_of (x ∷ (y ∷ ys)) = Many
 
--- of a list with x behind
+-- of a list with x appended
 abbrev pub one_more : {A : Type 0} → Few A → A → Few A
 one_more None x = One x
 one_more (One y) x = Many

@@ -1,4 +1,5 @@
--- The fault of the first clause that fails, at its first place: a definition on an edition, an order and the lists of a rule.
+-- The fault of the first clause that fails, at its first place: a definition on an edition, an order and the
+-- lists of a rule.
 use Rattle.std.specs.Prelude.{ℕ, not, [], ◌∷◌, map, length, Option, Some, None, Result, Ok, Err}
 use Rattle.substitution.specs.Rule as theory
 use Rattle.addressing.specs.Search.{unless, first_some, first_below}
@@ -52,7 +53,8 @@ module _ (o : Order) (l : theory.Rule Point) where
   abbrev pub kinds_limits : Option CheckFault
   kinds_limits = first_below kind_limits (length l.kinds)
 
-  -- the limits: of the numbers of kinds and of types, of the factor and of the glue types, of each type, and of each kind
+  -- the limits: of the numbers of kinds and of types, of the factor and of the glue types, of each type, and
+  -- of each kind
   abbrev pub limits : Option CheckFault
   limits = first_some (
       unless (kinds_fit l) (TooMany Kinds)

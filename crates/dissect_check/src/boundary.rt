@@ -31,7 +31,7 @@ use rule_model::rule::Rule;
 use std::alloc::Global;
 use tile_shape::no_memory::NoMemory;
 
-/// Whether a child edge that lies so is on the boundary along this edge of the parent.
+/// Returns true if a child edge that lies so is on the boundary along this edge of the parent.
 fn is_on_edge(lie: &Lie, edge: usize) -> bool
     ensures { result ≡ is_along edge (as_lie lie.now) }
 {

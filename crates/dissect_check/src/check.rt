@@ -22,8 +22,8 @@ use rule_model::checked::Checked;
 use rule_model::rule::Rule;
 use std::alloc::Global;
 
-/// The contact tables of each kind, where no clause on children and none behind them fails. All inflated
-/// prototiles are kept, since every loose edge of every kind is a fault before any boundary.
+/// Returns the contact tables of each kind, if no clause on children and none after them fails. It keeps all
+/// inflated prototiles, since every loose edge of every kind is a fault before any boundary.
 fn tables_of_kinds(alloc: Global, rule: &Rule) -> Result<Vec<KindRows>, CheckFault>
     requires usable { IsUsable rule.now }
     ensures fault { let o = rule.now.order in let l = as_rule rule.now in

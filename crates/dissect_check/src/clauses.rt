@@ -1,5 +1,5 @@
-//! The clauses that take no memory, in order: those on single prototiles and edge types, which come
-//! before the children, and those on uses and glue types, which come behind them.
+//! The clauses that need no memory, in order. Those on single prototiles and edge types come before the
+//! children. Those on uses and glue types come after them.
 ghost use Rattle.std.specs.Prelude.{◌≡◌, [], ◌∷◌};
 ghost use Rattle.addressing.specs.Search.{first_some};
 ghost use Rattle.rule_model.specs.Usable.{IsUsable};
@@ -45,7 +45,7 @@ fn shapes_and_types(rule: &Rule) -> Result<(), CheckFault>
     subdivisions(rule)
 }
 
-/// The clauses behind those on children: uses and glue types.
+/// Tests the clauses after those on children: uses and glue types.
 pub(crate) fn behind_children(rule: &Rule) -> Result<(), CheckFault>
     requires usable { IsUsable rule.now }
     ensures { let o = rule.now.order in let l = as_rule rule.now in

@@ -45,7 +45,7 @@ pub(crate) fn factor(rule: &Rule) -> Result<(), CheckFault>
     }
 }
 
-/// Whether an edition takes the factor.
+/// Returns true if an edition accepts the factor.
 fn is_growing(edition: Edition, order: Order, factor: &Point) -> bool
     requires small { IsSmall order factor.now }
     ensures { result ≡ is_growing (points_of order) (as_edition edition) (point_in order factor.now) }
@@ -66,7 +66,7 @@ fn squared_length(order: Order, p: &Point) -> Point
     mul(order, p, &conj(order, p))
 }
 
-/// Whether the factor is its own conjugate, and greater than 1.
+/// Returns true if the factor is its own conjugate, and greater than 1.
 fn is_real_above_one(order: Order, factor: &Point) -> bool
     requires small { IsSmall order factor.now }
     ensures { result ≡ is_real_above_one (points_of order) (point_in order factor.now) }
@@ -74,7 +74,7 @@ fn is_real_above_one(order: Order, factor: &Point) -> bool
     same_point(&conj(order, factor), factor) && is_above_one(order, factor)
 }
 
-/// Whether the real part of a point is greater than 1, twice it being X.
+/// Returns true if the real part of a point is greater than 1. Twice the real part is X.
 fn is_above_one(order: Order, p: &Point) -> bool
     requires within { IsWithin (2 ^ 16) p.now }
     ensures { result ≡ less (points_of order).real ((points_of order).real.ops.int (pos 2))
@@ -84,7 +84,7 @@ fn is_above_one(order: Order, p: &Point) -> bool
     sign(order, &rsub(&x(order, p), &two)) == Ordering::Greater
 }
 
-/// Whether one of the first powers of the factor, this many from 0 on, is refused.
+/// Returns true if one of the first powers of the factor, this many from 0 on, is refused.
 fn is_refused_by(order: Order, factor: &Point, powers: usize) -> bool
     requires small { IsSmall order factor.now }
     ensures { result ≡ some_below powers (λ n. is_refused order

@@ -12,7 +12,7 @@ pub(crate) enum Few<T> {
 }
 
 impl<T: Copy> Few<T> {
-    /// With one more member.
+    /// Returns these members with one more.
     pub fn more(self, x: T) -> Few<T>
         ensures { result ≡ one_more self x }
     {

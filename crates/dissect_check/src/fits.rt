@@ -14,7 +14,7 @@ use rule_model::kind_row::KindRow;
 use rule_model::rule::Rule;
 use rule_model::small::is_small;
 
-/// Whether each number is that of an edge type.
+/// Returns true if each number is that of an edge type.
 fn are_types(rule: &Rule, numbers: &[u8]) -> bool
     ensures { result ≡ list_all (is_type (as_rule rule.now)) numbers.now }
 {
@@ -23,14 +23,14 @@ fn are_types(rule: &Rule, numbers: &[u8]) -> bool
         .all(|&ty| usize::from(ty) < rule.type_count())
 }
 
-/// Whether each point is small.
+/// Returns true if each point is small.
 fn are_small(order: Order, points: &[Point]) -> bool
     ensures { result ≡ list_all (is_small order) points.now }
 {
     points.iter().all(|p| is_small(order, p))
 }
 
-/// Whether the child is of a kind that exists, its turn below n, and its shift small.
+/// Returns true if the child's kind exists, its turn is below n, and its shift is small.
 fn is_child(rule: &Rule, child: &Child) -> bool
     ensures { result ≡ is_child (points_of rule.now.order).order (is_small rule.now.order)
         (as_rule rule.now) (as_child child.now) }
@@ -40,7 +40,7 @@ fn is_child(rule: &Rule, child: &Child) -> bool
         && is_small(rule.order, &child.shift)
 }
 
-/// Whether each is a child of a kind.
+/// Returns true if each is a child of a kind.
 fn are_children(rule: &Rule, children: &[Child]) -> bool
     ensures { result ≡ list_all
         (is_child (points_of rule.now.order).order (is_small rule.now.order) (as_rule rule.now))
@@ -49,28 +49,28 @@ fn are_children(rule: &Rule, children: &[Child]) -> bool
     children.iter().all(|child| is_child(rule, child))
 }
 
-/// Whether there are 1 to 16 kinds.
+/// Returns true if there are 1 to 16 kinds.
 pub(crate) fn kinds_fit(rule: &Rule) -> bool
     ensures { result ≡ kinds_fit (as_rule rule.now) }
 {
     (1..=16).contains(&rule.kind_count())
 }
 
-/// Whether there are 1 to 32 edge types.
+/// Returns true if there are 1 to 32 edge types.
 pub(crate) fn types_fit(rule: &Rule) -> bool
     ensures { result ≡ types_fit (as_rule rule.now) }
 {
     (1..=32).contains(&rule.type_count())
 }
 
-/// Whether there are at most 16 glue types, each an edge type.
+/// Returns true if there are at most 16 glue types, each an edge type.
 pub(crate) fn glue_fits(rule: &Rule) -> bool
     ensures { result ≡ glue_fits (as_rule rule.now) }
 {
     rule.glue.len() <= 16 && are_types(rule, &rule.glue)
 }
 
-/// Whether the type has 1 to 8 parts, each an edge type.
+/// Returns true if the type has 1 to 8 parts, each an edge type.
 pub(crate) fn parts_fit(rule: &Rule, ty: usize) -> bool
     requires { ty < length (as_rule rule.now).types }
     ensures { result ≡ parts_fit (as_rule rule.now) ty }
@@ -87,7 +87,7 @@ fn row(rule: &Rule, kind: usize) -> &KindRow
     &rule.kinds[kind]
 }
 
-/// Whether the kind has 3 to 12 edges, as many as vertices, each of a type.
+/// Returns true if the kind has 3 to 12 edges, as many as vertices, each of a type.
 pub(crate) fn edges_fit(rule: &Rule, kind: usize) -> bool
     requires { kind < length (as_rule rule.now).kinds }
     ensures { result ≡ edges_fit (as_rule rule.now) kind }
@@ -98,7 +98,7 @@ pub(crate) fn edges_fit(rule: &Rule, kind: usize) -> bool
         && are_types(rule, &row.edges)
 }
 
-/// Whether each vertex of the kind is small.
+/// Returns true if each vertex of the kind is small.
 pub(crate) fn vertices_fit(rule: &Rule, kind: usize) -> bool
     requires { kind < length (as_rule rule.now).kinds }
     ensures { result ≡ vertices_fit (is_small rule.now.order) (as_rule rule.now) kind }
@@ -106,7 +106,7 @@ pub(crate) fn vertices_fit(rule: &Rule, kind: usize) -> bool
     are_small(rule.order, &row(rule, kind).vertices)
 }
 
-/// Whether the kind has 1 to 16 children, each within its limits.
+/// Returns true if the kind has 1 to 16 children, each within its limits.
 pub(crate) fn children_fit(rule: &Rule, kind: usize) -> bool
     requires { kind < length (as_rule rule.now).kinds }
     ensures { result ≡ children_fit (points_of rule.now.order).order (is_small rule.now.order)

@@ -31,7 +31,7 @@ fn holders(rule: &Rule, ty: usize) -> Few<usize>
     found
 }
 
-/// Whether the kind has an edge of the type or its mate.
+/// Returns true if the kind has an edge of the type or its mate.
 fn has_edge_along(rule: &Rule, kind: usize, ty: usize) -> bool
     requires kind_in { kind < length (rule_of rule.now).kinds }
     requires ty_in { ty < length (rule_of rule.now).types }
@@ -48,7 +48,7 @@ fn has_edge_along(rule: &Rule, kind: usize, ty: usize) -> bool
     false
 }
 
-/// Whether the kind has an edge of one of the first n glue types or their mates.
+/// Returns true if the kind has an edge of one of the first n glue types or their mates.
 fn is_glued_before(rule: &Rule, n: usize, kind: usize) -> bool
     requires usable { IsUsable rule.now }
     requires kind_in { kind < length (rule_of rule.now).kinds }
@@ -63,7 +63,7 @@ fn is_glued_before(rule: &Rule, n: usize, kind: usize) -> bool
     false
 }
 
-/// Whether the glue type glues two halves: one edge has it and one its mate, of two kinds of which
+/// Returns true if the glue type glues two halves: one edge has it and one its mate, of two kinds of which
 /// neither is glued along an earlier one.
 fn glues_halves(rule: &Rule, i: usize) -> bool
     requires usable { IsUsable rule.now }

@@ -15,7 +15,7 @@ ghost use Rattle.rule_model.specs.Views.{as_edition};
 ghost use Rattle.dissect_check.specs.FirstFault.{fault_of_lists};
 
 /// States that the check finds no fault of an edition, an order and lists if and only if all ten clauses
-/// hold: the limits of counts and numbers, and the nine by which the children fit edge to edge.
+/// hold. They are the limits of counts and numbers, and the nine by which the children fit edge to edge.
 pub fn clauses_law()
     ensures { (edition : Edition) (o : Order) (l : Rule Point) → (fault_of_lists edition o l ≡ None)
         ↔ (WithinLimits (points_of o).order (is_small o) l

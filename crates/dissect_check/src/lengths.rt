@@ -52,7 +52,7 @@ fn first_vector(rule: &Rule, ty: usize) -> Option<Point>
     None
 }
 
-/// Whether the edge is as long as the first edge of its type or its mate.
+/// Returns true if the edge is as long as the first edge of its type or its mate.
 fn has_length_of_type(rule: &Rule, kind: usize, edge: usize) -> bool
     requires usable { IsUsable rule.now }
     requires kind_in { kind < length (rule_of rule.now).kinds }

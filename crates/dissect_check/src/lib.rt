@@ -1,10 +1,10 @@
 //! The check of a substitution rule: whether its children fit edge to edge into its inflated prototiles.
 //!
-//! A rule is accepted if and only if ten clauses hold: on its limits, its prototiles, its factor, its edge
-//! types (three), its child edges, its boundaries, its uses and its glue types (Grünbaum and Shephard,
-//! Tilings and Patterns, chapter 10). None of them names an area, an overlap or a depth beyond one. `check`
-//! returns the accepted rule with its contact tables, or the fault of the first clause that fails, at its
-//! first place.
+//! A rule is accepted if and only if ten clauses hold (Grünbaum and Shephard, Tilings and Patterns, chapter
+//! 10). They are on its limits, its prototiles, its factor, its edge types (three), its child edges, its
+//! boundaries, its uses and its glue types. None of them names an area, an overlap or a depth beyond one.
+//! `check` returns the accepted rule with its contact tables, or the fault of the first clause that fails, at
+//! its first place.
 #![tactic(auto)]
 
 mod boundaries;

@@ -24,7 +24,7 @@ use rule_model::rule::Rule;
 use std::alloc::Global;
 use tile_shape::no_memory::NoMemory;
 
-/// Whether f runs from the end of e to its start.
+/// Returns true if f runs from the end of e to its start.
 fn runs_back(e: &Line, f: &Line) -> bool
     ensures { (o : Order) → IsSmallLine o e.now → IsSmallLine o f.now
         → result ≡ runs_back (points_of o) (line_in o e.now) (line_in o f.now) }
@@ -32,7 +32,7 @@ fn runs_back(e: &Line, f: &Line) -> bool
     same_point(&f.from, &e.to) && same_point(&f.to, &e.from)
 }
 
-/// Whether t is another child edge than s, and runs from its end to its start.
+/// Returns true if t is another child edge than s, and runs from its end to its start.
 fn is_opposite(s: &PlacedEdge, t: &PlacedEdge) -> bool
     ensures { (o : Order) → IsSmallLine o s.now.line → IsSmallLine o t.now.line
         → result ≡ is_opposite (points_of o) (edge_in o s.now) (edge_in o t.now) }
@@ -54,7 +54,7 @@ fn edges_back(edges: &[PlacedEdge], s: &PlacedEdge) -> Few<PlacedEdge>
     found
 }
 
-/// Whether an edge lies along a whole, an edge of the inflated prototile.
+/// Returns true if an edge lies along a whole, an edge of the inflated prototile.
 fn lies_along(order: Order, whole: &Line, edge: &Line) -> bool
     requires whole_small { IsSmallLine order whole.now }
     requires edge_small { IsSmallLine order edge.now }

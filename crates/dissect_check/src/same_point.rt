@@ -7,7 +7,7 @@ ghost use Rattle.cyclo_points.specs.Point.{point_in, IsOf};
 
 use cyclo_points::point::Point;
 
-/// Whether two points of one order are the same: where their coefficients are.
+/// Returns true if two points of one order have the same coefficients, and so are the same.
 pub(crate) fn same_point(p: &Point, q: &Point) -> bool
     ensures { (o : Order) → IsOf o p.now → IsOf o q.now
         → result ≡ (points_of o).same (point_in o p.now) (point_in o q.now) }

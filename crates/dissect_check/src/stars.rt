@@ -42,7 +42,7 @@ fn corner(rule: &Rule, kind: usize, i: usize) -> Point
     rule.corner(kind, i)
 }
 
-/// Triangle number i of the fan round vertex 0.
+/// Returns triangle number i of the fan around vertex 0.
 fn fan_triangle(rule: &Rule, kind: usize, i: usize) -> [Point; 3]
     requires usable { IsUsable rule.now }
     requires kind_in { kind < length (rule_of rule.now).kinds }
@@ -58,7 +58,7 @@ fn fan_triangle(rule: &Rule, kind: usize, i: usize) -> [Point; 3]
     ]
 }
 
-/// Whether the triangle turns strictly left.
+/// Returns true if the triangle turns strictly left.
 fn turns_left(order: Order, t: &[Point; 3]) -> bool
     requires { All (IsWithin (2 ^ 25)) t.now }
     ensures { result ≡ turns_left (reals_of order) (triangle_of order t.now) }
@@ -66,7 +66,7 @@ fn turns_left(order: Order, t: &[Point; 3]) -> bool
     side(order, &t[0], &t[1], &t[2]) == Ordering::Greater
 }
 
-/// Whether each triangle of the fan turns strictly left.
+/// Returns true if each triangle of the fan turns strictly left.
 fn fan_turns_left(rule: &Rule, kind: usize) -> bool
     requires usable { IsUsable rule.now }
     requires kind_in { kind < length (rule_of rule.now).kinds }
@@ -81,7 +81,7 @@ fn fan_turns_left(rule: &Rule, kind: usize) -> bool
     true
 }
 
-/// Whether a line along an edge of one of them separates each two triangles of the fan.
+/// Returns true if a line along an edge of one of them separates each two triangles of the fan.
 fn fan_is_apart(rule: &Rule, kind: usize) -> bool
     requires usable { IsUsable rule.now }
     requires kind_in { kind < length (rule_of rule.now).kinds }
@@ -99,7 +99,7 @@ fn fan_is_apart(rule: &Rule, kind: usize) -> bool
     true
 }
 
-/// Whether the first and the last edge leave vertex 0 in two directions.
+/// Returns true if the first and the last edge leave vertex 0 in two directions.
 fn fan_is_open(rule: &Rule, kind: usize) -> bool
     requires usable { IsUsable rule.now }
     requires kind_in { kind < length (rule_of rule.now).kinds }
@@ -113,7 +113,7 @@ fn fan_is_open(rule: &Rule, kind: usize) -> bool
         && !on_segment(rule.order, &first, &second, &last)
 }
 
-/// Whether the prototile is star-shaped from vertex 0.
+/// Returns true if the prototile is star-shaped from vertex 0.
 fn is_star(rule: &Rule, kind: usize) -> bool
     requires usable { IsUsable rule.now }
     requires kind_in { kind < length (rule_of rule.now).kinds }

@@ -9,7 +9,7 @@ ghost use Rattle.dissect_check.specs.FirstFault.{subdivisions as subdivisions_fa
 use crate::check_fault::CheckFault;
 use rule_model::rule::Rule;
 
-/// Whether the mate's subdivision is the type's, reversed, each part replaced by its mate.
+/// Returns true if the mate's subdivision is the type's, reversed, each part replaced by its mate.
 fn is_mirrored(rule: &Rule, ty: usize) -> bool
     requires usable { IsUsable rule.now }
     requires ty_in { ty < length (rule_of rule.now).types }

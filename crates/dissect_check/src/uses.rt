@@ -9,7 +9,7 @@ ghost use Rattle.dissect_check.specs.FirstFault.{uses as uses_fault};
 use crate::check_fault::CheckFault;
 use rule_model::rule::Rule;
 
-/// Whether some kind has a child of this kind.
+/// Returns true if some kind has a child of this kind.
 fn is_used(rule: &Rule, kind: usize) -> bool
     ensures { result ≡ is_used (rule_of rule.now) kind }
 {

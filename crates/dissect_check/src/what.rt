@@ -1,7 +1,7 @@
 use std::fmt;
 
-/// The count or number that is beyond a limit: of kinds, of edge types, of the factor, of glue types; of a
-/// type's mate or parts; or of a kind's edges, vertices or children.
+/// The count or number that is beyond a limit. It belongs to the rule (kinds, edge types, factor, glue
+/// types), to a type (mate, parts), or to a kind (edges, vertices, children).
 #[derive(Clone, Copy, Debug, PartialEq, Eq)]
 pub enum What {
     Kinds,

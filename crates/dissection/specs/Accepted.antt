@@ -10,8 +10,8 @@ use Rattle.edge_to_edge.specs.Edition.{Edition}
 use Rattle.edge_to_edge.specs.EdgeToEdge.{IsEdgeToEdge}
 use Rattle.edge_to_edge.specs.Numbered.{IsNumbered}
 
--- a rule over the points of P that is accepted: its numbers exist, and it passes what is checked beyond them, in this edition and where these values are
--- refused
+-- a rule over the points of P that is accepted: its numbers exist, and it passes the further tests, in this
+-- edition and with these refused values
 pub record AcceptedRule (P : Points) : Type 0 where
   pub edition : Edition
   pub refused : P.ring.carrier → Bool

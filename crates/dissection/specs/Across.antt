@@ -12,7 +12,8 @@ pub record RunsBack {A : Type 0} (e f : Edge A) : Type 0 where
   pub from_end : f.from ≡ e.to
   pub to_start : f.to ≡ e.from
 
--- edge f of tile b is across edge e of tile a: the two are different tiles of one supertile, and edge f runs from the end of e to its start
+-- edge f of tile b is across edge e of tile a: the two are different tiles of one supertile, and edge f runs
+-- from the end of e to its start
 pub record IsTileAcross (P : Points) (r : Rule P.ring.carrier) (a : Placed P.ring.carrier) (e : ℕ) (b : Placed P.ring.carrier) (f : ℕ) : Type 0 where
   pub own : IsTileBeside P r a.address a
   pub beside : IsTileBeside P r a.address b

@@ -8,7 +8,7 @@ use Rattle.dissection.specs.Across.{IsOnlyTileAcross, HasNoneAcross}
 use Rattle.dissection.specs.OnBoundary.{IsOnBoundary}
 use Rattle.dissection.specs.TileEdges.{tile_at}
 
--- one tile and no other is across edge e of tile a, the way back leads back, and the edge isn't on the boundary
+-- exactly one tile is across edge e of tile a, the way back leads back, and the edge is not on the boundary
 pub record IsCrossed (P : Points) (r : Rule P.ring.carrier) (a : Address) (e : ℕ) : Type 0 where
   pub other : Address
   pub edge : ℕ
@@ -17,7 +17,8 @@ pub record IsCrossed (P : Points) (r : Rule P.ring.carrier) (a : Address) (e : �
   pub back : IsOnlyTileAcross P r (tile_at P r other) edge (tile_at P r a) e
   pub inside : (f part : ℕ) → ¬ IsOnBoundary P r (tile_at P r a) e f part
 
--- edge e of tile a lies on the boundary, along one edge of the supertile and on one part of it alone, and no tile is across it
+-- edge e of tile a lies on the boundary, along exactly one edge of the supertile and on exactly one part of
+-- it, and no tile is across it
 pub record IsOutside (P : Points) (r : Rule P.ring.carrier) (a : Address) (e : ℕ) : Type 0 where
   pub edge : ℕ
   pub part : ℕ

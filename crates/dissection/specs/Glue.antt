@@ -21,12 +21,14 @@ pub record IsMet (P : Points) (r : Rule P.ring.carrier) (k e l f : ℕ) : Type 0
   pub below : turn < P.order
   pub turns : TurnsOnto P r k e l f turn
 
--- the motion brings edge f of kind l onto the reverse of edge e of kind k: moved by it, the edge runs from the end of e to its start
+-- the motion brings edge f of kind l onto the reverse of edge e of kind k: moved by it, the edge runs from
+-- the end of e to its start
 pub record IsGlueMotion (P : Points) (r : Rule P.ring.carrier) (k e l f : ℕ) (m : Motion P.ring.carrier) : Type 0 where
   pub below : m.turn < P.order
   pub runs_back : RunsBack (kind_edge P r k e) (moved_edge P r l m f)
 
--- edge f of tile b meets edge e of tile a; one motion alone glues the two edges; and the motion of b is that one, followed by the motion of a
+-- edge f of tile b meets edge e of tile a; exactly one motion glues the two edges; and the motion of b is
+-- that motion, followed by the motion of a
 pub record IsGlued (P : Points) (r : Rule P.ring.carrier) (a : Placed P.ring.carrier) (e : ℕ) (b : Placed P.ring.carrier) (f : ℕ) : Type 0 where
   pub met : IsMet P r a.address.kind e b.address.kind f
   pub alone : (m g : Motion P.ring.carrier) → IsGlueMotion P r a.address.kind e b.address.kind f m → IsGlueMotion P r a.address.kind e b.address.kind f g → m ≡ g

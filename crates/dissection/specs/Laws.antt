@@ -1,5 +1,5 @@
--- What holds of every accepted rule over the points of P, at every depth: supertiles are dissected by their tiles, and of each edge the contact tables say
--- what is so in the plane.
+-- What holds of every accepted rule over the points of P, at every depth: supertiles are dissected by their
+-- tiles, and the contact tables say of each edge what holds in the plane.
 use Rattle.std.specs.Prelude.{◌≡◌, ◌↔◌, ◌⊎◌, ℕ, ◌<◌, true, List, length}
 use Rattle.ordered_ring.specs.Sign.{IsPositive, Passes}
 use Rattle.ordered_plane.specs.Plane.{TestPoint, IsTestPoint}
@@ -38,7 +38,8 @@ AcrossLaw P =
     (T : AcceptedRule P) (a b : Address) (e f : ℕ) → HasEdge P T.rule a e → NamesTile P T.rule b
     → IsOnlyTouched (tables_of P T.rule) a e b f ↔ IsOnlyTileAcross P T.rule (tile_at P T.rule a) e (tile_at P T.rule b) f
 
--- an edge lies along this edge of its supertile, on this part of it, exactly where it has a trace to it that begins with this part
+-- an edge lies along this edge of its supertile, on this part of it, if and only if it has a trace to it that
+-- begins with this part
 abbrev pub BoundaryLaw : Points → Type 0
 BoundaryLaw P =
     (T : AcceptedRule P) (a : Address) (e f part : ℕ) → HasEdge P T.rule a e
@@ -48,15 +49,16 @@ BoundaryLaw P =
 abbrev pub CrossingLaw : Points → Type 0
 CrossingLaw P = (T : AcceptedRule P) (a : Address) (e : ℕ) → HasEdge P T.rule a e → IsCrossed P T.rule a e ⊎ IsOutside P T.rule a e
 
--- the edges of tiles across from each other meet, and the tile across lies where the motion that glues the two edges, and then that of the edge's own tile,
--- put it
+-- The edges of tiles across from each other meet. The tile across lies where the motion that glues the two
+-- edges, followed by that of the edge's own tile, puts it.
 abbrev pub GlueLaw : Points → Type 0
 GlueLaw P =
     (T : AcceptedRule P) (a : Address) (e : ℕ) → HasEdge P T.rule a e → (b : Placed P.ring.carrier) (f : ℕ)
     → IsTileAcross P T.rule (tile_at P T.rule a) e b f → IsGlued P T.rule (tile_at P T.rule a) e b f
 
--- no edge of a prototile, moved in any way that keeps turns and segments, runs back along another edge of it, not even along a piece of it: where a line
--- lies along the one, the line back doesn't lie along the other
+-- No edge of a prototile, moved in any way that keeps turns and segments, runs back along another edge of it,
+-- not even along a piece of it. If a line lies along one edge, the reversed line does not lie along the
+-- other.
 abbrev pub NoReturnLaw : Points → Type 0
 NoReturnLaw P =
     (T : AcceptedRule P) (k d e : ℕ) → k < length T.rule.kinds → d < edge_count T.rule k → e < edge_count T.rule k

@@ -20,8 +20,9 @@ tile_polygon P r f t = map (λ z. plane_point P (f (moved P t.motion z))) (verti
 abbrev pub supertile_polygon : (P : Points) → Rule P.ring.carrier → (P.ring.carrier → P.ring.carrier) → ℕ → ℕ → List (PlanePoint P.real.ops.carrier)
 supertile_polygon P r f k n = map (λ z. plane_point P (f (P.ring.mul (power P.ring r.factor n) z))) (vertices_of r k)
 
--- at the test point p, the counts of the tiles of the supertile of kind k and depth n, all moved by f, add up to the supertile's; each of these counts is 0
--- or 1; and the point belongs to exactly one tile where it belongs to the supertile, and otherwise to none
+-- At the test point p, the counts of the tiles of the supertile of kind k and depth n, all moved by f, add up
+-- to the supertile's, and each of these counts is 0 or 1. The point belongs to exactly one tile if it belongs
+-- to the supertile, and otherwise to none.
 pub record IsDissectedAt (P : Points) (r : Rule P.ring.carrier) (f : P.ring.carrier → P.ring.carrier) (k n : ℕ) (p : TestPoint P.real.ops.carrier) : Type 0 where
   pub adds_up : sum_over (λ t. count P.real (tile_polygon P r f t) p) (supertile P r k n) ≡ count P.real (supertile_polygon P r f k n) p
   pub whole : (count P.real (supertile_polygon P r f k n) p ≡ pos 0) ⊎ (count P.real (supertile_polygon P r f k n) p ≡ pos 1)

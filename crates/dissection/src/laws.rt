@@ -4,7 +4,7 @@ ghost use Rattle.dissection.specs.Laws.{DissectionLaw, TouchLaw, AcrossLaw, Boun
 
 use cyclo_points::order::Order;
 
-/// States that each test point of a supertile belongs to exactly one of its tiles: the counts of the tiles
+/// States that each test point of a supertile belongs to exactly one of its tiles. The counts of the tiles
 /// add up to the supertile's, and each is 0 or 1. The supertile may be moved by any map that keeps left
 /// turns, segments and equal lengths.
 pub fn dissection_law(order: Order)

@@ -16,9 +16,10 @@ abbrev pub in_front : {A : Type 0} → A → Result (List A) ℕ → Result (Lis
 in_front s (Ok ss) = Ok (s ∷ ss)
 in_front s (Err j) = Err j
 
--- Part number j and those after it, of these types, from the point p on: exactly one of the boundary edges `on` begins at p, it has the first type, and the
--- next part begins at its end. The last part ends at the end of the whole, and there are no other boundary edges than the parts. It answers the parts in
--- order, or the number of the first that fails, the number of all parts where they are too few.
+-- Part number j and those after it, of these types, from the point p on. Exactly one of the boundary edges
+-- `on` begins at p, it has the first type, and the next part begins at its end. The last part ends at the end
+-- of the whole, and there are no other boundary edges than the parts. The value is the parts in order, or the
+-- number of the first that fails. If they are too few, it is the number of all parts.
 abbrev pub parts_from : (P : Points) → List (PlacedEdge P.ring.carrier) → P.ring.carrier → ℕ → List ℕ → ℕ → P.ring.carrier → Result (List (PlacedEdge P.ring.carrier)) ℕ
 parts_from P on end count [] j p = elim (P.same p end && nat_eq (length on) count) [ true ↦ Ok [] | false ↦ Err j ]
 parts_from P on end count (ty ∷ types) j p =

@@ -1,5 +1,6 @@
--- What is checked of a rule beyond its limits: its prototiles, its factor, its edge types, and that the children of each inflated prototile fit into it edge
--- to edge. No area is compared, nothing is said of depths beyond one, and the rule may have any points.
+-- What is tested of a rule beyond its limits: its prototiles, its factor, its edge types, and that the
+-- children of each inflated prototile fit into it edge to edge. No area is compared, nothing is said of
+-- depths beyond one, and the rule may have any points.
 use Rattle.std.specs.Prelude.{◌≡◌, ℕ, ◌<◌, Bool, true, false, length, is_ok}
 use Rattle.std.specs.List.{AllByRecursion}
 use Rattle.substitution.specs.Points.{Points}
@@ -19,7 +20,8 @@ use Rattle.edge_to_edge.specs.Glue.{glues_halves}
 abbrev pub IsStarShaped : (P : Points) → Rule P.ring.carrier → Type 0
 IsStarShaped P r = (k : ℕ) → k < length r.kinds → is_star P (vertices_of r k) ≡ true
 
--- the factor is one that the edition takes: real and greater than 1, or of squared length above 1; and supertiles outgrow the limit of coordinates
+-- the factor is one that the edition takes: real and greater than 1, or of squared length above 1; and
+-- supertiles outgrow the limit of coordinates
 abbrev pub HasInflationFactor : (P : Points) → Edition → (P.ring.carrier → Bool) → Rule P.ring.carrier → Type 0
 HasInflationFactor P edition refused r = is_inflation_factor P edition refused r.factor ≡ true
 

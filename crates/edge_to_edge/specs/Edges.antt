@@ -54,6 +54,7 @@ runs_back P e f = P.same f.from e.to && P.same f.to e.from
 abbrev pub is_opposite : (P : Points) → PlacedEdge P.ring.carrier → PlacedEdge P.ring.carrier → Bool
 is_opposite P s t = not (nat_eq s.child t.child && nat_eq s.edge t.edge) && runs_back P s.line t.line
 
--- the edge lies along the whole: its two ends differ, its end is on the whole, and its start between the start of the whole and its end
+-- the edge lies along the whole: its two ends differ, its end is on the whole, and its start between the
+-- start of the whole and its end
 abbrev pub lies_along : (P : Points) → Edge P.ring.carrier → Edge P.ring.carrier → Bool
 lies_along P whole e = along P.real (plane_point P whole.from) (plane_point P whole.to) (plane_point P e.from) (plane_point P e.to)

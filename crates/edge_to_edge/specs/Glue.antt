@@ -27,8 +27,8 @@ abbrev pub are_halves : {A : Type 0} → Rule A → ℕ → List ℕ → List �
 are_halves r n (a ∷ []) (b ∷ []) = not (nat_eq a b) && not (is_glued_before r n a) && not (is_glued_before r n b)
 are_halves r n ks ls = false
 
--- Glue type number i isn't its own mate; exactly one edge of all kinds has it, and exactly one has its mate; these are of two kinds; and neither kind has an
--- edge of an earlier glue type or its mate
+-- Glue type number i is not its own mate. Among all kinds, exactly one edge has it and exactly one has its
+-- mate; these are of two kinds. Neither kind has an edge of an earlier glue type or its mate.
 abbrev pub glues_halves : {A : Type 0} → Rule A → ℕ → Bool
 glues_halves r i =
     not (nat_eq (mate r (glue_type r i)) (glue_type r i)) && are_halves r i (holders r (glue_type r i)) (holders r (mate r (glue_type r i)))

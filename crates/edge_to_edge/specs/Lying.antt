@@ -6,7 +6,8 @@ use Rattle.substitution.specs.Rule.{Rule}
 use Rattle.substitution.specs.RuleParts.{mate}
 use Rattle.edge_to_edge.specs.Edges.{Edge, PlacedEdge, inflated_edges, child_edges, is_opposite, lies_along}
 
--- a child edge is inner, met by edge `edge` of child `child`; or on the boundary, along edge `edge` of the parent; or loose
+-- a child edge is inner, met by edge `edge` of child `child`; or on the boundary, along edge `edge` of the
+-- parent; or loose
 pub data Lie : Type 0 where
   inner : (child edge : ℕ) → Lie
   boundary : (edge : ℕ) → Lie
@@ -22,8 +23,9 @@ abbrev pub met_by : {A : Type 0} → Bool → PlacedEdge A → Lie
 met_by true t = inner t.child t.edge
 met_by false t = loose
 
--- Where a child edge lies, by the other child edges that run from its end to its start and the numbers of the edges along which it lies: it is inner where
--- exactly one runs back and the two types are mates, on the boundary where none does and it lies along exactly one edge, and else loose.
+-- Where a child edge lies, by the other child edges that run from its end to its start and the numbers of the
+-- edges along which it lies. It is inner if exactly one runs back and the two types are mates. It is on the
+-- boundary if none does and it lies along exactly one edge. Otherwise it is loose.
 abbrev pub lie_by : {A : Type 0} → Rule A → PlacedEdge A → List (PlacedEdge A) → List ℕ → Lie
 lie_by r s (t ∷ []) numbers = met_by (nat_eq (mate r s.type) t.type) t
 lie_by r s [] (e ∷ []) = boundary e

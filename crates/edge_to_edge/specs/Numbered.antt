@@ -1,4 +1,5 @@
--- A rule whose counts are within their limits, and in which each number names something: what the limits say, as facts.
+-- A rule whose counts are within their limits, and in which each number names something: what the limits say,
+-- as facts.
 use Rattle.std.specs.Prelude.{◌≡◌, ℕ, ◌<◌, ◌≤◌, length, get_or}
 use Rattle.substitution.specs.Points.{Points}
 use Rattle.substitution.specs.Rule.{Rule, children_of}

@@ -1,4 +1,5 @@
--- Prototiles that are star-shaped from vertex 0: the triangles (vertex 0, vertex i, vertex i + 1) of their fans lie side by side round it.
+-- Prototiles that are star-shaped from vertex 0: the triangles (vertex 0, vertex i, vertex i + 1) of their
+-- fans lie side by side around it.
 use Rattle.std.specs.Prelude.{ℕ, suc, ◌-◌, pos, Bool, not, ◌&&◌, List, length, get_or}
 use Rattle.ordered_plane.specs.Plane.{PlanePoint}
 use Rattle.ordered_plane.specs.Segment.{on_segment}
@@ -23,7 +24,8 @@ fan_turns_left P vs = all_below (length vs - 2) (λ i. turns_left P.real (fan_tr
 abbrev pub fan_is_apart : (P : Points) → List P.ring.carrier → Bool
 fan_is_apart P vs = all_below (length vs - 2) (λ j. all_below j (λ i. separated P.real (fan_triangle P vs i) (fan_triangle P vs j)))
 
--- the first and the last edge leave vertex 0 in two directions: neither of vertex 1 and the last vertex is on the segment from vertex 0 to the other
+-- the first and the last edge leave vertex 0 in two directions: neither of vertex 1 and the last vertex is on
+-- the segment from vertex 0 to the other
 abbrev pub fan_is_open : (P : Points) → List P.ring.carrier → Bool
 fan_is_open P vs =
     not (on_segment P.real (corner P vs 0) (corner P vs (length vs - 1)) (corner P vs 1))

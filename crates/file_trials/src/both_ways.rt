@@ -44,7 +44,7 @@ static PRINTED: [(TextFault, &str); 6] = [
     ),
 ];
 
-/// Whether a fault is printed as this text.
+/// Returns true if a fault is printed as this text.
 fn is_printed(alloc: Global, fault: &TextFault, text: &str) -> Result<bool, AllocError> {
     let printed = format!(in alloc; "{fault}")?;
     Ok(printed.as_str() == text)

@@ -68,7 +68,7 @@ const CHILDREN: [Child; 4] = [
     },
 ];
 
-/// The chair as a rule of the edition.
+/// Returns the chair as a rule of the edition.
 pub fn chair(alloc: Global, edition: Edition) -> Result<Rule, AllocError>
     ensures limits { IfOk result (λ rule. WithinLimits (points_of rule.order).order (is_small rule.order) (as_rule rule)) }
     ensures order { IfOk result (λ rule. rule.order ≡ Order.Four) }
@@ -96,7 +96,7 @@ pub fn chair(alloc: Global, edition: Edition) -> Result<Rule, AllocError>
     })
 }
 
-/// Whether the text is read to the chair.
+/// Returns true if the text is read to the chair.
 pub fn is_read_to_chair(alloc: Global, text: &str) -> Result<bool, Fail> {
     if text.len() > LONGEST_FILE {
         return Ok(false);
@@ -104,7 +104,7 @@ pub fn is_read_to_chair(alloc: Global, text: &str) -> Result<bool, Fail> {
     Ok(is_chair(&read_rule(alloc, text.as_bytes())?))
 }
 
-/// Whether the rule is the chair.
+/// Returns true if the rule is the chair.
 pub fn is_chair(rule: &Rule) -> bool {
     if rule.types.len() != 1 || rule.kinds.len() != 1 {
         return false;

@@ -29,7 +29,7 @@ edges = [0, 1, 0]
 children = [[0,3, 0,1,0,0], [0,2, 0,1,0,0]]
 ";
 
-/// A piece of the file, what stands in its place, and the edition and the order that are read.
+/// A piece of the file, its replacement, and the edition and the order that are read.
 static READ: [(&str, &str, Edition, Order); 6] = [
     ("format = 2", "format = 2", Edition::Two, Order::Four),
     ("format = 2", "format = 1", Edition::One, Order::Four),
@@ -39,7 +39,7 @@ static READ: [(&str, &str, Edition, Order); 6] = [
     ("order = 4", "order = 10", Edition::Two, Order::Ten),
 ];
 
-/// Whether the half square was read, in this edition and this order.
+/// Returns true if the half square was read, in this edition and this order.
 fn is_of(rule: &Rule, edition: Edition, order: Order) -> bool {
     rule.edition == edition
         && rule.order == order
@@ -48,7 +48,7 @@ fn is_of(rule: &Rule, edition: Edition, order: Order) -> bool {
         && rule.kinds.len() == 1
 }
 
-/// Whether the file is read as its row says.
+/// Returns true if the file is read as its row says.
 fn is_read(alloc: Global, row: &(&str, &str, Edition, Order)) -> Result<bool, Fail> {
     let (piece, other, edition, order) = row;
     let text = HALF_SQUARE.replace(alloc, piece, other)?;

@@ -5,13 +5,13 @@ use std::alloc::Global;
 use std::process::Abort;
 use std::test::Fail;
 
-/// What stands before the types.
+/// The text in front of the types.
 pub const HEAD: &str = "format = 1\norder = 4\nlambda = [2, 0, 0, 0]\nglue = []\n";
 
-/// What stands before the kinds.
+/// The text in front of the kinds.
 pub const TYPES: &str = "[[type]]\nmate = 0\nparts = [0, 0]\n";
 
-/// The fault of a text in two parts.
+/// Returns the fault of a text in two parts.
 pub fn fault_of(alloc: Global, head: &str, tail: &str) -> Result<Option<TextFault>, Fail> {
     let mut text = String::from_str(alloc, head)?;
     text.push_str(tail)?;
@@ -21,7 +21,7 @@ pub fn fault_of(alloc: Global, head: &str, tail: &str) -> Result<Option<TextFaul
     Ok(read_rule(alloc, text.as_bytes()).err())
 }
 
-/// That the texts, behind one head, have these faults.
+/// Asserts that the texts, each after the same head, have these faults.
 pub fn assert_faults(
     rt: &impl Abort,
     alloc: Global,
@@ -34,7 +34,7 @@ pub fn assert_faults(
     Ok(())
 }
 
-/// That the texts, behind these pieces, have these faults.
+/// Asserts that the texts, each after these pieces, have these faults.
 pub fn assert_behind(
     rt: &impl Abort,
     alloc: Global,

@@ -13,7 +13,7 @@ const VERTICES: Key = Key::Vertices { kind: 0 };
 
 const CHILDREN: Key = Key::Children { kind: 0 };
 
-/// A piece, what stands in its place, and the fault.
+/// A piece, its replacement, and the fault.
 static FAULTS: [(&str, &str, TextFault); 12] = [
     ("format = 1\n", "", TextFault::Missing { key: Key::Format }),
     (
@@ -128,7 +128,7 @@ fn tells_the_fault_of_a_file(rt: HostRuntime) -> Result<(), Fail> {
     Ok(())
 }
 
-/// Whether another piece stands in the place of one, and the chair is read all the same.
+/// Returns true if a piece is replaced by another one, and the chair is still read.
 fn is_spelling(alloc: Global, piece: &str, other: &str) -> Result<bool, Fail> {
     let text = CHAIR.replace(alloc, piece, other)?;
     Ok(text.as_str() != CHAIR && is_read_to_chair(alloc, text.as_str())?)

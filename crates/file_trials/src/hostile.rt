@@ -61,10 +61,10 @@ static NESTS: [(usize, usize, TextFault); 3] = [
     (70, 70, TextFault::WrongType { key: Key::Format }),
 ];
 
-/// Pieces that make no document where they stand 5,000 times, and what is behind them.
+/// Pieces that make no document if they are repeated 5,000 times, and the text after them.
 static MANY: [(&str, &str); 2] = [("a = {", ""), ("a.", "a = 1")];
 
-/// The fault of a file with `opens` brackets that open behind `format = `, and `closes` that close.
+/// Returns the fault of a file with `opens` brackets that open after `format = `, and `closes` that close.
 fn fault_of_nest(alloc: Global, opens: usize, closes: usize) -> Result<Option<TextFault>, Fail> {
     let mut text = String::from_str(alloc, "format = ")?;
     for _ in 0..opens {
@@ -76,13 +76,13 @@ fn fault_of_nest(alloc: Global, opens: usize, closes: usize) -> Result<Option<Te
     fault_of(alloc, text.as_str(), "")
 }
 
-/// The fault of a piece that stands 5,000 times before what is behind it.
+/// Returns the fault of a piece that is repeated 5,000 times before the end.
 fn fault_of_many(alloc: Global, piece: &str, behind: &str) -> Result<Option<TextFault>, Fail> {
     let text = piece.repeat(alloc, 5_000)?;
     fault_of(alloc, text.as_str(), behind)
 }
 
-/// Whether bytes are no document.
+/// Returns true if bytes are no document.
 fn is_no_document(alloc: Global, bytes: &[u8]) -> bool {
     bytes.len() <= LONGEST_FILE && read_rule(alloc, bytes).err() == Some(TextFault::NotToml)
 }

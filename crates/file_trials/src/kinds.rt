@@ -15,7 +15,7 @@ const CHILDREN: Key = Key::Children { kind: 0 };
 
 const PLACE: Place = Place::InKind { kind: 0 };
 
-/// Behind an empty list of types.
+/// Texts after an empty list of types.
 static TOP_ROWS: [(&str, TextFault); 9] = [
     ("", TextFault::Missing { key: LIST }),
     ("kind = 0", TextFault::WrongType { key: LIST }),
@@ -28,13 +28,13 @@ static TOP_ROWS: [(&str, TextFault); 9] = [
     ("kind = []\n'' = 1", TextFault::UnknownKey { place: TOP }),
 ];
 
-/// Behind the types.
+/// Texts after the types.
 static LIST_ROWS: [(&str, TextFault); 2] = [
     ("", TextFault::Missing { key: LIST }),
     ("[kind]", TextFault::WrongType { key: LIST }),
 ];
 
-/// Behind the header of the first kind.
+/// Texts after the header of the first kind.
 static VERTEX_ROWS: [(&str, TextFault); 14] = [
     ("", TextFault::Missing { key: VERTICES }),
     ("name = 1\nedges = 0", TextFault::Missing { key: VERTICES }),
@@ -76,7 +76,7 @@ static VERTEX_ROWS: [(&str, TextFault); 14] = [
     ),
 ];
 
-/// Behind the vertices of the first kind.
+/// Texts after the vertices of the first kind.
 static EDGE_ROWS: [(&str, TextFault); 9] = [
     ("", TextFault::Missing { key: EDGES }),
     ("edges = {}", TextFault::WrongType { key: EDGES }),
@@ -96,7 +96,7 @@ const NEXT: Key = Key::Vertices { kind: 1 };
 
 const TOP: Place = Place::Top;
 
-/// Behind the edges of the first kind.
+/// Texts after the edges of the first kind.
 static CHILD_ROWS: [(&str, TextFault); 24] = [
     ("", TextFault::Missing { key: CHILDREN }),
     ("name = 1", TextFault::Missing { key: CHILDREN }),

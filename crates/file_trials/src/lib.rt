@@ -1,5 +1,7 @@
-//! Trials of `rule_text` on rows of files: each key with each fault, faults whose order matters, hostile files, files with
-//! many dots, and the chair both ways, as values typed from outside. There is no other code here.
+//! Trials of `rule_text` on rows of files, with values typed from outside.
+//!
+//! They have each key with each fault, faults whose order matters, hostile files, files with many dots, and
+//! the chair both ways. There is no other code here.
 #![tactic(auto)]
 
 #[cfg(test)]

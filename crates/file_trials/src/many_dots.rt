@@ -1,10 +1,10 @@
-//! Files with very many dots, which are told their faults as others are.
+//! Files with very many dots. Their faults are reported like any others.
 use crate::faults::fault_of;
 use rule_text::key::Key;
 use rule_text::text_fault::TextFault;
 use std::test::Fail;
 
-/// What stands in front, a piece with a dot, how often it stands there, what is behind, and the fault.
+/// The front, a piece with a dot, how often the piece is repeated, the end, and the fault.
 static DOTTED: [(&str, &str, usize, &str, TextFault); 4] = [
     ("", ".", 1_000_000, "", TextFault::NotToml),
     ("a", ".a", 210_000, " = 1", TextFault::NotToml),

@@ -42,7 +42,7 @@ static LIST_ROWS: [(&str, TextFault); 15] = [
     ),
 ];
 
-/// Behind the header of the first type.
+/// Texts after the header of the first type.
 static ENTRY_ROWS: [(&str, TextFault); 22] = [
     ("", TextFault::Missing { key: MATE }),
     ("name = 1\nparts = 0", TextFault::Missing { key: MATE }),
@@ -99,7 +99,7 @@ const NEXT_MATE: Key = Key::Mate { ty: 1 };
 
 const NEXT_PLACE: Place = Place::InType { ty: 1 };
 
-/// Behind the first type.
+/// Texts after the first type.
 static NEXT_ROWS: [(&str, TextFault); 3] = [
     ("", TextFault::Missing { key: KINDS }),
     (

@@ -1,4 +1,4 @@
--- The values looked at in search of the least supertile round the base that holds a point, in the base's frame.
+-- The values on the way to the least supertile around the base that holds a point, in the base's frame.
 use Rattle.std.specs.Prelude.{ℕ, zero, suc, ◌+◌, Bool, cond, List, [], ◌∷◌, ◌++◌}
 use Rattle.ordered_ring.specs.Ring.{power}
 use Rattle.substitution.specs.Points.{Points}
@@ -18,8 +18,9 @@ ancestor_motion P r f level = outward P r (at_level f level).digits
 abbrev pub ancestor_holds : (P : Points) → Rule P.ring.carrier → Address → ℕ → P.ring.carrier → Bool
 ancestor_holds P r f level p = supertile_holds P r (top_kind (at_level f level)) level (ancestor_motion P r f level) p
 
--- the values looked at for a point, from a level on and at so many levels at most: at each level its power of λ, the ancestor's shift and its vertices, up
--- to the first level whose ancestor holds the point, and after it those of the search in that ancestor
+-- The values on the way to a point, from a level on and for at most this number of levels. At each level they
+-- are its power of λ, the ancestor's shift and its vertices, up to the first level whose ancestor holds the
+-- point. Then come those of the search in that ancestor.
 abbrev pub values_outward : (P : Points) → Rule P.ring.carrier → Address → P.ring.carrier → ℕ → ℕ → List P.ring.carrier
 values_outward P r f p level zero = []
 values_outward P r f p level (suc most) =

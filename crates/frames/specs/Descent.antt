@@ -1,4 +1,5 @@
--- Finding the tile of a supertile that holds a point: from the supertile down, each time to the part that holds the point.
+-- Finding the tile of a supertile that holds a point: from the supertile down, each time to the part that
+-- holds the point.
 use Rattle.std.specs.Prelude.{ℕ, zero, suc, cond, List, [], ◌∷◌, ◌++◌, None, Some}
 use Rattle.std.specs.declared.option.Option.{Option}
 use Rattle.std.specs.Option.{option_map, option_and_then}
@@ -10,7 +11,7 @@ use Rattle.substitution.specs.Supertile.{Placed}
 use Rattle.frames.specs.Outline.{supertile_holds}
 use Rattle.frames.specs.Part.{Part, holder_of}
 
--- a tile of a part as one of the whole: coarser digits behind its own
+-- a tile of a part as one of the whole: coarser digits after its own
 abbrev pub of_whole : {A : Type 0} → List Step → Placed A → Placed A
 of_whole ds t = record { address = record { kind = t.address.kind; digits = t.address.digits ++ ds }; motion = t.motion }
 

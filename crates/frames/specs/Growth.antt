@@ -10,11 +10,12 @@ no_step = record { child = 0; parent = 0 }
 abbrev pub chosen : List Step → ℕ → Step
 chosen uses word = get_or uses (word % length uses) no_step
 
--- so many digits from number j on, on a kind on top; each digit's parent is the kind on which the next stands
+-- this number of digits from number j on, on a kind on top; each digit's parent is the kind that the next
+-- digit starts from
 abbrev pub grown_from : (ℕ → List Step) → (ℕ → ℕ) → ℕ → ℕ → ℕ → List Step
 grown_from uses word j top zero = []
 grown_from uses word j top (suc n) = chosen (uses top) (word j) ∷ grown_from uses word (j + 1) (chosen (uses top) (word j)).parent n
 
--- the base's address with so many grown digits
+-- the base's address with this number of grown digits
 abbrev pub grown_by : (ℕ → List Step) → (ℕ → ℕ) → ℕ → Address → Address
 grown_by uses word n base = record { kind = base.kind; digits = base.digits ++ grown_from uses word 0 (top_kind base) n }

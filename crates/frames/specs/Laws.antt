@@ -13,17 +13,20 @@ use Rattle.frames.specs.Outward.{outward, HasTurnsBelow}
 use Rattle.frames.specs.Descent.{tile_holding}
 use Rattle.frames.specs.Contain.{ancestor_motion}
 
--- a longer coarse end moves no tile: the motion that stands beside a tile in the frame of its own depth stands beside the lifted tile in the whole frame
+-- a longer coarse end moves no tile: the motion listed with a tile in the frame of its own depth is listed
+-- with the lifted tile in the whole frame
 abbrev pub CoarseEndLaw : Points → Type 0
 CoarseEndLaw P =
     (r : Rule P.ring.carrier) (f a : Address) (m : Motion P.ring.carrier) → Fits (child_kinds r) f → IsTileOf (child_kinds r) f a
     → StandsInFrame P r (at_level f (depth a)) a m → StandsInFrame P r f (lifted_in f a) m
 
--- the motion of the base's ancestor, found from level to level, is the motion back of the base in that ancestor
+-- the motion of the base's ancestor, found from level to level, is the motion back of the base in that
+-- ancestor
 abbrev pub AncestorLaw : Points → Type 0
 AncestorLaw P = (r : Rule P.ring.carrier) (digits : List Step) → HasTurnsBelow P r → outward P r digits ≡ back P (placement P r digits)
 
--- the tile that is found to hold a point, in an ancestor of the base, stands in that ancestor's frame, and lifted it stands in the whole frame
+-- the tile that is found to hold a point, in an ancestor of the base, is in that ancestor's frame, and lifted
+-- it is in the whole frame
 abbrev pub FoundTileLaw : Points → Type 0
 FoundTileLaw P =
     (r : Rule P.ring.carrier) (f : Address) (level : ℕ) (p : P.ring.carrier) (t : Placed P.ring.carrier) → HasTurnsBelow P r → HasChildKinds P r → Fits (child_kinds r) f → level ≤ depth f

@@ -1,4 +1,5 @@
--- The outline of a supertile that is moved, and whether it holds a point. A supertile of depth n is the prototile scaled by λ^n.
+-- The outline of a supertile that is moved, and whether it holds a point. A supertile of depth n is the
+-- prototile scaled by λ^n.
 use Rattle.std.specs.Prelude.{ℕ, Bool, List, map}
 use Rattle.ordered_ring.specs.Ring.{power}
 use Rattle.ordered_plane.specs.Plane.{test_point}

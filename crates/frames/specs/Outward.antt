@@ -8,7 +8,8 @@ use Rattle.substitution.specs.Rule.{Rule}
 use Rattle.substitution.specs.RuleParts.{child_of}
 use Rattle.frames.specs.Back.{rest_of_turn}
 
--- from an ancestor to its parent, of which it is the child with the motion (k, v), scaled: (T, a) becomes (T - k, a - ζ^(T - k) scale v)
+-- from an ancestor to its parent, of which it is the child with the motion (k, v), scaled:
+-- (T, a) becomes (T - k, a - ζ^(T - k) scale v)
 abbrev pub one_out_by : (P : Points) → P.ring.carrier → Motion P.ring.carrier → Motion P.ring.carrier → Motion P.ring.carrier
 one_out_by P scale m c =
     let turn = (m.turn + rest_of_turn P.order c.turn) % P.order in
@@ -23,7 +24,7 @@ abbrev pub outward_from : (P : Points) → Rule P.ring.carrier → ℕ → Motio
 outward_from P r n m [] = m
 outward_from P r n m (d ∷ ds) = outward_from P r (suc n) (one_out P r n m (child_of P r d.parent d.child).motion) ds
 
--- the motion of the base's ancestor above these digits: the base itself stands still
+-- the motion of the base's ancestor above these digits; the base itself is not moved
 abbrev pub outward : (P : Points) → Rule P.ring.carrier → List Step → Motion P.ring.carrier
 outward P r ds = outward_from P r 0 (still P) ds
 

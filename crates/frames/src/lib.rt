@@ -1,5 +1,5 @@
 //! Frames of a substitution tiling: a base tile whose address grows at the coarse end, and the tiles of its
-//! supertile, moved so that the base is in the position of its prototile.
+//! supertile. They are moved so that the base is in the position of its prototile.
 //!
 //! Combinatorial coordinates (S. Tatham, Combinatorial coordinates for the aperiodic monotile) leave the
 //! coarse end of an address open. Each further digit says which child of which parent the supertile reached

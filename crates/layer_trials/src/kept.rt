@@ -12,7 +12,7 @@ use std::alloc::{AllocError, Global};
 use std::test::Fail;
 use tile_shape::no_memory::NoMemory;
 
-/// How many tiles are drawn: the texts of vertices are kept from some 2,300 on.
+/// The number of tiles drawn: the texts of vertices are kept from about 2,300 on.
 const TILES: u32 = 4000;
 
 /// The vertices of a kite.
@@ -23,7 +23,7 @@ const HEAD: &str =
 <g transform=\"scale(0.0005 -0.000587785)\" fill=\"none\" stroke=\"black\" stroke-width=\"40\">
 ";
 
-/// Its path round its third vertex, and round its first.
+/// Its path around its third vertex, and around its first.
 const ROUND_THE_THIRD: &str = "<path class=\"k0\" d=\"M-2619 -1619L618 -1619L0 0L-1619 1000Z\"/>\n";
 
 const ROUND_THE_FIRST: &str = "<path class=\"k0\" d=\"M0 0L3236 0L2618 1618L1000 2618Z\"/>\n";
@@ -66,7 +66,7 @@ fn wanted(alloc: Global, path: &str) -> Result<Vec<u8>, AllocError> {
     Ok(text)
 }
 
-/// Whether the picture round a centre has that path for each tile.
+/// Returns true if the picture around a centre has that path for each tile.
 fn has_paths(
     alloc: Global,
     layer: &mut SvgLayer,

@@ -1,5 +1,5 @@
-//! Trials of the layers: the texts of the list, the census and the picture on tiles put by hand, with values from
-//! outside, also through layers in boxes and through a layer that refuses. There is no other code here.
+//! Trials of the layers: the texts of the list, the census and the picture, on tiles put by hand, compared
+//! with values from outside. Some layers are in boxes, and one refuses. There is no other code here.
 #![tactic(auto)]
 
 #[cfg(test)]

@@ -150,7 +150,7 @@ static LINES: [Row; 13] = [
 /// The vertices of a triangle.
 const TRIANGLE: [[i8; 4]; 3] = [[0, 0, 0, 0], [1, 0, 0, 0], [0, 1, 0, 0]];
 
-/// Whether a part is listed as its row says.
+/// Returns true if a part is listed as its row says.
 fn is_listed(alloc: Global, row: &Row) -> Result<bool, NoMemory> {
     let (kind, turn, shift, digits, line) = row;
     let mut list = ListLayer::new(alloc);

@@ -43,7 +43,7 @@ fn chairs(rt: HostRuntime) {
     }
 }
 
-/// Whether a layer draws one tile as this text.
+/// Returns true if a layer draws one tile as this text.
 fn draws<L: Layer>(layer: &mut L, view: View, tile: Drawn, wanted: &str) -> Result<bool, NoMemory>
     requires view { IsView view }
     requires drawable { IsDrawable view.order tile }
@@ -54,7 +54,7 @@ fn draws<L: Layer>(layer: &mut L, view: View, tile: Drawn, wanted: &str) -> Resu
     Ok(layer.bytes() == wanted.as_bytes())
 }
 
-/// Whether the picture of one tile is this.
+/// Returns true if the picture of one tile is this.
 fn is_svg(alloc: Global, view: View, tile: Drawn, wanted: &str) -> Result<bool, NoMemory>
     requires view { IsView view }
     requires drawable { IsDrawable view.order tile }
@@ -62,7 +62,7 @@ fn is_svg(alloc: Global, view: View, tile: Drawn, wanted: &str) -> Result<bool, 
     draws(&mut SvgLayer::new(alloc), view, tile, wanted)
 }
 
-/// Whether the list of one tile is this.
+/// Returns true if the list of one tile is this.
 fn is_list(alloc: Global, view: View, tile: Drawn, wanted: &str) -> Result<bool, NoMemory>
     requires view { IsView view }
     requires drawable { IsDrawable view.order tile }
@@ -70,7 +70,7 @@ fn is_list(alloc: Global, view: View, tile: Drawn, wanted: &str) -> Result<bool,
     draws(&mut ListLayer::new(alloc), view, tile, wanted)
 }
 
-/// Whether the text of a view without a tile is this.
+/// Returns true if the text of a view without a tile is this.
 fn is_empty<L: Layer>(layer: &mut L, view: View, wanted: &str) -> Result<bool, NoMemory>
     requires view { IsView view }
 {
@@ -198,7 +198,7 @@ fn no_tile(rt: HostRuntime) -> Result<(), Fail> {
     Ok(())
 }
 
-/// Whether the census of three tiles, two of kind 1 and one of a class that is no kind, is this.
+/// Returns true if the census of three tiles, two of kind 1 and one of a class that is no kind, is this.
 fn is_census(alloc: Global, wanted: &str) -> Result<bool, NoMemory> {
     let mut census = CensusLayer::new(alloc);
     let one = whole(Order::Ten, &KITE, part(1, 0, [0; 4], &[]));

@@ -140,7 +140,7 @@ pub(crate) fn draw_chairs<L: Layer>(layer: &mut L) -> Result<(), NoMemory>
     Ok(())
 }
 
-/// Whether two chairs are drawn as this text; None where the layer refuses.
+/// Returns true if two chairs are drawn as this text; None where the layer refuses.
 pub(crate) fn drawn<L: Layer>(layer: &mut L, wanted: &str) -> Option<bool> {
     match draw_chairs(layer) {
         Ok(()) => Some(layer.bytes() == wanted.as_bytes()),

@@ -15,8 +15,9 @@ use Rattle.tile_shape.specs.Views.{address_of}
 use Rattle.lazy_walk.specs.Boundary.{IsBoundaryEdge}
 use Rattle.lazy_walk.specs.Frames.{FrameValue, whole, lifted_at}
 
--- From edge e of the tile a, with this motion, in the frame f one comes to the tile x in the frame g: the only one across, at the least depth at which the
--- edge isn't on the boundary, with the edge `back` that leads back. Its motion is the one that glues the two edges, followed by that of a.
+-- From edge e of the tile a, with this motion, in the frame f one comes to the tile x in the frame g. It is
+-- the only one across, at the least depth at which the edge is not on the boundary, with the edge `back` that
+-- leads back. Its motion is the one that glues the two edges, followed by that of a.
 pub record IsCrossedTo (t : Tiling) (f g : FrameValue) (a : Address) (motion : Motion) (e : ℕ) (x : PlacedTile) (back : ℕ) : Type 0 where
   pub its_kind : x.kind ≡ x.addr.kind
   pub of_frame : IsTileOf (children t) (whole g) (address_of x.addr)

@@ -7,7 +7,8 @@ use Rattle.lazy_walk.specs.declared.path_fault.PathFault.{PathFault}
 use Rattle.lazy_walk.specs.declared.path_fault.PathFault.TheVariants.{NoEdge, DepthLimit}
 use Rattle.lazy_walk.specs.Paths.{LacksEdge, IsStoppedAt}
 
--- from a, it comes to a tile that hasn't the next edge; or to a tile whose next edge is on the boundary
+-- from a, it comes to a tile that does not have the next edge; or to a tile whose next edge is on the
+-- boundary
 abbrev pub IsPathFault : Tiling → Address → List ℕ → PathFault → Type 0
 IsPathFault t a path (NoEdge edge edges) = LacksEdge t a path edge edges
 IsPathFault t a path (DepthLimit limit) = IsStoppedAt t a path (address_of limit.addr) limit.edge

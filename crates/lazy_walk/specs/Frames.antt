@@ -7,7 +7,7 @@ use Rattle.rule_model.specs.Tiling.{Tiling, children}
 use Rattle.tile_shape.specs.UsesInOrder.{uses_in_order}
 use Rattle.seeded_growth.specs.Words.{word}
 
--- the base's own address, the start number, and the base's digits with the grown ones behind them
+-- the base's own address, the seed, and the base's digits followed by the grown ones
 pub record FrameValue : Type 0 where
   pub base : Address
   pub start : ℕ
@@ -17,7 +17,7 @@ pub record FrameValue : Type 0 where
 abbrev pub whole : FrameValue → Address
 whole f = record { kind = f.base.kind; digits = f.digits }
 
--- the frame of the same base and start number that has a depth, in a tiling
+-- the frame of the same base and seed that has a depth, in a tiling
 abbrev pub at_depth : Tiling → ℕ → FrameValue → FrameValue
 at_depth t n f = record { base = f.base; start = f.start; digits = (grown_by (uses_in_order (children t)) (word f.start) (n - depth f.base) f.base).digits }
 
@@ -28,7 +28,8 @@ pub record IsFrameOf (t : Tiling) (f : FrameValue) : Type 0 where
   pub at_most_64 : length f.digits ≤ 64
   pub its_digits : f ≡ at_depth t (length f.digits) f
 
--- what a frame may become: it keeps its base and its start number, its depth doesn't fall, and its digits are those of its depth
+-- what a frame may become: it keeps its base and its seed, its depth does not fall, and its digits are those
+-- of its depth
 pub record GrowsTo (t : Tiling) (f g : FrameValue) : Type 0 where
   pub same_base : g.base ≡ f.base
   pub same_start : g.start ≡ f.start

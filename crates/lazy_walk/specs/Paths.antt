@@ -5,7 +5,8 @@ use Rattle.rule_model.specs.Tiling.{Tiling, children}
 use Rattle.tile_place.specs.Crossed.{IsOnlyAcross, edges_of}
 use Rattle.lazy_walk.specs.Boundary.{IsBoundaryEdge}
 
--- edge e of the tile a exists and is inside the supertile; the tile b is across it, with its edge f, and no other is
+-- edge e of the tile a exists and is inside the supertile; the tile b is across it, with its edge f, and no
+-- other is
 pub record Crosses (t : Tiling) (a : Address) (e : ℕ) (b : Address) (f : ℕ) : Type 0 where
   pub edge_exists : e < edges_of t a.kind
   pub inside : ¬ IsBoundaryEdge t a e
@@ -38,7 +39,7 @@ pub record IsStoppedAt (t : Tiling) (a : Address) (path : List ℕ) (b : Address
 abbrev pub IsStopped : Tiling → Address → List ℕ → Type 0
 IsStopped t a path = (b : Address) × (e : ℕ) × IsStoppedAt t a path b e
 
--- it comes to a tile that has only so many edges, and not that one
+-- it comes to a tile that has this number of edges, and not that one
 pub record LacksEdge (t : Tiling) (a : Address) (path : List ℕ) (e edges : ℕ) : Type 0 where
   pub tile : Address
   pub comes : ComesTo t a path tile e

@@ -10,7 +10,8 @@ use Rattle.tile_place.specs.declared.placed_tile.PlacedTile.{PlacedTile}
 use Rattle.tile_shape.specs.Views.{address_of}
 use Rattle.lazy_walk.specs.Frames.{FrameValue, whole}
 
--- the tile names one of the frame's supertile, and its motion stands beside its address there, in the base's frame, and no other does
+-- the tile names one of the frame's supertile, and its motion is listed with its address there, in the base's
+-- frame, and no other is
 pub record Stands (t : Tiling) (f : FrameValue) (tile : PlacedTile) : Type 0 where
   pub its_kind : tile.kind ≡ tile.addr.kind
   pub of_frame : IsTileOf (children t) (whole f) (address_of tile.addr)

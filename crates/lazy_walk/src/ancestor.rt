@@ -1,4 +1,4 @@
-//! The supertiles round the base, one level after another.
+//! The supertiles around the base, level by level.
 ghost use Rattle.std.specs.Prelude.{◌≡◌, ◌+◌, ◌<◌, ◌≤◌, ◌^◌, true, false, length, IfOk, IfErr};
 ghost use Rattle.addressing.specs.Address.{Address};
 ghost use Rattle.cyclo_points.specs.Order.{points_of, is_refused};
@@ -48,7 +48,7 @@ impl Ancestor {
     }
 }
 
-/// The next power of the inflation factor, or the refused value that it is.
+/// Returns the next power of the inflation factor. Err has the power if it is refused.
 pub(crate) fn next_power(machine: &Machine, power: &Point) -> Result<Point, CoordLimit>
     requires within { IsWithin (2 ^ 24) power.now }
     ensures next { IfOk result (λ next. point_in machine.now.order next
@@ -71,8 +71,8 @@ pub(crate) fn next_power(machine: &Machine, power: &Point) -> Result<Point, Coor
     Ok(next)
 }
 
-/// The motion of an ancestor's parent: the ancestor is its child by this digit, scaled by this power of the
-/// inflation factor.
+/// Returns the motion of an ancestor's parent. The ancestor is its child by this digit, scaled by this power
+/// of the inflation factor.
 pub(crate) fn one_out(machine: &Machine, digit: Step, power: &Point, motion: &Motion) -> Motion
     requires parent { digit.parent < length (rule_of machine.now).kinds }
     requires child { digit.child < length (children_of (rule_of machine.now) digit.parent) }

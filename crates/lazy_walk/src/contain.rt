@@ -70,7 +70,11 @@ impl Frame {
         }
     }
 
-    /// Whether an ancestor of the base holds a point, or the first of its vertices that is refused.
+    /// Returns whether an ancestor of the base holds a point.
+    ///
+    /// # Errors
+    ///
+    /// The first vertex of the ancestor that is refused.
     fn is_inside(
         &self,
         machine: &Machine,
@@ -95,7 +99,7 @@ impl Frame {
         Ok(member(order, corners.as_slice(), point))
     }
 
-    /// The tile that holds a point in an ancestor of the base that holds it, as a tile of the frame.
+    /// Returns the tile that holds a point in an ancestor of the base that holds it, as a tile of the frame.
     fn tile_in(
         &self,
         machine: &Machine,

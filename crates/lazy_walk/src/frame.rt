@@ -1,4 +1,4 @@
-//! A base tile and the supertile round it.
+//! A base tile and the supertile around it.
 ghost use Rattle.std.specs.Prelude.{◌≡◌, ◌↔◌, ◌+◌, ◌<◌, ◌≤◌, length, map, max, Some, IsOk, IfOk, OnOk, OnErr};
 ghost use Rattle.addressing.specs.Address.{depth, kind_at, Fits};
 ghost use Rattle.frames.specs.Frame.{lifted_in};

@@ -33,7 +33,7 @@ impl Frame {
         self.kind_at(level)
     }
 
-    /// The digit by which the base's ancestor at a level is a child of the next.
+    /// Returns the digit by which the base's ancestor at a level is a child of the next one.
     pub(crate) fn digit_of(&self, machine: &Machine, level: u8) -> Step
         requires frame { IsFrameOf (tiling_of machine.now) self.now }
         requires deep { level < length self.now.digits }

@@ -1,4 +1,4 @@
-//! Why a path can't be walked to its end.
+//! Why a path cannot be walked to its end.
 use crate::depth_limit::DepthLimit;
 
 /// Why a path ends before its last edge.

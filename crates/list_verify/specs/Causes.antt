@@ -13,7 +13,8 @@ use Rattle.lazy_walk.specs.Frames.{FrameValue, whole}
 use Rattle.listing_text.specs.Listing.{Entry}
 use Rattle.window_cover.specs.Windows.{TileOf, MeetsWindow, IsOfFrame}
 
--- the tile of this address is of the frame, at the depth that it has, and meets the window; and no line's address, lifted to that depth, is it
+-- the tile of this address is of the frame, at the depth that it has, and meets the window; and no line's
+-- address, lifted to that depth, is it
 pub record IsMissingTile (t : Tiling) (g : FrameValue) (w : Window) (entries : List Entry) (addr : Address) : Type 0 where
   pub tile : TileOf t
   pub its_address : tile.address ≡ address_of addr
@@ -21,7 +22,8 @@ pub record IsMissingTile (t : Tiling) (g : FrameValue) (w : Window) (entries : L
   pub tile_meets : MeetsWindow t w tile
   pub no_line : (e : Entry) → IsAmong e entries → ¬ (lifted_in (whole g) e.address ≡ address_of addr)
 
--- the tile of line i, from 0, lifted to the depth that the frame has, meets the window and has this motion, which isn't the line's
+-- the tile of line i, from 0, lifted to the depth that the frame has, meets the window and has this motion,
+-- which is not the line's
 pub record IsMisplaced (t : Tiling) (g : FrameValue) (w : Window) (entries : List Entry) (i : ℕ) (motion : Motion) : Type 0 where
   pub entry : Entry
   pub is_line : slice_get entries i ≡ Some entry

@@ -7,7 +7,7 @@ use Rattle.tile_shape.specs.Views.{address_of}
 use Rattle.list_verify.specs.declared.list_fault.ListFault.{ListFault}
 use Rattle.list_verify.specs.declared.list_fault.ListFault.TheVariants.{TooLong, BadLine, Address, BadKind, NotOfFrame, Double, Missing, WrongPlace, Stray, DepthLimit, CoordLimit, NoMemory}
 
--- a fault by its name and its fields, each field behind a blank
+-- a fault by its name and its fields, each field after a blank
 abbrev pub list_fault_text : ListFault → List ℕ
 list_fault_text TooLong = codes "TooLong"
 list_fault_text (BadLine line place) = codes "BadLine " ++ decimal line ++ blank ∷ decimal place

@@ -1,4 +1,4 @@
--- Faults, and want of memory.
+-- Faults, and out of memory.
 use Rattle.std.specs.Prelude.{◌≡◌, ◌⊎◌}
 use Rattle.list_verify.specs.declared.list_fault.ListFault.{ListFault}
 use Rattle.list_verify.specs.declared.list_fault.ListFault.TheVariants.{NoMemory}

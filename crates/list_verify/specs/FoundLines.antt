@@ -74,7 +74,7 @@ pub record AreFound (t : Tiling) (f : FrameValue) (w : Window) (lines : List pro
   pub are_marked : AreMarked t f lines numbers marks
   pub walk : IsWalkedTo t f w lines numbers
 
--- these numbers, and perhaps more behind them
+-- these numbers, and perhaps more after them
 abbrev pub HasMore : List ℕ → List ℕ → Type 0
 HasMore old new = (more : List ℕ) × (new ≡ old ++ more)
 
@@ -95,7 +95,7 @@ IsCrossedOver t f w lines numbers i e =
     MeetsBox (points_of t.order).real (box_of t w) (edge_of_line t f lines i e)
     → HasAcross (points_of t.order).real (TileOf t) (frame_patch (points_of t.order) t.rule (full t f)) (tiles_found t f lines numbers) (edge_of_line t f lines i e)
 
--- so it is with the first n edges of the tile of line i
+-- this holds for the first n edges of the tile of line i
 abbrev pub AreCrossedOver : (t : Tiling) → FrameValue → Window → List program.Entry → List ℕ → ℕ → ℕ → Type 0
 AreCrossedOver t f w lines numbers i n = (e : ℕ) → e < n → IsCrossedOver t f w lines numbers i e
 

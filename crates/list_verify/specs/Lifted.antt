@@ -30,7 +30,7 @@ pub record AreLifted (kinds : List (List ℕ)) (f : Address) (entries lifted : L
   pub of_frame : AllByRecursion (λ (e : Entry). IsTileOf kinds f e.address) entries
   pub are : lifted ≡ map (entry_lifted f) entries
 
--- the fault tells the first line that isn't of the frame
+-- the fault names the first line that is not of the frame
 pub record IsStranger (kinds : List (List ℕ)) (f : Address) (entries : List Entry) (fault : ListFault) : Type 0 where
   pub number : ℕ
   pub is : fault ≡ NotOfFrame (number + 1)

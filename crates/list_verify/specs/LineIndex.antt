@@ -1,4 +1,5 @@
--- Lines by the addresses of their tiles: each line stands in a bucket, and each bucket is a chain from its last line to its first.
+-- Lines by the addresses of their tiles: each line is in a bucket, and each bucket is a chain from its last
+-- line to its first.
 use Rattle.std.specs.Prelude.{◌≡◌, ℕ, zero, suc, ◌+◌, ◌*◌, ◌%◌, ◌<◌, ◌≤◌, List, [], ◌∷◌, map, length, get_or, slice_get, Some, None, nat_eq, cond}
 use Rattle.std.specs.declared.option.Option.{Option}
 use Rattle.addressing.specs.Address.{Step, Address}
@@ -25,7 +26,8 @@ abbrev pub last_in : List ℕ → ℕ → ℕ → Option ℕ
 last_in places place zero = None
 last_in places place (suc n) = cond (nat_eq (get_or places n (suc place)) place) (Some n) (last_in places place n)
 
--- the last line of each bucket among the first n lines, and before each of these lines the one before it in its bucket
+-- the last line of each bucket among the first n lines, and for each of these lines the previous one in its
+-- bucket
 pub record IsIndexOf (buckets : Buckets) (lines : List Entry) (n : ℕ) (last before : List (Option ℕ)) : Type 0 where
   pub some : 0 < buckets.count
   pub multiplier : buckets.multiplier < 2305843009213693951

@@ -25,14 +25,16 @@ tiles_listed t entries = map (tile_listed t) entries
 abbrev pub AreOfOrder : Tiling → List Entry → Type 0
 AreOfOrder t entries = AllByRecursion (λ (e : Entry). IsOf t.order e.motion.shift) entries
 
--- The listing is right for the window on the frame. Let n be the least depth, up to 64, that is enough for the window, and isn't below the frame's or a listed
--- one: there is such a depth, each address is of the frame at depth n, and the lines, lifted to depth n, are exactly the tiles there that meet the window, each
--- once and with its motion.
+-- The listing is right for the window on the frame. Let n be the least depth, up to 64, that is enough for
+-- the window, and not below the frame's or a listed one. There is such a depth, each address is of the frame
+-- at depth n, and the lines, lifted to depth n, are exactly the tiles there that meet the window. Each comes
+-- exactly once, with its motion.
 pub record IsRightFor (t : Tiling) (f : FrameValue) (w : Window) (entries : List Entry) : Type 0 where
   pub of_order : AreOfOrder t entries
   pub right : IsRightListing (points_of t.order) t.rule (full t f) (box_of t w) (length f.digits) (tiles_listed t entries)
 
--- the text is read as a right listing of n lines; no value looked at for the centre is refused, and no shift of a tile that meets the window
+-- the text is read as a right listing of n lines; no value on the way to the centre is refused, and no shift
+-- of a tile that meets the window
 pub record IsVerified (t : Tiling) (f : FrameValue) (w : Window) (text : List ℕ) (n : ℕ) : Type 0 where
   pub entries : List Entry
   pub read : listing_in (children t) text ≡ Ok entries
@@ -45,12 +47,13 @@ pub record IsVerified (t : Tiling) (f : FrameValue) (w : Window) (text : List �
 abbrev pub NamesTileThere : Tiling → FrameValue → Window → Entry → Type 0
 NamesTileThere t f w e = NamesMeeting (points_of t.order) t.rule (full t f) (box_of t w) e.address
 
--- there is such a depth, and each tile there that meets the window has a line with its motion, and no refused shift
+-- there is such a depth, and each tile there that meets the window has a line with its motion, and no refused
+-- shift
 pub record HasAllTiles (t : Tiling) (f : FrameValue) (w : Window) (m : ℕ) (entries : List Entry) : Type 0 where
   pub all_listed : AreAllListed (points_of t.order) (is_refused t.order) t.rule (full t f) (box_of t w) m (tiles_listed t entries)
   pub of_order : AllByRecursion (λ (e : Entry). NamesTileThere t f w e → IsOf t.order e.motion.shift) entries
 
--- it is so, and line i, from 0, is the first whose tile doesn't meet the window
+-- this holds, and line i, from 0, is the first whose tile does not meet the window
 pub record HasStray (t : Tiling) (f : FrameValue) (w : Window) (m : ℕ) (entries : List Entry) (i : ℕ) : Type 0 where
   pub all_tiles : HasAllTiles t f w m entries
   pub first : IsFirstLine (λ e. ¬ NamesTileThere t f w e) entries i

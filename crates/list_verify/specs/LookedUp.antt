@@ -29,7 +29,8 @@ pub record IsNew (old new : FoundLines) (line : Entry) (tile : PlacedTile) (i : 
   pub one_more : new.lines.items ≡ old.lines.items ++ i ∷ []
   pub marked : new.marks.items ≡ slice_set old.marks.items i true
 
--- a tile is looked for: its line, of this number, was found before, or is found now; then the tile isn't refused, and the line has its motion
+-- a tile is looked for: its line, of this number, was found before, or is found now; then the tile is not
+-- refused, and the line has its motion
 pub record IsLookedUp (old new : FoundLines) (lines : List Entry) (tile : PlacedTile) (number : ℕ) : Type 0 where
   pub line : Entry
   pub is_line : slice_get lines number ≡ Some line

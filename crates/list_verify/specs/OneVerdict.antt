@@ -12,8 +12,9 @@ use Rattle.list_verify.specs.declared.list_fault.ListFault.TheVariants.{NoMemory
 use Rattle.list_verify.specs.Listing.{IsVerified}
 use Rattle.list_verify.specs.Verdict.{HasCause, IsTold, IsOfWalk, LacksTiles}
 
--- a right listing has one number of lines, and no fault; of two faults that have a cause, in the frame as it had grown then, both are the same or both are of the walk;
--- and a listing that lacks tiles is neither right nor has a fault that comes wherever it has a cause
+-- A right listing has one number of lines, and no fault. Two faults that have a cause, in the frame as it had
+-- grown then, are the same, or both are of the walk. A listing that lacks tiles is not right, and has no
+-- fault that comes whenever it has a cause.
 pub record HasOneVerdict (t : Tiling) (f : FrameValue) (w : Window) (listing : List ℕ) : Type 0 where
   pub one_count : (n m : ℕ) → IsVerified t f w listing n → IsVerified t f w listing m → n ≡ m
   pub right_or_not : (n : ℕ) (g : FrameValue) (fault : ListFault) → IsVerified t f w listing n → HasCause t f g w listing fault → fault ≡ NoMemory

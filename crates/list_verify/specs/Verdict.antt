@@ -24,7 +24,8 @@ fault_of_text (text.Address line fault) = Address line fault
 fault_of_text (text.BadKind line) = BadKind line
 fault_of_text text.NoMemory = NoMemory
 
--- the base's address in its frame of the depth to which the lines grow it: the greater of its own and the greatest listed one
+-- the base's address in its frame of the depth to which the lines grow it: the greater of its own and the
+-- greatest listed one
 abbrev pub frame_listed : (t : Tiling) → FrameValue → List Entry → TheAddress
 frame_listed t f entries = at_level (full t f) (deepest_listed (length f.digits) (tiles_listed t entries))
 
@@ -50,8 +51,8 @@ pub record HasDouble (t : Tiling) (f : FrameValue) (listing : List ℕ) (i : ℕ
   pub lines : AreOfFrameGrown t f listing entries
   pub first : IsDouble (frame_listed t f entries) (tiles_listed t entries) i
 
--- the lines are apart; none of the values looked at for the centre is refused; each tile that meets the window has its line; and line i, from 0, is the first whose
--- tile doesn't meet it
+-- The lines are apart. No value on the way to the centre is refused. Each tile that meets the window has its
+-- line. Line i, from 0, is the first whose tile does not meet it.
 pub record HasStrayLine (t : Tiling) (f : FrameValue) (w : Window) (listing : List ℕ) (i : ℕ) : Type 0 where
   pub entries : List Entry
   pub lines : AreApart t f listing entries
@@ -84,7 +85,7 @@ IsOfWalk (DepthLimit addr edge) = Unit {0}
 IsOfWalk (CoordLimit value) = Unit {0}
 IsOfWalk _ = ⊥
 
--- the fault comes wherever it has a cause
+-- the fault comes whenever it has a cause
 abbrev pub IsTold : ListFault → Type 0
 IsTold (Missing addr) = ⊥
 IsTold (WrongPlace line motion) = ⊥
@@ -93,7 +94,8 @@ IsTold (CoordLimit value) = ⊥
 IsTold NoMemory = ⊥
 IsTold _ = Unit {0}
 
--- the lines are apart; but a value looked at for the centre is refused, or not each tile that meets the window has its line, with its motion and no refused shift
+-- The lines are apart. A value on the way to the centre is refused, or not each tile that meets the window
+-- has its line, with its motion and no refused shift.
 pub record LacksTiles (t : Tiling) (f : FrameValue) (w : Window) (listing : List ℕ) : Type 0 where
   pub entries : List Entry
   pub lines : AreApart t f listing entries

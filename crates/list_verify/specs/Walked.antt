@@ -1,4 +1,4 @@
--- What a walk through lines tells at its end, and why it stops before.
+-- What a walk through lines finds out at its end, and why it stops before.
 use Rattle.std.specs.Prelude.{◌≡◌, ◌⊎◌, ℕ, ◌+◌, ◌<◌, Bool, true, false, List, length, slice_get, Some, None}
 use Rattle.std.specs.declared.option.Option.{Option}
 use Rattle.cyclo_points.specs.Order.{NumberOf, points_of, is_refused}
@@ -22,7 +22,8 @@ pub record IsFirstUnmarked (marks : List Bool) (i : ℕ) : Type 0 where
   pub unmarked : slice_get marks i ≡ Some false
   pub first : (j : ℕ) → j < i → slice_get marks j ≡ Some true
 
--- each tile that meets the window has its line; where all lines are marked they are right, and else the first that isn't is stray
+-- each tile that meets the window has its line; if all lines are marked they are right, and otherwise the
+-- first that is not is stray
 pub record Tells (t : Tiling) (f : FrameValue) (w : Window) (entries : List Entry) (marks : List Bool) : Type 0 where
   pub all_tiles : HasAllTiles t f w (length f.digits) entries
   pub right : ((i : ℕ) → i < length marks → slice_get marks i ≡ Some true)
@@ -42,12 +43,14 @@ StopsFor t f g w entries (DepthLimit addr edge) = IsDepthLimit t g w addr edge
 StopsFor t f g w entries (CoordLimit value) = IsFirstRefused t f w value ⊎ IsRefusedShift t g w value
 StopsFor t f g w entries fault = ⊥
 
--- and then not each tile that meets the window has its line, unless a value looked at for the centre is refused
+-- and then not each tile that meets the window has its line, unless a value on the way to the centre is
+-- refused
 pub record IsStoppedBy (t : Tiling) (f g : FrameValue) (w : Window) (entries : List Entry) (fault : ListFault) : Type 0 where
   pub cause : StopsFor t f g w entries fault
   pub not_all : first_refused_at t f w ≡ None → ¬ HasAllTiles t f w (length f.digits) entries
 
--- the lines are right, none is refused, each shift is a number of the order, and no value looked at for the centre is refused
+-- the lines are right, none is refused, each shift is a number of the order, and no value on the way to the
+-- centre is refused
 pub record AreRightLines (t : Tiling) (f : FrameValue) (w : Window) (entries : List Entry) : Type 0 where
   pub right : IsRightListing (points_of t.order) t.rule (full t f) (box_of t w) (length f.digits) (tiles_listed t entries)
   pub unrefused : AreUnrefused (is_refused t.order) (tiles_listed t entries)

@@ -25,7 +25,8 @@ pub record IsWrittenOf (tiles : List PlacedTile) (text : List ℕ) : Type 0 wher
   pub is : text ≡ entries_text (tile_entries tiles)
   pub four : AllByRecursion (λ (tile : PlacedTile). length tile.motion.shift.c ≡ 4) tiles
 
--- the text is a right listing of n lines, which aren't too many; and the frame has grown to the depth of its lines, and no further than is enough
+-- the text is a right listing of n lines, which are not too many; and the frame has grown to the depth of its
+-- lines, and no further than is enough
 pub record IsListedAs (t : Tiling) (f g : FrameValue) (w : Window) (text : List ℕ) (n : ℕ) : Type 0 where
   pub grows : GrowsTo t f g
   pub depth : IsListedDepth t f text (length g.digits)

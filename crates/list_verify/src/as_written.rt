@@ -20,8 +20,9 @@ use tile_place::placed_tile::PlacedTile;
 use window_cover::covered_tiles::CoveredTiles;
 use window_cover::tiles_of_window::covered_tiles;
 
-/// How many lines a listing has, where it is byte for byte what is written of the tiles of the window, in their order; the
-/// frame has grown to their depth then. Else none, and nothing is said of the listing.
+/// Returns the number of lines of a listing, if it is byte for byte the text of the window's tiles, in their
+/// order. Then the frame has grown to their depth. Otherwise it returns None, which says nothing of the
+/// listing.
 pub(crate) fn as_written(
     alloc: Global,
     machine: &Machine,
@@ -45,13 +46,13 @@ pub(crate) fn as_written(
     Some(count)
 }
 
-/// Whether a listing has at least eight bytes for each unit square of a fourth of the window, as those of built-in rules
-/// have. Of a shorter one the list of the window isn't worth its making.
+/// Returns true if a listing has at least eight bytes for each unit square of a quarter of the window, as
+/// lists of the built-in rules have. For a shorter one it is not worth making the list of the window.
 fn can_be_long_enough(window: &Window, listing: &[u8]) -> bool {
     listing.len() >= 8 * usize::from(window.w) * usize::from(window.h)
 }
 
-/// The same on a frame that may grow in any case.
+/// Like [`as_written`], on a frame that may grow in any case.
 fn written_lines(
     alloc: Global,
     machine: &Machine,
@@ -77,7 +78,7 @@ fn written_lines(
     Some(count as u32)
 }
 
-/// Whether a text is what is written of tiles.
+/// Returns true if a text is the text of these tiles.
 fn is_text_of(tiles: &CoveredTiles, text: &[u8]) -> bool
     ensures written { IsTrue result → IsWrittenOf tiles.now text.now }
 {
@@ -108,7 +109,7 @@ fn put_line(line: &mut Line, tile: &PlacedTile)
     four_coefficients(&tile.motion.shift);
 }
 
-/// The law that a point has four coefficients, of which contracts see the list.
+/// States that a point has four coefficients, which contracts see as a list.
 #[inline]
 fn four_coefficients(p: &Point)
     ensures { length p.now.c ≡ 4 }

@@ -1,4 +1,4 @@
-//! What a walk tells of lines.
+//! What a walk finds out about lines.
 ghost use Rattle.std.specs.Prelude.{◌≡◌, ◌⊎◌, ◌<◌, ◌≤◌, ◌*◌, ◌^◌, ℕ, [], true, length, slice_get, Some, IfSome, IfNone, IfErr, OnOk};
 ghost use Rattle.rule_model.specs.Tiling.{tiling_of};
 ghost use Rattle.lazy_walk.specs.Frames.{GrowsTo};
@@ -19,7 +19,7 @@ use plane_geom::window::Window;
 use std::sync::ledger::Ledger;
 use tile_place::machine::Machine;
 
-/// The number of the first line that is not marked.
+/// Returns the number of the first line that is not marked.
 fn first_unmarked(marks: &[bool]) -> Option<u32>
     requires few { length marks.now < 2 ^ 32 }
     ensures first { IfSome result (λ i. IsFirstUnmarked marks.now i) }
@@ -34,8 +34,8 @@ fn first_unmarked(marks: &[bool]) -> Option<u32>
     None
 }
 
-/// Walks through lines, and tells whether they are the list of the window: else the first fault of the walk, or the first
-/// line that it has not found.
+/// Walks through lines. If they are not the list of the window, returns the first fault of the walk, or the
+/// first line that it has not found.
 pub(crate) fn check_lines<L: Ledger>(
     machine: &Machine,
     frame: &mut Frame,

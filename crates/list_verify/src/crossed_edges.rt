@@ -4,17 +4,17 @@ ghost use Rattle.std.specs.Prelude.{◌≡◌, ◌↔◌, ◌<◌, ◌+◌, ◌*
 use std::alloc::Global;
 use tile_shape::no_memory::NoMemory;
 
-/// How many marks each line has: no tile has more edges.
+/// The number of marks of each line: no tile has more edges.
 const MARKS: usize = 12;
 
-/// A mark for each edge of each line's tile: whether it has been crossed from its other side.
+/// A mark for each edge of each line's tile: true if it has been crossed from its other side.
 #[derive(Drop)]
 pub(crate) struct CrossedEdges {
     pub(crate) marks: Vec<bool>,
 }
 
 impl CrossedEdges {
-    /// None is, of so many lines.
+    /// Makes marks for this number of lines, none of them set.
     pub(crate) fn new(alloc: Global, count: usize) -> Result<CrossedEdges, NoMemory>
         requires few { count < 2 ^ 32 }
         ensures count { IfOk result (λ own. length own.marks.items ≡ count * 12) }
@@ -25,7 +25,7 @@ impl CrossedEdges {
         })
     }
 
-    /// Whether an edge of a line's tile is marked.
+    /// Returns true if an edge of a line's tile is marked.
     pub(crate) fn has(&self, line: u32, edge: usize) -> bool
         requires exists { line * 12 + edge < length self.now.marks.items }
         requires below { edge < 12 }

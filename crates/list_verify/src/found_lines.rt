@@ -18,8 +18,8 @@ use std::alloc::Global;
 use tile_place::placed_tile::PlacedTile;
 use tile_shape::no_memory::NoMemory;
 
-/// The numbers of the lines found, in the order found, a mark at each line that is, and the edges of their tiles that
-/// have been crossed from their other sides.
+/// The numbers of the lines found, in that order, and a mark at each line that is found. It also has the
+/// edges of their tiles that have been crossed from their other sides.
 #[derive(Drop)]
 pub(crate) struct FoundLines {
     pub(crate) lines: Vec<u32>,
@@ -28,7 +28,7 @@ pub(crate) struct FoundLines {
 }
 
 impl FoundLines {
-    /// None is found, of so many lines.
+    /// Begins with this number of lines, none of them found.
     pub(crate) fn new(alloc: Global, count: usize) -> Result<FoundLines, NoMemory>
         requires few { count < 2 ^ 32 }
         ensures none { IfOk result (λ found. found.lines.items ≡ []) }
@@ -44,7 +44,7 @@ impl FoundLines {
         })
     }
 
-    /// Looks for a tile among the lines, and marks its line, whose number is the answer.
+    /// Looks for a tile among the lines, marks its line, and returns the line's number.
     pub(crate) fn look_up(
         &mut self,
         lines: &[Entry],

@@ -1,9 +1,9 @@
 //! Lists of the tiles of a window from other programs, verified.
 //!
 //! A walk through the lines of a list decides whether it is right. It begins with the tile at the centre of
-//! the window, goes on across edges that meet the window, and looks for each tile that it comes to among the
-//! lines. The list is right if and only if the walk comes to its end and has found each line. A list that is
-//! byte for byte the text of the window's tiles needs no walk.
+//! the window, and goes on across edges that meet the window. It looks for each tile that it reaches among
+//! the lines. The list is right if and only if the walk ends and has found each line. A list that is byte for
+//! byte the text of the window's tiles needs no walk.
 #![tactic(auto)]
 
 mod as_written;

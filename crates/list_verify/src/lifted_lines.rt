@@ -15,7 +15,7 @@ use listing_text::entry::Entry;
 use tile_place::machine::Machine;
 use tile_shape::address::Address;
 
-/// The greatest depth of the lines' addresses, and at least this one.
+/// Returns the greatest depth of the lines' addresses, or `least` if that is greater.
 fn deepest(least: u8, lines: &[Entry]) -> u8
     requires at_most_64 { least ≤ 64 }
     ensures deepest { (t : Tiling) → result ≡ deepest_entry t least (entries_of lines.now) }
@@ -28,8 +28,8 @@ fn deepest(least: u8, lines: &[Entry]) -> u8
     depth
 }
 
-/// Whether an address, no deeper than a frame, is one of its tiles: it has the kind of the base's ancestor at the level
-/// of its depth.
+/// Returns true if an address, no deeper than a frame, is that of one of its tiles. It must have the kind of
+/// the base's ancestor at the level of its depth.
 fn is_of_frame(frame: &Frame, address: &Address) -> bool
     requires no_deeper { depth (address_of address.now) ≤ length frame.now.digits }
     ensures { (kinds : List (List ℕ)) → Fits kinds (address_of address.now) → IsTrue result ↔ IsTileOf kinds (whole frame.now) (address_of address.now) }
@@ -38,8 +38,8 @@ fn is_of_frame(frame: &Frame, address: &Address) -> bool
     address.kind_at(depth) == frame.kind_at(depth)
 }
 
-/// Lifts each line's address, where it stands, to the depth of a frame that is no shallower than they; or tells the
-/// first line that isn't of the frame.
+/// Lifts each line's address, in place, to the depth of a frame that is no shallower than any of them. Err
+/// has the first line that is not of the frame.
 fn lift_each(frame: &Frame, lines: &mut [Entry]) -> Result<(), ListFault>
     requires few { length lines.old < 2 ^ 31 }
     requires no_deeper { All (λ line. depth (address_of line.address) ≤ length frame.now.digits) lines.old }
@@ -59,8 +59,8 @@ fn lift_each(frame: &Frame, lines: &mut [Entry]) -> Result<(), ListFault>
     Ok(())
 }
 
-/// Grows the frame to the greatest depth of the lines' addresses, and lifts each of them to its depth; or tells the first
-/// that isn't of the frame.
+/// Grows the frame to the greatest depth of the lines' addresses, and lifts each of them to its depth. Err
+/// has the first line that is not of the frame.
 pub(crate) fn lift_lines(
     machine: &Machine,
     frame: &mut Frame,

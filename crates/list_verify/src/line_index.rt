@@ -20,14 +20,14 @@ const MODULUS: u64 = 2_305_843_009_213_693_951;
 /// 2^61.
 const BASE: u128 = 2_305_843_009_213_693_952;
 
-/// How many buckets there are, and by what the digits before are multiplied in a digest.
+/// The number of buckets, and the multiplier of a digest.
 #[derive(Clone, Copy, Debug)]
 pub(crate) struct Buckets {
     count: usize,
     multiplier: u64,
 }
 
-/// The last line of each bucket, and before each line the one before it in its bucket.
+/// The last line of each bucket, and for each line the previous one of its bucket.
 #[derive(Drop)]
 pub(crate) struct LineIndex {
     pub(crate) buckets: Buckets,
@@ -36,8 +36,8 @@ pub(crate) struct LineIndex {
 }
 
 impl LineIndex {
-    /// The lines by their addresses; or the first line that has the address of an earlier one. In which buckets they are
-    /// depends on the multiplier.
+    /// Makes the index of lines by their addresses. Err has the first line that repeats an earlier line's
+    /// address. The multiplier decides which bucket a line is in.
     pub(crate) fn new(
         alloc: Global,
         multiplier: u64,
@@ -61,7 +61,7 @@ impl LineIndex {
         Ok(index)
     }
 
-    /// Puts a line behind those before it, if none of these has its address.
+    /// Adds a line after the earlier ones, unless one of these has its address.
     fn add(&mut self, lines: &[Entry], line: usize) -> Result<(), ListFault>
         requires index { Indexes self.old lines.now line }
         requires below { line < length lines.now }
@@ -84,7 +84,7 @@ impl LineIndex {
         Ok(())
     }
 
-    /// The line with an address.
+    /// Returns the line with an address.
     pub(crate) fn find(&self, lines: &[Entry], address: &Address) -> Option<u32>
         requires index { Indexes self.now lines.now (length lines.now) }
         ensures found { IfSome result (λ i. HasAddress lines.now i (address_of address.now)) }
@@ -95,8 +95,9 @@ impl LineIndex {
     }
 }
 
-/// The multiplier for a listing: by a hash of all its bytes, so that lines can't be chosen by it, to meet in one bucket,
-/// before they stand. Of so many multipliers few are bad, as 0, 1 and those with a small order.
+/// Returns the multiplier for a listing, from a hash of all its bytes. So nobody can choose lines that meet
+/// in one bucket before the whole listing is written. Few multipliers are bad, such as 0, 1 and those with a
+/// small order.
 pub(crate) fn multiplier_of(listing: &[u8]) -> u64
     ensures below { result < 2305843009213693951 }
 {
@@ -105,7 +106,7 @@ pub(crate) fn multiplier_of(listing: &[u8]) -> u64
     hasher.finish() % MODULUS
 }
 
-/// What a number leaves by the modulus. As 2^61 leaves 1, its digits to the base 2^61 can be added.
+/// Returns a number modulo the modulus. Since 2^61 is 1 there, the digits to the base 2^61 can be added.
 fn reduced(number: u128) -> u64
     requires below { number < 2 ^ 124 }
     ensures reduced { result ≡ number % 2305843009213693951 }
@@ -113,7 +114,7 @@ fn reduced(number: u128) -> u64
     ((number / BASE) as u64 + (number % BASE) as u64) % MODULUS
 }
 
-/// The bucket of an address.
+/// Returns the bucket of an address.
 fn bucket_of(address: &Address, buckets: Buckets) -> usize
     requires some { 0 < buckets.count }
     requires multiplier { buckets.multiplier < 2305843009213693951 }
@@ -129,7 +130,7 @@ fn bucket_of(address: &Address, buckets: Buckets) -> usize
     (digest % buckets.count as u64) as usize
 }
 
-/// The line with an address, in a chain of lines that begins with the last one of its bucket.
+/// Returns the line with an address, in a chain of lines that begins with the last one of its bucket.
 fn find_in(
     before: &[Option<u32>],
     first: Option<u32>,

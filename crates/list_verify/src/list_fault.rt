@@ -1,4 +1,4 @@
-//! Why a listing isn't right.
+//! Why a listing is not right.
 use cyclo_points::motion::Motion;
 use cyclo_points::point::Point;
 use lazy_walk::depth_limit::DepthLimit;

@@ -7,7 +7,7 @@ use listings::{frame_walk_law, right_listing_law, walk_fault_law};
 use window_cover::search_laws::search_laws;
 use windows::frame_laws::frame_crossing_law;
 
-/// The laws of the walk, for the points of each order: those of the search, and its own.
+/// States the laws of the walk, for the points of each order: those of the search, and its own.
 pub(crate) fn list_laws(order: Order)
     ensures { HasListLaws (points_of order) }
 {

@@ -4,7 +4,7 @@ ghost use Rattle.tile_shape.specs.Views.{address_of};
 
 use tile_shape::address::Address;
 
-/// Whether two addresses are the same.
+/// Returns true if two addresses are the same.
 pub(crate) fn is_same_address(a: &Address, b: &Address) -> bool
     ensures { IsTrue result ↔ (address_of a.now ≡ address_of b.now) }
 {

@@ -7,7 +7,7 @@ ghost use Rattle.list_verify.specs.LookedUp.{IsMovedOtherwise};
 use cyclo_points::motion::Motion;
 use cyclo_points::point::Point;
 
-/// Whether two motions have the same turn and the same four coefficients.
+/// Returns true if two motions have the same turn and the same four coefficients.
 pub(crate) fn is_same_motion(a: &Motion, b: &Motion) -> bool
     ensures same { IsTrue result ↔ (a.now ≡ b.now) }
     ensures otherwise { result ≡ false → IsMovedOtherwise a.now b.now }
@@ -15,7 +15,7 @@ pub(crate) fn is_same_motion(a: &Motion, b: &Motion) -> bool
     a.turn == b.turn && is_same_shift(&a.shift, &b.shift)
 }
 
-/// Whether two points have the same coefficients.
+/// Returns true if two points have the same coefficients.
 fn is_same_shift(p: &Point, q: &Point) -> bool
     ensures same { IsTrue result ↔ (p.now ≡ q.now) }
     ensures otherwise { result ≡ false → (o : Order) → IsOf o p.now → IsOf o q.now → ¬ (point_in o p.now ≡ point_in o q.now) }

@@ -47,12 +47,13 @@ use tile_place::machine::Machine;
 /// - `frame` has the base and the seed. It grows at most to the least depth that is enough for the window and
 ///   for the listed addresses, or to 64 if none is. It is unchanged if the text has a fault.
 /// - `window` has its centre in the base's frame.
-/// - `listing` has a line for each tile, in any order: its kind, its turn, its shift as four coefficients in
-///   the base's frame, and its address, of any depth, with single blanks between.
+/// - `listing` has a line for each tile, in any order. A line has its kind, its turn, its shift as four
+///   coefficients in the base's frame, and its address, with single blanks between. The address may have any
+///   depth.
 /// - `alloc` provides all memory, about 300 bytes a line.
 ///
-/// A list that is byte for byte what is written of the window's tiles, in their order, is right at once. Any
-/// other one is walked through line by line, from the tile at the centre across edges that meet the window.
+/// A list that is byte for byte the text of the window's tiles, in their order, is accepted at once. Any
+/// other list is walked through line by line, from the tile at the centre across edges that meet the window.
 ///
 /// # Errors
 ///
@@ -62,7 +63,7 @@ use tile_place::machine::Machine;
 ///    comes; which one is left open.
 /// 4. After a walk without an error: `Stray`, for the first line whose tile does not meet the window.
 ///
-/// `NoMemory` only if memory ran out; `TooLong` comes before it.
+/// `NoMemory` means that memory ran out. `TooLong` takes precedence over it.
 pub fn verify(
     alloc: Global,
     machine: &Machine,
@@ -101,7 +102,7 @@ pub fn verify(
     verdict(alloc, machine, frame, window, listing)
 }
 
-/// The number of lines, or the first fault: what is answered, and why.
+/// Returns the number of lines, or the first fault, with its cause.
 fn verdict(
     alloc: Global,
     machine: &Machine,
@@ -125,7 +126,7 @@ fn verdict(
     by_walk(alloc, machine, frame, window, listing)
 }
 
-/// The same by a walk through the lines, in whatever order they stand.
+/// Like [`verdict`], by a walk through the lines, in any order.
 fn by_walk(
     alloc: Global,
     machine: &Machine,
@@ -163,8 +164,8 @@ fn by_walk(
     }
 }
 
-/// The same of lines that have been read. Their addresses are lifted where they stand. In which order the lines are
-/// looked through for an address depends on the multiplier, and nothing else does.
+/// Like [`by_walk`], for lines that have been read. It lifts their addresses in place. The multiplier decides
+/// only in which order lines are looked through for an address.
 fn verify_lines(
     alloc: Global,
     machine: &Machine,
@@ -214,7 +215,7 @@ fn verify_lines(
     )
 }
 
-/// The walk through lines, with look-ups counted on a ledger of this name.
+/// Walks through the lines, with look-ups counted on a ledger of this name.
 fn walk_counted<L: Ledger>(
     machine: &Machine,
     frame: &mut Frame,

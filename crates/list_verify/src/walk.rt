@@ -28,7 +28,7 @@ use tile_place::machine::Machine;
 use tile_place::placed_tile::PlacedTile;
 use tile_shape::address::Address;
 
-/// The tile that a line names, with its motion.
+/// Puts the tile that a line names, with its motion.
 fn put_line(line: &Entry, tile: &mut PlacedTile)
     ensures kind { tile.new.kind ≡ line.now.address.kind }
     ensures motion { tile.new.motion ≡ line.now.motion }
@@ -44,8 +44,8 @@ fn put_line(line: &Entry, tile: &mut PlacedTile)
         .try_extend_from_slice(line.address.digits.as_slice());
 }
 
-/// Goes across an edge, which meets the window, of the tile of a line found, and looks for the tile across. The edge
-/// that leads back is marked: it needn't be crossed.
+/// Crosses an edge, which meets the window, of the tile of a found line, and looks for the tile across. It
+/// marks the edge that leads back, which need not be crossed.
 fn cross_edge<L: Ledger>(
     machine: &Machine,
     frame: &mut Frame,
@@ -99,7 +99,7 @@ fn cross_edge<L: Ledger>(
     }
 }
 
-/// Looks for the tile that holds the centre of the window, and answers the number of its line.
+/// Looks for the tile that holds the centre of the window, and returns the number of its line.
 fn find_centre(
     machine: &Machine,
     frame: &mut Frame,
@@ -133,8 +133,8 @@ fn find_centre(
     }
 }
 
-/// Goes across the edges, which meet the window, of the tile of a line found, and looks for each tile across;
-/// but not across those that were crossed from their other sides.
+/// Crosses the edges, which meet the window, of the tile of a found line, and looks for each tile across. It
+/// omits edges that were crossed from their other sides.
 fn cross_edges<L: Ledger>(
     machine: &Machine,
     frame: &mut Frame,
@@ -190,8 +190,8 @@ fn cross_edges<L: Ledger>(
     Ok(())
 }
 
-/// Walks through the lines, from the tile at the centre of the window across edges that meet it, and marks those that it
-/// finds.
+/// Walks through the lines, from the tile at the centre of the window across edges that meet it, and marks
+/// the lines that it finds.
 pub(crate) fn walk<L: Ledger>(
     machine: &Machine,
     frame: &mut Frame,
@@ -240,7 +240,7 @@ pub(crate) fn walk<L: Ledger>(
     Ok(())
 }
 
-/// A tile that stands for none.
+/// Returns a placeholder for a tile.
 fn no_tile() -> PlacedTile {
     PlacedTile {
         kind: 0,

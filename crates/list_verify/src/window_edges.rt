@@ -12,7 +12,7 @@ use cyclo_points::point::Point;
 use plane_geom::box_edges::edge_meets_box;
 use plane_geom::window::Window;
 
-/// Whether an edge of a tile with these corners meets the window.
+/// Returns true if an edge of a tile with these corners meets the window.
 fn edge_meets(order: Order, window: &Window, corners: &[Point], edge: usize) -> bool
     requires exists { edge < length corners.now }
     requires few { length corners.now ≤ 12 }
@@ -26,7 +26,8 @@ fn edge_meets(order: Order, window: &Window, corners: &[Point], edge: usize) -> 
     edge_meets_box(order, &start, &end, window)
 }
 
-/// Whether an edge of a line's tile, with these corners, meets the window and hasn't been crossed from its other side.
+/// Returns true if an edge of a line's tile, with these corners, meets the window and has not been crossed
+/// from its other side.
 pub(crate) fn is_left(
     order: Order,
     window: &Window,
@@ -47,7 +48,7 @@ pub(crate) fn is_left(
     !crossed.has(line, edge) && edge_meets(order, window, corners, edge)
 }
 
-/// The number of the corner behind one, of so many.
+/// Returns the number of the next corner, of `count` corners.
 fn next_of(count: usize, number: usize) -> usize
     requires below { number < count }
     requires few { count ≤ 12 }

@@ -29,12 +29,12 @@ entry_of_words children number (Ok listed) = entry_at number listed (address_in 
 abbrev pub entry_in : List (List ℕ) → ℕ → List ℕ → Result Entry ListingFault
 entry_in children number line = entry_of_words children number (listed_in line)
 
--- entries before the others; a fault behind them is the fault of all
+-- entries before the others; a fault after them is the fault of all
 abbrev pub entries_before : List Entry → Result (List Entry) ListingFault → Result (List Entry) ListingFault
 entries_before entries (Ok others) = Ok (entries ++ others)
 entries_before entries (Err fault) = Err fault
 
--- by what the first line is, and what those behind it are
+-- by the first line, and those after it
 abbrev pub first_then : Result Entry ListingFault → Result (List Entry) ListingFault → Result (List Entry) ListingFault
 first_then (Ok entry) others = entries_before (entry ∷ []) others
 first_then (Err fault) others = Err fault

@@ -20,14 +20,14 @@ abbrev pub OrWantsMemory : (ListingFault → Type 0) → ListingFault → Type 0
 OrWantsMemory P NoMemory = Unit {0}
 OrWantsMemory P fault = P fault
 
--- the entry of a line, whose number is one more than that of those put before, was put behind them
+-- the entry of a line, whose number is one more than the number of earlier entries, was appended to them
 pub record IsPut (children : List (List ℕ)) (line : List ℕ) (before after : List program.Entry) : Type 0 where
   pub entry : program.Entry
   pub read : entry_in children (length before + 1) line ≡ Ok (entry_of entry)
   pub accepted : IsAcceptedAddress children (address_of entry.address)
   pub behind : after ≡ before ++ entry ∷ []
 
--- the texts between marks of what stands behind a mark, where there is one
+-- the texts between marks of the text after a mark, if there is one
 abbrev pub texts_behind : ℕ → Option (Bor (List ℕ)) → List (List ℕ)
 texts_behind mark None = []
 texts_behind mark (Some rest) = texts_between mark rest.now

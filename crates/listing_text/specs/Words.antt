@@ -1,5 +1,6 @@
--- The four words of a line: a kind, a turn, a shift and the text of an address. Each reader answers what it has read, or the number, from 0, of the first word that hasn't
--- its form or is one too many; where a word is missing it is the number of words.
+-- The four fields of a line: a kind, a turn, a shift and the text of an address. Each reader gives what it
+-- has read, or the number, from 0, of the first field that is malformed or one too many. If a field is
+-- missing, it is the number of fields.
 use Rattle.std.specs.Prelude.{ℕ, List, [], ◌∷◌, Result, Ok, Err}
 use Rattle.cyclo_points.specs.Text.{blank}
 use Rattle.cyclo_points.specs.declared.motion.Motion.{Motion}
@@ -14,12 +15,12 @@ pub record Listed : Type 0 where
   pub motion : Motion
   pub address : List ℕ
 
--- the last word, an address, behind a kind and a motion; no word stands behind it
+-- the last field, an address, after a kind and a motion; no field comes after it
 abbrev pub last_word : ℕ → Motion → List ℕ × List (List ℕ) → Result Listed ℕ
 last_word kind motion (address, []) = Ok (record { kind = kind; motion = motion; address = address })
 last_word kind motion (address, word ∷ words) = Err 4
 
--- a kind and a motion, by three words, and the words behind them
+-- a kind and a motion, by three fields, and the fields after them
 unfoldable pub listed_motion : List (List ℕ) → Result (ℕ × Motion × List (List ℕ)) ℕ
 listed_motion words = do
   kind ← word_by (number_up_to 255) 0 words
@@ -27,13 +28,13 @@ listed_motion words = do
   shift ← word_by shift_in 2 turn.1
   Ok (kind.0, record { turn = turn.0; shift = shift.0 }, shift.1)
 
--- what is listed, by the words behind these three
+-- what is listed, by the fields after these three
 unfoldable pub listed_behind : ℕ → Motion → List (List ℕ) → Result Listed ℕ
 listed_behind kind motion words = do
   address ← word_by some_text 3 words
   last_word kind motion address
 
--- the words of a line stand between single blanks
+-- single blanks separate the fields of a line
 unfoldable pub listed_in : List ℕ → Result Listed ℕ
 listed_in line = do
   placed ← listed_motion (texts_between blank line)

@@ -14,11 +14,12 @@ use Rattle.listing_text.specs.Listing.{Entry}
 abbrev pub entry_text : Entry → List ℕ
 entry_text e = decimal e.address.kind ++ blank ∷ motion_text e.motion ++ blank ∷ address_text e.address
 
--- the lines of entries, each with a newline behind it
+-- the lines of entries, each followed by a newline
 abbrev pub entries_text : List Entry → List ℕ
 entries_text entries = flat_map (λ e. entry_text e ++ newline ∷ []) entries
 
--- the address of an entry is accepted, its turn has a byte, and its shift is of four coefficients within the limit
+-- the address of an entry is accepted, its turn has a byte, and its shift is of four coefficients within the
+-- limit
 pub record CanBeListed (children : List (List ℕ)) (e : Entry) : Type 0 where
   pub address : IsAcceptedAddress children e.address
   pub turn : e.motion.turn ≤ 255

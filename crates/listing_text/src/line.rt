@@ -1,4 +1,4 @@
-//! The words of a line.
+//! The fields of a line.
 ghost use Rattle.std.specs.Prelude.{◌≡◌, ◌<◌, [], ◌∷◌, length, IfSome, IfNone};
 ghost use Rattle.cyclo_points.specs.Text.{blank};
 ghost use Rattle.tile_shape.specs.Words.{texts_between};
@@ -10,7 +10,7 @@ use crate::number::{number_before, signed_before_comma};
 use cyclo_points::motion::Motion;
 use cyclo_points::point::Point;
 
-/// The first three words of a line, and what stands behind them, where there is a blank.
+/// The first three fields of a line, and the rest after a blank, if there is one.
 #[derive(Clone, Copy)]
 pub(crate) struct Placed<'a> {
     pub(crate) kind: u8,
@@ -18,7 +18,7 @@ pub(crate) struct Placed<'a> {
     pub(crate) left: Option<&'a [u8]>,
 }
 
-/// What stands before the first mark of a short text, and what stands behind the mark, where there is one.
+/// Returns the text before the first mark of a short text, and the text after the mark, if there is one.
 #[inline]
 pub(crate) fn cut(text: &[u8], mark: u8) -> (&[u8], Option<&[u8]>)
     ensures texts { texts_between mark text.now ≡ result.0.now ∷ texts_behind mark result.1 }
@@ -33,7 +33,7 @@ pub(crate) fn cut(text: &[u8], mark: u8) -> (&[u8], Option<&[u8]>)
     (text, None)
 }
 
-/// The shift that a text is: four signed numbers joined by commas.
+/// Returns the shift of a text: four signed numbers joined by commas.
 fn shift_in(text: &[u8]) -> Option<Point>
     ensures { result ≡ shift_in text.now }
 {
@@ -47,7 +47,7 @@ fn shift_in(text: &[u8]) -> Option<Point>
     }
 }
 
-/// The point of four coefficients.
+/// Returns the point of four coefficients.
 #[inline]
 fn point_of(a: i64, b: i64, c: i64, d: i64) -> Point
     ensures { result ≡ record { c = a ∷ b ∷ c ∷ d ∷ [] } }
@@ -55,8 +55,8 @@ fn point_of(a: i64, b: i64, c: i64, d: i64) -> Point
     Point { c: [a, b, c, d] }
 }
 
-/// The kind, the turn and the shift of a line, and what stands behind them; else the number of the first word that is
-/// wrong or missing.
+/// Returns the kind, the turn and the shift of a line, and the rest. Err has the position of the first field
+/// that is malformed or missing.
 #[tactic(auto, unfolding(crate::specs::Words::listed_motion))]
 pub(crate) fn listed_motion(line: &[u8]) -> Result<Placed<'_>, u8>
     ensures { AnswersPlaced result (listed_motion (texts_between blank line.now)) }

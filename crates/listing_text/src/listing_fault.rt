@@ -1,4 +1,4 @@
-//! Why a listing isn't read.
+//! Why a listing is not read.
 use std::alloc::{AllocError, AllocFailed};
 use tile_shape::address_fault::AddressFault;
 

@@ -10,8 +10,8 @@ ghost use Rattle.listing_text.specs.Views.{texts_behind};
 /// The greatest coefficient of a shift, in absolute value.
 const MOST_SHIFT: u32 = 16_777_216;
 
-/// The number, at most `most`, before the first mark, and what stands behind the mark, where there is one: `0`, or
-/// figures whose first isn't `0`.
+/// Returns the number before the first mark, if it is at most `most`, and the text after the mark, if there
+/// is one. The number is `0`, or decimal digits of which the first is not `0`.
 #[inline]
 pub(crate) fn number_before(text: &[u8], mark: u8, most: u32) -> Option<(u32, Option<&[u8]>)>
     requires small { most ≤ most_shift }
@@ -40,8 +40,8 @@ pub(crate) fn number_before(text: &[u8], mark: u8, most: u32) -> Option<(u32, Op
     Some((number, None))
 }
 
-/// The signed number before the first comma, and what stands behind the comma, where there is one: a number, or `-`
-/// before one other than 0.
+/// Returns the signed number before the first comma, and the text after the comma, if there is one. It is a
+/// number, or `-` and a number other than 0.
 #[inline]
 pub(crate) fn signed_before_comma(text: &[u8]) -> Option<(i64, Option<&[u8]>)>
     ensures { option_map (λ found. (found.0, texts_behind comma found.1)) result ≡ first_by signed_in (texts_between comma text.now) }

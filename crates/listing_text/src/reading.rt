@@ -32,8 +32,8 @@ const MOST_LINES: usize = 200_000;
 ///
 /// - `uses` is the table that the addresses must fit.
 /// - `listing` has lines, each ended by a newline; the last newline may be missing. A line has four fields,
-///   with single blanks between: a kind and a turn, from 0 to 255; a shift of four signed numbers joined by
-///   commas, each at most 2^24 in absolute value; and the text of an address.
+///   with single blanks between. They are a kind and a turn, from 0 to 255; a shift; and the text of an
+///   address. The shift is four signed numbers joined by commas, each at most 2^24 in absolute value.
 /// - `alloc` provides the memory of the entries.
 ///
 /// # Errors
@@ -71,13 +71,13 @@ pub fn read_listing(alloc: Global, uses: &Uses, listing: &[u8]) -> Result<Vec<En
     Ok(entries)
 }
 
-/// Puts the entry of a line behind those of the lines before it.
+/// Appends the entry of a line to those of the previous lines.
 fn put_line(uses: &Uses, line: &[u8], entries: &mut Vec<Entry>) -> Result<(), ListingFault>
     requires few { length entries.old.items < most_lines }
     ensures put { IfOk result (λ _. IsPut uses.now line.now entries.old.items entries.new.items) }
     ensures fault { IfErr result (OrWantsMemory (λ fault. entry_in uses.now (length entries.old.items + 1) line.now ≡ Err fault)) }
 {
-    // The law by which the text of an address has no blank, and what it requires of the table.
+    // The law that the text of an address has no blank, and what it requires of the table.
     short_numbers_law();
     let _limits = uses.kinds();
     let number = entries.len() as u32 + 1;
@@ -111,8 +111,8 @@ fn put_line(uses: &Uses, line: &[u8], entries: &mut Vec<Entry>) -> Result<(), Li
     }
 }
 
-/// The fault of a line whose first three words have their forms, and where what stands behind them is the text of no
-/// address: there is no fourth word, or there is a fifth, or else the fault of the address.
+/// Returns the fault of a line whose first three fields are well formed and whose rest is not an address.
+/// There is no fourth field, or there is a fifth; otherwise it is the fault of the address.
 fn wrong_end(line: u32, text: &[u8], fault: AddressFault) -> ListingFault
     ensures { (children : List (List ℕ)) (kind : ℕ) (motion : Motion) → address_in children text.now ≡ Err fault
         → entry_of_words children line (listed_behind kind motion (texts_between blank text.now)) ≡ Err result }
@@ -127,7 +127,7 @@ fn wrong_end(line: u32, text: &[u8], fault: AddressFault) -> ListingFault
     }
 }
 
-/// The first line, and what stands behind its newline: nothing where there is none.
+/// Returns the first line, and the text after its newline, which is empty if there is no newline.
 fn cut_line(text: &[u8]) -> (&[u8], &[u8])
     requires some { 0 < length text.now }
     ensures line { lines_in text.now ≡ result.0.now ∷ lines_in result.1.now }
@@ -139,7 +139,7 @@ fn cut_line(text: &[u8]) -> (&[u8], &[u8])
     }
 }
 
-/// The fault of the first line left, unless there are too many lines; so many have been read.
+/// Returns the fault of the first line left, unless there are too many lines. `before` lines have been read.
 fn first_fault(before: usize, left: &[u8], fault: ListingFault) -> ListingFault
     requires few { before < most_lines }
     ensures too_long { most_lines < before + length (lines_in left.now) → result ≡ faults.TooLong }
@@ -151,7 +151,7 @@ fn first_fault(before: usize, left: &[u8], fault: ListingFault) -> ListingFault
     fault
 }
 
-/// How many lines there are.
+/// Returns the number of lines.
 fn count_lines(text: &[u8]) -> usize
     ensures { result ≡ length (lines_in text.now) }
 {

@@ -1,4 +1,5 @@
--- Listings by addresses, in the frame of a rule over the points of P. A line is an address of any depth and a motion: a tile as it is listed.
+-- Listings by addresses, in the frame of a rule over the points of P. A line is an address of any depth and a
+-- motion: a tile as it is listed.
 use Rattle.std.specs.Prelude.{◌≡◌, ℕ, ◌<◌, max, Bool, false, List, [], ◌∷◌, map}
 use Rattle.std.specs.List.{AllByRecursion}
 use Rattle.ordered_plane.specs.Box.{OpenBox}
@@ -25,8 +26,9 @@ deepest_listed m (x ∷ listing) = max (depth x.address) (deepest_listed m listi
 abbrev pub AreOfFrame : (P : Points) → Rule P.ring.carrier → Address → List (Placed P.ring.carrier) → Type 0
 AreOfFrame P r f listing = AllByRecursion (λ (x : Placed P.ring.carrier). IsTileOf (child_kinds (tables_of P r)) f x.address) listing
 
--- Let n be the least depth that is enough for the window, and isn't below m or a listed one. The listing is right when there is such a depth, the address of
--- each line is of the frame at depth n, and the lines, lifted to depth n, are exactly the tiles there that meet the window, each once and with its motion.
+-- Let n be the least depth that is enough for the window, and not below m or a listed one. The listing is
+-- right if there is such a depth, the address of each line is of the frame at depth n, and the lines, lifted
+-- to depth n, are exactly the tiles there that meet the window. Each comes exactly once, with its motion.
 pub record IsRightListing (P : Points) (r : Rule P.ring.carrier) (f : Address) (box : OpenBox P.real.ops.carrier) (m : ℕ) (listing : List (Placed P.ring.carrier)) : Type 0 where
   pub depth : ℕ
   pub least : IsLeastDepth P r f box (deepest_listed m listing) depth
@@ -37,7 +39,8 @@ pub record IsRightListing (P : Points) (r : Rule P.ring.carrier) (f : Address) (
 abbrev pub AreUnrefused : {A : Type 0} → (A → Bool) → List (Placed A) → Type 0
 AreUnrefused {A} refused listing = AllByRecursion (λ (x : Placed A). refused x.motion.shift ≡ false) listing
 
--- there is such a depth, and each tile there that meets the window has a line with its motion, and no refused shift
+-- there is such a depth, and each tile there that meets the window has a line with its motion, and no refused
+-- shift
 pub record AreAllListed (P : Points) (refused : P.ring.carrier → Bool) (r : Rule P.ring.carrier) (f : Address) (box : OpenBox P.real.ops.carrier) (m : ℕ)
     (listing : List (Placed P.ring.carrier)) : Type 0 where
   pub depth : ℕ

@@ -1,4 +1,5 @@
--- The walk through a listing in the frame of an accepted rule over the points of P: how it begins, goes on and ends, and why it stops.
+-- The walk through a listing in the frame of an accepted rule over the points of P: how it begins, goes on
+-- and ends, and why it stops.
 use Rattle.std.specs.Prelude.{◌≡◌, ℕ, ◌<◌, ◌≤◌, Bool, false, List, [], ◌∷◌, ◌++◌, map, length, IsTrue}
 use Rattle.std.specs.List.{AllByRecursion}
 use Rattle.ordered_plane.specs.Plane.{test_point}
@@ -43,7 +44,8 @@ abbrev pub IsWalkOn : (P : Points) → (P.ring.carrier → Bool) → Rule P.ring
 IsWalkOn P refused r f box listing found =
     IsWalk P.real (Placed P.ring.carrier) (Motion P.ring.carrier) (growing_frame P refused r f) box (λ (x : Placed P.ring.carrier). x.motion) (lines_named P r f listing) found
 
--- a listing whose lines are of the frame at the depth to which they grow it, and there no two have one address
+-- a listing whose lines are of the frame at the depth to which they grow it, where no two of them have one
+-- address
 pub record IsListingOn (P : Points) (T : AcceptedRule P) (f : Address) (box : OpenBox P.real.ops.carrier) (m : ℕ) (listing : List (Placed P.ring.carrier)) : Type 0 where
   pub window : IsWindowOn P T f box
   pub within : deepest_listed m listing ≤ depth f
@@ -107,8 +109,8 @@ AreAllCrossed P T f box listing found =
     → MeetsBox P.real box (line_of P T.rule (in_frame P T.rule f x.address) e)
     → HasAcross P.real (Placed P.ring.carrier) (frame_patch P T.rule f) found (line_of P T.rule (in_frame P T.rule f x.address) e)
 
--- then all tiles that meet the window are found, so that all are listed; the listing is right where each line's tile is found, and else the first whose tile
--- isn't is stray
+-- Then all tiles that meet the window are found, so all are listed. The listing is right if each line's tile
+-- is found; otherwise the first line whose tile is not found is stray.
 pub record IsWalkEnd (P : Points) (refused : P.ring.carrier → Bool) (T : AcceptedRule P) (f : Address) (box : OpenBox P.real.ops.carrier) (m : ℕ)
     (listing : List (Placed P.ring.carrier)) (found : List (Placed P.ring.carrier)) : Type 0 where
   pub all_found : HasAll P.real (Placed P.ring.carrier) (frame_patch P T.rule f) box found
@@ -129,8 +131,8 @@ FrameNoFaultLaw P =
     → IsListingOn P T f box m listing → AreAllListed P refused T.rule f box m listing → (a : WalkFault P.real (Placed P.ring.carrier) (Motion P.ring.carrier))
     → ¬ HasWalkCause P.real (Placed P.ring.carrier) (Motion P.ring.carrier) (growing_frame P refused T.rule f) box (λ (x : Placed P.ring.carrier). x.motion) (lines_named P T.rule f listing) a
 
--- of a right listing the depth is the one to which its lines grow the frame; its lines are of the frame, and no two have one address; where none is refused all
--- are listed; and none is stray
+-- The depth of a right listing is the one to which its lines grow the frame. Its lines are of the frame, and
+-- no two have one address. If none is refused, all are listed. None is stray.
 pub record IsRightInFrame (P : Points) (refused : P.ring.carrier → Bool) (T : AcceptedRule P) (f : Address) (box : OpenBox P.real.ops.carrier) (m : ℕ)
     (listing : List (Placed P.ring.carrier)) (n : ℕ) : Type 0 where
   pub depth : n ≡ deepest_listed m listing

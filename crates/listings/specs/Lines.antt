@@ -6,7 +6,7 @@ use Rattle.addressing.specs.Search.{IsAmong}
 use Rattle.windows.specs.Distinct.{AreDistinct}
 use Rattle.windows.specs.GrowingPatch.{GrowingPatch, IsOfDepth}
 
--- the tile that a line names, by how many digits, and the motion that stands there
+-- the tile that a line names, the number of its digits, and the listed motion
 pub record ListLine (T M : Type 0) : Type 0 where
   pub tile : T
   pub digits : ℕ

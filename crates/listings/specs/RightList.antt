@@ -8,7 +8,8 @@ use Rattle.windows.specs.GrowingPatch.{GrowingPatch, IsOfDepth}
 use Rattle.windows.specs.EnoughDepth.{AreDrawn, IsLeastEnough}
 use Rattle.listings.specs.Lines.{ListLine, named_tiles, deepest_line, IsFirstLine, IsListed}
 
--- the lines' tiles are those drawn at the least depth that is enough, and isn't below m or a listed one; and each line has its tile's motion
+-- the lines' tiles are those drawn at the least depth that is enough and not below m or a listed one; and
+-- each line has its tile's motion
 pub record IsRightList (S : Signed) (T M : Type 0) (F : GrowingPatch S T) (box : OpenBox S.ops.carrier) (motion_of : T → M) (m : ℕ) (lines : List (ListLine T M)) : Type 0 where
   pub depth : ℕ
   pub least : IsLeastEnough S T F box (deepest_line m lines) depth
@@ -19,14 +20,15 @@ pub record IsRightList (S : Signed) (T M : Type 0) (F : GrowingPatch S T) (box :
 abbrev pub AreNoneRefused : (S : Signed) (T M : Type 0) → GrowingPatch S T → List (ListLine T M) → Type 0
 AreNoneRefused S T M F lines = AllByRecursion (λ t. F.refused t ≡ false) (named_tiles lines)
 
--- some depth is enough, and at the least one each tile that meets the window has a line with its motion, and isn't refused
+-- some depth is enough, and at the least one each tile that meets the window has a line with its motion, and
+-- is not refused
 pub record IsAllListed (S : Signed) (T M : Type 0) (F : GrowingPatch S T) (box : OpenBox S.ops.carrier) (motion_of : T → M) (m : ℕ) (lines : List (ListLine T M)) : Type 0 where
   pub depth : ℕ
   pub least : IsLeastEnough S T F box (deepest_line m lines) depth
   pub each_listed : (t : T) → IsOfDepth S T F depth t → PolygonMeetsBox S box (F.patch.outline t) → IsListed motion_of lines t
   pub none_refused : (t : T) → IsOfDepth S T F depth t → PolygonMeetsBox S box (F.patch.outline t) → F.refused t ≡ false
 
--- it is so, and line i is the first whose tile doesn't meet the window
+-- this holds, and line i is the first whose tile does not meet the window
 pub record IsStrayLine (S : Signed) (T M : Type 0) (F : GrowingPatch S T) (box : OpenBox S.ops.carrier) (motion_of : T → M) (m : ℕ) (lines : List (ListLine T M)) (i : ℕ) : Type 0 where
   pub all_listed : IsAllListed S T M F box motion_of m lines
   pub first : IsFirstLine (λ l. ¬ PolygonMeetsBox S box (F.patch.outline l.tile)) lines i

@@ -1,4 +1,5 @@
--- The theorem of the walk through a listing: it tells exactly whether the listing is right, and why it isn't.
+-- The theorem of the walk through a listing: it decides exactly whether the listing is right, and if not,
+-- why.
 use Rattle.std.specs.Prelude.{◌≡◌, ℕ, ◌<◌, false, List, [], ◌∷◌, ◌++◌, length}
 use Rattle.std.specs.List.{AllByRecursion}
 use Rattle.ordered_ring.specs.Sign.{Signed}
@@ -12,7 +13,8 @@ use Rattle.listings.specs.Lines.{ListLine, named_tiles, deepest_line, IsFirstLin
 use Rattle.listings.specs.Walk.{MeetsIn, IsWalk, IsWalkedOut, WalkFault, HasWalkCause}
 use Rattle.listings.specs.RightList.{IsRightList, AreNoneRefused, IsAllListed, IsStrayLine}
 
--- a tile that the walk comes to meets the window; and where it is new, listed and not refused the walk goes on with it
+-- a tile that the walk comes to meets the window; if it is new, listed and not refused, the walk goes on with
+-- it
 pub record ComesOn (S : Signed) (T M : Type 0) (G : PatchWindow S T) (motion_of : T → M) (lines : List (ListLine T M)) (found : List T) (u : T) : Type 0 where
   pub meets : MeetsIn S T G.growing.patch G.box u
   pub onward : ¬ IsAmong u found → G.growing.refused u ≡ false → IsListed motion_of lines u → IsWalk S T M G.growing G.box motion_of lines (found ++ u ∷ [])
@@ -33,14 +35,16 @@ pub record WalkHolds (S : Signed) (T M : Type 0) (G : PatchWindow S T) (motion_o
   pub room : (found : List T) → IsWalk S T M G.growing G.box motion_of lines found → (u : T) → ¬ IsAmong u found → IsListed motion_of lines u → length found < length lines
   pub stop : (found : List T) (t : T) (e : PlaneEdge S) → IsEdgeOfWalk S T M G motion_of lines found t e → ((u : T) → ¬ LiesAcross S T G.growing e u)
       → IsDepthLimit S T G.growing G.box e t
-  -- at its end the tiles found are all that meet the window; so each has a line with its motion, and the listing is right where each line's tile is found
+  -- at its end the tiles found are all that meet the window; so each has a line with its motion, and the
+  -- listing is right if each line's tile is found
   pub finish : (found : List T) → IsWalk S T M G.growing G.box motion_of lines found → IsWalkedOut S T G.growing.patch G.box found
       → HasAll S T G.growing.patch G.box found × IsAllListed S T M G.growing G.box motion_of m lines
   pub right : (found : List T) → IsWalk S T M G.growing G.box motion_of lines found → IsWalkedOut S T G.growing.patch G.box found
       → AllByRecursion (λ t. IsAmong t found) (named_tiles lines) → IsRightList S T M G.growing G.box motion_of m lines × AreNoneRefused S T M G.growing lines
   pub stray : (found : List T) → IsWalk S T M G.growing G.box motion_of lines found → IsWalkedOut S T G.growing.patch G.box found
       → (i : ℕ) → IsFirstLine (λ l. ¬ IsAmong l.tile found) lines i → IsStrayLine S T M G.growing G.box motion_of m lines i
-  -- where all are listed no fault has a cause; so it is with a right listing, of which no line is stray, and whose depth is the greatest of m and those listed
+  -- If all are listed, no fault has a cause. This holds for a right listing: no line is stray, and its depth
+  -- is the greatest of m and the listed ones.
   pub no_fault : IsAllListed S T M G.growing G.box motion_of m lines → (a : WalkFault S T M) → ¬ HasWalkCause S T M G.growing G.box motion_of lines a
   pub all_listed : IsRightList S T M G.growing G.box motion_of m lines → AreNoneRefused S T M G.growing lines → IsAllListed S T M G.growing G.box motion_of m lines
   pub each_meets : IsRightList S T M G.growing G.box motion_of m lines → AllByRecursion (λ t. PolygonMeetsBox S G.box (G.growing.patch.outline t)) (named_tiles lines)

@@ -1,5 +1,5 @@
--- A walk through a listing: it begins with the tile of the centre, goes on across edges that meet the window, and looks for each tile that it comes to among
--- the lines.
+-- A walk through a listing. It begins with the tile of the centre, goes on across edges that meet the window,
+-- and looks for each tile that it comes to among the lines.
 use Rattle.std.specs.Prelude.{◌≡◌, ℕ, true, false, List, IsTrue}
 use Rattle.std.specs.List.{AllByRecursion}
 use Rattle.ordered_ring.specs.Sign.{Signed}
@@ -19,7 +19,8 @@ use Rattle.listings.specs.Lines.{ListLine, named_tiles, IsLineAt, IsListed}
 abbrev pub MeetsIn : (S : Signed) (T : Type 0) → Patch S T → OpenBox S.ops.carrier → T → Type 0
 MeetsIn S T P box t = IsAmong t P.tiles × PolygonMeetsBox S box (P.outline t)
 
--- the tiles found on a walk are of the patch and distinct, and none is refused; each meets the window, and has a line with its motion; and one holds the centre
+-- The tiles found on a walk are of the patch and distinct, and none is refused. Each meets the window, and
+-- has a line with its motion. One holds the centre.
 pub record IsWalk (S : Signed) (T M : Type 0) (F : GrowingPatch S T) (box : OpenBox S.ops.carrier) (motion_of : T → M) (lines : List (ListLine T M)) (found : List T) : Type 0 where
   pub each_meets : AllByRecursion (MeetsIn S T F.patch box) found
   pub distinct : AreDistinct found
@@ -46,8 +47,9 @@ pub record IsWrongPlace (S : Signed) (T M : Type 0) (F : GrowingPatch S T) (box 
   pub motion : motion_of line.tile ≡ g
   pub other : ¬ (line.motion ≡ g)
 
--- the cause of each: a tile meets the window and no line names it; a line's tile meets it and has another motion; a tile meets it and its shift is refused;
--- and an edge of a tile meets it, with no tile across at all, so that no depth is enough
+-- The cause of each. A tile meets the window and no line names it; a line's tile meets it and has another
+-- motion; or a tile meets it and its shift is refused. Or an edge of a tile meets it, with no tile across at
+-- all, so that no depth is enough.
 abbrev pub HasWalkCause : (S : Signed) (T M : Type 0) → GrowingPatch S T → OpenBox S.ops.carrier → (T → M) → List (ListLine T M) → WalkFault S T M → Type 0
 HasWalkCause S T M F box motion_of lines (Missing t) = MeetsIn S T F.patch box t × ¬ IsAmong t (named_tiles lines)
 HasWalkCause S T M F box motion_of lines (WrongPlace i g) = IsWrongPlace S T M F box motion_of lines i g

@@ -1,10 +1,10 @@
 //! Lists of the tiles of a window from other programs, and when they are right.
 //!
 //! A line of a list is an address and a motion. The list is right if its lines are exactly the tiles that
-//! meet the window, each exactly once and with its motion. A walk through the lines decides: it goes from the
-//! tile at the centre across edges that meet the window, and looks for each tile that it comes to among the
-//! lines. If it comes to its end, the tiles found are all that meet the window. So the list is right if and
-//! only if each line's tile is found. The crate has definitions, proofs and laws, and no other code.
+//! meet the window, each exactly once and with its motion. A walk through the lines decides. It goes from the
+//! tile at the centre across edges that meet the window, and looks for each tile that it reaches among the
+//! lines. If the walk ends, the tiles found are all that meet the window. So the list is right if and only if
+//! each line's tile is found. The crate has definitions, proofs and laws, and no other code.
 #![tactic(auto)]
 
 ghost use Rattle.cyclo_points.specs.Order.{points_of};
@@ -23,8 +23,8 @@ pub fn walk_law(order: Order)
     ensures { WalkLaw (points_of order) }
 {}
 
-/// States how the walk goes in a frame of an accepted rule, through lines that are addresses and motions: its
-/// start, a step, that each step finds one line more, and its end.
+/// States how the walk goes in a frame of an accepted rule, if the lines are addresses and motions. It states
+/// the start, a step, that each step finds one line more, and the end.
 pub fn frame_walk_law(order: Order)
     ensures start { FrameWalkStartLaw (points_of order) }
     ensures step { FrameWalkStepLaw (points_of order) }

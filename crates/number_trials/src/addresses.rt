@@ -28,7 +28,7 @@ fn address(kind: u8, digits: &[(u8, u8)]) -> Address {
     addr
 }
 
-/// So many digits `0/0` behind `0:`.
+/// Returns `0:` and this number of digits `0/0`.
 fn deep(alloc: Global, digits: usize) -> Result<Vec<u8>, AllocError> {
     let mut text = Vec::new(alloc);
     text.extend_from_slice(b"0:0/0")?;
@@ -62,7 +62,7 @@ static REFUSED: [(&str, AddressFault); 20] = [
     ("0:0/0,0/256", AddressFault::UnknownKind { level: 2 }),
 ];
 
-/// The number of the first text that isn't refused for the fault beside it.
+/// Returns the number of the first text that is not refused for the fault in its row.
 fn first_not_refused(uses: &Uses, rows: &[(&str, AddressFault)]) -> Option<usize> {
     for (row, (text, fault)) in rows.iter().enumerate() {
         if read_address(uses, text.as_bytes()).err().as_ref() != Some(fault) {
@@ -84,14 +84,14 @@ fn depth_read(uses: &Uses, text: &[u8]) -> Result<u8, AddressFault> {
     Ok(read_address(uses, text)?.depth())
 }
 
-/// How many digits a text has, what stands behind them, and the depth that is read or the fault.
+/// The number of digits of a text, the text after them, and the depth that is read or the fault.
 static DEEP: [(usize, &str, Result<u8, AddressFault>); 3] = [
     (64, "", Ok(64)),
     (65, "", Err(AddressFault::TooDeep)),
     (65, ",", Err(AddressFault::BadText { place: 262 })),
 ];
 
-/// Whether a text is read as its row says.
+/// Returns true if a text is read as its row says.
 fn is_read_deep(
     alloc: Global,
     uses: &Uses,
@@ -129,7 +129,7 @@ static PRINTED: [(AddressFault, &str); 4] = [
     (AddressFault::WrongChild { level: 10 }, "WrongChild 10"),
 ];
 
-/// Whether an address is written and printed as its row says.
+/// Returns true if an address is written and printed as its row says.
 fn is_written(alloc: Global, row: &Row) -> Result<bool, AllocError> {
     let (kind, digits, text) = row;
     let addr = address(*kind, digits);
@@ -140,7 +140,7 @@ fn is_written(alloc: Global, row: &Row) -> Result<bool, AllocError> {
     Ok(printed.as_str() == *text)
 }
 
-/// Whether a fault is printed as this text.
+/// Returns true if a fault is printed as this text.
 fn is_printed(alloc: Global, fault: &AddressFault, text: &str) -> Result<bool, AllocError> {
     let printed = format!(in alloc; "{fault}")?;
     Ok(printed.as_str() == text)
@@ -162,7 +162,7 @@ fn printed_faults(rt: HostRuntime) -> Result<(), Fail> {
     Ok(())
 }
 
-/// Whether the longest text, of 515 bytes, is written.
+/// Returns true if the longest text, of 515 bytes, is written.
 fn is_longest_written(alloc: Global) -> Result<bool, AllocError> {
     let mut longest = Vec::new(alloc);
     longest.extend_from_slice(b"255:255/255")?;
@@ -188,7 +188,7 @@ fn kind_there(addr: &Address, level: u8) -> Option<u8> {
     }
 }
 
-/// Whether an address of depth 2 is read, and the one without digits.
+/// Returns true if an address of depth 2 is read, and the one without digits.
 fn is_read(uses: &Uses, addr: &Address) -> bool {
     read_address(uses, b"0:1/0,2/0") == Ok(addr.copy())
         && read_address(uses, b"0:") == Ok(address(0, &[]))
@@ -196,14 +196,15 @@ fn is_read(uses: &Uses, addr: &Address) -> bool {
         && kind_there(addr, 2) == Some(0)
 }
 
-/// Whether an address of depth 2 is written and read, and one whose child is unknown isn't.
+/// Returns true if an address of depth 2 is written and read, and one whose child is unknown isn't.
 fn is_read_back(uses: &Uses, addr: &Address) -> bool {
     let wrong = AddressFault::WrongChild { level: 0 };
     written_and_read(uses, addr) == Ok(addr.copy())
         && written_and_read(uses, &address(0, &[(4, 0)])) == Err(wrong)
 }
 
-/// Whether the uses of the one kind are four, and an address of depth 2 fits them, and not one with a fifth child.
+/// Returns true if the uses of the one kind are four, and an address of depth 2 fits them, and not one with a
+/// fifth child.
 fn is_one_kind(uses: &Uses, addr: &Address) -> bool {
     uses.kinds() == 1
         && uses.child_kind(0, 3) == Some(0)

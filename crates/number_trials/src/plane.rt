@@ -52,7 +52,7 @@ fn crossing_of(order: Order, a: &Point, b: &Point, p: &Point) -> Option<i32> {
     }
 }
 
-/// Whether the third point is on the segment between the other two.
+/// Returns 1 if the third point is on the segment between the other two, and 0 otherwise.
 fn is_on(order: Order, a: &Point, b: &Point, p: &Point) -> Option<i32> {
     if within(1 << 25, a) && within(1 << 25, b) && within(1 << 25, p) {
         Some(i32::from(on_segment(order, a, b, p)))
@@ -61,7 +61,7 @@ fn is_on(order: Order, a: &Point, b: &Point, p: &Point) -> Option<i32> {
     }
 }
 
-/// Whether the second edge lies along the first.
+/// Returns 1 if the second edge lies along the first, and 0 otherwise.
 fn is_along(order: Order, a: &Point, b: &Point, c: &Point, d: &Point) -> Option<i32> {
     if !(within(1 << 25, a) && within(1 << 25, b)) {
         return None;
@@ -73,7 +73,7 @@ fn is_along(order: Order, a: &Point, b: &Point, c: &Point, d: &Point) -> Option<
     }
 }
 
-/// Whether two differences are equally long.
+/// Returns 1 if two differences are equally long, and 0 otherwise.
 fn is_as_long(order: Order, d: &Point, e: &Point) -> Option<i32> {
     if within(1 << 8, d) && within(1 << 8, e) {
         Some(i32::from(same_length(order, d, e)))
@@ -82,7 +82,7 @@ fn is_as_long(order: Order, d: &Point, e: &Point) -> Option<i32> {
     }
 }
 
-/// Whether two triangles are separated.
+/// Returns 1 if two triangles are separated, and 0 otherwise.
 fn are_separated(order: Order, s: &[Point; 3], t: &[Point; 3]) -> Option<i32> {
     if all_within(s) && all_within(t) {
         Some(i32::from(separated(order, s, t)))
@@ -91,7 +91,7 @@ fn are_separated(order: Order, s: &[Point; 3], t: &[Point; 3]) -> Option<i32> {
     }
 }
 
-/// Whether a polygon may be asked about: it has 3 to 24 vertices within the bound.
+/// Returns true if a polygon may be tested: it has 3 to 24 vertices within the bound.
 fn is_polygon(poly: &[Point]) -> bool
     ensures at_least_three { IsTrue result → 3 ≤ length poly.now }
     ensures at_most_24 { IsTrue result → length poly.now ≤ 24 }
@@ -109,7 +109,7 @@ fn count_of(order: Order, poly: &[Point], p: &Point) -> Option<i32> {
     }
 }
 
-/// Whether a point belongs to a polygon.
+/// Returns 1 if a point belongs to a polygon, and 0 otherwise.
 fn is_member(order: Order, poly: &[Point], p: &Point) -> Option<i32> {
     if is_polygon(poly) && within(1 << 25, p) {
         Some(i32::from(member(order, poly, p)))
@@ -118,7 +118,7 @@ fn is_member(order: Order, poly: &[Point], p: &Point) -> Option<i32> {
     }
 }
 
-/// Whether an edge meets an open box.
+/// Returns 1 if an edge meets an open box, and 0 otherwise.
 fn meets(order: Order, a: &Point, b: &Point, window: &Window) -> Option<i32> {
     if within(1 << 25, a) && within(1 << 25, b) && within(1 << 25, &window.centre) {
         Some(i32::from(edge_meets_box(order, a, b, window)))
@@ -158,7 +158,7 @@ macro_rules! quad {
     };
 }
 
-/// The open box round a centre.
+/// The open box around a centre.
 macro_rules! window {
     ($centre:expr, $w:expr, $h:expr) => {
         Window {
@@ -323,7 +323,7 @@ static IN_ONE_ORDER: [(Order, Call, i32); 34] = [
     (Order::Four, Call::Side(ACROSS), 1),
     (Order::Eight, Call::Side(ACROSS), 0),
     (Order::Ten, Call::Side(ACROSS), 0),
-    // the half-hex likewise
+    // the same for the half-hex
     (Order::Six, Call::Member(&HALF_HEX, at!(0, 0)), 1),
     (Order::Six, Call::Member(&HALF_HEX, at!(1, 0)), 1),
     (Order::Six, Call::Member(&HALF_HEX, at!(2, 0)), 0),

@@ -87,7 +87,7 @@ fn reduced(order: Order, p: &Point) -> Option<Point> {
     }
 }
 
-/// Whether a motion is one of the order, within the bound.
+/// Returns true if a motion is one of the order, within the bound.
 fn fits(order: Order, m: &Motion) -> bool
     ensures below_order { IsTrue result → m.now.turn < (points_of order).order }
     ensures bounded { IsTrue result → IsWithin (2 ^ 38) m.now.shift }
@@ -364,7 +364,7 @@ fn first_other(rows: &[(Call, Moved)]) -> Option<usize> {
     None
 }
 
-/// Whether each turn and one more is the next, and the conjugate of each power of ζ the power back.
+/// Returns true if each turn and one more is the next, and the conjugate of each power of ζ the power back.
 fn goes_round(order: Order, n: u8) -> bool {
     let one = Point { c: ONE };
     let p = Point { c: [3, -5, 0, 0] };

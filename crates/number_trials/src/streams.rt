@@ -39,7 +39,7 @@ static WRITTEN: [(usize, usize, u64, &str); 17] = [
     (5, 1, 6, "tiles"),
 ];
 
-/// Whether a sink takes what its row says.
+/// Returns true if a sink takes what its row says.
 fn is_taken(alloc: Global, row: &(usize, usize, u64, &str)) -> Result<bool, Fail> {
     let (room, a_call, failing, wanted) = row;
     if *a_call == 0 {
@@ -137,7 +137,7 @@ fn in_turn(sink: &mut SteadySink, first: &[u8], second: &[u8]) -> Result<(), Fai
     write_all(sink, second)
 }
 
-/// Whether a sink in memory has taken what is wanted once two pieces more are written to it.
+/// Returns true if a sink in memory has taken what is wanted once two pieces more are written to it.
 fn takes(sink: &mut SteadySink, first: &str, second: &str, wanted: &str) -> bool {
     in_turn(sink, first.as_bytes(), second.as_bytes()).is_ok() && sink.taken() == wanted.as_bytes()
 }
@@ -159,7 +159,7 @@ fn over_four_bytes() -> [Result<usize, Failed>; 4] {
     [nothing, four, nothing_more, sink.write(b"s")]
 }
 
-/// Whether what is written to a sink over a vector stands there.
+/// Returns true if a vector has what is written to a sink over it.
 fn is_over_a_vector(alloc: Global) -> Result<bool, Failed> {
     let mut out = Vec::new(alloc);
     let mut sink = StdSink::new(&mut out);
@@ -175,7 +175,7 @@ fn sinks_of_std(rt: HostRuntime) -> Result<(), Fail> {
     Ok(())
 }
 
-/// Whether a source gives this piece at a call that asks for two bytes.
+/// Returns true if a source gives this piece at a call that asks for two bytes.
 fn gives<S: Source>(source: &mut S, wanted: &str) -> bool {
     let mut buf = [0; 2];
     match source.read(&mut buf) {
@@ -198,8 +198,8 @@ fn sources_in_pieces(rt: HostRuntime) -> Result<(), Fail> {
     Ok(())
 }
 
-/// How many bytes are asked for, which call fails, the fault of reading `tiles`, two bytes a call, and what
-/// is read behind it; or no fault, and `tiles` is read.
+/// The number of bytes that are asked for, the call that fails, and the fault of reading `tiles`, two bytes a
+/// call. Then comes what is read after it. If there is no fault, `tiles` is read.
 type Reading = (usize, u64, Option<ReadAllFault>, &'static str);
 
 static READ: [Reading; 13] = [
@@ -218,7 +218,7 @@ static READ: [Reading; 13] = [
     (usize::MAX, 0, None, ""),
 ];
 
-/// Whether `tiles` was read.
+/// Returns true if `tiles` was read.
 fn is_tiles(read: &Result<Vec<u8>, ReadAllFault>) -> bool {
     match read {
         Ok(bytes) => bytes.as_slice() == b"tiles".as_slice(),
@@ -226,13 +226,13 @@ fn is_tiles(read: &Result<Vec<u8>, ReadAllFault>) -> bool {
     }
 }
 
-/// Whether the source has this rest.
+/// Returns true if the source has this rest.
 fn leaves(alloc: Global, source: &mut MemSource, rest: &str) -> Result<bool, ReadAllFault> {
     let read = read_all(alloc, source, 5)?;
     Ok(read.as_slice() == rest.as_bytes())
 }
 
-/// Whether the reading of a row ends as it says.
+/// Returns true if the reading of a row ends as it says.
 fn is_read(alloc: Global, row: &Reading) -> Result<bool, Fail> {
     let (most, failing, fault, rest) = row;
     let fails = [*failing].to_vec(alloc)?;
@@ -252,7 +252,7 @@ fn read_to_the_end(rt: HostRuntime) -> Result<(), Fail> {
     Ok(())
 }
 
-// What a caller knows of the reading of a source that tells its bytes and never fails.
+// States what a caller knows of reading a source that reports its bytes and never fails.
 fn read_whole(
     alloc: Global,
     source: &mut SteadySource,
@@ -267,7 +267,7 @@ fn read_whole(
     read_all(alloc, source, most)
 }
 
-/// How much is read of so many bytes, and the fault where one fewer is asked for.
+/// Returns how many of these bytes are read, and the fault if one fewer is asked for.
 fn read_long(alloc: Global, length: usize) -> Result<(usize, Option<ReadAllFault>), Fail> {
     let mut source = SteadySource::new(vec![in alloc; 7u8; length]?);
     let read = read_whole(alloc, &mut source, length)?;
@@ -279,7 +279,7 @@ fn read_long(alloc: Global, length: usize) -> Result<(usize, Option<ReadAllFault
     Ok((count, read_whole(alloc, &mut source, length - 1).err()))
 }
 
-/// Whether so many bytes are read, and are too long where one fewer is asked for.
+/// Returns true if all these bytes are read, and are too long if one fewer is asked for.
 fn is_read_long(alloc: Global, length: usize) -> Result<bool, Fail> {
     let fault = if length == 0 {
         None

@@ -6,7 +6,7 @@ use Rattle.ordered_ring.specs.Sign.{less}
 use Rattle.ordered_plane.specs.Plane.{PlanePoint, TestPoint, IsTestPoint}
 use Rattle.ordered_plane.specs.Segment.{on_segment}
 
--- the open box round a centre, with whole half extents w in X and h in Y
+-- the open box around a centre, with an integer half-width w in X and half-height h in Y
 pub record OpenBox (A : Type 0) : Type 0 where
   pub centre : PlanePoint A
   pub w : ℕ
@@ -26,7 +26,8 @@ in_box S box p =
 abbrev pub scaled : (R : Ops) → R.carrier → PlanePoint R.carrier → PlanePoint R.carrier
 scaled R d z = record { x = R.mul d z.x; y = R.mul d z.y }
 
--- whether a test point (x, y, d) lies on the closed edge a→b: (x, y) is on the segment of the points whose coordinates are d times those of a and b
+-- whether a test point (x, y, d) lies on the closed edge a→b: (x, y) is on the segment of the points whose
+-- coordinates are d times those of a and b
 abbrev pub on_edge : (S : Signed) → PlanePoint S.ops.carrier → PlanePoint S.ops.carrier → TestPoint S.ops.carrier → Bool
 on_edge S a b p = on_segment S (scaled S.ops p.d a) (scaled S.ops p.d b) (record { x = p.x; y = p.y })
 

@@ -1,5 +1,6 @@
--- The test whether an edge meets an open box, by the four open half planes whose common part the box is, two at a time: by Helly's
--- theorem on a line an edge has a point in all of them exactly where it has one in each two of them.
+-- The test whether an edge meets an open box, by the four open half planes whose common part the box is, two
+-- at a time. By Helly's theorem on a line, an edge has a point in all of them if and only if it has one in
+-- each two of them.
 use Rattle.std.specs.Prelude.{pos, Bool, ◌&&◌, ◌||◌}
 use Rattle.std.specs.Ordering.{is_gt}
 use Rattle.ordered_ring.specs.Ring.{Ops, difference}
@@ -12,7 +13,8 @@ pub record Depths (A : Type 0) : Type 0 where
   pub at_start : A
   pub at_end : A
 
--- positive where an edge that starts in the half plane of f and ends in that of g enters the second before it leaves the first
+-- positive where an edge that starts in the half plane of f and ends in that of g enters the second before it
+-- leaves the first
 abbrev pub overlap : (R : Ops) → Depths R.carrier → Depths R.carrier → R.carrier
 overlap R f g = difference R (R.mul f.at_start g.at_end) (R.mul g.at_start f.at_end)
 

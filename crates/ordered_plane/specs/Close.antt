@@ -10,7 +10,8 @@ use Rattle.ordered_plane.specs.Box.{is_shorter}
 abbrev pub is_right_of_edge : (S : Signed) → PlanePoint S.ops.carrier → PlanePoint S.ops.carrier → TestPoint S.ops.carrier → Bool
 is_right_of_edge S a b p = is_lt (S.sign (side S.ops a b p))
 
--- whether the coordinate x/d differs from the middle (r + s)/2 by less than 1/n, without fractions: n |2x - d(r + s)| < 2d
+-- whether the coordinate x/d differs from the middle (r + s)/2 by less than 1/n, without fractions:
+-- n |2x - d(r + s)| < 2d
 abbrev pub is_near : (S : Signed) → ℕ → S.ops.carrier → S.ops.carrier → S.ops.carrier → S.ops.carrier → Bool
 is_near S n r s x d =
     is_shorter S
@@ -25,6 +26,6 @@ is_near_middle S n a b p = is_near S n a.x b.x p.x p.d && is_near S n a.y b.y p.
 abbrev pub HasPointRight : (S : Signed) → PlanePoint S.ops.carrier → PlanePoint S.ops.carrier → ℕ → Type 0
 HasPointRight S a b n = (p : TestPoint S.ops.carrier) × IsTestPoint S p × IsTrue (is_right_of_edge S a b p) × IsTrue (is_near_middle S n a b p)
 
--- every edge with two different ends has such test points, as close as one likes
+-- every edge with two different ends has such test points, arbitrarily close
 abbrev pub PointsRight : Signed → Type 0
 PointsRight S = (a b : PlanePoint S.ops.carrier) → (¬ a ≡ b) → (n : ℕ) → 0 < n → HasPointRight S a b n

@@ -6,7 +6,8 @@ use Rattle.ordered_ring.specs.Sign.{Signed}
 use Rattle.ordered_ring.specs.Sign.{less, at_most}
 use Rattle.ordered_plane.specs.Plane.{PlanePoint, TestPoint, side}
 
--- 1 where d Y(a) ≤ y < d Y(b) and p is strictly left of a→b; -1 where d Y(b) ≤ y < d Y(a) and p is strictly right of it; and else 0
+-- 1 if d Y(a) ≤ y < d Y(b) and p is strictly left of a→b; -1 if d Y(b) ≤ y < d Y(a) and p is strictly right
+-- of it; otherwise 0
 abbrev pub crossing : (S : Signed) → PlanePoint S.ops.carrier → PlanePoint S.ops.carrier → TestPoint S.ops.carrier → ℤ
 crossing S a b p =
     let ya = S.ops.mul p.d a.y in
@@ -15,7 +16,8 @@ crossing S a b p =
     cond (at_most S ya p.y && less S p.y yb && is_gt s) (pos 1)
     (cond (at_most S yb p.y && less S p.y ya && is_lt s) (negsuc 0) (pos 0))
 
--- the crossing by three facts: whether the edge starts above the point, whether it ends above it, and on which side the point lies
+-- the crossing by three facts: whether the edge starts above the point, whether it ends above it, and on
+-- which side the point lies
 abbrev pub crossing_of : Bool → Bool → Ordering → ℤ
 crossing_of starts_above ends_above side =
     cond (not starts_above && ends_above && is_gt side) (pos 1) (cond (not ends_above && starts_above && is_lt side) (negsuc 0) (pos 0))

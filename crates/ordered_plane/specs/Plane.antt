@@ -1,4 +1,5 @@
--- The plane over a ring with a sign: points by their coordinates X and Y, and the side of an edge on which a point lies.
+-- The plane over a ring with a sign: points by their coordinates X and Y, and the side of an edge on which a
+-- point lies.
 use Rattle.std.specs.Prelude.{◌≡◌, ℕ, suc, pos}
 use Rattle.ordered_ring.specs.Ring.{Ops, difference}
 use Rattle.ordered_ring.specs.Sign.{Signed}
@@ -22,7 +23,8 @@ IsTestPoint S p = (n : ℕ) × (p.d ≡ S.ops.int (pos (suc n)))
 abbrev pub test_point : (R : Ops) → PlanePoint R.carrier → TestPoint R.carrier
 test_point R z = record { x = z.x; y = z.y; d = R.int (pos 1) }
 
--- (X(b) - X(a)) (y - d Y(a)) - (Y(b) - Y(a)) (x - d X(a)): positive where p is strictly left of the directed edge a→b, negative where it is strictly right
+-- (X(b) - X(a)) (y - d Y(a)) - (Y(b) - Y(a)) (x - d X(a)): positive where p is strictly left of the directed
+-- edge a→b, negative where it is strictly right
 abbrev pub side : (R : Ops) → PlanePoint R.carrier → PlanePoint R.carrier → TestPoint R.carrier → R.carrier
 side R a b p =
     difference R (R.mul (difference R b.x a.x) (difference R p.y (R.mul p.d a.y))) (R.mul (difference R b.y a.y) (difference R p.x (R.mul p.d a.x)))

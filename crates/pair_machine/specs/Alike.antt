@@ -1,4 +1,4 @@
--- Edges with the same parts, and the keys of nodes: nodes have one key exactly where they have one row.
+-- Edges with the same parts, and the keys of nodes: two nodes have one key if and only if they have one row.
 use Rattle.std.specs.Prelude.{◌≡◌, ◌<◌, ◌≤◌, ℕ, ◌+◌, ◌*◌, ◌/◌, ◌%◌, List, Some, length, slice_get, get_or}
 use Rattle.addressing.specs.Tables.{Tables, parts_of}
 use Rattle.pair_machine.specs.Nodes.{Node}

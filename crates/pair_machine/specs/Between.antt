@@ -20,7 +20,7 @@ abbrev pub AllAbove : ℕ → List Pair → Type 0
 AllAbove e [] = Unit {0}
 AllAbove e (p ∷ ps) = (e < p.mine) × AllAbove e ps
 
--- the edges of the one tile come in order, each once
+-- the edges of the first tile are in order, each at most once
 abbrev pub IsInOrder : List Pair → Type 0
 IsInOrder [] = Unit {0}
 IsInOrder (p ∷ ps) = AllAbove p.mine ps × IsInOrder ps

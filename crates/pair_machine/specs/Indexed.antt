@@ -7,7 +7,7 @@ use Rattle.pair_machine.specs.Alike.{AreFirstAlike, key_of}
 use Rattle.pair_machine.specs.Nodes.{Node, RowPair, IsNode, row_of}
 use Rattle.pair_machine.specs.Numbers.{width_of}
 
--- at this place stands the row of a node that has this key
+-- this place has the row of a node that has this key
 pub record StandsAt (t : Tables) (firsts : List ℕ) (rows : List (List RowPair)) (key place : ℕ) : Type 0 where
   pub node : Node
   pub is_node : IsNode t node
@@ -22,7 +22,7 @@ pub record HasKey (t : Tables) (firsts : List ℕ) (places : List (Option ℕ)) 
   pub place : ℕ
   pub placed : slice_get places (key_of (width_of t) firsts node) ≡ Some (Some place)
 
--- the rows stand once each, and are found by the keys of their nodes
+-- the rows are distinct, and are found by the keys of their nodes
 pub record IsIndexed (t : Tables) (firsts : List ℕ) (places : List (Option ℕ)) (rows : List (List RowPair)) : Type 0 where
   pub firsts_are : AreFirstAlike t firsts
   pub size : length places ≡ width_of t * width_of t

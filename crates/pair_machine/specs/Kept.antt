@@ -17,7 +17,7 @@ pub record ArePartners (ps : List Pair) : Type 0 where
   pub in_order : IsInOrder ps
   pub below_12 : (p : Pair) → IsAmong p ps → p.mine < 12
 
--- where a pair with this first edge belongs: behind the lesser ones, before the greater ones
+-- the place of a pair with this first edge: after the lesser ones, before the greater ones
 pub record BelongsAt (ps : List Pair) (mine place : ℕ) : Type 0 where
   pub within : place ≤ length ps
   pub before : (p : Pair) → IsAmong p (take place ps) → p.mine < mine

@@ -14,7 +14,8 @@ pub record IsFound (width : ℕ) (numbers : List ℕ) (rows : List (List RowPair
   pub numbered : slice_get numbers (number_of width n) ≡ Some place
   pub there : slice_get rows place ≡ Some row
 
--- whether some child meets itself; all nodes and all rows, each once, and each row by the number of its node
+-- whether some child meets itself; all nodes and all rows, each exactly once, and each row by the number of
+-- its node
 pub record IsMachine (t : Tables) (itself : Bool) (nodes : List Node) (numbers : List ℕ) (rows : List (List RowPair)) : Type 0 where
   pub coherent : IsCoherent t
   pub itself_is : (itself ≡ true) ↔ SomeMeetsItself t
@@ -26,7 +27,7 @@ pub record IsMachine (t : Tables) (itself : Bool) (nodes : List Node) (numbers :
   pub rows_few : length rows ≤ length nodes
   pub found : (n : Node) → IsNode t n → IsFound (width_of t) numbers rows n (row_of t n)
 
--- the row stands at that place in the rows, each of which stands there once, and at most it joined them
+-- the rows, which are distinct, have the row at that place, and at most it joined them
 pub record IsKeptOnce (old new : List (List RowPair)) (row : List RowPair) (place : ℕ) : Type 0 where
   pub rest : List (List RowPair)
   pub grown : new ≡ old ++ rest

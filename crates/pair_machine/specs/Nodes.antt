@@ -24,7 +24,8 @@ both_of None there = []
 both_of (Some x) None = []
 both_of (Some x) (Some y) = (record { mine = x; theirs = y }) ∷ []
 
--- the row of a node: part p of the one edge beside part s - 1 - p of the other, p from 0, where s is the number of parts
+-- the row of a node: part p of one edge with part s - 1 - p of the other, p from 0, where s is the number of
+-- parts
 unfoldable pub row_of : Tables → Node → List RowPair
 row_of t n = flat_map (λ p. both_of (part_of t n.kind n.edge p) (part_of t n.other n.back (part_count t n.kind n.edge - 1 - p))) (below (λ p. p) (part_count t n.kind n.edge))
 
@@ -47,7 +48,7 @@ pub data IsNode (t : Tables) : Node → Type 0 where
       → IsOfChildren t m.kind pair.mine m.other pair.theirs n
       → IsNode t n
 
--- how many there are with a property: the length of a list of exactly those, each once
+-- how many have a property: the length of a list of exactly those, each exactly once
 pub record IsNumber {A : Type 0} (P : A → Type 0) (n : ℕ) : Type 0 where
   pub list : List A
   pub distinct : HasNoneTwice list

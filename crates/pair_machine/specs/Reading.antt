@@ -47,7 +47,8 @@ abbrev pub first_pairs : Tables → Step → Step → Bool → List Pair
 first_pairs t x y false = []
 first_pairs t x y true = between_children t x.parent x.child y.child
 
--- what is left of the pairs above two digits: the rows of the nodes are read with the digits. Where the digits above are the same, the contacts are pairs as well
+-- What is left of the pairs above two digits: the rows of the nodes are read with the digits. If the digits
+-- above are the same, the contacts are pairs as well.
 abbrev pub step_pairs : Tables → Step → Step → Bool → List Pair → List Pair
 step_pairs t x y fresh ps = first_pairs t x y fresh ++ flat_map (λ p. left_of (row_of t (node_of x y p)) x.child y.child) ps
 

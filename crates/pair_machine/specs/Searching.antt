@@ -44,7 +44,7 @@ unseen [] = 0
 unseen (true ∷ bs) = unseen bs
 unseen (false ∷ bs) = suc (unseen bs)
 
--- nodes, each once, and their numbers marked
+-- nodes, each exactly once, and their numbers marked
 pub record IsSeen (width : ℕ) (list : List Node) (seen : List Bool) : Type 0 where
   pub size : length seen ≡ width * width
   pub small : (n : Node) → IsAmong n list → IsSmall width n

@@ -7,7 +7,8 @@ use Rattle.pair_machine.specs.Views.{as_pair}
 use Rattle.pair_machine.specs.declared.verdict.Verdict.{Verdict}
 use Rattle.pair_machine.specs.declared.verdict.Verdict.TheVariants.{Strangers, Same, Apart, Beside}
 
--- Strangers: no common supertile. Else Same: one address. Else Apart or Beside: the list of all pairs that touch, empty or not
+-- Strangers: no common supertile. Otherwise Same: one address. Otherwise Apart or Beside: the list of all
+-- pairs that touch, empty or not.
 abbrev pub IsVerdict : Tables → Address → Address → Verdict → Type 0
 IsVerdict t a b Strangers = HaveCommon a b → ⊥
 IsVerdict t a b Same = HaveCommon a b × (a ≡ b)

@@ -10,7 +10,7 @@ use edge_tables::tables::Tables;
 use std::alloc::Global;
 use tile_shape::no_memory::NoMemory;
 
-/// The parts of the edge with a number; none where there is no such edge.
+/// Returns the parts of the edge with a number, or none if there is no such edge.
 fn parts_at(tables: &Tables, number: u8) -> &[ChildEdge]
     requires { number < width_of tables.now }
     ensures { map as_child_edge result.now ≡ parts_of tables.now (number / 12) (number % 12) }
@@ -24,14 +24,14 @@ fn parts_at(tables: &Tables, number: u8) -> &[ChildEdge]
     }
 }
 
-/// Whether two lists of parts are the same.
+/// Returns true if two lists of parts are the same.
 fn are_same(a: &[ChildEdge], b: &[ChildEdge]) -> bool
     ensures { IsTrue result ↔ (map as_child_edge a.now ≡ map as_child_edge b.now) }
 {
     a == b
 }
 
-/// The least number whose edge has the same parts.
+/// Returns the least number whose edge has the same parts.
 fn first_alike(tables: &Tables, number: u8) -> u8
     requires { number < width_of tables.now }
     ensures { IsFirstAlike tables.now number result }
@@ -45,7 +45,7 @@ fn first_alike(tables: &Tables, number: u8) -> u8
     number
 }
 
-/// For each number of an edge the least whose edge has the same parts.
+/// Returns, for each number of an edge, the least number whose edge has the same parts.
 pub(crate) fn firsts_alike(alloc: Global, tables: &Tables) -> Result<Vec<u8>, NoMemory>
     ensures { IfOk result (λ firsts. AreFirstAlike tables.now firsts.items) }
 {

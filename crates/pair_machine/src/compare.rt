@@ -6,7 +6,7 @@ ghost use Rattle.tile_shape.specs.Views.{address_of};
 use tile_shape::address::Address;
 use tile_shape::step::Step;
 
-/// Whether two addresses have a common supertile.
+/// Returns true if two addresses have a common supertile.
 pub(crate) fn have_common(a: &Address, b: &Address) -> bool
     ensures { IsTrue result ↔ HaveCommon (address_of a.now) (address_of b.now) }
 {
@@ -17,21 +17,22 @@ pub(crate) fn have_common(a: &Address, b: &Address) -> bool
     a.kind_at(depth) == b.kind_at(depth)
 }
 
-/// Whether two addresses are the same.
+/// Returns true if two addresses are the same.
 pub(crate) fn are_same(addr: &Address, other: &Address) -> bool
     ensures { IsTrue result ↔ (address_of addr.now ≡ address_of other.now) }
 {
     addr == other
 }
 
-/// Whether two digits are the same.
+/// Returns true if two digits are the same.
 fn same_digit(x: Step, y: Step) -> bool
     ensures { IsTrue result ↔ (x ≡ y) }
 {
     x == y
 }
 
-/// The level from which up all digits are the same: the number of digits up to the coarsest that differs.
+/// Returns the level from which on all digits are the same: the number of digits up to the coarsest that
+/// differs.
 pub(crate) fn parting(xs: &[Step], ys: &[Step]) -> usize
     requires one_depth { length xs.now ≡ length ys.now }
     ensures within { result ≤ length xs.now }
@@ -47,7 +48,7 @@ pub(crate) fn parting(xs: &[Step], ys: &[Step]) -> usize
     level
 }
 
-/// Whether two numbers are the same, and something else is so.
+/// Returns true if two numbers are the same and `more` is true.
 pub(crate) fn also(a: u8, b: u8, more: bool) -> bool
     ensures { result ≡ ((a == b) && more) }
 {

@@ -10,7 +10,7 @@ use crate::looks::contact;
 use edge_tables::contact::Contact;
 use edge_tables::tables::Tables;
 
-/// Whether a contact is an inner one with this child.
+/// Returns true if a contact is an inner one with this child.
 fn is_with(contact: Contact, child: u8) -> bool
     ensures { IsTrue result ↔ ((back : ℕ) × (as_contact contact ≡ inner child back)) }
 {
@@ -23,7 +23,7 @@ fn is_with(contact: Contact, child: u8) -> bool
     }
 }
 
-/// Whether a child meets itself.
+/// Returns true if a child meets itself.
 fn meets_itself(tables: &Tables, kind: u8, child: u8) -> bool
     requires coherent { IsCoherent tables.now }
     requires child { IsSome (child_kind_of tables.now kind child) }
@@ -37,7 +37,7 @@ fn meets_itself(tables: &Tables, kind: u8, child: u8) -> bool
     false
 }
 
-/// Whether some child of a kind meets itself.
+/// Returns true if some child of a kind meets itself.
 fn has_meeting(tables: &Tables, kind: u8) -> bool
     requires coherent { IsCoherent tables.now }
     requires kind { kind < length tables.now.kinds }
@@ -51,7 +51,7 @@ fn has_meeting(tables: &Tables, kind: u8) -> bool
     false
 }
 
-/// Whether some child meets itself.
+/// Returns true if some child meets itself.
 pub(crate) fn some_meets_itself(tables: &Tables) -> bool
     ensures { IsTrue result ↔ SomeMeetsItself tables.now }
 {

@@ -10,7 +10,7 @@ use edge_tables::tables::Tables;
 use std::marker::Brand;
 use std::sync::ledger::{Blank, Ledger};
 
-/// What an edge of a child is, with a counter of its own.
+/// Returns the contact of an edge of a child, with a counter of its own.
 fn contact_by<L: Ledger>(tables: &Tables, kind: u8, child: u8, edge: u8, blank: Blank) -> Contact
     requires name { blank.name ≡ L.name }
     requires parts { blank.parts ≡ L.parts }
@@ -22,7 +22,7 @@ fn contact_by<L: Ledger>(tables: &Tables, kind: u8, child: u8, edge: u8, blank: 
     tables.contact(kind, child, edge, &mut steps)
 }
 
-/// What an edge of a child is.
+/// Returns the contact of an edge of a child.
 pub(crate) fn contact(tables: &Tables, kind: u8, child: u8, edge: u8) -> Contact
     requires exists { IsSome (contact_of tables.now kind child edge) }
     ensures { contact_of tables.now kind child edge ≡ Some (as_contact result) }
@@ -30,7 +30,7 @@ pub(crate) fn contact(tables: &Tables, kind: u8, child: u8, edge: u8) -> Contact
     contact_by::<Brand>(tables, kind, child, edge, Blank::new(1))
 }
 
-/// The child edge that is a part of an edge, with a counter of its own.
+/// Returns the child edge that is a part of an edge, with a counter of its own.
 fn part_by<L: Ledger>(tables: &Tables, kind: u8, edge: u8, part: u8, blank: Blank) -> ChildEdge
     requires name { blank.name ≡ L.name }
     requires parts { blank.parts ≡ L.parts }
@@ -42,7 +42,7 @@ fn part_by<L: Ledger>(tables: &Tables, kind: u8, edge: u8, part: u8, blank: Blan
     tables.part(kind, edge, part, &mut steps)
 }
 
-/// The child edge that is a part of an edge.
+/// Returns the child edge that is a part of an edge.
 pub(crate) fn part(tables: &Tables, kind: u8, edge: u8, part: u8) -> ChildEdge
     requires exists { IsSome (part_of tables.now kind edge part) }
     ensures { part_of tables.now kind edge part ≡ Some (as_child_edge result) }

@@ -1,4 +1,4 @@
-//! The machine that tells by which edges two tiles meet.
+//! The machine that finds the edges by which two tiles meet.
 ghost use Rattle.std.specs.Prelude.{◌≡◌, ◌≢◌, ◌↔◌, ◌≤◌, [], length, map, drop, IsSome, IfOk};
 ghost use Rattle.addressing.specs.Address.{Fits};
 ghost use Rattle.addressing.specs.Coherent.{IsCoherent};
@@ -90,7 +90,7 @@ impl PairMachine {
         self.rows.len() as u32
     }
 
-    /// The row of a node.
+    /// Returns the row of a node.
     fn row(&self, node: Node) -> &Vec<RowPair>
         requires node { IsNode self.now (as_node node) }
         ensures row { map as_row_pair result.now.items ≡ the_row_of self.now (as_node node) }
@@ -99,7 +99,7 @@ impl PairMachine {
         &self.rows[usize::from(self.numbers[node.number(width(&self.tables))])]
     }
 
-    /// The level from which digits are read: what is coarser is the same in both, and leaves no pair.
+    /// Returns the level from which digits are read: coarser digits are the same in both, and leave no pair.
     fn first_level(&self, xs: &[Step], ys: &[Step]) -> usize
         requires one_depth { length xs.now ≡ length ys.now }
         ensures within { result ≤ length xs.now }
@@ -113,7 +113,7 @@ impl PairMachine {
         }
     }
 
-    /// What is left of the pairs above, when two digits are read.
+    /// Returns what is left of the pairs above, after two digits are read.
     fn read_digits(&self, above: &Partners, fresh: bool, x: Step, y: Step) -> Partners
         requires child { IsSome (child_kind_of self.now x.parent x.child) }
         requires nodes { (p : Pair) → IsAmong p above.now → IsNode self.now (node_of (step_of x) (step_of y) p) }
@@ -136,7 +136,7 @@ impl PairMachine {
         partners
     }
 
-    /// The edges that meet, by the digits from coarse to fine, until none can be left.
+    /// Returns the edges that meet, by the digits from coarse to fine, until no pair can be left.
     fn read(&self, a: &Address, b: &Address) -> Partners
         requires fits_a { Fits (child_kinds self.now) (address_of a.now) }
         requires fits_b { Fits (child_kinds self.now) (address_of b.now) }
@@ -183,7 +183,7 @@ impl PairMachine {
         self.verdict_of(a, b)
     }
 
-    /// How two tiles lie to each other, by cases.
+    /// Returns the relation of two tiles, by cases.
     fn verdict_of(&self, a: &Address, b: &Address) -> Verdict
         requires fits_a { Fits (child_kinds self.now) (address_of a.now) }
         requires fits_b { Fits (child_kinds self.now) (address_of b.now) }

@@ -18,7 +18,7 @@ use edge_tables::tables::Tables;
 use std::alloc::Global;
 use tile_shape::no_memory::NoMemory;
 
-/// Nodes that were found, each once, and for each number whether its node was.
+/// The nodes that were found, each exactly once, and for each number whether its node was found.
 #[derive(Drop)]
 struct Found {
     list: Vec<Node>,
@@ -26,7 +26,7 @@ struct Found {
 }
 
 impl Found {
-    /// No node yet.
+    /// Begins without a node.
     fn new(alloc: Global, width: usize) -> Result<Found, NoMemory>
         requires { width ≤ 192 }
         ensures empty { IfOk result (λ found. found.list.items ≡ []) }
@@ -39,7 +39,7 @@ impl Found {
         })
     }
 
-    /// One node more, where it is new.
+    /// Adds a node, if it is new.
     fn add(&mut self, width: usize, node: Node) -> Result<(), NoMemory>
         requires width { width ≤ 192 }
         requires seen { IsSeen width (map as_node self.old.list.items) self.old.seen.items }
@@ -54,7 +54,7 @@ impl Found {
         Ok(())
     }
 
-    /// The nodes of the inner contacts of a child.
+    /// Adds the nodes of the inner contacts of a child.
     fn add_child(&mut self, tables: &Tables, parent: u8, child: u8) -> Result<(), NoMemory>
         requires coherent { IsCoherent tables.now }
         requires child { IsSome (child_kind_of tables.now parent child) }
@@ -86,7 +86,7 @@ impl Found {
         Ok(())
     }
 
-    /// The nodes of the inner contacts of a kind's children.
+    /// Adds the nodes of the inner contacts of a kind's children.
     fn add_kind(&mut self, tables: &Tables, parent: u8) -> Result<(), NoMemory>
         requires coherent { IsCoherent tables.now }
         requires seen { IsSeen (width_of tables.now) (map as_node self.old.list.items) self.old.seen.items }
@@ -99,7 +99,7 @@ impl Found {
         Ok(())
     }
 
-    /// The nodes of all inner contacts.
+    /// Adds the nodes of all inner contacts.
     fn add_first(&mut self, tables: &Tables) -> Result<(), NoMemory>
         requires coherent { IsCoherent tables.now }
         requires seen { IsSeen (width_of tables.now) (map as_node self.old.list.items) self.old.seen.items }
@@ -111,7 +111,7 @@ impl Found {
         Ok(())
     }
 
-    /// The node of a pair in a node's row.
+    /// Adds the node of a pair in a node's row.
     fn add_pair(&mut self, tables: &Tables, node: Node, pair: RowPair) -> Result<(), NoMemory>
         requires coherent { IsCoherent tables.now }
         requires node { IsNode tables.now (as_node node) }
@@ -132,7 +132,7 @@ impl Found {
         )
     }
 
-    /// The nodes of the pairs in a node's row.
+    /// Adds the nodes of the pairs in a node's row.
     fn add_row(&mut self, tables: &Tables, node: Node, row: &[RowPair]) -> Result<(), NoMemory>
         requires coherent { IsCoherent tables.now }
         requires node { IsNode tables.now (as_node node) }
@@ -147,7 +147,7 @@ impl Found {
     }
 }
 
-/// All nodes, each once.
+/// Returns all nodes, each exactly once.
 pub(crate) fn nodes_of(alloc: Global, tables: &Tables) -> Result<Vec<Node>, NoMemory>
     ensures once { IfOk result (λ nodes. HasNoneTwice (map as_node nodes.items)) }
     ensures all { IfOk result (λ nodes. (n : TheNode) → IsAmong n (map as_node nodes.items) ↔ IsNode tables.now n) }

@@ -18,8 +18,8 @@ use edge_tables::contact::Contact;
 use edge_tables::tables::Tables;
 use std::marker::Model;
 
-/// The edges of one tile that meet edges of another, in the order of the first tile's edges, each at most once. Contracts see
-/// them as that list.
+/// The edges of one tile that meet edges of another, in the order of the first tile's edges, each at most
+/// once. Contracts see them as that list.
 #[derive(Drop)]
 pub(crate) struct Partners {
     pairs: ArrayVec<EdgePair, 12>,
@@ -38,7 +38,7 @@ impl Model for Partners {
     ghost invariant = { λ p. ArePartners (map as_pair p.pairs.items) };
 }
 
-/// Where a pair with this first edge belongs among pairs in order; None where one stands there already.
+/// Returns the place of a pair with this first edge among pairs in order, or None if one is there already.
 fn place_for(pairs: &[EdgePair], mine: u8) -> Option<usize>
     requires in_order { IsInOrder (map as_pair pairs.now) }
     ensures belongs { IfSome result (λ place. BelongsAt (map as_pair pairs.now) mine place) }
@@ -57,7 +57,7 @@ fn place_for(pairs: &[EdgePair], mine: u8) -> Option<usize>
 }
 
 impl Partners {
-    /// No edge meets any.
+    /// Begins without a pair.
     pub(crate) fn none() -> Partners
         ensures { result ≡ [] }
     {
@@ -66,21 +66,21 @@ impl Partners {
         }
     }
 
-    /// Whether no edge meets any.
+    /// Returns true if no edge meets any.
     pub(crate) fn are_none(&self) -> bool
         ensures { IsTrue result ↔ (self.now ≡ []) }
     {
         self.pairs.is_empty()
     }
 
-    /// The pairs.
+    /// Returns the pairs.
     pub(crate) fn as_slice(&self) -> &[EdgePair]
         ensures { map as_pair result.now ≡ self.now }
     {
         self.pairs.as_slice()
     }
 
-    /// The pairs, to keep.
+    /// Returns the pairs, and consumes the list.
     pub(crate) fn into_pairs(self) -> ArrayVec<EdgePair, 12>
         ensures pairs { map as_pair result.items ≡ self }
         ensures in_order { IsInOrder self }
@@ -88,14 +88,15 @@ impl Partners {
         self.pairs
     }
 
-    /// Whether no finer digits can leave a pair: none is left, and the digits read so far are not the same.
+    /// Returns true if no finer digits can leave a pair: none is left, and the digits read so far are not the
+    /// same.
     pub(crate) fn end_here(&self, same: bool) -> bool
         ensures { IsTrue result → (same ≡ false) × (self.now ≡ []) }
     {
         self.are_none() && !same
     }
 
-    /// The inner contacts between two children of a kind.
+    /// Returns the inner contacts between two children of a kind.
     pub(crate) fn of_children(tables: &Tables, kind: u8, mine: u8, theirs: u8) -> Partners
         requires coherent { IsCoherent tables.now }
         requires child { IsSome (child_kind_of tables.now kind mine) }
@@ -108,7 +109,7 @@ impl Partners {
         partners
     }
 
-    /// These two edges meet as well. Where the first has a partner already, it is this one.
+    /// Adds that these two edges meet. If the first has a partner already, it is this one.
     fn keep(&mut self, pair: EdgePair)
         requires edge { pair.mine < 12 }
         ensures { (ps : List Pair) → IsKept self.old ps → IsFunctional (ps ++ as_pair pair ∷ [])
@@ -135,7 +136,7 @@ impl Partners {
         }
     }
 
-    /// Keeps a pair of a row, where these children are read.
+    /// Keeps a pair of a row, if these children are read.
     fn keep_one(&mut self, pair: RowPair, mine: u8, theirs: u8)
         requires edge { pair.mine.edge < 12 }
         ensures { (ps : List Pair) → IsKept self.old ps → IsFunctional (ps ++ left_one (as_row_pair pair) mine theirs)
@@ -151,7 +152,7 @@ impl Partners {
         }
     }
 
-    /// Keeps what a row leaves, when these children are read.
+    /// Keeps what a row leaves, if these children are read.
     pub(crate) fn keep_row(&mut self, row: &[RowPair], mine: u8, theirs: u8)
         requires edges { (pair : TheRowPair) → IsAmong pair (map as_row_pair row.now) → pair.mine.edge < 12 }
         ensures { (ps : List Pair) → IsKept self.old ps → IsFunctional (ps ++ left_of (map as_row_pair row.now) mine theirs)

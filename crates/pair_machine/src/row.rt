@@ -11,14 +11,14 @@ use edge_tables::tables::Tables;
 use std::alloc::Global;
 use tile_shape::no_memory::NoMemory;
 
-/// A child edge on the one side, and the child edge on the other side that is the same.
+/// A child edge on one side, and the child edge on the other side that lies on it.
 #[derive(Clone, Copy)]
 pub(crate) struct RowPair {
     pub(crate) mine: ChildEdge,
     pub(crate) theirs: ChildEdge,
 }
 
-/// The row of a node.
+/// Returns the row of a node.
 pub(crate) fn row_of(alloc: Global, tables: &Tables, node: Node) -> Result<Vec<RowPair>, NoMemory>
     requires coherent { IsCoherent tables.now }
     requires node { IsNode tables.now (as_node node) }

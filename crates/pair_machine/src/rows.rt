@@ -15,7 +15,7 @@ use edge_tables::tables::Tables;
 use std::alloc::Global;
 use tile_shape::no_memory::NoMemory;
 
-/// Rows, each once, and an index of them: a node's row is told by the first edges that are alike to its two edges.
+/// Rows, each exactly once, with an index. The first edges that are alike to a node's two edges give its row.
 #[derive(Drop)]
 pub(crate) struct Rows {
     pub(crate) list: Vec<Vec<RowPair>>,
@@ -24,7 +24,7 @@ pub(crate) struct Rows {
 }
 
 impl Rows {
-    /// No row yet.
+    /// Begins without a row.
     pub(crate) fn new(alloc: Global, tables: &Tables) -> Result<Rows, NoMemory>
         ensures empty { IfOk result (λ rows. rows.list.items ≡ []) }
         ensures indexed { IfOk result (λ rows. IsIndexed tables.now rows.firsts.items rows.places.items []) }
@@ -37,7 +37,7 @@ impl Rows {
         })
     }
 
-    /// The key of a node.
+    /// Returns the key of a node.
     fn key(&self, width: usize, node: Node) -> usize
         requires few { width ≤ 192 }
         requires mine { mine_of (as_node node) < length self.now.firsts.items }
@@ -49,7 +49,7 @@ impl Rows {
         usize::from(mine) * width + usize::from(theirs)
     }
 
-    /// The number of a node's row, which is kept if no equal one is.
+    /// Returns the number of a node's row, which is kept if no equal one is.
     pub(crate) fn number_of(
         &mut self,
         alloc: Global,

@@ -14,8 +14,8 @@ pub const NAMES: [Name; 5] = [
     Name::HalfHex,
 ];
 
-/// The machine of a built-in rule, in a box: a trial that holds it drops one value, which is proved far sooner than the
-/// drop of all its parts.
+/// Returns the machine of a built-in rule, in a box. A trial that holds the box drops one value, which is
+/// proved much sooner than the drop of all its parts.
 pub fn machine_of(alloc: Global, name: Name) -> Result<Box<Machine>, NoMemory> {
     let machine = Machine::new(alloc, builtin(alloc, name)?)?;
     Ok(Box::new(alloc, machine)?)

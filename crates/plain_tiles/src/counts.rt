@@ -1,6 +1,6 @@
-//! How many trials came out as wanted.
+//! Counts of successful and of failed trials.
 
-/// How many came out as wanted, and how many otherwise.
+/// How many trials succeeded, and how many failed.
 #[derive(Clone, Copy, Debug, Default, PartialEq, Eq)]
 pub struct Counts {
     pub right: u32,
@@ -8,7 +8,7 @@ pub struct Counts {
 }
 
 impl Counts {
-    /// One more.
+    /// Counts one trial more.
     pub fn count(&mut self, is_right: bool) {
         if is_right {
             self.right = self.right.saturating_add(1);
@@ -17,7 +17,7 @@ impl Counts {
         }
     }
 
-    /// All of another's more.
+    /// Adds the counts of other trials.
     pub fn add(&mut self, other: Counts) {
         self.right = self.right.saturating_add(other.right);
         self.differ = self.differ.saturating_add(other.differ);

@@ -1,4 +1,4 @@
-//! Tiles with their vertices, each asked whether it holds a point.
+//! Tiles with their vertices. Each can be tested against a point or a window.
 ghost use Rattle.std.specs.Prelude.{◌≤◌, ◌^◌, All, length};
 ghost use Rattle.cyclo_points.specs.Point.{IsWithin};
 
@@ -17,7 +17,7 @@ use tile_place::machine::Machine;
 use tile_place::placed_tile::PlacedTile;
 use tile_shape::no_memory::NoMemory;
 
-/// Where a point lies: its coordinates in whole thousandths, rounded down.
+/// The position of a point: its coordinates in thousandths, rounded down.
 #[derive(Clone, Copy, Debug, PartialEq, Eq)]
 struct Spot {
     x: i128,
@@ -25,7 +25,7 @@ struct Spot {
 }
 
 impl Spot {
-    /// Where a point lies, if it isn't refused.
+    /// Returns the position of a point, or None if its coefficients are refused.
     fn of(order: Order, p: &Point) -> Option<Spot> {
         if !near(p) {
             return None;
@@ -37,7 +37,7 @@ impl Spot {
     }
 }
 
-/// A tile with its vertices at its place, and the box round them.
+/// A placed tile with its vertices, and the least box around them.
 #[derive(Debug, Drop)]
 pub struct DrawnTile {
     pub tile: PlacedTile,
@@ -49,7 +49,7 @@ pub struct DrawnTile {
 }
 
 impl DrawnTile {
-    /// A tile with its vertices, where none is refused.
+    /// Returns a tile with its vertices, or None if a vertex is refused.
     pub fn of(machine: &Machine, tile: PlacedTile) -> Option<DrawnTile> {
         let order = machine.checked().order();
         let corners = corners(machine, &tile)?;
@@ -70,12 +70,12 @@ impl DrawnTile {
         })
     }
 
-    /// The vertices.
+    /// Returns the vertices.
     pub fn corners(&self) -> &[Point] {
         self.corners.as_slice()
     }
 
-    /// Whether a spot lies in the box round the vertices.
+    /// Returns true if a spot lies in the box around the vertices.
     fn is_round(&self, spot: Spot) -> bool {
         self.low.x <= spot.x
             && spot.x <= self.high.x
@@ -83,7 +83,7 @@ impl DrawnTile {
             && spot.y <= self.high.y
     }
 
-    /// Whether the box round the vertices comes to a window, whose centre lies at this spot.
+    /// Returns true if the box around the vertices reaches a window whose centre lies at this spot.
     fn is_by(&self, centre: Spot, window: &Window) -> bool {
         let w = i128::from(window.w).wrapping_mul(1000);
         let h = i128::from(window.h).wrapping_mul(1000);
@@ -93,7 +93,7 @@ impl DrawnTile {
             && centre.y.wrapping_sub(h) <= self.high.y
     }
 
-    /// Whether the tile meets a window: an edge of it does, or it holds the centre.
+    /// Returns true if the tile meets a window: one of its edges meets it, or the tile holds the centre.
     pub fn meets(&self, order: Order, window: &Window) -> bool {
         let centre = match Spot::of(order, &window.centre) {
             Some(centre) if self.is_by(centre, window) => centre,
@@ -102,7 +102,7 @@ impl DrawnTile {
         self.holds(order, &window.centre, centre) || self.has_edge_in(order, window)
     }
 
-    /// Whether an edge of the tile meets a window.
+    /// Returns true if an edge of the tile meets a window.
     fn has_edge_in(&self, order: Order, window: &Window) -> bool {
         if !near(&window.centre) {
             return false;
@@ -117,13 +117,13 @@ impl DrawnTile {
         false
     }
 
-    /// Whether the tile holds a point, which lies at this spot.
+    /// Returns true if the tile holds a point, which lies at this spot.
     fn holds(&self, order: Order, point: &Point, spot: Spot) -> bool {
         self.is_round(spot) && near(point) && member(order, self.corners.as_slice(), point)
     }
 }
 
-/// Tiles with their vertices.
+/// Returns the tiles with their vertices.
 pub fn drawn_tiles(
     alloc: Global,
     machine: &Machine,
@@ -138,7 +138,7 @@ pub fn drawn_tiles(
     Ok(all)
 }
 
-/// How many tiles of a list hold a point, and the last of these.
+/// Returns how many tiles of a list hold a point, and the last of these.
 pub fn holders<'a>(
     order: Order,
     tiles: &'a [DrawnTile],

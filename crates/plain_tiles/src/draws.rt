@@ -1,4 +1,4 @@
-//! Numbers, windows, edges and addresses that are drawn.
+//! Pseudorandom numbers, windows, edges and addresses.
 use cyclo_points::order::Order;
 use cyclo_points::point::Point;
 use plane_geom::window::Window;
@@ -6,14 +6,14 @@ use tile_place::machine::Machine;
 use tile_shape::address::Address;
 use tile_shape::step::Step;
 
-/// Numbers drawn one after another, by a linear congruence.
+/// A linear congruential generator of pseudorandom numbers.
 #[derive(Drop)]
 pub struct Draws {
     pub state: u64,
 }
 
 impl Draws {
-    /// A number below n, or 0 where there is none.
+    /// Returns a number below n, or 0 if n is 0.
     pub fn below(&mut self, n: u64) -> u64 {
         self.state = self
             .state
@@ -22,19 +22,20 @@ impl Draws {
         (self.state >> 33).checked_rem(n).unwrap_or(0)
     }
 
-    /// A number from -n to n.
+    /// Returns a number from -n to n.
     fn round_0(&mut self, n: u32) -> i64 {
         let n = i64::from(n);
         let wide = u64::try_from(n.wrapping_mul(2).wrapping_add(1)).unwrap_or(1);
         i64::try_from(self.below(wide)).unwrap_or(0).wrapping_sub(n)
     }
 
-    /// A window whose half extents are 1 to 6. The coefficients of its centre are at most so far from 0.
+    /// Returns a window with a half-width and half-height of 1 to 6. Coefficients of its centre go from
+    /// `-far` to `far`.
     pub fn window(&mut self, order: Order, far: u32) -> Window {
         self.sized_window(order, far, 6)
     }
 
-    /// The same with half extents from 1 to so many units.
+    /// Like [`window`](Self::window), but with a half-width and half-height of 1 to `most`.
     pub fn sized_window(&mut self, order: Order, far: u32, most: u64) -> Window {
         let mut c = [self.round_0(far), self.round_0(far), 0, 0];
         match order {
@@ -51,7 +52,7 @@ impl Draws {
         }
     }
 
-    /// An edge of a kind, and where another can be had not the one that was come by.
+    /// Returns an edge of a kind. It is not the edge `came`, if the kind has another one.
     pub fn edge(&mut self, machine: &Machine, kind: u8, came: Option<u8>) -> Option<u8> {
         let tables = machine.checked().tables();
         if kind >= tables.kinds() {
@@ -67,7 +68,7 @@ impl Draws {
         }
     }
 
-    /// A digit above this kind, drawn of its uses: any one, or the first.
+    /// Returns a digit above a tile of this kind, from the kind's uses: a random one, or the first.
     fn digit(&mut self, machine: &Machine, kind: u8, any: bool) -> Option<Step> {
         let uses = machine.checked().uses();
         if kind >= uses.kinds() {
@@ -82,8 +83,8 @@ impl Draws {
         Some(uses.get(kind, number))
     }
 
-    /// An address of a depth. Its digits are any ones; or the first, so that the tile lies at the border of its
-    /// supertile where the first child does.
+    /// Returns an address of a depth. Its digits are random, or each is the first possible one. Then the tile
+    /// lies at the border of its supertile, if the first child does.
     pub fn address(&mut self, machine: &Machine, depth: u64, any: bool) -> Option<Address> {
         let kinds = machine.checked().uses().kinds();
         let mut kind = u8::try_from(self.below(u64::from(kinds))).ok()?;

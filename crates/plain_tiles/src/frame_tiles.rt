@@ -1,5 +1,5 @@
-//! All tiles of a frame, listed as their definition says: those of the supertile, each moved so that the base
-//! stands on its prototile.
+//! All tiles of a frame, listed as their definition says: the tiles of the supertile, each moved so that the
+//! base lies on its prototile.
 ghost use Rattle.std.specs.Prelude.{IfSome};
 ghost use Rattle.lazy_walk.specs.Frames.{IsFrameOf};
 ghost use Rattle.rule_model.specs.Tiling.{tiling_of};
@@ -14,7 +14,7 @@ use tile_place::placed_tile::PlacedTile;
 use tile_shape::address::Address;
 use tile_shape::no_memory::NoMemory;
 
-/// The frame of a base with a start number, where the base fits.
+/// Returns the frame of a base with a seed, if the base fits the rule.
 pub fn begun(machine: &Machine, base: &Address, start: u64) -> Option<Frame>
     ensures { IfSome result (IsFrameOf (tiling_of machine.now)) }
 {
@@ -24,7 +24,7 @@ pub fn begun(machine: &Machine, base: &Address, start: u64) -> Option<Frame>
     Some(Frame::new(base.copy(), start))
 }
 
-/// The base's address in its frame.
+/// Returns the base's address in its frame.
 fn whole(frame: &Frame) -> Address {
     let mut whole = Address::new(frame.base().kind);
     for digit in frame.digits().as_slice() {
@@ -33,8 +33,8 @@ fn whole(frame: &Frame) -> Address {
     whole
 }
 
-/// The tiles of the frame at the depth that it has: those of its supertile, moved so that the base stands on its
-/// prototile.
+/// Lists the tiles of the frame at its present depth: the tiles of its supertile, moved so that the base lies
+/// on its prototile.
 pub fn frame_tiles(
     alloc: Global,
     machine: &Machine,

@@ -1,4 +1,4 @@
-//! The least depth at which a frame reaches round a window, found by listing its tiles at each depth.
+//! The least depth at which a frame surrounds a window, found by listing its tiles at each depth.
 use crate::drawn_tile::{DrawnTile, drawn_tiles, holders};
 use crate::frame_tiles::{begun, frame_tiles};
 use crate::small::near;
@@ -13,7 +13,7 @@ use tile_place::machine::Machine;
 use tile_shape::address::Address;
 use tile_shape::no_memory::NoMemory;
 
-/// Whether a tile has an edge from one point to another.
+/// Returns true if a tile has an edge from `start` to `end`.
 fn has_edge(tile: &DrawnTile, start: &Point, end: &Point) -> bool {
     let corners = tile.corners();
     let mut before = corners.last();
@@ -26,7 +26,7 @@ fn has_edge(tile: &DrawnTile, start: &Point, end: &Point) -> bool {
     false
 }
 
-/// Whether an edge meets a window, and no tile has an edge from its end to its start.
+/// Returns true if an edge meets a window, and no tile has an edge from its end to its start.
 fn is_open(order: Order, tiles: &[DrawnTile], window: &Window, start: &Point, end: &Point) -> bool {
     if !near(start) || !near(end) || !near(&window.centre) {
         return true;
@@ -35,8 +35,8 @@ fn is_open(order: Order, tiles: &[DrawnTile], window: &Window, start: &Point, en
         && !tiles.iter().any(|tile| has_edge(tile, end, start))
 }
 
-/// Whether the tiles of a frame reach round a window: one holds the centre, and each of their edges that meets the
-/// window has a tile on either side.
+/// Returns true if the tiles of a frame surround a window. One of them must hold the centre, and each of
+/// their edges that meets the window must have a tile on both sides.
 fn reach_round(order: Order, tiles: &[DrawnTile], window: &Window) -> bool {
     if holders(order, tiles, &window.centre).0 == 0 {
         return false;
@@ -58,8 +58,8 @@ fn reach_round(order: Order, tiles: &[DrawnTile], window: &Window) -> bool {
     true
 }
 
-/// The frame of a base with a start number, at the least depth at which it reaches round a window. None where it
-/// has more than so many tiles before.
+/// Returns the frame of a base with a seed, at the least depth at which it surrounds a window. Returns None
+/// if it has more than `most` tiles before.
 pub fn least_frame(
     alloc: Global,
     machine: &Machine,

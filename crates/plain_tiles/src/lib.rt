@@ -1,9 +1,11 @@
-//! The plain program of the trials: whole supertiles and frames, listed tile by tile, and walks there and back.
+//! The brute-force reference program of the trials: whole supertiles and frames, listed tile by tile.
 //!
-//! All addresses of a supertile are listed, each tile is placed by its address alone, and each is asked whether it
-//! holds a point or meets a window; what the engine finds by searching is compared with that. Walks are drawn, and walked back by
-//! the edges that lead back. The crates of trials and the program `rule_library` stand on it. It claims nothing of
-//! its own: its contracts say only what the calls that it tries ask for.
+//! It lists all addresses of a supertile, places each tile by its address alone, and tests each one against a
+//! point or a window. The trials compare this with what the engine finds by searching. It also makes random
+//! walks, and follows them back by the edges that lead back.
+//!
+//! The trial crates and the program `rule_library` build on it. It claims nothing of its own: its contracts
+//! state only what the calls under test require.
 #![tactic(auto)]
 
 pub mod built_in;

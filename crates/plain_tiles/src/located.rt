@@ -1,4 +1,4 @@
-//! What is located in a supertile, against a list of all its tiles.
+//! The tile that the engine locates in a supertile, compared with a list of all its tiles.
 use crate::counts::Counts;
 use crate::drawn_tile::{DrawnTile, drawn_tiles, holders};
 use crate::placing::motion;
@@ -14,10 +14,10 @@ use tile_place::machine::Machine;
 use tile_place::placed_tile::PlacedTile;
 use tile_shape::no_memory::NoMemory;
 
-/// The greatest depth of which all tiles are listed.
+/// The greatest depth whose tiles are all listed.
 const DEEPEST: u8 = 4;
 
-/// What is located; None where the call's conditions aren't met.
+/// Returns what the engine locates, or None if the call's conditions do not hold.
 pub fn locate(
     machine: &Machine,
     kind: u8,
@@ -40,7 +40,7 @@ pub fn locate(
     Some(machine.locate(kind, depth, &at, point))
 }
 
-/// Whether what is located at a point is the one tile of the list that holds it, or none where none does.
+/// Returns true if the engine located the only tile of the list that holds the point, or none if none does.
 fn is_listed(
     machine: &Machine,
     tiles: &[DrawnTile],
@@ -57,7 +57,8 @@ fn is_listed(
     }
 }
 
-/// The points of the tiles of a supertile: where what is located is as listed, and where it differs.
+/// Counts the points of the tiles of a supertile for which the engine locates the listed tile, and the
+/// others.
 pub fn located_in(
     alloc: Global,
     machine: &Machine,
@@ -76,8 +77,8 @@ pub fn located_in(
     Ok(counts)
 }
 
-/// The same of the supertiles of all kinds up to depth 4 that have at most so many tiles, each moved by another
-/// turn.
+/// Like [`located_in`], for the supertiles of all kinds up to depth 4 with at most `most` tiles. Each
+/// supertile is turned by another angle.
 pub fn located(alloc: Global, machine: &Machine, most: u64) -> Result<Counts, NoMemory> {
     let shift = Point { c: [3, -2, 0, 0] };
     let mut counts = Counts::default();

@@ -1,4 +1,4 @@
-//! What the pair machine says of two tiles.
+//! The verdict of the pair machine on two tiles.
 ghost use Rattle.std.specs.Prelude.{◌≡◌};
 ghost use Rattle.rule_model.specs.Tiling.{tiling_of, contacts};
 
@@ -8,7 +8,7 @@ use pair_machine::verdict::Verdict;
 use tile_place::machine::Machine;
 use tile_shape::address::Address;
 
-/// What the pair machine says of two tiles; None where an address doesn't fit.
+/// Returns the verdict of the pair machine on two tiles, or None if an address does not fit.
 pub fn decided(machine: &Machine, pairs: &PairMachine, a: &Address, b: &Address) -> Option<Verdict>
     requires its_tables { pairs.now ≡ contacts (tiling_of machine.now) }
 {
@@ -21,7 +21,7 @@ pub fn decided(machine: &Machine, pairs: &PairMachine, a: &Address, b: &Address)
     Some(pairs.decide(a, b))
 }
 
-/// The pairs of edges that a verdict names.
+/// Returns the pairs of edges that a verdict names.
 pub fn named(verdict: &Verdict) -> &[EdgePair] {
     match verdict {
         Verdict::Beside { pairs } => pairs.as_slice(),

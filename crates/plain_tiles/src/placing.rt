@@ -1,4 +1,4 @@
-//! Tiles at their places: each by its address alone, where the conditions of the calls hold.
+//! Tiles in their places, each by its address alone, if the calls' conditions hold.
 ghost use Rattle.std.specs.Prelude.{◌≤◌, ◌^◌, All, IfSome, length};
 ghost use Rattle.cyclo_points.specs.Point.{IsWithin};
 
@@ -12,7 +12,7 @@ use tile_place::machine::Machine;
 use tile_place::placed_tile::PlacedTile;
 use tile_shape::address::Address;
 
-/// An equal tile.
+/// Returns an equal tile.
 pub fn copy(tile: &PlacedTile) -> PlacedTile {
     PlacedTile {
         kind: tile.kind,
@@ -21,7 +21,7 @@ pub fn copy(tile: &PlacedTile) -> PlacedTile {
     }
 }
 
-/// The motion with this turn and this shift, in the machine's order.
+/// Returns the motion with this turn and this shift, in the machine's order.
 pub fn motion(machine: &Machine, steps: u8, shift: &Point) -> Option<Motion> {
     let order = machine.checked().order();
     if !near(shift) {
@@ -33,7 +33,7 @@ pub fn motion(machine: &Machine, steps: u8, shift: &Point) -> Option<Motion> {
     })
 }
 
-/// The tile of an address in its supertile that is moved by `at`, where there is one.
+/// Returns the tile of an address in its supertile, moved by `at`, if it exists.
 pub fn placed(machine: &Machine, addr: &Address, at: &Motion) -> Option<PlacedTile> {
     let order = machine.checked().order();
     if !machine.checked().uses().fits(addr) || at.turn >= order.n() || !near(&at.shift) {
@@ -50,7 +50,7 @@ pub fn placed(machine: &Machine, addr: &Address, at: &Motion) -> Option<PlacedTi
     })
 }
 
-/// The motion back of a tile of a supertile.
+/// Returns the motion back of a tile of a supertile.
 pub fn back(machine: &Machine, addr: &Address) -> Option<Motion> {
     if !machine.checked().uses().fits(addr) {
         return None;
@@ -63,7 +63,7 @@ pub fn back(machine: &Machine, addr: &Address) -> Option<Motion> {
     Some(inverse(order, &own))
 }
 
-/// The vertices of a tile at its place.
+/// Returns the vertices of a placed tile.
 pub fn corners(machine: &Machine, tile: &PlacedTile) -> Option<ArrayVec<Point, 12>>
     ensures near { IfSome result (λ corners. All (IsWithin (2 ^ 24)) corners.items) }
     ensures at_least_3 { IfSome result (λ corners. 3 ≤ length corners.items) }

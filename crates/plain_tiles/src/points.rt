@@ -1,4 +1,4 @@
-//! Points of tiles: vertices, middles of edges, and points inside.
+//! Points of tiles: vertices, midpoints of edges, and points inside.
 use crate::drawn_tile::DrawnTile;
 use crate::small::near;
 use cyclo_points::order::Order;
@@ -7,7 +7,7 @@ use cyclo_points::rotation::turn;
 use std::alloc::Global;
 use tile_shape::no_memory::NoMemory;
 
-/// The sum, coefficient by coefficient.
+/// Returns the sum, coefficient by coefficient.
 fn sum(p: &Point, q: &Point) -> Point {
     Point {
         c: [
@@ -19,7 +19,7 @@ fn sum(p: &Point, q: &Point) -> Point {
     }
 }
 
-/// The difference, coefficient by coefficient.
+/// Returns the difference, coefficient by coefficient.
 fn difference(p: &Point, q: &Point) -> Point {
     Point {
         c: [
@@ -31,7 +31,7 @@ fn difference(p: &Point, q: &Point) -> Point {
     }
 }
 
-/// The middle of two points, where it is a point of the ring.
+/// Returns the midpoint of two points, if it is a point of the ring.
 pub fn middle(p: &Point, q: &Point) -> Option<Point> {
     let twice = sum(p, q);
     if (twice.c[0] | twice.c[1] | twice.c[2] | twice.c[3]) & 1 != 0 {
@@ -47,8 +47,8 @@ pub fn middle(p: &Point, q: &Point) -> Option<Point> {
     })
 }
 
-/// The point times a number between 0 and 1/2, where the ring has one: √2 - 1 in order eight, where √2 is
-/// ζ + ζ^-1; and 2 - φ in order ten, where φ is ζ + ζ^-1.
+/// Returns the point times a number between 0 and 1/2, if the ring has one. In order eight it is √2 - 1, with
+/// √2 = ζ + ζ^-1. In order ten it is 2 - φ, with φ = ζ + ζ^-1.
 fn shrunk(order: Order, p: &Point) -> Option<Point> {
     if !near(p) {
         return None;
@@ -66,14 +66,14 @@ fn shrunk(order: Order, p: &Point) -> Option<Point> {
     }
 }
 
-/// A point inside the triangle of p, q and r: p + w (q - p) + w (r - p), w between 0 and 1/2.
+/// Returns a point inside the triangle of p, q and r: p + w (q - p) + w (r - p), with w between 0 and 1/2.
 fn inside(order: Order, p: &Point, q: &Point, r: &Point) -> Option<Point> {
     let sides = sum(&difference(q, p), &difference(r, p));
     Some(sum(p, &shrunk(order, &sides)?))
 }
 
-/// The vertices of all tiles, the middles of their edges, and points inside, where these are points of the ring:
-/// each once, in order.
+/// Returns the vertices of all tiles, and the midpoints of edges and points inside that are points of the
+/// ring. They are in order, and none is repeated.
 pub fn points(alloc: Global, order: Order, tiles: &[DrawnTile]) -> Result<Vec<Point>, NoMemory> {
     let mut points = Vec::new(alloc);
     for drawn in tiles {

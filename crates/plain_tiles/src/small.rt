@@ -5,7 +5,7 @@ ghost use Rattle.cyclo_points.specs.Point.{Within, IsWithin};
 use cyclo_points::arithmetic::refused;
 use cyclo_points::point::Point;
 
-/// Whether a point isn't refused.
+/// Returns true if a point is not refused.
 pub fn near(p: &Point) -> bool
     ensures limit { IsTrue result → IsWithin (2 ^ 24) p.now }
     ensures crossed { IsTrue result → IsWithin (2 ^ 25) p.now }
@@ -15,14 +15,14 @@ pub fn near(p: &Point) -> bool
     !refused(p)
 }
 
-/// Whether coefficients are at most 2^22 in absolute value.
+/// Returns true if all coefficients are at most 2^22 in absolute value.
 pub fn close(p: &Point) -> bool
     ensures { IsTrue result → IsWithin (2 ^ 22) p.now }
 {
     is_close(p.c[0]) && is_close(p.c[1]) && is_close(p.c[2]) && is_close(p.c[3])
 }
 
-/// Whether a coefficient is at most 2^22 in absolute value.
+/// Returns true if a coefficient is at most 2^22 in absolute value.
 fn is_close(a: i64) -> bool
     ensures { IsTrue result → Within (2 ^ 22) a }
 {

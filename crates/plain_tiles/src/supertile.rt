@@ -8,7 +8,7 @@ use tile_shape::address::Address;
 use tile_shape::no_memory::NoMemory;
 use tile_shape::step::Step;
 
-/// How many tiles the supertiles of a depth have, of each kind.
+/// Returns how many tiles the supertiles of a depth have, for each kind.
 fn tile_counts(machine: &Machine, depth: u8) -> [u64; 16] {
     let uses = machine.checked().uses();
     let mut counts = [1; 16];
@@ -30,13 +30,13 @@ fn tile_counts(machine: &Machine, depth: u8) -> [u64; 16] {
     counts
 }
 
-/// How many tiles the supertile of a kind and depth has.
+/// Returns how many tiles the supertile of a kind and depth has.
 pub fn tile_count(machine: &Machine, kind: u8, depth: u8) -> u64 {
     let counts = tile_counts(machine, depth);
     counts.get(usize::from(kind)).map_or(0, |count| *count)
 }
 
-/// The addresses of all tiles of the supertile of a kind and depth.
+/// Returns the addresses of all tiles of the supertile of a kind and depth.
 pub fn addresses(
     alloc: Global,
     machine: &Machine,
@@ -61,7 +61,7 @@ pub fn addresses(
     Ok(coarse)
 }
 
-/// The address one digit finer, of the child that this digit names.
+/// Returns the address one digit finer: that of the child which this digit names.
 fn below(addr: &Address, kind: u8, digit: Step) -> Address {
     let mut fine = Address::new(kind);
     let _ = fine.push_coarse(digit);
@@ -71,7 +71,7 @@ fn below(addr: &Address, kind: u8, digit: Step) -> Address {
     fine
 }
 
-/// All tiles of the supertile of a kind and depth that is moved by `at`.
+/// Returns all tiles of the supertile of a kind and depth, moved by `at`.
 pub fn tiles(
     alloc: Global,
     machine: &Machine,

@@ -1,5 +1,5 @@
-//! Windows answered in two ways: by a search from the tile at the centre, and from the top down where the
-//! window is large enough for that.
+//! Windows covered in two ways: by a search from the tile at the centre, and from the top down if the window
+//! is large enough for that.
 use crate::counts::Counts;
 use crate::draws::Draws;
 use crate::frame_tiles::begun;
@@ -14,7 +14,7 @@ use window_cover::cover_fault::CoverFault;
 use window_cover::covered_tiles::CoveredTiles;
 use window_cover::tiles_of_window::{cover, covered_tiles};
 
-/// Whether both ways come to the same tiles in the same order, or to the same fault.
+/// Returns true if both ways give the same tiles in the same order, or the same fault.
 fn same(
     searched: &Result<Vec<PlacedTile>, CoverFault>,
     found: &Result<CoveredTiles, CoverFault>,
@@ -31,13 +31,13 @@ fn same(
     }
 }
 
-/// Whether two frames of one base have the same digits.
+/// Returns true if two frames of one base have the same digits.
 fn same_digits(one: &Frame, other: &Frame) -> bool {
     one.digits().as_slice() == other.digits().as_slice()
 }
 
-/// Whether a window of the frame of a base with a start number is answered alike in both ways, and in frames
-/// that come to the same depth where there is an answer. None where the calls' conditions aren't met.
+/// Returns true if both ways give the same result for a window of a frame, and leave frames of the same
+/// digits. The frame is that of a base with a seed. Returns None if the calls' conditions do not hold.
 pub fn alike(
     alloc: Global,
     machine: &Machine,
@@ -55,8 +55,8 @@ pub fn alike(
     Some(same(&searched, &found) && same_digits(&first, &second))
 }
 
-/// So many windows that are drawn, with half extents up to so many units, of bases of depth 0 to 15: how many
-/// are answered alike in both ways, and how many otherwise.
+/// Makes `number` random windows with a half-width and half-height of at most `most`, and bases of depth 0 to
+/// 15. Counts those for which both ways agree, and the others.
 pub fn alike_windows(alloc: Global, machine: &Machine, number: u32, most: u64) -> Counts {
     let order = machine.checked().order();
     let mut draws = Draws { state: 39 };

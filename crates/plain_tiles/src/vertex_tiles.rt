@@ -1,4 +1,4 @@
-//! The tiles round vertices, against a list of all tiles of the frame.
+//! The tiles around vertices, compared with a list of all tiles of the frame.
 ghost use Rattle.std.specs.Prelude.{IfSome};
 ghost use Rattle.lazy_walk.specs.Frames.{IsFrameOf};
 ghost use Rattle.rule_model.specs.Tiling.{tiling_of};
@@ -19,11 +19,11 @@ use tile_place::machine::Machine;
 use tile_shape::address::Address;
 use tile_shape::no_memory::NoMemory;
 
-/// The start number of all frames.
+/// The seed of all frames.
 const START: u64 = 42;
 
-/// Finds the tiles round a vertex of a base, where there is one of this number: the frame, as it has grown then. None
-/// where they are refused.
+/// Finds the tiles around a vertex of a base, and returns the frame as it has grown. Returns None if the base
+/// has no vertex of this number, or the vertex is refused.
 fn found<L: Ledger>(
     machine: &Machine,
     base: &Address,
@@ -41,7 +41,7 @@ fn found<L: Ledger>(
     Some(frame)
 }
 
-/// The vertex behind this one of a tile, from its edges' start to their end.
+/// Returns the vertex after this one of a tile, in the direction of its edges.
 fn behind(tile: &DrawnTile, vertex: usize) -> Option<Point> {
     let outline = tile.corners();
     match outline.get(vertex.wrapping_add(1)) {
@@ -50,7 +50,7 @@ fn behind(tile: &DrawnTile, vertex: usize) -> Option<Point> {
     }
 }
 
-/// The vertex before this one of a tile.
+/// Returns the vertex before this one of a tile.
 fn before(tile: &DrawnTile, vertex: usize) -> Option<Point> {
     let outline = tile.corners();
     match vertex.checked_sub(1) {
@@ -59,7 +59,7 @@ fn before(tile: &DrawnTile, vertex: usize) -> Option<Point> {
     }
 }
 
-/// Whether a corner is of a tile of the list, with its vertex at this point: the vertex before that, and the one behind.
+/// Returns the vertices before and after a corner, if its tile is listed and has that vertex at this point.
 fn ends(tiles: &[DrawnTile], point: &Point, corner: &Corner) -> Option<(Point, Point)> {
     let drawn = tiles.iter().find(|drawn| drawn.tile == corner.tile)?;
     let vertex = usize::from(corner.vertex);
@@ -69,8 +69,9 @@ fn ends(tiles: &[DrawnTile], point: &Point, corner: &Corner) -> Option<(Point, P
     Some((before(drawn, vertex)?, behind(drawn, vertex)?))
 }
 
-/// Whether corners are those of all tiles of the list that have the point as a vertex, in turning order: of each the edge
-/// that ends there is the one back along which the next one's starts, and of the last that of the first.
+/// Returns true if the corners are those of all listed tiles that have the point as a vertex, in turning
+/// order. Each corner's edge that ends there runs back along the next corner's edge that starts there. After
+/// the last corner comes the first.
 fn are_round(tiles: &[DrawnTile], point: &Point, round: &[Corner]) -> bool {
     let number = tiles
         .iter()
@@ -89,7 +90,8 @@ fn are_round(tiles: &[DrawnTile], point: &Point, round: &[Corner]) -> bool {
     number == round.len()
 }
 
-/// Whether corners are those of all tiles of a list that have this vertex of the frame's base, the base first.
+/// Returns true if the corners are those of all listed tiles that have this vertex of the base, the base
+/// first.
 fn is_star(
     machine: &Machine,
     frame: &Frame,
@@ -112,8 +114,8 @@ fn is_star(
     }
 }
 
-/// Whether the tiles found round a vertex of a base are those that are listed. None where they are refused, or the frame
-/// has more than so many tiles.
+/// Returns true if the tiles found around a vertex of a base are the listed ones. Returns None if the vertex
+/// is refused, or the frame has more than `most` tiles.
 fn compared<L: Ledger>(
     alloc: Global,
     machine: &Machine,
@@ -138,8 +140,8 @@ fn compared<L: Ledger>(
     Ok(Some(is_star(machine, &frame, vertex, drawn.as_slice(), round)))
 }
 
-/// The vertices of all tiles of the supertiles of all kinds up to a depth, where the frame has at most so many tiles
-/// then: round how many the tiles found are those listed, and round how many others.
+/// Tests the vertices of all tiles of the supertiles of all kinds up to a depth, if the frame then has at
+/// most `most` tiles. Counts the vertices around which the tiles found are the listed ones, and the others.
 pub fn stars<L: Ledger>(
     alloc: Global,
     machine: &Machine,

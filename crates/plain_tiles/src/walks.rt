@@ -1,4 +1,4 @@
-//! Walks that are drawn, walked there and back.
+//! Random walks, followed there and back.
 ghost use Rattle.std.specs.Prelude.{◌≡◌, IfOk, IfSome};
 ghost use Rattle.addressing.specs.Address.{Address as TheAddress};
 ghost use Rattle.rule_model.specs.Tiling.{tiling_of};
@@ -19,7 +19,7 @@ use tile_place::placed_tile::PlacedTile;
 use tile_shape::address::Address;
 use tile_shape::no_memory::NoMemory;
 
-/// An edge that was crossed: the tile that it was left by, the edge, and the one that leads back.
+/// An edge that was crossed: the tile that it belongs to, the edge, and the edge that leads back.
 #[derive(Debug, Drop)]
 struct Crossed {
     tile: PlacedTile,
@@ -27,8 +27,9 @@ struct Crossed {
     back: u8,
 }
 
-/// A path of so many edges from the base of a frame, which grows as it is drawn, and the tile that it leads to. It
-/// never goes back where it came from. None where an edge lies on the boundary at depth 64.
+/// Makes a random path of `edges` edges from the base of a frame, which grows as needed, and returns it with
+/// the tile that it reaches. The path turns back only if there is no other edge. Returns None if an edge lies
+/// on the boundary at depth 64.
 fn drawn_path<L: Ledger>(
     alloc: Global,
     machine: &Machine,
@@ -63,7 +64,7 @@ fn drawn_path<L: Ledger>(
     Ok(Some((path, tile)))
 }
 
-/// Goes across an edge, if the tile has one of that number: the edge that leads back.
+/// Crosses an edge, if the tile has one of that number, and returns the edge that leads back.
 fn go<L: Ledger>(
     machine: &Machine,
     frame: &Frame,
@@ -84,7 +85,7 @@ fn go<L: Ledger>(
     frame.step(machine, tile, edge, steps).ok()
 }
 
-/// Goes along a path: what was crossed, as far as it can be walked.
+/// Follows a path, and returns the edges that were crossed.
 fn there<L: Ledger>(
     alloc: Global,
     machine: &Machine,
@@ -111,8 +112,8 @@ fn there<L: Ledger>(
     Ok(way)
 }
 
-/// Goes back by the edges that lead back: whether each leads to the tile from which it was come, in its place, and
-/// is led back to by the edge of the path.
+/// Follows the edges that lead back. Returns true if each reaches the tile where its edge was crossed, in its
+/// place, and that edge of the path leads back in turn.
 fn leads_back<L: Ledger>(
     machine: &Machine,
     frame: &Frame,
@@ -132,9 +133,8 @@ fn leads_back<L: Ledger>(
     true
 }
 
-/// Whether the path leads in a frame that has grown to the tile that was reached as it grew; it comes back to the
-/// base by the edges that lead back, with the same motions all along; and a fresh frame grows along it to the same
-/// depth.
+/// Returns true if the path leads to the same tile in the frame that has grown. The edges that lead back must
+/// then reach the base, with the same motions all the way.
 fn is_walked<L: Ledger>(
     alloc: Global,
     machine: &Machine,
@@ -153,7 +153,7 @@ fn is_walked<L: Ledger>(
     Ok(is_whole && is_back && tile == base)
 }
 
-/// Whether a fresh frame of the base grows along the path to the digits of this one.
+/// Returns true if a fresh frame of the base grows along the path to the same digits as this frame.
 fn grows_alike<L: Ledger>(
     machine: &Machine,
     frame: &Frame,
@@ -170,8 +170,8 @@ fn grows_alike<L: Ledger>(
     }
 }
 
-/// Draws a base of this depth, a start number, and a walk of so many edges from it: the depth to which its frame
-/// grows where it is walked there and back, and None where it isn't.
+/// Makes a random base of this depth, a seed, and a walk of `edges` edges from the base. Returns the depth to
+/// which its frame grows, or None if the walk there and back fails.
 pub fn walked<L: Ledger>(
     alloc: Global,
     machine: &Machine,
@@ -201,8 +201,8 @@ pub fn walked<L: Ledger>(
     }
 }
 
-/// So many walks of 1 to 24 edges, from bases of depth 0 to 3: how many are walked there and back, and how many
-/// not.
+/// Makes random walks of 1 to 24 edges, from bases of depth 0 to 3. Counts those that succeed there and back,
+/// and the others.
 pub fn walks<L: Ledger>(
     alloc: Global,
     machine: &Machine,

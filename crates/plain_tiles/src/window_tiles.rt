@@ -1,4 +1,4 @@
-//! The tiles of windows, against a list of all tiles of the frame.
+//! The tiles of windows, compared with a list of all tiles of the frame.
 ghost use Rattle.std.specs.Prelude.{IsTrue};
 ghost use Rattle.cyclo_points.specs.Point.{IsWithin};
 ghost use Rattle.window_cover.specs.Windows.{IsWindow};
@@ -20,17 +20,18 @@ use tile_shape::no_memory::NoMemory;
 use window_cover::cover_fault::CoverFault;
 use window_cover::tiles_of_window::cover;
 
-/// The start number of all frames.
+/// The seed of all frames.
 const START: u64 = 42;
 
-/// Whether a window is one that can be covered.
+/// Returns true if a window is within the bounds of `cover`.
 pub fn is_window(window: &Window) -> bool
     ensures { IsTrue result → IsWindow window.now }
 {
     1 <= window.w && 1 <= window.h && window.w <= 4096 && window.h <= 4096 && close(&window.centre)
 }
 
-/// What is covered in the frame of a base, and the frame then; None where the call's conditions aren't met.
+/// Covers a window in the frame of a base. Returns the result and the frame, or None if the call's conditions
+/// do not hold.
 pub fn covered(
     alloc: Global,
     machine: &Machine,
@@ -45,7 +46,7 @@ pub fn covered(
     Some((covered, frame))
 }
 
-/// The numbers by which tiles are ordered, and the place of one in its list.
+/// The numbers by which tiles are ordered, and a tile's position in its list.
 #[derive(Clone, Copy, Debug, PartialEq, Eq, PartialOrd, Ord)]
 struct Place {
     shift: [i64; 4],
@@ -54,7 +55,7 @@ struct Place {
     number: usize,
 }
 
-/// The tiles in the order of their shifts, turns and kinds.
+/// Returns the tiles in the order of their shifts, turns and kinds.
 fn in_order(alloc: Global, tiles: &[&PlacedTile]) -> Result<Vec<PlacedTile>, NoMemory> {
     let mut places = Vec::new(alloc);
     for (number, tile) in tiles.iter().enumerate() {
@@ -75,7 +76,7 @@ fn in_order(alloc: Global, tiles: &[&PlacedTile]) -> Result<Vec<PlacedTile>, NoM
     Ok(ordered)
 }
 
-/// The tiles of the frame, at the depth that it has, that meet a window, in order.
+/// Lists the tiles of the frame, at its present depth, that meet a window, in order.
 pub fn listed(
     alloc: Global,
     machine: &Machine,
@@ -94,8 +95,8 @@ pub fn listed(
     in_order(alloc, meeting.as_slice())
 }
 
-/// Whether a window in the frame of a base is covered by the tiles that are listed, and how many these are; None
-/// where it isn't covered, or the frame has more than so many tiles.
+/// Covers a window in the frame of a base. Returns whether the tiles found are the listed ones, and how many
+/// are listed. Returns None if the window is refused, or the frame has more than `most` tiles.
 pub fn compared(
     alloc: Global,
     machine: &Machine,
@@ -123,8 +124,8 @@ pub fn compared(
     }
 }
 
-/// So many windows that are drawn, of frames that have at most so many tiles: how many are covered by the tiles
-/// that are listed, and how many by others; and how many tiles are listed.
+/// Makes random windows until `number` of them lie in frames of at most `most` tiles. Counts those whose
+/// tiles are the listed ones, and the others, and adds up the listed tiles.
 pub fn windows(
     alloc: Global,
     machine: &Machine,

@@ -32,6 +32,6 @@ SeparationLaw o =
     (t u : Triangle (PlanePointOf o)) (p : TestPointOf o) → IsTestPoint (reals_of o) p → IsTrue (turns_left (reals_of o) t) → IsTrue (turns_left (reals_of o) u)
     → IsTrue (separated (reals_of o) t u) → IsTrue (member (reals_of o) (corners t) p) → ¬ IsTrue (member (reals_of o) (corners u) p)
 
--- a point is on a closed segment exactly where it is a mean of the ends
+-- a point is on a closed segment if and only if it is a mean of the ends
 abbrev pub SegmentLaw : Order → Type 0
 SegmentLaw o = (a b p : PlanePointOf o) → IsTrue (on_segment (reals_of o) a b p) ↔ Between (reals_of o) a b p

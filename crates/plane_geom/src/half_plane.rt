@@ -23,7 +23,7 @@ pub struct Measured {
     pub ends_inside: bool,
 }
 
-/// Whether r is positive.
+/// Returns true if r is positive.
 fn is_positive(order: Order, r: &Real) -> bool
     requires within { IsRealWithin (2 ^ 61) r.now }
     ensures { result ≡ is_gt ((points_of order).real.sign (real_in order r.now)) }
@@ -85,7 +85,7 @@ fn whole(order: Order, n: u16) -> Real
     Real { a: n as i128, b: 0 }
 }
 
-/// Whether an edge that starts in the half plane of f and ends in that of g enters the second before
+/// Returns true if an edge that starts in the half plane of f and ends in that of g enters the second before
 /// it leaves the first.
 fn enters_first(order: Order, f: &Measured, g: &Measured) -> bool
     requires f_measured { IsMeasured order f.now }
@@ -99,7 +99,7 @@ fn enters_first(order: Order, f: &Measured, g: &Measured) -> bool
     is_positive(order, &difference)
 }
 
-/// Whether an edge starts in the half plane of f, ends in that of g and is in both on its way.
+/// Returns true if an edge starts in the half plane of f, ends in that of g and is in both on its way.
 fn passes(order: Order, f: &Measured, g: &Measured) -> bool
     requires f_measured { IsMeasured order f.now }
     requires g_measured { IsMeasured order g.now }
@@ -108,7 +108,7 @@ fn passes(order: Order, f: &Measured, g: &Measured) -> bool
     f.starts_inside && g.ends_inside && enters_first(order, f, g)
 }
 
-/// Whether an edge has a point in both half planes.
+/// Returns true if an edge has a point in both half planes.
 fn meets_two(order: Order, f: &Measured, g: &Measured) -> bool
     requires f_measured { IsMeasured order f.now }
     requires g_measured { IsMeasured order g.now }

@@ -8,8 +8,8 @@ ghost use Rattle.plane_geom.specs.Products.{ProductLaw, FactorLaw, FactorPowersL
 use cyclo_points::order::Order;
 use cyclo_points::points_law;
 
-/// States that the crossing of a reversed edge is the negative, and that the crossing of an edge is the sum
-/// over the two parts into which a point of it cuts it.
+/// States that the crossing of a reversed edge is the negative. If a point cuts an edge, the edge's crossing
+/// is the sum over both parts.
 pub fn crossing_law(order: Order)
     ensures antisymmetric { AntisymmetryLaw order }
     ensures additive { AdditivityLaw order }

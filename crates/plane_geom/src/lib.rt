@@ -2,7 +2,7 @@
 //! open boxes, over the ordered rings in which the coordinates X and Y lie.
 //!
 //! A point belongs to a polygon if the polygon's winding number about it is 1. The winding number is a sum of
-//! signed crossings of directed edges, by a half-open rule: an edge has its lower end and not its upper one,
+//! signed crossings of directed edges, by a half-open rule. An edge has its lower end and not its upper one,
 //! and a point on an edge is on neither side of it. Sides, crossings, counts, membership, segments and
 //! lengths are exact, each by one definition over an ordered ring. The laws on which dissections rest are
 //! proved for every order at once.

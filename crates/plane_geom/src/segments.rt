@@ -20,7 +20,7 @@ use cyclo_points::real_sum::rsub;
 use cyclo_points::sign::sign;
 use std::cmp::Ordering;
 
-/// Whether r ≤ s.
+/// Returns true if r ≤ s.
 fn is_at_most(order: Order, r: &Real, s: &Real) -> bool
     requires r_within { IsRealWithin (2 ^ 27) r.now }
     requires s_within { IsRealWithin (2 ^ 27) s.now }
@@ -29,7 +29,7 @@ fn is_at_most(order: Order, r: &Real, s: &Real) -> bool
     sign(order, &rsub(r, s)) != Ordering::Greater
 }
 
-/// Whether r lies between s and t, whichever of them is the greater.
+/// Returns true if r lies between s and t, whichever of them is the greater.
 fn is_between(order: Order, s: &Real, r: &Real, t: &Real) -> bool
     requires s_within { IsRealWithin (2 ^ 27) s.now }
     requires r_within { IsRealWithin (2 ^ 27) r.now }
@@ -41,7 +41,7 @@ fn is_between(order: Order, s: &Real, r: &Real, t: &Real) -> bool
         || is_at_most(order, t, r) && is_at_most(order, r, s)
 }
 
-/// Whether p lies between a and b in X.
+/// Returns true if p lies between a and b in X.
 fn is_between_in_x(order: Order, a: &Point, p: &Point, b: &Point) -> bool
     requires a_within { IsWithin (2 ^ 25) a.now }
     requires p_within { IsWithin (2 ^ 25) p.now }
@@ -52,7 +52,7 @@ fn is_between_in_x(order: Order, a: &Point, p: &Point, b: &Point) -> bool
     is_between(order, &x(order, a), &x(order, p), &x(order, b))
 }
 
-/// Whether p lies between a and b in Y.
+/// Returns true if p lies between a and b in Y.
 fn is_between_in_y(order: Order, a: &Point, p: &Point, b: &Point) -> bool
     requires a_within { IsWithin (2 ^ 25) a.now }
     requires p_within { IsWithin (2 ^ 25) p.now }
@@ -76,7 +76,7 @@ pub fn on_segment(order: Order, a: &Point, b: &Point, p: &Point) -> bool
         && is_between_in_y(order, a, p, b)
 }
 
-/// Whether a and b are one point.
+/// Returns true if a and b are one point.
 fn is_same_place(order: Order, a: &Point, b: &Point) -> bool
     requires a_within { IsWithin (2 ^ 25) a.now }
     requires b_within { IsWithin (2 ^ 25) b.now }

@@ -11,7 +11,7 @@ use cyclo_points::order::Order;
 use cyclo_points::point::Point;
 use std::cmp::Ordering;
 
-/// Whether v is on the line along a→b or to its right.
+/// Returns true if v is on the line along a→b or to its right.
 fn is_right_of(order: Order, a: &Point, b: &Point, v: &Point) -> bool
     requires a_within { IsWithin (2 ^ 25) a.now }
     requires b_within { IsWithin (2 ^ 25) b.now }
@@ -22,7 +22,7 @@ fn is_right_of(order: Order, a: &Point, b: &Point, v: &Point) -> bool
     side(order, a, b, v) != Ordering::Greater
 }
 
-/// Whether the whole triangle t is on the line along a→b or to its right.
+/// Returns true if the whole triangle t is on the line along a→b or to its right.
 fn is_beyond(order: Order, a: &Point, b: &Point, t: &[Point; 3]) -> bool
     requires a_within { IsWithin (2 ^ 25) a.now }
     requires b_within { IsWithin (2 ^ 25) b.now }
@@ -35,7 +35,7 @@ fn is_beyond(order: Order, a: &Point, b: &Point, t: &[Point; 3]) -> bool
         && is_right_of(order, a, b, &t[2])
 }
 
-/// Whether the whole triangle t is on the line along an edge of s or to its right.
+/// Returns true if the whole triangle t is on the line along an edge of s or to its right.
 fn is_beyond_an_edge(order: Order, s: &[Point; 3], t: &[Point; 3]) -> bool
     requires s_within { All (IsWithin (2 ^ 25)) s.now }
     requires t_within { All (IsWithin (2 ^ 25)) t.now }

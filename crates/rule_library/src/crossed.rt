@@ -1,4 +1,4 @@
-//! What is across each edge of whole supertiles, against a list of all edges by their two ends.
+//! The tile across each edge of whole supertiles, compared with a list of all edges by their two ends.
 use cyclo_points::motion::Motion;
 use edge_tables::steps::Steps;
 use plain_tiles::counts::Counts;
@@ -11,7 +11,7 @@ use tile_place::machine::Machine;
 use tile_shape::address::Address;
 use tile_shape::no_memory::NoMemory;
 
-/// The greatest depth of which all tiles are listed.
+/// The greatest depth whose tiles are all listed.
 const DEEPEST: u8 = 4;
 
 /// The two ends of an edge.
@@ -22,7 +22,7 @@ pub(crate) struct Ends {
 }
 
 impl Ends {
-    /// The ends of the edge of this number of a tile; None where there is no such edge.
+    /// Returns the ends of this edge of a tile, or None if there is no such edge.
     pub(crate) fn of(drawn: &DrawnTile, edge: u8) -> Option<Ends> {
         let corners = drawn.corners();
         let start = corners.get(usize::from(edge))?;
@@ -36,7 +36,7 @@ impl Ends {
         })
     }
 
-    /// The ends of the same edge traversed backwards.
+    /// Returns the ends of the same edge, traversed backwards.
     pub(crate) fn reversed(&self) -> Ends {
         Ends {
             start: self.end,
@@ -52,7 +52,7 @@ pub(crate) struct Side {
     pub edge: u8,
 }
 
-/// All edges of all tiles by their ends, and how often two have the same.
+/// Returns all edges of all tiles by their ends, and how often two edges have the same ends.
 pub(crate) fn sides(
     alloc: Global,
     tiles: &[DrawnTile],
@@ -71,7 +71,7 @@ pub(crate) fn sides(
     Ok((sides, doubled))
 }
 
-/// Whether an edge is crossed to the tile of the list across it, or is Outside where there is none.
+/// Returns true if the engine finds the listed tile across an edge, or `Outside` if there is none.
 fn is_crossed<L: Ledger>(
     machine: &Machine,
     tiles: &[DrawnTile],
@@ -94,7 +94,7 @@ fn is_crossed<L: Ledger>(
     }
 }
 
-/// The edges of all tiles of a supertile: which are crossed as their ends say, and which otherwise.
+/// Counts the edges of all tiles of a supertile that are crossed as their ends say, and the others.
 fn crossed_in<L: Ledger>(
     alloc: Global,
     machine: &Machine,
@@ -127,7 +127,7 @@ fn crossed_in<L: Ledger>(
     Ok(counts)
 }
 
-/// The same of the supertiles of all kinds up to depth 4 that have at most so many tiles.
+/// Like [`crossed_in`], for the supertiles of all kinds up to depth 4 with at most `most` tiles.
 pub fn crossed<L: Ledger>(
     alloc: Global,
     machine: &Machine,

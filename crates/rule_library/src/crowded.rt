@@ -1,4 +1,4 @@
-//! The stars of rules that put very many tiles round a vertex: of as many as there may be, and of one more.
+//! The stars of rules that put very many tiles around a vertex: the most that are allowed, and one more.
 ghost use Rattle.std.specs.Prelude.{◌≡◌, ◌<◌};
 
 use edge_tables::steps::Steps;
@@ -19,7 +19,7 @@ const TILE: &[u8] = b"3:0/1,6/0,0/0";
 
 const VERTEX: u8 = 1;
 
-/// How many tiles are round the vertex of a tile.
+/// Returns how many tiles are around the vertex of a tile.
 fn round<L: Ledger>(
     alloc: Global,
     machine: &Machine,
@@ -43,7 +43,7 @@ fn round<L: Ledger>(
     }
 }
 
-/// What comes of the vertex of an accepted rule.
+/// Returns the result for the vertex of an accepted rule.
 pub fn crowded(alloc: Global, rule: Checked) -> Result<String, NoMemory> {
     let machine = Box::new(alloc, Machine::new(alloc, rule)?)?;
     match read_address(machine.checked().uses(), TILE) {

@@ -1,11 +1,15 @@
-//! The program `rule_library`: what comes of each rule file of the library, and of each file of the
-//! tutorial that a clause refuses.
+//! The program `rule_library`: tries each rule file of the library, and each file of the tutorial that a
+//! clause refuses.
 //!
-//! A file is read and checked; an accepted rule is printed, read back and checked again, and the two
-//! printed texts are compared. What the engine locates in its supertiles, what it finds across each edge of them, by
-//! which edges any two of their tiles meet, where walks lead, the tiles of windows, and the tiles round vertices are compared with the plain program of the trials. The files lie in the folder
-//! that it is run in, and what it prints is compared with what is wanted when the gate runs it. It claims nothing of its
-//! own.
+//! It reads and checks a file. It prints an accepted rule, reads the text back and checks it again, and
+//! compares the two texts.
+//!
+//! It compares the engine with the brute-force program of the trials. The comparison covers the tiles located
+//! in supertiles, the tile across each edge, the edges by which any two tiles meet, walks, windows, and the
+//! tiles around vertices.
+//!
+//! The files are in the folder that it runs in. The gate compares what it prints with the expected text. It
+//! claims nothing of its own.
 #![tactic(auto)]
 
 mod crossed;
@@ -19,7 +23,7 @@ use builtin_rules::name::Name;
 use std::{fs, io};
 use tile_shape::no_memory::NoMemory;
 
-/// The rule files of the library, and then those that are refused.
+/// The rule files of the library, followed by the refused ones.
 const FILES: [&str; 55] = [
     "ammann_beenker.toml",
     "ammann_beenker_mirrored.toml",
@@ -87,10 +91,10 @@ const BUILT_IN: [(&str, Name); 5] = [
     ("half_hex.toml", Name::HalfHex),
 ];
 
-/// Rule files by which very many tiles are round a vertex, as `tools/fan_rule.py` makes them.
+/// Rule files that put very many tiles around a vertex, as `tools/fan_rule.py` makes them.
 const CROWDED: [&str; 2] = ["64_round_a_vertex.toml", "65_round_a_vertex.toml"];
 
-/// A line for each file.
+/// Prints a line for each file.
 fn describe_files(rt: &HostRuntime) -> io::Result<()> {
     for name in FILES {
         let bytes = fs::read(rt, name)?;
@@ -102,7 +106,7 @@ fn describe_files(rt: &HostRuntime) -> io::Result<()> {
     Ok(())
 }
 
-/// A line for each built-in rule.
+/// Prints a line for each built-in rule.
 fn compare_files(rt: &HostRuntime) -> io::Result<()> {
     for (file, name) in BUILT_IN {
         let bytes = fs::read(rt, file)?;
@@ -115,7 +119,7 @@ fn compare_files(rt: &HostRuntime) -> io::Result<()> {
     Ok(())
 }
 
-/// A line for each crowded rule.
+/// Prints a line for each crowded rule.
 fn turn_crowded(rt: &HostRuntime) -> io::Result<()> {
     for name in CROWDED {
         let bytes = fs::read(rt, name)?;

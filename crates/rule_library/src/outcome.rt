@@ -1,4 +1,4 @@
-//! What comes of a rule file.
+//! The outcome of a rule file.
 use crate::crowded::crowded;
 use crate::trials::trials;
 use builtin_rules::builtin::builtin;
@@ -12,7 +12,7 @@ use rule_text::writing::{write_rule, written_and_read};
 use std::alloc::{AllocError, Global};
 use tile_shape::no_memory::NoMemory;
 
-/// Why there is no accepted rule.
+/// Why a rule is not accepted.
 #[derive(Clone, Copy, Debug, PartialEq, Eq)]
 enum Refused {
     TooLong,
@@ -20,7 +20,7 @@ enum Refused {
     Check(CheckFault),
 }
 
-/// The accepted rule of a file.
+/// Reads the rule of a file, and checks it.
 fn checked(alloc: Global, bytes: &[u8]) -> Result<Checked, Refused> {
     if bytes.len() > LONGEST_FILE {
         return Err(Refused::TooLong);
@@ -29,7 +29,7 @@ fn checked(alloc: Global, bytes: &[u8]) -> Result<Checked, Refused> {
     check(alloc, rule).map_err(Refused::Check)
 }
 
-/// Whether a rule's own text is read back to a rule with the same text.
+/// Returns true if a rule's own text is read back to a rule with the same text.
 fn is_read_back(alloc: Global, rule: &Checked, text: &str) -> Result<bool, NoMemory> {
     let back = match written_and_read(alloc, rule.rule()) {
         Ok(back) => back,
@@ -43,7 +43,7 @@ fn is_read_back(alloc: Global, rule: &Checked, text: &str) -> Result<bool, NoMem
     Ok(printed.as_str() == text)
 }
 
-/// The line of an accepted rule.
+/// Returns the line of an accepted rule.
 fn accepted(alloc: Global, rule: Checked, bytes: &[u8]) -> Result<String, NoMemory> {
     let text = write_rule(alloc, rule.rule())?;
     let back = if is_read_back(alloc, &rule, text.as_str())? {
@@ -65,7 +65,7 @@ fn accepted(alloc: Global, rule: Checked, bytes: &[u8]) -> Result<String, NoMemo
     )?)
 }
 
-/// The line of a refused file.
+/// Returns the line of a refused file.
 fn refusal(alloc: Global, fault: Refused) -> Result<String, NoMemory> {
     match fault {
         Refused::TooLong => Ok(format!(in alloc; "refused TooLong")?),
@@ -74,7 +74,7 @@ fn refusal(alloc: Global, fault: Refused) -> Result<String, NoMemory> {
     }
 }
 
-/// The line of a file.
+/// Returns the line of a file.
 pub fn outcome(alloc: Global, bytes: &[u8]) -> Result<String, NoMemory> {
     match checked(alloc, bytes) {
         Ok(rule) => accepted(alloc, rule, bytes),
@@ -82,7 +82,7 @@ pub fn outcome(alloc: Global, bytes: &[u8]) -> Result<String, NoMemory> {
     }
 }
 
-/// The line of a file whose rule puts very many tiles round a vertex.
+/// Returns the line of a file whose rule puts very many tiles around a vertex.
 pub fn crowded_outcome(alloc: Global, bytes: &[u8]) -> Result<String, NoMemory> {
     match checked(alloc, bytes) {
         Ok(rule) => crowded(alloc, rule),
@@ -90,7 +90,7 @@ pub fn crowded_outcome(alloc: Global, bytes: &[u8]) -> Result<String, NoMemory> 
     }
 }
 
-/// Whether the file is what a built-in rule is printed as.
+/// Returns true if the file is the text that a built-in rule is printed as.
 pub fn is_printed(alloc: Global, name: Name, bytes: &[u8]) -> Result<bool, NoMemory> {
     let rule = builtin(alloc, name)?;
     let text = write_rule(alloc, rule.rule())?;

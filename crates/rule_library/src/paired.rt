@@ -1,4 +1,5 @@
-//! By which edges any two tiles of a supertile meet, by the pair machine, against a list of all edges by their two ends.
+//! The edges by which any two tiles of a supertile meet, by the pair machine, compared with a list of all
+//! edges by their two ends.
 ghost use Rattle.std.specs.Prelude.{◌≡◌};
 ghost use Rattle.rule_model.specs.Tiling.{tiling_of, contacts};
 
@@ -17,10 +18,10 @@ use std::collections::BTreeMap;
 use tile_place::machine::Machine;
 use tile_shape::no_memory::NoMemory;
 
-/// The greatest depth of which all pairs are listed.
+/// The greatest depth whose pairs are all listed.
 const DEEPEST: u8 = 3;
 
-/// What lies across each edge of a tile.
+/// Returns the tile across each edge of a tile.
 fn across(drawn: &DrawnTile, sides: &BTreeMap<Ends, Side>) -> ArrayVec<Option<Side>, 12> {
     let mut across = ArrayVec::new();
     for edge in 0..12 {
@@ -30,7 +31,7 @@ fn across(drawn: &DrawnTile, sides: &BTreeMap<Ends, Side>) -> ArrayVec<Option<Si
     across
 }
 
-/// Whether a verdict names exactly the edges across which another tile lies, in order.
+/// Returns true if a verdict names exactly the edges across which the other tile lies, in order.
 fn names_those(verdict: &Verdict, across: &[Option<Side>], other: usize) -> bool {
     let pairs = named(verdict);
     let mut number: usize = 0;
@@ -49,7 +50,7 @@ fn names_those(verdict: &Verdict, across: &[Option<Side>], other: usize) -> bool
     number == pairs.len()
 }
 
-/// The pairs of different tiles of a supertile: of which the edges are named as they are listed, and of which otherwise.
+/// Counts the pairs of different tiles of a supertile whose edges are named as listed, and the others.
 fn paired_in(
     alloc: Global,
     machine: &Machine,
@@ -79,7 +80,7 @@ fn paired_in(
     Ok(counts)
 }
 
-/// The same of the supertiles of all kinds up to depth 3 that have at most so many tiles.
+/// Like [`paired_in`], for the supertiles of all kinds up to depth 3 with at most `most` tiles.
 pub fn paired(alloc: Global, machine: &Machine, most: u64) -> Result<Counts, NoMemory> {
     let pairs = PairMachine::compile(alloc, machine.checked().tables())?;
     let mut counts = Counts::default();

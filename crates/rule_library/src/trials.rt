@@ -1,4 +1,4 @@
-//! What the engine finds by a rule, against the plain program of the trials.
+//! What the engine finds by a rule, compared with the brute-force program of the trials.
 ghost use Rattle.std.specs.Prelude.{◌≡◌, ◌<◌};
 
 use crate::crossed::crossed;
@@ -17,34 +17,34 @@ use std::sync::ledger::{Blank, Ledger};
 use tile_place::machine::Machine;
 use tile_shape::no_memory::NoMemory;
 
-/// The greatest number of tiles of a supertile that is listed: all of depth 4 of a rule with nine children.
+/// The most tiles of a supertile that are listed: all of depth 4 of a rule with nine children.
 const MOST_TILES: u64 = 6561;
 
-/// The greatest number of tiles of a supertile of which all pairs are listed: all of depth 3 of such a rule.
+/// The most tiles of a supertile whose pairs are all listed: all of depth 3 of such a rule.
 const MOST_PAIRED: u64 = 729;
 
-/// The greatest number of tiles of a frame that is listed for a window.
+/// The most tiles of a frame that are listed for a window.
 const MOST_IN_FRAME: u64 = 1100;
 
-/// The greatest depth of supertiles round whose tiles' vertices one turns.
+/// The greatest depth of the supertiles whose vertices are turned around.
 const DEEPEST_TURNED: u8 = 2;
 
-/// The greatest number of tiles of a frame that is listed for a vertex.
+/// The most tiles of a frame that are listed for a vertex.
 const MOST_TURNED: u64 = 100;
 
-/// How many walks are drawn.
+/// The number of random walks.
 const WALKS: u32 = 1000;
 
-/// How many windows are drawn.
+/// The number of random windows.
 const WINDOWS: u32 = 100;
 
-/// How many windows are drawn that are answered in two ways.
+/// The number of random windows that are covered in two ways.
 const TWO_WAYS: u32 = 40;
 
-/// The greatest half extent of these, in units: two thirds of them are answered from the top down.
+/// The greatest half-width of these, in units: two thirds of them are covered from the top down.
 const MOST_UNITS: u64 = 70;
 
-/// What is located and crossed, and how walks and stars come out.
+/// Counts the tiles located, the edges crossed, the walks and the stars.
 fn counted<L: Ledger>(
     alloc: Global,
     machine: &Machine,
@@ -62,7 +62,7 @@ fn counted<L: Ledger>(
     Ok([points, edges, walks, turned])
 }
 
-/// Adds how many came out as wanted, or how often something else did.
+/// Adds how many trials succeeded, or how many failed.
 fn add(text: &mut String, counts: Counts, wanted: &str, otherwise: &str) -> Result<(), NoMemory> {
     let Counts { right, differ } = counts;
     if differ == 0 {
@@ -73,7 +73,7 @@ fn add(text: &mut String, counts: Counts, wanted: &str, otherwise: &str) -> Resu
     Ok(())
 }
 
-/// What is said of trials, in their order: where all came out as wanted, and where some didn't.
+/// The words for the trials, in their order: if all succeeded, and if some failed.
 const SAID: [(&str, &str); 7] = [
     (
         "points located as listed",
@@ -99,7 +99,7 @@ const SAID: [(&str, &str); 7] = [
     ),
 ];
 
-/// What comes of the trials of a machine.
+/// Returns the outcome of the trials of a machine.
 fn tried(alloc: Global, machine: &Machine) -> Result<String, NoMemory> {
     let mut text = String::new(alloc);
     let [points, edges, walks, turned] = counted::<Brand>(alloc, machine, Blank::new(1))?;
@@ -113,7 +113,7 @@ fn tried(alloc: Global, machine: &Machine) -> Result<String, NoMemory> {
     Ok(text)
 }
 
-/// What comes of the trials of an accepted rule, each behind a comma.
+/// Returns the outcome of the trials of an accepted rule, each after a comma.
 pub fn trials(alloc: Global, rule: Checked) -> Result<String, NoMemory> {
     let machine = Machine::new(alloc, rule)?;
     tried(alloc, &machine)

@@ -1,4 +1,4 @@
--- What a rule that is checked stands with.
+-- What a checked rule has with it.
 use Rattle.std.specs.Prelude.{◌≡◌, ℕ, List}
 use Rattle.addressing.specs.Tables.{Tables}
 use Rattle.rule_model.specs.declared.rule.Rule.{Rule}

@@ -1,4 +1,5 @@
--- A tiling: an order, and a substitution rule over its points; and a rule as lists of numbers, as a file or a table has it.
+-- A tiling: an order, and a substitution rule over its points; and a rule as lists of numbers, as a file or a
+-- table has it.
 use Rattle.std.specs.Prelude.{ℕ, List}
 use Rattle.addressing.specs.Address.{Address}
 use Rattle.addressing.specs.Tables.{Tables}
@@ -37,8 +38,8 @@ tiling_of r = record { order = r.order; rule = rule_of r }
 abbrev pub listed : program.Rule → ListedRule
 listed r = record { edition = r.edition; order = r.order; rule = as_rule r }
 
--- The contact tables of a tiling. They aren't given beside the rule: which edges of children are opposite, and which are parts of the edges of their
--- parent, is what the geometry of the rule says.
+-- The contact tables of a tiling. They are not given with the rule. The geometry of the rule determines which
+-- edges of children are opposite, and which are parts of the edges of their parent.
 abbrev pub contacts : Tiling → Tables
 contacts t = tables_of (points_of t.order) t.rule
 

@@ -1,4 +1,5 @@
--- What a rule of the program stands for: a rule of the theory over its points, and over the numbers of its order.
+-- What a rule of the program stands for: a rule of the theory over its points, and over the numbers of its
+-- order.
 use Rattle.std.specs.Prelude.{map}
 use Rattle.substitution.specs.Rule as theory
 use Rattle.substitution.specs.RuleParts.{map_rule}

@@ -1,4 +1,4 @@
--- How keys, places and faults are printed: a name, and the number of the entry behind a space.
+-- How keys, places and faults are printed: a name, and the number of the entry after a space.
 use Rattle.std.specs.Prelude.{ℕ, List, ◌++◌, codes, decimal}
 use Rattle.rule_text.specs.declared.key.Key.{Key}
 use Rattle.rule_text.specs.declared.key.Key.TheVariants as key
@@ -27,7 +27,7 @@ place_text Top = codes "top"
 place_text (InType ty) = codes "type " ++ decimal ty
 place_text (InKind kind) = codes "kind " ++ decimal kind
 
--- a fault: its name, and its key or place behind a space
+-- a fault: its name, and after a space its key or place
 abbrev pub text_fault_text : TextFault → List ℕ
 text_fault_text NotToml = codes "NotToml"
 text_fault_text (Missing k) = codes "Missing " ++ key_text k

@@ -1,4 +1,5 @@
--- The forms that the value of a key may have: an array of integers, an array of arrays of so many integers, an array of tables.
+-- The forms that the value of a key may have: an array of integers, an array of arrays of a number of
+-- integers, an array of tables.
 use Rattle.std.specs.Prelude.{ℕ, ℤ, List, [], ◌∷◌, length, Option, Some, None, option_and_then, ◌==◌, if◌then◌else◌}
 use Rattle.toml.specs.Data.{Data, Items, no_items, item, Members, as_integer, as_array, as_table}
 

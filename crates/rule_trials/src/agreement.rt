@@ -63,7 +63,7 @@ fn drawn_address(checked: &Checked, draws: &mut Draws) -> Option<Address> {
     Some(addr)
 }
 
-/// Whether all cross an edge alike, within the bound on look-ups; None where there is no such edge.
+/// Returns true if all cross an edge alike, within the bound on look-ups; None where there is no such edge.
 fn agree<L: Ledger>(
     checked: &Checked,
     transducer: &Transducer,
@@ -108,7 +108,7 @@ fn agreements<L: Ledger>(checked: &Checked, transducer: &Transducer, steps: &mut
     agreed
 }
 
-/// Whether an edge of a child, if there is one, is the same in both.
+/// Returns true if an edge of a child, if there is one, is the same in both.
 fn same_contact<L: Ledger>(
     tables: &Tables,
     flat: &FlatTable,
@@ -129,7 +129,7 @@ fn same_contact<L: Ledger>(
     flat.contact(parent, child, edge, steps) == tables.contact(parent, child, edge, steps)
 }
 
-/// Whether a part of an edge, if there is one, is the same in both.
+/// Returns true if a part of an edge, if there is one, is the same in both.
 fn same_part<L: Ledger>(
     tables: &Tables,
     flat: &FlatTable,
@@ -146,7 +146,7 @@ fn same_part<L: Ledger>(
     flat.part(kind, edge, part, steps) == tables.part(kind, edge, part, steps)
 }
 
-/// Whether a flat table has the entries of the tables.
+/// Returns true if a flat table has the entries of the tables.
 fn same_entries<L: Ledger>(tables: &Tables, flat: &FlatTable, steps: &mut Steps<L>) -> bool
     requires same { flat.now ≡ tables.now }
 {

@@ -89,7 +89,7 @@ fn across<L: Ledger>(
     Some((answer, return_law(transducer, addr, edge, steps)))
 }
 
-/// Whether a row comes out as wanted. The way back leads home where there is a tile across.
+/// Returns true if a row comes out as wanted. The way back leads home where there is a tile across.
 fn is_right<L: Ledger>(
     checked: &Checked,
     transducer: &Transducer,

@@ -1,5 +1,7 @@
-//! The contacts and the uses of rules against their description: printed for each kind, of the rule typed here and
-//! accepted by the check, and of the built-in rule of a name; what must be printed is typed from the description.
+//! The contacts and the uses of rules, compared with their description.
+//!
+//! They are printed for each kind, of the rule typed here and accepted by the check, and of the built-in
+//! rule. The expected text is typed from the description.
 use crate::given::{Given, rule};
 use crate::printed::{contacts_text, uses_text};
 use crate::shapes;
@@ -110,7 +112,7 @@ fn glue_edge_there(checked: &Checked, kind: u8) -> Option<u8> {
     checked.glue_edge(kind)
 }
 
-/// Whether a kind is as its row says.
+/// Returns true if a kind is as its row says.
 fn is_row(alloc: Global, checked: &Checked, kind: u8, row: &Row) -> Result<bool, NoMemory> {
     let contacts = contacts_text(alloc, checked.tables(), kind)?;
     let uses = uses_text(alloc, checked.uses(), kind)?;
@@ -145,14 +147,14 @@ fn mate_there(tables: &Tables, kind: u8, edge: u8) -> Option<u8> {
     Some(tables.mate(tables.edge_type(kind, edge)))
 }
 
-/// Whether the built-in rule of a name is as its rows say.
+/// Returns true if the built-in rule of a name is as its rows say.
 fn is_built_in(alloc: Global, name: Name, rows: &[Row]) -> Result<bool, Fail> {
     let right = right_in(alloc, &builtin(alloc, name)?, rows)?;
     let kinds = rule_of(alloc, name)?.kinds.len();
     Ok(right == Some(rows.len()) && kinds == rows.len())
 }
 
-/// Whether a rule as typed, and the built-in rule of its name, are as its rows say.
+/// Returns true if a rule as typed, and the built-in rule of its name, are as its rows say.
 fn is_described(
     alloc: Global,
     given: &Given,
@@ -167,7 +169,8 @@ fn is_described(
     Ok(right == Some(rows.len()) && built_in)
 }
 
-/// How many kinds a copy of the square's tables has, and the mates of its last edge and of one behind it.
+/// Returns how many kinds a copy of the square's tables has, and the mates of its last edge and of the one
+/// after it.
 fn copied(alloc: Global) -> Result<[Option<u8>; 3], Fail> {
     let checked = check(alloc, rule(alloc, &shapes::THE_TYPED_SQUARE)?)?;
     let tables = checked.tables().copy(alloc)?;

@@ -53,7 +53,7 @@ fn children(alloc: Global, placed: &[Placed]) -> Result<Vec<Child>, AllocError> 
     Ok(children)
 }
 
-/// The kind of these numbers.
+/// Returns the kind of these numbers.
 pub fn kind_row(alloc: Global, kind: &Kind) -> Result<KindRow, AllocError> {
     Ok(KindRow {
         vertices: points(alloc, kind.0)?,
@@ -81,7 +81,7 @@ fn kind_rows(alloc: Global, kinds: &[Kind]) -> Result<Vec<KindRow>, AllocError> 
     Ok(rows)
 }
 
-/// The rule of these numbers, in an edition.
+/// Returns the rule of these numbers, in an edition.
 pub fn rule_of(alloc: Global, edition: Edition, given: &Given) -> Result<Rule, AllocError> {
     Ok(Rule {
         edition,
@@ -93,7 +93,7 @@ pub fn rule_of(alloc: Global, edition: Edition, given: &Given) -> Result<Rule, A
     })
 }
 
-/// The rule of these numbers, in the first edition that has its order.
+/// Returns the rule of these numbers, in the first edition that has its order.
 pub fn rule(alloc: Global, given: &Given) -> Result<Rule, AllocError> {
     let edition = if given.0 == Order::Six {
         Edition::Two
@@ -108,7 +108,7 @@ fn fault(alloc: Global, edition: Edition, given: &Given) -> Result<Option<CheckF
     Ok(check(alloc, rule_of(alloc, edition, given)?).err())
 }
 
-/// The number of the first rule of which something else comes in an edition than of all of them.
+/// Returns the number of the first rule whose outcome in an edition is not the one expected of all of them.
 pub fn first_of_others(
     alloc: Global,
     edition: Edition,
@@ -123,7 +123,7 @@ pub fn first_of_others(
     Ok(None)
 }
 
-/// The number of the first rule that isn't refused in an edition for the fault beside it.
+/// Returns the number of the first rule that an edition does not refuse for the fault in its row.
 pub fn first_not_refused(
     alloc: Global,
     edition: Edition,

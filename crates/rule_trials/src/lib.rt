@@ -1,9 +1,9 @@
-//! Trials of the crates that check rules and cross edges, and of the built-in rules: rules of the literature and rules
-//! with one fault, contact tables written by hand, and tiles across an edge.
+//! Trials of the crates that check rules and cross edges, and of the built-in rules. There are rules of the
+//! literature and rules with one fault, contact tables written by hand, and tiles across an edge.
 //!
-//! Each public call of `edge_tables`, `transducer_core`, `rule_model`, `dissect_check` and `builtin_rules` is tried here on
-//! values that were worked out by hand or taken from the literature, so that the contracts are seen to mean
-//! what they should. There is no other code here.
+//! They try each public call of `edge_tables`, `transducer_core`, `rule_model`, `dissect_check` and
+//! `builtin_rules`. The values were worked out by hand or taken from the literature, to test that the
+//! contracts mean what they should. There is no other code here.
 #![tactic(auto)]
 
 #[cfg(test)]

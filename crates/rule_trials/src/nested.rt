@@ -59,7 +59,7 @@ fn down(
     Some(Crossing { addr: there, edge })
 }
 
-/// What is across an edge; None where an entry is missing.
+/// Returns what is across an edge, or None if an entry is missing.
 pub fn cross(rows: &Vec<KindRows>, addr: &Address, edge: u8) -> Option<Crossed> {
     let mut parts = [0u8; 64];
     let mut outside = Outside { edge, part: 0 };

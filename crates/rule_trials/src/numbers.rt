@@ -63,18 +63,18 @@ fn glue_there(rule: &Rule, i: usize) -> Option<usize> {
     }
 }
 
-/// Whether the last vertex is read, and none behind it.
+/// Returns true if the last vertex is read, and none after it.
 fn reads_vertices(rule: &Rule) -> bool {
     vertex_there(rule, 0, 7) == (Some(Point { c: [2, 1, 0, 0] }), 8)
         && vertex_there(rule, 0, 8) == (None, 8)
 }
 
-/// Whether the last edge is read, and none of a second kind.
+/// Returns true if the last edge is read, and none of a second kind.
 fn reads_edges(rule: &Rule) -> bool {
     edge_there(rule, 0, 7) == (Some(0), 8) && edge_there(rule, 1, 0) == (None, 0)
 }
 
-/// Whether the last child is read, and none behind it.
+/// Returns true if the last child is read, and none after it.
 fn reads_children(rule: &Rule) -> bool {
     let last = Child {
         kind: 0,
@@ -84,7 +84,7 @@ fn reads_children(rule: &Rule) -> bool {
     child_there(rule, 0, 3) == (Some(last), 4) && child_there(rule, 0, 4) == (None, 4)
 }
 
-/// Whether the second part of the edge type is read, none behind it, and no glue type.
+/// Returns true if the second part of the edge type is read, none after it, and no glue type.
 fn reads_types(rule: &Rule) -> bool {
     type_there(rule, 0, 1) == Some((0, 0))
         && type_there(rule, 0, 2) == None

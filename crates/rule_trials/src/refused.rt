@@ -334,7 +334,7 @@ static REFUSED: [(Given, CheckFault); 26] = [
             part: 2,
         },
     ),
-    // the two parts of the long edge of a thick rhomb's half stand in the other order
+    // the two parts of the long edge of a thick rhomb's half are in the other order
     (
         Given(
             Order::Ten,
@@ -367,7 +367,7 @@ static REFUSED: [(Given, CheckFault); 26] = [
         Given(Order::Four, TWO, &[0], &HALVED, &[CHAIR_KIND]),
         CheckFault::GlueWrong { ty: 0 },
     ),
-    // u and its mate stand at two kinds each
+    // u and its mate are at two kinds each
     (
         Given(Order::Ten, GOLDEN, &[4, 6, 0], &RHOMB_TYPES, &RHOMB_KINDS),
         CheckFault::GlueWrong { ty: 0 },
@@ -408,7 +408,7 @@ static REFUSED: [(Given, CheckFault); 26] = [
     ),
     // a square slit from its middle to a corner: the last edge runs back along the first
     (Given(Order::Four, TWO, &[], &HALVED, &[SLIT]), NOT_STAR),
-    // round vertex 0 by more than a full turn: the last triangle lies on the first
+    // around vertex 0 by more than a full turn: the last triangle lies on the first
     (Given(Order::Four, TWO, &[], &HALVED, &[SPIRAL]), NOT_STAR),
     // a pentagram, whose five points are powers of a fifth of a turn, two fifths apart
     (

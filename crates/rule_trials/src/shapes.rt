@@ -113,8 +113,8 @@ pub const RIGHT_TRIANGLE: Given = Given(
     &[RIGHT_KIND],
 );
 
-/// P3 by half rhombs: kinds 0 and 1 are halves of the thin rhomb, 2 and 3 of the thick one. The types u, v,
-/// w and x have their mates behind them; halves are glued along w and along x.
+/// P3 by half rhombs: kinds 0 and 1 are halves of the thin rhomb, 2 and 3 of the thick one. After each of the
+/// types u, v, w and x comes its mate. Halves are glued along w and along x.
 pub const RHOMB_TYPES: [EdgeType; 8] = [
     (1, &[3, 4]),
     (0, &[5, 2]),
@@ -164,8 +164,8 @@ pub const RHOMB_KINDS: [Kind; 4] = [THIN_KIND, THIN_MIRRORED, THICK_KIND, THICK_
 
 pub const HALF_RHOMBS: Given = Given(Order::Ten, GOLDEN, &[4, 6], &RHOMB_TYPES, &RHOMB_KINDS);
 
-/// P2 by half kites and half darts: kinds 0 and 1 are halves of the kite, 2 and 3 of the dart. The types a,
-/// b, c and f have their mates behind them; halves are glued along c and along f.
+/// P2 by half kites and half darts: kinds 0 and 1 are halves of the kite, 2 and 3 of the dart. After each of
+/// the types a, b, c and f comes its mate. Halves are glued along c and along f.
 pub const KITE_TYPES: [EdgeType; 8] = [
     (1, &[7, 1]),
     (0, &[0, 6]),
@@ -212,8 +212,8 @@ pub const KITE_KINDS: [Kind; 4] = [
 
 pub const HALF_KITES: Given = Given(Order::Ten, GOLDEN, &[4, 6], &KITE_TYPES, &KITE_KINDS);
 
-/// Ammann-Beenker: kind 0 is the rhomb, and kinds 1 and 2 are halves of the square. The types s and h have
-/// their mates behind them; halves are glued along h.
+/// Ammann-Beenker: kind 0 is the rhomb, and kinds 1 and 2 are halves of the square. After each of the types s
+/// and h comes its mate. Halves are glued along h.
 pub const EIGHTFOLD_TYPES: [EdgeType; 4] = [
     (1, &[0, 2]),
     (0, &[3, 1]),
@@ -267,8 +267,8 @@ pub const HALF_SQUARES: Given = Given(
     &EIGHTFOLD_KINDS,
 );
 
-/// The half square, inflated by 1 + i, which turns it by an eighth of a turn, and cut into two by its height:
-/// a leg grows to a hypotenuse, and the hypotenuse to two legs.
+/// The half square, inflated by 1 + i, which turns it by an eighth of a turn, and cut into two by its height.
+/// A leg grows to a hypotenuse, and the hypotenuse to two legs.
 pub const TURNING: Quad = [1, 1, 0, 0];
 
 pub const HALF_SQUARE_KIND: Kind = (

@@ -65,7 +65,7 @@ static TEXTS: [(CheckFault, &str); 19] = [
     (CheckFault::NoMemory, "NoMemory"),
 ];
 
-/// Whether a fault is printed as this text.
+/// Returns true if a fault is printed as this text.
 fn is_printed(alloc: Global, fault: &CheckFault, text: &str) -> Result<bool, AllocError> {
     let printed = format!(in alloc; "{fault}")?;
     Ok(printed.as_str() == text)

@@ -13,7 +13,7 @@ use tile_shape::no_memory::NoMemory;
 use tile_shape::step::Step;
 use tile_shape::uses::Uses;
 
-/// The generator's stream, the same for every start number.
+/// The generator's stream, the same for every seed.
 const STREAM: u64 = 54;
 
 /// A stream of outputs of the generator. Contracts see it as its seed, and how many outputs were taken.

@@ -19,7 +19,8 @@ use Rattle.star_walk.specs.Round.{IsEnough}
 abbrev pub most_corners : ℕ
 most_corners = 64
 
--- the frame is at depth 64; the tile has vertex i of the base as a vertex; and its edge that ends there is on the boundary of the frame's supertile
+-- the frame is at depth 64; the tile has vertex i of the base as a vertex; and its edge that ends there is on
+-- the boundary of the frame's supertile
 pub record IsDepthLimit (t : Tiling) (f : FrameValue) (i : ℕ) (addr : Address) (edge : ℕ) : Type 0 where
   pub at_64 : length f.digits ≡ 64
   pub corner : CornerOf t

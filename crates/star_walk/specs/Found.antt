@@ -33,7 +33,8 @@ pub record IsFound (t : Tiling) (f : FrameValue) (n : ℕ) (c : Corner) : Type 0
   pub shift_within : IsWithin (2 ^ 8 * n) c.tile.motion.shift
   pub in_order : IsOf t.order c.tile.motion.shift
 
--- the greatest of the frame's depth and those of the corners' tiles, of tiles by the names that they have at depth 64
+-- the greatest of the frame's depth and those of the corners' tiles, of tiles by the names that they have at
+-- depth 64
 abbrev pub deepest_of : (t : Tiling) → FrameValue → List (CornerOf t) → ℕ
 deepest_of t f corners =
     deepest (points_of t.order).real (Placed (NumberOf t.order)) (growing_frame (points_of t.order) (is_refused t.order) t.rule (full t f)) (length f.digits) corners
@@ -45,7 +46,8 @@ name_of t f c = corner_named (points_of t.order) t.rule (full t f) (address_of c
 abbrev pub base_name : (t : Tiling) → FrameValue → ℕ → CornerOf t
 base_name t f i = corner_named (points_of t.order) t.rule (full t f) (whole f) i
 
--- the corners are a turn from the base, in a frame that has grown from f to g, which hasn't come back; and the last of them is this one
+-- the corners are a turn from the base, in a frame that has grown from f to g, which has not come back; and
+-- the last of them is this one
 pub record IsOnTheWay (t : Tiling) (f g : FrameValue) (i : ℕ) (corners : List Corner) (last : Corner) : Type 0 where
   pub grows : GrowsTo t f g
   pub found : AllByRecursion (IsFound t g (length corners)) corners
@@ -67,7 +69,7 @@ pub record HasTurned (t : Tiling) (f g : FrameValue) (i : ℕ) (corners : List C
   pub turn : IsTurn (points_of t.order).real (Placed (NumberOf t.order)) (frame_patch (points_of t.order) t.rule (full t f)) (base_name t f i) others
   pub depth_is : length g.digits ≡ deepest_of t f others
 
--- the corner b is a with the digits of the frame, from the depth of its tile up, behind its tile's own
+-- the corner b is a, with the digits of the frame from the depth of its tile up after the tile's own
 pub record IsRaised (f : FrameValue) (a b : Corner) : Type 0 where
   pub same_kind : b.tile.kind ≡ a.tile.kind
   pub same_motion : b.tile.motion ≡ a.tile.motion

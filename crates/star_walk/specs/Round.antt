@@ -1,4 +1,4 @@
--- The tiles round a vertex of the base, turning order, and the least depth that is enough for the vertex.
+-- The tiles around a vertex of the base, turning order, and the least depth that is enough for the vertex.
 use Rattle.std.specs.Prelude.{◌≡◌, ℕ, List, ◌∷◌, length}
 use Rattle.cyclo_points.specs.Order.{NumberOf, points_of}
 use Rattle.substitution.specs.Supertile.{Placed}
@@ -11,13 +11,14 @@ use Rattle.vertex_stars.specs.OnPolygon.{IsOffFrame, IsLeastOff}
 use Rattle.vertex_stars.specs.Round.{IsRound}
 use Rattle.star_walk.specs.Corners.{CornerOf, vertex_of_base}
 
--- these are exactly the tiles of the frame, at the depth that it has, that have vertex i of the base among their vertices, each once and with its number there
+-- these are exactly the tiles of the frame, at the depth that it has, that have vertex i of the base among
+-- their vertices, each exactly once and with its number there
 abbrev pub AreRound : (t : Tiling) → FrameValue → ℕ → List (CornerOf t) → Type 0
 AreRound t f i corners =
     IsRound (points_of t.order).real (Placed (NumberOf t.order)) (frame_patch (points_of t.order) t.rule (whole f)) (vertex_of_base t f i) corners
 
--- the first is the base with its vertex i; each further one lies across the edge that ends at the vertex of the one before; and across that of the last lies
--- the base, for the first time
+-- The first is the base with its vertex i. Each further one lies across the edge that ends at the vertex of
+-- the previous one. Across that of the last lies the base, for the first time.
 pub record AreInTurn (t : Tiling) (f : FrameValue) (i : ℕ) (corners : List (CornerOf t)) : Type 0 where
   pub base : CornerOf t
   pub others : List (CornerOf t)

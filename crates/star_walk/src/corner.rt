@@ -15,7 +15,7 @@ pub struct Corner {
 }
 
 impl Default for Corner {
-    /// A corner that stands for none.
+    /// Returns a placeholder for a corner.
     fn default() -> Corner {
         Corner {
             tile: PlacedTile {
@@ -29,7 +29,7 @@ impl Default for Corner {
 }
 
 impl Corner {
-    /// An equal corner, without memory.
+    /// Returns an equal corner, without memory.
     pub(crate) fn copy(&self) -> Corner
         ensures { result ≡ self.now }
     {

@@ -1,4 +1,4 @@
-//! The tiles round a vertex, as they are answered.
+//! The tiles around a vertex, as they are returned.
 ghost use Rattle.std.specs.Prelude.{◌≡◌, []};
 
 use crate::corner::Corner;

@@ -7,7 +7,7 @@ use cyclo_points::points_law;
 use vertex_stars::{frame_base_law, frame_off_law, frame_star_law, star_law, star_refusal_law};
 use windows::frame_laws::{frame_crossing_law, frame_edge_law, frame_name_law};
 
-/// The laws of the turn, for the points of each order.
+/// States the laws of the turn, for the points of each order.
 pub(crate) fn star_laws(order: Order)
     ensures { HasStarLaws (points_of order) }
 {

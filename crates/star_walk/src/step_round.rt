@@ -19,7 +19,7 @@ use lazy_walk::frame::Frame;
 use std::sync::ledger::Ledger;
 use tile_place::machine::Machine;
 
-/// The number of the edge that ends at a vertex.
+/// Returns the number of the edge that ends at a vertex.
 fn edge_before(edges: u8, vertex: u8) -> u8
     requires below { vertex < edges }
     ensures number { result ≡ edge_into edges vertex }
@@ -28,8 +28,8 @@ fn edge_before(edges: u8, vertex: u8) -> u8
     if vertex == 0 { edges - 1 } else { vertex - 1 }
 }
 
-/// Goes across the edge that ends at the corner's vertex, while the frame grows until that edge is not on the
-/// boundary: the corner becomes the one after it. The edge that leads back starts at the vertex, so it has the
+/// Crosses the edge that ends at the corner's vertex, and replaces the corner by the next one. The frame
+/// grows until that edge is not on the boundary. The edge that leads back starts at the vertex, so it has the
 /// vertex's number.
 pub(crate) fn step_round<L: Ledger>(
     machine: &Machine,

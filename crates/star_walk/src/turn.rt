@@ -1,4 +1,4 @@
-//! The tiles round a vertex.
+//! The tiles around a vertex.
 ghost use Rattle.std.specs.Prelude.{◌≡◌, ◌<◌, ◌≤◌, ◌^◌, ℕ, ◌↔◌, All, [], length, map, IsTrue, IsOk, IfOk, IfErr, OnOk, OnErr};
 ghost use Rattle.std.specs.List.{AllZip};
 ghost use Rattle.addressing.specs.Address.{depth};
@@ -27,9 +27,9 @@ use tile_place::machine::Machine;
 use tile_shape::address::Address;
 
 impl Star {
-    /// Finds exactly the tiles of the frame that have a vertex of the base, in turning order from the base,
-    /// and puts them in place of those that the star has. After each tile comes the one across the edge of it
-    /// that ends at the vertex.
+    /// Finds exactly the tiles of the frame that have a vertex of the base, in turning order from the base.
+    /// They replace the tiles that the star had. After each tile comes the one across the edge of it that
+    /// ends at the vertex.
     ///
     /// The frame grows to the least depth, not below its own, at which the vertex is on no edge of the
     /// frame's polygon. This call is for a caller that finds many stars and keeps one place for them;
@@ -125,8 +125,8 @@ pub fn star<L: Ledger>(
     Ok(star)
 }
 
-/// Turns round the vertex from the base until it is back, and puts the corners down in turning order, each with
-/// the address that it had when it was found.
+/// Turns around the vertex from the base until it is back. Puts the corners in turning order, each with the
+/// address that it had when it was found.
 fn turn<L: Ledger>(
     machine: &Machine,
     frame: &mut Frame,
@@ -164,7 +164,7 @@ fn turn<L: Ledger>(
     }
 }
 
-/// Whether an address is that of the base in the frame.
+/// Returns true if an address is that of the base in the frame.
 fn is_base(frame: &Frame, addr: &Address) -> bool
     ensures { IsTrue result ↔ (address_of addr.now ≡ whole frame.now) }
 {

@@ -1,5 +1,5 @@
--- The points of an order in the plane: where they lie, boxes round them, squared lengths, test points right of an edge, and the maps that keep left
--- turns, segments and equal lengths.
+-- The points of an order in the plane: where they lie, boxes around them, squared lengths, test points right
+-- of an edge, and the maps that keep left turns, segments and equal lengths.
 use Rattle.std.specs.Prelude.{◌≡◌, ℕ, pos, ◌<◌, Bool}
 use Rattle.std.specs.Ordering.{is_eq}
 use Rattle.ordered_ring.specs.Ring.{difference}
@@ -13,7 +13,7 @@ use Rattle.ordered_plane.specs.Close.{HasPointRight}
 abbrev pub plane_point : (P : Points) → P.ring.carrier → PlanePoint P.real.ops.carrier
 plane_point P z = record { x = P.x z; y = P.y z }
 
--- the box round a point of an order
+-- the box around a point of an order
 abbrev pub box_at : (P : Points) → P.ring.carrier → ℕ → ℕ → OpenBox P.real.ops.carrier
 box_at P centre w h = record { centre = plane_point P centre; w = w; h = h }
 
@@ -25,7 +25,8 @@ twice_squared_length P z = P.x (P.ring.mul z (P.conj z))
 abbrev pub same_length : (P : Points) → P.ring.carrier → P.ring.carrier → Bool
 same_length P d e = is_eq (P.real.sign (difference P.real.ops (twice_squared_length P d) (twice_squared_length P e)))
 
--- f keeps the sign of each orientation, so left turns too, what lies on a segment, and which segments are equally long
+-- f keeps the sign of each orientation, so left turns too, what lies on a segment, and which segments are
+-- equally long
 pub record Keeps (P : Points) (f : P.ring.carrier → P.ring.carrier) : Type 0 where
   pub turns : (a b c : P.ring.carrier) → P.real.sign (orientation P.real.ops (plane_point P (f a)) (plane_point P (f b)) (plane_point P (f c)))
       ≡ P.real.sign (orientation P.real.ops (plane_point P a) (plane_point P b) (plane_point P c))
@@ -38,6 +39,7 @@ pub record Keeps (P : Points) (f : P.ring.carrier → P.ring.carrier) : Type 0 w
 abbrev pub IsGrowthFactor : (P : Points) → P.ring.carrier → Type 0
 IsGrowthFactor P l = IsPositive P.real (difference P.real.ops (twice_squared_length P l) (P.real.ops.int (pos 2)))
 
--- every edge between two different points has test points strictly right of it, as close to its middle as one likes
+-- every edge between two different points has test points strictly right of it, arbitrarily close to its
+-- middle
 abbrev pub PointsRightOfEdges : Points → Type 0
 PointsRightOfEdges P = (a b : P.ring.carrier) → (¬ a ≡ b) → (n : ℕ) → 0 < n → HasPointRight P.real (plane_point P a) (plane_point P b) n

@@ -1,4 +1,4 @@
--- What stands behind the edge to std.
+-- What is beyond the boundary to std.
 use Rattle.tile_io.specs.declared.std_sink.StdSink.{StdSink}
 use Rattle.tile_io.specs.declared.std_source.StdSource.{StdSource}
 

@@ -19,6 +19,6 @@ held_after held piece =
     then record held { kept = held.kept ++ piece }
     else record held { whole = false }
 
--- the bytes taken are told until a piece was dropped
+-- the bytes taken are reported until a piece was dropped
 abbrev pub told : Held → Option (List ℕ)
 told held = if held.whole then Some held.kept else None

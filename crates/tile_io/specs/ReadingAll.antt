@@ -7,7 +7,7 @@ use Rattle.tile_io.specs.Left.{Gives}
 use Rattle.tile_io.specs.declared.read_all_fault.ReadAllFault.{ReadAllFault}
 use Rattle.tile_io.specs.declared.read_all_fault.ReadAllFault.TheVariants.{TooLong}
 
--- at a refusal at most one byte over `most` was read, and that one exactly where it says so
+-- at a refusal at most one byte over `most` was read, and that one exactly if the refusal says so
 abbrev pub GivesPart : Option (List ℕ) → Option (List ℕ) → ℕ → ReadAllFault → Type 0
 GivesPart old new most fault =
     (piece : List ℕ) × Gives old new piece × (length piece ≤ most + 1)

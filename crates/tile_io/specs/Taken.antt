@@ -1,9 +1,9 @@
--- What a write does to the bytes that a sink has taken, where they are told.
+-- What a write does to the bytes that a sink has taken, if they are reported.
 use Rattle.std.specs.Prelude.{◌≡◌, ℕ, ◌<◌, List, ◌++◌, length, take, None, Some, MatchResult, ⊤, IfOk}
 use Rattle.std.specs.declared.option.Option.{Option}
 use Rattle.std.specs.declared.result.Result.{Result}
 
--- where the bytes taken are told after, they were told before, and bs came at their end
+-- if the bytes taken are reported after, they were reported before, and bs was appended
 abbrev pub Takes : Option (List ℕ) → Option (List ℕ) → List ℕ → Type 0
 Takes old None bs = ⊤
 Takes None (Some new) bs = ⊥

@@ -1,4 +1,4 @@
-//! What a call on the outside answers where it failed.
+//! What a call to the outside returns if it failed.
 
 /// A call of a source or a sink failed, and its count of faults rose.
 #[derive(Clone, Copy, Debug, PartialEq, Eq)]

@@ -6,7 +6,7 @@ ghost use Rattle.tile_io.specs.Plan.{first_plan, plan_after, IsListedNext};
 use crate::failed::Failed;
 use std::marker::Model;
 
-/// The numbers of the calls that fail, from 1 on, beside the counts of calls and of faults.
+/// The numbers of the calls that fail, counted from 1, with the counts of calls and of faults.
 ///
 /// Both counts stay at 2 ^ 64 - 1 once they are there, and no later call fails by the list.
 #[derive(Drop)]
@@ -25,7 +25,7 @@ impl Model for FaultPlan {
 }
 
 impl FaultPlan {
-    /// The plan by which the calls of these numbers fail.
+    /// Makes the plan by which the calls of these numbers fail.
     pub(crate) fn new(fails: Vec<u64>) -> FaultPlan
         ensures { result ≡ first_plan fails.items }
     {
@@ -36,7 +36,7 @@ impl FaultPlan {
         }
     }
 
-    /// Counts a call, which fails where its number is listed.
+    /// Counts a call, which fails if its number is listed.
     pub(crate) fn begin_call(&mut self) -> Result<(), Failed>
         ensures listed { IsErr result ↔ IsListedNext self.old }
         ensures counted { self.new ≡ plan_after self.old result }

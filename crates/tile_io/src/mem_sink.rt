@@ -75,7 +75,7 @@ impl Sink for MemSink {
 
     ghost faults = { λ sink. sink.plan.faults };
 
-    /// Takes as many bytes as the piece has, as a call takes and as there is room for.
+    /// Takes as many bytes as the piece has, as a call takes, and as there is room for.
     fn write(&mut self, buf: &[u8]) -> Result<usize, Failed>
         ensures within { WritesAtMost result buf.now }
         ensures advances { Advances result buf.now }

@@ -61,7 +61,7 @@ impl Source for MemSource {
 
     ghost faults = { λ source. source.plan.faults };
 
-    /// As many bytes as there are, as a call gives and as `buf` has room for.
+    /// Gives as many bytes as there are, as a call gives, and as `buf` has room for.
     fn read(&mut self, buf: &mut [u8]) -> Result<usize, Failed>
         ensures within { ReadsAtMost result buf.new }
         ensures gives { let told = ⟦<MemSource as Source>⟧.left in

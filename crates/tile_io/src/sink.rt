@@ -1,4 +1,4 @@
-//! What takes bytes.
+//! Sinks of bytes.
 ghost use Rattle.std.specs.Prelude.{ℕ, List};
 ghost use Rattle.std.specs.declared.option.Option.{Option};
 ghost use Rattle.std.specs.Io.{WritesAtMost};
@@ -7,7 +7,7 @@ ghost use Rattle.tile_io.specs.Taken.{WriteTakes, Advances};
 
 use crate::failed::Failed;
 
-/// Takes bytes, one call after another.
+/// Takes bytes, call by call.
 pub trait Sink {
     // The bytes taken so far, if they are reported.
     ghost taken: { Self → Option (List ℕ) };
@@ -15,8 +15,8 @@ pub trait Sink {
     // How many of its calls have failed so far. The count stays at 2 ^ 64 - 1 once it is there.
     ghost faults: { Self → ℕ };
 
-    /// Takes the first bytes of `buf` and answers how many they are, at least one where `buf` isn't
-    /// empty. `Failed` comes only where the count of faults rose, and takes nothing.
+    /// Takes the first bytes of `buf`, and returns how many: at least one if `buf` is not empty. `Failed`
+    /// comes only if the count of faults rose, and then nothing was taken.
     fn write(&mut self, buf: &[u8]) -> Result<usize, Failed>
         ensures within { WritesAtMost result buf.now }
         ensures advances { Advances result buf.now }

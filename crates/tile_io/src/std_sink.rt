@@ -32,8 +32,8 @@ impl<W: Write + Drop> Sink for StdSink<W> {
 
     ghost faults = { λ sink. sink.faults };
 
-    /// One write of the writer; a failure of it, and a write that takes nothing of a piece that
-    /// isn't empty, is counted.
+    /// Makes one write of the writer. Counts its failure, and a write that takes nothing of a piece that is
+    /// not empty.
     fn write(&mut self, buf: &[u8]) -> Result<usize, Failed>
         ensures within { WritesAtMost result buf.now }
         ensures advances { Advances result buf.now }

@@ -32,7 +32,7 @@ impl<R: Read + Drop> Source for StdSource<R> {
 
     ghost faults = { λ source. source.faults };
 
-    /// One read of the reader; a failure of it is counted.
+    /// Makes one read of the reader, and counts its failure.
     fn read(&mut self, buf: &mut [u8]) -> Result<usize, Failed>
         ensures within { ReadsAtMost result buf.new }
         ensures gives { let told = ⟦<StdSource<R> as Source>⟧.left in

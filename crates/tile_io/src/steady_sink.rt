@@ -62,7 +62,7 @@ impl Sink for SteadySink {
 
     ghost faults = { λ _. 0 };
 
-    /// Takes the whole piece, and keeps it where it fits.
+    /// Takes the whole piece, and keeps it if there is room.
     fn write(&mut self, buf: &[u8]) -> Result<usize, Failed>
         ensures within { WritesAtMost result buf.now }
         ensures advances { Advances result buf.now }

@@ -47,7 +47,7 @@ impl Source for SteadySource {
 
     ghost faults = { λ _. 0 };
 
-    /// As many bytes as there are and `buf` has room for.
+    /// Gives as many bytes as there are and as `buf` has room for.
     fn read(&mut self, buf: &mut [u8]) -> Result<usize, Failed>
         ensures within { ReadsAtMost result buf.new }
         ensures gives { let told = ⟦<SteadySource as Source>⟧.left in

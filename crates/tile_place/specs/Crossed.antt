@@ -1,4 +1,5 @@
--- What a crossing answers, in the plane: the only tile across an edge, and edges on the boundary of the supertile.
+-- The result of a crossing, in the plane: the only tile across an edge, and edges on the boundary of the
+-- supertile.
 use Rattle.std.specs.Prelude.{◌≡◌, ℕ, ◌<◌, true}
 use Rattle.addressing.specs.Address.{Address, depth, top_kind}
 use Rattle.cyclo_points.specs.Order.{NumberOf, points_of}
@@ -18,7 +19,8 @@ edges_of t kind = edge_count t.rule kind
 abbrev pub placed_tile : (t : Tiling) → Address → Placed (NumberOf t.order)
 placed_tile t a = tile_at (points_of t.order) t.rule a
 
--- edge f of b is across edge e of a, both placed in their common supertile, and no other edge of a tile of it is
+-- edge f of b is across edge e of a, both placed in their common supertile, and no other edge of a tile of it
+-- is
 abbrev pub IsOnlyAcross : Tiling → Address → ℕ → Address → ℕ → Type 0
 IsOnlyAcross t a e b f = IsOnlyTileAcross (points_of t.order) t.rule (placed_tile t a) e (placed_tile t b) f
 
@@ -36,7 +38,8 @@ LiesAlongNone t a e = (own : ℕ) → ¬ LiesAlong t a e own
 abbrev pub LiesOnBoundary : Tiling → Address → ℕ → ℕ → ℕ → Type 0
 LiesOnBoundary t a e own part = IsOnBoundary (points_of t.order) t.rule (placed_tile t a) e own part
 
--- edge e of a exists, and lies along edge `own` of its supertile's polygon, on this part of it, and along no other
+-- edge e of a exists, and lies along edge `own` of its supertile's polygon, on this part of it, and along no
+-- other
 pub record IsOutside (t : Tiling) (a : Address) (e own part : ℕ) : Type 0 where
   pub exists : e < edges_of t a.kind
   pub along : LiesOnBoundary t a e own part

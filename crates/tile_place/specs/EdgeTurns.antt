@@ -1,5 +1,5 @@
--- The turns by which the vectors of edges are greatest. Two edges that meet, one of them turned by half a turn, have one greatest vector, so that these turns tell
--- how the one is turned onto the other.
+-- The turns by which the vectors of edges become greatest. Two edges that meet, one of them turned by half a
+-- turn, have one greatest vector. So these turns give the turn from one to the other.
 use Rattle.std.specs.Prelude.{◌≡◌, ℕ, ◌+◌, ◌*◌, ◌<◌, ◌≤◌, false, List, length, get_or}
 use Rattle.std.specs.Cmp.Lexicographic.{slice_cmp}
 use Rattle.std.specs.Ordering.{int_cmp, is_gt}
@@ -10,17 +10,18 @@ use Rattle.cyclo_points.specs.Order.{NumberOf, points_of, coefficients}
 use Rattle.rule_model.specs.Tiling.{Tiling}
 use Rattle.tile_place.specs.TurnedVertices.{turned_by}
 
--- of all turns below the order the one by ζ^k makes z greatest: no other has a greater coefficient at the first place where they differ
+-- of all turns below the order the one by ζ^k makes z greatest: no other has a greater coefficient at the
+-- first place where they differ
 pub record IsGreatest (o : Order) (z : NumberOf o) (k : ℕ) : Type 0 where
   pub below : k < (points_of o).order
   pub none_above : (j : ℕ) → j < (points_of o).order → is_gt (slice_cmp int_cmp (coefficients o (turned_by o j z)) (coefficients o (turned_by o k z))) ≡ false
 
--- places for so many edges of each kind, and the turns
+-- places for this number of edges of each kind, and the turns
 pub record EdgeTable : Type 0 where
   pub sides : ℕ
   pub turns : List ℕ
 
--- for each edge of each kind stands the turn by which its vector is greatest
+-- for each edge of each kind, the turn by which its vector becomes greatest is written
 pub record AreGreatest (t : Tiling) (x : EdgeTable) : Type 0 where
   pub hold : (k : ℕ) → k < length t.rule.kinds → edge_count t.rule k ≤ x.sides
   pub count : length x.turns ≡ length t.rule.kinds * x.sides

@@ -19,7 +19,8 @@ Meets t k e l f = IsMet (points_of t.order) t.rule k e l f
 abbrev pub Glues : (t : Tiling) → ℕ → ℕ → ℕ → ℕ → MotionOf t → Type 0
 Glues t k e l f m = IsGlueMotion (points_of t.order) t.rule k e l f m
 
--- b is a motion that glues the edges, followed by the motion a of the tile of edge e: the motion of the tile across
+-- b is a motion that glues the edges, followed by the motion a of the tile of edge e: the motion of the tile
+-- across
 pub record IsMotionAcross (t : Tiling) (k e l f : ℕ) (a b : MotionOf t) : Type 0 where
   pub glue : MotionOf t
   pub glues : Glues t k e l f glue
@@ -29,8 +30,8 @@ pub record IsMotionAcross (t : Tiling) (k e l f : ℕ) (a b : MotionOf t) : Type
 abbrev pub LiesBeyond : (t : Tiling) → Address → MotionOf t → Address → Type 0
 LiesBeyond t a m b = (placed_tile t b).motion ≡ followed (points_of t.order) m (placed_tile t a).motion
 
--- Edges across from each other meet; one motion alone glues them; and the tile across lies where that motion, and then the motion of the edge's own tile, put
--- it.
+-- Edges across from each other meet, and exactly one motion glues them. The tile across lies where that
+-- motion, followed by the motion of the edge's own tile, puts it.
 abbrev pub GluingLaw : Tiling → Type 0
 GluingLaw t =
     (a b : Address) (e f : ℕ) → Fits (children t) a → HasKindEdge t a.kind e → IsOnlyAcross t a e b f

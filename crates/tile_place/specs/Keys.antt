@@ -17,7 +17,7 @@ raised_shift x = nat_abs (x +ℤ pos (2 ^ 24))
 abbrev pub pair_of : ℤ → ℤ → ℕ
 pair_of a b = raised_shift a * 2 ^ 26 + raised_shift b
 
--- the key of a tile: its first two coefficients, and the others with the turn and the kind behind them
+-- the key of a tile: its first two coefficients, and the others followed by the turn and the kind
 abbrev pub key_of : Motion → ℕ → ℕ → OrderKey
 key_of m kind number = record {
   high = pair_of (coefficient m.shift 0) (coefficient m.shift 1);

@@ -16,7 +16,8 @@ use Rattle.rule_model.specs.Tiling.{Tiling, MotionOf}
 use Rattle.tile_place.specs.declared.locate_fault.LocateFault.{LocateFault}
 use Rattle.tile_place.specs.declared.locate_fault.LocateFault.TheVariants.{NotInside, CoordLimit}
 
--- the tiles of the supertile of kind k and depth n, moved by m: the motion of each in the supertile, followed by m
+-- the tiles of the supertile of kind k and depth n, moved by m: the motion of each in the supertile, followed
+-- by m
 abbrev pub moved_tiles : (t : Tiling) → ℕ → ℕ → MotionOf t → List (Placed (NumberOf t.order))
 moved_tiles t k n m = map (λ (x : Placed (NumberOf t.order)). record { address = x.address; motion = followed (points_of t.order) x.motion m }) (supertile (points_of t.order) t.rule k n)
 
@@ -38,7 +39,8 @@ HasInside t k n m p = supertile_holds (points_of t.order) t.rule k n m p ≡ tru
 abbrev pub first_refused_looked_at : (t : Tiling) → ℕ → ℕ → MotionOf t → NumberOf t.order → Option (NumberOf t.order)
 first_refused_looked_at t k n m p = find (is_refused t.order) (values_looked_at (points_of t.order) t.rule k n m p)
 
--- the cause of each fault: no value looked at is refused and the supertile doesn't hold the point, or this is the first that is refused
+-- the cause of each fault: no value on the way is refused and the supertile does not hold the point, or this
+-- is the first that is refused
 abbrev pub IsCauseOf : (t : Tiling) → ℕ → ℕ → MotionOf t → NumberOf t.order → LocateFault → Type 0
 IsCauseOf t k n m p NotInside = (first_refused_looked_at t k n m p ≡ None) × (¬ HasInside t k n m p)
 IsCauseOf t k n m p (CoordLimit v) = (first_refused_looked_at t k n m p ≡ Some (point_in t.order v)) × IsOf t.order v

@@ -1,4 +1,4 @@
--- What a machine holds beside its rule.
+-- What a machine holds in addition to its rule.
 use Rattle.std.specs.Prelude.{◌≡◌}
 use Rattle.addressing.specs.Tables.{Tables}
 use Rattle.rule_model.specs.Tiling.{Tiling, contacts}

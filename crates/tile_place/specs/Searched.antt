@@ -15,7 +15,8 @@ use Rattle.tile_place.specs.declared.locate_fault.LocateFault.TheVariants.{NotIn
 abbrev pub placed_in : (o : Order) → PlacedTile → Placed (NumberOf o)
 placed_in o t = record { address = address_of t.addr; motion = motion_in o t.motion }
 
--- the fault of the values looked at and of the tile found: none is refused and there is no tile, or this is the first that is refused
+-- the fault of the values on the way and of the tile found: none is refused and there is no tile, or this is
+-- the first that is refused
 abbrev pub IsSearchFault : (o : Order) → List (NumberOf o) → Option (Placed (NumberOf o)) → LocateFault → Type 0
 IsSearchFault o values tile NotInside = (find (is_refused o) values ≡ None) × (tile ≡ None)
 IsSearchFault o values tile (CoordLimit v) = (find (is_refused o) values ≡ Some (point_in o v)) × IsOf o v

@@ -14,7 +14,7 @@ use Rattle.tile_place.specs.declared.small_point.SmallPoint.{SmallPoint}
 abbrev pub turned_by : (o : Order) → ℕ → NumberOf o → NumberOf o
 turned_by o k z = (points_of o).ring.mul (power (points_of o).ring (points_of o).zeta k) z
 
--- vertex number e of a kind, turned by so many steps
+-- vertex number e of a kind, turned by this number of steps
 pub record IsTurned (t : Tiling) (kind steps e : ℕ) (p : Point) : Type 0 where
   pub place : point_in t.order p ≡ turned_by t.order steps (vertex (points_of t.order) t.rule kind e)
   pub within : IsWithin (2 ^ 7) p
@@ -24,17 +24,17 @@ pub record IsTurned (t : Tiling) (kind steps e : ℕ) (p : Point) : Type 0 where
 abbrev pub widened : SmallPoint → Point
 widened s = record { c = s.c }
 
--- places for so many vertices of each kind, so many turns of each, and the points
+-- places for this number of vertices of each kind, this number of turns of each, and the points
 pub record TurnedTable : Type 0 where
   pub sides : ℕ
   pub turns : ℕ
   pub points : List Point
 
--- where vertex number e of a kind stands, turned by so many steps
+-- the place of vertex number e of a kind, turned by this number of steps
 abbrev pub place_of : TurnedTable → ℕ → ℕ → ℕ → ℕ
 place_of x kind steps e = (kind * x.turns + steps) * x.sides + e
 
--- each vertex of each kind stands there, by each turn
+-- each vertex of each kind is at its place, by each turn
 pub record AreTurned (t : Tiling) (x : TurnedTable) : Type 0 where
   pub hold : (k : ℕ) → k < length t.rule.kinds → edge_count t.rule k ≤ x.sides
   pub turns : x.turns ≡ (points_of t.order).order

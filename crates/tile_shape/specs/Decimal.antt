@@ -5,12 +5,12 @@ use Rattle.std.specs.Prelude.{ℕ, ◌+◌, ◌-◌, ◌*◌, Bool, true, false,
 abbrev pub is_figure : ℕ → Bool
 is_figure byte = nat_le 48 byte && nat_le byte 57
 
--- the number that figures behind a number make of it
+-- the number that decimal figures after a number make of it
 abbrev pub continued : ℕ → List ℕ → Option ℕ
 continued n [] = Some n
 continued n (byte ∷ bytes) = if is_figure byte then continued (10 * n + (byte - 48)) bytes else None
 
--- there is a first figure, and it isn't `0` unless it stands alone
+-- there is a first figure, and it is not `0` unless it is the only one
 abbrev pub begins_right : List ℕ → Bool
 begins_right [] = false
 begins_right (byte ∷ []) = true

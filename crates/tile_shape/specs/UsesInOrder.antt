@@ -1,4 +1,5 @@
--- The uses of a kind: which child of which parent it is, ordered by parent and then by the number of the child.
+-- The uses of a kind: which child of which parent it is, ordered by parent and then by the number of the
+-- child.
 use Rattle.std.specs.Prelude.{ℕ, ◌+◌, List, [], ◌∷◌, ◌++◌, nat_eq, cond}
 use Rattle.addressing.specs.Address.{Step}
 

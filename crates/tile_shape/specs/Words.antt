@@ -7,7 +7,7 @@ use Rattle.std.specs.Option.{ok_or}
 abbrev pub texts_between : ℕ → List ℕ → List (List ℕ)
 texts_between mark text = slice_split (λ byte. byte == mark) text
 
--- the first of some texts by its form, and those behind it
+-- the first of some texts by its form, and the texts after it
 abbrev pub first_by : {A : Type 0} → (List ℕ → Option A) → List (List ℕ) → Option (A × List (List ℕ))
 first_by form [] = None
 first_by form (text ∷ texts) = option_map (λ x. (x, texts)) (form text)

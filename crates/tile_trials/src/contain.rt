@@ -22,7 +22,7 @@ use tile_place::placed_tile::PlacedTile;
 use tile_shape::address::Address;
 use tile_shape::no_memory::NoMemory;
 
-/// The start number of all frames.
+/// The seed of all frames.
 const START: u64 = 42;
 
 /// The greatest depth of which all tiles are listed.
@@ -56,7 +56,7 @@ fn contain(
     Some((contained, frame.depth()))
 }
 
-/// Points round the base: in orders four and six those up to 5, in the others those up to 1.
+/// Returns points around the base: in orders four and six those up to 5, in the others those up to 1.
 fn points(alloc: Global, order: Order) -> Result<Vec<Point>, Fail> {
     let mut points = Vec::new(alloc);
     let (far, deep): (i64, i64) = match order {
@@ -77,8 +77,8 @@ fn points(alloc: Global, order: Order) -> Result<Vec<Point>, Fail> {
     Ok(points)
 }
 
-/// What is contained, as a text: a tile's kind, turn, shift and address, or the first value that is refused; and the depth
-/// then.
+/// Returns the result as a text: a tile's kind, turn, shift and address, or the first value that is refused.
+/// The depth follows.
 fn told(
     alloc: Global,
     machine: &Machine,
@@ -131,7 +131,7 @@ fn contains_at_depth_64(rt: HostRuntime) -> Result<(), Fail> {
     )?;
     let wanted = format!(in alloc; "0 1 3,1,0,0 {} at 64", deep(&[1], 64))?;
     assert_eq!(rt; inside.as_str(), wanted.as_str());
-    // the point is beside the corner of every ancestor, and the second vertex of that of level 24 is refused
+    // the point is next to the corner of every ancestor, and the second vertex of that of level 24 is refused
     let beside = told(
         alloc,
         &machine,
@@ -175,7 +175,7 @@ fn least<'a>(
     None
 }
 
-/// Whether a point is contained in no frame of a depth that is listed.
+/// Returns true if a point is contained in no frame of a depth that is listed.
 fn lies_deeper(machine: &Machine, base: &Address, from: u8, point: &Point) -> bool {
     match contain(machine, base, from, point) {
         Some((_, depth)) => depth > DEEPEST,
@@ -183,8 +183,9 @@ fn lies_deeper(machine: &Machine, base: &Address, from: u8, point: &Point) -> bo
     }
 }
 
-/// How many points round the base of a frame are contained at the least depth in the tile that is listed there; and how
-/// many otherwise, those among them that lie deeper than is listed and are found less deep.
+/// Counts the points around the base of a frame that are contained at the least depth, in the tile that is
+/// listed there, and the others. The others are those that lie deeper than is listed but are found at a
+/// lesser depth.
 fn counted(alloc: Global, machine: &Machine) -> Result<Counts, Fail> {
     let base = Address::new(0);
     let order = machine.checked().order();

@@ -32,7 +32,7 @@ fn fault_text(alloc: Global, fault: &CoverFault) -> Result<String, AllocError> {
     }
 }
 
-/// What comes of a window: its tiles, and the depth of the frame behind them, or the fault.
+/// Returns the outcome of a window: its tiles, and the depth of the frame after them, or the fault.
 fn told(
     alloc: Global,
     machine: &Machine,
@@ -91,7 +91,7 @@ fn three_half_hexagons(rt: HostRuntime) -> Result<(), Fail> {
     )
 }
 
-// The tile stands in the corner of every ancestor, and its edges 3 and 4 meet the window.
+// The tile lies in the corner of every ancestor, and its edges 3 and 4 meet the window.
 #[test]
 fn too_deep(rt: HostRuntime) -> Result<(), Fail> {
     let corner = deep(&[], 64);
@@ -105,7 +105,7 @@ fn too_deep(rt: HostRuntime) -> Result<(), Fail> {
     )
 }
 
-// The centre is beside that corner, and the second vertex of the ancestor of level 24 is refused.
+// The centre is next to that corner, and the second vertex of the ancestor of level 24 is refused.
 #[test]
 fn too_far(rt: HostRuntime) -> Result<(), Fail> {
     let wanted = "CoordLimit 16777216,33554432,0,0";

@@ -43,8 +43,8 @@ fn place(machine: &Machine, addr: &Address) -> Option<Motion> {
     machine.place(addr).ok()
 }
 
-/// Whether the tile across an edge lies, in the least supertile that both share, where the gluing motion
-/// puts it.
+/// Returns true if the tile across an edge lies, in the least supertile that both share, where the gluing
+/// motion puts it.
 fn is_glued(machine: &Machine, a: &Address, edge: u8, b: &Address, back: u8) -> bool {
     let level = common_level(a, b);
     let own = place(machine, &below(a, level));
@@ -57,8 +57,8 @@ fn is_glued(machine: &Machine, a: &Address, edge: u8, b: &Address, back: u8) -> 
     }
 }
 
-/// How many of so many drawn edges have a tile across, glued, from which the way back leads back; and how
-/// many lie outside.
+/// Returns how many of these random edges have a tile across that is glued and from which the way back leads
+/// back, and how many lie outside.
 fn counted<L: Ledger>(alloc: Global, name: Name, blank: Blank) -> Result<(u32, u32), Fail>
     requires name { blank.name ≡ L.name }
     requires parts { blank.parts ≡ L.parts }

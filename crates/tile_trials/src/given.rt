@@ -1,4 +1,4 @@
-//! What is found, as texts.
+//! Results as texts.
 use std::alloc::{AllocError, Global};
 use tile_place::placed_tile::PlacedTile;
 use tile_shape::address::Address;

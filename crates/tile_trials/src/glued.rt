@@ -1,4 +1,5 @@
-//! Gluing motions of edges that meet, worked out by hand from where neighbours lie, and edges that don't meet.
+//! Gluing motions of edges that meet, worked out by hand from the places of neighbours, and edges that do not
+//! meet.
 use crate::placed::glue_motion;
 use builtin_rules::name::Name;
 use cyclo_points::motion::Motion;
@@ -23,7 +24,7 @@ static ROWS: [Row; 6] = [
     (Name::P2, [0, 1, 0, 0], None),
 ];
 
-/// Whether two edges are glued as their row says.
+/// Returns true if two edges are glued as their row says.
 fn is_glued(alloc: Global, row: &Row) -> Result<bool, Fail> {
     let (name, [kind, edge, other, other_edge], wanted) = row;
     let machine = machine_of(alloc, *name)?;

@@ -10,8 +10,8 @@ use std::test::Fail;
 use tile_place::locate_fault::LocateFault;
 use tile_place::machine::Machine;
 
-/// The depth of a supertile of kind 0 that isn't moved, a point, and what is located: a tile's kind, turn, shift and
-/// address, or a fault.
+/// The depth of a supertile of kind 0 that is not moved, a point, and the result: a tile's kind, turn, shift
+/// and address, or a fault.
 static ROWS: [(u8, [i64; 4], &str); 6] = [
     (1, [1, 1, 0, 0], "0 0 1,1,0,0 0:1/0"),
     (1, [3, 0, 0, 0], "0 1 4,0,0,0 0:2/0"),

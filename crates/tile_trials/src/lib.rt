@@ -1,9 +1,11 @@
-//! Trials of placing, crossing, gluing, walking, searching and turning round vertices, on the built-in rules.
+//! Trials of placing, crossing, gluing, walking, searching and turning around vertices, on the built-in
+//! rules.
 //!
-//! What the machine answers is compared with rows that were worked out by hand, and with lists: of whole supertiles, by
-//! recursion on the depth, each edge of each tile by its ends; of supertiles and frames, each tile placed by its address
-//! and asked whether it holds a point, meets a window or has a vertex. Addresses of 64 digits are crossed, and decided in pairs; walks are walked there and
-//! back, and the search for a window is tried step by step. There is no other code here.
+//! What the machine returns is compared with rows that were worked out by hand, and with lists. A list of a
+//! whole supertile has each edge of each tile by its ends. Each listed tile is placed by its address, and
+//! tested against points, windows and vertices. Addresses of 64 digits are crossed, and decided in pairs.
+//! Walks are followed there and back, and the search for a window is tried step by step. There is no other
+//! code here.
 #![tactic(auto)]
 
 #[cfg(test)]

@@ -1,13 +1,13 @@
-//! What is located, against a list of all tiles of supertiles of depth up to 4: at the vertices of each tile, at
-//! the middles of its edges and at points inside, where these are points of the ring.
+//! The tile located at a point, compared with a list of all tiles of supertiles of depth up to 4. The points
+//! are the vertices of each tile, and the midpoints of edges and points inside that are points of the ring.
 use builtin_rules::name::Name;
 use plain_tiles::built_in::machine_of;
 use plain_tiles::counts::Counts;
 use plain_tiles::located::located;
 use std::test::Fail;
 
-/// The built-in rules, each with the number of points of all its supertiles. A chair's supertile of depth d, whose
-/// long sides are 2n = 2^(d + 1), has 3n² + 4n + 1 of them.
+/// The built-in rules, each with the number of points of all its supertiles. A chair's supertile of depth d,
+/// whose long sides are 2n = 2^(d + 1), has 3n² + 4n + 1 of them.
 const NAMES: [(Name, u32); 5] = [
     (Name::Chair, 8 + 21 + 65 + 225 + 833),
     (Name::P2, 974),

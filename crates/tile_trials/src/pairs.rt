@@ -1,5 +1,5 @@
-//! By which edges two tiles meet: rows worked out by hand, the numbers of nodes and rows as they are known from
-//! elsewhere, and tiles of 64 digits, against crossing each of their edges.
+//! The edges by which two tiles meet, compared with rows worked out by hand and with crossing each edge.
+//! Tiles have up to 64 digits. The numbers of nodes and rows are known from elsewhere.
 ghost use Rattle.std.specs.Prelude.{◌≡◌, ◌<◌};
 ghost use Rattle.rule_model.specs.Tiling.{tiling_of, contacts};
 
@@ -89,7 +89,7 @@ fn tiles_of_the_chair(rt: HostRuntime) -> Result<(), Fail> {
     Ok(())
 }
 
-/// Whether a verdict names exactly the edges across which a tile has the other, in order.
+/// Returns true if a verdict names exactly the edges across which a tile has the other, in order.
 fn is_crossed<L: Ledger>(
     machine: &Machine,
     verdict: &Verdict,

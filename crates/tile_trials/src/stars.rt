@@ -1,5 +1,5 @@
-//! The tiles round vertices: of all tiles of whole supertiles against a list, found in one place, and some worked out by
-//! hand, each answered by itself.
+//! The tiles around vertices, compared with a list for all tiles of whole supertiles. Some stars are worked
+//! out by hand, each returned by its own call.
 ghost use Rattle.std.specs.Prelude.{◌≡◌, ◌<◌};
 
 use crate::given::{deep, tile_text};
@@ -21,8 +21,9 @@ use tile_shape::address::Address;
 /// The greatest number of tiles of a frame that is listed.
 const MOST_TILES: u64 = 1100;
 
-/// The built-in rules, each with how many vertices the tiles of its supertiles of depth 0 to 3 have whose frame has at
-/// most so many tiles then, as a script apart from the engine counts them: of 680, 324, 324, 2376 and 425.
+/// The built-in rules, each with a number of vertices. They are the vertices of the tiles of its supertiles
+/// of depth 0 to 3 whose frame then has few enough tiles. A script without the engine counts them: of 680,
+/// 324, 324, 2376 and 425.
 static NAMES: [(Name, u32); 5] = [
     (Name::Chair, 668),
     (Name::P2, 291),
@@ -31,8 +32,8 @@ static NAMES: [(Name, u32); 5] = [
     (Name::HalfHex, 357),
 ];
 
-/// Vertices worked out by hand: the rule, the children by which the tile of kind 0 hangs from one of its kind, the vertex,
-/// and the tiles round it.
+/// Vertices worked out by hand: the rule, the children that lead from a tile of kind 0 down to the tile, the
+/// vertex, and the tiles around it.
 static ROWS: [(Name, &[u8], u8, &str); 3] = [
     (
         Name::Chair,
@@ -46,8 +47,8 @@ static ROWS: [(Name, &[u8], u8, &str); 3] = [
         2,
         "0 0 0,0,0,0 0:0/0 2\n0 2 3,0,0,0 0:1/0 2\n0 3 1,2,0,0 0:2/0 3\n",
     ),
-    // the chair in the middle of four, its lower side's middle: below that ends the one in the corner, and beside it the
-    // one of the right arm
+    // The chair in the middle of four, and the midpoint of its lower side. Below that, the one in the corner
+    // ends. Next to it is the one of the right arm.
     (
         Name::Chair,
         &[1],
@@ -56,7 +57,7 @@ static ROWS: [(Name, &[u8], u8, &str); 3] = [
     ),
 ];
 
-/// The tiles round a vertex as lines, or the fault.
+/// Returns the tiles around a vertex as lines, or the fault.
 fn told(alloc: Global, found: &Result<Star, StarFault>) -> Result<String, AllocError> {
     match found {
         Ok(star) => {
@@ -107,7 +108,7 @@ fn worked_out(rt: HostRuntime) -> Result<(), Fail> {
     Ok(())
 }
 
-// The tile stands in the corner of every ancestor: its edges 3 and 4 are on the boundary, and lead to vertex 4.
+// The tile lies in the corner of every ancestor: its edges 3 and 4 are on the boundary, and lead to vertex 4.
 #[test]
 fn too_deep(rt: HostRuntime) -> Result<(), Fail> {
     let corner = deep(&[], 64);

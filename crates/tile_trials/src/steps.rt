@@ -91,7 +91,8 @@ fn searched(
     Some((before, after, tiles))
 }
 
-/// What is seen of a search as a text: the tiles, the open edges, and the tile and number of the first of these.
+/// Returns the state of a search as a text: the tiles, the open edges, and the tile and number of the first
+/// of these.
 fn seen_text(alloc: Global, seen: &Seen) -> Result<String, AllocError> {
     match seen.first_open {
         Some(edge) => format!(in alloc;
@@ -102,8 +103,8 @@ fn seen_text(alloc: Global, seen: &Seen) -> Result<String, AllocError> {
     }
 }
 
-/// The same of a search for a window from the chair's base of no digits, before and after one step, its tiles, and the
-/// depth.
+/// Returns the same for a search for a window from the chair's base of no digits, before and after one step,
+/// with its tiles and the depth.
 fn told(alloc: Global, machine: &Machine, window: &Window) -> Result<String, AllocError> {
     let mut frame = match begun(machine, &Address::new(0), 42) {
         Some(frame) => frame,

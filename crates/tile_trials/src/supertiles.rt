@@ -21,8 +21,8 @@ use transducer_core::crossing::Crossing;
 
 /// The built-in rules, each with the number of edges of all tiles of its supertiles of depth 1 to 4. A chair
 /// has 8 edges and is cut into 4, and half a hexagon has 5. The halves of kites and darts, and of rhombs, are
-/// cut into as many as the Fibonacci numbers say: 3, 8, 21, 55 and 2, 5, 13, 34, with two mirrored kinds of
-/// each. A rhomb of Ammann and Beenker is cut into 3 rhombs and 4 halves of squares, and each of the two
+/// cut into Fibonacci numbers of tiles, with two mirrored kinds of each. The numbers are 3, 8, 21, 55 and 2,
+/// 5, 13, 34. A rhomb of Ammann and Beenker is cut into 3 rhombs and 4 halves of squares, and each of the two
 /// halves of a square into 2 and 3.
 static NAMES: [(Name, u64); 5] = [
     (Name::Chair, 8 * (4 + 16 + 64 + 256)),
@@ -54,8 +54,9 @@ fn lone_tiles(alloc: Global, rule: &Rule) -> Result<Vec<Vec<PlacedTile>>, Fail> 
     Ok(all)
 }
 
-/// The supertile of a kind, one level deeper: the tiles of each child's, each with the child's digit at the
-/// coarse end, and followed by the child's motion, inflated by this power of the factor.
+/// Returns the supertile of a kind, one level deeper. It has the tiles of each child's supertile, each with
+/// the child's digit at the coarse end. The child's motion, inflated by this power of the factor, follows the
+/// tile's.
 fn one_deeper(
     alloc: Global,
     rule: &Rule,
@@ -96,9 +97,9 @@ fn one_deeper(
     Ok(tiles)
 }
 
-/// Whether the machine says of an edge what the ends of all edges say: the one other tile whose edge runs
-/// from its end to its start is the answer, and none is where it answers Outside; each tile lies where the
-/// list has it, and the tile across where the gluing motion puts it.
+/// Returns true if the machine finds across an edge what the ends of all edges show. It must find the only
+/// other tile whose edge runs from its end to its start, or `Outside` if there is none. Each tile must lie
+/// where the list has it, and the tile across where the gluing motion puts it.
 fn is_right<L: Ledger>(
     machine: &Machine,
     tiles: &[PlacedTile],

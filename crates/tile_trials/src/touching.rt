@@ -1,5 +1,5 @@
-//! Windows round vertices, middles of edges and points on them: their sides run through vertices, along edges and
-//! through corners of tiles that they only touch.
+//! Windows around vertices, midpoints of edges and points on them. Their sides run through vertices, along
+//! edges and through corners of tiles that they only touch.
 use crate::drawn_windows::MOST_TILES;
 use cyclo_points::point::Point;
 use plain_tiles::built_in::{NAMES, machine_of};

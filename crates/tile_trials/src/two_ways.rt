@@ -13,7 +13,7 @@ use std::test::Fail;
 use tile_place::machine::Machine;
 use tile_shape::address::Address;
 
-/// Half extents at the change from one way to the other, and of the thinnest windows.
+/// The half-widths and half-heights at the change from one way to the other, and of the thinnest windows.
 const EXTENTS: [(u16, u16); 9] = [
     (22, 22),
     (20, 25),
@@ -98,8 +98,8 @@ fn far_centres(rt: HostRuntime) -> Result<(), Fail> {
     Ok(())
 }
 
-/// Bases that stand in a corner of all their ancestors up to a level, so that the first to hold the window
-/// has numbers just within and just beyond what the descent takes; and bases of depth 64.
+/// Bases in a corner of all their ancestors up to a level, and bases of depth 64. The first ancestor to hold
+/// the window has numbers just within and just beyond the limits of the descent.
 #[test]
 fn deep_bases(rt: HostRuntime) -> Result<(), Fail> {
     let window = Window {

@@ -22,7 +22,7 @@ use tile_place::placed_tile::PlacedTile;
 use tile_shape::address::Address;
 use tile_shape::reading::read_address;
 
-/// Whether no tile has a refused shift.
+/// Returns true if no tile has a refused shift.
 fn none_refused(tiles: &[PlacedTile]) -> bool
     ensures { result ≡ true → All (λ x. IsWithin (2 ^ 24) x.motion.shift) tiles.now }
 {
@@ -66,7 +66,7 @@ fn base_alone(
     Ok(tiles)
 }
 
-/// Whole tiles as lines, the second half behind the first.
+/// Returns whole tiles as lines, the second half after the first.
 fn wholes_text(alloc: Global, wholes: &[WholeTile]) -> Result<String, AllocError> {
     let mut text = String::new(alloc);
     for whole in wholes {

@@ -6,13 +6,14 @@ use Rattle.addressing.specs.Tables.{Tables, contact_of}
 use Rattle.addressing.specs.Trace.{Cut, IsTrace}
 use Rattle.transducer_core.specs.declared.climb.Meeting.{Meeting}
 
--- the first digits, so many, have with edge e a trace to the edge `own`, by these parts, the finest first
+-- the first digits, this number of them, have with edge e a trace to the edge `own`, by these parts, the
+-- finest first
 pub record Rises (t : Tables) (a : Address) (e level own : ℕ) (parts : List ℕ) : Type 0 where
   pub cuts : List Cut
   pub parts_are : parts ≡ map (λ (c : Cut). c.part) (reverse cuts)
   pub trace : IsTrace t e (take level a.digits) own cuts
 
--- and that edge is also the other child's, of which the word tells
+-- and that edge is also the edge of another child, which the word names
 pub record MeetsAt (t : Tables) (a : Address) (e : ℕ) (m : Meeting) (parts : List ℕ) : Type 0 where
   pub own : ℕ
   pub step : Step

@@ -5,7 +5,8 @@ use Rattle.addressing.specs.Search.{below}
 use Rattle.addressing.specs.Tables.{Tables, KindTables}
 use Rattle.transducer_core.specs.Words.{contact_of_word, part_of_word}
 
--- the lists of tables: the mates, the subdivision of each type, the types of the edges of each kind, and the kinds of its children
+-- the lists of tables: the mates, the subdivision of each type, the types of the edges of each kind, and the
+-- kinds of its children
 abbrev pub lists_of : Tables → List (List ℕ)
 lists_of t = t.mates ∷ (t.subs ++ (map (λ (k : KindTables). k.types) t.kinds ++ map (λ (k : KindTables). k.children) t.kinds))
 
@@ -13,7 +14,7 @@ lists_of t = t.mates ∷ (t.subs ++ (map (λ (k : KindTables). k.types) t.kinds 
 abbrev pub mates_in : List (List ℕ) → List ℕ
 mates_in lists = get_or lists 0 []
 
--- behind it are as many subdivisions as there are mates
+-- then come as many subdivisions as there are mates
 abbrev pub subs_in : List (List ℕ) → List (List ℕ)
 subs_in lists = take (length (mates_in lists)) (drop 1 lists)
 
@@ -27,12 +28,13 @@ types_in lists = take (length (sides_in lists) / 2) (sides_in lists)
 abbrev pub children_in : List (List ℕ) → List (List ℕ)
 children_in lists = drop (length (sides_in lists) / 2) (sides_in lists)
 
--- the lists that stand one behind the other, from one place on, where each ends
+-- the lists that follow one another, from one place on, by the end of each
 abbrev pub pieces : List ℕ → ℕ → List ℕ → List (List ℕ)
 pieces items from [] = []
 pieces items from (e ∷ es) = take (e - from) (drop from items) ∷ pieces items e es
 
--- the lists of a flat table: mates, subdivisions, the types and the children of each kind; where each block begins, and the words of the blocks
+-- the lists of a flat table: mates, subdivisions, the types and the children of each kind; where each block
+-- begins, and the words of the blocks
 pub record Lists : Type 0 where
   pub mates : List ℕ
   pub subs : List (List ℕ)
@@ -49,7 +51,7 @@ flat_contacts f k c =
     let kind = get_or (get_or f.children k []) c 0 in
     map contact_of_word (take (length (get_or f.types kind [])) (drop (get_or f.contact_starts (256 * k + c) 0) f.contact_words))
 
--- the part block of an edge, which has a part for each type of the subdivision, and stands backwards
+-- the part block of an edge, which has a part for each type of the subdivision, in reverse order
 abbrev pub flat_parts : Lists → ℕ → ℕ → List ChildEdge
 flat_parts f k e =
     let ty = get_or (get_or f.types k []) e 0 in

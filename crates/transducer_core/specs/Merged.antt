@@ -1,23 +1,23 @@
--- Blocks of numbers, one behind the other in one list, equal ones once.
+-- Blocks of numbers, one after another in one list, equal ones only once.
 use Rattle.std.specs.Prelude.{◌≡◌, ℕ, ◌+◌, ◌*◌, List, ◌++◌, Some, length, slice_get}
 use Rattle.std.specs.List.{flat_map, concat}
 use Rattle.transducer_core.specs.Once.{AreOnce}
 
--- the block stands in the list, from this place on
+-- the list has the block, from this place on
 pub record Stands (words : List ℕ) (start : ℕ) (block : List ℕ) : Type 0 where
   pub front : List ℕ
   pub rest : List ℕ
   pub words_are : words ≡ front ++ (block ++ rest)
   pub start_is : start ≡ length front
 
--- the list is the blocks that are different, so many, one behind the other
+-- the list is this number of distinct blocks, one after another
 pub record IsOnceEach (blocks : List (List ℕ)) (words : List ℕ) (count : ℕ) : Type 0 where
   pub kept : List (List ℕ)
   pub once : AreOnce blocks kept
   pub words_are : words ≡ concat kept
   pub count_is : count ≡ length kept
 
--- block c of row k begins at the place that stands at 256 k + c
+-- block c of row k begins at the place that is written at 256 k + c
 pub record BeginsAt (words starts : List ℕ) (k c : ℕ) (block : List ℕ) : Type 0 where
   pub start : ℕ
   pub start_at : slice_get starts (256 * k + c) ≡ Some start
@@ -32,11 +32,11 @@ pub record IsMerged (rows : List (List (List ℕ))) (starts words : List ℕ) (c
   pub begins : AllBegin rows starts words
   pub once_each : IsOnceEach (flat_map (λ (row : List (List ℕ)). row) rows) words count
 
--- number c of row k stands in the list at 256 k + c
+-- number c of row k is at 256 k + c in the list
 abbrev pub AreSpread : {A : Type 0} → List (List A) → List A → Type 0
 AreSpread {A} rows flat = (k c : ℕ) (row : List A) (x : A) → slice_get rows k ≡ Some row → slice_get row c ≡ Some x → slice_get flat (256 * k + c) ≡ Some x
 
--- the word at a place of a block, found by where the block begins, which stands at a cell
+-- the word at a place of a block, found by the start of the block, which is written at a cell
 pub record HasEntry (starts words : List ℕ) (cell place word : ℕ) : Type 0 where
   pub start : ℕ
   pub start_at : slice_get starts cell ≡ Some start

@@ -1,26 +1,26 @@
--- Lists one behind the other, and blocks while they are merged.
+-- Lists one after another, and blocks while they are merged.
 use Rattle.std.specs.Prelude.{◌≡◌, ◌+◌, ◌*◌, ◌≤◌, ℕ, List, [], ◌∷◌, ◌++◌, length}
 use Rattle.std.specs.List.{concat, AllByRecursion}
 use Rattle.transducer_core.specs.Merged.{Stands}
 use Rattle.transducer_core.specs.Once.{AreOnce}
 
--- where lists end that stand one behind the other, from this place on
+-- the ends of lists that follow one another, from this place on
 abbrev pub ends_of : ℕ → List (List ℕ) → List ℕ
 ends_of from [] = []
 ends_of from (b ∷ bs) = (from + length b) ∷ ends_of (from + length b) bs
 
--- the words are these lists, one behind the other, and each ends where it is said to
+-- the words are these lists, one after another, and each ends where its end is written
 pub record AreKept (kept : List (List ℕ)) (words ends : List ℕ) : Type 0 where
   pub words_are : words ≡ concat kept
   pub ends_are : ends ≡ ends_of 0 kept
 
--- and one more block behind them, of which no end is written
+-- and one more block after them, whose end is not written
 pub record StandsLast (kept : List (List ℕ)) (block words ends : List ℕ) (last : ℕ) : Type 0 where
   pub words_are : words ≡ concat kept ++ block
   pub ends_are : ends ≡ ends_of 0 kept
   pub last_is : last ≡ length (concat kept)
 
--- the block is kept, if it wasn't before, and stands at its place
+-- the block is kept, if it was not before, and is at its place
 pub record IsPlaced (kept : List (List ℕ)) (block words ends : List ℕ) (start : ℕ) : Type 0 where
   pub more : List (List ℕ)
   pub kept_are : AreKept (kept ++ more) words ends
@@ -29,14 +29,14 @@ pub record IsPlaced (kept : List (List ℕ)) (block words ends : List ℕ) (star
   pub short : length (concat more) ≤ length block
   pub once : (all : List (List ℕ)) → AreOnce all kept → AreOnce (all ++ block ∷ []) (kept ++ more)
 
--- each block stands at its place
+-- each block is at its place
 abbrev pub AllStand : List ℕ → List ℕ → List (List ℕ) → Type 0
 AllStand words [] [] = Unit {0}
 AllStand words [] (b ∷ bs) = ⊥
 AllStand words (s ∷ ss) [] = ⊥
 AllStand words (s ∷ ss) (b ∷ bs) = Stands words s b × AllStand words ss bs
 
--- so are the blocks of a row, of which the places are written behind others
+-- so are the blocks of a row, whose places are appended to others
 pub record ArePlaced (kept row : List (List ℕ)) (words ends before after : List ℕ) : Type 0 where
   pub places : List ℕ
   pub places_are : after ≡ before ++ places

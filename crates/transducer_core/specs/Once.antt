@@ -2,12 +2,12 @@
 use Rattle.std.specs.Prelude.{◌≡◌, ℕ, List, [], ◌∷◌, length}
 use Rattle.addressing.specs.Search.{IsAmong}
 
--- no member stands twice
+-- no member is repeated
 abbrev pub HasNoneTwice : {A : Type 0} → List A → Type 0
 HasNoneTwice [] = Unit {0}
 HasNoneTwice (x ∷ xs) = (IsAmong x xs → ⊥) × HasNoneTwice xs
 
--- the members of `all`, each once
+-- the members of `all`, each exactly once
 pub record AreOnce {A : Type 0} (all once : List A) : Type 0 where
   pub each : (x : A) → IsAmong x all → IsAmong x once
   pub no_other : (x : A) → IsAmong x once → IsAmong x all

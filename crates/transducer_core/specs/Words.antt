@@ -17,7 +17,8 @@ word_of_part ce = ce.edge * 256 + ce.child
 abbrev pub part_of_word : ℕ → ChildEdge
 part_of_word w = record { child = w % 256; edge = w / 256 % 256 }
 
--- a contact block as words; and a part block, backwards, so that its entries stand as the opposite edge numbers its own parts
+-- a contact block as words; and a part block in reverse order, so that its entries are numbered as the
+-- opposite edge numbers its own parts
 abbrev pub contact_words : List Contact → List ℕ
 contact_words block = map word_of_contact block
 

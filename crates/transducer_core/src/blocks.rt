@@ -5,7 +5,7 @@ ghost use Rattle.transducer_core.specs.Merged.{HasEntry};
 use edge_tables::steps::Steps;
 use std::sync::ledger::Ledger;
 
-/// Where blocks begin, by cells, and their words, one block behind the other.
+/// The starts of blocks, by cells, and their words, one block after another.
 #[derive(Clone, Copy)]
 pub(crate) struct Blocks<'a> {
     pub(crate) starts: &'a [u16],
@@ -13,7 +13,7 @@ pub(crate) struct Blocks<'a> {
 }
 
 impl<'a> Blocks<'a> {
-    /// The word at a place of the block whose beginning stands at this cell. It takes one step.
+    /// Returns the word at a place of the block whose start is at this cell, in one step.
     #[inline]
     pub(crate) fn look_up<L: Ledger>(self, at: usize, place: usize, steps: &mut Steps<L>) -> u32
         requires { (word : ℕ) × HasEntry self.starts.now self.words.now at place word }

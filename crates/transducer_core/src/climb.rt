@@ -15,8 +15,8 @@ use std::sync::ledger::Ledger;
 use tile_shape::address::Address;
 use tile_shape::step::Step;
 
-/// At this level the edge is also another child's: the cell of the digit there, and the word of the contact, which names that
-/// child and its edge.
+/// The level at which an edge is also another child's edge: the cell of the digit there, and the word of the
+/// contact. That word names the child and its edge.
 #[derive(Clone, Copy)]
 pub(crate) struct Meeting {
     pub(crate) level: usize,
@@ -24,8 +24,8 @@ pub(crate) struct Meeting {
     pub(crate) word: u32,
 }
 
-/// One level up, from an edge to the parent's edge on which it lies; the number of its part there is kept. Err where it is
-/// another child's edge.
+/// Goes one level up, from an edge to the parent's edge on which it lies, and keeps the number of its part
+/// there. Err if it is another child's edge.
 #[inline]
 fn rise<L: Ledger>(
     contacts: Blocks<'_>,
@@ -54,8 +54,9 @@ fn rise<L: Ledger>(
     }
 }
 
-/// Climbs from an edge to the top, and answers the top's edge on which it lies. Err at the first level where it is another
-/// child's edge. It keeps the number of the part in which the edge lies at each level on the way.
+/// Climbs from an edge to the top, and returns the top's edge on which it lies. It keeps the number of the
+/// part in which the edge lies at each level on the way. Err at the first level at which it is another
+/// child's edge.
 pub(crate) fn climb<L: Ledger>(
     tables: &FlatTable,
     addr: &Address,

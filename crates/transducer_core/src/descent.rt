@@ -26,7 +26,8 @@ pub(crate) struct Side {
     pub(crate) edge: usize,
 }
 
-/// One level down, to the child's edge that is this part of an edge, counted from across. The digit there is written.
+/// Goes one level down, to the child's edge that is this part of an edge, counted from across. It writes the
+/// digit.
 #[inline]
 fn fall<L: Ledger>(
     blocks: Blocks<'_>,
@@ -50,7 +51,7 @@ fn fall<L: Ledger>(
     }
 }
 
-/// Writes the digits from a meeting down along the mirrored parts, and answers the side at which it ends.
+/// Writes the digits from a meeting down along the mirrored parts, and returns the side at the end.
 fn write_down<L: Ledger>(
     tables: &FlatTable,
     digits: &mut [Step],
@@ -103,7 +104,8 @@ fn write_down<L: Ledger>(
     side
 }
 
-/// Descends from a meeting along the mirrored parts. The address becomes that of the tile across, and the answer is its edge.
+/// Descends from a meeting along the mirrored parts. Replaces the address by that of the tile across, and
+/// returns the edge of that tile.
 pub(crate) fn descend<L: Ledger>(
     tables: &FlatTable,
     addr: &mut Address,

@@ -92,29 +92,30 @@ impl FlatTable {
         part_in(parts.look_up(cell(kind, edge), usize::from(across), steps))
     }
 
-    /// The contact blocks.
+    /// Returns the contact blocks.
     pub(crate) fn contacts(&self) -> Blocks<'_>
         ensures { AllBegin (contact_rows self.now) result.starts.now result.words.now }
     {
         self.contacts.blocks()
     }
 
-    /// The part blocks, each backwards, so that its entries stand as the opposite edge numbers its own parts.
+    /// Returns the part blocks. Each is reversed, so that its entries are numbered as the opposite edge
+    /// numbers its own parts.
     pub(crate) fn parts(&self) -> Blocks<'_>
         ensures { AllBegin (part_rows self.now) result.starts.now result.words.now }
     {
         self.parts.blocks()
     }
 
-    /// 256 times the kind of each child, at its cell.
+    /// Returns 256 times the kind of each child, at its cell.
     pub(crate) fn child_kinds(&self) -> &[u16]
         ensures { AreSpread (kind_rows self.now) result.now }
     {
         self.child_kinds.as_slice()
     }
 
-    /// Into how many parts an edge is cut: as many as its type. Behind the mates there are as many subdivisions, and then the types
-    /// of the edges of each kind.
+    /// Returns the number of parts into which an edge is cut: as many as its type. In the list, the
+    /// subdivisions follow the mates, one for each type, and then come the types of the edges of each kind.
     fn part_count(&self, kind: u8, edge: u8) -> u8
         requires exists { IsSome (type_of self.now kind edge) }
         ensures { result ≡ part_count self.now kind edge }
@@ -142,7 +143,7 @@ impl FlatTable {
         self.parts.count
     }
 
-    /// The tables fit together.
+    /// States that the tables fit together.
     pub(crate) fn coherent(&self)
         ensures { IsCoherent self.now }
     {

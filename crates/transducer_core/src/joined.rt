@@ -1,4 +1,4 @@
-//! The lists of contact tables, one behind the other.
+//! The lists of contact tables, one after another.
 ghost use Rattle.std.specs.Prelude.{◌≡◌, ℕ, List, [], ◌∷◌, ◌++◌, OnOk, IfOk};
 ghost use Rattle.transducer_core.specs.Flat.{lists_of};
 ghost use Rattle.transducer_core.specs.Merging.{AreKept};
@@ -7,14 +7,14 @@ use edge_tables::tables::Tables;
 use std::alloc::Global;
 use tile_shape::no_memory::NoMemory;
 
-/// Lists of numbers, one behind the other, and where each ends.
+/// Lists of numbers, one after another, and the end of each.
 #[derive(Drop)]
 pub(crate) struct Joined {
     pub(crate) items: Vec<u8>,
     pub(crate) ends: Vec<usize>,
 }
 
-/// Writes a list behind the others.
+/// Appends a list to the others.
 fn add(joined: &mut Joined, list: &Vec<u8>) -> Result<(), NoMemory>
     ensures { OnOk result ((lists : List (List ℕ)) → AreKept lists joined.old.items.items joined.old.ends.items
         → AreKept (lists ++ list.now.items ∷ []) joined.new.items.items joined.new.ends.items) }
@@ -24,8 +24,8 @@ fn add(joined: &mut Joined, list: &Vec<u8>) -> Result<(), NoMemory>
     Ok(())
 }
 
-/// The mates, the types into which each type is cut, the types of the edges of each kind, and then the kinds of the children of
-/// each, one behind the other.
+/// Joins four sorts of lists, one after another. They are the mates, the types into which each type is cut,
+/// the types of the edges of each kind, and the kinds of the children of each kind.
 pub(crate) fn join(alloc: Global, tables: &Tables) -> Result<Joined, NoMemory>
     ensures { IfOk result (λ joined. AreKept (lists_of tables.now) joined.items.items joined.ends.items) }
 {

@@ -6,8 +6,8 @@
 //! mirrored.
 //!
 //! `Transducer::step_across` promises the only pair of tile and edge that the edge touches, at the same
-//! depth, in at most two look-ups a level and two more, and that the return edge leads back. If the edge lies
-//! on the supertile's own edge, it returns that edge with the part.
+//! depth. It needs at most two look-ups a level and two more, and the return edge leads back. If the edge
+//! lies on the supertile's own edge, it returns that edge with the part.
 #![tactic(auto)]
 
 mod blocks;

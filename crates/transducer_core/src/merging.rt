@@ -1,4 +1,4 @@
-//! Blocks of words put one behind the other, equal ones once.
+//! Blocks of words put one after another, equal ones only once.
 ghost use Rattle.std.specs.Prelude.{◌≡◌, ◌↔◌, ◌^◌, ◌<◌, ◌≤◌, ℕ, true, List, length, map, OnOk, IfOk, IfSome, IfNone};
 ghost use Rattle.std.specs.List.{concat};
 ghost use Rattle.addressing.specs.Search.{IsAmong};
@@ -13,7 +13,8 @@ use edge_tables::kind_rows::KindRows;
 use std::alloc::Global;
 use tile_shape::no_memory::NoMemory;
 
-/// Blocks in one list: where each begins, by 256 times its row and its number there, and the words of the different ones.
+/// Blocks in one list: the start of each, by 256 times its row plus its number there, and the words of the
+/// distinct ones.
 #[derive(Drop)]
 pub(crate) struct Merged {
     pub(crate) starts: Vec<u16>,
@@ -22,7 +23,7 @@ pub(crate) struct Merged {
 }
 
 impl Merged {
-    /// The blocks for look-ups.
+    /// Returns the blocks for look-ups.
     pub(crate) fn blocks(&self) -> Blocks<'_>
         ensures starts { result.starts.now ≡ self.now.starts.items }
         ensures words { result.words.now ≡ self.now.words.items }
@@ -34,7 +35,7 @@ impl Merged {
     }
 }
 
-/// Whether two blocks are the same.
+/// Returns true if two blocks are the same.
 #[inline]
 fn same_words(a: &[u32], b: &[u32]) -> bool
     ensures { (result ≡ true) ↔ (a.now ≡ b.now) }
@@ -42,7 +43,7 @@ fn same_words(a: &[u32], b: &[u32]) -> bool
     a == b
 }
 
-/// Where an earlier block stands that is equal to the last, which has no end yet; None where there is none.
+/// Returns the position of an earlier block that equals the last one, which has no end yet, or None.
 fn find(words: &[u32], ends: &[u16], last: usize) -> Option<u16>
     requires there { (kept : List (List ℕ)) × (block : List ℕ) × StandsLast kept block words.now ends.now last }
     requires room { length words.now < 2 ^ 16 }
@@ -60,14 +61,14 @@ fn find(words: &[u32], ends: &[u16], last: usize) -> Option<u16>
     None
 }
 
-/// Blocks that are kept, in a row, and where each ends.
+/// Blocks that are kept, in a row, and the end of each.
 #[derive(Drop)]
 struct Kept {
     words: Vec<u32>,
     ends: Vec<u16>,
 }
 
-/// Keeps the last block if no equal one is kept, and answers where it stands.
+/// Keeps the last block if no equal one is kept, and returns its position.
 fn keep(kept: &mut Kept, last: usize) -> Result<u16, NoMemory>
     requires there { (blocks : List (List ℕ)) × (block : List ℕ) × StandsLast blocks block kept.old.words.items kept.old.ends.items last }
     requires room { length kept.old.words.items < 2 ^ 16 }
@@ -86,7 +87,7 @@ fn keep(kept: &mut Kept, last: usize) -> Result<u16, NoMemory>
     }
 }
 
-/// Keeps each block of a kind, and writes where they stand behind the other starts.
+/// Keeps each block of a kind, and appends their positions to the other starts.
 fn place_row(
     kept: &mut Kept,
     starts: &mut Vec<u16>,
@@ -108,7 +109,7 @@ fn place_row(
     Ok(())
 }
 
-/// The blocks of all kinds, equal ones once.
+/// Merges the blocks of all kinds, equal ones only once.
 pub(crate) fn merge(alloc: Global, rows: &Vec<KindRows>, which: Which) -> Result<Merged, NoMemory>
     requires small { AreSmall (map (blocks_of which) rows.now.items) }
     ensures { IfOk result (λ merged. IsMerged (map (blocks_of which) rows.now.items) merged.starts.items merged.words.items merged.count) }

@@ -8,10 +8,10 @@ use std::alloc::Global;
 use tile_shape::no_memory::NoMemory;
 use tile_shape::step::Step;
 
-/// What stands behind a row.
+/// The filling after a row.
 const BLANKS: &[u16; 256] = &[0; 256];
 
-/// Where a number of a row stands.
+/// Returns the position of a number of a row.
 #[inline]
 pub(crate) fn cell(row: u8, number: u8) -> usize
     ensures { result ≡ 256 * row + number }
@@ -19,7 +19,7 @@ pub(crate) fn cell(row: u8, number: u8) -> usize
     usize::from(row) * 256 + usize::from(number)
 }
 
-/// The digit whose parent and child have this cell.
+/// Returns the digit whose parent and child have this cell.
 #[inline]
 pub(crate) fn digit_at(at: usize) -> Step
     requires { at < 2 ^ 16 }
@@ -31,7 +31,7 @@ pub(crate) fn digit_at(at: usize) -> Step
     }
 }
 
-/// Fills up a row of this many entries that stands last in a list, to 256.
+/// Fills up the last row of a list, which has this many entries, to 256.
 pub(crate) fn fill_row(list: &mut Vec<u16>, count: usize) -> Result<(), NoMemory>
     requires short { count ≤ 256 }
     ensures { OnOk result ((blanks : List ℕ) × (list.new.items ≡ list.old.items ++ blanks) × (count + length blanks ≡ 256)) }
@@ -41,7 +41,7 @@ pub(crate) fn fill_row(list: &mut Vec<u16>, count: usize) -> Result<(), NoMemory
     Ok(())
 }
 
-/// Writes 256 times each kind behind others.
+/// Appends 256 times each kind.
 fn push_kinds(list: &mut Vec<u16>, kinds: &Vec<u8>) -> Result<(), NoMemory>
     ensures { OnOk result (list.new.items ≡ list.old.items ++ map (λ n. 256 * n) kinds.now.items) }
 {
@@ -51,7 +51,7 @@ fn push_kinds(list: &mut Vec<u16>, kinds: &Vec<u8>) -> Result<(), NoMemory>
     Ok(())
 }
 
-/// 256 times the kind of each child of each kind, each kind's in a row of 256.
+/// Returns 256 times the kind of each child of each kind, with a row of 256 for each kind.
 pub(crate) fn kind_cells(alloc: Global, rows: &Vec<KindRows>) -> Result<Vec<u16>, NoMemory>
     requires few { length rows.now.items ≤ 16 }
     requires short { AllByRecursion (λ r. length r.children.items ≤ 256) rows.now.items }

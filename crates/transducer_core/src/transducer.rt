@@ -126,7 +126,7 @@ impl Transducer {
     }
 }
 
-/// The last part, the one on the top's own edge; 0 where there is none.
+/// Returns the last part, the one on the top's own edge, or 0 if there is none.
 fn top_part(parts: &[u8]) -> u8
     ensures { result ≡ slice_index parts.now (length parts.now - 1) }
 {

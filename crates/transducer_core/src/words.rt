@@ -9,7 +9,7 @@ use edge_tables::contact::Contact;
 use edge_tables::kind_rows::KindRows;
 use tile_shape::no_memory::NoMemory;
 
-/// What an edge of a child is, as a word.
+/// Returns the word of an edge of a child.
 fn contact_word(contact: Contact) -> u32
     ensures { result ≡ word_of_contact (as_contact contact) }
 {
@@ -19,14 +19,14 @@ fn contact_word(contact: Contact) -> u32
     }
 }
 
-/// A part of an edge, as a word.
+/// Returns the word of a part of an edge.
 fn part_word(part: ChildEdge) -> u32
     ensures { result ≡ word_of_part (as_child_edge part) }
 {
     u32::from(part.edge) * 256 + u32::from(part.child)
 }
 
-/// What the edge is of which this is the word.
+/// Returns the contact of this word.
 pub(crate) fn contact_in(word: u32) -> Contact
     ensures { as_contact result ≡ contact_of_word word }
 {
@@ -41,7 +41,7 @@ pub(crate) fn contact_in(word: u32) -> Contact
     }
 }
 
-/// The part of which this is the word.
+/// Returns the part of this word.
 pub(crate) fn part_in(word: u32) -> ChildEdge
     ensures { as_child_edge result ≡ part_of_word word }
 {
@@ -58,7 +58,7 @@ pub(crate) enum Which {
     Parts,
 }
 
-/// Writes a contact block as words behind others.
+/// Appends a contact block as words.
 fn write_contacts(words: &mut Vec<u32>, block: &Vec<Contact>) -> Result<(), NoMemory>
     ensures { OnOk result (words.new.items ≡ words.old.items ++ contact_words (map as_contact block.now.items)) }
 {
@@ -68,7 +68,7 @@ fn write_contacts(words: &mut Vec<u32>, block: &Vec<Contact>) -> Result<(), NoMe
     Ok(())
 }
 
-/// Writes a part block as words behind others, backwards.
+/// Appends a part block as words, in reverse order.
 fn write_parts(words: &mut Vec<u32>, block: &Vec<ChildEdge>) -> Result<(), NoMemory>
     ensures { OnOk result (words.new.items ≡ words.old.items ++ part_words (map as_child_edge block.now.items)) }
 {
@@ -80,7 +80,7 @@ fn write_parts(words: &mut Vec<u32>, block: &Vec<ChildEdge>) -> Result<(), NoMem
     Ok(())
 }
 
-/// How many blocks of a kind there are.
+/// Returns the number of blocks of a kind.
 pub(crate) fn block_count(row: &KindRows, which: Which) -> usize
     ensures { result ≡ length (blocks_of which row.now) }
 {
@@ -90,7 +90,7 @@ pub(crate) fn block_count(row: &KindRows, which: Which) -> usize
     }
 }
 
-/// Writes a block of a kind as words behind others.
+/// Appends a block of a kind as words.
 pub(crate) fn write_block(
     words: &mut Vec<u32>,
     row: &KindRows,

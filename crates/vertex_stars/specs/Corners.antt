@@ -15,13 +15,14 @@ pub record Corner (T : Type 0) : Type 0 where
 abbrev pub IsCornerAt : (S : Signed) (T : Type 0) → Patch S T → PlanePoint S.ops.carrier → Corner T → Type 0
 IsCornerAt S T P v c = IsAmong c.tile P.tiles × (slice_get (P.outline c.tile) c.vertex ≡ Some v)
 
--- the number of the edge that ends at a vertex, of so many vertices
+-- the number of the edge that ends at a vertex, by the number of vertices
 abbrev pub edge_into : ℕ → ℕ → ℕ
 edge_into zero i = zero
 edge_into (suc m) zero = m
 edge_into (suc m) (suc i) = i
 
--- d comes after c: across the edge of c's tile that ends at its vertex lies d's tile, with the edge that starts at d's vertex
+-- d comes after c: across the edge of c's tile that ends at its vertex lies d's tile, with the edge that
+-- starts at d's vertex
 pub record IsNext (S : Signed) (T : Type 0) (P : Patch S T) (c d : Corner T) : Type 0 where
   pub into : PlaneEdge S
   pub out : PlaneEdge S

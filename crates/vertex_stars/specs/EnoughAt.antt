@@ -1,4 +1,5 @@
--- The least depth of a growing patch that is enough for a point: the point is on no edge of the patch's boundary there.
+-- The least depth of a growing patch that is enough for a point: the point is on no edge of the patch's
+-- boundary there.
 use Rattle.std.specs.Prelude.{ℕ, ◌≤◌, IsTrue}
 use Rattle.ordered_ring.specs.Sign.{Signed}
 use Rattle.ordered_plane.specs.Plane.{PlanePoint}

@@ -1,5 +1,5 @@
--- The turn round a vertex in the frame of an accepted rule over the points of P, from tile to tile while the frame grows, and at the depth that it has at the
--- end.
+-- The turn around a vertex in the frame of an accepted rule over the points of P, from tile to tile while the
+-- frame grows, and at the depth that it has at the end.
 use Rattle.std.specs.Prelude.{◌≡◌, ◌↔◌, ℕ, ◌<◌, ◌≤◌, max, Bool, List, ◌∷◌, map, length}
 use Rattle.std.specs.List.{AllByRecursion}
 use Rattle.ordered_plane.specs.Plane.{PlanePoint}
@@ -34,8 +34,8 @@ corner_named P r f a i = record { tile = in_frame P r f a; vertex = i }
 abbrev pub lifted_corner : {A : Type 0} → Address → Corner (Placed A) → Corner (Placed A)
 lifted_corner f c = record { tile = lifted_tile f c.tile; vertex = c.vertex }
 
--- Where the edge that ends at a tile's vertex is crossed, the tile across is the next one, with the vertex at which its edge starts; and the frame grows to
--- its level, where it isn't as deep already.
+-- If the edge that ends at a tile's vertex is crossed, the tile across is the next one, with the vertex at
+-- which its edge starts. The frame grows to its level, unless it is already that deep.
 abbrev pub FrameNextLaw : Points → Type 0
 FrameNextLaw P =
     (T : AcceptedRule P) (f : Address) (m n : ℕ) (a : Address) (i : ℕ) (b : Address) (g : ℕ)
@@ -76,15 +76,15 @@ FrameCornersLaw P =
     → (fine : List (Corner (Placed P.ring.carrier))) × (length fine ≡ length corners) × AreAtVertex P T.rule (at_level f n) v fine
 
 -- ---- the base, and what stops the turn
--- The base stands on its prototile: where it names a tile of a frame, vertex number i of it lies where that of the prototile does, and it is there from its own
--- depth on.
+-- The base is in the position of its prototile. If it names a tile of a frame, its vertex number i lies where
+-- that of the prototile does, and it is there from its own depth on.
 abbrev pub FrameBaseLaw : Points → Type 0
 FrameBaseLaw P =
     (T : AcceptedRule P) (f : Address) → NamesTile P T.rule f → (refused : P.ring.carrier → Bool) (n : ℕ) → n ≤ depth f → (i : ℕ) → i < edge_count T.rule f.kind
     → IsCornerOfDepth P.real (Placed P.ring.carrier) (growing_frame P refused T.rule f) (plane_point P (vertex P T.rule f.kind i)) n
     (corner_named P T.rule f (at_level f n) i)
 
--- a tile of the frame at depth n that has v as a vertex is the base exactly where its address is the base's
+-- a tile of the frame at depth n that has v as a vertex is the base if and only if its address is the base's
 abbrev pub FrameBackLaw : Points → Type 0
 FrameBackLaw P =
     (T : AcceptedRule P) (f : Address) → NamesTile P T.rule f → (v : PlanePoint P.real.ops.carrier) (m n : ℕ) → m ≤ depth f → n ≤ depth f → (b : Address) (g i : ℕ)

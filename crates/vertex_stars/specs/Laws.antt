@@ -1,4 +1,4 @@
--- The laws of the tiles round a vertex, over the points of P. Tiles are named by address and motion.
+-- The laws of the tiles around a vertex, over the points of P. Tiles are named by address and motion.
 use Rattle.substitution.specs.Points.{Points}
 use Rattle.substitution.specs.Supertile.{Placed}
 use Rattle.vertex_stars.specs.Round.{TurnTheorem}

@@ -1,4 +1,4 @@
--- A depth is enough for a point exactly where the point is on no edge of the frame's polygon there.
+-- A depth is enough for a point if and only if the point is on no edge of the frame's polygon there.
 use Rattle.std.specs.Prelude.{◌≡◌, ◌↔◌, ℕ, ◌≤◌, Bool, false}
 use Rattle.std.specs.List.{AllByRecursion}
 use Rattle.ordered_ring.specs.Sign.{Signed}
@@ -28,7 +28,7 @@ pub record IsLeastOff (P : Points) (r : Rule P.ring.carrier) (f : Address) (v : 
   pub off : IsOffFrame P r f v n
   pub least : (k : ℕ) → m ≤ k → k ≤ depth f → IsOffFrame P r f v k → n ≤ k
 
--- no tile at that depth has an edge that contains v and is on the boundary exactly where this is so
+-- this holds if and only if no tile at that depth has an edge that contains v and is on the boundary
 abbrev pub FrameOffLaw : Points → Type 0
 FrameOffLaw P =
     (T : AcceptedRule P) (f : Address) → NamesTile P T.rule f → (refused : P.ring.carrier → Bool) (v : PlanePoint P.real.ops.carrier) (n : ℕ) → n ≤ depth f

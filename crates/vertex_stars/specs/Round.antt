@@ -1,4 +1,4 @@
--- The tiles round a point of a patch, and the theorem of the turn.
+-- The tiles around a point of a patch, and the theorem of the turn.
 use Rattle.std.specs.Prelude.{◌≡◌, ◌⊎◌, List, ◌∷◌, IsTrue}
 use Rattle.ordered_ring.specs.Sign.{Signed}
 use Rattle.ordered_plane.specs.Plane.{PlanePoint}
@@ -9,7 +9,7 @@ use Rattle.windows.specs.Outlines.{PlaneEdge, Polygon, edges}
 use Rattle.windows.specs.Patch.{Patch, IsDissected}
 use Rattle.vertex_stars.specs.Corners.{Corner, IsCornerAt, IsTurn, tiles_of}
 
--- exactly the tiles that have v as a vertex, each once and with that vertex
+-- exactly the tiles that have v as a vertex, each exactly once and with that vertex
 pub record IsRound (S : Signed) (T : Type 0) (P : Patch S T) (v : PlanePoint S.ops.carrier) (corners : List (Corner T)) : Type 0 where
   pub each_once : AreDistinct (tiles_of corners)
   pub at_vertex : (c : Corner T) → IsAmong c corners → IsCornerAt S T P v c

@@ -1,4 +1,4 @@
--- The tiles drawn are determined but for their order.
+-- The tiles drawn are determined up to their order.
 use Rattle.std.specs.Prelude.{◌↔◌, ℕ, List}
 use Rattle.std.specs.List.{AllByRecursion}
 use Rattle.ordered_ring.specs.Sign.{Signed}

@@ -1,4 +1,5 @@
--- The law of closed chains: the winding number of a closed chain of edges is constant on an open box that the edges avoid.
+-- The law of closed chains: the winding number of a closed chain of edges is constant on an open box that the
+-- edges avoid.
 use Rattle.std.specs.Prelude.{◌≡◌, ℤ, List, IsTrue}
 use Rattle.std.specs.List.{flat_map, AllByRecursion}
 use Rattle.ordered_ring.specs.Sign.{Signed}
@@ -19,7 +20,8 @@ ClosedChain S =
     → (p q : TestPoint S.ops.carrier) → IsTestPoint S p → IsTestPoint S q → IsTrue (in_box S box p) → IsTrue (in_box S box q)
     → count S polygon p ≡ count S polygon q
 
--- so is the sum over polygons, where those of their edges that meet the box cancel in pairs: just one edge is the reverse of each
+-- The same holds for the sum over polygons, if those of their edges that meet the box cancel in pairs:
+-- exactly one edge is the reverse of each.
 abbrev pub ClosedChains : Signed → Type 0
 ClosedChains S =
     (box : OpenBox S.ops.carrier) (polygons : List (Polygon S))

@@ -1,4 +1,4 @@
--- Edges that are cut into parts meet an open box exactly where one of the parts does.
+-- An edge that is cut into parts meets an open box if and only if one of the parts does.
 use Rattle.std.specs.Prelude.{◌⊎◌, ◌↔◌, List, [], ◌∷◌, IsTrue}
 use Rattle.ordered_ring.specs.Sign.{Signed}
 use Rattle.ordered_plane.specs.Plane.{PlanePoint}

@@ -16,7 +16,7 @@ pub record IsEnough (S : Signed) (T : Type 0) (F : GrowingPatch S T) (box : Open
   pub holds_centre : (t : T) × IsOfDepth S T F n t × IsTrue (member S (F.patch.outline t) (test_point S.ops box.centre))
   pub none_on_boundary : (t : T) → IsOfDepth S T F n t → (e : PlaneEdge S) → IsAmong e (edges (F.patch.outline t)) → MeetsBox S box e → IsInner S T F n e
 
--- these are the tiles of the patch at depth n that meet the window, each once
+-- these are the tiles of the patch at depth n that meet the window, each exactly once
 pub record AreDrawn (S : Signed) (T : Type 0) (F : GrowingPatch S T) (box : OpenBox S.ops.carrier) (n : ℕ) (found : List T) : Type 0 where
   pub of_depth : AllByRecursion (IsOfDepth S T F n) found
   pub distinct : AreDistinct found

@@ -1,4 +1,5 @@
--- The search for the tiles of a window on a frame: its first state, a step by a crossing that grows the frame, its end, and where it stops.
+-- The search for the tiles of a window on a frame: its first state, a step by a crossing that grows the
+-- frame, its end, and where it stops.
 use Rattle.std.specs.Prelude.{◌≡◌, ℕ, ◌<◌, ◌≤◌, max, Bool, true, false, List, [], Some, slice_get, length, map, IsTrue}
 use Rattle.std.specs.List.{AllByRecursion}
 use Rattle.ordered_plane.specs.Plane.{test_point}
@@ -75,14 +76,15 @@ FrameStepLaw P =
     → IsStep P.real (Placed P.ring.carrier) (growing_frame P refused T.rule f) box s (in_frame P T.rule f b) × (max s.depth (level_in f (lifted_in f b)) ≡ n)
 
 -- ---- the end
--- these tiles of the frame at depth n are all that meet the window, cover it, and n is the least depth, where it isn't beyond any enough one
+-- these tiles of the frame at depth n are all that meet the window, and cover it; n is the least depth,
+-- unless it is beyond some enough one
 pub record IsFrameAnswer (P : Points) (refused : P.ring.carrier → Bool) (r : Rule P.ring.carrier) (f : Address) (box : OpenBox P.real.ops.carrier) (n : ℕ)
     (tiles : List (Placed P.ring.carrier)) : Type 0 where
   pub all_that_meet : AreAllThatMeet P.real (Placed P.ring.carrier) (frame_patch P r (at_level f n)) box tiles
   pub covers : Covers P.real (Placed P.ring.carrier) (frame_patch P r (at_level f n)) box tiles
   pub least : (m : ℕ) → m ≤ depth f → IsNotBeyond P.real (Placed P.ring.carrier) (growing_frame P refused r f) box m n → IsLeastDepth P r f box m n
 
--- where no edge is open, the tiles found are the answer, in any order
+-- if no edge is open, the tiles found are the result, in any order
 abbrev pub FrameFinishLaw : Points → Type 0
 FrameFinishLaw P =
     (T : AcceptedRule P) (f : Address) (refused : P.ring.carrier → Bool) (box : OpenBox P.real.ops.carrier) → IsWindowOn P T f box
@@ -91,7 +93,8 @@ FrameFinishLaw P =
     → HaveSameMembers s.found (map (lifted_tile f) tiles) → IsFrameAnswer P refused T.rule f box s.depth tiles
 
 -- ---- where it stops, and the limits
--- an open edge on the boundary at the frame's own depth, and its tile, meet the window, and the window isn't within the limits
+-- an open edge on the boundary at the frame's own depth, and its tile, meet the window, and the window is not
+-- within the limits
 abbrev pub FrameStopLaw : Points → Type 0
 FrameStopLaw P =
     (T : AcceptedRule P) (f : Address) (refused : P.ring.carrier → Bool) (box : OpenBox P.real.ops.carrier) → IsWindowOn P T f box

@@ -1,4 +1,5 @@
--- What holds of every frame of an accepted rule over the points of P: its tiles are a dissected patch, which grows as the frame does.
+-- What holds of every frame of an accepted rule over the points of P: its tiles are a dissected patch, which
+-- grows as the frame does.
 use Rattle.std.specs.Prelude.{◌≡◌, ◌↔◌, ℕ, ◌<◌, ◌≤◌, Bool, Some, slice_get, length, IsTrue}
 use Rattle.ordered_plane.specs.Box.{OpenBox}
 use Rattle.addressing.specs.Search.{IsAmong, below}
@@ -69,14 +70,14 @@ ReverseLaw P =
     (T : AcceptedRule P) (f a : Address) (e : ℕ) → IsEdgeInFrame P T f a e → (b : Address) (g : ℕ) → IsTileAcross P T.rule (tile_at P T.rule a) e (tile_at P T.rule b) g
     → IsTrue (is_reverse P.real (line_of P T.rule (in_frame P T.rule f a) e) (line_of P T.rule (in_frame P T.rule f b) g))
 
--- at the tile's depth the edge is inner exactly where a tile is across it in their common supertile
+-- at the tile's depth the edge is inner if and only if a tile is across it in their common supertile
 abbrev pub InnerLaw : Points → Type 0
 InnerLaw P =
     (T : AcceptedRule P) (f a : Address) (e : ℕ) → IsEdgeInFrame P T f a e → (refused : P.ring.carrier → Bool)
     → IsInner P.real (Placed P.ring.carrier) (growing_frame P refused T.rule f) (depth a) (line_of P T.rule (in_frame P T.rule f a) e)
     ↔ ((b : Placed P.ring.carrier) × (g : ℕ) × IsTileAcross P T.rule (tile_at P T.rule a) e b g)
 
--- and it isn't exactly where the edge lies on the supertile's boundary
+-- and it is not inner if and only if the edge lies on the supertile's boundary
 abbrev pub OutsideLaw : Points → Type 0
 OutsideLaw P =
     (T : AcceptedRule P) (f a : Address) (e : ℕ) → IsEdgeInFrame P T f a e → (refused : P.ring.carrier → Bool)
@@ -89,7 +90,8 @@ FramePolygonLaw P =
     (T : AcceptedRule P) (f : Address) → NamesTile P T.rule f → (refused : P.ring.carrier → Bool) (n : ℕ) → n ≤ depth f
     → IsWholeOf P.real (Placed P.ring.carrier) (growing_frame P refused T.rule f) n (frame_polygon P T.rule f n)
 
--- so a depth is enough exactly where the frame's polygon holds the centre and none of its edges meets the window
+-- so a depth is enough if and only if the frame's polygon holds the centre and none of its edges meets the
+-- window
 abbrev pub FrameEnoughLaw : Points → Type 0
 FrameEnoughLaw P =
     (T : AcceptedRule P) (f : Address) → NamesTile P T.rule f → (refused : P.ring.carrier → Bool) (n : ℕ) → n ≤ depth f → (box : OpenBox P.real.ops.carrier)

@@ -21,7 +21,8 @@ use Rattle.windows.specs.Level.{level_of}
 abbrev pub is_same_step : Step → Step → Bool
 is_same_step d e = nat_eq d.child e.child && nat_eq d.parent e.parent
 
--- the least level at which the base's ancestor has the tile: from that number on the tile's digits are the frame's
+-- the least level at which the base's ancestor has the tile: from that number on the tile's digits are the
+-- frame's
 abbrev pub level_in : Address → Address → ℕ
 level_in f a = level_of is_same_step a.digits f.digits
 
@@ -41,7 +42,8 @@ frame_polygon P r f n = supertile_polygon P r (moved P (back P (placement P r (a
 abbrev pub frame_holds : (P : Points) → Rule P.ring.carrier → Address → ℕ → P.ring.carrier → Bool
 frame_holds P r f n p = supertile_holds P r (top_kind (at_level f n)) n (back P (placement P r (at_level f n).digits)) p
 
--- a tile of the frame of the base's ancestor, as one of the whole frame: its address is lifted, and it stays where it is
+-- a tile of the frame of the base's ancestor, as one of the whole frame: its address is lifted, and its place
+-- stays the same
 abbrev pub lifted_tile : {A : Type 0} → Address → Placed A → Placed A
 lifted_tile f t = record { address = lifted_in f t.address; motion = t.motion }
 

@@ -1,5 +1,5 @@
--- What a search for the tiles of a window uses of the frame in which it goes on: names that growth doesn't change, crossings that grow the frame, and the
--- least ancestor that holds a point.
+-- What a search for the tiles of a window uses of the frame in which it goes on: names that growth does not
+-- change, crossings that grow the frame, and the least ancestor that holds a point.
 use Rattle.std.specs.Prelude.{◌≡◌, ◌↔◌, ℕ, ◌+◌, ◌<◌, ◌≤◌, max, Bool, true, List, IsTrue}
 use Rattle.ordered_plane.specs.Plane.{test_point}
 use Rattle.ordered_plane.specs.Crossing.{member}
@@ -55,7 +55,8 @@ FrameAcrossLaw P =
     → (refused : P.ring.carrier → Bool)
     → LiesAcross P.real (Placed P.ring.carrier) (growing_frame P refused T.rule f) (line_of P T.rule (in_frame P T.rule f a) e) (in_frame P T.rule f b)
 
--- edge e of the tile a, of the frame at depth m, is crossed at depth n to edge g of the tile b; at each lesser depth from m on it is on the boundary
+-- edge e of the tile a, of the frame at depth m, is crossed at depth n to edge g of the tile b; at each
+-- lesser depth from m on it is on the boundary
 pub record IsGrownCrossing (P : Points) (T : AcceptedRule P) (f : Address) (m n : ℕ) (a : Address) (e : ℕ) (b : Address) (g : ℕ) : Type 0 where
   pub frame : NamesTile P T.rule f
   pub not_below : m ≤ n
@@ -72,7 +73,8 @@ GrownCrossingLaw P =
     → LiesAcross P.real (Placed P.ring.carrier) (growing_frame P refused T.rule f) (line_of P T.rule (in_frame P T.rule f a) e) (in_frame P T.rule f b)
     × (max m (level_in f (lifted_in f b)) ≡ n)
 
--- and the motion of the tile across is the one that glues the two edges, followed by that of the edge's own tile
+-- and the motion of the tile across is the one that glues the two edges, followed by that of the edge's own
+-- tile
 abbrev pub GluedCrossingLaw : Points → Type 0
 GluedCrossingLaw P =
     (T : AcceptedRule P) (f : Address) (m n : ℕ) (a : Address) (e : ℕ) (b : Address) (g : ℕ) → IsGrownCrossing P T f m n a e b g

@@ -18,20 +18,22 @@ use Rattle.windows.specs.GrownPolygon.{HoldsWindow}
 use Rattle.windows.specs.Limits.{IsWithinLimits}
 use Rattle.windows.specs.FramePatch.{frame_patch, growing_frame, frame_polygon, lifted_tile}
 
--- these are the tiles of the patch that meet the window, each once
+-- these are the tiles of the patch that meet the window, each exactly once
 pub record AreAllThatMeet (S : Signed) (T : Type 0) (P : Patch S T) (box : OpenBox S.ops.carrier) (tiles : List T) : Type 0 where
   pub of_patch : AllByRecursion (λ t. IsAmong t P.tiles) tiles
   pub distinct : AreDistinct tiles
   pub meeting : (t : T) → IsAmong t P.tiles → PolygonMeetsBox S box (P.outline t) ↔ IsAmong t tiles
 
--- n is the least depth, from m to the frame's, at which the frame's polygon holds the centre and none of its edges meets the window
+-- n is the least depth, from m to the frame's, at which the frame's polygon holds the centre and none of its
+-- edges meets the window
 pub record IsLeastDepth (P : Points) (r : Rule P.ring.carrier) (f : Address) (box : OpenBox P.real.ops.carrier) (m n : ℕ) : Type 0 where
   pub not_below : m ≤ n
   pub within : n ≤ depth f
   pub holds : HoldsWindow P.real box (frame_polygon P r f n)
   pub least : (k : ℕ) → m ≤ k → k ≤ depth f → HoldsWindow P.real box (frame_polygon P r f k) → n ≤ k
 
--- there is such a depth; no tile of the frame that meets the window there has a refused shift, and they are no more than the limit
+-- there is such a depth; no tile of the frame that meets the window there has a refused shift, and they are
+-- no more than the limit
 pub record IsWindowWithin (P : Points) (refused : P.ring.carrier → Bool) (r : Rule P.ring.carrier) (f : Address) (box : OpenBox P.real.ops.carrier) (m limit : ℕ) : Type 0 where
   pub depth : ℕ
   pub least : IsLeastDepth P r f box m depth
@@ -61,7 +63,7 @@ LeastLaw P =
     (T : AcceptedRule P) (f : Address) → NamesTile P T.rule f → (refused : P.ring.carrier → Bool) (box : OpenBox P.real.ops.carrier) (m n : ℕ) → m ≤ depth f
     → IsLeastDepth P T.rule f box m n ↔ IsLeastEnough P.real (Placed P.ring.carrier) (growing_frame P refused T.rule f) box m n
 
--- and a window is within the limits of the frame exactly where it is within those of the patch
+-- and a window is within the limits of the frame if and only if it is within those of the patch
 abbrev pub WithinLaw : Points → Type 0
 WithinLaw P =
     (T : AcceptedRule P) (f : Address) → NamesTile P T.rule f → (refused : P.ring.carrier → Bool) (box : OpenBox P.real.ops.carrier) (m limit : ℕ) → m ≤ depth f

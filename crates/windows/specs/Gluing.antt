@@ -9,8 +9,9 @@ use Rattle.windows.specs.Outlines.{Polygon}
 abbrev pub Rotation : Signed → Type 0
 Rotation S = (vs ws : Polygon S) (p : TestPoint S.ops.carrier) → count S (vs ++ ws) p ≡ count S (ws ++ vs) p
 
--- Of two polygons the first ends with an edge from a to b, and the second with one from b to a. The first one's vertices from b to a, and then the second
--- one's other vertices, count at each test point as both together.
+-- Of two polygons the first ends with an edge from a to b, and the second with one from b to a. The first
+-- one's vertices from b to a, and then the second one's other vertices, count at each test point as both
+-- together.
 abbrev pub Gluing : Signed → Type 0
 Gluing S =
     (a b : PlanePoint S.ops.carrier) (vs ws : Polygon S) (p : TestPoint S.ops.carrier)

@@ -1,4 +1,5 @@
--- The polygon of a growing patch at a depth, and that the depth is enough exactly where this polygon holds the centre and none of its edges meets the window.
+-- The polygon of a growing patch at a depth. The depth is enough if and only if this polygon holds the centre
+-- and none of its edges meets the window.
 use Rattle.std.specs.Prelude.{◌⊎◌, ◌↔◌, ℕ, IsTrue}
 use Rattle.std.specs.List.{AllByRecursion}
 use Rattle.ordered_ring.specs.Sign.{Signed}
@@ -18,8 +19,8 @@ pub record IsOnBoundaryAt (S : Signed) (T : Type 0) (F : GrowingPatch S T) (n : 
   pub of_tile : IsAmong e (edges (F.patch.outline tile))
   pub not_inner : ¬ IsInner S T F n e
 
--- the polygon is that of the patch at depth n: it holds exactly the points of the tiles; each edge of a tile is inner or lies along an edge of it; and where
--- an edge of it meets a box, an edge of a tile on the boundary does
+-- The polygon is that of the patch at depth n. It holds exactly the points of the tiles. Each edge of a tile
+-- is inner or lies along an edge of it. If an edge of it meets a box, an edge of a tile on the boundary does.
 pub record IsWholeOf (S : Signed) (T : Type 0) (F : GrowingPatch S T) (n : ℕ) (whole : Polygon S) : Type 0 where
   pub holds : (p : TestPoint S.ops.carrier) → IsTestPoint S p → IsTrue (member S whole p) ↔ ((t : T) × IsOfDepth S T F n t × IsTrue (member S (F.patch.outline t) p))
   pub inner_or_along : (t : T) → IsOfDepth S T F n t → (e : PlaneEdge S) → IsAmong e (edges (F.patch.outline t))

@@ -1,4 +1,5 @@
--- Windows within the limits of a growing patch: some depth is enough, no tile drawn is refused, and not too many are drawn. The search goes on exactly there.
+-- Windows within the limits of a growing patch: some depth is enough, no tile drawn is refused, and not too
+-- many are drawn. The search goes on exactly there.
 use Rattle.std.specs.Prelude.{◌≡◌, ℕ, ◌<◌, ◌≤◌, false, List, [], length}
 use Rattle.std.specs.List.{AllByRecursion}
 use Rattle.ordered_ring.specs.Sign.{Signed}

@@ -1,5 +1,5 @@
--- Polygons that meet an open box. One does where one of its edges does: on the left of each point of an edge there are points of the polygon as close to it
--- as one likes.
+-- Polygons that meet an open box. A polygon does if one of its edges does: on the left of each point of an
+-- edge there are points of the polygon, arbitrarily close to it.
 use Rattle.std.specs.Prelude.{◌≡◌, ◌⊎◌, ◌<◌, pos, true, length, IsTrue}
 use Rattle.std.specs.List.{AllByRecursion}
 use Rattle.ordered_ring.specs.Sign.{Signed}
@@ -14,7 +14,8 @@ use Rattle.windows.specs.Outlines.{PlaneEdge, Polygon, edges, MeetsBox}
 abbrev pub PolygonMeetsBox : (S : Signed) → OpenBox S.ops.carrier → Polygon S → Type 0
 PolygonMeetsBox S box polygon = (p : TestPoint S.ops.carrier) × IsTestPoint S p × IsTrue (in_box S box p) × IsTrue (member S polygon p)
 
--- the polygon has three vertices at least, each triangle of its fan turns left, and it counts 0 or 1 at each test point
+-- the polygon has three vertices at least, each triangle of its fan turns left, and it counts 0 or 1 at each
+-- test point
 pub record IsLeftFan (S : Signed) (polygon : Polygon S) : Type 0 where
   pub corners : 2 < length polygon
   pub turns_left : AllByRecursion (λ t. turns_left S t ≡ true) (fan polygon)

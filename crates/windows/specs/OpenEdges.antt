@@ -30,7 +30,7 @@ abbrev pub AreThose : {A : Type 0} → (A → Type 0) → List A → List A → 
 AreThose Has [] ys = ys ≡ []
 AreThose {A} Has (x ∷ xs) ys = (Has x × (rest : List A) × (ys ≡ x ∷ rest) × AreThose Has xs rest) ⊎ ((¬ Has x) × AreThose Has xs ys)
 
--- these are, by tile and then edge, those edges of the tiles that meet the box and have none of these tiles' edges
--- for their reverse
+-- these are, by tile and then edge, those edges of the tiles that meet the box and have none of these tiles'
+-- edges for their reverse
 abbrev pub AreOpenEdges : (S : Signed) → OpenBox S.ops.carrier → List (Polygon S) → List (NumberedEdge S) → Type 0
 AreOpenEdges S box polygons open_now = AreThose (λ (n : NumberedEdge S). IsOpen S box (flat_map edges polygons) n.line) (numbered_from S 0 polygons) open_now

@@ -1,4 +1,5 @@
--- One step by the open edges alone: an edge of a new tile that meets the window is met by a tile found exactly where an open edge is its reverse.
+-- One step by the open edges alone: an edge of a new tile that meets the window is met by a tile found if and
+-- only if an open edge is its reverse.
 use Rattle.std.specs.Prelude.{◌≡◌, Bool, not, ◌&&◌, List, ◌++◌, length}
 use Rattle.std.specs.List.{filter, list_any}
 use Rattle.ordered_ring.specs.Sign.{Signed}
@@ -14,7 +15,8 @@ use Rattle.windows.specs.PatchWindow.{PatchWindow}
 abbrev pub closes_one : (S : Signed) → List (NumberedEdge S) → PlaneEdge S → Bool
 closes_one S open_now e = list_any (λ o. is_reverse S e o.line) open_now
 
--- the open edges that no edge of the new tile closes, and those of its own edges that meet the window and close none
+-- the open edges that no edge of the new tile closes, and those of its own edges that meet the window and
+-- close none
 abbrev pub OpenStep : Signed → Type 0 → Type 0
 OpenStep S T =
     (G : PatchWindow S T) (s : SearchState S T) → IsRightState S T G.growing G.box s

@@ -1,4 +1,5 @@
--- Patches of tiles, dissected ones, and what it is for some tiles of a patch to be closed in a window, to cover it, and to be all that meet it.
+-- Patches of tiles, and dissected ones. What it means that some tiles of a patch are closed in a window,
+-- cover it, or are all that meet it.
 use Rattle.std.specs.Prelude.{◌≡◌, false, List, IsTrue}
 use Rattle.std.specs.List.{AllByRecursion}
 use Rattle.ordered_ring.specs.Sign.{Signed}
@@ -16,8 +17,8 @@ pub record Patch (S : Signed) (T : Type 0) : Type 0 where
   pub tiles : List T
   pub outline : T → Polygon S
 
--- the tiles are distinct; outlines are left fans; no test point belongs to two tiles; the edges of one tile are distinct, and none is of two tiles; and no
--- edge of a tile is the reverse of another of its edges
+-- The tiles are distinct, and outlines are left fans. No test point belongs to two tiles. The edges of one
+-- tile are distinct, and none is of two tiles. No edge of a tile is the reverse of another of its edges.
 pub record IsDissected (S : Signed) (T : Type 0) (P : Patch S T) : Type 0 where
   pub distinct : AreDistinct P.tiles
   pub left_fan : (t : T) → IsAmong t P.tiles → IsLeftFan S (P.outline t)
@@ -31,7 +32,8 @@ pub record IsDissected (S : Signed) (T : Type 0) (P : Patch S T) : Type 0 where
 abbrev pub HasAcross : (S : Signed) (T : Type 0) → Patch S T → List T → PlaneEdge S → Type 0
 HasAcross S T P found e = (u : T) × (f : PlaneEdge S) × IsAmong u found × IsAmong f (edges (P.outline u)) × IsTrue (is_reverse S e f)
 
--- these tiles are of the patch and distinct, one holds the centre of the box, and the tile across each edge of theirs that meets the box is one of them
+-- These tiles are of the patch and distinct, and one holds the centre of the box. The tile across each edge
+-- of theirs that meets the box is one of them.
 pub record IsClosed (S : Signed) (T : Type 0) (P : Patch S T) (box : OpenBox S.ops.carrier) (found : List T) : Type 0 where
   pub of_patch : AllByRecursion (λ t. IsAmong t P.tiles) found
   pub distinct : AreDistinct found

@@ -18,19 +18,21 @@ pub record IsDepthLimit (S : Signed) (T : Type 0) (F : GrowingPatch S T) (box : 
   pub tile_meets : PolygonMeetsBox S box (F.patch.outline t)
   pub none_enough : (n : ℕ) → ¬ IsEnough S T F box n
 
--- so it is with an open edge that has no tile across it at all
+-- the same holds for an open edge that has no tile across it at all
 abbrev pub DepthRefusal : Signed → Type 0 → Type 0
 DepthRefusal S T =
     (G : PatchWindow S T) (s : SearchState S T) → IsRightState S T G.growing G.box s → (o : NumberedEdge S) → IsAmong o s.open_edges
     → ((u : T) → ¬ LiesAcross S T G.growing o.line u) → (t : T) × IsAmong t s.found × IsDepthLimit S T G.growing G.box o.line t
 
--- each tile of the patch that meets the window is drawn at each enough depth: so a tile found with a refused shift is
+-- each tile of the patch that meets the window is drawn at each enough depth: so a tile found with a refused
+-- shift is
 abbrev pub AllDrawn : Signed → Type 0 → Type 0
 AllDrawn S T =
     (G : PatchWindow S T) (n : ℕ) → IsEnough S T G.growing G.box n → (drawn : List T) → AreDrawn S T G.growing G.box n drawn
     → (t : T) → IsAmong t G.growing.patch.tiles → PolygonMeetsBox S G.box (G.growing.patch.outline t) → IsAmong t drawn
 
--- where one tile more than those found meets the window, more tiles are drawn at each enough depth than were found
+-- where one tile more than those found meets the window, more tiles are drawn at each enough depth than were
+-- found
 abbrev pub CountRefusal : Signed → Type 0 → Type 0
 CountRefusal S T =
     (G : PatchWindow S T) (s : SearchState S T) → IsRightState S T G.growing G.box s

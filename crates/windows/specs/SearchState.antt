@@ -1,4 +1,5 @@
--- The state of a search for the tiles of a window: the tiles found so far, their open edges, and the depth to which the patch has grown.
+-- The state of a search for the tiles of a window: the tiles found so far, their open edges, and the depth to
+-- which the patch has grown.
 use Rattle.std.specs.Prelude.{◌≡◌, ℕ, ◌≤◌, max, false, not, List, [], ◌∷◌, ◌++◌, map, length, IsTrue}
 use Rattle.std.specs.List.{flat_map, filter, AllByRecursion}
 use Rattle.ordered_ring.specs.Sign.{Signed}
@@ -27,7 +28,8 @@ abbrev pub IsFirst : {T : Type 0} → T → List T → Type 0
 IsFirst t [] = ⊥
 IsFirst t (x ∷ xs) = t ≡ x
 
--- the tiles found are of the patch at its depth, distinct and not refused; each meets the window; tile 0 holds the centre; and the open edges are theirs
+-- the tiles found are of the patch at its depth, distinct and not refused; each meets the window; tile 0
+-- holds the centre; and the open edges are theirs
 pub record IsRightState (S : Signed) (T : Type 0) (F : GrowingPatch S T) (box : OpenBox S.ops.carrier) (s : SearchState S T) : Type 0 where
   pub of_patch : AllByRecursion (λ t. IsAmong t F.patch.tiles) s.found
   pub at_depth : AllByRecursion (λ t. F.level t ≤ s.depth) s.found
@@ -45,7 +47,8 @@ started S T F box depth t = record {
   depth = depth;
 }
 
--- one step: u is found, the open edges that it meets are closed, and its own edges that meet the window and have no tile found across them are open
+-- one step: u is found, the open edges that it meets are closed, and its own edges that meet the window and
+-- have no tile found across them are open
 abbrev pub stepped : (S : Signed) (T : Type 0) → GrowingPatch S T → OpenBox S.ops.carrier → SearchState S T → T → SearchState S T
 stepped S T F box s u = record {
   found = s.found ++ u ∷ [];

@@ -1,5 +1,6 @@
--- The theorem of the search: it begins with the tile of the centre, and each step finds the tile across an open edge; where no edge is open, the tiles found
--- are those that meet the window, and the depth is the least enough one.
+-- The theorem of the search. It begins with the tile of the centre, and each step finds the tile across an
+-- open edge. If no edge is open, the tiles found are those that meet the window, and the depth is the least
+-- enough one.
 use Rattle.std.specs.Prelude.{◌≡◌, ℕ, max, false, []}
 use Rattle.ordered_ring.specs.Sign.{Signed}
 use Rattle.ordered_plane.specs.Box.{OpenBox}
@@ -12,14 +13,16 @@ use Rattle.windows.specs.OpenEdges.{NumberedEdge}
 use Rattle.windows.specs.SearchState.{SearchState, IsRightState, started, stepped}
 use Rattle.windows.specs.PatchWindow.{PatchWindow, LiesAcross, HoldsCentre}
 
--- the least depth from m on at which the patch holds the centre isn't beyond any enough one; and where the centre's tile isn't refused the state is right
+-- the least depth from m on at which the patch holds the centre isn't beyond any enough one; and where the
+-- centre's tile isn't refused the state is right
 abbrev pub StartRight : Signed → Type 0 → Type 0
 StartRight S T =
     (G : PatchWindow S T) (t : T) → HoldsCentre S T G.growing G.box t → (m : ℕ)
     → IsNotBeyond S T G.growing G.box m (max m (G.growing.level t))
     × (G.growing.refused t ≡ false → IsRightState S T G.growing G.box (started S T G.growing G.box (max m (G.growing.level t)) t))
 
--- the tile u is new, and meets the window; where its shift isn't refused the next state is right, and not beyond any enough depth
+-- the tile u is new, and meets the window; where its shift isn't refused the next state is right, and not
+-- beyond any enough depth
 pub record IsStep (S : Signed) (T : Type 0) (F : GrowingPatch S T) (box : OpenBox S.ops.carrier) (s : SearchState S T) (u : T) : Type 0 where
   pub new : ¬ IsAmong u s.found
   pub meets : PolygonMeetsBox S box (F.patch.outline u)

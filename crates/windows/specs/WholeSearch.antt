@@ -1,4 +1,5 @@
--- The whole search: from the tile of the centre by steps across the first open edge until none is open. It comes to its end exactly within the limits.
+-- The whole search: from the tile of the centre by steps across the first open edge until none is open. It
+-- comes to its end exactly within the limits.
 use Rattle.std.specs.Prelude.{◌≡◌, ◌↔◌, ℕ, ◌≤◌, max, false, List, [], ◌∷◌, length}
 use Rattle.ordered_ring.specs.Sign.{Signed}
 use Rattle.ordered_plane.specs.Box.{OpenBox}

@@ -1,5 +1,5 @@
--- The theorem of the window: the tiles that one reaches from the tile at the centre of an open box, across edges that meet the box, are exactly those that
--- meet the box, and they cover it.
+-- The theorem of the window. The tiles that are reached from the tile at the centre of an open box, across
+-- edges that meet the box, are exactly those that meet the box, and they cover it.
 use Rattle.std.specs.Prelude.{◌≡◌, ◌<◌, List, IsTrue}
 use Rattle.ordered_ring.specs.Sign.{Signed}
 use Rattle.ordered_plane.specs.Plane.{TestPoint, IsTestPoint}
@@ -20,7 +20,8 @@ abbrev pub KnownByOutline : Signed → Type 0 → Type 0
 KnownByOutline S T =
     (P : Patch S T) → IsDissected S T P → (t u : T) → IsAmong t P.tiles → IsAmong u P.tiles → P.outline t ≡ P.outline u → t ≡ u
 
--- where outlines are left fans and no test point belongs to two tiles, no directed edge is of two tiles: a point close to it, on its left, is of both
+-- If outlines are left fans and no test point belongs to two tiles, no directed edge is of two tiles: a point
+-- close to it, on its left, is of both.
 abbrev pub OneOwner : Signed → Type 0 → Type 0
 OneOwner S T =
     (P : Patch S T) → ((t : T) → IsAmong t P.tiles → IsLeftFan S (P.outline t))

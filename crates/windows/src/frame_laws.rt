@@ -26,9 +26,9 @@ pub fn frame_patch_law(order: Order)
     ensures named { NamedLaw (points_of order) }
 {}
 
-/// States what the edges of a frame's tiles are. They are those of the outline, by their numbers. Whether one
-/// is the reverse of another is seen by their ends. The tile across an edge in the supertile is the tile
-/// across it in the frame. At a depth an edge is inner if and only if there is such a tile, and it is not
+/// States what the edges of a frame's tiles are. They are those of the outline, by their numbers. A test of
+/// their ends shows whether one is the reverse of another. The tile across an edge in the supertile is the
+/// tile across it in the frame. At a depth an edge is inner if and only if there is such a tile. It is not
 /// inner if and only if it lies on the supertile's boundary.
 pub fn frame_edge_law(order: Order)
     ensures lines { LinesLaw (points_of order) }

@@ -33,8 +33,8 @@ pub fn outline_law(order: Order)
     ensures one_owner { OwnerLaw (points_of order) }
 {}
 
-/// States that a depth of a growing patch is enough for a window if and only if the patch's polygon holds the
-/// centre and none of its edges meets the window.
+/// States when a depth of a growing patch is enough for a window. It is enough if and only if the patch's
+/// polygon holds the centre and none of its edges meets the window.
 pub fn enough_law(order: Order)
     ensures { EnoughLaw (points_of order) }
 {}
