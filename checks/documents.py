@@ -116,12 +116,12 @@ def commands(name, text, indent, folder):
 
 
 def recipes(folder):
-    """Runs each command of README's table of recipes, in its order: those of the program write a file and nothing
-    else. (The package's own tests run those of the package.)"""
+    """Runs each command of README's table of recipes, in its order: it prints what follows it in its cell, or writes
+    a file and prints nothing. (The package's own tests run those of the package.)"""
     for cells in table(read("README.md"), ["You want"]):
-        for command in quoted(cells[1]):
-            if re.match(r"\./|python3", command) and is_runnable("README.md", command):
-                tally.compare("commands", f"README.md: {cells[0]}", shell(command, folder), [""])
+        command, *printed = quoted(cells[1])
+        if re.match(r"\./|python3", command) and is_runnable("README.md", command):
+            tally.compare("commands", f"README.md: {cells[0]}", shell(command, folder), printed or [""])
 
 
 def rows(text):
@@ -241,6 +241,8 @@ def rule_files():
             zeta = cmath.exp(2j * cmath.pi / rule["order"])
             factor = sum(a * zeta**i for i, a in enumerate(rule["lambda"]))
             tally.compare("rows of the library", f"rules/README.md: {stem}, factor", abs(factor - value(cells[2], zeta)) < 1e-9, True)
+        has_comments = f"rules/{'commented/' * os.path.exists(f'{TOP}/rules/commented/{name}')}{name}"
+        tally.compare("rule files", f"{has_comments} names its source", "\n# Source: " in read(has_comments), True)
         if os.path.exists(f"{TOP}/rules/commented/{name}"):
             commented = read(f"rules/commented/{name}")
             tally.compare("rule files", f"rules/commented/{name}", call(["check", "rule=-"], commented.encode()), (wanted, 0))
@@ -375,10 +377,11 @@ def symmetric_places():
     """Each place of high symmetry of docs/TILINGS.md is so to the radius that is told, and with its digits
     once more further."""
     head = ["rule", "what is there"]
-    for name, _, turn, radius, words, more in table(section(read("docs/TILINGS.md"), "Where to look"), head):
+    for name, _, turn, radius, words, vertex, more in table(section(read("docs/TILINGS.md"), "Where to look"), head):
         rule, words, fold = places.Rule(TOP, PROGRAM, quoted(name)[0]), quoted(words)[0].split(" "), int(turn.partition("/")[2])
         where = f"docs/TILINGS.md: {rule.name} {' '.join(words)}"
         tally.compare("places of symmetry", where, int(places.symmetric_radius(rule, words, fold, int(radius) + 5)), int(radius))
+        tally.compare("places of symmetry", f"{where}, vertex", places.vertex_of(rule, words, vertex), words[1])
         front, _, digits = words[0].partition(":")
         longer = [f"{front}:{quoted(more)[0]},{digits}", words[1]]
         further = 19 * int(radius) // 10

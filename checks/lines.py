@@ -9,10 +9,10 @@ from collections import Counter
 SHOWN = 3
 # what is counted, and how much of it there may be
 CEILINGS = {
-    "clause lines above 110 columns": 585,
-    "proof lines above 150 columns": 5598,
+    "clause lines above 110 columns": 563,
+    "proof lines above 150 columns": 5576,
     "calls with more than 10 clauses": 45,
-    "copies in answers": 867,
+    "copies in answers": 857,
 }
 CLAUSE_WIDTH, PROOF_WIDTH, MOST_CLAUSES, LEAST_COPIES, LEAST_LENGTH = 110, 150, 10, 3, 12
 CLAUSE = re.compile(r"\s*(requires|ensures|invariant|decreases)\b.*\{")

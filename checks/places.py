@@ -94,10 +94,14 @@ def symmetric_radius(rule, words, fold, most):
 def star_of(rule, words, vertex):
     """The name of the star round a vertex, and the coefficients of that vertex."""
     names, _, stars = WHOLES[FILES[rule.name]]
-    address = word(words, "addr")
-    lines = rule.call("star", f"addr={address}", f"vertex={vertex}")
-    at = rule.numbers["kind"][int(address.partition(":")[0])]["vertices"][int(vertex)]
-    return whole_star(rule.tiling, names, "\n".join(lines), stars), f"at={','.join(map(str, at))}"
+    lines = rule.call("star", f"addr={word(words, 'addr')}", f"vertex={vertex}")
+    return whole_star(rule.tiling, names, "\n".join(lines), stars), vertex_of(rule, words, vertex)
+
+
+def vertex_of(rule, words, vertex):
+    """The coefficients of a vertex of the base."""
+    kind = int(word(words, "addr").partition(":")[0])
+    return f"at={','.join(map(str, rule.numbers['kind'][kind]['vertices'][int(vertex)]))}"
 
 
 def side_by_side(rule, right, up):

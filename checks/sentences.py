@@ -1,5 +1,6 @@
-"""Long sentences, wide lines and avoided words of the documents: see sentences.sh. Called with the top, and with the
-names of the documents of which everything is to be listed."""
+"""Long sentences, wide lines and avoided words of the documents and of comments: see sentences.sh. Called with the top,
+and with the names of the documents, crates or sources of which everything is to be listed."""
+import glob
 import os
 import re
 import sys
@@ -7,6 +8,8 @@ import sys
 LONGEST, WIDEST, SHOWN = 30, 110, 5
 # how many long sentences, wide lines and avoided words a document may have; none without a row here
 ALLOWED = {}
+# how many words a document may have, so that it reads in three minutes: a command, a formula or a quotation is one
+WORDS = {"README.md": 750}
 # how many lines a document may have
 LENGTHS = {"README.md": 110, "docs/PROMISES.md": 200, "docs/DECISIONS.md": 150, "docs/COST.md": 120}
 # what docs/STYLE.md has a plainer word for, and is never meant otherwise
@@ -14,7 +17,7 @@ AVOIDED = [
     r"but for", r"but that", r"nothing but", r"be it", r"want of memory", r"memory is wanting", r"is (wanting|lacking)",
     r"(says?|said) (its|their) words", r"(is|are|was|were) told", r"tells?", r"(isn't|aren't|wasn't) there", r"hasn't (an?|the|its|this|no)\b",
     r"wherever", r"exactly (there )?where", r"and else", r"else (it|they|the|a)\b", r"each once",
-    r"just one", r"one alone", r"the (only|first) such", r"likewise", r"so too", r"so it is with",
+    r"just one", r"one alone", r"the (only|first) such(?! (value|format|line)\b)", r"likewise", r"so too", r"so it is with",
     r"is so(?= (of|for|with|exactly)|[.,;:])",
     r"whoever", r"everybody", r"behind", r"beside", r"one like(s|d)\b", r"round (?=(an?|the|it|its|them|each|every|this|that|one|both|vertex)\b)",
     r"stands?\b(?! (for|on)\b)", r"(is|are|be) had", r"(is|are) due", r"it is meant", r"(has|have|had) to be", r"start numbers?",
@@ -25,9 +28,43 @@ WORD = re.compile("|".join(rf"\b{word}\b" for word in AVOIDED), re.I)
 
 
 def documents(top):
-    """The names of all documents."""
-    pages = [f"{folder}{name}" for folder in ("", "rules/", "docs/") for name in sorted(os.listdir(f"{top}/{folder}")) if name.endswith(".md")]
-    return [*pages, "docs/HELP.txt", "docs/tiling.1"]
+    """The names of all documents, and the crates, of which the comments are counted."""
+    folders = ("", "crates/", "rules/", "docs/")
+    pages = [f"{folder}{name}" for folder in folders for name in sorted(os.listdir(f"{top}/{folder}")) if name.endswith(".md")]
+    return [*pages, "docs/HELP.txt", "docs/tiling.1", *sorted(os.path.relpath(path, top) for path in glob.glob(f"{top}/crates/*/"))]
+
+
+def files_of(top, name):
+    """The files of a document: itself, or the sources of a crate."""
+    if not os.path.isdir(f"{top}/{name}"):
+        return [name]
+    return sorted(os.path.relpath(path, top) for path in glob.glob(f"{top}/{name}/src/*.rt"))
+
+
+def is_shown(mark, line, in_trait):
+    """Whether a comment of this mark before this line is read by users of a crate: that of a file, of a public item, of
+    a variant, of a method of a public trait, or of a group of clauses."""
+    if mark == "///":
+        return in_trait or re.match(r"\s*pub |\s+[A-Z]\w*\s*([,{(]|$)", line)
+    return mark == "//!" or re.match(r"\s*(ensures|requires)\b", line)
+
+
+def comments(source):
+    """The shown comments of a source as prose, each in its line, and all other lines empty."""
+    lines, shown, mark, below = source.split("\n"), [], None, ""
+    traits = [(found.start(), found.end()) for found in re.finditer(r"^pub trait .*?^\}", source, re.M | re.S)]
+    at = len(source) + 1
+    for line in reversed(lines):
+        at -= len(line) + 1
+        found = re.match(r"\s*(//[/!]?)(?: |$)(.*)", line)
+        if found is None:
+            below, mark = (below if re.match(r"\s*#\[", line) else line), None
+            shown.append("")
+            continue
+        if found[1] != mark:
+            mark, is_read = found[1], is_shown(found[1], below, any(start < at < end for start, end in traits))
+        shown.append(found[2] if is_read else "")
+    return "\n".join(reversed(shown))
 
 
 def manual_lines(text):
@@ -86,46 +123,63 @@ def count(sentence):
     return sum(1 for word in sentence.split() if re.search(r"\w", word))
 
 
-def wide_lines(name, text):
-    """The lines that could be broken and aren't: no rows of tables, no code, no commands, no pictures."""
+def wide_lines(name, text, prose):
+    """The lines that could be broken and aren't: no rows of tables, no code, no commands, no pictures; of a source, the
+    shown comments."""
     fenced = False
-    for number, line in enumerate(text.split("\n"), 1):
-        fenced ^= line.startswith("```")
-        is_free = fenced or re.match(r"```|    |\||!\[|  ?\$? ?\./tiling|\$ tiling|\.", line)
+    for number, (line, shown) in enumerate(zip(text.split("\n"), prose.split("\n")), 1):
+        fenced ^= shown.startswith("```")
+        is_free = not shown or fenced or re.match(r"```|    |\||!\[|  ?\$? ?\./tiling|\$ tiling|\.", shown)
         if len(line) > WIDEST and not is_free:
             yield number, f"{len(line)} columns"
 
 
 def faults(top, name):
-    """The long sentences, the wide lines and the avoided words of a document, each with its line and what it is."""
+    """The long sentences, the wide lines and the avoided words of a file, each with its line and what it is."""
     with open(os.path.join(top, name), encoding="utf-8") as file:
         text = file.read()
+    prose = comments(text) if name.endswith(".rt") else text
     long, avoided = [], []
-    for line, piece in blocks(name, text):
+    for line, piece in blocks(name, prose):
         for sentence in sentences(plain(piece)):
             if count(sentence) > LONGEST:
                 long.append((count(sentence), line, f"{count(sentence)} words: {sentence}"))
         # (the page on style quotes them)
         avoided += [(line, found[0].strip()) for found in WORD.finditer(plain(piece)) if name != "docs/STYLE.md"]
-    return [(line, what) for _, line, what in sorted(long, reverse=True)], list(wide_lines(name, text)), avoided
+    return [(line, what) for _, line, what in sorted(long, reverse=True)], list(wide_lines(name, text, prose)), avoided
 
 
-def length(top, name):
-    """How many lines a document has."""
+def sizes(top, name):
+    """How many words and how many lines a document has."""
     with open(os.path.join(top, name), encoding="utf-8") as file:
-        return sum(1 for _ in file)
+        text = file.read()
+    return sum(count(plain(piece)) for _, piece in blocks(name, text)), text.count("\n")
+
+
+def faults_of(top, name):
+    """The same of all files of a document, each with its place."""
+    kinds = [], [], []
+    for file in files_of(top, name):
+        for kind, found in zip(kinds, faults(top, file)):
+            kind += [f"{file}:{line}: {what}" for line, what in found]
+    return kinds
+
+
+def words_of(place):
+    """How many words the long sentence of a place has."""
+    return int(re.search(r": (\d+) words: ", place)[1])
 
 
 def main():
     top, listed = sys.argv[1], sys.argv[2:]
     bad, total, worst = 0, [0, 0, 0], []
     for name in listed or documents(top):
-        found = faults(top, name)
+        found = faults_of(top, name.rstrip("/"))
         numbers = [len(it) for it in found]
         total = [a + b for a, b in zip(total, numbers)]
-        worst += [(int(what.split(" ", 1)[0]), f"{name}:{line}: {what}") for line, what in found[0]]
-        for line, what in [it for kind in found for it in kind] if listed else []:
-            print(f"{name}:{line}: {what}")
+        worst += found[0]
+        for place in [it for kind in found for it in kind] if listed else []:
+            print(place)
         allowed = ALLOWED.get(name, (0, 0, 0))
         for what, number, limit in zip(("long sentences", "wide lines", "avoided words"), numbers, allowed):
             if number > limit:
@@ -133,12 +187,14 @@ def main():
                 bad += 1
             elif number < limit:
                 print(f"sentences: {name} has {number} {what}, and may have {limit}: write {number} in checks/sentences.py")
-    for name, limit in LENGTHS.items():
-        if length(top, name) > limit:
-            print(f"sentences: {name} has {length(top, name)} lines, and may have {limit}", file=sys.stderr)
-            bad += 1
-    for _, what in sorted(worst, reverse=True)[:SHOWN] if not listed else []:
-        print(f"sentences: {what}")
+    for which, (what, limits) in enumerate((("words", WORDS), ("lines", LENGTHS))):
+        for name, limit in limits.items():
+            number = sizes(top, name)[which]
+            if number > limit:
+                print(f"sentences: {name} has {number} {what}, and may have {limit}", file=sys.stderr)
+                bad += 1
+    for place in sorted(worst, key=words_of, reverse=True)[:SHOWN] if not listed else []:
+        print(f"sentences: {place}")
     print(f"sentences: {total[0]} of more than {LONGEST} words, {total[1]} lines above {WIDEST} columns, {total[2]} avoided words")
     return 1 if bad else 0
 

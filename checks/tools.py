@@ -8,7 +8,7 @@ import tempfile
 
 sys.dont_write_bytecode = True
 TOP, PROGRAM = os.path.abspath(sys.argv[1]), os.path.abspath(sys.argv[2])
-MODULES = {"command_line.py", "hostile_answers.py", "hostile_inputs.py", "rule_file.py", "toml_document.py"}
+MODULES = {"command_line.py", "hostile_answers.py", "hostile_inputs.py", "older_toml.py", "rule_file.py", "toml_document.py"}
 # a call of each script that prints much or for long; those with PROGRAM are left out where there is none
 CALLS = {
     "corners.py": "rules/chair.toml < LINES",
