@@ -10,7 +10,6 @@ import os, re, sys, textwrap
 
 top, words = sys.argv[1], sys.argv[2:]
 page = f"{top}/crates/README.md"
-HELPS_TRIALS = ("plain_tiles", "refusing_layer", "rule_library")
 PARTS = (
     ("The program", "From the top down. A crate uses the contracts of crates below it, and the theorems of the theory."),
     ("The theory", "Definitions, proofs and laws, and no other code. They name no type of the program."),
@@ -33,9 +32,7 @@ def comment(crate):
 
 def part_of(crate):
     """Which part of the page has a crate."""
-    if crate.startswith("trial_") or crate.endswith("_trials") or crate in HELPS_TRIALS:
-        return 2
-    return 1 if crate.startswith("theory_") or "and no other code" in comment(crate) else 0
+    return 1 if crate.startswith("theory_") else 2 if crate.startswith("trial_") else 0
 
 
 crates = [line.split("#")[0].split(":")[0].split()[0] for line in read(f"{top}/crates.txt").split("\n") if line.split("#")[0].strip()]

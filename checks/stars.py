@@ -262,7 +262,7 @@ def crowded(top, program):
     wrong = []
     for number, (cut, corners) in RULES.items():
         text, (kind, digits), vertex = fan_rule(cut, corners)
-        path = os.path.join(top, "crates", "rule_library", "data", f"{number}_round_a_vertex.toml")
+        path = os.path.join(top, "crates", "trial_rule_files", "data", f"{number}_round_a_vertex.toml")
         if os.path.exists(path):
             with open(path, encoding="utf-8") as file:
                 wrong += [] if file.read() == text else [f"{path} isn't what tools/fan_rule.py makes"]

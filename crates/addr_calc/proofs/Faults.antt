@@ -1,6 +1,6 @@
 -- A text has one fault: the first.
 use Rattle.std.proofs.Common.{◌≡◌, ◌≢◌, ℕ, zero, suc, ◌<◌, ◌≤◌, List, [], ◌∷◌, map, length, take, slice_get, Some, refl, sym, ap, ◌∙◌, subst, arith}
-use Rattle.addressing.specs.Address.{Step, Address, child_kind, kind_at, Climbs, depth}
+use Rattle.theory_addresses.specs.Address.{Step, Address, child_kind, kind_at, Climbs, depth}
 use Rattle.tile_shape.specs.declared.address_fault.AddressFault.{AddressFault}
 use Rattle.tile_shape.specs.declared.address_fault.AddressFault.TheVariants.{BadText, TooDeep, UnknownKind, WrongChild}
 use Rattle.tile_shape.specs.Misfit.{StandsAt, IsFirstMisfit}
@@ -17,7 +17,8 @@ pub record IsRight (children : List (List ℕ)) (kind : ℕ) (ds : List Step) (m
   pub is_child : child_kind children d.parent d.child ≡ Some child
   pub has_level : slice_get (kind ∷ map (λ (e : Step). e.parent) ds) m ≡ Some child
 
-climbed : (children : List (List ℕ)) (kind : ℕ) (ds : List Step) (n m : ℕ) (d : Step) → Climbs children kind (take n ds) → slice_get ds m ≡ Some d → m < n → IsRight children kind ds m d
+climbed : (children : List (List ℕ)) (kind : ℕ) (ds : List Step) (n m : ℕ) (d : Step)
+    → Climbs children kind (take n ds) → slice_get ds m ≡ Some d → m < n → IsRight children kind ds m d
 climbed children kind [] n zero d c e l = absurd (cc e)
 climbed children kind [] n (suc m) d c e l = absurd (cc e)
 climbed children kind (x ∷ ds) zero m d c e l = absurd (omega arith)
@@ -34,7 +35,8 @@ module _ (children : List (List ℕ)) (a : Address) where
       let exists = parent_exists children d.parent d.child right.child right.is_child in
       absurd (omega arith)
 
-  no_misfit_below : (l m : ℕ) (d e : Step) → StandsAt children a l d → StandsAt children a m e → child_kind children d.parent d.child ≢ kind_at a l → l < m → ⊥
+  no_misfit_below : (l m : ℕ) (d e : Step) → StandsAt children a l d → StandsAt children a m e
+      → child_kind children d.parent d.child ≢ kind_at a l → l < m → ⊥
   no_misfit_below l m d e h k n less =
       let right = climbed children a.kind a.digits m l d k.climbs h.digit less in
       n (right.is_child ∙ sym right.has_level)
@@ -42,7 +44,8 @@ module _ (children : List (List ℕ)) (a : Address) where
   same_digit : (l m : ℕ) (d e : Step) → StandsAt children a l d → StandsAt children a m e → l ≡ m → d ≡ e
   same_digit l m d e h k same = some_step d e (sym h.digit ∙ ap (slice_get a.digits) same ∙ k.digit)
 
-  parent_or_misfit : (l m : ℕ) (d e : Step) → StandsAt children a l d → length children ≤ d.parent → StandsAt children a m e → e.parent < length children
+  parent_or_misfit : (l m : ℕ) (d e : Step) → StandsAt children a l d → length children ≤ d.parent
+      → StandsAt children a m e → e.parent < length children
       → child_kind children e.parent e.child ≢ kind_at a m → ⊥
   parent_or_misfit l m d e h n k exists other =
       let below = no_parent_below l m d e h k n in

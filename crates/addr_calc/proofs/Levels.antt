@@ -1,7 +1,7 @@
 -- Levels from which on two addresses agree: with each also those above it.
 use Rattle.std.proofs.Common.{◌≡◌, ℕ, zero, suc, ◌+◌, ◌-◌, ◌<◌, ◌≤◌, List, [], ◌∷◌, map, drop, get_or, slice_get, option_map, refl, sym, ap, ap₂, ◌∙◌, subst, arith}
 use Rattle.std.proofs.lemmas.List.{drop_more}
-use Rattle.addressing.specs.Address.{Step, Address, depth, kind_at}
+use Rattle.theory_addresses.specs.Address.{Step, Address, depth, kind_at}
 use Rattle.addr_calc.specs.Level.{AgreeFrom}
 
 -- the first of what is left is what stood there
@@ -44,7 +44,8 @@ module _ (a b : Address) where
   agree_from i j h l m = subst (AgreeFrom a b) (omega (arith, l)) (agree_up (j - i) i h (omega (arith, l, m)))
 
   -- from a level below they agree exactly where the digits and the kinds there are equal
-  pub agree_also : (i : ℕ) (d : Step) → depth a ≡ depth b → i < depth a → AgreeFrom a b (i + 1) → get_or a.digits i d ≡ get_or b.digits i d → kind_at a i ≡ kind_at b i → AgreeFrom a b i
+  pub agree_also : (i : ℕ) (d : Step) → depth a ≡ depth b → i < depth a → AgreeFrom a b (i + 1)
+      → get_or a.digits i d ≡ get_or b.digits i d → kind_at a i ≡ kind_at b i → AgreeFrom a b i
   agree_also i d same l h e k = record {
     exists = omega (arith, l);
     kinds = k;

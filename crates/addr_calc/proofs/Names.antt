@@ -1,7 +1,7 @@
 -- Names bound to addresses of tiles of a tiling.
 use Rattle.std.proofs.Common.{◌≡◌, ◌⊎◌, inl, inr, ℕ, zero, suc, List, [], ◌∷◌, get_or, set, Some, None, refl, sym, ◌∙◌, subst}
 use Rattle.std.specs.declared.option.Option.{Option}
-use Rattle.addressing.specs.Address.{Address, Fits}
+use Rattle.theory_addresses.specs.Address.{Address, Fits}
 use Rattle.rule_model.specs.Tiling.{Tiling, children}
 use Rattle.addr_calc.specs.Bindings.{Bindings, IsBound, none_bound, bind}
 use Rattle.addr_calc.specs.Calculation.{AllFit}
@@ -10,7 +10,8 @@ some_is : {A : Type 0} (x y : A) → Some x ≡ Some y → x ≡ y
 some_is x y e = cc
 
 -- a name is bound to what it was just bound to, or to what it was bound to before
-found : (names : Bindings) (name other : ℕ) (x : Option Address) → (get_or (set names name x) other None ≡ x) ⊎ (get_or (set names name x) other None ≡ get_or names other None)
+found : (names : Bindings) (name other : ℕ) (x : Option Address) → (get_or (set names name x) other None ≡ x)
+    ⊎ (get_or (set names name x) other None ≡ get_or names other None)
 found [] name other x = inr refl
 found (y ∷ names) zero zero x = inl refl
 found (y ∷ names) zero (suc other) x = inr refl

@@ -1,6 +1,6 @@
 -- A script has one answer.
 use Rattle.std.proofs.Common.{◌≡◌, inl, inr, ℕ, ◌+◌, ◌<◌, ◌≤◌, List, [], ◌∷◌, Option, Some, None, Result, Ok, Err, refl, sym, ap, ap₂, ◌∙◌, subst, arith}
-use Rattle.addressing.specs.Address.{Address, Fits}
+use Rattle.theory_addresses.specs.Address.{Address, Fits}
 use Rattle.cyclo_points.specs.declared.point.Point.{Point}
 use Rattle.cyclo_points.specs.Order.{coefficients}
 use Rattle.cyclo_points.proofs.SamePoints.{same_point}
@@ -91,20 +91,30 @@ abbrev AreOne : Bindings → Bindings → List ℕ → List ℕ → Type 0
 AreOne after after' printed printed' = (after ≡ after') × (printed ≡ printed')
 
 module _ (one_text : OneText) (short : FitsAreShort) (t : Tiling) (usable : AreUsable (children t)) where
-  one_address : (a b : Address) (text : List ℕ) → IsAcceptedAddress (children t) a → IsAcceptedAddress (children t) b → text ≡ address_text a → text ≡ address_text b → a ≡ b
+  one_address : (a b : Address) (text : List ℕ) → IsAcceptedAddress (children t) a
+      → IsAcceptedAddress (children t) b → text ≡ address_text a → text ≡ address_text b → a ≡ b
   one_address a b text h k e f = one_text a b (short (children t) a usable h.fits) (short (children t) b usable k.fits) (sym e ∙ f)
 
   -- ---- what a statement does
-  one_binding : (names : Bindings) (name : ℕ) (text : List ℕ) (after after' : Bindings) (printed printed' : List ℕ) → Binds t names name text after printed → Binds t names name text after' printed'
+  one_binding : (names : Bindings) (name : ℕ) (text : List ℕ) (after after' : Bindings)
+      (printed printed' : List ℕ) → Binds t names name text after printed
+      → Binds t names name text after' printed'
       → AreOne after after' printed printed'
-  one_binding names name text after after' printed printed' h k =
-      (h.binds ∙ ap (bind names name) (one_address h.address k.address text h.accepted k.accepted h.its_text k.its_text) ∙ sym k.binds, h.silent ∙ sym k.silent)
+  one_binding names name text after after' printed printed' h k = (
+    h.binds ∙ ap (bind names name) (one_address h.address k.address text h.accepted k.accepted h.its_text
+        k.its_text) ∙ sym k.binds,
+    h.silent ∙ sym k.silent,
+  )
 
-  one_show : (names : Bindings) (name : ℕ) (after after' : Bindings) (printed printed' : List ℕ) → Shows names name after printed → Shows names name after' printed' → AreOne after after' printed printed'
+  one_show : (names : Bindings) (name : ℕ) (after after' : Bindings) (printed printed' : List ℕ)
+      → Shows names name after printed → Shows names name after' printed'
+      → AreOne after after' printed printed'
   one_show names name after after' printed printed' h k =
       (h.keeps ∙ sym k.keeps, h.line ∙ ap (show_line name) (one_bound names name h.address k.address h.bound k.bound) ∙ sym k.line)
 
-  one_place : (names : Bindings) (name : ℕ) (after after' : Bindings) (printed printed' : List ℕ) → Places t names name after printed → Places t names name after' printed' → AreOne after after' printed printed'
+  one_place : (names : Bindings) (name : ℕ) (after after' : Bindings) (printed printed' : List ℕ)
+      → Places t names name after printed → Places t names name after' printed'
+      → AreOne after after' printed printed'
   one_place names name after after' printed printed' h k =
       let same = one_bound names name h.address k.address h.bound k.bound in
       let placed : IsPlaced t k.address h.motion = subst (λ a. IsPlaced t a h.motion) same h.placed in (
@@ -112,31 +122,40 @@ module _ (one_text : OneText) (short : FitsAreShort) (t : Tiling) (usable : AreU
         h.line ∙ ap₂ (λ (a : Address) (m : MotionOf t). place_line t.order name a.kind m) same (k.placed.alone h.motion placed.among) ∙ sym k.line,
       )
 
-  one_crossing : (names : Bindings) (name edge other : ℕ) (after after' : Bindings) (printed printed' : List ℕ) → Crosses t names name edge other after printed
+  one_crossing : (names : Bindings) (name edge other : ℕ) (after after' : Bindings)
+      (printed printed' : List ℕ) → Crosses t names name edge other after printed
       → Crosses t names name edge other after' printed' → AreOne after after' printed printed'
   one_crossing names name edge other after after' printed printed' h k =
       let same = one_bound names name h.address k.address h.bound k.bound in
-      let one = one_across t k.address h.across k.across edge h.back k.back (subst (λ a. IsOnlyAcross t a edge h.across h.back) same h.only_across) k.only_across in
+      let one = one_across t k.address h.across k.across edge h.back k.back
+      (subst (λ a. IsOnlyAcross t a edge h.across h.back) same h.only_across) k.only_across in
       (h.binds ∙ ap (bind names other) one.0 ∙ sym k.binds, h.line ∙ ap₂ (across_line other) one.0 one.1 ∙ sym k.line)
 
-  one_comparison : (names : Bindings) (one other : ℕ) (after after' : Bindings) (printed printed' : List ℕ) → Compares names one other after printed → Compares names one other after' printed'
+  one_comparison : (names : Bindings) (one other : ℕ) (after after' : Bindings) (printed printed' : List ℕ)
+      → Compares names one other after printed → Compares names one other after' printed'
       → AreOne after after' printed printed'
   one_comparison names one other after after' printed printed' h k =
       let first = one_bound names one h.address k.address h.bound k.bound in
       let second = one_bound names other h.second k.second h.second_bound k.second_bound in
-      let level : IsCommonLevel k.address k.second h.level = subst (λ a. IsCommonLevel a k.second h.level) first (subst (λ b. IsCommonLevel h.address b h.level) second h.common) in
+      let level : IsCommonLevel k.address k.second h.level = subst (λ a. IsCommonLevel a k.second h.level)
+      first (subst (λ b. IsCommonLevel h.address b h.level) second h.common) in
       (h.keeps ∙ sym k.keeps, h.line ∙ ap (common_line one other) (one_level k.address k.second h.level k.level level k.common) ∙ sym k.line)
 
-  one_pair : (names : Bindings) (one other : ℕ) (after after' : Bindings) (printed printed' : List ℕ) → Relates t names one other after printed → Relates t names one other after' printed'
+  one_pair : (names : Bindings) (one other : ℕ) (after after' : Bindings) (printed printed' : List ℕ)
+      → Relates t names one other after printed → Relates t names one other after' printed'
       → AreOne after after' printed printed'
   one_pair names one other after after' printed printed' h k =
       let first = one_bound names one h.address k.address h.bound k.bound in
       let second = one_bound names other h.second k.second h.second_bound k.second_bound in
       let relation : IsRelation t k.address k.second h.relation =
-      subst (λ a. IsRelation t a k.second h.relation) first (subst (λ b. IsRelation t h.address b h.relation) second h.is_relation) in
-      (h.keeps ∙ sym k.keeps, h.line ∙ ap (pair_line one other) (one_relation t k.address k.second h.relation k.relation relation k.is_relation) ∙ sym k.line)
+      subst (λ a. IsRelation t a k.second h.relation) first (subst (λ b. IsRelation t h.address b h.relation) second h.is_relation) in (
+        h.keeps ∙ sym k.keeps,
+        h.line ∙ ap (pair_line one other)
+            (one_relation t k.address k.second h.relation k.relation relation k.is_relation) ∙ sym k.line,
+      )
 
-  does_once : (names : Bindings) (s : Statement) (after after' : Bindings) (printed printed' : List ℕ) → Does t names s after printed → Does t names s after' printed' → AreOne after after' printed printed'
+  does_once : (names : Bindings) (s : Statement) (after after' : Bindings) (printed printed' : List ℕ)
+      → Does t names s after printed → Does t names s after' printed' → AreOne after after' printed printed'
   does_once names Nothing after after' printed printed' h k = (h.0 ∙ sym k.0, h.1 ∙ sym k.1)
   does_once names (Let name text) after after' printed printed' h k = one_binding names name text after after' printed printed' h k
   does_once names (Show name) after after' printed printed' h k = one_show names name after after' printed printed' h k
@@ -146,18 +165,25 @@ module _ (one_text : OneText) (short : FitsAreShort) (t : Tiling) (usable : AreU
   does_once names (Pair one other) after after' printed printed' h k = one_pair names one other after after' printed printed' h k
 
   -- ---- a statement is done or refused
-  inside_or_outside : (names : Bindings) (name edge other own part : ℕ) (after : Bindings) (printed : List ℕ) → Crosses t names name edge other after printed → LiesOutside t names name edge own part → ⊥
+  inside_or_outside : (names : Bindings) (name edge other own part : ℕ) (after : Bindings) (printed : List ℕ)
+      → Crosses t names name edge other after printed → LiesOutside t names name edge own part → ⊥
   inside_or_outside names name edge other own part after printed h k =
-      h.on_none own (part_along t h.address edge own part (subst (λ a. LiesOnBoundary t a edge own part) (one_bound names name k.address h.address k.bound h.bound) k.outside.along))
+      h.on_none own (part_along t h.address edge own part
+      (subst (λ a. LiesOnBoundary t a edge own part)
+      (one_bound names name k.address h.address k.bound h.bound) k.outside.along))
 
   edge_or_none : (names : Bindings) (name edge : ℕ) (a : Address) → IsBound names name a → edge < edges_of t a.kind → LacksEdge t names name edge → ⊥
   edge_or_none names name edge a bound exists k =
-      let beyond : edges_of t a.kind ≤ edge = subst (λ (b : Address). edges_of t b.kind ≤ edge) (one_bound names name k.address a k.bound bound) k.beyond in
+      let beyond : edges_of t a.kind ≤ edge = subst (λ (b : Address). edges_of t b.kind ≤ edge)
+      (one_bound names name k.address a k.bound bound) k.beyond in
       omega (arith, exists, beyond)
 
-  within_or_beyond : (names : Bindings) (name : ℕ) (value : Point) (after : Bindings) (printed : List ℕ) → Places t names name after printed → PassesLimit t names name value → ⊥
+  within_or_beyond : (names : Bindings) (name : ℕ) (value : Point) (after : Bindings) (printed : List ℕ)
+      → Places t names name after printed → PassesLimit t names name value → ⊥
   within_or_beyond names name value after printed h k =
-      let e : first_refused t k.address.digits ≡ None = subst (λ (a : Address). first_refused t a.digits ≡ None) (one_bound names name h.address k.address h.bound k.bound) h.within in
+      let e : first_refused t k.address.digits ≡ None = subst
+      (λ (a : Address). first_refused t a.digits ≡ None)
+      (one_bound names name h.address k.address h.bound k.bound) h.within in
       absurd (cc (e, k.first))
 
   reads_bound : (names : Bindings) (s : Statement) (after : Bindings) (printed : List ℕ) → Does t names s after printed → ReadsUnbound names s → ⊥
@@ -175,18 +201,23 @@ module _ (one_text : OneText) (short : FitsAreShort) (t : Tiling) (usable : AreU
     | inr u ↦ bound_or_not names other h.second h.second_bound u
   ]
 
-  done_or_refused : (names : Bindings) (s : Statement) (after : Bindings) (printed : List ℕ) (number : ℕ) (f : CalcFault) → Does t names s after printed → Refuses t names s number f → ⊥
+  done_or_refused : (names : Bindings) (s : Statement) (after : Bindings) (printed : List ℕ) (number : ℕ)
+      (f : CalcFault) → Does t names s after printed → Refuses t names s number f → ⊥
   done_or_refused names s after printed number (UnknownName at) h k = reads_bound names s after printed h k.1
   done_or_refused names (Let name text) after printed number (BadAddress at fault) h k = k.1.none h.address h.accepted h.its_text
   done_or_refused names (Across name edge other) after printed number (NoEdge at) h k = edge_or_none names name edge h.address h.bound h.exists k.1
-  done_or_refused names (Across name edge other) after printed number (Outside at own part) h k = inside_or_outside names name edge other own part after printed h k.1
+  done_or_refused names (Across name edge other) after printed number (Outside at own part) h k
+      = inside_or_outside names name edge other own part after printed h k.1
   done_or_refused names (Place name) after printed number (CoordLimit at value) h k = within_or_beyond names name value after printed h k.1
   done_or_refused names s after printed number f h k = k
 
   -- ---- a statement has one fault
-  one_outside : (names : Bindings) (name edge own part own' part' : ℕ) → LiesOutside t names name edge own part → LiesOutside t names name edge own' part' → (own ≡ own') × (part ≡ part')
+  one_outside : (names : Bindings) (name edge own part own' part' : ℕ)
+      → LiesOutside t names name edge own part → LiesOutside t names name edge own' part' → (own ≡ own')
+      × (part ≡ part')
   one_outside names name edge own part own' part' h k =
-      k.outside.alone own part (subst (λ a. LiesOnBoundary t a edge own part) (one_bound names name h.address k.address h.bound k.bound) h.outside.along)
+      k.outside.alone own part (subst (λ a. LiesOnBoundary t a edge own part)
+      (one_bound names name h.address k.address h.bound k.bound) h.outside.along)
 
   one_value : (names : Bindings) (name : ℕ) (v w : Point) → PassesLimit t names name v → PassesLimit t names name w → v ≡ w
   one_value names name v w h k =
@@ -200,7 +231,8 @@ module _ (one_text : OneText) (short : FitsAreShort) (t : Tiling) (usable : AreU
       ap₂ (λ l x. BadAddress l x) (h.0 ∙ sym k.0) (fault_once one_text (children t) text f g h.1.first k.1.first)
   refused_once names (Let name text) number (BadAddress m f) (UnknownName n) h k = absurd k.1
   refused_once names (Let name text) number (UnknownName m) (BadAddress n g) h k = absurd h.1
-  refused_once names (Place name) number (CoordLimit m v) (CoordLimit n w) h k = ap₂ (λ l x. CoordLimit l x) (h.0 ∙ sym k.0) (one_value names name v w h.1 k.1)
+  refused_once names (Place name) number (CoordLimit m v) (CoordLimit n w) h k = ap₂ (λ l x. CoordLimit l x)
+      (h.0 ∙ sym k.0) (one_value names name v w h.1 k.1)
   refused_once names (Place name) number (CoordLimit m v) (UnknownName n) h k = absurd (bound_or_not names name h.1.address h.1.bound k.1)
   refused_once names (Place name) number (UnknownName m) (CoordLimit n w) h k = absurd (bound_or_not names name k.1.address k.1.bound h.1)
   refused_once names (Across name edge other) number (NoEdge m) (NoEdge n) h k = ap (λ l. NoEdge l) (h.0 ∙ sym k.0)
@@ -209,10 +241,14 @@ module _ (one_text : OneText) (short : FitsAreShort) (t : Tiling) (usable : AreU
   refused_once names (Across name edge other) number (Outside m own part) (Outside n own' part') h k =
       let one = one_outside names name edge own part own' part' h.1 k.1 in
       ap₂ (λ l (x : ℕ × ℕ). Outside l x.0 x.1) (h.0 ∙ sym k.0) (ap₂ (λ x y. (x, y)) one.0 one.1)
-  refused_once names (Across name edge other) number (Outside m own part) (UnknownName n) h k = absurd (bound_or_not names name h.1.address h.1.bound k.1)
-  refused_once names (Across name edge other) number (UnknownName m) (Outside n own part) h k = absurd (bound_or_not names name k.1.address k.1.bound h.1)
-  refused_once names (Across name edge other) number (Outside m own part) (NoEdge n) h k = absurd (edge_or_none names name edge h.1.address h.1.bound h.1.outside.exists k.1)
-  refused_once names (Across name edge other) number (NoEdge m) (Outside n own part) h k = absurd (edge_or_none names name edge k.1.address k.1.bound k.1.outside.exists h.1)
+  refused_once names (Across name edge other) number (Outside m own part) (UnknownName n) h k = absurd
+      (bound_or_not names name h.1.address h.1.bound k.1)
+  refused_once names (Across name edge other) number (UnknownName m) (Outside n own part) h k = absurd
+      (bound_or_not names name k.1.address k.1.bound h.1)
+  refused_once names (Across name edge other) number (Outside m own part) (NoEdge n) h k = absurd
+      (edge_or_none names name edge h.1.address h.1.bound h.1.outside.exists k.1)
+  refused_once names (Across name edge other) number (NoEdge m) (Outside n own part) h k = absurd
+      (edge_or_none names name edge k.1.address k.1.bound k.1.outside.exists h.1)
   refused_once names s number (UnknownName m) g h k = absurd k
   refused_once names (Let name text) number (BadAddress m f) g h k = absurd k
   refused_once names (Place name) number (CoordLimit m v) g h k = absurd k
@@ -221,39 +257,52 @@ module _ (one_text : OneText) (short : FitsAreShort) (t : Tiling) (usable : AreU
   refused_once names s number f g h k = absurd h
 
   -- ---- lines
-  runs_once : (names : Bindings) (text : List ℕ) (after after' : Bindings) (printed printed' : List ℕ) → Runs t names text after printed → Runs t names text after' printed' → AreOne after after' printed printed'
+  runs_once : (names : Bindings) (text : List ℕ) (after after' : Bindings) (printed printed' : List ℕ)
+      → Runs t names text after printed → Runs t names text after' printed'
+      → AreOne after after' printed printed'
   runs_once names text after after' printed printed' h k =
-      does_once names k.statement after after' printed printed' (subst (λ s. Does t names s after printed) (ok_is h.statement k.statement (statement_in text) h.is_statement k.is_statement) h.does) k.does
+      does_once names k.statement after after' printed printed'
+      (subst (λ s. Does t names s after printed)
+      (ok_is h.statement k.statement (statement_in text) h.is_statement k.is_statement) h.does) k.does
 
   -- a line has a statement and its fault, or none
   abbrev HasRefusal : Bindings → ℕ → List ℕ → CalcFault → Type 0
   HasRefusal names number text f = (s : Statement) × (statement_in text ≡ Ok s) × Refuses t names s number f
 
-  refusal_runs : (names : Bindings) (number : ℕ) (text : List ℕ) (f : CalcFault) (after : Bindings) (printed : List ℕ) → HasRefusal names number text f → Runs t names text after printed → ⊥
+  refusal_runs : (names : Bindings) (number : ℕ) (text : List ℕ) (f : CalcFault) (after : Bindings)
+      (printed : List ℕ) → HasRefusal names number text f → Runs t names text after printed → ⊥
   refusal_runs names number text f after printed h k =
-      done_or_refused names k.statement after printed number f k.does (subst (λ s. Refuses t names s number f) (ok_is h.0 k.statement (statement_in text) h.1 k.is_statement) h.2)
+      done_or_refused names k.statement after printed number f k.does
+      (subst (λ s. Refuses t names s number f)
+      (ok_is h.0 k.statement (statement_in text) h.1 k.is_statement) h.2)
 
-  refusal_once : (names : Bindings) (number : ℕ) (text : List ℕ) (f g : CalcFault) → HasRefusal names number text f → HasRefusal names number text g → f ≡ g
+  refusal_once : (names : Bindings) (number : ℕ) (text : List ℕ) (f g : CalcFault)
+      → HasRefusal names number text f → HasRefusal names number text g → f ≡ g
   refusal_once names number text f g h k =
       refused_once names k.0 number f g (subst (λ s. Refuses t names s number f) (ok_is h.0 k.0 (statement_in text) h.1 k.1) h.2) k.2
 
-  fault_or_runs : (names : Bindings) (number : ℕ) (text : List ℕ) (f : CalcFault) (after : Bindings) (printed : List ℕ) → HasFault t names number text f → Runs t names text after printed → ⊥
+  fault_or_runs : (names : Bindings) (number : ℕ) (text : List ℕ) (f : CalcFault) (after : Bindings)
+      (printed : List ℕ) → HasFault t names number text f → Runs t names text after printed → ⊥
   fault_or_runs names number text (BadLine at place) after printed h k = either k.statement place (statement_in text) k.is_statement h.1
   fault_or_runs names number text f after printed h k = refusal_runs names number text f after printed h k
 
-  bad_or_refusal : (names : Bindings) (number : ℕ) (text : List ℕ) (place : ℕ) (f : CalcFault) → statement_in text ≡ Err place → HasRefusal names number text f → ⊥
+  bad_or_refusal : (names : Bindings) (number : ℕ) (text : List ℕ) (place : ℕ) (f : CalcFault)
+      → statement_in text ≡ Err place → HasRefusal names number text f → ⊥
   bad_or_refusal names number text place f e k = either k.0 place (statement_in text) k.1 e
 
-  has_fault_once : (names : Bindings) (number : ℕ) (text : List ℕ) (f g : CalcFault) → HasFault t names number text f → HasFault t names number text g → f ≡ g
+  has_fault_once : (names : Bindings) (number : ℕ) (text : List ℕ) (f g : CalcFault)
+      → HasFault t names number text f → HasFault t names number text g → f ≡ g
   has_fault_once names number text (BadLine m i) (BadLine n j) h k = ap₂ (λ l p. BadLine l p) (h.0 ∙ sym k.0) (err_is i j (statement_in text) h.1 k.1)
   has_fault_once names number text (BadLine m i) g h k = absurd (bad_or_refusal names number text i g h.1 k)
   has_fault_once names number text f (BadLine n j) h k = absurd (bad_or_refusal names number text j f k.1 h)
   has_fault_once names number text f g h k = refusal_once names number text f g h k
 
   -- ---- scripts
-  pub comes_once : (names : Bindings) (number : ℕ) (lines : List (List ℕ)) (one other : Outcome) → ComesOf t names number lines one → ComesOf t names number lines other → one ≡ other
+  pub comes_once : (names : Bindings) (number : ℕ) (lines : List (List ℕ)) (one other : Outcome)
+      → ComesOf t names number lines one → ComesOf t names number lines other → one ≡ other
   comes_once names number [] one other h k = h ∙ sym k
-  comes_once names number (line ∷ lines) one other (inl h) (inl k) = h.2 ∙ ap (λ f. Err f) (has_fault_once names number line h.0 k.0 h.1 k.1) ∙ sym k.2
+  comes_once names number (line ∷ lines) one other (inl h) (inl k) = h.2
+      ∙ ap (λ f. Err f) (has_fault_once names number line h.0 k.0 h.1 k.1) ∙ sym k.2
   comes_once names number (line ∷ lines) one other (inl h) (inr k) = absurd (fault_or_runs names number line h.0 k.0 k.1 h.1 k.3)
   comes_once names number (line ∷ lines) one other (inr h) (inl k) = absurd (fault_or_runs names number line k.0 h.0 h.1 k.1 h.3)
   comes_once names number (line ∷ lines) one other (inr h) (inr k) =

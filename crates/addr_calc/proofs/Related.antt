@@ -1,10 +1,10 @@
 -- What the pair machine says of two tiles, in the plane.
 use Rattle.std.proofs.Common.{◌≡◌, ℕ, ◌<◌, List, [], ◌∷◌, map, refl}
-use Rattle.addressing.specs.Address.{Address, Fits}
-use Rattle.addressing.specs.Coherent.{IsCoherent}
-use Rattle.addressing.specs.Tables.{Tables, child_kinds}
-use Rattle.addressing.specs.Touch.{Touches}
-use Rattle.addressing.proofs.Touching.{only_touching, Touches-sym}
+use Rattle.theory_addresses.specs.Address.{Address, Fits}
+use Rattle.theory_addresses.specs.Coherent.{IsCoherent}
+use Rattle.theory_addresses.specs.Tables.{Tables, child_kinds}
+use Rattle.theory_addresses.specs.Touch.{Touches}
+use Rattle.theory_addresses.proofs.Touching.{only_touching, Touches-sym}
 use Rattle.pair_machine.specs.Between.{Pair, IsBetween}
 use Rattle.pair_machine.specs.Verdicts.{IsVerdict}
 use Rattle.pair_machine.specs.Views.{as_pair}
@@ -40,13 +40,17 @@ module _ (m : Rule) (settled : IsSettled m) (law : OnlyTilesLaw m.order) (cohere
   across : (e f : ℕ) → Touches t a e b f → IsOnlyAcross (tiling_of m) a e b f
   across e f h =
       let edge = touch_edge t a b e f coherent fits h in
-      (law (its_rule m settled) a b e f (has_edge m settled a e fits ((edge_typed (tiling_of m) a.kind e).0 edge)) fits').0 (only_touching a b e f coherent fits edge h fits')
+      (law (its_rule m settled) a b e f (has_edge m settled a e fits
+      ((edge_typed (tiling_of m) a.kind e).0 edge)) fits').0
+      (only_touching a b e f coherent fits edge h fits')
 
   back : (e f : ℕ) → Touches t a e b f → IsOnlyAcross (tiling_of m) b f a e
   back e f h =
       let there = Touches-sym a b coherent fits fits' (touch_edge t a b e f coherent fits h) h in
       let edge = touch_edge t b a f e coherent fits' there in
-      (law (its_rule m settled) b a f e (has_edge m settled b f fits' ((edge_typed (tiling_of m) b.kind f).0 edge)) fits).0 (only_touching b a f e coherent fits' edge there fits)
+      (law (its_rule m settled) b a f e (has_edge m settled b f fits'
+      ((edge_typed (tiling_of m) b.kind f).0 edge)) fits).0
+      (only_touching b a f e coherent fits' edge there fits)
 
   -- and the other way round
   touches : (e f : ℕ) → e < edges_of (tiling_of m) a.kind → IsOnlyAcross (tiling_of m) a e b f → Touches t a e b f

@@ -15,7 +15,8 @@ size_left None = 0
 size_left (Some text) = length text + 1
 
 -- less is left behind a line
-pub less_left : (text : List ℕ) (rest : Option (Bor (List ℕ))) → IfSome rest (λ r. length r.now < length text) → size_left (option_map (λ r. r.now) rest) < length text + 1
+pub less_left : (text : List ℕ) (rest : Option (Bor (List ℕ))) → IfSome rest (λ r. length r.now < length text)
+    → size_left (option_map (λ r. r.now) rest) < length text + 1
 less_left text None h = omega arith
 less_left text (Some r) h = omega (arith, h)
 
@@ -37,7 +38,15 @@ module _ (t : Tiling) (all : List (List ℕ)) (before after : Calculation) (line
   comes_on comes ran o h =
       subst (λ x. ComesOf t none_bound 1 all x)
       (before_twice before.text.items ran.printed o ∙ ap (λ bytes. put_before bytes o) (sym ran.text))
-      (comes (put_before ran.printed o) (inr (after.names, ran.printed, o, ran.runs, subst (λ n. ComesOf t after.names (n + 1) rest o) ran.number h, refl)))
+      (comes (put_before ran.printed o) (inr (
+        after.names,
+        ran.printed,
+        o,
+        ran.runs,
+        subst
+            (λ n. ComesOf t after.names (n + 1) rest o) ran.number h,
+        refl,
+      )))
 
   -- and its fault is that of all lines
   pub comes_fault : Comes t all before (line ∷ rest) → (fault : CalcFault) → OrNoMemory (HasFault t before.names (before.number + 1) line) fault
@@ -46,7 +55,8 @@ module _ (t : Tiling) (all : List (List ℕ)) (before after : Calculation) (line
   comes_fault comes fault h = comes (Err fault) (inl (fault, h, refl))
 
 -- at first all lines are left
-pub comes_first : (t : Tiling) (all : List (List ℕ)) (state : Calculation) → state.names ≡ none_bound → state.text.items ≡ [] → state.number ≡ 0 → Comes t all state all
+pub comes_first : (t : Tiling) (all : List (List ℕ)) (state : Calculation) → state.names ≡ none_bound
+    → state.text.items ≡ [] → state.number ≡ 0 → Comes t all state all
 comes_first t all state names text number o h =
     subst (ComesOf t none_bound 1 all) (sym (ap (λ bytes. put_before bytes o) text ∙ before_nothing o))
     (subst (λ n. ComesOf t none_bound n all o) (ap (λ n. n + 1) number) (subst (λ b. ComesOf t b (state.number + 1) all o) names h))

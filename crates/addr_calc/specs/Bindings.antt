@@ -1,6 +1,6 @@
 -- The names `a` to `z`, by their numbers from 0, and the addresses to which they are bound.
 use Rattle.std.specs.Prelude.{◌≡◌, ℕ, List, Option, Some, None, get_or, set, replicate}
-use Rattle.addressing.specs.Address.{Address}
+use Rattle.theory_addresses.specs.Address.{Address}
 
 -- for each of the 26 names the address to which it is bound, where it is
 abbrev pub Bindings : Type 0

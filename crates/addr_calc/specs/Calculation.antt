@@ -1,6 +1,6 @@
 -- One line more in the state of a script that is run.
 use Rattle.std.specs.Prelude.{◌≡◌, ℕ, ◌+◌, List, ◌++◌}
-use Rattle.addressing.specs.Address.{Address, Fits}
+use Rattle.theory_addresses.specs.Address.{Address, Fits}
 use Rattle.rule_model.specs.Tiling.{Tiling, children}
 use Rattle.addr_calc.specs.Bindings.{Bindings, IsBound}
 use Rattle.addr_calc.specs.declared.calculation.Calculation.{Calculation}

@@ -1,6 +1,6 @@
 -- What a statement does: the names as they are bound after it, and what it prints.
 use Rattle.std.specs.Prelude.{◌≡◌, ℕ, ◌<◌, List, [], Option, None, Ok}
-use Rattle.addressing.specs.Address.{Address}
+use Rattle.theory_addresses.specs.Address.{Address}
 use Rattle.rule_model.specs.Tiling.{Tiling, MotionOf, IsPlaced, children}
 use Rattle.tile_place.specs.Crossed.{IsOnlyAcross, LiesAlongNone, edges_of}
 use Rattle.tile_place.specs.Placing.{first_refused}

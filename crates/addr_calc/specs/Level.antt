@@ -1,6 +1,6 @@
 -- From which level on two addresses agree.
 use Rattle.std.specs.Prelude.{◌≡◌, ℕ, ◌<◌, ◌≤◌, Option, Some, None, drop}
-use Rattle.addressing.specs.Address.{Address, depth, kind_at}
+use Rattle.theory_addresses.specs.Address.{Address, depth, kind_at}
 
 -- the kinds at a level are equal, and so are all digits from its number up
 pub record AgreeFrom (a b : Address) (level : ℕ) : Type 0 where

@@ -1,11 +1,11 @@
 -- The lines that a script prints.
 use Rattle.std.specs.Prelude.{ℕ, ◌+◌, List, [], ◌∷◌, ◌++◌, Option, Some, None, codes, decimal}
-use Rattle.addressing.specs.Address.{Address}
+use Rattle.theory_addresses.specs.Address.{Address}
 use Rattle.cyclo_points.specs.Order.{NumberOf}
 use Rattle.cyclo_points.specs.Text.{number_text, blank, newline}
 use Rattle.cyclo_points.specs.declared.order.Order.{Order}
 use Rattle.pair_machine.specs.Between.{Pair}
-use Rattle.substitution.specs.Motion.{Motion}
+use Rattle.theory_substitution.specs.Motion.{Motion}
 use Rattle.tile_shape.specs.Text.{address_text, slash}
 use Rattle.addr_calc.specs.Relation.{Relation}
 use Rattle.addr_calc.specs.Relation.Relation.{Strangers, Same, Apart, Beside}

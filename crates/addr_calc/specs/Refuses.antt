@@ -2,7 +2,7 @@
 -- no statement; a name that it reads is not bound; its text is no address; the tile does not have the edge.
 -- Or the edge is on the boundary of the supertile; or a Horner value is refused.
 use Rattle.std.specs.Prelude.{◌≡◌, ◌⊎◌, ℕ, ◌≤◌, List, Some, Ok, Err}
-use Rattle.addressing.specs.Address.{Address}
+use Rattle.theory_addresses.specs.Address.{Address}
 use Rattle.cyclo_points.specs.Order.{NumberOf, coefficients}
 use Rattle.cyclo_points.specs.declared.point.Point.{Point}
 use Rattle.rule_model.specs.Tiling.{Tiling, children}

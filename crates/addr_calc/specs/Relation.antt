@@ -1,7 +1,7 @@
 -- How two tiles lie to each other, in the plane.
 use Rattle.std.specs.Prelude.{◌≡◌, ◌≢◌, ◌↔◌, ℕ, ◌<◌, List, []}
-use Rattle.addressing.specs.Address.{Address}
-use Rattle.addressing.specs.Search.{IsAmong}
+use Rattle.theory_addresses.specs.Address.{Address}
+use Rattle.theory_addresses.specs.Search.{IsAmong}
 use Rattle.pair_machine.specs.Between.{Pair, HaveCommon, IsInOrder}
 use Rattle.rule_model.specs.Tiling.{Tiling}
 use Rattle.tile_place.specs.Crossed.{IsOnlyAcross, edges_of}

@@ -20,7 +20,7 @@ pub struct Bindings {
 impl Model for Bindings {
     ghost use Rattle.std.specs.Prelude.{◌≡◌, List, map, option_map, length};
     ghost use Rattle.std.specs.declared.option.Option.{Option};
-    ghost use Rattle.addressing.specs.Address.{Address as TheAddress};
+    ghost use Rattle.theory_addresses.specs.Address.{Address as TheAddress};
     ghost use Rattle.tile_shape.specs.Views.{address_of};
 
     ghost Value = { List (Option TheAddress) };

@@ -33,10 +33,12 @@ pub fn calc(alloc: Global, machine: &Machine, script: &[u8]) -> Result<Vec<u8>, 
     requires { length script.now ≤ longest_script }
     // The text is what the script prints; a fault is that of the first line that has one.
     ensures ran { IfOk result (λ text. IsAnswer (tiling_of machine.now) script.now (Ok text.items)) }
-    ensures fault { IfErr result (OrNoMemory (λ fault. IsAnswer (tiling_of machine.now) script.now (Err fault))) }
+    ensures fault { IfErr result (OrNoMemory (λ fault. IsAnswer (tiling_of machine.now) script.now
+        (Err fault))) }
 
     // The outcome of the script is returned, unless memory runs out.
-    ensures answered { (outcome : Outcome) → IsAnswer (tiling_of machine.now) script.now outcome → IsOrNoMemory (outcome_of result) outcome }
+    ensures answered { (outcome : Outcome) → IsAnswer (tiling_of machine.now) script.now outcome
+        → IsOrNoMemory (outcome_of result) outcome }
 {
     // The law by which the outcome of a script is what is returned, and what it requires of the child kinds.
     one_answer_law();
@@ -56,7 +58,8 @@ fn calculated<L: Ledger>(
     requires parts { blank.parts ≡ L.parts }
     requires some { 0 < blank.parts }
     ensures ran { IfOk result (λ text. IsAnswer (tiling_of machine.now) script.now (Ok text.items)) }
-    ensures fault { IfErr result (OrNoMemory (λ fault. IsAnswer (tiling_of machine.now) script.now (Err fault))) }
+    ensures fault { IfErr result (OrNoMemory (λ fault. IsAnswer (tiling_of machine.now) script.now
+        (Err fault))) }
 {
     let mut steps = Steps::<L>::new(blank);
     let mut calculation = Calculation::new(alloc)?;

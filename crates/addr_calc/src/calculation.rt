@@ -73,7 +73,8 @@ impl Calculation {
         requires compiled { AreOf (tiling_of machine.now) pairs.old }
         ensures compiled { AreOf (tiling_of machine.now) pairs.new }
         ensures ran { OnOk result (WasRun (tiling_of machine.now) line.now self.old self.new) }
-        ensures fault { IfErr result (OrNoMemory (HasFault (tiling_of machine.now) self.old.names (self.old.number + 1) line.now)) }
+        ensures fault { IfErr result (OrNoMemory
+            (HasFault (tiling_of machine.now) self.old.names (self.old.number + 1) line.now)) }
     {
         self.number += 1;
         match statement_in(line) {
@@ -95,8 +96,10 @@ impl Calculation {
 
     /// `let name address`.
     fn bind(&mut self, machine: &Machine, name: Name, text: &[u8]) -> Result<(), CalcFault>
-        ensures done { OnOk result (WasDone (tiling_of machine.now) (Let name.number text.now) self.old self.new) }
-        ensures refused { IfErr result (OrNoMemory (Refuses (tiling_of machine.now) self.old.names (Let name.number text.now) self.old.number)) }
+        ensures done { OnOk result (WasDone (tiling_of machine.now) (Let name.number text.now) self.old
+            self.new) }
+        ensures refused { IfErr result (OrNoMemory
+            (Refuses (tiling_of machine.now) self.old.names (Let name.number text.now) self.old.number)) }
     {
         match read_address(machine.checked().uses(), text) {
             Ok(address) => {
@@ -113,7 +116,8 @@ impl Calculation {
     /// `show name`.
     fn show(&mut self, name: Name) -> Result<(), CalcFault>
         ensures done { (t : Tiling) → OnOk result (WasDone t (Show name.number) self.old self.new) }
-        ensures refused { (t : Tiling) → IfErr result (OrNoMemory (Refuses t self.old.names (Show name.number) self.old.number)) }
+        ensures refused { (t : Tiling) → IfErr result
+            (OrNoMemory (Refuses t self.old.names (Show name.number) self.old.number)) }
     {
         let Some(address) = self.names.get(name) else {
             return Err(CalcFault::UnknownName { line: self.number });
@@ -128,7 +132,8 @@ impl Calculation {
     fn place(&mut self, machine: &Machine, name: Name) -> Result<(), CalcFault>
         requires all_fit { AllFit (tiling_of machine.now) self.old.names }
         ensures done { OnOk result (WasDone (tiling_of machine.now) (Place name.number) self.old self.new) }
-        ensures refused { IfErr result (OrNoMemory (Refuses (tiling_of machine.now) self.old.names (Place name.number) self.old.number)) }
+        ensures refused { IfErr result (OrNoMemory
+            (Refuses (tiling_of machine.now) self.old.names (Place name.number) self.old.number)) }
     {
         let Some(address) = self.names.get(name) else {
             return Err(CalcFault::UnknownName { line: self.number });
@@ -159,8 +164,11 @@ impl Calculation {
         steps: &mut Steps<L>,
     ) -> Result<(), CalcFault>
         requires all_fit { AllFit (tiling_of machine.now) self.old.names }
-        ensures done { OnOk result (WasDone (tiling_of machine.now) (Across name.number edge other.number) self.old self.new) }
-        ensures refused { IfErr result (OrNoMemory (Refuses (tiling_of machine.now) self.old.names (Across name.number edge other.number) self.old.number)) }
+        ensures done { OnOk result (WasDone (tiling_of machine.now) (Across name.number edge other.number)
+            self.old self.new) }
+        ensures refused { IfErr result (OrNoMemory
+            (Refuses (tiling_of machine.now) self.old.names (Across name.number edge other.number)
+            self.old.number)) }
     {
         let Some(address) = self.names.get(name) else {
             return Err(CalcFault::UnknownName { line: self.number });
@@ -186,8 +194,10 @@ impl Calculation {
 
     /// `common one other`.
     fn common(&mut self, one: Name, other: Name) -> Result<(), CalcFault>
-        ensures done { (t : Tiling) → OnOk result (WasDone t (Common one.number other.number) self.old self.new) }
-        ensures refused { (t : Tiling) → IfErr result (OrNoMemory (Refuses t self.old.names (Common one.number other.number) self.old.number)) }
+        ensures done { (t : Tiling) → OnOk result
+            (WasDone t (Common one.number other.number) self.old self.new) }
+        ensures refused { (t : Tiling) → IfErr result
+            (OrNoMemory (Refuses t self.old.names (Common one.number other.number) self.old.number)) }
     {
         let (Some(first), Some(second)) = (self.names.get(one), self.names.get(other)) else {
             return Err(CalcFault::UnknownName { line: self.number });
@@ -211,8 +221,11 @@ impl Calculation {
         requires all_fit { AllFit (tiling_of machine.now) self.old.names }
         requires compiled { AreOf (tiling_of machine.now) pairs.old }
         ensures compiled { AreOf (tiling_of machine.now) pairs.new }
-        ensures done { OnOk result (WasDone (tiling_of machine.now) (Pair one.number other.number) self.old self.new) }
-        ensures refused { IfErr result (OrNoMemory (Refuses (tiling_of machine.now) self.old.names (Pair one.number other.number) self.old.number)) }
+        ensures done { OnOk result (WasDone (tiling_of machine.now) (Pair one.number other.number) self.old
+            self.new) }
+        ensures refused { IfErr result (OrNoMemory
+            (Refuses (tiling_of machine.now) self.old.names (Pair one.number other.number)
+            self.old.number)) }
     {
         let (Some(first), Some(second)) = (self.names.get(one), self.names.get(other)) else {
             return Err(CalcFault::UnknownName { line: self.number });
@@ -227,7 +240,8 @@ impl Calculation {
 
     /// Prints a tile across, and the edge there that leads back.
     fn print_across(&mut self, name: Name, across: &Address, back: u8) -> Result<(), AllocError>
-        ensures printed { OnOk result (self.new.text.items ≡ self.old.text.items ++ across_line name.number (address_of across.now) back) }
+        ensures printed { OnOk result (self.new.text.items ≡ self.old.text.items
+            ++ across_line name.number (address_of across.now) back) }
         ensures names { self.new.names ≡ self.old.names }
         ensures number { self.new.number ≡ self.old.number }
     {
@@ -242,7 +256,8 @@ impl Calculation {
     /// Prints the line, after a name.
     fn print(&mut self, name: Name) -> Result<(), AllocError>
         requires room { length self.old.line + 2 < 1000 }
-        ensures printed { OnOk result (self.new.text.items ≡ self.old.text.items ++ letter name.number ∷ blank ∷ self.old.line) }
+        ensures printed { OnOk result (self.new.text.items ≡ self.old.text.items ++ letter name.number
+            ∷ blank ∷ self.old.line) }
         ensures names { self.new.names ≡ self.old.names }
         ensures number { self.new.number ≡ self.old.number }
     {

@@ -1,16 +1,16 @@
 //! The relation of two tiles.
 ghost use Rattle.std.specs.Prelude.{◌≡◌, IfOk};
-ghost use Rattle.addressing.specs.Address.{Fits};
+ghost use Rattle.theory_addresses.specs.Address.{Fits};
 ghost use Rattle.rule_model.specs.Tiling.{Tiling, tiling_of, contacts, children};
 ghost use Rattle.tile_shape.specs.Views.{address_of};
 ghost use Rattle.addr_calc.specs.Compiled.{AreOf};
 ghost use Rattle.addr_calc.specs.Relation.{IsRelation};
 ghost use Rattle.addr_calc.specs.Views.{relation_of};
 
-use dissection::laws::across_law;
 use pair_machine::machine::PairMachine;
 use pair_machine::verdict::Verdict;
 use std::alloc::Global;
+use theory_dissection::laws::across_law;
 use tile_place::machine::Machine;
 use tile_shape::address::Address;
 use tile_shape::no_memory::NoMemory;
@@ -60,7 +60,8 @@ impl Pairs {
         requires one_fits { Fits (children (tiling_of machine.now)) (address_of one.now) }
         requires other_fits { Fits (children (tiling_of machine.now)) (address_of other.now) }
         ensures compiled { AreOf (tiling_of machine.now) self.new }
-        ensures relation { IfOk result (λ verdict. IsRelation (tiling_of machine.now) (address_of one.now) (address_of other.now) (relation_of verdict)) }
+        ensures relation { IfOk result (λ verdict. IsRelation (tiling_of machine.now) (address_of one.now)
+            (address_of other.now) (relation_of verdict)) }
     {
         let pairs = self.take(machine)?;
         let verdict = decide(machine, &pairs, one, other);
@@ -74,7 +75,8 @@ fn decide(machine: &Machine, pairs: &PairMachine, one: &Address, other: &Address
     requires tables { pairs.now ≡ contacts (tiling_of machine.now) }
     requires one_fits { Fits (children (tiling_of machine.now)) (address_of one.now) }
     requires other_fits { Fits (children (tiling_of machine.now)) (address_of other.now) }
-    ensures { IsRelation (tiling_of machine.now) (address_of one.now) (address_of other.now) (relation_of result) }
+    ensures { IsRelation (tiling_of machine.now) (address_of one.now) (address_of other.now)
+        (relation_of result) }
 {
     // The law by which the edges that touch are those across, and what it requires of the tables.
     across_law(machine.checked().order());

@@ -118,7 +118,8 @@ fn across_in(words: Option<&[u8]>) -> Result<Statement<'_>, u8>
 /// Reads the two names of a statement about two tiles.
 #[tactic(auto, unfolding(crate::specs::Reading::two_names_in))]
 fn two_names_in(words: Option<&[u8]>) -> Result<(Name, Name), u8>
-    ensures { (asks : ℕ → ℕ → TheStatement) → AnswersAs (λ names. asks names.0.number names.1.number) result (two_names_in asks (words_left words.entry)) }
+    ensures { (asks : ℕ → ℕ → TheStatement) → AnswersAs (λ names. asks names.0.number names.1.number) result
+        (two_names_in asks (words_left words.entry)) }
 {
     let (one, words) = name_at(1, words)?;
     let (other, words) = name_at(2, words)?;
@@ -128,7 +129,8 @@ fn two_names_in(words: Option<&[u8]>) -> Result<(Name, Name), u8>
 
 /// Reads the name in the first field, and returns the fields after it.
 fn name_at(place: u8, words: Option<&[u8]>) -> Result<(Name, Option<&[u8]>), u8>
-    ensures { AnswersAs (λ found. (found.0.number, words_left found.1)) result (word_by name_in place (words_left words.entry)) }
+    ensures { AnswersAs (λ found. (found.0.number, words_left found.1)) result
+        (word_by name_in place (words_left words.entry)) }
 {
     let (word, words) = word_at(place, words)?;
     let name = Name::named(word).ok_or(place)?;
@@ -137,7 +139,8 @@ fn name_at(place: u8, words: Option<&[u8]>) -> Result<(Name, Option<&[u8]>), u8>
 
 /// Reads the number of an edge in the first field.
 fn edge_at(place: u8, words: Option<&[u8]>) -> Result<(u8, Option<&[u8]>), u8>
-    ensures { AnswersAs (λ found. (found.0, words_left found.1)) result (word_by (number_up_to 255) place (words_left words.entry)) }
+    ensures { AnswersAs (λ found. (found.0, words_left found.1)) result
+        (word_by (number_up_to 255) place (words_left words.entry)) }
 {
     let (word, words) = word_at(place, words)?;
     let number = read_number(word, 255).ok_or(place)?;
@@ -146,7 +149,8 @@ fn edge_at(place: u8, words: Option<&[u8]>) -> Result<(u8, Option<&[u8]>), u8>
 
 /// Reads the first field, if it is not empty.
 fn text_at(place: u8, words: Option<&[u8]>) -> Result<(&[u8], Option<&[u8]>), u8>
-    ensures { AnswersAs (λ found. (found.0.now, words_left found.1)) result (word_by some_text place (words_left words.entry)) }
+    ensures { AnswersAs (λ found. (found.0.now, words_left found.1)) result
+        (word_by some_text place (words_left words.entry)) }
 {
     let (word, words) = word_at(place, words)?;
     if word.is_empty() {
@@ -157,7 +161,8 @@ fn text_at(place: u8, words: Option<&[u8]>) -> Result<(&[u8], Option<&[u8]>), u8
 
 /// Reads the first field, whatever it is.
 fn word_at(place: u8, words: Option<&[u8]>) -> Result<(&[u8], Option<&[u8]>), u8>
-    ensures { AnswersAs (λ found. (found.0.now, words_left found.1)) result (word_by any_in place (words_left words.entry)) }
+    ensures { AnswersAs (λ found. (found.0.now, words_left found.1)) result
+        (word_by any_in place (words_left words.entry)) }
 {
     match words {
         Some(text) => Ok(cut(text, b' ')),

@@ -1,9 +1,9 @@
 -- The constants of the code are the rules as they are written down, with the contact tables of their geometry, by evaluation.
 use Rattle.std.proofs.Common.{◌≡◌, ◌≤◌, true, ℕ, List, length, nat_le, nat_lt, IsTrue, refl, subst, ap, sym, ◌∙◌, lit≤}
 use Rattle.std.specs.List.{list_all, range_with_len}
-use Rattle.addressing.specs.CoherenceTest.{coherence_test}
-use Rattle.addressing.specs.Tables as tables
-use Rattle.addressing.specs.Tables.{Tables}
+use Rattle.theory_addresses.specs.CoherenceTest.{coherence_test}
+use Rattle.theory_addresses.specs.Tables as tables
+use Rattle.theory_addresses.specs.Tables.{Tables}
 use Rattle.tile_shape.specs.Usable.{AreUsable, is_child_kind}
 use Rattle.rule_model.specs.Tiling.{tiling_listed, children}
 use Rattle.builtin_rules.specs.declared.name.Name.{Name}
@@ -44,7 +44,8 @@ its_contacts AmmannBeenker = refl
 its_contacts HalfHex = refl
 
 passes : (name : Name) → coherence_test (written_tables (constant name)) ≡ true
-unfolding tables.kind_tables tables.type_of tables.child_kind_of tables.contacts_of tables.parts_of tables.contact_of tables.part_of tables.mate_of tables.subs_of tables.child_type_of
+unfolding tables.kind_tables tables.type_of tables.child_kind_of tables.contacts_of tables.parts_of
+    tables.contact_of tables.part_of tables.mate_of tables.subs_of tables.child_type_of
 passes Chair = refl
 passes P2 = refl
 passes P3 = refl
@@ -66,7 +67,8 @@ pub its_kinds : (name : Name) → tables.child_kinds (contacts_named name) ≡ c
 its_kinds name = sym (ap tables.child_kinds (its_contacts name)) ∙ same_kinds name
 
 seen : (children : List (List ℕ)) → 1 ≤ length children → length children ≤ 16 → IsTrue (list_all (λ row. nat_le 1 (length row)) children)
-    → IsTrue (list_all (λ row. nat_le (length row) 16) children) → IsTrue (list_all (λ row. list_all (λ kind. nat_lt kind (length children)) row) children)
+    → IsTrue (list_all (λ row. nat_le (length row) 16) children)
+    → IsTrue (list_all (λ row. list_all (λ kind. nat_lt kind (length children)) row) children)
     → IsTrue (list_all (λ kind. is_child_kind children kind) (range_with_len 0 (length children))) → AreUsable children
 seen children a b c d e f = record { some_kind = a; at_most_16_kinds = b; some_child = c; at_most_16_children = d; each_exists = e; each_used = f }
 

@@ -8,5 +8,6 @@ pub same_through : {A B : Type 0} (f : List A → B) (vectors : List (Vec A Glob
 same_through f [] [] e = refl
 same_through f [] (l ∷ lists) e = absurd (cc e)
 same_through f (v ∷ vectors) [] e = absurd (cc e)
-same_through f (v ∷ vectors) (l ∷ lists) e = let first : v.items ≡ l.now = cc e in let rest : map (λ v. v.items) vectors ≡ map (λ l. l.now) lists = cc e in
+same_through f (v ∷ vectors) (l ∷ lists) e = let first : v.items ≡ l.now = cc e in let rest : map
+    (λ v. v.items) vectors ≡ map (λ l. l.now) lists = cc e in
     rw (first, same_through f vectors lists rest)

@@ -2,13 +2,13 @@
 use Rattle.std.proofs.Common.{◌≡◌, ℕ, ◌<◌, Bool, true, length, get_or, nat_le, nat_lt, refl}
 use Rattle.std.specs.Prelude.{nat_eq}
 use Rattle.std.proofs.lemmas.Bool.{ltb-true, leb-true, eqb-true}
-use Rattle.addressing.specs.Search.{all_below}
-use Rattle.addressing.proofs.CoherenceTests.{all_below-at}
-use Rattle.substitution.specs.Points.{Points}
-use Rattle.substitution.specs.Rule.{Rule, children_of}
-use Rattle.substitution.specs.RuleParts.{mate, parts, vertices_of, edge_count, edge_type, child_of}
-use Rattle.edge_to_edge.specs.Glue.{glue_type}
-use Rattle.edge_to_edge.specs.Numbered.{IsNumbered}
+use Rattle.theory_addresses.specs.Search.{all_below}
+use Rattle.theory_addresses.proofs.CoherenceTests.{all_below-at}
+use Rattle.theory_substitution.specs.Points.{Points}
+use Rattle.theory_substitution.specs.Rule.{Rule, children_of}
+use Rattle.theory_substitution.specs.RuleParts.{mate, parts, vertices_of, edge_count, edge_type, child_of}
+use Rattle.theory_edge_to_edge.specs.Glue.{glue_type}
+use Rattle.theory_edge_to_edge.specs.Numbered.{IsNumbered}
 use Rattle.cyclo_points.specs.Order.{points_of}
 use Rattle.rule_model.specs.Tiling.{tiling_listed}
 use Rattle.builtin_rules.specs.declared.name.Name.{Name}
@@ -51,15 +51,18 @@ numbers_exist P r t = record {
   mate_exists = λ ty l. ltb-true _ _ (all_below-at _ (λ ty. nat_lt (mate r ty) (length r.types)) t.mate_exists ty l);
   some_part = λ ty l. leb-true _ _ (all_below-at _ (λ ty. nat_le 1 (length (parts r ty))) t.some_part ty l);
   at_most_8_parts = λ ty l. leb-true _ _ (all_below-at _ (λ ty. nat_le (length (parts r ty)) 8) t.at_most_8_parts ty l);
-  part_exists = λ ty i l m. ltb-true _ _ (below_each _ (λ ty. length (parts r ty)) (λ ty i. nat_lt (get_or (parts r ty) i 0) (length r.types)) t.part_exists ty i l m);
+  part_exists = λ ty i l m. ltb-true _ _ (below_each _ (λ ty. length (parts r ty))
+      (λ ty i. nat_lt (get_or (parts r ty) i 0) (length r.types)) t.part_exists ty i l m);
   at_least_3_edges = λ k l. leb-true _ _ (all_below-at _ (λ k. nat_le 3 (edge_count r k)) t.at_least_3_edges k l);
   at_most_12_edges = λ k l. leb-true _ _ (all_below-at _ (λ k. nat_le (edge_count r k) 12) t.at_most_12_edges k l);
   vertex_each = λ k l. eqb-true _ _ (all_below-at _ (λ k. nat_eq (length (vertices_of r k)) (edge_count r k)) t.vertex_each k l);
   type_exists = λ k e l m. ltb-true _ _ (below_each _ (edge_count r) (λ k e. nat_lt (edge_type r k e) (length r.types)) t.type_exists k e l m);
   some_child = λ k l. leb-true _ _ (all_below-at _ (λ k. nat_le 1 (length (children_of r k))) t.some_child k l);
   at_most_16_children = λ k l. leb-true _ _ (all_below-at _ (λ k. nat_le (length (children_of r k)) 16) t.at_most_16_children k l);
-  child_exists = λ k c l m. ltb-true _ _ (below_each _ (λ k. length (children_of r k)) (λ k c. nat_lt (child_of P r k c).kind (length r.kinds)) t.child_exists k c l m);
-  turn_below = λ k c l m. ltb-true _ _ (below_each _ (λ k. length (children_of r k)) (λ k c. nat_lt (child_of P r k c).motion.turn P.order) t.turn_below k c l m);
+  child_exists = λ k c l m. ltb-true _ _ (below_each _ (λ k. length (children_of r k))
+      (λ k c. nat_lt (child_of P r k c).kind (length r.kinds)) t.child_exists k c l m);
+  turn_below = λ k c l m. ltb-true _ _ (below_each _ (λ k. length (children_of r k))
+      (λ k c. nat_lt (child_of P r k c).motion.turn P.order) t.turn_below k c l m);
 }
 
 has_numbers : (name : Name) → HasNumbers (points_of (named name).order) (tiling_listed (named name)).rule

@@ -3,9 +3,9 @@ use Rattle.std.proofs.Common.{◌≡◌, ℕ, ◌<◌, Bool, true, pos, List, ma
 use Rattle.std.proofs.lemmas.Bool.{ltb-true}
 use Rattle.std.proofs.lemmas.List as lists
 use Rattle.std.proofs.lemmas.List.{length-map}
-use Rattle.addressing.specs.Search.{all_below}
-use Rattle.substitution.specs.Rule.{Rule, Kind, Child as TheChild, children_of}
-use Rattle.substitution.specs.RuleParts.{map_rule, map_kind, map_child, child_of}
+use Rattle.theory_addresses.specs.Search.{all_below}
+use Rattle.theory_substitution.specs.Rule.{Rule, Kind, Child as TheChild, children_of}
+use Rattle.theory_substitution.specs.RuleParts.{map_rule, map_kind, map_child, child_of}
 use Rattle.cyclo_points.specs.declared.order.Order.{Order}
 use Rattle.cyclo_points.specs.declared.point.Point.{Point}
 use Rattle.cyclo_points.specs.Order.{NumberOf, points_of}
@@ -26,8 +26,10 @@ use Rattle.builtin_rules.proofs.Numbered.{below_each}
 -- the same, as tests
 record PassesTests (w : ListedRule) : Type 0 where
   factor : is_small w.order w.rule.factor ≡ true
-  shifts : all_below (length w.rule.kinds) (λ k. all_below (length (children_of w.rule k)) (λ c. is_small w.order (written_child w k c).motion.shift)) ≡ true
-  turns : all_below (length w.rule.kinds) (λ k. all_below (length (children_of w.rule k)) (λ c. nat_lt (written_child w k c).motion.turn (points_of w.order).order)) ≡ true
+  shifts : all_below (length w.rule.kinds) (λ k. all_below (length (children_of w.rule k))
+      (λ c. is_small w.order (written_child w k c).motion.shift)) ≡ true
+  turns : all_below (length w.rule.kinds) (λ k. all_below (length (children_of w.rule k))
+      (λ c. nat_lt (written_child w k c).motion.turn (points_of w.order).order)) ≡ true
 
 passes : (name : Name) → PassesTests (named name)
 passes Chair = record { factor = refl; shifts = refl; turns = refl }
@@ -41,7 +43,8 @@ by_tests w t = record {
   factor_small = small w.order w.rule.factor t.factor;
   shift_small = λ k c l m. small w.order (written_child w k c).motion.shift
       (below_each _ (λ k. length (children_of w.rule k)) (λ k c. is_small w.order (written_child w k c).motion.shift) t.shifts k c l m);
-  turn_below = λ k c l m. ltb-true _ _ (below_each _ (λ k. length (children_of w.rule k)) (λ k c. nat_lt (written_child w k c).motion.turn (points_of w.order).order) t.turns k c l m);
+  turn_below = λ k c l m. ltb-true _ _ (below_each _ (λ k. length (children_of w.rule k))
+      (λ k c. nat_lt (written_child w k c).motion.turn (points_of w.order).order) t.turns k c l m);
 }
 
 pub placeable : (name : Name) → IsPlaceable (named name)
@@ -53,7 +56,8 @@ module _ (o : Order) (r : Rule Point) (k : ℕ) where
   kind_listed l = subst (λ m. k < m) (length-map r.kinds (map_kind (point_in o))) l
 
   pub child_listed : (c : ℕ) → c < length (children_of (map_rule (point_in o) r) k) → c < length (children_of r k)
-  child_listed c l = subst (λ m. c < m) (ap (λ (x : Kind (NumberOf o)). length x.children) (kind_of-map (point_in o) r k) ∙ length-map (children_of r k) (map_child (point_in o))) l
+  child_listed c l = subst (λ m. c < m) (ap (λ (x : Kind (NumberOf o)). length x.children)
+      (kind_of-map (point_in o) r k) ∙ length-map (children_of r k) (map_child (point_in o))) l
 
   -- a child of the lists is that of the numbers
   pub child_number : (c : ℕ) (child : Child) (none : TheChild Point) → c < length (children_of r k) → as_child child ≡ get_or (children_of r k) c none
@@ -65,7 +69,8 @@ module _ (o : Order) (r : Rule Point) (k : ℕ) where
       ∙ sym (ap (λ (x : Kind (NumberOf o)). get_or x.children c none_in) (kind_of-map (point_in o) r k))
 
 -- a child of the program is the one that is written down
-pub child_at : (w : ListedRule) (k i : ℕ) (children : List Child) (none : Child) → map as_child children ≡ children_of w.rule k → i < length (children_of w.rule k)
+pub child_at : (w : ListedRule) (k i : ℕ) (children : List Child) (none : Child)
+    → map as_child children ≡ children_of w.rule k → i < length (children_of w.rule k)
     → as_child (get_or children i none) ≡ written_child w k i
 child_at w k i children none same l =
     sym (lists.get_or-map as_child children i none no_child (subst (λ n. i < n) (sym (ap length same) ∙ length-map children as_child) l))

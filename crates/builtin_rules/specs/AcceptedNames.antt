@@ -1,7 +1,7 @@
 -- The rules that have a name, as they are written down, are accepted.
 use Rattle.cyclo_points.specs.Order.{points_of, is_refused}
-use Rattle.edge_to_edge.specs.EdgeToEdge.{IsEdgeToEdge}
-use Rattle.edge_to_edge.specs.Numbered.{IsNumbered}
+use Rattle.theory_edge_to_edge.specs.EdgeToEdge.{IsEdgeToEdge}
+use Rattle.theory_edge_to_edge.specs.Numbered.{IsNumbered}
 use Rattle.rule_model.specs.Tiling.{tiling_listed}
 use Rattle.rule_model.specs.Views.{as_edition}
 use Rattle.builtin_rules.specs.declared.name.Name.{Name}

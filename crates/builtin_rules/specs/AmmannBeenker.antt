@@ -1,6 +1,6 @@
 -- The rhombs and squares of Ammann and Beenker, the square cut into two halves along a diagonal.
 use Rattle.std.specs.Prelude.{ℕ, [], ◌∷◌}
-use Rattle.substitution.specs.Rule.{Rule}
+use Rattle.theory_substitution.specs.Rule.{Rule}
 use Rattle.cyclo_points.specs.declared.order.Order.TheVariants.{Eight}
 use Rattle.cyclo_points.specs.declared.point.Point.{Point}
 use Rattle.rule_model.specs.declared.edition.Edition.TheVariants.{One}

@@ -1,6 +1,6 @@
 -- The rules that have a name.
 use Rattle.std.specs.Prelude.{◌≡◌}
-use Rattle.addressing.specs.Tables.{Tables}
+use Rattle.theory_addresses.specs.Tables.{Tables}
 use Rattle.rule_model.specs.declared.rule.Rule.{Rule}
 use Rattle.rule_model.specs.Tiling.{ListedRule, tiling_listed, contacts}
 use Rattle.rule_model.specs.Views.{as_rule}

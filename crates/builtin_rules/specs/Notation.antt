@@ -1,6 +1,6 @@
 -- The notation in which the rules are written down.
 use Rattle.std.specs.Prelude.{ℕ, ℤ, pos, neg_ℤ, List, [], ◌∷◌}
-use Rattle.substitution.specs.Rule.{EdgeType, Child, Kind}
+use Rattle.theory_substitution.specs.Rule.{EdgeType, Child, Kind}
 use Rattle.cyclo_points.specs.declared.point.Point.{Point}
 
 -- the coefficients that occur

@@ -1,6 +1,6 @@
 -- Penrose's kites and darts, each cut into two halves along its axis.
 use Rattle.std.specs.Prelude.{ℕ, [], ◌∷◌}
-use Rattle.substitution.specs.Rule.{Rule}
+use Rattle.theory_substitution.specs.Rule.{Rule}
 use Rattle.cyclo_points.specs.declared.order.Order.TheVariants.{Ten}
 use Rattle.cyclo_points.specs.declared.point.Point.{Point}
 use Rattle.rule_model.specs.declared.edition.Edition.TheVariants.{One}

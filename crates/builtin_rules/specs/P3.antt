@@ -1,7 +1,7 @@
 -- Penrose's rhombs, each cut into two halves: the thin one along its short diagonal, the thick one along its
 -- long diagonal.
 use Rattle.std.specs.Prelude.{ℕ, [], ◌∷◌}
-use Rattle.substitution.specs.Rule.{Rule}
+use Rattle.theory_substitution.specs.Rule.{Rule}
 use Rattle.cyclo_points.specs.declared.order.Order.TheVariants.{Ten}
 use Rattle.cyclo_points.specs.declared.point.Point.{Point}
 use Rattle.rule_model.specs.declared.edition.Edition.TheVariants.{One}

@@ -1,7 +1,7 @@
 -- A rule as it is written down whose numbers may be multiplied: they are small, and its turns are those of
 -- its order.
 use Rattle.std.specs.Prelude.{ℕ, ◌<◌, length, get_or}
-use Rattle.substitution.specs.Rule.{Child, children_of}
+use Rattle.theory_substitution.specs.Rule.{Child, children_of}
 use Rattle.cyclo_points.specs.declared.point.Point.{Point}
 use Rattle.cyclo_points.specs.Order.{points_of}
 use Rattle.rule_model.specs.Tiling.{ListedRule}

@@ -1,6 +1,6 @@
 -- Rules as they are written down: an edition, an order, and lists of numbers, each point by its coefficients.
 use Rattle.std.specs.Prelude.{map}
-use Rattle.substitution.specs.Rule.{EdgeType, Kind}
+use Rattle.theory_substitution.specs.Rule.{EdgeType, Kind}
 use Rattle.cyclo_points.specs.declared.point.Point.{Point}
 use Rattle.rule_model.specs.Views.{as_child}
 use Rattle.rule_model.specs.Tiling.{ListedRule}

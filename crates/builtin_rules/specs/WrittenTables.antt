@@ -1,6 +1,6 @@
 -- The contact tables that are written down with the numbers of a rule.
 use Rattle.std.specs.Prelude.{map}
-use Rattle.addressing.specs.Tables.{Tables, KindTables}
+use Rattle.theory_addresses.specs.Tables.{Tables, KindTables}
 use Rattle.edge_tables.specs.Views.{as_contact, as_child_edge}
 use Rattle.builtin_rules.specs.Numbers.{KindBy, RuleBy, Fixed}
 

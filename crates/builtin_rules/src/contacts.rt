@@ -1,8 +1,8 @@
 //! Makes contact tables and uses from the numbers of a rule. Each call fails only if memory runs out.
 ghost use Rattle.std.specs.Prelude.{◌≡◌, map, IfOk};
 ghost use Rattle.edge_tables.specs.Views.{as_kind_tables};
-ghost use Rattle.addressing.specs.Coherent.{IsCoherent};
-ghost use Rattle.addressing.specs.Tables.{child_kinds};
+ghost use Rattle.theory_addresses.specs.Coherent.{IsCoherent};
+ghost use Rattle.theory_addresses.specs.Tables.{child_kinds};
 ghost use Rattle.tile_shape.specs.Usable.{AreUsable};
 ghost use Rattle.builtin_rules.specs.Numbers.{fixed_kind, fixed_rule};
 ghost use Rattle.builtin_rules.specs.WrittenTables.{written_tables, written_tables_of_kind};
@@ -29,7 +29,8 @@ fn kinds_of(alloc: Global, children: &[Child]) -> Result<Vec<u8>, NoMemory>
 
 /// Copies a list of lists into memory of its own.
 fn copied_lists<T: Copy>(alloc: Global, lists: &[&[T]]) -> Result<Vec<Vec<T>>, NoMemory>
-    ensures { IfOk result (λ copies. map (λ copy. copy.items) copies.items ≡ map (λ list. list.now) lists.now) }
+    ensures { IfOk result (λ copies. map (λ copy. copy.items) copies.items ≡ map (λ list. list.now)
+        lists.now) }
 {
     let mut copies = Vec::with_capacity(alloc, lists.len())?;
     for list in lists {

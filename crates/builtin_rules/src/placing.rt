@@ -1,6 +1,6 @@
 //! The places of the tiles of built-in rules, from the constants.
 ghost use Rattle.std.specs.Prelude.{◌≡◌, ◌<◌, length, get_or};
-ghost use Rattle.substitution.specs.Rule.{Child as TheChild, kind_of, children_of};
+ghost use Rattle.theory_substitution.specs.Rule.{Child as TheChild, kind_of, children_of};
 ghost use Rattle.cyclo_points.specs.declared.point.Point.{Point};
 ghost use Rattle.cyclo_points.specs.Order.{points_of};
 ghost use Rattle.rule_model.specs.Tiling.{tiling_listed};
@@ -65,7 +65,8 @@ impl NamedPlacing {
     fn listed_child(&self, kind: u8, child: u8) -> Child
         requires kind_in { kind < length self.now.rule.kinds }
         requires child_in { child < length (children_of self.now.rule kind) }
-        ensures lists { (none : TheChild Point) → as_child result ≡ get_or (children_of self.now.rule kind) child none }
+        ensures lists { (none : TheChild Point) → as_child result ≡ get_or (children_of self.now.rule kind)
+            child none }
         ensures small { IsSmall self.now.order result.shift }
         ensures turn_below { result.turn < (points_of self.now.order).order }
     {

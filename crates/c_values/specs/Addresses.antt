@@ -1,6 +1,6 @@
 -- What the plain addresses of C stand for.
 use Rattle.std.specs.Prelude.{◌≤◌, map, take}
-use Rattle.addressing.specs.Address as theory
+use Rattle.theory_addresses.specs.Address as theory
 use Rattle.rule_model.specs.Tiling.{Tiling, children}
 use Rattle.c_values.specs.declared.plain_address.PlainDigit.{PlainDigit}
 use Rattle.c_values.specs.declared.plain_address.PlainAddress.{PlainAddress}

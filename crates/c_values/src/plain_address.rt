@@ -1,6 +1,6 @@
 //! Addresses as plain numbers.
 ghost use Rattle.std.specs.Prelude.{◌≡◌, ◌↔◌, ◌<◌, ◌≤◌, None, Some, IsSome, IfSome};
-ghost use Rattle.addressing.specs.Address.{Fits};
+ghost use Rattle.theory_addresses.specs.Address.{Fits};
 ghost use Rattle.rule_model.specs.Tiling.{tiling_of, children};
 ghost use Rattle.tile_shape.specs.Views.{address_of};
 ghost use Rattle.c_values.specs.Addresses.{address_in, NamesTile};

@@ -28,13 +28,15 @@ found_none text r h e = at_none _ _ r e (split_parts comma text r h (omega arith
     at_none P Q None e p = p
     at_none P Q (Some x) e p = absurd (cc e)
 
-pub found_some : (text : List ℕ) (r : Option (Bor (List ℕ) × Bor (List ℕ))) (x : Bor (List ℕ) × Bor (List ℕ)) → IsSplitOnceResult comma text r → r ≡ Some x → (text ≡ x.0.now ++ comma ∷ x.1.now) × NoComma x.0.now
+pub found_some : (text : List ℕ) (r : Option (Bor (List ℕ) × Bor (List ℕ))) (x : Bor (List ℕ) × Bor (List ℕ))
+    → IsSplitOnceResult comma text r → r ≡ Some x → (text ≡ x.0.now ++ comma ∷ x.1.now) × NoComma x.0.now
 found_some text r x h e = at_some _ _ r e (split_parts comma text r h (omega arith))
   where
     some_is : (y : Bor (List ℕ) × Bor (List ℕ)) → Some y ≡ Some x → y ≡ x
     some_is y e = cc
 
-    at_some : (P : Type 0) (Q : Bor (List ℕ) × Bor (List ℕ) → Type 0) (r : Option (Bor (List ℕ) × Bor (List ℕ))) → r ≡ Some x → MatchOption r P Q → Q x
+    at_some : (P : Type 0) (Q : Bor (List ℕ) × Bor (List ℕ) → Type 0)
+        (r : Option (Bor (List ℕ) × Bor (List ℕ))) → r ≡ Some x → MatchOption r P Q → Q x
     at_some P Q None e p = absurd (cc e)
     at_some P Q (Some y) e p = subst Q (some_is y e) p
 
@@ -42,7 +44,8 @@ found_some text r x h e = at_some _ _ r e (split_parts comma text r h (omega ari
 pub pieces_at : (xs ys : List ℕ) → NoComma xs → texts_between comma (xs ++ comma ∷ ys) ≡ xs ∷ texts_between comma ys
 pieces_at [] ys none = refl
 pieces_at (x ∷ xs) ys none =
-    ap (λ b. cond b ([] ∷ texts_between comma (xs ++ comma ∷ ys)) (onto_first x (texts_between comma (xs ++ comma ∷ ys)))) (ne_eqb x comma (none 0 (omega arith)))
+    ap (λ b. cond b ([] ∷ texts_between comma (xs ++ comma ∷ ys))
+    (onto_first x (texts_between comma (xs ++ comma ∷ ys)))) (ne_eqb x comma (none 0 (omega arith)))
     ∙ ap (onto_first x) (pieces_at xs ys (tail-none x xs none))
 
 pub pieces_last : (xs : List ℕ) → NoComma xs → texts_between comma xs ≡ xs ∷ []
@@ -74,7 +77,12 @@ comma_or_none (x ∷ xs) = at_test (x == comma) refl (comma_or_none xs)
 
     at_test : (b : Bool) → (x == comma) ≡ b → HasComma xs ⊎ NoComma xs → HasComma (x ∷ xs) ⊎ NoComma (x ∷ xs)
     at_test true e rest = inl (record { before = []; behind = xs; split = ap (λ y. y ∷ xs) (is_comma x e); none = λ i l. absurd (omega (arith, l)) })
-    at_test false e (inl h) = inl (record { before = x ∷ h.before; behind = h.behind; split = ap (λ ys. x ∷ ys) h.split; none = cons-none x h.before (first e) h.none })
+    at_test false e (inl h) = inl (record {
+      before = x ∷ h.before;
+      behind = h.behind;
+      split = ap (λ ys. x ∷ ys) h.split;
+      none = cons-none x h.before (first e) h.none;
+    })
     at_test false e (inr none) = inr (cons-none x xs (first e) none)
 
 -- there is a first one
@@ -85,7 +93,12 @@ first_piece (x ∷ xs) = at_test (x == comma) refl (first_piece xs)
     at_test : (b : Bool) → (x == comma) ≡ b → ((piece : List ℕ) × (rest : List (List ℕ)) × (texts_between comma xs ≡ piece ∷ rest))
         → (piece : List ℕ) × (rest : List (List ℕ)) × (texts_between comma (x ∷ xs) ≡ piece ∷ rest)
     at_test true e f = ([], texts_between comma xs, ap (λ b. cond b ([] ∷ texts_between comma xs) (onto_first x (texts_between comma xs))) e)
-    at_test false e f = (x ∷ f.0, f.1, ap (λ b. cond b ([] ∷ texts_between comma xs) (onto_first x (texts_between comma xs))) e ∙ ap (onto_first x) f.2)
+    at_test false e f = (
+      x ∷ f.0,
+      f.1,
+      ap (λ b. cond b ([] ∷ texts_between comma xs)
+          (onto_first x (texts_between comma xs))) e ∙ ap (onto_first x) f.2,
+    )
 
 -- ---- no text with a comma is a number
 continued-none : (n : ℕ) (xs ys : List ℕ) → continued n (xs ++ comma ∷ ys) ≡ None
@@ -116,10 +129,12 @@ coefficient-of (x ∷ xs) ys = at_test (x == minus_sign) refl
   where
     at_test : (b : Bool) → (x == minus_sign) ≡ b → coefficient_in (x ∷ (xs ++ comma ∷ ys)) ≡ None
     at_test true e =
-        ap (λ b. cond b (option_and_then negated (number_up_to most_coefficient (xs ++ comma ∷ ys))) (option_map pos (number_up_to most_coefficient (x ∷ (xs ++ comma ∷ ys))))) e
+        ap (λ b. cond b (option_and_then negated (number_up_to most_coefficient (xs ++ comma ∷ ys)))
+        (option_map pos (number_up_to most_coefficient (x ∷ (xs ++ comma ∷ ys))))) e
         ∙ ap (option_and_then negated) (up_to-none most_coefficient xs ys)
     at_test false e =
-        ap (λ b. cond b (option_and_then negated (number_up_to most_coefficient (xs ++ comma ∷ ys))) (option_map pos (number_up_to most_coefficient (x ∷ (xs ++ comma ∷ ys))))) e
+        ap (λ b. cond b (option_and_then negated (number_up_to most_coefficient (xs ++ comma ∷ ys)))
+        (option_map pos (number_up_to most_coefficient (x ∷ (xs ++ comma ∷ ys))))) e
         ∙ ap (option_map pos) (up_to-none most_coefficient (x ∷ xs) ys)
 
 pub coefficient-none : (text : List ℕ) → HasComma text → coefficient_in text ≡ None
@@ -137,17 +152,20 @@ pub half_one : (text : List ℕ) → NoComma text → extents_of_pieces (texts_b
 half_one text none = ap extents_of_pieces (pieces_last text none)
 
 pub half_two : (text a b : List ℕ) → text ≡ a ++ comma ∷ b → NoComma a → extents_of_pieces (texts_between comma text) ≡ extents a b
-half_two text a b e none = ap (λ xs. extents_of_pieces (texts_between comma xs)) e ∙ ap extents_of_pieces (pieces_at a b none) ∙ elim (comma_or_none b) [
-  | inr last ↦ ap (λ ps. extents_of_pieces (a ∷ ps)) (pieces_last b last)
-  | inl more ↦ too_many more
-]
+half_two text a b e none = ap (λ xs. extents_of_pieces (texts_between comma xs)) e
+    ∙ ap extents_of_pieces (pieces_at a b none) ∙ elim (comma_or_none b) [
+      | inr last ↦ ap (λ ps. extents_of_pieces (a ∷ ps)) (pieces_last b last)
+      | inl more ↦ too_many more
+    ]
   where
     too_many : HasComma b → extents_of_pieces (a ∷ texts_between comma b) ≡ extents a b
     too_many h =
         let f = first_piece h.behind in
         ap (λ xs. extents_of_pieces (a ∷ texts_between comma xs)) h.split ∙ ap (λ ps. extents_of_pieces (a ∷ ps)) (pieces_at h.before h.behind h.none)
         ∙ ap (λ ps. extents_of_pieces (a ∷ (h.before ∷ ps))) f.2
-        ∙ sym (ap (λ o. option_and_then (λ w. option_map (λ n. (let x : HalfExtents = record { w = w; h = n } in x)) o) (extent_in a)) (extent-none b h) ∙ and_then-none (extent_in a))
+        ∙ sym (ap (λ o. option_and_then (λ w. option_map
+        (λ n. (let x : HalfExtents = record { w = w; h = n } in x)) o) (extent_in a)) (extent-none b h)
+        ∙ and_then-none (extent_in a))
 
 abbrev pub point_of : List ℕ → List ℕ → List ℕ → List ℕ → Option Point
 point_of a b c d = point_of_texts coefficient_in (a ∷ b ∷ c ∷ d ∷ [])
@@ -156,12 +174,18 @@ pub at_one : (text : List ℕ) → NoComma text → point_of_texts coefficient_i
 at_one text none = ap (point_of_texts coefficient_in) (pieces_last text none)
 
 -- the first piece, and the others
-at_next : (front : List (List ℕ)) (text a rest : List ℕ) → text ≡ a ++ comma ∷ rest → NoComma a → point_of_texts coefficient_in (front ++ texts_between comma text) ≡ point_of_texts coefficient_in ((front ++ a ∷ []) ++ texts_between comma rest)
+at_next : (front : List (List ℕ)) (text a rest : List ℕ) → text ≡ a ++ comma ∷ rest → NoComma a
+    → point_of_texts coefficient_in (front ++ texts_between comma text) ≡ point_of_texts coefficient_in
+    ((front ++ a ∷ []) ++ texts_between comma rest)
 at_next front text a rest e none =
-    ap (λ xs. point_of_texts coefficient_in (front ++ texts_between comma xs)) e ∙ ap (λ ps. point_of_texts coefficient_in (front ++ ps)) (pieces_at a rest none) ∙ ap (point_of_texts coefficient_in) (sym (append_assoc front (a ∷ []) (texts_between comma rest)))
+    ap (λ xs. point_of_texts coefficient_in (front ++ texts_between comma xs)) e
+    ∙ ap (λ ps. point_of_texts coefficient_in (front ++ ps)) (pieces_at a rest none)
+    ∙ ap (point_of_texts coefficient_in) (sym (append_assoc front (a ∷ []) (texts_between comma rest)))
 
-pub at_found : (front : List (List ℕ)) (text : List ℕ) (r : Option (Bor (List ℕ) × Bor (List ℕ))) (x : Bor (List ℕ) × Bor (List ℕ)) → IsSplitOnceResult comma text r → r ≡ Some x
-    → point_of_texts coefficient_in (front ++ texts_between comma text) ≡ point_of_texts coefficient_in ((front ++ x.0.now ∷ []) ++ texts_between comma x.1.now)
+pub at_found : (front : List (List ℕ)) (text : List ℕ) (r : Option (Bor (List ℕ) × Bor (List ℕ)))
+    (x : Bor (List ℕ) × Bor (List ℕ)) → IsSplitOnceResult comma text r → r ≡ Some x
+    → point_of_texts coefficient_in (front ++ texts_between comma text) ≡ point_of_texts coefficient_in
+    ((front ++ x.0.now ∷ []) ++ texts_between comma x.1.now)
 at_found front text r x h e = let p = found_some text r x h e in at_next front text x.0.now x.1.now p.0 p.1
 
 pub at_two : (a text : List ℕ) → NoComma text → point_of_texts coefficient_in (a ∷ texts_between comma text) ≡ None
@@ -187,7 +211,9 @@ at_four a b c d = elim (comma_or_none d) [
     too_many : HasComma d → point_of_texts coefficient_in (a ∷ (b ∷ (c ∷ texts_between comma d))) ≡ point_of a b c d
     too_many h =
         let f = first_piece h.behind in
-        ap (λ xs. point_of_texts coefficient_in (a ∷ (b ∷ (c ∷ texts_between comma xs)))) h.split ∙ ap (λ ps. point_of_texts coefficient_in (a ∷ (b ∷ (c ∷ ps)))) (pieces_at h.before h.behind h.none)
+        ap (λ xs. point_of_texts coefficient_in (a ∷ (b ∷ (c ∷ texts_between comma xs)))) h.split
+        ∙ ap (λ ps. point_of_texts coefficient_in (a ∷ (b ∷ (c ∷ ps))))
+        (pieces_at h.before h.behind h.none)
         ∙ ap (λ ps. point_of_texts coefficient_in (a ∷ (b ∷ (c ∷ (h.before ∷ ps))))) f.2
         ∙ sym (ap (point_of_coefficients (coefficient_in a) (coefficient_in b) (coefficient_in c)) (coefficient-none d h)
         ∙ no_fourth (coefficient_in a) (coefficient_in b) (coefficient_in c))

@@ -31,8 +31,10 @@ pieces-in_front begun (x ∷ xs) = at_test (x == comma) (pieces-in_front [] xs) 
     moved [] = refl
     moved (text ∷ texts) = ap (λ b. b ∷ texts) (append_assoc begun (x ∷ []) text)
 
-    at_test : (b : Bool) → pieces [] xs ≡ in_front [] (texts_between comma xs) → pieces (begun ++ x ∷ []) xs ≡ in_front (begun ++ x ∷ []) (texts_between comma xs)
-        → cond b (begun ∷ pieces [] xs) (pieces (begun ++ x ∷ []) xs) ≡ in_front begun (cond b ([] ∷ texts_between comma xs) (onto_first x (texts_between comma xs)))
+    at_test : (b : Bool) → pieces [] xs ≡ in_front [] (texts_between comma xs)
+        → pieces (begun ++ x ∷ []) xs ≡ in_front (begun ++ x ∷ []) (texts_between comma xs)
+        → cond b (begun ∷ pieces [] xs) (pieces (begun ++ x ∷ []) xs) ≡ in_front begun
+        (cond b ([] ∷ texts_between comma xs) (onto_first x (texts_between comma xs)))
     at_test true e f = ap₂ (λ b texts. b ∷ texts) (sym (append-nil begun)) (e ∙ in_front-none xs)
     at_test false e f = f ∙ moved (texts_between comma xs)
 
@@ -54,8 +56,10 @@ le_true : (m n : ℕ) → m ≤ n → nat_le m n ≡ true
 le_true m n h = le-leb m n h
 
 -- a piece that is a number
-pub read_on : (front piece : List ℕ) (rest : List (List ℕ)) (n : ℕ) → number_up_to 255 piece ≡ Some n → put front (numbers (piece ∷ rest)) ≡ put (front ++ n ∷ []) (numbers rest)
-read_on front piece rest n e = ap (λ o. put front (option_and_then (λ n. option_map (λ ns. n ∷ ns) (numbers rest)) o)) e ∙ put-put front n (numbers rest)
+pub read_on : (front piece : List ℕ) (rest : List (List ℕ)) (n : ℕ) → number_up_to 255 piece ≡ Some n
+    → put front (numbers (piece ∷ rest)) ≡ put (front ++ n ∷ []) (numbers rest)
+read_on front piece rest n e = ap (λ o. put front
+    (option_and_then (λ n. option_map (λ ns. n ∷ ns) (numbers rest)) o)) e ∙ put-put front n (numbers rest)
 
 -- a piece that is none
 pub read_none : (front piece : List ℕ) (rest : List (List ℕ)) → number_up_to 255 piece ≡ None → put front (numbers (piece ∷ rest)) ≡ None
@@ -79,14 +83,20 @@ at_place [] i h = absurd (omega arith)
 at_place (b ∷ bs) zero h = refl
 at_place (b ∷ bs) (suc i) h = let e : suc i + 1 ≡ suc (i + 1) = omega arith in rw e (at_place bs i (omega arith))
 
-pub at_comma : (begun bytes : List ℕ) (i : ℕ) → i < length bytes → get_or bytes i 0 ≡ comma → pieces begun (drop i bytes) ≡ begun ∷ pieces [] (drop (i + 1) bytes)
-at_comma begun bytes i h e = ap (pieces begun) (at_place bytes i h) ∙ ap (λ b. cond b (begun ∷ pieces [] (drop (i + 1) bytes)) (pieces (begun ++ get_or bytes i 0 ∷ []) (drop (i + 1) bytes))) (is (get_or bytes i 0) e)
+pub at_comma : (begun bytes : List ℕ) (i : ℕ) → i < length bytes → get_or bytes i 0 ≡ comma
+    → pieces begun (drop i bytes) ≡ begun ∷ pieces [] (drop (i + 1) bytes)
+at_comma begun bytes i h e = ap (pieces begun) (at_place bytes i h)
+    ∙ ap (λ b. cond b (begun ∷ pieces [] (drop (i + 1) bytes))
+    (pieces (begun ++ get_or bytes i 0 ∷ []) (drop (i + 1) bytes))) (is (get_or bytes i 0) e)
   where
     is : (b : ℕ) → b ≡ comma → (b == comma) ≡ true
     is b e = rw e refl
 
-pub at_other : (begun bytes : List ℕ) (i : ℕ) → i < length bytes → (get_or bytes i 0 == comma) ≡ false → pieces begun (drop i bytes) ≡ pieces (begun ++ get_or bytes i 0 ∷ []) (drop (i + 1) bytes)
-at_other begun bytes i h e = ap (pieces begun) (at_place bytes i h) ∙ ap (λ b. cond b (begun ∷ pieces [] (drop (i + 1) bytes)) (pieces (begun ++ get_or bytes i 0 ∷ []) (drop (i + 1) bytes))) e
+pub at_other : (begun bytes : List ℕ) (i : ℕ) → i < length bytes → (get_or bytes i 0 == comma) ≡ false
+    → pieces begun (drop i bytes) ≡ pieces (begun ++ get_or bytes i 0 ∷ []) (drop (i + 1) bytes)
+at_other begun bytes i h e = ap (pieces begun) (at_place bytes i h)
+    ∙ ap (λ b. cond b (begun ∷ pieces [] (drop (i + 1) bytes))
+    (pieces (begun ++ get_or bytes i 0 ∷ []) (drop (i + 1) bytes))) e
 
 take-none : (n : ℕ) (xs : List ℕ) → take (n - n) xs ≡ []
 take-none n xs = let e : n - n ≡ 0 = omega arith in rw e (none xs)
@@ -101,14 +111,17 @@ pub after_comma : (bytes path new : List ℕ) (begin place : ℕ) → place < le
     → put path (numbers (pieces (take (place - begin) (drop begin bytes)) (drop place bytes))) ≡ numbers (pieces [] bytes)
     → put new (numbers (pieces (take ((place + 1) - (place + 1)) (drop (place + 1) bytes)) (drop (place + 1) bytes))) ≡ numbers (pieces [] bytes)
 after_comma bytes path new begin place h e read same =
-    ap (λ p. put new (numbers (pieces p (drop (place + 1) bytes)))) (take-none (place + 1) (drop (place + 1) bytes)) ∙ read (pieces [] (drop (place + 1) bytes))
+    ap (λ p. put new (numbers (pieces p (drop (place + 1) bytes))))
+    (take-none (place + 1) (drop (place + 1) bytes)) ∙ read (pieces [] (drop (place + 1) bytes))
     ∙ ap (λ ps. put path (numbers ps)) (sym (at_comma (take (place - begin) (drop begin bytes)) bytes place h e)) ∙ same
 
 pub after_other : (bytes path : List ℕ) (begin place : ℕ) → begin ≤ place → place < length bytes → (get_or bytes place 0 ≡ comma → ⊥)
     → put path (numbers (pieces (take (place - begin) (drop begin bytes)) (drop place bytes))) ≡ numbers (pieces [] bytes)
     → put path (numbers (pieces (take ((place + 1) - begin) (drop begin bytes)) (drop (place + 1) bytes))) ≡ numbers (pieces [] bytes)
 after_other bytes path begin place b h e same =
-    ap (λ p. put path (numbers (pieces p (drop (place + 1) bytes)))) one_more ∙ ap (λ ps. put path (numbers ps)) (sym (at_other (take (place - begin) (drop begin bytes)) bytes place h (ne_eqb (get_or bytes place 0) comma e))) ∙ same
+    ap (λ p. put path (numbers (pieces p (drop (place + 1) bytes)))) one_more
+    ∙ ap (λ ps. put path (numbers ps)) (sym (at_other (take (place - begin) (drop begin bytes)) bytes
+    place h (ne_eqb (get_or bytes place 0) comma e))) ∙ same
   where
     count : (place + 1) - begin ≡ (place - begin) + 1
     count = omega (arith, b)
@@ -126,7 +139,9 @@ pub at_end : (bytes path : List ℕ) (begin place : ℕ) → length bytes ≤ pl
     → put path (numbers (pieces (take (place - begin) (drop begin bytes)) (drop place bytes))) ≡ numbers (pieces [] bytes)
     → put path (numbers (take (length bytes - begin) (drop begin bytes) ∷ [])) ≡ numbers (pieces [] bytes)
 at_end bytes path begin place past b e same =
-    ap₂ (λ p rest. put path (numbers (pieces p rest))) (ap (λ n. take (n - begin) (drop begin bytes)) (let e : length bytes ≡ place = omega (arith, past, e) in e)) (sym (nothing bytes place past)) ∙ same
+    ap₂ (λ p rest. put path (numbers (pieces p rest)))
+    (ap (λ n. take (n - begin) (drop begin bytes))
+    (let e : length bytes ≡ place = omega (arith, past, e) in e)) (sym (nothing bytes place past)) ∙ same
   where
     nothing : (xs : List ℕ) (n : ℕ) → length xs ≤ n → drop n xs ≡ []
     nothing [] zero h = refl
@@ -136,15 +151,26 @@ at_end bytes path begin place past b e same =
 
 pub refused_at_comma : (bytes path : List ℕ) (begin place : ℕ) → place < length bytes → get_or bytes place 0 ≡ comma
     → put path (numbers (pieces (take (place - begin) (drop begin bytes)) (drop place bytes))) ≡ numbers (pieces [] bytes)
-    → ((rest : List (List ℕ)) → unless_long (put path (numbers (take (place - begin) (drop begin bytes) ∷ rest))) ≡ None) → None ≡ unless_long (numbers (texts_between comma bytes))
+    → ((rest : List (List ℕ)) → unless_long (put path
+    (numbers (take (place - begin) (drop begin bytes) ∷ rest))) ≡ None)
+    → None ≡ unless_long (numbers (texts_between comma bytes))
 refused_at_comma bytes path begin place h e same none =
-    sym (none (pieces [] (drop (place + 1) bytes))) ∙ ap (λ ps. unless_long (put path (numbers ps))) (sym (at_comma (take (place - begin) (drop begin bytes)) bytes place h e)) ∙ ap unless_long same
+    sym (none (pieces [] (drop (place + 1) bytes)))
+    ∙ ap (λ ps. unless_long (put path (numbers ps)))
+    (sym (at_comma (take (place - begin) (drop begin bytes)) bytes place h e)) ∙ ap unless_long same
     ∙ ap (λ ps. unless_long (numbers ps)) (pieces-are bytes)
 
-pub path_refused : (bytes path : List ℕ) (begin : ℕ) → put path (numbers (take (length bytes - begin) (drop begin bytes) ∷ [])) ≡ numbers (pieces [] bytes) → unless_long (put path (numbers (take (length bytes - begin) (drop begin bytes) ∷ []))) ≡ None → None ≡ unless_long (numbers (texts_between comma bytes))
+pub path_refused : (bytes path : List ℕ) (begin : ℕ)
+    → put path (numbers (take (length bytes - begin) (drop begin bytes) ∷ [])) ≡ numbers (pieces [] bytes)
+    → unless_long (put path (numbers (take (length bytes - begin) (drop begin bytes) ∷ []))) ≡ None
+    → None ≡ unless_long (numbers (texts_between comma bytes))
 path_refused bytes path begin same none = sym none ∙ ap unless_long same ∙ ap (λ ps. unless_long (numbers ps)) (pieces-are bytes)
 
-pub path_read : (bytes path new : List ℕ) (begin : ℕ) → length new ≤ longest_path → put path (numbers (take (length bytes - begin) (drop begin bytes) ∷ [])) ≡ numbers (pieces [] bytes)
-    → ((rest : List (List ℕ)) → put new (numbers rest) ≡ put path (numbers (take (length bytes - begin) (drop begin bytes) ∷ rest))) → Some new ≡ unless_long (numbers (texts_between comma bytes))
+pub path_read : (bytes path new : List ℕ) (begin : ℕ) → length new ≤ longest_path
+    → put path (numbers (take (length bytes - begin) (drop begin bytes) ∷ [])) ≡ numbers (pieces [] bytes)
+    → ((rest : List (List ℕ)) → put new (numbers rest) ≡ put path
+    (numbers (take (length bytes - begin) (drop begin bytes) ∷ rest)))
+    → Some new ≡ unless_long (numbers (texts_between comma bytes))
 path_read bytes path new begin h same read =
-    sym (few new h) ∙ ap (λ xs. unless_long (Some xs)) (sym (append-nil new)) ∙ ap unless_long (read [] ∙ same) ∙ ap (λ ps. unless_long (numbers ps)) (pieces-are bytes)
+    sym (few new h) ∙ ap (λ xs. unless_long (Some xs)) (sym (append-nil new))
+    ∙ ap unless_long (read [] ∙ same) ∙ ap (λ ps. unless_long (numbers ps)) (pieces-are bytes)

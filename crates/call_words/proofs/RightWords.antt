@@ -22,7 +22,8 @@ use Rattle.tile_shape.specs.Decimal.{number_up_to}
 use Rattle.std.proofs.lemmas.Bool.{and_parts as both_true}
 
 -- ---- what is given among more words
-value_given-append : (key : Key) (before : List (List ℕ)) (word : List ℕ) → value_given key (before ++ word ∷ []) ≡ option_map_or Some (value_given key before) (value_in key word)
+value_given-append : (key : Key) (before : List (List ℕ)) (word : List ℕ)
+    → value_given key (before ++ word ∷ []) ≡ option_map_or Some (value_given key before) (value_in key word)
 value_given-append key [] word = at_value (value_in key word)
   where
     at_value : (o : Option (List ℕ)) → option_map_or Some o None ≡ o
@@ -31,13 +32,15 @@ value_given-append key [] word = at_value (value_in key word)
 value_given-append key (w ∷ ws) word = at_value (value_in key w) (value_given-append key ws word)
   where
     at_value : (o : Option (List ℕ)) → value_given key (ws ++ word ∷ []) ≡ option_map_or Some (value_given key ws) (value_in key word)
-        → option_map_or Some o (value_given key (ws ++ word ∷ [])) ≡ option_map_or Some (option_map_or Some o (value_given key ws)) (value_in key word)
+        → option_map_or Some o (value_given key (ws ++ word ∷ [])) ≡ option_map_or Some
+        (option_map_or Some o (value_given key ws)) (value_in key word)
     at_value None e = e
     at_value (Some v) e = refl
 
 -- ---- the cases of the tests
 value_name : (key : Key) (word value : List ℕ) → value_in key word ≡ Some value → before_first is_equals word ≡ key_text key
-value_name key word value e = at_test (nat_lt (position_or_len is_equals word) (length word) && bytes_eq (before_first is_equals word) (key_text key)) refl e
+value_name key word value e = at_test (nat_lt (position_or_len is_equals word) (length word)
+    && bytes_eq (before_first is_equals word) (key_text key)) refl e
   where
     at_test : (b : Bool) → nat_lt (position_or_len is_equals word) (length word) && bytes_eq (before_first is_equals word) (key_text key) ≡ b
         → cond b (Some (after_first is_equals word)) None ≡ Some value → before_first is_equals word ≡ key_text key
@@ -50,7 +53,9 @@ key_of_text text =
     cond (bytes_eq text (codes "rule")) (Some Rule) (cond (bytes_eq text (codes "addr")) (Some Addr) (cond (bytes_eq text (codes "edge")) (Some Edge)
     (cond (bytes_eq text (codes "seed")) (Some Seed) (cond (bytes_eq text (codes "grow")) (Some Grow) (cond (bytes_eq text (codes "path")) (Some Path)
     (cond (bytes_eq text (codes "at")) (Some At) (cond (bytes_eq text (codes "half")) (Some Half) (cond (bytes_eq text (codes "layers")) (Some Layers)
-    (cond (bytes_eq text (codes "glue")) (Some Glue) (cond (bytes_eq text (codes "n")) (Some Count) (cond (bytes_eq text (codes "vertex")) (Some Vertex) None)))))))))))
+    (cond (bytes_eq text (codes "glue")) (Some Glue)
+    (cond (bytes_eq text (codes "n")) (Some Count)
+    (cond (bytes_eq text (codes "vertex")) (Some Vertex) None)))))))))))
 
 key_text-tells : (j k : Key) → key_text j ≡ key_text k → j ≡ k
 unfolding key_of_text
@@ -81,31 +86,38 @@ some_key : (test : Key → Bool) (keys : List Key) → list_any test keys ≡ tr
 some_key test [] e = absurd (cc e)
 some_key test (k ∷ ks) e = at_test (test k) refl e (some_key test ks)
   where
-    at_test : (b : Bool) → test k ≡ b → b || list_any test ks ≡ true → (list_any test ks ≡ true → (j : Key) × (test j ≡ true)) → (j : Key) × (test j ≡ true)
+    at_test : (b : Bool) → test k ≡ b → b || list_any test ks ≡ true
+        → (list_any test ks ≡ true → (j : Key) × (test j ≡ true)) → (j : Key) × (test j ≡ true)
     at_test true f g rest = (k, f)
     at_test false f g rest = rest g
 
 -- the word that makes the test true gives the key a value of its form
-form_of_value : (command : Command) (given : Bool) (key : Key) (o : Option (List ℕ)) → option_map_or (λ v. not given && has_form command key v) o false ≡ true → (v : List ℕ) × (o ≡ Some v) × (has_form command key v ≡ true)
+form_of_value : (command : Command) (given : Bool) (key : Key) (o : Option (List ℕ))
+    → option_map_or (λ v. not given && has_form command key v) o false ≡ true → (v : List ℕ) × (o ≡ Some v)
+    × (has_form command key v ≡ true)
 form_of_value command given key None e = absurd (cc e)
 form_of_value command given key (Some v) e = (v, refl, (both_true _ _ e).1)
 
-have_forms : (command : Command) (before : List (List ℕ)) (word : List ℕ) → HaveForms command before → is_right command before word ≡ true → HaveForms command (before ++ word ∷ [])
+have_forms : (command : Command) (before : List (List ℕ)) (word : List ℕ) → HaveForms command before
+    → is_right command before word ≡ true → HaveForms command (before ++ word ∷ [])
 have_forms command before word h r key value e = at_value (value_given key before) refl (sym (value_given-append key before word) ∙ e)
   where
     some_value_is : (u v : List ℕ) → Some u ≡ Some v → u ≡ v
     some_value_is u v f = cc
 
-    from_word : (k : Key) (v : List ℕ) → value_in k word ≡ Some v → has_form command k v ≡ true → value_in key word ≡ Some value → has_form command key value ≡ true
+    from_word : (k : Key) (v : List ℕ) → value_in k word ≡ Some v → has_form command k v ≡ true
+        → value_in key word ≡ Some value → has_form command key value ≡ true
     from_word k v f g i =
         let same : k ≡ key = key_text-tells k key (sym (value_name k word v f) ∙ value_name key word value i) in
         let at_key : value_in key word ≡ Some v = subst (λ j. value_in j word ≡ Some v) same f in
         ap₂ (has_form command) (sym same) (some_value_is value v (sym i ∙ at_key)) ∙ g
 
-    at_value : (o : Option (List ℕ)) → value_given key before ≡ o → option_map_or Some o (value_in key word) ≡ Some value → has_form command key value ≡ true
+    at_value : (o : Option (List ℕ)) → value_given key before ≡ o
+        → option_map_or Some o (value_in key word) ≡ Some value → has_form command key value ≡ true
     at_value (Some v) f g = h key value (f ∙ g)
     at_value None f g =
-        let k = some_key (λ j. option_map_or (λ v. not (is_some (value_given j before)) && has_form command j v) (value_in j word) false) (keys_of command) r in
+        let k = some_key (λ j. option_map_or (λ v. not (is_some (value_given j before))
+        && has_form command j v) (value_in j word) false) (keys_of command) r in
         let v = form_of_value command (is_some (value_given k.0 before)) k.0 (value_in k.0 word) k.1 in
         from_word k.0 v.0 v.1 v.2 g
 
@@ -119,7 +131,8 @@ name_gives_nothing name command e key value g =
     nothing_in : (w : List ℕ) → name ≡ w → value_given key (w ∷ []) ≡ None → has_form command key value ≡ true
     nothing_in w f h = absurd (cc (sym (subst (λ v. value_given key (v ∷ []) ≡ Some value) f g) ∙ h))
 
-    at : (w : List ℕ) (c : Command) (rest : Option Command) → value_given key (w ∷ []) ≡ None → (rest ≡ Some command → has_form command key value ≡ true)
+    at : (w : List ℕ) (c : Command) (rest : Option Command) → value_given key (w ∷ []) ≡ None
+        → (rest ≡ Some command → has_form command key value ≡ true)
         → cond (bytes_eq name w) (Some c) rest ≡ Some command → has_form command key value ≡ true
     at w c rest none go h = of (bytes_eq name w) refl h
       where
@@ -128,12 +141,14 @@ name_gives_nothing name command e key value g =
         of false f k = go k
 
 -- ---- what is given is read, since it has its form
-read_or_not : {A : Type 0} (form : List ℕ → Option A) (o : Option (List ℕ)) → ((v : List ℕ) → o ≡ Some v → is_some (form v) ≡ true) → is_some (option_and_then form o) ≡ is_some o
+read_or_not : {A : Type 0} (form : List ℕ → Option A) (o : Option (List ℕ))
+    → ((v : List ℕ) → o ≡ Some v → is_some (form v) ≡ true) → is_some (option_and_then form o) ≡ is_some o
 read_or_not form None h = refl
 read_or_not form (Some v) h = h v refl
 
 -- a chain of values is there where each of them is
-chain : {A B : Type 0} (o : Option A) (next : A → Option B) (rest : Bool) → ((x : A) → is_some (next x) ≡ rest) → is_some (o >>= next) ≡ is_some o && rest
+chain : {A B : Type 0} (o : Option A) (next : A → Option B) (rest : Bool)
+    → ((x : A) → is_some (next x) ≡ rest) → is_some (o >>= next) ≡ is_some o && rest
 chain None next rest h = refl
 chain (Some x) next rest h = h x
 
@@ -142,16 +157,19 @@ module _ (command : Command) (words : List (List ℕ)) (h : HaveForms command wo
   abbrev has : Key → Bool
   has key = is_some (value_given key words)
 
-  asks : {A B : Type 0} (key : Key) (form : List ℕ → Option A) (next : A → Option B) (rest : Bool) → ((v : List ℕ) → has_form command key v ≡ true → is_some (form v) ≡ true)
+  asks : {A B : Type 0} (key : Key) (form : List ℕ → Option A) (next : A → Option B) (rest : Bool)
+      → ((v : List ℕ) → has_form command key v ≡ true → is_some (form v) ≡ true)
       → ((x : A) → is_some (next x) ≡ rest) → is_some (given key form words >>= next) ≡ has key && rest
   asks key form next rest forms k =
       chain (given key form words) next rest k ∙ ap (λ b. b && rest) (read_or_not form (value_given key words) (λ v e. forms v (h key v e)))
 
-  asks_addr : {B : Type 0} (next : List ℕ → Option B) (rest : Bool) → ((x : List ℕ) → is_some (next x) ≡ rest) → is_some (addr_given words >>= next) ≡ has Addr && rest
+  asks_addr : {B : Type 0} (next : List ℕ → Option B) (rest : Bool) → ((x : List ℕ) → is_some (next x) ≡ rest)
+      → is_some (addr_given words >>= next) ≡ has Addr && rest
   asks_addr next rest k = chain (addr_given words) next rest k
 
 -- a window is given where its centre and its half extents are
-both_given : {A B C : Type 0} (o : Option A) (p : Option B) (make : A → B → C) → is_some (o >>= λ x. p >>= λ y. Some (make x y)) ≡ is_some o && is_some p
+both_given : {A B C : Type 0} (o : Option A) (p : Option B) (make : A → B → C)
+    → is_some (o >>= λ x. p >>= λ y. Some (make x y)) ≡ is_some o && is_some p
 both_given None p make = refl
 both_given (Some x) None make = refl
 both_given (Some x) (Some y) make = refl
@@ -160,14 +178,16 @@ and_last : (a b c : Bool) → (a && b) && c ≡ a && (b && c)
 and_last true b c = refl
 and_last false b c = refl
 
-module _ (command : Command) (words : List (List ℕ)) (h : HaveForms command words) (at : (v : List ℕ) → has_form command At v ≡ true → is_some (at_in v) ≡ true)
+module _ (command : Command) (words : List (List ℕ)) (h : HaveForms command words)
+    (at : (v : List ℕ) → has_form command At v ≡ true → is_some (at_in v) ≡ true)
     (half : (v : List ℕ) → has_form command Half v ≡ true → is_some (half_in v) ≡ true) where
   asks_window : {B : Type 0} (next : _ → Option B) (rest : Bool) → ((x : _) → is_some (next x) ≡ rest)
       → is_some (window_given words >>= next) ≡ is_some (value_given At words) && (is_some (value_given Half words) && rest)
   asks_window next rest k =
       chain (window_given words) next rest k
       ∙ ap (λ b. b && rest) (both_given (given At at_in words) (given Half half_in words) _
-      ∙ ap₂ (λ a b. a && b) (read_or_not at_in (value_given At words) (λ v e. at v (h At v e))) (read_or_not half_in (value_given Half words) (λ v e. half v (h Half v e))))
+      ∙ ap₂ (λ a b. a && b) (read_or_not at_in (value_given At words) (λ v e. at v (h At v e)))
+      (read_or_not half_in (value_given Half words) (λ v e. half v (h Half v e))))
       ∙ and_last (is_some (value_given At words)) (is_some (value_given Half words)) rest
 
 -- ---- by cases of the command: its request is there where all required keys are given
@@ -176,32 +196,44 @@ pub required-asked : (command : Command) (words : List (List ℕ)) → HaveForms
 unfolding asked_by
 required-asked Place words h = asks Place words h Rule choice_in _ _ (λ v e. e) (λ rule. asks_addr Place words h _ _ (λ addr. refl))
 required-asked Neighbour words h =
-    asks Neighbour words h Rule choice_in _ _ (λ v e. e) (λ rule. asks_addr Neighbour words h _ _ (λ addr. asks Neighbour words h Edge (number_up_to 255) _ _ (λ v e. e) (λ edge. refl)))
+    asks Neighbour words h Rule choice_in _ _ (λ v e. e)
+    (λ rule. asks_addr Neighbour words h _ _
+    (λ addr. asks Neighbour words h Edge (number_up_to 255) _ _ (λ v e. e) (λ edge. refl)))
 required-asked Walk words h = asks Walk words h Rule choice_in _ _ (λ v e. e) (λ rule. asks_addr Walk words h _ _ (λ addr. refl))
 required-asked Draw words h =
     asks Draw words h Rule choice_in _ _ (λ v e. e) (λ rule. asks_addr Draw words h _ _ (λ addr. asks_window Draw words h (λ v e. e) (λ v e. e) _ _
     (λ window. asks Draw words h Layers formats_in _ _ (λ v e. e) (λ layers. refl))))
 required-asked Check words h = asks Check words h Rule choice_in _ _ (λ v e. e) (λ rule. refl)
 required-asked Calc words h = asks Calc words h Rule name_in _ _ (λ v e. e) (λ rule. refl)
-required-asked Drill words h = asks Drill words h Rule choice_in _ _ (λ v e. e) (λ rule. asks Drill words h Count windows_in _ _ (λ v e. e) (λ count. refl))
+required-asked Drill words h = asks Drill words h Rule choice_in _ _ (λ v e. e)
+    (λ rule. asks Drill words h Count windows_in _ _ (λ v e. e) (λ count. refl))
 required-asked Star words h =
-    asks Star words h Rule choice_in _ _ (λ v e. e) (λ rule. asks_addr Star words h _ _ (λ addr. asks Star words h Vertex (number_up_to 255) _ _ (λ v e. e) (λ vertex. refl)))
+    asks Star words h Rule choice_in _ _ (λ v e. e)
+    (λ rule. asks_addr Star words h _ _ (λ addr. asks Star words h Vertex (number_up_to 255) _ _
+    (λ v e. e) (λ vertex. refl)))
 required-asked Verify words h =
-    asks Verify words h Rule name_in _ _ (λ v e. e) (λ rule. asks_addr Verify words h _ _ (λ addr. asks_window Verify words h (λ v e. e) (λ v e. e) _ _ (λ window. refl)))
+    asks Verify words h Rule name_in _ _ (λ v e. e)
+    (λ rule. asks_addr Verify words h _ _ (λ addr. asks_window Verify words h (λ v e. e) (λ v e. e) _ _
+    (λ window. refl)))
 
 -- ---- the place
 place_of_missing : {A : Type 0} (o : Option A) (n : ℕ) → place_refused (ok_or o n) ≡ cond (is_some o) None (Some n)
 place_of_missing None n = refl
 place_of_missing (Some x) n = refl
 
-place_behind : (command : Command) (before after : List (List ℕ)) → HaveForms command before → place_refused (asked_behind command before after) ≡ wrong_behind command before after
+place_behind : (command : Command) (before after : List (List ℕ)) → HaveForms command before
+    → place_refused (asked_behind command before after) ≡ wrong_behind command before after
 place_behind command before [] h =
     place_of_missing (asked_by command before) (length before) ∙ ap (λ b. cond b None (Some (length before))) (required-asked command before h)
-place_behind command before (word ∷ after) h = at_test (is_right command before word) refl (λ e. place_behind command (before ++ word ∷ []) after (have_forms command before word h e))
+place_behind command before (word ∷ after) h = at_test (is_right command before word) refl
+    (λ e. place_behind command (before ++ word ∷ []) after (have_forms command before word h e))
   where
     at_test : (b : Bool) → is_right command before word ≡ b
-        → (is_right command before word ≡ true → place_refused (asked_behind command (before ++ word ∷ []) after) ≡ wrong_behind command (before ++ word ∷ []) after)
-        → place_refused (cond b (asked_behind command (before ++ word ∷ []) after) (Err (length before))) ≡ cond b (wrong_behind command (before ++ word ∷ []) after) (Some (length before))
+        → (is_right command before word ≡ true → place_refused
+        (asked_behind command (before ++ word ∷ []) after) ≡ wrong_behind command (before ++ word ∷ [])
+        after)
+        → place_refused (cond b (asked_behind command (before ++ word ∷ []) after) (Err (length before)))
+        ≡ cond b (wrong_behind command (before ++ word ∷ []) after) (Some (length before))
     at_test true e rest = rest e
     at_test false e rest = refl
 
@@ -210,11 +242,13 @@ place-refused [] = refl
 place-refused (name ∷ words) = at_name (command_named name) refl
   where
     at_name : (o : Option Command) → command_named name ≡ o
-        → place_refused (option_map_or (λ command. asked_behind command (name ∷ []) words) o (Err 0)) ≡ option_map_or (λ command. wrong_behind command (name ∷ []) words) o (Some 0)
+        → place_refused (option_map_or (λ command. asked_behind command (name ∷ []) words) o (Err 0))
+        ≡ option_map_or (λ command. wrong_behind command (name ∷ []) words) o (Some 0)
     at_name None e = refl
     at_name (Some command) e = place_behind command (name ∷ []) words (name_gives_nothing name command e)
 
 -- what is answered as the definition reads it is refused where it is
-pub refused_alike : {X Y : Type 0} (seen : X → Y) (result : Result X ℕ) (read : Result Y ℕ) → AnswersAs seen result read → place_refused result ≡ place_refused read
+pub refused_alike : {X Y : Type 0} (seen : X → Y) (result : Result X ℕ) (read : Result Y ℕ)
+    → AnswersAs seen result read → place_refused result ≡ place_refused read
 refused_alike seen (Ok x) read e = sym (ap (λ r. place_refused r) e)
 refused_alike seen (Err place) read e = sym (ap (λ r. place_refused r) e)

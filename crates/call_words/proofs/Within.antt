@@ -69,7 +69,8 @@ coefficient-within (byte ∷ bytes) z e = at_test (byte == minus_sign) e
     at_positive None h f = absurd (cc f)
     at_positive (Some n) h f = within (pos n) (above n (h n refl)) (some_is (pos n) z f)
 
-    at_test : (b : Bool) → cond b (option_and_then negated (number_up_to most_coefficient bytes)) (option_map pos (number_up_to most_coefficient (byte ∷ bytes))) ≡ Some z → Within (2 ^ 20) z
+    at_test : (b : Bool) → cond b (option_and_then negated (number_up_to most_coefficient bytes))
+        (option_map pos (number_up_to most_coefficient (byte ∷ bytes))) ≡ Some z → Within (2 ^ 20) z
     at_test true f = at_negative (number_up_to most_coefficient bytes) (number-limited most_coefficient bytes) f
     at_test false f = at_positive (number_up_to most_coefficient (byte ∷ bytes)) (number-limited most_coefficient (byte ∷ bytes)) f
 

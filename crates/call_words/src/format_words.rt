@@ -47,8 +47,10 @@ pub fn is_among(format: Format, formats: &[Format]) -> bool
 /// Appends the format that a piece of text names. Returns true if it names one, there is room for it, and it
 /// is not there yet.
 fn put_format(formats: &mut ArrayVec<Format, MOST_FORMATS>, piece: &str) -> bool
-    ensures read { result ≡ true → (rest : List (List ℕ)) → formats_behind formats.new.items rest ≡ formats_behind formats.old.items (piece.now ∷ rest) }
-    ensures refused { result ≡ false → (rest : List (List ℕ)) → formats_behind formats.old.items (piece.now ∷ rest) ≡ None }
+    ensures read { result ≡ true → (rest : List (List ℕ))
+        → formats_behind formats.new.items rest ≡ formats_behind formats.old.items (piece.now ∷ rest) }
+    ensures refused { result ≡ false → (rest : List (List ℕ))
+        → formats_behind formats.old.items (piece.now ∷ rest) ≡ None }
 {
     match format_named(piece) {
         Some(format) => !is_among(format, formats.as_slice()) && formats.try_push(format).is_ok(),

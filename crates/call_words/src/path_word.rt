@@ -22,8 +22,10 @@ fn edge_in(piece: &[u8]) -> Option<u8>
 fn put_edge(path: &mut ArrayVec<u8, LONGEST_PATH>, piece: &[u8]) -> bool
     requires room { length path.old.items ≤ longest_path }
     ensures room { length path.new.items ≤ longest_path }
-    ensures read { result ≡ true → (rest : List (List ℕ)) → put path.new.items (numbers rest) ≡ put path.old.items (numbers (piece.now ∷ rest)) }
-    ensures refused { result ≡ false → (rest : List (List ℕ)) → unless_long (put path.old.items (numbers (piece.now ∷ rest))) ≡ None }
+    ensures read { result ≡ true → (rest : List (List ℕ))
+        → put path.new.items (numbers rest) ≡ put path.old.items (numbers (piece.now ∷ rest)) }
+    ensures refused { result ≡ false → (rest : List (List ℕ))
+        → unless_long (put path.old.items (numbers (piece.now ∷ rest))) ≡ None }
 {
     match edge_in(piece) {
         Some(edge) => path.try_push(edge).is_ok(),

@@ -41,10 +41,12 @@ regrouped true true true true = refl
 
 -- coefficients are compared one by one
 pub one_by_one : (p q : Point) → length p.c ≡ 4 → length q.c ≡ 4 → pointwise int_eq p.c q.c
-    ≡ int_eq (coefficient p 0) (coefficient q 0) && int_eq (coefficient p 1) (coefficient q 1) && int_eq (coefficient p 2) (coefficient q 2) && int_eq (coefficient p 3) (coefficient q 3)
+    ≡ int_eq (coefficient p 0) (coefficient q 0) && int_eq (coefficient p 1) (coefficient q 1)
+    && int_eq (coefficient p 2) (coefficient q 2) && int_eq (coefficient p 3) (coefficient q 3)
 one_by_one p q l m =
     ap₂ (pointwise int_eq) (four p.c l) (four q.c m)
-    ∙ regrouped (int_eq (coefficient p 0) (coefficient q 0)) (int_eq (coefficient p 1) (coefficient q 1)) (int_eq (coefficient p 2) (coefficient q 2)) (int_eq (coefficient p 3) (coefficient q 3))
+    ∙ regrouped (int_eq (coefficient p 0) (coefficient q 0)) (int_eq (coefficient p 1) (coefficient q 1))
+    (int_eq (coefficient p 2) (coefficient q 2)) (int_eq (coefficient p 3) (coefficient q 3))
 
 -- the pieces of the line of a tile placed, joined from the right, are the line
 pub pieces_of_line : (kind turn shift number : List ℕ) → shift ≡ number

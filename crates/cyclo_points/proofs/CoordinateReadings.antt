@@ -1,9 +1,9 @@
 -- Conjugates, reduced numbers and coordinates, as code computes them from coefficients.
 use Rattle.std.proofs.Common.{◌≡◌, ℕ, ℤ, pos, ◌*◌, ◌^◌, ◌+ℤ◌, ◌-ℤ◌, neg_ℤ, refl, arith}
 use Rattle.std.proofs.lemmas.Int.{ints}
-use Rattle.ordered_ring.specs.Ring.{Ops, power, integers}
-use Rattle.ordered_ring.specs.Surd.{Pair}
-use Rattle.ordered_ring.proofs.Normaliser.{Expr, var, con, exprs, ◌⊕◌, ◌⊖◌}
+use Rattle.theory_ring.specs.Ring.{Ops, power, integers}
+use Rattle.theory_ring.specs.Surd.{Pair}
+use Rattle.theory_ring.proofs.Normaliser.{Expr, var, con, exprs, ◌⊕◌, ◌⊖◌}
 use Rattle.cyclo_points.specs.declared.order.Order.{Order}
 use Rattle.cyclo_points.specs.declared.point.Point.{Point}
 use Rattle.cyclo_points.specs.declared.real.Real.{Real}
@@ -31,13 +31,15 @@ abbrev pub conjugate_six : Point → Point
 conjugate_six p = point_of (machine_sum (coefficient p 0) (coefficient p 1)) (machine_negative (coefficient p 1)) (pos 0) (pos 0)
 
 pub conjugate_six-is : (p : Point) → IsWithin (2 ^ 40) p → pair_of (conjugate_six p) ≡ conj_six integers (pair_of p)
-conjugate_six-is p h = pair_path (pair_of (conjugate_six p)) (conj_six integers (pair_of p)) (machine_sum-is _ _ h.at_0 h.at_1) (machine_negative-small _ h.at_1)
+conjugate_six-is p h = pair_path (pair_of (conjugate_six p)) (conj_six integers (pair_of p))
+    (machine_sum-is _ _ h.at_0 h.at_1) (machine_negative-small _ h.at_1)
 
 pub conj_six-doubles : (m : ℕ) (p : Point) → IsWithin m p → IsWithinPair (2 * m) (conj_six integers (pair_of p))
 conj_six-doubles m p h = record { at_0 = double_sum m _ _ h.at_0 h.at_1; at_1 = double_negative m _ h.at_1 }
 
 abbrev pub conjugate_eight : Point → Point
-conjugate_eight p = point_of (machine (coefficient p 0)) (machine_negative (coefficient p 3)) (machine_negative (coefficient p 2)) (machine_negative (coefficient p 1))
+conjugate_eight p = point_of (machine (coefficient p 0)) (machine_negative (coefficient p 3))
+    (machine_negative (coefficient p 2)) (machine_negative (coefficient p 1))
 
 pub conjugate_eight-is : (p : Point) → IsWithin (2 ^ 40) p → quad_of (conjugate_eight p) ≡ conj_eight integers (quad_of p)
 conjugate_eight-is p h =
@@ -45,7 +47,12 @@ conjugate_eight-is p h =
     (machine-is _ h.at_0) (machine_negative-small _ h.at_3) (machine_negative-small _ h.at_2) (machine_negative-small _ h.at_1)
 
 pub conj_eight-doubles : (m : ℕ) (p : Quad ℤ) → IsWithinQuad m p → IsWithinQuad (2 * m) (conj_eight integers p)
-conj_eight-doubles m p h = record { at_0 = double_kept m _ h.at_0; at_1 = double_negative m _ h.at_3; at_2 = double_negative m _ h.at_2; at_3 = double_negative m _ h.at_1 }
+conj_eight-doubles m p h = record {
+  at_0 = double_kept m _ h.at_0;
+  at_1 = double_negative m _ h.at_3;
+  at_2 = double_negative m _ h.at_2;
+  at_3 = double_negative m _ h.at_1;
+}
 
 abbrev pub conjugate_ten : Point → Point
 conjugate_ten p =
@@ -55,16 +62,23 @@ conjugate_ten p =
 pub conjugate_ten-is : (p : Point) → IsWithin (2 ^ 40) p → quad_of (conjugate_ten p) ≡ conj_ten integers (quad_of p)
 conjugate_ten-is p h =
     quad_path (quad_of (conjugate_ten p)) (conj_ten integers (quad_of p))
-    (machine_sum-is _ _ h.at_0 h.at_1) (machine_negative-small _ h.at_1) (machine_difference-is _ _ h.at_1 h.at_3) (machine_negative_sum-is _ _ h.at_1 h.at_2)
+    (machine_sum-is _ _ h.at_0 h.at_1) (machine_negative-small _ h.at_1)
+    (machine_difference-is _ _ h.at_1 h.at_3) (machine_negative_sum-is _ _ h.at_1 h.at_2)
 
 pub conj_ten-doubles : (m : ℕ) (p : Quad ℤ) → IsWithinQuad m p → IsWithinQuad (2 * m) (conj_ten integers p)
-conj_ten-doubles m p h = record { at_0 = double_sum m _ _ h.at_0 h.at_1; at_1 = double_negative m _ h.at_1; at_2 = double_difference m _ _ h.at_1 h.at_3; at_3 = double_negative_sum m _ _ h.at_1 h.at_2 }
+conj_ten-doubles m p h = record {
+  at_0 = double_sum m _ _ h.at_0 h.at_1;
+  at_1 = double_negative m _ h.at_1;
+  at_2 = double_difference m _ _ h.at_1 h.at_3;
+  at_3 = double_negative_sum m _ _ h.at_1 h.at_2;
+}
 
 -- ---- reduced numbers
 abbrev pub IsReduced : Order → Point → Point → Type 0
 IsReduced o p r = point_in o r ≡ combination (points_of o) (quad_of p)
 
-part_of_two_differences : (x y z : ℤ) → Within (2 ^ 40) x → Within (2 ^ 40) y → Within (2 ^ 40) z → machine (machine (machine x -ℤ machine y) -ℤ machine z) ≡ (x +ℤ neg_ℤ y) +ℤ neg_ℤ z
+part_of_two_differences : (x y z : ℤ) → Within (2 ^ 40) x → Within (2 ^ 40) y → Within (2 ^ 40) z
+    → machine (machine (machine x -ℤ machine y) -ℤ machine z) ≡ (x +ℤ neg_ℤ y) +ℤ neg_ℤ z
 part_of_two_differences x y z f g h = omega (arith, ints)
 
 triple_two_differences : (m : ℕ) (x y z : ℤ) → Within m x → Within m y → Within m z → Within (3 * m) ((x +ℤ neg_ℤ y) +ℤ neg_ℤ z)
@@ -83,19 +97,23 @@ abbrev whole_pair : Expr → Pair Expr
 whole_pair e = record { a = e; b = con (pos 0) }
 
 pub reduced_four : (q : Quad ℤ) → record { a = q.a0 +ℤ neg_ℤ q.a2; b = q.a1 +ℤ neg_ℤ q.a3 } ≡ combination points_four q
-reduced_four q = pair_ring (these q q q) (record { a = var 0 ⊖ var 2; b = var 1 ⊖ var 3 }) (all_four (ring_four exprs) whole_pair (zeta_pair exprs)) refl
+reduced_four q = pair_ring (these q q q) (record { a = var 0 ⊖ var 2; b = var 1 ⊖ var 3 })
+    (all_four (ring_four exprs) whole_pair (zeta_pair exprs)) refl
 
 abbrev pub pair_six : Quad ℤ → Pair ℤ
 pair_six q = record { a = (q.a0 +ℤ neg_ℤ q.a2) +ℤ neg_ℤ q.a3; b = q.a1 +ℤ q.a2 }
 
 pub reduced_six : (q : Quad ℤ) → pair_six q ≡ combination points_six q
-reduced_six q = pair_ring (these q q q) (record { a = (var 0 ⊖ var 2) ⊖ var 3; b = var 1 ⊕ var 2 }) (all_four (ring_six exprs) whole_pair (zeta_pair exprs)) refl
+reduced_six q = pair_ring (these q q q) (record { a = (var 0 ⊖ var 2) ⊖ var 3; b = var 1 ⊕ var 2 })
+    (all_four (ring_six exprs) whole_pair (zeta_pair exprs)) refl
 
 abbrev pub reduce_six : Point → Point
-reduce_six p = point_of (machine (machine (machine (coefficient p 0) -ℤ machine (coefficient p 2)) -ℤ machine (coefficient p 3))) (machine_sum (coefficient p 1) (coefficient p 2)) (pos 0) (pos 0)
+reduce_six p = point_of (machine (machine (machine (coefficient p 0) -ℤ machine (coefficient p 2)) -ℤ machine
+    (coefficient p 3))) (machine_sum (coefficient p 1) (coefficient p 2)) (pos 0) (pos 0)
 
 pub reduce_six-is : (p : Point) → IsWithin (2 ^ 40) p → pair_of (reduce_six p) ≡ pair_six (quad_of p)
-reduce_six-is p h = pair_path (pair_of (reduce_six p)) (pair_six (quad_of p)) (part_of_two_differences _ _ _ h.at_0 h.at_2 h.at_3) (machine_sum-is _ _ h.at_1 h.at_2)
+reduce_six-is p h = pair_path (pair_of (reduce_six p)) (pair_six (quad_of p))
+    (part_of_two_differences _ _ _ h.at_0 h.at_2 h.at_3) (machine_sum-is _ _ h.at_1 h.at_2)
 
 pub pair_six-triples : (m : ℕ) (p : Point) → IsWithin m p → IsWithinPair (3 * m) (pair_six (quad_of p))
 pair_six-triples m p h = record { at_0 = triple_two_differences m _ _ _ h.at_0 h.at_2 h.at_3; at_1 = triple_sum m _ _ h.at_1 h.at_2 }

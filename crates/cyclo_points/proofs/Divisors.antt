@@ -1,6 +1,6 @@
 -- The positive numbers of the coordinates of each order divide whole numbers.
-use Rattle.ordered_ring.specs.Divisor.{DividesWhole}
-use Rattle.ordered_ring.proofs.Divisor.{integers_divide, root_two_divide, golden_divide}
+use Rattle.theory_ring.specs.Divisor.{DividesWhole}
+use Rattle.theory_ring.proofs.Divisor.{integers_divide, root_two_divide, golden_divide}
 use Rattle.cyclo_points.specs.declared.order.Order.{Order}
 use Rattle.cyclo_points.specs.declared.order.Order.TheVariants.{Four, Six, Eight, Ten}
 use Rattle.cyclo_points.specs.Order.{points_of}

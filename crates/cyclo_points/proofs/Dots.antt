@@ -1,9 +1,9 @@
 -- The products of each order, coefficient by coefficient, as sums of four products: what the code computes; and their sizes.
 use Rattle.std.proofs.Common.{◌≡◌, ℕ, ℤ, pos, neg_ℤ, ◌+◌, ◌*◌, ◌+ℤ◌, ◌-ℤ◌, refl, arith}
-use Rattle.ordered_ring.specs.Ring.{integers}
-use Rattle.ordered_ring.specs.Surd.{Pair}
-use Rattle.ordered_ring.proofs.Normaliser.{Expr, con, neg, exprs, ring, ◌⊕◌, ◌⊖◌, ◌⊗◌}
-use Rattle.ordered_ring.proofs.Integers.{integers_laws}
+use Rattle.theory_ring.specs.Ring.{integers}
+use Rattle.theory_ring.specs.Surd.{Pair}
+use Rattle.theory_ring.proofs.Normaliser.{Expr, con, neg, exprs, ring, ◌⊕◌, ◌⊖◌, ◌⊗◌}
+use Rattle.theory_ring.proofs.Integers.{integers_laws}
 use Rattle.cyclo_points.specs.Quad.{Quad}
 use Rattle.cyclo_points.specs.Four.{mul_four}
 use Rattle.cyclo_points.specs.Six.{mul_six}
@@ -21,13 +21,16 @@ dot_path p u0 u1 u2 u3 v0 v1 v2 v3 e f g h = λ i. dot_of p (e i) (f i) (g i) (h
 eightfold : (m k : ℕ) → ((m * (2 * k) + m * (2 * k)) + m * (2 * k)) + m * (2 * k) ≡ 8 * m * k
 eightfold m k = omega arith
 
-pub dot_within : (m k : ℕ) (p : Quad ℤ) (v0 v1 v2 v3 : ℤ) → IsWithinQuad m p → Within (2 * k) v0 → Within (2 * k) v1 → Within (2 * k) v2 → Within (2 * k) v3
+pub dot_within : (m k : ℕ) (p : Quad ℤ) (v0 v1 v2 v3 : ℤ) → IsWithinQuad m p → Within (2 * k) v0
+    → Within (2 * k) v1 → Within (2 * k) v2 → Within (2 * k) v3
     → Within (8 * m * k) (dot_of p v0 v1 v2 v3)
 unfolding dot_of product_of
 dot_within m k p v0 v1 v2 v3 h g0 g1 g2 g3 =
     let e = eightfold m k in
     within_wider (((m * (2 * k) + m * (2 * k)) + m * (2 * k)) + m * (2 * k)) (8 * m * k) _ (omega arith)
-    (within_sum _ _ _ _ (within_sum _ _ _ _ (within_sum _ _ _ _ (within_product m (2 * k) p.a0 v0 h.at_0 g0) (within_product m (2 * k) p.a1 v1 h.at_1 g1)) (within_product m (2 * k) p.a2 v2 h.at_2 g2)) (within_product m (2 * k) p.a3 v3 h.at_3 g3))
+    (within_sum _ _ _ _ (within_sum _ _ _ _ (within_sum _ _ _ _ (within_product m (2 * k) p.a0 v0 h.at_0 g0)
+    (within_product m (2 * k) p.a1 v1 h.at_1 g1)) (within_product m (2 * k) p.a2 v2 h.at_2 g2))
+    (within_product m (2 * k) p.a3 v3 h.at_3 g3))
 
 abbrev dots : Expr → Expr → Expr → Expr → Expr
 dots v0 v1 v2 v3 = P.a0 ⊗ v0 ⊕ P.a1 ⊗ v1 ⊕ P.a2 ⊗ v2 ⊕ P.a3 ⊗ v3

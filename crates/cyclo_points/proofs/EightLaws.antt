@@ -1,12 +1,12 @@
 -- The points of order eight meet the laws of points.
 use Rattle.std.proofs.Common.{◌≡◌, ℤ, pos, ◌+ℤ◌, neg_ℤ, [], ◌∷◌, refl, ap, arith}
 use Rattle.std.proofs.lemmas.Int.{ints}
-use Rattle.ordered_ring.specs.Ring.{Ops, Laws, difference, integers}
-use Rattle.ordered_ring.specs.Surd.{Pair, root_two}
-use Rattle.ordered_ring.proofs.Normaliser.{Expr, var, con, exprs, ◌⊗◌}
-use Rattle.ordered_ring.proofs.Integers.{integers_laws}
-use Rattle.ordered_ring.proofs.Ordered.{root_two_laws, root_two_order}
-use Rattle.substitution.specs.Points.{PointLaws}
+use Rattle.theory_ring.specs.Ring.{Ops, Laws, difference, integers}
+use Rattle.theory_ring.specs.Surd.{Pair, root_two}
+use Rattle.theory_ring.proofs.Normaliser.{Expr, var, con, exprs, ◌⊗◌}
+use Rattle.theory_ring.proofs.Integers.{integers_laws}
+use Rattle.theory_ring.proofs.Ordered.{root_two_laws, root_two_order}
+use Rattle.theory_substitution.specs.Points.{PointLaws}
 use Rattle.cyclo_points.specs.Quad.{Quad}
 use Rattle.cyclo_points.specs.Eight.{ring_eight, conj_eight, x_eight, y_eight, points_eight}
 use Rattle.cyclo_points.proofs.Identities.{quad_path, quad_ring, pair_ring, same_doubles}
@@ -74,8 +74,10 @@ points_eight_laws = record {
   x-add = λ (p : Quad ℤ) (q : Quad ℤ). pair_ring (these p q q) (x_eight exprs (K.add P Q)) (R.add X (x_eight exprs Q)) refl;
   y-add = λ (p : Quad ℤ) (q : Quad ℤ). pair_ring (these p q q) (y_eight exprs (K.add P Q)) (R.add Y (y_eight exprs Q)) refl;
   cosine_below = refl;
-  x-mul = λ (p : Quad ℤ) (q : Quad ℤ). pair_ring (these p q q) (twice (x_eight exprs (K.mul P Q))) (difference R (R.mul X (x_eight exprs Q)) (R.mul height (R.mul Y (y_eight exprs Q)))) refl;
-  y-mul = λ (p : Quad ℤ) (q : Quad ℤ). pair_ring (these p q q) (twice (y_eight exprs (K.mul P Q))) (R.add (R.mul X (y_eight exprs Q)) (R.mul Y (x_eight exprs Q))) refl;
+  x-mul = λ (p : Quad ℤ) (q : Quad ℤ). pair_ring (these p q q) (twice (x_eight exprs (K.mul P Q)))
+      (difference R (R.mul X (x_eight exprs Q)) (R.mul height (R.mul Y (y_eight exprs Q)))) refl;
+  y-mul = λ (p : Quad ℤ) (q : Quad ℤ). pair_ring (these p q q) (twice (y_eight exprs (K.mul P Q)))
+      (R.add (R.mul X (y_eight exprs Q)) (R.mul Y (x_eight exprs Q))) refl;
   x-zeta = refl;
   y-zeta = refl;
   x-conj = λ (p : Quad ℤ). pair_ring (these p p p) (x_eight exprs (conj_eight exprs P)) X refl;

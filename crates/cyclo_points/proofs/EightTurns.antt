@@ -1,7 +1,8 @@
--- The turns by ζ, ζ² and so on in order eight, as tables: what each is as a product, how the code computes it, and that it at most doubles coefficients.
+-- The turns by ζ, ζ² and so on in order eight, as tables: what each is as a product, how the code computes
+-- it, and that it at most doubles coefficients.
 use Rattle.std.proofs.Common.{◌≡◌, ℕ, ℤ, ◌*◌, ◌^◌, refl}
-use Rattle.ordered_ring.specs.Ring.{Ops, power, integers}
-use Rattle.ordered_ring.proofs.Normaliser.{exprs}
+use Rattle.theory_ring.specs.Ring.{Ops, power, integers}
+use Rattle.theory_ring.proofs.Normaliser.{exprs}
 use Rattle.cyclo_points.specs.declared.point.Point.{Point}
 use Rattle.cyclo_points.specs.Quad.{Quad, zeta_quad}
 use Rattle.cyclo_points.specs.Eight.{ring_eight}
@@ -29,10 +30,16 @@ abbrev pub code_1 : Point → Point
 code_1 p = point_of (machine_negative (coefficient p 3)) (machine (coefficient p 0)) (machine (coefficient p 1)) (machine (coefficient p 2))
 
 pub code_1-is : (p : Point) → IsWithin (2 ^ 40) p → quad_of (code_1 p) ≡ table_1 integers (quad_of p)
-code_1-is p h = quad_path (quad_of (code_1 p)) (table_1 integers (quad_of p)) (machine_negative-small _ h.at_3) (machine-is _ h.at_0) (machine-is _ h.at_1) (machine-is _ h.at_2)
+code_1-is p h = quad_path (quad_of (code_1 p)) (table_1 integers (quad_of p))
+    (machine_negative-small _ h.at_3) (machine-is _ h.at_0) (machine-is _ h.at_1) (machine-is _ h.at_2)
 
 pub table_1-doubles : (m : ℕ) (p : Quad ℤ) → IsWithinQuad m p → IsWithinQuad (2 * m) (table_1 integers p)
-table_1-doubles m p h = record { at_0 = double_negative m _ h.at_3; at_1 = double_kept m _ h.at_0; at_2 = double_kept m _ h.at_1; at_3 = double_kept m _ h.at_2 }
+table_1-doubles m p h = record {
+  at_0 = double_negative m _ h.at_3;
+  at_1 = double_kept m _ h.at_0;
+  at_2 = double_kept m _ h.at_1;
+  at_3 = double_kept m _ h.at_2;
+}
 
 -- ---- k = 2
 abbrev pub table_2 : (R : Ops) → Quad R.carrier → Quad R.carrier
@@ -45,10 +52,17 @@ abbrev pub code_2 : Point → Point
 code_2 p = point_of (machine_negative (coefficient p 2)) (machine_negative (coefficient p 3)) (machine (coefficient p 0)) (machine (coefficient p 1))
 
 pub code_2-is : (p : Point) → IsWithin (2 ^ 40) p → quad_of (code_2 p) ≡ table_2 integers (quad_of p)
-code_2-is p h = quad_path (quad_of (code_2 p)) (table_2 integers (quad_of p)) (machine_negative-small _ h.at_2) (machine_negative-small _ h.at_3) (machine-is _ h.at_0) (machine-is _ h.at_1)
+code_2-is p h = quad_path (quad_of (code_2 p)) (table_2 integers (quad_of p))
+    (machine_negative-small _ h.at_2) (machine_negative-small _ h.at_3) (machine-is _ h.at_0)
+    (machine-is _ h.at_1)
 
 pub table_2-doubles : (m : ℕ) (p : Quad ℤ) → IsWithinQuad m p → IsWithinQuad (2 * m) (table_2 integers p)
-table_2-doubles m p h = record { at_0 = double_negative m _ h.at_2; at_1 = double_negative m _ h.at_3; at_2 = double_kept m _ h.at_0; at_3 = double_kept m _ h.at_1 }
+table_2-doubles m p h = record {
+  at_0 = double_negative m _ h.at_2;
+  at_1 = double_negative m _ h.at_3;
+  at_2 = double_kept m _ h.at_0;
+  at_3 = double_kept m _ h.at_1;
+}
 
 -- ---- k = 3
 abbrev pub table_3 : (R : Ops) → Quad R.carrier → Quad R.carrier
@@ -58,10 +72,18 @@ pub table_3-is : (p : Quad ℤ) → table_3 integers p ≡ turned_by integers 3 
 table_3-is p = quad_ring (these p p p) (table_3 exprs P) (turned_by exprs 3 P) refl
 
 abbrev pub code_3 : Point → Point
-code_3 p = point_of (machine_negative (coefficient p 1)) (machine_negative (coefficient p 2)) (machine_negative (coefficient p 3)) (machine (coefficient p 0))
+code_3 p = point_of (machine_negative (coefficient p 1)) (machine_negative (coefficient p 2))
+    (machine_negative (coefficient p 3)) (machine (coefficient p 0))
 
 pub code_3-is : (p : Point) → IsWithin (2 ^ 40) p → quad_of (code_3 p) ≡ table_3 integers (quad_of p)
-code_3-is p h = quad_path (quad_of (code_3 p)) (table_3 integers (quad_of p)) (machine_negative-small _ h.at_1) (machine_negative-small _ h.at_2) (machine_negative-small _ h.at_3) (machine-is _ h.at_0)
+code_3-is p h = quad_path (quad_of (code_3 p)) (table_3 integers (quad_of p))
+    (machine_negative-small _ h.at_1) (machine_negative-small _ h.at_2) (machine_negative-small _ h.at_3)
+    (machine-is _ h.at_0)
 
 pub table_3-doubles : (m : ℕ) (p : Quad ℤ) → IsWithinQuad m p → IsWithinQuad (2 * m) (table_3 integers p)
-table_3-doubles m p h = record { at_0 = double_negative m _ h.at_1; at_1 = double_negative m _ h.at_2; at_2 = double_negative m _ h.at_3; at_3 = double_kept m _ h.at_0 }
+table_3-doubles m p h = record {
+  at_0 = double_negative m _ h.at_1;
+  at_1 = double_negative m _ h.at_2;
+  at_2 = double_negative m _ h.at_3;
+  at_3 = double_kept m _ h.at_0;
+}

@@ -4,10 +4,10 @@ use Rattle.std.proofs.Common.{◌≡◌, ℕ, ℤ, pos, negsuc, ◌+ℤ◌, ◌-
 use Rattle.std.proofs.lemmas.Int.{ints, by_lt_z}
 use Rattle.std.proofs.Math.Nat.{div-mul-le_self, lt-div-mul-add}
 use Rattle.std.specs.Int.{int_div_euclid}
-use Rattle.ordered_ring.specs.Ring.{difference}
-use Rattle.ordered_ring.specs.Sign.{IsBelow}
-use Rattle.ordered_ring.proofs.Normaliser.{var, ring, ◌⊕◌, ◌⊖◌}
-use Rattle.ordered_ring.proofs.Ordered.{whole_greater}
+use Rattle.theory_ring.specs.Ring.{difference}
+use Rattle.theory_ring.specs.Sign.{IsBelow}
+use Rattle.theory_ring.proofs.Normaliser.{var, ring, ◌⊕◌, ◌⊖◌}
+use Rattle.theory_ring.proofs.Ordered.{whole_greater}
 use Rattle.cyclo_points.specs.declared.order.Order.{Order}
 use Rattle.cyclo_points.specs.declared.order.Order.TheVariants.{Four, Six, Eight, Ten}
 use Rattle.cyclo_points.specs.Order.{points_of}
@@ -79,7 +79,9 @@ above-greater o r f g h a =
 
 -- ---- just one whole number is the floor
 not_below : (o : Order) (r : RealOf o) (f g : ℤ) → IsFloorThousandths o r f → IsFloorThousandths o r g → f <ℤ g → ⊥
-not_below o r f g a b h = at_gap (by_lt_z (f +ℤ pos 1) g (λ l. b.at_most (above-greater o r (f +ℤ pos 1) g l a.below_next)) (λ l. b.at_most (subst (IsAbove o r) (touching f g h l) a.below_next)))
+not_below o r f g a b h = at_gap (by_lt_z (f +ℤ pos 1) g
+    (λ l. b.at_most (above-greater o r (f +ℤ pos 1) g l a.below_next))
+    (λ l. b.at_most (subst (IsAbove o r) (touching f g h l) a.below_next)))
   where
     at_gap : ⊥ → ⊥
     at_gap x = x

@@ -1,11 +1,11 @@
 -- The points of order four meet the laws of points.
 use Rattle.std.proofs.Common.{ℤ, pos, [], ◌∷◌, refl}
-use Rattle.ordered_ring.specs.Ring.{Ops, Laws, difference, integers}
-use Rattle.ordered_ring.specs.Surd.{Pair}
-use Rattle.ordered_ring.proofs.Normaliser.{Expr, var, con, exprs, ring, ◌⊕◌, ◌⊗◌}
-use Rattle.ordered_ring.proofs.Integers.{integers_laws}
-use Rattle.ordered_ring.proofs.Ordered.{integers_order}
-use Rattle.substitution.specs.Points.{PointLaws}
+use Rattle.theory_ring.specs.Ring.{Ops, Laws, difference, integers}
+use Rattle.theory_ring.specs.Surd.{Pair}
+use Rattle.theory_ring.proofs.Normaliser.{Expr, var, con, exprs, ring, ◌⊕◌, ◌⊗◌}
+use Rattle.theory_ring.proofs.Integers.{integers_laws}
+use Rattle.theory_ring.proofs.Ordered.{integers_order}
+use Rattle.theory_substitution.specs.Points.{PointLaws}
 use Rattle.cyclo_points.specs.Four.{ring_four, x_four, y_four, points_four}
 use Rattle.cyclo_points.proofs.Identities.{pair_path, pair_ring, same_doubles}
 use Rattle.cyclo_points.proofs.PairLaws.{P, Q, S, these, whole, add_pair_assoc, add_pair_comm, add_pair_zero, add_pair_neg, int_pair-add, int_pair-neg, same_pair-is, same_pair_self}
@@ -52,8 +52,11 @@ points_four_laws = record {
   x-add = λ (p : Pair ℤ) (q : Pair ℤ). ring integers integers_laws (these p q q) (x_four exprs (K.add P Q)) (X ⊕ x_four exprs Q) refl;
   y-add = λ (p : Pair ℤ) (q : Pair ℤ). refl;
   cosine_below = refl;
-  x-mul = λ (p : Pair ℤ) (q : Pair ℤ). ring integers integers_laws (these p q q) (twice (x_four exprs (K.mul P Q))) (difference exprs (X ⊗ x_four exprs Q) (height ⊗ (Y ⊗ y_four exprs Q))) refl;
-  y-mul = λ (p : Pair ℤ) (q : Pair ℤ). ring integers integers_laws (these p q q) (twice (y_four exprs (K.mul P Q))) (X ⊗ y_four exprs Q ⊕ Y ⊗ x_four exprs Q) refl;
+  x-mul = λ (p : Pair ℤ) (q : Pair ℤ). ring integers integers_laws (these p q q)
+      (twice (x_four exprs (K.mul P Q))) (difference exprs (X ⊗ x_four exprs Q)
+      (height ⊗ (Y ⊗ y_four exprs Q))) refl;
+  y-mul = λ (p : Pair ℤ) (q : Pair ℤ). ring integers integers_laws (these p q q)
+      (twice (y_four exprs (K.mul P Q))) (X ⊗ y_four exprs Q ⊕ Y ⊗ x_four exprs Q) refl;
   x-zeta = refl;
   y-zeta = refl;
   x-conj = λ (p : Pair ℤ). refl;

@@ -1,8 +1,8 @@
 -- The turn by ζ in order four: what it is as a product, and how the code computes it.
 use Rattle.std.proofs.Common.{◌≡◌, ℕ, ℤ, ◌^◌, refl}
-use Rattle.ordered_ring.specs.Ring.{Ops, power, integers}
-use Rattle.ordered_ring.specs.Surd.{Pair}
-use Rattle.ordered_ring.proofs.Normaliser.{exprs}
+use Rattle.theory_ring.specs.Ring.{Ops, power, integers}
+use Rattle.theory_ring.specs.Surd.{Pair}
+use Rattle.theory_ring.proofs.Normaliser.{exprs}
 use Rattle.cyclo_points.specs.declared.point.Point.{Point}
 use Rattle.cyclo_points.specs.Pairs.{zeta_pair}
 use Rattle.cyclo_points.specs.Four.{ring_four}

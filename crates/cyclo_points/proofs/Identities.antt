@@ -2,10 +2,10 @@
 use Rattle.std.proofs.Common.{◌≡◌, ℤ, Bool, true, ◌&&◌, List, refl, ◌+ℤ◌, int_eq, arith}
 use Rattle.std.proofs.lemmas.Int.{ints}
 use Rattle.std.proofs.lemmas.Bool.Decides.{Decides-int_eq}
-use Rattle.ordered_ring.specs.Ring.{integers}
-use Rattle.ordered_ring.specs.Surd.{Pair}
-use Rattle.ordered_ring.proofs.Normaliser.{Expr, eval, agree, ring}
-use Rattle.ordered_ring.proofs.Integers.{integers_laws}
+use Rattle.theory_ring.specs.Ring.{integers}
+use Rattle.theory_ring.specs.Surd.{Pair}
+use Rattle.theory_ring.proofs.Normaliser.{Expr, eval, agree, ring}
+use Rattle.theory_ring.proofs.Integers.{integers_laws}
 use Rattle.cyclo_points.specs.Quad.{Quad}
 use Rattle.std.proofs.lemmas.Bool.{and_parts as both}
 

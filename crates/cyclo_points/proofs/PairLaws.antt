@@ -1,8 +1,8 @@
 -- The laws of sums of pairs, which are those of the rings of orders four and six; and variables for pairs in polynomials.
 use Rattle.std.proofs.Common.{◌≡◌, ℤ, pos, ◌+ℤ◌, neg_ℤ, true, ◌&&◌, List, [], ◌∷◌, refl, ap₂, int_eq}
-use Rattle.ordered_ring.specs.Ring.{integers}
-use Rattle.ordered_ring.specs.Surd.{Pair}
-use Rattle.ordered_ring.proofs.Normaliser.{Expr, var, con, neg, exprs, ◌⊕◌}
+use Rattle.theory_ring.specs.Ring.{integers}
+use Rattle.theory_ring.specs.Surd.{Pair}
+use Rattle.theory_ring.proofs.Normaliser.{Expr, var, con, neg, exprs, ◌⊕◌}
 use Rattle.cyclo_points.specs.Pairs.{add_pair, neg_pair, int_pair, same_pair}
 use Rattle.cyclo_points.proofs.Identities.{pair_ring, pair_path, int_same, int_self}
 use Rattle.std.proofs.lemmas.Bool.{and_parts as both}

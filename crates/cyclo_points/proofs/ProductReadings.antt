@@ -15,7 +15,8 @@ read_product x y f g h k =
     ap₂ (λ u v. machine (u *ℤ v)) (to_z-of_z w64 x f) (to_z-of_z w64 y g)
     ∙ to_z-of_z w64 (x *ℤ y) (product_fits x y h k)
 
-pub machine_product_fits : (x y : ℤ) → FitsSigned w64 x → FitsSigned w64 y → Within (2 ^ 32) x → Within (2 ^ 17) y → FitsSigned w64 (machine x *ℤ machine y)
+pub machine_product_fits : (x y : ℤ) → FitsSigned w64 x → FitsSigned w64 y → Within (2 ^ 32) x
+    → Within (2 ^ 17) y → FitsSigned w64 (machine x *ℤ machine y)
 machine_product_fits x y f g h k =
     subst (FitsSigned w64) (sym (ap₂ ◌*ℤ◌ (to_z-of_z w64 x f) (to_z-of_z w64 y g))) (product_fits x y h k)
 

@@ -1,7 +1,7 @@
 -- The laws of sums of quadruples, which are those of the rings of orders eight and ten; and variables for quadruples in polynomials.
 use Rattle.std.proofs.Common.{◌≡◌, ℤ, pos, ◌+ℤ◌, neg_ℤ, true, ◌&&◌, List, [], ◌∷◌, refl, ap₂, int_eq}
-use Rattle.ordered_ring.specs.Ring.{integers}
-use Rattle.ordered_ring.proofs.Normaliser.{Expr, var, con, neg, exprs, ◌⊕◌}
+use Rattle.theory_ring.specs.Ring.{integers}
+use Rattle.theory_ring.proofs.Normaliser.{Expr, var, con, neg, exprs, ◌⊕◌}
 use Rattle.cyclo_points.specs.Quad.{Quad, add_quad, neg_quad, int_quad, same_quad}
 use Rattle.cyclo_points.proofs.Identities.{quad_ring, quad_path, int_same, int_self}
 use Rattle.std.proofs.lemmas.Bool.{and_parts as both}

@@ -2,8 +2,8 @@
 use Rattle.std.specs.Int.{w64}
 use Rattle.std.proofs.Common.{◌≡◌, ℤ, pos, ◌+ℤ◌, ◌-ℤ◌, neg_ℤ, ◌^◌, [], ◌∷◌, to_z, of_z, arith}
 use Rattle.std.proofs.lemmas.Int.{ints}
-use Rattle.ordered_ring.specs.Ring.{integers}
-use Rattle.ordered_ring.specs.Surd.{Pair}
+use Rattle.theory_ring.specs.Ring.{integers}
+use Rattle.theory_ring.specs.Surd.{Pair}
 use Rattle.cyclo_points.specs.declared.point.Point.{Point}
 use Rattle.cyclo_points.specs.Quad.{add_quad, neg_quad}
 use Rattle.cyclo_points.specs.Point.{coefficient, quad_of, pair_of, Within, IsWithin}
@@ -45,10 +45,12 @@ difference_point p q = point_of
     (machine_difference (coefficient p 0) (coefficient q 0)) (machine_difference (coefficient p 1) (coefficient q 1))
     (machine_difference (coefficient p 2) (coefficient q 2)) (machine_difference (coefficient p 3) (coefficient q 3))
 
-pub difference_point-is : (p q : Point) → IsWithin (2 ^ 40) p → IsWithin (2 ^ 40) q → quad_of (difference_point p q) ≡ add_quad integers (quad_of p) (neg_quad integers (quad_of q))
+pub difference_point-is : (p q : Point) → IsWithin (2 ^ 40) p → IsWithin (2 ^ 40) q
+    → quad_of (difference_point p q) ≡ add_quad integers (quad_of p) (neg_quad integers (quad_of q))
 difference_point-is p q f g =
     quad_path (quad_of (difference_point p q)) (add_quad integers (quad_of p) (neg_quad integers (quad_of q)))
-    (machine_difference-is _ _ f.at_0 g.at_0) (machine_difference-is _ _ f.at_1 g.at_1) (machine_difference-is _ _ f.at_2 g.at_2) (machine_difference-is _ _ f.at_3 g.at_3)
+    (machine_difference-is _ _ f.at_0 g.at_0) (machine_difference-is _ _ f.at_1 g.at_1)
+    (machine_difference-is _ _ f.at_2 g.at_2) (machine_difference-is _ _ f.at_3 g.at_3)
 
 -- ---- negatives
 abbrev pub machine_negative : ℤ → ℤ
@@ -59,7 +61,8 @@ machine_negative-is x f = omega (arith, ints)
 
 abbrev pub negative_point : Point → Point
 negative_point p = point_of
-    (machine_negative (coefficient p 0)) (machine_negative (coefficient p 1)) (machine_negative (coefficient p 2)) (machine_negative (coefficient p 3))
+    (machine_negative (coefficient p 0)) (machine_negative (coefficient p 1))
+    (machine_negative (coefficient p 2)) (machine_negative (coefficient p 3))
 
 pub negative_point-is : (p : Point) → IsWithin (2 ^ 41) p → quad_of (negative_point p) ≡ neg_quad integers (quad_of p)
 negative_point-is p f =

@@ -34,7 +34,8 @@ read_short_product x y f g = ap₂ (λ u v. u *ℤ v) (read_short x f) (read_sho
 pub short_kept : (x : ℤ) → Within (2 ^ 50) x → reading w64 x ≡ x
 short_kept x f = omega (arith, ints)
 
-pub short_double_sum : (x y : ℤ) → Within (2 ^ 50) x → Within (2 ^ 50) y → reading w64 (reading w64 x +ℤ reading w64 (pos 2 *ℤ reading w64 y)) ≡ x +ℤ pos 2 *ℤ y
+pub short_double_sum : (x y : ℤ) → Within (2 ^ 50) x → Within (2 ^ 50) y
+    → reading w64 (reading w64 x +ℤ reading w64 (pos 2 *ℤ reading w64 y)) ≡ x +ℤ pos 2 *ℤ y
 short_double_sum x y f g = omega (arith, ints)
 
 pub short_sum : (x y : ℤ) → Within (2 ^ 50) x → Within (2 ^ 50) y → reading w64 (reading w64 x +ℤ reading w64 y) ≡ x +ℤ y
@@ -58,7 +59,8 @@ read_wide_product x y f g = ap₂ (λ u v. u *ℤ v) (read_wide x f) (read_wide 
 pub wide_kept : (x : ℤ) → Within (2 ^ 120) x → reading w128 x ≡ x
 wide_kept x f = omega (arith, ints)
 
-pub wide_double_sum : (x y : ℤ) → Within (2 ^ 120) x → Within (2 ^ 120) y → reading w128 (reading w128 x +ℤ reading w128 (pos 2 *ℤ reading w128 y)) ≡ x +ℤ pos 2 *ℤ y
+pub wide_double_sum : (x y : ℤ) → Within (2 ^ 120) x → Within (2 ^ 120) y
+    → reading w128 (reading w128 x +ℤ reading w128 (pos 2 *ℤ reading w128 y)) ≡ x +ℤ pos 2 *ℤ y
 wide_double_sum x y f g = omega (arith, ints)
 
 pub wide_sum : (x y : ℤ) → Within (2 ^ 120) x → Within (2 ^ 120) y → reading w128 (reading w128 x +ℤ reading w128 y) ≡ x +ℤ y
@@ -90,7 +92,8 @@ IsMultiplied o r s t = real_in o t ≡ (points_of o).real.ops.mul (real_in o r) 
 
 pub multiplied_positive : (o : Order) (r s t : Real) → IsMultiplied o r s t
     → sign_at o r.a r.b ≡ Greater → sign_at o s.a s.b ≡ Greater → sign_at o t.a t.b ≡ Greater
-multiplied_positive o r s t e p q = subst (λ x. (points_of o).real.sign x ≡ Greater) (sym e) ((laws_of o).of_order.sign-mul (real_in o r) (real_in o s) p q)
+multiplied_positive o r s t e p q = subst (λ x. (points_of o).real.sign x ≡ Greater) (sym e)
+    ((laws_of o).of_order.sign-mul (real_in o r) (real_in o s) p q)
 
 three_sum : (n : ℕ) (x y z : ℤ) → Within n x → Within n y → Within n z → Within (3 * n) (x +ℤ y +ℤ z)
 three_sum n x y z f g h = record { low = omega (arith, ints); high = omega (arith, ints) }
@@ -107,7 +110,8 @@ one_only n x f = record { low = omega (arith, ints); high = omega (arith, ints) 
 grouped : (m k : ℕ) → 3 * (m * k) ≡ 3 * m * k
 grouped m k = omega arith
 
-pub multiplied_within : (o : Order) (m k : ℕ) (r s t : Real) → IsMultiplied o r s t → IsRealOf o t → IsRealWithin m r → IsRealWithin k s → IsRealWithin (3 * m * k) t
+pub multiplied_within : (o : Order) (m k : ℕ) (r s t : Real) → IsMultiplied o r s t → IsRealOf o t
+    → IsRealWithin m r → IsRealWithin k s → IsRealWithin (3 * m * k) t
 multiplied_within o m k r s t e i f g = subst (λ n. IsRealWithin n t) (grouped m k) (at_order o e i)
   where
     aa : Within (m * k) (r.a *ℤ s.a)
@@ -123,8 +127,14 @@ multiplied_within o m k r s t e i f g = subst (λ n. IsRealWithin n t) (grouped 
     ba = within_product m k r.b s.a f.at_b g.at_a
 
     at_order : (o : Order) → IsMultiplied o r s t → IsRealOf o t → IsRealWithin (3 * (m * k)) t
-    at_order Four e i = record { at_a = subst (Within (3 * (m * k))) (sym e) (one_only (m * k) _ aa); at_b = subst (Within (3 * (m * k))) (sym i) (zero_within (3 * (m * k))) }
-    at_order Six e i = record { at_a = subst (Within (3 * (m * k))) (sym e) (one_only (m * k) _ aa); at_b = subst (Within (3 * (m * k))) (sym i) (zero_within (3 * (m * k))) }
+    at_order Four e i = record {
+      at_a = subst (Within (3 * (m * k))) (sym e) (one_only (m * k) _ aa);
+      at_b = subst (Within (3 * (m * k))) (sym i) (zero_within (3 * (m * k)));
+    }
+    at_order Six e i = record {
+      at_a = subst (Within (3 * (m * k))) (sym e) (one_only (m * k) _ aa);
+      at_b = subst (Within (3 * (m * k))) (sym i) (zero_within (3 * (m * k)));
+    }
     at_order Eight e i = record {
       at_a = subst (Within (3 * (m * k))) (sym (ap (λ (x : RealOf Eight). x.a) e)) (double_added (m * k) _ _ aa bb);
       at_b = subst (Within (3 * (m * k))) (sym (ap (λ (x : RealOf Eight). x.b) e)) (two_sum (m * k) _ _ ab ba);

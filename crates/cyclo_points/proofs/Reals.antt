@@ -4,7 +4,7 @@ use Rattle.std.specs.Int.{w128}
 use Rattle.std.specs.declared.cmp.Ordering.{Ordering}
 use Rattle.std.proofs.Common.{◌≡◌, ◌⊎◌, inl, inr, ℤ, ◌^◌, ◌+ℤ◌, ◌-ℤ◌, neg_ℤ, to_z, of_z, refl, sym, subst, arith}
 use Rattle.std.proofs.lemmas.Int.{ints}
-use Rattle.ordered_ring.specs.Ring.{difference}
+use Rattle.theory_ring.specs.Ring.{difference}
 use Rattle.cyclo_points.specs.declared.order.Order.{Order}
 use Rattle.cyclo_points.specs.declared.order.Order.TheVariants.{Four, Six, Eight, Ten}
 use Rattle.cyclo_points.specs.Order.{points_of}
@@ -20,7 +20,8 @@ number-add Six a b c d = refl
 number-add Eight a b c d = refl
 number-add Ten a b c d = refl
 
-pub number-difference : (o : Order) (a b c d : ℤ) → number o (a +ℤ neg_ℤ c) (b +ℤ neg_ℤ d) ≡ difference (points_of o).real.ops (number o a b) (number o c d)
+pub number-difference : (o : Order) (a b c d : ℤ)
+    → number o (a +ℤ neg_ℤ c) (b +ℤ neg_ℤ d) ≡ difference (points_of o).real.ops (number o a b) (number o c d)
 number-difference Four a b c d = refl
 number-difference Six a b c d = refl
 number-difference Eight a b c d = refl

@@ -2,7 +2,7 @@
 use Rattle.std.specs.Bool.{IsTrue}
 use Rattle.std.proofs.Common.{◌≡◌, ◌↔◌, ℤ, pos, Bool, true, false, ◌||◌, nat_abs, nat_lt, ◌^◌, refl, ap₂, ◌∙◌, arith}
 use Rattle.std.proofs.lemmas.Bool.Decides.{nat_tests}
-use Rattle.ordered_ring.proofs.Booleans.{decided}
+use Rattle.theory_ring.proofs.Booleans.{decided}
 use Rattle.cyclo_points.specs.declared.order.Order.{Order}
 use Rattle.cyclo_points.specs.declared.order.Order.TheVariants.{Four, Six, Eight, Ten}
 use Rattle.cyclo_points.specs.declared.point.Point.{Point}
@@ -42,7 +42,8 @@ within-some_beyond p e =
 
 some_beyond-within : (p : Point) → IsWithin (2 ^ 24) p → some_beyond p ≡ false
 some_beyond-within p h =
-    ap₂ (λ a b. a || b) (ap₂ (λ a b. a || b) (ap₂ (λ a b. a || b) (not_beyond-within _ h.at_0) (not_beyond-within _ h.at_1)) (not_beyond-within _ h.at_2)) (not_beyond-within _ h.at_3)
+    ap₂ (λ a b. a || b) (ap₂ (λ a b. a || b) (ap₂ (λ a b. a || b) (not_beyond-within _ h.at_0)
+    (not_beyond-within _ h.at_1)) (not_beyond-within _ h.at_2)) (not_beyond-within _ h.at_3)
 
 pub some_beyond-decides : (p : Point) → IsTrue (some_beyond p) ↔ (¬ IsWithin (2 ^ 24) p)
 some_beyond-decides p = decided (some_beyond p) (IsWithin (2 ^ 24) p) (within-some_beyond p) (some_beyond-within p)

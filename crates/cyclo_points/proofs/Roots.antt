@@ -4,10 +4,10 @@ use Rattle.std.proofs.Common.{◌≡◌, ℕ, zero, suc, ◌*◌, ◌<◌, ◌�
 use Rattle.std.proofs.lemmas.Bool.{leb-false, leb-true}
 use Rattle.std.proofs.lemmas.Int.{ints}
 use Rattle.std.proofs.lemmas.Nat.{mul-le}
-use Rattle.ordered_ring.specs.Ring.{integers}
-use Rattle.ordered_ring.specs.Squares.{NoRoot}
-use Rattle.ordered_ring.proofs.Integers.{integers_laws}
-use Rattle.ordered_ring.proofs.Normaliser.{neg, solve, ◌⊗◌}
+use Rattle.theory_ring.specs.Ring.{integers}
+use Rattle.theory_ring.specs.Squares.{NoRoot}
+use Rattle.theory_ring.proofs.Integers.{integers_laws}
+use Rattle.theory_ring.proofs.Normaliser.{neg, solve, ◌⊗◌}
 use Rattle.cyclo_points.specs.Thousandths.{root_up_to, whole_root, floor_root}
 use Rattle.cyclo_points.proofs.Witnesses.{signed_square}
 
@@ -87,7 +87,8 @@ not_exact m n r no_root e =
 
 pub floor_root-next : (m : ℕ) → NoRoot (pos m) → (b : ℤ) → (pos m *ℤ signed_square b) <ℤ signed_square (floor_root m b +ℤ pos 1)
 floor_root-next m no_root (pos n) = up-next m n (whole_root (m * (n * n))) (whole_root-next (m * (n * n)))
-floor_root-next m no_root (negsuc n) = down-next m n (whole_root (m * (suc n * suc n))) (strict (whole_root (m * (suc n * suc n))) (whole_root-at_most (m * (suc n * suc n))))
+floor_root-next m no_root (negsuc n) = down-next m n (whole_root (m * (suc n * suc n)))
+    (strict (whole_root (m * (suc n * suc n))) (whole_root-at_most (m * (suc n * suc n))))
   where
     strict : (r : ℕ) → r * r ≤ m * (suc n * suc n) → r * r < m * (suc n * suc n)
     strict r h = by_test (nat_le (m * (suc n * suc n)) (r * r)) refl
@@ -101,7 +102,8 @@ pub signed_square-rises : (u v : ℤ) → u ≤ℤ v → signed_square u ≤ℤ 
 signed_square-rises (pos a) (pos b) h = let l : a ≤ b = omega (arith, ints) in let g = mul-le a a b b l l in omega (arith, ints)
 signed_square-rises (pos a) (negsuc b) h = absurd (omega (arith, ints))
 signed_square-rises (negsuc a) (pos b) h = omega (arith, ints)
-signed_square-rises (negsuc a) (negsuc b) h = let l : suc b ≤ suc a = omega (arith, ints) in let g = mul-le (suc b) (suc b) (suc a) (suc a) l l in omega (arith, ints)
+signed_square-rises (negsuc a) (negsuc b) h = let l : suc b ≤ suc a = omega (arith, ints) in let g = mul-le
+    (suc b) (suc b) (suc a) (suc a) l l in omega (arith, ints)
 
 pub signed_square-neg : (u : ℤ) → signed_square (neg_ℤ u) ≡ neg_ℤ (signed_square u)
 signed_square-neg (pos zero) = refl

@@ -1,6 +1,6 @@
 -- Points with the same four coefficients are the same in each order.
 use Rattle.std.proofs.Common.{◌≡◌, ℤ, List, ap}
-use Rattle.ordered_ring.specs.Surd.{Pair}
+use Rattle.theory_ring.specs.Surd.{Pair}
 use Rattle.cyclo_points.specs.Quad.{Quad}
 use Rattle.cyclo_points.specs.declared.order.Order.{Order}
 use Rattle.cyclo_points.specs.declared.order.Order.TheVariants.{Four, Six, Eight, Ten}

@@ -33,8 +33,10 @@ read_square n u y f g e h k =
     ∙ to_z-of_z w128 (signed_square u) (square_fits n u h k)
 
 -- ---- sums of squares as the code computes them
-pub two_squares : (x y : ℤ) → Within (2 ^ 122) x → Within (2 ^ 122) y → reading w128 (reading w128 x +ℤ reading w128 (pos 2 *ℤ reading w128 y)) ≡ x +ℤ pos 2 *ℤ y
+pub two_squares : (x y : ℤ) → Within (2 ^ 122) x → Within (2 ^ 122) y
+    → reading w128 (reading w128 x +ℤ reading w128 (pos 2 *ℤ reading w128 y)) ≡ x +ℤ pos 2 *ℤ y
 two_squares x y f g = omega (arith, ints)
 
-pub five_squares : (x y : ℤ) → Within (9 * 2 ^ 122) x → Within (2 ^ 122) y → reading w128 (reading w128 x +ℤ reading w128 (pos 5 *ℤ reading w128 y)) ≡ x +ℤ pos 5 *ℤ y
+pub five_squares : (x y : ℤ) → Within (9 * 2 ^ 122) x → Within (2 ^ 122) y
+    → reading w128 (reading w128 x +ℤ reading w128 (pos 5 *ℤ reading w128 y)) ≡ x +ℤ pos 5 *ℤ y
 five_squares x y f g = omega (arith, ints)

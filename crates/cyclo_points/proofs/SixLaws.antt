@@ -1,12 +1,12 @@
 -- The points of order six meet the laws of points.
 use Rattle.std.proofs.Common.{◌≡◌, ℤ, pos, [], ◌∷◌, refl, ◌+ℤ◌, arith}
 use Rattle.std.proofs.lemmas.Int.{ints}
-use Rattle.ordered_ring.specs.Ring.{Ops, Laws, difference, integers}
-use Rattle.ordered_ring.specs.Surd.{Pair}
-use Rattle.ordered_ring.proofs.Normaliser.{Expr, var, con, exprs, ring, ◌⊕◌, ◌⊗◌}
-use Rattle.ordered_ring.proofs.Integers.{integers_laws}
-use Rattle.ordered_ring.proofs.Ordered.{integers_order}
-use Rattle.substitution.specs.Points.{PointLaws}
+use Rattle.theory_ring.specs.Ring.{Ops, Laws, difference, integers}
+use Rattle.theory_ring.specs.Surd.{Pair}
+use Rattle.theory_ring.proofs.Normaliser.{Expr, var, con, exprs, ring, ◌⊕◌, ◌⊗◌}
+use Rattle.theory_ring.proofs.Integers.{integers_laws}
+use Rattle.theory_ring.proofs.Ordered.{integers_order}
+use Rattle.theory_substitution.specs.Points.{PointLaws}
 use Rattle.cyclo_points.specs.Six.{ring_six, conj_six, x_six, y_six, points_six}
 use Rattle.cyclo_points.proofs.Identities.{pair_path, pair_ring}
 use Rattle.cyclo_points.proofs.PairLaws.{P, Q, S, these, whole, add_pair_assoc, add_pair_comm, add_pair_zero, add_pair_neg, int_pair-add, int_pair-neg, same_pair-is, same_pair_self}
@@ -56,8 +56,11 @@ points_six_laws = record {
   x-add = λ (p : Pair ℤ) (q : Pair ℤ). ring integers integers_laws (these p q q) (x_six exprs (K.add P Q)) (X ⊕ x_six exprs Q) refl;
   y-add = λ (p : Pair ℤ) (q : Pair ℤ). refl;
   cosine_below = refl;
-  x-mul = λ (p : Pair ℤ) (q : Pair ℤ). ring integers integers_laws (these p q q) (twice (x_six exprs (K.mul P Q))) (difference exprs (X ⊗ x_six exprs Q) (height ⊗ (Y ⊗ y_six exprs Q))) refl;
-  y-mul = λ (p : Pair ℤ) (q : Pair ℤ). ring integers integers_laws (these p q q) (twice (y_six exprs (K.mul P Q))) (X ⊗ y_six exprs Q ⊕ Y ⊗ x_six exprs Q) refl;
+  x-mul = λ (p : Pair ℤ) (q : Pair ℤ). ring integers integers_laws (these p q q)
+      (twice (x_six exprs (K.mul P Q))) (difference exprs (X ⊗ x_six exprs Q) (height ⊗ (Y ⊗ y_six exprs Q)))
+      refl;
+  y-mul = λ (p : Pair ℤ) (q : Pair ℤ). ring integers integers_laws (these p q q)
+      (twice (y_six exprs (K.mul P Q))) (X ⊗ y_six exprs Q ⊕ Y ⊗ x_six exprs Q) refl;
   x-zeta = refl;
   y-zeta = refl;
   x-conj = λ (p : Pair ℤ). ring integers integers_laws (these p p p) (x_six exprs (conj_six exprs P)) X refl;

@@ -1,8 +1,8 @@
 -- The turns by ζ and ζ² in order six, as tables: what each is as a product, how the code computes it, and that it at most doubles coefficients.
 use Rattle.std.proofs.Common.{◌≡◌, ℕ, ℤ, pos, ◌*◌, ◌^◌, refl}
-use Rattle.ordered_ring.specs.Ring.{Ops, power, integers}
-use Rattle.ordered_ring.specs.Surd.{Pair}
-use Rattle.ordered_ring.proofs.Normaliser.{exprs}
+use Rattle.theory_ring.specs.Ring.{Ops, power, integers}
+use Rattle.theory_ring.specs.Surd.{Pair}
+use Rattle.theory_ring.proofs.Normaliser.{exprs}
 use Rattle.cyclo_points.specs.declared.point.Point.{Point}
 use Rattle.cyclo_points.specs.Pairs.{zeta_pair}
 use Rattle.cyclo_points.specs.Six.{ring_six}

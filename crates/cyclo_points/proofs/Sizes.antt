@@ -2,7 +2,7 @@
 use Rattle.std.proofs.Common.{◌≡◌, ℕ, ℤ, pos, negsuc, ◌+◌, ◌*◌, ◌≤◌, ◌+ℤ◌, ◌*ℤ◌, neg_ℤ, nat_abs, arith, ap, ap₂, ◌∙◌, sym, subst}
 use Rattle.std.proofs.lemmas.Int.{ints, unsigned_abs-mul}
 use Rattle.std.proofs.Math.Nat.{mul-le-mul}
-use Rattle.ordered_ring.specs.Ring.{integers, difference}
+use Rattle.theory_ring.specs.Ring.{integers, difference}
 use Rattle.cyclo_points.specs.declared.order.Order.{Order}
 use Rattle.cyclo_points.specs.declared.order.Order.TheVariants.{Four, Six, Eight, Ten}
 use Rattle.cyclo_points.specs.declared.point.Point.{Point}
@@ -102,7 +102,9 @@ in_order-add Six r p q e f g = (ap (λ (z : Quad ℤ). z.a2) e ∙ ap₂ ◌+ℤ
 in_order-add Eight r p q e f g = tt
 in_order-add Ten r p q e f g = tt
 
-pub in_order-difference : (o : Order) (r p q : Point) → quad_of r ≡ add_quad integers (quad_of p) (neg_quad integers (quad_of q)) → IsOf o p → IsOf o q → IsOf o r
+pub in_order-difference : (o : Order) (r p q : Point)
+    → quad_of r ≡ add_quad integers (quad_of p) (neg_quad integers (quad_of q)) → IsOf o p → IsOf o q
+    → IsOf o r
 in_order-difference Four r p q e f g =
     (ap (λ (z : Quad ℤ). z.a2) e ∙ ap₂ (λ x y. x +ℤ neg_ℤ y) f.0 g.0, ap (λ (z : Quad ℤ). z.a3) e ∙ ap₂ (λ x y. x +ℤ neg_ℤ y) f.1 g.1)
 in_order-difference Six r p q e f g =

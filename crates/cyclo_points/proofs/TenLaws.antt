@@ -1,12 +1,12 @@
 -- The points of order ten meet the laws of points.
 use Rattle.std.proofs.Common.{◌≡◌, ℤ, pos, ◌+ℤ◌, neg_ℤ, [], ◌∷◌, refl, ap, arith}
 use Rattle.std.proofs.lemmas.Int.{ints}
-use Rattle.ordered_ring.specs.Ring.{Ops, Laws, difference, integers}
-use Rattle.ordered_ring.specs.Surd.{Pair, golden}
-use Rattle.ordered_ring.proofs.Normaliser.{Expr, var, con, exprs, ◌⊗◌}
-use Rattle.ordered_ring.proofs.Integers.{integers_laws}
-use Rattle.ordered_ring.proofs.Ordered.{golden_laws, golden_order}
-use Rattle.substitution.specs.Points.{PointLaws}
+use Rattle.theory_ring.specs.Ring.{Ops, Laws, difference, integers}
+use Rattle.theory_ring.specs.Surd.{Pair, golden}
+use Rattle.theory_ring.proofs.Normaliser.{Expr, var, con, exprs, ◌⊗◌}
+use Rattle.theory_ring.proofs.Integers.{integers_laws}
+use Rattle.theory_ring.proofs.Ordered.{golden_laws, golden_order}
+use Rattle.theory_substitution.specs.Points.{PointLaws}
 use Rattle.cyclo_points.specs.Quad.{Quad}
 use Rattle.cyclo_points.specs.Ten.{ring_ten, conj_ten, x_ten, y_ten, points_ten}
 use Rattle.cyclo_points.proofs.Identities.{quad_path, quad_ring, pair_ring}
@@ -82,8 +82,10 @@ points_ten_laws = record {
   x-add = λ (p : Quad ℤ) (q : Quad ℤ). pair_ring (these p q q) (x_ten exprs (K.add P Q)) (R.add X (x_ten exprs Q)) refl;
   y-add = λ (p : Quad ℤ) (q : Quad ℤ). pair_ring (these p q q) (y_ten exprs (K.add P Q)) (R.add Y (y_ten exprs Q)) refl;
   cosine_below = refl;
-  x-mul = λ (p : Quad ℤ) (q : Quad ℤ). pair_ring (these p q q) (twice (x_ten exprs (K.mul P Q))) (difference R (R.mul X (x_ten exprs Q)) (R.mul height (R.mul Y (y_ten exprs Q)))) refl;
-  y-mul = λ (p : Quad ℤ) (q : Quad ℤ). pair_ring (these p q q) (twice (y_ten exprs (K.mul P Q))) (R.add (R.mul X (y_ten exprs Q)) (R.mul Y (x_ten exprs Q))) refl;
+  x-mul = λ (p : Quad ℤ) (q : Quad ℤ). pair_ring (these p q q) (twice (x_ten exprs (K.mul P Q)))
+      (difference R (R.mul X (x_ten exprs Q)) (R.mul height (R.mul Y (y_ten exprs Q)))) refl;
+  y-mul = λ (p : Quad ℤ) (q : Quad ℤ). pair_ring (these p q q) (twice (y_ten exprs (K.mul P Q)))
+      (R.add (R.mul X (y_ten exprs Q)) (R.mul Y (x_ten exprs Q))) refl;
   x-zeta = refl;
   y-zeta = refl;
   x-conj = λ (p : Quad ℤ). pair_ring (these p p p) (x_ten exprs (conj_ten exprs P)) X refl;

@@ -2,10 +2,10 @@
 use Rattle.std.specs.declared.cmp.Ordering.TheVariants.{Greater}
 use Rattle.std.proofs.Common.{◌≡◌, ℕ, ℤ, pos, neg_ℤ, ◌+ℤ◌, ◌*ℤ◌, ◌<ℤ◌, ◌≤ℤ◌, refl, sym, ap, subst, ◌∙◌, arith}
 use Rattle.std.proofs.lemmas.Int.{ints}
-use Rattle.ordered_ring.proofs.Ordered.{two_above, five_above, whole_greater, greater_whole}
-use Rattle.ordered_ring.proofs.Squares.{no_root_two, no_root_five}
-use Rattle.ordered_ring.specs.Sign.{surd_sign}
-use Rattle.ordered_ring.specs.Squares.{NoRoot}
+use Rattle.theory_ring.proofs.Ordered.{two_above, five_above, whole_greater, greater_whole}
+use Rattle.theory_ring.proofs.Squares.{no_root_two, no_root_five}
+use Rattle.theory_ring.specs.Sign.{surd_sign}
+use Rattle.theory_ring.specs.Squares.{NoRoot}
 use Rattle.cyclo_points.specs.declared.order.Order.{Order}
 use Rattle.cyclo_points.specs.declared.order.Order.TheVariants.{Four, Six, Eight, Ten}
 use Rattle.cyclo_points.specs.Real.{RealOf, number}
@@ -19,18 +19,21 @@ use Rattle.cyclo_points.proofs.Witnesses.{signed_square, sign-by_squares}
 not_above : (m : ℕ) (m_pos : pos 0 <ℤ pos m) (no_root : NoRoot (pos m)) (u b : ℤ) → u ≤ℤ floor_root m b → surd_sign (pos m) u (neg_ℤ b) ≡ Greater → ⊥
 not_above m m_pos no_root u b h e =
     at_parts (signed_square u) (signed_square (floor_root m b)) (pos m *ℤ signed_square b) (pos m *ℤ signed_square (neg_ℤ b))
-    (signed_square-rises u (floor_root m b) h) (floor_root-at_most m b) (ap (λ x. pos m *ℤ x) (signed_square-neg b) ∙ times-neg (pos m) (signed_square b))
+    (signed_square-rises u (floor_root m b) h) (floor_root-at_most m b)
+    (ap (λ x. pos m *ℤ x) (signed_square-neg b) ∙ times-neg (pos m) (signed_square b))
     (greater_whole (signed_square u +ℤ pos m *ℤ signed_square (neg_ℤ b)) (sym (sign-by_squares (pos m) m_pos no_root u (neg_ℤ b)) ∙ e))
   where
     at_parts : (x y z t : ℤ) → x ≤ℤ y → y ≤ℤ z → t ≡ neg_ℤ z → pos 0 <ℤ (x +ℤ t) → ⊥
     at_parts x y z t h g e l = absurd (omega (arith, ints))
 
-above : (m : ℕ) (m_pos : pos 0 <ℤ pos m) (no_root : NoRoot (pos m)) (u b : ℤ) → (floor_root m b +ℤ pos 1) ≤ℤ u → surd_sign (pos m) u (neg_ℤ b) ≡ Greater
+above : (m : ℕ) (m_pos : pos 0 <ℤ pos m) (no_root : NoRoot (pos m)) (u b : ℤ) → (floor_root m b +ℤ pos 1) ≤ℤ u
+    → surd_sign (pos m) u (neg_ℤ b) ≡ Greater
 above m m_pos no_root u b h =
     sign-by_squares (pos m) m_pos no_root u (neg_ℤ b)
     ∙ whole_greater (signed_square u +ℤ pos m *ℤ signed_square (neg_ℤ b))
     (at_parts (signed_square u) (signed_square (floor_root m b +ℤ pos 1)) (pos m *ℤ signed_square b) (pos m *ℤ signed_square (neg_ℤ b))
-    (signed_square-rises (floor_root m b +ℤ pos 1) u h) (floor_root-next m no_root b) (ap (λ x. pos m *ℤ x) (signed_square-neg b) ∙ times-neg (pos m) (signed_square b)))
+    (signed_square-rises (floor_root m b +ℤ pos 1) u h) (floor_root-next m no_root b)
+    (ap (λ x. pos m *ℤ x) (signed_square-neg b) ∙ times-neg (pos m) (signed_square b)))
   where
     at_parts : (x y z t : ℤ) → y ≤ℤ x → z <ℤ y → t ≡ neg_ℤ z → pos 0 <ℤ (x +ℤ t)
     at_parts x y z t h g e = omega (arith, ints)
@@ -69,8 +72,11 @@ is_floor : (o : Order) (a b : ℤ) → IsFloorThousandths o (number o a b) (pos 
 is_floor o a b =
     let x = floor_theta o (pos 1000 *ℤ b) in
     record {
-      at_most = λ h. theta-at_most o (pos 1000 *ℤ b) (ap (λ u. sign_at o u (neg_ℤ (pos 1000 *ℤ b))) (rest a x) ∙ by_parts-above o (pos 1000 *ℤ a +ℤ x) a b h);
-      below_next = above-by_parts o ((pos 1000 *ℤ a +ℤ x) +ℤ pos 1) a b (ap (λ u. sign_at o u (neg_ℤ (pos 1000 *ℤ b))) (next a x) ∙ theta-next o (pos 1000 *ℤ b));
+      at_most = λ h. theta-at_most o (pos 1000 *ℤ b)
+          (ap (λ u. sign_at o u (neg_ℤ (pos 1000 *ℤ b))) (rest a x)
+          ∙ by_parts-above o (pos 1000 *ℤ a +ℤ x) a b h);
+      below_next = above-by_parts o ((pos 1000 *ℤ a +ℤ x) +ℤ pos 1) a b
+          (ap (λ u. sign_at o u (neg_ℤ (pos 1000 *ℤ b))) (next a x) ∙ theta-next o (pos 1000 *ℤ b));
     }
   where
     rest : (a x : ℤ) → x ≡ (pos 1000 *ℤ a +ℤ x) +ℤ neg_ℤ (pos 1000 *ℤ a)

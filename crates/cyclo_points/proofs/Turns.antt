@@ -1,8 +1,8 @@
 -- A turn by half the order is the negative, so that a turn by k steps is one by k less half the order, negated.
 use Rattle.std.proofs.Common.{◌≡◌, ℕ, pos, ◌+◌, ◌-◌, ◌/◌, ◌≤◌, [], ◌∷◌, refl, ap, sym, ◌∙◌, arith}
-use Rattle.ordered_ring.specs.Ring.{Ops, Laws, power}
-use Rattle.ordered_ring.proofs.Normaliser.{var, con, neg, ring, ◌⊗◌}
-use Rattle.substitution.proofs.Motions.{power-add}
+use Rattle.theory_ring.specs.Ring.{Ops, Laws, power}
+use Rattle.theory_ring.proofs.Normaliser.{var, con, neg, ring, ◌⊗◌}
+use Rattle.theory_substitution.proofs.Motions.{power-add}
 use Rattle.cyclo_points.specs.declared.order.Order.{Order}
 use Rattle.cyclo_points.specs.declared.order.Order.TheVariants.{Four, Six, Eight, Ten}
 use Rattle.cyclo_points.specs.declared.point.Point.{Point}
@@ -14,7 +14,8 @@ use Rattle.cyclo_points.proofs.OrderLaws.{laws_of}
 abbrev pub IsTurned : Order → ℕ → Point → Point → Type 0
 IsTurned o k p r = point_in o r ≡ (points_of o).ring.mul (power (points_of o).ring (points_of o).zeta k) (point_in o p)
 
-half_turn : (o : Order) → power (points_of o).ring (points_of o).zeta ((points_of o).order / 2) ≡ (points_of o).ring.neg ((points_of o).ring.int (pos 1))
+half_turn : (o : Order) → power (points_of o).ring (points_of o).zeta
+    ((points_of o).order / 2) ≡ (points_of o).ring.neg ((points_of o).ring.int (pos 1))
 half_turn Four = refl
 half_turn Six = refl
 half_turn Eight = refl
@@ -34,4 +35,5 @@ pub turned-negative : (o : Order) (half k : ℕ) (p r s : Point) → half ≡ (p
     → IsTurned o (k - half) p s → point_in o r ≡ (points_of o).ring.neg (point_in o s) → IsTurned o k p r
 turned-negative o half k p r s e l h g =
     g ∙ ap (points_of o).ring.neg h
-    ∙ negative_turn (points_of o).ring (laws_of o).of_ring (points_of o).zeta (point_in o p) half k l (ap (power (points_of o).ring (points_of o).zeta) e ∙ half_turn o)
+    ∙ negative_turn (points_of o).ring (laws_of o).of_ring (points_of o).zeta (point_in o p) half k l
+    (ap (power (points_of o).ring (points_of o).zeta) e ∙ half_turn o)

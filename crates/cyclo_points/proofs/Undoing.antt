@@ -1,10 +1,10 @@
 -- A motion is undone by the one that turns the rest of the way round and has its shift turned so, and negated.
 use Rattle.std.proofs.Common.{◌≡◌, ℕ, pos, ◌+◌, ◌-◌, ◌%◌, ◌<◌, [], ◌∷◌, refl, ap, sym, ◌∙◌, arith, add_comm}
-use Rattle.ordered_ring.specs.Ring.{power}
-use Rattle.ordered_ring.proofs.Normaliser.{var, con, neg, ring, ring_by, ◌⊕◌, ◌⊗◌}
-use Rattle.substitution.specs.Points.{Points, PointLaws}
-use Rattle.substitution.specs.Motion.{Motion, moved, followed, still}
-use Rattle.substitution.proofs.Motions.{power-add, power-mod, moved-followed}
+use Rattle.theory_ring.specs.Ring.{power}
+use Rattle.theory_ring.proofs.Normaliser.{var, con, neg, ring, ring_by, ◌⊕◌, ◌⊗◌}
+use Rattle.theory_substitution.specs.Points.{Points, PointLaws}
+use Rattle.theory_substitution.specs.Motion.{Motion, moved, followed, still}
+use Rattle.theory_substitution.proofs.Motions.{power-add, power-mod, moved-followed}
 use Rattle.cyclo_points.specs.declared.order.Order.{Order}
 use Rattle.cyclo_points.specs.declared.order.Order.TheVariants.{Four, Six, Eight, Ten}
 use Rattle.cyclo_points.specs.Order.{points_of}

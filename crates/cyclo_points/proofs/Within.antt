@@ -19,7 +19,12 @@ pub real_wider : (m n : ℕ) (r : Real) → m ≤ n → IsRealWithin m r → IsR
 real_wider m n r h w = record { at_a = within_wider m n r.a h w.at_a; at_b = within_wider m n r.b h w.at_b }
 
 pub point_wider : (m n : ℕ) (p : Point) → m ≤ n → IsWithin m p → IsWithin n p
-point_wider m n p h w = record { at_0 = within_wider m n _ h w.at_0; at_1 = within_wider m n _ h w.at_1; at_2 = within_wider m n _ h w.at_2; at_3 = within_wider m n _ h w.at_3 }
+point_wider m n p h w = record {
+  at_0 = within_wider m n _ h w.at_0;
+  at_1 = within_wider m n _ h w.at_1;
+  at_2 = within_wider m n _ h w.at_2;
+  at_3 = within_wider m n _ h w.at_3;
+}
 
 -- a whole number of the program is one of the ring
 pub whole_is : (o : Order) (a : ℤ) (n : ℕ) → a ≡ pos n → real_in o (record { a = a; b = pos 0 }) ≡ (points_of o).real.ops.int (pos n)

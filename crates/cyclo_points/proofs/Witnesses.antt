@@ -4,14 +4,14 @@ use Rattle.std.specs.declared.cmp.Ordering.{Ordering}
 use Rattle.std.specs.declared.cmp.Ordering.TheVariants.{Less, Equal, Greater}
 use Rattle.std.proofs.Common.{◌≡◌, ◌⊎◌, inl, inr, ℤ, pos, negsuc, ◌+ℤ◌, ◌*ℤ◌, ◌-ℤ◌, ◌≤ℤ◌, ◌<ℤ◌, neg_ℤ, unsigned_abs, refl, sym, subst, ap, ap₂, ◌∙◌, arith}
 use Rattle.std.proofs.lemmas.Int.{ints}
-use Rattle.ordered_ring.specs.Ring.{integers}
-use Rattle.ordered_ring.specs.Squares.{NoRoot}
-use Rattle.ordered_ring.specs.Sign.{surd_sign}
-use Rattle.ordered_ring.proofs.Normaliser.{con, neg, solve, ◌⊕◌, ◌⊖◌, ◌⊗◌}
-use Rattle.ordered_ring.proofs.Integers.{integers_laws}
-use Rattle.ordered_ring.proofs.Squares.{mul_pos, mul_at_least, square_at_least, dominates, Above}
-use Rattle.ordered_ring.proofs.Surd.{three}
-use Rattle.ordered_ring.proofs.SurdSign.{sign-above, surd-neg}
+use Rattle.theory_ring.specs.Ring.{integers}
+use Rattle.theory_ring.specs.Squares.{NoRoot}
+use Rattle.theory_ring.specs.Sign.{surd_sign}
+use Rattle.theory_ring.proofs.Normaliser.{con, neg, solve, ◌⊕◌, ◌⊖◌, ◌⊗◌}
+use Rattle.theory_ring.proofs.Integers.{integers_laws}
+use Rattle.theory_ring.proofs.Squares.{mul_pos, mul_at_least, square_at_least, dominates, Above}
+use Rattle.theory_ring.proofs.Surd.{three}
+use Rattle.theory_ring.proofs.SurdSign.{sign-above, surd-neg}
 
 -- ---- a number that is positive where u + v√m is, and negative where that is, has its sign
 above_zero : (x : ℤ) → pos 0 <ℤ x → Greater ≡ int_cmp x (pos 0)
@@ -81,7 +81,8 @@ module _ (m : ℤ) (m_pos : pos 0 <ℤ m) where
       let e : signed_square u ≡ u *ℤ u = square_up u (omega (arith, ints)) in
       let l = square_at_most v in
       let f : pos 0 ≤ℤ (m *ℤ (signed_square v +ℤ v *ℤ v)) = mul_at_least m (signed_square v +ℤ v *ℤ v) (omega (arith, ints)) (omega (arith, ints)) in
-      let g : m *ℤ (signed_square v +ℤ v *ℤ v) ≡ m *ℤ signed_square v +ℤ m *ℤ (v *ℤ v) = solve integers integers_laws 3 (λ m x y. (m ⊗ (x ⊕ y), m ⊗ x ⊕ m ⊗ y)) refl m (signed_square v) (v *ℤ v) in
+      let g : m *ℤ (signed_square v +ℤ v *ℤ v) ≡ m *ℤ signed_square v +ℤ m *ℤ (v *ℤ v) = solve integers
+      integers_laws 3 (λ m x y. (m ⊗ (x ⊕ y), m ⊗ x ⊕ m ⊗ y)) refl m (signed_square v) (v *ℤ v) in
       joined (signed_square u) (m *ℤ signed_square v) (u *ℤ u) (m *ℤ (v *ℤ v)) (m *ℤ (signed_square v +ℤ v *ℤ v)) b e f g
     where
       joined : (x y s t z : ℤ) → t <ℤ s → x ≡ s → pos 0 ≤ℤ z → z ≡ y +ℤ t → pos 0 <ℤ (x +ℤ y)
@@ -115,7 +116,9 @@ squares_apart : (m p q e u v : ℤ) → p *ℤ p ≡ m *ℤ (q *ℤ q) +ℤ e
 squares_apart m p q e u v f =
     solve integers integers_laws 4 (λ p q u v. ((q ⊗ u) ⊗ (q ⊗ u) ⊖ (p ⊗ v) ⊗ (p ⊗ v), (q ⊗ q) ⊗ (u ⊗ u) ⊖ (p ⊗ p) ⊗ (v ⊗ v))) refl p q u v
     ∙ ap (λ x. (q *ℤ q) *ℤ (u *ℤ u) -ℤ x *ℤ (v *ℤ v)) f
-    ∙ solve integers integers_laws 5 (λ m q e u v. ((q ⊗ q) ⊗ (u ⊗ u) ⊖ (m ⊗ (q ⊗ q) ⊕ e) ⊗ (v ⊗ v), (q ⊗ q) ⊗ (u ⊗ u ⊖ m ⊗ (v ⊗ v)) ⊖ e ⊗ (v ⊗ v))) refl m q e u v
+    ∙ solve integers integers_laws 5 (λ m q e u v.
+    ((q ⊗ q) ⊗ (u ⊗ u) ⊖ (m ⊗ (q ⊗ q) ⊕ e) ⊗ (v ⊗ v), (q ⊗ q) ⊗ (u ⊗ u ⊖ m ⊗ (v ⊗ v)) ⊖ e ⊗ (v ⊗ v))) refl
+    m q e u v
 
 -- a whole number above 0 is at least 1, so its product with q² is at least q²
 at_least_once : (s d : ℤ) → pos 0 ≤ℤ s → pos 0 <ℤ d → s ≤ℤ (s *ℤ d)
@@ -158,10 +161,18 @@ module _ (m p q e : ℤ) where
   near_neg : (v : ℤ) → IsNear m p q e v → IsNear m p q e (neg_ℤ v)
   near_neg v n =
       let f : v *ℤ v ≡ neg_ℤ v *ℤ neg_ℤ v = solve integers integers_laws 1 (λ v. (v ⊗ v, neg v ⊗ neg v)) refl v in
-      record { p_pos = n.p_pos; q_pos = n.q_pos; square = n.square; below = subst (λ x. (e *ℤ x) <ℤ (q *ℤ q)) f n.below; above = subst (λ x. neg_ℤ (q *ℤ q) <ℤ (e *ℤ x)) f n.above }
+      record {
+        p_pos = n.p_pos;
+        q_pos = n.q_pos;
+        square = n.square;
+        below = subst (λ x. (e *ℤ x) <ℤ (q *ℤ q)) f n.below;
+        above = subst (λ x. neg_ℤ (q *ℤ q) <ℤ (e *ℤ x)) f n.above;
+      }
 
   pub sign-by_near : (m_pos : pos 0 <ℤ m) (no_root : NoRoot m) (u v : ℤ) → IsNear m p q e v → surd_sign m u v ≡ int_cmp (q *ℤ u +ℤ p *ℤ v) (pos 0)
   sign-by_near m_pos no_root u v n =
       sign-of_witness m m_pos no_root u v (q *ℤ u +ℤ p *ℤ v) (near-above u v n)
-      (λ a. negative-of (q *ℤ u +ℤ p *ℤ v) (q *ℤ neg_ℤ u +ℤ p *ℤ neg_ℤ v) (solve integers integers_laws 4 (λ p q u v. (q ⊗ neg u ⊕ p ⊗ neg v, neg (q ⊗ u ⊕ p ⊗ v))) refl p q u v) (near-above (neg_ℤ u) (neg_ℤ v) (near_neg v n) a))
+      (λ a. negative-of (q *ℤ u +ℤ p *ℤ v) (q *ℤ neg_ℤ u +ℤ p *ℤ neg_ℤ v)
+      (solve integers integers_laws 4 (λ p q u v. (q ⊗ neg u ⊕ p ⊗ neg v, neg (q ⊗ u ⊕ p ⊗ v))) refl p q u
+      v) (near-above (neg_ℤ u) (neg_ℤ v) (near_neg v n) a))
       (λ f g. ap₂ (λ x y. q *ℤ x +ℤ p *ℤ y) f g ∙ solve integers integers_laws 2 (λ p q. (q ⊗ con (pos 0) ⊕ p ⊗ con (pos 0), con (pos 0))) refl p q)

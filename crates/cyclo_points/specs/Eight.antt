@@ -1,8 +1,8 @@
 -- The points of order eight: Z[ζ] with ζ⁴ = -1. The coordinates lie in Z[√2].
-use Rattle.ordered_ring.specs.Ring.{Ops, difference, integers}
-use Rattle.ordered_ring.specs.Surd.{Pair}
-use Rattle.ordered_ring.specs.Sign.{signed_root_two}
-use Rattle.substitution.specs.Points.{Points}
+use Rattle.theory_ring.specs.Ring.{Ops, difference, integers}
+use Rattle.theory_ring.specs.Surd.{Pair}
+use Rattle.theory_ring.specs.Sign.{signed_root_two}
+use Rattle.theory_substitution.specs.Points.{Points}
 use Rattle.cyclo_points.specs.Quad.{Quad, add_quad, neg_quad, int_quad, zeta_quad, same_quad}
 
 -- products are reduced by ζ⁴ = -1

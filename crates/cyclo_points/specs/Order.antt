@@ -1,7 +1,7 @@
 -- The points of each order, and which of its numbers are refused.
 use Rattle.std.specs.Prelude.{ℤ, pos, ◌^◌, Bool, List, [], ◌∷◌, nat_abs, nat_lt}
 use Rattle.std.specs.List.{list_any}
-use Rattle.substitution.specs.Points.{Points, PointLaws}
+use Rattle.theory_substitution.specs.Points.{Points, PointLaws}
 use Rattle.cyclo_points.specs.declared.order.Order.{Order}
 use Rattle.cyclo_points.specs.declared.order.Order.TheVariants.{Four, Six, Eight, Ten}
 use Rattle.cyclo_points.specs.Four.{points_four}

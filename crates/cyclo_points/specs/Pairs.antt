@@ -2,8 +2,8 @@
 -- no power of ζ has to be reduced.
 use Rattle.std.specs.Prelude.{ℤ, pos, Bool, ◌&&◌}
 use Rattle.std.specs.Ordering.{int_eq}
-use Rattle.ordered_ring.specs.Ring.{Ops}
-use Rattle.ordered_ring.specs.Surd.{Pair}
+use Rattle.theory_ring.specs.Ring.{Ops}
+use Rattle.theory_ring.specs.Surd.{Pair}
 
 abbrev pub add_pair : (R : Ops) → Pair R.carrier → Pair R.carrier → Pair R.carrier
 add_pair R p q = record { a = R.add p.a q.a; b = R.add p.b q.b }

@@ -1,8 +1,8 @@
 -- The theorem on supertiles, for the points of each order.
-use Rattle.addressing.specs.Address.{Address, Fits}
-use Rattle.substitution.specs.Rule.{Rule, child_kinds}
-use Rattle.substitution.specs.Supertile.{StandsBeside}
-use Rattle.substitution.specs.Placement.{placement}
+use Rattle.theory_addresses.specs.Address.{Address, Fits}
+use Rattle.theory_substitution.specs.Rule.{Rule, child_kinds}
+use Rattle.theory_substitution.specs.Supertile.{StandsBeside}
+use Rattle.theory_substitution.specs.Placement.{placement}
 use Rattle.cyclo_points.specs.declared.order.Order.{Order}
 use Rattle.cyclo_points.specs.Order.{NumberOf, points_of}
 

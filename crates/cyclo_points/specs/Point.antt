@@ -1,6 +1,6 @@
 -- What a point stands for: its number in the ring of each order, and the size of its coefficients.
 use Rattle.std.specs.Prelude.{◌≡◌, ℕ, ℤ, pos, neg_ℤ, ◌≤ℤ◌, get_or}
-use Rattle.ordered_ring.specs.Surd.{Pair}
+use Rattle.theory_ring.specs.Surd.{Pair}
 use Rattle.cyclo_points.specs.declared.order.Order.{Order}
 use Rattle.cyclo_points.specs.declared.order.Order.TheVariants.{Four, Six, Eight, Ten}
 use Rattle.cyclo_points.specs.declared.point.Point.{Point}

@@ -1,7 +1,7 @@
 -- The number that four coefficients stand for in each order. Orders four and six reduce the last two.
 use Rattle.std.specs.Prelude.{ℤ}
-use Rattle.ordered_ring.specs.Ring.{power}
-use Rattle.substitution.specs.Points.{Points}
+use Rattle.theory_ring.specs.Ring.{power}
+use Rattle.theory_substitution.specs.Points.{Points}
 use Rattle.cyclo_points.specs.Quad.{Quad}
 
 -- a0 + a1 ζ + a2 ζ² + a3 ζ³

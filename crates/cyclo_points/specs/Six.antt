@@ -1,9 +1,9 @@
 -- The points of order six: Z[ζ] with ζ² = ζ - 1, so that ζ³ = -1, as pairs a + bζ. They are the triangular
 -- lattice; the coordinates are integers.
-use Rattle.ordered_ring.specs.Ring.{Ops, difference, integers}
-use Rattle.ordered_ring.specs.Surd.{Pair}
-use Rattle.ordered_ring.specs.Sign.{signed_integers}
-use Rattle.substitution.specs.Points.{Points}
+use Rattle.theory_ring.specs.Ring.{Ops, difference, integers}
+use Rattle.theory_ring.specs.Surd.{Pair}
+use Rattle.theory_ring.specs.Sign.{signed_integers}
+use Rattle.theory_substitution.specs.Points.{Points}
 use Rattle.cyclo_points.specs.Pairs.{add_pair, neg_pair, int_pair, zeta_pair, same_pair}
 
 -- products are reduced by ζ² = ζ - 1

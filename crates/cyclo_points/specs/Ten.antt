@@ -1,8 +1,8 @@
 -- The points of order ten: Z[ζ] with ζ⁴ = ζ³ - ζ² + ζ - 1, so that ζ⁵ = -1. The coordinates lie in Z[φ].
-use Rattle.ordered_ring.specs.Ring.{Ops, difference, integers}
-use Rattle.ordered_ring.specs.Surd.{Pair}
-use Rattle.ordered_ring.specs.Sign.{signed_golden}
-use Rattle.substitution.specs.Points.{Points}
+use Rattle.theory_ring.specs.Ring.{Ops, difference, integers}
+use Rattle.theory_ring.specs.Surd.{Pair}
+use Rattle.theory_ring.specs.Sign.{signed_golden}
+use Rattle.theory_substitution.specs.Points.{Points}
 use Rattle.cyclo_points.specs.Quad.{Quad, add_quad, neg_quad, int_quad, zeta_quad, same_quad}
 
 -- products, of the powers up to ζ⁶, are reduced by ζ⁴ = ζ³ - ζ² + ζ - 1, ζ⁵ = -1 and ζ⁶ = -ζ

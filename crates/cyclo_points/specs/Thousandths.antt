@@ -1,7 +1,7 @@
 -- Numbers in whole thousandths.
 use Rattle.std.specs.Prelude.{ℕ, zero, suc, ◌*◌, ℤ, pos, negsuc, ◌+ℤ◌, ◌*ℤ◌, nat_le, if◌then◌else◌}
 use Rattle.std.specs.Int.{int_div_euclid}
-use Rattle.ordered_ring.specs.Sign.{IsBelow, IsAtMost}
+use Rattle.theory_ring.specs.Sign.{IsBelow, IsAtMost}
 use Rattle.cyclo_points.specs.declared.order.Order.{Order}
 use Rattle.cyclo_points.specs.declared.order.Order.TheVariants.{Four, Six, Eight, Ten}
 use Rattle.cyclo_points.specs.Order.{points_of}

@@ -1,7 +1,7 @@
 //! Sums and differences of points, and the test of the limit on coefficients.
 
 ghost use Rattle.std.specs.Prelude.{◌≡◌, ◌↔◌, ℕ, ◌+◌, ◌^◌, IsTrue, false, nat_lt, nat_abs};
-ghost use Rattle.ordered_ring.specs.Ring.{difference};
+ghost use Rattle.theory_ring.specs.Ring.{difference};
 ghost use Rattle.cyclo_points.specs.declared.order.Order.{Order};
 ghost use Rattle.cyclo_points.specs.Order.{points_of, is_refused};
 ghost use Rattle.cyclo_points.specs.Point.{point_in, IsOf, IsWithin};

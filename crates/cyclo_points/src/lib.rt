@@ -11,7 +11,7 @@
 #![tactic(auto)]
 
 ghost use Rattle.std.specs.Prelude.{◌≡◌};
-ghost use Rattle.ordered_ring.specs.Divisor.{DividesWhole};
+ghost use Rattle.theory_ring.specs.Divisor.{DividesWhole};
 ghost use Rattle.cyclo_points.specs.Motion.{motion_cmp};
 ghost use Rattle.cyclo_points.specs.Order.{PointsLaw, points_of};
 ghost use Rattle.cyclo_points.specs.Placement.{PlacementLaw};

@@ -1,7 +1,7 @@
 //! Motions at work: the point that a motion moves, one motion after another, and the motion back.
 
 ghost use Rattle.std.specs.Prelude.{◌≡◌, ℕ, ◌+◌, ◌*◌, ◌^◌, ◌<◌};
-ghost use Rattle.substitution.specs.Motion.{moved, followed, still};
+ghost use Rattle.theory_substitution.specs.Motion.{moved, followed, still};
 ghost use Rattle.cyclo_points.specs.Order.{NumberOf, points_of};
 ghost use Rattle.cyclo_points.specs.Point.{point_in, IsOf, IsWithin};
 ghost use Rattle.cyclo_points.specs.Motion.{motion_in};

@@ -1,7 +1,7 @@
 //! Sums and differences of the numbers in which coordinates lie.
 
 ghost use Rattle.std.specs.Prelude.{◌≡◌, ℕ, ◌+◌, ◌^◌};
-ghost use Rattle.ordered_ring.specs.Ring.{difference};
+ghost use Rattle.theory_ring.specs.Ring.{difference};
 ghost use Rattle.cyclo_points.specs.declared.order.Order.{Order};
 ghost use Rattle.cyclo_points.specs.Order.{points_of};
 ghost use Rattle.cyclo_points.specs.Real.{real_in, IsRealOf, IsRealWithin};

@@ -1,7 +1,7 @@
 //! Turns of points by powers of ζ. Each coefficient of a turned point is a sum of at most two.
 
 ghost use Rattle.std.specs.Prelude.{◌≡◌, ℕ, ◌*◌, ◌^◌, ◌<◌};
-ghost use Rattle.ordered_ring.specs.Ring.{power};
+ghost use Rattle.theory_ring.specs.Ring.{power};
 ghost use Rattle.cyclo_points.specs.Order.{points_of};
 ghost use Rattle.cyclo_points.specs.Point.{point_in, IsOf, IsWithin};
 

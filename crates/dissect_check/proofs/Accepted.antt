@@ -1,22 +1,23 @@
--- All ten clauses hold of an edition, an order and lists exactly where no fault is found, clause by clause: so a rule is accepted exactly where its check finds none.
+-- All ten clauses hold of an edition, an order and lists exactly where no fault is found, clause by clause:
+-- so a rule is accepted exactly where its check finds none.
 use Rattle.std.specs.Prelude.{is_ok}
 use Rattle.std.specs.List.{AllByRecursion}
 use Rattle.std.proofs.Common.{◌≡◌, ℕ, true, false, not, List, [], ◌∷◌, length, Option, None, Result, Ok, Err, refl, ap}
 use Rattle.std.proofs.lemmas.Bool.{not-true}
-use Rattle.substitution.specs.Points.{Points}
-use Rattle.substitution.specs.Rule.{Rule as TheRule}
-use Rattle.substitution.specs.RuleParts.{map_rule, vertices_of, edge_count}
-use Rattle.edge_to_edge.specs.Star.{is_star}
-use Rattle.edge_to_edge.specs.Factor.{is_inflation_factor}
-use Rattle.edge_to_edge.specs.EdgeTypes.{mates_back, is_mirrored, has_length_of_type}
-use Rattle.edge_to_edge.specs.Edges.{PlacedEdge, child_edges}
-use Rattle.edge_to_edge.specs.Lying.{lie_of, is_loose}
-use Rattle.edge_to_edge.specs.Boundary.{parts_of_edge}
-use Rattle.edge_to_edge.specs.Uses.{is_used}
-use Rattle.edge_to_edge.specs.Glue.{glue_type, glues_halves}
-use Rattle.edge_to_edge.specs.Limited.{WithinLimits}
-use Rattle.edge_to_edge.specs.EdgeToEdge.{IsEdgeToEdge, IsStarShaped, HasInflationFactor, MatesBack, HasEqualLengths, HasMirroredSubdivisions, HasNoneLoose, HasBoundaryCut, HasEachUsed, HasRightGlue}
-use Rattle.addressing.proofs.Lists.{AllByRecursion-each}
+use Rattle.theory_substitution.specs.Points.{Points}
+use Rattle.theory_substitution.specs.Rule.{Rule as TheRule}
+use Rattle.theory_substitution.specs.RuleParts.{map_rule, vertices_of, edge_count}
+use Rattle.theory_edge_to_edge.specs.Star.{is_star}
+use Rattle.theory_edge_to_edge.specs.Factor.{is_inflation_factor}
+use Rattle.theory_edge_to_edge.specs.EdgeTypes.{mates_back, is_mirrored, has_length_of_type}
+use Rattle.theory_edge_to_edge.specs.Edges.{PlacedEdge, child_edges}
+use Rattle.theory_edge_to_edge.specs.Lying.{lie_of, is_loose}
+use Rattle.theory_edge_to_edge.specs.Boundary.{parts_of_edge}
+use Rattle.theory_edge_to_edge.specs.Uses.{is_used}
+use Rattle.theory_edge_to_edge.specs.Glue.{glue_type, glues_halves}
+use Rattle.theory_edge_to_edge.specs.Limited.{WithinLimits}
+use Rattle.theory_edge_to_edge.specs.EdgeToEdge.{IsEdgeToEdge, IsStarShaped, HasInflationFactor, MatesBack, HasEqualLengths, HasMirroredSubdivisions, HasNoneLoose, HasBoundaryCut, HasEachUsed, HasRightGlue}
+use Rattle.theory_addresses.proofs.Lists.{AllByRecursion-each}
 use Rattle.cyclo_points.specs.declared.order.Order.{Order}
 use Rattle.cyclo_points.specs.declared.point.Point.{Point}
 use Rattle.cyclo_points.specs.Order.{NumberOf, points_of, is_refused}
@@ -30,9 +31,9 @@ use Rattle.dissect_check.specs.declared.check_fault.CheckFault.{CheckFault}
 use Rattle.dissect_check.specs.declared.check_fault.CheckFault.TheVariants.{NotStar, WrongFactor, BadMate, BadLength, BadSubdivision, ChildEdgeLoose, Unused, GlueWrong}
 use Rattle.dissect_check.specs.FirstFault as fault
 use Rattle.dissect_check.specs.FirstFault.{first_fault}
-use Rattle.addressing.proofs.Searches.{unless-none, first_below-each, first_below-all}
+use Rattle.theory_addresses.proofs.Searches.{unless-none, first_below-each, first_below-all}
 use Rattle.dissect_check.proofs.LimitsHold.{within-where, none-within}
-use Rattle.addressing.proofs.FirstSome.{IsNone, first_some-each, first_some-all, first_some-map-each, first_some-map-all, unless-true, tests-each, tests-all}
+use Rattle.theory_addresses.proofs.FirstSome.{IsNone, first_some-each, first_some-all, first_some-map-each, first_some-map-all, unless-true, tests-each, tests-all}
 
 -- the parts of an edge are there exactly where none fails
 part_fault-each : {A : Type 0} (k e : ℕ) (x : Result A ℕ) → IsNone (fault.part_fault k e x) → is_ok x ≡ true
@@ -75,7 +76,8 @@ module _ (edition : Edition) (o : Order) (lists : TheRule Point) where
   -- lengths
   pub lengths-where : IsNone (fault.lengths o lists) → HasEqualLengths P R
   lengths-where h = λ k e l m.
-      tests-each (has_length_of_type P R k) (λ e. BadLength k e) (edge_count R k) (first_below-each (fault.lengths_of_kind o lists) (length R.kinds) h k l) e m
+      tests-each (has_length_of_type P R k) (λ e. BadLength k e) (edge_count R k)
+      (first_below-each (fault.lengths_of_kind o lists) (length R.kinds) h k l) e m
 
   pub none-lengths : HasEqualLengths P R → IsNone (fault.lengths o lists)
   none-lengths w =
@@ -105,13 +107,15 @@ module _ (edition : Edition) (o : Order) (lists : TheRule Point) where
   pub none-loose : HasNoneLoose P R → IsNone (fault.loose_edges o lists)
   none-loose w =
       first_below-all (fault.loose_of_kind o lists) (length R.kinds)
-      (λ k l. first_some-map-all (fault.loose_fault o lists k) (child_edges P R k) (AllByRecursion-each _ _ (child_edges P R k) (none-tight k) (w k l)))
+      (λ k l. first_some-map-all (fault.loose_fault o lists k) (child_edges P R k)
+      (AllByRecursion-each _ _ (child_edges P R k) (none-tight k) (w k l)))
 
   -- boundaries
   pub boundaries-where : IsNone (fault.boundaries o lists) → HasBoundaryCut P R
   boundaries-where h = λ k e l m.
       part_fault-each k e (parts_of_edge P R k e)
-      (first_below-each (λ e. fault.part_fault k e (parts_of_edge P R k e)) (edge_count R k) (first_below-each (fault.boundary_of_kind o lists) (length R.kinds) h k l) e m)
+      (first_below-each (λ e. fault.part_fault k e (parts_of_edge P R k e)) (edge_count R k)
+      (first_below-each (fault.boundary_of_kind o lists) (length R.kinds) h k l) e m)
 
   pub none-boundaries : HasBoundaryCut P R → IsNone (fault.boundaries o lists)
   none-boundaries w =
@@ -135,10 +139,12 @@ module _ (edition : Edition) (o : Order) (lists : TheRule Point) where
 
   -- the ten clauses, in order
   abbrev later_faults : List (Option CheckFault)
-  later_faults = fault.subdivisions o lists ∷ (fault.loose_edges o lists ∷ (fault.boundaries o lists ∷ (fault.uses o lists ∷ (fault.glues o lists ∷ []))))
+  later_faults = fault.subdivisions o lists ∷ (fault.loose_edges o lists
+      ∷ (fault.boundaries o lists ∷ (fault.uses o lists ∷ (fault.glues o lists ∷ []))))
 
   abbrev faults : List (Option CheckFault)
-  faults = fault.limits o lists ∷ (fault.stars o lists ∷ (fault.factor edition o lists ∷ (fault.mates o lists ∷ (fault.lengths o lists ∷ later_faults))))
+  faults = fault.limits o lists ∷ (fault.stars o lists
+      ∷ (fault.factor edition o lists ∷ (fault.mates o lists ∷ (fault.lengths o lists ∷ later_faults))))
 
   -- no fault: then all ten clauses hold, and none is found where they do
   pub limits-where : IsNone (fault.fault_of_lists edition o lists) → WithinLimits P.order (is_small o) lists
@@ -159,15 +165,33 @@ module _ (edition : Edition) (o : Order) (lists : TheRule Point) where
         glue_right = glues-where p.1.1.1.1.1.1.1.1.1.0;
       }
 
-  pub none-clauses : WithinLimits P.order (is_small o) lists → IsEdgeToEdge P (as_edition edition) (is_refused o) R → IsNone (fault.fault_of_lists edition o lists)
+  pub none-clauses : WithinLimits P.order (is_small o) lists
+      → IsEdgeToEdge P (as_edition edition) (is_refused o) R → IsNone (fault.fault_of_lists edition o lists)
   none-clauses w d =
-      let later : AllByRecursion IsNone later_faults =
-      (none-subdivisions d.mirrored, (none-loose d.none_loose, (none-boundaries d.boundary_cut, (none-uses d.each_used, (none-glues d.glue_right, tt))))) in
-      first_some-all faults (none-within o lists w, (none-stars d.star_shaped, (none-factor d.inflation_factor, (none-mates d.mates_back, (none-lengths d.equal_lengths, later)))))
+      let later : AllByRecursion IsNone later_faults = (
+        none-subdivisions d.mirrored,
+        (
+          none-loose d.none_loose,
+          (none-boundaries d.boundary_cut, (none-uses d.each_used, (none-glues d.glue_right, tt))),
+        ),
+      ) in
+      first_some-all faults (
+        none-within o lists w,
+        (
+          none-stars d.star_shaped,
+          (
+            none-factor d.inflation_factor,
+            (none-mates d.mates_back, (none-lengths d.equal_lengths, later)),
+          ),
+        ),
+      )
 
 -- so of a rule
 pub accepted-where : (r : Rule) → first_fault r ≡ None → IsAccepted r
-accepted-where r h = record { limits = limits-where r.edition r.order (as_rule r) h; edge_to_edge = edge_to_edge-where r.edition r.order (as_rule r) h }
+accepted-where r h = record {
+  limits = limits-where r.edition r.order (as_rule r) h;
+  edge_to_edge = edge_to_edge-where r.edition r.order (as_rule r) h;
+}
 
 pub none-where : (r : Rule) → IsAccepted r → first_fault r ≡ None
 none-where r a = none-clauses r.edition r.order (as_rule r) a.limits a.edge_to_edge

@@ -1,10 +1,10 @@
 -- A fault at one place, with none before it, is the fault of the whole range.
 use Rattle.std.proofs.Common.{◌≡◌, ℕ, ◌<◌, Option, None, Err}
-use Rattle.addressing.specs.Search.{first_below}
+use Rattle.theory_addresses.specs.Search.{first_below}
 use Rattle.dissect_check.specs.declared.check_fault.CheckFault.{CheckFault}
 use Rattle.dissect_check.specs.declared.check_fault.CheckFault.TheVariants.{TooMany, NotStar, WrongFactor, BadMate, BadLength, BadSubdivision, ChildEdgeLoose, BoundaryWrong, Unused, GlueWrong, NoMemory}
 use Rattle.dissect_check.specs.Agrees.{Agrees}
-use Rattle.addressing.proofs.Searches.{first_below-found}
+use Rattle.theory_addresses.proofs.Searches.{first_below-found}
 
 pub agrees_below : (A : Type 0) (e : CheckFault) (f : ℕ → Option CheckFault) (i n : ℕ) → first_below f i ≡ None → i < n
     → Agrees {A = A} (Err e) (f i) → Agrees {A = A} (Err e) (first_below f n)

@@ -1,6 +1,6 @@
 -- Clauses one after another: the first fault of a list is that of its front, or of its rest where the front has none.
 use Rattle.std.proofs.Common.{◌≡◌, List, [], ◌∷◌, ◌++◌, Option, Some, None, Result, Ok, Err, refl, sym, subst}
-use Rattle.addressing.specs.Search.{first_some}
+use Rattle.theory_addresses.specs.Search.{first_some}
 use Rattle.dissect_check.specs.declared.check_fault.CheckFault.{CheckFault}
 use Rattle.dissect_check.specs.declared.check_fault.CheckFault.TheVariants.{TooMany, NotStar, WrongFactor, BadMate, BadLength, BadSubdivision, ChildEdgeLoose, BoundaryWrong, Unused, GlueWrong, NoMemory}
 use Rattle.dissect_check.specs.Agrees.{Agrees, IsOkOrMemory}
@@ -18,7 +18,8 @@ first_of_rest (Some d ∷ fs) gs h = absurd (cc)
 first_of_rest (None ∷ fs) gs h = first_of_rest fs gs h
 
 -- an answer with the fault of the front has that of all
-pub agrees_front : (A : Type 0) (e : CheckFault) (fs gs : List (Option CheckFault)) → Some e ≡ first_some fs → Agrees {A = A} (Err e) (first_some (fs ++ gs))
+pub agrees_front : (A : Type 0) (e : CheckFault) (fs gs : List (Option CheckFault)) → Some e ≡ first_some fs
+    → Agrees {A = A} (Err e) (first_some (fs ++ gs))
 agrees_front A NoMemory fs gs h = tt
 agrees_front A (TooMany what) fs gs h = first_of_front fs gs (TooMany what) (sym h)
 agrees_front A (NotStar kind) fs gs h = first_of_front fs gs (NotStar kind) (sym h)
@@ -50,7 +51,8 @@ alone None e h = absurd (cc)
 alone (Some d) e h = h
 
 -- a fault of the first clause, and one of those behind it
-pub agrees_first : (A B : Type 0) (e : CheckFault) (f : Option CheckFault) (fs : List (Option CheckFault)) → Agrees {A = A} (Err e) f → Agrees {A = B} (Err e) (first_some (f ∷ fs))
+pub agrees_first : (A B : Type 0) (e : CheckFault) (f : Option CheckFault) (fs : List (Option CheckFault))
+    → Agrees {A = A} (Err e) f → Agrees {A = B} (Err e) (first_some (f ∷ fs))
 agrees_first A B NoMemory f fs h = tt
 agrees_first A B (TooMany what) f fs h = first_of_front (f ∷ []) fs (TooMany what) (alone f (TooMany what) h)
 agrees_first A B (NotStar kind) f fs h = first_of_front (f ∷ []) fs (NotStar kind) (alone f (NotStar kind) h)
@@ -58,12 +60,15 @@ agrees_first A B WrongFactor f fs h = first_of_front (f ∷ []) fs WrongFactor (
 agrees_first A B (BadMate ty) f fs h = first_of_front (f ∷ []) fs (BadMate ty) (alone f (BadMate ty) h)
 agrees_first A B (BadLength kind edge) f fs h = first_of_front (f ∷ []) fs (BadLength kind edge) (alone f (BadLength kind edge) h)
 agrees_first A B (BadSubdivision ty) f fs h = first_of_front (f ∷ []) fs (BadSubdivision ty) (alone f (BadSubdivision ty) h)
-agrees_first A B (ChildEdgeLoose kind child edge) f fs h = first_of_front (f ∷ []) fs (ChildEdgeLoose kind child edge) (alone f (ChildEdgeLoose kind child edge) h)
-agrees_first A B (BoundaryWrong kind edge part) f fs h = first_of_front (f ∷ []) fs (BoundaryWrong kind edge part) (alone f (BoundaryWrong kind edge part) h)
+agrees_first A B (ChildEdgeLoose kind child edge) f fs h = first_of_front (f ∷ []) fs
+    (ChildEdgeLoose kind child edge) (alone f (ChildEdgeLoose kind child edge) h)
+agrees_first A B (BoundaryWrong kind edge part) f fs h = first_of_front (f ∷ []) fs
+    (BoundaryWrong kind edge part) (alone f (BoundaryWrong kind edge part) h)
 agrees_first A B (Unused kind) f fs h = first_of_front (f ∷ []) fs (Unused kind) (alone f (Unused kind) h)
 agrees_first A B (GlueWrong ty) f fs h = first_of_front (f ∷ []) fs (GlueWrong ty) (alone f (GlueWrong ty) h)
 
-pub agrees_behind : (A B : Type 0) (e : CheckFault) (fs gs : List (Option CheckFault)) → first_some fs ≡ None → Agrees {A = A} (Err e) (first_some gs) → Agrees {A = B} (Err e) (first_some (fs ++ gs))
+pub agrees_behind : (A B : Type 0) (e : CheckFault) (fs gs : List (Option CheckFault)) → first_some fs ≡ None
+    → Agrees {A = A} (Err e) (first_some gs) → Agrees {A = B} (Err e) (first_some (fs ++ gs))
 agrees_behind A B e fs gs h a = agrees_as A B e (first_some (fs ++ gs)) (subst (λ f. Agrees {A = A} (Err e) f) (sym (first_of_rest fs gs h)) a)
 
 -- without a fault the answer is Ok, or want of memory

@@ -3,11 +3,11 @@ use Rattle.std.proofs.Common.{◌≡◌, ℕ, ◌<◌, List, map, length, get_or
 use Rattle.std.specs.Prelude.{Vec}
 use Rattle.std.specs.Global.{Global}
 use Rattle.std.proofs.lemmas.List.{get_or-map}
-use Rattle.substitution.specs.RuleParts.{parts, edge_count, edge_type}
-use Rattle.edge_to_edge.specs.Edges as theory
-use Rattle.edge_to_edge.specs.Edges.{child_edges, inflated_edge, inflated_edges}
-use Rattle.edge_to_edge.specs.Boundary.{boundary_among, parts_along, parts_of_edge}
-use Rattle.edge_to_edge.specs.Contacts.{name_of, parts_or_none}
+use Rattle.theory_substitution.specs.RuleParts.{parts, edge_count, edge_type}
+use Rattle.theory_edge_to_edge.specs.Edges as theory
+use Rattle.theory_edge_to_edge.specs.Edges.{child_edges, inflated_edge, inflated_edges}
+use Rattle.theory_edge_to_edge.specs.Boundary.{boundary_among, parts_along, parts_of_edge}
+use Rattle.theory_edge_to_edge.specs.Contacts.{name_of, parts_or_none}
 use Rattle.cyclo_points.specs.Order.{points_of}
 use Rattle.edge_tables.specs.declared.child_edge.ChildEdge.{ChildEdge}
 use Rattle.edge_tables.specs.Views.{as_child_edge}
@@ -20,11 +20,12 @@ use Rattle.dissect_check.specs.declared.check_fault.CheckFault.TheVariants.{Boun
 use Rattle.dissect_check.specs.FirstFault.{part_fault}
 use Rattle.dissect_check.specs.Views.{line_in, edge_in, IsSmallLine, IsInflated}
 use Rattle.dissect_check.specs.Boundary.{names_of, as_parts}
-use Rattle.addressing.proofs.Ranges.{get_or-below}
+use Rattle.theory_addresses.proofs.Ranges.{get_or-below}
 use Rattle.dissect_check.proofs.WholeCount.{whole_count}
 
 -- names are found: no fault, and they are those of the parts
-pub no_fault : {A : Type 0} (k e : ℕ) (found : Result (Vec ChildEdge Global) ℕ) (names : Vec ChildEdge Global) (r : Result (List (theory.PlacedEdge A)) ℕ)
+pub no_fault : {A : Type 0} (k e : ℕ) (found : Result (Vec ChildEdge Global) ℕ) (names : Vec ChildEdge Global)
+    (r : Result (List (theory.PlacedEdge A)) ℕ)
     → found ≡ Ok names → as_parts found ≡ names_of r → part_fault k e r ≡ None
 no_fault k e found names (Ok ss) is h = refl
 no_fault k e found names (Err j) is h = let g = ap as_parts is in absurd (cc)
@@ -59,13 +60,16 @@ module _ (r : Rule) (k e : ℕ) (i : Inflated) (fact : IsInflated r k i) (there 
   pub parts_found : (found : Result (Vec ChildEdge Global) ℕ) (edges along : List PlacedEdge) (whole : Line) (ty : ℕ)
       → as_parts found ≡ names_of (parts_along (points_of r.order) (map (edge_in r.order) edges) (line_in r.order whole) (parts (rule_of r) ty))
       → whole ≡ get_or i.wholes.items e whole → ty ≡ edge_type (rule_of r) k e → edges ≡ along
-      → map (edge_in r.order) along ≡ boundary_among (points_of r.order) (rule_of r) (child_edges (points_of r.order) (rule_of r) k) (inflated_edges (points_of r.order) (rule_of r) k) e
+      → map (edge_in r.order) along ≡ boundary_among (points_of r.order) (rule_of r)
+      (child_edges (points_of r.order) (rule_of r) k) (inflated_edges (points_of r.order) (rule_of r) k) e
       → as_parts found ≡ names_of (parts_of_edge (points_of r.order) (rule_of r) k e)
   parts_found found edges along whole ty walked h t same on =
       walked
-      ∙ ap₂ (λ ss types. names_of (parts_along (points_of r.order) ss (line_in r.order whole) types)) (ap (map (edge_in r.order)) same ∙ on) (ap (parts (rule_of r)) t)
+      ∙ ap₂ (λ ss types. names_of (parts_along (points_of r.order) ss (line_in r.order whole) types))
+      (ap (map (edge_in r.order)) same ∙ on) (ap (parts (rule_of r)) t)
       ∙ ap
       (λ w. names_of (parts_along (points_of r.order)
-      (boundary_among (points_of r.order) (rule_of r) (child_edges (points_of r.order) (rule_of r) k) (inflated_edges (points_of r.order) (rule_of r) k) e) w
+      (boundary_among (points_of r.order) (rule_of r) (child_edges (points_of r.order) (rule_of r) k)
+      (inflated_edges (points_of r.order) (rule_of r) k) e) w
       (parts (rule_of r) (edge_type (rule_of r) k e))))
       (whole_is whole h)

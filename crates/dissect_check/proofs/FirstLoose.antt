@@ -2,8 +2,8 @@
 use Rattle.std.proofs.Common.{◌≡◌, ℕ, ◌+◌, ◌<◌, false, List, [], ◌∷◌, map, length, drop, get_or, Option, Some, None, refl, sym, ap, ◌∙◌, arith}
 use Rattle.std.proofs.lemmas.List.{length-map, at_drop_more}
 use Rattle.std.proofs.lemmas.List as lists
-use Rattle.addressing.specs.Search.{first_some}
-use Rattle.edge_to_edge.specs.Lying.{is_loose}
+use Rattle.theory_addresses.specs.Search.{first_some}
+use Rattle.theory_edge_to_edge.specs.Lying.{is_loose}
 use Rattle.dissect_check.specs.declared.lie.Lie.{Lie}
 use Rattle.dissect_check.specs.declared.lie.Lie.TheVariants.{Inner, Boundary, Loose}
 use Rattle.dissect_check.specs.Views.{as_lie}
@@ -19,7 +19,8 @@ same_at f g view xs ys i d e none h l =
     ∙ ap g (lists.get_or-map view ys i e (view e) l)
 
 module _ {A B F : Type 0} (f : A → Option F) (view : B → A) where
-  pub first_some-here : (xs : List B) (i : ℕ) (d : B) (e : F) → i < length xs → f (view (get_or xs i d)) ≡ Some e → first_some (map f (map view (drop i xs))) ≡ Some e
+  pub first_some-here : (xs : List B) (i : ℕ) (d : B) (e : F) → i < length xs
+      → f (view (get_or xs i d)) ≡ Some e → first_some (map f (map view (drop i xs))) ≡ Some e
   first_some-here xs i d e l h =
       at_drop_more (λ ys. first_some (map f (map view ys))) xs i d l ∙ ap (λ o. first_some (o ∷ map f (map view (drop (i + 1) xs)))) h
 

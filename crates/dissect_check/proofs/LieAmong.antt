@@ -3,11 +3,11 @@ use Rattle.std.specs.Prelude.{nat_eq}
 use Rattle.std.proofs.Common.{◌≡◌, ℕ, suc, ◌+◌, ◌<◌, Bool, true, false, cond, List, [], ◌∷◌, ◌++◌, map, length, take, get_or, refl, sym, ap, ap₂, ◌∙◌, arith}
 use Rattle.std.specs.List.{filter}
 use Rattle.std.proofs.lemmas.List.{map_more, length-map, length-take, append_assoc}
-use Rattle.substitution.specs.Points.{Points}
-use Rattle.substitution.specs.Rule.{Rule}
-use Rattle.substitution.specs.RuleParts.{mate}
-use Rattle.edge_to_edge.specs.Edges.{Edge, PlacedEdge, lies_along}
-use Rattle.edge_to_edge.specs.Lying.{Lie, boundary, loose, numbers_along, met_by, lie_by}
+use Rattle.theory_substitution.specs.Points.{Points}
+use Rattle.theory_substitution.specs.Rule.{Rule}
+use Rattle.theory_substitution.specs.RuleParts.{mate}
+use Rattle.theory_edge_to_edge.specs.Edges.{Edge, PlacedEdge, lies_along}
+use Rattle.theory_edge_to_edge.specs.Lying.{Lie, boundary, loose, numbers_along, met_by, lie_by}
 use Rattle.dissect_check.specs.declared.few.Few.{Few}
 use Rattle.dissect_check.specs.declared.few.Few.TheVariants.{None, One, Many}
 use Rattle.dissect_check.specs.Few.{few_of, one_more}
@@ -58,12 +58,14 @@ module _ (P : Points) (e : Edge P.ring.carrier) where
         ∙ ap (λ vs. few_of (numbers_along P 0 vs e)) (sym (map_more view ws i d l))
 
 -- ---- by the edges that run back, and the wholes
-pub filter_of_map : {A B : Type 0} (view : B → A) (test : A → Bool) (ts : List B) → filter test (map view ts) ≡ map view (filter (λ t. test (view t)) ts)
+pub filter_of_map : {A B : Type 0} (view : B → A) (test : A → Bool) (ts : List B)
+    → filter test (map view ts) ≡ map view (filter (λ t. test (view t)) ts)
 filter_of_map view test [] = refl
 filter_of_map view test (t ∷ ts) = by_test (test (view t)) (filter_of_map view test ts)
   where
     by_test : (b : Bool) → filter test (map view ts) ≡ map view (filter (λ t. test (view t)) ts)
-        → cond b (view t ∷ filter test (map view ts)) (filter test (map view ts)) ≡ map view (cond b (t ∷ filter (λ t. test (view t)) ts) (filter (λ t. test (view t)) ts))
+        → cond b (view t ∷ filter test (map view ts)) (filter test (map view ts)) ≡ map view
+        (cond b (t ∷ filter (λ t. test (view t)) ts) (filter (λ t. test (view t)) ts))
     by_test true h = ap (λ xs. view t ∷ xs) h
     by_test false h = h
 
@@ -97,6 +99,7 @@ module _ {A B : Type 0} (r : Rule A) (s : PlacedEdge A) (view : B → PlacedEdge
   lie_by-filter test ts numbers =
       sym (lie_by-few (filter (λ t. test (view t)) ts) numbers) ∙ ap (λ us. lie_by r s us numbers) (sym (filter_of_map view test ts))
 
-  pub lies_by : (test : PlacedEdge A → Bool) (ts : List B) (numbers : List ℕ) (f : Few B) (g : Few ℕ) → f ≡ few_of (filter (λ t. test (view t)) ts) → g ≡ few_of numbers
+  pub lies_by : (test : PlacedEdge A → Bool) (ts : List B) (numbers : List ℕ) (f : Few B) (g : Few ℕ)
+      → f ≡ few_of (filter (λ t. test (view t)) ts) → g ≡ few_of numbers
       → lie_few f g ≡ lie_by r s (filter test (map view ts)) numbers
   lies_by test ts numbers f g h k = ap₂ lie_few h k ∙ lie_by-filter test ts numbers

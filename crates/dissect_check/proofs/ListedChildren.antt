@@ -4,10 +4,10 @@ use Rattle.std.specs.List.{list_all}
 use Rattle.std.proofs.Common.{◌≡◌, ℕ, ◌<◌, ◌≤◌, Bool, true, ◌&&◌, List, [], ◌∷◌, map, length, None, refl, sym, ap, ◌∙◌, subst}
 use Rattle.std.proofs.lemmas.Bool.{and_parts, and_from}
 use Rattle.std.proofs.lemmas.List.{length-map}
-use Rattle.substitution.specs.Rule.{Child, Kind, Rule, children_of, child_kinds}
-use Rattle.substitution.specs.RuleParts.{map_rule, map_kind, map_child}
-use Rattle.edge_to_edge.specs.Limits.{is_from_to, is_child}
-use Rattle.edge_to_edge.specs.Limited.{WithinLimits}
+use Rattle.theory_substitution.specs.Rule.{Child, Kind, Rule, children_of, child_kinds}
+use Rattle.theory_substitution.specs.RuleParts.{map_rule, map_kind, map_child}
+use Rattle.theory_edge_to_edge.specs.Limits.{is_from_to, is_child}
+use Rattle.theory_edge_to_edge.specs.Limited.{WithinLimits}
 use Rattle.cyclo_points.specs.declared.order.Order.{Order}
 use Rattle.cyclo_points.specs.declared.point.Point.{Point}
 use Rattle.cyclo_points.specs.Order.{points_of}
@@ -46,13 +46,16 @@ module _ {A B : Type 0} (f : A → B) (n : ℕ) (small : A → Bool) (r : Rule A
       record { count = from_to 1 16 (length (children_of r k)) q.0; fit = q.1 }
 
   -- children that fit are of kinds that there are
-  kinds_exist : (cs : List (Child A)) → list_all (is_child n small r) cs ≡ true → list_all (λ (c : Child B). nat_lt c.kind (length r.kinds)) (map (map_child f) cs) ≡ true
+  kinds_exist : (cs : List (Child A)) → list_all (is_child n small r) cs ≡ true
+      → list_all (λ (c : Child B). nat_lt c.kind (length r.kinds)) (map (map_child f) cs) ≡ true
   kinds_exist [] h = refl
   kinds_exist (c ∷ cs) h =
       let q = and_parts (is_child n small r c) (list_all (is_child n small r) cs) h in
       let numbers = and_parts (nat_lt c.kind (length r.kinds) && nat_lt c.motion.turn n) (small c.motion.shift) q.0 in
       let kind = and_parts (nat_lt c.kind (length r.kinds)) (nat_lt c.motion.turn n) numbers.0 in
-      and_from (nat_lt c.kind (length r.kinds)) (list_all (λ (c : Child B). nat_lt c.kind (length r.kinds)) (map (map_child f) cs)) kind.0 (kinds_exist cs q.1)
+      and_from (nat_lt c.kind (length r.kinds))
+      (list_all (λ (c : Child B). nat_lt c.kind (length r.kinds)) (map (map_child f) cs)) kind.0
+      (kinds_exist cs q.1)
 
   pub listed-children : HasChildren (map_rule f r)
   listed-children =
@@ -67,6 +70,8 @@ module _ {A B : Type 0} (f : A → B) (n : ℕ) (small : A → Bool) (r : Rule A
             (kinds_exist (children_of r k) (children k (kind_in k l)).fit));
       }
 
-pub children-usable : (edition : Edition) (o : Order) (lists : Rule Point) → fault_of_lists edition o lists ≡ None → AreUsable (child_kinds (map_rule (point_in o) lists))
+pub children-usable : (edition : Edition) (o : Order) (lists : Rule Point)
+    → fault_of_lists edition o lists ≡ None → AreUsable (child_kinds (map_rule (point_in o) lists))
 children-usable edition o lists h =
-    uses-usable (map_rule (point_in o) lists) (listed-children (point_in o) (points_of o).order (is_small o) lists (limits-where edition o lists h)) (edge_to_edge-where edition o lists h).each_used
+    uses-usable (map_rule (point_in o) lists) (listed-children (point_in o) (points_of o).order (is_small o)
+    lists (limits-where edition o lists h)) (edge_to_edge-where edition o lists h).each_used

@@ -34,7 +34,9 @@ module _ (f : ℕ → ℕ) (xs ys : List ℕ) where
   place_differs i l h = differ ys (map f (reverse xs)) (λ e. h (ap (λ (zs : List ℕ). get_or zs i 0) e ∙ mirrored-at i l))
 
   -- each place agrees
-  pub places_agree : length ys ≡ length xs → ((i : ℕ) → i < length xs → get_or ys i 0 ≡ f (get_or xs (length xs - 1 - i) 0)) → true ≡ pointwise nat_eq ys (map f (reverse xs))
+  pub places_agree : length ys ≡ length xs → ((i : ℕ) → i < length xs
+      → get_or ys i 0 ≡ f (get_or xs (length xs - 1 - i) 0)) → true ≡ pointwise nat_eq ys (map f (reverse xs))
   places_agree l h =
       agree ys (map f (reverse xs)) (same_lists ys (map f (reverse xs)) (l ∙ sym mirrored-length) (λ i d q.
-      get_or_default ys i d 0 q ∙ h i (omega arith) ∙ sym (mirrored-at i (omega arith)) ∙ get_or_default (map f (reverse xs)) i 0 d (omega (arith, mirrored-length))))
+      get_or_default ys i d 0 q ∙ h i (omega arith) ∙ sym (mirrored-at i (omega arith))
+      ∙ get_or_default (map f (reverse xs)) i 0 d (omega (arith, mirrored-length))))

@@ -1,9 +1,9 @@
 -- A rule in which no clause finds a fault.
 use Rattle.std.proofs.Common.{◌≡◌, List, [], ◌∷◌, Option, None, sym, ◌∙◌}
-use Rattle.addressing.specs.Search.{first_some}
-use Rattle.edge_to_edge.specs.Contacts.{tables_of}
-use Rattle.addressing.specs.Coherent.{IsCoherent}
-use Rattle.edge_to_edge.proofs.CoherentContacts.{contacts-coherent}
+use Rattle.theory_addresses.specs.Search.{first_some}
+use Rattle.theory_edge_to_edge.specs.Contacts.{tables_of}
+use Rattle.theory_addresses.specs.Coherent.{IsCoherent}
+use Rattle.theory_edge_to_edge.proofs.CoherentContacts.{contacts-coherent}
 use Rattle.cyclo_points.specs.Order.{points_of, is_refused, PointsLaw}
 use Rattle.rule_model.specs.declared.rule.Rule.{Rule}
 use Rattle.rule_model.specs.Accepted.{IsAccepted}
@@ -11,7 +11,7 @@ use Rattle.rule_model.specs.Usable.{IsUsable}
 use Rattle.rule_model.specs.Views.{as_rule, rule_of, as_edition}
 use Rattle.dissect_check.specs.declared.check_fault.CheckFault.{CheckFault}
 use Rattle.dissect_check.specs.FirstFault.{limits, stars, factor, mates, lengths, subdivisions, loose_edges, boundaries, uses, glues, first_fault}
-use Rattle.addressing.proofs.FirstSome.{first_some-parts}
+use Rattle.theory_addresses.proofs.FirstSome.{first_some-parts}
 use Rattle.dissect_check.proofs.LimitsHold.{usable-where}
 use Rattle.dissect_check.proofs.Chains.{first_of_rest}
 use Rattle.dissect_check.proofs.Accepted.{accepted-where}
@@ -38,4 +38,5 @@ module _ (r : Rule) where
 
   -- so its contacts are coherent
   pub coherent-both : PointsLaw r.order → None ≡ first_some front → first_some rest ≡ None → IsCoherent (tables_of (points_of r.order) (rule_of r))
-  coherent-both w h k = contacts-coherent (points_of r.order) w (as_edition r.edition) (is_refused r.order) (rule_of r) (usable-front h).numbered (accepted-both h k).edge_to_edge
+  coherent-both w h k = contacts-coherent (points_of r.order) w (as_edition r.edition) (is_refused r.order)
+      (rule_of r) (usable-front h).numbered (accepted-both h k).edge_to_edge

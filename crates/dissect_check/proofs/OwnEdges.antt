@@ -4,12 +4,12 @@ use Rattle.std.specs.List.{filter, flat_map}
 use Rattle.std.proofs.lemmas.Bool.{ne_eqb}
 use Rattle.std.proofs.lemmas.List.{flat_map_more, append-nil}
 use Rattle.std.proofs.lemmas.List.Elements.{filter-append}
-use Rattle.substitution.specs.Points.{Points}
-use Rattle.substitution.specs.Rule.{Rule, children_of}
-use Rattle.substitution.specs.RuleParts.{edge_count, child_of}
-use Rattle.addressing.specs.Search.{below}
-use Rattle.edge_to_edge.specs.Edges.{PlacedEdge, child_edge, edges_of_child, child_edges}
-use Rattle.addressing.proofs.Searches.{below_or_at}
+use Rattle.theory_substitution.specs.Points.{Points}
+use Rattle.theory_substitution.specs.Rule.{Rule, children_of}
+use Rattle.theory_substitution.specs.RuleParts.{edge_count, child_of}
+use Rattle.theory_addresses.specs.Search.{below}
+use Rattle.theory_edge_to_edge.specs.Edges.{PlacedEdge, child_edge, edges_of_child, child_edges}
+use Rattle.theory_addresses.proofs.Searches.{below_or_at}
 
 module _ {A : Type 0} (p : A → Bool) (f : ℕ → A) where
   all_pass : (n : ℕ) → ((i : ℕ) → p (f i) ≡ true) → filter p (below f n) ≡ below f n
@@ -48,7 +48,8 @@ module _ (P : Points) (r : Rule P.ring.carrier) (k c : ℕ) where
   once (suc n) l =
       elim (below_or_at c n l) [
         | inl q ↦ front-more n ∙ ap₂ (λ xs ys. xs ++ ys) (once n q) (of_others n (λ e. omega arith)) ∙ append-nil (edges_of_child P r k c)
-        | inr q ↦ front-more n ∙ ap₂ (λ xs ys. xs ++ ys) (not_yet n (omega arith)) (ap (λ d. filter is_of_child (edges_of_child P r k d)) (sym q) ∙ its_own)
+        | inr q ↦ front-more n ∙ ap₂ (λ xs ys. xs ++ ys) (not_yet n (omega arith))
+            (ap (λ d. filter is_of_child (edges_of_child P r k d)) (sym q) ∙ its_own)
       ]
 
   -- those of child number c

@@ -1,6 +1,6 @@
 -- The powers of a factor, one after another, and whether they are refused.
 use Rattle.std.proofs.Common.{◌≡◌, ℕ, ◌+◌, pos, Bool, [], ◌∷◌, refl, ap, ◌∙◌, sym, add-one}
-use Rattle.ordered_ring.specs.Ring.{Ops, Laws, power}
+use Rattle.theory_ring.specs.Ring.{Ops, Laws, power}
 use Rattle.cyclo_points.specs.declared.order.Order.{Order}
 use Rattle.cyclo_points.specs.declared.order.Order.TheVariants.{Four, Six, Eight, Ten}
 use Rattle.cyclo_points.specs.declared.point.Point.{Point}
@@ -31,5 +31,7 @@ one-of Eight = tt
 one-of Ten = tt
 
 -- the test of a point that is that power
-pub refused-at : (o : Order) (factor p : Point) (n : ℕ) (b : Bool) → point_in o p ≡ power (points_of o).ring (point_in o factor) n → b ≡ is_refused o (point_in o p) → is_refused_at o factor n ≡ b
+pub refused-at : (o : Order) (factor p : Point) (n : ℕ) (b : Bool)
+    → point_in o p ≡ power (points_of o).ring (point_in o factor) n → b ≡ is_refused o (point_in o p)
+    → is_refused_at o factor n ≡ b
 refused-at o factor p n b h k = sym (k ∙ ap (is_refused o) h)

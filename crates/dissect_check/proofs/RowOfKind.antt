@@ -2,8 +2,8 @@
 use Rattle.std.proofs.Common.{◌≡◌, ℕ, ◌<◌, [], map, length, get_or, sym, ap, ◌∙◌, arith}
 use Rattle.std.proofs.lemmas.List.{get_or-map, length-map}
 use Rattle.std.proofs.lemmas.Simd.{map-map}
-use Rattle.substitution.specs.Rule.{Kind, Child as TheChild, kind_of, children_of}
-use Rattle.substitution.specs.RuleParts.{map_kind, map_child, edge_types}
+use Rattle.theory_substitution.specs.Rule.{Kind, Child as TheChild, kind_of, children_of}
+use Rattle.theory_substitution.specs.RuleParts.{map_kind, map_child, edge_types}
 use Rattle.cyclo_points.specs.declared.point.Point.{Point}
 use Rattle.cyclo_points.specs.Order.{NumberOf}
 use Rattle.cyclo_points.specs.Point.{point_in}
@@ -20,7 +20,8 @@ module _ (r : Rule) (k : ℕ) (row : KindRow) (there : k < length r.kinds.items)
   kind_is : kind_of (rule_of r) k ≡ map_kind (point_in r.order) (as_kind row)
   kind_is =
       kind_of-map (point_in r.order) (as_rule r) k
-      ∙ ap (map_kind (point_in r.order)) (get_or-map as_kind r.kinds.items k row (record { vertices = []; edges = []; children = [] }) there ∙ ap as_kind (sym is))
+      ∙ ap (map_kind (point_in r.order)) (get_or-map as_kind r.kinds.items k row
+      (record { vertices = []; edges = []; children = [] }) there ∙ ap as_kind (sym is))
 
   pub types_are : row.edges.items ≡ edge_types (rule_of r) k
   types_are = sym (ap (λ (x : Kind (NumberOf r.order)). x.edges) kind_is)

@@ -15,7 +15,8 @@ last_true true false = refl
 last_true true true = refl
 
 -- then they are one point of the order
-pub same-points : (o : Order) (p q : Point) → length p.c ≡ 4 → length q.c ≡ 4 → IsOf o p → IsOf o q → pointwise int_eq p.c q.c ≡ (points_of o).same (point_in o p) (point_in o q)
+pub same-points : (o : Order) (p q : Point) → length p.c ≡ 4 → length q.c ≡ 4 → IsOf o p → IsOf o q
+    → pointwise int_eq p.c q.c ≡ (points_of o).same (point_in o p) (point_in o q)
 same-points Four p q l m f g =
     let a = int_eq (coefficient p 0) (coefficient q 0) in
     let b = int_eq (coefficient p 1) (coefficient q 1) in

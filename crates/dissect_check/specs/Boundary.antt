@@ -1,9 +1,9 @@
 -- The parts of an inflated edge as the program finds them.
 use Rattle.std.specs.Prelude.{ℕ, List, map, Result, Ok, Err, Vec}
 use Rattle.std.specs.Global.{Global}
-use Rattle.addressing.specs.Contact as theory
-use Rattle.edge_to_edge.specs.Edges.{PlacedEdge}
-use Rattle.edge_to_edge.specs.Contacts.{name_of}
+use Rattle.theory_addresses.specs.Contact as theory
+use Rattle.theory_edge_to_edge.specs.Edges.{PlacedEdge}
+use Rattle.theory_edge_to_edge.specs.Contacts.{name_of}
 use Rattle.edge_tables.specs.declared.child_edge.ChildEdge.{ChildEdge}
 use Rattle.edge_tables.specs.Views.{as_child_edge}
 

@@ -1,18 +1,18 @@
 -- The fault of the first clause that fails, at its first place: a definition on an edition, an order and the
 -- lists of a rule.
 use Rattle.std.specs.Prelude.{ℕ, not, [], ◌∷◌, map, length, Option, Some, None, Result, Ok, Err}
-use Rattle.substitution.specs.Rule as theory
-use Rattle.addressing.specs.Search.{unless, first_some, first_below}
-use Rattle.substitution.specs.RuleParts.{map_rule, mate, vertices_of, edge_count}
-use Rattle.edge_to_edge.specs.Limits.{is_type, kinds_fit, types_fit, glue_fits, parts_fit, edges_fit, vertices_fit, children_fit}
-use Rattle.edge_to_edge.specs.Star.{is_star}
-use Rattle.edge_to_edge.specs.Factor.{is_inflation_factor}
-use Rattle.edge_to_edge.specs.EdgeTypes.{mates_back, is_mirrored, has_length_of_type}
-use Rattle.edge_to_edge.specs.Edges.{PlacedEdge, child_edges}
-use Rattle.edge_to_edge.specs.Lying.{lie_of, is_loose}
-use Rattle.edge_to_edge.specs.Boundary.{parts_of_edge}
-use Rattle.edge_to_edge.specs.Uses.{is_used}
-use Rattle.edge_to_edge.specs.Glue.{glue_type, glues_halves}
+use Rattle.theory_substitution.specs.Rule as theory
+use Rattle.theory_addresses.specs.Search.{unless, first_some, first_below}
+use Rattle.theory_substitution.specs.RuleParts.{map_rule, mate, vertices_of, edge_count}
+use Rattle.theory_edge_to_edge.specs.Limits.{is_type, kinds_fit, types_fit, glue_fits, parts_fit, edges_fit, vertices_fit, children_fit}
+use Rattle.theory_edge_to_edge.specs.Star.{is_star}
+use Rattle.theory_edge_to_edge.specs.Factor.{is_inflation_factor}
+use Rattle.theory_edge_to_edge.specs.EdgeTypes.{mates_back, is_mirrored, has_length_of_type}
+use Rattle.theory_edge_to_edge.specs.Edges.{PlacedEdge, child_edges}
+use Rattle.theory_edge_to_edge.specs.Lying.{lie_of, is_loose}
+use Rattle.theory_edge_to_edge.specs.Boundary.{parts_of_edge}
+use Rattle.theory_edge_to_edge.specs.Uses.{is_used}
+use Rattle.theory_edge_to_edge.specs.Glue.{glue_type, glues_halves}
 use Rattle.cyclo_points.specs.declared.order.Order.{Order}
 use Rattle.cyclo_points.specs.declared.point.Point.{Point}
 use Rattle.cyclo_points.specs.Order.{NumberOf, points_of, is_refused}

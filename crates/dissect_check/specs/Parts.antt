@@ -1,9 +1,9 @@
 -- The parts of the edges of a kind, as the program keeps them.
 use Rattle.std.specs.Prelude.{◌≡◌, ℕ, ◌<◌, ◌≤◌, List, map, length, Vec, All}
 use Rattle.std.specs.Global.{Global}
-use Rattle.substitution.specs.RuleParts.{edge_count}
-use Rattle.addressing.specs.Search.{below}
-use Rattle.edge_to_edge.specs.Contacts.{named_parts}
+use Rattle.theory_substitution.specs.RuleParts.{edge_count}
+use Rattle.theory_addresses.specs.Search.{below}
+use Rattle.theory_edge_to_edge.specs.Contacts.{named_parts}
 use Rattle.cyclo_points.specs.Order.{points_of}
 use Rattle.edge_tables.specs.declared.child_edge.ChildEdge.{ChildEdge}
 use Rattle.edge_tables.specs.Views.{as_child_edge}

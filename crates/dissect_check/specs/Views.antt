@@ -1,9 +1,9 @@
 -- What the program keeps of an inflated prototile stands for that of the theory.
 use Rattle.std.specs.Prelude.{◌≡◌, ℕ, ◌^◌, ◌<◌, List, map, length, get_or, All}
-use Rattle.edge_to_edge.specs.Edges as theory
-use Rattle.edge_to_edge.specs.Edges.{child_edges, inflated_edges}
-use Rattle.edge_to_edge.specs.Lying as theory_lying
-use Rattle.edge_to_edge.specs.Lying.{lie_of}
+use Rattle.theory_edge_to_edge.specs.Edges as theory
+use Rattle.theory_edge_to_edge.specs.Edges.{child_edges, inflated_edges}
+use Rattle.theory_edge_to_edge.specs.Lying as theory_lying
+use Rattle.theory_edge_to_edge.specs.Lying.{lie_of}
 use Rattle.cyclo_points.specs.declared.order.Order.{Order}
 use Rattle.cyclo_points.specs.Order.{NumberOf, points_of}
 use Rattle.cyclo_points.specs.Point.{point_in, IsOf, IsWithin}

@@ -1,8 +1,8 @@
 //! The clause that the boundary child edges along each inflated edge are its parts, and the contact
 //! tables that they give.
 ghost use Rattle.std.specs.Prelude.{◌≡◌, ◌<◌, map, length, IfOk};
-ghost use Rattle.addressing.specs.Search.{below};
-ghost use Rattle.edge_to_edge.specs.Contacts.{tables_of_kind};
+ghost use Rattle.theory_addresses.specs.Search.{below};
+ghost use Rattle.theory_edge_to_edge.specs.Contacts.{tables_of_kind};
 ghost use Rattle.cyclo_points.specs.Order.{points_of};
 ghost use Rattle.edge_tables.specs.Views.{as_kind_tables};
 ghost use Rattle.rule_model.specs.Usable.{IsUsable};

@@ -1,11 +1,11 @@
 //! The boundary of an inflated prototile: child edges that are the parts of one of its edges.
 ghost use Rattle.std.specs.Prelude.{◌≡◌, ◌≤◌, ◌<◌, ℕ, map, length, IfOk};
 ghost use Rattle.std.specs.List.{All, filter};
-ghost use Rattle.substitution.specs.RuleParts.{edge_count, parts};
-ghost use Rattle.edge_to_edge.specs.Edges.{child_edges, inflated_edges};
-ghost use Rattle.edge_to_edge.specs.Lying.{is_along};
-ghost use Rattle.edge_to_edge.specs.Boundary.{boundary_among, parts_along, parts_of_edge as the_parts};
-ghost use Rattle.edge_to_edge.specs.Contacts.{named_parts};
+ghost use Rattle.theory_substitution.specs.RuleParts.{edge_count, parts};
+ghost use Rattle.theory_edge_to_edge.specs.Edges.{child_edges, inflated_edges};
+ghost use Rattle.theory_edge_to_edge.specs.Lying.{is_along};
+ghost use Rattle.theory_edge_to_edge.specs.Boundary.{boundary_among, parts_along, parts_of_edge as the_parts};
+ghost use Rattle.theory_edge_to_edge.specs.Contacts.{named_parts};
 ghost use Rattle.cyclo_points.specs.Order.{points_of};
 ghost use Rattle.cyclo_points.specs.Point.{point_in, IsOf};
 ghost use Rattle.edge_tables.specs.Views.{as_child_edge};

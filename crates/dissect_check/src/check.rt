@@ -1,7 +1,7 @@
 //! The check of a rule.
 ghost use Rattle.std.specs.Prelude.{◌≡◌, ◌↔◌, None, [], ◌∷◌, map, length, IfOk};
-ghost use Rattle.addressing.specs.Search.{first_some, below};
-ghost use Rattle.edge_to_edge.specs.Contacts.{tables_of_kind};
+ghost use Rattle.theory_addresses.specs.Search.{first_some, below};
+ghost use Rattle.theory_edge_to_edge.specs.Contacts.{tables_of_kind};
 ghost use Rattle.cyclo_points.specs.Order.{points_of};
 ghost use Rattle.edge_tables.specs.Views.{as_kind_tables};
 ghost use Rattle.rule_model.specs.Accepted.{IsAccepted};
@@ -27,9 +27,11 @@ use std::alloc::Global;
 fn tables_of_kinds(alloc: Global, rule: &Rule) -> Result<Vec<KindRows>, CheckFault>
     requires usable { IsUsable rule.now }
     ensures fault { let o = rule.now.order in let l = as_rule rule.now in
-        Agrees result (first_some (loose_fault o l ∷ boundary_fault o l ∷ uses_fault o l ∷ glues_fault o l ∷ [])) }
+        Agrees result (first_some (loose_fault o l ∷ boundary_fault o l ∷ uses_fault o l ∷ glues_fault o l
+        ∷ [])) }
     ensures tables { IfOk result (λ rows. map as_kind_tables rows.items
-        ≡ below (tables_of_kind (points_of rule.now.order) (rule_of rule.now)) (length (rule_of rule.now).kinds)) }
+        ≡ below (tables_of_kind (points_of rule.now.order) (rule_of rule.now))
+        (length (rule_of rule.now).kinds)) }
 {
     let parents = loose_edges(alloc, rule)?;
     let rows = boundaries(alloc, rule, parents.as_slice())?;

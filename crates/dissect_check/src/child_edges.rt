@@ -1,10 +1,10 @@
 //! The edges of the children of a kind, where they lie in the inflated prototile.
 
 ghost use Rattle.std.specs.Prelude.{◌≡◌, ◌^◌, ◌<◌, ◌++◌, length, map, IfOk, OnOk, All};
-ghost use Rattle.substitution.specs.Motion.{moved};
-ghost use Rattle.substitution.specs.Rule.{children_of};
-ghost use Rattle.substitution.specs.RuleParts.{edge_count, vertex, child_of};
-ghost use Rattle.edge_to_edge.specs.Edges.{child_edge, edges_of_child, child_edges};
+ghost use Rattle.theory_substitution.specs.Motion.{moved};
+ghost use Rattle.theory_substitution.specs.Rule.{children_of};
+ghost use Rattle.theory_substitution.specs.RuleParts.{edge_count, vertex, child_of};
+ghost use Rattle.theory_edge_to_edge.specs.Edges.{child_edge, edges_of_child, child_edges};
 ghost use Rattle.cyclo_points.specs.Order.{points_of};
 ghost use Rattle.cyclo_points.specs.Point.{point_in, IsOf, IsWithin};
 ghost use Rattle.rule_model.specs.Usable.{IsUsable};

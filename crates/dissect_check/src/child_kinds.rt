@@ -1,6 +1,6 @@
 //! The uses of a rule's kinds.
 ghost use Rattle.std.specs.Prelude.{◌≡◌, map, IfOk};
-ghost use Rattle.edge_to_edge.specs.EdgeToEdge.{HasEachUsed};
+ghost use Rattle.theory_edge_to_edge.specs.EdgeToEdge.{HasEachUsed};
 ghost use Rattle.rule_model.specs.Tiling.{tiling_of, children};
 ghost use Rattle.rule_model.specs.Usable.{IsUsable};
 ghost use Rattle.rule_model.specs.Views.{rule_of};

@@ -1,7 +1,7 @@
 //! The clauses that need no memory, in order. Those on single prototiles and edge types come before the
 //! children. Those on uses and glue types come after them.
 ghost use Rattle.std.specs.Prelude.{◌≡◌, [], ◌∷◌};
-ghost use Rattle.addressing.specs.Search.{first_some};
+ghost use Rattle.theory_addresses.specs.Search.{first_some};
 ghost use Rattle.rule_model.specs.Usable.{IsUsable};
 ghost use Rattle.rule_model.specs.Views.{as_rule};
 ghost use Rattle.dissect_check.specs.Agrees.{fault_in};

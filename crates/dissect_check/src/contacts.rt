@@ -1,9 +1,9 @@
 //! The contact tables of a kind.
 ghost use Rattle.std.specs.Prelude.{◌≡◌, ◌≤◌, ◌<◌, ℕ, map, length, All, IfOk};
-ghost use Rattle.substitution.specs.Rule.{Child as TheChild, children_of};
-ghost use Rattle.substitution.specs.RuleParts.{edge_types};
-ghost use Rattle.addressing.specs.Search.{below};
-ghost use Rattle.edge_to_edge.specs.Contacts.{index_in, contact_by, contacts_of_child, tables_of_kind};
+ghost use Rattle.theory_substitution.specs.Rule.{Child as TheChild, children_of};
+ghost use Rattle.theory_substitution.specs.RuleParts.{edge_types};
+ghost use Rattle.theory_addresses.specs.Search.{below};
+ghost use Rattle.theory_edge_to_edge.specs.Contacts.{index_in, contact_by, contacts_of_child, tables_of_kind};
 ghost use Rattle.cyclo_points.specs.Order.{NumberOf, points_of};
 ghost use Rattle.edge_tables.specs.Views.{as_child_edge, as_contact, as_kind_tables};
 ghost use Rattle.rule_model.specs.declared.rule.Rule.{Rule as ProgramRule};

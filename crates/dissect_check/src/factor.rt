@@ -2,10 +2,10 @@
 //! factors greater than 1, in an order that isn't six; edition two takes those of squared length above 1.
 
 ghost use Rattle.std.specs.Prelude.{◌≡◌, ◌^◌, pos};
-ghost use Rattle.ordered_ring.specs.Ring.{power};
-ghost use Rattle.ordered_ring.specs.Sign.{less};
-ghost use Rattle.addressing.specs.Search.{some_below};
-ghost use Rattle.edge_to_edge.specs.Factor.{is_real_above_one, is_growing};
+ghost use Rattle.theory_ring.specs.Ring.{power};
+ghost use Rattle.theory_ring.specs.Sign.{less};
+ghost use Rattle.theory_addresses.specs.Search.{some_below};
+ghost use Rattle.theory_edge_to_edge.specs.Factor.{is_real_above_one, is_growing};
 ghost use Rattle.cyclo_points.specs.Order.{points_of, is_refused};
 ghost use Rattle.cyclo_points.specs.Point.{point_in, IsWithin};
 ghost use Rattle.rule_model.specs.Usable.{IsSmall, IsUsable};

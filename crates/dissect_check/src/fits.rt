@@ -1,8 +1,8 @@
 //! Whether the counts and numbers of a rule fit their limits.
 ghost use Rattle.std.specs.Prelude.{◌≡◌, ◌<◌, length, map};
 ghost use Rattle.std.specs.List.{list_all};
-ghost use Rattle.substitution.specs.Rule.{kind_of};
-ghost use Rattle.edge_to_edge.specs.Limits.{is_type, is_child, kinds_fit, types_fit, glue_fits, parts_fit, edges_fit, vertices_fit, children_fit};
+ghost use Rattle.theory_substitution.specs.Rule.{kind_of};
+ghost use Rattle.theory_edge_to_edge.specs.Limits.{is_type, is_child, kinds_fit, types_fit, glue_fits, parts_fit, edges_fit, vertices_fit, children_fit};
 ghost use Rattle.cyclo_points.specs.Order.{points_of};
 ghost use Rattle.rule_model.specs.Small.{is_small};
 ghost use Rattle.rule_model.specs.Views.{as_rule, as_kind, as_child};

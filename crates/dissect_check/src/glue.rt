@@ -2,8 +2,8 @@
 
 ghost use Rattle.std.specs.Prelude.{◌≡◌, ℕ, ◌<◌, ◌≤◌, ◌||◌, length, nat_eq};
 ghost use Rattle.std.specs.List.{list_any};
-ghost use Rattle.substitution.specs.RuleParts.{mate, edge_types};
-ghost use Rattle.edge_to_edge.specs.Glue.{holders, is_glued_before, glues_halves};
+ghost use Rattle.theory_substitution.specs.RuleParts.{mate, edge_types};
+ghost use Rattle.theory_edge_to_edge.specs.Glue.{holders, is_glued_before, glues_halves};
 ghost use Rattle.rule_model.specs.Usable.{IsUsable};
 ghost use Rattle.rule_model.specs.Views.{as_rule, rule_of};
 ghost use Rattle.dissect_check.specs.declared.few.Few.TheVariants.{One};

@@ -1,9 +1,9 @@
 //! Laws of what no clause refuses, of editions, orders and lists alone.
 ghost use Rattle.std.specs.Prelude.{◌≡◌, ◌↔◌, None};
-ghost use Rattle.substitution.specs.Rule.{Rule, child_kinds};
-ghost use Rattle.substitution.specs.RuleParts.{map_rule};
-ghost use Rattle.edge_to_edge.specs.Limited.{WithinLimits};
-ghost use Rattle.edge_to_edge.specs.EdgeToEdge.{IsEdgeToEdge};
+ghost use Rattle.theory_substitution.specs.Rule.{Rule, child_kinds};
+ghost use Rattle.theory_substitution.specs.RuleParts.{map_rule};
+ghost use Rattle.theory_edge_to_edge.specs.Limited.{WithinLimits};
+ghost use Rattle.theory_edge_to_edge.specs.EdgeToEdge.{IsEdgeToEdge};
 ghost use Rattle.cyclo_points.specs.declared.order.Order.{Order};
 ghost use Rattle.cyclo_points.specs.declared.point.Point.{Point};
 ghost use Rattle.cyclo_points.specs.Order.{points_of, is_refused};

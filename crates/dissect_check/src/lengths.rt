@@ -2,8 +2,8 @@
 
 ghost use Rattle.std.specs.Prelude.{◌≡◌, ◌<◌, ◌^◌, length, IfSome};
 ghost use Rattle.std.specs.Option.{option_map};
-ghost use Rattle.substitution.specs.RuleParts.{edge_count};
-ghost use Rattle.edge_to_edge.specs.EdgeTypes.{edge_vector, first_vector, has_length_of_type};
+ghost use Rattle.theory_substitution.specs.RuleParts.{edge_count};
+ghost use Rattle.theory_edge_to_edge.specs.EdgeTypes.{edge_vector, first_vector, has_length_of_type};
 ghost use Rattle.cyclo_points.specs.Order.{points_of};
 ghost use Rattle.cyclo_points.specs.Point.{point_in, IsWithin};
 ghost use Rattle.rule_model.specs.Usable.{IsUsable};

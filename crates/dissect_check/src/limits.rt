@@ -1,6 +1,6 @@
 //! The limits of a rule: the first count or number that passes one.
 ghost use Rattle.std.specs.Prelude.{◌≡◌, ◌<◌, ◌≤◌, length};
-ghost use Rattle.addressing.specs.Search.{unless};
+ghost use Rattle.theory_addresses.specs.Search.{unless};
 ghost use Rattle.rule_model.specs.Views.{as_rule};
 ghost use Rattle.dissect_check.specs.declared.check_fault.CheckFault.TheVariants.{TooMany};
 ghost use Rattle.dissect_check.specs.Agrees.{fault_in};

@@ -39,7 +39,8 @@ fn loose_of_kind(alloc: Global, rule: &Rule, kind: usize) -> Result<Inflated, Ch
 pub(crate) fn loose_edges(alloc: Global, rule: &Rule) -> Result<Vec<Inflated>, CheckFault>
     requires usable { IsUsable rule.now }
     ensures fault { Agrees result (loose_edges rule.now.order (as_rule rule.now)) }
-    ensures inflated { IfOk result (λ parents. AreInflated rule.now (length (rule_of rule.now).kinds) parents.items) }
+    ensures inflated { IfOk result (λ parents. AreInflated rule.now (length (rule_of rule.now).kinds)
+        parents.items) }
 {
     let mut parents = Vec::with_capacity(alloc, rule.kind_count())?;
     for kind in 0..rule.kind_count() {

@@ -3,8 +3,8 @@
 
 ghost use Rattle.std.specs.Prelude.{◌≡◌, ◌≤◌, length, map, IfOk, All};
 ghost use Rattle.std.specs.List.{filter};
-ghost use Rattle.edge_to_edge.specs.Edges.{is_opposite, runs_back, lies_along};
-ghost use Rattle.edge_to_edge.specs.Lying.{numbers_along, lie_among};
+ghost use Rattle.theory_edge_to_edge.specs.Edges.{is_opposite, runs_back, lies_along};
+ghost use Rattle.theory_edge_to_edge.specs.Lying.{numbers_along, lie_among};
 ghost use Rattle.cyclo_points.specs.declared.order.Order.{Order};
 ghost use Rattle.cyclo_points.specs.Order.{points_of};
 ghost use Rattle.rule_model.specs.declared.rule.Rule.{Rule};

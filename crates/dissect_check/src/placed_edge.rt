@@ -13,7 +13,7 @@ pub(crate) struct PlacedEdge {
 
 impl PlacedEdge {
     ghost use Rattle.std.specs.Prelude.{◌≡◌};
-    ghost use Rattle.edge_to_edge.specs.Contacts.{name_of};
+    ghost use Rattle.theory_edge_to_edge.specs.Contacts.{name_of};
     ghost use Rattle.cyclo_points.specs.declared.order.Order.{Order};
     ghost use Rattle.edge_tables.specs.Views.{as_child_edge};
     ghost use Rattle.dissect_check.specs.Views.{edge_in};

@@ -1,8 +1,8 @@
 //! Prototiles that are star-shaped from vertex 0: the triangles of their fans lie side by side.
 ghost use Rattle.std.specs.Prelude.{◌≡◌, ◌+◌, ◌^◌, ◌<◌, ◌≤◌, All, length};
-ghost use Rattle.ordered_plane.specs.Triangle.{turns_left};
-ghost use Rattle.substitution.specs.RuleParts.{vertices_of};
-ghost use Rattle.edge_to_edge.specs.Star.{corner, fan_triangle, fan_turns_left, fan_is_apart, fan_is_open, is_star};
+ghost use Rattle.theory_plane.specs.Triangle.{turns_left};
+ghost use Rattle.theory_substitution.specs.RuleParts.{vertices_of};
+ghost use Rattle.theory_edge_to_edge.specs.Star.{corner, fan_triangle, fan_turns_left, fan_is_apart, fan_is_open, is_star};
 ghost use Rattle.cyclo_points.specs.Order.{points_of};
 ghost use Rattle.plane_geom.specs.Spots.{reals_of, spot_of, triangle_of};
 ghost use Rattle.cyclo_points.specs.Point.{IsWithin};

@@ -1,6 +1,6 @@
 //! The subdivisions of edge types: those of mates mirror each other.
 ghost use Rattle.std.specs.Prelude.{◌≡◌, ◌<◌, length};
-ghost use Rattle.edge_to_edge.specs.EdgeTypes.{is_mirrored};
+ghost use Rattle.theory_edge_to_edge.specs.EdgeTypes.{is_mirrored};
 ghost use Rattle.rule_model.specs.Usable.{IsUsable};
 ghost use Rattle.rule_model.specs.Views.{as_rule, rule_of};
 ghost use Rattle.dissect_check.specs.Agrees.{fault_in};

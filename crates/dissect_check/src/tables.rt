@@ -1,9 +1,9 @@
 //! The contact tables of a rule.
 ghost use Rattle.std.specs.Prelude.{◌≡◌, map, length, IfOk};
-ghost use Rattle.substitution.specs.Rule.{EdgeType};
-ghost use Rattle.addressing.specs.Search.{below};
-ghost use Rattle.addressing.specs.Coherent.{IsCoherent};
-ghost use Rattle.edge_to_edge.specs.Contacts.{tables_of_kind, tables_of};
+ghost use Rattle.theory_substitution.specs.Rule.{EdgeType};
+ghost use Rattle.theory_addresses.specs.Search.{below};
+ghost use Rattle.theory_addresses.specs.Coherent.{IsCoherent};
+ghost use Rattle.theory_edge_to_edge.specs.Contacts.{tables_of_kind, tables_of};
 ghost use Rattle.cyclo_points.specs.Order.{points_of};
 ghost use Rattle.edge_tables.specs.Views.{as_kind_tables};
 ghost use Rattle.rule_model.specs.Views.{rule_of};

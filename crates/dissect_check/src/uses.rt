@@ -1,6 +1,6 @@
 //! The uses of kinds: each is the kind of a child.
 ghost use Rattle.std.specs.Prelude.{◌≡◌};
-ghost use Rattle.edge_to_edge.specs.Uses.{is_used};
+ghost use Rattle.theory_edge_to_edge.specs.Uses.{is_used};
 ghost use Rattle.rule_model.specs.Usable.{IsUsable};
 ghost use Rattle.rule_model.specs.Views.{as_rule, rule_of};
 ghost use Rattle.dissect_check.specs.Agrees.{fault_in};

@@ -1,8 +1,8 @@
 //! The edges of inflated prototiles.
 
 ghost use Rattle.std.specs.Prelude.{◌≡◌, ◌^◌, ◌<◌, length, map, IfOk, All};
-ghost use Rattle.substitution.specs.RuleParts.{edge_count, next, vertex};
-ghost use Rattle.edge_to_edge.specs.Edges.{inflated_edge, inflated_edges};
+ghost use Rattle.theory_substitution.specs.RuleParts.{edge_count, next, vertex};
+ghost use Rattle.theory_edge_to_edge.specs.Edges.{inflated_edge, inflated_edges};
 ghost use Rattle.cyclo_points.specs.Order.{points_of};
 ghost use Rattle.cyclo_points.specs.Point.{point_in, IsOf, IsWithin};
 ghost use Rattle.rule_model.specs.Usable.{IsUsable};

@@ -6,5 +6,7 @@ map_items f [] = refl
 map_items f (x ∷ xs) = ap (λ l. map f x.items ∷ l) (map_items f xs)
 
 -- lists with the same elements look the same
-pub same_view : {X Y : Type 0} (f : X → Y) (xs ys : List (Vec X Global)) → map (λ v. v.items) xs ≡ map (λ v. v.items) ys → map (λ v. map f v.items) xs ≡ map (λ v. map f v.items) ys
+pub same_view : {X Y : Type 0} (f : X → Y) (xs ys : List (Vec X Global))
+    → map (λ v. v.items) xs ≡ map (λ v. v.items) ys
+    → map (λ v. map f v.items) xs ≡ map (λ v. map f v.items) ys
 same_view f xs ys same = map_items f xs ∙ ap (map (map f)) same ∙ sym (map_items f ys)

@@ -6,13 +6,15 @@ use Rattle.edge_tables.specs.declared.contact.Contact.{Contact}
 use Rattle.edge_tables.specs.declared.child_edge.ChildEdge.{ChildEdge}
 use Rattle.edge_tables.specs.declared.kind_rows.KindRows.{KindRows}
 use Rattle.edge_tables.specs.Views.{as_contact, as_child_edge, as_kind_tables}
-use Rattle.addressing.specs.Contact as theory
-use Rattle.addressing.specs.Tables.{Tables, KindTables, kind_tables, type_of, child_kind_of, contacts_of, parts_of, contact_of, part_of, part_count}
-use Rattle.addressing.specs.Coherent.{IsCoherent}
-use Rattle.addressing.proofs.TableBounds.{child_bounds, type_bounds, contact_bounds, part_bounds, some_within}
+use Rattle.theory_addresses.specs.Contact as theory
+use Rattle.theory_addresses.specs.Tables.{Tables, KindTables, kind_tables, type_of, child_kind_of, contacts_of, parts_of, contact_of, part_of, part_count}
+use Rattle.theory_addresses.specs.Coherent.{IsCoherent}
+use Rattle.theory_addresses.proofs.TableBounds.{child_bounds, type_bounds, contact_bounds, part_bounds, some_within}
 
 -- the tables of a kind, in the list of those of all kinds
-pub kind_tables-read : (t : Tables) (rows : List KindRows) (k : ℕ) (r : KindRows) → map as_kind_tables rows ≡ t.kinds → k < length rows → r ≡ get_or rows k r → as_kind_tables r ≡ kind_tables t k
+pub kind_tables-read : (t : Tables) (rows : List KindRows) (k : ℕ) (r : KindRows)
+    → map as_kind_tables rows ≡ t.kinds → k < length rows → r ≡ get_or rows k r
+    → as_kind_tables r ≡ kind_tables t k
 unfolding kind_tables
 kind_tables-read t rows k r e h is = rw (← e, slice_get-map as_kind_tables rows k, slice_get_read rows (length rows) k r refl h is) refl
 
@@ -49,45 +51,101 @@ module _ (t : Tables) (k : ℕ) (r : KindRows) (row : as_kind_tables r ≡ kind_
 
   -- ---- contacts
   pub contacts_inside : (c e : ℕ) → IsSome (contact_of t k c e) → c < length r.contacts.items
-  contacts_inside c e h = omega (arith, (contact_bounds t k c e h).1, ap (λ (m : KindTables). length m.contacts) row, length-map r.contacts.items (λ v. map as_contact v.items))
+  contacts_inside c e h = omega (
+    arith,
+    (contact_bounds t k c e h).1,
+    ap
+        (λ (m : KindTables). length m.contacts) row,
+    length-map r.contacts.items (λ v. map as_contact v.items),
+  )
 
-  contacts_read : (c : ℕ) (v : Vec Contact Global) → c < length r.contacts.items → v ≡ get_or r.contacts.items c v → contacts_of t k c ≡ map as_contact v.items
+  contacts_read : (c : ℕ) (v : Vec Contact Global) → c < length r.contacts.items
+      → v ≡ get_or r.contacts.items c v → contacts_of t k c ≡ map as_contact v.items
   unfolding contacts_of
-  contacts_read c v inside is = rw (← row, slice_get-map (λ (w : Vec Contact Global). map as_contact w.items) r.contacts.items c, slice_get_read r.contacts.items (length r.contacts.items) c v refl inside is) refl
+  contacts_read c v inside is = rw (
+    ← row,
+    slice_get-map (λ (w : Vec Contact Global). map as_contact w.items)
+        r.contacts.items c,
+    slice_get_read r.contacts.items (length r.contacts.items) c v refl inside is,
+  ) refl
 
   pub contact_inside : (c e : ℕ) (v : Vec Contact Global) → IsSome (contact_of t k c e) → v ≡ get_or r.contacts.items c v → e < length v.items
   contact_inside c e v h is =
-      omega (arith, (contact_bounds t k c e h).2, ap (λ (l : List theory.Contact). length l) (contacts_read c v (contacts_inside c e h) is), length-map v.items as_contact)
+      omega (
+        arith,
+        (contact_bounds t k c e h).2,
+        ap (λ (l : List theory.Contact). length l)
+            (contacts_read c v (contacts_inside c e h) is),
+        length-map v.items as_contact,
+      )
 
-  pub contact_read : (c e : ℕ) (v : Vec Contact Global) (x : Contact) → IsSome (contact_of t k c e) → v ≡ get_or r.contacts.items c v → x ≡ get_or v.items e x → contact_of t k c e ≡ Some (as_contact x)
+  pub contact_read : (c e : ℕ) (v : Vec Contact Global) (x : Contact) → IsSome (contact_of t k c e)
+      → v ≡ get_or r.contacts.items c v → x ≡ get_or v.items e x → contact_of t k c e ≡ Some (as_contact x)
   unfolding contact_of
   contact_read c e v x h is here =
-      rw (contacts_read c v (contacts_inside c e h) is, slice_get-map as_contact v.items e, slice_get_read v.items (length v.items) e x refl (contact_inside c e v h is) here) refl
+      rw (
+        contacts_read c v (contacts_inside c e h) is,
+        slice_get-map as_contact v.items e,
+        slice_get_read
+            v.items (length v.items) e x refl (contact_inside c e v h is) here,
+      ) refl
 
   -- ---- parts
   pub parts_inside : (e p : ℕ) → IsSome (part_of t k e p) → e < length r.parts.items
-  parts_inside e p h = omega (arith, (part_bounds t k e p h).1, ap (λ (m : KindTables). length m.parts) row, length-map r.parts.items (λ v. map as_child_edge v.items))
+  parts_inside e p h = omega (
+    arith,
+    (part_bounds t k e p h).1,
+    ap (λ (m : KindTables). length m.parts) row,
+    length-map r.parts.items (λ v. map as_child_edge v.items),
+  )
 
-  parts_read : (e : ℕ) (v : Vec ChildEdge Global) → e < length r.parts.items → v ≡ get_or r.parts.items e v → parts_of t k e ≡ map as_child_edge v.items
+  parts_read : (e : ℕ) (v : Vec ChildEdge Global) → e < length r.parts.items → v ≡ get_or r.parts.items e v
+      → parts_of t k e ≡ map as_child_edge v.items
   unfolding parts_of
-  parts_read e v inside is = rw (← row, slice_get-map (λ (w : Vec ChildEdge Global). map as_child_edge w.items) r.parts.items e, slice_get_read r.parts.items (length r.parts.items) e v refl inside is) refl
+  parts_read e v inside is = rw (
+    ← row,
+    slice_get-map
+        (λ (w : Vec ChildEdge Global). map as_child_edge w.items) r.parts.items e,
+    slice_get_read r.parts.items
+        (length r.parts.items) e v refl inside is,
+  ) refl
 
   pub part_inside : (e p : ℕ) (v : Vec ChildEdge Global) → IsSome (part_of t k e p) → v ≡ get_or r.parts.items e v → p < length v.items
   part_inside e p v h is =
-      omega (arith, (part_bounds t k e p h).2, ap (λ (l : List theory.ChildEdge). length l) (parts_read e v (parts_inside e p h) is), length-map v.items as_child_edge)
+      omega (
+        arith,
+        (part_bounds t k e p h).2,
+        ap (λ (l : List theory.ChildEdge). length l)
+            (parts_read e v (parts_inside e p h) is),
+        length-map v.items as_child_edge,
+      )
 
-  pub part_read : (e p : ℕ) (v : Vec ChildEdge Global) (x : ChildEdge) → IsSome (part_of t k e p) → v ≡ get_or r.parts.items e v → x ≡ get_or v.items p x → part_of t k e p ≡ Some (as_child_edge x)
+  pub part_read : (e p : ℕ) (v : Vec ChildEdge Global) (x : ChildEdge) → IsSome (part_of t k e p)
+      → v ≡ get_or r.parts.items e v → x ≡ get_or v.items p x → part_of t k e p ≡ Some (as_child_edge x)
   unfolding part_of
   part_read e p v x h is here =
-      rw (parts_read e v (parts_inside e p h) is, slice_get-map as_child_edge v.items p, slice_get_read v.items (length v.items) p x refl (part_inside e p v h is) here) refl
+      rw (
+        parts_read e v (parts_inside e p h) is,
+        slice_get-map as_child_edge v.items p,
+        slice_get_read
+            v.items (length v.items) p x refl (part_inside e p v h is) here,
+      ) refl
 
   -- ---- the number of parts
   pub edge_parts_inside : (e : ℕ) → IsCoherent t → IsSome (type_of t k e) → e < length r.parts.items
   edge_parts_inside e coherent h =
       let b = type_bounds t k e h in
-      omega (arith, b.1, coherent.parts_each k b.0, ap (λ (m : KindTables). length m.parts) row, length-map r.parts.items (λ v. map as_child_edge v.items))
+      omega (
+        arith,
+        b.1,
+        coherent.parts_each k b.0,
+        ap (λ (m : KindTables). length m.parts) row,
+        length-map
+            r.parts.items (λ v. map as_child_edge v.items),
+      )
 
-  pub part_count-read : (e : ℕ) (v : Vec ChildEdge Global) → IsCoherent t → IsSome (type_of t k e) → v ≡ get_or r.parts.items e v → length v.items ≡ part_count t k e
+  pub part_count-read : (e : ℕ) (v : Vec ChildEdge Global) → IsCoherent t → IsSome (type_of t k e)
+      → v ≡ get_or r.parts.items e v → length v.items ≡ part_count t k e
   unfolding part_count
   part_count-read e v coherent h is =
       sym (length-map v.items as_child_edge) ∙ ap (λ (l : List theory.ChildEdge). length l) (sym (parts_read e v (edge_parts_inside e coherent h) is))

@@ -1,8 +1,8 @@
 -- The tables of the program as tables of the theory.
 use Rattle.std.specs.Prelude.{ℕ, map, Vec}
 use Rattle.std.specs.Global.{Global}
-use Rattle.addressing.specs.Contact as theory
-use Rattle.addressing.specs.Tables.{Tables, KindTables}
+use Rattle.theory_addresses.specs.Contact as theory
+use Rattle.theory_addresses.specs.Tables.{Tables, KindTables}
 use Rattle.edge_tables.specs.declared.contact.Contact.{Contact}
 use Rattle.edge_tables.specs.declared.contact.Contact.TheVariants.{Inner, Outer}
 use Rattle.edge_tables.specs.declared.child_edge.ChildEdge.{ChildEdge}

@@ -15,7 +15,8 @@ pub fn copied<T: Copy>(alloc: Global, list: &Vec<T>) -> Result<Vec<T>, NoMemory>
 
 /// Returns a copy of a list of lists. Err if memory runs out.
 pub fn copied_lists<T: Copy>(alloc: Global, lists: &Vec<Vec<T>>) -> Result<Vec<Vec<T>>, NoMemory>
-    ensures { IfOk result (λ copy. map (λ list. list.items) copy.items ≡ map (λ list. list.items) lists.now.items) }
+    ensures { IfOk result (λ copy. map (λ list. list.items) copy.items ≡ map (λ list. list.items)
+        lists.now.items) }
 {
     let mut copy = Vec::new(alloc);
     for list in lists {

@@ -1,7 +1,7 @@
 //! Coherent contact tables, and the look-ups in them.
 ghost use Rattle.std.specs.Prelude.{◌≡◌, ◌↔◌, ◌+◌, ◌<◌, ◌≤◌, ℕ, length, map, Some, IsSome, IfOk};
-ghost use Rattle.addressing.specs.Coherent.{IsCoherent};
-ghost use Rattle.addressing.specs.Tables.{kind_tables, type_of, child_kind_of, contact_of, part_of, part_count, mate_of};
+ghost use Rattle.theory_addresses.specs.Coherent.{IsCoherent};
+ghost use Rattle.theory_addresses.specs.Tables.{kind_tables, type_of, child_kind_of, contact_of, part_of, part_count, mate_of};
 ghost use Rattle.edge_tables.specs.Views.{as_contact, as_child_edge, as_kind_tables, as_tables};
 
 use crate::child_edge::ChildEdge;
@@ -24,8 +24,8 @@ pub struct Tables {
 }
 
 impl Model for Tables {
-    ghost use Rattle.addressing.specs.Tables.{Tables as TheTables};
-    ghost use Rattle.addressing.specs.Coherent.{IsCoherent};
+    ghost use Rattle.theory_addresses.specs.Tables.{Tables as TheTables};
+    ghost use Rattle.theory_addresses.specs.Coherent.{IsCoherent};
     ghost use Rattle.edge_tables.specs.Views.{as_tables};
 
     ghost Value = { TheTables };

@@ -1,16 +1,16 @@
 -- Across a glue edge lies the other half, and from there one comes back by its glue edge.
 use Rattle.std.proofs.Common.{inl, inr, ℕ, ◌<◌, IsSome, length, refl, sym, ap, ◌∙◌, subst}
 use Rattle.std.proofs.lemmas.List.{length-map}
-use Rattle.addressing.specs.Address.{Address, Fits}
-use Rattle.addressing.specs.Coherent.{IsCoherent}
-use Rattle.addressing.specs.Tables.{child_kinds, type_of}
-use Rattle.addressing.specs.Touch.{Touches}
-use Rattle.addressing.proofs.Mated.{IsMated}
-use Rattle.addressing.proofs.Touching.{only_touching, Touches-sym, IsMated-of}
-use Rattle.substitution.specs.Points.{Points}
-use Rattle.substitution.specs.RuleParts.{mate}
-use Rattle.edge_to_edge.proofs.CoherentContacts.{contacts-coherent}
-use Rattle.edge_to_edge.proofs.TablesOf.{type_of-found, mate_of-found}
+use Rattle.theory_addresses.specs.Address.{Address, Fits}
+use Rattle.theory_addresses.specs.Coherent.{IsCoherent}
+use Rattle.theory_addresses.specs.Tables.{child_kinds, type_of}
+use Rattle.theory_addresses.specs.Touch.{Touches}
+use Rattle.theory_addresses.proofs.Mated.{IsMated}
+use Rattle.theory_addresses.proofs.Touching.{only_touching, Touches-sym, IsMated-of}
+use Rattle.theory_substitution.specs.Points.{Points}
+use Rattle.theory_substitution.specs.RuleParts.{mate}
+use Rattle.theory_edge_to_edge.proofs.CoherentContacts.{contacts-coherent}
+use Rattle.theory_edge_to_edge.proofs.TablesOf.{type_of-found, mate_of-found}
 use Rattle.cyclo_points.specs.Order.{points_of, is_refused}
 use Rattle.cyclo_points.proofs.OrderLaws.{laws_of}
 use Rattle.rule_model.specs.declared.rule.Rule.{Rule}
@@ -43,7 +43,8 @@ module _ (m : Rule) (L : HasGlueLaws m) where
   pub kind-there : (a : Address) → Fits (children t) a → a.kind < length t.rule.kinds
   kind-there a fits = subst (λ n. a.kind < n) (length-map t.rule.kinds _) fits.kind_exists
 
-  module _ (a b : Address) (e f : ℕ) (fits_a : Fits (children t) a) (fits_b : Fits (children t) b) (edge : e < edges_of t a.kind) (x : IsOnlyAcross t a e b f) where
+  module _ (a b : Address) (e f : ℕ) (fits_a : Fits (children t) a) (fits_b : Fits (children t) b)
+      (edge : e < edges_of t a.kind) (x : IsOnlyAcross t a e b f) where
     own_a : Fits (child_kinds (contacts t)) a
     own_a = fits_tables m (settled m L) a fits_a
 
@@ -79,14 +80,18 @@ module _ (m : Rule) (L : HasGlueLaws m) where
     pub crosses : Crosses t a e b f
     crosses = record { edge_exists = edge; inside = inside; fits = fits_b; across = x }
 
-    pub other-side : IsGlueEdge t.rule a.kind e → OtherEdge t.rule L.accepted.edge_to_edge.glue_right L.accepted.edge_to_edge.mates_back L.usable.numbered.glue_exists a.kind e b.kind f
+    pub other-side : IsGlueEdge t.rule a.kind e
+        → OtherEdge t.rule L.accepted.edge_to_edge.glue_right L.accepted.edge_to_edge.mates_back
+        L.usable.numbered.glue_exists a.kind e b.kind f
     other-side g =
         let own = type_of-found P (rule_of m) a.kind e mated.own mated.own_is in
         let its = type_of-found P (rule_of m) b.kind f mated.other mated.other_is in
         let mates = mate_of-found P (rule_of m) mated.own mated.other mated.mates in
-        other-edge t.rule L.accepted.edge_to_edge.glue_right L.accepted.edge_to_edge.mates_back L.usable.numbered.glue_exists a.kind e b.kind f (kind-there a fits_a) g its.0
+        other-edge t.rule L.accepted.edge_to_edge.glue_right L.accepted.edge_to_edge.mates_back
+        L.usable.numbered.glue_exists a.kind e b.kind f (kind-there a fits_a) g its.0
         (sym its.1 ∙ mates.1 ∙ ap (mate (rule_of m)) own.1)
 
-  pub crosses-back : (a b : Address) (e f : ℕ) → Fits (children t) a → Fits (children t) b → e < edges_of t a.kind → IsOnlyAcross t a e b f → Crosses t b f a e
+  pub crosses-back : (a b : Address) (e f : ℕ) → Fits (children t) a → Fits (children t) b
+      → e < edges_of t a.kind → IsOnlyAcross t a e b f → Crosses t b f a e
   crosses-back a b e f fits_a fits_b edge x =
       crosses b a f e fits_b fits_a (back_edge a b e f fits_a fits_b edge x) (across-back a b e f fits_a fits_b edge x)

@@ -55,9 +55,11 @@ front-there xs ys n l = get_or-front xs ys n no_tile l
 from-behind : (xs ys : List PlacedTile) (n : ℕ) → length xs ≤ n → tile_of (xs ++ ys) n ≡ tile_of ys (n - length xs)
 from-behind [] ys n l = let plain : n ≡ n - 0 = omega arith in ap (tile_of ys) plain
 from-behind (x ∷ xs) ys zero l = absurd (omega (arith, l))
-from-behind (x ∷ xs) ys (suc n) l = let same : n - length xs ≡ suc n - suc (length xs) = omega arith in from-behind xs ys n (omega (arith, l)) ∙ ap (tile_of ys) same
+from-behind (x ∷ xs) ys (suc n) l = let same : n - length xs ≡ suc n - suc (length xs) = omega
+    arith in from-behind xs ys n (omega (arith, l)) ∙ ap (tile_of ys) same
 
-pub behind-there : (xs ys : List PlacedTile) (n count : ℕ) → count ≡ length xs → count ≤ n → n < length (xs ++ ys) → (x : PlacedTile) → x ≡ get_or ys (n - count) x → tile_of (xs ++ ys) n ≡ x
+pub behind-there : (xs ys : List PlacedTile) (n count : ℕ) → count ≡ length xs → count ≤ n
+    → n < length (xs ++ ys) → (x : PlacedTile) → x ≡ get_or ys (n - count) x → tile_of (xs ++ ys) n ≡ x
 behind-there xs ys n count e l h x read =
     let there : n - length xs < length ys = omega (arith, e, l, h, length-append xs ys) in
     from-behind xs ys n (omega (arith, e, l)) ∙ sym (get_or_default ys (n - length xs) x no_tile there) ∙ sym (read ∙ ap (λ k. get_or ys (n - k) x) e)
@@ -77,28 +79,36 @@ module _ (tiles : List PlacedTile) (n k : ℕ) (old new : List Pair) (found : Fo
     pub brings-both : nat_lt own kind ≡ true → new ≡ old ++ both ∷ [] → new ≡ old ++ added_pairs tiles n k found
     brings-both e put = put ∙ sym (by_kinds true e)
 
-  pub brings-crossed : (y : PlacedTile) → found ≡ Crossed y → (p : Pair) (far : ℕ) → far ≡ length tiles + k → p ≡ pair_of own n y.kind far → new ≡ old ++ p ∷ [] → new ≡ old ++ added_pairs tiles n k found
+  pub brings-crossed : (y : PlacedTile) → found ≡ Crossed y → (p : Pair) (far : ℕ) → far ≡ length tiles + k
+      → p ≡ pair_of own n y.kind far → new ≡ old ++ p ∷ [] → new ≡ old ++ added_pairs tiles n k found
   brings-crossed y is p far e made put =
-      put ∙ ap (λ (q : Pair). old ++ q ∷ []) (made ∙ ap₂ (λ a b. pair_of a n y.kind b) its e) ∙ sym (ap (λ (f : Found). old ++ added_pairs tiles n k f) is)
+      put ∙ ap (λ (q : Pair). old ++ q ∷ []) (made ∙ ap₂ (λ a b. pair_of a n y.kind b) its e)
+      ∙ sym (ap (λ (f : Found). old ++ added_pairs tiles n k f) is)
 
 -- a place found by the other side is found by what a kind has
-pub each-place : (o : Order) (s : Option OtherSide) (side : OtherSide) → s ≡ Some side → (own m : Motion) → IsBeside o side own m → (tiles : List PlacedTile) (n : ℕ) → IsPlacedAt tiles m side.kind n → StandsAmong o s own tiles n
+pub each-place : (o : Order) (s : Option OtherSide) (side : OtherSide) → s ≡ Some side → (own m : Motion)
+    → IsBeside o side own m → (tiles : List PlacedTile) (n : ℕ) → IsPlacedAt tiles m side.kind n
+    → StandsAmong o s own tiles n
 each-place o s side e own m beside tiles n h = subst (λ q. StandsAmong o q own tiles n) (sym e) (m, beside, h)
 
 pub place-below : (tiles : List PlacedTile) (m : Motion) (k n : ℕ) → IsPlacedAt tiles m k n → n < length tiles
 place-below tiles m k n h = slice_get_within tiles n h.0 h.1
 
-module _ (m : Rule) (L : HasGlueLaws m) (f : FrameValue) (is : IsFrameOf (tiling_of m) f) (tiles : List PlacedTile) (given : All (IsGiven (tiling_of m) f) tiles) where
+module _ (m : Rule) (L : HasGlueLaws m) (f : FrameValue) (is : IsFrameOf (tiling_of m) f)
+    (tiles : List PlacedTile) (given : All (IsGiven (tiling_of m) f) tiles) where
   abbrev t : Tiling
   t = tiling_of m
 
   -- the tile of the place found is the other half
-  among-known : (x : PlacedTile) → IsGiven t f x → (e n : ℕ) → IsGlueEdge t.rule x.kind e → (o : Option OtherSide) → IfSome o (IsOtherSide t x.kind e) → StandsAmong m.order o x.motion tiles n → (n < length tiles) × AreGlued t f x (tile_of tiles n)
+  among-known : (x : PlacedTile) → IsGiven t f x → (e n : ℕ) → IsGlueEdge t.rule x.kind e
+      → (o : Option OtherSide) → IfSome o (IsOtherSide t x.kind e) → StandsAmong m.order o x.motion tiles n
+      → (n < length tiles) × AreGlued t f x (tile_of tiles n)
   among-known x own e n glue_edge None side there = absurd there
   among-known x own e n glue_edge (Some o) side there =
       let z = there.2.0 in
       let below : n < length tiles = slice_get_within tiles n z there.2.1 in
-      let numbers : order_numbers there.0 o.kind ≡ numbers_placed (tile_of tiles n) = sym there.2.2 ∙ ap numbers_placed (sym (get_or_from_slice_get tiles n z no_tile there.2.1)) in
+      let numbers : order_numbers there.0 o.kind ≡ numbers_placed (tile_of tiles n) = sym there.2.2
+      ∙ ap numbers_placed (sym (get_or_from_slice_get tiles n z no_tile there.2.1)) in
       (below, beside-glued m L f is x (tile_of tiles n) own (given n no_tile below) e o side there.0 there.1 numbers glue_edge)
 
   module _ (sides : List (Option GlueSide)) (are : AreSides t sides) (number : ℕ) (below : number < length tiles) where

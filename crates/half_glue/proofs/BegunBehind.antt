@@ -31,7 +31,8 @@ has-begun {A} o xs e l two = at_test (nat_lt (suc e) (length xs)) refl
     round (y ∷ ys) zero last some = absurd (omega (arith, last, some))
     round (y ∷ ys) (suc k) last some = record {
       others = take k ys;
-      is = ap₂ (λ (us zs : List A). us ++ zs) (drop_of_length-le (y ∷ ys) {i = suc (suc k)} (omega (arith, last))) (take-suc (y ∷ ys) (suc k) o (omega (arith, last)));
+      is = ap₂ (λ (us zs : List A). us ++ zs) (drop_of_length-le (y ∷ ys) {i = suc (suc k)}
+          (omega (arith, last))) (take-suc (y ∷ ys) (suc k) o (omega (arith, last)));
     }
 
     at_test : (b : Bool) → nat_lt (suc e) (length xs) ≡ b → HasBegun o xs e (cond b (suc e) 0)

@@ -17,7 +17,7 @@ use Rattle.tile_place.proofs.KeyOrder.{comes-first, level-numbers}
 use Rattle.half_glue.specs.declared.whole_tile.WholeTile.{WholeTile}
 use Rattle.half_glue.specs.Arranged.{AreArranged}
 use Rattle.half_glue.specs.InOrder.{first_numbers, ComesBefore, AreInOrder}
-use Rattle.addressing.specs.Search.{chosen_below}
+use Rattle.theory_addresses.specs.Search.{chosen_below}
 use Rattle.half_glue.specs.Keys.{HasKey, first_keys, key_order, no_key, is_new, whole_at}
 use Rattle.half_glue.proofs.Keyed.{IsKeyOf, from-keys, key-there}
 
@@ -50,7 +50,8 @@ in-order-push (u ∷ x ∷ ws) v w o b = (o.0, in-order-push (x ∷ ws) v w o.1 
 abbrev IsKey : List WholeTile → OrderKey → Type 0
 IsKey made = IsKeyOf (λ (w : WholeTile). w.first) made
 
-module _ (made : List WholeTile) (fit : All (λ w. HasKey w.first) made) (ks : List OrderKey) (keys : All (IsKey made) ks) (sorted : IsSorted key_order ks) (blank : WholeTile) where
+module _ (made : List WholeTile) (fit : All (λ w. HasKey w.first) made) (ks : List OrderKey)
+    (keys : All (IsKey made) ks) (sorted : IsSorted key_order ks) (blank : WholeTile) where
   abbrev at : ℕ → WholeTile
   at i = whole_at made blank ks i
 
@@ -76,22 +77,27 @@ module _ (made : List WholeTile) (fit : All (λ w. HasKey w.first) made) (ks : L
   level : (i : ℕ) → suc i < length ks → are_level (key (suc i)) (key i) ≡ true → first_numbers (at (suc i)) ≡ first_numbers (at i)
   level i l e =
       let both = and_parts (nat_eq (key (suc i)).high (key i).high) (nat_eq (key (suc i)).low (key i).low) e in
-      level-numbers (at (suc i)).first.motion (at i).first.motion (at (suc i)).first.kind (at i).first.kind (key (suc i)) (key i) (has-key (suc i) l) (has-key i (omega (arith, l))) (its-key (suc i) l) (its-key i (omega (arith, l)))
+      level-numbers (at (suc i)).first.motion (at i).first.motion (at (suc i)).first.kind (at i).first.kind
+      (key (suc i)) (key i) (has-key (suc i) l) (has-key i (omega (arith, l))) (its-key (suc i) l)
+      (its-key i (omega (arith, l)))
       (eqb-true (key (suc i)).high (key i).high both.0) (eqb-true (key (suc i)).low (key i).low both.1)
 
   before : (i : ℕ) → suc i < length ks → are_level (key (suc i)) (key i) ≡ false → ComesBefore (at i) (at (suc i))
   before i l e =
-      comes-first (at i).first.motion (at (suc i)).first.motion (at i).first.kind (at (suc i)).first.kind (key i) (key (suc i)) (has-key i (omega (arith, l))) (has-key (suc i) l)
+      comes-first (at i).first.motion (at (suc i)).first.motion (at i).first.kind (at (suc i)).first.kind
+      (key i) (key (suc i)) (has-key i (omega (arith, l))) (has-key (suc i) l)
       (its-key i (omega (arith, l))) (its-key (suc i) l) up (λ same. absurd (cc (sym e ∙ are-level same)))
     where
       up : is_lt (key_order (key (suc i)) (key i)) ≡ false
-      up = let next : i + 1 ≡ suc i = omega arith in subst (λ n. is_lt (key_order (key n) (key i)) ≡ false) next (sorted i no_key (omega arith) (omega (arith, l)))
+      up = let next : i + 1 ≡ suc i = omega arith in subst (λ n. is_lt (key_order (key n) (key i)) ≡ false)
+          next (sorted i no_key (omega arith) (omega (arith, l)))
 
       are-level : first_numbers (at i) ≡ first_numbers (at (suc i)) → are_level (key (suc i)) (key i) ≡ true
       are-level same =
           let j = its-key (suc i) l in
           let k = its-key i (omega (arith, l)) in
-          let high : (key (suc i)).high ≡ (key i).high = ap (λ (q : OrderKey). q.high) j ∙ ap high_of (sym same) ∙ sym (ap (λ (q : OrderKey). q.high) k) in
+          let high : (key (suc i)).high ≡ (key i).high = ap (λ (q : OrderKey). q.high) j
+          ∙ ap high_of (sym same) ∙ sym (ap (λ (q : OrderKey). q.high) k) in
           let low : (key (suc i)).low ≡ (key i).low = ap (λ (q : OrderKey). q.low) j ∙ ap low_of (sym same) ∙ sym (ap (λ (q : OrderKey). q.low) k) in
           ap₂ (λ a b. a && b) ((Decides-eqb (key (suc i)).high (key i).high).1 high) ((Decides-eqb (key (suc i)).low (key i).low).1 low)
 
@@ -100,7 +106,8 @@ module _ (made : List WholeTile) (fit : All (λ w. HasKey w.first) made) (ks : L
     pub in_order : AreInOrder (chosen n)
     pub from_made : All (λ w. Contains made w) (chosen n)
     pub each : (i : ℕ) → i < n → (w : WholeTile) × Contains (chosen n) w × (first_numbers w ≡ first_numbers (at i))
-    pub last : (i : ℕ) → n ≡ suc i → (front : List WholeTile) × (w : WholeTile) × (chosen n ≡ front ++ w ∷ []) × (first_numbers w ≡ first_numbers (at i))
+    pub last : (i : ℕ) → n ≡ suc i → (front : List WholeTile) × (w : WholeTile) × (chosen n ≡ front ++ w ∷ [])
+        × (first_numbers w ≡ first_numbers (at i))
 
   -- one more
   taken : (n : ℕ) → n < length ks → AreChosen n → AreInOrder (chosen n ++ at n ∷ []) → chosen (suc n) ≡ chosen n ++ at n ∷ [] → AreChosen (suc n)
@@ -108,14 +115,26 @@ module _ (made : List WholeTile) (fit : All (λ w. HasKey w.first) made) (ks : L
     in_order = subst AreInOrder (sym e) ordered;
     from_made = subst (All (λ w. Contains made w)) (sym e) (All-push (λ w. Contains made w) (chosen n) (at n) c.from_made (at-made n l));
     each = λ i b. elim (cases_lt i n) [
-      | inl k ↦ let f = c.each i k in (f.0, subst (λ (ws : List WholeTile). Contains ws f.0) (sym e) (contains-left (chosen n) (at n ∷ []) f.0 f.1), f.2)
-      | inr k ↦ let here : n ≡ i = omega (arith, b, k) in (at n, subst (λ (ws : List WholeTile). Contains ws (at n)) (sym e) (contains-last (chosen n) (at n)), ap (λ j. first_numbers (at j)) here)
+      | inl k ↦ let f = c.each i k in (
+        f.0,
+        subst (λ (ws : List WholeTile). Contains ws f.0) (sym e)
+            (contains-left (chosen n) (at n ∷ []) f.0 f.1),
+        f.2,
+      )
+      | inr k ↦ let here : n ≡ i = omega (arith, b, k) in (
+        at n,
+        subst
+            (λ (ws : List WholeTile). Contains ws (at n)) (sym e) (contains-last (chosen n) (at n)),
+        ap
+            (λ j. first_numbers (at j)) here,
+      )
     ];
     last = λ i s. let here : n ≡ i = omega (arith, s) in (chosen n, at n, e, ap (λ j. first_numbers (at j)) here);
   }
 
   -- or one that is level with the one before
-  passed : (i : ℕ) → suc i < length ks → AreChosen (suc i) → first_numbers (at (suc i)) ≡ first_numbers (at i) → chosen (suc (suc i)) ≡ chosen (suc i) → AreChosen (suc (suc i))
+  passed : (i : ℕ) → suc i < length ks → AreChosen (suc i) → first_numbers (at (suc i)) ≡ first_numbers (at i)
+      → chosen (suc (suc i)) ≡ chosen (suc i) → AreChosen (suc (suc i))
   passed i l c same e = record {
     in_order = subst AreInOrder (sym e) c.in_order;
     from_made = subst (All (λ w. Contains made w)) (sym e) c.from_made;
@@ -124,30 +143,43 @@ module _ (made : List WholeTile) (fit : All (λ w. HasKey w.first) made) (ks : L
       | inr k ↦ let here : suc i ≡ j = omega (arith, b, k) in let f = c.each i (omega arith) in
           (f.0, subst (λ (ws : List WholeTile). Contains ws f.0) (sym e) f.1, f.2 ∙ sym same ∙ ap (λ p. first_numbers (at p)) here)
     ];
-    last = λ j s. let here : suc i ≡ j = omega (arith, s) in let f = c.last i refl in (f.0, f.1, e ∙ f.2, f.3 ∙ sym same ∙ ap (λ p. first_numbers (at p)) here);
+    last = λ j s. let here : suc i ≡ j = omega (arith, s) in let f = c.last i
+        refl in (f.0, f.1, e ∙ f.2, f.3 ∙ sym same ∙ ap (λ p. first_numbers (at p)) here);
   }
 
   pub are-chosen : (n : ℕ) → n ≤ length ks → AreChosen n
   unfolding is_new
-  are-chosen zero l = record { in_order = tt; from_made = All-nil (λ w. Contains made w); each = λ i b. absurd (omega (arith, b)); last = λ i s. absurd (omega (arith, s)) }
+  are-chosen zero l = record {
+    in_order = tt;
+    from_made = All-nil (λ w. Contains made w);
+    each = λ i b. absurd (omega (arith, b));
+    last = λ i s. absurd (omega (arith, s));
+  }
   are-chosen (suc zero) l = taken 0 (omega (arith, l)) (are-chosen zero (omega arith)) tt refl
   are-chosen (suc (suc i)) l = step (are_level (key (suc i)) (key i)) refl (are-chosen (suc i) (omega (arith, l)))
     where
       step : (b : Bool) → are_level (key (suc i)) (key i) ≡ b → AreChosen (suc i) → AreChosen (suc (suc i))
-      step true e c = passed i (omega (arith, l)) c (level i (omega (arith, l)) e) (ap (λ b. chosen (suc i) ++ cond (not b) (at (suc i) ∷ []) []) e ∙ append-nil (chosen (suc i)))
+      step true e c = passed i (omega (arith, l)) c (level i (omega (arith, l)) e)
+          (ap (λ b. chosen (suc i) ++ cond (not b) (at (suc i) ∷ []) []) e ∙ append-nil (chosen (suc i)))
       step false e c =
           let f = c.last i refl in
-          let next : ComesBefore f.1 (at (suc i)) = ap (λ ns. slice_cmp int_cmp ns (first_numbers (at (suc i)))) f.3 ∙ before i (omega (arith, l)) e in
+          let next : ComesBefore f.1 (at (suc i)) = ap
+          (λ ns. slice_cmp int_cmp ns (first_numbers (at (suc i)))) f.3 ∙ before i (omega (arith, l)) e in
           taken (suc i) (omega (arith, l)) c
-          (subst (λ (ws : List WholeTile). AreInOrder (ws ++ at (suc i) ∷ [])) (sym f.2) (in-order-push f.0 f.1 (at (suc i)) (subst AreInOrder f.2 c.in_order) next))
+          (subst (λ (ws : List WholeTile). AreInOrder (ws ++ at (suc i) ∷ [])) (sym f.2)
+          (in-order-push f.0 f.1 (at (suc i)) (subst AreInOrder f.2 c.in_order) next))
           (ap (λ b. chosen (suc i) ++ cond (not b) (at (suc i) ∷ []) []) e)
 
 -- ---- all of them
-pub arranged-in_order : (made : List WholeTile) → All (λ w. HasKey w.first) made → (ks : List OrderKey) → IsPermutation (first_keys made) ks → IsSorted key_order ks → (blank : WholeTile)
+pub arranged-in_order : (made : List WholeTile) → All (λ w. HasKey w.first) made → (ks : List OrderKey)
+    → IsPermutation (first_keys made) ks → IsSorted key_order ks → (blank : WholeTile)
     → AreInOrder (chosen_below (is_new ks) (whole_at made blank ks) (length ks))
-arranged-in_order made fit ks p sorted blank = (are-chosen made fit ks (All-permutation (IsKey made) (first_keys made) ks p (from-keys (λ (w : WholeTile). w.first) [] made 0 refl)) sorted blank (length ks) (omega arith)).in_order
+arranged-in_order made fit ks p sorted blank
+    = (are-chosen made fit ks (All-permutation (IsKey made) (first_keys made) ks p
+    (from-keys (λ (w : WholeTile). w.first) [] made 0 refl)) sorted blank (length ks) (omega arith)).in_order
 
-pub arranged-same : (made : List WholeTile) → All (λ w. HasKey w.first) made → (ks : List OrderKey) → IsPermutation (first_keys made) ks → IsSorted key_order ks → (blank : WholeTile)
+pub arranged-same : (made : List WholeTile) → All (λ w. HasKey w.first) made → (ks : List OrderKey)
+    → IsPermutation (first_keys made) ks → IsSorted key_order ks → (blank : WholeTile)
     → AreArranged made (chosen_below (is_new ks) (whole_at made blank ks) (length ks))
 arranged-same made fit ks p sorted blank = record { from_made = all.from_made; each = each }
   where
@@ -157,17 +189,24 @@ arranged-same made fit ks p sorted blank = record { from_made = all.from_made; e
     all : AreChosen made fit ks keys sorted blank (length ks)
     all = are-chosen made fit ks keys sorted blank (length ks) (omega arith)
 
-    each : All (λ v. (w : WholeTile) × Contains (chosen_below (is_new ks) (whole_at made blank ks) (length ks)) w × (first_numbers w ≡ first_numbers v)) made
+    each : All (λ v. (w : WholeTile) × Contains
+        (chosen_below (is_new ks) (whole_at made blank ks) (length ks)) w
+        × (first_numbers w ≡ first_numbers v)) made
     each i d l =
         let k = key_of (get_or made i d).first.motion (get_or made i d).first.kind i in
         let plain : 0 + i ≡ i = omega arith in
-        let own : Contains (first_keys made) k = subst (λ n. Contains (first_keys made) (key_of (get_or made i d).first.motion (get_or made i d).first.kind n)) plain (key-there (λ (w : WholeTile). w.first) made 0 i d l) in
+        let own : Contains (first_keys made) k = subst
+        (λ n. Contains (first_keys made) (key_of (get_or made i d).first.motion
+        (get_or made i d).first.kind n)) plain (key-there (λ (w : WholeTile). w.first) made 0 i d l) in
         let there = Contains-permutation (first_keys made) ks k p own in
         let found = all.each there.0 there.1 in
         let key_is : get_or ks there.0 no_key ≡ k = get_or_default ks there.0 no_key k there.1 ∙ there.2 in
-        let whole_is : whole_at made blank ks there.0 ≡ get_or made i d = ap (λ (q : OrderKey). get_or made q.number blank) key_is ∙ get_or_default made i blank d l in
+        let whole_is : whole_at made blank ks there.0 ≡ get_or made i d = ap
+        (λ (q : OrderKey). get_or made q.number blank) key_is ∙ get_or_default made i blank d l in
         (found.0, found.1, found.2 ∙ ap first_numbers whole_is)
 
 -- the keys number whole tiles
-pub arranged-numbered : (made : List WholeTile) (ks : List OrderKey) → IsPermutation (first_keys made) ks → All (λ (k : OrderKey). k.number < length made) ks
-arranged-numbered made ks p i d l = (All-permutation (IsKey made) (first_keys made) ks p (from-keys (λ (w : WholeTile). w.first) [] made 0 refl) i d l).below
+pub arranged-numbered : (made : List WholeTile) (ks : List OrderKey) → IsPermutation (first_keys made) ks
+    → All (λ (k : OrderKey). k.number < length made) ks
+arranged-numbered made ks p i d l = (All-permutation (IsKey made) (first_keys made) ks p
+    (from-keys (λ (w : WholeTile). w.first) [] made 0 refl) i d l).below

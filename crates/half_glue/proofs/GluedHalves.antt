@@ -4,27 +4,27 @@ use Rattle.std.proofs.lemmas.Bool.{ltb-true}
 use Rattle.std.proofs.lemmas.Int.{ints}
 use Rattle.std.proofs.lemmas.List.{get_or-map, length-map}
 use Rattle.std.proofs.lemmas.Simd.{map-map}
-use Rattle.ordered_plane.specs.Crossing.{count}
-use Rattle.ordered_plane.specs.Plane.{TestPoint, PlanePoint}
-use Rattle.substitution.specs.Motion.{moved}
-use Rattle.substitution.specs.Placement.{placement}
-use Rattle.substitution.specs.Plane.{plane_point}
-use Rattle.substitution.specs.Points.{Points}
-use Rattle.substitution.specs.RuleParts.{vertices_of, edge_count, next, vertex}
-use Rattle.substitution.proofs.Motions.{moved-followed}
+use Rattle.theory_plane.specs.Crossing.{count}
+use Rattle.theory_plane.specs.Plane.{TestPoint, PlanePoint}
+use Rattle.theory_substitution.specs.Motion.{moved}
+use Rattle.theory_substitution.specs.Placement.{placement}
+use Rattle.theory_substitution.specs.Plane.{plane_point}
+use Rattle.theory_substitution.specs.Points.{Points}
+use Rattle.theory_substitution.specs.RuleParts.{vertices_of, edge_count, next, vertex}
+use Rattle.theory_substitution.proofs.Motions.{moved-followed}
 use Rattle.cyclo_points.specs.Motion.{motion_in}
 use Rattle.cyclo_points.specs.Order.{NumberOf, points_of}
-use Rattle.dissection.specs.Sums.{sum_over}
-use Rattle.frames.specs.Back.{back}
-use Rattle.frames.specs.Frame.{motion_beside}
-use Rattle.frames.proofs.Carried.{some_turn}
-use Rattle.frames.proofs.Frames.{StandsInFrame-whole}
+use Rattle.theory_dissection.specs.Sums.{sum_over}
+use Rattle.theory_frames.specs.Back.{back}
+use Rattle.theory_frames.specs.Frame.{motion_beside}
+use Rattle.theory_frames.proofs.Carried.{some_turn}
+use Rattle.theory_frames.proofs.Frames.{StandsInFrame-whole}
 use Rattle.rule_model.specs.declared.rule.Rule.{Rule}
 use Rattle.rule_model.specs.Glue.{IsOnlyGlueEdge}
 use Rattle.rule_model.specs.Tiling.{Tiling, MotionOf, tiling_of, children}
 use Rattle.tile_place.specs.declared.placed_tile.PlacedTile.{PlacedTile}
 use Rattle.tile_shape.specs.Views.{address_of}
-use Rattle.windows.specs.Gluing.{Rotation, Gluing}
+use Rattle.theory_windows.specs.Gluing.{Rotation, Gluing}
 use Rattle.lazy_walk.specs.Frames.{FrameValue, whole}
 use Rattle.lazy_walk.specs.Standing.{Stands}
 use Rattle.lazy_walk.proofs.Walked.{tile_of-whole}
@@ -74,7 +74,8 @@ module _ (m : Rule) (L : HasGlueLaws m) (f : FrameValue) where
 
   module _ (x : PlacedTile) (s : Stands t f x) where
     place-is : (z : NumberOf m.order) → place x z ≡ moved P to_frame (moved P (placement P t.rule (address_of x.addr).digits) z)
-    place-is z = ap (λ (g : MotionOf t). moved P g z) (motion-is x s) ∙ moved-followed P L.points (placement P t.rule (address_of x.addr).digits) to_frame z
+    place-is z = ap (λ (g : MotionOf t). moved P g z) (motion-is x s)
+        ∙ moved-followed P L.points (placement P t.rule (address_of x.addr).digits) to_frame z
 
     kind-exists : x.kind < length t.rule.kinds
     kind-exists = subst (λ k. k < length t.rule.kinds) (sym s.its_kind) (kind-there m L (address_of x.addr) s.of_frame.fits)
@@ -83,22 +84,33 @@ module _ (m : Rule) (L : HasGlueLaws m) (f : FrameValue) where
     as-many = length-map (vertices_of t.rule x.kind) (place x) ∙ L.usable.numbered.vertex_each x.kind kind-exists ∙ ap (edge_count t.rule) s.its_kind
 
     pub some-vertices : 2 ≤ length (vertices_in_place t x)
-    some-vertices = omega (arith, length-map (vertices_of t.rule x.kind) (place x), L.usable.numbered.vertex_each x.kind kind-exists, L.usable.numbered.at_least_3_edges x.kind kind-exists)
+    some-vertices = omega (
+      arith,
+      length-map (vertices_of t.rule x.kind) (place x),
+      L.usable.numbered.vertex_each x.kind kind-exists,
+      L.usable.numbered.at_least_3_edges x.kind
+          kind-exists,
+    )
 
-    pub vertex-at : (o : NumberOf m.order) (i : ℕ) → i < edge_count t.rule x.addr.kind → get_or (vertices_in_place t x) i o ≡ moved P to_frame (corner x i)
+    pub vertex-at : (o : NumberOf m.order) (i : ℕ) → i < edge_count t.rule x.addr.kind
+        → get_or (vertices_in_place t x) i o ≡ moved P to_frame (corner x i)
     vertex-at o i l =
-        get_or-map (place x) (vertices_of t.rule x.kind) i (P.ring.int (pos 0)) o (omega (arith, l, as-many, length-map (vertices_of t.rule x.kind) (place x)))
+        get_or-map (place x) (vertices_of t.rule x.kind) i (P.ring.int (pos 0)) o
+        (omega (arith, l, as-many, length-map (vertices_of t.rule x.kind) (place x)))
         ∙ ap (λ k. place x (vertex P t.rule k i)) s.its_kind ∙ place-is (vertex P t.rule x.addr.kind i)
 
     -- the end of edge number e
-    pub end-at : (o : NumberOf m.order) (e : ℕ) → e < edge_count t.rule x.addr.kind → get_or (vertices_in_place t x) (behind (vertices_in_place t x) e) o ≡ moved P to_frame (corner x (next t.rule x.addr.kind e))
+    pub end-at : (o : NumberOf m.order) (e : ℕ) → e < edge_count t.rule x.addr.kind
+        → get_or (vertices_in_place t x) (behind (vertices_in_place t x) e) o ≡ moved P to_frame
+        (corner x (next t.rule x.addr.kind e))
     end-at o e l =
         ap (λ n. get_or (vertices_in_place t x) (cond (nat_lt (suc e) n) (suc e) 0) o) as-many
         ∙ vertex-at o (next t.rule x.addr.kind e) (next-below (edge_count t.rule x.addr.kind) e l)
 
     -- the polygon of a part, by its vertices in place
     pub part-is : map (plane_point P) (vertices_in_place t x) ≡ polygon_of_part t x
-    part-is = map-map (plane_point P) (place x) (vertices_of t.rule x.kind) ∙ ap (λ k. map (λ z. plane_point P (place x z)) (vertices_of t.rule k)) s.its_kind
+    part-is = map-map (plane_point P) (place x) (vertices_of t.rule x.kind)
+        ∙ ap (λ k. map (λ z. plane_point P (place x z)) (vertices_of t.rule k)) s.its_kind
 
     pub edge-below : (e : ℕ) → IsOnlyGlueEdge t.rule x.kind e → e < edge_count t.rule x.addr.kind
     edge-below e h = subst (λ k. e < edge_count t.rule k) s.its_kind h.glue_edge.exists
@@ -117,14 +129,20 @@ module _ (m : Rule) (L : HasGlueLaws m) (f : FrameValue) where
         let e_below = edge-below a sa h.edge h.glue_edge in
         let f_below = edge-below b sb h.its_edge h.its_glue_edge in
         let runs = h.across.across.across.runs_back in
-        ap₂ (λ e g. count_at (map (plane_point P) (glued e xs g ys))) (glue-edge-is t.rule a.kind h.edge h.glue_edge) (glue-edge-is t.rule b.kind h.its_edge h.its_glue_edge)
-        ∙ glued-counts P.real R G (plane_point P) o xs ys h.edge h.its_edge (subst (λ n. h.edge < n) (sym (as-many a sa)) e_below) (subst (λ n. h.its_edge < n) (sym (as-many b sb)) f_below)
+        ap₂ (λ e g. count_at (map (plane_point P) (glued e xs g ys)))
+        (glue-edge-is t.rule a.kind h.edge h.glue_edge)
+        (glue-edge-is t.rule b.kind h.its_edge h.its_glue_edge)
+        ∙ glued-counts P.real R G (plane_point P) o xs ys h.edge h.its_edge
+        (subst (λ n. h.edge < n) (sym (as-many a sa)) e_below)
+        (subst (λ n. h.its_edge < n) (sym (as-many b sb)) f_below)
         (some-vertices a sa) (some-vertices b sb)
         (vertex-at b sb o h.its_edge f_below ∙ ap (moved P to_frame) runs.from_end ∙ sym (end-at a sa o h.edge e_below))
         (end-at b sb o h.its_edge f_below ∙ ap (moved P to_frame) runs.to_start ∙ sym (vertex-at a sa o h.edge e_below)) p
         ∙ ap₂ (λ n k. n +ℤ k) (ap count_at (part-is a sa)) (ap count_at (part-is b sb) ∙ last (count_at (polygon_of_part t b)))
 
-    whole-counts : (a : PlacedTile) (s : Option PlacedTile) → IsWholeBy t f a s → count_at (map (plane_point P) (outline_by t a s)) ≡ sum_over (λ x. count_at (polygon_of_part t x)) (parts_by a s)
+    whole-counts : (a : PlacedTile) (s : Option PlacedTile) → IsWholeBy t f a s
+        → count_at (map (plane_point P) (outline_by t a s)) ≡ sum_over (λ x. count_at (polygon_of_part t x))
+        (parts_by a s)
     whole-counts a None h = ap count_at (part-is a h.0) ∙ last (count_at (polygon_of_part t a))
     whole-counts a (Some b) h = halves-count a b h.0 h.1 h.2
 

@@ -1,11 +1,11 @@
 -- Two polygons glued along an edge of each count as both together.
 use Rattle.std.proofs.Common.{◌≡◌, ℕ, suc, ◌<◌, ◌≤◌, List, [], ◌∷◌, ◌++◌, ◌+ℤ◌, length, get_or, take, drop, map, sym, ap, ap₂, ◌∙◌, append_assoc}
 use Rattle.std.proofs.lemmas.List.{take-append-drop, map-append}
-use Rattle.ordered_ring.specs.Sign.{Signed}
-use Rattle.ordered_plane.specs.Plane.{PlanePoint, TestPoint}
-use Rattle.ordered_plane.specs.Crossing.{count}
-use Rattle.windows.specs.Gluing.{Rotation, Gluing}
-use Rattle.windows.specs.Outlines.{Polygon}
+use Rattle.theory_ring.specs.Sign.{Signed}
+use Rattle.theory_plane.specs.Plane.{PlanePoint, TestPoint}
+use Rattle.theory_plane.specs.Crossing.{count}
+use Rattle.theory_windows.specs.Gluing.{Rotation, Gluing}
+use Rattle.theory_windows.specs.Outlines.{Polygon}
 use Rattle.half_glue.specs.Outline.{begun_behind, inner_of, glued}
 use Rattle.half_glue.proofs.BegunBehind.{behind, HasBegun, has-begun, inner}
 
@@ -32,7 +32,8 @@ module _ (S : Signed) (rotation : Rotation S) (gluing : Gluing S) {A : Type 0} (
     outline-is : glued e xs f ys ≡ (get_or xs (behind xs e) o ∷ first.others) ++ get_or xs e o ∷ second.others
     outline-is =
         ap₂ (λ (us vs : List A). us ++ inner_of vs) first.is second-is
-        ∙ ap (λ (vs : List A). (get_or xs (behind xs e) o ∷ (first.others ++ get_or xs e o ∷ [])) ++ vs) (inner (get_or xs e o) second.others (get_or xs (behind xs e) o))
+        ∙ ap (λ (vs : List A). (get_or xs (behind xs e) o ∷ (first.others ++ get_or xs e o ∷ [])) ++ vs)
+        (inner (get_or xs e o) second.others (get_or xs (behind xs e) o))
         ∙ append_assoc (get_or xs (behind xs e) o ∷ first.others) (get_or xs e o ∷ []) second.others
 
     pub glued-counts : (p : TestPoint S.ops.carrier) → count S (map at (glued e xs f ys)) p ≡ count S (map at xs) p +ℤ count S (map at ys) p

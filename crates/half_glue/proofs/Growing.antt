@@ -2,12 +2,12 @@
 use Rattle.std.proofs.Common.{◌≡◌, ℕ, ◌<◌, ◌≤◌, ◌++◌, length, take, drop, refl, sym, ap, ap₂, ◌∙◌, subst}
 use Rattle.std.proofs.lemmas.List.{take_at}
 use Rattle.std.proofs.Math.Seq.{drop-append_seam}
-use Rattle.addressing.specs.Address.{Address, depth, Fits}
-use Rattle.substitution.specs.Points.{Points}
+use Rattle.theory_addresses.specs.Address.{Address, depth, Fits}
+use Rattle.theory_substitution.specs.Points.{Points}
 use Rattle.cyclo_points.specs.Order.{points_of}
-use Rattle.frames.specs.Frame.{at_level, IsTileOf, StandsInFrame, lifted_in}
-use Rattle.frames.proofs.Carried.{some_turn}
-use Rattle.frames.proofs.Frames.{IsWhole, lifted-whole, lifted-stands}
+use Rattle.theory_frames.specs.Frame.{at_level, IsTileOf, StandsInFrame, lifted_in}
+use Rattle.theory_frames.proofs.Carried.{some_turn}
+use Rattle.theory_frames.proofs.Frames.{IsWhole, lifted-whole, lifted-stands}
 use Rattle.rule_model.specs.declared.rule.Rule.{Rule}
 use Rattle.rule_model.specs.Tiling.{Tiling, MotionOf, tiling_of, children}
 use Rattle.tile_place.specs.Crossed.{edges_of}
@@ -35,7 +35,8 @@ module _ (m : Rule) (L : HasGlueLaws m) (g h : FrameValue) (is : IsFrameOf (tili
   above = longer t g (length g.digits) (length h.digits) is.holds_base up.no_shallower
 
   digits-are : h.digits ≡ g.digits ++ above.more
-  digits-are = ap (λ (x : FrameValue). x.digits) (GrowsTo-is t g h up) ∙ above.is ∙ ap (λ (x : FrameValue). x.digits ++ above.more) (sym is.its_digits)
+  digits-are = ap (λ (x : FrameValue). x.digits) (GrowsTo-is t g h up) ∙ above.is
+      ∙ ap (λ (x : FrameValue). x.digits ++ above.more) (sym is.its_digits)
 
   frame-is : whole h ≡ further_up (whole g) above.more
   frame-is = λ i. record { kind = (up.same_base i).kind; digits = digits-are i }
@@ -44,7 +45,11 @@ module _ (m : Rule) (L : HasGlueLaws m) (g h : FrameValue) (is : IsFrameOf (tili
   tile-is a e = ap (further_up a) (ap₂ drop e digits-are ∙ drop-append_seam g.digits above.more)
 
   level-is : at_level (whole h) (length g.digits) ≡ whole g
-  level-is = λ i. record { kind = (up.same_base i).kind; digits = (ap (take (length g.digits)) digits-are ∙ take_at g.digits above.more (length g.digits) refl) i }
+  level-is = λ i. record {
+    kind = (up.same_base i).kind;
+    digits = (ap (take (length g.digits)) digits-are ∙ take_at g.digits above.more (length g.digits) refl)
+        i;
+  }
 
   frame-fits : Fits (children t) (whole h)
   frame-fits = whole-fits t L.still_fits h up.is_frame
@@ -70,13 +75,17 @@ module _ (m : Rule) (L : HasGlueLaws m) (g h : FrameValue) (is : IsFrameOf (tili
     pub boundary-before : (e : ℕ) → e < edges_of t a.kind → IsBoundaryEdge t (lifted_in (whole h) a) e → IsBoundaryEdge t a e
     boundary-before e edge on =
         let same = tile-is a own.same_depth in
-        inside-longer m (settled m L) L.across L.boundary a e above.more own.fits (subst (Fits (children t)) same whole-on.fits) edge (subst (λ y. IsBoundaryEdge t y e) same on)
+        inside-longer m (settled m L) L.across L.boundary a e above.more own.fits
+        (subst (Fits (children t)) same whole-on.fits) edge (subst (λ y. IsBoundaryEdge t y e) same on)
 
   -- what is across stays across
-  pub crosses-on : (a b : Address) (e f : ℕ) → IsWhole (children t) (whole g) a → Crosses t a e b f → Crosses t (lifted_in (whole h) a) e (lifted_in (whole h) b) f
+  pub crosses-on : (a b : Address) (e f : ℕ) → IsWhole (children t) (whole g) a → Crosses t a e b f
+      → Crosses t (lifted_in (whole h) a) e (lifted_in (whole h) b) f
   crosses-on a b e f own x =
       let its : IsWhole (children t) (whole g) b = across-whole m (settled m L) L.across (whole g) a b e f own x in
       let p = tile-is a own.same_depth in
       let q = tile-is b its.same_depth in
       subst (λ y. Crosses t y e (lifted_in (whole h) b) f) (sym p) (subst (λ y. Crosses t (further_up a above.more) e y f) (sym q)
-      (Crosses-longer m (settled m L) L.across L.boundary a b e f above.more own.fits (subst (Fits (children t)) p (whole-on a own).fits) (subst (Fits (children t)) q (whole-on b its).fits) x))
+      (Crosses-longer m (settled m L) L.across L.boundary a b e f above.more own.fits
+      (subst (Fits (children t)) p (whole-on a own).fits)
+      (subst (Fits (children t)) q (whole-on b its).fits) x))

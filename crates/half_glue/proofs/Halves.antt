@@ -1,15 +1,15 @@
 -- Tiles given, lifted, and the tiles across their glue edges.
 use Rattle.std.proofs.Common.{◌≡◌, ℕ, ◌<◌, ◌^◌, Bool, true, false, [], ◌++◌, length, drop, refl, sym, ap, ◌∙◌, subst, arith, append-nil}
 use Rattle.std.proofs.Math.Seq.{drop-length}
-use Rattle.addressing.specs.Address.{Address, depth}
-use Rattle.substitution.specs.Points.{Points}
+use Rattle.theory_addresses.specs.Address.{Address, depth}
+use Rattle.theory_substitution.specs.Points.{Points}
 use Rattle.cyclo_points.specs.declared.point.Point.{Point}
 use Rattle.cyclo_points.specs.Order.{points_of, is_refused}
 use Rattle.cyclo_points.specs.Point.{point_in, IsWithin}
 use Rattle.cyclo_points.specs.Motion.{motion_in}
 use Rattle.cyclo_points.proofs.Refusal.{some_beyond, some_beyond-decides, some_beyond-refused}
-use Rattle.frames.specs.Frame.{StandsInFrame, lifted_in}
-use Rattle.frames.proofs.Frames.{IsWhole, lifted-whole}
+use Rattle.theory_frames.specs.Frame.{StandsInFrame, lifted_in}
+use Rattle.theory_frames.proofs.Frames.{IsWhole, lifted-whole}
 use Rattle.rule_model.specs.declared.rule.Rule.{Rule}
 use Rattle.rule_model.specs.Glue.{IsGlueEdge, IsOnlyGlueEdge}
 use Rattle.rule_model.specs.Tiling.{Tiling, MotionOf, tiling_of, children}
@@ -48,7 +48,8 @@ pub stands-given : (t : Tiling) (f : FrameValue) (x : PlacedTile) → Stands t f
 stands-given t f x stands within = record {
   its_kind = stands.its_kind;
   of_frame = stands.of_frame;
-  in_frame = subst (λ a. StandsInFrame (points_of t.order) t.rule (whole f) a (motion_in t.order x.motion)) (lifted-self (whole f) (address_of x.addr) stands.at_depth) stands.in_frame;
+  in_frame = subst (λ a. StandsInFrame (points_of t.order) t.rule (whole f) a (motion_in t.order x.motion))
+      (lifted-self (whole f) (address_of x.addr) stands.at_depth) stands.in_frame;
   turn_below = stands.turn_below;
   in_order = stands.in_order;
   within = within;
@@ -104,14 +105,21 @@ module _ (m : Rule) (L : HasGlueLaws m) where
     deep-lifted = lifted-on m L f deep is to_deep (address_of x.addr) given.of_frame.no_deeper
 
     -- the tile across at this depth is the one across at depth 64
-    deep-crosses : (e back : ℕ) (b : Address) → Crosses t a e b back → Crosses t (lifted_in (full t f) (address_of x.addr)) e (lifted_in (full t f) b) back
-    deep-crosses e back b over = subst (λ y. Crosses t y e (lifted_in (full t f) b) back) deep-lifted (crosses-on m L f deep is to_deep a b e back given-whole over)
+    deep-crosses : (e back : ℕ) (b : Address) → Crosses t a e b back
+        → Crosses t (lifted_in (full t f) (address_of x.addr)) e (lifted_in (full t f) b) back
+    deep-crosses e back b over = subst (λ y. Crosses t y e (lifted_in (full t f) b) back) deep-lifted
+        (crosses-on m L f deep is to_deep a b e back given-whole over)
 
     -- where it can be joined, the tile across isn't refused
-    pub unrefused-across : CanBeJoined t (full t f) x → (e : ℕ) → IsGlueEdge t.rule x.kind e → (other : PlacedTile) (back : ℕ) → Crosses t a e (address_of other.addr) back → Stands t f other → is_refused m.order (point_in m.order other.motion.shift) ≡ false
+    pub unrefused-across : CanBeJoined t (full t f) x → (e : ℕ) → IsGlueEdge t.rule x.kind e
+        → (other : PlacedTile) (back : ℕ) → Crosses t a e (address_of other.addr) back → Stands t f other
+        → is_refused m.order (point_in m.order other.motion.shift) ≡ false
     unrefused-across can e g other back over stands =
-        can.unrefused e back (lifted_in (full t f) (address_of other.addr)) (motion_in m.order other.motion) g (deep-crosses e back (address_of other.addr) over)
-        (stands-on m L f deep is to_deep (address_of other.addr) (tile_of-whole (children t) (whole f) (address_of other.addr) stands.of_frame stands.at_depth) (motion_in m.order other.motion) stands.in_frame)
+        can.unrefused e back (lifted_in (full t f) (address_of other.addr)) (motion_in m.order other.motion) g
+        (deep-crosses e back (address_of other.addr) over)
+        (stands-on m L f deep is to_deep (address_of other.addr)
+        (tile_of-whole (children t) (whole f) (address_of other.addr) stands.of_frame stands.at_depth)
+        (motion_in m.order other.motion) stands.in_frame)
 
     -- ---- with another tile of the frame
     module _ (y : PlacedTile) (its : IsGiven t f y) where
@@ -149,5 +157,7 @@ module _ (m : Rule) (L : HasGlueLaws m) where
                 let over'' = subst (λ i. Crosses t (lifted_in (full t f) (address_of x.addr)) i c back') (h.glue_edge.only d g) over' in
                 let same : c ≡ lifted_in (full t f) b = ap (λ z. z.address) (far.across.only _ back' over''.across.across).0 in
                 let motion : n ≡ motion_in m.order y.motion = there.alone n (subst (λ z. StandsInFrame P t.rule (full t f) z n) same stands').among in
-                ap (λ (k : MotionOf t). is_refused m.order k.shift) motion ∙ sym (some_beyond-refused m.order y.motion.shift its.in_order) ∙ not-beyond y.motion.shift its.within;
+                ap (λ (k : MotionOf t). is_refused m.order k.shift) motion
+                ∙ sym (some_beyond-refused m.order y.motion.shift its.in_order)
+                ∙ not-beyond y.motion.shift its.within;
           }

@@ -15,7 +15,7 @@ use Rattle.lazy_walk.specs.Ancestors.{full}
 use Rattle.lazy_walk.specs.Frames.{FrameValue, IsFrameOf}
 use Rattle.lazy_walk.proofs.Walks.{GrowsTo-self}
 use Rattle.window_cover.specs.InOrder.{numbers_placed}
-use Rattle.windows.proofs.Members.{same_whole}
+use Rattle.theory_windows.proofs.Members.{same_whole}
 use Rattle.half_glue.specs.declared.glue_side.GlueSide.{GlueSide}
 use Rattle.half_glue.specs.declared.glue_side.OtherSide.{OtherSide}
 use Rattle.half_glue.specs.declared.pairs.Pair.{Pair}
@@ -36,7 +36,8 @@ use Rattle.half_glue.proofs.Taking.{ArePaired}
 use Rattle.half_glue.proofs.Wholes.{contains-map, glued-back}
 
 -- tiles given are placed
-pub are-placed : (m : Rule) → HasGlueLaws m → (f : FrameValue) → IsFrameOf (tiling_of m) f → (tiles : List PlacedTile) → AreGiven (tiling_of m) f tiles → All (IsPlaced (tiling_of m)) tiles
+pub are-placed : (m : Rule) → HasGlueLaws m → (f : FrameValue) → IsFrameOf (tiling_of m) f
+    → (tiles : List PlacedTile) → AreGiven (tiling_of m) f tiles → All (IsPlaced (tiling_of m)) tiles
 are-placed m L f is tiles given k d l =
     let own = given k d l in
     record { kind_exists = its-kind-there m L f is (get_or tiles k d) own; turn_below = own.turn_below; within = own.within }
@@ -47,30 +48,38 @@ pub among-below : (o : Order) (s : Option OtherSide) (own : Motion) (tiles : Lis
 among-below o None own tiles n there = absurd there
 among-below o (Some side) own tiles n there = slice_get_within tiles n there.2.0 there.2.1
 
-pub among-kind : (o : Order) (s : Option OtherSide) (side : OtherSide) → s ≡ Some side → (own : Motion) (tiles : List PlacedTile) (n : ℕ) → StandsAmong o s own tiles n → side.kind ≡ (tile_of tiles n).kind
+pub among-kind : (o : Order) (s : Option OtherSide) (side : OtherSide) → s ≡ Some side
+    → (own : Motion) (tiles : List PlacedTile) (n : ℕ) → StandsAmong o s own tiles n
+    → side.kind ≡ (tile_of tiles n).kind
 among-kind o s side e own tiles n h =
     let there = subst (λ q. StandsAmong o q own tiles n) e h in
     let z = there.2.0 in
-    let numbers : order_numbers there.0 side.kind ≡ numbers_placed (tile_of tiles n) = sym there.2.2 ∙ ap numbers_placed (sym (get_or_from_slice_get tiles n z no_tile there.2.1)) in
+    let numbers : order_numbers there.0 side.kind ≡ numbers_placed (tile_of tiles n) = sym there.2.2
+    ∙ ap numbers_placed (sym (get_or_from_slice_get tiles n z no_tile there.2.1)) in
     same_whole side.kind (tile_of tiles n).kind (ap (λ (ns : List ℤ). get_or ns 5 (pos 0)) numbers)
 
 -- ---- the side of a kind that was read
-pub read-below : (t : Tiling) (sides : List (Option GlueSide)) → AreSides t sides → (x : PlacedTile) → IsPlaced t x → (k n : ℕ) → n ≡ k → k ≡ x.kind → n < length sides
+pub read-below : (t : Tiling) (sides : List (Option GlueSide)) → AreSides t sides → (x : PlacedTile)
+    → IsPlaced t x → (k n : ℕ) → n ≡ k → k ≡ x.kind → n < length sides
 read-below t sides are x placed k n e same = let l = placed.kind_exists in let s = are.each_kind in omega (arith, l, s, e, same)
 
-pub read-other : (t : Tiling) (sides : List (Option GlueSide)) → AreSides t sides → (x : PlacedTile) → IsPlaced t x → (k n : ℕ) → n ≡ k → k ≡ x.kind → (side : GlueSide) → get_or sides n None ≡ Some side
+pub read-other : (t : Tiling) (sides : List (Option GlueSide)) → AreSides t sides → (x : PlacedTile)
+    → IsPlaced t x → (k n : ℕ) → n ≡ k → k ≡ x.kind → (side : GlueSide) → get_or sides n None ≡ Some side
     → IfSome side.other (IsOtherSide t k side.edge)
 read-other t sides are x placed k n e same side its =
     let here = subst (IsSideOf t n) its (are.each n (read-below t sides are x placed k n e same)) in
     subst (λ i. IfSome side.other (IsOtherSide t i side.edge)) e here.other
 
 -- a mark that was read
-pub read-mark : (n : ℕ) (marks rest : List Bool) (i : ℕ) (d b : Bool) → b ≡ get_or (take n (marks ++ rest)) i d → i < n → i < length marks → b ≡ true → IsTrue (get_or marks i false)
+pub read-mark : (n : ℕ) (marks rest : List Bool) (i : ℕ) (d b : Bool)
+    → b ≡ get_or (take n (marks ++ rest)) i d → i < n → i < length marks → b ≡ true
+    → IsTrue (get_or marks i false)
 read-mark n marks rest i d b e l inside set =
     sym (get_or-take n (marks ++ rest) i d l ∙ get_or_append_left marks rest d i inside ∙ get_or_default marks i d false inside) ∙ sym e ∙ set
 
 -- ---- a pair of tiles of a window
-module _ (m : Rule) (L : HasGlueLaws m) (tiles : List PlacedTile) (sides : List (Option GlueSide)) (are : AreSides (tiling_of m) sides) (number : ℕ) (below : number < length tiles) where
+module _ (m : Rule) (L : HasGlueLaws m) (tiles : List PlacedTile) (sides : List (Option GlueSide))
+    (are : AreSides (tiling_of m) sides) (number : ℕ) (below : number < length tiles) where
   abbrev t : Tiling
   t = tiling_of m
 
@@ -82,26 +91,47 @@ module _ (m : Rule) (L : HasGlueLaws m) (tiles : List PlacedTile) (sides : List 
 
   module _ (f : FrameValue) (is : IsFrameOf t f) (given : AreGiven t f tiles) where
     -- a tile alone
-    pub alone-inner : (k : ℕ) → k ≡ own.kind → get_or sides k None ≡ None → (p : Pair) → p ≡ record { first = number; second = None } → IsInner t f tiles p
+    pub alone-inner : (k : ℕ) → k ≡ own.kind → get_or sides k None ≡ None → (p : Pair)
+        → p ≡ record { first = number; second = None } → IsInner t f tiles p
     alone-inner k same none p e =
         subst (IsInner t f tiles) (sym e) (record {
           present = record { first = below; second = tt };
-          loose = record { glued = (given number no_tile below, own-side m L f is tiles given sides are number below k same None none); of_given = (own, among, refl) };
+          loose = record {
+            glued = (
+              given number no_tile below,
+              own-side m L f is tiles given sides are number
+                  below k same None none,
+            );
+            of_given = (own, among, refl);
+          };
         })
 
     -- a half and its other half, of a greater kind
-    pub pair-inner : (k : ℕ) → k ≡ own.kind → (side : GlueSide) → get_or sides k None ≡ Some side → (other : OtherSide) → side.other ≡ Some other → own.kind < other.kind
-        → (n : ℕ) → StandsAmong m.order side.other own.motion tiles n → (p : Pair) → p ≡ record { first = number; second = Some n } → IsInner t f tiles p
+    pub pair-inner : (k : ℕ) → k ≡ own.kind → (side : GlueSide) → get_or sides k None ≡ Some side
+        → (other : OtherSide) → side.other ≡ Some other → own.kind < other.kind
+        → (n : ℕ) → StandsAmong m.order side.other own.motion tiles n → (p : Pair)
+        → p ≡ record { first = number; second = Some n } → IsInner t f tiles p
     pair-inner k same side its other is_other lesser n there p e =
-        let found = half-found m L f is tiles given sides are number below side (own-side m L f is tiles given sides are number below k same (Some side) its) n there in
+        let found = half-found m L f is tiles given sides are number below side
+        (own-side m L f is tiles given sides are number below k same (Some side) its) n there in
         let kind = among-kind m.order side.other other is_other own.motion tiles n there in
         subst (IsInner t f tiles) (sym e) (record {
           present = record { first = below; second = found.0 };
-          loose = record { glued = (given number no_tile below, given n no_tile found.0, found.1, omega (arith, lesser, kind)); of_given = (own, among, inl refl) };
+          loose = record {
+            glued = (
+              given number no_tile below,
+              given n no_tile found.0,
+              found.1,
+              omega
+                  (arith, lesser, kind),
+            );
+            of_given = (own, among, inl refl);
+          };
         })
 
 -- ---- one pair more
-pub inner-more : (t : Tiling) (f : FrameValue) (tiles : List PlacedTile) (pairs : List Pair) (taken marked : List Bool) (p : Pair) → AreInner t f tiles pairs taken → IsInner t f tiles p
+pub inner-more : (t : Tiling) (f : FrameValue) (tiles : List PlacedTile) (pairs : List Pair)
+    (taken marked : List Bool) (p : Pair) → AreInner t f tiles pairs taken → IsInner t f tiles p
     → ((k : ℕ) → IsTrue (get_or marked k false) → IsTrue (get_or taken k false) ⊎ IsOfPair k p) → AreInner t f tiles (pairs ++ p ∷ []) marked
 inner-more t f tiles pairs taken marked p h is marks = record {
   each = All-push (IsInner t f tiles) pairs p h.each is;
@@ -119,7 +149,8 @@ rising-more n pairs p h e = record {
     | inl k ↦
         let first = get_or_append_left pairs (p ∷ []) no_pair i (omega (arith, l, k)) in
         let second = get_or_append_left pairs (p ∷ []) no_pair j k in
-        subst (λ (q : Pair). q.first < (get_or (pairs ++ p ∷ []) j no_pair).first) (sym first) (subst (λ (q : Pair). (get_or pairs i no_pair).first < q.first) (sym second) (h.rising i j l k))
+        subst (λ (q : Pair). q.first < (get_or (pairs ++ p ∷ []) j no_pair).first) (sym first)
+        (subst (λ (q : Pair). (get_or pairs i no_pair).first < q.first) (sym second) (h.rising i j l k))
     | inr k ↦
         let last : length pairs ≡ j = omega (arith, b, k, length_push pairs p) in
         let front : i < length pairs = omega (arith, l, last) in
@@ -132,16 +163,23 @@ rising-more n pairs p h e = record {
 }
 
 pub rising-on : (n : ℕ) (pairs : List Pair) → AreRising n pairs → AreRising (n + 1) pairs
-rising-on n pairs h = record { few = let f = h.few in omega (arith, f); below = λ k d l. let b = h.below k d l in omega (arith, b); rising = h.rising }
+rising-on n pairs h = record {
+  few = let f = h.few in omega (arith, f);
+  below = λ k d l. let b = h.below k d l in omega (arith, b);
+  rising = h.rising;
+}
 
 pub none-rising : AreRising 0 []
 none-rising = record { few = omega arith; below = λ k d l. absurd (omega (arith, l)); rising = λ i j l h. absurd (omega (arith, h)) }
 
-pub none-inner : (t : Tiling) (f : FrameValue) (tiles : List PlacedTile) (taken : List Bool) → ((k : ℕ) → ¬ IsTrue (get_or taken k false)) → AreInner t f tiles [] taken
+pub none-inner : (t : Tiling) (f : FrameValue) (tiles : List PlacedTile) (taken : List Bool)
+    → ((k : ℕ) → ¬ IsTrue (get_or taken k false)) → AreInner t f tiles [] taken
 none-inner t f tiles taken none = record { each = All-nil (IsInner t f tiles); taken = λ k set. absurd (none k set) }
 
 -- ---- a tile that is taken
-module _ (m : Rule) (L : HasGlueLaws m) (f : FrameValue) (is : IsFrameOf (tiling_of m) f) (tiles : List PlacedTile) (pairs : List Pair) (taken : List Bool) (h : AreInner (tiling_of m) f tiles pairs taken) where
+module _ (m : Rule) (L : HasGlueLaws m) (f : FrameValue) (is : IsFrameOf (tiling_of m) f)
+    (tiles : List PlacedTile) (pairs : List Pair) (taken : List Bool)
+    (h : AreInner (tiling_of m) f tiles pairs taken) where
   abbrev u : Tiling
   u = tiling_of m
 
@@ -149,7 +187,13 @@ module _ (m : Rule) (L : HasGlueLaws m) (f : FrameValue) (is : IsFrameOf (tiling
   Q x = IsGluedInside u f (length f.digits) x × CanBeJoined u (full u f) x
 
   single : (a : PlacedTile) → HasNoGlueEdge u a.kind → Q a
-  single a none = (λ e glue on. absurd (none e glue), record { inside = λ e glue on. absurd (none e glue); unrefused = λ e back b n glue over stands. absurd (none e glue) })
+  single a none = (
+    λ e glue on. absurd (none e glue),
+    record {
+      inside = λ e glue on. absurd (none e glue);
+      unrefused = λ e back b n glue over stands. absurd (none e glue);
+    },
+  )
 
   glued : (a b : PlacedTile) → IsGiven u f a → IsGiven u f b → AreGlued u f a b → Q a
   glued a b own its g = (settled-inside m L f is a own f (GrowsTo-self u f is) b its g, settled-joined m L f is a own f (GrowsTo-self u f is) b its g)
@@ -160,13 +204,15 @@ module _ (m : Rule) (L : HasGlueLaws m) (f : FrameValue) (is : IsFrameOf (tiling
   of-loose x a (Some b) l (inr e) = subst Q e (glued b a l.1 l.0 (glued-back u f a b l.2))
 
   module _ (all : List PlacedTile) (same : (n : ℕ) → n < length tiles → tile_of all n ≡ tile_of tiles n) where
-    either : (k : ℕ) (p : Pair) → ArePresent (length tiles) p → IsOfPair k p → IsEither (tile_of tiles k) (tile_of all p.first) (second_of all p.second)
+    either : (k : ℕ) (p : Pair) → ArePresent (length tiles) p → IsOfPair k p
+        → IsEither (tile_of tiles k) (tile_of all p.first) (second_of all p.second)
     either k p present of = by p.second refl present.second of
       where
         first : p.first ≡ k → tile_of all p.first ≡ tile_of tiles k
         first e = same p.first present.first ∙ ap (tile_of tiles) e
 
-        by : (s : Option ℕ) → p.second ≡ s → IfSome s (λ n. n < length tiles) → (p.first ≡ k) ⊎ (s ≡ Some k) → IsEither (tile_of tiles k) (tile_of all p.first) (second_of all s)
+        by : (s : Option ℕ) → p.second ≡ s → IfSome s (λ n. n < length tiles) → (p.first ≡ k) ⊎ (s ≡ Some k)
+            → IsEither (tile_of tiles k) (tile_of all p.first) (second_of all s)
         by None e l (inl g) = first g
         by None e l (inr g) = absurd (cc g)
         by (Some n) e l (inl g) = inl (first g)
@@ -177,21 +223,30 @@ module _ (m : Rule) (L : HasGlueLaws m) (f : FrameValue) (is : IsFrameOf (tiling
             unwrapped (Some i) = i
 
   -- is inside, and can be joined
-  pub taken-settled : (k : ℕ) → IsTrue (get_or taken k false) → IsGluedInside u f (length f.digits) (tile_of tiles k) × CanBeJoined u (full u f) (tile_of tiles k)
+  pub taken-settled : (k : ℕ) → IsTrue (get_or taken k false)
+      → IsGluedInside u f (length f.digits) (tile_of tiles k) × CanBeJoined u (full u f) (tile_of tiles k)
   taken-settled k set =
       let r = h.taken k set in
       let p : Pair = r.0 in
       let inner = All-contains (IsInner u f tiles) pairs p h.each r.1 in
-      of-loose (tile_of tiles k) (tile_of tiles p.first) (second_of tiles p.second) inner.loose.glued (either tiles (λ n l. refl) k p inner.present r.2)
+      of-loose (tile_of tiles k) (tile_of tiles p.first) (second_of tiles p.second) inner.loose.glued
+      (either tiles (λ n l. refl) k p inner.present r.2)
 
   -- and of a pair, whatever tiles and pairs come behind
-  pub taken-too : (crossed : List PlacedTile) (outer : List Pair) (k : ℕ) → IsTrue (get_or taken k false) → IsTaken u f tiles (map (loose_of (tiles ++ crossed)) (pairs ++ outer)) (tile_of tiles k)
+  pub taken-too : (crossed : List PlacedTile) (outer : List Pair) (k : ℕ) → IsTrue (get_or taken k false)
+      → IsTaken u f tiles (map (loose_of (tiles ++ crossed)) (pairs ++ outer)) (tile_of tiles k)
   taken-too crossed outer k set =
       let r = h.taken k set in
       let p : Pair = r.0 in
       let inner = All-contains (IsInner u f tiles) pairs p h.each r.1 in
       let all : List PlacedTile = tiles ++ crossed in
-      inl (loose_of all p, contains-map (loose_of all) (pairs ++ outer) p (Contains-append_left pairs outer p r.1), either all (λ n l. front-there tiles crossed n l) k p inner.present r.2)
+      inl (
+        loose_of all p,
+        contains-map (loose_of all) (pairs ++ outer) p
+            (Contains-append_left pairs outer p r.1),
+        either all (λ n l. front-there tiles crossed n l) k p
+            inner.present r.2,
+      )
 
   -- no tile crossed to yet
   pub none-crossed : AreGiven u f tiles → ArePaired u f tiles (length pairs) 0 [] (pairs ++ [])
@@ -199,8 +254,12 @@ module _ (m : Rule) (L : HasGlueLaws m) (f : FrameValue) (is : IsFrameOf (tiling
     few = omega arith;
     few_crossed = omega arith;
     given = subst (All (IsGiven u f)) (sym plain) given;
-    present = subst (λ (xs : List PlacedTile). All (ArePresent (length xs)) pairs) (sym plain) (All-weaker (IsInner u f tiles) (ArePresent (length tiles)) (λ p i. i.present) pairs h.each);
-    loose = subst (λ (xs : List PlacedTile). All (IsLoose u f tiles) (map (loose_of xs) pairs)) (sym plain) (All-map (IsLoose u f tiles) (loose_of tiles) pairs (All-weaker (IsInner u f tiles) (λ p. IsLoose u f tiles (loose_of tiles p)) (λ p i. i.loose) pairs h.each));
+    present = subst (λ (xs : List PlacedTile). All (ArePresent (length xs)) pairs) (sym plain)
+        (All-weaker (IsInner u f tiles) (ArePresent (length tiles)) (λ p i. i.present) pairs h.each);
+    loose = subst (λ (xs : List PlacedTile). All (IsLoose u f tiles) (map (loose_of xs) pairs)) (sym plain)
+        (All-map (IsLoose u f tiles) (loose_of tiles) pairs
+        (All-weaker (IsInner u f tiles) (λ p. IsLoose u f tiles (loose_of tiles p)) (λ p i. i.loose) pairs
+        h.each));
     taken = λ k l. absurd (omega (arith, l));
   })
     where

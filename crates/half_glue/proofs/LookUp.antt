@@ -2,28 +2,28 @@
 use Rattle.std.proofs.Common.{◌≡◌, inl, inr, ℕ, ◌<◌, [], List, ℤ, pos, All, length, get_or, Option, None, Some, IfSome, refl, sym, ap, ◌∙◌, subst, arith}
 use Rattle.std.specs.List.{Contains}
 use Rattle.std.proofs.lemmas.List.Sorted.{All-permutation}
-use Rattle.addressing.specs.Address.{Address, depth, top_kind}
-use Rattle.addressing.specs.Search.{IsAmong}
-use Rattle.substitution.specs.Motion.{moved, followed}
-use Rattle.substitution.specs.Placement.{placement}
-use Rattle.substitution.specs.Points.{Points}
-use Rattle.substitution.specs.RuleParts.{edge_count, vertex, next}
-use Rattle.substitution.specs.Supertile.{supertile}
-use Rattle.substitution.proofs.Addresses.{StandsBeside-placement}
-use Rattle.substitution.proofs.Motions.{moved-followed}
-use Rattle.edge_to_edge.proofs.ChildEdges.{kind-with_edge}
+use Rattle.theory_addresses.specs.Address.{Address, depth, top_kind}
+use Rattle.theory_addresses.specs.Search.{IsAmong}
+use Rattle.theory_substitution.specs.Motion.{moved, followed}
+use Rattle.theory_substitution.specs.Placement.{placement}
+use Rattle.theory_substitution.specs.Points.{Points}
+use Rattle.theory_substitution.specs.RuleParts.{edge_count, vertex, next}
+use Rattle.theory_substitution.specs.Supertile.{supertile}
+use Rattle.theory_substitution.proofs.Addresses.{StandsBeside-placement}
+use Rattle.theory_substitution.proofs.Motions.{moved-followed}
+use Rattle.theory_edge_to_edge.proofs.ChildEdges.{kind-with_edge}
 use Rattle.cyclo_points.specs.declared.motion.Motion as program
 use Rattle.cyclo_points.specs.declared.order.Order.{Order}
 use Rattle.cyclo_points.specs.Motion.{motion_in}
 use Rattle.cyclo_points.specs.Order.{NumberOf, points_of}
-use Rattle.dissection.specs.Accepted.{HasEdge}
-use Rattle.dissection.specs.Across.{RunsBack, IsTileAcross}
-use Rattle.dissection.specs.TileEdges.{IsTileBeside, tile_at, edge_of}
-use Rattle.frames.specs.Back.{back}
-use Rattle.frames.specs.Frame.{motion_beside, lifted_in}
-use Rattle.frames.proofs.Carried.{some_turn}
-use Rattle.frames.proofs.Frames.{IsWhole, placement-turn, StandsInFrame-whole}
-use Rattle.frames.proofs.Group.{followed-assoc, followed-still, back-followed}
+use Rattle.theory_dissection.specs.Accepted.{HasEdge}
+use Rattle.theory_dissection.specs.Across.{RunsBack, IsTileAcross}
+use Rattle.theory_dissection.specs.TileEdges.{IsTileBeside, tile_at, edge_of}
+use Rattle.theory_frames.specs.Back.{back}
+use Rattle.theory_frames.specs.Frame.{motion_beside, lifted_in}
+use Rattle.theory_frames.proofs.Carried.{some_turn}
+use Rattle.theory_frames.proofs.Frames.{IsWhole, placement-turn, StandsInFrame-whole}
+use Rattle.theory_frames.proofs.Group.{followed-assoc, followed-still, back-followed}
 use Rattle.cyclo_points.proofs.SamePoints.{point_in-exact}
 use Rattle.rule_model.specs.declared.rule.Rule.{Rule}
 use Rattle.rule_model.specs.Glue.{IsGlueEdge}
@@ -37,7 +37,7 @@ use Rattle.tile_place.proofs.KeyOrder.{level-numbers}
 use Rattle.tile_place.proofs.Plane.{its_rule, fits_tables, has_edge}
 use Rattle.tile_shape.specs.Views.{address_of}
 use Rattle.lazy_walk.specs.Frames.{FrameValue, whole, IsFrameOf}
-use Rattle.windows.proofs.Members.{same_whole}
+use Rattle.theory_windows.proofs.Members.{same_whole}
 use Rattle.half_glue.specs.declared.glue_side.GlueSide.{GlueSide}
 use Rattle.half_glue.specs.declared.glue_side.OtherSide.{OtherSide}
 use Rattle.half_glue.specs.Checked.{HasGlueLaws}
@@ -51,10 +51,13 @@ use Rattle.half_glue.proofs.Halves.{given-whole, given-key, glue-edge-of, glued-
 use Rattle.half_glue.proofs.Keyed.{IsKeyOf, from-keys}
 
 -- a key found is that of the tile of its number
-pub key-found : (tiles : List PlacedTile) (keys : List OrderKey) → AreKeysOf tiles keys → All HasKey tiles → (m : program.Motion) (k n : ℕ) → FitsKey m k → Contains keys (key_of m k n)
+pub key-found : (tiles : List PlacedTile) (keys : List OrderKey) → AreKeysOf tiles keys → All HasKey tiles
+    → (m : program.Motion) (k n : ℕ) → FitsKey m k → Contains keys (key_of m k n)
     → (n < length tiles) × (order_numbers m k ≡ order_numbers (tile_of tiles n).motion (tile_of tiles n).kind)
 key-found tiles keys are fit m k n fits c =
-    let own : All (IsKeyOf (λ (x : PlacedTile). x) tiles) keys = All-permutation (IsKeyOf (λ (x : PlacedTile). x) tiles) (own_keys tiles) keys are.same (from-keys (λ (x : PlacedTile). x) [] tiles 0 refl) in
+    let own : All (IsKeyOf (λ (x : PlacedTile). x) tiles) keys = All-permutation
+    (IsKeyOf (λ (x : PlacedTile). x) tiles) (own_keys tiles) keys are.same
+    (from-keys (λ (x : PlacedTile). x) [] tiles 0 refl) in
     let key = subst (IsKeyOf (λ (x : PlacedTile). x) tiles) c.2 (own c.0 (key_of m k n) c.1) in
     let y = tile_of tiles n in
     (key.below, level-numbers m y.motion k y.kind (key_of m k n) (key_of m k n) fits (fit n no_tile key.below) refl (key.is no_tile) refl refl)
@@ -77,8 +80,12 @@ module _ (m : Rule) (L : HasGlueLaws m) where
   runs-back : (k e l g : ℕ) (glue own its : MotionOf t) → Glues t k e l g glue → its ≡ followed P glue own → (a b : Address) → a.kind ≡ k → b.kind ≡ l
       → RunsBack (edge_of P t.rule (record { address = a; motion = own }) e) (edge_of P t.rule (record { address = b; motion = its }) g)
   runs-back k e l g glue own its glues is a b ka kb = record {
-    from_end = at (vertex P t.rule b.kind g) ∙ ap (moved P own) (ap (λ n. moved P glue (vertex P t.rule n g)) kb ∙ glues.runs_back.from_end ∙ ap (λ n. vertex P t.rule n (next t.rule n e)) (sym ka));
-    to_start = at (vertex P t.rule b.kind (next t.rule b.kind g)) ∙ ap (moved P own) (ap (λ n. moved P glue (vertex P t.rule n (next t.rule n g))) kb ∙ glues.runs_back.to_start ∙ ap (λ n. vertex P t.rule n e) (sym ka));
+    from_end = at (vertex P t.rule b.kind g) ∙ ap (moved P own)
+        (ap (λ n. moved P glue (vertex P t.rule n g)) kb ∙ glues.runs_back.from_end
+        ∙ ap (λ n. vertex P t.rule n (next t.rule n e)) (sym ka));
+    to_start = at (vertex P t.rule b.kind (next t.rule b.kind g))
+        ∙ ap (moved P own) (ap (λ n. moved P glue (vertex P t.rule n (next t.rule n g))) kb
+        ∙ glues.runs_back.to_start ∙ ap (λ n. vertex P t.rule n e) (sym ka));
   }
     where
       at : (z : NumberOf m.order) → moved P its z ≡ moved P own (moved P glue z)
@@ -98,7 +105,9 @@ module _ (m : Rule) (L : HasGlueLaws m) where
     whole_b = given-whole m L f is y its
 
     -- the motion of a tile of the frame, followed by the base's own in the supertile, is the tile's there
-    in-supertile : (z : PlacedTile) → IsGiven t f z → placement P t.rule (lifted_in (whole f) (address_of z.addr)).digits ≡ followed P (motion_in m.order z.motion) (placement P t.rule (whole f).digits)
+    in-supertile : (z : PlacedTile) → IsGiven t f z
+        → placement P t.rule (lifted_in (whole f) (address_of z.addr)).digits ≡ followed P
+        (motion_in m.order z.motion) (placement P t.rule (whole f).digits)
     in-supertile z own =
         let c = lifted_in (whole f) (address_of z.addr) in
         let n = placement P t.rule c.digits in
@@ -109,7 +118,9 @@ module _ (m : Rule) (L : HasGlueLaws m) where
         ∙ ap (followed P n) (sym (back-followed P L.points base turn)) ∙ sym (followed-assoc P L.points n (back P base) base)
         ∙ ap (λ (g : MotionOf t). followed P g base) (own.in_frame.alone (motion_beside P t.rule (whole f).digits c.digits) beside.among)
 
-    module _ (e : ℕ) (o : OtherSide) (side : IsOtherSide t x.kind e o) (n : program.Motion) (beside : IsBeside m.order o x.motion n) (numbers : order_numbers n o.kind ≡ order_numbers y.motion y.kind) where
+    module _ (e : ℕ) (o : OtherSide) (side : IsOtherSide t x.kind e o) (n : program.Motion)
+        (beside : IsBeside m.order o x.motion n)
+        (numbers : order_numbers n o.kind ≡ order_numbers y.motion y.kind) where
       same-kind : o.kind ≡ y.kind
       same-kind = same_whole o.kind y.kind (ap (λ (ns : List ℤ). get_or ns 5 (pos 0)) numbers)
 
@@ -128,7 +139,9 @@ module _ (m : Rule) (L : HasGlueLaws m) where
       its-beside : IsTileBeside P t.rule a (tile_at P t.rule b)
       its-beside =
           subst (λ n. IsAmong (tile_at P t.rule b) (supertile P t.rule (top_kind a) n)) (whole_b.same_depth ∙ sym whole_a.same_depth)
-          (subst (λ k. IsAmong (tile_at P t.rule b) (supertile P t.rule k (depth b))) (whole_b.same_top ∙ sym whole_a.same_top) (StandsBeside-placement P L.points t.rule b whole_b.fits).among)
+          (subst (λ k. IsAmong (tile_at P t.rule b) (supertile P t.rule k (depth b)))
+          (whole_b.same_top ∙ sym whole_a.same_top)
+          (StandsBeside-placement P L.points t.rule b whole_b.fits).among)
 
       over : IsTileAcross P t.rule (tile_at P t.rule a) e (tile_at P t.rule b) side.back_edge
       over = record {
@@ -136,7 +149,9 @@ module _ (m : Rule) (L : HasGlueLaws m) where
         beside = its-beside;
         other = λ s. side.other_kind (same-kind ∙ its.its_kind ∙ ap (λ (c : Address). c.kind) s ∙ sym given.its_kind);
         edge_exists = subst (λ k. side.back_edge < edge_count t.rule k) (same-kind ∙ its.its_kind) side.glue_edge.exists;
-        runs_back = runs-back x.kind e o.kind side.back_edge glue (placement P t.rule a.digits) (placement P t.rule b.digits) side.glues beyond a b (sym given.its_kind) (sym (same-kind ∙ its.its_kind));
+        runs_back = runs-back x.kind e o.kind side.back_edge glue (placement P t.rule a.digits)
+            (placement P t.rule b.digits) side.glues beyond a b (sym given.its_kind)
+            (sym (same-kind ∙ its.its_kind));
       }
 
       -- so its glue edge is inside, and that tile is the only one across
@@ -144,7 +159,8 @@ module _ (m : Rule) (L : HasGlueLaws m) where
       beside-glued glue_edge = glued-of m L f is x given y its e side.back_edge glue_edge (elim (L.crossing (its_rule m (settled m L)) a e edge) [
         | inl c ↦ record {
           across = over;
-          only = λ d h across. let one = c.across.only d h across in let own = c.across.only (tile_at P t.rule b) side.back_edge over in (one.0 ∙ sym own.0, one.1 ∙ sym own.1);
+          only = λ d h across. let one = c.across.only d h across in let own = c.across.only
+              (tile_at P t.rule b) side.back_edge over in (one.0 ∙ sym own.0, one.1 ∙ sym own.1);
         }
         | inr o ↦ absurd (o.none (tile_at P t.rule b) side.back_edge over)
       ])
@@ -153,11 +169,14 @@ module _ (m : Rule) (L : HasGlueLaws m) where
           edge = has_edge m (settled m L) a e (fits_tables m (settled m L) a whole_a.fits) (glue-edge-of m L f is x given e glue_edge)
 
   -- the tile given of the number found is the other half
-  module _ (f : FrameValue) (is : IsFrameOf t f) (tiles : List PlacedTile) (given : All (IsGiven t f) tiles) (keys : List OrderKey) (are : AreKeysOf tiles keys) (x : PlacedTile) (own : IsGiven t f x) where
+  module _ (f : FrameValue) (is : IsFrameOf t f) (tiles : List PlacedTile) (given : All (IsGiven t f) tiles)
+      (keys : List OrderKey) (are : AreKeysOf tiles keys) (x : PlacedTile) (own : IsGiven t f x) where
     fit : All HasKey tiles
     fit i d l = given-key m L f is (get_or tiles i d) (given i d l)
 
-    beside-known : (e n : ℕ) → IsGlueEdge t.rule x.kind e → (o : Option OtherSide) → IfSome o (IsOtherSide t x.kind e) → StandsBeside m.order o x.motion keys n → (n < length tiles) × AreGlued t f x (tile_of tiles n)
+    beside-known : (e n : ℕ) → IsGlueEdge t.rule x.kind e → (o : Option OtherSide)
+        → IfSome o (IsOtherSide t x.kind e) → StandsBeside m.order o x.motion keys n → (n < length tiles)
+        × AreGlued t f x (tile_of tiles n)
     beside-known e n glue_edge None side there = absurd there
     beside-known e n glue_edge (Some o) side there =
         let exists = kind-with_edge P t.rule o.kind side.back_edge side.glue_edge.exists in
@@ -169,11 +188,15 @@ module _ (m : Rule) (L : HasGlueLaws m) where
         let found = key-found tiles keys are fit there.0 o.kind n fits there.2 in
         (found.0, beside-glued f is x (tile_of tiles n) own (given n no_tile found.0) e o side there.0 there.1 found.1 glue_edge)
 
-    pub given-glued : (side : GlueSide) (n : ℕ) → IsSide t x.kind side → StandsBeside m.order side.other x.motion keys n → (n < length tiles) × AreGlued t f x (tile_of tiles n)
+    pub given-glued : (side : GlueSide) (n : ℕ) → IsSide t x.kind side
+        → StandsBeside m.order side.other x.motion keys n → (n < length tiles)
+        × AreGlued t f x (tile_of tiles n)
     given-glued side n is there = beside-known side.edge n is.only.glue_edge side.other is.other there
 
 -- what is found by the other side is found by what a kind has
-pub each-number : (o : Order) (s : Option OtherSide) (side : OtherSide) → s ≡ Some side → (own m : program.Motion) → IsBeside o side own m → (keys : List OrderKey) (x : Option ℕ) → IfSome x (λ n. Contains keys (key_of m side.kind n))
+pub each-number : (o : Order) (s : Option OtherSide) (side : OtherSide) → s ≡ Some side
+    → (own m : program.Motion) → IsBeside o side own m → (keys : List OrderKey) (x : Option ℕ)
+    → IfSome x (λ n. Contains keys (key_of m side.kind n))
     → IfSome x (StandsBeside o s own keys)
 each-number o s side e own m beside keys None h = tt
 each-number o s side e own m beside keys (Some n) h = subst (λ q. StandsBeside o q own keys n) (sym e) (m, beside, h)

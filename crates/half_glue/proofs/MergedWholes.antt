@@ -30,22 +30,30 @@ module _ (f : FrameValue) (all : List PlacedTile) where
   wholes-order (p ∷ q ∷ ps) o zero zero l h = absurd (omega (arith, l))
   wholes-order (p ∷ q ∷ ps) o zero (suc zero) l h = o.0
   wholes-order (p ∷ q ∷ ps) o zero (suc (suc j)) l h =
-      total.trans (pair_numbers all p) (pair_numbers all q) (pair_numbers all (pair_of_number (q ∷ ps) (suc j))) o.0 (wholes-order (q ∷ ps) o.1 zero (suc j) (omega arith) (omega (arith, h)))
+      total.trans (pair_numbers all p) (pair_numbers all q)
+      (pair_numbers all (pair_of_number (q ∷ ps) (suc j))) o.0
+      (wholes-order (q ∷ ps) o.1 zero (suc j) (omega arith) (omega (arith, h)))
   wholes-order (p ∷ q ∷ ps) o (suc i) zero l h = absurd (omega (arith, l))
   wholes-order (p ∷ q ∷ ps) o (suc i) (suc j) l h = wholes-order (q ∷ ps) o.1 i j (omega (arith, l)) (omega (arith, h))
 
   pub order-wholes : (ps : List Pair) → ArePairsInOrder all ps → AreInOrder (wholes_of f all ps)
   order-wholes [] o = tt
   order-wholes (p ∷ []) o = tt
-  order-wholes (p ∷ q ∷ ps) o = (o 0 1 (omega arith) (omega arith), order-wholes (q ∷ ps) (λ i j l h. o (suc i) (suc j) (omega (arith, l)) (omega (arith, h))))
+  order-wholes (p ∷ q ∷ ps) o = (
+    o 0 1 (omega arith) (omega arith),
+    order-wholes (q ∷ ps)
+        (λ i j l h. o (suc i) (suc j) (omega (arith, l)) (omega (arith, h))),
+  )
 
   -- the pairs merged have the whole tiles of both lists, those with one first tile but once
-  pub merged-arranged : (inner outer sorted pairs : List Pair) → AreArranged (wholes_of f all outer) (wholes_of f all sorted) → AreMerged all inner sorted pairs
+  pub merged-arranged : (inner outer sorted pairs : List Pair)
+      → AreArranged (wholes_of f all outer) (wholes_of f all sorted) → AreMerged all inner sorted pairs
       → AreArranged (wholes_of f all (inner ++ outer)) (wholes_of f all pairs)
   merged-arranged inner outer sorted pairs h g = record {
     from_made = All-map (Contains made) (whole_of f all) pairs (All-weaker _ (λ p. Contains made (whole_of f all p)) from pairs g.from);
     each = subst (All Has) (sym both) (All-append Has (wholes_of f all inner) (wholes_of f all outer)
-        (All-map Has (whole_of f all) inner (All-weaker (Contains pairs) (λ p. Has (whole_of f all p)) (λ p c. (whole_of f all p, contains-map (whole_of f all) pairs p c, refl)) inner g.each_inner))
+        (All-map Has (whole_of f all) inner (All-weaker (Contains pairs) (λ p. Has (whole_of f all p))
+        (λ p c. (whole_of f all p, contains-map (whole_of f all) pairs p c, refl)) inner g.each_inner))
         (All-weaker _ Has sorted-has (wholes_of f all outer) h.each));
   }
     where
@@ -61,8 +69,10 @@ module _ (f : FrameValue) (all : List PlacedTile) where
       from : (p : Pair) → Contains inner p ⊎ Contains sorted p → Contains made (whole_of f all p)
       from p (inl c) = contains-map (whole_of f all) (inner ++ outer) p (Contains-append_left inner outer p c)
       from p (inr c) =
-          let there = All-contains (Contains (wholes_of f all outer)) (wholes_of f all sorted) (whole_of f all p) h.from_made (contains-map (whole_of f all) sorted p c) in
-          subst (λ (ws : List WholeTile). Contains ws (whole_of f all p)) (sym both) (Contains-append_right (wholes_of f all inner) (wholes_of f all outer) (whole_of f all p) there)
+          let there = All-contains (Contains (wholes_of f all outer)) (wholes_of f all sorted)
+          (whole_of f all p) h.from_made (contains-map (whole_of f all) sorted p c) in
+          subst (λ (ws : List WholeTile). Contains ws (whole_of f all p)) (sym both)
+          (Contains-append_right (wholes_of f all inner) (wholes_of f all outer) (whole_of f all p) there)
 
       sorted-has : (v : WholeTile) → ((w : WholeTile) × Contains (wholes_of f all sorted) w × (first_numbers w ≡ first_numbers v)) → Has v
       sorted-has v r =
@@ -71,7 +81,8 @@ module _ (f : FrameValue) (all : List PlacedTile) where
           (whole_of f all s.0, contains-map (whole_of f all) pairs s.0 s.1, s.2 ∙ ap first_numbers q.2 ∙ r.2)
 
 -- a property of the pairs of both lists is one of the pairs merged
-pub merged-all : (P : Pair → Type 0) (all : List PlacedTile) (inner sorted pairs : List Pair) → All P inner → All P sorted → AreMerged all inner sorted pairs → All P pairs
+pub merged-all : (P : Pair → Type 0) (all : List PlacedTile) (inner sorted pairs : List Pair) → All P inner
+    → All P sorted → AreMerged all inner sorted pairs → All P pairs
 merged-all P all inner sorted pairs left right g = All-weaker _ P by pairs g.from
   where
     by : (p : Pair) → Contains inner p ⊎ Contains sorted p → P p

@@ -22,7 +22,8 @@ use Rattle.half_glue.proofs.Halves.{its-kind-there}
 use Rattle.half_glue.proofs.LookUp.{given-glued}
 use Rattle.half_glue.proofs.Settling.{settled-inside, settled-joined}
 
-module _ (m : Rule) (L : HasGlueLaws m) (f : FrameValue) (is : IsFrameOf (tiling_of m) f) (tiles : List PlacedTile) (given : All (IsGiven (tiling_of m) f) tiles) (sides : List (Option GlueSide))
+module _ (m : Rule) (L : HasGlueLaws m) (f : FrameValue) (is : IsFrameOf (tiling_of m) f)
+    (tiles : List PlacedTile) (given : All (IsGiven (tiling_of m) f) tiles) (sides : List (Option GlueSide))
     (are : AreSides (tiling_of m) sides) (number : ℕ) (below : number < length tiles) where
   abbrev t : Tiling
   t = tiling_of m
@@ -49,7 +50,9 @@ module _ (m : Rule) (L : HasGlueLaws m) (f : FrameValue) (is : IsFrameOf (tiling
 
     -- its side
     pub side-of : (k : ℕ) → k ≡ x.kind → (s : Option GlueSide) → get_or sides k None ≡ s → IsSideOf t y.kind s
-    side-of k same s its = subst (IsSideOf t y.kind) (ap (λ n. get_or sides n None) (ap (λ (z : PlacedTile). z.kind) (sym (same-tile x read)) ∙ sym same) ∙ its) (are.each y.kind kind-below)
+    side-of k same s its = subst (IsSideOf t y.kind)
+        (ap (λ n. get_or sides n None) (ap (λ (z : PlacedTile). z.kind) (sym (same-tile x read)) ∙ sym same)
+        ∙ its) (are.each y.kind kind-below)
 
     pub only-of : (k : ℕ) → k ≡ x.kind → (s : GlueSide) → get_or sides k None ≡ Some s → IsOnlyGlueEdge t.rule x.kind s.edge
     only-of k same s its = subst (λ (z : PlacedTile). IsOnlyGlueEdge t.rule z.kind s.edge) (sym (same-tile x read)) (side-of k same (Some s) its).only
@@ -63,7 +66,8 @@ module _ (m : Rule) (L : HasGlueLaws m) (f : FrameValue) (is : IsFrameOf (tiling
     none-joined = record { inside = λ e glue on. absurd (none e glue); unrefused = λ e back b n glue over stands. absurd (none e glue) }
 
   -- one whose other half is given
-  module _ (keys : List OrderKey) (keyed : AreKeysOf tiles keys) (side : GlueSide) (its : IsSide t y.kind side) (n : ℕ) (there : StandsBeside m.order side.other y.motion keys n) where
+  module _ (keys : List OrderKey) (keyed : AreKeysOf tiles keys) (side : GlueSide)
+      (its : IsSide t y.kind side) (n : ℕ) (there : StandsBeside m.order side.other y.motion keys n) where
     pub given-found : (n < length tiles) × AreGlued t f y (tile_of tiles n)
     given-found = given-glued m L f is tiles given keys keyed y own side n its there
 

@@ -1,13 +1,13 @@
 -- The parts of a whole tile are a tile given and the one across, and the shift of neither is refused.
 use Rattle.std.proofs.Common.{◌≡◌, inl, inr, ℕ, ◌^◌, Bool, true, false, List, [], ◌∷◌, Option, None, Some, All, get_or, refl, sym, ap, ◌∙◌, subst}
 use Rattle.std.proofs.lemmas.List.Elements.{All-from_recursion}
-use Rattle.addressing.specs.Address.{Address}
-use Rattle.substitution.specs.Supertile.{Placed}
+use Rattle.theory_addresses.specs.Address.{Address}
+use Rattle.theory_substitution.specs.Supertile.{Placed}
 use Rattle.cyclo_points.specs.declared.point.Point.{Point}
 use Rattle.cyclo_points.specs.Order.{NumberOf, is_refused}
 use Rattle.cyclo_points.specs.Point.{IsWithin}
 use Rattle.cyclo_points.proofs.Refusal.{some_beyond, within-some_beyond, some_beyond-decides, some_beyond-refused}
-use Rattle.frames.specs.Frame.{lifted_in}
+use Rattle.theory_frames.specs.Frame.{lifted_in}
 use Rattle.rule_model.specs.declared.rule.Rule.{Rule}
 use Rattle.rule_model.specs.Glue.{IsGlueEdge}
 use Rattle.rule_model.specs.Tiling.{Tiling, tiling_of}
@@ -50,19 +50,26 @@ module _ (m : Rule) (L : HasGlueLaws m) (f g : FrameValue) (is : IsFrameOf (tili
     -- the part that was given
     own-within : (a : PlacedTile) → Stands t g a → placed_in m.order a ≡ lifted_tile t g x → IsWithin (2 ^ 24) a.motion.shift
     own-within a stands e =
-        unrefused a stands (ap (λ (y : Placed (NumberOf m.order)). is_refused m.order y.motion.shift) e ∙ sym (some_beyond-refused m.order x.motion.shift given.in_order) ∙ not-beyond x.motion.shift given.within)
+        unrefused a stands (ap (λ (y : Placed (NumberOf m.order)). is_refused m.order y.motion.shift) e
+        ∙ sym (some_beyond-refused m.order x.motion.shift given.in_order)
+        ∙ not-beyond x.motion.shift given.within)
 
     -- and the one across
-    other-within : (a b : PlacedTile) (e back : ℕ) → Stands t g a → Stands t g b → placed_in m.order a ≡ lifted_tile t g x → IsGlueEdge t.rule a.kind e → Crosses t (address_of a.addr) e (address_of b.addr) back
+    other-within : (a b : PlacedTile) (e back : ℕ) → Stands t g a → Stands t g b
+        → placed_in m.order a ≡ lifted_tile t g x → IsGlueEdge t.rule a.kind e
+        → Crosses t (address_of a.addr) e (address_of b.addr) back
         → IsWithin (2 ^ 24) b.motion.shift
     other-within a b e back sa sb same glue over =
         let address : address_of a.addr ≡ lifted_in (whole g) (address_of x.addr) = ap (λ (y : Placed (NumberOf m.order)). y.address) same in
         let kind : a.kind ≡ x.kind = sa.its_kind ∙ ap (λ (y : Address). y.kind) address ∙ sym given.its_kind in
         unrefused b sb
-        (unrefused-across m L g up.is_frame x (given-on m L f is x given g up) (subst (λ y. CanBeJoined t y x) (sym (full-later t f g up)) can) e (subst (λ k. IsGlueEdge t.rule k e) kind glue) b back
+        (unrefused-across m L g up.is_frame x (given-on m L f is x given g up)
+        (subst (λ y. CanBeJoined t y x) (sym (full-later t f g up)) can) e
+        (subst (λ k. IsGlueEdge t.rule k e) kind glue) b back
         (subst (λ y. Crosses t y e (address_of b.addr) back) address over) sb)
 
-    parts-within : (a : PlacedTile) (second : Option PlacedTile) → IsWholeBy t g a second → IsOneOf t (lifted_tile t g x) a second → AreWithin (parts_by a second)
+    parts-within : (a : PlacedTile) (second : Option PlacedTile) → IsWholeBy t g a second
+        → IsOneOf t (lifted_tile t g x) a second → AreWithin (parts_by a second)
     parts-within a None w e = All-from_recursion (λ y. IsWithin (2 ^ 24) y.motion.shift) (a ∷ []) (own-within a w.0 e, tt)
     parts-within a (Some b) w (inl e) =
         All-from_recursion (λ y. IsWithin (2 ^ 24) y.motion.shift) (a ∷ b ∷ [])
@@ -71,10 +78,13 @@ module _ (m : Rule) (L : HasGlueLaws m) (f g : FrameValue) (is : IsFrameOf (tili
         All-from_recursion (λ y. IsWithin (2 ^ 24) y.motion.shift) (a ∷ b ∷ [])
         (other-within b a w.2.its_edge w.2.edge w.1 w.0 e w.2.its_glue_edge.glue_edge w.2.back, (own-within b w.1 e, tt))
 
-  pub all-within : (tiles : List PlacedTile) (wholes : List WholeTile) → AreGiven t f tiles → CanBeGlued t f tiles → AreWholeTilesOf t g tiles wholes → All HasPartsWithin wholes
+  pub all-within : (tiles : List PlacedTile) (wholes : List WholeTile) → AreGiven t f tiles
+      → CanBeGlued t f tiles → AreWholeTilesOf t g tiles wholes → All HasPartsWithin wholes
   all-within tiles wholes given can h = λ i d l.
       let w = get_or wholes i d in
       let part = h.of_given i d l in
       let x = part.0 in
       let among = part.1 in
-      parts-within x (subst (IsGiven t f) among.2 (given among.0 x among.1)) (subst (CanBeJoined t (full t f)) among.2 (can among.0 x among.1)) w.first w.second (h.whole i d l) part.2
+      parts-within x (subst (IsGiven t f) among.2 (given among.0 x among.1))
+      (subst (CanBeJoined t (full t f)) among.2 (can among.0 x among.1)) w.first w.second (h.whole i d l)
+      part.2

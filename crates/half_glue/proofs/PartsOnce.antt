@@ -6,14 +6,14 @@ use Rattle.std.specs.Ordering.{int_cmp, is_lt}
 use Rattle.std.specs.declared.cmp.Ordering.TheVariants.{Less, Equal}
 use Rattle.std.proofs.lemmas.Cmp.{int_cmp_total, lists_total}
 use Rattle.std.proofs.lemmas.Bool.{false≢true}
-use Rattle.addressing.specs.Search.{IsAmong}
-use Rattle.addressing.proofs.Ranges.{among-flat_map}
-use Rattle.substitution.specs.Supertile.{Placed}
+use Rattle.theory_addresses.specs.Search.{IsAmong}
+use Rattle.theory_addresses.proofs.Ranges.{among-flat_map}
+use Rattle.theory_substitution.specs.Supertile.{Placed}
 use Rattle.cyclo_points.specs.Order.{NumberOf}
 use Rattle.rule_model.specs.Tiling.{Tiling}
 use Rattle.tile_place.specs.Searched.{placed_in}
-use Rattle.windows.specs.Distinct.{AreDistinct}
-use Rattle.windows.proofs.Members.{distinct-append}
+use Rattle.theory_windows.specs.Distinct.{AreDistinct}
+use Rattle.theory_windows.proofs.Members.{distinct-append}
 use Rattle.lazy_walk.specs.Frames.{FrameValue}
 use Rattle.half_glue.specs.declared.whole_tile.WholeTile.{WholeTile}
 use Rattle.half_glue.specs.Covering.{all_parts, PartsOnceLaw}
@@ -51,16 +51,21 @@ module _ (t : Tiling) (f : FrameValue) where
   abbrev parts : WholeTile → List (Placed (NumberOf t.order))
   parts w = map (placed_in t.order) (parts_of w)
 
-  apart : (v w : WholeTile) → IsWholeTile t f v → IsWholeTile t f w → ComesBefore v w → (y : Placed (NumberOf t.order)) → IsAmong y (parts v) → IsAmong y (parts w) → ⊥
+  apart : (v w : WholeTile) → IsWholeTile t f v → IsWholeTile t f w → ComesBefore v w
+      → (y : Placed (NumberOf t.order)) → IsAmong y (parts v) → IsAmong y (parts w) → ⊥
   apart v w hv hw before y i j =
       not-before (first_numbers v) (first_numbers w)
-      (same-numbers t f v.first w.first (first-stands t f v.first v.second hv) (first-stands t f w.first w.second hw) (one-first t f v.first w.first v.second w.second hv hw y i j)) before
+      (same-numbers t f v.first w.first (first-stands t f v.first v.second hv)
+      (first-stands t f w.first w.second hw) (one-first t f v.first w.first v.second w.second hv hw y i
+      j)) before
 
   distinct : (ws : List WholeTile) → ((w : WholeTile) → IsAmong w ws → IsWholeTile t f w) → AreInOrder ws → AreDistinct (all_parts t ws)
   distinct [] h o = tt
   distinct (v ∷ ws) h o =
-      distinct-append (parts v) (all_parts t ws) (own-distinct t f v.first v.second (h v (inl refl))) (distinct ws (λ w i. h w (inr i)) (later-in_order v ws o))
-      (λ y i j. let p = among-flat_map parts y ws j in apart v p.piece (h v (inl refl)) (h p.piece (inr p.among)) (before-each v ws o p.piece p.among) y i p.inside)
+      distinct-append (parts v) (all_parts t ws) (own-distinct t f v.first v.second (h v (inl refl)))
+      (distinct ws (λ w i. h w (inr i)) (later-in_order v ws o))
+      (λ y i j. let p = among-flat_map parts y ws j in apart v p.piece (h v (inl refl))
+      (h p.piece (inr p.among)) (before-each v ws o p.piece p.among) y i p.inside)
 
 pub parts-once : (t : Tiling) → PartsOnceLaw t
 parts-once t f wholes whole in_order = distinct t f wholes (all-among (IsWholeTile t f) wholes whole) in_order

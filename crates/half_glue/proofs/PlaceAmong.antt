@@ -60,7 +60,8 @@ module _ (tiles : List PlacedTile) (pairs : List Pair) (from : ℕ) (sought : Li
       sym (subst (λ (o : Option PlacedTile). IfSome o (λ x. r ≡ slice_cmp int_cmp (numbers_placed x) sought))
       (ap (slice_get tiles) e ∙ slice_get-get_or tiles (pair_of_number pairs k).first no_tile l) h)
 
-  module _ (order : ArePairsInOrder tiles pairs) (first end : ℕ) (parted : ArePartedAt first end) (middle : ℕ) (above : first ≤ middle) (below : middle < end) where
+  module _ (order : ArePairsInOrder tiles pairs) (first end : ℕ) (parted : ArePartedAt first end) (middle : ℕ)
+      (above : first ≤ middle) (below : middle < end) where
     inside : middle < length pairs
     inside = let w = parted.within in omega (arith, below, w)
 
@@ -70,7 +71,8 @@ module _ (tiles : List PlacedTile) (pairs : List Pair) (from : ℕ) (sought : Li
       met = omega (arith, below);
       within = parted.within;
       before = λ k a l. elim (cases_lt k middle) [
-        | inl b ↦ total.trans (pair_numbers tiles (pair_of_number pairs k)) (pair_numbers tiles (pair_of_number pairs middle)) sought (order k middle b inside) e
+        | inl b ↦ total.trans (pair_numbers tiles (pair_of_number pairs k))
+            (pair_numbers tiles (pair_of_number pairs middle)) sought (order k middle b inside) e
         | inr b ↦ let same : middle ≡ k = omega (arith, l, b) in subst (λ i. stands i ≡ Less) same e
       ];
       behind = parted.behind;

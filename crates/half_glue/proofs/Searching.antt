@@ -22,7 +22,9 @@ place_of (Ok i) = i
 place_of (Err i) = i
 
 key-total : IsTotalOrder key_order
-key-total = then_total (on_total (λ (k : OrderKey). k.high) nat_cmp_total) (then_total (on_total (λ (k : OrderKey). k.low) nat_cmp_total) (on_total (λ (k : OrderKey). k.number) nat_cmp_total))
+key-total = then_total (on_total (λ (k : OrderKey). k.high) nat_cmp_total)
+    (then_total (on_total (λ (k : OrderKey). k.low) nat_cmp_total)
+    (on_total (λ (k : OrderKey). k.number) nat_cmp_total))
 
 same-order : (n : ℕ) → nat_cmp n n ≡ Equal
 same-order n = sym (nat_cmp_is n n Equal refl)
@@ -73,11 +75,15 @@ module _ (high low : ℕ) where
       by_high Greater p h l = absurd (cc (sym (ap (λ o. ordering_then o (ordering_then (nat_cmp q.low low) (nat_cmp q.number 0))) h) ∙ e))
       by_high Equal Less h l = absurd (cc (sym (ap₂ (λ o p. ordering_then o (ordering_then p (nat_cmp q.number 0))) h l) ∙ e))
       by_high Equal Greater h l = absurd (cc (sym (ap₂ (λ o p. ordering_then o (ordering_then p (nat_cmp q.number 0))) h l) ∙ e))
-      by_high Equal Equal h l = ap₂ (λ a b. a && b) ((Decides-eqb q.high high).1 (ranked q.high high Equal (sym h))) ((Decides-eqb q.low low).1 (ranked q.low low Equal (sym l)))
+      by_high Equal Equal h l = ap₂ (λ a b. a && b)
+          ((Decides-eqb q.high high).1 (ranked q.high high Equal (sym h)))
+          ((Decides-eqb q.low low).1 (ranked q.low low Equal (sym l)))
 
   module _ (ks : List OrderKey) (sorted : IsSorted key_order ks) (n : ℕ) (there : Contains ks (key n)) where
     -- the bisection ends at a key of that place and kind
-    pub found-level : (r : Result ℕ ℕ) → IsSearchInRange r (length ks) → IfOk r (HoldsAt (λ y. key_order y sought ≡ Equal) ks) → IsBinarySearchResult (λ y. key_order y sought) ks r
+    pub found-level : (r : Result ℕ ℕ) → IsSearchInRange r (length ks)
+        → IfOk r (HoldsAt (λ y. key_order y sought ≡ Equal) ks)
+        → IsBinarySearchResult (λ y. key_order y sought) ks r
         → (place_of r < length ks) × ((d : OrderKey) → are_level (get_or ks (place_of r) d) sought ≡ true)
     found-level (Ok i) range ok position = (range, λ d. exactly (get_or ks i d) (ok d))
     found-level (Err i) range ok position = (below, λ d. between n (get_or ks i d) (parted.1 i d (omega arith) below) (not_behind d))
@@ -100,10 +106,14 @@ module _ (high low : ℕ) where
             ∙ sorted_far (λ x y. is_lt (key_order x y)) (ranks_by key-total (λ (k : OrderKey). k)) ks sorted i there.0 d up there.1
 
 -- the same of the key that the program seeks, by the motion and the kind
-pub found-there : (m : Motion) (kind : ℕ) (s : OrderKey) → s ≡ key_of m kind 0 → (ks : List OrderKey) → IsSorted key_order ks → (n : ℕ) → Contains ks (key_of m kind n)
-    → (r : Result ℕ ℕ) → IsSearchInRange r (length ks) → IfOk r (HoldsAt (λ y. key_order y s ≡ Equal) ks) → IsBinarySearchResult (λ y. key_order y s) ks r
+pub found-there : (m : Motion) (kind : ℕ) (s : OrderKey) → s ≡ key_of m kind 0 → (ks : List OrderKey)
+    → IsSorted key_order ks → (n : ℕ) → Contains ks (key_of m kind n)
+    → (r : Result ℕ ℕ) → IsSearchInRange r (length ks) → IfOk r (HoldsAt (λ y. key_order y s ≡ Equal) ks)
+    → IsBinarySearchResult (λ y. key_order y s) ks r
     → (place : ℕ) → place ≡ place_of r → (place < length ks) × ((d : OrderKey) → are_level (get_or ks place d) s ≡ true)
 found-there m kind s e ks sorted n there r range ok position place is =
     subst (λ k. (k < length ks) × ((d : OrderKey) → are_level (get_or ks k d) s ≡ true)) (sym is)
-    (subst (λ q. IfOk r (HoldsAt (λ y. key_order y q ≡ Equal) ks) → IsBinarySearchResult (λ y. key_order y q) ks r → (place_of r < length ks) × ((d : OrderKey) → are_level (get_or ks (place_of r) d) q ≡ true)) (sym e)
+    (subst (λ q. IfOk r (HoldsAt (λ y. key_order y q ≡ Equal) ks)
+    → IsBinarySearchResult (λ y. key_order y q) ks r → (place_of r < length ks)
+    × ((d : OrderKey) → are_level (get_or ks (place_of r) d) q ≡ true)) (sym e)
     (found-level (key_of m kind 0).high (key_of m kind 0).low ks sorted n there r range) ok position)

@@ -3,7 +3,7 @@ use Rattle.std.proofs.Common.{◌≡◌, inl, inr, ℕ, ◌+◌, ◌<◌, ◌≤
 use Rattle.std.specs.List.{Contains}
 use Rattle.std.proofs.lemmas.Bool.{cases_lt}
 use Rattle.std.proofs.lemmas.List.Elements.{All-push, All-take}
-use Rattle.frames.specs.Frame.{lifted_in}
+use Rattle.theory_frames.specs.Frame.{lifted_in}
 use Rattle.rule_model.specs.declared.rule.Rule.{Rule}
 use Rattle.rule_model.specs.Tiling.{Tiling, tiling_of}
 use Rattle.tile_place.specs.declared.placed_tile.PlacedTile.{PlacedTile}
@@ -48,7 +48,8 @@ module _ (t : Tiling) (old now : FrameValue) (grows : GrowsTo t old now) (xs : L
     edge = s.edge;
     is_given = one-of xs x s.tile among s.is_given;
     glue_edge = s.glue_edge;
-    on_boundary = subst (λ (f : FrameValue). IsBoundaryEdge t (lifted_in (whole f) (address_of s.tile.addr)) s.edge) (at_depth-grown t old now n grows) s.on_boundary;
+    on_boundary = subst (λ (f : FrameValue). IsBoundaryEdge t (lifted_in (whole f) (address_of s.tile.addr))
+        s.edge) (at_depth-grown t old now n grows) s.on_boundary;
   }
 
   -- what the frame has left behind is so for the tiles, where it has grown further for one of them alone
@@ -67,7 +68,8 @@ module _ (t : Tiling) (old now : FrameValue) (grows : GrowsTo t old now) (xs : L
     is_given = one-of xs x h.tile among h.is_given;
     its_address = h.its_address ∙ ap (λ (f : FrameValue). lifted_in (whole f) (address_of h.tile.addr)) (at_depth-grown t old now 64 grows);
     glue_edge = h.glue_edge;
-    on_boundary = subst (λ (f : FrameValue). IsBoundaryEdge t (lifted_in (whole f) (address_of h.tile.addr)) edge) (at_depth-grown t old now 64 grows) h.on_boundary;
+    on_boundary = subst (λ (f : FrameValue). IsBoundaryEdge t (lifted_in (whole f) (address_of h.tile.addr))
+        edge) (at_depth-grown t old now 64 grows) h.on_boundary;
   }
   cause-of after (CoordLimit value) h = record {
     tile = h.tile;
@@ -86,7 +88,9 @@ module _ (t : Tiling) (old now : FrameValue) (grows : GrowsTo t old now) (xs : L
   cause-of after NoMemory h = h
 
 -- ---- one more
-module _ (m : Rule) (L : HasGlueLaws m) (old now : FrameValue) (is : IsFrameOf (tiling_of m) old) (xs : List PlacedTile) (given : All (IsGiven (tiling_of m) old) xs) (i : ℕ) (below : i < length xs) (x : PlacedTile)
+module _ (m : Rule) (L : HasGlueLaws m) (old now : FrameValue) (is : IsFrameOf (tiling_of m) old)
+    (xs : List PlacedTile) (given : All (IsGiven (tiling_of m) old) xs) (i : ℕ) (below : i < length xs)
+    (x : PlacedTile)
     (at : get_or xs i x ≡ x) (before : AreSettled (tiling_of m) old now xs (take i xs)) where
   abbrev t : Tiling
   t = tiling_of m
@@ -95,10 +99,12 @@ module _ (m : Rule) (L : HasGlueLaws m) (old now : FrameValue) (is : IsFrameOf (
   among = (i, below, at)
 
   to_now : (n : ℕ) (y : PlacedTile) → IsGluedInside t old n y → IsGluedInside t now n y
-  to_now n y h e glue on = h e glue (subst (λ (f : FrameValue). IsBoundaryEdge t (lifted_in (whole f) (address_of y.addr)) e) (at_depth-grown t old now n before.grows) on)
+  to_now n y h e glue on = h e glue (subst (λ (f : FrameValue). IsBoundaryEdge t
+      (lifted_in (whole f) (address_of y.addr)) e) (at_depth-grown t old now n before.grows) on)
 
   to_old : (n : ℕ) (y : PlacedTile) → IsGluedInside t now n y → IsGluedInside t old n y
-  to_old n y h e glue on = h e glue (subst (λ (f : FrameValue). IsBoundaryEdge t (lifted_in (whole f) (address_of y.addr)) e) (sym (at_depth-grown t old now n before.grows)) on)
+  to_old n y h e glue on = h e glue (subst (λ (f : FrameValue). IsBoundaryEdge t
+      (lifted_in (whole f) (address_of y.addr)) e) (sym (at_depth-grown t old now n before.grows)) on)
 
   pub one-more : (after : FrameValue) → GrowsTo t now after → IsGluedInside t now (length after.digits) x → CanBeJoined t (full t now) x
       → ((n : ℕ) → length now.digits ≤ n → n < length after.digits → IsTooShallow t now (x ∷ []) n) → AreSettled t old after xs (take (i + 1) xs)
@@ -106,7 +112,9 @@ module _ (m : Rule) (L : HasGlueLaws m) (old now : FrameValue) (is : IsFrameOf (
     grows = grows;
     inside = subst (All (IsGluedInside t old (length after.digits))) (sym more)
         (All-push (IsGluedInside t old (length after.digits)) (take i xs) x kept (to_old (length after.digits) x inside));
-    joined = subst (All (CanBeJoined t (full t old))) (sym more) (All-push (CanBeJoined t (full t old)) (take i xs) x before.joined (subst (λ y. CanBeJoined t y x) (full-later t old now before.grows) joined));
+    joined = subst (All (CanBeJoined t (full t old))) (sym more)
+        (All-push (CanBeJoined t (full t old)) (take i xs) x before.joined
+        (subst (λ y. CanBeJoined t y x) (full-later t old now before.grows) joined));
     least = left-behind t old now before.grows xs x among before.least after least;
   }
     where

@@ -1,14 +1,14 @@
 -- Tiles given, in a frame that grows until their glue edges are inside.
 use Rattle.std.proofs.Common.{◌≡◌, ℕ, [], ◌∷◌, length, true, false, refl, sym, ◌∙◌, subst, arith}
 use Rattle.std.specs.List.{Contains}
-use Rattle.substitution.specs.Points.{Points}
+use Rattle.theory_substitution.specs.Points.{Points}
 use Rattle.cyclo_points.specs.Order.{points_of, is_refused}
 use Rattle.cyclo_points.specs.Point.{point_in}
 use Rattle.cyclo_points.specs.Motion.{motion_in}
-use Rattle.frames.specs.Frame.{StandsInFrame, lifted_in}
+use Rattle.theory_frames.specs.Frame.{StandsInFrame, lifted_in}
 use Rattle.rule_model.specs.declared.rule.Rule.{Rule}
 use Rattle.cyclo_points.proofs.Refusal.{within-some_beyond, some_beyond-refused}
-use Rattle.frames.proofs.Frames.{IsWhole}
+use Rattle.theory_frames.proofs.Frames.{IsWhole}
 use Rattle.rule_model.specs.Glue.{IsGlueEdge}
 use Rattle.rule_model.specs.Tiling.{Tiling, tiling_of, children}
 use Rattle.tile_place.specs.Crossed.{IsOnlyAcross}
@@ -48,8 +48,10 @@ module _ (m : Rule) (L : HasGlueLaws m) (f : FrameValue) (is : IsFrameOf (tiling
     given-on = record {
       its_kind = given.its_kind;
       of_frame = IsTileOf-later t f g (address_of x.addr) up is given.of_frame;
-      in_frame = subst (λ y. StandsInFrame P t.rule (whole g) y (motion_in m.order x.motion)) (lifted-on m L f g is up (address_of x.addr) given.of_frame.no_deeper)
-          (stands-on m L f g is up (lifted_in (whole f) (address_of x.addr)) (given-whole m L f is x given) (motion_in m.order x.motion) given.in_frame);
+      in_frame = subst (λ y. StandsInFrame P t.rule (whole g) y (motion_in m.order x.motion))
+          (lifted-on m L f g is up (address_of x.addr) given.of_frame.no_deeper)
+          (stands-on m L f g is up (lifted_in (whole f) (address_of x.addr)) (given-whole m L f is x given)
+          (motion_in m.order x.motion) given.in_frame);
       turn_below = given.turn_below;
       in_order = given.in_order;
       within = given.within;
@@ -59,7 +61,9 @@ module _ (m : Rule) (L : HasGlueLaws m) (f : FrameValue) (is : IsFrameOf (tiling
     pub inside-on : IsGluedInside t f (length f.digits) x → IsGluedInside t f (length g.digits) x
     inside-on inside e glue on =
         let a = lifted_in (whole f) (address_of x.addr) in
-        let there : IsBoundaryEdge t (lifted_in (whole g) a) e = subst (λ y. IsBoundaryEdge t y e) (sym (lifted-on m L f g is up (address_of x.addr) given.of_frame.no_deeper ∙ lifted-later t f g (address_of x.addr) up)) on in
+        let there : IsBoundaryEdge t (lifted_in (whole g) a) e = subst (λ y. IsBoundaryEdge t y e)
+        (sym (lifted-on m L f g is up (address_of x.addr) given.of_frame.no_deeper
+        ∙ lifted-later t f g (address_of x.addr) up)) on in
         let here = boundary-before m L f g is up a (given-whole m L f is x given) e (glue-edge-of m L f is x given e glue) there in
         inside e glue (subst (λ y. IsBoundaryEdge t (lifted_in (whole y) (address_of x.addr)) e) is.its_digits here)
 
@@ -74,23 +78,34 @@ module _ (m : Rule) (L : HasGlueLaws m) (f : FrameValue) (is : IsFrameOf (tiling
       settled-joined = subst (λ z. CanBeJoined t z x) (full-later t f g up) (glued-joined m L g up.is_frame x given-on y its glued)
 
     -- the tile to which one crosses
-    module _ (edge : ℕ) (glue_edge : IsGlueEdge t.rule x.kind edge) (other : PlacedTile) (stands : Stands t g other) (back : ℕ) (over : IsOnlyAcross t (lifted_in (whole g) (address_of x.addr)) edge (address_of other.addr) back) where
+    module _ (edge : ℕ) (glue_edge : IsGlueEdge t.rule x.kind edge) (other : PlacedTile)
+        (stands : Stands t g other) (back : ℕ) (over : IsOnlyAcross t
+        (lifted_in (whole g) (address_of x.addr)) edge (address_of other.addr) back) where
       own-whole : IsWhole (children t) (whole g) (lifted_in (whole g) (address_of x.addr))
       own-whole = given-whole m L g up.is_frame x given-on
 
       crossing : Crosses t (lifted_in (whole g) (address_of x.addr)) edge (address_of other.addr) back
       crossing =
-          crosses m L (lifted_in (whole g) (address_of x.addr)) (address_of other.addr) edge back own-whole.fits stands.of_frame.fits (glue-edge-of m L g up.is_frame x given-on edge glue_edge) over
+          crosses m L (lifted_in (whole g) (address_of x.addr)) (address_of other.addr) edge back
+          own-whole.fits stands.of_frame.fits (glue-edge-of m L g up.is_frame x given-on edge glue_edge)
+          over
 
       pub crossed-glued : is_refused m.order (point_in m.order other.motion.shift) ≡ false → IsCrossed t g x other
       crossed-glued unrefused =
-          let its : IsGiven t g other = stands-given t g other stands (within-some_beyond other.motion.shift (some_beyond-refused m.order other.motion.shift stands.in_order ∙ unrefused)) in
-          let same = lifted-self (whole g) (address_of other.addr) stands.at_depth in
-          (its, glued-of m L g up.is_frame x given-on other its edge back glue_edge (subst (λ b. IsOnlyAcross t (lifted_in (whole g) (address_of x.addr)) edge b back) same over))
+          let its : IsGiven t g other = stands-given t g other stands
+          (within-some_beyond other.motion.shift
+          (some_beyond-refused m.order other.motion.shift stands.in_order ∙ unrefused)) in
+          let same = lifted-self (whole g) (address_of other.addr) stands.at_depth in (
+            its,
+            glued-of m L g up.is_frame x given-on other its edge back glue_edge
+                (subst (λ b. IsOnlyAcross t (lifted_in (whole g) (address_of x.addr)) edge b back) same over),
+          )
 
       pub not-refused : CanBeJoined t (full t f) x → is_refused m.order (point_in m.order other.motion.shift) ≡ false
       not-refused can =
-          unrefused-across m L g up.is_frame x given-on (subst (λ y. CanBeJoined t y x) (sym (full-later t f g up)) can) edge glue_edge other back crossing stands
+          unrefused-across m L g up.is_frame x given-on
+          (subst (λ y. CanBeJoined t y x) (sym (full-later t f g up)) can) edge glue_edge other back
+          crossing stands
 
       pub refused-shift : is_refused m.order (point_in m.order other.motion.shift) ≡ true → IsRefusedShift t g (x ∷ []) other.motion.shift
       refused-shift beyond = record {
@@ -121,8 +136,12 @@ module _ (m : Rule) (L : HasGlueLaws m) (f : FrameValue) (is : IsFrameOf (tiling
           glue_edge = glued.glue_edge;
           its_glue_edge = glued.its_glue_edge;
           across = subst (λ z. Crosses t z glued.edge (lifted_in (whole g) (address_of y.addr)) glued.its_edge) own
-              (subst (λ z. Crosses t (lifted_in (whole g) a) glued.edge z glued.its_edge) other (crosses-on m L f g is up a b glued.edge glued.its_edge (given-whole m L f is x given) glued.across));
+              (subst (λ z. Crosses t (lifted_in (whole g) a) glued.edge z glued.its_edge) other
+              (crosses-on m L f g is up a b glued.edge glued.its_edge (given-whole m L f is x given)
+              glued.across));
           back = subst (λ z. Crosses t z glued.its_edge (lifted_in (whole g) (address_of x.addr)) glued.edge) other
-              (subst (λ z. Crosses t (lifted_in (whole g) b) glued.its_edge z glued.edge) own (crosses-on m L f g is up b a glued.its_edge glued.edge (given-whole m L f is y its) glued.back));
+              (subst (λ z. Crosses t (lifted_in (whole g) b) glued.its_edge z glued.edge) own
+              (crosses-on m L f g is up b a glued.its_edge glued.edge (given-whole m L f is y its)
+              glued.back));
           other_kind = glued.other_kind;
         }

@@ -22,7 +22,8 @@ use Rattle.half_glue.proofs.Settling.{given-on, glued-on}
 use Rattle.half_glue.proofs.Wholes.{of-all, glued-back}
 
 -- the pairs that the tiles in front have brought, behind so many others
-pub record ArePaired (t : Tiling) (f : FrameValue) (tiles : List PlacedTile) (base i : ℕ) (crossed : List PlacedTile) (pairs : List Pair) : Type 0 where
+pub record ArePaired (t : Tiling) (f : FrameValue) (tiles : List PlacedTile) (base i : ℕ)
+    (crossed : List PlacedTile) (pairs : List Pair) : Type 0 where
   pub few : length pairs ≤ base + i
   pub few_crossed : length crossed ≤ i
   pub given : All (IsGiven t f) (tiles ++ crossed)
@@ -64,12 +65,14 @@ the-first x = (0, omega arith, refl)
 one-of-all : {A : Type 0} (Q : A → Type 0) (x : A) → Q x → All Q (x ∷ [])
 one-of-all Q x h = All-cons Q x [] h (All-nil Q)
 
-still-taken : (t : Tiling) (f : FrameValue) (tiles : List PlacedTile) (made more : List WholeTile) (x : PlacedTile) → IsTaken t f tiles made x → IsTaken t f tiles (made ++ more) x
+still-taken : (t : Tiling) (f : FrameValue) (tiles : List PlacedTile) (made more : List WholeTile)
+    (x : PlacedTile) → IsTaken t f tiles made x → IsTaken t f tiles (made ++ more) x
 still-taken t f tiles made more x (inl h) = inl (h.0, contains-left made more h.0 h.1, h.2)
 still-taken t f tiles made more x (inr h) = inr h
 
 -- ---- the frame grows
-module _ (m : Rule) (L : HasGlueLaws m) (now after : FrameValue) (is : IsFrameOf (tiling_of m) now) (up : GrowsTo (tiling_of m) now after) (tiles : List PlacedTile) where
+module _ (m : Rule) (L : HasGlueLaws m) (now after : FrameValue) (is : IsFrameOf (tiling_of m) now)
+    (up : GrowsTo (tiling_of m) now after) (tiles : List PlacedTile) where
   abbrev t : Tiling
   t = tiling_of m
 
@@ -77,7 +80,8 @@ module _ (m : Rule) (L : HasGlueLaws m) (now after : FrameValue) (is : IsFrameOf
   loose-on a None h = (given-on m L now is a h.0 after up, h.1)
   loose-on a (Some b) h = (given-on m L now is a h.0 after up, given-on m L now is b h.1 after up, glued-on m L now is a h.0 after up b h.1 h.2, h.3)
 
-  taken-on : (made : List WholeTile) (x : PlacedTile) → All (IsGiven t now) tiles → IsGiven t now x → IsTaken t now tiles made x → IsTaken t after tiles made x
+  taken-on : (made : List WholeTile) (x : PlacedTile) → All (IsGiven t now) tiles → IsGiven t now x
+      → IsTaken t now tiles made x → IsTaken t after tiles made x
   taken-on made x all own (inl h) = inl h
   taken-on made x all own (inr h) = inr (h.0, h.1, glued-on m L now is x own after up h.0 (of-all (IsGiven t now) tiles h.0 all h.1) h.2, h.3)
 
@@ -85,18 +89,26 @@ module _ (m : Rule) (L : HasGlueLaws m) (now after : FrameValue) (is : IsFrameOf
   pub all-on : All (IsGiven t now) tiles → All (IsGiven t after) tiles
   all-on all k d l = given-on m L now is (get_or tiles k d) (all k d l) after up
 
-  pub paired-on : (base i : ℕ) (crossed : List PlacedTile) (pairs : List Pair) → i ≤ length tiles → All (IsGiven t now) tiles → ArePaired t now tiles base i crossed pairs → ArePaired t after tiles base i crossed pairs
+  pub paired-on : (base i : ℕ) (crossed : List PlacedTile) (pairs : List Pair) → i ≤ length tiles
+      → All (IsGiven t now) tiles → ArePaired t now tiles base i crossed pairs
+      → ArePaired t after tiles base i crossed pairs
   paired-on base i crossed pairs within all h = record {
     few = h.few;
     few_crossed = h.few_crossed;
     given = λ k d l. given-on m L now is (get_or (tiles ++ crossed) k d) (h.given k d l) after up;
     present = h.present;
-    loose = λ k d l. let w = h.loose k d l in record { glued = loose-on (get_or (map (loose_of (tiles ++ crossed)) pairs) k d).first (get_or (map (loose_of (tiles ++ crossed)) pairs) k d).second w.glued; of_given = w.of_given };
+    loose = λ k d l. let w = h.loose k d l in record {
+      glued = loose-on (get_or (map (loose_of (tiles ++ crossed)) pairs) k d).first
+          (get_or (map (loose_of (tiles ++ crossed)) pairs) k d).second w.glued;
+      of_given = w.of_given;
+    };
     taken = λ k l. taken-on (map (loose_of (tiles ++ crossed)) pairs) (tile_of tiles k) all (all k no_tile (omega (arith, l, within))) (h.taken k l);
   }
 
 -- ---- one more tile
-module _ (t : Tiling) (f : FrameValue) (tiles : List PlacedTile) (base i : ℕ) (below : i < length tiles) (crossed : List PlacedTile) (pairs : List Pair) (all : All (IsGiven t f) tiles) (h : ArePaired t f tiles base i crossed pairs) where
+module _ (t : Tiling) (f : FrameValue) (tiles : List PlacedTile) (base i : ℕ) (below : i < length tiles)
+    (crossed : List PlacedTile) (pairs : List Pair) (all : All (IsGiven t f) tiles)
+    (h : ArePaired t f tiles base i crossed pairs) where
   abbrev own : PlacedTile
   own = tile_of tiles i
 
@@ -123,17 +135,24 @@ module _ (t : Tiling) (f : FrameValue) (tiles : List PlacedTile) (base i : ℕ) 
     at : (k : ℕ) → k < length tiles → tile_of halves k ≡ tile_of tiles k
     at k l = get_or-front tiles (crossed ++ added) k no_tile l
 
-    taking : length added ≤ 1 → length more ≤ 1 → All (IsGiven t f) added → All (ArePresent (length halves)) more → All (IsLoose t f tiles) made → IsTaken t f tiles made own
+    taking : length added ≤ 1 → length more ≤ 1 → All (IsGiven t f) added
+        → All (ArePresent (length halves)) more → All (IsLoose t f tiles) made → IsTaken t f tiles made own
         → ArePaired t f tiles base (i + 1) (crossed ++ added) (pairs ++ more)
     taking one two given present loose taken = record {
       few = omega (arith, h.few, two, length-append pairs more);
       few_crossed = omega (arith, h.few_crossed, one, length-append crossed added);
       given = subst (All (IsGiven t f)) (sym longer) (All-append (IsGiven t f) (tiles ++ crossed) added h.given given);
-      present = All-append (ArePresent (length halves)) pairs more (λ k d l. more-present (length (tiles ++ crossed)) (length halves) (omega (arith, ap length longer, length-append (tiles ++ crossed) added)) (get_or pairs k d) (h.present k d l)) present;
-      loose = subst (All (IsLoose t f tiles)) (sym joined) (All-append (IsLoose t f tiles) (map (loose_of (tiles ++ crossed)) pairs) made h.loose loose);
+      present = All-append (ArePresent (length halves)) pairs more
+          (λ k d l. more-present (length (tiles ++ crossed)) (length halves)
+          (omega (arith, ap length longer, length-append (tiles ++ crossed) added)) (get_or pairs k d)
+          (h.present k d l)) present;
+      loose = subst (All (IsLoose t f tiles)) (sym joined)
+          (All-append (IsLoose t f tiles) (map (loose_of (tiles ++ crossed)) pairs) made h.loose loose);
       taken = λ k l. subst (λ ws. IsTaken t f tiles ws (tile_of tiles k)) (sym joined) (elim (cases_lt k i) [
         | inl b ↦ still-taken t f tiles (map (loose_of (tiles ++ crossed)) pairs) made (tile_of tiles k) (h.taken k b)
-        | inr b ↦ let same : i ≡ k = omega (arith, l, b) in subst (λ n. IsTaken t f tiles (map (loose_of (tiles ++ crossed)) pairs ++ made) (tile_of tiles n)) same (last taken)
+        | inr b ↦ let same : i ≡ k = omega (arith, l, b) in subst
+            (λ n. IsTaken t f tiles (map (loose_of (tiles ++ crossed)) pairs ++ made) (tile_of tiles n)) same
+            (last taken)
       ]);
     }
       where
@@ -142,7 +161,8 @@ module _ (t : Tiling) (f : FrameValue) (tiles : List PlacedTile) (base i : ℕ) 
         last (inr g) = inr g
 
     -- two tiles of these numbers
-    two-loose : (n k : ℕ) (a b : PlacedTile) → tile_of halves n ≡ a → tile_of halves k ≡ b → loose_of halves (record { first = n; second = Some k }) ≡ record { first = a; second = Some b }
+    two-loose : (n k : ℕ) (a b : PlacedTile) → tile_of halves n ≡ a → tile_of halves k ≡ b
+        → loose_of halves (record { first = n; second = Some k }) ≡ record { first = a; second = Some b }
     two-loose n k a b e g = λ j. record { first = e j; second = Some (g j) }
 
   pub alone : IsFound t f tiles own Alone → ArePaired t f tiles base (i + 1) (crossed ++ []) (pairs ++ added_pairs tiles i (length crossed) Alone)
@@ -151,8 +171,11 @@ module _ (t : Tiling) (f : FrameValue) (tiles : List PlacedTile) (base i : ℕ) 
       let w : WholeTile = record { first = own; second = None } in
       let is : loose_of (halves [] (p ∷ [])) p ≡ w = λ j. record { first = at [] (p ∷ []) i below j; second = None } in
       taking [] (p ∷ []) (omega arith) (omega arith) (All-nil (IsGiven t f))
-      (one-of-all (ArePresent (length (halves [] (p ∷ [])))) p (record { first = omega (arith, below, length-append tiles (crossed ++ [])); second = tt }))
-      (one-of-all (IsLoose t f tiles) (loose_of (halves [] (p ∷ [])) p) (subst (IsLoose t f tiles) (sym is) (record { glued = (all i no_tile below, none); of_given = (own, among, refl) })))
+      (one-of-all (ArePresent (length (halves [] (p ∷ [])))) p
+      (record { first = omega (arith, below, length-append tiles (crossed ++ [])); second = tt }))
+      (one-of-all (IsLoose t f tiles) (loose_of (halves [] (p ∷ [])) p)
+      (subst (IsLoose t f tiles) (sym is) (record
+      { glued = (all i no_tile below, none); of_given = (own, among, refl) })))
       (inl (loose_of (halves [] (p ∷ [])) p, the-first (loose_of (halves [] (p ∷ [])) p), at [] (p ∷ []) i below))
 
   -- the other half is given
@@ -176,12 +199,21 @@ module _ (t : Tiling) (f : FrameValue) (tiles : List PlacedTile) (base i : ℕ) 
     given-by true e =
         let is = two-loose [] (both ∷ []) i k own other (at [] (both ∷ []) i below) (at [] (both ∷ []) k found.0) in
         taking [] (both ∷ []) (omega arith) (omega arith) (All-nil (IsGiven t f))
-        (one-of-all (ArePresent (length (halves [] (both ∷ [])))) both (record { first = omega (arith, below, length-append tiles (crossed ++ [])); second = let l = found.0 in omega (arith, l, length-append tiles (crossed ++ [])) }))
+        (one-of-all (ArePresent (length (halves [] (both ∷ [])))) both
+        (record {
+          first = omega (arith, below, length-append tiles (crossed ++ []));
+          second = let l = found.0 in omega (arith, l, length-append tiles (crossed ++ []));
+        }))
         (one-of-all (IsLoose t f tiles) (loose_of (halves [] (both ∷ [])) both)
-        (subst (IsLoose t f tiles) (sym is) (record { glued = (all i no_tile below, all k no_tile found.0, found.1, ltb-true own.kind other.kind e); of_given = (own, among, inl refl) })))
+        (subst (IsLoose t f tiles) (sym is) (record {
+          glued = (all i no_tile below, all k no_tile found.0, found.1, ltb-true own.kind other.kind e);
+          of_given = (own, among, inl refl);
+        })))
         (inl (loose_of (halves [] (both ∷ [])) both, the-first (loose_of (halves [] (both ∷ [])) both), inl (at [] (both ∷ []) i below)))
     given-by false e =
-        taking [] [] (omega arith) (omega arith) (All-nil (IsGiven t f)) (All-nil (ArePresent (length (halves [] [])))) (All-nil (IsLoose t f tiles)) (inr (other, its, found.1, its-lesser e))
+        taking [] [] (omega arith) (omega arith) (All-nil (IsGiven t f))
+        (All-nil (ArePresent (length (halves [] [])))) (All-nil (IsLoose t f tiles))
+        (inr (other, its, found.1, its-lesser e))
 
     given-too : ArePaired t f tiles base (i + 1) (crossed ++ []) (pairs ++ added_pairs tiles i (length crossed) (Given k))
     given-too = given-by (nat_lt own.kind other.kind) refl
@@ -198,7 +230,9 @@ module _ (t : Tiling) (f : FrameValue) (tiles : List PlacedTile) (base i : ℕ) 
     own_second = record { first = n; second = Some i }
 
     at-new : (more : List Pair) → tile_of (halves (y ∷ []) more) n ≡ y
-    at-new more = ap (λ hs. tile_of hs n) (longer (y ∷ []) more) ∙ ap (λ k. get_or ((tiles ++ crossed) ++ y ∷ []) k no_tile) (sym (length-append tiles crossed)) ∙ get_or-append_seam (tiles ++ crossed) y [] no_tile
+    at-new more = ap (λ hs. tile_of hs n) (longer (y ∷ []) more)
+        ∙ ap (λ k. get_or ((tiles ++ crossed) ++ y ∷ []) k no_tile) (sym (length-append tiles crossed))
+        ∙ get_or-append_seam (tiles ++ crossed) y [] no_tile
 
     there : n < length (tiles ++ (crossed ++ y ∷ []))
     there = omega (arith, length-append tiles (crossed ++ y ∷ []), length-append crossed (y ∷ []))
@@ -212,32 +246,54 @@ module _ (t : Tiling) (f : FrameValue) (tiles : List PlacedTile) (base i : ℕ) 
       | inr l ↦ elim (cases_lt y.kind own.kind) [ inl g ↦ g | inr g ↦ absurd (found.1.other_kind (omega (arith, l, g))) ]
     ]
 
-    crossed-by : (b : Bool) → nat_lt own.kind y.kind ≡ b → ArePaired t f tiles base (i + 1) (crossed ++ y ∷ []) (pairs ++ cond b own_first own_second ∷ [])
+    crossed-by : (b : Bool) → nat_lt own.kind y.kind ≡ b
+        → ArePaired t f tiles base (i + 1) (crossed ++ y ∷ []) (pairs ++ cond b own_first own_second ∷ [])
     crossed-by true e =
         let is = two-loose (y ∷ []) (own_first ∷ []) i n own y (at (y ∷ []) (own_first ∷ []) i below) (at-new (own_first ∷ [])) in
         taking (y ∷ []) (own_first ∷ []) (omega arith) (omega arith) (one-of-all (IsGiven t f) y found.0)
         (one-of-all (ArePresent (length (halves (y ∷ []) (own_first ∷ [])))) own_first (record { first = here; second = there }))
         (one-of-all (IsLoose t f tiles) (loose_of (halves (y ∷ []) (own_first ∷ [])) own_first)
-        (subst (IsLoose t f tiles) (sym is) (record { glued = (all i no_tile below, found.0, found.1, ltb-true own.kind y.kind e); of_given = (own, among, inl refl) })))
-        (inl (loose_of (halves (y ∷ []) (own_first ∷ [])) own_first, the-first (loose_of (halves (y ∷ []) (own_first ∷ [])) own_first), inl (at (y ∷ []) (own_first ∷ []) i below)))
+        (subst (IsLoose t f tiles) (sym is) (record {
+          glued = (all i no_tile below, found.0, found.1, ltb-true own.kind y.kind e);
+          of_given = (own, among, inl refl);
+        })))
+        (inl (
+          loose_of (halves (y ∷ []) (own_first ∷ [])) own_first,
+          the-first
+              (loose_of (halves (y ∷ []) (own_first ∷ [])) own_first),
+          inl
+              (at (y ∷ []) (own_first ∷ []) i below),
+        ))
     crossed-by false e =
         let is = two-loose (y ∷ []) (own_second ∷ []) n i y own (at-new (own_second ∷ [])) (at (y ∷ []) (own_second ∷ []) i below) in
         taking (y ∷ []) (own_second ∷ []) (omega arith) (omega arith) (one-of-all (IsGiven t f) y found.0)
         (one-of-all (ArePresent (length (halves (y ∷ []) (own_second ∷ [])))) own_second (record { first = there; second = here }))
         (one-of-all (IsLoose t f tiles) (loose_of (halves (y ∷ []) (own_second ∷ [])) own_second)
-        (subst (IsLoose t f tiles) (sym is) (record { glued = (found.0, all i no_tile below, glued-back t f own y found.1, crossed-lesser e); of_given = (own, among, inr refl) })))
-        (inl (loose_of (halves (y ∷ []) (own_second ∷ [])) own_second, the-first (loose_of (halves (y ∷ []) (own_second ∷ [])) own_second), inr (at (y ∷ []) (own_second ∷ []) i below)))
+        (subst (IsLoose t f tiles) (sym is) (record {
+          glued = (found.0, all i no_tile below, glued-back t f own y found.1, crossed-lesser e);
+          of_given = (own, among, inr refl);
+        })))
+        (inl (
+          loose_of (halves (y ∷ []) (own_second ∷ [])) own_second,
+          the-first
+              (loose_of (halves (y ∷ []) (own_second ∷ [])) own_second),
+          inr
+              (at (y ∷ []) (own_second ∷ []) i below),
+        ))
 
     crossed-to : ArePaired t f tiles base (i + 1) (crossed ++ y ∷ []) (pairs ++ added_pairs tiles i (length crossed) (Crossed y))
     crossed-to = crossed-by (nat_lt own.kind y.kind) refl
 
-  pub taken-too : (found : Found) → IsFound t f tiles own found → ArePaired t f tiles base (i + 1) (crossed ++ added_tiles found) (pairs ++ added_pairs tiles i (length crossed) found)
+  pub taken-too : (found : Found) → IsFound t f tiles own found
+      → ArePaired t f tiles base (i + 1) (crossed ++ added_tiles found)
+      (pairs ++ added_pairs tiles i (length crossed) found)
   taken-too Alone h = alone h
   taken-too (Given k) h = given-too k h
   taken-too (Crossed y) h = crossed-to y h
 
 -- a tile that is taken already
-pub taken-before : (t : Tiling) (f : FrameValue) (tiles : List PlacedTile) (base i : ℕ) (crossed : List PlacedTile) (pairs : List Pair) → ArePaired t f tiles base i crossed pairs
+pub taken-before : (t : Tiling) (f : FrameValue) (tiles : List PlacedTile) (base i : ℕ)
+    (crossed : List PlacedTile) (pairs : List Pair) → ArePaired t f tiles base i crossed pairs
     → IsTaken t f tiles (map (loose_of (tiles ++ crossed)) pairs) (tile_of tiles i) → ArePaired t f tiles base (i + 1) crossed pairs
 taken-before t f tiles base i crossed pairs h own = record {
   few = let l = h.few in omega (arith, l);
@@ -247,12 +303,15 @@ taken-before t f tiles base i crossed pairs h own = record {
   loose = h.loose;
   taken = λ k l. elim (cases_lt k i) [
     | inl b ↦ h.taken k b
-    | inr b ↦ let same : i ≡ k = omega (arith, l, b) in subst (λ n. IsTaken t f tiles (map (loose_of (tiles ++ crossed)) pairs) (tile_of tiles n)) same own
+    | inr b ↦ let same : i ≡ k = omega (arith, l, b) in subst
+        (λ n. IsTaken t f tiles (map (loose_of (tiles ++ crossed)) pairs) (tile_of tiles n)) same own
   ];
 }
 
 -- ---- all of them
-pub all-paired : (t : Tiling) (f : FrameValue) (tiles : List PlacedTile) (base i : ℕ) (crossed : List PlacedTile) (pairs : List Pair) → base ≤ length tiles → i ≤ length tiles → (i < length tiles → ⊥) → ArePaired t f tiles base i crossed pairs → ArePairsOf t f tiles crossed pairs
+pub all-paired : (t : Tiling) (f : FrameValue) (tiles : List PlacedTile) (base i : ℕ)
+    (crossed : List PlacedTile) (pairs : List Pair) → base ≤ length tiles → i ≤ length tiles
+    → (i < length tiles → ⊥) → ArePaired t f tiles base i crossed pairs → ArePairsOf t f tiles crossed pairs
 all-paired t f tiles base i crossed pairs low within done h = record {
   few = omega (arith, h.few, low, within);
   given = h.given;

@@ -2,12 +2,12 @@
 use Rattle.std.proofs.Common.{◌≡◌, inl, inr, None, Some, Option, ℕ, ◌<◌, List, ◌++◌, All, length, map, get_or, sym, ap, ◌∙◌, subst, arith}
 use Rattle.std.specs.List.{Contains}
 use Rattle.std.proofs.lemmas.List.{get_or_default, get_or-map, length-map}
-use Rattle.addressing.specs.Address as theory
-use Rattle.substitution.specs.Points.{Points}
+use Rattle.theory_addresses.specs.Address as theory
+use Rattle.theory_substitution.specs.Points.{Points}
 use Rattle.cyclo_points.specs.Order.{points_of}
 use Rattle.cyclo_points.specs.Motion.{motion_in}
-use Rattle.frames.specs.Frame.{IsTileOf, StandsInFrame, lifted_in}
-use Rattle.frames.proofs.Frames.{IsWhole}
+use Rattle.theory_frames.specs.Frame.{IsTileOf, StandsInFrame, lifted_in}
+use Rattle.theory_frames.proofs.Frames.{IsWhole}
 use Rattle.rule_model.specs.declared.rule.Rule.{Rule}
 use Rattle.rule_model.specs.Glue.{IsGlueEdge}
 use Rattle.rule_model.specs.Tiling.{Tiling, tiling_of, children}
@@ -84,9 +84,11 @@ module _ (m : Rule) (L : HasGlueLaws m) (f : FrameValue) (is : IsFrameOf (tiling
         in_order = given.in_order;
       }
 
-  lifted-crosses : (a b : PlacedTile) (e g : ℕ) → Crosses t (tile a) e (tile b) g → Crosses t (address_of (lifted_to f a).addr) e (address_of (lifted_to f b).addr) g
+  lifted-crosses : (a b : PlacedTile) (e g : ℕ) → Crosses t (tile a) e (tile b) g
+      → Crosses t (address_of (lifted_to f a).addr) e (address_of (lifted_to f b).addr) g
   lifted-crosses a b e g x =
-      subst (λ y. Crosses t y e (address_of (lifted_to f b).addr) g) (sym (address-there (tile a))) (subst (λ y. Crosses t (tile a) e y g) (sym (address-there (tile b))) x)
+      subst (λ y. Crosses t y e (address_of (lifted_to f b).addr) g) (sym (address-there (tile a)))
+      (subst (λ y. Crosses t (tile a) e y g) (sym (address-there (tile b))) x)
 
   whole-by : (a : PlacedTile) (s : Option PlacedTile) → AreLoose t f a s → IsWholeBy t f (lifted_to f a) (second_to f s)
   whole-by a None h = (lifted-stands a h.0, h.1)
@@ -111,8 +113,13 @@ module _ (m : Rule) (L : HasGlueLaws m) (f : FrameValue) (is : IsFrameOf (tiling
 
   -- ---- tiles that are glued
   -- a tile is glued to one alone
-  one-other : (y x b : PlacedTile) → IsGiven t f x → IsGiven t f b → AreGlued t f y x → AreGlued t f y b → (lifted_tile t f b ≡ lifted_tile t f x) × (b.kind ≡ x.kind)
-  one-other y x b own its h k = (λ i. record { address = same i; motion = motion i }, its.its_kind ∙ ap (λ (z : theory.Address). z.kind) same ∙ sym own.its_kind)
+  one-other : (y x b : PlacedTile) → IsGiven t f x → IsGiven t f b → AreGlued t f y x → AreGlued t f y b
+      → (lifted_tile t f b ≡ lifted_tile t f x) × (b.kind ≡ x.kind)
+  one-other y x b own its h k = (
+    λ i. record { address = same i; motion = motion i },
+    its.its_kind
+        ∙ ap (λ (z : theory.Address). z.kind) same ∙ sym own.its_kind,
+  )
     where
       over : Crosses t (tile y) h.edge (tile b) k.its_edge
       over = subst (λ e. Crosses t (tile y) e (tile b) k.its_edge) (h.glue_edge.only k.edge k.glue_edge.glue_edge) k.across
@@ -121,13 +128,21 @@ module _ (m : Rule) (L : HasGlueLaws m) (f : FrameValue) (is : IsFrameOf (tiling
       same = ap (λ z. z.address) (h.across.across.only (placed_tile t (tile b)) k.its_edge over.across.across).0
 
       motion : motion_in m.order b.motion ≡ motion_in m.order x.motion
-      motion = own.in_frame.alone (motion_in m.order b.motion) (subst (λ y. StandsInFrame P t.rule (whole f) y (motion_in m.order b.motion)) same its.in_frame).among
+      motion = own.in_frame.alone (motion_in m.order b.motion)
+          (subst (λ y. StandsInFrame P t.rule (whole f) y (motion_in m.order b.motion)) same
+          its.in_frame).among
 
   -- so the other half of a part is a part
-  other-part : (x y a : PlacedTile) (s : Option PlacedTile) → IsGiven t f x → AreGlued t f x y → AreLoose t f a s → IsEither y a s → IsOneOf t (lifted_tile t f x) (lifted_to f a) (second_to f s)
-  other-part x y a None own g h e = absurd (h.1 g.its_edge (subst (λ (z : PlacedTile). IsGlueEdge t.rule z.kind g.its_edge) (sym e) g.its_glue_edge.glue_edge))
-  other-part x y a (Some b) own g h (inl e) = inr (lifted-placed b ∙ (one-other y x b own h.1 (glued-back t f x y g) (subst (λ z. AreGlued t f z b) e h.2)).0)
-  other-part x y a (Some b) own g h (inr e) = inl (lifted-placed a ∙ (one-other y x a own h.0 (glued-back t f x y g) (subst (λ z. AreGlued t f z a) e (glued-back t f a b h.2))).0)
+  other-part : (x y a : PlacedTile) (s : Option PlacedTile) → IsGiven t f x → AreGlued t f x y
+      → AreLoose t f a s → IsEither y a s → IsOneOf t (lifted_tile t f x) (lifted_to f a) (second_to f s)
+  other-part x y a None own g h e = absurd (h.1 g.its_edge
+      (subst (λ (z : PlacedTile). IsGlueEdge t.rule z.kind g.its_edge) (sym e) g.its_glue_edge.glue_edge))
+  other-part x y a (Some b) own g h (inl e) = inr
+      (lifted-placed b ∙ (one-other y x b own h.1 (glued-back t f x y g)
+      (subst (λ z. AreGlued t f z b) e h.2)).0)
+  other-part x y a (Some b) own g h (inr e) = inl
+      (lifted-placed a ∙ (one-other y x a own h.0 (glued-back t f x y g)
+      (subst (λ z. AreGlued t f z a) e (glued-back t f a b h.2))).0)
 
   -- ---- pairs
   module _ (tiles crossed : List PlacedTile) (pairs : List Pair) (are : ArePairsOf t f tiles crossed pairs) where
@@ -163,7 +178,8 @@ module _ (m : Rule) (L : HasGlueLaws m) (f : FrameValue) (is : IsFrameOf (tiling
         subst (IsWholeTile t f) p.2 (whole-by v.first v.second (loose-at p.0 p.1).glued)
 
     -- a whole tile for each tile given
-    held : (x : PlacedTile) → IsGiven t f x → IsTaken t f tiles loose x → (w : WholeTile) × Contains loose w × IsOneOf t (lifted_tile t f x) (lifted_to f w.first) (second_to f w.second)
+    held : (x : PlacedTile) → IsGiven t f x → IsTaken t f tiles loose x → (w : WholeTile) × Contains loose w
+        × IsOneOf t (lifted_tile t f x) (lifted_to f w.first) (second_to f w.second)
     held x own (inl h) = (h.0, h.1, part-by x h.0.first h.0.second h.2)
     held x own (inr h) = elim (of-all (IsTaken t f tiles loose) tiles h.0 are.taken h.1) [
       | inl k ↦ (k.0, k.1, other-part x h.0 k.0.first k.0.second own h.2 (of-all (IsLoose t f tiles) loose k.0 are.loose k.1).glued k.2)
@@ -188,7 +204,9 @@ module _ (m : Rule) (L : HasGlueLaws m) (f : FrameValue) (is : IsFrameOf (tiling
     }
       where
         given-at : All (IsGiven t f) tiles
-        given-at i d l = of-all (IsGiven t f) all (get_or tiles i d) are.given (contains-left tiles crossed (get_or tiles i d) (i, l, get_or_default tiles i (get_or tiles i d) d l))
+        given-at i d l = of-all (IsGiven t f) all (get_or tiles i d) are.given
+            (contains-left tiles crossed (get_or tiles i d)
+            (i, l, get_or_default tiles i (get_or tiles i d) d l))
 
         joined : (x : PlacedTile) → IsGiven t f x → IsTaken t f tiles loose x → (w : WholeTile) × Contains wholes w × IsPartOf t f w x
         joined x own taken =
@@ -197,5 +215,10 @@ module _ (m : Rule) (L : HasGlueLaws m) (f : FrameValue) (is : IsFrameOf (tiling
             let w = whole_of f all p.0 in
             let there : Contains made w = contains-map (whole_of f all) pairs p.0 p.1 in
             let v = of-all (λ u. (w : WholeTile) × Contains wholes w × (first_numbers w ≡ first_numbers u)) made w arranged.each there in
-            let part : IsPartOf t f w x = subst (λ (u : WholeTile). IsPartOf t f (whole_to f u) x) (sym p.2) h.2 in
-            (v.0, v.1, alike m L f is v.0 w (whole-at v.0 (of-all (λ u. Contains made u) wholes v.0 arranged.from_made v.1)) (whole-at w there) v.2 x part)
+            let part : IsPartOf t f w x = subst (λ (u : WholeTile). IsPartOf t f (whole_to f u) x) (sym p.2) h.2 in (
+              v.0,
+              v.1,
+              alike m L f is v.0 w (whole-at v.0
+                  (of-all (λ u. Contains made u) wholes v.0 arranged.from_made v.1)) (whole-at w there) v.2 x
+                  part,
+            )

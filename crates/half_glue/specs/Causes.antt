@@ -1,11 +1,11 @@
 -- Why tiles can't be glued.
 use Rattle.std.specs.Prelude.{◌≡◌, ℕ, true, List}
 use Rattle.std.specs.List.{Contains}
-use Rattle.addressing.specs.Address as theory
+use Rattle.theory_addresses.specs.Address as theory
 use Rattle.cyclo_points.specs.declared.point.Point.{Point}
 use Rattle.cyclo_points.specs.Order.{points_of, is_refused}
 use Rattle.cyclo_points.specs.Point.{point_in, IsOf}
-use Rattle.frames.specs.Frame.{StandsInFrame, lifted_in}
+use Rattle.theory_frames.specs.Frame.{StandsInFrame, lifted_in}
 use Rattle.rule_model.specs.Glue.{IsGlueEdge}
 use Rattle.rule_model.specs.Tiling.{Tiling, MotionOf}
 use Rattle.tile_place.specs.declared.placed_tile.PlacedTile.{PlacedTile}

@@ -1,10 +1,10 @@
 -- What a machine brings for gluing: its rule, and the laws of its tiling.
 use Rattle.std.specs.Prelude.{◌≡◌, ℕ}
-use Rattle.addressing.specs.Address.{Address, Fits}
-use Rattle.addressing.specs.Tables.{child_kinds}
+use Rattle.theory_addresses.specs.Address.{Address, Fits}
+use Rattle.theory_addresses.specs.Tables.{child_kinds}
 use Rattle.cyclo_points.specs.Order.{PointsLaw, points_of}
-use Rattle.dissection.specs.Laws.{AcrossLaw, BoundaryLaw, CrossingLaw}
-use Rattle.frames.specs.Growth.{grown_by}
+use Rattle.theory_dissection.specs.Laws.{AcrossLaw, BoundaryLaw, CrossingLaw}
+use Rattle.theory_frames.specs.Growth.{grown_by}
 use Rattle.rule_model.specs.declared.rule.Rule.{Rule}
 use Rattle.rule_model.specs.Accepted.{IsAccepted}
 use Rattle.rule_model.specs.Tiling.{tiling_of, contacts, children}
@@ -12,7 +12,7 @@ use Rattle.rule_model.specs.Usable.{IsUsable}
 use Rattle.seeded_growth.specs.Words.{word}
 use Rattle.tile_shape.specs.Usable.{AreUsable}
 use Rattle.tile_shape.specs.UsesInOrder.{uses_in_order}
-use Rattle.windows.specs.FrameSearch.{KnownLaw}
+use Rattle.theory_windows.specs.FrameSearch.{KnownLaw}
 
 -- the rule is accepted, its numbers exist, each of its kinds has a use, and its contact tables have its child kinds; with grown digits addresses still fit; and
 -- the laws of points, of crossings, and of the names of tiles

@@ -1,18 +1,18 @@
 -- Whole tiles of tiles that cover a window.
 use Rattle.std.specs.Prelude.{◌≡◌, List, map, IsTrue, All}
 use Rattle.std.specs.List.{flat_map}
-use Rattle.ordered_plane.specs.Plane.{TestPoint, IsTestPoint}
-use Rattle.ordered_plane.specs.Crossing.{member}
-use Rattle.ordered_plane.specs.Box.{OpenBox, in_box}
-use Rattle.substitution.specs.Supertile.{Placed}
+use Rattle.theory_plane.specs.Plane.{TestPoint, IsTestPoint}
+use Rattle.theory_plane.specs.Crossing.{member}
+use Rattle.theory_plane.specs.Box.{OpenBox, in_box}
+use Rattle.theory_substitution.specs.Supertile.{Placed}
 use Rattle.cyclo_points.specs.Order.{NumberOf, points_of}
-use Rattle.dissection.specs.Sums.{number_of}
+use Rattle.theory_dissection.specs.Sums.{number_of}
 use Rattle.rule_model.specs.Tiling.{Tiling}
 use Rattle.tile_place.specs.Searched.{placed_in}
 use Rattle.tile_place.specs.declared.placed_tile.PlacedTile.{PlacedTile}
-use Rattle.windows.specs.Distinct.{AreDistinct}
-use Rattle.windows.specs.FramePatch.{frame_patch}
-use Rattle.windows.specs.Patch.{Covers}
+use Rattle.theory_windows.specs.Distinct.{AreDistinct}
+use Rattle.theory_windows.specs.FramePatch.{frame_patch}
+use Rattle.theory_windows.specs.Patch.{Covers}
 use Rattle.lazy_walk.specs.Frames.{FrameValue, whole, IsFrameOf, GrowsTo}
 use Rattle.lazy_walk.specs.Standing.{Stands}
 use Rattle.half_glue.specs.declared.whole_tile.WholeTile.{WholeTile}

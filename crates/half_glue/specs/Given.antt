@@ -1,10 +1,10 @@
 -- Tiles that are given to be glued.
 use Rattle.std.specs.Prelude.{◌≡◌, ◌<◌, ◌^◌, List, All}
-use Rattle.substitution.specs.Supertile.{Placed}
+use Rattle.theory_substitution.specs.Supertile.{Placed}
 use Rattle.cyclo_points.specs.Order.{NumberOf, points_of}
 use Rattle.cyclo_points.specs.Point.{IsOf, IsWithin}
 use Rattle.cyclo_points.specs.Motion.{motion_in}
-use Rattle.frames.specs.Frame.{IsTileOf, StandsInFrame, lifted_in}
+use Rattle.theory_frames.specs.Frame.{IsTileOf, StandsInFrame, lifted_in}
 use Rattle.rule_model.specs.Tiling.{Tiling, children}
 use Rattle.tile_place.specs.declared.placed_tile.PlacedTile.{PlacedTile}
 use Rattle.tile_shape.specs.Views.{address_of}

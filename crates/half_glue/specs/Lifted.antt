@@ -1,7 +1,7 @@
 -- Whole tiles lifted to the depth of a frame, as the program has them.
 use Rattle.std.specs.Prelude.{◌≤◌, List, All, length, map, Option, None, Some}
-use Rattle.addressing.specs.Address as theory
-use Rattle.frames.specs.Frame.{lifted_in}
+use Rattle.theory_addresses.specs.Address as theory
+use Rattle.theory_frames.specs.Frame.{lifted_in}
 use Rattle.tile_place.specs.declared.placed_tile.PlacedTile.{PlacedTile}
 use Rattle.tile_shape.specs.declared.address.Address.{Address}
 use Rattle.tile_shape.specs.declared.step.Step.{Step}

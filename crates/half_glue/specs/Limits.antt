@@ -1,8 +1,8 @@
 -- Tiles that can be glued.
 use Rattle.std.specs.Prelude.{◌≡◌, ℕ, false, List, All}
-use Rattle.addressing.specs.Address.{Address}
+use Rattle.theory_addresses.specs.Address.{Address}
 use Rattle.cyclo_points.specs.Order.{points_of, is_refused}
-use Rattle.frames.specs.Frame.{StandsInFrame, lifted_in}
+use Rattle.theory_frames.specs.Frame.{StandsInFrame, lifted_in}
 use Rattle.rule_model.specs.Glue.{IsGlueEdge}
 use Rattle.rule_model.specs.Tiling.{Tiling, MotionOf}
 use Rattle.tile_place.specs.declared.placed_tile.PlacedTile.{PlacedTile}

@@ -1,21 +1,21 @@
 -- Outlines of whole tiles.
 use Rattle.std.specs.Prelude.{◌≡◌, ℕ, suc, ◌-◌, List, [], ◌∷◌, ◌++◌, length, map, take, drop, find, Option, None, Some, unwrap_or}
-use Rattle.ordered_plane.specs.Plane.{TestPoint}
-use Rattle.ordered_plane.specs.Crossing.{count}
-use Rattle.addressing.specs.Search.{below}
-use Rattle.substitution.specs.Motion.{moved}
-use Rattle.substitution.specs.Plane.{plane_point}
-use Rattle.substitution.specs.Rule.{Rule}
-use Rattle.substitution.specs.RuleParts.{vertices_of, edge_count, edge_type}
+use Rattle.theory_plane.specs.Plane.{TestPoint}
+use Rattle.theory_plane.specs.Crossing.{count}
+use Rattle.theory_addresses.specs.Search.{below}
+use Rattle.theory_substitution.specs.Motion.{moved}
+use Rattle.theory_substitution.specs.Plane.{plane_point}
+use Rattle.theory_substitution.specs.Rule.{Rule}
+use Rattle.theory_substitution.specs.RuleParts.{vertices_of, edge_count, edge_type}
 use Rattle.cyclo_points.specs.Motion.{motion_in}
 use Rattle.cyclo_points.specs.Order.{NumberOf, points_of}
-use Rattle.dissection.specs.Polygons.{tile_polygon}
-use Rattle.dissection.specs.Sums.{sum_over}
+use Rattle.theory_dissection.specs.Polygons.{tile_polygon}
+use Rattle.theory_dissection.specs.Sums.{sum_over}
 use Rattle.rule_model.specs.Glue.{is_glued, IsOnlyGlueEdge}
 use Rattle.rule_model.specs.Tiling.{Tiling}
 use Rattle.tile_place.specs.Searched.{placed_in}
 use Rattle.tile_place.specs.declared.placed_tile.PlacedTile.{PlacedTile}
-use Rattle.windows.specs.Outlines.{Polygon}
+use Rattle.theory_windows.specs.Outlines.{Polygon}
 use Rattle.lazy_walk.specs.Frames.{FrameValue, IsFrameOf}
 use Rattle.half_glue.specs.declared.whole_tile.WholeTile.{WholeTile}
 use Rattle.half_glue.specs.WholeTiles.{IsWholeTile}

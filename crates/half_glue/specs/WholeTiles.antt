@@ -1,7 +1,7 @@
 -- Whole tiles: tiles that are glued along no edge, and pairs of halves.
 use Rattle.std.specs.Prelude.{◌≡◌, ◌⊎◌, ℕ, ◌<◌, List, All, Option, None, Some}
 use Rattle.std.specs.List.{Contains}
-use Rattle.substitution.specs.Supertile.{Placed}
+use Rattle.theory_substitution.specs.Supertile.{Placed}
 use Rattle.cyclo_points.specs.Order.{NumberOf}
 use Rattle.rule_model.specs.Glue.{IsGlueEdge, IsOnlyGlueEdge}
 use Rattle.rule_model.specs.Tiling.{Tiling}

@@ -3,7 +3,7 @@ ghost use Rattle.std.specs.Prelude.{◌≡◌, ◌<◌, ◌^◌, ◌++◌, All, 
 ghost use Rattle.lazy_walk.specs.Frames.{FrameValue};
 ghost use Rattle.half_glue.specs.Found.{tile_of};
 ghost use Rattle.half_glue.specs.InOrder.{AreInOrder};
-ghost use Rattle.addressing.specs.Search.{chosen_below};
+ghost use Rattle.theory_addresses.specs.Search.{chosen_below};
 ghost use Rattle.half_glue.specs.Keys.{HasKey, first_keys, is_new, whole_at};
 ghost use Rattle.half_glue.specs.Arranged.{AreArranged};
 ghost use Rattle.half_glue.specs.Lifted.{IsNoDeeper, lifted_to, whole_of, wholes_of};
@@ -32,7 +32,8 @@ pub(crate) fn arranged(
     requires fit { All HasKey (tiles.now ++ made.now.crossed.items) }
     requires no_deeper { All (IsNoDeeper frame.now) (tiles.now ++ made.now.crossed.items) }
     ensures in_order { IfOk result (λ wholes. AreInOrder wholes.items) }
-    ensures same { IfOk result (λ wholes. AreArranged (wholes_of frame.now (tiles.now ++ made.now.crossed.items) made.now.pairs.items) wholes.items) }
+    ensures same { IfOk result (λ wholes. AreArranged
+        (wholes_of frame.now (tiles.now ++ made.now.crossed.items) made.now.pairs.items) wholes.items) }
 {
     let mut keys = keys(alloc, tiles, made)?;
     keys.sort_unstable();
@@ -44,7 +45,9 @@ fn keys(alloc: Global, tiles: &[PlacedTile], made: &Pairs) -> Result<Vec<OrderKe
     requires few { length made.now.pairs.items < 2 ^ 32 }
     requires numbered { All (ArePresent (length (tiles.now ++ made.now.crossed.items))) made.now.pairs.items }
     requires fit { All HasKey (tiles.now ++ made.now.crossed.items) }
-    ensures { IfOk result (λ keys. (f : FrameValue) → keys.items ≡ first_keys (wholes_of f (tiles.now ++ made.now.crossed.items) made.now.pairs.items)) }
+    ensures { IfOk result (λ keys. (f : FrameValue)
+        → keys.items ≡ first_keys (wholes_of f (tiles.now ++ made.now.crossed.items)
+        made.now.pairs.items)) }
 {
     let count = made.pairs.len();
     let mut keys = Vec::with_capacity(alloc, count)?;
@@ -67,7 +70,9 @@ fn picked(
     requires numbered { All (ArePresent (length (tiles.now ++ made.now.crossed.items))) made.now.pairs.items }
     requires no_deeper { All (IsNoDeeper frame.now) (tiles.now ++ made.now.crossed.items) }
     ensures { IfOk result (λ wholes. (blank : whole.WholeTile) → wholes.items
-        ≡ chosen_below (is_new keys.now) (whole_at (wholes_of frame.now (tiles.now ++ made.now.crossed.items) made.now.pairs.items) blank keys.now) (length keys.now)) }
+        ≡ chosen_below (is_new keys.now) (whole_at
+        (wholes_of frame.now (tiles.now ++ made.now.crossed.items) made.now.pairs.items) blank keys.now)
+        (length keys.now)) }
 {
     let count = keys.len();
     let mut wholes = Vec::with_capacity(alloc, count)?;

@@ -5,7 +5,7 @@ ghost use Rattle.cyclo_points.specs.Point.{IsWithin};
 ghost use Rattle.rule_model.specs.Tiling.{tiling_of};
 ghost use Rattle.lazy_walk.specs.Ancestors.{full};
 ghost use Rattle.lazy_walk.specs.Frames.{IsFrameOf, GrowsTo};
-ghost use Rattle.windows.specs.Limits.{most_tiles};
+ghost use Rattle.theory_windows.specs.Limits.{most_tiles};
 ghost use Rattle.window_cover.specs.InOrder as covered;
 ghost use Rattle.half_glue.specs.Causes.{HasGlueCause};
 ghost use Rattle.half_glue.specs.Depth.{IsGluedInside, IsTooShallow};
@@ -46,13 +46,18 @@ pub(crate) fn other_half<L: Ledger>(
     requires sides { AreSides (tiling_of machine.now) sides.now }
     requires below { number < length tiles.now }
     ensures frame { GrowsTo (tiling_of machine.now) frame.old frame.new }
-    ensures found { IfOk result (IsFound (tiling_of machine.now) frame.new tiles.now (tile_of tiles.now number)) }
-    ensures inside { OnOk result (IsGluedInside (tiling_of machine.now) frame.old (length frame.new.digits) (tile_of tiles.now number)) }
-    ensures can_be_joined { OnOk result (CanBeJoined (tiling_of machine.now) (full (tiling_of machine.now) frame.old) (tile_of tiles.now number)) }
+    ensures found { IfOk result (IsFound (tiling_of machine.now) frame.new tiles.now
+        (tile_of tiles.now number)) }
+    ensures inside { OnOk result (IsGluedInside (tiling_of machine.now) frame.old (length frame.new.digits)
+        (tile_of tiles.now number)) }
+    ensures can_be_joined { OnOk result (CanBeJoined (tiling_of machine.now)
+        (full (tiling_of machine.now) frame.old) (tile_of tiles.now number)) }
     ensures least { (n : ℕ) → length frame.old.digits ≤ n → n < length frame.new.digits
         → IsTooShallow (tiling_of machine.now) frame.old (tile_of tiles.now number ∷ []) n }
-    ensures answered { CanBeJoined (tiling_of machine.now) (full (tiling_of machine.now) frame.old) (tile_of tiles.now number) → IsOk result }
-    ensures cause { IfErr result (λ fault. HasGlueCause (tiling_of machine.now) frame.old frame.new (tile_of tiles.now number ∷ []) fault) }
+    ensures answered { CanBeJoined (tiling_of machine.now) (full (tiling_of machine.now) frame.old)
+        (tile_of tiles.now number) → IsOk result }
+    ensures cause { IfErr result (λ fault. HasGlueCause (tiling_of machine.now) frame.old frame.new
+        (tile_of tiles.now number ∷ []) fault) }
 {
     glue_laws(machine);
     let kind = tiles.kind(number);

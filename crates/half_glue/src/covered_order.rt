@@ -1,6 +1,6 @@
 //! Puts pairs of tiles of a window in order, each exactly once.
 ghost use Rattle.std.specs.Prelude.{◌≡◌, ◌<◌, ◌^◌, ◌++◌, All, length, IfOk};
-ghost use Rattle.addressing.specs.Search.{chosen_below};
+ghost use Rattle.theory_addresses.specs.Search.{chosen_below};
 ghost use Rattle.lazy_walk.specs.Frames.{FrameValue};
 ghost use Rattle.tile_place.specs.Keys.{key_of};
 ghost use Rattle.tile_place.specs.declared.order_key.OrderKey as key;
@@ -27,9 +27,12 @@ pub(crate) fn ordered(
     requires few { length made.now.pairs.items < 2 ^ 32 }
     requires numbered { All (ArePresent (length (tiles.now ++ made.now.crossed.items))) made.now.pairs.items }
     requires fit { All HasKey (tiles.now ++ made.now.crossed.items) }
-    ensures numbered { IfOk result (λ pairs. All (ArePresent (length (tiles.now ++ made.now.crossed.items))) pairs.items) }
-    ensures in_order { IfOk result (λ pairs. (f : FrameValue) → AreInOrder (wholes_of f (tiles.now ++ made.now.crossed.items) pairs.items)) }
-    ensures same { IfOk result (λ pairs. (f : FrameValue) → AreArranged (wholes_of f (tiles.now ++ made.now.crossed.items) made.now.pairs.items)
+    ensures numbered { IfOk result (λ pairs. All (ArePresent (length (tiles.now ++ made.now.crossed.items)))
+        pairs.items) }
+    ensures in_order { IfOk result (λ pairs. (f : FrameValue)
+        → AreInOrder (wholes_of f (tiles.now ++ made.now.crossed.items) pairs.items)) }
+    ensures same { IfOk result (λ pairs. (f : FrameValue)
+        → AreArranged (wholes_of f (tiles.now ++ made.now.crossed.items) made.now.pairs.items)
         (wholes_of f (tiles.now ++ made.now.crossed.items) pairs.items)) }
 {
     let mut keys = keys(alloc, tiles, made)?;
@@ -42,7 +45,9 @@ fn keys(alloc: Global, tiles: &CoveredTiles, made: &Pairs) -> Result<Vec<OrderKe
     requires few { length made.now.pairs.items < 2 ^ 32 }
     requires numbered { All (ArePresent (length (tiles.now ++ made.now.crossed.items))) made.now.pairs.items }
     requires fit { All HasKey (tiles.now ++ made.now.crossed.items) }
-    ensures { IfOk result (λ keys. (f : FrameValue) → keys.items ≡ first_keys (wholes_of f (tiles.now ++ made.now.crossed.items) made.now.pairs.items)) }
+    ensures { IfOk result (λ keys. (f : FrameValue)
+        → keys.items ≡ first_keys (wholes_of f (tiles.now ++ made.now.crossed.items)
+        made.now.pairs.items)) }
 {
     let count = made.pairs.len();
     let mut keys = Vec::with_capacity(alloc, count)?;
@@ -58,7 +63,8 @@ fn keys(alloc: Global, tiles: &CoveredTiles, made: &Pairs) -> Result<Vec<OrderKe
 fn key_of(tiles: &CoveredTiles, made: &Pairs, number: u32, own: u32) -> OrderKey
     requires below { number < length (tiles.now ++ made.now.crossed.items) }
     requires fit { All HasKey (tiles.now ++ made.now.crossed.items) }
-    ensures { result ≡ key_of (tile_of (tiles.now ++ made.now.crossed.items) number).motion (tile_of (tiles.now ++ made.now.crossed.items) number).kind own }
+    ensures { result ≡ key_of (tile_of (tiles.now ++ made.now.crossed.items) number).motion
+        (tile_of (tiles.now ++ made.now.crossed.items) number).kind own }
 {
     let place = number as usize;
     let count = tiles.len();
@@ -73,7 +79,8 @@ fn key_of(tiles: &CoveredTiles, made: &Pairs, number: u32, own: u32) -> OrderKey
 /// Returns the pairs of those keys whose place and kind differ from those of the key before.
 fn picked(alloc: Global, made: &Pairs, keys: &[OrderKey]) -> Result<Vec<Pair>, NoMemory>
     requires keyed { All (λ (k : key.OrderKey). k.number < length made.now.pairs.items) keys.now }
-    ensures { IfOk result (λ picked. picked.items ≡ chosen_below (is_new keys.now) (pair_at made.now.pairs.items keys.now) (length keys.now)) }
+    ensures { IfOk result (λ picked. picked.items ≡ chosen_below (is_new keys.now)
+        (pair_at made.now.pairs.items keys.now) (length keys.now)) }
 {
     let count = keys.len();
     let mut picked = Vec::with_capacity(alloc, count)?;

@@ -9,5 +9,6 @@ ghost use Rattle.half_glue.specs.Given.{IsGiven};
 
 /// States that a tile in its place at the frame's depth may be given, unless its shift is refused.
 pub fn given_law()
-    ensures { (t : Tiling) (f : FrameValue) (x : tile.PlacedTile) → Stands t f x → IsWithin (2 ^ 24) x.motion.shift → IsGiven t f x }
+    ensures { (t : Tiling) (f : FrameValue) (x : tile.PlacedTile) → Stands t f x
+        → IsWithin (2 ^ 24) x.motion.shift → IsGiven t f x }
 {}

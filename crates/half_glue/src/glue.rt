@@ -2,7 +2,7 @@
 ghost use Rattle.std.specs.Prelude.{◌≡◌, ◌⊎◌, ◌<◌, ◌≤◌, ℕ, length, IsOk, Err, IfOk, IfErr, OnOk};
 ghost use Rattle.rule_model.specs.Tiling.{tiling_of};
 ghost use Rattle.lazy_walk.specs.Frames.{IsFrameOf, GrowsTo};
-ghost use Rattle.windows.specs.Limits.{most_tiles};
+ghost use Rattle.theory_windows.specs.Limits.{most_tiles};
 ghost use Rattle.half_glue.specs.declared.glue_fault.GlueFault.TheVariants.{NoMemory};
 ghost use Rattle.half_glue.specs.Given.{AreGiven};
 ghost use Rattle.half_glue.specs.WholeTiles.{AreWholeTilesOf};
@@ -52,9 +52,11 @@ pub fn glue(
     ensures frame { GrowsTo (tiling_of machine.now) frame.old frame.new }
 
     // Exactly the whole tiles of the given tiles, each exactly once and in its place, at the least depth.
-    ensures whole_tiles { IfOk result (λ wholes. AreWholeTilesOf (tiling_of machine.now) frame.new tiles.now.items wholes.items) }
+    ensures whole_tiles { IfOk result (λ wholes. AreWholeTilesOf (tiling_of machine.now) frame.new
+        tiles.now.items wholes.items) }
     ensures in_order { IfOk result (λ wholes. AreInOrder wholes.items) }
-    ensures least { OnOk result (IsLeastForGlue (tiling_of machine.now) frame.old tiles.now.items (length frame.new.digits)) }
+    ensures least { OnOk result (IsLeastForGlue (tiling_of machine.now) frame.old tiles.now.items
+        (length frame.new.digits)) }
 
     // Even on an error: at each depth that the frame grew past, a given tile has its glue edge on the
     // boundary.
@@ -64,8 +66,10 @@ pub fn glue(
     // The call succeeds if and only if all given tiles can be glued, unless memory runs out. Each error comes
     // only for its cause.
     ensures within { OnOk result (CanBeGlued (tiling_of machine.now) frame.old tiles.now.items) }
-    ensures answered { CanBeGlued (tiling_of machine.now) frame.old tiles.now.items → (result ≡ Err NoMemory) ⊎ IsOk result }
-    ensures cause { IfErr result (λ fault. HasGlueCause (tiling_of machine.now) frame.old frame.new tiles.now.items fault) }
+    ensures answered { CanBeGlued (tiling_of machine.now) frame.old tiles.now.items
+        → (result ≡ Err NoMemory) ⊎ IsOk result }
+    ensures cause { IfErr result (λ fault. HasGlueCause (tiling_of machine.now) frame.old frame.new
+        tiles.now.items fault) }
 {
     glued::<Brand>(alloc, machine, frame, tiles.as_slice(), Blank::new(1))
 }
@@ -85,14 +89,18 @@ fn glued<L: Ledger>(
     requires few { length tiles.now ≤ most_tiles }
     requires given { AreGiven (tiling_of machine.now) frame.old tiles.now }
     ensures frame { GrowsTo (tiling_of machine.now) frame.old frame.new }
-    ensures whole_tiles { IfOk result (λ wholes. AreWholeTilesOf (tiling_of machine.now) frame.new tiles.now wholes.items) }
+    ensures whole_tiles { IfOk result (λ wholes. AreWholeTilesOf (tiling_of machine.now) frame.new tiles.now
+        wholes.items) }
     ensures in_order { IfOk result (λ wholes. AreInOrder wholes.items) }
-    ensures least { OnOk result (IsLeastForGlue (tiling_of machine.now) frame.old tiles.now (length frame.new.digits)) }
+    ensures least { OnOk result (IsLeastForGlue (tiling_of machine.now) frame.old tiles.now
+        (length frame.new.digits)) }
     ensures not_beyond { (n : ℕ) → length frame.old.digits ≤ n → n < length frame.new.digits
         → IsTooShallow (tiling_of machine.now) frame.old tiles.now n }
     ensures within { OnOk result (CanBeGlued (tiling_of machine.now) frame.old tiles.now) }
-    ensures answered { CanBeGlued (tiling_of machine.now) frame.old tiles.now → (result ≡ Err NoMemory) ⊎ IsOk result }
-    ensures cause { IfErr result (λ fault. HasGlueCause (tiling_of machine.now) frame.old frame.new tiles.now fault) }
+    ensures answered { CanBeGlued (tiling_of machine.now) frame.old tiles.now → (result ≡ Err NoMemory)
+        ⊎ IsOk result }
+    ensures cause { IfErr result (λ fault. HasGlueCause (tiling_of machine.now) frame.old frame.new
+        tiles.now fault) }
 {
     glue_laws(machine);
     let mut steps = Steps::<L>::new(blank);

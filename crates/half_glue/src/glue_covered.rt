@@ -2,7 +2,7 @@
 ghost use Rattle.std.specs.Prelude.{◌≡◌, ◌⊎◌, ◌<◌, ◌≤◌, ◌++◌, ℕ, length, IsOk, Err, IfOk, IfErr, OnOk};
 ghost use Rattle.rule_model.specs.Tiling.{tiling_of};
 ghost use Rattle.lazy_walk.specs.Frames.{IsFrameOf, GrowsTo};
-ghost use Rattle.windows.specs.Limits.{most_tiles};
+ghost use Rattle.theory_windows.specs.Limits.{most_tiles};
 ghost use Rattle.window_cover.specs.InOrder as covered;
 ghost use Rattle.half_glue.specs.declared.glue_fault.GlueFault.TheVariants.{NoMemory};
 ghost use Rattle.half_glue.specs.Given.{AreGiven};
@@ -44,9 +44,11 @@ pub fn glue_covered(
     ensures frame { GrowsTo (tiling_of machine.now) frame.old frame.new }
 
     // Exactly the whole tiles of the given tiles, each exactly once and in its place, at the least depth.
-    ensures whole_tiles { IfOk result (λ wholes. AreWholeTilesOf (tiling_of machine.now) frame.new tiles wholes) }
+    ensures whole_tiles { IfOk result (λ wholes. AreWholeTilesOf (tiling_of machine.now) frame.new tiles
+        wholes) }
     ensures in_order { IfOk result (λ wholes. AreInOrder wholes) }
-    ensures least { OnOk result (IsLeastForGlue (tiling_of machine.now) frame.old tiles (length frame.new.digits)) }
+    ensures least { OnOk result (IsLeastForGlue (tiling_of machine.now) frame.old tiles
+        (length frame.new.digits)) }
 
     // Even on an error: at each depth that the frame grew past, a given tile has its glue edge on the
     // boundary.
@@ -56,8 +58,10 @@ pub fn glue_covered(
     // The call succeeds if and only if all given tiles can be glued, unless memory runs out. Each error comes
     // only for its cause.
     ensures within { OnOk result (CanBeGlued (tiling_of machine.now) frame.old tiles) }
-    ensures answered { CanBeGlued (tiling_of machine.now) frame.old tiles → (result ≡ Err NoMemory) ⊎ IsOk result }
-    ensures cause { IfErr result (λ fault. HasGlueCause (tiling_of machine.now) frame.old frame.new tiles fault) }
+    ensures answered { CanBeGlued (tiling_of machine.now) frame.old tiles → (result ≡ Err NoMemory)
+        ⊎ IsOk result }
+    ensures cause { IfErr result (λ fault. HasGlueCause (tiling_of machine.now) frame.old frame.new tiles
+        fault) }
 {
     let made = glued::<Brand>(alloc, machine, frame, &tiles, Blank::new(1))?;
     let grown = frame.copy()?;
@@ -85,16 +89,21 @@ fn glued<L: Ledger>(
     requires given { AreGiven (tiling_of machine.now) frame.old tiles.now }
     requires in_order { covered.AreInOrder tiles.now }
     ensures frame { GrowsTo (tiling_of machine.now) frame.old frame.new }
-    ensures can_be { IfOk result (λ made. CanBeWholes frame.new (tiles.now ++ made.crossed.items) made.pairs.items) }
+    ensures can_be { IfOk result (λ made. CanBeWholes frame.new (tiles.now ++ made.crossed.items)
+        made.pairs.items) }
     ensures whole_tiles { IfOk result (λ made. AreWholeTilesOf (tiling_of machine.now) frame.new tiles.now
         (wholes_of frame.new (tiles.now ++ made.crossed.items) made.pairs.items)) }
-    ensures in_order { IfOk result (λ made. AreInOrder (wholes_of frame.new (tiles.now ++ made.crossed.items) made.pairs.items)) }
-    ensures least { OnOk result (IsLeastForGlue (tiling_of machine.now) frame.old tiles.now (length frame.new.digits)) }
+    ensures in_order { IfOk result (λ made. AreInOrder
+        (wholes_of frame.new (tiles.now ++ made.crossed.items) made.pairs.items)) }
+    ensures least { OnOk result (IsLeastForGlue (tiling_of machine.now) frame.old tiles.now
+        (length frame.new.digits)) }
     ensures not_beyond { (n : ℕ) → length frame.old.digits ≤ n → n < length frame.new.digits
         → IsTooShallow (tiling_of machine.now) frame.old tiles.now n }
     ensures within { OnOk result (CanBeGlued (tiling_of machine.now) frame.old tiles.now) }
-    ensures answered { CanBeGlued (tiling_of machine.now) frame.old tiles.now → (result ≡ Err NoMemory) ⊎ IsOk result }
-    ensures cause { IfErr result (λ fault. HasGlueCause (tiling_of machine.now) frame.old frame.new tiles.now fault) }
+    ensures answered { CanBeGlued (tiling_of machine.now) frame.old tiles.now → (result ≡ Err NoMemory)
+        ⊎ IsOk result }
+    ensures cause { IfErr result (λ fault. HasGlueCause (tiling_of machine.now) frame.old frame.new
+        tiles.now fault) }
 {
     glue_laws(machine);
     let mut steps = Steps::<L>::new(blank);

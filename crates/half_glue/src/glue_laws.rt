@@ -2,10 +2,10 @@
 ghost use Rattle.half_glue.specs.Checked.{HasGlueLaws};
 
 use cyclo_points::points_law;
-use dissection::laws::{across_law, boundary_law, crossing_law};
 use seeded_growth::laws::grown_fits_law;
+use theory_dissection::laws::{across_law, boundary_law, crossing_law};
+use theory_windows::frame_laws::frame_name_law;
 use tile_place::machine::Machine;
-use windows::frame_laws::frame_name_law;
 
 /// The laws of the machine's tiling that gluing needs.
 pub(crate) fn glue_laws(machine: &Machine)

@@ -57,7 +57,8 @@ impl GluedTiles {
     /// the order.
     pub fn put_first(&self, place: usize, kind: &mut u8, motion: &mut Motion, addr: &mut Address)
         requires below { place < length self.now }
-        ensures { IfSome (slice_get self.now place) (λ w. w.first ≡ record { kind = kind.new; motion = motion.new; addr = addr.new }) }
+        ensures { IfSome (slice_get self.now place)
+            (λ w. w.first ≡ record { kind = kind.new; motion = motion.new; addr = addr.new }) }
     {
         let number = self.pairs[place].first;
         put_part(
@@ -75,7 +76,8 @@ impl GluedTiles {
     pub fn put_second(&self, place: usize, kind: &mut u8, motion: &mut Motion, addr: &mut Address)
         requires below { place < length self.now }
         requires is_pair { IfSome (slice_get self.now place) (λ w. IsTrue (is_some w.second)) }
-        ensures { IfSome (slice_get self.now place) (λ w. w.second ≡ Some (record { kind = kind.new; motion = motion.new; addr = addr.new })) }
+        ensures { IfSome (slice_get self.now place)
+            (λ w. w.second ≡ Some (record { kind = kind.new; motion = motion.new; addr = addr.new })) }
     {
         let number = self.pairs[place].second.unwrap();
         put_part(
@@ -103,7 +105,8 @@ fn put_part(
 )
     requires below { number < length (tiles.now ++ crossed.now) }
     requires no_deeper { All (IsNoDeeper frame.now) (tiles.now ++ crossed.now) }
-    ensures { record { kind = kind.new; motion = motion.new; addr = addr.new } ≡ lifted_to frame.now (tile_of (tiles.now ++ crossed.now) number) }
+    ensures { record { kind = kind.new; motion = motion.new; addr = addr.new } ≡ lifted_to frame.now
+        (tile_of (tiles.now ++ crossed.now) number) }
 {
     put_loose(tiles, crossed, number, kind, motion, addr);
     frame.raise(addr);
@@ -119,7 +122,8 @@ fn put_loose(
     addr: &mut Address,
 )
     requires below { number < length (tiles.now ++ crossed.now) }
-    ensures { record { kind = kind.new; motion = motion.new; addr = addr.new } ≡ tile_of (tiles.now ++ crossed.now) number }
+    ensures { record { kind = kind.new; motion = motion.new; addr = addr.new } ≡ tile_of
+        (tiles.now ++ crossed.now) number }
 {
     let place = number as usize;
     let count = tiles.len();

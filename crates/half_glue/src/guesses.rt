@@ -1,7 +1,7 @@
 //! Guesses where the other halves of tiles are.
 ghost use Rattle.std.specs.Prelude.{◌≡◌, ◌≤◌, IfSome, IsTrue, length};
 ghost use Rattle.tile_place.specs.Keys.{order_numbers};
-ghost use Rattle.windows.specs.Limits.{most_tiles};
+ghost use Rattle.theory_windows.specs.Limits.{most_tiles};
 ghost use Rattle.window_cover.specs.InOrder as covered;
 ghost use Rattle.window_cover.specs.Numbered.{IsPlacedAt};
 

@@ -1,11 +1,11 @@
 //! Finds the other half of a tile.
 ghost use Rattle.std.specs.Prelude.{◌≡◌, ◌<◌, ◌≤◌, ◌^◌, ℕ, [], ◌∷◌, length, IsOk, IfOk, IfErr, IfSome, OnOk};
 ghost use Rattle.std.specs.List.Sorted.{IsSorted};
-ghost use Rattle.addressing.specs.Address.{depth};
+ghost use Rattle.theory_addresses.specs.Address.{depth};
 ghost use Rattle.cyclo_points.specs.Order.{points_of};
 ghost use Rattle.cyclo_points.specs.Point.{IsWithin};
 ghost use Rattle.cyclo_points.specs.declared.motion.Motion.{Motion};
-ghost use Rattle.frames.specs.Frame.{IsTileOf, lifted_in};
+ghost use Rattle.theory_frames.specs.Frame.{IsTileOf, lifted_in};
 ghost use Rattle.rule_model.specs.Glue.{IsGlueEdge, IsOnlyGlueEdge};
 ghost use Rattle.rule_model.specs.Tiling.{tiling_of, children};
 ghost use Rattle.tile_place.specs.Crossed.{IsOnlyAcross};
@@ -64,13 +64,18 @@ pub(crate) fn other_half<L: Ledger>(
     requires keys { AreKeysOf tiles.now keys.now }
     requires below { number < length tiles.now }
     ensures frame { GrowsTo (tiling_of machine.now) frame.old frame.new }
-    ensures found { IfOk result (IsFound (tiling_of machine.now) frame.new tiles.now (tile_of tiles.now number)) }
-    ensures inside { OnOk result (IsGluedInside (tiling_of machine.now) frame.old (length frame.new.digits) (tile_of tiles.now number)) }
-    ensures can_be_joined { OnOk result (CanBeJoined (tiling_of machine.now) (full (tiling_of machine.now) frame.old) (tile_of tiles.now number)) }
+    ensures found { IfOk result (IsFound (tiling_of machine.now) frame.new tiles.now
+        (tile_of tiles.now number)) }
+    ensures inside { OnOk result (IsGluedInside (tiling_of machine.now) frame.old (length frame.new.digits)
+        (tile_of tiles.now number)) }
+    ensures can_be_joined { OnOk result (CanBeJoined (tiling_of machine.now)
+        (full (tiling_of machine.now) frame.old) (tile_of tiles.now number)) }
     ensures least { (n : ℕ) → length frame.old.digits ≤ n → n < length frame.new.digits
         → IsTooShallow (tiling_of machine.now) frame.old (tile_of tiles.now number ∷ []) n }
-    ensures answered { CanBeJoined (tiling_of machine.now) (full (tiling_of machine.now) frame.old) (tile_of tiles.now number) → IsOk result }
-    ensures cause { IfErr result (λ fault. HasGlueCause (tiling_of machine.now) frame.old frame.new (tile_of tiles.now number ∷ []) fault) }
+    ensures answered { CanBeJoined (tiling_of machine.now) (full (tiling_of machine.now) frame.old)
+        (tile_of tiles.now number) → IsOk result }
+    ensures cause { IfErr result (λ fault. HasGlueCause (tiling_of machine.now) frame.old frame.new
+        (tile_of tiles.now number ∷ []) fault) }
 {
     glue_laws(machine);
     let tile = &tiles[number];
@@ -120,12 +125,16 @@ pub(crate) fn crossed_half<L: Ledger>(
     requires glue_edge { IsOnlyGlueEdge (tiling_of machine.now).rule tile.now.kind edge }
     ensures frame { GrowsTo (tiling_of machine.now) frame.old frame.new }
     ensures crossed { IfOk result (IsCrossed (tiling_of machine.now) frame.new tile.now) }
-    ensures inside { OnOk result (IsGluedInside (tiling_of machine.now) frame.old (length frame.new.digits) tile.now) }
-    ensures can_be_joined { OnOk result (CanBeJoined (tiling_of machine.now) (full (tiling_of machine.now) frame.old) tile.now) }
+    ensures inside { OnOk result (IsGluedInside (tiling_of machine.now) frame.old (length frame.new.digits)
+        tile.now) }
+    ensures can_be_joined { OnOk result (CanBeJoined (tiling_of machine.now)
+        (full (tiling_of machine.now) frame.old) tile.now) }
     ensures least { (n : ℕ) → length frame.old.digits ≤ n → n < length frame.new.digits
         → IsTooShallow (tiling_of machine.now) frame.old (tile.now ∷ []) n }
-    ensures answered { CanBeJoined (tiling_of machine.now) (full (tiling_of machine.now) frame.old) tile.now → IsOk result }
-    ensures cause { IfErr result (λ fault. HasGlueCause (tiling_of machine.now) frame.old frame.new (tile.now ∷ []) fault) }
+    ensures answered { CanBeJoined (tiling_of machine.now) (full (tiling_of machine.now) frame.old) tile.now
+        → IsOk result }
+    ensures cause { IfErr result (λ fault. HasGlueCause (tiling_of machine.now) frame.old frame.new
+        (tile.now ∷ []) fault) }
 {
     glue_laws(machine);
     let mut across = tile.addr.copy();
@@ -153,9 +162,11 @@ fn placed_beside(
     requires glue_edge { IsGlueEdge (tiling_of machine.now).rule tile.now.kind edge }
     requires of_frame { IsTileOf (children (tiling_of machine.now)) (whole frame.now) (address_of across) }
     requires at_depth { depth (address_of across) ≡ length frame.now.digits }
-    requires only_tile_across { IsOnlyAcross (tiling_of machine.now) (lifted_in (whole frame.now) (address_of tile.now.addr)) edge (address_of across) back }
+    requires only_tile_across { IsOnlyAcross (tiling_of machine.now)
+        (lifted_in (whole frame.now) (address_of tile.now.addr)) edge (address_of across) back }
     ensures stands { Stands (tiling_of machine.now) frame.now result }
-    ensures across { IsOnlyAcross (tiling_of machine.now) (lifted_in (whole frame.now) (address_of tile.now.addr)) edge (address_of result.addr) back }
+    ensures across { IsOnlyAcross (tiling_of machine.now)
+        (lifted_in (whole frame.now) (address_of tile.now.addr)) edge (address_of result.addr) back }
 {
     glue_laws(machine);
     machine.gluing_law();

@@ -2,7 +2,7 @@
 ghost use Rattle.std.specs.Prelude.{◌≡◌, ◌⊎◌, ℕ, ◌<◌, ◌≤◌, All, false, get_or, length, IfOk, IfSome, IsTrue};
 ghost use Rattle.lazy_walk.specs.Frames.{FrameValue, IsFrameOf};
 ghost use Rattle.rule_model.specs.Tiling.{tiling_of};
-ghost use Rattle.windows.specs.Limits.{most_tiles};
+ghost use Rattle.theory_windows.specs.Limits.{most_tiles};
 ghost use Rattle.window_cover.specs.InOrder as covered;
 ghost use Rattle.half_glue.specs.Given.{AreGiven};
 ghost use Rattle.half_glue.specs.Inner.{IsPlaced, IsOfPair, IsInner, AreInner, AreRising};
@@ -37,7 +37,8 @@ pub(crate) fn inner_pairs(
     requires none_taken { (k : ℕ) → ¬ IsTrue (get_or taken.old k false) }
     ensures as_many { length taken.new ≡ length tiles.now }
     ensures rising { IfOk result (λ pairs. AreRising (length tiles.now) pairs.items) }
-    ensures inner { IfOk result (λ pairs. (f : FrameValue) → IsFrameOf (tiling_of machine.now) f → AreGiven (tiling_of machine.now) f tiles.now
+    ensures inner { IfOk result (λ pairs. (f : FrameValue) → IsFrameOf (tiling_of machine.now) f
+        → AreGiven (tiling_of machine.now) f tiles.now
         → AreInner (tiling_of machine.now) f tiles.now pairs.items taken.new) }
 {
     let mut pairs = Vec::new(alloc);
@@ -65,7 +66,8 @@ fn inner_pair(
     requires below { number < length tiles.now }
     ensures first { IfSome result (λ pair. pair.first ≡ number) }
     ensures present { IfSome result (ArePresent (length tiles.now)) }
-    ensures inner { IfSome result (λ pair. (f : FrameValue) → IsFrameOf (tiling_of machine.now) f → AreGiven (tiling_of machine.now) f tiles.now
+    ensures inner { IfSome result (λ pair. (f : FrameValue) → IsFrameOf (tiling_of machine.now) f
+        → AreGiven (tiling_of machine.now) f tiles.now
         → IsInner (tiling_of machine.now) f tiles.now pair) }
 {
     glue_laws(machine);
@@ -96,7 +98,8 @@ fn inner_pair(
 fn mark(taken: &mut [bool], pair: &Pair)
     requires present { ArePresent (length taken.old) pair.now }
     ensures as_many { length taken.new ≡ length taken.old }
-    ensures marked { (k : ℕ) → IsTrue (get_or taken.new k false) → IsTrue (get_or taken.old k false) ⊎ IsOfPair k pair.now }
+    ensures marked { (k : ℕ) → IsTrue (get_or taken.new k false) → IsTrue (get_or taken.old k false)
+        ⊎ IsOfPair k pair.now }
 {
     taken[pair.first as usize] = true;
     if let Some(second) = pair.second {

@@ -5,7 +5,7 @@ ghost use Rattle.std.specs.List.Sorted.{IsPermutation, IsSorted};
 ghost use Rattle.cyclo_points.specs.Point.{IsWithin};
 ghost use Rattle.tile_place.specs.Keys.{key_of};
 ghost use Rattle.half_glue.specs.Keys.{HasKey, own_keys, key_order};
-ghost use Rattle.windows.specs.Limits.{most_tiles};
+ghost use Rattle.theory_windows.specs.Limits.{most_tiles};
 
 use cyclo_points::motion::Motion;
 use std::alloc::Global;

@@ -58,7 +58,8 @@ fn put_next(
     requires outer_in_order { ArePairsInOrder (tiles.now ++ crossed.now) outer.now }
     requires merging { IsMerging (tiles.now ++ crossed.now) inner.now outer.now done next pairs.old.items }
     requires one_more { next < length outer.now }
-    ensures { IfOk result (λ after. IsMerging (tiles.now ++ crossed.now) inner.now outer.now after (next + 1) pairs.new.items) }
+    ensures { IfOk result (λ after. IsMerging (tiles.now ++ crossed.now) inner.now outer.now after
+        (next + 1) pairs.new.items) }
 {
     let pair = outer[next];
     let (motion, kind) = first_of(tiles, crossed, pair.first);

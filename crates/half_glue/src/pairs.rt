@@ -2,7 +2,7 @@
 ghost use Rattle.std.specs.Prelude.{◌≡◌, ◌<◌, ◌≤◌, ◌++◌, nat_lt, length, OnOk};
 ghost use Rattle.half_glue.specs.Found.{IsNumbered};
 ghost use Rattle.half_glue.specs.Pairs.{pair_of, added_pairs, added_tiles};
-ghost use Rattle.windows.specs.Limits.{most_tiles};
+ghost use Rattle.theory_windows.specs.Limits.{most_tiles};
 
 use crate::half::Found;
 use tile_place::placed_tile::PlacedTile;
@@ -37,7 +37,8 @@ pub(crate) fn put(
     requires below { number < length tiles.now }
     requires few_crossed { length made.old.crossed.items ≤ number }
     requires numbered { IsNumbered tiles.now found }
-    ensures pairs { OnOk result (made.new.pairs.items ≡ made.old.pairs.items ++ added_pairs tiles.now number (length made.old.crossed.items) found) }
+    ensures pairs { OnOk result (made.new.pairs.items ≡ made.old.pairs.items
+        ++ added_pairs tiles.now number (length made.old.crossed.items) found) }
     ensures crossed { OnOk result (made.new.crossed.items ≡ made.old.crossed.items ++ added_tiles found) }
 {
     let own = number as u32;
@@ -75,7 +76,8 @@ pub(crate) fn put_covered(
     requires below { number < length tiles.now }
     requires few_crossed { length made.old.crossed.items ≤ number }
     requires numbered { IsNumbered tiles.now found }
-    ensures pairs { OnOk result (made.new.pairs.items ≡ made.old.pairs.items ++ added_pairs tiles.now number (length made.old.crossed.items) found) }
+    ensures pairs { OnOk result (made.new.pairs.items ≡ made.old.pairs.items
+        ++ added_pairs tiles.now number (length made.old.crossed.items) found) }
     ensures crossed { OnOk result (made.new.crossed.items ≡ made.old.crossed.items ++ added_tiles found) }
 {
     let own = number as u32;

@@ -4,9 +4,9 @@ ghost use Rattle.half_glue.specs.Outline.{FirstGlueEdgeLaw, WholesCountLaw};
 ghost use Rattle.half_glue.specs.Covering.{WholesCoverLaw, PartsOnceLaw};
 
 use crate::glue_laws::glue_laws;
+use theory_windows::frame_laws::frame_patch_law;
+use theory_windows::patch_laws::gluing_law;
 use tile_place::machine::Machine;
-use windows::frame_laws::frame_patch_law;
-use windows::patch_laws::gluing_law;
 
 /// States the laws of the whole tiles of a machine's tiling.
 ///

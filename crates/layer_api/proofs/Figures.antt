@@ -18,17 +18,20 @@ pub three_figures : (n : ℕ) → n < 1000 → length (decimal n) ≤ 3
 three_figures n h = length-decimal-le 3 n (omega arith) (omega arith) (omega arith)
 
 -- a byte before a text
-pub byte_before : (byte start : ℕ) (buf : List ℕ) → 1 ≤ start → start ≤ length buf → drop (start - 1) (set buf (start - 1) byte) ≡ byte ∷ drop start buf
+pub byte_before : (byte start : ℕ) (buf : List ℕ) → 1 ≤ start → start ≤ length buf
+    → drop (start - 1) (set buf (start - 1) byte) ≡ byte ∷ drop start buf
 byte_before byte start buf some inside =
     let e : start - 1 + 1 ≡ start = omega arith in
     rw (drop-set buf (start - 1) byte (omega arith), e) refl
 
-pub one_figure : (n end : ℕ) (buf : List ℕ) → n < 10 → 1 ≤ end → end ≤ length buf → drop (end - 1) (set buf (end - 1) (48 + n)) ≡ decimal n ++ drop end buf
+pub one_figure : (n end : ℕ) (buf : List ℕ) → n < 10 → 1 ≤ end → end ≤ length buf
+    → drop (end - 1) (set buf (end - 1) (48 + n)) ≡ decimal n ++ drop end buf
 one_figure n end buf small some inside =
     rw (byte_before (48 + n) end buf some inside, decimal_digit n small) refl
 
 -- a text behind its sign
-pub behind_sign : (z : ℤ) (start : ℕ) (buf text : List ℕ) → z <ℤ pos 0 → 1 ≤ start → start ≤ length buf → drop start buf ≡ decimal (unsigned_abs z) ++ text
+pub behind_sign : (z : ℤ) (start : ℕ) (buf text : List ℕ) → z <ℤ pos 0 → 1 ≤ start → start ≤ length buf
+    → drop start buf ≡ decimal (unsigned_abs z) ++ text
     → drop (start - 1) (set buf (start - 1) 45) ≡ signed_decimal z ++ text
 behind_sign (pos n) start buf text below some inside h = absurd (omega (arith, ints))
 behind_sign (negsuc n) start buf text below some inside h =
@@ -36,7 +39,8 @@ behind_sign (negsuc n) start buf text below some inside h =
 
 -- a digit of an address and a comma, in four bytes
 pub four_bytes : (child parent end : ℕ) (buf : List ℕ) → child < 10 → parent < 10 → 4 ≤ end → end ≤ length buf
-    → drop (end - 4) (set (set (set (set buf (end - 1) 44) (end - 2) (48 + parent)) (end - 3) 47) (end - 4) (48 + child)) ≡ (decimal child ++ slash ∷ decimal parent) ++ comma ∷ drop end buf
+    → drop (end - 4) (set (set (set (set buf (end - 1) 44) (end - 2) (48 + parent)) (end - 3) 47) (end - 4)
+    (48 + child)) ≡ (decimal child ++ slash ∷ decimal parent) ++ comma ∷ drop end buf
 four_bytes child parent end buf small other some inside =
     let b1 = set buf (end - 1) 44 in
     let b2 = set b1 (end - 2) (48 + parent) in
@@ -63,7 +67,8 @@ four_bytes child parent end buf small other some inside =
 
 -- four numbers, each but the first with a comma before it, as they are read
 pub four_numbers : (read3 read2 read1 read0 a3 a2 a1 a0 : ℤ) (old b3 b2 b1 c3 c2 c1 new : List ℕ) → read3 ≡ a3 → read2 ≡ a2 → read1 ≡ a1 → read0 ≡ a0
-    → b3 ≡ signed_decimal read3 ++ old → c3 ≡ comma ∷ b3 → b2 ≡ signed_decimal read2 ++ c3 → c2 ≡ comma ∷ b2 → b1 ≡ signed_decimal read1 ++ c2 → c1 ≡ comma ∷ b1 → new ≡ signed_decimal read0 ++ c1
+    → b3 ≡ signed_decimal read3 ++ old → c3 ≡ comma ∷ b3 → b2 ≡ signed_decimal read2 ++ c3 → c2 ≡ comma ∷ b2
+    → b1 ≡ signed_decimal read1 ++ c2 → c1 ≡ comma ∷ b1 → new ≡ signed_decimal read0 ++ c1
     → new ≡ (signed_decimal a0 ++ comma ∷ (signed_decimal a1 ++ comma ∷ (signed_decimal a2 ++ comma ∷ signed_decimal a3))) ++ old
 four_numbers read3 read2 read1 read0 a3 a2 a1 a0 old b3 b2 b1 c3 c2 c1 new i3 i2 i1 i0 e1 e2 e3 e4 e5 e6 e7 =
     let all : new ≡ signed_decimal a0 ++ comma ∷ (signed_decimal a1 ++ comma ∷ (signed_decimal a2 ++ comma ∷ (signed_decimal a3 ++ old))) = cc in

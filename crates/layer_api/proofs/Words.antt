@@ -35,7 +35,8 @@ joined_words s (t ∷ ts) = rw (joined_words t ts) (simp append_assoc)
 pub one_more : (steps : List Step) (i seen raised : ℕ) (old new : List ℕ) (d : Step) → i < length steps
     → (raised % 65536 < 128 → (get_or steps i d).child < 10) → (raised < 8388608 → (get_or steps i d).parent < 10)
     → (seen < 8388608 → seen % 65536 < 128 → take (4 * i) old ≡ in_words (take i steps))
-    → ((get_or steps i d).child < 10 → (get_or steps i d).parent < 10 → take (4 * i + 4) new ≡ take (4 * i) old ++ digit_text (step_of (get_or steps i d)) ++ comma ∷ [])
+    → ((get_or steps i d).child < 10 → (get_or steps i d).parent < 10
+    → take (4 * i + 4) new ≡ take (4 * i) old ++ digit_text (step_of (get_or steps i d)) ++ comma ∷ [])
     → bit_or seen raised < 8388608 → bit_or seen raised % 65536 < 128 → take (4 * (i + 1)) new ≡ in_words (take (i + 1) steps)
 one_more steps i seen raised old new d inside is_short is_low before written below low =
     let before_is : seen ≤ bit_or seen raised = le_or_l seen raised in
@@ -44,7 +45,8 @@ one_more steps i seen raised old new d inside is_short is_low before written bel
     let before_part : seen % 65536 ≤ bit_or (seen % 65536) (raised % 65536) = le_or_l (seen % 65536) (raised % 65536) in
     let this_part : raised % 65536 ≤ bit_or (seen % 65536) (raised % 65536) = le_or_r (seen % 65536) (raised % 65536) in
     let so_far : take (4 * i) old ≡ in_words (take i steps) = before (omega arith) (omega arith) in
-    let this : take (4 * i + 4) new ≡ take (4 * i) old ++ digit_text (step_of (get_or steps i d)) ++ comma ∷ [] = written (is_short (omega arith)) (is_low (omega arith)) in
+    let this : take (4 * i + 4) new ≡ take (4 * i) old ++ digit_text (step_of (get_or steps i d)) ++ comma
+    ∷ [] = written (is_short (omega arith)) (is_low (omega arith)) in
     let place : 4 * (i + 1) ≡ 4 * i + 4 = omega arith in
     let f = λ (s : Step). digit_text (step_of s) ++ comma ∷ [] in
     rw (place, take_more steps i d inside, this, so_far)
@@ -93,6 +95,7 @@ last_bytes start count buf text out room inside some size e =
     let rest : tail ≡ drop start buf = drop-drop (start - (start - 32)) (start - 32) buf ∙ ap (λ n. drop n buf) (omega arith) in
     ap (λ n. drop n (take (start - 32) buf ++ (out ++ tail))) place
     ∙ sym (drop-drop (32 - count) (start - 32) (take (start - 32) buf ++ (out ++ tail)))
-    ∙ ap (λ t. drop (32 - count) t) (drop_at (take (start - 32) buf) (out ++ tail) (start - 32) (length-take-le (start - 32) buf (omega arith)) ∙ ap (λ t. t ++ tail) e)
+    ∙ ap (λ t. drop (32 - count) t) (drop_at (take (start - 32) buf) (out ++ tail) (start - 32)
+    (length-take-le (start - 32) buf (omega arith)) ∙ ap (λ t. t ++ tail) e)
     ∙ drop-append-le (32 - count) text tail (omega arith)
     ∙ ap (λ t. drop (32 - count) text ++ t) rest

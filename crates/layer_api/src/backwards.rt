@@ -131,7 +131,8 @@ pub(crate) fn overwrite<const N: usize>(out: &mut [u8], bytes: &[u8; N])
 fn write_word(step: Step, out: &mut [u8], place: usize)
     requires inside { place + 4 ≤ length out.old }
     ensures inside { length out.new ≡ length out.old }
-    ensures written { step.child < 10 → step.parent < 10 → take (place + 4) out.new ≡ take place out.old ++ digit_text (step_of step) ++ comma ∷ [] }
+    ensures written { step.child < 10 → step.parent < 10 → take (place + 4) out.new ≡ take place out.old
+        ++ digit_text (step_of step) ++ comma ∷ [] }
 {
     let word = numbers_of(step) + 0x2c30_2f30;
     overwrite(&mut out[place..place + 4], &word.to_le_bytes());

@@ -47,7 +47,8 @@ pub trait Layer: Drop {
         requires begun { IsTrue (begun self.old) }
         requires open { IsFalse (ended self.old) }
         requires drawable { IsDrawable (seen self.old).order tile }
-        ensures ok { OnOk result ((tiles : List Drawn) → draws self.old tiles → draws self.new (tiles ++ tile ∷ [])) }
+        ensures ok { OnOk result ((tiles : List Drawn) → draws self.old tiles
+            → draws self.new (tiles ++ tile ∷ [])) }
         ensures err { OnErr result ((tiles : List Drawn) → draws self.old tiles → draws self.new tiles) }
         ensures seen { seen self.new ≡ seen self.old }
         ensures begun { IsTrue (begun self.new) }
@@ -60,7 +61,8 @@ pub trait Layer: Drop {
         requires begun { IsTrue (begun self.old) }
         requires open { IsFalse (ended self.old) }
         requires drawable { IsDrawable (seen self.old).order tile.now }
-        ensures ok { OnOk result ((tiles : List Drawn) → draws self.old tiles → draws self.new (tiles ++ tile.now ∷ [])) }
+        ensures ok { OnOk result ((tiles : List Drawn) → draws self.old tiles
+            → draws self.new (tiles ++ tile.now ∷ [])) }
         ensures err { OnErr result ((tiles : List Drawn) → draws self.old tiles → draws self.new tiles) }
         ensures seen { seen self.new ≡ seen self.old }
         ensures begun { IsTrue (begun self.new) }
@@ -84,5 +86,6 @@ pub trait Layer: Drop {
     /// Returns the text, once the layer has ended.
     fn bytes(&self) -> &[u8]
         requires { IsTrue (ended self.now) }
-        ensures { (tiles : List Drawn) → draws self.now tiles → result.now ≡ layer_text (form self.now) (seen self.now) tiles };
+        ensures { (tiles : List Drawn) → draws self.now tiles
+            → result.now ≡ layer_text (form self.now) (seen self.now) tiles };
 }

@@ -115,7 +115,8 @@ fn census(
     all: u64,
     kinds: u8,
 ) -> Result<Vec<u8>, AllocError>
-    ensures { IfOk result (λ text. (tiles : List Drawn) → IsCountOf counts.now all tiles → text.items ≡ census_text kinds tiles) }
+    ensures { IfOk result (λ text. (tiles : List Drawn) → IsCountOf counts.now all tiles
+        → text.items ≡ census_text kinds tiles) }
 {
     let mut text = Vec::new(alloc);
     let mut line = Line::new();

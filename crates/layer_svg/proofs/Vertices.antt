@@ -1,7 +1,7 @@
 -- A vertex from its two numbers.
 use Rattle.std.proofs.Common.{◌≡◌, ℕ, ℤ, List, ◌∷◌, ◌++◌, ap, ◌∙◌, append_assoc}
 use Rattle.std.specs.Fmt.{signed_decimal}
-use Rattle.ordered_ring.specs.Ring.{difference}
+use Rattle.theory_ring.specs.Ring.{difference}
 use Rattle.cyclo_points.specs.declared.point.Point.{Point}
 use Rattle.cyclo_points.specs.Order.{points_of}
 use Rattle.cyclo_points.specs.Point.{point_in}

@@ -13,10 +13,12 @@ first_path v d = ap (λ t. head_text v ++ t) (sym (append-nil (path_line v d)))
 next_path : (v : View) (e : Drawn) (ds : List Drawn) (d : Drawn) → opened_text v (e ∷ ds) ++ path_line v d ≡ opened_text v (e ∷ (ds ++ d ∷ []))
 next_path v e ds d =
     append_assoc (head_text v) (flat_map (path_line v) (e ∷ ds)) (path_line v d)
-    ∙ ap (λ t. head_text v ++ t) (ap (λ t. flat_map (path_line v) (e ∷ ds) ++ t) (sym (append-nil (path_line v d))) ∙ sym (flat_map-append (path_line v) (e ∷ ds) (d ∷ [])))
+    ∙ ap (λ t. head_text v ++ t) (ap (λ t. flat_map (path_line v) (e ∷ ds) ++ t)
+    (sym (append-nil (path_line v d))) ∙ sym (flat_map-append (path_line v) (e ∷ ds) (d ∷ [])))
 
 -- the first tile put writes the head too
-pub first_put : (v : View) (ended : Bool) (text line new : List ℕ) (d : Drawn) → ended ≡ false → length text ≡ 0 → line ≡ head_text v ++ path_line v d → new ≡ text ++ line
+pub first_put : (v : View) (ended : Bool) (text line new : List ℕ) (d : Drawn) → ended ≡ false
+    → length text ≡ 0 → line ≡ head_text v ++ path_line v d → new ≡ text ++ line
     → (tiles : List Drawn) → IsWritten v ended text tiles → IsWritten v ended new (tiles ++ d ∷ [])
 first_put v true text line new d going empty e f tiles h = absurd (cc going)
 first_put v false text line new d going empty e f [] h = f ∙ ap (λ t. t ++ line) h ∙ e ∙ first_path v d
@@ -26,7 +28,8 @@ first_put v false text line new d going empty e f (x ∷ xs) h = absurd (not_not
     not_nothing v x xs e = absurd (omega arith)
 
 -- and each further one its path
-pub next_put : (v : View) (ended : Bool) (text line new : List ℕ) (d : Drawn) → ended ≡ false → (text ≡ [] → ⊥) → line ≡ path_line v d → new ≡ text ++ line
+pub next_put : (v : View) (ended : Bool) (text line new : List ℕ) (d : Drawn) → ended ≡ false
+    → (text ≡ [] → ⊥) → line ≡ path_line v d → new ≡ text ++ line
     → (tiles : List Drawn) → IsWritten v ended text tiles → IsWritten v ended new (tiles ++ d ∷ [])
 next_put v true text line new d going some e f tiles h = absurd (cc going)
 next_put v false text line new d going some e f [] h = absurd (some h)

@@ -33,7 +33,9 @@ impl Kept {
     /// Returns the text of a vertex and its length, if it is kept here. The text is at the end of 32 bytes.
     #[inline]
     pub(crate) fn text_of(&self, vertex: &Point) -> Option<(&[u8; 32], usize)>
-        ensures { (v : View) → IsKept v self.now → IfSome result (λ found. (found.1 ≤ 32) × (drop (32 - found.1) found.0.now ≡ vertex_text v vertex.now)) }
+        ensures { (v : View) → IsKept v self.now
+            → IfSome result (λ found. (found.1 ≤ 32)
+            × (drop (32 - found.1) found.0.now ≡ vertex_text v vertex.now)) }
     {
         if self.length == 0 || self.vertex != *vertex {
             return None;

@@ -85,7 +85,8 @@ pub(crate) fn put_path(
     requires near { All (IsNear view.now.order) outline.now.items }
     requires kept { All (IsKept view.now) kept.old }
     ensures kept { All (IsKept view.now) kept.new }
-    ensures path { line.new ≡ codes "<path class=\"k" ++ decimal class ++ codes "\" d=\"M" ++ join_with_byte 76 (map (vertex_text view.now) outline.now.items) ++ codes "Z\"/>\n" }
+    ensures path { line.new ≡ codes "<path class=\"k" ++ decimal class ++ codes "\" d=\"M"
+        ++ join_with_byte 76 (map (vertex_text view.now) outline.now.items) ++ codes "Z\"/>\n" }
     ensures at_most { length line.new ≤ 1100 }
 {
     line.put_text(b"Z\"/>\n");

@@ -2,25 +2,25 @@
 use Rattle.std.proofs.Common.{◌≡◌, ℕ, zero, suc, ◌+◌, ◌<◌, ◌≤◌, List, [], ◌∷◌, ◌++◌, length, map, get_or, slice_get, take, Some, Option, refl, sym, ap, ap₂, ◌∙◌, subst, arith, add-one}
 use Rattle.std.proofs.lemmas.List.{take-append-le, take_at, length-take-le, length-map}
 use Rattle.std.proofs.lemmas.Option.{slice_get_within}
-use Rattle.ordered_ring.specs.Ring.{power}
-use Rattle.addressing.specs.Address.{Step, Address, depth, top_kind, kind_at}
-use Rattle.substitution.specs.Points.{Points}
-use Rattle.substitution.specs.Motion.{Motion}
-use Rattle.substitution.specs.Rule.{Rule}
-use Rattle.substitution.specs.RuleParts.{child_of}
-use Rattle.substitution.specs.Placement.{placement}
-use Rattle.frames.specs.Back.{back}
-use Rattle.frames.specs.Frame.{at_level}
-use Rattle.frames.specs.Outward.{one_out_by, outward}
-use Rattle.frames.specs.Outline.{outline, supertile_holds}
-use Rattle.frames.specs.Contain.{ancestor_motion, ancestor_holds}
-use Rattle.frames.proofs.Frames.{at_level-fits, kind_at-level, top-exists}
-use Rattle.frames.proofs.Outwards.{outward-next}
+use Rattle.theory_ring.specs.Ring.{power}
+use Rattle.theory_addresses.specs.Address.{Step, Address, depth, top_kind, kind_at}
+use Rattle.theory_substitution.specs.Points.{Points}
+use Rattle.theory_substitution.specs.Motion.{Motion}
+use Rattle.theory_substitution.specs.Rule.{Rule}
+use Rattle.theory_substitution.specs.RuleParts.{child_of}
+use Rattle.theory_substitution.specs.Placement.{placement}
+use Rattle.theory_frames.specs.Back.{back}
+use Rattle.theory_frames.specs.Frame.{at_level}
+use Rattle.theory_frames.specs.Outward.{one_out_by, outward}
+use Rattle.theory_frames.specs.Outline.{outline, supertile_holds}
+use Rattle.theory_frames.specs.Contain.{ancestor_motion, ancestor_holds}
+use Rattle.theory_frames.proofs.Frames.{at_level-fits, kind_at-level, top-exists}
+use Rattle.theory_frames.proofs.Outwards.{outward-next}
 use Rattle.cyclo_points.specs.declared.order.Order.{Order}
 use Rattle.cyclo_points.specs.Order.{NumberOf, points_of}
 use Rattle.rule_model.specs.Tiling.{Tiling, MotionOf, children}
-use Rattle.substitution.specs.Supertile.{Placed}
-use Rattle.frames.specs.Descent.{tile_holding}
+use Rattle.theory_substitution.specs.Supertile.{Placed}
+use Rattle.theory_frames.specs.Descent.{tile_holding}
 use Rattle.tile_shape.specs.declared.step.Step as program
 use Rattle.tile_shape.specs.Views.{step_of}
 use Rattle.lazy_walk.specs.Ancestors.{full}
@@ -78,7 +78,8 @@ module _ (t : Tiling) (f : FrameValue) (h : IsFrameOf t f) where
       subst (λ a. top_kind a < length t.rule.kinds) (sym (level-same level l))
       (top-exists t.rule (at_level (whole f) level) (at_level-fits (whole f) level l (children t) (whole-fits t fits f h)).0)
 
-  pub digit-same : (ds : List program.Step) (level : ℕ) (d : program.Step) → map step_of ds ≡ f.digits → level < length f.digits → slice_get (full t f).digits level ≡ Some (step_of (get_or ds level d))
+  pub digit-same : (ds : List program.Step) (level : ℕ) (d : program.Step) → map step_of ds ≡ f.digits
+      → level < length f.digits → slice_get (full t f).digits level ≡ Some (step_of (get_or ds level d))
   digit-same ds level d e l =
       ap (λ xs. slice_get xs level) full-is ∙ slice_get-front f.digits above.more level l ∙ ap (λ xs. slice_get xs level) (sym e)
       ∙ slice_get-step ds level d (omega (arith, l, ap length e, length-map ds step_of))
@@ -95,10 +96,13 @@ take-next (y ∷ ys) (suc i) x e = ap (λ n. take n (y ∷ ys)) next ∙ ap (λ 
     next : suc i + 1 ≡ suc (i + 1)
     next = omega arith
 
-pub next-motion : (P : Points) (r : Rule P.ring.carrier) (f : Address) (level : ℕ) (s : Step) (scale : P.ring.carrier) (m : Motion P.ring.carrier) → slice_get f.digits level ≡ Some s
-    → scale ≡ power P.ring r.factor level → m ≡ ancestor_motion P r f level → one_out_by P scale m (child_of P r s.parent s.child).motion ≡ ancestor_motion P r f (level + 1)
+pub next-motion : (P : Points) (r : Rule P.ring.carrier) (f : Address) (level : ℕ) (s : Step)
+    (scale : P.ring.carrier) (m : Motion P.ring.carrier) → slice_get f.digits level ≡ Some s
+    → scale ≡ power P.ring r.factor level → m ≡ ancestor_motion P r f level
+    → one_out_by P scale m (child_of P r s.parent s.child).motion ≡ ancestor_motion P r f (level + 1)
 next-motion P r f level s scale m e p a =
-    ap₂ (λ z g. one_out_by P z g (child_of P r s.parent s.child).motion) (p ∙ ap (power P.ring r.factor) (sym (length-take-le level f.digits below))) a
+    ap₂ (λ z g. one_out_by P z g (child_of P r s.parent s.child).motion)
+    (p ∙ ap (power P.ring r.factor) (sym (length-take-le level f.digits below))) a
     ∙ sym (outward-next P r (take level f.digits) s) ∙ ap (outward P r) (sym (take-next f.digits level s e))
   where
     below : level ≤ length f.digits
@@ -110,18 +114,26 @@ next-power_is P l x y level e h = e ∙ ap (P.ring.mul l) h ∙ ap (power P.ring
 -- an ancestor that is the frame's supertile holds what the frame holds
 pub frame-holds : (t : Tiling) (f : Address) (n : ℕ) (g : FrameValue) (p : NumberOf t.order) → at_level f n ≡ whole g → length g.digits ≡ n
     → outward (points_of t.order) t.rule g.digits ≡ back (points_of t.order) (placement (points_of t.order) t.rule g.digits)
-    → ancestor_holds (points_of t.order) t.rule f n p ≡ supertile_holds (points_of t.order) t.rule (top_kind (whole g)) (length g.digits) (frame_motion t g) p
+    → ancestor_holds (points_of t.order) t.rule f n p ≡ supertile_holds (points_of t.order) t.rule
+    (top_kind (whole g)) (length g.digits) (frame_motion t g) p
 frame-holds t f n g p e d w =
     ap (λ (a : Address). supertile_holds (points_of t.order) t.rule (top_kind a) n (outward (points_of t.order) t.rule a.digits) p) e
     ∙ ap₂ (λ k m. supertile_holds (points_of t.order) t.rule (top_kind (whole g)) k m p) (sym d) w
 
-pub same_outline : (o : Order) (r : Rule (NumberOf o)) (k l : ℕ) (s t : NumberOf o) (m g : Motion (NumberOf o)) → k ≡ l → s ≡ t → m ≡ g → outline (points_of o) r k s m ≡ outline (points_of o) r l t g
+pub same_outline : (o : Order) (r : Rule (NumberOf o)) (k l : ℕ) (s t : NumberOf o)
+    (m g : Motion (NumberOf o)) → k ≡ l → s ≡ t → m ≡ g
+    → outline (points_of o) r k s m ≡ outline (points_of o) r l t g
 same_outline o r k l s t m g a b c = λ i. outline (points_of o) r (a i) (b i) (c i)
 
 -- what a search in an ancestor finds, in the frame as it is
-pub found_at : (t : Tiling) (f : FrameValue) (h : IsFrameOf t f) (level : ℕ) (p : NumberOf t.order) (kind : ℕ) (at : MotionOf t) (x : Option (Placed (NumberOf t.order))) → level ≤ length f.digits
-    → kind ≡ top_kind (at_level (full t f) level) → at ≡ ancestor_motion (points_of t.order) t.rule (full t f) level → tile_holding (points_of t.order) t.rule kind level at p ≡ x
-    → tile_holding (points_of t.order) t.rule (top_kind (at_level (whole f) level)) level (ancestor_motion (points_of t.order) t.rule (whole f) level) p ≡ x
+pub found_at : (t : Tiling) (f : FrameValue) (h : IsFrameOf t f) (level : ℕ) (p : NumberOf t.order) (kind : ℕ)
+    (at : MotionOf t) (x : Option (Placed (NumberOf t.order))) → level ≤ length f.digits
+    → kind ≡ top_kind (at_level (full t f) level)
+    → at ≡ ancestor_motion (points_of t.order) t.rule (full t f) level
+    → tile_holding (points_of t.order) t.rule kind level at p ≡ x
+    → tile_holding (points_of t.order) t.rule (top_kind (at_level (whole f) level)) level
+    (ancestor_motion (points_of t.order) t.rule (whole f) level) p ≡ x
 found_at t f h level p kind at x l k a e =
-    ap (λ (b : Address). tile_holding (points_of t.order) t.rule (top_kind b) level (outward (points_of t.order) t.rule b.digits) p) (sym (level-same t f h level l))
+    ap (λ (b : Address). tile_holding (points_of t.order) t.rule (top_kind b) level
+    (outward (points_of t.order) t.rule b.digits) p) (sym (level-same t f h level l))
     ∙ ap₂ (λ k g. tile_holding (points_of t.order) t.rule k level g p) (sym k) (sym a) ∙ e

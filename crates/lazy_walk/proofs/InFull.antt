@@ -1,14 +1,14 @@
 -- Tiles of a frame by the names that they have at depth 64, which growth doesn't change.
 use Rattle.std.proofs.Common.{◌≡◌, ℕ, List, length, sym, ap, ◌∙◌, subst, arith, take_all}
-use Rattle.addressing.specs.Address.{Address, depth, Fits}
-use Rattle.addressing.specs.Tables.{child_kinds}
+use Rattle.theory_addresses.specs.Address.{Address, depth, Fits}
+use Rattle.theory_addresses.specs.Tables.{child_kinds}
 use Rattle.cyclo_points.specs.Order.{points_of}
-use Rattle.dissection.specs.Accepted.{AcceptedRule, NamesTile}
-use Rattle.edge_to_edge.specs.Contacts.{tables_of}
-use Rattle.frames.specs.Frame.{at_level, IsTileOf}
+use Rattle.theory_dissection.specs.Accepted.{AcceptedRule, NamesTile}
+use Rattle.theory_edge_to_edge.specs.Contacts.{tables_of}
+use Rattle.theory_frames.specs.Frame.{at_level, IsTileOf}
 use Rattle.rule_model.specs.declared.rule.Rule.{Rule}
 use Rattle.rule_model.specs.Tiling.{Tiling, tiling_of, children}
-use Rattle.substitution.specs.Points.{Points}
+use Rattle.theory_substitution.specs.Points.{Points}
 use Rattle.tile_place.proofs.Plane.{IsSettled, its_rule}
 use Rattle.lazy_walk.specs.Ancestors.{full}
 use Rattle.lazy_walk.specs.Frames.{FrameValue, whole, at_depth, IsFrameOf, GrowsTo}

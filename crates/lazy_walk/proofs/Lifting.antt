@@ -3,15 +3,15 @@ use Rattle.std.proofs.Common.{◌≡◌, ℕ, zero, suc, ◌+◌, ◌-◌, ◌�
 use Rattle.std.proofs.lemmas.Bool.{cases_lt}
 use Rattle.std.proofs.lemmas.List.{drop-append-le, take_at, take-append-le, take_all}
 use Rattle.std.proofs.Math.Seq.{drop-append_seam}
-use Rattle.addressing.specs.Address.{Step, Address, depth, top_kind, top_from}
-use Rattle.addressing.specs.Tables.{Tables}
-use Rattle.addressing.specs.Across.{LiesOn}
-use Rattle.addressing.specs.Trace.{Cut, IsTrace, bare, further, first_part}
-use Rattle.addressing.specs.Touch.{Touches}
-use Rattle.frames.specs.Growth.{grown_from}
-use Rattle.frames.specs.Frame.{lifted_in, IsTileOf}
-use Rattle.frames.proofs.Frames.{IsTileOf-longer}
-use Rattle.frames.proofs.Grown.{grown-split}
+use Rattle.theory_addresses.specs.Address.{Step, Address, depth, top_kind, top_from}
+use Rattle.theory_addresses.specs.Tables.{Tables}
+use Rattle.theory_addresses.specs.Across.{LiesOn}
+use Rattle.theory_addresses.specs.Trace.{Cut, IsTrace, bare, further, first_part}
+use Rattle.theory_addresses.specs.Touch.{Touches}
+use Rattle.theory_frames.specs.Growth.{grown_from}
+use Rattle.theory_frames.specs.Frame.{lifted_in, IsTileOf}
+use Rattle.theory_frames.proofs.Frames.{IsTileOf-longer}
+use Rattle.theory_frames.proofs.Grown.{grown-split}
 use Rattle.rule_model.specs.Tiling.{Tiling, contacts, children}
 use Rattle.tile_shape.specs.UsesInOrder.{uses_in_order}
 use Rattle.seeded_growth.specs.Words.{word}
@@ -19,7 +19,9 @@ use Rattle.lazy_walk.specs.Frames.{FrameValue, whole, at_depth, IsFrameOf, Grows
 use Rattle.lazy_walk.proofs.Walks.{at_depth-depth, GrowsTo-is}
 
 -- ---- a tile lifted twice
-pub lifted-twice : (f a : Address) (more : List Step) → depth a ≤ depth f → lifted_in (record { kind = f.kind; digits = f.digits ++ more }) (lifted_in f a) ≡ lifted_in (record { kind = f.kind; digits = f.digits ++ more }) a
+pub lifted-twice : (f a : Address) (more : List Step) → depth a ≤ depth f
+    → lifted_in (record { kind = f.kind; digits = f.digits ++ more }) (lifted_in f a) ≡ lifted_in
+    (record { kind = f.kind; digits = f.digits ++ more }) a
 lifted-twice f a more h = λ i. record { kind = a.kind; digits = digits i }
   where
     all : List Step
@@ -28,7 +30,9 @@ lifted-twice f a more h = λ i. record { kind = a.kind; digits = digits i }
     own : length (a.digits ++ drop (length a.digits) f.digits) ≡ length f.digits
     own = omega (arith, length-append a.digits (drop (length a.digits) f.digits), length-drop (length a.digits) f.digits, h)
 
-    digits : (a.digits ++ drop (length a.digits) f.digits) ++ drop (length (a.digits ++ drop (length a.digits) f.digits)) (f.digits ++ more) ≡ a.digits ++ drop (length a.digits) (f.digits ++ more)
+    digits : (a.digits ++ drop (length a.digits) f.digits)
+        ++ drop (length (a.digits ++ drop (length a.digits) f.digits)) (f.digits ++ more) ≡ a.digits
+        ++ drop (length a.digits) (f.digits ++ more)
     digits =
         ap (λ n. (a.digits ++ drop (length a.digits) f.digits) ++ drop n (f.digits ++ more)) own
         ∙ ap (λ xs. (a.digits ++ drop (length a.digits) f.digits) ++ xs) (drop-append_seam f.digits more)
@@ -54,7 +58,8 @@ trace-take {t} {e} {ds} (further {fine = fine} {own = own} {f = f} {p = p} {cuts
   | inr h ↦ subst (HasTraceOf t e) (sym (ap (take n) is ∙ take-append-le n fine (d ∷ []) h)) (trace-take rest n)
 ]
 
-pub trace-front : (t : Tables) (e : ℕ) (ds more : List Step) (top : ℕ) (cuts : List Cut) → IsTrace t e (ds ++ more) top cuts → (top' : ℕ) × (cuts' : List Cut) × IsTrace t e ds top' cuts'
+pub trace-front : (t : Tables) (e : ℕ) (ds more : List Step) (top : ℕ) (cuts : List Cut)
+    → IsTrace t e (ds ++ more) top cuts → (top' : ℕ) × (cuts' : List Cut) × IsTrace t e ds top' cuts'
 trace-front t e ds more top cuts h =
     subst (λ xs. (top' : ℕ) × (cuts' : List Cut) × IsTrace t e xs top' cuts') (take_at ds more (length ds) refl) (trace-take h (length ds))
 
@@ -72,7 +77,8 @@ top_from-at kind (d ∷ ds) (suc i) s e = top_from-at d.parent ds i s e ∙ ap (
 
 pub touching-top : (t : Tables) (a b : Address) (e f : ℕ) → Touches t a e b f → top_kind a ≡ top_kind b
 touching-top t a b e f h =
-    top_from-at a.kind a.digits h.below h.x h.digit_x ∙ ap₂ top_from h.one_parent h.one_above ∙ sym (top_from-at b.kind b.digits h.below h.y h.digit_y)
+    top_from-at a.kind a.digits h.below h.x h.digit_x ∙ ap₂ top_from h.one_parent h.one_above
+    ∙ sym (top_from-at b.kind b.digits h.below h.y h.digit_y)
 
 module _ (t : Tiling) where
   -- the frame of a greater depth has further digits behind those of a lesser
@@ -82,7 +88,9 @@ module _ (t : Tiling) where
 
   pub longer : (f : FrameValue) (n m : ℕ) → depth f.base ≤ n → n ≤ m → Longer f n m
   longer f n m h l = record {
-    more = grown_from (uses_in_order (children t)) (word f.start) (0 + (n - depth f.base)) (top_from (top_kind f.base) (grown_from (uses_in_order (children t)) (word f.start) 0 (top_kind f.base) (n - depth f.base))) (m - n);
+    more = grown_from (uses_in_order (children t)) (word f.start) (0 + (n - depth f.base))
+        (top_from (top_kind f.base) (grown_from (uses_in_order (children t)) (word f.start) 0
+        (top_kind f.base) (n - depth f.base))) (m - n);
     is =
         ap (λ k. f.base.digits ++ grown_from (uses_in_order (children t)) (word f.start) 0 (top_kind f.base) k) count
         ∙ ap (λ xs. f.base.digits ++ xs) (grown-split (uses_in_order (children t)) (word f.start) 0 (top_kind f.base) (n - depth f.base) (m - n))
@@ -93,7 +101,8 @@ module _ (t : Tiling) where
       count = omega (arith, h, l)
 
   -- what is of a frame stays of it as it grows
-  pub IsTileOf-later : (f g : FrameValue) (a : Address) → GrowsTo t f g → IsFrameOf t f → IsTileOf (children t) (whole f) a → IsTileOf (children t) (whole g) a
+  pub IsTileOf-later : (f g : FrameValue) (a : Address) → GrowsTo t f g → IsFrameOf t f
+      → IsTileOf (children t) (whole f) a → IsTileOf (children t) (whole g) a
   IsTileOf-later f g a h k of =
       let l = longer f (length f.digits) (length g.digits) k.holds_base h.no_shallower in
       subst (λ x. IsTileOf (children t) x a) (sym (ap whole (GrowsTo-is t f g h) ∙ (λ i. record { kind = f.base.kind; digits = l.is i })
@@ -110,16 +119,20 @@ module _ (t : Tiling) where
   lifted-again f g a k h e =
       let l = longer f (length f.digits) (length f.digits + 1) k.holds_base (omega arith) in
       let same : whole g ≡ record { kind = f.base.kind; digits = f.digits ++ l.more } =
-      ap whole e ∙ (λ i. record { kind = f.base.kind; digits = l.is i }) ∙ ap (λ (x : FrameValue). record { kind = f.base.kind; digits = x.digits ++ l.more }) (sym k.its_digits) in
+      ap whole e ∙ (λ i. record { kind = f.base.kind; digits = l.is i })
+      ∙ ap (λ (x : FrameValue). record { kind = f.base.kind; digits = x.digits ++ l.more })
+      (sym k.its_digits) in
       subst (λ w. lifted_in w (lifted_in (whole f) a) ≡ lifted_in w a) (sym same) (lifted-twice (whole f) a l.more h)
 
   -- an edge that lies on the boundary at a depth, by the tables, lies on it at each lesser depth down to the tile's
-  pub traced-below : (f : FrameValue) (a : Address) (e n m : ℕ) → depth f.base ≤ n → depth a ≤ n → n ≤ m → IsTraced (contacts t) (lifted_at t f a m) e → IsTraced (contacts t) (lifted_at t f a n) e
+  pub traced-below : (f : FrameValue) (a : Address) (e n m : ℕ) → depth f.base ≤ n → depth a ≤ n → n ≤ m
+      → IsTraced (contacts t) (lifted_at t f a m) e → IsTraced (contacts t) (lifted_at t f a n) e
   traced-below f a e n m b h l on =
       let up = longer f n m b l in
       let split : (lifted_at t f a m).digits ≡ (lifted_at t f a n).digits ++ up.more =
       ap (λ xs. a.digits ++ drop (depth a) xs) up.is
       ∙ ap (λ xs. a.digits ++ xs) (drop-append-le (depth a) (at_depth t n f).digits up.more (omega (arith, at_depth-depth t f n b, h)))
       ∙ sym (append_assoc a.digits (drop (depth a) (at_depth t n f).digits) up.more) in
-      let fine = trace-front (contacts t) e (lifted_at t f a n).digits up.more on.0 on.2.cuts (subst (λ xs. IsTrace (contacts t) e xs on.0 on.2.cuts) split on.2.trace) in
+      let fine = trace-front (contacts t) e (lifted_at t f a n).digits up.more on.0 on.2.cuts
+      (subst (λ xs. IsTrace (contacts t) e xs on.0 on.2.cuts) split on.2.trace) in
       (fine.0, first_part fine.1, record { cuts = fine.1; trace = fine.2; is_part = refl })

@@ -2,10 +2,10 @@
 use Rattle.std.proofs.Common.{◌≡◌, ℕ, zero, suc, ◌+◌, ◌-◌, ◌<◌, ◌≤◌, inl, inr, Some, List, [], ◌∷◌, ◌++◌, length, get_or, take, drop, refl, sym, ap, ap₂, ◌∙◌, subst, arith, append_assoc}
 use Rattle.std.proofs.lemmas.Bool.{cases_lt}
 use Rattle.std.proofs.Math.Seq.{drop-append_seam}
-use Rattle.addressing.specs.Address.{Step, Address, depth, top_kind, kind_at, Fits}
-use Rattle.frames.specs.Growth.{grown_from}
-use Rattle.frames.specs.Frame.{IsTileOf, lifted_in}
-use Rattle.frames.proofs.Frames.{IsWhole, kind_at-top}
+use Rattle.theory_addresses.specs.Address.{Step, Address, depth, top_kind, kind_at, Fits}
+use Rattle.theory_frames.specs.Growth.{grown_from}
+use Rattle.theory_frames.specs.Frame.{IsTileOf, lifted_in}
+use Rattle.theory_frames.proofs.Frames.{IsWhole, kind_at-top}
 use Rattle.rule_model.specs.declared.rule.Rule.{Rule}
 use Rattle.rule_model.specs.Tiling.{Tiling, tiling_of, children}
 use Rattle.seeded_growth.specs.Words.{word}
@@ -51,7 +51,8 @@ pub record IsOnPath (m : Rule) (old now : FrameValue) (a : Address) (front : Lis
   pub grows : GrowsTo (tiling_of m) old now
   pub own : IsWhole (children (tiling_of m)) (whole now) a
   pub leads : Leads (tiling_of m) (whole now) front a
-  pub before : (n : ℕ) (rest : List ℕ) → length old.digits ≤ n → n < length now.digits → IsStopped (tiling_of m) (whole (at_depth (tiling_of m) n old)) (front ++ rest)
+  pub before : (n : ℕ) (rest : List ℕ) → length old.digits ≤ n → n < length now.digits
+      → IsStopped (tiling_of m) (whole (at_depth (tiling_of m) n old)) (front ++ rest)
 
 -- what the laws say of a machine's rule
 pub record HasLaws (m : Rule) : Type 0 where
@@ -60,7 +61,8 @@ pub record HasLaws (m : Rule) : Type 0 where
   pub boundary : BoundariesLaw m.order
   pub fits : StillFits (children (tiling_of m))
 
-pub laws_are : (o : Order) (inside m : Rule) (kinds : List (List ℕ)) → o ≡ inside.order → inside ≡ m → IsSettled m → OnlyTilesLaw o → BoundariesLaw o → kinds ≡ children (tiling_of inside) → AreUsable kinds
+pub laws_are : (o : Order) (inside m : Rule) (kinds : List (List ℕ)) → o ≡ inside.order → inside ≡ m
+    → IsSettled m → OnlyTilesLaw o → BoundariesLaw o → kinds ≡ children (tiling_of inside) → AreUsable kinds
     → ((children : List (List ℕ)) → AreUsable children → StillFits children) → HasLaws m
 laws_are o inside m kinds same_order same settled across boundary is usable law = record {
   settled = settled;
@@ -85,7 +87,12 @@ whole-tile_of children f a own = record {
 
 -- and the other way round, where it has the depth of the frame
 pub tile_of-whole : (children : List (List ℕ)) (f a : Address) → IsTileOf children f a → depth a ≡ depth f → IsWhole children f a
-tile_of-whole children f a of same = record { fits = of.fits; same_depth = same; same_top = one (sym (kind_at-top a.kind a.digits) ∙ of.same_kind ∙ ap (kind_at f) same ∙ kind_at-top f.kind f.digits) }
+tile_of-whole children f a of same = record {
+  fits = of.fits;
+  same_depth = same;
+  same_top = one (sym (kind_at-top a.kind a.digits) ∙ of.same_kind ∙ ap (kind_at f) same
+      ∙ kind_at-top f.kind f.digits);
+}
   where
     one : {x y : ℕ} → Some x ≡ Some y → x ≡ y
     one e = cc (e)
@@ -105,13 +112,18 @@ base-lifted t f is = λ i. record { kind = f.base.kind; digits = split i }
 
 module _ (m : Rule) (laws : HasLaws m) where
   -- a path that can be walked in a frame leads in the grown one to the lifted tile
-  leads_on : (f g : FrameValue) (a : Address) (path : List ℕ) → IsFrameOf (tiling_of m) f → GrowsTo (tiling_of m) f g → IsWhole (children (tiling_of m)) (whole f) a
+  leads_on : (f g : FrameValue) (a : Address) (path : List ℕ) → IsFrameOf (tiling_of m) f
+      → GrowsTo (tiling_of m) f g → IsWhole (children (tiling_of m)) (whole f) a
       → Leads (tiling_of m) (whole f) path a → Leads (tiling_of m) (whole g) path (lifted_in (whole g) a)
   leads_on f g a path is h own leads =
       let up = grown_of (tiling_of m) f g is h in
-      let base : IsWhole (children (tiling_of m)) (whole f) (whole f) = record { fits = whole-fits (tiling_of m) laws.fits f is; same_depth = refl; same_top = refl } in
-      let all = Leads-longer m laws.settled laws.across laws.boundary (whole f) (whole f) a path up.more (subst (Fits (children (tiling_of m))) up.frame (whole-fits (tiling_of m) laws.fits g h.is_frame)) base leads in
-      subst (λ b. Leads (tiling_of m) (whole g) path b) (sym (up.tile a own.same_depth)) (subst (λ b. Leads (tiling_of m) b path (further_up a up.more)) (sym up.frame) all)
+      let base : IsWhole (children (tiling_of m)) (whole f) (whole f) = record
+      { fits = whole-fits (tiling_of m) laws.fits f is; same_depth = refl; same_top = refl } in
+      let all = Leads-longer m laws.settled laws.across laws.boundary (whole f) (whole f) a path up.more
+      (subst (Fits (children (tiling_of m))) up.frame (whole-fits (tiling_of m) laws.fits g h.is_frame))
+      base leads in
+      subst (λ b. Leads (tiling_of m) (whole g) path b) (sym (up.tile a own.same_depth))
+      (subst (λ b. Leads (tiling_of m) b path (further_up a up.more)) (sym up.frame) all)
 
   pub at_base : (f : FrameValue) → IsFrameOf (tiling_of m) f → IsOnPath m f f (whole f) []
   at_base f is = record {
@@ -123,7 +135,8 @@ module _ (m : Rule) (laws : HasLaws m) where
 
   module _ (old f : FrameValue) (a : Address) (front : List ℕ) (h : IsOnPath m old f a front) where
     -- in the frame of another depth, up to 64, the path leads to the lifted tile
-    leads_at : (n : ℕ) → length f.digits ≤ n → n ≤ 64 → Leads (tiling_of m) (whole (at_depth (tiling_of m) n old)) front (lifted_at (tiling_of m) f a n)
+    leads_at : (n : ℕ) → length f.digits ≤ n → n ≤ 64
+        → Leads (tiling_of m) (whole (at_depth (tiling_of m) n old)) front (lifted_at (tiling_of m) f a n)
     leads_at n l k =
         subst (λ x. Leads (tiling_of m) (whole x) front (lifted_at (tiling_of m) f a n)) (at_depth-grown (tiling_of m) old f n h.grows)
         (leads_on f (at_depth (tiling_of m) n f) a front h.grows.is_frame (later (tiling_of m) f n h.grows.is_frame l k) h.own h.leads)
@@ -131,12 +144,22 @@ module _ (m : Rule) (laws : HasLaws m) where
     pub walked_at_64 : CanBeWalked (tiling_of m) (whole (at_depth (tiling_of m) 64 old)) front
     walked_at_64 = (lifted_at (tiling_of m) f a 64, leads_at 64 h.grows.is_frame.at_most_64 (omega arith))
 
-    pub comes_at_64 : (e : ℕ) (path rest : List ℕ) → path ≡ front ++ e ∷ rest → ComesTo (tiling_of m) (whole (at_depth (tiling_of m) 64 old)) path (lifted_at (tiling_of m) f a 64) e
-    comes_at_64 e path rest split = record { front = front; rest = rest; split = split; leads = leads_at 64 h.grows.is_frame.at_most_64 (omega arith) }
+    pub comes_at_64 : (e : ℕ) (path rest : List ℕ) → path ≡ front ++ e ∷ rest
+        → ComesTo (tiling_of m) (whole (at_depth (tiling_of m) 64 old)) path (lifted_at (tiling_of m) f a 64)
+        e
+    comes_at_64 e path rest split = record {
+      front = front;
+      rest = rest;
+      split = split;
+      leads = leads_at 64 h.grows.is_frame.at_most_64 (omega arith);
+    }
 
     -- up to the depth at which the next edge is crossed, or refused, the path is stopped
-    pub stops_before : (g : FrameValue) (e : ℕ) → e < edges_of (tiling_of m) a.kind → GrowsTo (tiling_of m) f g → ((n : ℕ) → length f.digits ≤ n → n < length g.digits → IsBoundaryEdge (tiling_of m) (lifted_at (tiling_of m) f a n) e)
-        → (n : ℕ) (rest : List ℕ) → length old.digits ≤ n → n < length g.digits → IsStopped (tiling_of m) (whole (at_depth (tiling_of m) n old)) (front ++ e ∷ rest)
+    pub stops_before : (g : FrameValue) (e : ℕ) → e < edges_of (tiling_of m) a.kind
+        → GrowsTo (tiling_of m) f g → ((n : ℕ) → length f.digits ≤ n → n < length g.digits
+        → IsBoundaryEdge (tiling_of m) (lifted_at (tiling_of m) f a n) e)
+        → (n : ℕ) (rest : List ℕ) → length old.digits ≤ n → n < length g.digits
+        → IsStopped (tiling_of m) (whole (at_depth (tiling_of m) n old)) (front ++ e ∷ rest)
     stops_before g e edge more least n rest l below = elim (cases_lt n (length f.digits)) [
       | inl j ↦ h.before n (e ∷ rest) l j
       | inr j ↦ (
@@ -151,11 +174,15 @@ module _ (m : Rule) (laws : HasLaws m) where
     ]
 
     -- one edge more, at the least depth
-    pub goes_on : (g : FrameValue) (b : Address) (e k : ℕ) → GrowsTo (tiling_of m) f g → Crosses (tiling_of m) (lifted_in (whole g) a) e b k → IsWhole (children (tiling_of m)) (whole g) b
-        → ((n : ℕ) → length f.digits ≤ n → n < length g.digits → IsBoundaryEdge (tiling_of m) (lifted_at (tiling_of m) f a n) e) → IsOnPath m old g b (front ++ e ∷ [])
+    pub goes_on : (g : FrameValue) (b : Address) (e k : ℕ) → GrowsTo (tiling_of m) f g
+        → Crosses (tiling_of m) (lifted_in (whole g) a) e b k → IsWhole (children (tiling_of m)) (whole g) b
+        → ((n : ℕ) → length f.digits ≤ n → n < length g.digits
+        → IsBoundaryEdge (tiling_of m) (lifted_at (tiling_of m) f a n) e)
+        → IsOnPath m old g b (front ++ e ∷ [])
     goes_on g b e k more x own least = record {
       grows = GrowsTo-then (tiling_of m) old f g h.grows more;
       own = own;
       leads = Leads-further (tiling_of m) (whole g) (lifted_in (whole g) a) b front e k (leads_on f g a front h.grows.is_frame more h.own h.leads) x;
-      before = λ n rest l below. subst (IsStopped (tiling_of m) (whole (at_depth (tiling_of m) n old))) (sym (append_assoc front (e ∷ []) rest)) (stops_before g e x.edge_exists more least n rest l below);
+      before = λ n rest l below. subst (IsStopped (tiling_of m) (whole (at_depth (tiling_of m) n old)))
+          (sym (append_assoc front (e ∷ []) rest)) (stops_before g e x.edge_exists more least n rest l below);
     }

@@ -1,14 +1,14 @@
 -- The ancestors of a frame's base, as a search from the base outward finds them one after another.
 use Rattle.std.specs.Prelude.{◌≡◌, ℕ, ◌<◌, ◌≤◌, ◌^◌, List, [], ◌∷◌}
-use Rattle.ordered_ring.specs.Ring.{power}
-use Rattle.addressing.specs.Address.{Address, top_kind}
+use Rattle.theory_ring.specs.Ring.{power}
+use Rattle.theory_addresses.specs.Address.{Address, top_kind}
 use Rattle.cyclo_points.specs.Order.{NumberOf, points_of}
 use Rattle.cyclo_points.specs.Point.{point_in, IsOf, IsWithin}
 use Rattle.cyclo_points.specs.Motion.{motion_in}
-use Rattle.frames.specs.Frame.{at_level}
-use Rattle.frames.specs.Outline.{outline}
-use Rattle.frames.specs.Looked.{values_looked_at}
-use Rattle.frames.specs.Contain.{ancestor_motion}
+use Rattle.theory_frames.specs.Frame.{at_level}
+use Rattle.theory_frames.specs.Outline.{outline}
+use Rattle.theory_frames.specs.Looked.{values_looked_at}
+use Rattle.theory_frames.specs.Contain.{ancestor_motion}
 use Rattle.rule_model.specs.Tiling.{Tiling}
 use Rattle.lazy_walk.specs.declared.ancestor.Ancestor.{Ancestor}
 use Rattle.lazy_walk.specs.Frames.{FrameValue, whole, at_depth}

@@ -1,6 +1,6 @@
 -- Edges on the boundary of a supertile, whichever of its edges that is.
 use Rattle.std.specs.Prelude.{ℕ}
-use Rattle.addressing.specs.Address.{Address}
+use Rattle.theory_addresses.specs.Address.{Address}
 use Rattle.rule_model.specs.Tiling.{Tiling}
 use Rattle.tile_place.specs.Crossed.{LiesAlong}
 

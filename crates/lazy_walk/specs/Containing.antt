@@ -1,13 +1,13 @@
 -- The tile of a frame that holds a point, and the values that are looked at on the way to it.
 use Rattle.std.specs.Prelude.{length, find}
 use Rattle.std.specs.declared.option.Option.{Option}
-use Rattle.addressing.specs.Address.{top_kind}
+use Rattle.theory_addresses.specs.Address.{top_kind}
 use Rattle.cyclo_points.specs.Order.{NumberOf, points_of, is_refused}
-use Rattle.frames.specs.Back.{back}
-use Rattle.frames.specs.Contain.{values_outward}
+use Rattle.theory_frames.specs.Back.{back}
+use Rattle.theory_frames.specs.Contain.{values_outward}
 use Rattle.rule_model.specs.Tiling.{Tiling, MotionOf}
-use Rattle.substitution.specs.Placement.{placement}
-use Rattle.substitution.specs.Supertile.{Placed}
+use Rattle.theory_substitution.specs.Placement.{placement}
+use Rattle.theory_substitution.specs.Supertile.{Placed}
 use Rattle.tile_place.specs.Located.{IsOnlyTileHolding, HasInside}
 use Rattle.lazy_walk.specs.Frames.{FrameValue, whole, at_depth}
 

@@ -1,13 +1,13 @@
 -- Going from a tile in its place to the one across an edge, while the frame grows.
 use Rattle.std.specs.Prelude.{◌≡◌, ℕ, ◌+◌, ◌<◌, ◌≤◌, ◌^◌, length}
-use Rattle.addressing.specs.Address.{Address, depth}
+use Rattle.theory_addresses.specs.Address.{Address, depth}
 use Rattle.cyclo_points.specs.declared.motion.Motion.{Motion}
 use Rattle.cyclo_points.specs.Motion.{motion_in}
 use Rattle.cyclo_points.specs.Order.{points_of}
 use Rattle.cyclo_points.specs.Point.{IsOf, IsWithin}
-use Rattle.frames.specs.Frame.{IsTileOf, lifted_in}
+use Rattle.theory_frames.specs.Frame.{IsTileOf, lifted_in}
 use Rattle.rule_model.specs.Tiling.{Tiling, MotionOf, children}
-use Rattle.substitution.specs.Motion.{followed}
+use Rattle.theory_substitution.specs.Motion.{followed}
 use Rattle.tile_place.specs.declared.placed_tile.PlacedTile.{PlacedTile}
 use Rattle.tile_place.specs.Crossed.{IsOnlyAcross}
 use Rattle.tile_place.specs.Glued.{Glues}

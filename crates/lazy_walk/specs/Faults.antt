@@ -1,6 +1,6 @@
 -- Why a path can't be walked to its end.
 use Rattle.std.specs.Prelude.{ℕ, List}
-use Rattle.addressing.specs.Address.{Address}
+use Rattle.theory_addresses.specs.Address.{Address}
 use Rattle.rule_model.specs.Tiling.{Tiling}
 use Rattle.tile_shape.specs.Views.{address_of}
 use Rattle.lazy_walk.specs.declared.path_fault.PathFault.{PathFault}

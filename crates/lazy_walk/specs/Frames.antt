@@ -1,8 +1,8 @@
 -- Frames as contracts see them, and the digits that they have.
 use Rattle.std.specs.Prelude.{◌≡◌, ℕ, ◌-◌, ◌≤◌, List, length}
-use Rattle.addressing.specs.Address.{Step, Address, depth, Fits}
-use Rattle.frames.specs.Growth.{grown_by}
-use Rattle.frames.specs.Frame.{lifted_in}
+use Rattle.theory_addresses.specs.Address.{Step, Address, depth, Fits}
+use Rattle.theory_frames.specs.Growth.{grown_by}
+use Rattle.theory_frames.specs.Frame.{lifted_in}
 use Rattle.rule_model.specs.Tiling.{Tiling, children}
 use Rattle.tile_shape.specs.UsesInOrder.{uses_in_order}
 use Rattle.seeded_growth.specs.Words.{word}

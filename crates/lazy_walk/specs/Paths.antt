@@ -1,6 +1,6 @@
 -- Paths: numbers of edges, each crossed from the tile to which those before it lead.
 use Rattle.std.specs.Prelude.{◌≡◌, ℕ, ◌<◌, ◌≤◌, List, [], ◌∷◌, ◌++◌}
-use Rattle.addressing.specs.Address.{Address, Fits}
+use Rattle.theory_addresses.specs.Address.{Address, Fits}
 use Rattle.rule_model.specs.Tiling.{Tiling, children}
 use Rattle.tile_place.specs.Crossed.{IsOnlyAcross, edges_of}
 use Rattle.lazy_walk.specs.Boundary.{IsBoundaryEdge}

@@ -1,10 +1,10 @@
 -- A tile in its place in a frame.
 use Rattle.std.specs.Prelude.{◌≡◌, ◌<◌, length}
-use Rattle.addressing.specs.Address.{depth}
+use Rattle.theory_addresses.specs.Address.{depth}
 use Rattle.cyclo_points.specs.Order.{points_of}
 use Rattle.cyclo_points.specs.Point.{IsOf}
 use Rattle.cyclo_points.specs.Motion.{motion_in}
-use Rattle.frames.specs.Frame.{StandsInFrame, IsTileOf}
+use Rattle.theory_frames.specs.Frame.{StandsInFrame, IsTileOf}
 use Rattle.rule_model.specs.Tiling.{Tiling, children}
 use Rattle.tile_place.specs.declared.placed_tile.PlacedTile.{PlacedTile}
 use Rattle.tile_shape.specs.Views.{address_of}

@@ -1,13 +1,13 @@
 //! The supertiles around the base, level by level.
 ghost use Rattle.std.specs.Prelude.{◌≡◌, ◌+◌, ◌<◌, ◌≤◌, ◌^◌, true, false, length, IfOk, IfErr};
-ghost use Rattle.addressing.specs.Address.{Address};
+ghost use Rattle.theory_addresses.specs.Address.{Address};
 ghost use Rattle.cyclo_points.specs.Order.{points_of, is_refused};
 ghost use Rattle.cyclo_points.specs.Point.{point_in, IsOf, IsWithin};
 ghost use Rattle.cyclo_points.specs.Motion.{motion_in};
-ghost use Rattle.frames.specs.Outward.{one_out_by};
+ghost use Rattle.theory_frames.specs.Outward.{one_out_by};
 ghost use Rattle.rule_model.specs.Tiling.{Tiling, tiling_of, its_child};
 ghost use Rattle.rule_model.specs.Views.{rule_of};
-ghost use Rattle.substitution.specs.Rule.{children_of};
+ghost use Rattle.theory_substitution.specs.Rule.{children_of};
 ghost use Rattle.lazy_walk.specs.Ancestors.{IsAncestor};
 
 use cyclo_points::arithmetic::{refused, sub};
@@ -52,12 +52,16 @@ impl Ancestor {
 pub(crate) fn next_power(machine: &Machine, power: &Point) -> Result<Point, CoordLimit>
     requires within { IsWithin (2 ^ 24) power.now }
     ensures next { IfOk result (λ next. point_in machine.now.order next
-        ≡ (points_of machine.now.order).ring.mul (rule_of machine.now).factor (point_in machine.now.order power.now)) }
+        ≡ (points_of machine.now.order).ring.mul (rule_of machine.now).factor
+        (point_in machine.now.order power.now)) }
     ensures within { IfOk result (λ next. IsWithin (2 ^ 24) next) }
-    ensures unrefused { IfOk result (λ next. is_refused machine.now.order (point_in machine.now.order next) ≡ false) }
+    ensures unrefused { IfOk result (λ next. is_refused machine.now.order
+        (point_in machine.now.order next) ≡ false) }
     ensures limit { IfErr result (λ limit. point_in machine.now.order limit.value
-        ≡ (points_of machine.now.order).ring.mul (rule_of machine.now).factor (point_in machine.now.order power.now)) }
-    ensures refused { IfErr result (λ limit. is_refused machine.now.order (point_in machine.now.order limit.value) ≡ true) }
+        ≡ (points_of machine.now.order).ring.mul (rule_of machine.now).factor
+        (point_in machine.now.order power.now)) }
+    ensures refused { IfErr result (λ limit. is_refused machine.now.order
+        (point_in machine.now.order limit.value) ≡ true) }
     ensures limit_in_order { IfErr result (λ limit. IsOf machine.now.order limit.value) }
 {
     let checked = machine.checked();
@@ -81,7 +85,8 @@ pub(crate) fn one_out(machine: &Machine, digit: Step, power: &Point, motion: &Mo
     requires within { IsWithin (2 ^ 24) motion.now.shift }
     requires in_order { IsOf machine.now.order motion.now.shift }
     ensures moved { motion_in machine.now.order result
-        ≡ one_out_by (points_of machine.now.order) (point_in machine.now.order power.now) (motion_in machine.now.order motion.now)
+        ≡ one_out_by (points_of machine.now.order) (point_in machine.now.order power.now)
+        (motion_in machine.now.order motion.now)
         (its_child (tiling_of machine.now) digit.parent digit.child).motion }
     ensures turn_below { result.turn < (points_of machine.now.order).order }
     ensures in_order { IsOf machine.now.order result.shift }

@@ -2,7 +2,7 @@
 ghost use Rattle.std.specs.Prelude.{◌≡◌, ◌↔◌, ◌<◌, ◌≤◌, ◌^◌, ℕ, true, find, None, Some, length, IsOk, IfOk, IfErr, OnOk};
 ghost use Rattle.cyclo_points.specs.Order.{points_of, is_refused};
 ghost use Rattle.cyclo_points.specs.Point.{point_in, IsOf, IsWithin};
-ghost use Rattle.frames.specs.Contain.{ancestor_holds};
+ghost use Rattle.theory_frames.specs.Contain.{ancestor_holds};
 ghost use Rattle.rule_model.specs.Tiling.{tiling_of};
 ghost use Rattle.rule_model.specs.Views.{rule_of};
 ghost use Rattle.tile_place.specs.Searched.{placed_in};
@@ -15,9 +15,9 @@ use crate::ancestor::Ancestor;
 use crate::frame::Frame;
 use cyclo_points::point::Point;
 use cyclo_points::points_law;
-use dissection::laws::dissection_law;
-use frames::laws::{ancestor_law, found_tile_law};
 use plane_geom::polygons::member;
+use theory_dissection::laws::dissection_law;
+use theory_frames::laws::{ancestor_law, found_tile_law};
 use tile_place::coord_limit::CoordLimit;
 use tile_place::locate_fault::LocateFault;
 use tile_place::machine::Machine;
@@ -45,18 +45,23 @@ impl Frame {
 
         // In the plane: this is the only tile of the frame, at its new depth, that holds the point, and its
         // motion is the only one of its address there.
-        ensures only_tile { IfOk result (λ tile. IsOnlyHolder (tiling_of machine.now) self.new (point_in machine.now.order point.now) (placed_in machine.now.order tile)) }
+        ensures only_tile { IfOk result (λ tile. IsOnlyHolder (tiling_of machine.now) self.new
+            (point_in machine.now.order point.now) (placed_in machine.now.order tile)) }
         ensures stands { IfOk result (λ tile. Stands (tiling_of machine.now) self.new tile) }
         ensures shift_within { IfOk result (λ tile. IsWithin (2 ^ 24) tile.motion.shift) }
 
         // The new depth is the least, not below the old one, at which the frame holds the point.
-        ensures held { OnOk result (FrameHolds (tiling_of machine.now) self.new (point_in machine.now.order point.now)) }
+        ensures held { OnOk result (FrameHolds (tiling_of machine.now) self.new
+            (point_in machine.now.order point.now)) }
         ensures least { (n : ℕ) → length self.old.digits ≤ n → n < length self.new.digits
-            → ¬ FrameHolds (tiling_of machine.now) (at_depth (tiling_of machine.now) n self.old) (point_in machine.now.order point.now) }
+            → ¬ FrameHolds (tiling_of machine.now) (at_depth (tiling_of machine.now) n self.old)
+            (point_in machine.now.order point.now) }
 
         // It is refused if and only if a value on the way is, with the first such value.
-        ensures found_exactly { IsOk result ↔ (first_refused_outward (tiling_of machine.now) self.old (point_in machine.now.order point.now) ≡ None) }
-        ensures limit { IfErr result (λ limit. first_refused_outward (tiling_of machine.now) self.old (point_in machine.now.order point.now)
+        ensures found_exactly { IsOk result ↔ (first_refused_outward (tiling_of machine.now) self.old
+            (point_in machine.now.order point.now) ≡ None) }
+        ensures limit { IfErr result (λ limit. first_refused_outward (tiling_of machine.now) self.old
+            (point_in machine.now.order point.now)
             ≡ Some (point_in machine.now.order limit.value)) }
         ensures limit_in_order { IfErr result (λ limit. IsOf machine.now.order limit.value) }
     {
@@ -83,14 +88,18 @@ impl Frame {
     ) -> Result<bool, CoordLimit>
         requires frame { IsFrameOf (tiling_of machine.now) self.now }
         requires deep { ancestor.now.level ≤ length self.now.digits }
-        requires ancestor { IsAncestor (tiling_of machine.now) (full (tiling_of machine.now) self.now) ancestor.now }
+        requires ancestor { IsAncestor (tiling_of machine.now) (full (tiling_of machine.now) self.now)
+            ancestor.now }
         requires point_within { IsWithin (2 ^ 22) point.now }
-        ensures holds { IfOk result (λ holds. ancestor_holds (points_of machine.now.order) (rule_of machine.now) (full (tiling_of machine.now) self.now) ancestor.now.level
+        ensures holds { IfOk result (λ holds. ancestor_holds (points_of machine.now.order)
+            (rule_of machine.now) (full (tiling_of machine.now) self.now) ancestor.now.level
             (point_in machine.now.order point.now) ≡ holds) }
         ensures none_refused { IfOk result (λ _. find (is_refused machine.now.order)
-            (vertices_of_ancestor (tiling_of machine.now) (full (tiling_of machine.now) self.now) ancestor.now.level) ≡ None) }
+            (vertices_of_ancestor (tiling_of machine.now) (full (tiling_of machine.now) self.now)
+            ancestor.now.level) ≡ None) }
         ensures limit { IfErr result (λ limit. find (is_refused machine.now.order)
-            (vertices_of_ancestor (tiling_of machine.now) (full (tiling_of machine.now) self.now) ancestor.now.level) ≡ Some (point_in machine.now.order limit.value)) }
+            (vertices_of_ancestor (tiling_of machine.now) (full (tiling_of machine.now) self.now)
+            ancestor.now.level) ≡ Some (point_in machine.now.order limit.value)) }
         ensures limit_in_order { IfErr result (λ limit. IsOf machine.now.order limit.value) }
     {
         let order = machine.checked().order();
@@ -108,18 +117,24 @@ impl Frame {
     ) -> Result<PlacedTile, CoordLimit>
         requires frame { IsFrameOf (tiling_of machine.now) self.now }
         requires deep { ancestor.now.level ≤ length self.now.digits }
-        requires ancestor { IsAncestor (tiling_of machine.now) (full (tiling_of machine.now) self.now) ancestor.now }
+        requires ancestor { IsAncestor (tiling_of machine.now) (full (tiling_of machine.now) self.now)
+            ancestor.now }
         requires point_within { IsWithin (2 ^ 22) point.now }
-        requires holds { ancestor_holds (points_of machine.now.order) (rule_of machine.now) (full (tiling_of machine.now) self.now) ancestor.now.level
+        requires holds { ancestor_holds (points_of machine.now.order) (rule_of machine.now)
+            (full (tiling_of machine.now) self.now) ancestor.now.level
             (point_in machine.now.order point.now) ≡ true }
-        ensures only_tile { IfOk result (λ tile. IsOnlyHolder (tiling_of machine.now) self.now (point_in machine.now.order point.now) (placed_in machine.now.order tile)) }
+        ensures only_tile { IfOk result (λ tile. IsOnlyHolder (tiling_of machine.now) self.now
+            (point_in machine.now.order point.now) (placed_in machine.now.order tile)) }
         ensures stands { IfOk result (λ tile. Stands (tiling_of machine.now) self.now tile) }
         ensures shift_within { IfOk result (λ tile. IsWithin (2 ^ 24) tile.motion.shift) }
-        ensures held { OnOk result (FrameHolds (tiling_of machine.now) self.now (point_in machine.now.order point.now)) }
+        ensures held { OnOk result (FrameHolds (tiling_of machine.now) self.now
+            (point_in machine.now.order point.now)) }
         ensures none_refused { IfOk result (λ _. find (is_refused machine.now.order)
-            (values_in (tiling_of machine.now) (full (tiling_of machine.now) self.now) (point_in machine.now.order point.now) ancestor.now.level) ≡ None) }
+            (values_in (tiling_of machine.now) (full (tiling_of machine.now) self.now)
+            (point_in machine.now.order point.now) ancestor.now.level) ≡ None) }
         ensures limit { IfErr result (λ limit. find (is_refused machine.now.order)
-            (values_in (tiling_of machine.now) (full (tiling_of machine.now) self.now) (point_in machine.now.order point.now) ancestor.now.level)
+            (values_in (tiling_of machine.now) (full (tiling_of machine.now) self.now)
+            (point_in machine.now.order point.now) ancestor.now.level)
             ≡ Some (point_in machine.now.order limit.value)) }
         ensures limit_in_order { IfErr result (λ limit. IsOf machine.now.order limit.value) }
     {

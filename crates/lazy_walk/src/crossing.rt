@@ -1,8 +1,8 @@
 //! Crossing edges in a frame that grows.
 ghost use Rattle.std.specs.Prelude.{◌≡◌, ◌↔◌, ◌<◌, ◌≤◌, ℕ, length, IsErr, IfOk, IfErr, OnErr};
-ghost use Rattle.addressing.specs.Across.{IsAcross};
-ghost use Rattle.addressing.specs.Address.{depth};
-ghost use Rattle.frames.specs.Frame.{IsTileOf, lifted_in};
+ghost use Rattle.theory_addresses.specs.Across.{IsAcross};
+ghost use Rattle.theory_addresses.specs.Address.{depth};
+ghost use Rattle.theory_frames.specs.Frame.{IsTileOf, lifted_in};
 ghost use Rattle.rule_model.specs.Tiling.{tiling_of, contacts, children};
 ghost use Rattle.tile_place.specs.Crossed.{edges_of, IsOnlyAcross};
 ghost use Rattle.tile_shape.specs.Views.{address_of};
@@ -11,10 +11,10 @@ ghost use Rattle.lazy_walk.specs.Frames.{whole, IsFrameOf, GrowsTo, lifted_at};
 
 use crate::depth_limit::DepthLimit;
 use crate::frame::Frame;
-use dissection::laws::boundary_law;
 use edge_tables::steps::Steps;
 use seeded_growth::laws::grown_fits_law;
 use std::sync::ledger::Ledger;
+use theory_dissection::laws::boundary_law;
 use tile_place::machine::Machine;
 use tile_shape::address::Address;
 use transducer_core::crossing::Crossing;
@@ -35,26 +35,35 @@ impl Frame {
         steps: &mut Steps<L>,
     ) -> Result<Crossing, DepthLimit>
         requires frame { IsFrameOf (tiling_of machine.now) self.old }
-        requires of_frame { IsTileOf (children (tiling_of machine.now)) (whole self.old) (address_of tile.now) }
+        requires of_frame { IsTileOf (children (tiling_of machine.now)) (whole self.old)
+            (address_of tile.now) }
         requires edge_exists { edge < edges_of (tiling_of machine.now) tile.now.kind }
 
         ensures frame { GrowsTo (tiling_of machine.now) self.old self.new }
 
         // The only tile across the edge of the lifted tile, by the contact tables and in the plane. It is of
         // the frame, at the new depth, and it leads back.
-        ensures across { IfOk result (λ x. IsAcross (contacts (tiling_of machine.now)) (lifted_in (whole self.new) (address_of tile.now)) edge (address_of x.addr) x.edge) }
-        ensures only_tile_across { IfOk result (λ x. IsOnlyAcross (tiling_of machine.now) (lifted_in (whole self.new) (address_of tile.now)) edge (address_of x.addr) x.edge) }
-        ensures leads_back { IfOk result (λ x. IsOnlyAcross (tiling_of machine.now) (address_of x.addr) x.edge (lifted_in (whole self.new) (address_of tile.now)) edge) }
+        ensures across { IfOk result (λ x. IsAcross (contacts (tiling_of machine.now))
+            (lifted_in (whole self.new) (address_of tile.now)) edge (address_of x.addr) x.edge) }
+        ensures only_tile_across { IfOk result (λ x. IsOnlyAcross (tiling_of machine.now)
+            (lifted_in (whole self.new) (address_of tile.now)) edge (address_of x.addr) x.edge) }
+        ensures leads_back { IfOk result (λ x. IsOnlyAcross (tiling_of machine.now) (address_of x.addr)
+            x.edge (lifted_in (whole self.new) (address_of tile.now)) edge) }
         ensures at_new_depth { IfOk result (λ x. depth (address_of x.addr) ≡ length self.new.digits) }
-        ensures answer_of_frame { IfOk result (λ x. IsTileOf (children (tiling_of machine.now)) (whole self.new) (address_of x.addr)) }
+        ensures answer_of_frame { IfOk result (λ x. IsTileOf (children (tiling_of machine.now))
+            (whole self.new) (address_of x.addr)) }
 
         // The new depth is the least, not below the old one, at which the edge is not on the boundary.
         // DepthLimit comes if and only if the edge is on the boundary at depth 64.
-        ensures inside { IfOk result (λ _. ¬ IsBoundaryEdge (tiling_of machine.now) (lifted_in (whole self.new) (address_of tile.now)) edge) }
+        ensures inside { IfOk result (λ _. ¬ IsBoundaryEdge (tiling_of machine.now)
+            (lifted_in (whole self.new) (address_of tile.now)) edge) }
         ensures least { (n : ℕ) → length self.old.digits ≤ n → n < length self.new.digits
-            → IsBoundaryEdge (tiling_of machine.now) (lifted_at (tiling_of machine.now) self.old (address_of tile.now) n) edge }
-        ensures limit_exactly { IsErr result ↔ IsBoundaryEdge (tiling_of machine.now) (lifted_at (tiling_of machine.now) self.old (address_of tile.now) 64) edge }
-        ensures limit_tile { IfErr result (λ limit. address_of limit.addr ≡ lifted_at (tiling_of machine.now) self.old (address_of tile.now) 64) }
+            → IsBoundaryEdge (tiling_of machine.now)
+            (lifted_at (tiling_of machine.now) self.old (address_of tile.now) n) edge }
+        ensures limit_exactly { IsErr result ↔ IsBoundaryEdge (tiling_of machine.now)
+            (lifted_at (tiling_of machine.now) self.old (address_of tile.now) 64) edge }
+        ensures limit_tile { IfErr result (λ limit. address_of limit.addr ≡ lifted_at
+            (tiling_of machine.now) self.old (address_of tile.now) 64) }
         ensures deepest_at_limit { OnErr result (length self.new.digits ≡ 64) }
         ensures limit_edge { IfErr result (λ limit. limit.edge ≡ edge) }
     {
@@ -78,23 +87,33 @@ impl Frame {
         steps: &mut Steps<L>,
     ) -> Result<u8, DepthLimit>
         requires frame { IsFrameOf (tiling_of machine.now) self.old }
-        requires of_frame { IsTileOf (children (tiling_of machine.now)) (whole self.old) (address_of tile.old) }
+        requires of_frame { IsTileOf (children (tiling_of machine.now)) (whole self.old)
+            (address_of tile.old) }
         requires edge_exists { edge < edges_of (tiling_of machine.now) tile.old.kind }
 
         ensures frame { GrowsTo (tiling_of machine.now) self.old self.new }
 
-        ensures across { IfOk result (λ back. IsAcross (contacts (tiling_of machine.now)) (lifted_in (whole self.new) (address_of tile.old)) edge (address_of tile.new) back) }
-        ensures only_tile_across { IfOk result (λ back. IsOnlyAcross (tiling_of machine.now) (lifted_in (whole self.new) (address_of tile.old)) edge (address_of tile.new) back) }
-        ensures leads_back { IfOk result (λ back. IsOnlyAcross (tiling_of machine.now) (address_of tile.new) back (lifted_in (whole self.new) (address_of tile.old)) edge) }
+        ensures across { IfOk result (λ back. IsAcross (contacts (tiling_of machine.now))
+            (lifted_in (whole self.new) (address_of tile.old)) edge (address_of tile.new) back) }
+        ensures only_tile_across { IfOk result (λ back. IsOnlyAcross (tiling_of machine.now)
+            (lifted_in (whole self.new) (address_of tile.old)) edge (address_of tile.new) back) }
+        ensures leads_back { IfOk result (λ back. IsOnlyAcross (tiling_of machine.now) (address_of tile.new)
+            back (lifted_in (whole self.new) (address_of tile.old)) edge) }
         ensures at_new_depth { IfOk result (λ _. depth (address_of tile.new) ≡ length self.new.digits) }
-        ensures answer_of_frame { IfOk result (λ _. IsTileOf (children (tiling_of machine.now)) (whole self.new) (address_of tile.new)) }
+        ensures answer_of_frame { IfOk result (λ _. IsTileOf (children (tiling_of machine.now))
+            (whole self.new) (address_of tile.new)) }
 
-        ensures inside { IfOk result (λ _. ¬ IsBoundaryEdge (tiling_of machine.now) (lifted_in (whole self.new) (address_of tile.old)) edge) }
+        ensures inside { IfOk result (λ _. ¬ IsBoundaryEdge (tiling_of machine.now)
+            (lifted_in (whole self.new) (address_of tile.old)) edge) }
         ensures least { (n : ℕ) → length self.old.digits ≤ n → n < length self.new.digits
-            → IsBoundaryEdge (tiling_of machine.now) (lifted_at (tiling_of machine.now) self.old (address_of tile.old) n) edge }
-        ensures limit_exactly { IsErr result ↔ IsBoundaryEdge (tiling_of machine.now) (lifted_at (tiling_of machine.now) self.old (address_of tile.old) 64) edge }
-        ensures limit_tile { IfErr result (λ limit. address_of limit.addr ≡ lifted_at (tiling_of machine.now) self.old (address_of tile.old) 64) }
-        ensures lifted_at_limit { OnErr result (address_of tile.new ≡ lifted_at (tiling_of machine.now) self.old (address_of tile.old) 64) }
+            → IsBoundaryEdge (tiling_of machine.now)
+            (lifted_at (tiling_of machine.now) self.old (address_of tile.old) n) edge }
+        ensures limit_exactly { IsErr result ↔ IsBoundaryEdge (tiling_of machine.now)
+            (lifted_at (tiling_of machine.now) self.old (address_of tile.old) 64) edge }
+        ensures limit_tile { IfErr result (λ limit. address_of limit.addr ≡ lifted_at
+            (tiling_of machine.now) self.old (address_of tile.old) 64) }
+        ensures lifted_at_limit { OnErr result (address_of tile.new ≡ lifted_at (tiling_of machine.now)
+            self.old (address_of tile.old) 64) }
         ensures deepest_at_limit { OnErr result (length self.new.digits ≡ 64) }
         ensures limit_edge { IfErr result (λ limit. limit.edge ≡ edge) }
     {

@@ -1,7 +1,7 @@
 //! A base tile and the supertile around it.
 ghost use Rattle.std.specs.Prelude.{◌≡◌, ◌↔◌, ◌+◌, ◌<◌, ◌≤◌, length, map, max, Some, IsOk, IfOk, OnOk, OnErr};
-ghost use Rattle.addressing.specs.Address.{depth, kind_at, Fits};
-ghost use Rattle.frames.specs.Frame.{lifted_in};
+ghost use Rattle.theory_addresses.specs.Address.{depth, kind_at, Fits};
+ghost use Rattle.theory_frames.specs.Frame.{lifted_in};
 ghost use Rattle.rule_model.specs.Tiling.{Tiling, tiling_of, children};
 ghost use Rattle.tile_shape.specs.Views.{address_of, step_of};
 ghost use Rattle.lazy_walk.specs.Frames.{whole, at_depth, IsFrameOf, GrowsTo};
@@ -109,7 +109,8 @@ impl Frame {
     pub fn grow(&mut self, machine: &Machine) -> Result<(), Full>
         requires frame { IsFrameOf (tiling_of machine.now) self.old }
         ensures room { IsOk result ↔ (length self.old.digits < 64) }
-        ensures one_more { OnOk result (self.new ≡ at_depth (tiling_of machine.now) (length self.old.digits + 1) self.old) }
+        ensures one_more { OnOk result (self.new ≡ at_depth (tiling_of machine.now)
+            (length self.old.digits + 1) self.old) }
         ensures full { OnErr result (self.new ≡ self.old) }
         ensures frame { GrowsTo (tiling_of machine.now) self.old self.new }
     {

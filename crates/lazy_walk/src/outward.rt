@@ -1,12 +1,12 @@
 //! From the base of a frame outward, through its ancestors.
 ghost use Rattle.std.specs.Prelude.{◌≡◌, ◌+◌, ◌<◌, ◌≤◌, max, false, find, None, Some, length, slice_get, IfOk, IfErr, OnOk};
-ghost use Rattle.addressing.specs.Address.{top_kind, Fits};
+ghost use Rattle.theory_addresses.specs.Address.{top_kind, Fits};
 ghost use Rattle.cyclo_points.specs.Order.{is_refused};
 ghost use Rattle.cyclo_points.specs.Point.{point_in, IsOf};
-ghost use Rattle.frames.specs.Frame.{at_level};
+ghost use Rattle.theory_frames.specs.Frame.{at_level};
 ghost use Rattle.rule_model.specs.Tiling.{tiling_of, children};
 ghost use Rattle.rule_model.specs.Views.{rule_of};
-ghost use Rattle.substitution.specs.Rule.{children_of};
+ghost use Rattle.theory_substitution.specs.Rule.{children_of};
 ghost use Rattle.tile_shape.specs.Views.{step_of};
 ghost use Rattle.lazy_walk.specs.Ancestors.{full, factor_power, IsAncestor, values_of_level};
 ghost use Rattle.lazy_walk.specs.Frames.{whole, IsFrameOf, GrowsTo};
@@ -37,7 +37,8 @@ impl Frame {
     pub(crate) fn digit_of(&self, machine: &Machine, level: u8) -> Step
         requires frame { IsFrameOf (tiling_of machine.now) self.now }
         requires deep { level < length self.now.digits }
-        ensures digit { slice_get (full (tiling_of machine.now) self.now).digits level ≡ Some (step_of result) }
+        ensures digit { slice_get (full (tiling_of machine.now) self.now).digits level ≡ Some
+            (step_of result) }
         ensures parent { result.parent < length (rule_of machine.now).kinds }
         ensures child { result.child < length (children_of (rule_of machine.now) result.parent) }
     {
@@ -59,17 +60,23 @@ impl Frame {
         requires frame { IsFrameOf (tiling_of machine.now) self.old }
         requires deep { ancestor.now.level ≤ length self.old.digits }
         requires more { ancestor.now.level < 64 }
-        requires ancestor { IsAncestor (tiling_of machine.now) (full (tiling_of machine.now) self.old) ancestor.now }
+        requires ancestor { IsAncestor (tiling_of machine.now) (full (tiling_of machine.now) self.old)
+            ancestor.now }
         ensures frame { GrowsTo (tiling_of machine.now) self.old self.new }
         ensures level { IfOk result (λ next. next.level ≡ ancestor.now.level + 1) }
-        ensures next { IfOk result (λ next. IsAncestor (tiling_of machine.now) (full (tiling_of machine.now) self.old) next) }
-        ensures least { OnOk result (length self.new.digits ≡ max (length self.old.digits) (ancestor.now.level + 1)) }
+        ensures next { IfOk result (λ next. IsAncestor (tiling_of machine.now)
+            (full (tiling_of machine.now) self.old) next) }
+        ensures least { OnOk result (length self.new.digits ≡ max (length self.old.digits)
+            (ancestor.now.level + 1)) }
         ensures no_deeper { length self.new.digits ≤ max (length self.old.digits) (ancestor.now.level + 1) }
-        ensures power_unrefused { IfOk result (λ _. is_refused machine.now.order (factor_power (tiling_of machine.now) (ancestor.now.level + 1)) ≡ false) }
+        ensures power_unrefused { IfOk result (λ _. is_refused machine.now.order
+            (factor_power (tiling_of machine.now) (ancestor.now.level + 1)) ≡ false) }
         ensures none_refused { IfOk result (λ _. find (is_refused machine.now.order)
-            (values_of_level (tiling_of machine.now) (full (tiling_of machine.now) self.old) (ancestor.now.level + 1)) ≡ None) }
+            (values_of_level (tiling_of machine.now) (full (tiling_of machine.now) self.old)
+            (ancestor.now.level + 1)) ≡ None) }
         ensures limit { IfErr result (λ limit. find (is_refused machine.now.order)
-            (values_of_level (tiling_of machine.now) (full (tiling_of machine.now) self.old) (ancestor.now.level + 1)) ≡ Some (point_in machine.now.order limit.value)) }
+            (values_of_level (tiling_of machine.now) (full (tiling_of machine.now) self.old)
+            (ancestor.now.level + 1)) ≡ Some (point_in machine.now.order limit.value)) }
         ensures limit_in_order { IfErr result (λ limit. IsOf machine.now.order limit.value) }
     {
         let power = next_power(machine, &ancestor.power)?;

@@ -7,10 +7,10 @@ ghost use Rattle.lazy_walk.specs.Faults.{IsPathFault};
 
 use crate::frame::Frame;
 use crate::path_fault::PathFault;
-use dissection::laws::{across_law, boundary_law};
 use edge_tables::steps::Steps;
 use seeded_growth::laws::grown_fits_law;
 use std::sync::ledger::Ledger;
+use theory_dissection::laws::{across_law, boundary_law};
 use tile_place::machine::Machine;
 
 impl Frame {
@@ -33,12 +33,15 @@ impl Frame {
         // The path can be walked at the new depth, which is the least such depth, not below the old one.
         ensures walked { IfOk result (λ _. CanBeWalked (tiling_of machine.now) (whole self.new) path.now) }
         ensures least { (n : ℕ) → length self.old.digits ≤ n → n < length self.new.digits
-            → IsStopped (tiling_of machine.now) (whole (at_depth (tiling_of machine.now) n self.old)) path.now }
+            → IsStopped (tiling_of machine.now) (whole (at_depth (tiling_of machine.now) n self.old))
+            path.now }
 
         // It can then be walked at depth 64 too. A fault is one at the new depth and at 64.
         ensures fault { IfErr result (IsPathFault (tiling_of machine.now) (whole self.new) path.now) }
-        ensures walked_at_64 { IfOk result (λ _. CanBeWalked (tiling_of machine.now) (whole (at_depth (tiling_of machine.now) 64 self.old)) path.now) }
-        ensures fault_at_64 { IfErr result (IsPathFault (tiling_of machine.now) (whole (at_depth (tiling_of machine.now) 64 self.old)) path.now) }
+        ensures walked_at_64 { IfOk result (λ _. CanBeWalked (tiling_of machine.now)
+            (whole (at_depth (tiling_of machine.now) 64 self.old)) path.now) }
+        ensures fault_at_64 { IfErr result (IsPathFault (tiling_of machine.now)
+            (whole (at_depth (tiling_of machine.now) 64 self.old)) path.now) }
     {
         grown_fits_law();
         let checked = machine.checked();

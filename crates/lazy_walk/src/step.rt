@@ -58,11 +58,15 @@ impl Frame {
         requires stands { Stands (tiling_of machine.now) self.now tile.old }
         requires edge_exists { edge < edges_of (tiling_of machine.now) tile.old.addr.kind }
         requires within { IsWithin (2 ^ 24) tile.old.motion.shift }
-        ensures only_tile_across { IfOk result (λ back. IsOnlyAcross (tiling_of machine.now) (address_of tile.old.addr) edge (address_of tile.new.addr) back) }
+        ensures only_tile_across { IfOk result (λ back. IsOnlyAcross (tiling_of machine.now)
+            (address_of tile.old.addr) edge (address_of tile.new.addr) back) }
         ensures stands { Stands (tiling_of machine.now) self.now tile.new }
-        ensures within { (k : ℕ) → IsWithin k tile.old.motion.shift → IsWithin (k + 512) tile.new.motion.shift }
-        ensures outside_on_boundary { IfErr result (λ o. LiesOnBoundary (tiling_of machine.now) (address_of tile.old.addr) edge o.edge o.part) }
-        ensures boundary_is_outside { (own part : ℕ) → LiesOnBoundary (tiling_of machine.now) (address_of tile.old.addr) edge own part
+        ensures within { (k : ℕ) → IsWithin k tile.old.motion.shift
+            → IsWithin (k + 512) tile.new.motion.shift }
+        ensures outside_on_boundary { IfErr result
+            (λ o. LiesOnBoundary (tiling_of machine.now) (address_of tile.old.addr) edge o.edge o.part) }
+        ensures boundary_is_outside { (own part : ℕ)
+            → LiesOnBoundary (tiling_of machine.now) (address_of tile.old.addr) edge own part
             → result ≡ Err (record { edge = own; part = part }) }
         ensures unchanged { OnErr result (tile.new ≡ tile.old) }
     {

@@ -2,7 +2,7 @@
 ghost use Rattle.std.specs.Prelude.{◌≡◌, ◌↔◌, ◌<◌, ◌≤◌, ◌^◌, ℕ, length, IsErr, IfOk, IfErr, OnErr};
 ghost use Rattle.cyclo_points.specs.Order.{points_of};
 ghost use Rattle.cyclo_points.specs.Point.{IsOf, IsWithin};
-ghost use Rattle.frames.specs.Frame.{IsTileOf, lifted_in};
+ghost use Rattle.theory_frames.specs.Frame.{IsTileOf, lifted_in};
 ghost use Rattle.rule_model.specs.Tiling.{tiling_of, children};
 ghost use Rattle.tile_place.specs.Crossed.{edges_of};
 ghost use Rattle.tile_shape.specs.Views.{address_of};
@@ -36,20 +36,27 @@ impl Frame {
     ) -> Result<u8, DepthLimit>
         requires frame { IsFrameOf (tiling_of machine.now) self.old }
         requires its_kind { tile.old.kind ≡ tile.old.addr.kind }
-        requires of_frame { IsTileOf (children (tiling_of machine.now)) (whole self.old) (address_of tile.old.addr) }
+        requires of_frame { IsTileOf (children (tiling_of machine.now)) (whole self.old)
+            (address_of tile.old.addr) }
         requires edge_exists { edge < edges_of (tiling_of machine.now) tile.old.addr.kind }
         requires turn_below { tile.old.motion.turn < (points_of machine.now.order).order }
         requires within { IsWithin (2 ^ 24) tile.old.motion.shift }
         requires in_order { IsOf machine.now.order tile.old.motion.shift }
         ensures frame { GrowsTo (tiling_of machine.now) self.old self.new }
-        ensures crossed { IfOk result (λ back. IsCrossedTo (tiling_of machine.now) self.old self.new (address_of tile.old.addr) tile.old.motion edge tile.new back) }
-        ensures inside { IfOk result (λ _. ¬ IsBoundaryEdge (tiling_of machine.now) (lifted_in (whole self.new) (address_of tile.old.addr)) edge) }
+        ensures crossed { IfOk result (λ back. IsCrossedTo (tiling_of machine.now) self.old self.new
+            (address_of tile.old.addr) tile.old.motion edge tile.new back) }
+        ensures inside { IfOk result (λ _. ¬ IsBoundaryEdge (tiling_of machine.now)
+            (lifted_in (whole self.new) (address_of tile.old.addr)) edge) }
         ensures least { (n : ℕ) → length self.old.digits ≤ n → n < length self.new.digits
-            → IsBoundaryEdge (tiling_of machine.now) (lifted_at (tiling_of machine.now) self.old (address_of tile.old.addr) n) edge }
-        ensures limit_exactly { IsErr result ↔ IsBoundaryEdge (tiling_of machine.now) (lifted_at (tiling_of machine.now) self.old (address_of tile.old.addr) 64) edge }
-        ensures limit_tile { IfErr result (λ limit. address_of limit.addr ≡ lifted_at (tiling_of machine.now) self.old (address_of tile.old.addr) 64) }
+            → IsBoundaryEdge (tiling_of machine.now)
+            (lifted_at (tiling_of machine.now) self.old (address_of tile.old.addr) n) edge }
+        ensures limit_exactly { IsErr result ↔ IsBoundaryEdge (tiling_of machine.now)
+            (lifted_at (tiling_of machine.now) self.old (address_of tile.old.addr) 64) edge }
+        ensures limit_tile { IfErr result (λ limit. address_of limit.addr ≡ lifted_at
+            (tiling_of machine.now) self.old (address_of tile.old.addr) 64) }
         ensures limit_edge { IfErr result (λ limit. limit.edge ≡ edge) }
-        ensures lifted_at_limit { OnErr result (address_of tile.new.addr ≡ lifted_at (tiling_of machine.now) self.old (address_of tile.old.addr) 64) }
+        ensures lifted_at_limit { OnErr result (address_of tile.new.addr ≡ lifted_at (tiling_of machine.now)
+            self.old (address_of tile.old.addr) 64) }
         ensures same_place_at_limit { OnErr result (tile.new.motion ≡ tile.old.motion) }
         ensures same_kind_at_limit { OnErr result (tile.new.kind ≡ tile.old.kind) }
         ensures deepest_at_limit { OnErr result (length self.new.digits ≡ 64) }

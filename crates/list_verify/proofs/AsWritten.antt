@@ -1,19 +1,19 @@
 -- The text that is written of the tiles of a window is a right listing of it.
 use Rattle.std.proofs.Common.{◌≡◌, ◌↔◌, inl, inr, ℕ, zero, suc, ◌<◌, ◌≤◌, ◌^◌, max, Bool, true, false, cond, List, [], ◌∷◌, map, length, nat_le, Result, Ok, Err, refl, sym, ap, ap₂, ◌∙◌, subst, arith}
 use Rattle.std.specs.List.{AllByRecursion}
-use Rattle.addressing.specs.Address.{Address, depth, Fits}
-use Rattle.addressing.specs.Search.{IsAmong}
-use Rattle.addressing.proofs.Lists.{AllByRecursion-among, AllByRecursion-from, IsAmong-map}
+use Rattle.theory_addresses.specs.Address.{Address, depth, Fits}
+use Rattle.theory_addresses.specs.Search.{IsAmong}
+use Rattle.theory_addresses.proofs.Lists.{AllByRecursion-among, AllByRecursion-from, IsAmong-map}
 use Rattle.cyclo_points.specs.declared.order.Order.{Order}
 use Rattle.cyclo_points.specs.declared.order.Order.TheVariants.{Four, Six, Eight, Ten}
 use Rattle.cyclo_points.specs.declared.point.Point.{Point}
 use Rattle.cyclo_points.specs.Order.{points_of, is_refused}
 use Rattle.cyclo_points.specs.Point.{point_in, IsOf, IsWithin}
 use Rattle.cyclo_points.proofs.Refusal.{within-some_beyond, some_beyond-refused}
-use Rattle.dissection.specs.Accepted.{AcceptedRule}
-use Rattle.edge_to_edge.specs.Contacts.{tables_of}
-use Rattle.addressing.specs.Tables.{child_kinds}
-use Rattle.frames.specs.Frame.{at_level, lifted_in, IsTileOf}
+use Rattle.theory_dissection.specs.Accepted.{AcceptedRule}
+use Rattle.theory_edge_to_edge.specs.Contacts.{tables_of}
+use Rattle.theory_addresses.specs.Tables.{child_kinds}
+use Rattle.theory_frames.specs.Frame.{at_level, lifted_in, IsTileOf}
 use Rattle.lazy_walk.specs.Ancestors.{full}
 use Rattle.lazy_walk.specs.Frames.{FrameValue, whole, IsFrameOf, GrowsTo}
 use Rattle.lazy_walk.specs.Standing.{Stands}
@@ -26,20 +26,20 @@ use Rattle.listing_text.specs.declared.listing_fault.ListingFault.{ListingFault}
 use Rattle.listing_text.specs.declared.listing_fault.ListingFault.TheVariants.{TooLong}
 use Rattle.std.proofs.lemmas.Bool.{leb-true}
 use Rattle.listing_text.specs.Written.{entries_text, CanBeListed, CanAllBeListed}
-use Rattle.listings.specs.FrameListing.{deepest_listed, AreOfFrame, AreUnrefused}
+use Rattle.theory_listings.specs.FrameListing.{deepest_listed, AreOfFrame, AreUnrefused}
 use Rattle.plane_geom.specs.declared.window.Window.{Window}
 use Rattle.rule_model.specs.declared.rule.Rule.{Rule}
 use Rattle.rule_model.specs.Tiling.{Tiling, tiling_of, children}
-use Rattle.substitution.specs.Points.{Points}
+use Rattle.theory_substitution.specs.Points.{Points}
 use Rattle.tile_place.specs.declared.placed_tile.PlacedTile.{PlacedTile}
 use Rattle.tile_place.specs.Searched.{placed_in}
 use Rattle.tile_place.proofs.Plane.{IsSettled, its_rule}
 use Rattle.tile_shape.specs.Accepted.{IsAcceptedAddress}
 use Rattle.tile_shape.specs.Usable.{AreUsable}
 use Rattle.tile_shape.specs.Views.{address_of}
-use Rattle.windows.specs.FramePatch.{frame_patch, lifted_tile}
-use Rattle.windows.specs.FrameWindow.{AreAllThatMeet, IsLeastDepth}
-use Rattle.windows.proofs.Members.{no-more}
+use Rattle.theory_windows.specs.FramePatch.{frame_patch, lifted_tile}
+use Rattle.theory_windows.specs.FrameWindow.{AreAllThatMeet, IsLeastDepth}
+use Rattle.theory_windows.proofs.Members.{no-more}
 use Rattle.window_cover.specs.Limits.{IsWithinLimits}
 use Rattle.window_cover.specs.Windows.{TileOf, box_of, AreDrawn, IsLeastEnough}
 use Rattle.window_cover.proofs.FrameNames.{lifted-self}
@@ -67,8 +67,10 @@ same_depth : (m n : ℕ) → m ≤ n → n ≤ m → m ≡ n
 same_depth m n h k = omega arith
 
 module _ (m : Rule) (settled : IsSettled m) (usable : AreUsable (children (tiling_of m))) (fits : StillFits (children (tiling_of m)))
-    (back : (entries : List Entry) → CanAllBeListed (children (tiling_of m)) entries → listing_in (children (tiling_of m)) (entries_text entries) ≡ Ok entries)
-    (f g : FrameValue) (is : IsFrameOf (tiling_of m) f) (w : Window) (tiles : List PlacedTile) (text : List ℕ) (list : IsListOf (tiling_of m) f g w tiles text) where
+    (back : (entries : List Entry) → CanAllBeListed (children (tiling_of m)) entries
+    → listing_in (children (tiling_of m)) (entries_text entries) ≡ Ok entries)
+    (f g : FrameValue) (is : IsFrameOf (tiling_of m) f) (w : Window) (tiles : List PlacedTile) (text : List ℕ)
+    (list : IsListOf (tiling_of m) f g w tiles text) where
   abbrev t : Tiling
   t = tiling_of m
 
@@ -108,16 +110,20 @@ module _ (m : Rule) (settled : IsSettled m) (usable : AreUsable (children (tilin
   drawn = list.within.drawn_within.drawn
 
   they_meet : AreDrawn t g w drawn
-  they_meet = subst (λ a. AreAllThatMeet P.real (TileOf t) (frame_patch P T.rule a) (box_of t w) drawn) (ap (at_level F) (limit_depth list.within.drawn_within.least) ∙ own_level) list.within.drawn_within.all_that_meet
+  they_meet = subst (λ a. AreAllThatMeet P.real (TileOf t) (frame_patch P T.rule a) (box_of t w) drawn)
+      (ap (at_level F) (limit_depth list.within.drawn_within.least) ∙ own_level)
+      list.within.drawn_within.all_that_meet
 
   among_drawn : (x : TileOf t) → IsAmong x (map (placed_in t.order) tiles) → IsAmong x drawn
   among_drawn x i =
-      let there = AllByRecursion-among (λ (y : TileOf t). IsAmong y (frame_patch P T.rule (whole g)).tiles) x (map (placed_in t.order) tiles) i list.drawn.of_patch in
+      let there = AllByRecursion-among (λ (y : TileOf t). IsAmong y (frame_patch P T.rule (whole g)).tiles) x
+      (map (placed_in t.order) tiles) i list.drawn.of_patch in
       (they_meet.meeting x there).0 ((list.drawn.meeting x there).1 i)
 
   unrefused_one : (x : PlacedTile) → IsAmong x tiles → is_refused t.order (point_in t.order x.motion.shift) ≡ false
   unrefused_one x i =
-      AllByRecursion-among (λ (y : TileOf t). is_refused t.order y.motion.shift ≡ false) (placed_in t.order x) drawn (among_drawn (placed_in t.order x) (IsAmong-map (placed_in t.order) x tiles i))
+      AllByRecursion-among (λ (y : TileOf t). is_refused t.order y.motion.shift ≡ false) (placed_in t.order x)
+      drawn (among_drawn (placed_in t.order x) (IsAmong-map (placed_in t.order) x tiles i))
       list.within.drawn_within.none_refused
 
   count_map : (xs : List PlacedTile) → length (map (placed_in t.order) xs) ≡ length xs
@@ -149,15 +155,22 @@ module _ (m : Rule) (settled : IsSettled m) (usable : AreUsable (children (tilin
         within = within-some_beyond x.motion.shift (some_beyond-refused t.order x.motion.shift s.in_order ∙ unrefused_one x i);
       }
 
-  can_all : (xs : List PlacedTile) → ((x : PlacedTile) → IsAmong x xs → CanBeListed (children t) (tile_entry x)) → AllByRecursion (CanBeListed (children t)) (tile_entries xs)
+  can_all : (xs : List PlacedTile) → ((x : PlacedTile) → IsAmong x xs
+      → CanBeListed (children t) (tile_entry x)) → AllByRecursion (CanBeListed (children t)) (tile_entries xs)
   can_all [] h = tt
   can_all (x ∷ xs) h = (h x (inl refl), can_all xs (λ y i. h y (inr i)))
 
   pub read : listing_in (children t) text ≡ Ok entries
-  read = ap (listing_in (children t)) list.written.is ∙ back entries (record { each = can_all tiles can_be; few = omega (arith, not_many, count_entries tiles) })
+  read = ap (listing_in (children t)) list.written.is
+      ∙ back entries (record {
+        each = can_all tiles can_be;
+        few = omega (arith, not_many, count_entries tiles);
+      })
 
   -- ---- the depth
-  deepest_from : (n : ℕ) → n ≤ d → (xs : List PlacedTile) → ((x : PlacedTile) → IsAmong x xs → depth (address_of x.addr) ≡ d) → 0 < length xs → deepest_listed n (tiles_listed t (tile_entries xs)) ≡ d
+  deepest_from : (n : ℕ) → n ≤ d → (xs : List PlacedTile)
+      → ((x : PlacedTile) → IsAmong x xs → depth (address_of x.addr) ≡ d) → 0 < length xs
+      → deepest_listed n (tiles_listed t (tile_entries xs)) ≡ d
   deepest_from n h xs k some = go xs k some
     where
       step : (a b : ℕ) → a ≡ d → b ≤ d → max a b ≡ d
@@ -166,13 +179,17 @@ module _ (m : Rule) (settled : IsSettled m) (usable : AreUsable (children (tilin
       most : (a b : ℕ) → a ≡ d → b ≤ d → max a b ≤ d
       most a b e l = omega arith
 
-      low : (xs : List PlacedTile) → ((x : PlacedTile) → IsAmong x xs → depth (address_of x.addr) ≡ d) → deepest_listed n (tiles_listed t (tile_entries xs)) ≤ d
+      low : (xs : List PlacedTile) → ((x : PlacedTile) → IsAmong x xs → depth (address_of x.addr) ≡ d)
+          → deepest_listed n (tiles_listed t (tile_entries xs)) ≤ d
       low [] k = h
-      low (x ∷ xs) k = most (depth (address_of x.addr)) (deepest_listed n (tiles_listed t (tile_entries xs))) (k x (inl refl)) (low xs (λ y i. k y (inr i)))
+      low (x ∷ xs) k = most (depth (address_of x.addr)) (deepest_listed n (tiles_listed t (tile_entries xs)))
+          (k x (inl refl)) (low xs (λ y i. k y (inr i)))
 
-      go : (xs : List PlacedTile) → ((x : PlacedTile) → IsAmong x xs → depth (address_of x.addr) ≡ d) → 0 < length xs → deepest_listed n (tiles_listed t (tile_entries xs)) ≡ d
+      go : (xs : List PlacedTile) → ((x : PlacedTile) → IsAmong x xs → depth (address_of x.addr) ≡ d)
+          → 0 < length xs → deepest_listed n (tiles_listed t (tile_entries xs)) ≡ d
       go [] k some = absurd (omega (arith, some))
-      go (x ∷ xs) k some = step (depth (address_of x.addr)) (deepest_listed n (tiles_listed t (tile_entries xs))) (k x (inl refl)) (low xs (λ y i. k y (inr i)))
+      go (x ∷ xs) k some = step (depth (address_of x.addr))
+          (deepest_listed n (tiles_listed t (tile_entries xs))) (k x (inl refl)) (low xs (λ y i. k y (inr i)))
 
   deepest : deepest_listed (length f.digits) listing ≡ d
   deepest = deepest_from (length f.digits) list.grows.no_shallower tiles (λ x i. (its_stand x i).at_depth) list.some
@@ -194,9 +211,12 @@ module _ (m : Rule) (settled : IsSettled m) (usable : AreUsable (children (tilin
 
   -- ---- the listing is right
   of_frame : AreOfFrame P T.rule (at_level F d) listing
-  of_frame = subst (λ a. AreOfFrame P T.rule a listing) (sym own_level) (go tiles (λ x i. by_tables m settled fits f is (whole g) (address_of x.addr) (its_stand x i).of_frame))
+  of_frame = subst (λ a. AreOfFrame P T.rule a listing) (sym own_level)
+      (go tiles (λ x i. by_tables m settled fits f is (whole g) (address_of x.addr) (its_stand x i).of_frame))
     where
-      go : (xs : List PlacedTile) → ((x : PlacedTile) → IsAmong x xs → IsTileOf (child_kinds (tables_of P T.rule)) (whole g) (address_of x.addr)) → AreOfFrame P T.rule (whole g) (tiles_listed t (tile_entries xs))
+      go : (xs : List PlacedTile) → ((x : PlacedTile) → IsAmong x xs
+          → IsTileOf (child_kinds (tables_of P T.rule)) (whole g) (address_of x.addr))
+          → AreOfFrame P T.rule (whole g) (tiles_listed t (tile_entries xs))
       go [] h = tt
       go (x ∷ xs) h = (h x (inl refl), go xs (λ y i. h y (inr i)))
 
@@ -206,7 +226,8 @@ module _ (m : Rule) (settled : IsSettled m) (usable : AreUsable (children (tilin
       one : (x : PlacedTile) → Stands t g x → lifted_tile (whole g) (tile_listed t (tile_entry x)) ≡ placed_in t.order x
       one x s = ap (λ a. record { address = a; motion = (placed_in t.order x).motion }) (lifted-self (whole g) (address_of x.addr) s.at_depth)
 
-      go : (xs : List PlacedTile) → ((x : PlacedTile) → IsAmong x xs → Stands t g x) → map (lifted_tile (whole g)) (tiles_listed t (tile_entries xs)) ≡ map (placed_in t.order) xs
+      go : (xs : List PlacedTile) → ((x : PlacedTile) → IsAmong x xs → Stands t g x)
+          → map (lifted_tile (whole g)) (tiles_listed t (tile_entries xs)) ≡ map (placed_in t.order) xs
       go [] h = refl
       go (x ∷ xs) h = ap₂ (λ (y : TileOf t) (ys : List (TileOf t)). y ∷ ys) (one x (h x (inl refl))) (go xs (λ y i. h y (inr i)))
 
@@ -218,11 +239,14 @@ module _ (m : Rule) (settled : IsSettled m) (usable : AreUsable (children (tilin
   least_there = subst (λ n. IsLeastDepth P T.rule F (box_of t w) n d) (sym deepest)
       (record { not_below = omega arith; within = list.least.within; holds = list.least.holds; least = λ k low high holds. low })
 
-  of_order : (xs : List PlacedTile) → ((x : PlacedTile) → IsAmong x xs → Stands t g x) → AllByRecursion (λ (e : Entry). IsOf t.order e.motion.shift) (tile_entries xs)
+  of_order : (xs : List PlacedTile) → ((x : PlacedTile) → IsAmong x xs → Stands t g x)
+      → AllByRecursion (λ (e : Entry). IsOf t.order e.motion.shift) (tile_entries xs)
   of_order [] h = tt
   of_order (x ∷ xs) h = ((h x (inl refl)).in_order, of_order xs (λ y i. h y (inr i)))
 
-  none_refused : (xs : List PlacedTile) → ((x : PlacedTile) → IsAmong x xs → is_refused t.order (point_in t.order x.motion.shift) ≡ false) → AreUnrefused (is_refused t.order) (tiles_listed t (tile_entries xs))
+  none_refused : (xs : List PlacedTile) → ((x : PlacedTile) → IsAmong x xs
+      → is_refused t.order (point_in t.order x.motion.shift) ≡ false)
+      → AreUnrefused (is_refused t.order) (tiles_listed t (tile_entries xs))
   none_refused [] h = tt
   none_refused (x ∷ xs) h = (h x (inl refl), none_refused xs (λ y i. h y (inr i)))
 
@@ -242,12 +266,20 @@ module _ (m : Rule) (settled : IsSettled m) (usable : AreUsable (children (tilin
   pub few_lines : length (lines_in text) ≤ most_lines
   few_lines = few (nat_le (length (lines_in text)) most_lines) refl read
     where
-      few : (b : Bool) → nat_le (length (lines_in text)) most_lines ≡ b → cond b (entries_from (children t) 1 (lines_in text)) (Err TooLong) ≡ Ok entries → length (lines_in text) ≤ most_lines
+      few : (b : Bool) → nat_le (length (lines_in text)) most_lines ≡ b
+          → cond b (entries_from (children t) 1 (lines_in text)) (Err TooLong) ≡ Ok entries
+          → length (lines_in text) ≤ most_lines
       few true e h = leb-true (length (lines_in text)) most_lines e
       few false e h = absurd (cc h)
 
   pub listed_as : (n : ℕ) → n ≡ length tiles → IsListedAs t f g w text n
-  listed_as n e = record { grows = list.grows; depth = its_depth; not_beyond = not_deeper; few = few_lines; right = subst (IsVerified t f w text) (sym e) verified }
+  listed_as n e = record {
+    grows = list.grows;
+    depth = its_depth;
+    not_beyond = not_deeper;
+    few = few_lines;
+    right = subst (IsVerified t f w text) (sym e) verified;
+  }
 
   pub fits_count : length tiles < 2 ^ 32
   fits_count = omega (arith, not_many)

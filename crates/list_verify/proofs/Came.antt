@@ -3,21 +3,21 @@ use Rattle.std.proofs.Common.{◌≡◌, ◌⊎◌, inl, inr, ℕ, ◌<◌, ◌�
 use Rattle.std.proofs.lemmas.Bool.{cases_lt}
 use Rattle.std.proofs.lemmas.List.{map-append}
 use Rattle.std.proofs.lemmas.Option.{slice_get_within}
-use Rattle.addressing.specs.Address.{Address, depth}
-use Rattle.addressing.specs.Search.{IsAmong}
-use Rattle.addressing.specs.Tables.{child_kinds}
-use Rattle.addressing.proofs.Lists.{AllByRecursion-among, AllByRecursion-append, IsAmong-map, IsAmong-append_right}
-use Rattle.addressing.proofs.Ranges.{among-place, slice_get-image}
+use Rattle.theory_addresses.specs.Address.{Address, depth}
+use Rattle.theory_addresses.specs.Search.{IsAmong}
+use Rattle.theory_addresses.specs.Tables.{child_kinds}
+use Rattle.theory_addresses.proofs.Lists.{AllByRecursion-among, AllByRecursion-append, IsAmong-map, IsAmong-append_right}
+use Rattle.theory_addresses.proofs.Ranges.{among-place, slice_get-image}
 use Rattle.cyclo_points.specs.Order.{NumberOf, points_of, is_refused}
 use Rattle.cyclo_points.specs.Point.{point_in, IsOf, IsWithin}
 use Rattle.cyclo_points.specs.Motion.{motion_in}
 use Rattle.cyclo_points.specs.declared.motion.Motion.{Motion as Moved}
 use Rattle.cyclo_points.specs.declared.point.Point.{Point}
-use Rattle.dissection.specs.Accepted.{AcceptedRule}
-use Rattle.dissection.specs.Polygons.{tile_polygon}
-use Rattle.dissection.proofs.Setting.{Setting}
-use Rattle.edge_to_edge.specs.Contacts.{tables_of}
-use Rattle.frames.specs.Frame.{at_level, frame_tiles, IsTileOf, lifted_in}
+use Rattle.theory_dissection.specs.Accepted.{AcceptedRule}
+use Rattle.theory_dissection.specs.Polygons.{tile_polygon}
+use Rattle.theory_dissection.proofs.Setting.{Setting}
+use Rattle.theory_edge_to_edge.specs.Contacts.{tables_of}
+use Rattle.theory_frames.specs.Frame.{at_level, frame_tiles, IsTileOf, lifted_in}
 use Rattle.lazy_walk.specs.Ancestors.{full}
 use Rattle.lazy_walk.specs.Frames.{FrameValue, whole, at_depth, GrowsTo}
 use Rattle.lazy_walk.proofs.Ancestors.{full-later}
@@ -27,24 +27,24 @@ use Rattle.lazy_walk.proofs.Walks.{StillFits, GrowsTo-is}
 use Rattle.listing_text.specs.declared.entry.Entry as program
 use Rattle.listing_text.specs.Listing.{Entry}
 use Rattle.listing_text.specs.Views.{entry_of}
-use Rattle.listings.specs.Lines.{ListLine, named_tiles}
-use Rattle.listings.specs.Walk as walking
-use Rattle.listings.specs.FrameWalk.{line_named, lines_named, IsListedIn, IsWalkOn, ComesOnIn}
-use Rattle.listings.proofs.Lines.{tile-line}
+use Rattle.theory_listings.specs.Lines.{ListLine, named_tiles}
+use Rattle.theory_listings.specs.Walk as walking
+use Rattle.theory_listings.specs.FrameWalk.{line_named, lines_named, IsListedIn, IsWalkOn, ComesOnIn}
+use Rattle.theory_listings.proofs.Lines.{tile-line}
 use Rattle.plane_geom.specs.declared.window.Window.{Window}
 use Rattle.rule_model.specs.declared.rule.Rule.{Rule}
 use Rattle.rule_model.specs.Tiling.{Tiling, MotionOf, tiling_of, children}
-use Rattle.substitution.specs.Motion.{Motion}
-use Rattle.substitution.specs.Points.{Points}
-use Rattle.substitution.specs.Supertile.{Placed}
+use Rattle.theory_substitution.specs.Motion.{Motion}
+use Rattle.theory_substitution.specs.Points.{Points}
+use Rattle.theory_substitution.specs.Supertile.{Placed}
 use Rattle.tile_place.specs.declared.placed_tile.PlacedTile.{PlacedTile}
 use Rattle.tile_place.proofs.Plane.{IsSettled, its_rule}
 use Rattle.tile_shape.specs.declared.address.Address as programmed
 use Rattle.tile_shape.specs.Views.{address_of}
-use Rattle.windows.specs.FramePatch.{in_frame, level_in}
-use Rattle.windows.specs.Meeting.{PolygonMeetsBox}
-use Rattle.windows.proofs.Lifts.{named-fine}
-use Rattle.windows.proofs.Members.{among-map}
+use Rattle.theory_windows.specs.FramePatch.{in_frame, level_in}
+use Rattle.theory_windows.specs.Meeting.{PolygonMeetsBox}
+use Rattle.theory_windows.proofs.Lifts.{named-fine}
+use Rattle.theory_windows.proofs.Members.{among-map}
 use Rattle.window_cover.specs.Causes.{IsRefusedShift}
 use Rattle.window_cover.specs.Windows.{TileOf, box_of, IsWindow, IsOfFrame}
 use Rattle.list_verify.specs.declared.found_lines.FoundLines.{FoundLines}
@@ -62,8 +62,10 @@ use Rattle.window_cover.proofs.FrameNames.{lifted-self}
 use Rattle.list_verify.proofs.Lines.{one-address, its_names, deep-full, line-of, line-deep, deepest-is, listing-on, listed-among, number-among, tile-is, one-tile}
 use Rattle.list_verify.proofs.Marks.{set-length, marked-more}
 
-module _ (m : Rule) (settled : IsSettled m) (fits : StillFits (children (tiling_of m))) (L : HasListLaws (points_of m.order)) (f : FrameValue) (w : Window) (fit : IsWindow w)
-    (lines : List program.Entry) (are : AreLinesIn (tiling_of m) f lines) (g : FrameValue) (grows : GrowsTo (tiling_of m) f g) (x : PlacedTile) (numbers : List ℕ) where
+module _ (m : Rule) (settled : IsSettled m) (fits : StillFits (children (tiling_of m)))
+    (L : HasListLaws (points_of m.order)) (f : FrameValue) (w : Window) (fit : IsWindow w)
+    (lines : List program.Entry) (are : AreLinesIn (tiling_of m) f lines) (g : FrameValue)
+    (grows : GrowsTo (tiling_of m) f g) (x : PlacedTile) (numbers : List ℕ) where
   abbrev t : Tiling
   t = tiling_of m
 
@@ -125,12 +127,16 @@ module _ (m : Rule) (settled : IsSettled m) (fits : StillFits (children (tiling_
             let e = among-map (tile_listed t) s.0 (entries_of lines) s.1 in
             let o = among-map entry_of e.0 lines e.1 in
             let name : in_frame P T.rule F (address_of o.0.address) ≡ u
-            = sym (l.2 ∙ ap (λ (k : ListLine (Placed (NumberOf m.order)) (Motion (NumberOf m.order))). k.tile) s.2 ∙ ap (λ (y : TileOf t). in_frame P T.rule F y.address) e.2 ∙ ap (λ (y : Entry). in_frame P T.rule F y.address) o.2) in
+            = sym (l.2 ∙ ap (λ (k : ListLine (Placed (NumberOf m.order)) (Motion (NumberOf m.order))). k.tile)
+            s.2 ∙ ap (λ (y : TileOf t). in_frame P T.rule F y.address) e.2
+            ∙ ap (λ (y : Entry). in_frame P T.rule F y.address) o.2) in
             let place = among-place o.0 lines o.1 in
             absurd (none place.0 (
               o.0,
               place.1,
-              one-address F (address_of o.0.address) b d (line-deep m settled fits L f w fit lines are o.0 o.1) (c.at_depth ∙ both grows.no_shallower same) (ap (λ (y : TileOf t). y.address) name),
+              one-address F (address_of o.0.address) b d
+                  (line-deep m settled fits L f w fit lines are o.0 o.1)
+                  (c.at_depth ∙ both grows.no_shallower same) (ap (λ (y : TileOf t). y.address) name),
             ))
           where
             both : {n k : ℕ} → n ≤ k → k ≤ n → k ≡ n
@@ -146,7 +152,8 @@ module _ (m : Rule) (settled : IsSettled m) (fits : StillFits (children (tiling_
     own-among : IsOfFrame t g own
     own-among = subst (λ y. IsAmong own (frame_tiles P T.rule y)) (level-grown m settled fits f are.frame g grows)
         (subst (λ n. IsAmong own (frame_tiles P T.rule (at_level F n))) c.at_depth
-        (named-fine setting F (its_names m settled fits L f w fit lines are) (is_refused m.order) (depth b) (subst (λ n. n ≤ depth F) (sym c.at_depth) its_depth) b whole-tile refl))
+        (named-fine setting F (its_names m settled fits L f w fit lines are) (is_refused m.order) (depth b)
+        (subst (λ n. n ≤ depth F) (sym c.at_depth) its_depth) b whole-tile refl))
 
     pub missing : (addr : programmed.Address) → address_of addr ≡ b → ((i : ℕ) → ¬ HasAddress lines i b) → IsMissingTile t g w (entries_of lines) addr
     missing addr named none = record {
@@ -157,27 +164,32 @@ module _ (m : Rule) (settled : IsSettled m) (fits : StillFits (children (tiling_
       no_line = λ e i same. absurd (unlisted none (listed e i same));
     }
       where
-        listed : (e : Entry) → IsAmong e (entries_of lines) → lifted_in (whole g) e.address ≡ address_of addr → IsAmong u (named_tiles (lines_named P T.rule F listing))
+        listed : (e : Entry) → IsAmong e (entries_of lines) → lifted_in (whole g) e.address ≡ address_of addr
+            → IsAmong u (named_tiles (lines_named P T.rule F listing))
         listed e i same =
             let o = among-map entry_of e lines i in
             let a = address_of o.0.address in
             let of = IsTileOf-later t f g a grows are.frame (line-of m settled fits L f w fit lines are o.0 o.1) in
             let there : IsTileOf kinds (at_level F (length g.digits)) a
-            = subst (λ y. IsTileOf kinds y a) (sym (level-grown m settled fits f are.frame g grows)) (by_tables m settled fits f are.frame (whole g) a of) in
+            = subst (λ y. IsTileOf kinds y a) (sym (level-grown m settled fits f are.frame g grows))
+            (by_tables m settled fits f are.frame (whole g) a of) in
             let name : in_frame P T.rule F a ≡ u
             = sym (L.search.renamed T F (its_names m settled fits L f w fit lines are) (length g.digits) its_depth a there).1
             ∙ ap (λ y. in_frame P T.rule F (lifted_in y a)) (level-grown m settled fits f are.frame g grows)
             ∙ ap (in_frame P T.rule F) (ap (λ (y : Entry). lifted_in (whole g) y.address) (sym o.2) ∙ same ∙ named) in
             subst (λ y. IsAmong y (named_tiles (lines_named P T.rule F listing))) name
-            (IsAmong-map (λ (k : ListLine (Placed (NumberOf m.order)) (Motion (NumberOf m.order))). k.tile) (line_named P T.rule F (tile_listed t (entry_of o.0))) (lines_named P T.rule F listing)
+            (IsAmong-map (λ (k : ListLine (Placed (NumberOf m.order)) (Motion (NumberOf m.order))). k.tile)
+            (line_named P T.rule F (tile_listed t (entry_of o.0))) (lines_named P T.rule F listing)
             (IsAmong-map (line_named P T.rule F) (tile_listed t (entry_of o.0)) listing (listed-among m settled fits L f w fit lines are o.0 o.1)))
 
     pub missing-not_all : ((i : ℕ) → ¬ HasAddress lines i b) → HasAllTiles t f w d (entries_of lines) → ⊥
-    missing-not_all none all = absurd (L.no_fault T F (is_refused m.order) (box_of t w) d listing (listing-on m settled fits L f w fit lines are) all.all_listed (walking.Missing u)
+    missing-not_all none all = absurd (L.no_fault T F (is_refused m.order) (box_of t w) d listing
+        (listing-on m settled fits L f w fit lines are) all.all_listed (walking.Missing u)
         (c.comes.meets, λ i. absurd (unlisted none i)))
 
     -- ---- where its shift is refused
-    pub refused-shift : (value : Point) → value ≡ x.motion.shift → is_refused m.order (point_in m.order x.motion.shift) ≡ true → IsRefusedShift t g w value
+    pub refused-shift : (value : Point) → value ≡ x.motion.shift
+        → is_refused m.order (point_in m.order x.motion.shift) ≡ true → IsRefusedShift t g w value
     refused-shift value same bad = record {
       tile = own;
       of_frame = own-among;
@@ -188,7 +200,8 @@ module _ (m : Rule) (settled : IsSettled m) (fits : StillFits (children (tiling_
     }
 
     pub refused-not_all : is_refused m.order (point_in m.order x.motion.shift) ≡ true → HasAllTiles t f w d (entries_of lines) → ⊥
-    refused-not_all bad all = absurd (L.no_fault T F (is_refused m.order) (box_of t w) d listing (listing-on m settled fits L f w fit lines are) all.all_listed (walking.Refused u)
+    refused-not_all bad all = absurd (L.no_fault T F (is_refused m.order) (box_of t w) d listing
+        (listing-on m settled fits L f w fit lines are) all.all_listed (walking.Refused u)
         (c.comes.meets, ap (λ (h : MotionOf t). is_refused m.order h.shift) (sym c.its_motion) ∙ bad))
 
     -- ---- where a line has the address
@@ -220,10 +233,13 @@ module _ (m : Rule) (settled : IsSettled m) (fits : StillFits (children (tiling_
       }
 
       pub misplaced-not_all : IsMovedOtherwise line.motion x.motion → HasAllTiles t f w d (entries_of lines) → ⊥
-      misplaced-not_all otherwise all = absurd (L.no_fault T F (is_refused m.order) (box_of t w) d listing (listing-on m settled fits L f w fit lines are) all.all_listed (walking.WrongPlace i u.motion)
+      misplaced-not_all otherwise all = absurd (L.no_fault T F (is_refused m.order) (box_of t w) d listing
+          (listing-on m settled fits L f w fit lines are) all.all_listed (walking.WrongPlace i u.motion)
           (record {
             line = line_named P T.rule F (tile_listed t (entry_of line));
-            is_line = slice_get-image (line_named P T.rule F) (tile_listed t (entry_of line)) listing i (slice_get-image (tile_listed t) (entry_of line) (entries_of lines) i (slice_get-image entry_of line lines i at));
+            is_line = slice_get-image (line_named P T.rule F) (tile_listed t (entry_of line)) listing i
+                (slice_get-image (tile_listed t) (entry_of line) (entries_of lines) i
+                (slice_get-image entry_of line lines i at));
             meets = subst Meets (sym name) c.comes.meets;
             motion = ap (λ (y : TileOf t). y.motion) name;
             other = λ e. absurd (otherwise m.order its_order c.in_order (e ∙ sym c.its_motion));
@@ -236,7 +252,9 @@ module _ (m : Rule) (settled : IsSettled m) (fits : StillFits (children (tiling_
           Meets y = IsAmong y (frame_tiles P T.rule F) × PolygonMeetsBox P.real (box_of t w) (tile_polygon P T.rule (λ z. z) y)
 
           its_order : IsOf m.order line.motion.shift
-          its_order = AllByRecursion-among (λ (e : Entry). NamesTileThere t f w e → IsOf m.order e.motion.shift) (entry_of line) (entries_of lines) (IsAmong-map entry_of line lines its_line) all.of_order
+          its_order = AllByRecursion-among (λ (e : Entry). NamesTileThere t f w e
+              → IsOf m.order e.motion.shift) (entry_of line) (entries_of lines)
+              (IsAmong-map entry_of line lines its_line) all.of_order
               (subst Meets (sym name) c.comes.meets).1
 
       -- ---- with the tile's motion
@@ -251,7 +269,8 @@ module _ (m : Rule) (settled : IsSettled m) (fits : StillFits (children (tiling_
       in-place : line.motion ≡ x.motion → IsWithin (2 ^ 24) x.motion.shift → IsInPlace t f lines i
       in-place same within = record {
         below = slice_get_within lines i line at;
-        its_motion = ap (λ (e : program.Entry). motion_in m.order e.motion) own_line ∙ ap (motion_in m.order) same ∙ c.its_motion ∙ ap (λ (y : TileOf t). y.motion) (sym its_tile);
+        its_motion = ap (λ (e : program.Entry). motion_in m.order e.motion) own_line
+            ∙ ap (motion_in m.order) same ∙ c.its_motion ∙ ap (λ (y : TileOf t). y.motion) (sym its_tile);
         turn_below = subst (λ (h : Moved). h.turn < P.order) moved c.turn_below;
         shift_within = subst (λ (h : Moved). IsWithin (2 ^ 24) h.shift) moved within;
         in_order = subst (λ (h : Moved). IsOf m.order h.shift) moved c.in_order;
@@ -266,7 +285,8 @@ module _ (m : Rule) (settled : IsSettled m) (fits : StillFits (children (tiling_
       -- ---- what is found then
       module _ (marks : List Bool) (marked : AreMarked t f lines numbers marks) where
         pub known-among : slice_get marks i ≡ Some true → IsAmong u (tiles_found t f lines numbers)
-        known-among known = subst (λ y. IsAmong y (tiles_found t f lines numbers)) its_tile (IsAmong-map (tile_of_line t f lines) i numbers ((marked.marked i).0 known))
+        known-among known = subst (λ y. IsAmong y (tiles_found t f lines numbers)) its_tile
+            (IsAmong-map (tile_of_line t f lines) i numbers ((marked.marked i).0 known))
 
         module _ (fresh : ¬ (slice_get marks i ≡ Some true)) where
           -- it is new
@@ -274,20 +294,23 @@ module _ (m : Rule) (settled : IsSettled m) (fits : StillFits (children (tiling_
           u-new k =
               let j = among-map (tile_of_line t f lines) u numbers k in
               let place = AllByRecursion-among (IsInPlace t f lines) j.0 numbers j.1 marked.in_place in
-              let same : j.0 ≡ i = one-tile m settled fits L f w fit lines are j.0 i place.below (slice_get_within lines i line at) (sym j.2 ∙ sym its_tile) in
+              let same : j.0 ≡ i = one-tile m settled fits L f w fit lines are j.0 i place.below
+              (slice_get_within lines i line at) (sym j.2 ∙ sym its_tile) in
               absurd (fresh ((marked.marked i).1 (subst (λ n. IsAmong n numbers) same j.1)))
 
           more-tiles : tiles_found t f lines (numbers ++ i ∷ []) ≡ tiles_found t f lines numbers ++ u ∷ []
           more-tiles = map-append (tile_of_line t f lines) numbers (i ∷ []) ∙ ap (λ y. tiles_found t f lines numbers ++ y ∷ []) its_tile
 
-          pub new-walk : line.motion ≡ x.motion → is_refused m.order (point_in m.order x.motion.shift) ≡ false → IsWalkedTo t f w lines (numbers ++ i ∷ [])
+          pub new-walk : line.motion ≡ x.motion → is_refused m.order (point_in m.order x.motion.shift) ≡ false
+              → IsWalkedTo t f w lines (numbers ++ i ∷ [])
           new-walk same kept = subst (λ ts. IsWalkOn P (is_refused m.order) T.rule F (box_of t w) listing ts) (sym more-tiles)
               (c.comes.onward (λ k. absurd (u-new k)) (ap (λ (h : MotionOf t). is_refused m.order h.shift) (sym c.its_motion) ∙ kept) (listed same))
 
           pub new-among : IsAmong u (tiles_found t f lines (numbers ++ i ∷ []))
           new-among = subst (IsAmong u) (sym more-tiles) (IsAmong-append_right u (tiles_found t f lines numbers) (u ∷ []) (inl refl))
 
-          pub new-marked : line.motion ≡ x.motion → IsWithin (2 ^ 24) x.motion.shift → AreMarked t f lines (numbers ++ i ∷ []) (slice_set marks i true)
+          pub new-marked : line.motion ≡ x.motion → IsWithin (2 ^ 24) x.motion.shift
+              → AreMarked t f lines (numbers ++ i ∷ []) (slice_set marks i true)
           new-marked same within = record {
             in_place = AllByRecursion-append (IsInPlace t f lines) numbers (i ∷ []) marked.in_place (in-place same within, tt);
             count = set-length marks i true ∙ marked.count;
@@ -300,9 +323,12 @@ module _ (m : Rule) (settled : IsSettled m) (fits : StillFits (children (tiling_
       pub are_marked : AreMarked t f lines new.lines.items new.marks.items
       pub more : HasMore old.lines.items new.lines.items
       pub among : IsAmong u (tiles_found t f lines new.lines.items)
-      pub walk : (((i : ℕ) → ¬ (slice_get old.marks.items i ≡ Some true)) ⊎ IsWalkedTo t f w lines old.lines.items) → IsWalkedTo t f w lines new.lines.items
+      pub walk : (((i : ℕ) → ¬ (slice_get old.marks.items i ≡ Some true))
+          ⊎ IsWalkedTo t f w lines old.lines.items) → IsWalkedTo t f w lines new.lines.items
 
-    pub looked-up : (old new : FoundLines) → old.lines.items ≡ numbers → AreMarked t f lines old.lines.items old.marks.items → (number : ℕ) → IsLookedUp old new lines x number → IsNext old new
+    pub looked-up : (old new : FoundLines) → old.lines.items ≡ numbers
+        → AreMarked t f lines old.lines.items old.marks.items → (number : ℕ)
+        → IsLookedUp old new lines x number → IsNext old new
     looked-up old new own_numbers marked number h = at h.known_or_new
       where
         mine : AreMarked t f lines numbers old.marks.items
@@ -311,21 +337,26 @@ module _ (m : Rule) (settled : IsSettled m) (fits : StillFits (children (tiling_
         at : IsKnown old new number ⊎ IsNew old new h.line x number → IsNext old new
         at (inl k) = record {
           stays = stays number h.line h.is_line h.its_address;
-          are_marked = subst (λ ns. AreMarked t f lines ns new.marks.items) (sym k.same_lines) (subst (λ ms. AreMarked t f lines old.lines.items ms) (sym k.same_marks) marked);
+          are_marked = subst (λ ns. AreMarked t f lines ns new.marks.items) (sym k.same_lines)
+              (subst (λ ms. AreMarked t f lines old.lines.items ms) (sym k.same_marks) marked);
           more = ([], k.same_lines ∙ sym (append-nil old.lines.items));
-          among = subst (λ ns. IsAmong u (tiles_found t f lines ns)) (sym own_numbers ∙ sym k.same_lines) (known-among number h.line h.is_line h.its_address old.marks.items mine k.known);
+          among = subst (λ ns. IsAmong u (tiles_found t f lines ns)) (sym own_numbers ∙ sym k.same_lines)
+              (known-among number h.line h.is_line h.its_address old.marks.items mine k.known);
           walk = λ before. walked before;
         }
           where
-            walked : (((i : ℕ) → ¬ (slice_get old.marks.items i ≡ Some true)) ⊎ IsWalkedTo t f w lines old.lines.items) → IsWalkedTo t f w lines new.lines.items
+            walked : (((i : ℕ) → ¬ (slice_get old.marks.items i ≡ Some true))
+                ⊎ IsWalkedTo t f w lines old.lines.items) → IsWalkedTo t f w lines new.lines.items
             walked (inl none) = absurd (none number k.known)
             walked (inr walk) = subst (λ ns. IsWalkedTo t f w lines ns) (sym k.same_lines) walk
         at (inr k) = record {
           stays = stays number h.line h.is_line h.its_address;
-          are_marked = subst (λ ns. AreMarked t f lines ns new.marks.items) (sym more-is) (subst (λ ms. AreMarked t f lines (numbers ++ number ∷ []) ms) (sym k.marked)
+          are_marked = subst (λ ns. AreMarked t f lines ns new.marks.items) (sym more-is)
+              (subst (λ ms. AreMarked t f lines (numbers ++ number ∷ []) ms) (sym k.marked)
               (new-marked number h.line h.is_line h.its_address old.marks.items mine fresh k.its_motion k.shift_within));
           more = (number ∷ [], k.one_more);
-          among = subst (λ ns. IsAmong u (tiles_found t f lines ns)) (sym more-is) (new-among number h.line h.is_line h.its_address old.marks.items mine fresh);
+          among = subst (λ ns. IsAmong u (tiles_found t f lines ns)) (sym more-is)
+              (new-among number h.line h.is_line h.its_address old.marks.items mine fresh);
           walk = λ before. subst (λ ns. IsWalkedTo t f w lines ns) (sym more-is)
               (new-walk number h.line h.is_line h.its_address old.marks.items mine fresh k.its_motion (k.unrefused m.order c.in_order));
         }

@@ -2,7 +2,7 @@
 use Rattle.std.proofs.Common.{◌≡◌, inl, inr, ◌⊎◌, ℕ, zero, suc, ◌<◌, ◌≤◌, Bool, true, false, cond, nat_eq, List, [], ◌∷◌, length, get_or, slice_get, Option, Some, None, refl, sym, ap, ◌∙◌, subst, arith, eqb-true}
 use Rattle.std.proofs.lemmas.Bool.{eq-eqb, cases_lt}
 use Rattle.std.proofs.lemmas.List.{length-map}
-use Rattle.addressing.specs.Address.{Address}
+use Rattle.theory_addresses.specs.Address.{Address}
 use Rattle.tile_shape.specs.Views.{address_of}
 use Rattle.listing_text.specs.declared.entry.Entry.{Entry}
 use Rattle.list_verify.specs.declared.line_index.Buckets.{Buckets}
@@ -38,10 +38,16 @@ last-some places place (suc n) i e = at (λ h. last-some places place n i h) (na
     inside : {x y : ℕ} → Some x ≡ Some y → x ≡ y
     inside e = cc (e)
 
-    at : (last_in places place n ≡ Some i → IsLast places place n i) → (b : Bool) → nat_eq (get_or places n (suc place)) place ≡ b → IsLast places place (suc n) i
+    at : (last_in places place n ≡ Some i → IsLast places place n i) → (b : Bool)
+        → nat_eq (get_or places n (suc place)) place ≡ b → IsLast places place (suc n) i
     at again true h =
         let same : n ≡ i = inside (ap (λ b. cond b (Some n) (last_in places place n)) (sym h) ∙ e) in
-        subst (IsLast places place (suc n)) same (record { below = omega arith; in_place = eqb-true _ _ h; last = λ j l k q. absurd (between j n l k) })
+        subst (IsLast places place (suc n)) same
+        (record {
+          below = omega arith;
+          in_place = eqb-true _ _ h;
+          last = λ j l k q. absurd (between j n l k);
+        })
       where
         between : (j n : ℕ) → n < j → j < suc n → ⊥
         between j n l k = omega arith
@@ -55,7 +61,8 @@ last-some places place (suc n) i e = at (λ h. last-some places place n i h) (na
 
 pub last-none : (places : List ℕ) (place n : ℕ) → last_in places place n ≡ None → (j : ℕ) → j < n → get_or places j (suc place) ≡ place → ⊥
 last-none places place zero e j l q = absurd (none_below j l)
-last-none places place (suc n) e j l q = at (λ h k. last-none places place n h j k q) (nat_eq (get_or places n (suc place)) place) refl (below_or j n l)
+last-none places place (suc n) e j l q = at (λ h k. last-none places place n h j k q)
+    (nat_eq (get_or places n (suc place)) place) refl (below_or j n l)
   where
     at : (last_in places place n ≡ None → j < n → ⊥) → (b : Bool) → nat_eq (get_or places n (suc place)) place ≡ b → (j ≡ n) ⊎ (j < n) → ⊥
     at again true h k = absurd (cc (ap (λ b. cond b (Some n) (last_in places place n)) (sym h) ∙ e))
@@ -63,7 +70,8 @@ last-none places place (suc n) e j l q = at (λ h k. last-none places place n h 
     at again false h (inr k) = absurd (again (ap (λ b. cond b (Some n) (last_in places place n)) (sym h) ∙ e) k)
 
 -- ---- the bucket of a line
-pub line-bucket : (buckets : Buckets) (lines : List Entry) (i d : ℕ) (e : Entry) → slice_get lines i ≡ Some e → get_or (buckets_of buckets lines) i d ≡ bucket_of buckets (address_of e.address)
+pub line-bucket : (buckets : Buckets) (lines : List Entry) (i d : ℕ) (e : Entry) → slice_get lines i ≡ Some e
+    → get_or (buckets_of buckets lines) i d ≡ bucket_of buckets (address_of e.address)
 line-bucket buckets [] i d e h = absurd (cc h)
 line-bucket buckets (x ∷ xs) zero d e h = ap (λ (y : Entry). bucket_of buckets (address_of y.address)) (inside h)
   where
@@ -71,7 +79,8 @@ line-bucket buckets (x ∷ xs) zero d e h = ap (λ (y : Entry). bucket_of bucket
     inside e = cc (e)
 line-bucket buckets (x ∷ xs) (suc i) d e h = line-bucket buckets xs i d e h
 
-pub has-bucket : (buckets : Buckets) (lines : List Entry) (i d : ℕ) (a : Address) → HasAddress lines i a → get_or (buckets_of buckets lines) i d ≡ bucket_of buckets a
+pub has-bucket : (buckets : Buckets) (lines : List Entry) (i d : ℕ) (a : Address) → HasAddress lines i a
+    → get_or (buckets_of buckets lines) i d ≡ bucket_of buckets a
 has-bucket buckets lines i d a h = line-bucket buckets lines i d h.0 h.1 ∙ ap (bucket_of buckets) h.2
 
 -- in a list, whatever the default is
@@ -82,7 +91,8 @@ same-default (p ∷ ps) (suc i) c d h = same-default ps i c d (omega arith)
 
 -- ---- one link
 -- of a chain that comes to line i, which hasn't the address, none from i on has it
-pub onward : (buckets : Buckets) (lines : List Entry) (a : Address) (n k i : ℕ) → k ≤ length lines → n ≤ k → last_in (buckets_of buckets lines) (bucket_of buckets a) n ≡ Some i
+pub onward : (buckets : Buckets) (lines : List Entry) (a : Address) (n k i : ℕ) → k ≤ length lines → n ≤ k
+    → last_in (buckets_of buckets lines) (bucket_of buckets a) n ≡ Some i
     → (¬ HasAddress lines i a) → ((j : ℕ) → n ≤ j → j < k → ¬ HasAddress lines j a) → (j : ℕ) → i ≤ j → j < k → ¬ HasAddress lines j a
 onward buckets lines a n k i short low e none beyond j l m has = at (below_or_same i j l)
   where
@@ -104,7 +114,8 @@ onward buckets lines a n k i short low e none beyond j l m has = at (below_or_sa
         cases j n = cases_lt j n
 
 -- the next link
-pub next-link : (buckets : Buckets) (lines : List Entry) (a : Address) (n i : ℕ) → n ≤ length lines → last_in (buckets_of buckets lines) (bucket_of buckets a) n ≡ Some i
+pub next-link : (buckets : Buckets) (lines : List Entry) (a : Address) (n i : ℕ) → n ≤ length lines
+    → last_in (buckets_of buckets lines) (bucket_of buckets a) n ≡ Some i
     → get_or (buckets_of buckets lines) i 0 ≡ bucket_of buckets a
 next-link buckets lines a n i short e =
     let last : IsLast (buckets_of buckets lines) (bucket_of buckets a) n i = last-some (buckets_of buckets lines) (bucket_of buckets a) n i e in
@@ -138,7 +149,8 @@ pub none-left : (buckets : Buckets) (lines : List Entry) (a : Address) (n k : �
 none-left buckets lines a n k e beyond j l has = at (cases_lt j n)
   where
     at : (j < n) ⊎ (n ≤ j) → ⊥
-    at (inl h) = absurd (last-none (buckets_of buckets lines) (bucket_of buckets a) n e j h (has-bucket buckets lines j (suc (bucket_of buckets a)) a has))
+    at (inl h) = absurd (last-none (buckets_of buckets lines) (bucket_of buckets a) n e j h
+        (has-bucket buckets lines j (suc (bucket_of buckets a)) a has))
     at (inr h) = absurd (beyond j h l has)
 
 pub get_or-default : {A : Type 0} (xs : List A) (i : ℕ) (c d : A) → i < length xs → get_or xs i c ≡ get_or xs i d

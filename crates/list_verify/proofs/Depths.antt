@@ -1,15 +1,15 @@
 -- How deep a frame becomes by lines, and what is enough for them.
 use Rattle.std.proofs.Common.{◌≡◌, ℕ, ◌≤◌, List, length, Ok, Result, sym, ◌∙◌, subst, arith}
-use Rattle.addressing.specs.Address.{Address}
+use Rattle.theory_addresses.specs.Address.{Address}
 use Rattle.cyclo_points.specs.Order.{points_of}
 use Rattle.lazy_walk.specs.Ancestors.{full}
 use Rattle.lazy_walk.specs.Frames.{FrameValue, GrowsTo}
 use Rattle.lazy_walk.proofs.Ancestors.{full-later}
 use Rattle.listing_text.specs.Listing.{Entry, listing_in}
-use Rattle.listings.proofs.FrameLines.{deepest-first}
+use Rattle.theory_listings.proofs.FrameLines.{deepest-first}
 use Rattle.plane_geom.specs.declared.window.Window.{Window}
 use Rattle.rule_model.specs.Tiling.{Tiling, children}
-use Rattle.windows.specs.FrameWindow.{IsLeastDepth}
+use Rattle.theory_windows.specs.FrameWindow.{IsLeastDepth}
 use Rattle.window_cover.specs.Windows.{box_of, IsLeastEnough}
 use Rattle.list_verify.specs.Depth.{IsEnoughListed}
 use Rattle.list_verify.specs.Lifted.{deepest_entry}
@@ -35,5 +35,6 @@ module _ (t : Tiling) (f : FrameValue) (w : Window) (text : List ℕ) (n : ℕ) 
     pub enough-grown : (g : FrameValue) → GrowsTo t f g → length g.digits ≡ deepest_entry t (length f.digits) entries → IsLeastEnough t g w n
     enough-grown g grows deep =
         subst (λ k. IsLeastDepth (points_of t.order) t.rule (full t g) (box_of t w) k n) (sym deep)
-        (subst (λ (a : Address). IsLeastDepth (points_of t.order) t.rule a (box_of t w) (deepest_entry t (length f.digits) entries) n) (sym (full-later t f g grows))
+        (subst (λ (a : Address). IsLeastDepth (points_of t.order) t.rule a (box_of t w)
+        (deepest_entry t (length f.digits) entries) n) (sym (full-later t f g grows))
         (subst (λ es. IsLeastDepth (points_of t.order) t.rule (full t f) (box_of t w) (deepest_entry t (length f.digits) es) n) same enough.least))

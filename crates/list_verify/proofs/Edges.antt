@@ -3,9 +3,9 @@ use Rattle.std.proofs.Common.{◌≡◌, ◌⊎◌, inl, inr, true, false, appen
 use Rattle.std.proofs.lemmas.Bool.{ltb-true}
 use Rattle.std.proofs.Math.ListN.{length-map}
 use Rattle.std.proofs.lemmas.List.{map-append, length-append}
-use Rattle.addressing.specs.Search.{IsAmong}
-use Rattle.addressing.proofs.Lists.{IsAmong-append_left}
-use Rattle.addressing.proofs.Ranges.{slice_get-append_left}
+use Rattle.theory_addresses.specs.Search.{IsAmong}
+use Rattle.theory_addresses.proofs.Lists.{IsAmong-append_left}
+use Rattle.theory_addresses.proofs.Ranges.{slice_get-append_left}
 use Rattle.cyclo_points.specs.declared.point.Point.{Point}
 use Rattle.cyclo_points.specs.Order.{points_of}
 use Rattle.cyclo_points.specs.Point.{point_in}
@@ -18,9 +18,9 @@ use Rattle.rule_model.specs.declared.rule.Rule.{Rule}
 use Rattle.rule_model.specs.Tiling.{Tiling, MotionOf, tiling_of, children}
 use Rattle.rule_model.specs.Usable.{origin}
 use Rattle.rule_model.specs.Views.{rule_of}
-use Rattle.substitution.specs.Motion.{moved}
-use Rattle.substitution.specs.Plane.{plane_point}
-use Rattle.substitution.specs.RuleParts.{vertex, next}
+use Rattle.theory_substitution.specs.Motion.{moved}
+use Rattle.theory_substitution.specs.Plane.{plane_point}
+use Rattle.theory_substitution.specs.RuleParts.{vertex, next}
 use Rattle.tile_place.specs.Corners.{AreCorners}
 use Rattle.tile_place.proofs.Plane.{IsSettled}
 use Rattle.window_cover.specs.Windows.{IsWindow}
@@ -30,7 +30,8 @@ use Rattle.list_verify.proofs.Chains.{below_or}
 use Rattle.list_verify.proofs.Crossing.{place, of-frame}
 
 -- what lies across stays found
-pub still-over : (t : Tiling) (f : FrameValue) (w : Window) (lines : List program.Entry) (old new : List ℕ) → HasMore old new → (i e : ℕ) → IsCrossedOver t f w lines old i e → IsCrossedOver t f w lines new i e
+pub still-over : (t : Tiling) (f : FrameValue) (w : Window) (lines : List program.Entry) (old new : List ℕ)
+    → HasMore old new → (i e : ℕ) → IsCrossedOver t f w lines old i e → IsCrossedOver t f w lines new i e
 still-over t f w lines old new more i e over meets =
     let h = over meets in
     (h.0, h.1, subst (IsAmong h.0) (sym tiles) (IsAmong-append_left h.0 (tiles_found t f lines old) (tiles_found t f lines more.0) h.2), h.3, h.4)
@@ -45,7 +46,8 @@ pub more-among : (a b : List ℕ) (i : ℕ) → HasMore a b → IsAmong i a → 
 more-among a b i h k = subst (IsAmong i) (sym h.1) (IsAmong-append_left i a h.0 k)
 
 -- with one edge more
-pub one-over : (t : Tiling) (f : FrameValue) (w : Window) (lines : List program.Entry) (old new : List ℕ) (i n : ℕ) → HasMore old new → AreCrossedOver t f w lines old i n
+pub one-over : (t : Tiling) (f : FrameValue) (w : Window) (lines : List program.Entry) (old new : List ℕ)
+    (i n : ℕ) → HasMore old new → AreCrossedOver t f w lines old i n
     → IsCrossedOver t f w lines new i n → AreCrossedOver t f w lines new i (n + 1)
 one-over t f w lines old new i n more before last e l = at (below_or e n (omega arith))
   where
@@ -53,8 +55,10 @@ one-over t f w lines old new i n more before last e l = at (below_or e n (omega 
     at (inl s) = subst (IsCrossedOver t f w lines new i) (sym s) last
     at (inr k) = still-over t f w lines old new more i e (before e k)
 
-module _ (m : Rule) (settled : IsSettled m) (fits : StillFits (children (tiling_of m))) (L : HasListLaws (points_of m.order)) (f : FrameValue) (w : Window) (fit : IsWindow w)
-    (lines : List program.Entry) (are : AreLinesIn (tiling_of m) f lines) (numbers : List ℕ) (marks : List Bool) (found : AreFound (tiling_of m) f w lines numbers marks)
+module _ (m : Rule) (settled : IsSettled m) (fits : StillFits (children (tiling_of m)))
+    (L : HasListLaws (points_of m.order)) (f : FrameValue) (w : Window) (fit : IsWindow w)
+    (lines : List program.Entry) (are : AreLinesIn (tiling_of m) f lines) (numbers : List ℕ)
+    (marks : List Bool) (found : AreFound (tiling_of m) f w lines numbers marks)
     (i : ℕ) (among : IsAmong i numbers) where
   abbrev t : Tiling
   t = tiling_of m
@@ -63,18 +67,24 @@ module _ (m : Rule) (settled : IsSettled m) (fits : StillFits (children (tiling_
   line = get_or lines i no_line
 
   pub kind-exists : line.address.kind < length (rule_of m).kinds
-  kind-exists = subst (λ n. line.address.kind < n) (length-map (rule_of m).kinds _) (of-frame m settled fits L f w fit lines are numbers marks found i among).fits.kind_exists
+  kind-exists = subst (λ n. line.address.kind < n) (length-map (rule_of m).kinds _)
+      (of-frame m settled fits L f w fit lines are numbers marks found i among).fits.kind_exists
 
-  pub edge-is : (corners : List Point) → AreCorners t line.address.kind line.motion corners → (e : ℕ) → e < length corners → line_between m.order corners e ≡ edge_of_line t f lines i e
+  pub edge-is : (corners : List Point) → AreCorners t line.address.kind line.motion corners → (e : ℕ)
+      → e < length corners → line_between m.order corners e ≡ edge_of_line t f lines i e
   edge-is corners c e l = λ j. record { from = plane_point (points_of m.order) (start j); to = plane_point (points_of m.order) (end j) }
     where
       its_motion : motion_in m.order line.motion ≡ (tile_of_line t f lines i).motion
       its_motion = (place m settled fits L f w fit lines are numbers marks found i among).its_motion
 
-      at : (n : ℕ) → n < length corners → point_in m.order (get_or corners n origin) ≡ moved (points_of m.order) (tile_of_line t f lines i).motion (vertex (points_of m.order) (rule_of m) line.address.kind n)
-      at n h = (c.each n h).place ∙ ap (λ (g : MotionOf t). moved (points_of m.order) g (vertex (points_of m.order) (rule_of m) line.address.kind n)) its_motion
+      at : (n : ℕ) → n < length corners → point_in m.order (get_or corners n origin) ≡ moved
+          (points_of m.order) (tile_of_line t f lines i).motion
+          (vertex (points_of m.order) (rule_of m) line.address.kind n)
+      at n h = (c.each n h).place ∙ ap (λ (g : MotionOf t). moved (points_of m.order) g
+          (vertex (points_of m.order) (rule_of m) line.address.kind n)) its_motion
 
-      start : point_in m.order (get_or corners e origin) ≡ moved (points_of m.order) (tile_of_line t f lines i).motion (vertex (points_of m.order) (rule_of m) line.address.kind e)
+      start : point_in m.order (get_or corners e origin) ≡ moved (points_of m.order)
+          (tile_of_line t f lines i).motion (vertex (points_of m.order) (rule_of m) line.address.kind e)
       start = at e l
 
       next_is : cond (nat_lt (suc e) (length corners)) (suc e) 0 ≡ next (rule_of m) line.address.kind e
@@ -88,11 +98,16 @@ module _ (m : Rule) (settled : IsSettled m) (fits : StillFits (children (tiling_
           by_test false h = omega arith
 
       end : point_in m.order (get_or corners (cond (nat_lt (suc e) (length corners)) (suc e) 0) origin)
-          ≡ moved (points_of m.order) (tile_of_line t f lines i).motion (vertex (points_of m.order) (rule_of m) line.address.kind (next (rule_of m) line.address.kind e))
-      end = at (cond (nat_lt (suc e) (length corners)) (suc e) 0) below ∙ ap (λ n. moved (points_of m.order) (tile_of_line t f lines i).motion (vertex (points_of m.order) (rule_of m) line.address.kind n)) next_is
+          ≡ moved (points_of m.order) (tile_of_line t f lines i).motion
+          (vertex (points_of m.order) (rule_of m) line.address.kind
+          (next (rule_of m) line.address.kind e))
+      end = at (cond (nat_lt (suc e) (length corners)) (suc e) 0) below
+          ∙ ap (λ n. moved (points_of m.order) (tile_of_line t f lines i).motion
+          (vertex (points_of m.order) (rule_of m) line.address.kind n)) next_is
 
 -- with all edges of one line more
-pub next-before : (t : Tiling) (f : FrameValue) (w : Window) (lines : List program.Entry) (old new : List ℕ) (n line : ℕ) → HasMore old new → n < length old → slice_get old n ≡ Some line
+pub next-before : (t : Tiling) (f : FrameValue) (w : Window) (lines : List program.Entry) (old new : List ℕ)
+    (n line : ℕ) → HasMore old new → n < length old → slice_get old n ≡ Some line
     → AreCrossedBefore t f w lines old n → AreCrossedOver t f w lines new line (edges_of_line t lines line) → AreCrossedBefore t f w lines new (n + 1)
 next-before t f w lines old new n line more within at before over j i l there = at_number (below_or j n (omega arith))
   where
@@ -103,7 +118,8 @@ next-before t f w lines old new n line more within at before over j i l there = 
     old_there h = sym (slice_get-append_left old more.0 j h) ∙ ap (λ (xs : List ℕ). slice_get xs j) (sym more.1) ∙ there
 
     at_number : (j ≡ n) ⊎ (j < n) → AreCrossedOver t f w lines new i (edges_of_line t lines i)
-    at_number (inl e) = subst (λ k. AreCrossedOver t f w lines new k (edges_of_line t lines k)) (inside (sym at ∙ ap (slice_get old) (sym e) ∙ old_there (omega arith))) over
+    at_number (inl e) = subst (λ k. AreCrossedOver t f w lines new k (edges_of_line t lines k))
+        (inside (sym at ∙ ap (slice_get old) (sym e) ∙ old_there (omega arith))) over
     at_number (inr h) = λ e k. still-over t f w lines old new more i e (before j i h (old_there (omega arith)) e k)
 
 pub more-length : (a b : List ℕ) (n : ℕ) → HasMore a b → n < length a → n + 1 ≤ length b

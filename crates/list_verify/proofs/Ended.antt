@@ -1,35 +1,35 @@
 -- A walk at its end.
 use Rattle.std.proofs.Common.{◌≡◌, ℕ, ◌<◌, ◌≤◌, Bool, true, false, List, map, length, get_or, slice_get, Some, refl, sym, ap, ◌∙◌, subst, arith}
 use Rattle.std.proofs.lemmas.Option.{slice_get_within}
-use Rattle.addressing.specs.Address.{Address, depth}
-use Rattle.addressing.specs.Search.{IsAmong}
-use Rattle.addressing.proofs.Lists.{AllByRecursion-among, AllByRecursion-from, IsAmong-map}
-use Rattle.addressing.proofs.Ranges.{among-place, place-among, slice_get-image}
+use Rattle.theory_addresses.specs.Address.{Address, depth}
+use Rattle.theory_addresses.specs.Search.{IsAmong}
+use Rattle.theory_addresses.proofs.Lists.{AllByRecursion-among, AllByRecursion-from, IsAmong-map}
+use Rattle.theory_addresses.proofs.Ranges.{among-place, place-among, slice_get-image}
 use Rattle.cyclo_points.specs.Order.{points_of, is_refused}
 use Rattle.cyclo_points.specs.Point.{IsOf}
-use Rattle.dissection.specs.Accepted.{AcceptedRule}
-use Rattle.frames.specs.Frame.{frame_tiles}
+use Rattle.theory_dissection.specs.Accepted.{AcceptedRule}
+use Rattle.theory_frames.specs.Frame.{frame_tiles}
 use Rattle.lazy_walk.specs.Ancestors.{full}
 use Rattle.lazy_walk.specs.Frames.{FrameValue}
 use Rattle.lazy_walk.proofs.Walks.{StillFits}
 use Rattle.listing_text.specs.declared.entry.Entry as program
 use Rattle.listing_text.specs.Listing.{Entry}
 use Rattle.listing_text.specs.Views.{entry_of}
-use Rattle.listings.specs.Lines.{IsLineAt, IsFirstLine}
-use Rattle.listings.specs.FrameListing.{NamesMeeting, IsRightListing, AreUnrefused}
-use Rattle.listings.specs.FrameWalk.{AreAllCrossed, IsWalkEnd}
-use Rattle.listings.proofs.Lines.{first-source}
+use Rattle.theory_listings.specs.Lines.{IsLineAt, IsFirstLine}
+use Rattle.theory_listings.specs.FrameListing.{NamesMeeting, IsRightListing, AreUnrefused}
+use Rattle.theory_listings.specs.FrameWalk.{AreAllCrossed, IsWalkEnd}
+use Rattle.theory_listings.proofs.Lines.{first-source}
 use Rattle.plane_geom.specs.declared.window.Window.{Window}
 use Rattle.rule_model.specs.declared.rule.Rule.{Rule}
 use Rattle.rule_model.specs.Tiling.{Tiling, tiling_of, children}
-use Rattle.substitution.specs.Points.{Points}
-use Rattle.substitution.specs.RuleParts.{edge_count}
+use Rattle.theory_substitution.specs.Points.{Points}
+use Rattle.theory_substitution.specs.RuleParts.{edge_count}
 use Rattle.tile_place.proofs.Plane.{IsSettled, its_rule}
 use Rattle.tile_shape.specs.Views.{address_of}
-use Rattle.windows.specs.FramePatch.{frame_patch, in_frame, line_of}
-use Rattle.windows.specs.Outlines.{MeetsBox}
-use Rattle.windows.specs.Patch.{HasAcross}
-use Rattle.windows.proofs.Members.{among-map, no-more}
+use Rattle.theory_windows.specs.FramePatch.{frame_patch, in_frame, line_of}
+use Rattle.theory_windows.specs.Outlines.{MeetsBox}
+use Rattle.theory_windows.specs.Patch.{HasAcross}
+use Rattle.theory_windows.proofs.Members.{among-map, no-more}
 use Rattle.std.proofs.lemmas.List.{length-map}
 use Rattle.window_cover.specs.Windows.{TileOf, box_of, IsWindow}
 use Rattle.list_verify.specs.FoundLines.{entries_of, AreLinesIn, no_line, tile_of_line, tiles_found, IsInPlace, AreFound, AreCrossedBefore}
@@ -39,8 +39,10 @@ use Rattle.list_verify.specs.Walked.{IsFirstUnmarked, Tells}
 use Rattle.list_verify.proofs.Chains.{get_or-at}
 use Rattle.list_verify.proofs.Lines.{at-number, its_names, listing-on, tile-is, line-tile, one-tile}
 
-module _ (m : Rule) (settled : IsSettled m) (fits : StillFits (children (tiling_of m))) (L : HasListLaws (points_of m.order)) (f : FrameValue) (w : Window) (fit : IsWindow w)
-    (lines : List program.Entry) (are : AreLinesIn (tiling_of m) f lines) (numbers : List ℕ) (marks : List Bool) (found : AreFound (tiling_of m) f w lines numbers marks) where
+module _ (m : Rule) (settled : IsSettled m) (fits : StillFits (children (tiling_of m)))
+    (L : HasListLaws (points_of m.order)) (f : FrameValue) (w : Window) (fit : IsWindow w)
+    (lines : List program.Entry) (are : AreLinesIn (tiling_of m) f lines) (numbers : List ℕ)
+    (marks : List Bool) (found : AreFound (tiling_of m) f w lines numbers marks) where
   abbrev t : Tiling
   t = tiling_of m
 
@@ -80,15 +82,19 @@ module _ (m : Rule) (settled : IsSettled m) (fits : StillFits (children (tiling_
       record { line = o.0; number = place.0; is_line = place.1; is = e.2 ∙ ap (tile_listed t) o.2 }
 
   -- its tile is found exactly where its number is
-  tile-number : (line : program.Entry) (i : ℕ) → slice_get lines i ≡ Some line → IsAmong (in_frame P T.rule F (address_of line.address)) tiles → IsAmong i numbers
+  tile-number : (line : program.Entry) (i : ℕ) → slice_get lines i ≡ Some line
+      → IsAmong (in_frame P T.rule F (address_of line.address)) tiles → IsAmong i numbers
   tile-number line i at k =
       let j = among-map (tile_of_line t f lines) (in_frame P T.rule F (address_of line.address)) numbers k in
       let place = AllByRecursion-among (IsInPlace t f lines) j.0 numbers j.1 found.are_marked.in_place in
       subst (λ n. IsAmong n numbers) (one-tile m settled fits L f w fit lines are j.0 i place.below (slice_get_within lines i line at)
       (sym j.2 ∙ sym (tile-is m settled fits L f w fit lines are i line at))) j.1
 
-  number-tile : (line : program.Entry) (i : ℕ) → slice_get lines i ≡ Some line → IsAmong i numbers → IsAmong (in_frame P T.rule F (address_of line.address)) tiles
-  number-tile line i at k = subst (λ y. IsAmong y tiles) (tile-is m settled fits L f w fit lines are i line at) (IsAmong-map (tile_of_line t f lines) i numbers k)
+  number-tile : (line : program.Entry) (i : ℕ) → slice_get lines i ≡ Some line → IsAmong i numbers
+      → IsAmong (in_frame P T.rule F (address_of line.address)) tiles
+  number-tile line i at k = subst (λ y. IsAmong y tiles)
+      (tile-is m settled fits L f w fit lines are i line at)
+      (IsAmong-map (tile_of_line t f lines) i numbers k)
 
   its_order : (line : program.Entry) (i : ℕ) → slice_get lines i ≡ Some line → IsAmong i numbers → IsOf m.order line.motion.shift
   its_order line i at k = subst (λ (e : program.Entry). IsOf m.order e.motion.shift) (get_or-at lines i line no_line at)
@@ -105,7 +111,8 @@ module _ (m : Rule) (settled : IsSettled m) (fits : StillFits (children (tiling_
           let place = AllByRecursion-among (IsInPlace t f lines) j.0 numbers j.1 found.are_marked.in_place in
           let line = get_or lines j.0 no_line in
           subst (λ z. IsAmong z (map (λ (e : program.Entry). in_frame P T.rule F (address_of e.address)) lines)) (sym j.2)
-          (IsAmong-map (λ (e : program.Entry). in_frame P T.rule F (address_of e.address)) line lines (place-among line lines j.0 (at-number lines j.0 place.below)))
+          (IsAmong-map (λ (e : program.Entry). in_frame P T.rule F (address_of e.address)) line lines
+          (place-among line lines j.0 (at-number lines j.0 place.below)))
 
       few : {a b c e : ℕ} → a ≤ b → a ≡ c → b ≡ e → c ≤ e
       few h k l = omega arith
@@ -117,10 +124,12 @@ module _ (m : Rule) (settled : IsSettled m) (fits : StillFits (children (tiling_
       where
         at : Numbered x → HasAcross P.real (TileOf t) (frame_patch P T.rule F) tiles (line_of P T.rule (in_frame P T.rule F x.address) e)
         at n =
-            let name : in_frame P T.rule F x.address ≡ in_frame P T.rule F (address_of n.line.address) = ap (λ (y : TileOf t). in_frame P T.rule F y.address) n.is in
+            let name : in_frame P T.rule F x.address ≡ in_frame P T.rule F (address_of n.line.address) = ap
+            (λ (y : TileOf t). in_frame P T.rule F y.address) n.is in
             let mine : IsAmong n.number numbers = tile-number n.line n.number n.is_line (subst (λ y. IsAmong y tiles) name k) in
             let place = among-place n.number numbers mine in
-            let same : in_frame P T.rule F x.address ≡ tile_of_line t f lines n.number = name ∙ sym (tile-is m settled fits L f w fit lines are n.number n.line n.is_line) in
+            let same : in_frame P T.rule F x.address ≡ tile_of_line t f lines n.number = name
+            ∙ sym (tile-is m settled fits L f w fit lines are n.number n.line n.is_line) in
             let kind : x.address.kind ≡ (get_or lines n.number no_line).address.kind = ap (λ (y : TileOf t). y.address.kind) same in
             subst (λ (y : TileOf t). HasAcross P.real (TileOf t) (frame_patch P T.rule F) tiles (line_of P T.rule y e)) (sym same)
             (crossed place.0 n.number (slice_get_within numbers place.0 n.number place.1) place.1 e (subst (λ n. e < edge_count T.rule n) kind exists)
@@ -130,7 +139,11 @@ module _ (m : Rule) (settled : IsSettled m) (fits : StillFits (children (tiling_
     E = L.end T F (is_refused m.order) (box_of t w) d listing (listing-on m settled fits L f w fit lines are) tiles found.walk all-crossed
 
     all-tiles : HasAllTiles t f w d entries
-    all-tiles = record { all_listed = E.all_listed; of_order = AllByRecursion-from (λ (e : Entry). NamesTileThere t f w e → IsOf m.order e.motion.shift) entries each }
+    all-tiles = record {
+      all_listed = E.all_listed;
+      of_order = AllByRecursion-from (λ (e : Entry). NamesTileThere t f w e → IsOf m.order e.motion.shift)
+          entries each;
+    }
       where
         each : (e : Entry) → IsAmong e entries → NamesTileThere t f w e → IsOf m.order e.motion.shift
         each e i meets =
@@ -139,9 +152,12 @@ module _ (m : Rule) (settled : IsSettled m) (fits : StillFits (children (tiling_
             let a = address_of o.0.address in
             let of = line-tile m settled fits L f w fit lines are o.0 o.1 in
             let here : IsAmong (in_frame P T.rule F a) (frame_tiles P T.rule F)
-            = ((L.search.named T F (its_names m settled fits L f w fit lines are) (is_refused m.order) (depth a) of.no_deeper (in_frame P T.rule F a)).1 (a, of, refl, refl)).0 in
+            = ((L.search.named T F (its_names m settled fits L f w fit lines are) (is_refused m.order)
+            (depth a) of.no_deeper (in_frame P T.rule F a)).1 (a, of, refl, refl)).0 in
             subst (λ (y : Entry). IsOf m.order y.motion.shift) (sym o.2)
-            (its_order o.0 place.0 place.1 (tile-number o.0 place.0 place.1 (E.all_found (in_frame P T.rule F a) here (subst (λ (y : Entry). NamesTileThere t f w y) o.2 meets))))
+            (its_order o.0 place.0 place.1 (tile-number o.0 place.0 place.1
+            (E.all_found (in_frame P T.rule F a) here
+            (subst (λ (y : Entry). NamesTileThere t f w y) o.2 meets))))
 
     pub tells : Tells t f w entries marks
     tells = record {
@@ -150,15 +166,18 @@ module _ (m : Rule) (settled : IsSettled m) (fits : StillFits (children (tiling_
       stray = stray;
     }
       where
-        mark-number : (line : program.Entry) (i : ℕ) → slice_get lines i ≡ Some line → ((i : ℕ) → i < length marks → slice_get marks i ≡ Some true) → IsAmong i numbers
-        mark-number line i at all = (found.are_marked.marked i).0 (all i (subst (λ n. i < n) (sym found.are_marked.count) (slice_get_within lines i line at)))
+        mark-number : (line : program.Entry) (i : ℕ) → slice_get lines i ≡ Some line
+            → ((i : ℕ) → i < length marks → slice_get marks i ≡ Some true) → IsAmong i numbers
+        mark-number line i at all = (found.are_marked.marked i).0
+            (all i (subst (λ n. i < n) (sym found.are_marked.count) (slice_get_within lines i line at)))
 
         right : ((i : ℕ) → i < length marks → slice_get marks i ≡ Some true)
             → IsRightListing P T.rule F (box_of t w) d listing × AreUnrefused (is_refused m.order) listing × AreOfOrder t entries
         right all =
             let h = E.right (AllByRecursion-from (λ (x : TileOf t). IsAmong (in_frame P T.rule F x.address) tiles) listing (λ x i.
             let n = numbered x i in
-            subst (λ (y : TileOf t). IsAmong (in_frame P T.rule F y.address) tiles) (sym n.is) (number-tile n.line n.number n.is_line (mark-number n.line n.number n.is_line all)))) in (
+            subst (λ (y : TileOf t). IsAmong (in_frame P T.rule F y.address) tiles) (sym n.is)
+            (number-tile n.line n.number n.is_line (mark-number n.line n.number n.is_line all)))) in (
               h.0,
               h.1,
               AllByRecursion-from (λ (e : Entry). IsOf m.order e.motion.shift) entries (λ e i.
@@ -197,8 +216,11 @@ module _ (m : Rule) (settled : IsSettled m) (fits : StillFits (children (tiling_
                 earlier j x l at =
                     let lj : program.Entry = get_or lines j no_line in
                     let at_j = at-number lines j (omega (arith, l, below)) in
-                    let same : tile_listed t (entry_of lj) ≡ x = is_some (sym (slice_get-image (tile_listed t) (entry_of lj) entries j (slice_get-image entry_of lj lines j at_j)) ∙ at) in
-                    subst (λ (y : TileOf t). IsAmong (in_frame P T.rule F y.address) tiles) same (number-tile lj j at_j ((found.are_marked.marked j).0 (h.first j l)))
+                    let same : tile_listed t (entry_of lj) ≡ x = is_some
+                    (sym (slice_get-image (tile_listed t) (entry_of lj) entries j
+                    (slice_get-image entry_of lj lines j at_j)) ∙ at) in
+                    subst (λ (y : TileOf t). IsAmong (in_frame P T.rule F y.address) tiles) same
+                    (number-tile lj j at_j ((found.are_marked.marked j).0 (h.first j l)))
                   where
                     is_some : {a b : TileOf t} → Some a ≡ Some b → a ≡ b
                     is_some e = cc (e)

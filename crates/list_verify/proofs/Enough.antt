@@ -2,13 +2,13 @@
 use Rattle.std.proofs.Common.{◌≡◌, ℕ, ◌<◌, ◌≤◌, inl, inr, List, length, get_or, Bool, IsTrue, refl, sym, ap, ◌∙◌, subst, arith}
 use Rattle.std.proofs.Math.ListN.{length-map}
 use Rattle.std.proofs.lemmas.Bool.{cases_lt}
-use Rattle.addressing.specs.Address.{Address, depth}
-use Rattle.addressing.specs.Search.{IsAmong}
-use Rattle.addressing.proofs.Ranges.{place-among}
+use Rattle.theory_addresses.specs.Address.{Address, depth}
+use Rattle.theory_addresses.specs.Search.{IsAmong}
+use Rattle.theory_addresses.proofs.Ranges.{place-among}
 use Rattle.cyclo_points.specs.Order.{points_of, is_refused}
-use Rattle.dissection.specs.Accepted.{AcceptedRule, NamesTile}
-use Rattle.dissection.specs.Polygons.{tile_polygon}
-use Rattle.frames.specs.Frame.{at_level, motion_beside, frame_tiles, IsTileOf}
+use Rattle.theory_dissection.specs.Accepted.{AcceptedRule, NamesTile}
+use Rattle.theory_dissection.specs.Polygons.{tile_polygon}
+use Rattle.theory_frames.specs.Frame.{at_level, motion_beside, frame_tiles, IsTileOf}
 use Rattle.lazy_walk.specs.Ancestors.{full}
 use Rattle.lazy_walk.specs.Boundary.{IsBoundaryEdge}
 use Rattle.lazy_walk.specs.Frames.{FrameValue, whole, at_depth, GrowsTo, lifted_at}
@@ -21,21 +21,23 @@ use Rattle.listing_text.specs.declared.entry.Entry as program
 use Rattle.plane_geom.specs.declared.window.Window.{Window}
 use Rattle.rule_model.specs.declared.rule.Rule.{Rule}
 use Rattle.rule_model.specs.Tiling.{Tiling, tiling_of, children}
-use Rattle.substitution.specs.Points.{Points}
+use Rattle.theory_substitution.specs.Points.{Points}
 use Rattle.tile_place.proofs.Plane.{IsSettled, its_rule, fits_tables}
 use Rattle.tile_shape.specs.Views.{address_of}
-use Rattle.windows.specs.FrameLaws.{IsEdgeInFrame}
-use Rattle.windows.specs.FramePatch.{growing_frame, in_frame, line_of}
-use Rattle.windows.specs.GrowingPatch.{IsOfDepth, IsInner}
-use Rattle.windows.specs.Outlines.{PlaneEdge, MeetsBox, edges, is_reverse}
+use Rattle.theory_windows.specs.FrameLaws.{IsEdgeInFrame}
+use Rattle.theory_windows.specs.FramePatch.{growing_frame, in_frame, line_of}
+use Rattle.theory_windows.specs.GrowingPatch.{IsOfDepth, IsInner}
+use Rattle.theory_windows.specs.Outlines.{PlaneEdge, MeetsBox, edges, is_reverse}
 use Rattle.window_cover.specs.Windows.{TileOf, box_of, IsWindow, IsLeastEnough}
 use Rattle.list_verify.specs.FoundLines.{AreLinesIn, no_line, AreFound, edge_of_line, edges_of_line}
 use Rattle.list_verify.specs.ListLaws.{HasListLaws}
 use Rattle.list_verify.proofs.Crossing.{is-line, of-frame}
 use Rattle.list_verify.proofs.Lines.{its_names, deep-full, line-deep, line-tile, number-among}
 
-module _ (m : Rule) (settled : IsSettled m) (fits : StillFits (children (tiling_of m))) (L : HasListLaws (points_of m.order)) (f : FrameValue) (w : Window) (fit : IsWindow w)
-    (lines : List program.Entry) (are : AreLinesIn (tiling_of m) f lines) (numbers : List ℕ) (marks : List Bool) (found : AreFound (tiling_of m) f w lines numbers marks)
+module _ (m : Rule) (settled : IsSettled m) (fits : StillFits (children (tiling_of m)))
+    (L : HasListLaws (points_of m.order)) (f : FrameValue) (w : Window) (fit : IsWindow w)
+    (lines : List program.Entry) (are : AreLinesIn (tiling_of m) f lines) (numbers : List ℕ)
+    (marks : List Bool) (found : AreFound (tiling_of m) f w lines numbers marks)
     (i : ℕ) (among : IsAmong i numbers) (e : ℕ) (edge : e < edges_of_line (tiling_of m) lines i)
     (meets : MeetsBox (points_of m.order).real (box_of (tiling_of m) w) (edge_of_line (tiling_of m) f lines i e)) where
   abbrev t : Tiling
@@ -73,7 +75,8 @@ module _ (m : Rule) (settled : IsSettled m) (fits : StillFits (children (tiling_
   u = in_frame P T.rule F a
 
   exists : u.address.kind < length T.rule.kinds
-  exists = subst (λ n. a.kind < n) (length-map T.rule.kinds _) (of-frame m settled fits L f w fit lines are numbers marks found i among).fits.kind_exists
+  exists = subst (λ n. a.kind < n) (length-map T.rule.kinds _)
+      (of-frame m settled fits L f w fit lines are numbers marks found i among).fits.kind_exists
 
   module _ (n : ℕ) (low : d ≤ n) (high : n ≤ 64) where
     within : n ≤ depth F
@@ -82,7 +85,8 @@ module _ (m : Rule) (settled : IsSettled m) (fits : StillFits (children (tiling_
     tile-at : IsOfDepth P.real (TileOf t) (growing_frame P (is_refused m.order) T.rule F) n u
     tile-at =
         let k = deep-full m settled fits L f w fit lines are in
-        let here = (L.search.named T F all-names (is_refused m.order) d (omega arith) u).1 (a, line-tile m settled fits L f w fit lines are line its_line, its_depth, refl) in
+        let here = (L.search.named T F all-names (is_refused m.order) d (omega arith) u).1
+        (a, line-tile m settled fits L f w fit lines are line its_line, its_depth, refl) in
         (here.0, omega (arith, here.1))
 
     -- where n is enough, the edge has a tile across it at that depth
@@ -116,7 +120,8 @@ module _ (m : Rule) (settled : IsSettled m) (fits : StillFits (children (tiling_
     }
 
     same-level : at_level F (depth a) ≡ at_level (whole g) (depth a)
-    same-level = ap (λ (y : Address). at_level y (depth a)) (sym (full-later t f g grows)) ∙ level-same t g grows.is_frame (depth a) (omega (arith, its_depth, low, long))
+    same-level = ap (λ (y : Address). at_level y (depth a)) (sym (full-later t f g grows))
+        ∙ level-same t g grows.is_frame (depth a) (omega (arith, its_depth, low, long))
 
     same-line : line_of P T.rule u e ≡ line_of P T.rule (in_frame P T.rule (whole g) a) e
     same-line = ap (λ (y : Address). line_of P T.rule (record { address = a; motion = motion_beside P T.rule y.digits a.digits }) e) same-level
@@ -128,7 +133,9 @@ module _ (m : Rule) (settled : IsSettled m) (fits : StillFits (children (tiling_
         refute : IsInner P.real (TileOf t) (growing_frame P (is_refused m.order) T.rule F) n (line_of P T.rule u e) → ⊥
         refute x =
             let fine = (L.search.lifted T F all-names (is_refused m.order) n within x.0).0 x.2 in
-            let at = boundary-part m fits f a are.frame (of-frame m settled fits L f w fit lines are numbers marks found i among) settled e edge g grows on in
+            let at = boundary-part m fits f a are.frame
+            (of-frame m settled fits L f w fit lines are numbers marks found i among) settled e edge g
+            grows on in
             absurd (L.last T (whole g) a e own-edge at.0 at.1 at.2 (is_refused m.order) fine.0 (record {
               of_patch = subst (λ y. IsAmong fine.0 (frame_tiles P T.rule y)) level-is fine.1;
               edge = x.1;

@@ -2,34 +2,34 @@
 use Rattle.std.proofs.Common.{◌≡◌, inl, inr, ℕ, zero, suc, ◌<◌, ◌≤◌, max, List, [], ◌∷◌, ◌++◌, map, length, drop, get_or, slice_get, Some, refl, sym, ap, ◌∙◌, subst, arith}
 use Rattle.std.proofs.lemmas.Option.{slice_get_within}
 use Rattle.std.proofs.lemmas.List.{append_cancel_right}
-use Rattle.addressing.specs.Address.{Address, depth}
-use Rattle.addressing.specs.Search.{IsAmong}
-use Rattle.addressing.specs.Tables.{child_kinds}
-use Rattle.addressing.proofs.Lists.{AllByRecursion-among, IsAmong-map}
-use Rattle.addressing.proofs.Ranges.{place-among}
+use Rattle.theory_addresses.specs.Address.{Address, depth}
+use Rattle.theory_addresses.specs.Search.{IsAmong}
+use Rattle.theory_addresses.specs.Tables.{child_kinds}
+use Rattle.theory_addresses.proofs.Lists.{AllByRecursion-among, IsAmong-map}
+use Rattle.theory_addresses.proofs.Ranges.{place-among}
 use Rattle.cyclo_points.specs.Order.{points_of}
-use Rattle.dissection.specs.Accepted.{AcceptedRule, NamesTile}
-use Rattle.edge_to_edge.specs.Contacts.{tables_of}
-use Rattle.frames.specs.Frame.{at_level, IsTileOf, lifted_in}
+use Rattle.theory_dissection.specs.Accepted.{AcceptedRule, NamesTile}
+use Rattle.theory_edge_to_edge.specs.Contacts.{tables_of}
+use Rattle.theory_frames.specs.Frame.{at_level, IsTileOf, lifted_in}
 use Rattle.lazy_walk.specs.Ancestors.{full}
 use Rattle.lazy_walk.specs.Frames.{FrameValue, whole}
 use Rattle.lazy_walk.proofs.InFull.{names, deep, by_tables, level-grown, tile-full}
 use Rattle.lazy_walk.proofs.Walks.{StillFits, GrowsTo-self}
 use Rattle.listing_text.specs.declared.entry.Entry as program
 use Rattle.listing_text.specs.Views.{entry_of}
-use Rattle.listings.specs.FrameListing.{deepest_listed, AreOfFrame}
-use Rattle.listings.specs.FrameWalk.{IsListingOn}
-use Rattle.listings.proofs.FrameLines.{distinct-through}
+use Rattle.theory_listings.specs.FrameListing.{deepest_listed, AreOfFrame}
+use Rattle.theory_listings.specs.FrameWalk.{IsListingOn}
+use Rattle.theory_listings.proofs.FrameLines.{distinct-through}
 use Rattle.plane_geom.specs.declared.window.Window.{Window}
 use Rattle.rule_model.specs.declared.rule.Rule.{Rule}
 use Rattle.rule_model.specs.Tiling.{Tiling, tiling_of, children}
-use Rattle.substitution.specs.Points.{Points}
+use Rattle.theory_substitution.specs.Points.{Points}
 use Rattle.tile_place.proofs.Plane.{IsSettled, its_rule}
 use Rattle.tile_shape.specs.Views.{address_of}
-use Rattle.windows.specs.Distinct.{AreDistinct}
-use Rattle.windows.specs.FrameCover.{IsWindowOn}
-use Rattle.windows.specs.FramePatch.{in_frame}
-use Rattle.windows.proofs.Places.{distinct-places}
+use Rattle.theory_windows.specs.Distinct.{AreDistinct}
+use Rattle.theory_windows.specs.FrameCover.{IsWindowOn}
+use Rattle.theory_windows.specs.FramePatch.{in_frame}
+use Rattle.theory_windows.proofs.Places.{distinct-places}
 use Rattle.window_cover.specs.Windows.{TileOf, box_of, IsWindow}
 use Rattle.window_cover.proofs.FrameNames.{lifted-self}
 use Rattle.list_verify.specs.FoundLines.{entries_of, AreLinesIn, no_line, tile_of_line}
@@ -55,7 +55,8 @@ first_or (suc i) zero P f g h = g (omega arith)
 first_or (suc i) (suc j) P f g h = first_or i j P (λ l. f (omega (arith, l))) (λ l. g (omega (arith, l))) (λ e. h (ap suc e))
 
 -- lines apart have one number an address
-pub one-number : (lines : List program.Entry) → NoneAgain lines (length lines) → (i j : ℕ) (d e : program.Entry) → slice_get lines i ≡ Some d → slice_get lines j ≡ Some e
+pub one-number : (lines : List program.Entry) → NoneAgain lines (length lines)
+    → (i j : ℕ) (d e : program.Entry) → slice_get lines i ≡ Some d → slice_get lines j ≡ Some e
     → address_of d.address ≡ address_of e.address → i ≡ j
 one-number lines apart i j d e at there same = first_or i j (i ≡ j)
     (λ l. absurd (apart j e (slice_get_within lines j e there) there i l (d, at, same)))
@@ -68,7 +69,8 @@ at-number [] i l = absurd (omega arith)
 at-number (x ∷ xs) zero l = refl
 at-number (x ∷ xs) (suc i) l = at-number xs i (omega arith)
 
-module _ (m : Rule) (settled : IsSettled m) (fits : StillFits (children (tiling_of m))) (L : HasListLaws (points_of m.order)) (f : FrameValue) (w : Window) (fit : IsWindow w)
+module _ (m : Rule) (settled : IsSettled m) (fits : StillFits (children (tiling_of m)))
+    (L : HasListLaws (points_of m.order)) (f : FrameValue) (w : Window) (fit : IsWindow w)
     (lines : List program.Entry) (are : AreLinesIn (tiling_of m) f lines) where
   abbrev t : Tiling
   t = tiling_of m
@@ -118,17 +120,22 @@ module _ (m : Rule) (settled : IsSettled m) (fits : StillFits (children (tiling_
       step : {a b : ℕ} → a ≡ d → b ≡ d → max a b ≡ d
       step e h = omega arith
 
-      go : (xs : List program.Entry) → ((e : program.Entry) → IsAmong e xs → depth (address_of e.address) ≡ d) → deepest_listed d (tiles_listed t (entries_of xs)) ≡ d
+      go : (xs : List program.Entry) → ((e : program.Entry) → IsAmong e xs → depth (address_of e.address) ≡ d)
+          → deepest_listed d (tiles_listed t (entries_of xs)) ≡ d
       go [] h = refl
       go (x ∷ xs) h = step (h x (inl refl)) (go xs (λ e i. h e (inr i)))
 
-  all-of : (xs : List program.Entry) (g : Address) → ((e : program.Entry) → IsAmong e xs → IsTileOf kinds g (address_of e.address)) → AreOfFrame P T.rule g (tiles_listed t (entries_of xs))
+  all-of : (xs : List program.Entry) (g : Address)
+      → ((e : program.Entry) → IsAmong e xs → IsTileOf kinds g (address_of e.address))
+      → AreOfFrame P T.rule g (tiles_listed t (entries_of xs))
   all-of [] g h = tt
   all-of (x ∷ xs) g h = (h x (inl refl), all-of xs g (λ e i. h e (inr i)))
 
   its_frame : AreOfFrame P T.rule (at_level F (deepest_listed d listing)) listing
   its_frame = subst (λ k. AreOfFrame P T.rule (at_level F k) listing) (sym deepest-is)
-      (subst (λ g. AreOfFrame P T.rule g listing) (sym own-level) (all-of lines (whole f) (λ e i. by_tables m settled fits f are.frame (whole f) (address_of e.address) (line-of e i))))
+      (subst (λ g. AreOfFrame P T.rule g listing) (sym own-level)
+      (all-of lines (whole f) (λ e i. by_tables m settled fits f are.frame (whole f)
+      (address_of e.address) (line-of e i))))
 
   addresses : AreDistinct (map (λ (e : program.Entry). address_of e.address) lines)
   addresses = distinct-places (map (λ (e : program.Entry). address_of e.address) lines) one
@@ -142,7 +149,8 @@ module _ (m : Rule) (settled : IsSettled m) (fits : StillFits (children (tiling_
           inside e = cc (e)
       place (x ∷ xs) (suc i) a h = place xs i a h
 
-      one : (i j : ℕ) (a : Address) → slice_get (map (λ (e : program.Entry). address_of e.address) lines) i ≡ Some a → slice_get (map (λ (e : program.Entry). address_of e.address) lines) j ≡ Some a → i ≡ j
+      one : (i j : ℕ) (a : Address) → slice_get (map (λ (e : program.Entry). address_of e.address) lines)
+          i ≡ Some a → slice_get (map (λ (e : program.Entry). address_of e.address) lines) j ≡ Some a → i ≡ j
       one i j a h k = let p = place lines i a h in let q = place lines j a k in one-number lines are.apart i j p.0 q.0 p.1 q.1 (p.2 ∙ sym q.2)
 
   its_distinct : AreDistinct (map (λ (x : TileOf t). lifted_in (at_level F (deepest_listed d listing)) x.address) listing)
@@ -152,14 +160,18 @@ module _ (m : Rule) (settled : IsSettled m) (fits : StillFits (children (tiling_
       lift : program.Entry → Address
       lift e = lifted_in (whole f) (address_of e.address)
 
-      mapped : (xs : List program.Entry) → AreDistinct (map lift xs) → AreDistinct (map (λ (x : TileOf t). lifted_in (whole f) x.address) (tiles_listed t (entries_of xs)))
+      mapped : (xs : List program.Entry) → AreDistinct (map lift xs)
+          → AreDistinct (map (λ (x : TileOf t). lifted_in (whole f) x.address)
+          (tiles_listed t (entries_of xs)))
       mapped xs h = subst (λ (ys : List Address). AreDistinct ys) (images xs) h
         where
           images : (xs : List program.Entry) → map lift xs ≡ map (λ (x : TileOf t). lifted_in (whole f) x.address) (tiles_listed t (entries_of xs))
           images [] = refl
           images (x ∷ xs) = ap (λ (ys : List Address). lift x ∷ ys) (images xs)
 
-      same : (xs : List program.Entry) → ((e : program.Entry) → IsAmong e xs → depth (address_of e.address) ≡ d) → AreDistinct (map (λ (e : program.Entry). address_of e.address) xs)
+      same : (xs : List program.Entry) → ((e : program.Entry) → IsAmong e xs
+          → depth (address_of e.address) ≡ d) → AreDistinct
+          (map (λ (e : program.Entry). address_of e.address) xs)
           → AreDistinct (map (λ (x : TileOf t). lifted_in (whole f) x.address) (tiles_listed t (entries_of xs)))
       same xs h dist = mapped xs (distinct-through (λ (e : program.Entry). address_of e.address) lift xs
           (λ x y i j e. sym (lifted-self (whole f) (address_of x.address) (h x i)) ∙ e ∙ lifted-self (whole f) (address_of y.address) (h y j)) dist)
@@ -194,4 +206,5 @@ module _ (m : Rule) (settled : IsSettled m) (fits : StillFits (children (tiling_
       let ia = at-number lines i hi in
       let jb = at-number lines j hj in
       one-number lines are.apart i j a b ia jb
-      (one-address F (address_of a.address) (address_of b.address) d (line-deep a (number-among i a ia)) (line-deep b (number-among j b jb)) (ap (λ (x : TileOf t). x.address) same))
+      (one-address F (address_of a.address) (address_of b.address) d (line-deep a (number-among i a ia))
+      (line-deep b (number-among j b jb)) (ap (λ (x : TileOf t). x.address) same))

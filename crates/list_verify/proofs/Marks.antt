@@ -1,7 +1,7 @@
 -- Marks in a list, one of which is set.
 use Rattle.std.proofs.Common.{◌≡◌, ◌⊎◌, inl, inr, ◌↔◌, ℕ, zero, suc, ◌<◌, Bool, true, List, [], ◌∷◌, ◌++◌, length, slice_get, slice_set, Some, refl, sym, ap, ◌∙◌, subst, arith}
-use Rattle.addressing.specs.Search.{IsAmong}
-use Rattle.addressing.proofs.Ranges.{among-append}
+use Rattle.theory_addresses.specs.Search.{IsAmong}
+use Rattle.theory_addresses.proofs.Ranges.{among-append}
 
 pub set-length : {A : Type 0} (xs : List A) (i : ℕ) (v : A) → length (slice_set xs i v) ≡ length xs
 set-length [] i v = refl

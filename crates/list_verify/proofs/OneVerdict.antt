@@ -1,36 +1,36 @@
 -- One thing is said of a listing: it stands in one of six ways, and in no two of them.
 use Rattle.std.proofs.Common.{◌≡◌, ◌⊎◌, inl, inr, ℕ, ◌+◌, ◌-◌, ◌<◌, List, length, Result, Ok, Err, None, refl, sym, ap, ◌∙◌, subst, arith}
 use Rattle.std.proofs.lemmas.Bool.{cases_lt}
-use Rattle.addressing.specs.Address.{Address, depth, Fits}
-use Rattle.addressing.specs.Search.{IsAmong}
-use Rattle.addressing.specs.Tables as tables
-use Rattle.addressing.proofs.Lists.{AllByRecursion-among, AllByRecursion-each, IsAmong-map}
+use Rattle.theory_addresses.specs.Address.{Address, depth, Fits}
+use Rattle.theory_addresses.specs.Search.{IsAmong}
+use Rattle.theory_addresses.specs.Tables as tables
+use Rattle.theory_addresses.proofs.Lists.{AllByRecursion-among, AllByRecursion-each, IsAmong-map}
 use Rattle.cyclo_points.specs.declared.order.Order.{Order}
 use Rattle.cyclo_points.specs.Order.{points_of, is_refused}
 use Rattle.cyclo_points.specs.Point.{IsOf}
-use Rattle.dissection.specs.Accepted.{AcceptedRule}
-use Rattle.edge_to_edge.specs.Contacts.{tables_of}
-use Rattle.frames.specs.Frame.{IsTileOf}
+use Rattle.theory_dissection.specs.Accepted.{AcceptedRule}
+use Rattle.theory_edge_to_edge.specs.Contacts.{tables_of}
+use Rattle.theory_frames.specs.Frame.{IsTileOf}
 use Rattle.lazy_walk.specs.Ancestors.{full}
 use Rattle.lazy_walk.specs.Frames.{FrameValue, IsFrameOf}
 use Rattle.lazy_walk.proofs.Walks.{StillFits}
 use Rattle.listing_text.specs.declared.listing_fault.ListingFault.{ListingFault}
 use Rattle.listing_text.specs.declared.listing_fault.ListingFault.TheVariants as text
 use Rattle.listing_text.specs.Listing.{Entry, listing_in}
-use Rattle.listings.specs.FrameListing.{AreOfFrame, NamesMeeting, IsNotOfFrame, IsDouble}
-use Rattle.listings.specs.FrameWalk.{IsRightInFrame}
-use Rattle.listings.specs.Lines.{IsFirstLine}
-use Rattle.listings.proofs.Lines.{line-among}
+use Rattle.theory_listings.specs.FrameListing.{AreOfFrame, NamesMeeting, IsNotOfFrame, IsDouble}
+use Rattle.theory_listings.specs.FrameWalk.{IsRightInFrame}
+use Rattle.theory_listings.specs.Lines.{IsFirstLine}
+use Rattle.theory_listings.proofs.Lines.{line-among}
 use Rattle.plane_geom.specs.declared.window.Window.{Window}
 use Rattle.rule_model.specs.Tiling.{Tiling, children}
 use Rattle.rule_model.proofs.Contacts.{child_kinds_of_tables}
 use Rattle.rule_model.proofs.EachUse.{has-children, uses-usable}
-use Rattle.substitution.specs.Points.{Points}
-use Rattle.substitution.specs.Rule.{child_kinds}
-use Rattle.substitution.specs.Supertile.{Placed}
+use Rattle.theory_substitution.specs.Points.{Points}
+use Rattle.theory_substitution.specs.Rule.{child_kinds}
+use Rattle.theory_substitution.specs.Supertile.{Placed}
 use Rattle.tile_shape.specs.Usable.{AreUsable}
 use Rattle.window_cover.specs.Windows.{TileOf, box_of, IsWindow}
-use Rattle.windows.specs.FrameCover.{IsWindowOn}
+use Rattle.theory_windows.specs.FrameCover.{IsWindowOn}
 use Rattle.list_verify.specs.declared.list_fault.ListFault.{ListFault}
 use Rattle.list_verify.specs.declared.list_fault.ListFault.TheVariants.{TooLong, BadLine, Address as BadAddress, BadKind, NotOfFrame, Double, Missing, WrongPlace, Stray, DepthLimit, CoordLimit, NoMemory}
 use Rattle.list_verify.specs.Listing.{tile_listed, tiles_listed, IsRightFor, IsVerified, NamesTileThere, HasAllTiles}
@@ -54,7 +54,8 @@ one-first : {L : Type 0} (Q : L → Type 0) (lines : List L) (i j : ℕ) → IsF
 one-first Q lines i j h k = one_number i j (λ l. absurd (k.first i h.line l h.is_line h.so)) (λ l. absurd (h.first j k.line l k.is_line k.so))
 
 one-double : {A : Type 0} (f : Address) (listing : List (Placed A)) (i j : ℕ) → IsDouble f listing i → IsDouble f listing j → i ≡ j
-one-double f listing i j h k = one_number i j (λ l. absurd (k.first i h.line l h.is_line h.earlier)) (λ l. absurd (h.first j k.line l k.is_line k.earlier))
+one-double f listing i j h k = one_number i j (λ l. absurd (k.first i h.line l h.is_line h.earlier))
+    (λ l. absurd (h.first j k.line l k.is_line k.earlier))
 
 -- ---- what is read is read in one way
 one-reading : (read : Result (List Entry) ListingFault) (xs ys : List Entry) → read ≡ Ok xs → read ≡ Ok ys → xs ≡ ys
@@ -81,7 +82,8 @@ IsSaid Lacking fault = IsOfWalk fault
 IsSaid (Straying i) fault = fault ≡ Stray (i + 1)
 IsSaid (Right n) fault = ⊥
 
-same-said : (s : Standing) (one other : ListFault) → IsSaid s one → IsSaid s other → (one ≡ other) ⊎ ((one ≡ NoMemory) ⊎ ((other ≡ NoMemory) ⊎ (IsOfWalk one × IsOfWalk other)))
+same-said : (s : Standing) (one other : ListFault) → IsSaid s one → IsSaid s other → (one ≡ other)
+    ⊎ ((one ≡ NoMemory) ⊎ ((other ≡ NoMemory) ⊎ (IsOfWalk one × IsOfWalk other)))
 same-said (Unread e) one other h k = inl (h ∙ sym k)
 same-said (Outside i) one other h k = inl (h ∙ sym k)
 same-said (Doubled i) one other h k = inl (h ∙ sym k)
@@ -97,7 +99,8 @@ of_walk-untold (DepthLimit addr edge) h k = k
 of_walk-untold (CoordLimit value) h k = k
 of_walk-untold fault h k = absurd h
 
-module _ (o : Order) (T : AcceptedRule (points_of o)) (fits : StillFits (children (tiling_accepted o T))) (L : HasListLaws (points_of o)) (f : FrameValue)
+module _ (o : Order) (T : AcceptedRule (points_of o)) (fits : StillFits (children (tiling_accepted o T)))
+    (L : HasListLaws (points_of o)) (f : FrameValue)
     (is : IsFrameOf (tiling_accepted o T) f) (w : Window) (fit : IsWindow w) (listing : List ℕ) where
   abbrev t : Tiling
   t = tiling_accepted o T
@@ -128,7 +131,8 @@ module _ (o : Order) (T : AcceptedRule (points_of o)) (fits : StillFits (childre
     high = omega (arith, fit.some_height);
   }
 
-  right-in_frame : (entries : List Entry) (h : IsRightFor t f w entries) → IsRightInFrame P (is_refused o) T F (box_of t w) d (tiles_listed t entries) h.right.depth
+  right-in_frame : (entries : List Entry) (h : IsRightFor t f w entries)
+      → IsRightInFrame P (is_refused o) T F (box_of t w) d (tiles_listed t entries) h.right.depth
   right-in_frame entries h = L.right T F (is_refused o) (box_of t w) on d (tiles_listed t entries) h.right
 
   abbrev Stands : Standing → Type 0
@@ -199,7 +203,8 @@ module _ (o : Order) (T : AcceptedRule (points_of o)) (fits : StillFits (childre
 
   doubled : (i : ℕ) → HasDouble t f listing i → (entries : List Entry) × AreApart t f listing entries → ⊥
   doubled i h k =
-      absurd (k.1.none_double i (subst (λ es. IsDouble (frame_listed t f es) (tiles_listed t es) i) (same-lines h.entries k.0 h.lines.read k.1.lines.read) h.first))
+      absurd (k.1.none_double i (subst (λ es. IsDouble (frame_listed t f es) (tiles_listed t es) i)
+      (same-lines h.entries k.0 h.lines.read k.1.lines.read) h.first))
 
   -- ---- then all tiles are there, or one is lacking
   record HasAll : Type 0 where
@@ -231,7 +236,8 @@ module _ (o : Order) (T : AcceptedRule (points_of o)) (fits : StillFits (childre
   stray i n h k =
       let s = h.stray.first in
       let same = same-lines h.entries k.entries h.lines.lines.read k.read in
-      absurd (s.so (AllByRecursion-among (λ (x : TileOf t). NamesMeeting P T.rule F (box_of t w) x.address) (tile_listed t s.line) (tiles_listed t k.entries)
+      absurd (s.so (AllByRecursion-among (λ (x : TileOf t). NamesMeeting P T.rule F (box_of t w) x.address)
+      (tile_listed t s.line) (tiles_listed t k.entries)
       (IsAmong-map (tile_listed t) s.line k.entries (subst (λ es. IsAmong s.line es) same (line-among h.entries i s.line s.is_line)))
       (right-in_frame k.entries k.right).each_meets))
 
@@ -252,7 +258,8 @@ module _ (o : Order) (T : AcceptedRule (points_of o)) (fits : StillFits (childre
   one-stray : (i j : ℕ) → HasStrayLine t f w listing i → HasStrayLine t f w listing j → i ≡ j
   one-stray i j h k =
       one-first (λ (e : Entry). ¬ NamesTileThere t f w e) h.entries i j h.stray.first
-      (subst (λ es. IsFirstLine (λ (e : Entry). ¬ NamesTileThere t f w e) es j) (same-lines k.entries h.entries k.lines.lines.read h.lines.lines.read) k.stray.first)
+      (subst (λ es. IsFirstLine (λ (e : Entry). ¬ NamesTileThere t f w e) es j)
+      (same-lines k.entries h.entries k.lines.lines.read h.lines.lines.read) k.stray.first)
 
   one-standing : (a b : Standing) → Stands a → Stands b → a ≡ b
   one-standing (Unread e) (Unread g) h k = ap Unread (one-text_fault reading e g h k)
@@ -302,7 +309,8 @@ module _ (o : Order) (T : AcceptedRule (points_of o)) (fits : StillFits (childre
   said-at s fault h k = subst (λ a. IsSaid a fault) (one-standing k.standing s k.stands h) k.said
 
   -- what is said where a tile is lacking
-  pub lacks-of_walk : (g : FrameValue) (fault : ListFault) → LacksTiles t f w listing → HasCause t f g w listing fault → (fault ≡ NoMemory) ⊎ IsOfWalk fault
+  pub lacks-of_walk : (g : FrameValue) (fault : ListFault) → LacksTiles t f w listing
+      → HasCause t f g w listing fault → (fault ≡ NoMemory) ⊎ IsOfWalk fault
   lacks-of_walk g fault h k = elim (said-of g fault k) [ inl e ↦ inl e | inr s ↦ inr (said-at Lacking fault h s) ]
 
   right-or_not : (n : ℕ) (g : FrameValue) (fault : ListFault) → IsVerified t f w listing n → HasCause t f g w listing fault → fault ≡ NoMemory
@@ -312,7 +320,11 @@ module _ (o : Order) (T : AcceptedRule (points_of o)) (fits : StillFits (childre
       → (one ≡ other) ⊎ ((one ≡ NoMemory) ⊎ ((other ≡ NoMemory) ⊎ (IsOfWalk one × IsOfWalk other)))
   one-fault g h one other c e = elim (said-of g one c) [
     | inl m ↦ inr (inl m)
-    | inr s ↦ elim (said-of h other e) [ inl m ↦ inr (inr (inl m)) | inr k ↦ same-said k.standing one other (said-at k.standing one k.stands s) k.said ]
+    | inr s ↦ elim (said-of h other e) [
+      | inl m ↦ inr (inr (inl m))
+      | inr k ↦ same-said k.standing one other
+          (said-at k.standing one k.stands s) k.said
+    ]
   ]
 
   lacks-told : (g : FrameValue) (fault : ListFault) → LacksTiles t f w listing → HasCause t f g w listing fault → IsTold fault → ⊥

@@ -2,20 +2,20 @@
 use Rattle.std.proofs.Common.{◌≡◌, ◌↔◌, ◌⊎◌, inl, inr, ℕ, ◌+◌, ◌<◌, ◌≤◌, List, [], ◌∷◌, ◌++◌, map, length, find, None, slice_get, Some, refl, sym, ap, ap₂, ◌∙◌, subst, arith}
 use Rattle.std.specs.List.{AllByRecursion}
 use Rattle.std.proofs.lemmas.Option.{slice_get_within}
-use Rattle.addressing.specs.Address.{Address, depth}
-use Rattle.addressing.specs.Search.{IsAmong}
-use Rattle.addressing.specs.Tables.{child_kinds}
-use Rattle.addressing.proofs.Lists.{AllByRecursion-among, AllByRecursion-from, AllByRecursion-map, IsAmong-map}
-use Rattle.addressing.proofs.Ranges.{place-among, slice_get-image, image-at}
+use Rattle.theory_addresses.specs.Address.{Address, depth}
+use Rattle.theory_addresses.specs.Search.{IsAmong}
+use Rattle.theory_addresses.specs.Tables.{child_kinds}
+use Rattle.theory_addresses.proofs.Lists.{AllByRecursion-among, AllByRecursion-from, AllByRecursion-map, IsAmong-map}
+use Rattle.theory_addresses.proofs.Ranges.{place-among, slice_get-image, image-at}
 use Rattle.cyclo_points.specs.Order.{points_of, is_refused}
 use Rattle.cyclo_points.specs.Point.{point_in, IsOf}
 use Rattle.cyclo_points.specs.declared.motion.Motion.{Motion as Moved}
-use Rattle.dissection.specs.Accepted.{AcceptedRule}
-use Rattle.dissection.specs.Polygons.{tile_polygon}
-use Rattle.dissection.proofs.Setting.{Setting}
-use Rattle.edge_to_edge.specs.Contacts.{tables_of}
-use Rattle.frames.specs.Contain.{values_outward}
-use Rattle.frames.specs.Frame.{at_level, IsTileOf, lifted_in}
+use Rattle.theory_dissection.specs.Accepted.{AcceptedRule}
+use Rattle.theory_dissection.specs.Polygons.{tile_polygon}
+use Rattle.theory_dissection.proofs.Setting.{Setting}
+use Rattle.theory_edge_to_edge.specs.Contacts.{tables_of}
+use Rattle.theory_frames.specs.Contain.{values_outward}
+use Rattle.theory_frames.specs.Frame.{at_level, IsTileOf, lifted_in}
 use Rattle.lazy_walk.specs.Ancestors.{full}
 use Rattle.lazy_walk.specs.Frames.{FrameValue, whole, IsFrameOf, GrowsTo}
 use Rattle.lazy_walk.proofs.Ancestors.{full-later}
@@ -25,22 +25,22 @@ use Rattle.lazy_walk.proofs.Walks.{StillFits, GrowsTo-is}
 use Rattle.listing_text.specs.declared.entry.Entry as program
 use Rattle.listing_text.specs.Listing.{Entry, listing_in}
 use Rattle.listing_text.specs.Views.{entry_of}
-use Rattle.listings.specs.Lines.{IsLineAt, IsFirstLine}
-use Rattle.listings.specs.FrameListing.{deepest_listed, AreOfFrame, IsRightListing, AreAllListed, IsNotOfFrame, HasEarlier, IsDouble}
-use Rattle.listings.specs.FrameLifted.{SayTheSame}
-use Rattle.listings.proofs.Lines.{first-same, first-image, first-source, not-both}
+use Rattle.theory_listings.specs.Lines.{IsLineAt, IsFirstLine}
+use Rattle.theory_listings.specs.FrameListing.{deepest_listed, AreOfFrame, IsRightListing, AreAllListed, IsNotOfFrame, HasEarlier, IsDouble}
+use Rattle.theory_listings.specs.FrameLifted.{SayTheSame}
+use Rattle.theory_listings.proofs.Lines.{first-same, first-image, first-source, not-both}
 use Rattle.plane_geom.specs.declared.window.Window.{Window}
 use Rattle.rule_model.specs.declared.rule.Rule.{Rule}
 use Rattle.rule_model.specs.Tiling.{Tiling, tiling_of, children}
 use Rattle.std.specs.declared.result.Result.TheVariants.{Ok}
-use Rattle.substitution.specs.Points.{Points}
+use Rattle.theory_substitution.specs.Points.{Points}
 use Rattle.tile_place.proofs.Plane.{IsSettled, its_rule}
 use Rattle.tile_shape.specs.Views.{address_of}
-use Rattle.windows.specs.FramePatch.{in_frame, lifted_tile}
-use Rattle.windows.specs.FrameWindow.{IsLeastDepth}
-use Rattle.windows.specs.Meeting.{PolygonMeetsBox}
-use Rattle.windows.proofs.Members.{among-map}
-use Rattle.windows.proofs.Renamed.{lifted-depth, lifted-tile, shorter}
+use Rattle.theory_windows.specs.FramePatch.{in_frame, lifted_tile}
+use Rattle.theory_windows.specs.FrameWindow.{IsLeastDepth}
+use Rattle.theory_windows.specs.Meeting.{PolygonMeetsBox}
+use Rattle.theory_windows.proofs.Members.{among-map}
+use Rattle.theory_windows.proofs.Renamed.{lifted-depth, lifted-tile, shorter}
 use Rattle.window_cover.specs.Windows.{TileOf, box_of, IsWindow}
 use Rattle.list_verify.specs.Causes.{IsMisplaced}
 use Rattle.list_verify.specs.FoundLines.{entries_of, AreLinesIn}
@@ -56,8 +56,11 @@ use Rattle.list_verify.specs.declared.list_fault.ListFault.TheVariants.{TooLong,
 use Rattle.list_verify.proofs.Lines.{deepest-is}
 use Rattle.list_verify.proofs.Verdicts.{walk-caused}
 
-module _ (m : Rule) (settled : IsSettled m) (fits : StillFits (children (tiling_of m))) (L : HasListLaws (points_of m.order)) (f : FrameValue) (is : IsFrameOf (tiling_of m) f) (w : Window) (fit : IsWindow w)
-    (entries : List Entry) (g : FrameValue) (grows : GrowsTo (tiling_of m) f g) (deep_is : length g.digits ≡ deepest_entry (tiling_of m) (length f.digits) entries) where
+module _ (m : Rule) (settled : IsSettled m) (fits : StillFits (children (tiling_of m)))
+    (L : HasListLaws (points_of m.order)) (f : FrameValue) (is : IsFrameOf (tiling_of m) f) (w : Window)
+    (fit : IsWindow w)
+    (entries : List Entry) (g : FrameValue) (grows : GrowsTo (tiling_of m) f g)
+    (deep_is : length g.digits ≡ deepest_entry (tiling_of m) (length f.digits) entries) where
   abbrev t : Tiling
   t = tiling_of m
 
@@ -98,19 +101,25 @@ module _ (m : Rule) (settled : IsSettled m) (fits : StillFits (children (tiling_
   centre-same = ap (λ a. find (is_refused m.order) (values_outward P T.rule a (point_in m.order w.centre) 0 65)) same-full
 
   -- the first line that isn't of the frame
-  pub stranger : (i : ℕ) → IsFirstLine (λ (e : Entry). ¬ IsTileOf (children t) (whole g) e.address) entries i → IsNotOfFrame P T.rule (frame_listed t f entries) listing i
+  pub stranger : (i : ℕ) → IsFirstLine (λ (e : Entry). ¬ IsTileOf (children t) (whole g) e.address) entries i
+      → IsNotOfFrame P T.rule (frame_listed t f entries) listing i
   stranger i h = first-image (λ (x : TileOf t). ¬ IsTileOf kinds (at_level F low) x.address) (tile_listed t) entries i
       (subst (λ a. IsFirstLine (λ (e : Entry). ¬ IsTileOf kinds a e.address) entries i) (sym whole-low)
       (subst (λ k. IsFirstLine (λ (e : Entry). ¬ IsTileOf k (whole g) e.address) entries i) (sym settled.same_child_kinds) h))
 
-  pub stranger-caused : (text : List ℕ) → listing_in (children t) text ≡ Ok entries → (k : FrameValue) (fault : ListFault) → IsStranger (children t) (whole g) entries fault → HasCause t f k w text fault
-  stranger-caused text read k fault s = subst (HasCause t f k w text) (sym s.is) (s.number, refl, record { entries = entries; read = read; first = stranger s.number s.first })
+  pub stranger-caused : (text : List ℕ) → listing_in (children t) text ≡ Ok entries
+      → (k : FrameValue) (fault : ListFault) → IsStranger (children t) (whole g) entries fault
+      → HasCause t f k w text fault
+  stranger-caused text read k fault s = subst (HasCause t f k w text) (sym s.is)
+      (s.number, refl, record { entries = entries; read = read; first = stranger s.number s.first })
 
   module _ (lines : List program.Entry) (are : AreLifted (children t) (whole g) entries (entries_of lines)) where
     -- ---- the lines
     own-tile : (x : Entry) → IsAmong x entries → IsTileOf kinds (at_level F low) x.address
     own-tile x i = subst (λ a. IsTileOf kinds a x.address) (sym whole-low)
-        (subst (λ k. IsTileOf k (whole g) x.address) (sym settled.same_child_kinds) (AllByRecursion-among (λ (e : Entry). IsTileOf (children t) (whole g) e.address) x entries i are.of_frame))
+        (subst (λ k. IsTileOf k (whole g) x.address) (sym settled.same_child_kinds)
+        (AllByRecursion-among (λ (e : Entry). IsTileOf (children t) (whole g) e.address) x entries i
+        are.of_frame))
 
     frame-of : AreOfFrame P T.rule (at_level F low) listing
     frame-of = AllByRecursion-map (λ (x : TileOf t). IsTileOf kinds (at_level F low) x.address) (tile_listed t) entries
@@ -124,7 +133,8 @@ module _ (m : Rule) (settled : IsSettled m) (fits : StillFits (children (tiling_
       where
         images : (es : List Entry) → tiles_listed t (map (entry_lifted (whole g)) es) ≡ map lift (tiles_listed t es)
         images [] = refl
-        images (e ∷ es) = ap₂ (λ (x : TileOf t) (xs : List (TileOf t)). x ∷ xs) (ap (λ a. lifted_tile a (tile_listed t e)) (sym whole-low)) (images es)
+        images (e ∷ es) = ap₂ (λ (x : TileOf t) (xs : List (TileOf t)). x ∷ xs)
+            (ap (λ a. lifted_tile a (tile_listed t e)) (sym whole-low)) (images es)
 
     abbrev others : List (TileOf t)
     others = tiles_listed t (entries_of lines)
@@ -144,7 +154,9 @@ module _ (m : Rule) (settled : IsSettled m) (fits : StillFits (children (tiling_
       frame = grows.is_frame;
       of_frame = AllByRecursion-from (λ (e : program.Entry). IsTileOf (children t) (whole g) (address_of e.address)) lines each;
       lifted = AllByRecursion-from (λ (e : program.Entry). depth (address_of e.address) ≡ length g.digits) lines
-          (λ e i. let x = lift-of e i in ap depth x.2 ∙ lifted-depth setting F (names m settled fits f is) low within x.0.address (own-tile x.0 x.1) ∙ sym deep_is);
+          (λ e i. let x = lift-of e i in ap depth x.2
+          ∙ lifted-depth setting F (names m settled fits f is) low within x.0.address (own-tile x.0 x.1)
+          ∙ sym deep_is);
       apart = apart;
     }
       where
@@ -165,7 +177,8 @@ module _ (m : Rule) (settled : IsSettled m) (fits : StillFits (children (tiling_
     -- ---- their tiles
     name-same : (x : Entry) → IsAmong x entries → in_frame P T.rule (full t g) (lifted_in (whole g) x.address) ≡ in_frame P T.rule F x.address
     name-same x i =
-        ap (λ a. in_frame P T.rule a (lifted_in (whole g) x.address)) same-full ∙ ap (λ a. in_frame P T.rule F (lifted_in a x.address)) (sym whole-low)
+        ap (λ a. in_frame P T.rule a (lifted_in (whole g) x.address)) same-full
+        ∙ ap (λ a. in_frame P T.rule F (lifted_in a x.address)) (sym whole-low)
         ∙ (L.search.renamed T F (names m settled fits f is) low within x.address (own-tile x i)).1
 
     there-same : (x : Entry) → IsAmong x entries → NamesTileThere t g w (entry_lifted (whole g) x) ↔ NamesTileThere t f w x
@@ -175,14 +188,16 @@ module _ (m : Rule) (settled : IsSettled m) (fits : StillFits (children (tiling_
         Meets y = PolygonMeetsBox P.real (box_of t w) (tile_polygon P T.rule (λ z. z) y)
 
     -- a line has one number
-    tile-at : (i : ℕ) (x : TileOf t) → IsLineAt listing i x → (p : program.Entry) × (slice_get lines i ≡ Some p) × (address_of p.address ≡ lifted_in (at_level F low) x.address)
+    tile-at : (i : ℕ) (x : TileOf t) → IsLineAt listing i x → (p : program.Entry)
+        × (slice_get lines i ≡ Some p) × (address_of p.address ≡ lifted_in (at_level F low) x.address)
     tile-at i x at =
         let there = subst (λ ys. slice_get ys i ≡ Some (lift x)) (sym lifted-are) (slice_get-image lift x listing i at) in
         let e = image-at (tile_listed t) (lift x) (entries_of lines) i there in
         let p = image-at entry_of e.source lines i e.at in
         (p.source, p.at, ap (λ (y : Entry). y.address) p.image ∙ ap (λ (y : TileOf t). y.address) e.image)
 
-    line-at : (i : ℕ) (p : program.Entry) → slice_get lines i ≡ Some p → (x : TileOf t) × IsLineAt listing i x × (address_of p.address ≡ lifted_in (at_level F low) x.address)
+    line-at : (i : ℕ) (p : program.Entry) → slice_get lines i ≡ Some p → (x : TileOf t) × IsLineAt listing i x
+        × (address_of p.address ≡ lifted_in (at_level F low) x.address)
     line-at i p at =
         let there = subst (λ ys. slice_get ys i ≡ Some (tile_listed t (entry_of p))) lifted-are
         (slice_get-image (tile_listed t) (entry_of p) (entries_of lines) i (slice_get-image entry_of p lines i at)) in
@@ -210,15 +225,23 @@ module _ (m : Rule) (settled : IsSettled m) (fits : StillFits (children (tiling_
           first = λ j y l at e. absurd (none-earlier i j none l y at e);
         }
       where
-        early : (x : TileOf t) → address_of again.line.address ≡ lifted_in (at_level F low) x.address → (j : ℕ) × (j < i) × HasAddress lines j (address_of again.line.address)
+        early : (x : TileOf t) → address_of again.line.address ≡ lifted_in (at_level F low) x.address
+            → (j : ℕ) × (j < i) × HasAddress lines j (address_of again.line.address)
             → HasEarlier (at_level F low) listing i x
         early x named (j, l, has) = let y = line-at j has.0 has.1 in (j, y.0, l, y.1, sym y.2 ∙ has.2 ∙ named)
 
     pub double-caused : (text : List ℕ) → listing_in (children t) text ≡ Ok entries → (k : FrameValue) (fault : ListFault)
         → OrNoRoom (λ e. (i : ℕ) × (e ≡ Double (i + 1)) × IsAgain lines i × NoneAgain lines i) fault → HasCause t f k w text fault
     double-caused text read k fault (inl e) = subst (HasCause t f k w text) (sym e) tt
-    double-caused text read k fault (inr h) = subst (HasCause t f k w text) (sym h.1)
-        (h.0, refl, record { entries = entries; lines = record { read = read; of_frame = frame-of }; first = double h.0 h.2 (λ j e l at n m has. absurd (h.3 j e l at n m has)) })
+    double-caused text read k fault (inr h) = subst (HasCause t f k w text) (sym h.1) (
+      h.0,
+      refl,
+      record {
+        entries = entries;
+        lines = record { read = read; of_frame = frame-of };
+        first = double h.0 h.2 (λ j e l at n m has. absurd (h.3 j e l at n m has));
+      },
+    )
 
     -- ---- no two have one address
     module _ (apart : NoneAgain lines (length lines)) where
@@ -235,21 +258,40 @@ module _ (m : Rule) (settled : IsSettled m) (fits : StillFits (children (tiling_
       low-both = say.deepest ∙ sym deep_is ∙ sym (deepest-is m settled fits L g w fit lines (lines-in apart))
 
       -- ---- all are listed
-      all-lifted : AreAllListed P (is_refused m.order) T.rule F (box_of t w) d listing → AreAllListed P (is_refused m.order) T.rule (full t g) (box_of t w) (length g.digits) others
+      all-lifted : AreAllListed P (is_refused m.order) T.rule F (box_of t w) d listing
+          → AreAllListed P (is_refused m.order) T.rule (full t g) (box_of t w) (length g.digits) others
       all-lifted h =
           let k = say.all_listed.1 h in
           subst (λ a. AreAllListed P (is_refused m.order) T.rule a (box_of t w) (length g.digits) others) (sym same-full)
-          (record { depth = k.depth; least = subst (λ n. IsLeastDepth P T.rule F (box_of t w) n k.depth) low-both k.least; each_listed = k.each_listed; none_refused = k.none_refused })
+          (record {
+            depth = k.depth;
+            least = subst (λ n. IsLeastDepth P T.rule F (box_of t w) n k.depth)
+                low-both k.least;
+            each_listed = k.each_listed;
+            none_refused = k.none_refused;
+          })
 
-      all-back : AreAllListed P (is_refused m.order) T.rule (full t g) (box_of t w) (length g.digits) others → AreAllListed P (is_refused m.order) T.rule F (box_of t w) d listing
+      all-back : AreAllListed P (is_refused m.order) T.rule (full t g) (box_of t w) (length g.digits) others
+          → AreAllListed P (is_refused m.order) T.rule F (box_of t w) d listing
       all-back h =
           let k = subst (λ a. AreAllListed P (is_refused m.order) T.rule a (box_of t w) (length g.digits) others) same-full h in
-          say.all_listed.0 (record { depth = k.depth; least = subst (λ n. IsLeastDepth P T.rule F (box_of t w) n k.depth) (sym low-both) k.least; each_listed = k.each_listed; none_refused = k.none_refused })
+          say.all_listed.0 (record {
+            depth = k.depth;
+            least = subst (λ n. IsLeastDepth P T.rule F (box_of t w) n k.depth) (sym low-both) k.least;
+            each_listed = k.each_listed;
+            none_refused = k.none_refused;
+          })
 
       right-back : IsRightListing P T.rule (full t g) (box_of t w) (length g.digits) others → IsRightListing P T.rule F (box_of t w) d listing
       right-back h =
           let k = subst (λ a. IsRightListing P T.rule a (box_of t w) (length g.digits) others) same-full h in
-          say.right.0 (record { depth = k.depth; least = subst (λ n. IsLeastDepth P T.rule F (box_of t w) n k.depth) (sym low-both) k.least; of_frame = k.of_frame; all_that_meet = k.all_that_meet })
+          say.right.0 (record {
+            depth = k.depth;
+            least = subst
+                (λ n. IsLeastDepth P T.rule F (box_of t w) n k.depth) (sym low-both) k.least;
+            of_frame = k.of_frame;
+            all_that_meet = k.all_that_meet;
+          })
 
       pub has-lifted : HasAllTiles t f w d entries → HasAllTiles t g w (length g.digits) (entries_of lines)
       has-lifted h = record {
@@ -257,30 +299,36 @@ module _ (m : Rule) (settled : IsSettled m) (fits : StillFits (children (tiling_
         of_order = subst (AllByRecursion (λ (e : Entry). NamesTileThere t g w e → IsOf t.order e.motion.shift)) (sym are.are)
             (AllByRecursion-map (λ (e : Entry). NamesTileThere t g w e → IsOf t.order e.motion.shift) (entry_lifted (whole g)) entries
             (AllByRecursion-from (λ (e : Entry). NamesTileThere t g w (entry_lifted (whole g) e) → IsOf t.order e.motion.shift) entries
-            (λ x i there. AllByRecursion-among (λ (e : Entry). NamesTileThere t f w e → IsOf t.order e.motion.shift) x entries i h.of_order ((there-same x i).0 there))));
+            (λ x i there. AllByRecursion-among (λ (e : Entry). NamesTileThere t f w e
+            → IsOf t.order e.motion.shift) x entries i h.of_order ((there-same x i).0 there))));
       }
 
       has-back : HasAllTiles t g w (length g.digits) (entries_of lines) → HasAllTiles t f w d entries
       has-back h = record {
         all_listed = all-back h.all_listed;
         of_order = AllByRecursion-from (λ (e : Entry). NamesTileThere t f w e → IsOf t.order e.motion.shift) entries
-            (λ x i there. AllByRecursion-among (λ (e : Entry). NamesTileThere t g w e → IsOf t.order e.motion.shift) (entry_lifted (whole g) x) (entries_of lines)
-            (subst (IsAmong (entry_lifted (whole g) x)) (sym are.are) (IsAmong-map (entry_lifted (whole g)) x entries i)) h.of_order ((there-same x i).1 there));
+            (λ x i there. AllByRecursion-among (λ (e : Entry). NamesTileThere t g w e
+            → IsOf t.order e.motion.shift) (entry_lifted (whole g) x) (entries_of lines)
+            (subst (IsAmong (entry_lifted (whole g) x)) (sym are.are)
+            (IsAmong-map (entry_lifted (whole g)) x entries i)) h.of_order ((there-same x i).1 there));
       }
 
       -- ---- a stray line
       pub stray : (i : ℕ) → HasStray t g w (length g.digits) (entries_of lines) i → HasStray t f w d entries i
       stray i h = record {
         all_tiles = has-back h.all_tiles;
-        first = first-same (λ (e : Entry). ¬ NamesTileThere t g w (entry_lifted (whole g) e)) (λ (e : Entry). ¬ NamesTileThere t f w e) entries i (λ x j. not-both (there-same x j))
-            (first-source (λ (e : Entry). ¬ NamesTileThere t g w e) (entry_lifted (whole g)) entries i (subst (λ es. IsFirstLine (λ (e : Entry). ¬ NamesTileThere t g w e) es i) are.are h.first));
+        first = first-same (λ (e : Entry). ¬ NamesTileThere t g w (entry_lifted (whole g) e))
+            (λ (e : Entry). ¬ NamesTileThere t f w e) entries i (λ x j. not-both (there-same x j))
+            (first-source (λ (e : Entry). ¬ NamesTileThere t g w e) (entry_lifted (whole g)) entries i
+            (subst (λ es. IsFirstLine (λ (e : Entry). ¬ NamesTileThere t g w e) es i) are.are h.first));
       }
 
       pub centre-back : first_refused_at t g w ≡ None → first_refused_at t f w ≡ None
       centre-back none = sym centre-same ∙ none
 
       -- ---- right lines
-      pub verified : (text : List ℕ) (n : ℕ) → listing_in (children t) text ≡ Ok entries → n ≡ length entries → AreRightLines t g w (entries_of lines) → IsVerified t f w text n
+      pub verified : (text : List ℕ) (n : ℕ) → listing_in (children t) text ≡ Ok entries → n ≡ length entries
+          → AreRightLines t g w (entries_of lines) → IsVerified t f w text n
       verified text n read count h = record {
         entries = entries;
         read = read;
@@ -306,7 +354,8 @@ module _ (m : Rule) (settled : IsSettled m) (fits : StillFits (children (tiling_
             subst (λ b. lifted_in b (lifted_in (whole g) a) ≡ lifted_in b a) (sym same) (lifted-twice (whole g) a l.more low)
 
         again : (x : Entry) → IsAmong x entries → lifted_in (whole k) (lifted_in (whole g) x.address) ≡ lifted_in (whole k) x.address
-        again x i = twice x.address (AllByRecursion-among (λ (e : Entry). IsTileOf (children t) (whole g) e.address) x entries i are.of_frame).no_deeper
+        again x i = twice x.address (AllByRecursion-among
+            (λ (e : Entry). IsTileOf (children t) (whole g) e.address) x entries i are.of_frame).no_deeper
 
         misplaced : (i : ℕ) (motion : Moved) → IsMisplaced t k w (entries_of lines) i motion → IsMisplaced t k w entries i motion
         misplaced i motion h =
@@ -314,7 +363,8 @@ module _ (m : Rule) (settled : IsSettled m) (fits : StillFits (children (tiling_
               entry = x.source;
               is_line = x.at;
               tile = h.tile;
-              its_address = h.its_address ∙ ap (λ (y : Entry). lifted_in (whole k) y.address) (sym x.image) ∙ again x.source (place-in x.source i x.at);
+              its_address = h.its_address ∙ ap (λ (y : Entry). lifted_in (whole k) y.address) (sym x.image)
+                  ∙ again x.source (place-in x.source i x.at);
               of_frame = h.of_frame;
               tile_meets = h.tile_meets;
               its_motion = h.its_motion;
@@ -331,7 +381,9 @@ module _ (m : Rule) (settled : IsSettled m) (fits : StillFits (children (tiling_
           its_address = c.its_address;
           of_frame = c.of_frame;
           tile_meets = c.tile_meets;
-          no_line = λ e i same. absurd (c.no_line (entry_lifted (whole g) e) (subst (IsAmong (entry_lifted (whole g) e)) (sym are.are) (IsAmong-map (entry_lifted (whole g)) e entries i)) (again e i ∙ same));
+          no_line = λ e i same. absurd (c.no_line (entry_lifted (whole g) e)
+              (subst (IsAmong (entry_lifted (whole g) e)) (sym are.are)
+              (IsAmong-map (entry_lifted (whole g)) e entries i)) (again e i ∙ same));
         }
         cause-back (WrongPlace line motion) c = (c.0, c.1, misplaced c.0 motion c.2)
         cause-back (DepthLimit addr edge) c = c
@@ -353,5 +405,13 @@ module _ (m : Rule) (settled : IsSettled m) (fits : StillFits (children (tiling_
             → OrNoRoom (λ e. IsStoppedBy t g k w (entries_of lines) e ⊎ IsStrayFault t g w (entries_of lines) e) fault → HasCause t f k w text fault
         walk-said text read fault (inl e) = subst (HasCause t f k w text) (sym e) tt
         walk-said text read fault (inr (inl s)) = walk-caused t f k w text entries (are-apart text read) fault (stopped fault s)
-        walk-said text read fault (inr (inr s)) = subst (HasCause t f k w text) (sym s.is)
-            (s.number, refl, record { entries = entries; lines = are-apart text read; centre_found = centre-back s.centre_found; stray = stray s.number s.stray })
+        walk-said text read fault (inr (inr s)) = subst (HasCause t f k w text) (sym s.is) (
+          s.number,
+          refl,
+          record {
+            entries = entries;
+            lines = are-apart text read;
+            centre_found = centre-back s.centre_found;
+            stray = stray s.number s.stray;
+          },
+        )

@@ -16,7 +16,8 @@ use Rattle.list_verify.specs.Walked.{IsStoppedBy}
 use Rattle.list_verify.proofs.OneVerdict.{of_walk-untold}
 
 -- what ends the walk is the cause of its fault
-pub walk-caused : (t : Tiling) (f g : FrameValue) (w : Window) (text : List ℕ) (entries : List Entry) → AreApart t f text entries → (fault : ListFault) → IsStoppedBy t f g w entries fault
+pub walk-caused : (t : Tiling) (f g : FrameValue) (w : Window) (text : List ℕ) (entries : List Entry)
+    → AreApart t f text entries → (fault : ListFault) → IsStoppedBy t f g w entries fault
     → HasCause t f g w text fault
 walk-caused t f g w text entries apart (Missing addr) s = record { entries = entries; lines = apart; stopped = s }
 walk-caused t f g w text entries apart (WrongPlace line motion) s = record { entries = entries; lines = apart; stopped = s }
@@ -32,7 +33,8 @@ walk-caused t f g w text entries apart (Stray line) s = elim s.cause [ ]
 walk-caused t f g w text entries apart NoMemory s = elim s.cause [ ]
 
 -- so is a fault of the text
-pub text-caused : (t : Tiling) (f g : FrameValue) (w : Window) (text : List ℕ) (fault : ListingFault) → OrWantsMemory (λ e. listing_in (children t) text ≡ Err e) fault
+pub text-caused : (t : Tiling) (f g : FrameValue) (w : Window) (text : List ℕ) (fault : ListingFault)
+    → OrWantsMemory (λ e. listing_in (children t) text ≡ Err e) fault
     → HasCause t f g w text (fault_of_text fault)
 text-caused t f g w text texts.TooLong h = h
 text-caused t f g w text (texts.BadLine line place) h = h
@@ -69,7 +71,9 @@ module _ (t : Tiling) (f g : FrameValue) (w : Window) (text : List ℕ) (V : Has
   told (Ok n) right cause fault is has = absurd (not-room fault is (V.right_or_not n g fault right has))
   told (Err own) right cause fault is has = at (V.one_fault g g own fault cause has)
     where
-      at : (own ≡ fault) ⊎ ((own ≡ NoMemory) ⊎ ((fault ≡ NoMemory) ⊎ (IsOfWalk own × IsOfWalk fault))) → (◌≡◌ {A = Result ℕ ListFault} (Err own) (Err fault)) ⊎ (◌≡◌ {A = Result ℕ ListFault} (Err own) (Err NoMemory))
+      at : (own ≡ fault) ⊎ ((own ≡ NoMemory) ⊎ ((fault ≡ NoMemory) ⊎ (IsOfWalk own × IsOfWalk fault)))
+          → (◌≡◌ {A = Result ℕ ListFault} (Err own) (Err fault))
+          ⊎ (◌≡◌ {A = Result ℕ ListFault} (Err own) (Err NoMemory))
       at (inl e) = inl (ap (λ x. Err x) e)
       at (inr (inl e)) = inr (ap (λ x. Err x) e)
       at (inr (inr (inl e))) = absurd (not-room fault is e)
@@ -80,7 +84,9 @@ module _ (t : Tiling) (f g : FrameValue) (w : Window) (text : List ℕ) (V : Has
   lacking (Ok n) right cause lacks = absurd (V.lacks_or_right n lacks right)
   lacking (Err own) right cause lacks = at (one-of own)
     where
-      at : IsTold own ⊎ (IsOfWalk own ⊎ (own ≡ NoMemory)) → (◌≡◌ {A = Result ℕ ListFault} (Err own) (Err NoMemory)) ⊎ (fault : ListFault) × (◌≡◌ {A = Result ℕ ListFault} (Err own) (Err fault)) × IsOfWalk fault
+      at : IsTold own ⊎ (IsOfWalk own ⊎ (own ≡ NoMemory))
+          → (◌≡◌ {A = Result ℕ ListFault} (Err own) (Err NoMemory)) ⊎ (fault : ListFault)
+          × (◌≡◌ {A = Result ℕ ListFault} (Err own) (Err fault)) × IsOfWalk fault
       at (inl told) = absurd (V.lacks_or_told g own lacks cause told)
       at (inr (inl walk)) = inr (own, refl, walk)
       at (inr (inr e)) = inl (ap (λ x. Err x) e)

@@ -50,10 +50,13 @@ same_bytes (x ∷ xs) (y ∷ ys) e = at_test (nat_eq x y) refl (same_bytes xs ys
     at_test false e same h = absurd (cc h)
 
 -- a text that begins with another is that one before what is left
-pub behind : (text front left : List ℕ) → pointwise nat_eq (take (length front) text) front ≡ true → left ≡ drop (length front) text → text ≡ front ++ left
-behind text front left e is = sym (take-append-drop (length front) text) ∙ ap₂ (λ (xs ys : List ℕ). xs ++ ys) (same_bytes (take (length front) text) front e) (sym is)
+pub behind : (text front left : List ℕ) → pointwise nat_eq (take (length front) text) front ≡ true
+    → left ≡ drop (length front) text → text ≡ front ++ left
+behind text front left e is = sym (take-append-drop (length front) text)
+    ∙ ap₂ (λ (xs ys : List ℕ). xs ++ ys) (same_bytes (take (length front) text) front e) (sym is)
 
-pub one_more : (n : ℕ) (tiles : List PlacedTile) (text rest left : List ℕ) (x : PlacedTile) → IsWrittenTo n tiles text rest → n < length tiles → slice_get tiles n ≡ Some x → HasFour x
+pub one_more : (n : ℕ) (tiles : List PlacedTile) (text rest left : List ℕ) (x : PlacedTile)
+    → IsWrittenTo n tiles text rest → n < length tiles → slice_get tiles n ≡ Some x → HasFour x
     → rest ≡ line_of x ++ left → IsWrittenTo (n + 1) tiles text left
 one_more n tiles text rest left x so below at four e = record {
   is = so.is ∙ ap (λ r. lines_of (take n tiles) ++ r) e ∙ line_more (take n tiles) x left ∙ ap (λ ts. lines_of ts ++ left) (sym more);
@@ -63,7 +66,8 @@ one_more n tiles text rest left x so below at four e = record {
     more : take (n + 1) tiles ≡ take n tiles ++ x ∷ []
     more = ap (λ k. take k tiles) (add-one n) ∙ take-suc tiles n x below ∙ ap (λ (y : PlacedTile). take n tiles ++ y ∷ []) (get_or-at tiles n x x at)
 
-pub all_written : (n : ℕ) (tiles : List PlacedTile) (text rest : List ℕ) → IsWrittenTo n tiles text rest → n ≡ length tiles → rest ≡ [] → IsWrittenOf tiles text
+pub all_written : (n : ℕ) (tiles : List PlacedTile) (text rest : List ℕ) → IsWrittenTo n tiles text rest
+    → n ≡ length tiles → rest ≡ [] → IsWrittenOf tiles text
 all_written n tiles text rest so e none = record {
   is = so.is ∙ ap (λ r. lines_of (take n tiles) ++ r) none ∙ append-nil (lines_of (take n tiles)) ∙ ap lines_of whole;
   four = subst (AllByRecursion HasFour) whole so.four;

@@ -6,8 +6,8 @@ use Rattle.rule_model.specs.Tiling.{Tiling, children}
 use Rattle.lazy_walk.specs.Ancestors.{full}
 use Rattle.lazy_walk.specs.Frames.{FrameValue}
 use Rattle.listing_text.specs.Listing.{Entry, listing_in}
-use Rattle.listings.specs.FrameListing.{deepest_listed}
-use Rattle.windows.specs.FrameWindow.{IsLeastDepth}
+use Rattle.theory_listings.specs.FrameListing.{deepest_listed}
+use Rattle.theory_windows.specs.FrameWindow.{IsLeastDepth}
 use Rattle.window_cover.specs.Windows.{box_of}
 use Rattle.list_verify.specs.Listing.{tiles_listed}
 

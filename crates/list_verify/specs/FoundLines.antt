@@ -1,29 +1,29 @@
 -- The lines that a walk has found.
 use Rattle.std.specs.Prelude.{◌≡◌, ◌↔◌, ℕ, suc, ◌+◌, ◌*◌, ◌<◌, ◌^◌, Bool, true, cond, nat_lt, List, [], ◌++◌, map, length, get_or, slice_get, Some}
 use Rattle.std.specs.List.{AllByRecursion}
-use Rattle.addressing.specs.Address.{depth}
-use Rattle.addressing.specs.Search.{IsAmong}
+use Rattle.theory_addresses.specs.Address.{depth}
+use Rattle.theory_addresses.specs.Search.{IsAmong}
 use Rattle.cyclo_points.specs.Order.{points_of, is_refused}
 use Rattle.cyclo_points.specs.declared.order.Order.{Order}
 use Rattle.cyclo_points.specs.declared.point.Point.{Point}
 use Rattle.cyclo_points.specs.Point.{point_in, IsOf, IsWithin}
 use Rattle.cyclo_points.specs.Motion.{motion_in}
-use Rattle.frames.specs.Frame.{IsTileOf}
+use Rattle.theory_frames.specs.Frame.{IsTileOf}
 use Rattle.plane_geom.specs.declared.window.Window.{Window}
 use Rattle.rule_model.specs.Tiling.{Tiling, children}
 use Rattle.rule_model.specs.Usable.{origin}
-use Rattle.substitution.specs.Plane.{plane_point}
-use Rattle.substitution.specs.RuleParts.{edge_count}
+use Rattle.theory_substitution.specs.Plane.{plane_point}
+use Rattle.theory_substitution.specs.RuleParts.{edge_count}
 use Rattle.tile_shape.specs.Views.{address_of}
 use Rattle.lazy_walk.specs.Ancestors.{full}
 use Rattle.lazy_walk.specs.Frames.{FrameValue, whole, IsFrameOf}
 use Rattle.listing_text.specs.declared.entry.Entry as program
 use Rattle.listing_text.specs.Listing.{Entry}
 use Rattle.listing_text.specs.Views.{entry_of}
-use Rattle.windows.specs.FramePatch.{frame_patch, in_frame, line_of}
-use Rattle.windows.specs.Outlines.{PlaneEdge, MeetsBox}
-use Rattle.windows.specs.Patch.{HasAcross}
-use Rattle.listings.specs.FrameWalk.{IsWalkOn}
+use Rattle.theory_windows.specs.FramePatch.{frame_patch, in_frame, line_of}
+use Rattle.theory_windows.specs.Outlines.{PlaneEdge, MeetsBox}
+use Rattle.theory_windows.specs.Patch.{HasAcross}
+use Rattle.theory_listings.specs.FrameWalk.{IsWalkOn}
 use Rattle.window_cover.specs.Windows.{TileOf, box_of}
 use Rattle.list_verify.specs.LineIndex.{NoneAgain}
 use Rattle.list_verify.specs.Listing.{tiles_listed}

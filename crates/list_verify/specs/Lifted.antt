@@ -1,12 +1,12 @@
 -- Lines of a listing that are lifted to one depth.
 use Rattle.std.specs.Prelude.{◌≡◌, ℕ, zero, suc, ◌+◌, List, [], ◌∷◌, map}
 use Rattle.std.specs.List.{AllByRecursion}
-use Rattle.addressing.specs.Address.{Address}
-use Rattle.frames.specs.Frame.{IsTileOf, lifted_in}
+use Rattle.theory_addresses.specs.Address.{Address}
+use Rattle.theory_frames.specs.Frame.{IsTileOf, lifted_in}
 use Rattle.rule_model.specs.Tiling.{Tiling}
 use Rattle.listing_text.specs.Listing.{Entry}
-use Rattle.listings.specs.FrameListing.{deepest_listed}
-use Rattle.listings.specs.Lines.{IsFirstLine}
+use Rattle.theory_listings.specs.FrameListing.{deepest_listed}
+use Rattle.theory_listings.specs.Lines.{IsFirstLine}
 use Rattle.list_verify.specs.declared.list_fault.ListFault.{ListFault}
 use Rattle.list_verify.specs.declared.list_fault.ListFault.TheVariants.{NotOfFrame}
 use Rattle.list_verify.specs.Listing.{tiles_listed}

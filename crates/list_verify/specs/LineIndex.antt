@@ -2,7 +2,7 @@
 -- line to its first.
 use Rattle.std.specs.Prelude.{◌≡◌, ℕ, zero, suc, ◌+◌, ◌*◌, ◌%◌, ◌<◌, ◌≤◌, List, [], ◌∷◌, map, length, get_or, slice_get, Some, None, nat_eq, cond}
 use Rattle.std.specs.declared.option.Option.{Option}
-use Rattle.addressing.specs.Address.{Step, Address}
+use Rattle.theory_addresses.specs.Address.{Step, Address}
 use Rattle.listing_text.specs.declared.entry.Entry.{Entry}
 use Rattle.list_verify.specs.declared.line_index.Buckets.{Buckets}
 use Rattle.list_verify.specs.declared.line_index.LineIndex.{LineIndex}

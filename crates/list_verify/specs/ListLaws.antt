@@ -1,9 +1,9 @@
 -- The laws on which the walk rests.
-use Rattle.substitution.specs.Points.{Points}
-use Rattle.windows.specs.FrameSearch.{LastBoundaryLaw}
-use Rattle.listings.specs.FrameWalk.{FrameWalkStartLaw, FrameWalkStepLaw, FrameWalkRoomLaw, FrameWalkEndLaw, FrameBeyondLaw, FrameWalkStopLaw, FrameNoFaultLaw}
-use Rattle.listings.specs.FrameWalk.{FrameRightLaw, FrameNoListFaultLaw}
-use Rattle.listings.specs.FrameLifted.{LiftedListingLaw}
+use Rattle.theory_substitution.specs.Points.{Points}
+use Rattle.theory_windows.specs.FrameSearch.{LastBoundaryLaw}
+use Rattle.theory_listings.specs.FrameWalk.{FrameWalkStartLaw, FrameWalkStepLaw, FrameWalkRoomLaw, FrameWalkEndLaw, FrameBeyondLaw, FrameWalkStopLaw, FrameNoFaultLaw}
+use Rattle.theory_listings.specs.FrameWalk.{FrameRightLaw, FrameNoListFaultLaw}
+use Rattle.theory_listings.specs.FrameLifted.{LiftedListingLaw}
 use Rattle.window_cover.specs.SearchLaws.{HasSearchLaws}
 
 -- of frames and of the search; of boundaries; of the walk; and of right listings

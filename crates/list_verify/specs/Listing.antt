@@ -10,8 +10,8 @@ use Rattle.lazy_walk.specs.Ancestors.{full}
 use Rattle.lazy_walk.specs.Containing.{first_refused_outward}
 use Rattle.lazy_walk.specs.Frames.{FrameValue}
 use Rattle.listing_text.specs.Listing.{Entry, listing_in}
-use Rattle.listings.specs.FrameListing.{IsRightListing, AreUnrefused, AreAllListed, NamesMeeting}
-use Rattle.listings.specs.Lines.{IsFirstLine}
+use Rattle.theory_listings.specs.FrameListing.{IsRightListing, AreUnrefused, AreAllListed, NamesMeeting}
+use Rattle.theory_listings.specs.Lines.{IsFirstLine}
 use Rattle.window_cover.specs.Windows.{TileOf, box_of}
 
 -- a line as a tile, by its address and its motion

@@ -2,7 +2,7 @@
 use Rattle.std.specs.Prelude.{◌≡◌, ◌⊎◌, ℕ, List}
 use Rattle.cyclo_points.specs.declared.order.Order.{Order}
 use Rattle.cyclo_points.specs.Order.{points_of}
-use Rattle.dissection.specs.Accepted.{AcceptedRule}
+use Rattle.theory_dissection.specs.Accepted.{AcceptedRule}
 use Rattle.plane_geom.specs.declared.window.Window.{Window}
 use Rattle.rule_model.specs.Tiling.{Tiling}
 use Rattle.lazy_walk.specs.Frames.{FrameValue, IsFrameOf}

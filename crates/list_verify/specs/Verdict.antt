@@ -1,8 +1,8 @@
 -- What is said of the text of a listing that isn't right: for each fault its cause.
 use Rattle.std.specs.Prelude.{◌≡◌, ℕ, ◌+◌, List, length, None, Err, Ok}
-use Rattle.addressing.specs.Address.{Address as TheAddress}
+use Rattle.theory_addresses.specs.Address.{Address as TheAddress}
 use Rattle.cyclo_points.specs.Order.{points_of}
-use Rattle.frames.specs.Frame.{at_level}
+use Rattle.theory_frames.specs.Frame.{at_level}
 use Rattle.plane_geom.specs.declared.window.Window.{Window}
 use Rattle.rule_model.specs.Tiling.{Tiling, children}
 use Rattle.lazy_walk.specs.Ancestors.{full}
@@ -10,7 +10,7 @@ use Rattle.lazy_walk.specs.Frames.{FrameValue}
 use Rattle.listing_text.specs.declared.listing_fault.ListingFault.{ListingFault}
 use Rattle.listing_text.specs.declared.listing_fault.ListingFault.TheVariants as text
 use Rattle.listing_text.specs.Listing.{Entry, listing_in}
-use Rattle.listings.specs.FrameListing.{deepest_listed, AreOfFrame, IsNotOfFrame, IsDouble}
+use Rattle.theory_listings.specs.FrameListing.{deepest_listed, AreOfFrame, IsNotOfFrame, IsDouble}
 use Rattle.list_verify.specs.declared.list_fault.ListFault.{ListFault}
 use Rattle.list_verify.specs.declared.list_fault.ListFault.TheVariants.{TooLong, BadLine, Address, BadKind, NotOfFrame, Double, Missing, WrongPlace, Stray, DepthLimit, CoordLimit, NoMemory}
 use Rattle.list_verify.specs.Listing.{tiles_listed, HasAllTiles, HasStray}

@@ -9,7 +9,7 @@ use Rattle.lazy_walk.specs.Ancestors.{full}
 use Rattle.lazy_walk.specs.Containing.{first_refused_outward}
 use Rattle.lazy_walk.specs.Frames.{FrameValue}
 use Rattle.listing_text.specs.Listing.{Entry}
-use Rattle.listings.specs.FrameListing.{IsRightListing, AreUnrefused}
+use Rattle.theory_listings.specs.FrameListing.{IsRightListing, AreUnrefused}
 use Rattle.window_cover.specs.Causes.{IsDepthLimit, IsFirstRefused, IsRefusedShift}
 use Rattle.window_cover.specs.Windows.{box_of}
 use Rattle.list_verify.specs.declared.list_fault.ListFault.{ListFault}

@@ -33,7 +33,8 @@ pub(crate) fn as_written(
     requires frame { IsFrameOf (tiling_of machine.now) frame.old }
     requires window_fits { IsWindow window.now }
     ensures stays { IfNone result (frame.new ≡ frame.old) }
-    ensures listed { IfSome result (IsListedAs (tiling_of machine.now) frame.old frame.new window.now listing.now) }
+    ensures listed { IfSome result (IsListedAs (tiling_of machine.now) frame.old frame.new window.now
+        listing.now) }
 {
     if !can_be_long_enough(window, listing) {
         return None;
@@ -62,7 +63,8 @@ fn written_lines(
 ) -> Option<u32>
     requires frame { IsFrameOf (tiling_of machine.now) frame.old }
     requires window_fits { IsWindow window.now }
-    ensures listed { IfSome result (IsListedAs (tiling_of machine.now) frame.old frame.new window.now listing.now) }
+    ensures listed { IfSome result (IsListedAs (tiling_of machine.now) frame.old frame.new window.now
+        listing.now) }
 {
     written_law();
     let checked = machine.checked();

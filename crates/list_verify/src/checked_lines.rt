@@ -56,9 +56,12 @@ pub(crate) fn check_lines<L: Ledger>(
     requires none_crossed { (i : ℕ) → ¬ (slice_get found.old.crossed.marks.items i ≡ Some true) }
     ensures frame { GrowsTo (tiling_of machine.now) frame.old frame.new }
     ensures stays { OnOk result (frame.new ≡ frame.old) }
-    ensures not_beyond { (n : ℕ) → IsLeastEnough (tiling_of machine.now) frame.old window.now n → length frame.new.digits ≤ n }
-    ensures right { OnOk result (AreRightLines (tiling_of machine.now) frame.old window.now (entries_of lines.now)) }
-    ensures fault { IfErr result (OrNoRoom (λ fault. IsStoppedBy (tiling_of machine.now) frame.old frame.new window.now (entries_of lines.now) fault
+    ensures not_beyond { (n : ℕ) → IsLeastEnough (tiling_of machine.now) frame.old window.now n
+        → length frame.new.digits ≤ n }
+    ensures right { OnOk result (AreRightLines (tiling_of machine.now) frame.old window.now
+        (entries_of lines.now)) }
+    ensures fault { IfErr result (OrNoRoom (λ fault. IsStoppedBy (tiling_of machine.now) frame.old frame.new
+        window.now (entries_of lines.now) fault
         ⊎ IsStrayFault (tiling_of machine.now) frame.old window.now (entries_of lines.now) fault)) }
 {
     match walk(machine, frame, window, lines, index, found, steps) {

@@ -35,7 +35,8 @@ impl FoundLines {
         ensures count { IfOk result (λ found. length found.marks.items ≡ count) }
         ensures unmarked { IfOk result (λ found. (i : ℕ) → ¬ (slice_get found.marks.items i ≡ Some true)) }
         ensures sides { IfOk result (λ found. length found.crossed.marks.items ≡ count * 12) }
-        ensures none_crossed { IfOk result (λ found. (i : ℕ) → ¬ (slice_get found.crossed.marks.items i ≡ Some true)) }
+        ensures none_crossed { IfOk result (λ found. (i : ℕ)
+            → ¬ (slice_get found.crossed.marks.items i ≡ Some true)) }
     {
         Ok(FoundLines {
             lines: Vec::new(alloc),
@@ -57,7 +58,8 @@ impl FoundLines {
         ensures count { length self.new.marks.items ≡ length lines.now }
         ensures crossed { self.new.crossed ≡ self.old.crossed }
         ensures looked_up { IfOk result (λ line. IsLookedUp self.old self.new lines.now tile.now line) }
-        ensures fault { (t : Tiling) → IsOf t.order tile.now.motion.shift → IfErr result (OrNoRoom (IsNotFound t lines.now tile.now)) }
+        ensures fault { (t : Tiling) → IsOf t.order tile.now.motion.shift
+            → IfErr result (OrNoRoom (IsNotFound t lines.now tile.now)) }
     {
         let line = index.find(lines, &tile.addr);
         if let Some(line) = line {
@@ -88,9 +90,11 @@ impl FoundLines {
         ensures same { IfOk result (λ number. number ≡ line) }
         ensures lines { OnOk result (self.new.lines.items ≡ self.old.lines.items ++ line ∷ []) }
         ensures marks { OnOk result (self.new.marks.items ≡ slice_set self.old.marks.items line true) }
-        ensures motion { OnOk result ((e : Line) → slice_get lines.now line ≡ Some e → e.motion ≡ tile.now.motion) }
+        ensures motion { OnOk result ((e : Line) → slice_get lines.now line ≡ Some e
+            → e.motion ≡ tile.now.motion) }
         ensures fault { IfErr result (OrNoRoom (λ fault. (fault ≡ WrongPlace (line + 1) tile.now.motion)
-            × ((e : Line) → slice_get lines.now line ≡ Some e → (¬ (e.motion ≡ tile.now.motion)) × IsMovedOtherwise e.motion tile.now.motion))) }
+            × ((e : Line) → slice_get lines.now line ≡ Some e → (¬ (e.motion ≡ tile.now.motion))
+            × IsMovedOtherwise e.motion tile.now.motion))) }
     {
         if !is_same_motion(&lines[line as usize].motion, &tile.motion) {
             return Err(ListFault::WrongPlace {

@@ -1,8 +1,8 @@
 //! Lines lifted to one depth.
 ghost use Rattle.std.specs.Prelude.{◌≡◌, ◌↔◌, ◌<◌, ◌≤◌, ◌^◌, ℕ, List, length, IsTrue, IfErr, OnOk};
 ghost use Rattle.std.specs.List.{All};
-ghost use Rattle.addressing.specs.Address.{depth, Fits};
-ghost use Rattle.frames.specs.Frame.{IsTileOf};
+ghost use Rattle.theory_addresses.specs.Address.{depth, Fits};
+ghost use Rattle.theory_frames.specs.Frame.{IsTileOf};
 ghost use Rattle.lazy_walk.specs.Frames.{whole, IsFrameOf, GrowsTo};
 ghost use Rattle.rule_model.specs.Tiling.{Tiling, tiling_of, children};
 ghost use Rattle.tile_shape.specs.Views.{address_of};
@@ -32,7 +32,8 @@ fn deepest(least: u8, lines: &[Entry]) -> u8
 /// the base's ancestor at the level of its depth.
 fn is_of_frame(frame: &Frame, address: &Address) -> bool
     requires no_deeper { depth (address_of address.now) ≤ length frame.now.digits }
-    ensures { (kinds : List (List ℕ)) → Fits kinds (address_of address.now) → IsTrue result ↔ IsTileOf kinds (whole frame.now) (address_of address.now) }
+    ensures { (kinds : List (List ℕ)) → Fits kinds (address_of address.now) → IsTrue result
+        ↔ IsTileOf kinds (whole frame.now) (address_of address.now) }
 {
     let depth = address.depth();
     address.kind_at(depth) == frame.kind_at(depth)
@@ -70,9 +71,12 @@ pub(crate) fn lift_lines(
     requires fit { All (λ line. Fits (children (tiling_of machine.now)) (address_of line.address)) lines.old }
     requires few { length lines.old < 2 ^ 31 }
     ensures frame { GrowsTo (tiling_of machine.now) frame.old frame.new }
-    ensures depth { length frame.new.digits ≡ deepest_entry (tiling_of machine.now) (length frame.old.digits) (entries_of lines.old) }
-    ensures lifted { OnOk result (AreLifted (children (tiling_of machine.now)) (whole frame.new) (entries_of lines.old) (entries_of lines.new)) }
-    ensures fault { IfErr result (IsStranger (children (tiling_of machine.now)) (whole frame.new) (entries_of lines.old)) }
+    ensures depth { length frame.new.digits ≡ deepest_entry (tiling_of machine.now)
+        (length frame.old.digits) (entries_of lines.old) }
+    ensures lifted { OnOk result (AreLifted (children (tiling_of machine.now)) (whole frame.new)
+        (entries_of lines.old) (entries_of lines.new)) }
+    ensures fault { IfErr result (IsStranger (children (tiling_of machine.now)) (whole frame.new)
+        (entries_of lines.old)) }
 {
     let depth = deepest(frame.depth(), lines);
     frame.grow_to(machine, depth);

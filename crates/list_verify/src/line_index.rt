@@ -47,7 +47,8 @@ impl LineIndex {
         requires below { multiplier < 2305843009213693951 }
         ensures index { IfOk result (λ own. Indexes own lines.now (length lines.now)) }
         ensures distinct { OnOk result (NoneAgain lines.now (length lines.now)) }
-        ensures double { IfErr result (OrNoRoom (λ fault. (i : ℕ) × (fault ≡ Double (i + 1)) × IsAgain lines.now i × NoneAgain lines.now i)) }
+        ensures double { IfErr result (OrNoRoom (λ fault. (i : ℕ) × (fault ≡ Double (i + 1))
+            × IsAgain lines.now i × NoneAgain lines.now i)) }
     {
         let count = lines.len().max(1);
         let mut index = LineIndex {
@@ -67,8 +68,10 @@ impl LineIndex {
         requires below { line < length lines.now }
         requires few { length lines.now < 2 ^ 32 }
         ensures index { OnOk result (Indexes self.new lines.now (line + 1)) }
-        ensures new { OnOk result ((e : Entry) → slice_get lines.now line ≡ Some e → (j : ℕ) → j < line → ¬ HasAddress lines.now j (address_of e.address)) }
-        ensures double { IfErr result (OrNoRoom (λ fault. (fault ≡ Double (line + 1)) × IsAgain lines.now line)) }
+        ensures new { OnOk result ((e : Entry) → slice_get lines.now line ≡ Some e → (j : ℕ) → j < line
+            → ¬ HasAddress lines.now j (address_of e.address)) }
+        ensures double { IfErr result (OrNoRoom (λ fault. (fault ≡ Double (line + 1))
+            × IsAgain lines.now line)) }
     {
         let address = &lines[line].address;
         let place = bucket_of(address, self.buckets);
@@ -138,13 +141,16 @@ fn find_in(
     address: &Address,
     buckets: Buckets,
 ) -> Option<u32>
-    requires first { first ≡ last_in (buckets_of buckets lines.now) (index.bucket_of buckets (address_of address.now)) (length before.now) }
+    requires first { first ≡ last_in (buckets_of buckets lines.now)
+        (index.bucket_of buckets (address_of address.now)) (length before.now) }
     requires within { length before.now ≤ length lines.now }
     requires before { (i : ℕ) → i < length before.now
-        → slice_get before.now i ≡ Some (last_in (buckets_of buckets lines.now) (get_or (buckets_of buckets lines.now) i 0) i) }
+        → slice_get before.now i ≡ Some (last_in (buckets_of buckets lines.now)
+        (get_or (buckets_of buckets lines.now) i 0) i) }
     ensures found { IfSome result (λ i. HasAddress lines.now i (address_of address.now)) }
     ensures below { IfSome result (λ i. i < length before.now) }
-    ensures none { IfNone result ((i : ℕ) → i < length before.now → ¬ HasAddress lines.now i (address_of address.now)) }
+    ensures none { IfNone result ((i : ℕ) → i < length before.now
+        → ¬ HasAddress lines.now i (address_of address.now)) }
 {
     let mut at = first;
     while let Some(line) = at {

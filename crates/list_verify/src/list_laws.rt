@@ -3,9 +3,9 @@ ghost use Rattle.cyclo_points.specs.Order.{points_of};
 ghost use Rattle.list_verify.specs.ListLaws.{HasListLaws};
 
 use cyclo_points::order::Order;
-use listings::{frame_walk_law, right_listing_law, walk_fault_law};
+use theory_listings::{frame_walk_law, right_listing_law, walk_fault_law};
+use theory_windows::frame_laws::frame_crossing_law;
 use window_cover::search_laws::search_laws;
-use windows::frame_laws::frame_crossing_law;
 
 /// States the laws of the walk, for the points of each order: those of the search, and its own.
 pub(crate) fn list_laws(order: Order)

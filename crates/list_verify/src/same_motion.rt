@@ -18,7 +18,8 @@ pub(crate) fn is_same_motion(a: &Motion, b: &Motion) -> bool
 /// Returns true if two points have the same coefficients.
 fn is_same_shift(p: &Point, q: &Point) -> bool
     ensures same { IsTrue result ↔ (p.now ≡ q.now) }
-    ensures otherwise { result ≡ false → (o : Order) → IsOf o p.now → IsOf o q.now → ¬ (point_in o p.now ≡ point_in o q.now) }
+    ensures otherwise { result ≡ false → (o : Order) → IsOf o p.now → IsOf o q.now
+        → ¬ (point_in o p.now ≡ point_in o q.now) }
 {
     p.c == q.c
 }

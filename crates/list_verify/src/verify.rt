@@ -1,7 +1,7 @@
 //! Whether a listing is the list of a window.
 ghost use Rattle.std.specs.Prelude.{◌≡◌, ◌⊎◌, ◌↔◌, ◌<◌, ◌≤◌, ◌*◌, ◌^◌, ℕ, List, [], true, length, slice_get, Some, Ok, Err, IfOk, IfErr, OnOk};
 ghost use Rattle.std.specs.List.{All};
-ghost use Rattle.addressing.specs.Address.{Fits};
+ghost use Rattle.theory_addresses.specs.Address.{Fits};
 ghost use Rattle.rule_model.specs.Tiling.{tiling_of, children};
 ghost use Rattle.tile_shape.specs.Views.{address_of};
 ghost use Rattle.lazy_walk.specs.Frames.{IsFrameOf, GrowsTo};
@@ -78,18 +78,24 @@ pub fn verify(
 
     // At Ok the frame has the greater of its own depth and the greatest depth of a line. It is never deeper
     // than is enough for the window and the lines. A text with a fault leaves it as it is.
-    ensures depth { OnOk result (IsListedDepth (tiling_of machine.now) frame.old listing.now (length frame.new.digits)) }
-    ensures not_beyond { (n : ℕ) → IsEnoughListed (tiling_of machine.now) frame.old window.now listing.now n → length frame.new.digits ≤ n }
-    ensures unread { (fault : TextFault) → listing_in (children (tiling_of machine.now)) listing.now ≡ Err fault → frame.new ≡ frame.old }
+    ensures depth { OnOk result (IsListedDepth (tiling_of machine.now) frame.old listing.now
+        (length frame.new.digits)) }
+    ensures not_beyond { (n : ℕ) → IsEnoughListed (tiling_of machine.now) frame.old window.now listing.now n
+        → length frame.new.digits ≤ n }
+    ensures unread { (fault : TextFault) → listing_in (children (tiling_of machine.now)) listing.now ≡ Err
+        fault → frame.new ≡ frame.old }
 
     // The call succeeds if and only if the list is right and no value is refused, unless memory runs out.
     ensures right { IfOk result (λ n. IsVerified (tiling_of machine.now) frame.old window.now listing.now n) }
-    ensures complete { (n : ℕ) → IsVerified (tiling_of machine.now) frame.old window.now listing.now n → (result ≡ Ok n) ⊎ (result ≡ Err faults.NoMemory) }
+    ensures complete { (n : ℕ) → IsVerified (tiling_of machine.now) frame.old window.now listing.now n
+        → (result ≡ Ok n) ⊎ (result ≡ Err faults.NoMemory) }
 
     // Each error comes only for its cause. If a cause holds, its error comes, unless memory runs out. For the
     // errors of the walk this holds of the four together.
-    ensures cause { IfErr result (λ fault. HasCause (tiling_of machine.now) frame.old frame.new window.now listing.now fault) }
-    ensures told { (fault : Fault) → IsTold fault → HasCause (tiling_of machine.now) frame.old frame.new window.now listing.now fault
+    ensures cause { IfErr result (λ fault. HasCause (tiling_of machine.now) frame.old frame.new window.now
+        listing.now fault) }
+    ensures told { (fault : Fault) → IsTold fault
+        → HasCause (tiling_of machine.now) frame.old frame.new window.now listing.now fault
         → (result ≡ Err fault) ⊎ (result ≡ Err faults.NoMemory) }
     ensures lacking { LacksTiles (tiling_of machine.now) frame.old window.now listing.now
         → (result ≡ Err faults.NoMemory) ⊎ (fault : Fault) × (result ≡ Err fault) × IsOfWalk fault }
@@ -113,11 +119,15 @@ fn verdict(
     requires frame { IsFrameOf (tiling_of machine.now) frame.old }
     requires window_fits { IsWindow window.now }
     ensures frame { GrowsTo (tiling_of machine.now) frame.old frame.new }
-    ensures depth { OnOk result (IsListedDepth (tiling_of machine.now) frame.old listing.now (length frame.new.digits)) }
-    ensures not_beyond { (n : ℕ) → IsEnoughListed (tiling_of machine.now) frame.old window.now listing.now n → length frame.new.digits ≤ n }
-    ensures unread { (fault : TextFault) → listing_in (children (tiling_of machine.now)) listing.now ≡ Err fault → frame.new ≡ frame.old }
+    ensures depth { OnOk result (IsListedDepth (tiling_of machine.now) frame.old listing.now
+        (length frame.new.digits)) }
+    ensures not_beyond { (n : ℕ) → IsEnoughListed (tiling_of machine.now) frame.old window.now listing.now n
+        → length frame.new.digits ≤ n }
+    ensures unread { (fault : TextFault) → listing_in (children (tiling_of machine.now)) listing.now ≡ Err
+        fault → frame.new ≡ frame.old }
     ensures right { IfOk result (λ n. IsVerified (tiling_of machine.now) frame.old window.now listing.now n) }
-    ensures cause { IfErr result (λ fault. HasCause (tiling_of machine.now) frame.old frame.new window.now listing.now fault) }
+    ensures cause { IfErr result (λ fault. HasCause (tiling_of machine.now) frame.old frame.new window.now
+        listing.now fault) }
     ensures too_long { (result ≡ Err faults.TooLong) ↔ (most_lines < length (lines_in listing.now)) }
 {
     if let Some(count) = as_written(alloc, machine, frame, window, listing) {
@@ -137,11 +147,15 @@ fn by_walk(
     requires frame { IsFrameOf (tiling_of machine.now) frame.old }
     requires window_fits { IsWindow window.now }
     ensures frame { GrowsTo (tiling_of machine.now) frame.old frame.new }
-    ensures depth { OnOk result (IsListedDepth (tiling_of machine.now) frame.old listing.now (length frame.new.digits)) }
-    ensures not_beyond { (n : ℕ) → IsEnoughListed (tiling_of machine.now) frame.old window.now listing.now n → length frame.new.digits ≤ n }
-    ensures unread { (fault : TextFault) → listing_in (children (tiling_of machine.now)) listing.now ≡ Err fault → frame.new ≡ frame.old }
+    ensures depth { OnOk result (IsListedDepth (tiling_of machine.now) frame.old listing.now
+        (length frame.new.digits)) }
+    ensures not_beyond { (n : ℕ) → IsEnoughListed (tiling_of machine.now) frame.old window.now listing.now n
+        → length frame.new.digits ≤ n }
+    ensures unread { (fault : TextFault) → listing_in (children (tiling_of machine.now)) listing.now ≡ Err
+        fault → frame.new ≡ frame.old }
     ensures right { IfOk result (λ n. IsVerified (tiling_of machine.now) frame.old window.now listing.now n) }
-    ensures cause { IfErr result (λ fault. HasCause (tiling_of machine.now) frame.old frame.new window.now listing.now fault) }
+    ensures cause { IfErr result (λ fault. HasCause (tiling_of machine.now) frame.old frame.new window.now
+        listing.now fault) }
     ensures too_long { (result ≡ Err faults.TooLong) ↔ (most_lines < length (lines_in listing.now)) }
 {
     let uses = machine.checked().uses();
@@ -180,12 +194,16 @@ fn verify_lines(
     requires few { length lines.old < 2 ^ 31 }
     requires multiplier { multiplier < 2305843009213693951 }
     ensures frame { GrowsTo (tiling_of machine.now) frame.old frame.new }
-    ensures depth { OnOk result (length frame.new.digits ≡ deepest_entry (tiling_of machine.now) (length frame.old.digits) (entries_of lines.old)) }
-    ensures not_beyond { (text : List ℕ) (n : ℕ) → listing_in (children (tiling_of machine.now)) text ≡ Ok (entries_of lines.old)
+    ensures depth { OnOk result (length frame.new.digits ≡ deepest_entry (tiling_of machine.now)
+        (length frame.old.digits) (entries_of lines.old)) }
+    ensures not_beyond { (text : List ℕ) (n : ℕ)
+        → listing_in (children (tiling_of machine.now)) text ≡ Ok (entries_of lines.old)
         → IsEnoughListed (tiling_of machine.now) frame.old window.now text n → length frame.new.digits ≤ n }
-    ensures right { (text : List ℕ) → listing_in (children (tiling_of machine.now)) text ≡ Ok (entries_of lines.old)
+    ensures right { (text : List ℕ) → listing_in (children (tiling_of machine.now)) text ≡ Ok
+        (entries_of lines.old)
         → OnOk result (IsVerified (tiling_of machine.now) frame.old window.now text (length lines.old)) }
-    ensures cause { (text : List ℕ) → listing_in (children (tiling_of machine.now)) text ≡ Ok (entries_of lines.old)
+    ensures cause { (text : List ℕ) → listing_in (children (tiling_of machine.now)) text ≡ Ok
+        (entries_of lines.old)
         → IfErr result (λ fault. HasCause (tiling_of machine.now) frame.old frame.new window.now text fault) }
 {
     let checked = machine.checked();
@@ -239,9 +257,12 @@ fn walk_counted<L: Ledger>(
     requires none_crossed { (i : ℕ) → ¬ (slice_get found.old.crossed.marks.items i ≡ Some true) }
     ensures frame { GrowsTo (tiling_of machine.now) frame.old frame.new }
     ensures stays { OnOk result (frame.new ≡ frame.old) }
-    ensures not_beyond { (n : ℕ) → IsLeastEnough (tiling_of machine.now) frame.old window.now n → length frame.new.digits ≤ n }
-    ensures right { OnOk result (AreRightLines (tiling_of machine.now) frame.old window.now (entries_of lines.now)) }
-    ensures fault { IfErr result (OrNoRoom (λ fault. IsStoppedBy (tiling_of machine.now) frame.old frame.new window.now (entries_of lines.now) fault
+    ensures not_beyond { (n : ℕ) → IsLeastEnough (tiling_of machine.now) frame.old window.now n
+        → length frame.new.digits ≤ n }
+    ensures right { OnOk result (AreRightLines (tiling_of machine.now) frame.old window.now
+        (entries_of lines.now)) }
+    ensures fault { IfErr result (OrNoRoom (λ fault. IsStoppedBy (tiling_of machine.now) frame.old frame.new
+        window.now (entries_of lines.now) fault
         ⊎ IsStrayFault (tiling_of machine.now) frame.old window.now (entries_of lines.now) fault)) }
 {
     let mut steps = Steps::<L>::new(blank);

@@ -1,7 +1,7 @@
 //! The walk through lines, from tile to tile across edges that meet the window.
 ghost use Rattle.std.specs.Prelude.{◌≡◌, ◌<◌, ◌≤◌, ◌^◌, ◌+◌, ◌*◌, ℕ, [], true, length, slice_get, Some, None, IfErr, OnOk};
-ghost use Rattle.addressing.specs.Search.{IsAmong};
-ghost use Rattle.windows.specs.Outlines.{MeetsBox};
+ghost use Rattle.theory_addresses.specs.Search.{IsAmong};
+ghost use Rattle.theory_windows.specs.Outlines.{MeetsBox};
 ghost use Rattle.cyclo_points.specs.Order.{points_of};
 ghost use Rattle.rule_model.specs.Tiling.{tiling_of};
 ghost use Rattle.lazy_walk.specs.Frames.{GrowsTo};
@@ -62,19 +62,28 @@ fn cross_edge<L: Ledger>(
     requires index { Indexes index.now lines.now (length lines.now) }
     requires few { length lines.now < 2 ^ 32 }
     requires window_fits { IsWindow window.now }
-    requires found { AreFound (tiling_of machine.now) frame.old window.now lines.now found.old.lines.items found.old.marks.items }
-    requires sides { AreSides (tiling_of machine.now) frame.old window.now lines.now found.old.lines.items found.old.crossed.marks.items }
+    requires found { AreFound (tiling_of machine.now) frame.old window.now lines.now found.old.lines.items
+        found.old.marks.items }
+    requires sides { AreSides (tiling_of machine.now) frame.old window.now lines.now found.old.lines.items
+        found.old.crossed.marks.items }
     requires line_found { IsAmong line found.old.lines.items }
     requires edge_exists { edge < edges_of_line (tiling_of machine.now) lines.now line }
-    requires edge_meets { MeetsBox (points_of machine.now.order).real (box_of (tiling_of machine.now) window.now) (edge_of_line (tiling_of machine.now) frame.old lines.now line edge) }
+    requires edge_meets { MeetsBox (points_of machine.now.order).real
+        (box_of (tiling_of machine.now) window.now)
+        (edge_of_line (tiling_of machine.now) frame.old lines.now line edge) }
     ensures frame { GrowsTo (tiling_of machine.now) frame.old frame.new }
     ensures stays { OnOk result (frame.new ≡ frame.old) }
-    ensures not_beyond { (n : ℕ) → IsLeastEnough (tiling_of machine.now) frame.old window.now n → length frame.new.digits ≤ n }
-    ensures found { OnOk result (AreFound (tiling_of machine.now) frame.old window.now lines.now found.new.lines.items found.new.marks.items) }
-    ensures sides { OnOk result (AreSides (tiling_of machine.now) frame.old window.now lines.now found.new.lines.items found.new.crossed.marks.items) }
+    ensures not_beyond { (n : ℕ) → IsLeastEnough (tiling_of machine.now) frame.old window.now n
+        → length frame.new.digits ≤ n }
+    ensures found { OnOk result (AreFound (tiling_of machine.now) frame.old window.now lines.now
+        found.new.lines.items found.new.marks.items) }
+    ensures sides { OnOk result (AreSides (tiling_of machine.now) frame.old window.now lines.now
+        found.new.lines.items found.new.crossed.marks.items) }
     ensures more { OnOk result (HasMore found.old.lines.items found.new.lines.items) }
-    ensures crossed { OnOk result (IsCrossedOver (tiling_of machine.now) frame.old window.now lines.now found.new.lines.items line edge) }
-    ensures fault { IfErr result (OrNoRoom (IsStoppedBy (tiling_of machine.now) frame.old frame.new window.now (entries_of lines.now))) }
+    ensures crossed { OnOk result (IsCrossedOver (tiling_of machine.now) frame.old window.now lines.now
+        found.new.lines.items line edge) }
+    ensures fault { IfErr result (OrNoRoom (IsStoppedBy (tiling_of machine.now) frame.old frame.new
+        window.now (entries_of lines.now))) }
 {
     let checked = machine.checked();
     list_laws(checked.order());
@@ -117,11 +126,15 @@ fn find_centre(
     requires unmarked { (i : ℕ) → ¬ (slice_get found.old.marks.items i ≡ Some true) }
     ensures frame { GrowsTo (tiling_of machine.now) frame.old frame.new }
     ensures stays { OnOk result (frame.new ≡ frame.old) }
-    ensures not_beyond { (n : ℕ) → IsLeastEnough (tiling_of machine.now) frame.old window.now n → length frame.new.digits ≤ n }
-    ensures centre_found { OnOk result (first_refused_at (tiling_of machine.now) frame.old window.now ≡ None) }
+    ensures not_beyond { (n : ℕ) → IsLeastEnough (tiling_of machine.now) frame.old window.now n
+        → length frame.new.digits ≤ n }
+    ensures centre_found { OnOk result (first_refused_at (tiling_of machine.now) frame.old
+        window.now ≡ None) }
     ensures crossed { found.new.crossed ≡ found.old.crossed }
-    ensures found { OnOk result (AreFound (tiling_of machine.now) frame.old window.now lines.now found.new.lines.items found.new.marks.items) }
-    ensures fault { IfErr result (OrNoRoom (IsStoppedBy (tiling_of machine.now) frame.old frame.new window.now (entries_of lines.now))) }
+    ensures found { OnOk result (AreFound (tiling_of machine.now) frame.old window.now lines.now
+        found.new.lines.items found.new.marks.items) }
+    ensures fault { IfErr result (OrNoRoom (IsStoppedBy (tiling_of machine.now) frame.old frame.new
+        window.now (entries_of lines.now))) }
 {
     let checked = machine.checked();
     list_laws(checked.order());
@@ -150,17 +163,24 @@ fn cross_edges<L: Ledger>(
     requires index { Indexes index.now lines.now (length lines.now) }
     requires few { length lines.now < 2 ^ 32 }
     requires window_fits { IsWindow window.now }
-    requires found { AreFound (tiling_of machine.now) frame.old window.now lines.now found.old.lines.items found.old.marks.items }
-    requires sides { AreSides (tiling_of machine.now) frame.old window.now lines.now found.old.lines.items found.old.crossed.marks.items }
+    requires found { AreFound (tiling_of machine.now) frame.old window.now lines.now found.old.lines.items
+        found.old.marks.items }
+    requires sides { AreSides (tiling_of machine.now) frame.old window.now lines.now found.old.lines.items
+        found.old.crossed.marks.items }
     requires line_found { IsAmong line found.old.lines.items }
     ensures frame { GrowsTo (tiling_of machine.now) frame.old frame.new }
     ensures stays { OnOk result (frame.new ≡ frame.old) }
-    ensures not_beyond { (n : ℕ) → IsLeastEnough (tiling_of machine.now) frame.old window.now n → length frame.new.digits ≤ n }
-    ensures found { OnOk result (AreFound (tiling_of machine.now) frame.old window.now lines.now found.new.lines.items found.new.marks.items) }
-    ensures sides { OnOk result (AreSides (tiling_of machine.now) frame.old window.now lines.now found.new.lines.items found.new.crossed.marks.items) }
+    ensures not_beyond { (n : ℕ) → IsLeastEnough (tiling_of machine.now) frame.old window.now n
+        → length frame.new.digits ≤ n }
+    ensures found { OnOk result (AreFound (tiling_of machine.now) frame.old window.now lines.now
+        found.new.lines.items found.new.marks.items) }
+    ensures sides { OnOk result (AreSides (tiling_of machine.now) frame.old window.now lines.now
+        found.new.lines.items found.new.crossed.marks.items) }
     ensures more { OnOk result (HasMore found.old.lines.items found.new.lines.items) }
-    ensures crossed { OnOk result (AreCrossedOver (tiling_of machine.now) frame.old window.now lines.now found.new.lines.items line (edges_of_line (tiling_of machine.now) lines.now line)) }
-    ensures fault { IfErr result (OrNoRoom (IsStoppedBy (tiling_of machine.now) frame.old frame.new window.now (entries_of lines.now))) }
+    ensures crossed { OnOk result (AreCrossedOver (tiling_of machine.now) frame.old window.now lines.now
+        found.new.lines.items line (edges_of_line (tiling_of machine.now) lines.now line)) }
+    ensures fault { IfErr result (OrNoRoom (IsStoppedBy (tiling_of machine.now) frame.old frame.new
+        window.now (entries_of lines.now))) }
 {
     let checked = machine.checked();
     let order = checked.order();
@@ -212,11 +232,15 @@ pub(crate) fn walk<L: Ledger>(
     requires none_crossed { (i : ℕ) → ¬ (slice_get found.old.crossed.marks.items i ≡ Some true) }
     ensures frame { GrowsTo (tiling_of machine.now) frame.old frame.new }
     ensures stays { OnOk result (frame.new ≡ frame.old) }
-    ensures not_beyond { (n : ℕ) → IsLeastEnough (tiling_of machine.now) frame.old window.now n → length frame.new.digits ≤ n }
+    ensures not_beyond { (n : ℕ) → IsLeastEnough (tiling_of machine.now) frame.old window.now n
+        → length frame.new.digits ≤ n }
     ensures count { OnOk result (length found.new.marks.items ≡ length lines.now) }
-    ensures centre_found { OnOk result (first_refused_at (tiling_of machine.now) frame.old window.now ≡ None) }
-    ensures tells { OnOk result (Tells (tiling_of machine.now) frame.old window.now (entries_of lines.now) found.new.marks.items) }
-    ensures fault { IfErr result (OrNoRoom (IsStoppedBy (tiling_of machine.now) frame.old frame.new window.now (entries_of lines.now))) }
+    ensures centre_found { OnOk result (first_refused_at (tiling_of machine.now) frame.old
+        window.now ≡ None) }
+    ensures tells { OnOk result (Tells (tiling_of machine.now) frame.old window.now (entries_of lines.now)
+        found.new.marks.items) }
+    ensures fault { IfErr result (OrNoRoom (IsStoppedBy (tiling_of machine.now) frame.old frame.new
+        window.now (entries_of lines.now))) }
 {
     let checked = machine.checked();
     list_laws(checked.order());

@@ -1,6 +1,6 @@
 //! The edges of a tile that meet the window.
 ghost use Rattle.std.specs.Prelude.{◌≡◌, ◌↔◌, ◌<◌, ◌≤◌, ◌^◌, ◌+◌, ◌*◌, suc, All, true, false, cond, nat_lt, length, slice_get, Some, IsTrue};
-ghost use Rattle.windows.specs.Outlines.{MeetsBox};
+ghost use Rattle.theory_windows.specs.Outlines.{MeetsBox};
 ghost use Rattle.cyclo_points.specs.Order.{points_of};
 ghost use Rattle.cyclo_points.specs.Point.{IsWithin};
 ghost use Rattle.window_cover.specs.Windows.{window_box};
@@ -18,7 +18,8 @@ fn edge_meets(order: Order, window: &Window, corners: &[Point], edge: usize) -> 
     requires few { length corners.now ≤ 12 }
     requires within { All (IsWithin (2 ^ 25)) corners.now }
     requires centre_within { IsWithin (2 ^ 25) window.now.centre }
-    ensures { IsTrue result ↔ MeetsBox (points_of order).real (window_box order window.now) (line_between order corners.now edge) }
+    ensures { IsTrue result ↔ MeetsBox (points_of order).real (window_box order window.now)
+        (line_between order corners.now edge) }
 {
     let next = next_of(corners.len(), edge);
     let start = corners[edge];
@@ -41,8 +42,10 @@ pub(crate) fn is_left(
     requires within { All (IsWithin (2 ^ 25)) corners.now }
     requires centre_within { IsWithin (2 ^ 25) window.now.centre }
     requires marked { line * 12 + edge < length crossed.now.marks.items }
-    ensures meets { IsTrue result → MeetsBox (points_of order).real (window_box order window.now) (line_between order corners.now edge) }
-    ensures over { result ≡ false → MeetsBox (points_of order).real (window_box order window.now) (line_between order corners.now edge)
+    ensures meets { IsTrue result → MeetsBox (points_of order).real (window_box order window.now)
+        (line_between order corners.now edge) }
+    ensures over { result ≡ false → MeetsBox (points_of order).real (window_box order window.now)
+        (line_between order corners.now edge)
         → slice_get crossed.now.marks.items (line * 12 + edge) ≡ Some true }
 {
     !crossed.has(line, edge) && edge_meets(order, window, corners, edge)

@@ -6,7 +6,7 @@ use Rattle.std.proofs.lemmas.List.Elements.{All-nil, All-cons, All-push, All-app
 use Rattle.std.proofs.lemmas.List.Splits.{slice_split_none}
 use Rattle.std.specs.Fmt.{decimal}
 use Rattle.std.specs.List.{All, AllByRecursion}
-use Rattle.addressing.specs.Address.{Address, Step}
+use Rattle.theory_addresses.specs.Address.{Address, Step}
 use Rattle.cyclo_points.specs.Text.{blank}
 use Rattle.tile_shape.specs.Text.{colon, comma, slash, digit_text, digits_text, address_text, IsShort, HasShortNumbers}
 use Rattle.tile_shape.specs.Words.{some_text, texts_between}
@@ -27,19 +27,22 @@ number_in_word n h =
 
 digit_in_word : (d : Step) → IsShort d → All IsInWord (digit_text d)
 digit_in_word d h =
-    All-append IsInWord (decimal d.child) (slash ∷ decimal d.parent) (number_in_word d.child h.child) (All-cons IsInWord slash (decimal d.parent) refl (number_in_word d.parent h.parent))
+    All-append IsInWord (decimal d.child) (slash ∷ decimal d.parent) (number_in_word d.child h.child)
+    (All-cons IsInWord slash (decimal d.parent) refl (number_in_word d.parent h.parent))
 
 digits_in_word : (ds : List Step) → AllByRecursion IsShort ds → All IsInWord (digits_text ds)
 digits_in_word [] h = All-nil IsInWord
 digits_in_word (d ∷ []) h = digit_in_word d h.0
 digits_in_word (d ∷ e ∷ ds) h =
-    All-append IsInWord (digit_text d) (comma ∷ digits_text (e ∷ ds)) (digit_in_word d h.0) (All-cons IsInWord comma (digits_text (e ∷ ds)) refl (digits_in_word (e ∷ ds) h.1))
+    All-append IsInWord (digit_text d) (comma ∷ digits_text (e ∷ ds)) (digit_in_word d h.0)
+    (All-cons IsInWord comma (digits_text (e ∷ ds)) refl (digits_in_word (e ∷ ds) h.1))
 
 module _ (a : Address) where
   pub address_alone : HasShortNumbers a → texts_between blank (address_text a) ≡ address_text a ∷ []
   address_alone h =
       slice_split_none (λ byte. nat_eq byte blank) (address_text a)
-      (All-append IsInWord (decimal a.kind) (colon ∷ digits_text a.digits) (number_in_word a.kind h.kind) (All-cons IsInWord colon (digits_text a.digits) refl (digits_in_word a.digits h.digits)))
+      (All-append IsInWord (decimal a.kind) (colon ∷ digits_text a.digits) (number_in_word a.kind h.kind)
+      (All-cons IsInWord colon (digits_text a.digits) refl (digits_in_word a.digits h.digits)))
 
   pub address_some : some_text (address_text a) ≡ Some (address_text a)
   address_some = behind (decimal a.kind)

@@ -27,9 +27,11 @@ at_other : (begun : Bool) (b : ℕ) (bs : List ℕ) → nat_eq b newline ≡ fal
 at_other true b bs e = ap (λ t. length (onto_first 0 (cond t ([] ∷ lines_in bs) (onto_first b (lines_in bs))))) e ∙ twice_first 0 b (lines_in bs)
 at_other false b bs e = ap (λ t. length (cond t ([] ∷ lines_in bs) (onto_first b (lines_in bs)))) e ∙ same_first b 0 (lines_in bs)
 
-module _ (text : List ℕ) (i ended : ℕ) (begun : Bool) (h : i < length text) (so_far : ended + lines_left begun (drop i text) ≡ length (lines_in text)) where
+module _ (text : List ℕ) (i ended : ℕ) (begun : Bool) (h : i < length text)
+    (so_far : ended + lines_left begun (drop i text) ≡ length (lines_in text)) where
   -- one byte more, a newline or another
-  pub newline_passed : (more : ℕ) (now : Bool) → get_or text i 0 ≡ newline → more ≡ ended + 1 → now ≡ false → more + lines_left now (drop (i + 1) text) ≡ length (lines_in text)
+  pub newline_passed : (more : ℕ) (now : Bool) → get_or text i 0 ≡ newline → more ≡ ended + 1 → now ≡ false
+      → more + lines_left now (drop (i + 1) text) ≡ length (lines_in text)
   newline_passed more now is e f =
       let one : lines_left begun (drop i text) ≡ suc (lines_left false (drop (i + 1) text)) =
       ap (lines_left begun) (drop_more text i 0 h) ∙ at_newline begun (get_or text i 0) (drop (i + 1) text) (eq-eqb (get_or text i 0) newline is) in
@@ -38,8 +40,10 @@ module _ (text : List ℕ) (i ended : ℕ) (begun : Bool) (h : i < length text) 
       plus : {a b c : ℕ} → a ≡ suc b → ended + a ≡ c → (ended + 1) + b ≡ c
       plus p q = omega arith
 
-  pub other_passed : (more : ℕ) (now : Bool) → (get_or text i 0 ≡ newline → ⊥) → more ≡ ended → now ≡ true → more + lines_left now (drop (i + 1) text) ≡ length (lines_in text)
+  pub other_passed : (more : ℕ) (now : Bool) → (get_or text i 0 ≡ newline → ⊥) → more ≡ ended → now ≡ true
+      → more + lines_left now (drop (i + 1) text) ≡ length (lines_in text)
   other_passed more now other e f =
       ap₂ (λ k b. k + lines_left b (drop (i + 1) text)) e f
-      ∙ ap (λ k. ended + k) (sym (ap (lines_left begun) (drop_more text i 0 h) ∙ at_other begun (get_or text i 0) (drop (i + 1) text) (ne_eqb (get_or text i 0) newline other)))
+      ∙ ap (λ k. ended + k) (sym (ap (lines_left begun) (drop_more text i 0 h)
+      ∙ at_other begun (get_or text i 0) (drop (i + 1) text) (ne_eqb (get_or text i 0) newline other)))
       ∙ so_far

@@ -19,7 +19,8 @@ further most n (c ∷ cs) = cond (nat_eq n 0) None (up_to most (continued n (c �
 abbrev pub figured : ℕ → ℕ → ℕ
 figured n c = 10 * n + (c - 48)
 
-more_by : (most n m : ℕ) (cs : List ℕ) (l : Bool) → nat_le m most ≡ l → (nat_eq n 0 ≡ true → ⊥) → n ≤ m → up_to most (continued m cs) ≡ cond l (further most m cs) None
+more_by : (most n m : ℕ) (cs : List ℕ) (l : Bool) → nat_le m most ≡ l → (nat_eq n 0 ≡ true → ⊥) → n ≤ m
+    → up_to most (continued m cs) ≡ cond l (further most m cs) None
 more_by most n m [] l e h k = ap (λ b. cond b (Some m) None) e
 more_by most n m (c ∷ cs) true e h k = sym (ap (λ b. cond b None (up_to most (continued m (c ∷ cs)))) (above_none n m h k))
   where
@@ -28,23 +29,30 @@ more_by most n m (c ∷ cs) true e h k = sym (ap (λ b. cond b None (up_to most 
 more_by most n m (c ∷ cs) false e h k = past_limit most m (c ∷ cs) (leb-false m most e)
 
 -- a figure behind a number other than 0 makes the number that the figures behind it go on from
-pub further-figure : (most n c : ℕ) (cs : List ℕ) → further most n (c ∷ cs) ≡ cond (is_figure c && not (nat_eq n 0)) (cond (nat_le (figured n c) most) (further most (figured n c) cs) None) None
+pub further-figure : (most n c : ℕ) (cs : List ℕ)
+    → further most n (c ∷ cs) ≡ cond (is_figure c && not (nat_eq n 0))
+    (cond (nat_le (figured n c) most) (further most (figured n c) cs) None) None
 further-figure most n c cs = by_tests (is_figure c) (nat_eq n 0) refl
   where
     at_least : (n c : ℕ) → n ≤ 10 * n + (c - 48)
     at_least n c = omega arith
 
-    by_tests : (f z : Bool) → nat_eq n 0 ≡ z → cond z None (up_to most (cond f (continued (figured n c) cs) None)) ≡ cond (f && not z) (cond (nat_le (figured n c) most) (further most (figured n c) cs) None) None
+    by_tests : (f z : Bool) → nat_eq n 0 ≡ z → cond z None
+        (up_to most (cond f (continued (figured n c) cs) None)) ≡ cond (f && not z)
+        (cond (nat_le (figured n c) most) (further most (figured n c) cs) None) None
     by_tests true true e = refl
     by_tests false true e = refl
     by_tests false false e = refl
     by_tests true false e = more_by most n (figured n c) cs (nat_le (figured n c) most) refl (λ t. absurd (cc (t, e))) (at_least n c)
 
 -- and a first figure makes the number that those behind it go on from
-pub first-figure : (most c : ℕ) (cs : List ℕ) → number_up_to most (c ∷ cs) ≡ cond (is_figure c) (cond (nat_le (figured 0 c) most) (further most (figured 0 c) cs) None) None
+pub first-figure : (most c : ℕ) (cs : List ℕ)
+    → number_up_to most (c ∷ cs) ≡ cond (is_figure c)
+    (cond (nat_le (figured 0 c) most) (further most (figured 0 c) cs) None) None
 first-figure most c [] = by_test (is_figure c)
   where
-    by_test : (f : Bool) → up_to most (cond f (continued (figured 0 c) []) None) ≡ cond f (cond (nat_le (figured 0 c) most) (further most (figured 0 c) []) None) None
+    by_test : (f : Bool) → up_to most (cond f (continued (figured 0 c) []) None) ≡ cond f
+        (cond (nat_le (figured 0 c) most) (further most (figured 0 c) []) None) None
     by_test true = refl
     by_test false = refl
 first-figure most c (d ∷ ds) = by_tests (is_figure c) (nat_eq c 48) refl refl
@@ -61,13 +69,15 @@ first-figure most c (d ∷ ds) = by_tests (is_figure c) (nat_eq c 48) refl refl
     some_of : (c : ℕ) → is_figure c ≡ true → nat_eq c 48 ≡ false → nat_eq (10 * 0 + (c - 48)) 0 ≡ false
     some_of c f e = grind (arith, nat_tests)
 
-    limited : (m : ℕ) (l z : Bool) → nat_le m most ≡ l → nat_eq m 0 ≡ z → z ≡ false → up_to most (continued m (d ∷ ds)) ≡ cond l (cond z None (up_to most (continued m (d ∷ ds)))) None
+    limited : (m : ℕ) (l z : Bool) → nat_le m most ≡ l → nat_eq m 0 ≡ z → z ≡ false
+        → up_to most (continued m (d ∷ ds)) ≡ cond l (cond z None (up_to most (continued m (d ∷ ds)))) None
     limited m l true e k h = absurd (cc h)
     limited m true false e k h = refl
     limited m false false e k h = past_limit most m (d ∷ ds) (leb-false m most e)
 
     by_tests : (f z : Bool) → is_figure c ≡ f → nat_eq c 48 ≡ z
-        → up_to most (cond (not z) (cond f (continued (figured 0 c) (d ∷ ds)) None) None) ≡ cond f (cond (nat_le (figured 0 c) most) (further most (figured 0 c) (d ∷ ds)) None) None
+        → up_to most (cond (not z) (cond f (continued (figured 0 c) (d ∷ ds)) None) None) ≡ cond f
+        (cond (nat_le (figured 0 c) most) (further most (figured 0 c) (d ∷ ds)) None) None
     by_tests false true e h = refl
     by_tests false false e h = refl
     by_tests true true e h = sym (none_is (figured 0 c) (zero_of c h))

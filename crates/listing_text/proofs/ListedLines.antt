@@ -46,6 +46,7 @@ last_cut (b ∷ bs) h e = at_test (nat_eq b newline) (one_line bs (last_cut bs))
         let others : ws ≡ [] = cc in
         one (s ∙ ap₂ (λ v vs. v ∷ vs) first others)
 
-    one_line : (xs : List ℕ) → (0 < length xs → texts_between newline xs ≡ xs ∷ [] → lines_in xs ≡ xs ∷ []) → texts_between newline xs ≡ xs ∷ [] → onto_first b (lines_in xs) ≡ (b ∷ xs) ∷ []
+    one_line : (xs : List ℕ) → (0 < length xs → texts_between newline xs ≡ xs ∷ [] → lines_in xs ≡ xs ∷ [])
+        → texts_between newline xs ≡ xs ∷ [] → onto_first b (lines_in xs) ≡ (b ∷ xs) ∷ []
     one_line [] IH e = refl
     one_line (x ∷ xs) IH e = ap (onto_first b) (IH (omega arith) e)

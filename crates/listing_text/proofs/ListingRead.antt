@@ -4,7 +4,7 @@ use Rattle.std.proofs.lemmas.Bool.Decides.{nat_tests}
 use Rattle.std.proofs.lemmas.List.{map-append}
 use Rattle.std.specs.List.{onto_first}
 use Rattle.cyclo_points.specs.Text.{newline}
-use Rattle.addressing.specs.Address.{Address}
+use Rattle.theory_addresses.specs.Address.{Address}
 use Rattle.tile_shape.specs.AddressIn.{address_in}
 use Rattle.tile_shape.specs.declared.address_fault.AddressFault.{AddressFault}
 use Rattle.listing_text.specs.declared.entry.Entry as program
@@ -52,7 +52,8 @@ module _ (children : List (List ℕ)) where
   entry_fits number listed (Err fault) e = cc e
   entry_fits number listed (Ok a) e = by_test (nat_eq a.kind listed.kind) e
     where
-      by_test : (t : Bool) → cond {A = Result Entry ListingFault} t (Ok (record { motion = listed.motion; address = a })) (Err (BadKind number)) ≡ Err TooLong → ⊥
+      by_test : (t : Bool) → cond {A = Result Entry ListingFault} t
+          (Ok (record { motion = listed.motion; address = a })) (Err (BadKind number)) ≡ Err TooLong → ⊥
       by_test true e = cc e
       by_test false e = cc e
 
@@ -60,7 +61,8 @@ module _ (children : List (List ℕ)) where
   line_fits number (Err place) e = cc e
   line_fits number (Ok listed) e = entry_fits number listed (address_in children listed.address) e
 
-  first_fits : (first : Result Entry ListingFault) (others : Result (List Entry) ListingFault) → (first ≡ Err TooLong → ⊥) → (others ≡ Err TooLong → ⊥) → first_then first others ≡ Err TooLong → ⊥
+  first_fits : (first : Result Entry ListingFault) (others : Result (List Entry) ListingFault)
+      → (first ≡ Err TooLong → ⊥) → (others ≡ Err TooLong → ⊥) → first_then first others ≡ Err TooLong → ⊥
   first_fits (Err fault) others h k e = let same : fault ≡ TooLong = cc in h (ap (λ f. Err f) same)
   first_fits (Ok entry) (Ok entries) h k e = cc e
   first_fits (Ok entry) (Err fault) h k e = k e
@@ -68,7 +70,8 @@ module _ (children : List (List ℕ)) where
   lines_fit : (number : ℕ) (lines : List (List ℕ)) → entries_from children number lines ≡ Err TooLong → ⊥
   lines_fit number [] e = cc e
   lines_fit number (line ∷ lines) e =
-      first_fits (entry_in children number line) (entries_from children (number + 1) lines) (line_fits number (listed_in line)) (lines_fit (number + 1) lines) e
+      first_fits (entry_in children number line) (entries_from children (number + 1) lines)
+      (line_fits number (listed_in line)) (lines_fit (number + 1) lines) e
 
   -- ---- by how many lines there are
   at_most : (n : ℕ) → n ≤ most_lines → nat_le n most_lines ≡ true
@@ -89,7 +92,9 @@ module _ (children : List (List ℕ)) where
       past : (n : ℕ) → nat_le n most_lines ≡ false → most_lines < n
       past n h = grind (arith, nat_tests)
 
-      by_test : (t : Bool) → nat_le (length (lines_in text)) most_lines ≡ t → cond t (entries_from children 1 (lines_in text)) (Err TooLong) ≡ Err TooLong → most_lines < length (lines_in text)
+      by_test : (t : Bool) → nat_le (length (lines_in text)) most_lines ≡ t
+          → cond t (entries_from children 1 (lines_in text)) (Err TooLong) ≡ Err TooLong
+          → most_lines < length (lines_in text)
       by_test true h e = absurd (lines_fit 1 (lines_in text) e)
       by_test false h e = past (length (lines_in text)) h
 
@@ -97,13 +102,17 @@ module _ (children : List (List ℕ)) where
   pub none_read : (text : List ℕ) → entries_from children 1 (lines_in text) ≡ entries_before [] (entries_from children 1 (lines_in text))
   none_read text = before_nothing (entries_from children 1 (lines_in text))
 
-  module _ (all : Result (List Entry) ListingFault) (before after : List program.Entry) (rest line behind : List ℕ) (cut : lines_in rest ≡ line ∷ lines_in behind)
+  module _ (all : Result (List Entry) ListingFault) (before after : List program.Entry)
+      (rest line behind : List ℕ) (cut : lines_in rest ≡ line ∷ lines_in behind)
       (so_far : all ≡ entries_before (map entry_of before) (entries_from children (length before + 1) (lines_in rest))) where
-    opened : all ≡ entries_before (map entry_of before) (first_then (entry_in children (length before + 1) line) (entries_from children (length before + 1 + 1) (lines_in behind)))
+    opened : all ≡ entries_before (map entry_of before)
+        (first_then (entry_in children (length before + 1) line)
+        (entries_from children (length before + 1 + 1) (lines_in behind)))
     opened = so_far ∙ ap (λ ls. entries_before (map entry_of before) (entries_from children (length before + 1) ls)) cut
 
     pub line_refused : (fault : ListingFault) → entry_in children (length before + 1) line ≡ Err fault → all ≡ Err fault
-    line_refused fault e = opened ∙ ap (λ r. entries_before (map entry_of before) (first_then r (entries_from children (length before + 1 + 1) (lines_in behind)))) e
+    line_refused fault e = opened ∙ ap (λ r. entries_before (map entry_of before)
+        (first_then r (entries_from children (length before + 1 + 1) (lines_in behind)))) e
 
     one_more : (put : IsPut children line before after) → length after ≡ length before + 1
     one_more put = ap length put.behind ∙ length_push before put.entry
@@ -111,13 +120,18 @@ module _ (children : List (List ℕ)) where
         length_push : (xs : List program.Entry) (x : program.Entry) → length (xs ++ x ∷ []) ≡ length xs + 1
         length_push xs x = omega (arith, length-append xs (x ∷ []))
 
-    pub counted_on : (total : ℕ) → IsPut children line before after → length before + length (lines_in rest) ≡ total → length after + length (lines_in behind) ≡ total
-    counted_on total put e = let f = one_more put in let g : length (lines_in rest) ≡ suc (length (lines_in behind)) = ap length cut in omega (arith, e, f, g)
+    pub counted_on : (total : ℕ) → IsPut children line before after
+        → length before + length (lines_in rest) ≡ total → length after + length (lines_in behind) ≡ total
+    counted_on total put e = let f = one_more put in let g : length (lines_in rest) ≡ suc
+        (length (lines_in behind)) = ap length cut in omega (arith, e, f, g)
 
-    pub line_read : IsPut children line before after → all ≡ entries_before (map entry_of after) (entries_from children (length after + 1) (lines_in behind))
+    pub line_read : IsPut children line before after
+        → all ≡ entries_before (map entry_of after)
+        (entries_from children (length after + 1) (lines_in behind))
     line_read put =
         opened
         ∙ ap (λ r. entries_before (map entry_of before) (first_then r (entries_from children (length before + 1 + 1) (lines_in behind)))) put.read
         ∙ before_twice (map entry_of before) (entry_of put.entry ∷ []) (entries_from children (length before + 1 + 1) (lines_in behind))
-        ∙ ap (λ es. entries_before es (entries_from children (length before + 1 + 1) (lines_in behind))) (sym (ap (map entry_of) put.behind ∙ map-append entry_of before (put.entry ∷ [])))
+        ∙ ap (λ es. entries_before es (entries_from children (length before + 1 + 1) (lines_in behind)))
+        (sym (ap (map entry_of) put.behind ∙ map-append entry_of before (put.entry ∷ [])))
         ∙ ap (λ n. entries_before (map entry_of after) (entries_from children (n + 1) (lines_in behind))) (sym (one_more put))

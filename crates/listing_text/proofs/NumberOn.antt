@@ -28,7 +28,8 @@ abbrev pub number_on : ℕ → ℕ → ℕ → ℕ → List ℕ → Option (ℕ 
 number_on mark most place n [] = ended place n []
 number_on mark most place n (b ∷ bs) =
     cond (nat_eq b mark) (ended place n (texts_between mark bs))
-    (cond (is_figure b && not (nat_eq n 0 && nat_lt 0 place)) (cond (nat_le (figured n b) most) (number_on mark most (place + 1) (figured n b) bs) None) None)
+    (cond (is_figure b && not (nat_eq n 0 && nat_lt 0 place))
+    (cond (nat_le (figured n b) most) (number_on mark most (place + 1) (figured n b) bs) None) None)
 
 module _ (mark most : ℕ) where
   -- a byte before the first text
@@ -56,14 +57,21 @@ module _ (mark most : ℕ) where
   far_on [] place n h = ap (λ t. cond t None (Some (n, []))) (not_first place h)
   far_on (b ∷ bs) place n h = at_test (nat_eq b mark) (far_on bs (place + 1) (figured n b) (next_place place)) (some_first mark bs)
     where
-      at_test : (t : Bool) → number_on mark most (place + 1) (figured n b) bs ≡ first_by (further most (figured n b)) (texts_between mark bs) → ((w : List ℕ) × (ws : List (List ℕ)) × (texts_between mark bs ≡ w ∷ ws))
+      at_test : (t : Bool) → number_on mark most (place + 1) (figured n b) bs ≡ first_by
+          (further most (figured n b)) (texts_between mark bs)
+          → ((w : List ℕ) × (ws : List (List ℕ)) × (texts_between mark bs ≡ w ∷ ws))
           → cond t (ended place n (texts_between mark bs))
-          (cond (is_figure b && not (nat_eq n 0 && nat_lt 0 place)) (cond (nat_le (figured n b) most) (number_on mark most (place + 1) (figured n b) bs) None) None)
+          (cond (is_figure b && not (nat_eq n 0 && nat_lt 0 place))
+          (cond (nat_le (figured n b) most) (number_on mark most (place + 1) (figured n b) bs) None) None)
           ≡ first_by (further most n) (cond t ([] ∷ texts_between mark bs) (onto_first b (texts_between mark bs)))
       at_test true on s = ap (λ t. cond t None (Some (n, texts_between mark bs))) (not_first place h)
       at_test false on (w, ws, e) =
-          ap (λ z. cond (is_figure b && not z) (cond (nat_le (figured n b) most) (number_on mark most (place + 1) (figured n b) bs) None) None) (and_true (nat_eq n 0) (nat_lt 0 place) (below place h))
-          ∙ first_by-cond (is_figure b && not (nat_eq n 0)) (nat_le (figured n b) most) (further most (figured n b)) w ws (further most n (b ∷ w)) (number_on mark most (place + 1) (figured n b) bs)
+          ap (λ z. cond (is_figure b && not z) (cond (nat_le (figured n b) most)
+          (number_on mark most (place + 1) (figured n b) bs) None) None)
+          (and_true (nat_eq n 0) (nat_lt 0 place) (below place h))
+          ∙ first_by-cond (is_figure b && not (nat_eq n 0)) (nat_le (figured n b) most)
+          (further most (figured n b)) w ws (further most n (b ∷ w))
+          (number_on mark most (place + 1) (figured n b) bs)
           (further-figure most n b w) (on ∙ ap (first_by (further most (figured n b))) e)
           ∙ sym (ap (λ ps. first_by (further most n) (onto_first b ps)) e)
 
@@ -77,11 +85,14 @@ module _ (mark most : ℕ) where
       and_false false = refl
 
       at_test : (t : Bool) → ((w : List ℕ) × (ws : List (List ℕ)) × (texts_between mark bs ≡ w ∷ ws))
-          → cond t (ended 0 0 (texts_between mark bs)) (cond (is_figure b && true) (cond (nat_le (figured 0 b) most) (number_on mark most 1 (figured 0 b) bs) None) None)
+          → cond t (ended 0 0 (texts_between mark bs))
+          (cond (is_figure b && true) (cond (nat_le (figured 0 b) most)
+          (number_on mark most 1 (figured 0 b) bs) None) None)
           ≡ first_by (number_up_to most) (cond t ([] ∷ texts_between mark bs) (onto_first b (texts_between mark bs)))
       at_test true s = refl
       at_test false (w, ws, e) =
           ap (λ f. cond f (cond (nat_le (figured 0 b) most) (number_on mark most 1 (figured 0 b) bs) None) None) (and_false (is_figure b))
-          ∙ first_by-cond (is_figure b) (nat_le (figured 0 b) most) (further most (figured 0 b)) w ws (number_up_to most (b ∷ w)) (number_on mark most 1 (figured 0 b) bs)
+          ∙ first_by-cond (is_figure b) (nat_le (figured 0 b) most) (further most (figured 0 b)) w ws
+          (number_up_to most (b ∷ w)) (number_on mark most 1 (figured 0 b) bs)
           (first-figure most b w) (far_on bs 1 (figured 0 b) (next_place 0) ∙ ap (first_by (further most (figured 0 b))) e)
           ∙ sym (ap (λ ps. first_by (number_up_to most) (onto_first b ps)) e)

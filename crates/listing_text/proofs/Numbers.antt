@@ -72,7 +72,8 @@ unsigned : (most n : ℕ) (ds : List ℕ) → number_up_to most ds ≡ Some n �
 unsigned most n [] h = absurd (cc h)
 unsigned most n (b ∷ bs) h = at_test (nat_eq b minus_sign) refl
   where
-    none : (r : Bool) (f : Bool) → f ≡ false → option_and_then (λ m. cond (nat_le m most) (Some m) None) (cond r (cond f (continued (10 * 0 + (b - 48)) bs) None) None) ≡ None
+    none : (r : Bool) (f : Bool) → f ≡ false → option_and_then (λ m. cond (nat_le m most) (Some m) None)
+        (cond r (cond f (continued (10 * 0 + (b - 48)) bs) None) None) ≡ None
     none true false e = refl
     none false false e = refl
     none r true e = absurd (cc e)
@@ -80,7 +81,9 @@ unsigned most n (b ∷ bs) h = at_test (nat_eq b minus_sign) refl
     no_figure : (b : ℕ) → nat_eq b minus_sign ≡ true → is_figure b ≡ false
     no_figure b e = grind (arith, nat_tests)
 
-    at_test : (t : Bool) → nat_eq b minus_sign ≡ t → cond t (option_and_then negated (number_up_to most bs)) (option_map pos (number_up_to most (b ∷ bs))) ≡ Some (pos n)
+    at_test : (t : Bool) → nat_eq b minus_sign ≡ t
+        → cond t (option_and_then negated (number_up_to most bs))
+        (option_map pos (number_up_to most (b ∷ bs))) ≡ Some (pos n)
     at_test true e = absurd (cc (h, none (begins_right (b ∷ bs)) (is_figure b) (no_figure b e)))
     at_test false e = ap (option_map pos) h
 

@@ -8,7 +8,7 @@ use Rattle.std.proofs.lemmas.List.Elements.{All-nil, All-cons, All-push, All-app
 use Rattle.std.proofs.lemmas.List.Splits.{slice_split_at, slice_split_none}
 use Rattle.std.specs.Fmt.{decimal, signed_decimal}
 use Rattle.std.specs.List.{All, AllByRecursion, join_with_byte}
-use Rattle.addressing.specs.Address.{Address, Step}
+use Rattle.theory_addresses.specs.Address.{Address, Step}
 use Rattle.cyclo_points.specs.Text.{blank, newline, point_text, motion_text, coefficients_text}
 use Rattle.cyclo_points.specs.declared.motion.Motion.{Motion}
 use Rattle.cyclo_points.specs.declared.point.Point.{Point}
@@ -52,7 +52,8 @@ decimal_bytes n h =
 
 signed_bytes : (z : ℤ) → size z < 2 ^ 64 → All (From 45) (signed_decimal z)
 signed_bytes (pos n) h = higher 45 48 (decimal n) (omega arith) (decimal_bytes n h)
-signed_bytes (negsuc n) h = All-cons (From 45) 45 (decimal (suc n)) (omega arith) (higher 45 48 (decimal (suc n)) (omega arith) (decimal_bytes (suc n) h))
+signed_bytes (negsuc n) h = All-cons (From 45) 45 (decimal (suc n)) (omega arith)
+    (higher 45 48 (decimal (suc n)) (omega arith) (decimal_bytes (suc n) h))
 
 -- two texts with a byte between them
 joined : (least byte : ℕ) (xs ys : List ℕ) → least ≤ byte → All (From least) xs → All (From least) ys → All (From least) (xs ++ byte ∷ ys)
@@ -148,76 +149,79 @@ shift_read p four h = by_list p.c four refl h
 
 -- ---- a line
 -- three words that are read, before others
-three_words : (k t s : List ℕ) (ws : List (List ℕ)) (kind turn : ℕ) (shift : Point) → number_up_to 255 k ≡ Some kind → number_up_to 255 t ≡ Some turn → shift_in s ≡ Some shift
+three_words : (k t s : List ℕ) (ws : List (List ℕ)) (kind turn : ℕ) (shift : Point)
+    → number_up_to 255 k ≡ Some kind → number_up_to 255 t ≡ Some turn → shift_in s ≡ Some shift
     → listed_motion (k ∷ t ∷ s ∷ ws) ≡ Ok (kind, record { turn = turn; shift = shift }, ws)
 unfolding listed_motion
 three_words k t s ws kind turn shift a b c = rw (a, b, c)
 
-module _ (children : List (List ℕ)) (usable : AreUsable children) (e : Entry) (can : CanBeListed children e) (short : HasShortNumbers e.address) (read : address_in children (address_text e.address) ≡ Ok e.address) where
-  abbrev pub K : List ℕ
-  K = decimal e.address.kind
+module _ (children : List (List ℕ)) (usable : AreUsable children) (e : Entry) (can : CanBeListed children e)
+    (short : HasShortNumbers e.address) (read : address_in children (address_text e.address) ≡ Ok e.address)
+  where
+    abbrev pub K : List ℕ
+    K = decimal e.address.kind
 
-  abbrev pub T : List ℕ
-  T = decimal e.motion.turn
+    abbrev pub T : List ℕ
+    T = decimal e.motion.turn
 
-  abbrev pub S : List ℕ
-  S = point_text e.motion.shift
+    abbrev pub S : List ℕ
+    S = point_text e.motion.shift
 
-  abbrev pub N : List ℕ
-  N = address_text e.address
+    abbrev pub N : List ℕ
+    N = address_text e.address
 
-  kind_below : e.address.kind < 1000
-  kind_below = short.kind
+    kind_below : e.address.kind < 1000
+    kind_below = short.kind
 
-  shift : IsRead e.motion.shift
-  shift = shift_read e.motion.shift can.four can.within
+    shift : IsRead e.motion.shift
+    shift = shift_read e.motion.shift can.four can.within
 
-  K_bytes : All (From 44) K
-  K_bytes = short_bytes e.address.kind kind_below
+    K_bytes : All (From 44) K
+    K_bytes = short_bytes e.address.kind kind_below
 
-  T_bytes : All (From 44) T
-  T_bytes = let t = can.turn in higher 44 48 T (omega arith) (decimal_bytes e.motion.turn (omega (arith, t)))
+    T_bytes : All (From 44) T
+    T_bytes = let t = can.turn in higher 44 48 T (omega arith) (decimal_bytes e.motion.turn (omega (arith, t)))
 
-  -- the parts stand behind each other
-  flat : entry_text e ≡ K ++ blank ∷ (T ++ blank ∷ (S ++ blank ∷ N))
-  flat = append_assoc K (blank ∷ (T ++ blank ∷ S)) (blank ∷ N) ∙ ap (λ t. K ++ blank ∷ t) (append_assoc T (blank ∷ S) (blank ∷ N))
+    -- the parts stand behind each other
+    flat : entry_text e ≡ K ++ blank ∷ (T ++ blank ∷ (S ++ blank ∷ N))
+    flat = append_assoc K (blank ∷ (T ++ blank ∷ S)) (blank ∷ N) ∙ ap (λ t. K ++ blank ∷ t) (append_assoc T (blank ∷ S) (blank ∷ N))
 
-  no_blank : (bs : List ℕ) → All (From 44) bs → All (λ b. nat_eq b blank ≡ false) bs
-  no_blank bs = not_the blank 44 bs (omega arith)
+    no_blank : (bs : List ℕ) → All (From 44) bs → All (λ b. nat_eq b blank ≡ false) bs
+    no_blank bs = not_the blank 44 bs (omega arith)
 
-  its_words : texts_between blank (entry_text e) ≡ K ∷ T ∷ S ∷ texts_between blank N
-  its_words =
-      ap (texts_between blank) flat
-      ∙ slice_split_at (λ b. nat_eq b blank) K blank (T ++ blank ∷ (S ++ blank ∷ N)) (no_blank K K_bytes) refl
-      ∙ ap (λ ts. K ∷ ts) (slice_split_at (λ b. nat_eq b blank) T blank (S ++ blank ∷ N) (no_blank T T_bytes) refl
-      ∙ ap (λ ts. T ∷ ts) (slice_split_at (λ b. nat_eq b blank) S blank N (no_blank S shift.bytes) refl))
+    its_words : texts_between blank (entry_text e) ≡ K ∷ T ∷ S ∷ texts_between blank N
+    its_words =
+        ap (texts_between blank) flat
+        ∙ slice_split_at (λ b. nat_eq b blank) K blank (T ++ blank ∷ (S ++ blank ∷ N)) (no_blank K K_bytes) refl
+        ∙ ap (λ ts. K ∷ ts) (slice_split_at (λ b. nat_eq b blank) T blank (S ++ blank ∷ N) (no_blank T T_bytes) refl
+        ∙ ap (λ ts. T ∷ ts) (slice_split_at (λ b. nat_eq b blank) S blank N (no_blank S shift.bytes) refl))
 
-  -- a kind of a table is below 16
-  module _ (kind_small : e.address.kind ≤ 255) where
-    start : listed_motion (texts_between blank (entry_text e)) ≡ Ok (e.address.kind, e.motion, texts_between blank N)
-    start =
-        let t = can.turn in
-        ap listed_motion its_words
-        ∙ three_words K T S (texts_between blank N) e.address.kind e.motion.turn e.motion.shift
-        (number_back 255 e.address.kind kind_small (omega (arith, kind_small))) (number_back 255 e.motion.turn t (omega (arith, t))) shift.back
+    -- a kind of a table is below 16
+    module _ (kind_small : e.address.kind ≤ 255) where
+      start : listed_motion (texts_between blank (entry_text e)) ≡ Ok (e.address.kind, e.motion, texts_between blank N)
+      start =
+          let t = can.turn in
+          ap listed_motion its_words
+          ∙ three_words K T S (texts_between blank N) e.address.kind e.motion.turn e.motion.shift
+          (number_back 255 e.address.kind kind_small (omega (arith, kind_small))) (number_back 255 e.motion.turn t (omega (arith, t))) shift.back
 
-    pub entry_back : (number : ℕ) → entry_in children number (entry_text e) ≡ Ok e
-    entry_back number = of_its_kind children number (entry_text e) e.address.kind e.motion N e.address start refl short read same
+      pub entry_back : (number : ℕ) → entry_in children number (entry_text e) ≡ Ok e
+      entry_back number = of_its_kind children number (entry_text e) e.address.kind e.motion N e.address start refl short read same
+        where
+          same : nat_eq e.address.kind e.address.kind ≡ true
+          same = grind (arith, nat_tests)
+
+    pub entry_bytes : All (λ b. nat_eq b newline ≡ false) (entry_text e)
+    entry_bytes = subst (All (λ b. nat_eq b newline ≡ false)) (sym flat) (not_the newline 32 _ (omega arith) whole)
       where
-        same : nat_eq e.address.kind e.address.kind ≡ true
-        same = grind (arith, nat_tests)
+        low : (bs : List ℕ) → All (From 44) bs → All (From 32) bs
+        low bs = higher 32 44 bs (omega arith)
 
-  pub entry_bytes : All (λ b. nat_eq b newline ≡ false) (entry_text e)
-  entry_bytes = subst (All (λ b. nat_eq b newline ≡ false)) (sym flat) (not_the newline 32 _ (omega arith) whole)
-    where
-      low : (bs : List ℕ) → All (From 44) bs → All (From 32) bs
-      low bs = higher 32 44 bs (omega arith)
-
-      whole : All (From 32) (K ++ blank ∷ (T ++ blank ∷ (S ++ blank ∷ N)))
-      whole =
-          joined 32 blank K (T ++ blank ∷ (S ++ blank ∷ N)) (omega arith) (low K K_bytes)
-          (joined 32 blank T (S ++ blank ∷ N) (omega arith) (low T T_bytes)
-          (joined 32 blank S N (omega arith) (low S shift.bytes) (low N (address_bytes e.address short))))
+        whole : All (From 32) (K ++ blank ∷ (T ++ blank ∷ (S ++ blank ∷ N)))
+        whole =
+            joined 32 blank K (T ++ blank ∷ (S ++ blank ∷ N)) (omega arith) (low K K_bytes)
+            (joined 32 blank T (S ++ blank ∷ N) (omega arith) (low T T_bytes)
+            (joined 32 blank S N (omega arith) (low S shift.bytes) (low N (address_bytes e.address short))))
 
 -- ---- a listing
 -- what the laws of addresses give of each entry

@@ -1,6 +1,6 @@
 -- What a listing is: its entries, or its first fault.
 use Rattle.std.specs.Prelude.{ℕ, ◌+◌, List, [], ◌∷◌, ◌++◌, length, ◌==◌, nat_le, Result, Ok, Err, if◌then◌else◌}
-use Rattle.addressing.specs.Address.{Address as TheAddress}
+use Rattle.theory_addresses.specs.Address.{Address as TheAddress}
 use Rattle.cyclo_points.specs.declared.motion.Motion.{Motion}
 use Rattle.tile_shape.specs.AddressIn.{address_in}
 use Rattle.tile_shape.specs.declared.address_fault.AddressFault.{AddressFault}

@@ -16,7 +16,8 @@ const MOST_SHIFT: u32 = 16_777_216;
 pub(crate) fn number_before(text: &[u8], mark: u8, most: u32) -> Option<(u32, Option<&[u8]>)>
     requires small { most ≤ most_shift }
     ensures at_most { IfSome result (λ found. found.0 ≤ most) }
-    ensures exact { option_map (λ found. (found.0, texts_behind mark found.1)) result ≡ first_by (number_up_to most) (texts_between mark text.now) }
+    ensures exact { option_map (λ found. (found.0, texts_behind mark found.1)) result ≡ first_by
+        (number_up_to most) (texts_between mark text.now) }
 {
     let mut number: u32 = 0;
     for (place, byte) in text.iter().enumerate() {
@@ -44,7 +45,8 @@ pub(crate) fn number_before(text: &[u8], mark: u8, most: u32) -> Option<(u32, Op
 /// number, or `-` and a number other than 0.
 #[inline]
 pub(crate) fn signed_before_comma(text: &[u8]) -> Option<(i64, Option<&[u8]>)>
-    ensures { option_map (λ found. (found.0, texts_behind comma found.1)) result ≡ first_by signed_in (texts_between comma text.now) }
+    ensures { option_map (λ found. (found.0, texts_behind comma found.1)) result ≡ first_by signed_in
+        (texts_between comma text.now) }
 {
     if let [b'-', figures @ ..] = text {
         let (number, rest) = number_before(figures, b',', MOST_SHIFT)?;

@@ -42,15 +42,18 @@ const MOST_LINES: usize = 200_000;
 /// decides: `BadLine`, then `Address`, then `BadKind`. `NoMemory` only if memory ran out.
 pub fn read_listing(alloc: Global, uses: &Uses, listing: &[u8]) -> Result<Vec<Entry>, ListingFault>
     // The entries are those of the lines, in order; a fault is that of the first line that has one.
-    ensures read { IfOk result (λ entries. listing_in uses.now listing.now ≡ Ok (map entry_of entries.items)) }
+    ensures read { IfOk result (λ entries. listing_in uses.now listing.now ≡ Ok
+        (map entry_of entries.items)) }
     ensures fault { IfErr result (OrWantsMemory (λ fault. listing_in uses.now listing.now ≡ Err fault)) }
 
     // There is an entry for each line, and its address fits the table.
     ensures lines { IfOk result (λ entries. length entries.items ≡ length (lines_in listing.now)) }
-    ensures accepted { IfOk result (λ entries. All (λ entry. IsAcceptedAddress uses.now (address_of entry.address)) entries.items) }
+    ensures accepted { IfOk result (λ entries. All
+        (λ entry. IsAcceptedAddress uses.now (address_of entry.address)) entries.items) }
 
     // If the list has a fault, that fault comes, unless memory runs out.
-    ensures refused { (fault : Fault) → listing_in uses.now listing.now ≡ Err fault → (result ≡ Err fault) ⊎ (result ≡ Err faults.NoMemory) }
+    ensures refused { (fault : Fault) → listing_in uses.now listing.now ≡ Err fault → (result ≡ Err fault)
+        ⊎ (result ≡ Err faults.NoMemory) }
 
     // A list with too many lines is refused even if memory runs out.
     ensures too_long { (result ≡ Err faults.TooLong) ↔ (most_lines < length (lines_in listing.now)) }
@@ -75,7 +78,8 @@ pub fn read_listing(alloc: Global, uses: &Uses, listing: &[u8]) -> Result<Vec<En
 fn put_line(uses: &Uses, line: &[u8], entries: &mut Vec<Entry>) -> Result<(), ListingFault>
     requires few { length entries.old.items < most_lines }
     ensures put { IfOk result (λ _. IsPut uses.now line.now entries.old.items entries.new.items) }
-    ensures fault { IfErr result (OrWantsMemory (λ fault. entry_in uses.now (length entries.old.items + 1) line.now ≡ Err fault)) }
+    ensures fault { IfErr result (OrWantsMemory
+        (λ fault. entry_in uses.now (length entries.old.items + 1) line.now ≡ Err fault)) }
 {
     // The law that the text of an address has no blank, and what it requires of the table.
     short_numbers_law();
@@ -114,8 +118,10 @@ fn put_line(uses: &Uses, line: &[u8], entries: &mut Vec<Entry>) -> Result<(), Li
 /// Returns the fault of a line whose first three fields are well formed and whose rest is not an address.
 /// There is no fourth field, or there is a fifth; otherwise it is the fault of the address.
 fn wrong_end(line: u32, text: &[u8], fault: AddressFault) -> ListingFault
-    ensures { (children : List (List ℕ)) (kind : ℕ) (motion : Motion) → address_in children text.now ≡ Err fault
-        → entry_of_words children line (listed_behind kind motion (texts_between blank text.now)) ≡ Err result }
+    ensures { (children : List (List ℕ)) (kind : ℕ) (motion : Motion)
+        → address_in children text.now ≡ Err fault
+        → entry_of_words children line (listed_behind kind motion (texts_between blank text.now)) ≡ Err
+        result }
 {
     let (word, left) = cut(text, b' ');
     if word.is_empty() {

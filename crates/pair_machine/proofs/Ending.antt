@@ -3,9 +3,9 @@ use Rattle.std.proofs.Common.{◌≡◌, inl, ℕ, zero, suc, Bool, true, false,
 use Rattle.std.proofs.lemmas.List.{drop-map}
 use Rattle.tile_shape.specs.declared.step.Step as program
 use Rattle.tile_shape.specs.Views.{step_of}
-use Rattle.addressing.specs.Address.{Step}
-use Rattle.addressing.specs.Search.{IsAmong}
-use Rattle.addressing.specs.Tables.{Tables}
+use Rattle.theory_addresses.specs.Address.{Step}
+use Rattle.theory_addresses.specs.Search.{IsAmong}
+use Rattle.theory_addresses.specs.Tables.{Tables}
 use Rattle.pair_machine.specs.Between.{Pair}
 use Rattle.pair_machine.specs.Itself.{SomeMeetsItself}
 use Rattle.pair_machine.specs.Kept.{IsKept}
@@ -20,7 +20,17 @@ none_among (p ∷ ps) h = elim (h p (inl refl)) [ ]
 first_none : (t : Tables) (x : Step) (b : Bool) → (SomeMeetsItself t → ⊥) → first_pairs t x x b ≡ []
 first_none t x false h = refl
 first_none t x true h = none_among (between_children t x.parent x.child x.child)
-    (λ p i. h (record { kind = x.parent; has = record { child = x.child; itself = record { edge = p.mine; back = p.theirs; is = between-among t x.parent x.child x.child p.mine p.theirs i } } }))
+    (λ p i. h (record {
+      kind = x.parent;
+      has = record {
+        child = x.child;
+        itself = record {
+          edge = p.mine;
+          back = p.theirs;
+          is = between-among t x.parent x.child x.child p.mine p.theirs i;
+        };
+      };
+    }))
 
 pub equal_none : (t : Tables) (ds : List Step) → (SomeMeetsItself t → ⊥) → pairs_read t ds ds ≡ []
 equal_none t [] h = refl
@@ -36,14 +46,18 @@ differ_below xs ys level differ = by_case (same_steps xs ys) refl
     by_case : (b : Bool) → same_steps xs ys ≡ b → b ≡ false
     by_case false is = refl
     by_case true is =
-        let here : same_steps (drop level xs) (drop level ys) ≡ true = subst (λ (zs : List Step). same_steps (drop level xs) (drop level zs) ≡ true) (same_steps-true xs ys is) (same_steps-same (drop level xs)) in
+        let here : same_steps (drop level xs) (drop level ys) ≡ true = subst
+        (λ (zs : List Step). same_steps (drop level xs) (drop level zs) ≡ true) (same_steps-true xs ys is)
+        (same_steps-same (drop level xs)) in
         absurd cc
 
 and_false : (b : Bool) → (b && false) ≡ false
 and_false true = refl
 and_false false = refl
 
-pub none_left : (t : Tables) (xs ys : List Step) (level : ℕ) → pairs_read t (drop level xs) (drop level ys) ≡ [] → same_steps (drop level xs) (drop level ys) ≡ false → pairs_read t xs ys ≡ []
+pub none_left : (t : Tables) (xs ys : List Step) (level : ℕ)
+    → pairs_read t (drop level xs) (drop level ys) ≡ [] → same_steps (drop level xs) (drop level ys) ≡ false
+    → pairs_read t xs ys ≡ []
 none_left t [] ys level none differ = refl
 none_left t (x ∷ xs) [] level none differ = refl
 none_left t (x ∷ xs) (y ∷ ys) zero none differ = none
@@ -57,10 +71,13 @@ kept_nothing kept ps none h = none_among ps (λ p i. let j : IsAmong p [] = subs
 pub nothing_kept : (kept ps : List Pair) → kept ≡ [] → ps ≡ [] → IsKept kept ps
 nothing_kept kept ps none empty = rw (none, empty) (record { all = λ p i. i; only = λ p i. i })
 
-pub ends : (t : Tables) (xs ys : List Step) (level : ℕ) (same : Bool) (kept : List Pair) → kept ≡ [] → same ≡ false → same ≡ same_steps (drop level xs) (drop level ys)
+pub ends : (t : Tables) (xs ys : List Step) (level : ℕ) (same : Bool) (kept : List Pair) → kept ≡ []
+    → same ≡ false → same ≡ same_steps (drop level xs) (drop level ys)
     → IsKept kept (pairs_read t (drop level xs) (drop level ys)) → IsKept kept (pairs_read t xs ys)
 ends t xs ys level same kept none differ is h =
-    nothing_kept kept (pairs_read t xs ys) none (none_left t xs ys level (kept_nothing kept (pairs_read t (drop level xs) (drop level ys)) none h) (sym is ∙ differ))
+    nothing_kept kept (pairs_read t xs ys) none
+    (none_left t xs ys level (kept_nothing kept (pairs_read t (drop level xs) (drop level ys)) none h)
+    (sym is ∙ differ))
 
 -- what is the same reads the same
 pub same_read : (xs ys : List Step) → xs ≡ ys → true ≡ same_steps xs ys

@@ -2,9 +2,9 @@
 use Rattle.std.proofs.Common.{◌≡◌, ◌⊎◌, inl, inr, ℕ, zero, suc, ◌+◌, ◌<◌, ◌≤◌, List, [], ◌∷◌, length, map, drop, Some, refl, sym, ap, arith}
 use Rattle.std.specs.List.{insert, slice_get}
 use Rattle.std.proofs.lemmas.List.Edits.{length-insert}
-use Rattle.addressing.specs.Address.{Address}
-use Rattle.addressing.specs.Search.{IsAmong}
-use Rattle.addressing.specs.Tables.{Tables}
+use Rattle.theory_addresses.specs.Address.{Address}
+use Rattle.theory_addresses.specs.Search.{IsAmong}
+use Rattle.theory_addresses.specs.Tables.{Tables}
 use Rattle.pair_machine.specs.declared.edge_pair.EdgePair.{EdgePair}
 use Rattle.pair_machine.specs.Between.{Pair, AllAbove, IsInOrder, IsBetween}
 use Rattle.pair_machine.specs.Kept.{BelongsAt}
@@ -21,19 +21,23 @@ among_above e [] h = tt
 among_above e (p ∷ ps) h = (h p (inl refl), among_above e ps (λ q i. h q (inr i)))
 
 -- what stands from a place on is greater than what is less than the pair there
-pub behind_at : (ps : List Pair) (place m : ℕ) (q : Pair) → IsInOrder ps → slice_get ps place ≡ Some q → m < q.mine → (p : Pair) → IsAmong p (drop place ps) → m < p.mine
+pub behind_at : (ps : List Pair) (place m : ℕ) (q : Pair) → IsInOrder ps → slice_get ps place ≡ Some q
+    → m < q.mine → (p : Pair) → IsAmong p (drop place ps) → m < p.mine
 behind_at [] place m q h at lt p i = absurd cc
 behind_at (x ∷ xs) zero m q h at lt p (inl e) = let one : x ≡ q = cc in omega (arith, lt, ap (λ (y : Pair). y.mine) e, ap (λ (y : Pair). y.mine) one)
-behind_at (x ∷ xs) zero m q h at lt p (inr i) = let one : x ≡ q = cc in omega (arith, lt, above_among x.mine p xs h.0 i, ap (λ (y : Pair). y.mine) one)
+behind_at (x ∷ xs) zero m q h at lt p (inr i) = let one : x ≡ q = cc in omega
+    (arith, lt, above_among x.mine p xs h.0 i, ap (λ (y : Pair). y.mine) one)
 behind_at (x ∷ xs) (suc place) m q h at lt p i = behind_at xs place m q h.1 at lt p i
 
 -- at most as many as there are edges
-pub in_order_few : (low : ℕ) (ps : List Pair) → IsInOrder ps → ((p : Pair) → IsAmong p ps → low ≤ p.mine) → ((p : Pair) → IsAmong p ps → p.mine < 12) → low ≤ 12 → length ps + low ≤ 12
+pub in_order_few : (low : ℕ) (ps : List Pair) → IsInOrder ps → ((p : Pair) → IsAmong p ps → low ≤ p.mine)
+    → ((p : Pair) → IsAmong p ps → p.mine < 12) → low ≤ 12 → length ps + low ≤ 12
 in_order_few low [] h from small le = omega arith
 in_order_few low (p ∷ ps) h from small le =
     let first = from p (inl refl) in
     let here = small p (inl refl) in
-    let rest = in_order_few (p.mine + 1) ps h.1 (λ q i. omega (arith, above_among p.mine q ps h.0 i)) (λ q i. small q (inr i)) (omega (arith, here)) in
+    let rest = in_order_few (p.mine + 1) ps h.1 (λ q i. omega (arith, above_among p.mine q ps h.0 i))
+    (λ q i. small q (inr i)) (omega (arith, here)) in
     omega (arith, first, rest)
 
 -- ---- a pair that joins
@@ -76,13 +80,17 @@ map-insert [] (suc place) x = refl
 map-insert (y ∷ ys) zero x = refl
 map-insert (y ∷ ys) (suc place) x = ap (λ (l : List Pair). as_pair y ∷ l) (map-insert ys place x)
 
-pub below-insert : (ps : List Pair) (place : ℕ) (m : Pair) → m.mine < 12 → ((p : Pair) → IsAmong p ps → p.mine < 12) → (p : Pair) → IsAmong p (insert ps place m) → p.mine < 12
-below-insert ps place m small below p i = elim (insert-among ps place m p i) [ inl j ↦ below p j | inr e ↦ omega (arith, small, ap (λ (y : Pair). y.mine) e) ]
+pub below-insert : (ps : List Pair) (place : ℕ) (m : Pair) → m.mine < 12
+    → ((p : Pair) → IsAmong p ps → p.mine < 12) → (p : Pair) → IsAmong p (insert ps place m) → p.mine < 12
+below-insert ps place m small below p i = elim (insert-among ps place m p i)
+    [ inl j ↦ below p j | inr e ↦ omega (arith, small, ap (λ (y : Pair). y.mine) e) ]
 
 -- so there is room for it
-pub room_for : (ps : List Pair) (place : ℕ) (m : Pair) → m.mine < 12 → IsInOrder ps → ((p : Pair) → IsAmong p ps → p.mine < 12) → BelongsAt ps m.mine place → length ps < 12
+pub room_for : (ps : List Pair) (place : ℕ) (m : Pair) → m.mine < 12 → IsInOrder ps
+    → ((p : Pair) → IsAmong p ps → p.mine < 12) → BelongsAt ps m.mine place → length ps < 12
 room_for ps place m small h below b =
-    let few = in_order_few 0 (insert ps place m) (in_order-insert ps place m h b) (λ p i. omega arith) (below-insert ps place m small below) (omega arith) in
+    let few = in_order_few 0 (insert ps place m) (in_order-insert ps place m h b) (λ p i. omega arith)
+    (below-insert ps place m small below) (omega arith) in
     omega (arith, few, length-insert ps place m b.within)
 
 -- ---- a list in order is known by its members
@@ -94,10 +102,12 @@ head-same p q ps qs h k (inr i) (inr j) = absurd (omega (arith, above_among q.mi
 
 -- a further member is a further one of the other
 tail-among : (p q x : Pair) (ps qs : List Pair) → p ≡ q → AllAbove p.mine ps → IsAmong x ps → IsAmong x (q ∷ qs) → IsAmong x qs
-tail-among p q x ps qs same h i (inl e) = absurd (omega (arith, above_among p.mine x ps h i, ap (λ (y : Pair). y.mine) e, ap (λ (y : Pair). y.mine) same))
+tail-among p q x ps qs same h i (inl e) = absurd
+    (omega (arith, above_among p.mine x ps h i, ap (λ (y : Pair). y.mine) e, ap (λ (y : Pair). y.mine) same))
 tail-among p q x ps qs same h i (inr j) = j
 
-pub in_order-one : (ps qs : List Pair) → IsInOrder ps → IsInOrder qs → ((p : Pair) → IsAmong p ps → IsAmong p qs) → ((p : Pair) → IsAmong p qs → IsAmong p ps) → ps ≡ qs
+pub in_order-one : (ps qs : List Pair) → IsInOrder ps → IsInOrder qs
+    → ((p : Pair) → IsAmong p ps → IsAmong p qs) → ((p : Pair) → IsAmong p qs → IsAmong p ps) → ps ≡ qs
 in_order-one [] [] h k f g = refl
 in_order-one [] (q ∷ qs) h k f g = elim (g q (inl refl)) [ ]
 in_order-one (p ∷ ps) [] h k f g = elim (f p (inl refl)) [ ]

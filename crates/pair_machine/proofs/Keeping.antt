@@ -3,12 +3,12 @@ use Rattle.std.proofs.Common.{◌≡◌, inl, inr, ℕ, ◌+◌, ◌<◌, List, 
 use Rattle.std.specs.List.{flat_map, insert}
 use Rattle.std.proofs.lemmas.Grind.{flat_map-append}
 use Rattle.std.proofs.lemmas.List.{take_more, append-nil}
-use Rattle.addressing.specs.Contact.{Contact, inner}
-use Rattle.addressing.specs.Search.{below, IsAmong}
-use Rattle.addressing.specs.Tables.{Tables, contact_of, contacts_of}
-use Rattle.addressing.proofs.Lists.{IsAmong-append_left, IsAmong-append_right, IsAmong-flat_map}
-use Rattle.addressing.proofs.Ranges.{among-append, among-flat_map}
-use Rattle.addressing.proofs.Searches.{below-more}
+use Rattle.theory_addresses.specs.Contact.{Contact, inner}
+use Rattle.theory_addresses.specs.Search.{below, IsAmong}
+use Rattle.theory_addresses.specs.Tables.{Tables, contact_of, contacts_of}
+use Rattle.theory_addresses.proofs.Lists.{IsAmong-append_left, IsAmong-append_right, IsAmong-flat_map}
+use Rattle.theory_addresses.proofs.Ranges.{among-append, among-flat_map}
+use Rattle.theory_addresses.proofs.Searches.{below-more}
 use Rattle.pair_machine.specs.Between.{Pair}
 use Rattle.pair_machine.specs.Kept.{IsKept, IsFunctional}
 use Rattle.pair_machine.specs.Nodes.{RowPair}
@@ -34,7 +34,8 @@ kept_inserted kept ps place m h = record {
 }
 
 -- ---- a pair that is there
-pub kept_there : (kept ps : List Pair) (m : Pair) → ((q : Pair) × IsAmong q kept × (q.mine ≡ m.mine)) → IsKept kept ps → IsFunctional (ps ++ m ∷ []) → IsKept kept (ps ++ m ∷ [])
+pub kept_there : (kept ps : List Pair) (m : Pair) → ((q : Pair) × IsAmong q kept × (q.mine ≡ m.mine))
+    → IsKept kept ps → IsFunctional (ps ++ m ∷ []) → IsKept kept (ps ++ m ∷ [])
 kept_there kept ps m (q, i, same) h functional = record {
   all = λ p j. elim (among-append p ps (m ∷ []) j) [
     | inl k ↦ h.all p k
@@ -60,7 +61,8 @@ pub functional_less : (ps qs : List Pair) → ((p : Pair) → IsAmong p ps → I
 functional_less ps qs sub h = λ e f g i j. h e f g (sub (record { mine = e; theirs = f }) i) (sub (record { mine = e; theirs = g }) j)
 
 -- the same members
-pub kept_same : (kept ps qs : List Pair) → ((p : Pair) → IsAmong p ps → IsAmong p qs) → ((p : Pair) → IsAmong p qs → IsAmong p ps) → IsKept kept ps → IsKept kept qs
+pub kept_same : (kept ps qs : List Pair) → ((p : Pair) → IsAmong p ps → IsAmong p qs)
+    → ((p : Pair) → IsAmong p qs → IsAmong p ps) → IsKept kept ps → IsKept kept qs
 kept_same kept ps qs f g h = record { all = λ p i. h.all p (g p i); only = λ p i. f p (h.only p i) }
 
 -- ---- contacts and pairs of rows, one more
@@ -71,9 +73,16 @@ pub between_none : (t : Tables) (k a b : ℕ) → between_upto t k a b 0 ≡ []
 unfolding between_upto
 between_none t k a b = refl
 
-pub between_more : (t : Tables) (k a b n : ℕ) (c : Contact) → contact_of t k a n ≡ Some c → between_upto t k a b (n + 1) ≡ between_upto t k a b n ++ met_by n b (Some c)
+pub between_more : (t : Tables) (k a b n : ℕ) (c : Contact) → contact_of t k a n ≡ Some c
+    → between_upto t k a b (n + 1) ≡ between_upto t k a b n ++ met_by n b (Some c)
 unfolding between_upto
-between_more t k a b n c is = rw (below-more (λ e. e) n, flat_map-append (λ e. met_by e b (contact_of t k a e)) (below (λ e. e) n) (n ∷ [])) (ap (λ (l : List Pair). flat_map (λ e. met_by e b (contact_of t k a e)) (below (λ e. e) n) ++ l) (last (contact_of t k a n) is))
+between_more t k a b n c is = rw (
+  below-more (λ e. e) n,
+  flat_map-append
+      (λ e. met_by e b (contact_of t k a e)) (below (λ e. e) n) (n ∷ []),
+)
+    (ap (λ (l : List Pair). flat_map (λ e. met_by e b (contact_of t k a e)) (below (λ e. e) n) ++ l)
+    (last (contact_of t k a n) is))
   where
     last : (o : Option Contact) → o ≡ Some c → met_by n b o ++ [] ≡ met_by n b (Some c)
     last o e = rw e (append-nil (met_by n b (Some c)))
@@ -82,10 +91,16 @@ pub between_all : (t : Tables) (k a b : ℕ) → between_upto t k a b (length (c
 unfolding between_upto between_children
 between_all t k a b = refl
 
-pub left_of-more : (row : List RowPair) (i a b : ℕ) (d : RowPair) → i < length row → left_of (take (i + 1) row) a b ≡ left_of (take i row) a b ++ left_one (get_or row i d) a b
+pub left_of-more : (row : List RowPair) (i a b : ℕ) (d : RowPair) → i < length row
+    → left_of (take (i + 1) row) a b ≡ left_of (take i row) a b ++ left_one (get_or row i d) a b
 unfolding left_of
 left_of-more row i a b d h =
-    rw (take_more row i d h, flat_map-append (λ (r : RowPair). left_one r a b) (take i row) (get_or row i d ∷ []), append-nil (left_one (get_or row i d) a b)) refl
+    rw (
+      take_more row i d h,
+      flat_map-append (λ (r : RowPair). left_one r a b) (take i row)
+          (get_or row i d ∷ []),
+      append-nil (left_one (get_or row i d) a b),
+    ) refl
 
 left_of-take : (row : List RowPair) (i a b : ℕ) (p : Pair) → IsAmong p (left_of (take i row) a b) → IsAmong p (left_of row a b)
 unfolding left_of
@@ -99,8 +114,12 @@ pub row_more : (old now new ps : List Pair) (row : List RowPair) (i a b : ℕ) (
     → ((qs : List Pair) → IsKept now qs → IsFunctional (qs ++ left_one r a b) → IsKept new (qs ++ left_one r a b))
     → IsFunctional (ps ++ left_of row a b) → IsKept new (ps ++ left_of (take (i + 1) row) a b)
 row_more old now new ps row i a b d r h at before more functional =
-    let e : ps ++ left_of (take (i + 1) row) a b ≡ (ps ++ left_of (take i row) a b) ++ left_one r a b = rw (left_of-more row i a b d h, at) (sym (append_assoc ps (left_of (take i row) a b) (left_one r a b))) in
-    let less : IsFunctional ((ps ++ left_of (take i row) a b) ++ left_one r a b) = subst IsFunctional e (functional_less (ps ++ left_of (take (i + 1) row) a b) (ps ++ left_of row a b) (sub (i + 1)) functional) in
+    let e : ps ++ left_of (take (i + 1) row) a b ≡ (ps ++ left_of (take i row) a b)
+    ++ left_one r a b = rw (left_of-more row i a b d h, at)
+    (sym (append_assoc ps (left_of (take i row) a b) (left_one r a b))) in
+    let less : IsFunctional ((ps ++ left_of (take i row) a b) ++ left_one r a b) = subst IsFunctional e
+    (functional_less (ps ++ left_of (take (i + 1) row) a b) (ps ++ left_of row a b) (sub (i + 1))
+    functional) in
     subst (IsKept new) (sym e) (more (ps ++ left_of (take i row) a b) (before functional) less)
   where
     sub : (n : ℕ) (p : Pair) → IsAmong p (ps ++ left_of (take n row) a b) → IsAmong p (ps ++ left_of row a b)
@@ -122,8 +141,10 @@ contact_kept new ps e b c f same more functional =
     subst (λ (l : List Pair). IsKept new (ps ++ l)) (sym one) (more (subst (λ (l : List Pair). IsFunctional (ps ++ l)) one functional))
 
 pub one_kept : (new ps : List Pair) (r : RowPair) (a b : ℕ) → r.mine.child ≡ a → r.theirs.child ≡ b
-    → (IsFunctional (ps ++ (record { mine = r.mine.edge; theirs = r.theirs.edge }) ∷ []) → IsKept new (ps ++ (record { mine = r.mine.edge; theirs = r.theirs.edge }) ∷ []))
+    → (IsFunctional (ps ++ (record { mine = r.mine.edge; theirs = r.theirs.edge }) ∷ [])
+    → IsKept new (ps ++ (record { mine = r.mine.edge; theirs = r.theirs.edge }) ∷ []))
     → IsFunctional (ps ++ left_one r a b) → IsKept new (ps ++ left_one r a b)
 one_kept new ps r a b ha hb more functional =
-    let one : left_one r a b ≡ (record { mine = r.mine.edge; theirs = r.theirs.edge }) ∷ [] = rw (eq-eqb r.mine.child a ha, eq-eqb r.theirs.child b hb) refl in
+    let one : left_one r a b ≡ (record { mine = r.mine.edge; theirs = r.theirs.edge })
+    ∷ [] = rw (eq-eqb r.mine.child a ha, eq-eqb r.theirs.child b hb) refl in
     subst (λ (l : List Pair). IsKept new (ps ++ l)) (sym one) (more (subst (λ (l : List Pair). IsFunctional (ps ++ l)) one functional))

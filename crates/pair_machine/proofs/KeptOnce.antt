@@ -5,10 +5,10 @@ use Rattle.std.specs.List.{slice_get}
 use Rattle.std.proofs.lemmas.Bool.{cases_eq}
 use Rattle.std.proofs.lemmas.Option.{slice_get_within}
 use Rattle.std.proofs.lemmas.List.{append-nil, length-replicate}
-use Rattle.addressing.specs.Search.{IsAmong}
-use Rattle.addressing.specs.Tables.{Tables}
-use Rattle.addressing.specs.Coherent.{IsCoherent}
-use Rattle.addressing.proofs.Ranges.{among-append, place-among, slice_get-append_left, slice_get-append_last, among-place}
+use Rattle.theory_addresses.specs.Search.{IsAmong}
+use Rattle.theory_addresses.specs.Tables.{Tables}
+use Rattle.theory_addresses.specs.Coherent.{IsCoherent}
+use Rattle.theory_addresses.proofs.Ranges.{among-append, place-among, slice_get-append_left, slice_get-append_last, among-place}
 use Rattle.transducer_core.specs.Once.{HasNoneTwice}
 use Rattle.pair_machine.specs.Nodes.{Node, RowPair, IsNode, IsRow, row_of}
 use Rattle.pair_machine.specs.Alike.{AreFirstAlike, key_of}
@@ -23,7 +23,9 @@ use Rattle.pair_machine.proofs.Marks.{number_one, number_within}
 use Rattle.std.proofs.Math.Seq.{take-length}
 
 -- ---- a row that joins
-pub keep_new : (rows : List (List RowPair)) (row : List RowPair) (place : ℕ) → HasNoneTwice rows → place ≡ length rows → ((k : ℕ) → slice_get rows k ≡ Some row → ⊥) → IsKeptOnce rows (rows ++ row ∷ []) row place
+pub keep_new : (rows : List (List RowPair)) (row : List RowPair) (place : ℕ) → HasNoneTwice rows
+    → place ≡ length rows → ((k : ℕ) → slice_get rows k ≡ Some row → ⊥)
+    → IsKeptOnce rows (rows ++ row ∷ []) row place
 keep_new rows row place distinct end fresh = record {
   rest = row ∷ [];
   grown = refl;
@@ -33,7 +35,8 @@ keep_new rows row place distinct end fresh = record {
   only = λ r i. elim (among-append r rows (row ∷ []) i) [ inl j ↦ inl j | inr j ↦ elim j [ inl e ↦ inr e | inr k ↦ elim k [ ] ] ];
 }
 
-pub keep_old : (rows : List (List RowPair)) (row : List RowPair) (place : ℕ) → HasNoneTwice rows → slice_get rows place ≡ Some row → IsKeptOnce rows rows row place
+pub keep_old : (rows : List (List RowPair)) (row : List RowPair) (place : ℕ) → HasNoneTwice rows
+    → slice_get rows place ≡ Some row → IsKeptOnce rows rows row place
 keep_old rows row place distinct is = record {
   rest = [];
   grown = sym (append-nil rows);
@@ -49,7 +52,8 @@ none_placed zero key place h = cc
 none_placed (suc n) zero place h = cc
 none_placed (suc n) (suc key) place h = none_placed n key place h
 
-pub indexed_none : (t : Tables) (firsts : List ℕ) (places : List (Option ℕ)) → AreFirstAlike t firsts → places ≡ replicate (width_of t * width_of t) None → IsIndexed t firsts places []
+pub indexed_none : (t : Tables) (firsts : List ℕ) (places : List (Option ℕ)) → AreFirstAlike t firsts
+    → places ≡ replicate (width_of t * width_of t) None → IsIndexed t firsts places []
 indexed_none t firsts places are is = record {
   firsts_are = are;
   size = ap length is ∙ length-replicate (width_of t * width_of t) None;
@@ -59,7 +63,8 @@ indexed_none t firsts places are is = record {
 }
 
 -- a node whose key has a place has its row there
-pub place_old : (t : Tables) (firsts : List ℕ) (places : List (Option ℕ)) (rows : List (List RowPair)) (n : Node) (place : ℕ) → IsCoherent t → IsIndexed t firsts places rows → IsNode t n
+pub place_old : (t : Tables) (firsts : List ℕ) (places : List (Option ℕ)) (rows : List (List RowPair))
+    (n : Node) (place : ℕ) → IsCoherent t → IsIndexed t firsts places rows → IsNode t n
     → slice_get places (key_of (width_of t) firsts n) ≡ Some (Some place) → IsKeptOnce rows rows (row_of t n) place
 place_old t firsts places rows n place coherent ix node at =
     let s = ix.stand (key_of (width_of t) firsts n) place at in
@@ -67,7 +72,8 @@ place_old t firsts places rows n place coherent ix node at =
     keep_old rows (row_of t n) place ix.once (s.there ∙ ap (λ (r : List RowPair). Some r) same)
 
 -- a node whose key has none has a new row
-row_new : (t : Tables) (firsts : List ℕ) (places : List (Option ℕ)) (rows : List (List RowPair)) (n : Node) → IsCoherent t → IsIndexed t firsts places rows → IsNode t n
+row_new : (t : Tables) (firsts : List ℕ) (places : List (Option ℕ)) (rows : List (List RowPair)) (n : Node)
+    → IsCoherent t → IsIndexed t firsts places rows → IsNode t n
     → slice_get places (key_of (width_of t) firsts n) ≡ Some None → IsAmong (row_of t n) rows → ⊥
 row_new t firsts places rows n coherent ix node at i =
     let h = ix.have_keys (row_of t n) i in
@@ -75,25 +81,42 @@ row_new t firsts places rows n coherent ix node at i =
     let two : Some (Some h.place) ≡ Some None = sym h.placed ∙ ap (slice_get places) (sym same) ∙ at in
     cc
 
-pub place_new : (t : Tables) (firsts : List ℕ) (places : List (Option ℕ)) (rows : List (List RowPair)) (n : Node) (place : ℕ) → IsCoherent t → IsIndexed t firsts places rows → IsNode t n
+pub place_new : (t : Tables) (firsts : List ℕ) (places : List (Option ℕ)) (rows : List (List RowPair))
+    (n : Node) (place : ℕ) → IsCoherent t → IsIndexed t firsts places rows → IsNode t n
     → slice_get places (key_of (width_of t) firsts n) ≡ Some None → place ≡ length rows → IsKeptOnce rows (rows ++ row_of t n ∷ []) (row_of t n) place
 place_new t firsts places rows n place coherent ix node at end =
     keep_new rows (row_of t n) place ix.once end (λ k is. row_new t firsts places rows n coherent ix node at (place-among (row_of t n) rows k is))
 
-pub indexed_new : (t : Tables) (firsts : List ℕ) (places : List (Option ℕ)) (rows : List (List RowPair)) (n : Node) (place : ℕ) → IsCoherent t → IsIndexed t firsts places rows → IsNode t n
-    → slice_get places (key_of (width_of t) firsts n) ≡ Some None → place ≡ length rows → IsIndexed t firsts (set places (key_of (width_of t) firsts n) (Some place)) (rows ++ row_of t n ∷ [])
+pub indexed_new : (t : Tables) (firsts : List ℕ) (places : List (Option ℕ)) (rows : List (List RowPair))
+    (n : Node) (place : ℕ) → IsCoherent t → IsIndexed t firsts places rows → IsNode t n
+    → slice_get places (key_of (width_of t) firsts n) ≡ Some None → place ≡ length rows
+    → IsIndexed t firsts (set places (key_of (width_of t) firsts n) (Some place))
+    (rows ++ row_of t n ∷ [])
 indexed_new t firsts places rows n place coherent ix node at end = record {
   firsts_are = ix.firsts_are;
   size = length-set places (key_of (width_of t) firsts n) (Some place) ∙ ix.size;
   once = (place_new t firsts places rows n place coherent ix node at end).once;
   stand = λ key p h. elim (cases_eq key (key_of (width_of t) firsts n)) [
     | inl same ↦
-        let two : Some (Some place) ≡ Some (Some p) = sym here ∙ ap (slice_get (set places (key_of (width_of t) firsts n) (Some place))) (sym same) ∙ h in
+        let two : Some (Some place) ≡ Some (Some p) = sym here
+        ∙ ap (slice_get (set places (key_of (width_of t) firsts n) (Some place))) (sym same) ∙ h in
         let one : place ≡ p = cc in
-        record { node = n; is_node = node; key_is = sym same; there = ap (slice_get (rows ++ row_of t n ∷ [])) (sym one ∙ end) ∙ slice_get-append_last rows (row_of t n) }
+        record {
+          node = n;
+          is_node = node;
+          key_is = sym same;
+          there = ap (slice_get (rows ++ row_of t n ∷ [])) (sym one ∙ end)
+              ∙ slice_get-append_last rows (row_of t n);
+        }
     | inr other ↦
         let s = ix.stand key p (sym (slice_get-set_other places (key_of (width_of t) firsts n) key (Some place) other) ∙ h) in
-        record { node = s.node; is_node = s.is_node; key_is = s.key_is; there = slice_get-append_left rows (row_of t n ∷ []) p (slice_get_within rows p (row_of t s.node) s.there) ∙ s.there }
+        record {
+          node = s.node;
+          is_node = s.is_node;
+          key_is = s.key_is;
+          there = slice_get-append_left rows (row_of t n ∷ []) p
+              (slice_get_within rows p (row_of t s.node) s.there) ∙ s.there;
+        }
   ];
   have_keys = λ row i. elim (among-append row rows (row_of t n ∷ []) i) [
     | inl j ↦
@@ -137,20 +160,28 @@ numbered_none t nodes numbers size = record {
     none [] m i = i
     none (n ∷ ns) m i = i
 
-found_old : (width : ℕ) (numbers : List ℕ) (rows new : List (List RowPair)) (m n : Node) (place : ℕ) (row mine : List RowPair) → (number_of width m ≡ number_of width n → ⊥) → IsFound width numbers rows m mine → IsKeptOnce rows new row place
+found_old : (width : ℕ) (numbers : List ℕ) (rows new : List (List RowPair)) (m n : Node) (place : ℕ)
+    (row mine : List RowPair) → (number_of width m ≡ number_of width n → ⊥)
+    → IsFound width numbers rows m mine → IsKeptOnce rows new row place
     → IsFound width (set numbers (number_of width n) place) new m mine
 found_old width numbers rows new m n place row mine other h k = record {
   place = h.place;
   numbered = slice_get-set_other numbers (number_of width n) (number_of width m) place other ∙ h.numbered;
-  there = ap (λ (l : List (List RowPair)). slice_get l h.place) k.grown ∙ slice_get-append_left rows k.rest h.place (slice_get_within rows h.place mine h.there) ∙ h.there;
+  there = ap (λ (l : List (List RowPair)). slice_get l h.place) k.grown
+      ∙ slice_get-append_left rows k.rest h.place (slice_get_within rows h.place mine h.there) ∙ h.there;
 }
 
-found_new : (width : ℕ) (numbers : List ℕ) (rows new : List (List RowPair)) (n : Node) (place : ℕ) (row : List RowPair) → number_of width n < length numbers → IsKeptOnce rows new row place → IsFound width (set numbers (number_of width n) place) new n row
-found_new width numbers rows new n place row inside k = record { place = place; numbered = slice_get-set_same numbers (number_of width n) place inside; there = k.there }
+found_new : (width : ℕ) (numbers : List ℕ) (rows new : List (List RowPair)) (n : Node) (place : ℕ)
+    (row : List RowPair) → number_of width n < length numbers → IsKeptOnce rows new row place
+    → IsFound width (set numbers (number_of width n) place) new n row
+found_new width numbers rows new n place row inside k = record
+    { place = place; numbered = slice_get-set_same numbers (number_of width n) place inside; there = k.there }
 
-pub numbered_more : (t : Tables) (nodes : List Node) (i : ℕ) (numbers : List ℕ) (rows new : List (List RowPair)) (n d : Node) (place : ℕ) → IsCoherent t
+pub numbered_more : (t : Tables) (nodes : List Node) (i : ℕ) (numbers : List ℕ)
+    (rows new : List (List RowPair)) (n d : Node) (place : ℕ) → IsCoherent t
     → ((m : Node) → IsAmong m nodes → IsNode t m) → i < length nodes → get_or nodes i d ≡ n → IsNode t n
-    → Numbered t nodes i numbers rows → IsKeptOnce rows new (row_of t n) place → Numbered t nodes (i + 1) (set numbers (number_of (width_of t) n) place) new
+    → Numbered t nodes i numbers rows → IsKeptOnce rows new (row_of t n) place
+    → Numbered t nodes (i + 1) (set numbers (number_of (width_of t) n) place) new
 numbered_more t nodes i numbers rows new n d place coherent are inside at node h k = record {
   size = length-set numbers (number_of (width_of t) n) place ∙ h.size;
   once = k.once;
@@ -159,10 +190,12 @@ numbered_more t nodes i numbers rows new n d place coherent are inside at node h
   found = λ m j. elim (among-take_more nodes i d m inside j) [
     | inl a ↦ elim (cases_eq (number_of (width_of t) m) (number_of (width_of t) n)) [
       | inl same ↦ let one = number_one (width_of t) m n (node_small t m coherent (are m (among-take m nodes i a))) small same in
-          subst (λ (x : Node). IsFound (width_of t) (set numbers (number_of (width_of t) n) place) new x (row_of t x)) (sym one) (found_new (width_of t) numbers rows new n place (row_of t n) within k)
+          subst (λ (x : Node). IsFound (width_of t) (set numbers (number_of (width_of t) n) place) new x
+          (row_of t x)) (sym one) (found_new (width_of t) numbers rows new n place (row_of t n) within k)
       | inr other ↦ found_old (width_of t) numbers rows new m n place (row_of t n) (row_of t m) other (h.found m a) k
     ]
-    | inr e ↦ subst (λ (x : Node). IsFound (width_of t) (set numbers (number_of (width_of t) n) place) new x (row_of t x)) (sym (e ∙ at)) (found_new (width_of t) numbers rows new n place (row_of t n) within k)
+    | inr e ↦ subst (λ (x : Node). IsFound (width_of t) (set numbers (number_of (width_of t) n) place) new x
+        (row_of t x)) (sym (e ∙ at)) (found_new (width_of t) numbers rows new n place (row_of t n) within k)
   ];
 }
   where
@@ -172,7 +205,9 @@ numbered_more t nodes i numbers rows new n d place coherent are inside at node h
     within : number_of (width_of t) n < length numbers
     within = subst (λ (k : ℕ). number_of (width_of t) n < k) (sym h.size) (number_within (width_of t) n small)
 
-pub machine_of : (t : Tables) (itself : Bool) (nodes : List Node) (i : ℕ) (numbers : List ℕ) (rows : List (List RowPair)) → IsCoherent t → ((itself ≡ true) ↔ SomeMeetsItself t) → HasNoneTwice nodes → ((n : Node) → IsAmong n nodes ↔ IsNode t n)
+pub machine_of : (t : Tables) (itself : Bool) (nodes : List Node) (i : ℕ) (numbers : List ℕ)
+    (rows : List (List RowPair)) → IsCoherent t → ((itself ≡ true) ↔ SomeMeetsItself t) → HasNoneTwice nodes
+    → ((n : Node) → IsAmong n nodes ↔ IsNode t n)
     → length nodes ≤ 36864 → i ≡ length nodes → Numbered t nodes i numbers rows → IsMachine t itself nodes numbers rows
 machine_of t itself nodes i numbers rows coherent itself_is once all few end h = record {
   coherent = coherent;
@@ -181,7 +216,11 @@ machine_of t itself nodes i numbers rows coherent itself_is once all few end h =
   nodes_all = all;
   nodes_few = few;
   rows_once = h.once;
-  rows_all = λ row. (h.all row, λ is. let f = every is.0 is.1 in let place : slice_get rows f.place ≡ Some row = f.there ∙ ap (λ (r : List RowPair). Some r) (sym is.2) in place-among row rows f.place place);
+  rows_all = λ row. (
+    h.all row,
+    λ is. let f = every is.0 is.1 in let place : slice_get rows f.place ≡ Some row
+        = f.there ∙ ap (λ (r : List RowPair). Some r) (sym is.2) in place-among row rows f.place place,
+  );
   rows_few = omega (arith, h.few, end);
   found = every;
 }
@@ -190,5 +229,14 @@ machine_of t itself nodes i numbers rows coherent itself_is once all few end h =
     every n node = h.found n (subst (IsAmong n) (sym (ap (λ (k : ℕ). take k nodes) end ∙ take-length nodes)) ((all n).1 node))
 
 -- the number of a row fits
-pub place_small : (old new : List (List RowPair)) (row : List RowPair) (place i : ℕ) → IsKeptOnce old new row place → length old ≤ i → i < 36864 → place < 65536
-place_small old new row place i k few lt = omega (arith, slice_get_within new place row k.there, ap length k.grown, length-append old k.rest, k.at_most_one, few, lt)
+pub place_small : (old new : List (List RowPair)) (row : List RowPair) (place i : ℕ)
+    → IsKeptOnce old new row place → length old ≤ i → i < 36864 → place < 65536
+place_small old new row place i k few lt = omega (
+  arith,
+  slice_get_within new place row k.there,
+  ap length k.grown,
+  length-append old k.rest,
+  k.at_most_one,
+  few,
+  lt,
+)

@@ -4,20 +4,20 @@ use Rattle.std.specs.List.{flat_map, slice_get}
 use Rattle.std.proofs.lemmas.Bool.{eqb-true, and_parts}
 use Rattle.std.proofs.lemmas.Grind.{flat_map-append}
 use Rattle.std.specs.Cmp.Lexicographic.{pointwise}
-use Rattle.addressing.specs.Address.{Step, Address, Fits, top_from}
-use Rattle.addressing.specs.Contact.{Contact, inner}
-use Rattle.addressing.specs.Search.{below, IsAmong}
-use Rattle.addressing.specs.Tables.{Tables, kind_tables, child_kinds, child_kind_of, contact_of, contacts_of}
-use Rattle.addressing.specs.Coherent.{IsCoherent}
-use Rattle.addressing.proofs.Lists.{IsAmong-append_left, IsAmong-append_right, IsAmong-flat_map}
-use Rattle.addressing.proofs.Ranges.{among-append, among-flat_map, IsAmong-below, among-below}
-use Rattle.addressing.proofs.TableBounds.{contact_bounds, some_within}
+use Rattle.theory_addresses.specs.Address.{Step, Address, Fits, top_from}
+use Rattle.theory_addresses.specs.Contact.{Contact, inner}
+use Rattle.theory_addresses.specs.Search.{below, IsAmong}
+use Rattle.theory_addresses.specs.Tables.{Tables, kind_tables, child_kinds, child_kind_of, contact_of, contacts_of}
+use Rattle.theory_addresses.specs.Coherent.{IsCoherent}
+use Rattle.theory_addresses.proofs.Lists.{IsAmong-append_left, IsAmong-append_right, IsAmong-flat_map}
+use Rattle.theory_addresses.proofs.Ranges.{among-append, among-flat_map, IsAmong-below, among-below}
+use Rattle.theory_addresses.proofs.TableBounds.{contact_bounds, some_within}
 use Rattle.std.proofs.Math.ListN.{get_or-map}
 use Rattle.std.proofs.lemmas.List.{length-map, drop_more, take_more, append-nil}
 use Rattle.tile_shape.specs.declared.step.Step as program
 use Rattle.tile_shape.specs.Views.{step_of}
-use Rattle.addressing.proofs.Chains.{IsChain, IsChain-drop, level_kind}
-use Rattle.addressing.proofs.FineTouch.{Meets-unique}
+use Rattle.theory_addresses.proofs.Chains.{IsChain, IsChain-drop, level_kind}
+use Rattle.theory_addresses.proofs.FineTouch.{Meets-unique}
 use Rattle.pair_machine.specs.Between.{Pair, IsInOrder, IsBetween}
 use Rattle.pair_machine.specs.Kept.{IsKept, IsFunctional}
 use Rattle.pair_machine.specs.Nodes.{Node, RowPair, IsNode, first, further, row_of}
@@ -46,13 +46,16 @@ row_edge_small t n r coherent i =
     child_edge_small t n.kind r.mine.child r.mine.edge coherent (rw on refl)
 
 -- ---- the contacts of two children
-between_upto-among : (t : Tables) (k a b n e f : ℕ) → n ≤ length (contacts_of t k a) → IsAmong (two e f) (between_upto t k a b n) → contact_of t k a e ≡ Some (inner b f)
+between_upto-among : (t : Tables) (k a b n e f : ℕ) → n ≤ length (contacts_of t k a)
+    → IsAmong (two e f) (between_upto t k a b n) → contact_of t k a e ≡ Some (inner b f)
 unfolding between_upto between_children
 between_upto-among t k a b n e f le i =
     let r = among-flat_map (λ g. met_by g b (contact_of t k a g)) (two e f) (below (λ g. g) n) i in
     let range = among-below (λ g. g) n r.piece r.among in
     between-among t k a b e f (IsAmong-flat_map (λ g. met_by g b (contact_of t k a g)) r.piece (two e f) (below (λ g. g) (length (contacts_of t k a)))
-    (subst (λ (m : ℕ). IsAmong m (below (λ g. g) (length (contacts_of t k a)))) (sym range.is) (IsAmong-below (λ g. g) (length (contacts_of t k a)) range.number (omega (arith, range.in_range, le)))) r.inside)
+    (subst (λ (m : ℕ). IsAmong m (below (λ g. g) (length (contacts_of t k a)))) (sym range.is)
+    (IsAmong-below (λ g. g) (length (contacts_of t k a)) range.number
+    (omega (arith, range.in_range, le)))) r.inside)
 
 between_functional : (t : Tables) (k a b n : ℕ) → n ≤ length (contacts_of t k a) → IsFunctional (between_upto t k a b n)
 between_functional t k a b n le = λ e f g i j.
@@ -66,29 +69,43 @@ pub meet_more : (t : Tables) (k a b n : ℕ) (c : Contact) (now new : List Pair)
 meet_more t k a b n c now new is kept more =
     let bounds = contact_bounds t k a n (rw is refl) in
     let e = between_more t k a b n c is in
-    subst (IsKept new) (sym e) (more (between_upto t k a b n) kept (subst IsFunctional e (between_functional t k a b (n + 1) (omega (arith, bounds.2)))))
+    subst (IsKept new) (sym e) (more (between_upto t k a b n) kept
+    (subst IsFunctional e (between_functional t k a b (n + 1) (omega (arith, bounds.2)))))
 
 -- ---- the rows of the pairs above
 abbrev rest_of : Tables → Step → Step → List Pair → List Pair
 rest_of t x y ps = flat_map (λ p. left_of (row_of t (node_of x y p)) x.child y.child) ps
 
-step_less : (t : Tables) (x y : Step) (fresh : Bool) (ps qs : List Pair) → ((p : Pair) → IsAmong p ps → IsAmong p qs) → (p : Pair) → IsAmong p (step_pairs t x y fresh ps) → IsAmong p (step_pairs t x y fresh qs)
-step_less t x y fresh ps qs sub p i = elim (among-append p (first_pairs t x y fresh) (flat_map (λ p. left_of (row_of t (node_of x y p)) x.child y.child) ps) i) [
-  | inl j ↦ IsAmong-append_left p (first_pairs t x y fresh) (flat_map (λ p. left_of (row_of t (node_of x y p)) x.child y.child) qs) j
-  | inr j ↦
-      let r = among-flat_map (λ p. left_of (row_of t (node_of x y p)) x.child y.child) p ps j in
-      IsAmong-append_right p (first_pairs t x y fresh) (flat_map (λ p. left_of (row_of t (node_of x y p)) x.child y.child) qs)
-      (IsAmong-flat_map (λ p. left_of (row_of t (node_of x y p)) x.child y.child) r.piece p qs (sub r.piece r.among) r.inside)
-]
+step_less : (t : Tables) (x y : Step) (fresh : Bool) (ps qs : List Pair)
+    → ((p : Pair) → IsAmong p ps → IsAmong p qs) → (p : Pair) → IsAmong p (step_pairs t x y fresh ps)
+    → IsAmong p (step_pairs t x y fresh qs)
+step_less t x y fresh ps qs sub p i = elim (among-append p (first_pairs t x y fresh)
+    (flat_map (λ p. left_of (row_of t (node_of x y p)) x.child y.child) ps) i) [
+      | inl j ↦ IsAmong-append_left p (first_pairs t x y fresh) (flat_map (λ p. left_of (row_of t (node_of x y p)) x.child y.child) qs) j
+      | inr j ↦
+          let r = among-flat_map (λ p. left_of (row_of t (node_of x y p)) x.child y.child) p ps j in
+          IsAmong-append_right p (first_pairs t x y fresh) (flat_map (λ p. left_of (row_of t (node_of x y p)) x.child y.child) qs)
+          (IsAmong-flat_map (λ p. left_of (row_of t (node_of x y p)) x.child y.child) r.piece p qs (sub r.piece r.among) r.inside)
+    ]
 
 pub read_more : (t : Tables) (x y : Step) (fresh : Bool) (above now new : List Pair) (n : ℕ) (d p : Pair) → n < length above → get_or above n d ≡ p
     → IsFunctional (step_pairs t x y fresh above) → IsKept now (step_pairs t x y fresh (take n above))
-    → ((ps : List Pair) → IsKept now ps → IsFunctional (ps ++ left_of (row_of t (node_of x y p)) x.child y.child) → IsKept new (ps ++ left_of (row_of t (node_of x y p)) x.child y.child))
+    → ((ps : List Pair) → IsKept now ps → IsFunctional
+    (ps ++ left_of (row_of t (node_of x y p)) x.child y.child)
+    → IsKept new (ps ++ left_of (row_of t (node_of x y p)) x.child y.child))
     → IsKept new (step_pairs t x y fresh (take (n + 1) above))
 read_more t x y fresh above now new n d p inside at functional kept more =
     let rest : rest_of t x y (take (n + 1) above) ≡ rest_of t x y (take n above) ++ left_of (row_of t (node_of x y p)) x.child y.child =
-    rw (take_more above n d inside, at, flat_map-append (λ p. left_of (row_of t (node_of x y p)) x.child y.child) (take n above) (p ∷ []), append-nil (left_of (row_of t (node_of x y p)) x.child y.child)) refl in
-    let e : step_pairs t x y fresh (take (n + 1) above) ≡ step_pairs t x y fresh (take n above) ++ left_of (row_of t (node_of x y p)) x.child y.child =
+    rw (
+      take_more above n d inside,
+      at,
+      flat_map-append
+          (λ p. left_of (row_of t (node_of x y p)) x.child y.child) (take n above) (p ∷ []),
+      append-nil
+          (left_of (row_of t (node_of x y p)) x.child y.child),
+    ) refl in
+    let e : step_pairs t x y fresh (take (n + 1) above) ≡ step_pairs t x y fresh (take n above)
+    ++ left_of (row_of t (node_of x y p)) x.child y.child =
     rw rest (sym (append_assoc (first_pairs t x y fresh) (rest_of t x y (take n above)) (left_of (row_of t (node_of x y p)) x.child y.child))) in
     let less : IsFunctional (step_pairs t x y fresh (take (n + 1) above)) =
     functional_less (step_pairs t x y fresh (take (n + 1) above)) (step_pairs t x y fresh above)
@@ -97,7 +114,8 @@ read_more t x y fresh above now new n d p inside at functional kept more =
 
 -- ---- the pairs that are read are those of nodes
 first_node : (t : Tables) (k l e f : ℕ) (x y : Step) → x.parent ≡ y.parent → contact_of t x.parent x.child e ≡ Some (inner y.child f)
-    → child_kind_of t x.parent x.child ≡ Some k → child_kind_of t y.parent y.child ≡ Some l → IsNode t (record { kind = k; edge = e; other = l; back = f })
+    → child_kind_of t x.parent x.child ≡ Some k → child_kind_of t y.parent y.child ≡ Some l
+    → IsNode t (record { kind = k; edge = e; other = l; back = f })
 first_node t k l e f x y parent met fits fits' =
     let other : child_kind_of t x.parent y.child ≡ Some l = rw parent fits' in
     first x.parent x.child e y.child f met (record { kind = fits; edge = refl; other = other; back = refl })
@@ -107,7 +125,8 @@ pub read_node : (t : Tables) (xs ys : List Step) (k l e f : ℕ) → IsCoherent 
 read_node t [] ys k l e f coherent fits fits' i = elim i [ ]
 read_node t (x ∷ xs) [] k l e f coherent fits fits' i = elim i [ ]
 read_node t (x ∷ xs) (y ∷ ys) k l e f coherent fits fits' i =
-    elim (among-append (two e f) (first_pairs t x y (eqb x.parent y.parent && same_steps xs ys)) (flat_map (λ p. left_of (row_of t (node_of x y p)) x.child y.child) (pairs_read t xs ys)) i) [
+    elim (among-append (two e f) (first_pairs t x y (eqb x.parent y.parent && same_steps xs ys))
+    (flat_map (λ p. left_of (row_of t (node_of x y p)) x.child y.child) (pairs_read t xs ys)) i) [
       | inl j ↦
           let r = first-among t x y (eqb x.parent y.parent && same_steps xs ys) (two e f) j in
           let tests = and_parts (eqb x.parent y.parent) (same_steps xs ys) r.0 in
@@ -122,7 +141,8 @@ read_node t (x ∷ xs) (y ∷ ys) k l e f coherent fits fits' i =
 
 pub read_functional : (t : Tables) (xs ys : List Step) (k l : ℕ) → IsCoherent t → IsChain t k xs → IsChain t l ys → IsFunctional (pairs_read t xs ys)
 read_functional t xs ys k l coherent fits fits' = λ e f g i j.
-    (Meets-unique l l coherent (read_meets t xs ys k l e f coherent fits fits' i).meets (read_meets t xs ys k l e g coherent fits fits' j).meets fits' fits').edges
+    (Meets-unique l l coherent (read_meets t xs ys k l e f coherent fits fits' i).meets
+    (read_meets t xs ys k l e g coherent fits fits' j).meets fits' fits').edges
 
 -- ---- one level down
 pub record Readable (t : Tables) (x y : Step) (xs ys : List Step) (fresh : Bool) (above : List Pair) : Type 0 where
@@ -130,21 +150,25 @@ pub record Readable (t : Tables) (x y : Step) (xs ys : List Step) (fresh : Bool)
   pub functional : IsFunctional (step_pairs t x y fresh above)
   pub more : (new : List Pair) → IsKept new (step_pairs t x y fresh above) → IsKept new (pairs_read t (x ∷ xs) (y ∷ ys))
 
-pub readable : (t : Tables) (k l : ℕ) (x y : Step) (xs ys : List Step) (fresh : Bool) (above : List Pair) → IsCoherent t → IsChain t k (x ∷ xs) → IsChain t l (y ∷ ys)
+pub readable : (t : Tables) (k l : ℕ) (x y : Step) (xs ys : List Step) (fresh : Bool) (above : List Pair)
+    → IsCoherent t → IsChain t k (x ∷ xs) → IsChain t l (y ∷ ys)
     → fresh ≡ (eqb x.parent y.parent && same_steps xs ys) → IsKept above (pairs_read t xs ys) → Readable t x y xs ys fresh above
 readable t k l x y xs ys fresh above coherent fits fits' same kept =
     let to : (p : Pair) → IsAmong p (step_pairs t x y fresh above) → IsAmong p (pairs_read t (x ∷ xs) (y ∷ ys)) = λ p i.
     subst (λ (b : Bool). IsAmong p (step_pairs t x y b (pairs_read t xs ys))) same (step_less t x y fresh above (pairs_read t xs ys) kept.only p i) in
     let from : (p : Pair) → IsAmong p (pairs_read t (x ∷ xs) (y ∷ ys)) → IsAmong p (step_pairs t x y fresh above) = λ p i.
-    step_less t x y fresh (pairs_read t xs ys) above kept.all p (subst (λ (b : Bool). IsAmong p (step_pairs t x y b (pairs_read t xs ys))) (sym same) i) in
+    step_less t x y fresh (pairs_read t xs ys) above kept.all p
+    (subst (λ (b : Bool). IsAmong p (step_pairs t x y b (pairs_read t xs ys))) (sym same) i) in
     record {
       nodes = λ p i. read_node t xs ys x.parent y.parent p.mine p.theirs coherent fits.1 fits'.1 (kept.only p i);
-      functional = functional_less (step_pairs t x y fresh above) (pairs_read t (x ∷ xs) (y ∷ ys)) to (read_functional t (x ∷ xs) (y ∷ ys) k l coherent fits fits');
+      functional = functional_less (step_pairs t x y fresh above) (pairs_read t (x ∷ xs) (y ∷ ys)) to
+          (read_functional t (x ∷ xs) (y ∷ ys) k l coherent fits fits');
       more = λ new h. kept_same new (step_pairs t x y fresh above) (pairs_read t (x ∷ xs) (y ∷ ys)) to from h;
     }
 
 -- ---- where a level begins
-pub start_fresh : (t : Tables) (x y : Step) (fresh : Bool) (now : List Pair) → fresh ≡ true → IsKept now (between_children t x.parent x.child y.child) → IsKept now (step_pairs t x y fresh [])
+pub start_fresh : (t : Tables) (x y : Step) (fresh : Bool) (now : List Pair) → fresh ≡ true
+    → IsKept now (between_children t x.parent x.child y.child) → IsKept now (step_pairs t x y fresh [])
 start_fresh t x y fresh now is kept = rw (is, append-nil (between_children t x.parent x.child y.child)) kept
 
 pub start_plain : (t : Tables) (x y : Step) (fresh : Bool) (now : List Pair) → fresh ≡ false → now ≡ [] → IsKept now (step_pairs t x y fresh [])
@@ -179,30 +203,38 @@ at_level t k l xs ys us vs level same fresh table coherent fits fits' depths own
     let sx = digits_at xs us level (record { child = 0; parent = 0 }) own some within in
     let sy = digits_at ys vs level (record { child = 0; parent = 0 }) own' some (omega (arith, depths, within)) in
     let cx : IsChain t (level_kind k (map step_of xs) (level - 1)) (digit us level ∷ drop level (map step_of xs)) =
-    subst (IsChain t (level_kind k (map step_of xs) (level - 1))) sx (IsChain-drop t k (map step_of xs) (level - 1) fits (omega (arith, length-map xs step_of, within))) in
+    subst (IsChain t (level_kind k (map step_of xs) (level - 1))) sx
+    (IsChain-drop t k (map step_of xs) (level - 1) fits (omega (arith, length-map xs step_of, within))) in
     let cy : IsChain t (level_kind l (map step_of ys) (level - 1)) (digit vs level ∷ drop level (map step_of ys)) =
-    subst (IsChain t (level_kind l (map step_of ys) (level - 1))) sy (IsChain-drop t l (map step_of ys) (level - 1) fits' (omega (arith, length-map ys step_of, depths, within))) in
+    subst (IsChain t (level_kind l (map step_of ys) (level - 1))) sy
+    (IsChain-drop t l (map step_of ys) (level - 1) fits'
+    (omega (arith, length-map ys step_of, depths, within))) in
     record {
       split_x = sx;
       split_y = sy;
       child = rw cx.0 refl;
-      readable_here = readable t (level_kind k (map step_of xs) (level - 1)) (level_kind l (map step_of ys) (level - 1)) (digit us level) (digit vs level) (drop level (map step_of xs)) (drop level (map step_of ys))
+      readable_here = readable t (level_kind k (map step_of xs) (level - 1))
+          (level_kind l (map step_of ys) (level - 1)) (digit us level) (digit vs level)
+          (drop level (map step_of xs)) (drop level (map step_of ys))
           fresh table coherent cx cy (fresh_is ∙ ap (λ (b : Bool). eqb (digit us level).parent (digit vs level).parent && b) same_is) kept;
     }
 
-pub kept_below : (t : Tables) (xs ys us vs : List program.Step) (level : ℕ) (fresh : Bool) (table new : List Pair) → AtLevel t xs ys us vs level fresh table
+pub kept_below : (t : Tables) (xs ys us vs : List program.Step) (level : ℕ) (fresh : Bool)
+    (table new : List Pair) → AtLevel t xs ys us vs level fresh table
     → IsKept new (step_pairs t (digit us level) (digit vs level) fresh table)
     → IsKept new (pairs_read t (drop (level - 1) (map step_of xs)) (drop (level - 1) (map step_of ys)))
 kept_below t xs ys us vs level fresh table new h kept = rw (h.split_x, h.split_y) (h.readable_here.more new kept)
 
-pub same_below : (t : Tables) (xs ys us vs : List program.Step) (level : ℕ) (same fresh next : Bool) (table : List Pair) → AtLevel t xs ys us vs level fresh table
+pub same_below : (t : Tables) (xs ys us vs : List program.Step) (level : ℕ) (same fresh next : Bool)
+    (table : List Pair) → AtLevel t xs ys us vs level fresh table
     → same ≡ same_steps (drop level (map step_of xs)) (drop level (map step_of ys))
     → fresh ≡ (eqb (digit us level).parent (digit vs level).parent && same)
     → next ≡ (eqb (digit us level).child (digit vs level).child && fresh)
     → next ≡ same_steps (drop (level - 1) (map step_of xs)) (drop (level - 1) (map step_of ys))
 same_below t xs ys us vs level same fresh next table h same_is fresh_is next_is =
     rw (h.split_x, h.split_y)
-    (next_is ∙ ap (λ (b : Bool). eqb (digit us level).child (digit vs level).child && b) (fresh_is ∙ ap (λ (b : Bool). eqb (digit us level).parent (digit vs level).parent && b) same_is))
+    (next_is ∙ ap (λ (b : Bool). eqb (digit us level).child (digit vs level).child && b)
+    (fresh_is ∙ ap (λ (b : Bool). eqb (digit us level).parent (digit vs level).parent && b) same_is))
 
 -- ---- the kind on top
 pub top_read : (kind : ℕ) (ds : List Step) → slice_get (kind ∷ map (λ (d : Step). d.parent) ds) (length ds) ≡ Some (top_from kind ds)
@@ -228,14 +260,16 @@ same_address a b r is = (
   λ yes. let two : (eqb a.kind b.kind && same_steps a.digits b.digits) ≡ true = sym is ∙ yes in
       let parts = and_parts (eqb a.kind b.kind) (same_steps a.digits b.digits) two in
       address-eq (eqb-true a.kind b.kind parts.0) (same_steps-true a.digits b.digits parts.1),
-  λ same. is ∙ subst (λ (x : Address). (eqb a.kind x.kind && same_steps a.digits x.digits) ≡ true) same (rw (eq-eqb a.kind a.kind refl, same_steps-same a.digits) refl),
+  λ same. is ∙ subst (λ (x : Address). (eqb a.kind x.kind && same_steps a.digits x.digits) ≡ true) same
+      (rw (eq-eqb a.kind a.kind refl, same_steps-same a.digits) refl),
 )
   where
     address-eq : a.kind ≡ b.kind → a.digits ≡ b.digits → a ≡ b
     address-eq k d = λ i. record { kind = k i; digits = d i }
 
 -- ---- the list at the end
-pub between_of : (t : Tables) (a b : Address) (kept : List Pair) → IsCoherent t → Fits (child_kinds t) a → Fits (child_kinds t) b → IsInOrder kept → IsKept kept (pairs_read t a.digits b.digits)
+pub between_of : (t : Tables) (a b : Address) (kept : List Pair) → IsCoherent t → Fits (child_kinds t) a
+    → Fits (child_kinds t) b → IsInOrder kept → IsKept kept (pairs_read t a.digits b.digits)
     → IsBetween t a b kept
 between_of t a b kept coherent fits fits' order h = record {
   in_order = order;

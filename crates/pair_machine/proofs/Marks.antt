@@ -5,9 +5,9 @@ use Rattle.std.specs.List.{slice_get}
 use Rattle.std.proofs.lemmas.Bool.{cases_eq}
 use Rattle.std.proofs.lemmas.List.{append-nil, length-replicate}
 use Rattle.std.proofs.lemmas.Nat.{div-mul-add, mod-mul-add, mul-add-lt}
-use Rattle.addressing.specs.Search.{IsAmong}
-use Rattle.addressing.proofs.Lists.{IsAmong-append_left, IsAmong-append_right}
-use Rattle.addressing.proofs.Ranges.{among-append}
+use Rattle.theory_addresses.specs.Search.{IsAmong}
+use Rattle.theory_addresses.proofs.Lists.{IsAmong-append_left, IsAmong-append_right}
+use Rattle.theory_addresses.proofs.Ranges.{among-append}
 use Rattle.pair_machine.specs.Nodes.{Node}
 use Rattle.pair_machine.specs.Numbers.{mine_of, theirs_of, number_of, IsSmall}
 use Rattle.pair_machine.specs.Searching.{unseen, IsSeen, Covers}
@@ -44,7 +44,8 @@ unseen_set (false ∷ bs) zero h = refl
 unseen_set (true ∷ bs) (suc i) h = unseen_set bs i h
 unseen_set (false ∷ bs) (suc i) h = ap suc (unseen_set bs i h)
 
-pub none_seen : (width : ℕ) (seen : List Bool) → length seen ≡ width * width → unseen seen ≡ length seen → ((i : ℕ) → slice_get seen i ≡ Some true → ⊥) → IsSeen width [] seen
+pub none_seen : (width : ℕ) (seen : List Bool) → length seen ≡ width * width → unseen seen ≡ length seen
+    → ((i : ℕ) → slice_get seen i ≡ Some true → ⊥) → IsSeen width [] seen
 none_seen width seen size all unmarked = record {
   size = size;
   small = λ n i. elim i [ ];
@@ -64,10 +65,12 @@ unmarked_none (suc n) zero h = cc
 unmarked_none (suc n) (suc i) h = unmarked_none n i h
 
 pub none_seen_at : (width : ℕ) (seen : List Bool) → seen ≡ replicate (width * width) false → IsSeen width [] seen
-none_seen_at width seen is = rw is (none_seen width (replicate (width * width) false) (length-replicate (width * width) false) (unseen_none (width * width)) (unmarked_none (width * width)))
+none_seen_at width seen is = rw is (none_seen width (replicate (width * width) false)
+    (length-replicate (width * width) false) (unseen_none (width * width)) (unmarked_none (width * width)))
 
 -- a node that is there already
-pub add_old : (width : ℕ) (list : List Node) (seen : List Bool) (n : Node) → IsSeen width list seen → IsSmall width n → slice_get seen (number_of width n) ≡ Some true → Covers width list list seen (n ∷ [])
+pub add_old : (width : ℕ) (list : List Node) (seen : List Bool) (n : Node) → IsSeen width list seen
+    → IsSmall width n → slice_get seen (number_of width n) ≡ Some true → Covers width list list seen (n ∷ [])
 add_old width list seen n h small marked =
     let m = h.only (number_of width n) marked in
     let same = number_one width m.0 n (h.small m.0 m.1) small m.2 in
@@ -80,19 +83,36 @@ add_old width list seen n h small marked =
     }
 
 -- a new node
-pub add_new : (width : ℕ) (list : List Node) (seen : List Bool) (n : Node) → IsSeen width list seen → IsSmall width n → slice_get seen (number_of width n) ≡ Some false
+pub add_new : (width : ℕ) (list : List Node) (seen : List Bool) (n : Node) → IsSeen width list seen
+    → IsSmall width n → slice_get seen (number_of width n) ≡ Some false
     → Covers width list (list ++ n ∷ []) (set seen (number_of width n) true) (n ∷ [])
 add_new width list seen n h small fresh = record {
   seen_now = record {
     size = size ∙ h.size;
-    small = λ m i. elim (among-append m list (n ∷ []) i) [ inl j ↦ h.small m j | inr j ↦ elim j [ inl e ↦ subst (IsSmall width) (sym e) small | inr k ↦ elim k [ ] ] ];
+    small = λ m i. elim (among-append m list (n ∷ []) i) [
+      | inl j ↦ h.small m j
+      | inr j ↦ elim j [
+        | inl e ↦ subst (IsSmall width) (sym e) small
+        | inr k ↦ elim k
+            [ ]
+      ]
+    ];
     marked = λ m i. elim (cases_eq (number_of width m) (number_of width n)) [
       | inl same ↦ ap (slice_get (set seen (number_of width n) true)) same ∙ slice_get-set_same seen (number_of width n) true inside
-      | inr other ↦ slice_get-set_other seen (number_of width n) (number_of width m) true other ∙ (elim (among-append m list (n ∷ []) i) [ inl j ↦ h.marked m j | inr j ↦ elim j [ inl e ↦ elim (other (ap (number_of width) e)) [ ] | inr k ↦ elim k [ ] ] ])
+      | inr other ↦ slice_get-set_other seen (number_of width n) (number_of width m) true other
+          ∙ (elim (among-append m list (n ∷ []) i) [
+            | inl j ↦ h.marked m j
+            | inr j ↦ elim j [
+              | inl e ↦ elim (other (ap (number_of width) e)) [ ]
+              | inr k
+                  ↦ elim k [ ]
+            ]
+          ])
     ];
     only = λ i is. elim (cases_eq i (number_of width n)) [
       | inl same ↦ (n, IsAmong-append_right n list (n ∷ []) (inl refl), sym same)
-      | inr other ↦ let m = h.only i (sym (slice_get-set_other seen (number_of width n) i true other) ∙ is) in (m.0, IsAmong-append_left m.0 list (n ∷ []) m.1, m.2)
+      | inr other ↦ let m = h.only i (sym (slice_get-set_other seen (number_of width n) i true other)
+          ∙ is) in (m.0, IsAmong-append_left m.0 list (n ∷ []) m.1, m.2)
     ];
     distinct = none_twice_more list n h.distinct (λ i. not_both (h.marked n i));
     count = omega (arith, length-append list (n ∷ []), size, h.count, unseen_set seen (number_of width n) fresh);
@@ -113,7 +133,8 @@ add_new width list seen n h small fresh = record {
     not_both marked = let two : Some true ≡ Some false = sym marked ∙ fresh in cc
 
 -- the mark of a node is there
-pub mark_within : (width : ℕ) (list : List Node) (seen : List Bool) (n : Node) → IsSeen width list seen → IsSmall width n → number_of width n < length seen
+pub mark_within : (width : ℕ) (list : List Node) (seen : List Bool) (n : Node) → IsSeen width list seen
+    → IsSmall width n → number_of width n < length seen
 mark_within width list seen n h small = subst (λ (k : ℕ). number_of width n < k) (sym h.size) (number_within width n small)
 
 -- ---- one after the other
@@ -126,10 +147,12 @@ covers_none width list seen h = record {
   only = λ n i. inl i;
 }
 
-pub kept_in : {old new : List Node} {width : ℕ} {seen : List Bool} {cs : List Node} (n : Node) → Covers width old new seen cs → IsAmong n old → IsAmong n new
+pub kept_in : {old new : List Node} {width : ℕ} {seen : List Bool} {cs : List Node} (n : Node)
+    → Covers width old new seen cs → IsAmong n old → IsAmong n new
 kept_in {old} n h i = subst (IsAmong n) (sym h.grown) (IsAmong-append_left n old h.rest i)
 
-pub covers_more : (old mid new : List Node) (width : ℕ) (seen seen' : List Bool) (xs ys : List Node) → Covers width old mid seen xs → Covers width mid new seen' ys → Covers width old new seen' (xs ++ ys)
+pub covers_more : (old mid new : List Node) (width : ℕ) (seen seen' : List Bool) (xs ys : List Node)
+    → Covers width old mid seen xs → Covers width mid new seen' ys → Covers width old new seen' (xs ++ ys)
 covers_more old mid new width seen seen' xs ys h k = record {
   seen_now = k.seen_now;
   rest = h.rest ++ k.rest;
@@ -141,5 +164,6 @@ covers_more old mid new width seen seen' xs ys h k = record {
   ];
 }
 
-pub covers_as : (old new : List Node) (width : ℕ) (seen : List Bool) (xs ys : List Node) → xs ≡ ys → Covers width old new seen xs → Covers width old new seen ys
+pub covers_as : (old new : List Node) (width : ℕ) (seen : List Bool) (xs ys : List Node) → xs ≡ ys
+    → Covers width old new seen xs → Covers width old new seen ys
 covers_as old new width seen xs ys same h = subst (Covers width old new seen) same h

@@ -1,10 +1,10 @@
 -- Verdicts exclude each other.
 use Rattle.std.proofs.Common.{◌≡◌, ◌≢◌, ◌↔◌, ℕ, List, [], ◌∷◌, map, refl}
-use Rattle.addressing.specs.Address.{Address, Fits}
-use Rattle.addressing.specs.Coherent.{IsCoherent}
-use Rattle.addressing.specs.Search.{IsAmong}
-use Rattle.addressing.specs.Tables.{Tables, child_kinds}
-use Rattle.addressing.proofs.Chains.{chain_of}
+use Rattle.theory_addresses.specs.Address.{Address, Fits}
+use Rattle.theory_addresses.specs.Coherent.{IsCoherent}
+use Rattle.theory_addresses.specs.Search.{IsAmong}
+use Rattle.theory_addresses.specs.Tables.{Tables, child_kinds}
+use Rattle.theory_addresses.proofs.Chains.{chain_of}
 use Rattle.pair_machine.specs.declared.edge_pair.EdgePair.{EdgePair}
 use Rattle.pair_machine.specs.declared.verdict.Verdict.{Verdict}
 use Rattle.pair_machine.specs.declared.verdict.Verdict.TheVariants.{Strangers, Same, Apart, Beside}
@@ -44,6 +44,7 @@ pairs t a b Same h common differ = elim (differ h.1) [ ]
 pairs t a b Apart h common differ = h.2
 pairs t a b (Beside ps) h common differ = h.2
 
-pub nodes : (t : Tables) (a b : Address) (e f : ℕ) → IsCoherent t → Fits (child_kinds t) a → Fits (child_kinds t) b → IsAmong (record { mine = e; theirs = f }) (pairs_read t a.digits b.digits)
+pub nodes : (t : Tables) (a b : Address) (e f : ℕ) → IsCoherent t → Fits (child_kinds t) a
+    → Fits (child_kinds t) b → IsAmong (record { mine = e; theirs = f }) (pairs_read t a.digits b.digits)
     → IsNode t (record { kind = a.kind; edge = e; other = b.kind; back = f })
 nodes t a b e f coherent fits fits' i = read_node t a.digits b.digits a.kind b.kind e f coherent (chain_of t a fits) (chain_of t b fits') i

@@ -2,10 +2,10 @@
 use Rattle.std.proofs.Common.{◌≡◌, ◌⊎◌, inl, inr, ℕ, zero, suc, ◌+◌, ◌<◌, List, [], ◌∷◌, ◌++◌, length, map, take, set, get_or, Some, refl, sym, ap, ◌∙◌, arith}
 use Rattle.std.specs.List.{slice_get}
 use Rattle.std.proofs.lemmas.List.{take_more}
-use Rattle.addressing.specs.Search.{IsAmong}
-use Rattle.addressing.proofs.Lists.{IsAmong-map, get_or-among}
+use Rattle.theory_addresses.specs.Search.{IsAmong}
+use Rattle.theory_addresses.proofs.Lists.{IsAmong-map, get_or-among}
 use Rattle.std.proofs.lemmas.Option.{slice_get-get_or}
-use Rattle.addressing.proofs.Ranges.{among-append, slice_get-image}
+use Rattle.theory_addresses.proofs.Ranges.{among-append, slice_get-image}
 use Rattle.transducer_core.specs.Once.{HasNoneTwice}
 
 pub slice_get-set_same : {A : Type 0} (xs : List A) (i : ℕ) (x : A) → i < length xs → slice_get (set xs i x) i ≡ Some x
@@ -28,7 +28,8 @@ among-take x (y ∷ ys) zero j = elim j [ ]
 among-take x (y ∷ ys) (suc i) (inl e) = inl e
 among-take x (y ∷ ys) (suc i) (inr j) = inr (among-take x ys i j)
 
-pub among-take_more : {A : Type 0} (xs : List A) (i : ℕ) (d x : A) → i < length xs → IsAmong x (take (i + 1) xs) → IsAmong x (take i xs) ⊎ (x ≡ get_or xs i d)
+pub among-take_more : {A : Type 0} (xs : List A) (i : ℕ) (d x : A) → i < length xs
+    → IsAmong x (take (i + 1) xs) → IsAmong x (take i xs) ⊎ (x ≡ get_or xs i d)
 among-take_more xs i d x h j =
     let k : IsAmong x (take i xs ++ get_or xs i d ∷ []) = rw (take_more xs i d h) at j in
     elim (among-append x (take i xs) (get_or xs i d ∷ []) k) [ inl a ↦ inl a | inr b ↦ elim b [ inl e ↦ inr e | inr n ↦ elim n [ ] ] ]
@@ -46,15 +47,19 @@ none_twice_more (y ∷ ys) x h new = (
 )
 
 -- what stands in a list that is one longer
-pub place_more : {A : Type 0} (xs : List A) (x y : A) (k : ℕ) → slice_get (xs ++ x ∷ []) k ≡ Some y → (slice_get xs k ≡ Some y) ⊎ ((k ≡ length xs) × (y ≡ x))
+pub place_more : {A : Type 0} (xs : List A) (x y : A) (k : ℕ) → slice_get (xs ++ x ∷ []) k ≡ Some y
+    → (slice_get xs k ≡ Some y) ⊎ ((k ≡ length xs) × (y ≡ x))
 place_more [] x y zero h = inr (refl, let one : x ≡ y = cc in sym one)
 place_more [] x y (suc k) h = absurd cc
 place_more (z ∷ zs) x y zero h = inl h
 place_more (z ∷ zs) x y (suc k) h = elim (place_more zs x y k h) [ inl a ↦ inl a | inr b ↦ inr (ap suc b.0, b.1) ]
 
 -- what is read at a place
-pub read_at : {A : Type 0} (xs : List A) (i j : ℕ) (value x : A) → i < length xs → j ≡ i → value ≡ get_or xs j value → value ≡ x → slice_get xs i ≡ Some x
-read_at {A} xs i j value x inside at read is = slice_get-get_or xs i value inside ∙ ap (λ (k : ℕ). Some (get_or xs k value)) (sym at) ∙ ap (λ (y : A). Some y) (sym read ∙ is)
+pub read_at : {A : Type 0} (xs : List A) (i j : ℕ) (value x : A) → i < length xs → j ≡ i
+    → value ≡ get_or xs j value → value ≡ x → slice_get xs i ≡ Some x
+read_at {A} xs i j value x inside at read is = slice_get-get_or xs i value inside
+    ∙ ap (λ (k : ℕ). Some (get_or xs k value)) (sym at) ∙ ap (λ (y : A). Some y) (sym read ∙ is)
 
-pub image_at : {A B : Type 0} (f : A → B) (xs : List A) (i j : ℕ) (x : A) → j ≡ i → i < length xs → x ≡ get_or xs j x → slice_get (map f xs) i ≡ Some (f x)
+pub image_at : {A B : Type 0} (f : A → B) (xs : List A) (i j : ℕ) (x : A) → j ≡ i → i < length xs
+    → x ≡ get_or xs j x → slice_get (map f xs) i ≡ Some (f x)
 image_at f xs i j x at inside read = slice_get-image f x xs i (read_at xs i j x x inside at read refl)

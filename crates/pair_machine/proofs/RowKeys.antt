@@ -8,12 +8,12 @@ use Rattle.std.proofs.lemmas.Grind.{flat_map-append}
 use Rattle.std.proofs.lemmas.List.{take_more, take_all, map-append, reverse-reverse, length-reverse}
 use Rattle.std.proofs.lemmas.Nat.{div-mul-add, mod-mul-add, mul-add-lt}
 use Rattle.std.proofs.lemmas.Option.{slice_get-get_or, slice_get_past, get_or_from_slice_get}
-use Rattle.addressing.specs.Coherent.{IsCoherent}
-use Rattle.addressing.specs.Contact.{ChildEdge}
-use Rattle.addressing.specs.Search.{below}
-use Rattle.addressing.specs.Tables.{Tables, kind_tables, parts_of, part_of, part_count}
-use Rattle.addressing.proofs.Mated.{same_parts, slice_get-reverse}
-use Rattle.addressing.proofs.TableBounds.{some_within}
+use Rattle.theory_addresses.specs.Coherent.{IsCoherent}
+use Rattle.theory_addresses.specs.Contact.{ChildEdge}
+use Rattle.theory_addresses.specs.Search.{below}
+use Rattle.theory_addresses.specs.Tables.{Tables, kind_tables, parts_of, part_of, part_count}
+use Rattle.theory_addresses.proofs.Mated.{same_parts, slice_get-reverse}
+use Rattle.theory_addresses.proofs.TableBounds.{some_within}
 use Rattle.edge_tables.specs.declared.child_edge.ChildEdge as program
 use Rattle.edge_tables.specs.declared.kind_rows.KindRows.{KindRows}
 use Rattle.edge_tables.specs.Views.{as_child_edge, as_kind_tables}
@@ -57,7 +57,9 @@ one-edges (x ∷ xs) (y ∷ ys) h =
     rw (one-edge x y head, one-edges xs ys tail) refl
 
 -- ---- the parts that stand in the lists of a kind
-pub kind_there : (t : Tables) (rows : List KindRows) (k : ℕ) (r : KindRows) → map as_kind_tables rows ≡ t.kinds → slice_get (map as_kind_tables rows) k ≡ Some (as_kind_tables r) → kind_tables t k ≡ as_kind_tables r
+pub kind_there : (t : Tables) (rows : List KindRows) (k : ℕ) (r : KindRows)
+    → map as_kind_tables rows ≡ t.kinds → slice_get (map as_kind_tables rows) k ≡ Some (as_kind_tables r)
+    → kind_tables t k ≡ as_kind_tables r
 unfolding kind_tables
 kind_there t rows k r same at =
     let there : slice_get t.kinds k ≡ Some (as_kind_tables r) = rw (← same) at in
@@ -68,7 +70,8 @@ pub parts_there : (t : Tables) (k e : ℕ) (r : KindRows) (parts : List program.
 unfolding parts_of
 parts_there t k e r parts kind at = rw (kind, at) refl
 
-pub parts_past : (t : Tables) (k e : ℕ) (r : KindRows) → kind_tables t k ≡ as_kind_tables r → length (map (λ v. map as_child_edge v.items) r.parts.items) ≤ e → [] ≡ parts_of t k e
+pub parts_past : (t : Tables) (k e : ℕ) (r : KindRows) → kind_tables t k ≡ as_kind_tables r
+    → length (map (λ v. map as_child_edge v.items) r.parts.items) ≤ e → [] ≡ parts_of t k e
 unfolding parts_of
 parts_past t k e r kind past = rw (kind, slice_get_past (map (λ v. map as_child_edge v.items) r.parts.items) e past) refl
 
@@ -82,38 +85,60 @@ row_is t n = refl
 
 row_more : (xs ys : List ChildEdge) (i : ℕ) (x y : ChildEdge) → slice_get xs i ≡ Some x → slice_get ys (length xs - 1 - i) ≡ Some y
     → row_upto xs ys (suc i) ≡ row_upto xs ys i ++ (record { mine = x; theirs = y }) ∷ []
-row_more xs ys i x y hx hy = rw (flat_map-append (λ p. both_of (slice_get xs p) (slice_get ys (length xs - 1 - p))) (below (λ p. p) i) (i ∷ []), hx, hy) refl
+row_more xs ys i x y hx hy = rw (
+  flat_map-append
+      (λ p. both_of (slice_get xs p) (slice_get ys (length xs - 1 - p))) (below (λ p. p) i) (i ∷ []),
+  hx,
+  hy,
+)
+    refl
 
 take_next : (xs : List ChildEdge) (i : ℕ) (x : ChildEdge) → slice_get xs i ≡ Some x → i < length xs → take (suc i) xs ≡ take i xs ++ x ∷ []
-take_next xs i x at inside = ap (λ (n : ℕ). take n xs) (sym (add-one i)) ∙ take_more xs i x inside ∙ ap (λ (y : ChildEdge). take i xs ++ y ∷ []) (get_or_from_slice_get xs i x x at)
+take_next xs i x at inside = ap (λ (n : ℕ). take n xs) (sym (add-one i)) ∙ take_more xs i x inside
+    ∙ ap (λ (y : ChildEdge). take i xs ++ y ∷ []) (get_or_from_slice_get xs i x x at)
 
 mines : (xs ys : List ChildEdge) (i : ℕ) → length xs ≡ length ys → i ≤ length xs → map (λ (r : RowPair). r.mine) (row_upto xs ys i) ≡ take i xs
 mines xs ys zero same le = refl
 mines xs ys (suc i) same le =
     let x = some_within xs i (omega arith) in
     let y = some_within ys (length xs - 1 - i) (omega arith) in
-    rw (row_more xs ys i x.0 y.0 x.1 y.1, map-append (λ (r : RowPair). r.mine) (row_upto xs ys i) ((record { mine = x.0; theirs = y.0 }) ∷ []), mines xs ys i same (omega arith))
+    rw (
+      row_more xs ys i x.0 y.0 x.1 y.1,
+      map-append (λ (r : RowPair). r.mine) (row_upto xs ys i)
+          ((record { mine = x.0; theirs = y.0 }) ∷ []),
+      mines xs ys i same (omega arith),
+    )
     (sym (take_next xs i x.0 x.1 (omega arith)))
 
-all_theirs : (xs ys : List ChildEdge) (i : ℕ) → length xs ≡ length ys → i ≤ length xs → map (λ (r : RowPair). r.theirs) (row_upto xs ys i) ≡ take i (reverse ys)
+all_theirs : (xs ys : List ChildEdge) (i : ℕ) → length xs ≡ length ys → i ≤ length xs
+    → map (λ (r : RowPair). r.theirs) (row_upto xs ys i) ≡ take i (reverse ys)
 all_theirs xs ys zero same le = refl
 all_theirs xs ys (suc i) same le =
     let x = some_within xs i (omega arith) in
     let y = some_within ys (length xs - 1 - i) (omega arith) in
     let turned = slice_get-reverse ys i (length xs - 1 - i) y.0 (omega arith) y.1 in
-    rw (row_more xs ys i x.0 y.0 x.1 y.1, map-append (λ (r : RowPair). r.theirs) (row_upto xs ys i) ((record { mine = x.0; theirs = y.0 }) ∷ []), all_theirs xs ys i same (omega arith))
+    rw (
+      row_more xs ys i x.0 y.0 x.1 y.1,
+      map-append (λ (r : RowPair). r.theirs) (row_upto xs ys i)
+          ((record { mine = x.0; theirs = y.0 }) ∷ []),
+      all_theirs xs ys i same (omega arith),
+    )
     (sym (take_next (reverse ys) i y.0 turned (omega (arith, length-reverse ys))))
 
 pub record SameParts (xs ys us vs : List ChildEdge) : Type 0 where
   pub mine : xs ≡ us
   pub theirs : ys ≡ vs
 
-parts-of_row : (xs ys us vs : List ChildEdge) → length xs ≡ length ys → length us ≡ length vs → row_upto xs ys (length xs) ≡ row_upto us vs (length us) → SameParts xs ys us vs
+parts-of_row : (xs ys us vs : List ChildEdge) → length xs ≡ length ys → length us ≡ length vs
+    → row_upto xs ys (length xs) ≡ row_upto us vs (length us) → SameParts xs ys us vs
 parts-of_row xs ys us vs h k same =
     let mine : xs ≡ us =
-    sym (take-length xs) ∙ sym (mines xs ys (length xs) h (omega arith)) ∙ ap (map (λ (r : RowPair). r.mine)) same ∙ mines us vs (length us) k (omega arith) ∙ take-length us in
+    sym (take-length xs) ∙ sym (mines xs ys (length xs) h (omega arith))
+    ∙ ap (map (λ (r : RowPair). r.mine)) same ∙ mines us vs (length us) k (omega arith)
+    ∙ take-length us in
     let turned : reverse ys ≡ reverse vs =
-    sym (take_all (length xs) (reverse ys) (omega (arith, length-reverse ys))) ∙ sym (all_theirs xs ys (length xs) h (omega arith)) ∙ ap (map (λ (r : RowPair). r.theirs)) same
+    sym (take_all (length xs) (reverse ys) (omega (arith, length-reverse ys)))
+    ∙ sym (all_theirs xs ys (length xs) h (omega arith)) ∙ ap (map (λ (r : RowPair). r.theirs)) same
     ∙ all_theirs us vs (length us) k (omega arith) ∙ take_all (length us) (reverse vs) (omega (arith, length-reverse vs)) in
     record { mine = mine; theirs = sym (reverse-reverse ys) ∙ ap reverse turned ∙ reverse-reverse vs }
 
@@ -127,7 +152,8 @@ rows-parts t m n coherent node node' same =
     parts-of_row (parts_of t m.kind m.edge) (parts_of t m.other m.back) (parts_of t n.kind n.edge) (parts_of t n.other n.back)
     (same_length t m coherent node) (same_length t n coherent node') (sym (row_is t m) ∙ same ∙ row_is t n)
 
-pub parts-rows : (t : Tables) (m n : Node) → SameParts (parts_of t m.kind m.edge) (parts_of t m.other m.back) (parts_of t n.kind n.edge) (parts_of t n.other n.back) → row_of t m ≡ row_of t n
+pub parts-rows : (t : Tables) (m n : Node) → SameParts (parts_of t m.kind m.edge) (parts_of t m.other m.back)
+    (parts_of t n.kind n.edge) (parts_of t n.other n.back) → row_of t m ≡ row_of t n
 parts-rows t m n same = row_is t m ∙ (λ i. row_upto (same.mine i) (same.theirs i) (length (same.mine i))) ∙ sym (row_is t n)
 
 -- ---- first edges alike
@@ -173,26 +199,35 @@ firsts_of t firsts n coherent are node =
     }
 
 -- ---- keys tell rows
-pub key_within : (t : Tables) (firsts : List ℕ) (n : Node) → IsCoherent t → AreFirstAlike t firsts → IsNode t n → key_of (width_of t) firsts n < width_of t * width_of t
+pub key_within : (t : Tables) (firsts : List ℕ) (n : Node) → IsCoherent t → AreFirstAlike t firsts
+    → IsNode t n → key_of (width_of t) firsts n < width_of t * width_of t
 key_within t firsts n coherent are node =
     let f = firsts_of t firsts n coherent are node in
     mul-add-lt (get_or firsts (mine_of n) 0) (width_of t) (get_or firsts (theirs_of n) 0) (width_of t) f.mine_within f.theirs_within
 
-pub key-row : (t : Tables) (firsts : List ℕ) (m n : Node) → IsCoherent t → AreFirstAlike t firsts → IsNode t m → IsNode t n → key_of (width_of t) firsts m ≡ key_of (width_of t) firsts n → row_of t m ≡ row_of t n
+pub key-row : (t : Tables) (firsts : List ℕ) (m n : Node) → IsCoherent t → AreFirstAlike t firsts → IsNode t m
+    → IsNode t n → key_of (width_of t) firsts m ≡ key_of (width_of t) firsts n → row_of t m ≡ row_of t n
 key-row t firsts m n coherent are node node' same =
     let f = firsts_of t firsts m coherent are node in
     let g = firsts_of t firsts n coherent are node' in
-    let both = one_each (width_of t) (get_or firsts (mine_of m) 0) (get_or firsts (theirs_of m) 0) (get_or firsts (mine_of n) 0) (get_or firsts (theirs_of n) 0) f.theirs_within g.theirs_within same in
+    let both = one_each (width_of t) (get_or firsts (mine_of m) 0) (get_or firsts (theirs_of m) 0)
+    (get_or firsts (mine_of n) 0) (get_or firsts (theirs_of n) 0) f.theirs_within g.theirs_within same in
     parts-rows t m n (record {
-      mine = sym f.mine_parts ∙ one_first t (mine_of m) (mine_of n) (get_or firsts (mine_of m) 0) (get_or firsts (mine_of n) 0) f.mine g.mine both.0 ∙ g.mine_parts;
-      theirs = sym f.theirs_parts ∙ one_first t (theirs_of m) (theirs_of n) (get_or firsts (theirs_of m) 0) (get_or firsts (theirs_of n) 0) f.theirs g.theirs both.1 ∙ g.theirs_parts;
+      mine = sym f.mine_parts ∙ one_first t (mine_of m) (mine_of n) (get_or firsts (mine_of m) 0)
+          (get_or firsts (mine_of n) 0) f.mine g.mine both.0 ∙ g.mine_parts;
+      theirs = sym f.theirs_parts ∙ one_first t (theirs_of m) (theirs_of n) (get_or firsts (theirs_of m) 0)
+          (get_or firsts (theirs_of n) 0) f.theirs g.theirs both.1 ∙ g.theirs_parts;
     })
 
-pub row-key : (t : Tables) (firsts : List ℕ) (m n : Node) → IsCoherent t → AreFirstAlike t firsts → IsNode t m → IsNode t n → row_of t m ≡ row_of t n → key_of (width_of t) firsts m ≡ key_of (width_of t) firsts n
+pub row-key : (t : Tables) (firsts : List ℕ) (m n : Node) → IsCoherent t → AreFirstAlike t firsts → IsNode t m
+    → IsNode t n → row_of t m ≡ row_of t n → key_of (width_of t) firsts m ≡ key_of (width_of t) firsts n
 row-key t firsts m n coherent are node node' same =
     let f = firsts_of t firsts m coherent are node in
     let g = firsts_of t firsts n coherent are node' in
     let parts = rows-parts t m n coherent node node' same in
-    let mine = first_one t (mine_of m) (mine_of n) (get_or firsts (mine_of m) 0) (get_or firsts (mine_of n) 0) f.mine g.mine (f.mine_parts ∙ parts.mine ∙ sym g.mine_parts) in
-    let theirs = first_one t (theirs_of m) (theirs_of n) (get_or firsts (theirs_of m) 0) (get_or firsts (theirs_of n) 0) f.theirs g.theirs (f.theirs_parts ∙ parts.theirs ∙ sym g.theirs_parts) in
+    let mine = first_one t (mine_of m) (mine_of n) (get_or firsts (mine_of m) 0) (get_or firsts (mine_of n) 0)
+    f.mine g.mine (f.mine_parts ∙ parts.mine ∙ sym g.mine_parts) in
+    let theirs = first_one t (theirs_of m) (theirs_of n) (get_or firsts (theirs_of m) 0)
+    (get_or firsts (theirs_of n) 0) f.theirs g.theirs
+    (f.theirs_parts ∙ parts.theirs ∙ sym g.theirs_parts) in
     λ i. mine i * width_of t + theirs i

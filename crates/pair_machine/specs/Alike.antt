@@ -1,6 +1,6 @@
 -- Edges with the same parts, and the keys of nodes: two nodes have one key if and only if they have one row.
 use Rattle.std.specs.Prelude.{◌≡◌, ◌<◌, ◌≤◌, ℕ, ◌+◌, ◌*◌, ◌/◌, ◌%◌, List, Some, length, slice_get, get_or}
-use Rattle.addressing.specs.Tables.{Tables, parts_of}
+use Rattle.theory_addresses.specs.Tables.{Tables, parts_of}
 use Rattle.pair_machine.specs.Nodes.{Node}
 use Rattle.pair_machine.specs.Numbers.{width_of, mine_of, theirs_of}
 

@@ -1,9 +1,9 @@
 -- By which edges two tiles of one supertile touch.
 use Rattle.std.specs.Prelude.{◌≡◌, ◌↔◌, ◌<◌, ℕ, List, [], ◌∷◌}
-use Rattle.addressing.specs.Address.{Address, depth, top_kind}
-use Rattle.addressing.specs.Search.{IsAmong}
-use Rattle.addressing.specs.Tables.{Tables}
-use Rattle.addressing.specs.Touch.{Touches}
+use Rattle.theory_addresses.specs.Address.{Address, depth, top_kind}
+use Rattle.theory_addresses.specs.Search.{IsAmong}
+use Rattle.theory_addresses.specs.Tables.{Tables}
+use Rattle.theory_addresses.specs.Touch.{Touches}
 
 -- an edge of the one tile, and an edge of the other
 pub record Pair : Type 0 where

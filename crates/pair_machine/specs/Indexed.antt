@@ -1,7 +1,7 @@
 -- Rows that are found by the keys of nodes.
 use Rattle.std.specs.Prelude.{◌≡◌, ◌*◌, ℕ, List, Option, Some, length, slice_get}
-use Rattle.addressing.specs.Search.{IsAmong}
-use Rattle.addressing.specs.Tables.{Tables}
+use Rattle.theory_addresses.specs.Search.{IsAmong}
+use Rattle.theory_addresses.specs.Tables.{Tables}
 use Rattle.transducer_core.specs.Once.{HasNoneTwice}
 use Rattle.pair_machine.specs.Alike.{AreFirstAlike, key_of}
 use Rattle.pair_machine.specs.Nodes.{Node, RowPair, IsNode, row_of}

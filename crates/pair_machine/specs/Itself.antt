@@ -1,7 +1,7 @@
 -- Children that meet themselves. No place in the plane allows it, but tables that fit together may.
 use Rattle.std.specs.Prelude.{◌≡◌, ℕ, Some}
-use Rattle.addressing.specs.Contact.{inner}
-use Rattle.addressing.specs.Tables.{Tables, contact_of}
+use Rattle.theory_addresses.specs.Contact.{inner}
+use Rattle.theory_addresses.specs.Tables.{Tables, contact_of}
 
 -- an edge of the child is an edge of the same child in the other direction
 pub record MeetsItself (t : Tables) (kind child : ℕ) : Type 0 where

@@ -1,6 +1,6 @@
 -- Pairs that are kept in order.
 use Rattle.std.specs.Prelude.{◌≡◌, ◌<◌, ◌≤◌, ℕ, List, length, take, drop}
-use Rattle.addressing.specs.Search.{IsAmong}
+use Rattle.theory_addresses.specs.Search.{IsAmong}
 use Rattle.pair_machine.specs.Between.{Pair, IsInOrder}
 
 -- the kept list has the members of the pairs, and no others

@@ -1,10 +1,10 @@
 -- The nodes of the pair machine: edges against edges, and the rows of child edges that meet along them.
 use Rattle.std.specs.Prelude.{◌≡◌, ◌↔◌, ℕ, ◌-◌, List, [], ◌∷◌, length, Option, Some, None}
 use Rattle.std.specs.List.{flat_map}
-use Rattle.addressing.specs.Contact.{ChildEdge, inner}
-use Rattle.addressing.specs.Search.{below, IsAmong}
+use Rattle.theory_addresses.specs.Contact.{ChildEdge, inner}
+use Rattle.theory_addresses.specs.Search.{below, IsAmong}
 use Rattle.transducer_core.specs.Once.{HasNoneTwice}
-use Rattle.addressing.specs.Tables.{Tables, child_kind_of, contact_of, part_of, part_count}
+use Rattle.theory_addresses.specs.Tables.{Tables, child_kind_of, contact_of, part_of, part_count}
 
 -- edge `edge` of kind `kind` against edge `back` of kind `other`
 pub record Node : Type 0 where

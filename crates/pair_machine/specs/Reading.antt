@@ -1,10 +1,10 @@
 -- Two addresses read from coarse to fine at once: the pairs of edges that are left.
 use Rattle.std.specs.Prelude.{ℕ, Bool, true, false, ◌&&◌, ◌==◌, List, [], ◌∷◌, ◌++◌, length, Option, Some, None}
 use Rattle.std.specs.List.{flat_map}
-use Rattle.addressing.specs.Address.{Step}
-use Rattle.addressing.specs.Contact.{Contact, inner, outer}
-use Rattle.addressing.specs.Search.{below}
-use Rattle.addressing.specs.Tables.{Tables, contact_of, contacts_of}
+use Rattle.theory_addresses.specs.Address.{Step}
+use Rattle.theory_addresses.specs.Contact.{Contact, inner, outer}
+use Rattle.theory_addresses.specs.Search.{below}
+use Rattle.theory_addresses.specs.Tables.{Tables, contact_of, contacts_of}
 use Rattle.pair_machine.specs.Between.{Pair}
 use Rattle.pair_machine.specs.Nodes.{Node, RowPair, row_of}
 

@@ -1,9 +1,9 @@
 -- The search for all nodes.
 use Rattle.std.specs.Prelude.{◌≡◌, ◌⊎◌, ◌+◌, ◌*◌, ℕ, suc, Bool, true, false, List, [], ◌∷◌, ◌++◌, length, Option, Some, None, slice_get}
 use Rattle.std.specs.List.{flat_map}
-use Rattle.addressing.specs.Contact.{Contact, ChildEdge, inner, outer}
-use Rattle.addressing.specs.Search.{below, IsAmong}
-use Rattle.addressing.specs.Tables.{Tables, kind_tables, child_kind_of, contact_of, contacts_of}
+use Rattle.theory_addresses.specs.Contact.{Contact, ChildEdge, inner, outer}
+use Rattle.theory_addresses.specs.Search.{below, IsAmong}
+use Rattle.theory_addresses.specs.Tables.{Tables, kind_tables, child_kind_of, contact_of, contacts_of}
 use Rattle.transducer_core.specs.Once.{HasNoneTwice}
 use Rattle.pair_machine.specs.Nodes.{Node, RowPair}
 use Rattle.pair_machine.specs.Numbers.{number_of, IsSmall}

@@ -1,7 +1,7 @@
 -- What a verdict means.
 use Rattle.std.specs.Prelude.{◌≡◌, ◌≢◌, List, [], map}
-use Rattle.addressing.specs.Address.{Address}
-use Rattle.addressing.specs.Tables.{Tables}
+use Rattle.theory_addresses.specs.Address.{Address}
+use Rattle.theory_addresses.specs.Tables.{Tables}
 use Rattle.pair_machine.specs.Between.{Pair, HaveCommon, IsBetween}
 use Rattle.pair_machine.specs.Views.{as_pair}
 use Rattle.pair_machine.specs.declared.verdict.Verdict.{Verdict}

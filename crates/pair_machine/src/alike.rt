@@ -1,6 +1,6 @@
 //! Edges with the same parts, by which equal rows are found.
 ghost use Rattle.std.specs.Prelude.{◌≡◌, ◌↔◌, ◌<◌, ◌/◌, ◌%◌, map, IsTrue, IfOk};
-ghost use Rattle.addressing.specs.Tables.{parts_of};
+ghost use Rattle.theory_addresses.specs.Tables.{parts_of};
 ghost use Rattle.edge_tables.specs.Views.{as_child_edge};
 ghost use Rattle.pair_machine.specs.Alike.{IsFirstAlike, AreFirstAlike};
 ghost use Rattle.pair_machine.specs.Numbers.{width_of};

@@ -1,8 +1,8 @@
 //! Children that meet themselves: no place in the plane allows it, but tables that fit together may.
 ghost use Rattle.std.specs.Prelude.{◌≡◌, ◌↔◌, ◌<◌, ℕ, length, IsSome, IsTrue};
-ghost use Rattle.addressing.specs.Coherent.{IsCoherent};
-ghost use Rattle.addressing.specs.Contact.{inner};
-ghost use Rattle.addressing.specs.Tables.{child_kind_of};
+ghost use Rattle.theory_addresses.specs.Coherent.{IsCoherent};
+ghost use Rattle.theory_addresses.specs.Contact.{inner};
+ghost use Rattle.theory_addresses.specs.Tables.{child_kind_of};
 ghost use Rattle.edge_tables.specs.Views.{as_contact};
 ghost use Rattle.pair_machine.specs.Itself.{MeetsItself, HasMeeting, SomeMeetsItself};
 

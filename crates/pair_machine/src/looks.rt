@@ -1,6 +1,6 @@
 //! Look-ups that nobody counts.
 ghost use Rattle.std.specs.Prelude.{◌≡◌, ◌<◌, Some, IsSome};
-ghost use Rattle.addressing.specs.Tables.{contact_of, part_of};
+ghost use Rattle.theory_addresses.specs.Tables.{contact_of, part_of};
 ghost use Rattle.edge_tables.specs.Views.{as_contact, as_child_edge};
 
 use edge_tables::child_edge::ChildEdge;

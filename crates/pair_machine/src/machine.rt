@@ -1,9 +1,9 @@
 //! The machine that finds the edges by which two tiles meet.
 ghost use Rattle.std.specs.Prelude.{◌≡◌, ◌≢◌, ◌↔◌, ◌≤◌, [], length, map, drop, IsSome, IfOk};
-ghost use Rattle.addressing.specs.Address.{Fits};
-ghost use Rattle.addressing.specs.Coherent.{IsCoherent};
-ghost use Rattle.addressing.specs.Search.{IsAmong};
-ghost use Rattle.addressing.specs.Tables.{child_kinds, child_kind_of};
+ghost use Rattle.theory_addresses.specs.Address.{Fits};
+ghost use Rattle.theory_addresses.specs.Coherent.{IsCoherent};
+ghost use Rattle.theory_addresses.specs.Search.{IsAmong};
+ghost use Rattle.theory_addresses.specs.Tables.{child_kinds, child_kind_of};
 ghost use Rattle.tile_shape.specs.Views.{address_of, step_of};
 ghost use Rattle.pair_machine.specs.Between.{Pair, HaveCommon, IsBetween};
 ghost use Rattle.pair_machine.specs.Kept.{IsKept, IsFunctional};
@@ -41,7 +41,7 @@ pub struct PairMachine {
 
 impl Model for PairMachine {
     ghost use Rattle.std.specs.Prelude.{map};
-    ghost use Rattle.addressing.specs.Tables.{Tables as TheTables};
+    ghost use Rattle.theory_addresses.specs.Tables.{Tables as TheTables};
     ghost use Rattle.pair_machine.specs.Machine.{IsMachine};
     ghost use Rattle.pair_machine.specs.Views.{as_node, as_row_pair};
 
@@ -104,7 +104,8 @@ impl PairMachine {
         requires one_depth { length xs.now ≡ length ys.now }
         ensures within { result ≤ length xs.now }
         ensures same_above { drop result xs.now ≡ drop result ys.now }
-        ensures none_above { pairs_read self.now (drop result (map step_of xs.now)) (drop result (map step_of ys.now)) ≡ [] }
+        ensures none_above { pairs_read self.now (drop result (map step_of xs.now))
+            (drop result (map step_of ys.now)) ≡ [] }
     {
         if self.meets_itself {
             xs.len()
@@ -116,7 +117,8 @@ impl PairMachine {
     /// Returns what is left of the pairs above, after two digits are read.
     fn read_digits(&self, above: &Partners, fresh: bool, x: Step, y: Step) -> Partners
         requires child { IsSome (child_kind_of self.now x.parent x.child) }
-        requires nodes { (p : Pair) → IsAmong p above.now → IsNode self.now (node_of (step_of x) (step_of y) p) }
+        requires nodes { (p : Pair) → IsAmong p above.now
+            → IsNode self.now (node_of (step_of x) (step_of y) p) }
         requires functional { IsFunctional (step_pairs self.now (step_of x) (step_of y) fresh above.now) }
         ensures { IsKept result (step_pairs self.now (step_of x) (step_of y) fresh above.now) }
     {
@@ -141,7 +143,8 @@ impl PairMachine {
         requires fits_a { Fits (child_kinds self.now) (address_of a.now) }
         requires fits_b { Fits (child_kinds self.now) (address_of b.now) }
         requires one_depth { length a.now.digits.items ≡ length b.now.digits.items }
-        ensures { IsKept result (pairs_read self.now (map step_of a.now.digits.items) (map step_of b.now.digits.items)) }
+        ensures { IsKept result (pairs_read self.now (map step_of a.now.digits.items)
+            (map step_of b.now.digits.items)) }
     {
         let _coherent = self.tables.kinds();
         let xs = a.digits.as_slice();
@@ -175,10 +178,16 @@ impl PairMachine {
         requires fits_a { Fits (child_kinds self.now) (address_of a.now) }
         requires fits_b { Fits (child_kinds self.now) (address_of b.now) }
         ensures verdict { IsVerdict self.now (address_of a.now) (address_of b.now) result }
-        ensures strangers { (result ≡ Verdict.Strangers) ↔ (HaveCommon (address_of a.now) (address_of b.now) → ⊥) }
-        ensures same { (result ≡ Verdict.Same) ↔ (HaveCommon (address_of a.now) (address_of b.now) × (address_of a.now ≡ address_of b.now)) }
-        ensures apart { (result ≡ Verdict.Apart) ↔ (HaveCommon (address_of a.now) (address_of b.now) × (address_of a.now ≢ address_of b.now) × IsBetween self.now (address_of a.now) (address_of b.now) []) }
-        ensures all_pairs_touching { HaveCommon (address_of a.now) (address_of b.now) → address_of a.now ≢ address_of b.now → IsBetween self.now (address_of a.now) (address_of b.now) (pairs_of result) }
+        ensures strangers { (result ≡ Verdict.Strangers)
+            ↔ (HaveCommon (address_of a.now) (address_of b.now) → ⊥) }
+        ensures same { (result ≡ Verdict.Same) ↔ (HaveCommon (address_of a.now) (address_of b.now)
+            × (address_of a.now ≡ address_of b.now)) }
+        ensures apart { (result ≡ Verdict.Apart)
+            ↔ (HaveCommon (address_of a.now) (address_of b.now) × (address_of a.now ≢ address_of b.now)
+            × IsBetween self.now (address_of a.now) (address_of b.now) []) }
+        ensures all_pairs_touching { HaveCommon (address_of a.now) (address_of b.now)
+            → address_of a.now ≢ address_of b.now → IsBetween self.now (address_of a.now) (address_of b.now)
+            (pairs_of result) }
     {
         self.verdict_of(a, b)
     }

@@ -1,9 +1,9 @@
 //! All nodes of tables.
 ghost use Rattle.std.specs.Prelude.{◌≡◌, ◌↔◌, ◌≤◌, ◌<◌, ◌*◌, [], ◌∷◌, length, map, IsSome, IfOk};
 ghost use Rattle.edge_tables.specs.Views.{as_child_edge};
-ghost use Rattle.addressing.specs.Coherent.{IsCoherent};
-ghost use Rattle.addressing.specs.Search.{IsAmong};
-ghost use Rattle.addressing.specs.Tables.{kind_tables, child_kind_of, contacts_of};
+ghost use Rattle.theory_addresses.specs.Coherent.{IsCoherent};
+ghost use Rattle.theory_addresses.specs.Search.{IsAmong};
+ghost use Rattle.theory_addresses.specs.Tables.{kind_tables, child_kind_of, contacts_of};
 ghost use Rattle.transducer_core.specs.Once.{HasNoneTwice};
 ghost use Rattle.pair_machine.specs.Nodes.{Node as TheNode, IsNode, row_of as the_row_of};
 ghost use Rattle.pair_machine.specs.Numbers.{width_of, IsSmall};
@@ -44,7 +44,8 @@ impl Found {
         requires width { width ≤ 192 }
         requires seen { IsSeen width (map as_node self.old.list.items) self.old.seen.items }
         requires small { IsSmall width (as_node node) }
-        ensures { IfOk result (λ u. Covers width (map as_node self.old.list.items) (map as_node self.new.list.items) self.new.seen.items (as_node node ∷ [])) }
+        ensures { IfOk result (λ u. Covers width (map as_node self.old.list.items)
+            (map as_node self.new.list.items) self.new.seen.items (as_node node ∷ [])) }
     {
         let number = node.number(width);
         if !self.seen[number] {
@@ -59,7 +60,9 @@ impl Found {
         requires coherent { IsCoherent tables.now }
         requires child { IsSome (child_kind_of tables.now parent child) }
         requires seen { IsSeen (width_of tables.now) (map as_node self.old.list.items) self.old.seen.items }
-        ensures { IfOk result (λ u. Covers (width_of tables.now) (map as_node self.old.list.items) (map as_node self.new.list.items) self.new.seen.items (child_nodes tables.now parent child (length (contacts_of tables.now parent child)))) }
+        ensures { IfOk result (λ u. Covers (width_of tables.now) (map as_node self.old.list.items)
+            (map as_node self.new.list.items) self.new.seen.items
+            (child_nodes tables.now parent child (length (contacts_of tables.now parent child)))) }
     {
         let width = width(tables);
         let kind = tables.child_kind(parent, child);
@@ -91,7 +94,9 @@ impl Found {
         requires coherent { IsCoherent tables.now }
         requires seen { IsSeen (width_of tables.now) (map as_node self.old.list.items) self.old.seen.items }
         requires kind { parent < length tables.now.kinds }
-        ensures { IfOk result (λ u. Covers (width_of tables.now) (map as_node self.old.list.items) (map as_node self.new.list.items) self.new.seen.items (kind_nodes tables.now parent (length (kind_tables tables.now parent).children))) }
+        ensures { IfOk result (λ u. Covers (width_of tables.now) (map as_node self.old.list.items)
+            (map as_node self.new.list.items) self.new.seen.items
+            (kind_nodes tables.now parent (length (kind_tables tables.now parent).children))) }
     {
         for child in 0..tables.children(parent) {
             self.add_child(tables, parent, child)?;
@@ -103,7 +108,9 @@ impl Found {
     fn add_first(&mut self, tables: &Tables) -> Result<(), NoMemory>
         requires coherent { IsCoherent tables.now }
         requires seen { IsSeen (width_of tables.now) (map as_node self.old.list.items) self.old.seen.items }
-        ensures { IfOk result (λ u. Covers (width_of tables.now) (map as_node self.old.list.items) (map as_node self.new.list.items) self.new.seen.items (first_nodes tables.now (length tables.now.kinds))) }
+        ensures { IfOk result (λ u. Covers (width_of tables.now) (map as_node self.old.list.items)
+            (map as_node self.new.list.items) self.new.seen.items
+            (first_nodes tables.now (length tables.now.kinds))) }
     {
         for parent in 0..tables.kinds() {
             self.add_kind(tables, parent)?;
@@ -117,7 +124,10 @@ impl Found {
         requires node { IsNode tables.now (as_node node) }
         requires pair { IsAmong (as_row_pair pair) (the_row_of tables.now (as_node node)) }
         requires seen { IsSeen (width_of tables.now) (map as_node self.old.list.items) self.old.seen.items }
-        ensures { IfOk result (λ u. Covers (width_of tables.now) (map as_node self.old.list.items) (map as_node self.new.list.items) self.new.seen.items (children_node tables.now node.kind (as_child_edge pair.mine) node.other (as_child_edge pair.theirs))) }
+        ensures { IfOk result (λ u. Covers (width_of tables.now) (map as_node self.old.list.items)
+            (map as_node self.new.list.items) self.new.seen.items
+            (children_node tables.now node.kind (as_child_edge pair.mine) node.other
+            (as_child_edge pair.theirs))) }
     {
         let kind = tables.child_kind(node.kind, pair.mine.child);
         let other = tables.child_kind(node.other, pair.theirs.child);
@@ -138,7 +148,9 @@ impl Found {
         requires node { IsNode tables.now (as_node node) }
         requires row { map as_row_pair row.now ≡ the_row_of tables.now (as_node node) }
         requires seen { IsSeen (width_of tables.now) (map as_node self.old.list.items) self.old.seen.items }
-        ensures { IfOk result (λ u. Covers (width_of tables.now) (map as_node self.old.list.items) (map as_node self.new.list.items) self.new.seen.items (row_nodes tables.now (as_node node) (the_row_of tables.now (as_node node)))) }
+        ensures { IfOk result (λ u. Covers (width_of tables.now) (map as_node self.old.list.items)
+            (map as_node self.new.list.items) self.new.seen.items
+            (row_nodes tables.now (as_node node) (the_row_of tables.now (as_node node)))) }
     {
         for pair in row {
             self.add_pair(tables, node, *pair)?;
@@ -150,7 +162,8 @@ impl Found {
 /// Returns all nodes, each exactly once.
 pub(crate) fn nodes_of(alloc: Global, tables: &Tables) -> Result<Vec<Node>, NoMemory>
     ensures once { IfOk result (λ nodes. HasNoneTwice (map as_node nodes.items)) }
-    ensures all { IfOk result (λ nodes. (n : TheNode) → IsAmong n (map as_node nodes.items) ↔ IsNode tables.now n) }
+    ensures all { IfOk result (λ nodes. (n : TheNode) → IsAmong n (map as_node nodes.items)
+        ↔ IsNode tables.now n) }
     ensures few { IfOk result (λ nodes. length nodes.items ≤ 36864) }
 {
     let mut found = Found::new(alloc, width(tables))?;

@@ -1,8 +1,8 @@
 //! The edges of one tile that meet edges of another.
 ghost use Rattle.std.specs.Prelude.{◌≡◌, ◌↔◌, ◌<◌, List, [], ◌∷◌, ◌++◌, Some, false, map, IsSome, IsTrue, IfSome, IfNone};
-ghost use Rattle.addressing.specs.Coherent.{IsCoherent};
-ghost use Rattle.addressing.specs.Search.{IsAmong};
-ghost use Rattle.addressing.specs.Tables.{child_kind_of};
+ghost use Rattle.theory_addresses.specs.Coherent.{IsCoherent};
+ghost use Rattle.theory_addresses.specs.Search.{IsAmong};
+ghost use Rattle.theory_addresses.specs.Tables.{child_kind_of};
 ghost use Rattle.edge_tables.specs.Views.{as_contact};
 ghost use Rattle.pair_machine.specs.Between.{Pair, IsInOrder};
 ghost use Rattle.pair_machine.specs.Kept.{IsKept, IsFunctional, BelongsAt};
@@ -123,7 +123,8 @@ impl Partners {
     /// Keeps an inner contact of an edge with a child.
     fn keep_contact(&mut self, edge: u8, theirs: u8, contact: Contact)
         requires edge { edge < 12 }
-        ensures { (ps : List Pair) → IsKept self.old ps → IsFunctional (ps ++ met_by edge theirs (Some (as_contact contact)))
+        ensures { (ps : List Pair) → IsKept self.old ps
+            → IsFunctional (ps ++ met_by edge theirs (Some (as_contact contact)))
             → IsKept self.new (ps ++ met_by edge theirs (Some (as_contact contact))) }
     {
         if let Contact::Inner { child, edge: back } = contact {
@@ -139,7 +140,8 @@ impl Partners {
     /// Keeps a pair of a row, if these children are read.
     fn keep_one(&mut self, pair: RowPair, mine: u8, theirs: u8)
         requires edge { pair.mine.edge < 12 }
-        ensures { (ps : List Pair) → IsKept self.old ps → IsFunctional (ps ++ left_one (as_row_pair pair) mine theirs)
+        ensures { (ps : List Pair) → IsKept self.old ps
+            → IsFunctional (ps ++ left_one (as_row_pair pair) mine theirs)
             → IsKept self.new (ps ++ left_one (as_row_pair pair) mine theirs) }
     {
         if pair.mine.child == mine {
@@ -155,7 +157,8 @@ impl Partners {
     /// Keeps what a row leaves, if these children are read.
     pub(crate) fn keep_row(&mut self, row: &[RowPair], mine: u8, theirs: u8)
         requires edges { (pair : TheRowPair) → IsAmong pair (map as_row_pair row.now) → pair.mine.edge < 12 }
-        ensures { (ps : List Pair) → IsKept self.old ps → IsFunctional (ps ++ left_of (map as_row_pair row.now) mine theirs)
+        ensures { (ps : List Pair) → IsKept self.old ps
+            → IsFunctional (ps ++ left_of (map as_row_pair row.now) mine theirs)
             → IsKept self.new (ps ++ left_of (map as_row_pair row.now) mine theirs) }
     {
         for pair in row {

@@ -1,6 +1,6 @@
 //! The row of a node.
 ghost use Rattle.std.specs.Prelude.{◌≡◌, map, IfOk};
-ghost use Rattle.addressing.specs.Coherent.{IsCoherent};
+ghost use Rattle.theory_addresses.specs.Coherent.{IsCoherent};
 ghost use Rattle.pair_machine.specs.Nodes.{IsNode, row_of};
 ghost use Rattle.pair_machine.specs.Views.{as_node, as_row_pair};
 

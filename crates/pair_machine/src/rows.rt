@@ -1,6 +1,6 @@
 //! Rows, equal ones kept once.
 ghost use Rattle.std.specs.Prelude.{◌≡◌, ◌<◌, ◌≤◌, [], length, map, IfOk};
-ghost use Rattle.addressing.specs.Coherent.{IsCoherent};
+ghost use Rattle.theory_addresses.specs.Coherent.{IsCoherent};
 ghost use Rattle.pair_machine.specs.Alike.{key_of};
 ghost use Rattle.pair_machine.specs.Indexed.{IsIndexed};
 ghost use Rattle.pair_machine.specs.Machine.{IsKeptOnce};
@@ -59,9 +59,14 @@ impl Rows {
         requires coherent { IsCoherent tables.now }
         requires node { IsNode tables.now (as_node node) }
         requires few { length self.old.list.items < 36864 }
-        requires indexed { IsIndexed tables.now self.old.firsts.items self.old.places.items (map (λ r. map as_row_pair r.items) self.old.list.items) }
-        ensures indexed { IfOk result (λ place. IsIndexed tables.now self.new.firsts.items self.new.places.items (map (λ r. map as_row_pair r.items) self.new.list.items)) }
-        ensures kept { IfOk result (λ place. IsKeptOnce (map (λ r. map as_row_pair r.items) self.old.list.items) (map (λ r. map as_row_pair r.items) self.new.list.items) (the_row_of tables.now (as_node node)) place) }
+        requires indexed { IsIndexed tables.now self.old.firsts.items self.old.places.items
+            (map (λ r. map as_row_pair r.items) self.old.list.items) }
+        ensures indexed { IfOk result (λ place. IsIndexed tables.now self.new.firsts.items
+            self.new.places.items (map (λ r. map as_row_pair r.items) self.new.list.items)) }
+        ensures kept { IfOk result (λ place. IsKeptOnce
+            (map (λ r. map as_row_pair r.items) self.old.list.items)
+            (map (λ r. map as_row_pair r.items) self.new.list.items) (the_row_of tables.now (as_node node))
+            place) }
     {
         let key = self.key(width(tables), node);
         if let Some(place) = self.places[key] {

@@ -1,5 +1,5 @@
 -- The coordinates of each order's points lie in an ordered ring.
-use Rattle.ordered_ring.specs.Ring.{Laws}
+use Rattle.theory_ring.specs.Ring.{Laws}
 use Rattle.cyclo_points.specs.declared.order.Order.{Order}
 use Rattle.cyclo_points.proofs.OrderLaws.{laws_of}
 use Rattle.plane_geom.specs.Spots.{reals_of}

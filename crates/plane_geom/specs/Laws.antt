@@ -2,10 +2,10 @@
 use Rattle.std.specs.Prelude.{◌≡◌, ◌↔◌, ◌⊎◌, pos, neg_ℤ, ◌+ℤ◌, List, IsTrue}
 use Rattle.cyclo_points.specs.declared.order.Order.{Order}
 use Rattle.plane_geom.specs.Spots.{reals_of, PlanePointOf, TestPointOf}
-use Rattle.ordered_plane.specs.Plane.{IsTestPoint}
-use Rattle.ordered_plane.specs.Crossing.{crossing, count, member}
-use Rattle.ordered_plane.specs.Triangle.{Triangle, corners, fan, counts, turns_left, separated}
-use Rattle.ordered_plane.specs.Segment.{on_segment, Between}
+use Rattle.theory_plane.specs.Plane.{IsTestPoint}
+use Rattle.theory_plane.specs.Crossing.{crossing, count, member}
+use Rattle.theory_plane.specs.Triangle.{Triangle, corners, fan, counts, turns_left, separated}
+use Rattle.theory_plane.specs.Segment.{on_segment, Between}
 
 -- an edge turned round crosses the other way
 abbrev pub AntisymmetryLaw : Order → Type 0

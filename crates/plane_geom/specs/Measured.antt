@@ -5,7 +5,7 @@ use Rattle.cyclo_points.specs.declared.order.Order.{Order}
 use Rattle.cyclo_points.specs.Order.{points_of}
 use Rattle.cyclo_points.specs.Real.{RealOf, real_in, IsRealWithin}
 use Rattle.plane_geom.specs.declared.half_plane.Measured.{Measured}
-use Rattle.ordered_plane.specs.BoxTest.{Depths}
+use Rattle.theory_plane.specs.BoxTest.{Depths}
 
 -- how far the two ends are inside the half plane
 abbrev pub depths_in : (o : Order) → Measured → Depths (RealOf o)

@@ -1,10 +1,10 @@
 -- The laws of motions and of products, for the points of each order: what they keep, and what they scale.
 use Rattle.std.specs.Prelude.{◌≡◌, ℕ, pos}
-use Rattle.ordered_ring.specs.Ring.{difference, power}
-use Rattle.ordered_ring.specs.Sign.{IsPositive}
-use Rattle.ordered_plane.specs.Plane.{orientation}
-use Rattle.substitution.specs.Motion.{Motion, moved}
-use Rattle.substitution.specs.Plane.{plane_point, twice_squared_length, Keeps, IsGrowthFactor}
+use Rattle.theory_ring.specs.Ring.{difference, power}
+use Rattle.theory_ring.specs.Sign.{IsPositive}
+use Rattle.theory_plane.specs.Plane.{orientation}
+use Rattle.theory_substitution.specs.Motion.{Motion, moved}
+use Rattle.theory_substitution.specs.Plane.{plane_point, twice_squared_length, Keeps, IsGrowthFactor}
 use Rattle.cyclo_points.specs.declared.order.Order.{Order}
 use Rattle.cyclo_points.specs.Order.{NumberOf, points_of}
 use Rattle.plane_geom.specs.Spots.{reals_of}

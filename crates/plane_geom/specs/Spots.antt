@@ -1,9 +1,9 @@
 -- Where the program's points lie in the plane.
 use Rattle.std.specs.Prelude.{List, map}
-use Rattle.ordered_ring.specs.Sign.{Signed}
-use Rattle.ordered_plane.specs.Plane.{PlanePoint, TestPoint, test_point}
-use Rattle.ordered_plane.specs.Triangle.{Triangle, triangle_at}
-use Rattle.substitution.specs.Plane.{plane_point}
+use Rattle.theory_ring.specs.Sign.{Signed}
+use Rattle.theory_plane.specs.Plane.{PlanePoint, TestPoint, test_point}
+use Rattle.theory_plane.specs.Triangle.{Triangle, triangle_at}
+use Rattle.theory_substitution.specs.Plane.{plane_point}
 use Rattle.cyclo_points.specs.declared.order.Order.{Order}
 use Rattle.cyclo_points.specs.declared.point.Point.{Point}
 use Rattle.cyclo_points.specs.Order.{points_of}

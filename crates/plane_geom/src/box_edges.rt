@@ -3,9 +3,9 @@
 ghost use Rattle.std.specs.Prelude.{◌≡◌, ◌↔◌, ◌^◌, IsTrue};
 ghost use Rattle.cyclo_points.specs.Order.{points_of};
 ghost use Rattle.cyclo_points.specs.Point.{point_in, IsWithin};
-ghost use Rattle.substitution.specs.Plane.{plane_point};
-ghost use Rattle.ordered_plane.specs.Box.{EdgeMeetsBox};
-ghost use Rattle.substitution.specs.Plane.{box_at};
+ghost use Rattle.theory_substitution.specs.Plane.{plane_point};
+ghost use Rattle.theory_plane.specs.Box.{EdgeMeetsBox};
+ghost use Rattle.theory_substitution.specs.Plane.{box_at};
 
 use crate::half_plane::{above, below, meets_four};
 use crate::sides::{x_gap, y_gap};

@@ -5,7 +5,7 @@ ghost use Rattle.std.specs.Ordering.{is_gt};
 ghost use Rattle.cyclo_points.specs.declared.order.Order.{Order};
 ghost use Rattle.cyclo_points.specs.Order.{points_of};
 ghost use Rattle.cyclo_points.specs.Real.{real_in, IsRealWithin};
-ghost use Rattle.ordered_plane.specs.BoxTest.{inside_below, inside_above, overlap, passes_both, meets_both, meets_each_two};
+ghost use Rattle.theory_plane.specs.BoxTest.{inside_below, inside_above, overlap, passes_both, meets_both, meets_each_two};
 ghost use Rattle.plane_geom.specs.Measured.{depths_in, IsMeasured};
 
 use cyclo_points::order::Order;
@@ -91,7 +91,8 @@ fn enters_first(order: Order, f: &Measured, g: &Measured) -> bool
     requires f_measured { IsMeasured order f.now }
     requires g_measured { IsMeasured order g.now }
     ensures { result
-        ≡ is_gt ((points_of order).real.sign (overlap (points_of order).real.ops (depths_in order f.now) (depths_in order g.now))) }
+        ≡ is_gt ((points_of order).real.sign (overlap (points_of order).real.ops (depths_in order f.now)
+        (depths_in order g.now))) }
 {
     let outer = rmul(order, &f.start, &g.end);
     let inner = rmul(order, &g.start, &f.end);

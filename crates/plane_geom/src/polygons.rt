@@ -2,7 +2,7 @@
 
 ghost use Rattle.std.specs.Prelude.{◌≡◌, ◌≤◌, ◌^◌, length, All};
 ghost use Rattle.cyclo_points.specs.Point.{IsWithin};
-ghost use Rattle.ordered_plane.specs.Crossing.{count, member};
+ghost use Rattle.theory_plane.specs.Crossing.{count, member};
 ghost use Rattle.plane_geom.specs.Spots.{reals_of};
 ghost use Rattle.plane_geom.specs.Spots.{spots_of, test_of};
 

@@ -1,8 +1,8 @@
 //! The law of test points close to an edge, for the points of each order.
 
 ghost use Rattle.cyclo_points.specs.Order.{points_of};
-ghost use Rattle.ordered_plane.specs.Close.{PointsRight};
-ghost use Rattle.substitution.specs.Plane.{PointsRightOfEdges};
+ghost use Rattle.theory_plane.specs.Close.{PointsRight};
+ghost use Rattle.theory_substitution.specs.Plane.{PointsRightOfEdges};
 
 use cyclo_points::order::Order;
 use cyclo_points::points_law;

@@ -4,9 +4,9 @@ ghost use Rattle.std.specs.Prelude.{◌≡◌, ◌^◌};
 ghost use Rattle.cyclo_points.specs.Order.{points_of};
 ghost use Rattle.cyclo_points.specs.Point.{point_in, IsWithin};
 ghost use Rattle.cyclo_points.specs.Real.{real_in, IsRealWithin};
-ghost use Rattle.ordered_ring.specs.Sign.{at_most};
-ghost use Rattle.ordered_plane.specs.Segment.{between, on_segment, same_place, along};
-ghost use Rattle.substitution.specs.Plane.{twice_squared_length, same_length};
+ghost use Rattle.theory_ring.specs.Sign.{at_most};
+ghost use Rattle.theory_plane.specs.Segment.{between, on_segment, same_place, along};
+ghost use Rattle.theory_substitution.specs.Plane.{twice_squared_length, same_length};
 ghost use Rattle.plane_geom.specs.Spots.{reals_of};
 ghost use Rattle.plane_geom.specs.Spots.{spot_of};
 

@@ -1,12 +1,12 @@
 //! The side of an edge on which a point lies, and crossings.
 
 ghost use Rattle.std.specs.Prelude.{◌≡◌, ◌^◌, not};
-ghost use Rattle.ordered_ring.specs.Ring.{difference};
+ghost use Rattle.theory_ring.specs.Ring.{difference};
 ghost use Rattle.cyclo_points.specs.Point.{Within, IsWithin};
 ghost use Rattle.cyclo_points.specs.Real.{real_in, IsRealWithin};
-ghost use Rattle.ordered_ring.specs.Sign.{less};
-ghost use Rattle.ordered_plane.specs.Plane.{orientation};
-ghost use Rattle.ordered_plane.specs.Crossing.{crossing, crossing_of};
+ghost use Rattle.theory_ring.specs.Sign.{less};
+ghost use Rattle.theory_plane.specs.Plane.{orientation};
+ghost use Rattle.theory_plane.specs.Crossing.{crossing, crossing_of};
 ghost use Rattle.plane_geom.specs.Spots.{reals_of};
 ghost use Rattle.plane_geom.specs.Spots.{spot_of, test_of};
 

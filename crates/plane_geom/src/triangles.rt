@@ -2,7 +2,7 @@
 
 ghost use Rattle.std.specs.Prelude.{◌≡◌, ◌^◌, All};
 ghost use Rattle.cyclo_points.specs.Point.{IsWithin};
-ghost use Rattle.ordered_plane.specs.Triangle.{right_of, beyond, beyond_an_edge, separated};
+ghost use Rattle.theory_plane.specs.Triangle.{right_of, beyond, beyond_an_edge, separated};
 ghost use Rattle.plane_geom.specs.Spots.{reals_of};
 ghost use Rattle.plane_geom.specs.Spots.{spot_of, triangle_of};
 

@@ -7,11 +7,11 @@ use Rattle.std.proofs.lemmas.Bool.Decides.{nat_tests}
 use Rattle.std.proofs.lemmas.List.{length-map, get_or-map}
 use Rattle.std.proofs.lemmas.List.Folds.{list_any_at}
 use Rattle.std.proofs.lemmas.List.FromFn.{length-range_with_len, get_or-range_with_len}
-use Rattle.substitution.specs.Points.{Points}
-use Rattle.substitution.specs.Rule.{Child, Kind, Rule, children_of, child_kinds}
-use Rattle.addressing.specs.Search.{some_below}
-use Rattle.edge_to_edge.specs.Numbered.{IsNumbered}
-use Rattle.edge_to_edge.specs.EdgeToEdge.{HasEachUsed}
+use Rattle.theory_substitution.specs.Points.{Points}
+use Rattle.theory_substitution.specs.Rule.{Child, Kind, Rule, children_of, child_kinds}
+use Rattle.theory_addresses.specs.Search.{some_below}
+use Rattle.theory_edge_to_edge.specs.Numbered.{IsNumbered}
+use Rattle.theory_edge_to_edge.specs.EdgeToEdge.{HasEachUsed}
 use Rattle.tile_shape.specs.Usable.{AreUsable}
 
 -- what each place passes, the list passes
@@ -34,12 +34,16 @@ passing (suc n) f h = by_case (some_below n f) refl h (passing n f)
     by_case false e q later = record { at = n; within = omega arith; passes = q }
 
 -- among the children's kinds is one that is a child's
-any-kinds : {A : Type 0} (k : ℕ) (cs : List (Child A)) → list_any (λ (c : Child A). nat_eq c.kind k) cs ≡ list_any (λ child. child == k) (map (λ (c : Child A). c.kind) cs)
+any-kinds : {A : Type 0} (k : ℕ) (cs : List (Child A))
+    → list_any (λ (c : Child A). nat_eq c.kind k) cs ≡ list_any (λ child. child == k)
+    (map (λ (c : Child A). c.kind) cs)
 any-kinds k [] = refl
 any-kinds k (c ∷ cs) = ap (λ b. nat_eq c.kind k || b) (any-kinds k cs)
 
 -- and all of them are below n where the children's are
-all-kinds : {A : Type 0} (n : ℕ) (cs : List (Child A)) → list_all (λ (c : Child A). nat_lt c.kind n) cs ≡ list_all (λ kind. nat_lt kind n) (map (λ (c : Child A). c.kind) cs)
+all-kinds : {A : Type 0} (n : ℕ) (cs : List (Child A))
+    → list_all (λ (c : Child A). nat_lt c.kind n) cs ≡ list_all (λ kind. nat_lt kind n)
+    (map (λ (c : Child A). c.kind) cs)
 all-kinds n [] = refl
 all-kinds n (c ∷ cs) = ap (λ b. nat_lt c.kind n && b) (all-kinds n cs)
 
@@ -58,7 +62,8 @@ has-children P r N = record {
   at_most_16_kinds = N.at_most_16_kinds;
   some_child = N.some_child;
   at_most_16_children = N.at_most_16_children;
-  each_exists = λ k l. each_place (λ (c : Child P.ring.carrier). nat_lt c.kind (length r.kinds)) (children_of r k) (record { kind = 0; motion = record { turn = 0; shift = P.ring.int (pos 0) } })
+  each_exists = λ k l. each_place (λ (c : Child P.ring.carrier). nat_lt c.kind (length r.kinds))
+      (children_of r k) (record { kind = 0; motion = record { turn = 0; shift = P.ring.int (pos 0) } })
       (λ c m. let b = N.child_exists k c l m in grind (arith, nat_tests, b));
 }
 
@@ -98,15 +103,24 @@ module _ {A : Type 0} (r : Rule A) (N : HasChildren r) (U : HasEachUsed r) where
   uses-usable = record {
     some_kind = subst (λ n. 1 ≤ n) (sym as_many) N.some_kind;
     at_most_16_kinds = subst (λ n. n ≤ 16) (sym as_many) N.at_most_16_kinds;
-    some_child = each_place (λ row. nat_le 1 (length row)) (child_kinds r) [] (λ k l. let m = subst (λ n. k < n) as_many l in let e = row-long k m in let b = N.some_child k m in grind (arith, nat_tests, e, b));
-    at_most_16_children = each_place (λ row. nat_le (length row) 16) (child_kinds r) [] (λ k l. let m = subst (λ n. k < n) as_many l in let e = row-long k m in let b = N.at_most_16_children k m in grind (arith, nat_tests, e, b));
-    each_exists = each_place (λ row. list_all (λ kind. nat_lt kind (length (child_kinds r))) row) (child_kinds r) [] (λ k l. exists k (subst (λ n. k < n) as_many l));
-    each_used = each_place (λ kind. list_any (λ row. list_any (λ child. child == kind) row) (child_kinds r)) (range_with_len 0 (length (child_kinds r))) 0 (λ i l. at i l);
+    some_child = each_place (λ row. nat_le 1 (length row)) (child_kinds r) []
+        (λ k l. let m = subst (λ n. k < n) as_many l in let e = row-long k m in let b = N.some_child k
+        m in grind (arith, nat_tests, e, b));
+    at_most_16_children = each_place (λ row. nat_le (length row) 16) (child_kinds r) []
+        (λ k l. let m = subst (λ n. k < n) as_many l in let e = row-long k m in let b = N.at_most_16_children
+        k m in grind (arith, nat_tests, e, b));
+    each_exists = each_place (λ row. list_all (λ kind. nat_lt kind (length (child_kinds r))) row)
+        (child_kinds r) [] (λ k l. exists k (subst (λ n. k < n) as_many l));
+    each_used = each_place (λ kind. list_any (λ row. list_any (λ child. child == kind) row) (child_kinds r))
+        (range_with_len 0 (length (child_kinds r))) 0 (λ i l. at i l);
   }
     where
-      at : (i : ℕ) → i < length (range_with_len 0 (length (child_kinds r))) → list_any (λ row. list_any (λ child. child == get_or (range_with_len 0 (length (child_kinds r))) i 0) row) (child_kinds r) ≡ true
+      at : (i : ℕ) → i < length (range_with_len 0 (length (child_kinds r)))
+          → list_any (λ row. list_any (λ child. child == get_or (range_with_len 0 (length (child_kinds r))) i
+          0) row) (child_kinds r) ≡ true
       at i l =
           let n = length-range_with_len 0 (length (child_kinds r)) in
           let m = subst (λ x. i < x) n l in
           let e = get_or-range_with_len 0 (length (child_kinds r)) i 0 m in
-          subst (λ k. list_any (λ row. list_any (λ child. child == k) row) (child_kinds r) ≡ true) (sym (e ∙ zero-add i)) (used i (subst (λ x. i < x) as_many m))
+          subst (λ k. list_any (λ row. list_any (λ child. child == k) row) (child_kinds r) ≡ true)
+          (sym (e ∙ zero-add i)) (used i (subst (λ x. i < x) as_many m))

@@ -5,15 +5,15 @@ use Rattle.std.specs.List.{list_any, flat_map}
 use Rattle.std.proofs.lemmas.Bool.{cases_lt, and_parts, eqb-true, not-true, false≢true}
 use Rattle.std.proofs.lemmas.Bool.Decides.{Decides-eqb}
 use Rattle.std.proofs.lemmas.List.{length-append}
-use Rattle.substitution.specs.Rule.{Rule}
-use Rattle.substitution.specs.RuleParts.{mate, edge_types, edge_count, edge_type}
-use Rattle.addressing.specs.Search.{below, IsAmong}
-use Rattle.edge_to_edge.specs.Glue.{glue_type, once_each, holders, is_glued_before, are_halves}
-use Rattle.edge_to_edge.specs.EdgeToEdge.{HasRightGlue}
-use Rattle.addressing.proofs.Lists.{IsAmong-flat_map}
+use Rattle.theory_substitution.specs.Rule.{Rule}
+use Rattle.theory_substitution.specs.RuleParts.{mate, edge_types, edge_count, edge_type}
+use Rattle.theory_addresses.specs.Search.{below, IsAmong}
+use Rattle.theory_edge_to_edge.specs.Glue.{glue_type, once_each, holders, is_glued_before, are_halves}
+use Rattle.theory_edge_to_edge.specs.EdgeToEdge.{HasRightGlue}
+use Rattle.theory_addresses.proofs.Lists.{IsAmong-flat_map}
 use Rattle.rule_model.specs.Glue.{IsGlueEdge, IsOnlyGlueEdge}
-use Rattle.addressing.proofs.BoolLoops.{or_true, some_below-found}
-use Rattle.addressing.proofs.Ranges.{IsAmong-below}
+use Rattle.theory_addresses.proofs.BoolLoops.{or_true, some_below-found}
+use Rattle.theory_addresses.proofs.Ranges.{IsAmong-below}
 use Rattle.rule_model.proofs.Searches.{found, list_any-found}
 
 same_number : (a b : ℕ) → a ≡ b → nat_eq a b ≡ true
@@ -43,7 +43,8 @@ once-one k ty (t ∷ ts) (suc e) l h = omega (arith, once-longer k ty t ts, once
 once-two : (k ty : ℕ) (ts : List ℕ) (e f : ℕ) → e < f → f < length ts → get_or ts e 0 ≡ ty → get_or ts f 0 ≡ ty → 2 ≤ length (once_each k ty ts)
 once-two k ty [] e f m l h g = absurd (omega arith)
 once-two k ty (t ∷ ts) e zero m l h g = absurd (omega arith)
-once-two k ty (t ∷ ts) zero (suc f) m l h g = omega (arith, ap (λ (xs : List ℕ). length xs) (once-here k ty t ts h), once-one k ty ts f (omega arith) g)
+once-two k ty (t ∷ ts) zero (suc f) m l h g = omega
+    (arith, ap (λ (xs : List ℕ). length xs) (once-here k ty t ts h), once-one k ty ts f (omega arith) g)
 once-two k ty (t ∷ ts) (suc e) (suc f) m l h g = omega (arith, once-longer k ty t ts, once-two k ty ts e f (omega arith) (omega arith) h g)
 
 once-among : (k ty : ℕ) (ts : List ℕ) (e : ℕ) → e < length ts → get_or ts e 0 ≡ ty → IsAmong k (once_each k ty ts)
@@ -97,15 +98,23 @@ module _ {A : Type 0} (r : Rule A) (right : HasRightGlue r) (k : ℕ) (exists : 
 
   has : (e : ℕ) → IsGlueEdge r k e → (i : ℕ) × Has e i
   has e g =
-      let f = found (λ i. nat_eq (edge_type r k e) (glue_type r i) || nat_eq (edge_type r k e) (mate r (glue_type r i))) (length r.glue) g.glued in
-      (f.at, record { edge_in = g.exists; glue_in = f.below; type = one_of (glue_type r f.at) (mate r (glue_type r f.at)) (edge_type r k e) f.passes })
+      let f = found (λ i. nat_eq (edge_type r k e) (glue_type r i) || nat_eq (edge_type r k e) (mate r (glue_type r i))) (length r.glue) g.glued in (
+        f.at,
+        record {
+          edge_in = g.exists;
+          glue_in = f.below;
+          type = one_of (glue_type r f.at) (mate r (glue_type r f.at)) (edge_type r k e) f.passes;
+        },
+      )
 
   halves_of : (i : ℕ) → i < length r.glue → Halves r i (holders r (glue_type r i)) (holders r (mate r (glue_type r i)))
   halves_of i l = halves r i (holders r (glue_type r i)) (holders r (mate r (glue_type r i))) (and_parts _ _ (right i l)).1
 
   -- kind k is among the holders of the types of its edges
   holds : (e ty : ℕ) → e < edge_count r k → edge_type r k e ≡ ty → IsAmong k (holders r ty)
-  holds e ty l h = IsAmong-flat_map (λ j. once_each j ty (edge_types r j)) k k (below (λ i. i) (length r.kinds)) (IsAmong-below (λ i. i) (length r.kinds) k exists) (once-among k ty (edge_types r k) e l h)
+  holds e ty l h = IsAmong-flat_map (λ j. once_each j ty (edge_types r j)) k k
+      (below (λ i. i) (length r.kinds)) (IsAmong-below (λ i. i) (length r.kinds) k exists)
+      (once-among k ty (edge_types r k) e l h)
 
   only : (a ty : ℕ) → holders r ty ≡ a ∷ [] → IsAmong k (holders r ty) → k ≡ a
   only a ty h i = one (subst (IsAmong k) h i)
@@ -124,7 +133,8 @@ module _ {A : Type 0} (r : Rule A) (right : HasRightGlue r) (k : ℕ) (exists : 
       twice : (e f : ℕ) → e < f → f < edge_count r k → edge_type r k e ≡ ty → edge_type r k f ≡ ty → ⊥
       twice e f m l te tf =
           let two = once-two k ty (edge_types r k) e f m l te tf in
-          let more = flat_map-longer (λ j. once_each j ty (edge_types r j)) k (below (λ i. i) (length r.kinds)) (IsAmong-below (λ i. i) (length r.kinds) k exists) in
+          let more = flat_map-longer (λ j. once_each j ty (edge_types r j)) k
+          (below (λ i. i) (length r.kinds)) (IsAmong-below (λ i. i) (length r.kinds) k exists) in
           let one = ap (λ (xs : List ℕ). length xs) h in
           omega (arith, two, more, one)
 
@@ -132,16 +142,22 @@ module _ {A : Type 0} (r : Rule A) (right : HasRightGlue r) (k : ℕ) (exists : 
   none_before : (e f i j : ℕ) → i < j → Has e i → Has f j → ⊥
   none_before e f i j m p q =
       let glue_i : ℕ → Bool = λ ty. nat_eq ty (glue_type r i) || nat_eq ty (mate r (glue_type r i)) in
-      let earlier : is_glued_before r j k ≡ true = some_below-found (λ i. list_any (λ ty. nat_eq ty (glue_type r i) || nat_eq ty (mate r (glue_type r i))) (edge_types r k)) i j
+      let earlier : is_glued_before r j k ≡ true = some_below-found
+      (λ i. list_any (λ ty. nat_eq ty (glue_type r i) || nat_eq ty (mate r (glue_type r i)))
+      (edge_types r k)) i j
       (list_any-found glue_i (edge_types r k) e p.edge_in (either (glue_type r i) (mate r (glue_type r i)) (edge_type r k e) p.type)) m in
       let h = halves_of j q.glue_in in
       elim q.type [
-        | inl t ↦ false≢true (sym h.first_new ∙ ap (is_glued_before r j) (sym (only h.a (glue_type r j) h.firsts (holds f (glue_type r j) q.edge_in t))) ∙ earlier)
-        | inr t ↦ false≢true (sym h.second_new ∙ ap (is_glued_before r j) (sym (only h.b (mate r (glue_type r j)) h.seconds (holds f (mate r (glue_type r j)) q.edge_in t))) ∙ earlier)
+        | inl t ↦ false≢true (sym h.first_new ∙ ap (is_glued_before r j)
+            (sym (only h.a (glue_type r j) h.firsts (holds f (glue_type r j) q.edge_in t))) ∙ earlier)
+        | inr t ↦ false≢true (sym h.second_new ∙ ap (is_glued_before r j)
+            (sym (only h.b (mate r (glue_type r j)) h.seconds (holds f (mate r (glue_type r j)) q.edge_in t)))
+            ∙ earlier)
       ]
 
   -- one edge has the glue type alone or its mate alone
-  not_both : (e f i : ℕ) → i < length r.glue → e < edge_count r k → f < edge_count r k → edge_type r k e ≡ glue_type r i → edge_type r k f ≡ mate r (glue_type r i) → ⊥
+  not_both : (e f i : ℕ) → i < length r.glue → e < edge_count r k → f < edge_count r k
+      → edge_type r k e ≡ glue_type r i → edge_type r k f ≡ mate r (glue_type r i) → ⊥
   not_both e f i l le lf te tf =
       let h = halves_of i l in
       let first = only h.a (glue_type r i) h.firsts (holds e (glue_type r i) le te) in
@@ -169,7 +185,11 @@ module _ {A : Type 0} (r : Rule A) (right : HasRightGlue r) (k : ℕ) (exists : 
       let b = has f q in
       elim (cases_lt a.0 b.0) [
         | inl lt ↦ absurd (none_before e f a.0 b.0 lt a.1 b.1)
-        | inr ge ↦ elim (cases_lt b.0 a.0) [ inl lt ↦ absurd (none_before f e b.0 a.0 lt b.1 a.1) | inr ge' ↦ let same : b.0 ≡ a.0 = omega arith in glued_alike e f a.0 a.1 (subst (Has f) same b.1) ]
+        | inr ge ↦ elim (cases_lt b.0 a.0) [
+          | inl lt ↦ absurd (none_before f e b.0 a.0 lt b.1 a.1)
+          | inr ge' ↦
+              let same : b.0 ≡ a.0 = omega arith in glued_alike e f a.0 a.1 (subst (Has f) same b.1)
+        ]
       ]
 
   -- an edge along which a kind is glued is the only one

@@ -1,8 +1,8 @@
 -- Searches for a number that passes a test.
 use Rattle.std.proofs.Common.{◌≡◌, ℕ, zero, suc, ◌<◌, Bool, true, false, ◌||◌, List, [], ◌∷◌, length, get_or, refl, ap, ◌∙◌, arith}
 use Rattle.std.specs.List.{list_any}
-use Rattle.addressing.specs.Search.{some_below}
-use Rattle.addressing.proofs.BoolLoops.{or_true}
+use Rattle.theory_addresses.specs.Search.{some_below}
+use Rattle.theory_addresses.proofs.BoolLoops.{or_true}
 
 -- a number below n that passes
 pub record Found (p : ℕ → Bool) (n : ℕ) : Type 0 where

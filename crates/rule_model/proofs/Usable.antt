@@ -8,11 +8,11 @@ use Rattle.std.proofs.lemmas.List as lists
 use Rattle.std.proofs.lemmas.List.{get_or_default}
 use Rattle.std.proofs.lemmas.Bool.Decides.{Decides-int_eq}
 use Rattle.std.proofs.lemmas.Bool.{and_parts, or_parts, not-true, ltb-true, ltb-false, leb-true, eqb-true}
-use Rattle.substitution.specs.Rule.{Kind, Child as TheChild, children_of}
-use Rattle.substitution.specs.RuleParts.{parts, map_child, vertices_of, edge_types, edge_count, child_of}
-use Rattle.edge_to_edge.specs.Limits.{is_from_to, is_type, is_child}
-use Rattle.edge_to_edge.specs.Limited.{WithinLimits}
-use Rattle.edge_to_edge.specs.Numbered.{IsNumbered}
+use Rattle.theory_substitution.specs.Rule.{Kind, Child as TheChild, children_of}
+use Rattle.theory_substitution.specs.RuleParts.{parts, map_child, vertices_of, edge_types, edge_count, child_of}
+use Rattle.theory_edge_to_edge.specs.Limits.{is_from_to, is_type, is_child}
+use Rattle.theory_edge_to_edge.specs.Limited.{WithinLimits}
+use Rattle.theory_edge_to_edge.specs.Numbered.{IsNumbered}
 use Rattle.cyclo_points.specs.declared.order.Order.{Order}
 use Rattle.cyclo_points.specs.declared.order.Order.TheVariants.{Four, Six, Eight, Ten}
 use Rattle.cyclo_points.specs.declared.point.Point.{Point}
@@ -77,10 +77,14 @@ module _ (r : Rule) (limits : WithinLimits (points_of r.order).order (is_small r
   kind_in k l = subst (λ m. k < m) (kind_count-in r.order r) l
 
   glue : (length (as_rule r).glue ≤ 16) × (list_all (is_type (as_rule r)) (as_rule r).glue ≡ true)
-  glue = let q = and_parts (nat_le (length (as_rule r).glue) 16) (list_all (is_type (as_rule r)) (as_rule r).glue) limits.glue in (leb-true _ 16 q.0, q.1)
+  glue = let q = and_parts (nat_le (length (as_rule r).glue) 16)
+      (list_all (is_type (as_rule r)) (as_rule r).glue) limits.glue in (leb-true _ 16 q.0, q.1)
 
-  type_parts : (ty : ℕ) → ty < length (as_rule r).types → (is_from_to 1 8 (length (parts (as_rule r) ty)) ≡ true) × (list_all (is_type (as_rule r)) (parts (as_rule r) ty) ≡ true)
-  type_parts ty l = and_parts (is_from_to 1 8 (length (parts (as_rule r) ty))) (list_all (is_type (as_rule r)) (parts (as_rule r) ty)) (limits.parts ty l)
+  type_parts : (ty : ℕ) → ty < length (as_rule r).types
+      → (is_from_to 1 8 (length (parts (as_rule r) ty)) ≡ true)
+      × (list_all (is_type (as_rule r)) (parts (as_rule r) ty) ≡ true)
+  type_parts ty l = and_parts (is_from_to 1 8 (length (parts (as_rule r) ty)))
+      (list_all (is_type (as_rule r)) (parts (as_rule r) ty)) (limits.parts ty l)
 
   record Edges (k : ℕ) : Type 0 where
     count : (3 ≤ edge_count (as_rule r) k) × (edge_count (as_rule r) k ≤ 12)
@@ -101,7 +105,9 @@ module _ (r : Rule) (limits : WithinLimits (points_of r.order).order (is_small r
 
   children : (k : ℕ) → k < length (rule_of r).kinds → Children k
   children k l =
-      let all = and_parts (is_from_to 1 16 (length (children_of (as_rule r) k))) (list_all (is_child n (is_small r.order) (as_rule r)) (children_of (as_rule r) k)) (limits.children k (kind_in k l)) in
+      let all = and_parts (is_from_to 1 16 (length (children_of (as_rule r) k)))
+      (list_all (is_child n (is_small r.order) (as_rule r)) (children_of (as_rule r) k))
+      (limits.children k (kind_in k l)) in
       record { count = from_to 1 16 (length (children_of (as_rule r) k)) all.0; fit = all.1 }
 
   record Fits (k c : ℕ) : Type 0 where
@@ -115,13 +121,15 @@ module _ (r : Rule) (limits : WithinLimits (points_of r.order).order (is_small r
   fits : (k c : ℕ) → k < length (rule_of r).kinds → c < length (children_of (rule_of r) k) → Fits k c
   fits k c l m =
       let child = listed_child r k c in
-      let passes = passes_at (is_child n (is_small r.order) (as_rule r)) (children_of (as_rule r) k) c no_child (children k l).fit (child_in k c l m) in
+      let passes = passes_at (is_child n (is_small r.order) (as_rule r)) (children_of (as_rule r) k) c
+      no_child (children k l).fit (child_in k c l m) in
       let all = and_parts (nat_lt child.kind (length (as_rule r).kinds) && nat_lt child.motion.turn n) (is_small r.order child.motion.shift) passes in
       let both = and_parts (nat_lt child.kind (length (as_rule r).kinds)) (nat_lt child.motion.turn n) all.0 in
       record { kind = ltb-true _ _ both.0; turn = ltb-true _ _ both.1; shift = all.1 }
 
   -- the child of the points is that of the lists
-  same_child : (k c : ℕ) → k < length (rule_of r).kinds → c < length (children_of (rule_of r) k) → child_of (points_of r.order) (rule_of r) k c ≡ map_child (point_in r.order) (listed_child r k c)
+  same_child : (k c : ℕ) → k < length (rule_of r).kinds → c < length (children_of (rule_of r) k)
+      → child_of (points_of r.order) (rule_of r) k c ≡ map_child (point_in r.order) (listed_child r k c)
   same_child k c l m =
       let none : TheChild (NumberOf r.order) = record { kind = 0; motion = record { turn = 0; shift = (points_of r.order).ring.int (pos 0) } } in
       ap (λ (x : Kind (NumberOf r.order)). get_or x.children c none) (kind_of-map (point_in r.order) (as_rule r) k)
@@ -148,7 +156,9 @@ module _ (r : Rule) (limits : WithinLimits (points_of r.order).order (is_small r
         at_least_3_edges = λ k l. subst (λ m. 3 ≤ m) (sym (edge_count-in r.order r k)) (edges k l).count.0;
         at_most_12_edges = λ k l. subst (λ m. m ≤ 12) (sym (edge_count-in r.order r k)) (edges k l).count.1;
         vertex_each = λ k l. vertex_count-in r.order r k ∙ (edges k l).same ∙ sym (edge_count-in r.order r k);
-        type_exists = λ k e l m. subst (λ t. t < length (rule_of r).types) (sym (ap (λ (x : Kind (NumberOf r.order)). get_or x.edges e 0) (kind_of-map (point_in r.order) (as_rule r) k)))
+        type_exists = λ k e l m. subst (λ t. t < length (rule_of r).types)
+            (sym (ap (λ (x : Kind (NumberOf r.order)). get_or x.edges e 0)
+            (kind_of-map (point_in r.order) (as_rule r) k)))
             (ltb-true _ _ (passes_at (is_type (as_rule r)) (edge_types (as_rule r) k) e 0 (edges k l).types (edge_in k e m)));
         some_child = λ k l. subst (λ m. 1 ≤ m) (sym (child_count-in r.order r k)) (children k l).count.0;
         at_most_16_children = λ k l. subst (λ m. m ≤ 16) (sym (child_count-in r.order r k)) (children k l).count.1;
@@ -171,7 +181,8 @@ module _ (r : Rule) (limits : WithinLimits (points_of r.order).order (is_small r
   }
 
 -- the vertices of a kind are small
-pub vertices_small : (r : Rule) (k : ℕ) (vs : List Point) → IsUsable r → k < length (rule_of r).kinds → vs ≡ vertices_of (as_rule r) k → All (IsSmall r.order) vs
+pub vertices_small : (r : Rule) (k : ℕ) (vs : List Point) → IsUsable r → k < length (rule_of r).kinds
+    → vs ≡ vertices_of (as_rule r) k → All (IsSmall r.order) vs
 vertices_small r k vs is_usable l same i d m =
     let listed : length vs ≡ edge_count (rule_of r) k = ap length same ∙ sym (vertex_count-in r.order r k) ∙ is_usable.numbered.vertex_each k l in
     subst (IsSmall r.order) (ap (λ (ps : List Point). get_or ps i origin) (sym same) ∙ get_or_default vs i origin d m)

@@ -2,8 +2,8 @@
 use Rattle.std.proofs.Common.{◌≡◌, ℕ, ◌<◌, zero, suc, pos, List, [], ◌∷◌, map, length, get_or, refl, sym, ap, ◌∙◌}
 use Rattle.std.proofs.lemmas.List.{length-map}
 use Rattle.std.proofs.lemmas.List as lists
-use Rattle.substitution.specs.Rule.{Rule, Kind, Child as TheChild, kind_of, children_of}
-use Rattle.substitution.specs.RuleParts.{map_rule, map_kind, map_child, vertices_of, edge_count, vertex, child_of}
+use Rattle.theory_substitution.specs.Rule.{Rule, Kind, Child as TheChild, kind_of, children_of}
+use Rattle.theory_substitution.specs.RuleParts.{map_rule, map_kind, map_child, vertices_of, edge_count, vertex, child_of}
 use Rattle.cyclo_points.specs.declared.order.Order.{Order}
 use Rattle.cyclo_points.specs.declared.point.Point.{Point}
 use Rattle.cyclo_points.specs.Order.{NumberOf, points_of}
@@ -28,13 +28,16 @@ pub edge_count-in : (o : Order) (r : ProgramRule) (k : ℕ) → edge_count (rule
 edge_count-in o r k = ap (λ (x : Kind _). length x.edges) (kind_of-map (point_in o) (as_rule r) k)
 
 pub vertex_count-in : (o : Order) (r : ProgramRule) (k : ℕ) → length (vertices_of (rule_in o r) k) ≡ length (vertices_of (as_rule r) k)
-vertex_count-in o r k = ap (λ (x : Kind _). length x.vertices) (kind_of-map (point_in o) (as_rule r) k) ∙ length-map (vertices_of (as_rule r) k) (point_in o)
+vertex_count-in o r k = ap (λ (x : Kind _). length x.vertices) (kind_of-map (point_in o) (as_rule r) k)
+    ∙ length-map (vertices_of (as_rule r) k) (point_in o)
 
 pub child_count-in : (o : Order) (r : ProgramRule) (k : ℕ) → length (children_of (rule_in o r) k) ≡ length (children_of (as_rule r) k)
-child_count-in o r k = ap (λ (x : Kind _). length x.children) (kind_of-map (point_in o) (as_rule r) k) ∙ length-map (children_of (as_rule r) k) (map_child (point_in o))
+child_count-in o r k = ap (λ (x : Kind _). length x.children) (kind_of-map (point_in o) (as_rule r) k)
+    ∙ length-map (children_of (as_rule r) k) (map_child (point_in o))
 
 -- a vertex and a child of the lists are those of the numbers
-pub vertex-in : (o : Order) (r : ProgramRule) (k i : ℕ) (p none : Point) → i < length (vertices_of (as_rule r) k) → p ≡ get_or (vertices_of (as_rule r) k) i none
+pub vertex-in : (o : Order) (r : ProgramRule) (k i : ℕ) (p none : Point)
+    → i < length (vertices_of (as_rule r) k) → p ≡ get_or (vertices_of (as_rule r) k) i none
     → point_in o p ≡ vertex (points_of o) (rule_in o r) k i
 vertex-in o r k i p none l h =
     let zero_of : NumberOf o = (points_of o).ring.int (pos 0) in
@@ -42,7 +45,8 @@ vertex-in o r k i p none l h =
     ∙ sym (lists.get_or-map (point_in o) (vertices_of (as_rule r) k) i none zero_of l)
     ∙ sym (ap (λ (x : Kind (NumberOf o)). get_or x.vertices i zero_of) (kind_of-map (point_in o) (as_rule r) k))
 
-pub child-in : (o : Order) (r : ProgramRule) (k i : ℕ) (c : Child) (none : TheChild Point) → i < length (children_of (as_rule r) k) → as_child c ≡ get_or (children_of (as_rule r) k) i none
+pub child-in : (o : Order) (r : ProgramRule) (k i : ℕ) (c : Child) (none : TheChild Point)
+    → i < length (children_of (as_rule r) k) → as_child c ≡ get_or (children_of (as_rule r) k) i none
     → child_in o c ≡ child_of (points_of o) (rule_in o r) k i
 child-in o r k i c none l h =
     let no_child : TheChild (NumberOf o) = record { kind = 0; motion = record { turn = 0; shift = (points_of o).ring.int (pos 0) } } in

@@ -1,6 +1,6 @@
 -- Accepted rules.
-use Rattle.edge_to_edge.specs.Limited.{WithinLimits}
-use Rattle.edge_to_edge.specs.EdgeToEdge.{IsEdgeToEdge}
+use Rattle.theory_edge_to_edge.specs.Limited.{WithinLimits}
+use Rattle.theory_edge_to_edge.specs.EdgeToEdge.{IsEdgeToEdge}
 use Rattle.cyclo_points.specs.Order.{points_of, is_refused}
 use Rattle.rule_model.specs.declared.rule.Rule.{Rule}
 use Rattle.rule_model.specs.Small.{is_small}

@@ -1,6 +1,6 @@
 -- What a checked rule has with it.
 use Rattle.std.specs.Prelude.{◌≡◌, ℕ, List}
-use Rattle.addressing.specs.Tables.{Tables}
+use Rattle.theory_addresses.specs.Tables.{Tables}
 use Rattle.rule_model.specs.declared.rule.Rule.{Rule}
 use Rattle.rule_model.specs.Accepted.{IsAccepted}
 use Rattle.rule_model.specs.Tiling.{tiling_of, contacts, children}

@@ -1,9 +1,9 @@
 -- The edge along which a half of a tile is glued to the other half.
 use Rattle.std.specs.Prelude.{◌≡◌, ℕ, ◌<◌, Bool, true, ◌||◌, length, nat_eq}
-use Rattle.substitution.specs.Rule.{Rule}
-use Rattle.substitution.specs.RuleParts.{mate, edge_count, edge_type}
-use Rattle.addressing.specs.Search.{some_below}
-use Rattle.edge_to_edge.specs.Glue.{glue_type}
+use Rattle.theory_substitution.specs.Rule.{Rule}
+use Rattle.theory_substitution.specs.RuleParts.{mate, edge_count, edge_type}
+use Rattle.theory_addresses.specs.Search.{some_below}
+use Rattle.theory_edge_to_edge.specs.Glue.{glue_type}
 
 -- a type is a glue type of the rule or the mate of one
 abbrev pub is_glued : {A : Type 0} → Rule A → ℕ → Bool

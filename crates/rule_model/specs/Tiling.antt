@@ -1,13 +1,13 @@
 -- A tiling: an order, and a substitution rule over its points; and a rule as lists of numbers, as a file or a
 -- table has it.
 use Rattle.std.specs.Prelude.{ℕ, List}
-use Rattle.addressing.specs.Address.{Address}
-use Rattle.addressing.specs.Tables.{Tables}
-use Rattle.edge_to_edge.specs.Contacts.{tables_of}
-use Rattle.substitution.specs.Motion.{Motion}
-use Rattle.substitution.specs.Rule.{Rule, Child, child_kinds}
-use Rattle.substitution.specs.RuleParts.{map_rule, child_of}
-use Rattle.substitution.specs.Supertile.{StandsBeside}
+use Rattle.theory_addresses.specs.Address.{Address}
+use Rattle.theory_addresses.specs.Tables.{Tables}
+use Rattle.theory_edge_to_edge.specs.Contacts.{tables_of}
+use Rattle.theory_substitution.specs.Motion.{Motion}
+use Rattle.theory_substitution.specs.Rule.{Rule, Child, child_kinds}
+use Rattle.theory_substitution.specs.RuleParts.{map_rule, child_of}
+use Rattle.theory_substitution.specs.Supertile.{StandsBeside}
 use Rattle.cyclo_points.specs.declared.order.Order.{Order}
 use Rattle.cyclo_points.specs.declared.point.Point.{Point}
 use Rattle.cyclo_points.specs.Order.{NumberOf, points_of}

@@ -1,8 +1,8 @@
 -- A rule within its limits, as facts: the bounds under which its numbers are read.
 use Rattle.std.specs.Prelude.{ℕ, ◌<◌, pos, [], ◌∷◌, length, get_or}
-use Rattle.substitution.specs.Rule.{Child as TheChild, children_of}
-use Rattle.substitution.specs.RuleParts.{vertices_of, edge_count}
-use Rattle.edge_to_edge.specs.Numbered.{IsNumbered}
+use Rattle.theory_substitution.specs.Rule.{Child as TheChild, children_of}
+use Rattle.theory_substitution.specs.RuleParts.{vertices_of, edge_count}
+use Rattle.theory_edge_to_edge.specs.Numbered.{IsNumbered}
 use Rattle.cyclo_points.specs.declared.order.Order.{Order}
 use Rattle.cyclo_points.specs.declared.point.Point.{Point}
 use Rattle.cyclo_points.specs.Order.{points_of}

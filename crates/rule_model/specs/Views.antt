@@ -1,8 +1,8 @@
 -- What a rule of the program stands for: a rule of the theory over its points, and over the numbers of its
 -- order.
 use Rattle.std.specs.Prelude.{map}
-use Rattle.substitution.specs.Rule as theory
-use Rattle.substitution.specs.RuleParts.{map_rule}
+use Rattle.theory_substitution.specs.Rule as theory
+use Rattle.theory_substitution.specs.RuleParts.{map_rule}
 use Rattle.cyclo_points.specs.declared.order.Order.{Order}
 use Rattle.cyclo_points.specs.declared.point.Point.{Point}
 use Rattle.cyclo_points.specs.Order.{NumberOf}
@@ -10,7 +10,7 @@ use Rattle.cyclo_points.specs.Point.{point_in}
 use Rattle.rule_model.specs.declared.type_row.TypeRow.{TypeRow}
 use Rattle.rule_model.specs.declared.child.Child.{Child}
 use Rattle.rule_model.specs.declared.kind_row.KindRow.{KindRow}
-use Rattle.edge_to_edge.specs.Edition as theory_edition
+use Rattle.theory_edge_to_edge.specs.Edition as theory_edition
 use Rattle.rule_model.specs.declared.edition.Edition.{Edition}
 use Rattle.rule_model.specs.declared.edition.Edition.TheVariants.{One, Two}
 use Rattle.rule_model.specs.declared.rule.Rule.{Rule}

@@ -1,8 +1,8 @@
 //! Accepted rules.
 ghost use Rattle.std.specs.Prelude.{◌≡◌, ◌↔◌, ℕ, ◌<◌, length, map, All, None, IfSome};
-ghost use Rattle.substitution.specs.Rule.{children_of};
-ghost use Rattle.substitution.specs.RuleParts.{vertices_of, edge_count};
-ghost use Rattle.addressing.specs.Tables.{child_kinds};
+ghost use Rattle.theory_substitution.specs.Rule.{children_of};
+ghost use Rattle.theory_substitution.specs.RuleParts.{vertices_of, edge_count};
+ghost use Rattle.theory_addresses.specs.Tables.{child_kinds};
 ghost use Rattle.cyclo_points.specs.Order.{points_of};
 ghost use Rattle.cyclo_points.specs.Point.{point_in};
 ghost use Rattle.rule_model.specs.Accepted.{IsAccepted};

@@ -1,6 +1,6 @@
 //! The numbers that determine where tiles lie.
 ghost use Rattle.std.specs.Prelude.{◌≡◌, ◌<◌, length};
-ghost use Rattle.substitution.specs.Rule.{children_of};
+ghost use Rattle.theory_substitution.specs.Rule.{children_of};
 ghost use Rattle.cyclo_points.specs.Order.{points_of};
 ghost use Rattle.cyclo_points.specs.Point.{point_in};
 ghost use Rattle.rule_model.specs.Tiling.{Tiling, tiling_of, its_child};

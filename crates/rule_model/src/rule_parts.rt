@@ -1,9 +1,9 @@
 //! The numbers of a rule, one by one. Contracts see them as the lists have them, and as numbers of the ring
 //! of each order.
 ghost use Rattle.std.specs.Prelude.{◌≡◌, ◌<◌, length, map, get_or};
-ghost use Rattle.substitution.specs.Rule.{Child as TheChild, kind_of, children_of};
-ghost use Rattle.substitution.specs.RuleParts.{map_kind, mate, parts, vertices_of, edge_count, edge_type, vertex, child_of};
-ghost use Rattle.edge_to_edge.specs.Glue.{glue_type};
+ghost use Rattle.theory_substitution.specs.Rule.{Child as TheChild, kind_of, children_of};
+ghost use Rattle.theory_substitution.specs.RuleParts.{map_kind, mate, parts, vertices_of, edge_count, edge_type, vertex, child_of};
+ghost use Rattle.theory_edge_to_edge.specs.Glue.{glue_type};
 ghost use Rattle.cyclo_points.specs.declared.order.Order.{Order};
 ghost use Rattle.cyclo_points.specs.declared.point.Point.{Point};
 ghost use Rattle.cyclo_points.specs.Order.{points_of};
@@ -90,7 +90,8 @@ impl Rule {
     fn row(&self, kind: usize) -> &KindRow
         requires { kind < length (as_rule self.now).kinds }
         ensures lists { as_kind result.now ≡ kind_of (as_rule self.now) kind }
-        ensures numbers { (o : Order) → map_kind (point_in o) (as_kind result.now) ≡ kind_of (rule_in o self.now) kind }
+        ensures numbers { (o : Order) → map_kind (point_in o) (as_kind result.now) ≡ kind_of
+            (rule_in o self.now) kind }
     {
         self.listed_row(kind)
     }
@@ -156,7 +157,8 @@ impl Rule {
     fn listed_child(&self, kind: usize, i: usize) -> Child
         requires kind_in { kind < length (as_rule self.now).kinds }
         requires i_in { i < length (children_of (as_rule self.now) kind) }
-        ensures { (none : TheChild Point) → as_child result ≡ get_or (children_of (as_rule self.now) kind) i none }
+        ensures { (none : TheChild Point) → as_child result ≡ get_or (children_of (as_rule self.now) kind) i
+            none }
     {
         self.row(kind).children[i]
     }
@@ -165,7 +167,8 @@ impl Rule {
     pub fn child(&self, kind: usize, i: usize) -> Child
         requires kind_in { kind < length (as_rule self.now).kinds }
         requires i_in { i < length (children_of (as_rule self.now) kind) }
-        ensures lists { (none : TheChild Point) → as_child result ≡ get_or (children_of (as_rule self.now) kind) i none }
+        ensures lists { (none : TheChild Point) → as_child result ≡ get_or
+            (children_of (as_rule self.now) kind) i none }
         ensures numbers { (o : Order) → child_in o result
             ≡ child_of (points_of o) (rule_in o self.now) kind i }
     {

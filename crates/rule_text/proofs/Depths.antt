@@ -2,7 +2,7 @@
 use Rattle.std.proofs.Common.{ℕ, ◌≤◌, List, [], ◌∷◌, map, arith}
 use Rattle.toml.specs.Data.{Data, integer, depth, items_depth, members_depth}
 use Rattle.toml.specs.View.{items_of}
-use Rattle.substitution.specs.Rule.{Child, EdgeType, Kind}
+use Rattle.theory_substitution.specs.Rule.{Child, EdgeType, Kind}
 use Rattle.cyclo_points.specs.declared.point.Point.{Point}
 use Rattle.rule_model.specs.Tiling.{ListedRule}
 use Rattle.rule_text.specs.Written.{number_data, list_data, point_data, child_data, type_data, kind_data, rule_members}
@@ -24,7 +24,19 @@ type-shallow : (t : EdgeType) → depth (type_data t) ≤ 2
 type-shallow t = omega (arith, numbers-shallow t.parts)
 
 kind-shallow : (k : Kind Point) → depth (kind_data k) ≤ 3
-kind-shallow k = omega (arith, items-shallow 1 point_data point-shallow k.vertices, numbers-shallow k.edges, items-shallow 1 child_data child-shallow k.children)
+kind-shallow k = omega (
+  arith,
+  items-shallow 1 point_data point-shallow k.vertices,
+  numbers-shallow k.edges,
+  items-shallow 1 child_data child-shallow k.children,
+)
 
 pub rule-shallow : (x : ListedRule) → members_depth (rule_members x) ≤ 80
-rule-shallow x = omega (arith, numbers-shallow x.rule.glue, items-shallow 3 kind_data kind-shallow x.rule.kinds, point-shallow x.rule.factor, items-shallow 2 type_data type-shallow x.rule.types)
+rule-shallow x = omega (
+  arith,
+  numbers-shallow x.rule.glue,
+  items-shallow 3 kind_data kind-shallow
+      x.rule.kinds,
+  point-shallow x.rule.factor,
+  items-shallow 2 type_data type-shallow x.rule.types,
+)

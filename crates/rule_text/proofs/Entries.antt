@@ -13,11 +13,13 @@ use Rattle.rule_text.specs.Narrow.{item_count, IsNarrow, MayNarrow, AreNarrow}
 use Rattle.rule_text.specs.Steps.{◌>>=◌, value_at, in_order}
 use Rattle.rule_text.specs.Document.{type_in, kind_in, types_in, kinds_in}
 
-pub types_in-entries : (ms : Members) (xs : List Members) → value_at key.TypeList (codes "type") tables Some ms ≡ Ok xs → types_in ms ≡ in_order type_in 0 xs
+pub types_in-entries : (ms : Members) (xs : List Members)
+    → value_at key.TypeList (codes "type") tables Some ms ≡ Ok xs → types_in ms ≡ in_order type_in 0 xs
 unfolding types_in
 types_in-entries ms xs e = rw e refl
 
-pub kinds_in-entries : (o : Order) (ms : Members) (xs : List Members) → value_at key.KindList (codes "kind") tables Some ms ≡ Ok xs → kinds_in o ms ≡ in_order (kind_in o) 0 xs
+pub kinds_in-entries : (o : Order) (ms : Members) (xs : List Members)
+    → value_at key.KindList (codes "kind") tables Some ms ≡ Ok xs → kinds_in o ms ≡ in_order (kind_in o) 0 xs
 unfolding kinds_in
 kinds_in-entries o ms xs e = rw e refl
 
@@ -46,20 +48,26 @@ tables-few k (boolean b) xs h e = absurd cc
 tables-few k (datetime dt) xs h e = absurd cc
 tables-few k (table ms) xs h e = absurd cc
 
-formed : (k : Key) (o : Option (List Members)) (xs : List Members) → (ok_or o (WrongType k) >>= λ x. ok_or (Some x) (OutOfRange k)) ≡ Ok xs → o ≡ Some xs
+formed : (k : Key) (o : Option (List Members)) (xs : List Members)
+    → (ok_or o (WrongType k) >>= λ x. ok_or (Some x) (OutOfRange k)) ≡ Ok xs → o ≡ Some xs
 formed k None xs e = absurd cc
 formed k (Some ys) xs e = cc
 
-found : (n : ℕ) (k : Key) (o : Option Data) (xs : List Members) → MayNarrow n o → (ok_or o (Missing k) >>= λ d. ok_or (tables d) (WrongType k) >>= λ x. ok_or (Some x) (OutOfRange k)) ≡ Ok xs → length xs ≤ n
+found : (n : ℕ) (k : Key) (o : Option Data) (xs : List Members) → MayNarrow n o
+    → (ok_or o (Missing k) >>= λ d. ok_or (tables d) (WrongType k) >>= λ x. ok_or (Some x) (OutOfRange k))
+    ≡ Ok xs → length xs ≤ n
 found n k None xs h e = absurd cc
 found n k (Some d) xs h e = tables-few n d xs h (formed k (tables d) xs e)
 
-entries-few : (n : ℕ) (k : Key) (name : List ℕ) (ms : Members) (xs : List Members) → AreNarrow n ms → value_at k name tables Some ms ≡ Ok xs → length xs ≤ n
+entries-few : (n : ℕ) (k : Key) (name : List ℕ) (ms : Members) (xs : List Members) → AreNarrow n ms
+    → value_at k name tables Some ms ≡ Ok xs → length xs ≤ n
 unfolding value_at
 entries-few n k name ms xs h e = found n k (get_member name ms) xs (h name) e
 
 -- entries that are seen as the tables of an array
-pub seen-few : {A : Type 0} (n : ℕ) (k : Key) (name : List ℕ) (ms : Members) (seen : A → Members) (entries slice : List A) → AreNarrow n ms → value_at k name tables Some ms ≡ Ok (map seen entries) → slice ≡ entries
+pub seen-few : {A : Type 0} (n : ℕ) (k : Key) (name : List ℕ) (ms : Members) (seen : A → Members)
+    (entries slice : List A) → AreNarrow n ms → value_at k name tables Some ms ≡ Ok (map seen entries)
+    → slice ≡ entries
     → length slice ≤ n
 seen-few n k name ms seen entries slice h e same =
     omega (arith, entries-few n k name ms (map seen entries) h e, length-map entries seen, ap length same)

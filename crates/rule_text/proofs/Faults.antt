@@ -32,10 +32,13 @@ own-ok_or : {A : Type 0} (o : Option A) (e : TextFault) → IsOfDocument e → I
 own-ok_or None e h = h
 own-ok_or (Some x) e h = tt
 
-own-value : {A B : Type 0} (key : Key) (name : List ℕ) (form : Data → Option A) (range : A → Option B) (ms : Members) → IsOwn (value_at key name form range ms)
+own-value : {A B : Type 0} (key : Key) (name : List ℕ) (form : Data → Option A) (range : A → Option B)
+    (ms : Members) → IsOwn (value_at key name form range ms)
 unfolding value_at
 own-value key name form range ms =
-    own-then (ok_or _ (Missing key)) _ (own-ok_or _ (Missing key) tt) (λ d. own-then (ok_or (form d) (WrongType key)) _ (own-ok_or (form d) (WrongType key) tt) (λ x. own-ok_or (range x) (OutOfRange key) tt))
+    own-then (ok_or _ (Missing key)) _ (own-ok_or _ (Missing key) tt)
+    (λ d. own-then (ok_or (form d) (WrongType key)) _ (own-ok_or (form d) (WrongType key) tt)
+    (λ x. own-ok_or (range x) (OutOfRange key) tt))
 
 own-test : {A : Type 0} (b : Bool) (place : Place) (x : A) → IsOwn (if b then Ok x else Err (UnknownKey place))
 own-test true place x = tt
@@ -51,12 +54,18 @@ own-order f h n (x ∷ xs) = own-then (f n x) _ (h n x) (λ y. own-then (in_orde
 own-type : (ty : ℕ) (ms : Members) → IsOwn (type_in ty ms)
 unfolding type_in
 own-type ty ms =
-    own-then (value_at _ _ _ _ ms) _ (own-value _ _ _ _ ms) (λ mate. own-then (value_at _ _ _ _ ms) _ (own-value _ _ _ _ ms) (λ parts. own-further type_keys (InType ty) ms (record { mate = mate; parts = parts })))
+    own-then (value_at _ _ _ _ ms) _ (own-value _ _ _ _ ms)
+    (λ mate. own-then (value_at _ _ _ _ ms) _ (own-value _ _ _ _ ms)
+    (λ parts. own-further type_keys (InType ty) ms (record { mate = mate; parts = parts })))
 
 own-kind : (o : Order) (k : ℕ) (ms : Members) → IsOwn (kind_in o k ms)
 unfolding kind_in
 own-kind o k ms =
-    own-then (value_at _ _ _ _ ms) _ (own-value _ _ _ _ ms) (λ vertices. own-then (value_at _ _ _ _ ms) _ (own-value _ _ _ _ ms) (λ edges. own-then (value_at _ _ _ _ ms) _ (own-value _ _ _ _ ms) (λ children. own-further kind_keys (InKind k) ms (record { vertices = vertices; edges = edges; children = children }))))
+    own-then (value_at _ _ _ _ ms) _ (own-value _ _ _ _ ms)
+    (λ vertices. own-then (value_at _ _ _ _ ms) _ (own-value _ _ _ _ ms)
+    (λ edges. own-then (value_at _ _ _ _ ms) _ (own-value _ _ _ _ ms)
+    (λ children. own-further kind_keys (InKind k) ms
+    (record { vertices = vertices; edges = edges; children = children }))))
 
 own-types : (ms : Members) → IsOwn (types_in ms)
 unfolding types_in
@@ -71,7 +80,14 @@ unfolding rule_of_members
 own-rule ms =
     own-then (value_at _ _ _ _ ms) _ (own-value _ _ _ _ ms) (λ edition. own-then (value_at _ _ _ _ ms) _ (own-value _ _ _ _ ms)
     (λ order. own-then (value_at _ _ _ _ ms) _ (own-value _ _ _ _ ms) (λ factor. own-then (value_at _ _ _ _ ms) _ (own-value _ _ _ _ ms)
-    (λ glue. own-then (types_in ms) _ (own-types ms) (λ types. own-then (kinds_in order ms) _ (own-kinds order ms) (λ kinds. own-further top_keys Top ms (record { edition = edition; order = order; rule = record { factor = factor; glue = glue; types = types; kinds = kinds } })))))))
+    (λ glue. own-then (types_in ms) _ (own-types ms)
+    (λ types. own-then (kinds_in order ms) _ (own-kinds order ms)
+    (λ kinds. own-further top_keys Top ms (record {
+      edition = edition;
+      order = order;
+      rule = record
+          { factor = factor; glue = glue; types = types; kinds = kinds };
+    })))))))
 
 -- a document is never one that toml refuses
 pub rule_in-toml : (ms : Members) → rule_of_members ms ≢ Err NotToml

@@ -4,10 +4,10 @@ use Rattle.std.specs.List.{list_all}
 use Rattle.std.proofs.lemmas.Bool.{and_parts, leb-true}
 use Rattle.std.proofs.lemmas.List.{get_or_default}
 use Rattle.std.proofs.lemmas.List.Sums.{AllPass-from_list_all}
-use Rattle.substitution.specs.Rule.{Child, Rule, kind_of, children_of}
-use Rattle.substitution.specs.RuleParts.{edge_type_of, mate, parts, vertices_of, edge_types, edge_count}
-use Rattle.edge_to_edge.specs.Limits.{is_from_to, is_type, is_child}
-use Rattle.edge_to_edge.specs.Limited.{WithinLimits}
+use Rattle.theory_substitution.specs.Rule.{Child, Rule, kind_of, children_of}
+use Rattle.theory_substitution.specs.RuleParts.{edge_type_of, mate, parts, vertices_of, edge_types, edge_count}
+use Rattle.theory_edge_to_edge.specs.Limits.{is_from_to, is_type, is_child}
+use Rattle.theory_edge_to_edge.specs.Limited.{WithinLimits}
 use Rattle.cyclo_points.specs.declared.point.Point.{Point}
 use Rattle.cyclo_points.specs.Order.{points_of}
 use Rattle.rule_model.specs.Small.{is_small}
@@ -23,7 +23,12 @@ pub high : (low most n : ℕ) → is_from_to low most n ≡ true → n ≤ most
 high low most n e = leb-true n most (and_parts (nat_le low n) (nat_le n most) e).1
 
 types_below : {A : Type 0} (r : Rule A) (tys : List ℕ) → length r.types ≤ 32 → list_all (is_type r) tys ≡ true → All (λ ty. ty < 32) tys
-types_below r tys le e = λ k d lt. omega (arith, le, leb-true (suc (get_or tys k d)) (length r.types) (AllPass-from_list_all (is_type r) tys e k d lt))
+types_below r tys le e = λ k d lt. omega (
+  arith,
+  le,
+  leb-true (suc (get_or tys k d)) (length r.types)
+      (AllPass-from_list_all (is_type r) tys e k d lt),
+)
 
 abbrev pub AreLimits : ListedRule → Type 0
 AreLimits x = WithinLimits (points_of x.order).order (is_small x.order) x.rule
@@ -37,10 +42,13 @@ few_kinds x h = high 1 16 (length x.rule.kinds) h.kinds
 type-fits : (x : ListedRule) → AreLimits x → (ty : ℕ) → ty < length x.rule.types → IsFitType (edge_type_of x.rule ty)
 type-fits x h ty lt = record {
   mate = omega (arith, few_types x h, leb-true (suc (mate x.rule ty)) (length x.rule.types) (h.mates ty lt));
-  parts = types_below x.rule (parts x.rule ty) (few_types x h) (and_parts (is_from_to 1 8 (length (parts x.rule ty))) (list_all (is_type x.rule) (parts x.rule ty)) (h.parts ty lt)).1;
+  parts = types_below x.rule (parts x.rule ty) (few_types x h)
+      (and_parts (is_from_to 1 8 (length (parts x.rule ty))) (list_all (is_type x.rule) (parts x.rule ty))
+      (h.parts ty lt)).1;
 }
 
-child-fits : (x : ListedRule) (c : Child Point) → length x.rule.kinds ≤ 16 → IsFour c.motion.shift → is_child (points_of x.order).order (is_small x.order) x.rule c ≡ true → IsFitChild x.order c
+child-fits : (x : ListedRule) (c : Child Point) → length x.rule.kinds ≤ 16 → IsFour c.motion.shift
+    → is_child (points_of x.order).order (is_small x.order) x.rule c ≡ true → IsFitChild x.order c
 child-fits x c le four e =
     let n = (points_of x.order).order in
     let (front, small) = and_parts (nat_lt c.kind (length x.rule.kinds) && nat_lt c.motion.turn n) (is_small x.order c.motion.shift) e in
@@ -57,11 +65,18 @@ kind-fits x h fours k lt =
     let four = fours k (record { vertices = []; edges = []; children = [] }) lt in
     let counts = is_from_to 3 12 (edge_count r k) && nat_eq (length (vertices_of r k)) (edge_count r k) in
     record {
-      vertices = λ i d at. record { four = four.0 i d at; small = AllPass-from_list_all (is_small x.order) (vertices_of r k) (h.vertices k lt) i d at };
+      vertices = λ i d at. record {
+        four = four.0 i d at;
+        small = AllPass-from_list_all (is_small x.order) (vertices_of r k) (h.vertices k lt) i d at;
+      };
       edges = types_below r (edge_types r k) (few_types x h) (and_parts counts (list_all (is_type r) (edge_types r k)) (h.edges k lt)).1;
       children = λ i d at.
-          let each = (and_parts (is_from_to 1 16 (length (children_of r k))) (list_all (is_child (points_of x.order).order (is_small x.order) r) (children_of r k)) (h.children k lt)).1 in
-          child-fits x _ (few_kinds x h) (four.1 i d at) (AllPass-from_list_all (is_child (points_of x.order).order (is_small x.order) r) (children_of r k) each i d at);
+          let each = (and_parts (is_from_to 1 16 (length (children_of r k)))
+          (list_all (is_child (points_of x.order).order (is_small x.order) r) (children_of r k))
+          (h.children k lt)).1 in
+          child-fits x _ (few_kinds x h) (four.1 i d at)
+          (AllPass-from_list_all (is_child (points_of x.order).order (is_small x.order) r)
+          (children_of r k) each i d at);
     }
 
 pub fits-limits : (x : ListedRule) → AreLimits x → IsFour x.rule.factor → All HasFours x.rule.kinds → IsFit x

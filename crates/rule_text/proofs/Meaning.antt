@@ -34,7 +34,8 @@ meant-fault (Err e) x h = h
 
 not_toml : (ms : Members) (r : Result Rule TextFault) → ReadsAs listed r (rule_of_members ms) → r ≢ Err NotToml
 not_toml ms r h e =
-    let given : NotToml ≢ NoMemory → rule_of_members ms ≡ Err NotToml = subst (λ (s : Result Rule TextFault). ReadsAs listed s (rule_of_members ms)) e h in
+    let given : NotToml ≢ NoMemory → rule_of_members ms ≡ Err NotToml = subst
+    (λ (s : Result Rule TextFault). ReadsAs listed s (rule_of_members ms)) e h in
     rule_in-toml ms (given (λ bad. cc))
 
 -- the answer for a document

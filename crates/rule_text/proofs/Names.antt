@@ -7,7 +7,8 @@ use Rattle.toml.specs.declared.value.Value.{Value}
 use Rattle.toml.specs.View.{members_view}
 use Rattle.rule_text.specs.Steps.{is_among, has_only}
 
-pub has_only-keys : (names : List (List ℕ)) (es : List (String Global × Value)) → list_all (λ k. is_among names (string_bytes k)) (keys_of es) ≡ has_only names (members_view es)
+pub has_only-keys : (names : List (List ℕ)) (es : List (String Global × Value))
+    → list_all (λ k. is_among names (string_bytes k)) (keys_of es) ≡ has_only names (members_view es)
 has_only-keys names [] = refl
 has_only-keys names (e ∷ es) = ap (λ b. is_among names (string_bytes e.0) && b) (has_only-keys names es)
 
@@ -16,7 +17,8 @@ list_any-map p f [] = refl
 list_any-map p f (x ∷ xs) = ap (λ b. p (f x) || b) (list_any-map p f xs)
 
 -- the item at number i passes; none does from there on
-pub list_any-here : {A : Type 0} (p : A → Bool) (xs : List A) (i : ℕ) (d : A) → i < length xs → p (get_or xs i d) ≡ true → list_any p (drop i xs) ≡ true
+pub list_any-here : {A : Type 0} (p : A → Bool) (xs : List A) (i : ℕ) (d : A) → i < length xs
+    → p (get_or xs i d) ≡ true → list_any p (drop i xs) ≡ true
 list_any-here p xs i d lt h = rw (drop_more xs i d lt, h) refl
 
 pub list_any-past : {A : Type 0} (p : A → Bool) (xs : List A) (i : ℕ) → length xs ≤ i → list_any p (drop i xs) ≡ false

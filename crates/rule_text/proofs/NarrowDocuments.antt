@@ -26,11 +26,13 @@ document-if : (n j : ℕ) (b : Bool) (x y : Option Document) → MayDocument n j
 document-if n j true x y h k = h
 document-if n j false x y h k = k
 
-document-then : (n j k : ℕ) (o : Option Document) (f : Document → Option Document) → MayDocument n j o → ((doc : Document) → AreSlim n j doc.0 → MayDocument n k (f doc)) → MayDocument n k (option_and_then f o)
+document-then : (n j k : ℕ) (o : Option Document) (f : Document → Option Document) → MayDocument n j o
+    → ((doc : Document) → AreSlim n j doc.0 → MayDocument n k (f doc)) → MayDocument n k (option_and_then f o)
 document-then n j k None f h more = tt
 document-then n j k (Some doc) f h more = more doc h
 
-line-then : (n k : ℕ) (r : Read Expression) (f : Expression × List ℕ → Option Document) → ReadsLine n r → ((e : Expression × List ℕ) → length e.1 ≤ n → DefinesNarrow n e.0.1 → MayDocument n k (f e))
+line-then : (n k : ℕ) (r : Read Expression) (f : Expression × List ℕ → Option Document) → ReadsLine n r
+    → ((e : Expression × List ℕ) → length e.1 ≤ n → DefinesNarrow n e.0.1 → MayDocument n k (f e))
     → MayDocument n k (option_and_then f r)
 line-then n k None f h more = tt
 line-then n k (Some e) f h more = more e h.0 h.1
@@ -41,7 +43,9 @@ lines-slim n zero j k doc t le h slim = tt
 lines-slim n (suc m) j k doc t le h slim =
     let start = skip_blank t in
     let short : length start ≤ n = skip_blank-short n t h in
-    document-if n k (length start == 0) (Some doc) (option_and_then (λ e. option_and_then (λ next. lines m next e.1) (define doc e.0)) (line start)) (slim-le n j k doc.0 (omega (arith, le)) slim)
+    document-if n k (length start == 0) (Some doc)
+    (option_and_then (λ e. option_and_then (λ next. lines m next e.1) (define doc e.0)) (line start))
+    (slim-le n j k doc.0 (omega (arith, le)) slim)
     (line-then n k (line start) (λ e. option_and_then (λ next. lines m next e.1) (define doc e.0)) (line-narrow n start short)
     (λ e l hw. document-then n (suc j) k (define doc e.0) (λ next. lines m next e.1) (define-slim n j doc e.0 hw slim)
     (λ next more. lines-slim n m (suc j) k next e.1 (omega (arith, le)) l more)))
@@ -60,7 +64,8 @@ close-narrow n j k (value d) le more h = narrow-le n k d le h
 close-narrow n j k (open_table origin inner) le more h = tt
 close-narrow n j k (open_array done last) le more h = omega (arith, h, more, count-push done (table (close last)))
 
-member-at : (k : ℕ) (o : Ordering) (d : Data) (rest : Option Data) → IsNarrow k d → MayNarrow k rest → MayNarrow k (match_ordering o rest (Some d) rest)
+member-at : (k : ℕ) (o : Ordering) (d : Data) (rest : Option Data) → IsNarrow k d → MayNarrow k rest
+    → MayNarrow k (match_ordering o rest (Some d) rest)
 member-at k Less d rest h more = more
 member-at k Equal d rest h more = h
 member-at k Greater d rest h more = more
@@ -68,7 +73,8 @@ member-at k Greater d rest h more = more
 members-narrow : (n j k : ℕ) (name : List ℕ) (ns : Nodes) → n ≤ k → suc j ≤ k → AreSlim n j ns → MayNarrow k (get_member name (close ns))
 members-narrow n j k name no_nodes le more h = tt
 members-narrow n j k name (node l x ns) le more h =
-    member-at k (slice_cmp nat_cmp name l) (close_node x) (get_member name (close ns)) (close-narrow n j k x le more h.0) (members-narrow n j k name ns le more h.1)
+    member-at k (slice_cmp nat_cmp name l) (close_node x) (get_member name (close ns))
+    (close-narrow n j k x le more h.0) (members-narrow n j k name ns le more h.1)
 
 abbrev MayMembers : ℕ → Option Members → Type 0
 MayMembers k None = Unit {0}
@@ -90,7 +96,8 @@ document-narrow : (t : List ℕ) → MayMembers (length t + 2) (parse_document t
 unfolding parse_document
 document-narrow t =
     let n = length t in
-    closed n (suc n) (n + 2) _ (omega arith) (omega arith) (lines-slim n (suc n) 0 (suc n) (no_nodes, []) (skip_bom t) (omega arith) (skip_bom-short t) tt)
+    closed n (suc n) (n + 2) _ (omega arith) (omega arith)
+    (lines-slim n (suc n) 0 (suc n) (no_nodes, []) (skip_bom t) (omega arith) (skip_bom-short t) tt)
 
 parsed-narrow : (t : List ℕ) (ms : Members) → parse_document t ≡ Some ms → AreNarrow (length t + 2) ms
 parsed-narrow t ms e = subst (MayMembers (length t + 2)) e (document-narrow t)

@@ -26,14 +26,17 @@ line-if n false x y h k = k
 header_key-leaves : (n : ℕ) (t : List ℕ) → length t ≤ n → Leaves n (header_key t)
 unfolding header_key
 header_key-leaves n t h =
-    leaves-then n (key (skip_ws t)) (λ k. option_map (λ rest. (k.0, rest)) (after_byte right_bracket k.1)) (key-leaves n (skip_ws t) (skip_ws-short n t h))
+    leaves-then n (key (skip_ws t)) (λ k. option_map (λ rest. (k.0, rest)) (after_byte right_bracket k.1))
+    (key-leaves n (skip_ws t) (skip_ws-short n t h))
     (λ k l. text-map n Key (λ rest. (k.0, rest)) (after_byte right_bracket k.1) (λ s m. m) (after_byte-leaves n right_bracket k.1 l))
 
 array_line : (n : ℕ) (k : Key) (o : Option (List ℕ)) → LeavesText n o → ReadsLine n (option_map (λ rest. ((k, array_table), rest)) o)
 array_line n k None h = tt
 array_line n k (Some t) h = (h, tt)
 
-array_header : (n : ℕ) (r : Read Key) → Leaves n r → ReadsLine n (option_and_then (λ k. option_map (λ rest. ((k.0, array_table), rest)) (after_byte right_bracket k.1)) r)
+array_header : (n : ℕ) (r : Read Key) → Leaves n r
+    → ReadsLine n (option_and_then (λ k. option_map (λ rest. ((k.0, array_table), rest))
+    (after_byte right_bracket k.1)) r)
 array_header n None h = tt
 array_header n (Some k) h = array_line n k.0 (after_byte right_bracket k.1) (after_byte-leaves n right_bracket k.1 h)
 
@@ -56,7 +59,9 @@ pair_line n read all (Some k) h = pair_then n k.0 (read k.1) (all k.1 h)
 expression-narrow : (n : ℕ) (t : List ℕ) → length t ≤ n → ReadsLine n (expression t)
 unfolding expression
 expression-narrow n t h =
-    let in_array : Read Expression = option_and_then (λ k. option_map (λ rest. ((k.0, array_table), rest)) (after_byte right_bracket k.1)) (header_key (drop 2 t)) in
+    let in_array : Read Expression = option_and_then
+    (λ k. option_map (λ rest. ((k.0, array_table), rest)) (after_byte right_bracket k.1))
+    (header_key (drop 2 t)) in
     let in_table : Read Expression = read_map (λ k. (k, std_table)) (header_key (drop 1 t)) in
     let pair : Read Expression = read_map (λ p. (p.0, key_value p.1)) (keyval (val 80) t) in
     line-if n (first t == left_bracket && slice_index t 1 == left_bracket) in_array (cond (first t == left_bracket) in_table pair)

@@ -45,7 +45,8 @@ insert-slim : (n j : ℕ) (k : List ℕ) (x : Node) (ns : Nodes) → IsSlim n j 
 insert-slim n j k x no_nodes hx h = (hx, tt)
 insert-slim n j k x (node l y ns) hx h = insert-at n j (slice_cmp nat_cmp k l) k l x y ns (insert k x ns) hx h.0 h.1 (insert-slim n j k x ns hx h.1)
 
-replace-at : (n j : ℕ) (b : Bool) (l : List ℕ) (x y : Node) (ns more : Nodes) → IsSlim n j x → IsSlim n j y → AreSlim n j ns → AreSlim n j more → AreSlim n j (cond b (node l x ns) (node l y more))
+replace-at : (n j : ℕ) (b : Bool) (l : List ℕ) (x y : Node) (ns more : Nodes) → IsSlim n j x → IsSlim n j y
+    → AreSlim n j ns → AreSlim n j more → AreSlim n j (cond b (node l x ns) (node l y more))
 replace-at n j true l x y ns more hx hy hns hmore = (hx, hns)
 replace-at n j false l x y ns more hx hy hns hmore = (hy, hmore)
 
@@ -61,11 +62,13 @@ get-slim : (n j : ℕ) (k : List ℕ) (ns : Nodes) → AreSlim n j ns → MayNod
 get-slim n j k no_nodes h = tt
 get-slim n j k (node l x ns) h = get-at n j (same_key k l) x (get_node k ns) h.0 (get-slim n j k ns h.1)
 
-replace-made : (n j : ℕ) (k : List ℕ) (ns : Nodes) (o : Option Node) → AreSlim n j ns → MayNode n j o → MaySlim n j (option_map (λ new. replace k new ns) o)
+replace-made : (n j : ℕ) (k : List ℕ) (ns : Nodes) (o : Option Node) → AreSlim n j ns → MayNode n j o
+    → MaySlim n j (option_map (λ new. replace k new ns) o)
 replace-made n j k ns None h hx = tt
 replace-made n j k ns (Some x) h hx = replace-slim n j k x ns hx h
 
-insert-made : (n j : ℕ) (origin : Origin) (k : List ℕ) (ns : Nodes) (o : Option Nodes) → AreSlim n j ns → MaySlim n j (option_map (λ new. insert k (open_table origin new) ns) o)
+insert-made : (n j : ℕ) (origin : Origin) (k : List ℕ) (ns : Nodes) (o : Option Nodes) → AreSlim n j ns
+    → MaySlim n j (option_map (λ new. insert k (open_table origin new) ns) o)
 insert-made n j origin k ns None h = tt
 insert-made n j origin k ns (Some new) h = insert-slim n j k (open_table origin new) ns tt h
 
@@ -89,7 +92,8 @@ dot_node-slim n j edit (open_table dotted inner) = table-made n j dotted (edit i
 dot_node-slim n j edit (open_table header inner) = tt
 dot_node-slim n j edit (open_array done last) = tt
 
-by_header-slim : (n j : ℕ) (k : List ℕ) (edit : Edit) (ns : Nodes) (o : Option Node) → AreSlim n j ns → MayNode n j o → MaySlim n j (by_header k edit ns o)
+by_header-slim : (n j : ℕ) (k : List ℕ) (edit : Edit) (ns : Nodes) (o : Option Node) → AreSlim n j ns
+    → MayNode n j o → MaySlim n j (by_header k edit ns o)
 by_header-slim n j k edit ns None h hx = insert-made n j implicit k ns (edit no_nodes) h
 by_header-slim n j k edit ns (Some x) h hx = replace-made n j k ns (header_node edit x) h (header_node-slim n j edit x hx)
 
@@ -129,7 +133,8 @@ redefine-slim n j array_table (open_table origin inner) h = tt
 redefine-slim n j array_table (value d) h = tt
 redefine-slim n j (key_value d) x h = tt
 
-at_found-slim : (n j : ℕ) (k : List ℕ) (what : Definition) (ns : Nodes) (o : Option Node) → DefinesNarrow n what → AreSlim n j ns → MayNode n j o → MaySlim n (suc j) (at_found k what ns o)
+at_found-slim : (n j : ℕ) (k : List ℕ) (what : Definition) (ns : Nodes) (o : Option Node)
+    → DefinesNarrow n what → AreSlim n j ns → MayNode n j o → MaySlim n (suc j) (at_found k what ns o)
 at_found-slim n j k what ns None hw h hx = insert-slim n (suc j) k (new_node what) ns (new-slim n (suc j) what hw) (slim-grows n j ns h)
 at_found-slim n j k what ns (Some x) hw h hx = replace-made n (suc j) k ns (redefine what x) (slim-grows n j ns h) (redefine-slim n j what x hx)
 
@@ -145,9 +150,11 @@ document-made : (n j : ℕ) (path : List (List ℕ)) (o : Option Nodes) → MayS
 document-made n j path None h = tt
 document-made n j path (Some root) h = h
 
-define_as-slim : (n j : ℕ) (doc : Document) (k : Key) (what : Definition) → DefinesNarrow n what → AreSlim n j doc.0 → MayDocument n (suc j) (define_as doc k what)
+define_as-slim : (n j : ℕ) (doc : Document) (k : Key) (what : Definition) → DefinesNarrow n what
+    → AreSlim n j doc.0 → MayDocument n (suc j) (define_as doc k what)
 define_as-slim n j doc k (key_value d) hw h =
-    document-made n (suc j) doc.1 _ (along_header-slim n j doc.1 (put k d) (along_dots-slim n j k.0 (at_key k.1 (key_value d)) (at_key-slim n j k.1 (key_value d) hw)) doc.0 h)
+    document-made n (suc j) doc.1 _ (along_header-slim n j doc.1 (put k d)
+    (along_dots-slim n j k.0 (at_key k.1 (key_value d)) (at_key-slim n j k.1 (key_value d) hw)) doc.0 h)
 define_as-slim n j doc k std_table hw h =
     document-made n (suc j) (k.0 ++ k.1 ∷ []) _ (along_header-slim n j k.0 (at_key k.1 std_table) (at_key-slim n j k.1 std_table tt) doc.0 h)
 define_as-slim n j doc k array_table hw h =

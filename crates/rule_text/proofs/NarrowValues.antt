@@ -29,7 +29,8 @@ narrow-if : (n : ℕ) (b : Bool) (x y : Read Data) → ReadsNarrow n x → Reads
 narrow-if n true x y h k = h
 narrow-if n false x y h k = k
 
-narrow-map : {A : Type 0} (n : ℕ) (f : A → Data) (r : Read A) → ((x : A) → IsNarrow n (f x)) → Leaves n r → ReadsNarrow n (option_map (λ p. (f p.0, p.1)) r)
+narrow-map : {A : Type 0} (n : ℕ) (f : A → Data) (r : Read A) → ((x : A) → IsNarrow n (f x)) → Leaves n r
+    → ReadsNarrow n (option_map (λ p. (f p.0, p.1)) r)
 narrow-map n f None all h = tt
 narrow-map n f (Some p) all h = (h, all p.0)
 
@@ -39,7 +40,8 @@ text-if : (n : ℕ) (b : Bool) (x y : Option (List ℕ)) → LeavesText n x → 
 text-if n true x y h k = h
 text-if n false x y h k = k
 
-pub text-map : (n : ℕ) (A : Type 0) (f : List ℕ → A × List ℕ) (o : Option (List ℕ)) → ((t : List ℕ) → length t ≤ n → length (f t).1 ≤ n) → LeavesText n o → Leaves n (option_map f o)
+pub text-map : (n : ℕ) (A : Type 0) (f : List ℕ → A × List ℕ) (o : Option (List ℕ))
+    → ((t : List ℕ) → length t ≤ n → length (f t).1 ≤ n) → LeavesText n o → Leaves n (option_map f o)
 text-map n A f None all h = tt
 text-map n A f (Some t) all h = all t h
 
@@ -49,13 +51,17 @@ after_byte-leaves n byte t h = text-if n (first t == byte) (Some (drop 1 t)) Non
 after_element-leaves : (n closing : ℕ) (t : List ℕ) → length t ≤ n → LeavesText n (after_element closing t)
 unfolding after_element
 after_element-leaves n closing t h =
-    text-if n (first (skip_blank t) == comma) (Some (drop 1 (skip_blank t))) (cond (first (skip_blank t) == closing) (Some (skip_blank t)) None) (drop-short n 1 (skip_blank t) (skip_blank-short n t h))
+    text-if n (first (skip_blank t) == comma) (Some (drop 1 (skip_blank t)))
+    (cond (first (skip_blank t) == closing) (Some (skip_blank t)) None)
+    (drop-short n 1 (skip_blank t) (skip_blank-short n t h))
     (text-if n (first (skip_blank t) == closing) (Some (skip_blank t)) None (skip_blank-short n t h) tt)
 
 pub key_equals-leaves : (n : ℕ) (t : List ℕ) → length t ≤ n → Leaves n (key_equals t)
 unfolding key_equals
 key_equals-leaves n t h =
-    leaves-then n (key t) (λ k. option_map (λ rest. (k.0, skip_ws rest)) (after_byte equals k.1)) (key-leaves n t h) (λ k l. text-map n Key (λ rest. (k.0, skip_ws rest)) (after_byte equals k.1) (λ s m. skip_ws-short n s m) (after_byte-leaves n equals k.1 l))
+    leaves-then n (key t) (λ k. option_map (λ rest. (k.0, skip_ws rest)) (after_byte equals k.1))
+    (key-leaves n t h) (λ k l. text-map n Key (λ rest. (k.0, skip_ws rest)) (after_byte equals k.1)
+    (λ s m. skip_ws-short n s m) (after_byte-leaves n equals k.1 l))
 
 -- ---- values
 
@@ -68,22 +74,28 @@ items-if : (n most : ℕ) (b : Bool) (x y : Read Items) → ReadsItems n most x 
 items-if n most true x y h k = h
 items-if n most false x y h k = k
 
-items-then : (n most : ℕ) (r : Read Data) (f : Data × List ℕ → Read Items) → Leaves n r → ((p : Data × List ℕ) → length p.1 ≤ n → ReadsItems n most (f p)) → ReadsItems n most (option_and_then f r)
+items-then : (n most : ℕ) (r : Read Data) (f : Data × List ℕ → Read Items) → Leaves n r
+    → ((p : Data × List ℕ) → length p.1 ≤ n → ReadsItems n most (f p))
+    → ReadsItems n most (option_and_then f r)
 items-then n most None f h more = tt
 items-then n most (Some p) f h more = more p h
 
-items-text-then : (n most : ℕ) (o : Option (List ℕ)) (f : List ℕ → Read Items) → LeavesText n o → ((t : List ℕ) → length t ≤ n → ReadsItems n most (f t)) → ReadsItems n most (option_and_then f o)
+items-text-then : (n most : ℕ) (o : Option (List ℕ)) (f : List ℕ → Read Items) → LeavesText n o
+    → ((t : List ℕ) → length t ≤ n → ReadsItems n most (f t)) → ReadsItems n most (option_and_then f o)
 items-text-then n most None f h more = tt
 items-text-then n most (Some t) f h more = more t h
 
-items-few : (n : ℕ) (read : List ℕ → Read Data) → ((t : List ℕ) → length t ≤ n → Leaves n (read t)) → (m most : ℕ) (found : Items) (t : List ℕ) → item_count found + m ≤ most → length t ≤ n
+items-few : (n : ℕ) (read : List ℕ → Read Data) → ((t : List ℕ) → length t ≤ n → Leaves n (read t))
+    → (m most : ℕ) (found : Items) (t : List ℕ) → item_count found + m ≤ most → length t ≤ n
     → ReadsItems n most (items read m found t)
 unfolding items
 items-few n read all zero most found t few h = tt
 items-few n read all (suc m) most found t few h =
     let start = skip_blank t in
     let short : length start ≤ n = skip_blank-short n t h in
-    items-if n most (first start == right_bracket) (Some (found, drop 1 start)) (option_and_then (λ v. option_and_then (items read m (push_item found v.0)) (after_element right_bracket v.1)) (read start)) (drop-short n 1 start short, omega (arith, few))
+    items-if n most (first start == right_bracket) (Some (found, drop 1 start))
+    (option_and_then (λ v. option_and_then (items read m (push_item found v.0))
+    (after_element right_bracket v.1)) (read start)) (drop-short n 1 start short, omega (arith, few))
     (items-then n most (read start) (λ v. option_and_then (items read m (push_item found v.0)) (after_element right_bracket v.1)) (all start short)
     (λ v k. items-text-then n most (after_element right_bracket v.1) (items read m (push_item found v.0)) (after_element-leaves n right_bracket v.1 k)
     (λ s l. items-few n read all m most (push_item found v.0) s (omega (arith, few, count-push found v.0)) l)))
@@ -92,18 +104,29 @@ nodes-then : (n : ℕ) (o : Option Nodes) (f : Nodes → Read Members) → ((x :
 nodes-then n None f more = tt
 nodes-then n (Some x) f more = more x
 
-keyval-leaves : (n : ℕ) (read : List ℕ → Read Data) → ((t : List ℕ) → length t ≤ n → Leaves n (read t)) → (t : List ℕ) → length t ≤ n → Leaves n (keyval read t)
-keyval-leaves n read all t h = leaves-then n (key_equals t) (λ k. read_map (λ d. (k.0, d)) (read k.1)) (key_equals-leaves n t h) (λ k l. leaves-map n (λ d. (k.0, d)) (read k.1) (all k.1 l))
+keyval-leaves : (n : ℕ) (read : List ℕ → Read Data) → ((t : List ℕ) → length t ≤ n → Leaves n (read t))
+    → (t : List ℕ) → length t ≤ n → Leaves n (keyval read t)
+keyval-leaves n read all t h = leaves-then n (key_equals t) (λ k. read_map (λ d. (k.0, d)) (read k.1))
+    (key_equals-leaves n t h) (λ k l. leaves-map n (λ d. (k.0, d)) (read k.1) (all k.1 l))
 
-members-leaves : (n : ℕ) (read : List ℕ → Read Data) → ((t : List ℕ) → length t ≤ n → Leaves n (read t)) → (m : ℕ) (found : Nodes) (t : List ℕ) → length t ≤ n → Leaves n (members read m found t)
+members-leaves : (n : ℕ) (read : List ℕ → Read Data) → ((t : List ℕ) → length t ≤ n → Leaves n (read t))
+    → (m : ℕ) (found : Nodes) (t : List ℕ) → length t ≤ n → Leaves n (members read m found t)
 unfolding members
 members-leaves n read all zero found t h = tt
 members-leaves n read all (suc m) found t h =
     let start = skip_blank t in
     let short : length start ≤ n = skip_blank-short n t h in
-    leaves-if n (first start == right_brace) (Some (close found, drop 1 start)) (option_and_then (λ e. option_and_then (λ more. option_and_then (members read m more) (after_element right_brace e.1)) (put e.0.0 e.0.1 found)) (keyval read start)) (drop-short n 1 start short)
-    (leaves-then n (keyval read start) (λ e. option_and_then (λ more. option_and_then (members read m more) (after_element right_brace e.1)) (put e.0.0 e.0.1 found)) (keyval-leaves n read all start short)
-    (λ e k. nodes-then n (put e.0.0 e.0.1 found) (λ more. option_and_then (members read m more) (after_element right_brace e.1)) (λ more. leaves-text-then n (after_element right_brace e.1) (members read m more) (after_element-leaves n right_brace e.1 k) (λ s l. members-leaves n read all m more s l))))
+    leaves-if n (first start == right_brace) (Some (close found, drop 1 start))
+    (option_and_then (λ e. option_and_then (λ more. option_and_then (members read m more)
+    (after_element right_brace e.1)) (put e.0.0 e.0.1 found)) (keyval read start))
+    (drop-short n 1 start short)
+    (leaves-then n (keyval read start) (λ e. option_and_then
+    (λ more. option_and_then (members read m more) (after_element right_brace e.1))
+    (put e.0.0 e.0.1 found)) (keyval-leaves n read all start short)
+    (λ e k. nodes-then n (put e.0.0 e.0.1 found)
+    (λ more. option_and_then (members read m more) (after_element right_brace e.1))
+    (λ more. leaves-text-then n (after_element right_brace e.1) (members read m more)
+    (after_element-leaves n right_brace e.1 k) (λ s l. members-leaves n read all m more s l))))
 
 scalar-narrow : (n : ℕ) (s : Scalar) → IsNarrow n (scalar_data s)
 scalar-narrow n (Boolean b) = tt
@@ -129,7 +152,10 @@ val-narrow n (suc depth) t h =
     let listed : Read Data = read_map array (items (val depth) (length t) no_items (drop 1 t)) in
     let tabled : Read Data = read_map table (members (val depth) (length t) no_nodes (drop 1 t)) in
     narrow-if n (first t == left_bracket) listed (cond (first t == left_brace) tabled (atom t))
-    (array-narrow n (items (val depth) (length t) no_items (drop 1 t)) (items-few n (val depth) read (length t) n no_items (drop 1 t) (omega (arith, h)) (drop-short n 1 t h)))
+    (array-narrow n (items (val depth) (length t) no_items (drop 1 t))
+    (items-few n (val depth) read (length t) n no_items (drop 1 t) (omega (arith, h))
+    (drop-short n 1 t h)))
     (narrow-if n (first t == left_brace) tabled (atom t)
-    (narrow-map n table (members (val depth) (length t) no_nodes (drop 1 t)) (λ ms. tt) (members-leaves n (val depth) read (length t) no_nodes (drop 1 t) (drop-short n 1 t h)))
+    (narrow-map n table (members (val depth) (length t) no_nodes (drop 1 t)) (λ ms. tt)
+    (members-leaves n (val depth) read (length t) no_nodes (drop 1 t) (drop-short n 1 t h)))
     (atom-narrow n t h))

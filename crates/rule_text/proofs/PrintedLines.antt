@@ -86,7 +86,8 @@ header-short k short started text h =
 pub section-apart : (k : List ℕ) (d : Data) (ms : Members) → is_section d ≡ true → pairs (member k d ms) ≡ pairs ms
 section-apart k d ms e = rw e refl
 
-pub member-short : (n m : ℕ) (k : List ℕ) (d : Data) (ms : Members) → length (key_text k) ≤ 10 → IsShort n d → AreShort m (pairs ms) → AreShort (n + 14 + m) (pairs (member k d ms))
+pub member-short : (n m : ℕ) (k : List ℕ) (d : Data) (ms : Members) → length (key_text k) ≤ 10 → IsShort n d
+    → AreShort m (pairs ms) → AreShort (n + 14 + m) (pairs (member k d ms))
 member-short n m k d ms short value others =
     elim (cases_Bool (is_section d)) [
       | inl apart ↦ rw apart (λ started text h. omega (arith, others started text h))
@@ -102,8 +103,10 @@ elements-short n k members (x ∷ xs) short all started text h =
     let (own, alone) = all 0 x (omega arith) in
     let ms = members x in
     let others = elements ([], k) (items_of (map (λ y. table (members y)) xs)) in
-    let entry : AreShort (n + 0) (pairs ms ++ sections (k ∷ []) ms) = subst (λ es. AreShort (n + 0) (pairs ms ++ es)) (sym alone) (both-short n 0 (pairs ms) [] own none-short) in
+    let entry : AreShort (n + 0) (pairs ms ++ sections (k ∷ []) ms) = subst
+    (λ es. AreShort (n + 0) (pairs ms ++ es)) (sym alone) (both-short n 0 (pairs ms) [] own none-short) in
     let behind : AreShort (length xs * (n + 17)) others = elements-short n k members xs short (λ i d lt. all (suc i) d (omega (arith, lt))) in
     let lines = both-short (n + 0) (length xs * (n + 17)) (pairs ms ++ sections (k ∷ []) ms) others entry behind in
-    let whole = more-short 17 (n + 0 + length xs * (n + 17)) (([], k), array_table) ((pairs ms ++ sections (k ∷ []) ms) ++ others) (header-short k short) lines in
+    let whole = more-short 17 (n + 0 + length xs * (n + 17)) (([], k), array_table)
+    ((pairs ms ++ sections (k ∷ []) ms) ++ others) (header-short k short) lines in
     omega (arith, whole started text h, suc-mul (length xs) (n + 17))

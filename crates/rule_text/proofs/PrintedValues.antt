@@ -4,7 +4,7 @@ use Rattle.std.proofs.lemmas.Fmt.{length_signed_le}
 use Rattle.toml.specs.Data.{Data, integer, Items, no_items, item}
 use Rattle.toml.specs.Text.{IsValueText, IsItemsText, before_item, breaks_lines}
 use Rattle.toml.specs.View.{items_of}
-use Rattle.substitution.specs.Rule.{Child}
+use Rattle.theory_substitution.specs.Rule.{Child}
 use Rattle.cyclo_points.specs.declared.point.Point.{Point}
 use Rattle.rule_text.specs.Written.{IsFour, number_data, list_data, point_data, child_data}
 
@@ -41,7 +41,8 @@ on_one_line no_items = refl
 on_one_line (item d no_items) = refl
 on_one_line (item d (item e ds)) = refl
 
-pub list-short : {A : Type 0} (n most : ℕ) (f : A → Data) (xs : List A) → length xs ≤ most → All (λ x. IsShort n (f x)) xs → IsShort (most * (n + 2) + 2) (list_data f xs)
+pub list-short : {A : Type 0} (n most : ℕ) (f : A → Data) (xs : List A) → length xs ≤ most
+    → All (λ x. IsShort n (f x)) xs → IsShort (most * (n + 2) + 2) (list_data f xs)
 list-short n most f xs few all text (rest, e, items) =
     let ds = items_of (map f xs) in
     let on_a_line : IsItemsText false false true ds rest = subst (λ lines. IsItemsText false lines true ds rest) (on_one_line ds) items in

@@ -1,7 +1,7 @@
 -- The document that a rule is written as stands for the rule.
 use Rattle.std.proofs.Common.{◌≡◌, ℕ, suc, ◌<◌, ℤ, pos, true, List, [], ◌∷◌, All, map, codes, Option, Some, Result, Ok, refl, ap, arith}
 use Rattle.toml.specs.Data.{Data, Members, as_integer, get_member}
-use Rattle.substitution.specs.Rule.{Child, EdgeType, Kind}
+use Rattle.theory_substitution.specs.Rule.{Child, EdgeType, Kind}
 use Rattle.cyclo_points.specs.declared.order.Order.{Order}
 use Rattle.cyclo_points.specs.declared.order.Order.TheVariants.{Six}
 use Rattle.cyclo_points.specs.declared.point.Point.{Point}
@@ -51,11 +51,15 @@ value-read : {A B : Type 0} (k : Key) (name : List ℕ) (form : Data → Option 
     → get_member name ms ≡ Some d → form d ≡ Some x → range x ≡ Some y → value_at k name form range ms ≡ Ok y
 value-read k name form range ms d x y e1 e2 e3 = value_at-formed k name form range ms d x (Some y) e1 e2 e3
 
-numbers-at : (k : Key) (name ns : List ℕ) (ms : Members) → get_member name ms ≡ Some (list_data number_data ns) → All (λ ty. ty < 32) ns → value_at k name integer_list (each (number_below 32)) ms ≡ Ok ns
+numbers-at : (k : Key) (name ns : List ℕ) (ms : Members)
+    → get_member name ms ≡ Some (list_data number_data ns) → All (λ ty. ty < 32) ns
+    → value_at k name integer_list (each (number_below 32)) ms ≡ Ok ns
 numbers-at k name ns ms e all =
-    value-read k name integer_list (each (number_below 32)) ms (list_data number_data ns) (map pos ns) ns e (numbers-read ns) (numbers-below 32 ns all)
+    value-read k name integer_list (each (number_below 32)) ms (list_data number_data ns) (map pos ns) ns e
+    (numbers-read ns) (numbers-below 32 ns all)
 
-vertices-at : (o : Order) (k : Key) (ps : List Point) (ms : Members) → get_member (codes "vertices") ms ≡ Some (list_data point_data ps) → All (IsFitPoint o) ps
+vertices-at : (o : Order) (k : Key) (ps : List Point) (ms : Members)
+    → get_member (codes "vertices") ms ≡ Some (list_data point_data ps) → All (IsFitPoint o) ps
     → value_at k (codes "vertices") (rows 4) (each (point_of o)) ms ≡ Ok ps
 vertices-at o k ps ms e all =
     value-read k (codes "vertices") (rows 4) (each (point_of o)) ms (list_data point_data ps) (map (λ p. p.c) ps) ps e
@@ -66,7 +70,8 @@ vertices-at o k ps ms e all =
 abbrev six : Child Point → List ℤ
 six c = pos c.kind ∷ pos c.motion.turn ∷ c.motion.shift.c
 
-children-at : (o : Order) (k : Key) (cs : List (Child Point)) (ms : Members) → get_member (codes "children") ms ≡ Some (list_data child_data cs) → All (IsFitChild o) cs
+children-at : (o : Order) (k : Key) (cs : List (Child Point)) (ms : Members)
+    → get_member (codes "children") ms ≡ Some (list_data child_data cs) → All (IsFitChild o) cs
     → value_at k (codes "children") (rows 6) (each (child_in_row o)) ms ≡ Ok cs
 children-at o k cs ms e all =
     value-read k (codes "children") (rows 6) (each (child_in_row o)) ms (list_data child_data cs) (map six cs) cs e
@@ -77,7 +82,8 @@ type-read : (ty : ℕ) (t : EdgeType) → IsFitType t → type_in ty (type_membe
 unfolding type_in
 type-read ty t h =
     rw (
-      value-read (key.Mate ty) (codes "mate") as_integer (number_below 32) (type_members t) (number_data t.mate) (pos t.mate) t.mate refl refl (below-read 32 t.mate h.mate),
+      value-read (key.Mate ty) (codes "mate") as_integer (number_below 32) (type_members t)
+          (number_data t.mate) (pos t.mate) t.mate refl refl (below-read 32 t.mate h.mate),
       numbers-at (key.Parts ty) (codes "parts") t.parts (type_members t) refl h.parts,
     ) refl
 
@@ -90,7 +96,8 @@ kind-read o n k h =
       children-at o (key.Children n) k.children (kind_members k) refl h.children,
     ) refl
 
-in_order-read : {A B : Type 0} (f : ℕ → A → Result B TextFault) (g : B → A) (n : ℕ) (xs : List B) → All (λ x. (i : ℕ) → f i (g x) ≡ Ok x) xs → in_order f n (map g xs) ≡ Ok xs
+in_order-read : {A B : Type 0} (f : ℕ → A → Result B TextFault) (g : B → A) (n : ℕ) (xs : List B)
+    → All (λ x. (i : ℕ) → f i (g x) ≡ Ok x) xs → in_order f n (map g xs) ≡ Ok xs
 in_order-read f g n [] all = refl
 in_order-read f g n (x ∷ xs) all = rw (all 0 x (omega arith) n, in_order-read f g (suc n) xs (λ k d lt. all (suc k) d (omega (arith, lt)))) refl
 
@@ -98,14 +105,16 @@ types-read : (x : ListedRule) → All IsFitType x.rule.types → types_in (rule_
 unfolding types_in
 types-read x all =
     let ts = x.rule.types in
-    rw (value-read key.TypeList (codes "type") tables Some (rule_members x) (list_data type_data ts) (map type_members ts) (map type_members ts) refl (tables-read type_members ts) refl)
+    rw (value-read key.TypeList (codes "type") tables Some (rule_members x) (list_data type_data ts)
+    (map type_members ts) (map type_members ts) refl (tables-read type_members ts) refl)
     (in_order-read type_in type_members 0 ts (λ k d lt. λ i. type-read i _ (all k d lt)))
 
 kinds-read : (x : ListedRule) → All (IsFitKind x.order) x.rule.kinds → kinds_in x.order (rule_members x) ≡ Ok x.rule.kinds
 unfolding kinds_in
 kinds-read x all =
     let ks = x.rule.kinds in
-    rw (value-read key.KindList (codes "kind") tables Some (rule_members x) (list_data kind_data ks) (map kind_members ks) (map kind_members ks) refl (tables-read kind_members ks) refl)
+    rw (value-read key.KindList (codes "kind") tables Some (rule_members x) (list_data kind_data ks)
+    (map kind_members ks) (map kind_members ks) refl (tables-read kind_members ks) refl)
     (in_order-read (kind_in x.order) kind_members 0 ks (λ k d lt. λ i. kind-read x.order i _ (all k d lt)))
 
 -- the whole document
@@ -118,8 +127,10 @@ rule-read x h not_six =
     let f = format_number x.edition in
     rw (
       value-read key.Format (codes "format") as_integer format_of ms (number_data f) (pos f) x.edition refl refl (format-read x.edition),
-      value-read key.Order (codes "order") as_integer (order_of x.edition) ms (number_data n) (pos n) x.order refl refl (order-read x.edition x.order not_six),
-      value-read key.Lambda (codes "lambda") (row 4) (point_of x.order) ms (point_data r.factor) r.factor.c r.factor refl (row-read 4 r.factor.c h.factor.four) (point-read x.order r.factor h.factor.small),
+      value-read key.Order (codes "order") as_integer (order_of x.edition) ms (number_data n) (pos n) x.order
+          refl refl (order-read x.edition x.order not_six),
+      value-read key.Lambda (codes "lambda") (row 4) (point_of x.order) ms (point_data r.factor) r.factor.c
+          r.factor refl (row-read 4 r.factor.c h.factor.four) (point-read x.order r.factor h.factor.small),
       numbers-at key.Glue (codes "glue") r.glue ms refl h.glue,
       types-read x h.types,
       kinds-read x h.kinds,

@@ -1,7 +1,7 @@
 -- The numbers of a rule within its limits are in range, and are read back.
 use Rattle.std.proofs.Common.{◌≡◌, ℕ, suc, ◌<◌, pos, true, List, ◌∷◌, All, map, Some, refl, arith}
 use Rattle.std.proofs.lemmas.Bool.{le-leb}
-use Rattle.substitution.specs.Rule.{Child}
+use Rattle.theory_substitution.specs.Rule.{Child}
 use Rattle.cyclo_points.specs.declared.order.Order.{Order}
 use Rattle.cyclo_points.specs.declared.order.Order.TheVariants.{Four, Six, Eight, Ten}
 use Rattle.cyclo_points.specs.declared.point.Point.{Point}

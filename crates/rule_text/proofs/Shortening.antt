@@ -21,11 +21,13 @@ pub leaves-map : {A B : Type 0} (n : ℕ) (f : A → B) (r : Read A) → Leaves 
 leaves-map n f None h = tt
 leaves-map n f (Some p) h = h
 
-pub leaves-then : {A B : Type 0} (n : ℕ) (r : Read A) (f : A × List ℕ → Read B) → Leaves n r → ((p : A × List ℕ) → length p.1 ≤ n → Leaves n (f p)) → Leaves n (option_and_then f r)
+pub leaves-then : {A B : Type 0} (n : ℕ) (r : Read A) (f : A × List ℕ → Read B) → Leaves n r
+    → ((p : A × List ℕ) → length p.1 ≤ n → Leaves n (f p)) → Leaves n (option_and_then f r)
 leaves-then n None f h more = tt
 leaves-then n (Some p) f h more = more p h
 
-pub leaves-text-then : {B : Type 0} (n : ℕ) (o : Option (List ℕ)) (f : List ℕ → Read B) → LeavesText n o → ((t : List ℕ) → length t ≤ n → Leaves n (f t)) → Leaves n (option_and_then f o)
+pub leaves-text-then : {B : Type 0} (n : ℕ) (o : Option (List ℕ)) (f : List ℕ → Read B) → LeavesText n o
+    → ((t : List ℕ) → length t ≤ n → Leaves n (f t)) → Leaves n (option_and_then f o)
 leaves-text-then n None f h more = tt
 leaves-text-then n (Some t) f h more = more t h
 
@@ -52,7 +54,8 @@ skip_from-short : (comments : Bool) (t : List ℕ) (inside : Bool) → length (s
 unfolding skip_from
 skip_from-short comments [] inside = omega arith
 skip_from-short comments (c ∷ cs) inside =
-    skip-turn (is_some (skip_turn comments inside c (first cs))) (skip_from comments (unwrap_or (skip_turn comments inside c (first cs)) false) cs) c cs
+    skip-turn (is_some (skip_turn comments inside c (first cs)))
+    (skip_from comments (unwrap_or (skip_turn comments inside c (first cs)) false) cs) c cs
     (skip_from-short comments cs (unwrap_or (skip_turn comments inside c (first cs)) false))
 
 pub skip_blank-short : (n : ℕ) (t : List ℕ) → length t ≤ n → length (skip_blank t) ≤ n
@@ -63,13 +66,16 @@ skip_blank-short n t h = omega (arith, h, skip_from-short true t false)
 hex_escape-leaves : (n k : ℕ) (t : List ℕ) → length t ≤ n → Leaves n (hex_escape k t)
 unfolding hex_escape
 hex_escape-leaves n k t h =
-    leaves-if n ((nat_le k (length t) && list_all (λ c. is_digit c 16) (take k t)) && is_scalar (digits_value 16 (take k t))) (Some (digits_value 16 (take k t), drop k t)) None (drop-short n k t h) tt
+    leaves-if n ((nat_le k (length t) && list_all (λ c. is_digit c 16) (take k t))
+    && is_scalar (digits_value 16 (take k t))) (Some (digits_value 16 (take k t), drop k t)) None
+    (drop-short n k t h) tt
 
 escape_char-leaves : (n : ℕ) (t : List ℕ) → length t ≤ n → Leaves n (escape_char t)
 unfolding escape_char
 escape_char-leaves n t h =
     leaves-if n (nat_lt 0 (hex_len (first t))) (hex_escape (hex_len (first t)) (drop 1 t)) (option_map (λ c. (c, drop 1 t)) (simple_escape (first t)))
-    (hex_escape-leaves n (hex_len (first t)) (drop 1 t) (drop-short n 1 t h)) (leaves-made n (simple_escape (first t)) (drop 1 t) (drop-short n 1 t h))
+    (hex_escape-leaves n (hex_len (first t)) (drop 1 t) (drop-short n 1 t h))
+    (leaves-made n (simple_escape (first t)) (drop 1 t) (drop-short n 1 t h))
 
 escape-leaves : (n : ℕ) (multi : Bool) (t : List ℕ) → length t ≤ n → Leaves n (escape multi t)
 unfolding escape
@@ -90,13 +96,15 @@ special-leaves n delim multi t h =
     let ended : Read (Option (List ℕ)) = Some (None, drop 1 t) in
     let newline : Read (Option (List ℕ)) = Some (Some (first t ∷ []), drop 1 t) in
     let escaped : Read (Option (List ℕ)) = option_map (λ p. (Some p.0, p.1)) (escape multi (drop 1 t)) in
-    leaves-if n (first t == delim) (cond multi (at_delims delim t) ended) (cond (first t == backslash) escaped (cond (multi && starts_newline t) newline None))
+    leaves-if n (first t == delim) (cond multi (at_delims delim t) ended)
+    (cond (first t == backslash) escaped (cond (multi && starts_newline t) newline None))
     (leaves-if n multi (at_delims delim t) ended (at_delims-leaves n delim t h) (drop-short n 1 t h))
     (leaves-if n (first t == backslash) escaped (cond (multi && starts_newline t) newline None)
     (leaves-map n (λ (bytes : List ℕ). Some bytes) (escape multi (drop 1 t)) (escape-leaves n multi (drop 1 t) (drop-short n 1 t h)))
     (leaves-if n (multi && starts_newline t) newline None (drop-short n 1 t h) tt))
 
-piece-leaves : (n : ℕ) (more : List ℕ → Read (List ℕ)) (o : Option (List ℕ)) (t : List ℕ) → length t ≤ n → ((s : List ℕ) → length s ≤ n → Leaves n (more s)) → Leaves n (after_piece more o t)
+piece-leaves : (n : ℕ) (more : List ℕ → Read (List ℕ)) (o : Option (List ℕ)) (t : List ℕ) → length t ≤ n
+    → ((s : List ℕ) → length s ≤ n → Leaves n (more s)) → Leaves n (after_piece more o t)
 piece-leaves n more None t h ih = h
 piece-leaves n more (Some bytes) t h ih = leaves-map n (λ s. bytes ++ s) (more t) (ih t h)
 
@@ -104,7 +112,8 @@ body-leaves : (n delim : ℕ) (multi : Bool) (m : ℕ) (t : List ℕ) → length
 unfolding body
 body-leaves n delim multi zero t h = tt
 body-leaves n delim multi (suc m) t h =
-    leaves-if n (is_plain delim multi (first t)) (prepend (first t ∷ []) (body delim multi m (drop 1 t))) (option_and_then (λ p. after_piece (body delim multi m) p.0 p.1) (special delim multi t))
+    leaves-if n (is_plain delim multi (first t)) (prepend (first t ∷ []) (body delim multi m (drop 1 t)))
+    (option_and_then (λ p. after_piece (body delim multi m) p.0 p.1) (special delim multi t))
     (leaves-map n (λ s. (first t ∷ []) ++ s) (body delim multi m (drop 1 t)) (body-leaves n delim multi m (drop 1 t) (drop-short n 1 t h)))
     (leaves-then n (special delim multi t) (λ p. after_piece (body delim multi m) p.0 p.1) (special-leaves n delim multi t h)
     (λ p k. piece-leaves n (body delim multi m) p.0 p.1 k (λ s l. body-leaves n delim multi m s l)))
@@ -115,7 +124,8 @@ if-short n false x y h k = k
 
 trim-short : (n : ℕ) (t : List ℕ) → length t ≤ n → length (trim_newline t) ≤ n
 trim-short n t h =
-    if-short n (first t == line_feed) (drop 1 t) (cond (starts_newline t) (drop 2 t) t) (drop-short n 1 t h) (if-short n (starts_newline t) (drop 2 t) t (drop-short n 2 t h) h)
+    if-short n (first t == line_feed) (drop 1 t) (cond (starts_newline t) (drop 2 t) t) (drop-short n 1 t h)
+    (if-short n (starts_newline t) (drop 2 t) t (drop-short n 2 t h) h)
 
 one_line-leaves : (n : ℕ) (t : List ℕ) → length t ≤ n → Leaves n (one_line t)
 unfolding one_line
@@ -139,10 +149,13 @@ key_after-leaves : (n m : ℕ) (path : List (List ℕ)) (t : List ℕ) → lengt
 unfolding key_after
 key_after-leaves n zero path t h = tt
 key_after-leaves n (suc m) path t h =
-    let more : List ℕ × List ℕ → Read Key = λ p. cond (first (skip_ws p.1) == dot) (key_after m (path ++ p.0 ∷ []) (skip_ws (drop 1 (skip_ws p.1)))) (Some ((path, p.0), skip_ws p.1)) in
+    let more : List ℕ × List ℕ → Read Key = λ p. cond (first (skip_ws p.1) == dot)
+    (key_after m (path ++ p.0 ∷ []) (skip_ws (drop 1 (skip_ws p.1)))) (Some ((path, p.0), skip_ws p.1)) in
     leaves-then n (simple_key t) more (simple_key-leaves n t h)
-    (λ p k. leaves-if n (first (skip_ws p.1) == dot) (key_after m (path ++ p.0 ∷ []) (skip_ws (drop 1 (skip_ws p.1)))) (Some ((path, p.0), skip_ws p.1))
-    (key_after-leaves n m (path ++ p.0 ∷ []) (skip_ws (drop 1 (skip_ws p.1))) (skip_ws-short n (drop 1 (skip_ws p.1)) (drop-short n 1 (skip_ws p.1) (skip_ws-short n p.1 k))))
+    (λ p k. leaves-if n (first (skip_ws p.1) == dot)
+    (key_after m (path ++ p.0 ∷ []) (skip_ws (drop 1 (skip_ws p.1)))) (Some ((path, p.0), skip_ws p.1))
+    (key_after-leaves n m (path ++ p.0 ∷ []) (skip_ws (drop 1 (skip_ws p.1)))
+    (skip_ws-short n (drop 1 (skip_ws p.1)) (drop-short n 1 (skip_ws p.1) (skip_ws-short n p.1 k))))
     (skip_ws-short n p.1 k))
 
 pub key-leaves : (n : ℕ) (t : List ℕ) → length t ≤ n → Leaves n (key t)

@@ -27,11 +27,13 @@ each-lost : {A B : Type 0} (f : A → Option B) (x : A) (xs : List A) → f x �
 each-lost f x xs e = rw e refl
 
 -- an item at number i is found
-pub each-more : {A B : Type 0} (f : A → Option B) (xs : List A) (i : ℕ) (x : A) (y : B) (done : List B) → i < length xs → x ≡ get_or xs i x → f x ≡ Some y
+pub each-more : {A B : Type 0} (f : A → Option B) (xs : List A) (i : ℕ) (x : A) (y : B) (done : List B)
+    → i < length xs → x ≡ get_or xs i x → f x ≡ Some y
     → behind done (each f (drop i xs)) ≡ each f xs → behind (done ++ y ∷ []) (each f (drop (i + 1) xs)) ≡ each f xs
 each-more f xs i x y done lt is e so_far =
     let front : drop i xs ≡ x ∷ drop (i + 1) xs = drop_more xs i x lt ∙ ap (λ (z : _). z ∷ drop (i + 1) xs) (sym is) in
-    sym (ap (λ zs. behind done (each f zs)) front ∙ ap (behind done) (each-found f x (drop (i + 1) xs) y e) ∙ regroup done y (each f (drop (i + 1) xs))) ∙ so_far
+    sym (ap (λ zs. behind done (each f zs)) front ∙ ap (behind done) (each-found f x (drop (i + 1) xs) y e)
+    ∙ regroup done y (each f (drop (i + 1) xs))) ∙ so_far
 
 -- an item at number i is not
 pub each-stop : {A B : Type 0} (f : A → Option B) (xs : List A) (i : ℕ) (x : A) (done : List B) → i < length xs → x ≡ get_or xs i x → f x ≡ None
@@ -41,6 +43,7 @@ each-stop f xs i x done lt is e so_far =
     sym (ap (λ zs. behind done (each f zs)) front ∙ ap (behind done) (each-lost f x (drop (i + 1) xs) e)) ∙ so_far
 
 -- all items are found
-pub each-end : {A B : Type 0} (f : A → Option B) (xs : List A) (i : ℕ) (done : List B) → length xs ≤ i → behind done (each f (drop i xs)) ≡ each f xs → Some done ≡ each f xs
+pub each-end : {A B : Type 0} (f : A → Option B) (xs : List A) (i : ℕ) (done : List B) → length xs ≤ i
+    → behind done (each f (drop i xs)) ≡ each f xs → Some done ≡ each f xs
 each-end f xs i done le so_far =
     sym (ap (λ zs. behind done (each f zs)) (drop_all i xs le) ∙ ap (λ zs. Some zs) (append-nil done)) ∙ so_far

@@ -1,6 +1,6 @@
 -- The rule that a document stands for, or its first fault.
 use Rattle.std.specs.Prelude.{ℕ, List, [], ◌∷◌, Some, Result, codes}
-use Rattle.substitution.specs.Rule.{EdgeType, Kind}
+use Rattle.theory_substitution.specs.Rule.{EdgeType, Kind}
 use Rattle.cyclo_points.specs.declared.order.Order.{Order}
 use Rattle.cyclo_points.specs.declared.point.Point.{Point}
 use Rattle.rule_model.specs.Tiling.{ListedRule}

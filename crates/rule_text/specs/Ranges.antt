@@ -1,7 +1,7 @@
 -- The ranges of numbers, and what numbers in range stand for.
 use Rattle.std.specs.Prelude.{ℕ, ℤ, pos, List, drop, get_or, Option, Some, None, nat_abs, int_le, int_lt, ◌&&◌, if◌then◌else◌}
 use Rattle.std.specs.Ordering.{int_eq}
-use Rattle.substitution.specs.Rule.{Child}
+use Rattle.theory_substitution.specs.Rule.{Child}
 use Rattle.cyclo_points.specs.declared.order.Order.{Order}
 use Rattle.cyclo_points.specs.declared.order.Order.TheVariants.{Four, Six, Eight, Ten}
 use Rattle.cyclo_points.specs.declared.point.Point.{Point}

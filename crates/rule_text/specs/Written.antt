@@ -2,7 +2,7 @@
 use Rattle.std.specs.Prelude.{◌≡◌, ℕ, pos, List, ◌∷◌, All, length, map, codes}
 use Rattle.std.specs.Ordering.{match_ordering, nat_cmp}
 use Rattle.std.specs.Cmp.Lexicographic.{slice_cmp}
-use Rattle.substitution.specs.Rule.{Child, EdgeType, Kind}
+use Rattle.theory_substitution.specs.Rule.{Child, EdgeType, Kind}
 use Rattle.cyclo_points.specs.declared.point.Point.{Point}
 use Rattle.cyclo_points.specs.Order.{points_of}
 use Rattle.toml.specs.Data.{Data, integer, array, table, Members, no_members, member}

@@ -21,7 +21,8 @@ pub(crate) fn integers(alloc: Global, value: &Value) -> Result<Option<Vec<i64>>,
 
 /// Returns the integers, if each value is one.
 fn integers_of(alloc: Global, values: &[Value]) -> Result<Option<Vec<i64>>, NoMemory>
-    ensures { IfOk result (λ found. option_map (λ v. v.items) found ≡ each (λ v. as_integer (view v)) values.now) }
+    ensures { IfOk result (λ found. option_map (λ v. v.items) found ≡ each (λ v. as_integer (view v))
+        values.now) }
 {
     let mut numbers = Vec::with_capacity(alloc, values.len())?;
     for value in values {
@@ -50,7 +51,8 @@ pub(crate) fn rows(
     value: &Value,
     len: usize,
 ) -> Result<Option<Vec<Vec<i64>>>, NoMemory>
-    ensures read { IfOk result (λ found. option_map (λ v. map (λ w. w.items) v.items) found ≡ rows len (view value.now)) }
+    ensures read { IfOk result (λ found. option_map (λ v. map (λ w. w.items) v.items) found ≡ rows len
+        (view value.now)) }
     ensures lens { IfOk result (λ found. IfSome found (λ v. All (λ w. length w.items ≡ len) v.items)) }
 {
     match value.as_array() {
@@ -61,7 +63,8 @@ pub(crate) fn rows(
 
 /// Returns the rows, if each value is an array of `len` integers.
 fn rows_of(alloc: Global, values: &[Value], len: usize) -> Result<Option<Vec<Vec<i64>>>, NoMemory>
-    ensures read { IfOk result (λ found. option_map (λ v. map (λ w. w.items) v.items) found ≡ each (λ v. row len (view v)) values.now) }
+    ensures read { IfOk result (λ found. option_map (λ v. map (λ w. w.items) v.items) found ≡ each
+        (λ v. row len (view v)) values.now) }
     ensures lens { IfOk result (λ found. IfSome found (λ v. All (λ w. length w.items ≡ len) v.items)) }
 {
     let mut rows = Vec::with_capacity(alloc, values.len())?;
@@ -76,7 +79,8 @@ fn rows_of(alloc: Global, values: &[Value], len: usize) -> Result<Option<Vec<Vec
 
 /// Returns the tables of an array of tables.
 pub(crate) fn tables(alloc: Global, value: &Value) -> Result<Option<Vec<&Table>>, NoMemory>
-    ensures { IfOk result (λ found. option_map (λ v. map (λ t. table_view t.now) v.items) found ≡ tables (view value.now)) }
+    ensures { IfOk result (λ found. option_map (λ v. map (λ t. table_view t.now) v.items) found ≡ tables
+        (view value.now)) }
 {
     match value.as_array() {
         Some(values) => tables_of(alloc, values.as_slice()),
@@ -86,7 +90,8 @@ pub(crate) fn tables(alloc: Global, value: &Value) -> Result<Option<Vec<&Table>>
 
 /// Returns the tables, if each value is one.
 fn tables_of(alloc: Global, values: &[Value]) -> Result<Option<Vec<&Table>>, NoMemory>
-    ensures { IfOk result (λ found. option_map (λ v. map (λ t. table_view t.now) v.items) found ≡ each (λ v. as_table (view v)) values.now) }
+    ensures { IfOk result (λ found. option_map (λ v. map (λ t. table_view t.now) v.items) found ≡ each
+        (λ v. as_table (view v)) values.now) }
 {
     let mut tables = Vec::with_capacity(alloc, values.len())?;
     for value in values {

@@ -32,7 +32,8 @@ fn value_named<'a>(table: &'a Table, name: &str) -> Option<&'a Value>
 /// Reads `format`, and returns its edition.
 #[tactic(auto, unfolding(crate::specs::Steps::value_at))]
 pub(crate) fn format(table: &Table) -> Result<Edition, TextFault>
-    ensures { ReadsAs (λ e. e) result (value_at Key.Format (codes "format") as_integer format_of (table_view table.now)) }
+    ensures { ReadsAs (λ e. e) result (value_at Key.Format (codes "format") as_integer format_of
+        (table_view table.now)) }
 {
     let key = Key::Format;
     let Some(value) = value_named(table, "format") else {
@@ -47,7 +48,8 @@ pub(crate) fn format(table: &Table) -> Result<Edition, TextFault>
 /// Reads `order`, which must be an order of the edition.
 #[tactic(auto, unfolding(crate::specs::Steps::value_at))]
 pub(crate) fn order(table: &Table, edition: Edition) -> Result<Order, TextFault>
-    ensures { ReadsAs (λ o. o) result (value_at Key.Order (codes "order") as_integer (order_of edition) (table_view table.now)) }
+    ensures { ReadsAs (λ o. o) result (value_at Key.Order (codes "order") as_integer (order_of edition)
+        (table_view table.now)) }
 {
     let key = Key::Order;
     let Some(value) = value_named(table, "order") else {
@@ -62,7 +64,8 @@ pub(crate) fn order(table: &Table, edition: Edition) -> Result<Order, TextFault>
 /// Reads `lambda`, the inflation factor: four coefficients.
 #[tactic(auto, unfolding(crate::specs::Steps::value_at))]
 pub(crate) fn lambda(alloc: Global, table: &Table, order: Order) -> Result<Point, TextFault>
-    ensures { ReadsAs (λ p. p) result (value_at Key.Lambda (codes "lambda") (row 4) (point_of order) (table_view table.now)) }
+    ensures { ReadsAs (λ p. p) result (value_at Key.Lambda (codes "lambda") (row 4) (point_of order)
+        (table_view table.now)) }
 {
     let key = Key::Lambda;
     let Some(value) = value_named(table, "lambda") else {
@@ -77,7 +80,8 @@ pub(crate) fn lambda(alloc: Global, table: &Table, order: Order) -> Result<Point
 /// Reads an edge type, from 0 to 31.
 #[tactic(auto, unfolding(crate::specs::Steps::value_at))]
 pub(crate) fn type_number(table: &Table, name: &str, key: Key) -> Result<u8, TextFault>
-    ensures { ReadsAs (λ n. n) result (value_at key name.now as_integer (number_below 32) (table_view table.now)) }
+    ensures { ReadsAs (λ n. n) result (value_at key name.now as_integer (number_below 32)
+        (table_view table.now)) }
 {
     let Some(value) = value_named(table, name) else {
         return Err(TextFault::Missing { key });
@@ -96,7 +100,8 @@ pub(crate) fn type_numbers(
     name: &str,
     key: Key,
 ) -> Result<Vec<u8>, TextFault>
-    ensures { ReadsAs (λ v. v.items) result (value_at key name.now integer_list (each (number_below 32)) (table_view table.now)) }
+    ensures { ReadsAs (λ v. v.items) result (value_at key name.now integer_list (each (number_below 32))
+        (table_view table.now)) }
 {
     let Some(value) = value_named(table, name) else {
         return Err(TextFault::Missing { key });
@@ -117,7 +122,8 @@ pub(crate) fn vertices(
     order: Order,
     key: Key,
 ) -> Result<Vec<Point>, TextFault>
-    ensures { ReadsAs (λ v. v.items) result (value_at key (codes "vertices") (rows 4) (each (point_of order)) (table_view table.now)) }
+    ensures { ReadsAs (λ v. v.items) result (value_at key (codes "vertices") (rows 4)
+        (each (point_of order)) (table_view table.now)) }
 {
     let Some(value) = value_named(table, "vertices") else {
         return Err(TextFault::Missing { key });
@@ -137,7 +143,8 @@ pub(crate) fn children(
     order: Order,
     key: Key,
 ) -> Result<Vec<Child>, TextFault>
-    ensures { ReadsAs (λ v. map as_child v.items) result (value_at key (codes "children") (rows 6) (each (child_in_row order)) (table_view table.now)) }
+    ensures { ReadsAs (λ v. map as_child v.items) result
+        (value_at key (codes "children") (rows 6) (each (child_in_row order)) (table_view table.now)) }
 {
     let Some(value) = value_named(table, "children") else {
         return Err(TextFault::Missing { key });
@@ -156,7 +163,8 @@ pub(crate) fn entries<'a>(
     name: &str,
     key: Key,
 ) -> Result<Vec<&'a Table>, TextFault>
-    ensures { ReadsAs (λ v. map (λ t. table_view t.now) v.items) result (value_at key name.now tables Some (table_view table.now)) }
+    ensures { ReadsAs (λ v. map (λ t. table_view t.now) v.items) result
+        (value_at key name.now tables Some (table_view table.now)) }
 {
     let Some(value) = value_named(table, name) else {
         return Err(TextFault::Missing { key });

@@ -108,7 +108,8 @@ pub(crate) fn points_of(
     rows: &[Vec<i64>],
 ) -> Result<Option<Vec<Point>>, NoMemory>
     requires { All (λ row. length row.items ≡ 4) rows.now }
-    ensures { IfOk result (λ found. option_map (λ v. v.items) found ≡ each (λ row. point_of order row.items) rows.now) }
+    ensures { IfOk result (λ found. option_map (λ v. v.items) found ≡ each (λ row. point_of order row.items)
+        rows.now) }
 {
     let mut points = Vec::with_capacity(alloc, rows.len())?;
     for row in rows {
@@ -139,7 +140,8 @@ pub(crate) fn children_of(
     rows: &[Vec<i64>],
 ) -> Result<Option<Vec<Child>>, NoMemory>
     requires { All (λ row. length row.items ≡ 6) rows.now }
-    ensures { IfOk result (λ found. option_map (λ v. map as_child v.items) found ≡ each (λ row. child_in_row order row.items) rows.now) }
+    ensures { IfOk result (λ found. option_map (λ v. map as_child v.items) found ≡ each
+        (λ row. child_in_row order row.items) rows.now) }
 {
     let mut children = Vec::with_capacity(alloc, rows.len())?;
     for row in rows {

@@ -61,7 +61,8 @@ fn kind_row(alloc: Global, entry: &Table, order: Order, kind: u32) -> Result<Kin
 /// Reads the entries of the edge types.
 fn type_rows(alloc: Global, entries: &[&Table]) -> Result<Vec<TypeRow>, TextFault>
     requires numbered { length entries.now < 2 ^ 32 }
-    ensures { ReadsAs (λ v. map as_type v.items) result (in_order (λ ty entry. type_in ty (table_view entry.now)) 0 entries.now) }
+    ensures { ReadsAs (λ v. map as_type v.items) result
+        (in_order (λ ty entry. type_in ty (table_view entry.now)) 0 entries.now) }
 {
     let mut rows = Vec::with_capacity(alloc, entries.len())?;
     for (i, entry) in entries.iter().enumerate() {
@@ -74,7 +75,8 @@ fn type_rows(alloc: Global, entries: &[&Table]) -> Result<Vec<TypeRow>, TextFaul
 /// Reads the entries of the kinds.
 fn kind_rows(alloc: Global, entries: &[&Table], order: Order) -> Result<Vec<KindRow>, TextFault>
     requires numbered { length entries.now < 2 ^ 32 }
-    ensures { ReadsAs (λ v. map as_kind v.items) result (in_order (λ kind entry. kind_in order kind (table_view entry.now)) 0 entries.now) }
+    ensures { ReadsAs (λ v. map as_kind v.items) result
+        (in_order (λ kind entry. kind_in order kind (table_view entry.now)) 0 entries.now) }
 {
     let mut rows = Vec::with_capacity(alloc, entries.len())?;
     for (i, entry) in entries.iter().enumerate() {
@@ -156,7 +158,8 @@ pub fn read_rule(alloc: Global, bytes: &[u8]) -> Result<Rule, TextFault>
     ensures fault { IfErr result (λ e. e ≢ TextFault.NoMemory → rule_in_file bytes.now ≡ Err e) }
 
     // Unless memory runs out, `NotToml` comes exactly if the bytes are not a TOML document.
-    ensures not_toml { result ≢ Err TextFault.NoMemory → (result ≡ Err TextFault.NotToml) ↔ (document_in bytes.now ≡ None) }
+    ensures not_toml { result ≢ Err TextFault.NoMemory → (result ≡ Err TextFault.NotToml)
+        ↔ (document_in bytes.now ≡ None) }
 {
     match toml::table_from_slice(alloc, bytes) {
         Ok(table) => rule_of(alloc, &table),

@@ -1,9 +1,9 @@
 -- Grown digits climb, and go on.
 use Rattle.std.proofs.Common.{◌≡◌, ℕ, zero, suc, ◌+◌, ◌%◌, ◌<◌, List, [], ◌∷◌, ◌++◌, length, get_or, slice_get, Some, refl, sym, ap, ap₂, ◌∙◌, arith, append_assoc, add-one, zero-add, mod-lt}
-use Rattle.addressing.specs.Address.{Step, Address, child_kind, top_kind, Climbs, Fits}
-use Rattle.frames.specs.Growth.{no_step, chosen, grown_from, grown_by}
-use Rattle.frames.proofs.Frames.{top_from-join, Climbs-join, Climbs-top}
-use Rattle.frames.proofs.Grown.{grown-next}
+use Rattle.theory_addresses.specs.Address.{Step, Address, child_kind, top_kind, Climbs, Fits}
+use Rattle.theory_frames.specs.Growth.{no_step, chosen, grown_from, grown_by}
+use Rattle.theory_frames.proofs.Frames.{top_from-join, Climbs-join, Climbs-top}
+use Rattle.theory_frames.proofs.Grown.{grown-next}
 use Rattle.tile_shape.specs.UsesInOrder.{uses_in_order}
 use Rattle.tile_shape.proofs.Parents.{parent_exists}
 
@@ -16,8 +16,11 @@ there (x ∷ xs) (suc i) d h = there xs i d (omega arith)
 module _ (children : List (List ℕ)) (word : ℕ → ℕ)
     (some : (kind : ℕ) → kind < length children → 0 < length (uses_in_order children kind))
     (child : (kind i : ℕ) (s : Step) → slice_get (uses_in_order children kind) i ≡ Some s → child_kind children s.parent s.child ≡ Some kind) where
-  chosen_climbs : (kind w : ℕ) → kind < length children → let d = chosen (uses_in_order children kind) w in child_kind children d.parent d.child ≡ Some kind
-  chosen_climbs kind w h = child kind (w % length (uses_in_order children kind)) _ (there (uses_in_order children kind) (w % length (uses_in_order children kind)) no_step (mod-lt w (some kind h)))
+  chosen_climbs : (kind w : ℕ) → kind < length children
+      → let d = chosen (uses_in_order children kind) w in child_kind children d.parent d.child ≡ Some kind
+  chosen_climbs kind w h = child kind (w % length (uses_in_order children kind)) _
+      (there (uses_in_order children kind) (w % length (uses_in_order children kind)) no_step
+      (mod-lt w (some kind h)))
 
   grown_climbs : (j top n : ℕ) → top < length children → Climbs children top (grown_from (uses_in_order children) word j top n)
   grown_climbs j top zero h = tt
@@ -33,7 +36,8 @@ module _ (children : List (List ℕ)) (word : ℕ → ℕ)
   }
 
 pub goes_on : (uses : ℕ → List Step) (word : ℕ → ℕ) (base : Address) (n : ℕ)
-    → (grown_by uses word (n + 1) base).digits ≡ (grown_by uses word n base).digits ++ chosen (uses (top_kind (grown_by uses word n base))) (word n) ∷ []
+    → (grown_by uses word (n + 1) base).digits ≡ (grown_by uses word n base).digits
+    ++ chosen (uses (top_kind (grown_by uses word n base))) (word n) ∷ []
 goes_on uses word base n =
     ap (λ m. base.digits ++ grown_from uses word 0 (top_kind base) m) (add-one n)
     ∙ ap (λ ds. base.digits ++ ds) (grown-next uses word 0 (top_kind base) n)

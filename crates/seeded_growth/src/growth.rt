@@ -1,7 +1,7 @@
 //! The stream of words that chooses digits.
 ghost use Rattle.std.specs.Prelude.{◌≡◌, ◌+◌, ◌<◌, ◌^◌, Some, IfOk, length};
-ghost use Rattle.addressing.specs.Address.{child_kind};
-ghost use Rattle.frames.specs.Growth.{chosen};
+ghost use Rattle.theory_addresses.specs.Address.{child_kind};
+ghost use Rattle.theory_frames.specs.Growth.{chosen};
 ghost use Rattle.tile_shape.specs.UsesInOrder.{uses_in_order};
 ghost use Rattle.tile_shape.specs.Views.{step_of};
 ghost use Rattle.seeded_growth.specs.Words.{word};
@@ -77,7 +77,8 @@ impl Growth {
     pub fn next_digit(&mut self, uses: &Uses, kind: u8) -> Step
         requires exists { kind < length uses.now }
         requires few_taken { self.old.taken < 2 ^ 32 }
-        ensures next { step_of result ≡ chosen (uses_in_order uses.now kind) (word self.old.start self.old.taken) }
+        ensures next { step_of result ≡ chosen (uses_in_order uses.now kind)
+            (word self.old.start self.old.taken) }
         ensures its_kind { child_kind uses.now result.parent result.child ≡ Some kind }
         ensures one_word { self.new.taken ≡ self.old.taken + 1 }
         ensures same_start { self.new.start ≡ self.old.start }

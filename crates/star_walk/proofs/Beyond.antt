@@ -1,12 +1,12 @@
 -- A turn grows the frame no deeper than is enough for the vertex.
 use Rattle.std.proofs.Common.{◌≡◌, ◌<◌, ◌≤◌, ℕ, List, length, slice_get, Some, IsTrue, sym, ap, ◌∙◌, subst}
 use Rattle.std.proofs.lemmas.List.{length-map}
-use Rattle.ordered_plane.specs.Plane.{PlanePoint}
-use Rattle.addressing.specs.Address.{Address}
-use Rattle.addressing.proofs.Ranges.{place-among}
+use Rattle.theory_plane.specs.Plane.{PlanePoint}
+use Rattle.theory_addresses.specs.Address.{Address}
+use Rattle.theory_addresses.proofs.Ranges.{place-among}
 use Rattle.cyclo_points.specs.Order.{NumberOf, points_of, is_refused}
-use Rattle.dissection.specs.Accepted.{AcceptedRule}
-use Rattle.dissection.specs.Polygons.{tile_polygon}
+use Rattle.theory_dissection.specs.Accepted.{AcceptedRule}
+use Rattle.theory_dissection.specs.Polygons.{tile_polygon}
 use Rattle.lazy_walk.specs.Ancestors.{full}
 use Rattle.lazy_walk.specs.Boundary.{IsBoundaryEdge}
 use Rattle.lazy_walk.specs.Frames.{FrameValue, IsFrameOf, GrowsTo, lifted_at}
@@ -14,17 +14,17 @@ use Rattle.lazy_walk.proofs.InFull.{names}
 use Rattle.lazy_walk.proofs.Walks.{StillFits}
 use Rattle.rule_model.specs.declared.rule.Rule.{Rule}
 use Rattle.rule_model.specs.Tiling.{Tiling, tiling_of, children}
-use Rattle.substitution.specs.Points.{Points}
-use Rattle.substitution.specs.RuleParts.{vertices_of, edge_count}
-use Rattle.substitution.specs.Supertile.{Placed}
+use Rattle.theory_substitution.specs.Points.{Points}
+use Rattle.theory_substitution.specs.RuleParts.{vertices_of, edge_count}
+use Rattle.theory_substitution.specs.Supertile.{Placed}
 use Rattle.tile_place.specs.Crossed.{edges_of}
 use Rattle.tile_place.proofs.Plane.{IsSettled, its_rule}
 use Rattle.tile_shape.specs.Views.{address_of}
-use Rattle.windows.specs.FramePatch.{growing_frame, frame_patch, in_frame, level_in, line_of}
-use Rattle.windows.specs.GrowingPatch.{GrowingPatch}
-use Rattle.windows.specs.Outlines.{PlaneEdge, edges, is_reverse}
-use Rattle.vertex_stars.specs.Corners.{edge_into, IsNext, Turns, last_corner}
-use Rattle.vertex_stars.proofs.CornerNumbers.{some-same}
+use Rattle.theory_windows.specs.FramePatch.{growing_frame, frame_patch, in_frame, level_in, line_of}
+use Rattle.theory_windows.specs.GrowingPatch.{GrowingPatch}
+use Rattle.theory_windows.specs.Outlines.{PlaneEdge, edges, is_reverse}
+use Rattle.theory_stars.specs.Corners.{edge_into, IsNext, Turns, last_corner}
+use Rattle.theory_stars.proofs.CornerNumbers.{some-same}
 use Rattle.star_walk.specs.declared.corner.Corner.{Corner}
 use Rattle.star_walk.specs.Corners.{CornerOf, vertex_of_base}
 use Rattle.star_walk.specs.Found.{its_edge, deepest_of, name_of, base_name, IsOnTheWay, HasTurned}

@@ -3,18 +3,18 @@ use Rattle.std.proofs.Common.{◌≡◌, ◌↔◌, ℕ, ◌*◌, ◌^◌, ◌<�
 use Rattle.std.specs.List.{AllByRecursion, AllZip}
 use Rattle.std.proofs.lemmas.List.{length-map}
 use Rattle.std.proofs.lemmas.List.Elements.{All-from_recursion}
-use Rattle.ordered_plane.specs.Plane.{PlanePoint}
-use Rattle.addressing.specs.Address.{Address, depth}
-use Rattle.addressing.proofs.Lists.{AllByRecursion-each}
+use Rattle.theory_plane.specs.Plane.{PlanePoint}
+use Rattle.theory_addresses.specs.Address.{Address, depth}
+use Rattle.theory_addresses.proofs.Lists.{AllByRecursion-each}
 use Rattle.cyclo_points.specs.declared.motion.Motion.{Motion}
 use Rattle.cyclo_points.specs.Order.{NumberOf, points_of, is_refused}
 use Rattle.cyclo_points.specs.Motion.{motion_in}
 use Rattle.cyclo_points.specs.Point.{IsOf, IsWithin}
 use Rattle.cyclo_points.proofs.Within.{point_wider}
-use Rattle.dissection.specs.Accepted.{AcceptedRule}
-use Rattle.frames.specs.Frame.{at_level, lifted_in, motion_beside, StandsInFrame}
-use Rattle.frames.proofs.Carried.{some_turn}
-use Rattle.frames.proofs.Frames.{IsWhole, lifted-whole, StandsInFrame-whole}
+use Rattle.theory_dissection.specs.Accepted.{AcceptedRule}
+use Rattle.theory_frames.specs.Frame.{at_level, lifted_in, motion_beside, StandsInFrame}
+use Rattle.theory_frames.proofs.Carried.{some_turn}
+use Rattle.theory_frames.proofs.Frames.{IsWhole, lifted-whole, StandsInFrame-whole}
 use Rattle.lazy_walk.specs.Ancestors.{full}
 use Rattle.lazy_walk.specs.Frames.{FrameValue, whole, IsFrameOf}
 use Rattle.lazy_walk.specs.Standing.{Stands}
@@ -23,19 +23,19 @@ use Rattle.lazy_walk.proofs.Walked.{whole-tile_of}
 use Rattle.lazy_walk.proofs.Walks.{StillFits, whole-fits}
 use Rattle.rule_model.specs.declared.rule.Rule.{Rule}
 use Rattle.rule_model.specs.Tiling.{Tiling, tiling_of, children}
-use Rattle.substitution.specs.Plane.{plane_point}
-use Rattle.substitution.specs.Points.{Points}
-use Rattle.substitution.specs.RuleParts.{vertex as vertex_at}
-use Rattle.substitution.specs.Supertile.{Placed}
+use Rattle.theory_substitution.specs.Plane.{plane_point}
+use Rattle.theory_substitution.specs.Points.{Points}
+use Rattle.theory_substitution.specs.RuleParts.{vertex as vertex_at}
+use Rattle.theory_substitution.specs.Supertile.{Placed}
 use Rattle.tile_place.specs.Crossed.{edges_of}
 use Rattle.tile_place.proofs.Plane.{IsSettled, its_rule}
 use Rattle.tile_shape.specs.Views.{address_of}
-use Rattle.windows.specs.FramePatch.{growing_frame, frame_patch, in_frame}
-use Rattle.windows.specs.GrowingPatch.{GrowingPatch}
-use Rattle.vertex_stars.specs.Corners.{IsCornerAt, IsTurn}
-use Rattle.vertex_stars.specs.FrameStar.{corner_named, lifted_corner, AreOfDepth, IsFrameStar}
-use Rattle.vertex_stars.specs.Round.{IsRound}
-use Rattle.vertex_stars.specs.GrownStar.{IsStar}
+use Rattle.theory_windows.specs.FramePatch.{growing_frame, frame_patch, in_frame}
+use Rattle.theory_windows.specs.GrowingPatch.{GrowingPatch}
+use Rattle.theory_stars.specs.Corners.{IsCornerAt, IsTurn}
+use Rattle.theory_stars.specs.FrameStar.{corner_named, lifted_corner, AreOfDepth, IsFrameStar}
+use Rattle.theory_stars.specs.Round.{IsRound}
+use Rattle.theory_stars.specs.GrownStar.{IsStar}
 use Rattle.star_walk.specs.declared.corner.Corner.{Corner}
 use Rattle.star_walk.specs.Causes.{most_corners, IsWithinLimits}
 use Rattle.star_walk.specs.Corners.{CornerOf, corner_in, vertex_of_base}
@@ -50,7 +50,8 @@ head-is e = cc (e)
 tail-is : {A : Type 0} {a b : A} {us vs : List A} → a ∷ us ≡ b ∷ vs → us ≡ vs
 tail-is e = cc (e)
 
-module _ (m : Rule) (settled : IsSettled m) (fits : StillFits (children (tiling_of m))) (L : HasStarLaws (points_of m.order)) (f : FrameValue) (is : IsFrameOf (tiling_of m) f) (i : ℕ)
+module _ (m : Rule) (settled : IsSettled m) (fits : StillFits (children (tiling_of m)))
+    (L : HasStarLaws (points_of m.order)) (f : FrameValue) (is : IsFrameOf (tiling_of m) f) (i : ℕ)
     (vertex : i < edges_of (tiling_of m) f.base.kind) (g : FrameValue) (corners : List Corner) (w : HasTurned (tiling_of m) f g i corners) where
   abbrev t : Tiling
   t = tiling_of m
@@ -92,7 +93,8 @@ module _ (m : Rule) (settled : IsSettled m) (fits : StillFits (children (tiling_
     b = address_of d.tile.addr
 
     own : IsWhole (children t) (whole g) b
-    own = subst (IsWhole (children t) (whole g)) (sym raised.its_address) (lifted-whole (children t) (whole g) a (whole-fits t fits g w.grows.is_frame) found.of_frame)
+    own = subst (IsWhole (children t) (whole g)) (sym raised.its_address)
+        (lifted-whole (children t) (whole g) a (whole-fits t fits g w.grows.is_frame) found.of_frame)
 
     renamed : in_frame P T.rule F b ≡ in_frame P T.rule F a
     renamed =
@@ -101,7 +103,8 @@ module _ (m : Rule) (settled : IsSettled m) (fits : StillFits (children (tiling_
 
     motion-is : motion_in m.order d.tile.motion ≡ (in_frame P T.rule F b).motion
     motion-is =
-        ap (motion_in m.order) raised.same_motion ∙ found.motion_is ∙ ap (λ y. (in_frame P T.rule y a).motion) (same-full m settled fits f is g w.grows)
+        ap (motion_in m.order) raised.same_motion ∙ found.motion_is
+        ∙ ap (λ y. (in_frame P T.rule y a).motion) (same-full m settled fits f is g w.grows)
         ∙ ap (λ (x : Placed (NumberOf m.order)). x.motion) (sym renamed)
 
     depth-is : depth b ≡ length g.digits
@@ -128,22 +131,28 @@ module _ (m : Rule) (settled : IsSettled m) (fits : StillFits (children (tiling_
         beside = ap (λ (y : Address). motion_beside P T.rule y.digits b.digits) (ap (at_level F) depth-is ∙ grown)
 
     pub shift-within : IsWithin (2 ^ 24) d.tile.motion.shift
-    shift-within = subst (λ (y : Motion). IsWithin (2 ^ 24) y.shift) (sym raised.same_motion) (point_wider (2 ^ 8 * most_corners) (2 ^ 24) _ (omega arith) found.shift_within)
+    shift-within = subst (λ (y : Motion). IsWithin (2 ^ 24) y.shift) (sym raised.same_motion)
+        (point_wider (2 ^ 8 * most_corners) (2 ^ 24) _ (omega arith) found.shift_within)
 
   -- ---- all corners
-  names-lifted : (cs ds : List Corner) → AllByRecursion (IsFound t g most_corners) cs → AllZip (IsRaised g) cs ds → map (lifted_corner F) (map (corner_in m.order) ds) ≡ map (name_of t f) cs
+  names-lifted : (cs ds : List Corner) → AllByRecursion (IsFound t g most_corners) cs
+      → AllZip (IsRaised g) cs ds → map (lifted_corner F) (map (corner_in m.order) ds) ≡ map (name_of t f) cs
   names-lifted [] [] h z = refl
   names-lifted [] (d ∷ ds) h z = absurd z
   names-lifted (c ∷ cs) [] h z = absurd z
-  names-lifted (c ∷ cs) (d ∷ ds) h z = ap₂ (λ (x : CornerOf t) (xs : List (CornerOf t)). x ∷ xs) (lifted-name c d h.0 z.0) (names-lifted cs ds h.1 z.1)
+  names-lifted (c ∷ cs) (d ∷ ds) h z = ap₂ (λ (x : CornerOf t) (xs : List (CornerOf t)). x ∷ xs)
+      (lifted-name c d h.0 z.0) (names-lifted cs ds h.1 z.1)
 
-  all-deep : (cs ds : List Corner) → AllByRecursion (IsFound t g most_corners) cs → AllZip (IsRaised g) cs ds → AreOfDepth (length g.digits) (map (corner_in m.order) ds)
+  all-deep : (cs ds : List Corner) → AllByRecursion (IsFound t g most_corners) cs → AllZip (IsRaised g) cs ds
+      → AreOfDepth (length g.digits) (map (corner_in m.order) ds)
   all-deep [] [] h z = tt
   all-deep [] (d ∷ ds) h z = absurd z
   all-deep (c ∷ cs) [] h z = absurd z
   all-deep (c ∷ cs) (d ∷ ds) h z = (depth-is c d h.0 z.0, all-deep cs ds h.1 z.1)
 
-  pub all-stand : (cs ds : List Corner) → AllByRecursion (IsFound t g most_corners) cs → AllZip (IsRaised g) cs ds → AllByRecursion (λ (d : Corner). Stands t g d.tile × IsWithin (2 ^ 24) d.tile.motion.shift) ds
+  pub all-stand : (cs ds : List Corner) → AllByRecursion (IsFound t g most_corners) cs
+      → AllZip (IsRaised g) cs ds → AllByRecursion
+      (λ (d : Corner). Stands t g d.tile × IsWithin (2 ^ 24) d.tile.motion.shift) ds
   all-stand [] [] h z = tt
   all-stand [] (d ∷ ds) h z = absurd z
   all-stand (c ∷ cs) [] h z = absurd z
@@ -164,9 +173,11 @@ module _ (m : Rule) (settled : IsSettled m) (fits : StillFits (children (tiling_
   pub within-limits : IsWithinLimits t f i
   within-limits =
       let d = deep m settled fits f is in
-      let all = L.whole G (L.simple T F (names m settled fits f is)) v (length f.digits) base (base-at m settled fits L f is i vertex) w.others w.turn in
+      let all = L.whole G (L.simple T F (names m settled fits f is)) v (length f.digits) base
+      (base-at m settled fits L f is i vertex) w.others w.turn in
       record {
-        enough = (L.off T F (names m settled fits f is) (is_refused m.order) v 64 (omega (arith, d))).0 (all.0 64 (omega (arith, w.depth_is, w.grows.is_frame.at_most_64)));
+        enough = (L.off T F (names m settled fits f is) (is_refused m.order) v 64 (omega (arith, d))).0
+            (all.0 64 (omega (arith, w.depth_is, w.grows.is_frame.at_most_64)));
         few = λ cs at. let h = all.1 cs at.distinct at.each in omega (arith, h, w.few, count);
       }
     where
@@ -195,13 +206,15 @@ module _ (m : Rule) (settled : IsSettled m) (fits : StillFits (children (tiling_
 
     frame-star : IsFrameStar P T.rule (whole g) v base' others'
     frame-star = subst (λ y. IsFrameStar P T.rule y v base' others') grown
-        (L.star T F (names m settled fits f is) (is_refused m.order) v (length f.digits) (length g.digits) within base' others' (all-deep corners (first ∷ rest) w.found z)
+        (L.star T F (names m settled fits f is) (is_refused m.order) v (length f.digits) (length g.digits)
+        within base' others' (all-deep corners (first ∷ rest) w.found z)
         (subst (IsStar P.real (Placed (NumberOf m.order)) G v (length f.digits) (length g.digits)) (sym same-names) star-named)
         (subst (λ y. IsTurn P.real (Placed (NumberOf m.order)) (frame_patch P T.rule F) y (map (lifted_corner F) others')) (sym first-is)
         (subst (IsTurn P.real (Placed (NumberOf m.order)) (frame_patch P T.rule F) base) (sym rest-is) w.turn)))
 
     round : AreRound t g i (map (corner_in m.order) (first ∷ rest))
-    round = subst (λ y. IsRound P.real (Placed (NumberOf m.order)) (frame_patch P T.rule (whole g)) y (base' ∷ others')) (sym vertex-same) frame-star.round
+    round = subst (λ y. IsRound P.real (Placed (NumberOf m.order)) (frame_patch P T.rule (whole g)) y
+        (base' ∷ others')) (sym vertex-same) frame-star.round
 
     in_turn : (c : Corner) (cs : List Corner) → corners ≡ c ∷ cs → AreInTurn t g i (map (corner_in m.order) (first ∷ rest))
     in_turn c cs e = record {
@@ -232,8 +245,11 @@ module _ (m : Rule) (settled : IsSettled m) (fits : StillFits (children (tiling_
         few : length f.digits ≤ depth F
         few = omega (arith, is.at_most_64, deep m settled fits f is)
 
-        law : (address_of first.tile.addr ≡ at_level F (length g.digits)) ↔ (corner_named P T.rule F (address_of first.tile.addr) first.vertex ≡ corner_named P T.rule F (at_level F (length f.digits)) i)
-        law = L.back T F (names m settled fits f is) v (length f.digits) (length g.digits) few within (address_of first.tile.addr) first.vertex i (depth-is c first h.0 one.0)
+        law : (address_of first.tile.addr ≡ at_level F (length g.digits))
+            ↔ (corner_named P T.rule F (address_of first.tile.addr) first.vertex ≡ corner_named P T.rule F
+            (at_level F (length f.digits)) i)
+        law = L.back T F (names m settled fits f is) v (length f.digits) (length g.digits) few within
+            (address_of first.tile.addr) first.vertex i (depth-is c first h.0 one.0)
             (subst AtF (sym named) (base-at m settled fits L f is i vertex).0) (subst AtF name-own (base-at m settled fits L f is i vertex).0)
 
   -- ---- as it is answered: there is a corner
@@ -260,7 +276,9 @@ module _ (m : Rule) (settled : IsSettled m) (fits : StillFits (children (tiling_
       subst (λ ds. AreInTurn t g i (map (corner_in m.order) ds)) (sym d.2) (in_turn d.0 d.1 (subst (AllZip (IsRaised g) corners) d.2 z) c.0 c.1 c.2)
 
   pub star-stands : (ds : List Corner) → AllZip (IsRaised g) corners ds → All (λ (c : Corner). Stands t g c.tile) ds
-  star-stands ds z = All-from_recursion (λ (c : Corner). Stands t g c.tile) ds (AllByRecursion-each _ (λ (c : Corner). Stands t g c.tile) ds (λ c h. h.0) (all-stand corners ds w.found z))
+  star-stands ds z = All-from_recursion (λ (c : Corner). Stands t g c.tile) ds
+      (AllByRecursion-each _ (λ (c : Corner). Stands t g c.tile) ds (λ c h. h.0)
+      (all-stand corners ds w.found z))
 
   pub star-within : (ds : List Corner) → AllZip (IsRaised g) corners ds → All (λ (c : Corner). IsWithin (2 ^ 24) c.tile.motion.shift) ds
   star-within ds z = All-from_recursion (λ (c : Corner). IsWithin (2 ^ 24) c.tile.motion.shift) ds

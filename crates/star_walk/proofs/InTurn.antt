@@ -23,7 +23,8 @@ below-as (o ∷ os) (x ∷ xs) zero h e = omega arith
 below-as (o ∷ os) (x ∷ xs) (suc i) h e = let k = below-as os xs i (omega arith) e in omega arith
 
 -- one more is written
-written : {A : Type 0} (R : A → A → Type 0) (old now : List A) (i : ℕ) (y d : A) → i < length now → AllZip R (take i old) (take i now) → drop i now ≡ drop i old → R (get_or old i d) y
+written : {A : Type 0} (R : A → A → Type 0) (old now : List A) (i : ℕ) (y d : A) → i < length now
+    → AllZip R (take i old) (take i now) → drop i now ≡ drop i old → R (get_or old i d) y
     → AllZip R (take (suc i) old) (take (suc i) (set now i y)) × (drop (suc i) (set now i y) ≡ drop (suc i) old)
 written R old [] i y d h z e r = absurd (omega arith)
 written R [] (x ∷ xs) zero y d h z e r = absurd (cc e)
@@ -34,7 +35,8 @@ written R (o ∷ os) (x ∷ xs) zero y d h z e r = ((r, tt), tail e)
     tail e = cc (e)
 written R (o ∷ os) (x ∷ xs) (suc i) y d h z e r = let k = written R os xs i y d (omega arith) z.1 e r in ((z.0, k.0), k.1)
 
-pub one-more : {A : Type 0} (R : A → A → Type 0) (old now : List A) (i : ℕ) (y d : A) → i < length now → AllZip R (take i old) (take i now) → drop i now ≡ drop i old → R (get_or old i d) y
+pub one-more : {A : Type 0} (R : A → A → Type 0) (old now : List A) (i : ℕ) (y d : A) → i < length now
+    → AllZip R (take i old) (take i now) → drop i now ≡ drop i old → R (get_or old i d) y
     → AllZip R (take (i + 1) old) (take (i + 1) (set now i y)) × (drop (i + 1) (set now i y) ≡ drop (i + 1) old)
 one-more R old now i y d h z e r =
     let next : suc i ≡ i + 1 = omega arith in

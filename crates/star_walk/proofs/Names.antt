@@ -1,15 +1,15 @@
 -- Tiles of a frame by the names that they have at depth 64, and the crossing from a corner to the next one.
 use Rattle.std.proofs.Common.{◌≡◌, ℕ, ◌+◌, ◌*◌, ◌<◌, ◌≤◌, ◌^◌, max, length, sym, ap, ◌∙◌, subst, arith}
-use Rattle.addressing.specs.Address.{Address}
-use Rattle.addressing.specs.Tables.{child_kinds}
+use Rattle.theory_addresses.specs.Address.{Address}
+use Rattle.theory_addresses.specs.Tables.{child_kinds}
 use Rattle.cyclo_points.specs.Order.{NumberOf, points_of}
 use Rattle.cyclo_points.proofs.Within.{point_wider}
-use Rattle.dissection.specs.Accepted.{AcceptedRule}
-use Rattle.dissection.specs.Across.{IsTileAcross}
-use Rattle.dissection.specs.OnBoundary.{IsOnBoundary}
-use Rattle.dissection.specs.TileEdges.{tile_at}
-use Rattle.edge_to_edge.specs.Contacts.{tables_of}
-use Rattle.frames.specs.Frame.{IsTileOf, lifted_in}
+use Rattle.theory_dissection.specs.Accepted.{AcceptedRule}
+use Rattle.theory_dissection.specs.Across.{IsTileAcross}
+use Rattle.theory_dissection.specs.OnBoundary.{IsOnBoundary}
+use Rattle.theory_dissection.specs.TileEdges.{tile_at}
+use Rattle.theory_edge_to_edge.specs.Contacts.{tables_of}
+use Rattle.theory_frames.specs.Frame.{IsTileOf, lifted_in}
 use Rattle.lazy_walk.specs.Ancestors.{full}
 use Rattle.lazy_walk.specs.Crossed.{IsCrossedTo}
 use Rattle.lazy_walk.specs.Frames.{FrameValue, whole, at_depth, IsFrameOf, GrowsTo}
@@ -20,20 +20,21 @@ use Rattle.lazy_walk.proofs.Lifting.{IsTileOf-later}
 use Rattle.lazy_walk.proofs.Walks.{StillFits, later}
 use Rattle.rule_model.specs.declared.rule.Rule.{Rule}
 use Rattle.rule_model.specs.Tiling.{Tiling, tiling_of, children}
-use Rattle.substitution.specs.Motion.{followed}
-use Rattle.substitution.specs.Points.{Points}
-use Rattle.substitution.specs.RuleParts.{edge_count}
-use Rattle.substitution.specs.Supertile.{Placed}
+use Rattle.theory_substitution.specs.Motion.{followed}
+use Rattle.theory_substitution.specs.Points.{Points}
+use Rattle.theory_substitution.specs.RuleParts.{edge_count}
+use Rattle.theory_substitution.specs.Supertile.{Placed}
 use Rattle.tile_place.proofs.Plane.{IsSettled, its_rule}
 use Rattle.tile_shape.specs.Views.{address_of}
-use Rattle.windows.specs.FramePatch.{in_frame, level_in, frame_patch}
-use Rattle.windows.specs.FrameSearch.{IsGrownCrossing}
-use Rattle.vertex_stars.specs.Corners.{IsNext}
+use Rattle.theory_windows.specs.FramePatch.{in_frame, level_in, frame_patch}
+use Rattle.theory_windows.specs.FrameSearch.{IsGrownCrossing}
+use Rattle.theory_stars.specs.Corners.{IsNext}
 use Rattle.star_walk.specs.declared.corner.Corner.{Corner}
 use Rattle.star_walk.specs.Found.{its_edge, IsFound, name_of}
 use Rattle.star_walk.specs.StarLaws.{HasStarLaws}
 
-module _ (m : Rule) (settled : IsSettled m) (fits : StillFits (children (tiling_of m))) (L : HasStarLaws (points_of m.order)) (f : FrameValue) (is : IsFrameOf (tiling_of m) f) where
+module _ (m : Rule) (settled : IsSettled m) (fits : StillFits (children (tiling_of m)))
+    (L : HasStarLaws (points_of m.order)) (f : FrameValue) (is : IsFrameOf (tiling_of m) f) where
   abbrev t : Tiling
   t = tiling_of m
 
@@ -47,7 +48,9 @@ module _ (m : Rule) (settled : IsSettled m) (fits : StillFits (children (tiling_
   F = full t f
 
   module _ (g : FrameValue) (h : GrowsTo t f g) where
-    module _ (a b : Corner) (n : ℕ) (found : IsFound t f n a) (vertex_exists : its_edge t a < edge_count T.rule a.tile.addr.kind) (x : IsCrossedTo t f g (address_of a.tile.addr) a.tile.motion (its_edge t a) b.tile b.vertex) where
+    module _ (a b : Corner) (n : ℕ) (found : IsFound t f n a)
+        (vertex_exists : its_edge t a < edge_count T.rule a.tile.addr.kind)
+        (x : IsCrossedTo t f g (address_of a.tile.addr) a.tile.motion (its_edge t a) b.tile b.vertex) where
       abbrev own : Address
       own = address_of a.tile.addr
 
@@ -59,16 +62,27 @@ module _ (m : Rule) (settled : IsSettled m) (fits : StillFits (children (tiling_
         frame = names m settled fits f is;
         not_below = h.no_shallower;
         within = omega (arith, h.is_frame.at_most_64, deep m settled fits f is);
-        tile = subst (λ y. IsTileOf (child_kinds (tables_of P T.rule)) y own) (sym (level-own m settled fits f is)) (by_tables m settled fits f is (whole f) own found.of_frame);
+        tile = subst (λ y. IsTileOf (child_kinds (tables_of P T.rule)) y own)
+            (sym (level-own m settled fits f is)) (by_tables m settled fits f is (whole f) own
+            found.of_frame);
         edge_exists = vertex_exists;
-        across = subst (λ y. IsTileAcross P T.rule (tile_at P T.rule (lifted_in y own)) (its_edge t a) (tile_at P T.rule other) b.vertex) (sym (level-grown m settled fits f is g h)) x.only_tile_across.across;
+        across = subst (λ y. IsTileAcross P T.rule (tile_at P T.rule (lifted_in y own)) (its_edge t a)
+            (tile_at P T.rule other) b.vertex) (sym (level-grown m settled fits f is g h))
+            x.only_tile_across.across;
         least = λ k l j.
-            let on = boundary-part m fits f own is found.of_frame settled (its_edge t a) vertex_exists (at_depth t k f) (later t f k is l (omega (arith, j, h.is_frame.at_most_64))) (x.least k l j) in
-            (on.0, on.1, subst (λ y. IsOnBoundary P T.rule (tile_at P T.rule (lifted_in y own)) (its_edge t a) on.0 on.1) (sym (level-at t f is k l (omega (arith, j, h.is_frame.at_most_64)))) on.2);
+            let on = boundary-part m fits f own is found.of_frame settled (its_edge t a) vertex_exists
+            (at_depth t k f) (later t f k is l (omega (arith, j, h.is_frame.at_most_64)))
+            (x.least k l j) in (
+              on.0,
+              on.1,
+              subst (λ y. IsOnBoundary P T.rule (tile_at P T.rule (lifted_in y own)) (its_edge t a)
+                  on.0 on.1) (sym (level-at t f is k l (omega (arith, j, h.is_frame.at_most_64)))) on.2,
+            );
       }
 
       -- it is the next corner, and the frame has grown to its level, where it wasn't as deep already
-      pub next-named : IsNext P.real (Placed (NumberOf m.order)) (frame_patch P T.rule F) (name_of t f a) (name_of t f b) × (max (length f.digits) (level_in F (lifted_in F other)) ≡ length g.digits)
+      pub next-named : IsNext P.real (Placed (NumberOf m.order)) (frame_patch P T.rule F) (name_of t f a)
+          (name_of t f b) × (max (length f.digits) (level_in F (lifted_in F other)) ≡ length g.digits)
       next-named = L.next T F (length f.digits) (length g.digits) own a.vertex other b.vertex grown
 
       -- and found in its place

@@ -1,15 +1,15 @@
 -- Why a vertex has no star, and where it has one.
 use Rattle.std.specs.Prelude.{◌≡◌, ℕ, suc, ◌≤◌, List, length}
 use Rattle.cyclo_points.specs.Order.{points_of}
-use Rattle.substitution.specs.RuleParts.{edge_count}
+use Rattle.theory_substitution.specs.RuleParts.{edge_count}
 use Rattle.rule_model.specs.Tiling.{Tiling}
 use Rattle.tile_shape.specs.declared.address.Address.{Address}
 use Rattle.tile_shape.specs.Views.{address_of}
 use Rattle.lazy_walk.specs.Ancestors.{full}
 use Rattle.lazy_walk.specs.Boundary.{IsBoundaryEdge}
 use Rattle.lazy_walk.specs.Frames.{FrameValue, whole}
-use Rattle.vertex_stars.specs.Corners.{edge_into}
-use Rattle.vertex_stars.specs.FrameStar.{AreAtVertex}
+use Rattle.theory_stars.specs.Corners.{edge_into}
+use Rattle.theory_stars.specs.FrameStar.{AreAtVertex}
 use Rattle.star_walk.specs.declared.star_fault.StarFault.{StarFault}
 use Rattle.star_walk.specs.declared.star_fault.StarFault.TheVariants.{DepthLimit, TooBig}
 use Rattle.star_walk.specs.Corners.{CornerOf, vertex_of_base, IsAtVertex}

@@ -1,16 +1,16 @@
 -- Corners of the program in the words of the theory, and the vertex of the base round which they lie.
 use Rattle.std.specs.Prelude.{ℕ}
-use Rattle.ordered_plane.specs.Plane.{PlanePoint}
+use Rattle.theory_plane.specs.Plane.{PlanePoint}
 use Rattle.cyclo_points.specs.declared.order.Order.{Order}
 use Rattle.cyclo_points.specs.Order.{NumberOf, points_of}
-use Rattle.substitution.specs.Plane.{plane_point}
-use Rattle.substitution.specs.RuleParts.{vertex}
-use Rattle.substitution.specs.Supertile.{Placed}
-use Rattle.windows.specs.FramePatch.{frame_patch}
+use Rattle.theory_substitution.specs.Plane.{plane_point}
+use Rattle.theory_substitution.specs.RuleParts.{vertex}
+use Rattle.theory_substitution.specs.Supertile.{Placed}
+use Rattle.theory_windows.specs.FramePatch.{frame_patch}
 use Rattle.rule_model.specs.Tiling.{Tiling}
 use Rattle.tile_place.specs.Searched.{placed_in}
 use Rattle.lazy_walk.specs.Frames.{FrameValue, whole}
-use Rattle.vertex_stars.specs.Corners.{Corner as TheCorner, IsCornerAt}
+use Rattle.theory_stars.specs.Corners.{Corner as TheCorner, IsCornerAt}
 use Rattle.star_walk.specs.declared.corner.Corner.{Corner}
 
 -- a corner of a tile that is known by its address and its motion

@@ -1,21 +1,21 @@
 -- The turn on its way: the corners found so far, by the names that their tiles have at depth 64.
 use Rattle.std.specs.Prelude.{◌≡◌, ℕ, ◌<◌, ◌≤◌, ◌*◌, ◌^◌, List, ◌∷◌, map, length}
 use Rattle.std.specs.List.{AllByRecursion}
-use Rattle.addressing.specs.Search.{IsAmong}
+use Rattle.theory_addresses.specs.Search.{IsAmong}
 use Rattle.cyclo_points.specs.Order.{NumberOf, points_of, is_refused}
 use Rattle.cyclo_points.specs.Point.{IsOf, IsWithin}
 use Rattle.cyclo_points.specs.Motion.{motion_in}
-use Rattle.substitution.specs.RuleParts.{edge_count}
-use Rattle.substitution.specs.Supertile.{Placed}
-use Rattle.frames.specs.Frame.{IsTileOf, lifted_in}
-use Rattle.windows.specs.FramePatch.{frame_patch, growing_frame, in_frame}
+use Rattle.theory_substitution.specs.RuleParts.{edge_count}
+use Rattle.theory_substitution.specs.Supertile.{Placed}
+use Rattle.theory_frames.specs.Frame.{IsTileOf, lifted_in}
+use Rattle.theory_windows.specs.FramePatch.{frame_patch, growing_frame, in_frame}
 use Rattle.rule_model.specs.Tiling.{Tiling, children}
 use Rattle.tile_shape.specs.Views.{address_of}
 use Rattle.lazy_walk.specs.Ancestors.{full}
 use Rattle.lazy_walk.specs.Frames.{FrameValue, whole, GrowsTo}
-use Rattle.vertex_stars.specs.Corners.{edge_into, Turns, last_corner, IsTurn}
-use Rattle.vertex_stars.specs.FrameStar.{corner_named}
-use Rattle.vertex_stars.specs.GrownStar.{deepest}
+use Rattle.theory_stars.specs.Corners.{edge_into, Turns, last_corner, IsTurn}
+use Rattle.theory_stars.specs.FrameStar.{corner_named}
+use Rattle.theory_stars.specs.GrownStar.{deepest}
 use Rattle.star_walk.specs.declared.corner.Corner.{Corner}
 use Rattle.star_walk.specs.Causes.{most_corners}
 use Rattle.star_walk.specs.Corners.{CornerOf}

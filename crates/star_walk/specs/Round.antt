@@ -1,14 +1,14 @@
 -- The tiles around a vertex of the base, turning order, and the least depth that is enough for the vertex.
 use Rattle.std.specs.Prelude.{◌≡◌, ℕ, List, ◌∷◌, length}
 use Rattle.cyclo_points.specs.Order.{NumberOf, points_of}
-use Rattle.substitution.specs.Supertile.{Placed}
-use Rattle.windows.specs.FramePatch.{frame_patch}
+use Rattle.theory_substitution.specs.Supertile.{Placed}
+use Rattle.theory_windows.specs.FramePatch.{frame_patch}
 use Rattle.rule_model.specs.Tiling.{Tiling}
 use Rattle.lazy_walk.specs.Ancestors.{full}
 use Rattle.lazy_walk.specs.Frames.{FrameValue, whole}
-use Rattle.vertex_stars.specs.Corners.{IsTurn}
-use Rattle.vertex_stars.specs.OnPolygon.{IsOffFrame, IsLeastOff}
-use Rattle.vertex_stars.specs.Round.{IsRound}
+use Rattle.theory_stars.specs.Corners.{IsTurn}
+use Rattle.theory_stars.specs.OnPolygon.{IsOffFrame, IsLeastOff}
+use Rattle.theory_stars.specs.Round.{IsRound}
 use Rattle.star_walk.specs.Corners.{CornerOf, vertex_of_base}
 
 -- these are exactly the tiles of the frame, at the depth that it has, that have vertex i of the base among

@@ -1,10 +1,10 @@
 -- The laws on which the turn rests.
-use Rattle.substitution.specs.Points.{Points, PointLaws}
-use Rattle.windows.specs.FrameLaws.{LinesLaw}
-use Rattle.windows.specs.FrameSearch.{RenamedLaw, GluedCrossingLaw, LastBoundaryLaw}
-use Rattle.vertex_stars.specs.FrameStar.{SimpleFrameLaw, FrameNextLaw, FrameStarLaw, FrameCornersLaw, FrameBaseLaw, FrameBackLaw, TurnStopLaw}
-use Rattle.vertex_stars.specs.Laws.{AnswerLaw, OnwardLaw, WholeStarLaw, CountLaw}
-use Rattle.vertex_stars.specs.OnPolygon.{FrameOffLaw, FrameLeastLaw}
+use Rattle.theory_substitution.specs.Points.{Points, PointLaws}
+use Rattle.theory_windows.specs.FrameLaws.{LinesLaw}
+use Rattle.theory_windows.specs.FrameSearch.{RenamedLaw, GluedCrossingLaw, LastBoundaryLaw}
+use Rattle.theory_stars.specs.FrameStar.{SimpleFrameLaw, FrameNextLaw, FrameStarLaw, FrameCornersLaw, FrameBaseLaw, FrameBackLaw, TurnStopLaw}
+use Rattle.theory_stars.specs.Laws.{AnswerLaw, OnwardLaw, WholeStarLaw, CountLaw}
+use Rattle.theory_stars.specs.OnPolygon.{FrameOffLaw, FrameLeastLaw}
 
 -- of points; of names, edges and gluing in frames; and of the turn
 pub record HasStarLaws (P : Points) : Type 0 where

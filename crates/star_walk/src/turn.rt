@@ -1,7 +1,7 @@
 //! The tiles around a vertex.
 ghost use Rattle.std.specs.Prelude.{◌≡◌, ◌<◌, ◌≤◌, ◌^◌, ℕ, ◌↔◌, All, [], length, map, IsTrue, IsOk, IfOk, IfErr, OnOk, OnErr};
 ghost use Rattle.std.specs.List.{AllZip};
-ghost use Rattle.addressing.specs.Address.{depth};
+ghost use Rattle.theory_addresses.specs.Address.{depth};
 ghost use Rattle.cyclo_points.specs.Point.{IsWithin};
 ghost use Rattle.tile_shape.specs.Views.{address_of};
 ghost use Rattle.rule_model.specs.Tiling.{tiling_of};
@@ -59,11 +59,16 @@ impl Star {
 
         // Exactly the tiles of the frame that have the vertex, each exactly once and in its place, with the
         // number of the vertex there. They are in turning order, and the last one leads back to the base.
-        ensures round { OnOk result (AreRound (tiling_of machine.now) frame.new vertex (map (corner_in machine.now.order) self.new.corners.items)) }
-        ensures turning { OnOk result (AreInTurn (tiling_of machine.now) frame.new vertex (map (corner_in machine.now.order) self.new.corners.items)) }
-        ensures stand { OnOk result (All (λ (c : Corner). Stands (tiling_of machine.now) frame.new c.tile) self.new.corners.items) }
-        ensures shifts_within { OnOk result (All (λ (c : Corner). IsWithin (2 ^ 24) c.tile.motion.shift) self.new.corners.items) }
-        ensures least { OnOk result (IsLeastEnough (tiling_of machine.now) frame.old vertex (length frame.new.digits)) }
+        ensures round { OnOk result (AreRound (tiling_of machine.now) frame.new vertex
+            (map (corner_in machine.now.order) self.new.corners.items)) }
+        ensures turning { OnOk result (AreInTurn (tiling_of machine.now) frame.new vertex
+            (map (corner_in machine.now.order) self.new.corners.items)) }
+        ensures stand { OnOk result (All (λ (c : Corner). Stands (tiling_of machine.now) frame.new c.tile)
+            self.new.corners.items) }
+        ensures shifts_within { OnOk result (All (λ (c : Corner). IsWithin (2 ^ 24) c.tile.motion.shift)
+            self.new.corners.items) }
+        ensures least { OnOk result (IsLeastEnough (tiling_of machine.now) frame.old vertex
+            (length frame.new.digits)) }
 
         // The call succeeds if and only if depth 64 is enough and at most 64 tiles have the vertex there.
         // Each error comes only for its cause, and leaves no tile.
@@ -108,11 +113,16 @@ pub fn star<L: Ledger>(
 
     // Exactly the tiles of the frame that have the vertex, each exactly once and in its place, with the
     // number of the vertex there. They are in turning order, and the last one leads back to the base.
-    ensures round { IfOk result (λ star. AreRound (tiling_of machine.now) frame.new vertex (map (corner_in machine.now.order) star.corners.items)) }
-    ensures turning { IfOk result (λ star. AreInTurn (tiling_of machine.now) frame.new vertex (map (corner_in machine.now.order) star.corners.items)) }
-    ensures stand { IfOk result (λ star. All (λ (c : Corner). Stands (tiling_of machine.now) frame.new c.tile) star.corners.items) }
-    ensures shifts_within { IfOk result (λ star. All (λ (c : Corner). IsWithin (2 ^ 24) c.tile.motion.shift) star.corners.items) }
-    ensures least { OnOk result (IsLeastEnough (tiling_of machine.now) frame.old vertex (length frame.new.digits)) }
+    ensures round { IfOk result (λ star. AreRound (tiling_of machine.now) frame.new vertex
+        (map (corner_in machine.now.order) star.corners.items)) }
+    ensures turning { IfOk result (λ star. AreInTurn (tiling_of machine.now) frame.new vertex
+        (map (corner_in machine.now.order) star.corners.items)) }
+    ensures stand { IfOk result (λ star. All (λ (c : Corner). Stands (tiling_of machine.now) frame.new
+        c.tile) star.corners.items) }
+    ensures shifts_within { IfOk result (λ star. All (λ (c : Corner). IsWithin (2 ^ 24) c.tile.motion.shift)
+        star.corners.items) }
+    ensures least { OnOk result (IsLeastEnough (tiling_of machine.now) frame.old vertex
+        (length frame.new.digits)) }
 
     // The call succeeds if and only if depth 64 is enough and at most 64 tiles have the vertex there. Each
     // error comes only for its cause.
@@ -140,7 +150,8 @@ fn turn<L: Ledger>(
     ensures frame { GrowsTo (tiling_of machine.now) frame.old frame.new }
     ensures not_beyond { (n : ℕ) → IsLeastEnough (tiling_of machine.now) frame.old vertex n
         → length frame.new.digits ≤ n }
-    ensures turned { OnOk result (HasTurned (tiling_of machine.now) frame.old frame.new vertex corners.new.items) }
+    ensures turned { OnOk result (HasTurned (tiling_of machine.now) frame.old frame.new vertex
+        corners.new.items) }
     ensures cause { IfErr result (λ fault. HasCause (tiling_of machine.now) frame.new vertex fault) }
     ensures answered { IsWithinLimits (tiling_of machine.now) frame.old vertex → IsOk result }
 {
@@ -173,7 +184,8 @@ fn is_base(frame: &Frame, addr: &Address) -> bool
 
 /// Lifts the tiles of corners to the depth of the frame.
 fn raise_all(frame: &Frame, corners: &mut [Corner])
-    requires no_deeper { All (λ (c : Corner). depth (address_of c.tile.addr) ≤ length frame.now.digits) corners.old }
+    requires no_deeper { All (λ (c : Corner). depth (address_of c.tile.addr) ≤ length frame.now.digits)
+        corners.old }
     ensures raised { AllZip (IsRaised frame.now) corners.old corners.new }
 {
     for corner in corners.iter_mut() {

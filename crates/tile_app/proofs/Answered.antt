@@ -35,7 +35,8 @@ can_be_answered : (c : Call) (text : List ℕ) → Prints c text → CanBeAnswer
 can_be_answered c text p = record { request = p.request; tiling = p.tiling; asks = p.asks; holds = can p.request c.file p.tiling text p.holds }
 
 -- equal words, with equal layers, make the same call
-pub same_asked : {D : Type 0} (form : D → Format) (words other : List (List ℕ)) (layers had : List D) (left : Option (List ℕ)) (c : Call) → IsAsked other (map form had) left c
+pub same_asked : {D : Type 0} (form : D → Format) (words other : List (List ℕ)) (layers had : List D)
+    (left : Option (List ℕ)) (c : Call) → IsAsked other (map form had) left c
     → words ≡ other → layers ≡ had → IsAsked words (map form layers) left c
 same_asked form words other layers had left c h e f =
     subst (λ ds. IsAsked words (map form ds) left c) (sym f) (subst (λ ws. IsAsked ws (map form had) left c) (sym e) h)
@@ -58,7 +59,9 @@ module _ (words : List (List ℕ)) (handed : List Format) (left rest : Option (L
     -- what was asked is short enough, so it is the same call
     same_short : (d : Call) (q : Request) (t : Tiling) → WasAsked words handed left rest d → Asks d q t → d ≡ c
     same_short d q t k asks =
-        same_call words handed left rest c d h k (subst (λ n. length d.file ≤ n) (sym (longest_is d.words q asks.right.asked)) asks.names.not_too_long)
+        same_call words handed left rest c d h k
+        (subst (λ n. length d.file ≤ n) (sym (longest_is d.words q asks.right.asked))
+        asks.names.not_too_long)
 
     -- of a request
     of_asked : (P : Request → List ℕ → Tiling → Type 0) → OfCall words handed left rest (OfRequest P) → OfRequest P c
@@ -75,13 +78,20 @@ module _ (words : List (List ℕ)) (handed : List Format) (left rest : Option (L
     caused Done i k = absurd i
     caused (BadWords place) i k = inr (subst (λ ws. wrong_place ws ≡ Some place) (k.1.by_words ∙ sym h.by_words) k.2)
     caused (NoLayer format) i k =
-        inr (k.2.0, subst (λ ws. request_in ws ≡ Ok k.2.0) (k.1.by_words ∙ sym h.by_words) k.2.1, subst (λ hs. lacking k.2.0 hs ≡ Some format) (k.1.by_layers ∙ sym h.by_layers) k.2.2)
+        inr (
+          k.2.0,
+          subst (λ ws. request_in ws ≡ Ok k.2.0) (k.1.by_words ∙ sym h.by_words) k.2.1,
+          subst
+              (λ hs. lacking k.2.0 hs ≡ Some format) (k.1.by_layers ∙ sym h.by_layers) k.2.2,
+        )
     caused ReadFault i k = inl tt
     caused RuleTooLong i k = inr (same_told words handed left rest c k.0 RuleTooLong h k.1 k.2)
     caused (BadScript script.TooLong) i k = inr (same_told words handed left rest c k.0 (BadScript script.TooLong) h k.1 k.2)
     caused (BadListing listing.TooLong) i k = inr (too_long_listing k)
     caused (RuleRefused fault) i k =
-        inr (subst (λ d. HasRuleFault d fault) (same_call words handed left rest c k.1.0 h k.1.1 (subst (λ n. length k.1.0.file ≤ n) (sym (longest_is k.1.0.words k.1.2.request k.1.2.right.asked)) k.1.2.not_too_long)) k.1.2)
+        inr (subst (λ d. HasRuleFault d fault) (same_call words handed left rest c k.1.0 h k.1.1
+        (subst (λ n. length k.1.0.file ≤ n) (sym (longest_is k.1.0.words k.1.2.request k.1.2.right.asked))
+        k.1.2.not_too_long)) k.1.2)
     caused WriteFault i k = absurd i
     caused NoMemory i k = inl tt
     caused s i k = inr (of_asked (λ q file t. Refuses q file t s) k)
@@ -103,17 +113,22 @@ module _ (words : List (List ℕ)) (handed : List Format) (left rest : Option (L
       ]
 
       -- where there is a cause it is found
-      pub refused_when : {Q R : List ℕ → Type 0} (s u : Status) → (s ≡ Done → OfCall words handed left rest (λ d. (text : List ℕ) × Prints d text × Q text))
-          → (s ≡ WriteFault → OfCall words handed left rest (λ d. (text : List ℕ) × Prints d text × R text)) → (IsRefusal s → IsRefused words handed left rest s)
+      pub refused_when : {Q R : List ℕ → Type 0} (s u : Status)
+          → (s ≡ Done → OfCall words handed left rest (λ d. (text : List ℕ) × Prints d text × Q text))
+          → (s ≡ WriteFault → OfCall words handed left rest (λ d. (text : List ℕ) × Prints d text × R text))
+          → (IsRefusal s → IsRefused words handed left rest s)
           → Causes c u → IsNoLimit c u → (s ≡ u) ⊎ IsCutShort s
-      refused_when Done u done part refused q no_limit = inl (is_one Done u (one_answer c laws Done u (printed (done refl)) (outcome_of c u q)) no_limit)
+      refused_when Done u done part refused q no_limit = inl
+          (is_one Done u (one_answer c laws Done u (printed (done refl)) (outcome_of c u q)) no_limit)
       refused_when WriteFault u done part refused q no_limit =
           absurd (refused_at_done c u q (is_one Done u (one_answer c laws Done u (printed (part refl)) (outcome_of c u q)) no_limit))
       refused_when s u done part refused q no_limit = by_refusal s u tt (refused tt) q no_limit
 
       -- beyond the limits of a window one of them comes
-      pub beyond_limits : {Q R : List ℕ → Type 0} (s : Status) → (s ≡ Done → OfCall words handed left rest (λ d. (text : List ℕ) × Prints d text × Q text))
-          → (s ≡ WriteFault → OfCall words handed left rest (λ d. (text : List ℕ) × Prints d text × R text)) → (IsRefusal s → IsRefused words handed left rest s)
+      pub beyond_limits : {Q R : List ℕ → Type 0} (s : Status)
+          → (s ≡ Done → OfCall words handed left rest (λ d. (text : List ℕ) × Prints d text × Q text))
+          → (s ≡ WriteFault → OfCall words handed left rest (λ d. (text : List ℕ) × Prints d text × R text))
+          → (IsRefusal s → IsRefused words handed left rest s)
           → IsBeyondLimits c → IsLimit s ⊎ IsCutShort s
       beyond_limits Done done part refused b = absurd (limit_beyond c laws Done (printed (done refl)) b)
       beyond_limits WriteFault done part refused b = absurd (limit_beyond c laws Done (printed (part refl)) b)
@@ -123,7 +138,8 @@ module _ (words : List (List ℕ)) (handed : List Format) (left rest : Option (L
       ]
 
       -- where there is an answer it is printed, unless a source or the sink failed or memory was wanted
-      pub complete : (s : Status) → (IsRefusal s → IsRefused words handed left rest s) → CanBeAnswered c → (s ≡ WriteFault → ⊥) → (s ≡ ReadFault → ⊥) → (s ≡ Done) ⊎ (s ≡ NoMemory)
+      pub complete : (s : Status) → (IsRefusal s → IsRefused words handed left rest s) → CanBeAnswered c
+          → (s ≡ WriteFault → ⊥) → (s ≡ ReadFault → ⊥) → (s ≡ Done) ⊎ (s ≡ NoMemory)
       complete Done refused p sink source = inl refl
       complete WriteFault refused p sink source = absurd (sink refl)
       complete ReadFault refused p sink source = absurd (source refl)

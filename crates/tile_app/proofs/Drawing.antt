@@ -3,12 +3,12 @@ use Rattle.std.proofs.Common.{◌≡◌, ◌⊎◌, inl, inr, ◌<◌, ◌≤◌
 use Rattle.std.specs.Prelude.{All}
 use Rattle.std.proofs.lemmas.List.{length-map}
 use Rattle.std.proofs.lemmas.List.Elements.{All-from_recursion, recursion_from_All}
-use Rattle.addressing.specs.Address.{Address}
-use Rattle.addressing.specs.Search.{IsAmong}
-use Rattle.addressing.proofs.Lists.{AllByRecursion-among, AllByRecursion-from, IsAmong-map}
+use Rattle.theory_addresses.specs.Address.{Address}
+use Rattle.theory_addresses.specs.Search.{IsAmong}
+use Rattle.theory_addresses.proofs.Lists.{AllByRecursion-among, AllByRecursion-from, IsAmong-map}
 use Rattle.cyclo_points.specs.Order.{points_of, is_refused}
 use Rattle.cyclo_points.proofs.Refusal.{within-some_beyond, some_beyond-refused}
-use Rattle.frames.specs.Frame.{at_level}
+use Rattle.theory_frames.specs.Frame.{at_level}
 use Rattle.lazy_walk.specs.Ancestors.{full}
 use Rattle.lazy_walk.specs.Frames.{FrameValue, whole, IsFrameOf, GrowsTo}
 use Rattle.lazy_walk.specs.Standing.{Stands}
@@ -19,11 +19,11 @@ use Rattle.rule_model.specs.Tiling.{Tiling, children}
 use Rattle.tile_place.specs.declared.placed_tile.PlacedTile.{PlacedTile}
 use Rattle.tile_place.specs.Searched.{placed_in}
 use Rattle.window_cover.specs.Limits.{IsWithinLimits}
-use Rattle.windows.specs.Limits.{most_tiles}
+use Rattle.theory_windows.specs.Limits.{most_tiles}
 use Rattle.window_cover.specs.Windows.{TileOf, box_of, AreDrawn, IsLeastEnough}
-use Rattle.windows.specs.FramePatch.{frame_patch}
-use Rattle.windows.specs.FrameWindow.{AreAllThatMeet}
-use Rattle.windows.proofs.Members.{no-more}
+use Rattle.theory_windows.specs.FramePatch.{frame_patch}
+use Rattle.theory_windows.specs.FrameWindow.{AreAllThatMeet}
+use Rattle.theory_windows.proofs.Members.{no-more}
 use Rattle.cyclo_points.specs.declared.order.Order.{Order}
 use Rattle.cyclo_points.specs.declared.point.Point.{Point}
 use Rattle.cyclo_points.specs.Point.{point_in, quad_of, IsOf, IsWithin}
@@ -41,13 +41,15 @@ use Rattle.tile_app.specs.Turned.{status_of_cover}
 -- a tile that stands in the frame with a shift that isn't refused
 pub drawable_within : (t : Tiling) (g : FrameValue) (x : PlacedTile) → Stands t g x → IsWithin (2 ^ 24) x.motion.shift → CanBeDrawn t x
 drawable_within t g x stands within = record {
-  exists = subst (λ n. x.kind < n) (length-map t.rule.kinds _) (subst (λ k. k < length (children t)) (sym stands.its_kind) stands.of_frame.fits.kind_exists);
+  exists = subst (λ n. x.kind < n) (length-map t.rule.kinds _)
+      (subst (λ k. k < length (children t)) (sym stands.its_kind) stands.of_frame.fits.kind_exists);
   turn_below = stands.turn_below;
   in_order = stands.in_order;
   within = within;
 }
 
-module _ (t : Tiling) (f g : FrameValue) (w : Window) (is_frame : IsFrameOf t f) (grown : GrowsTo t f g) (within : IsWithinLimits t f w) (least : IsLeastEnough t f w (length g.digits))
+module _ (t : Tiling) (f g : FrameValue) (w : Window) (is_frame : IsFrameOf t f) (grown : GrowsTo t f g)
+    (within : IsWithinLimits t f w) (least : IsLeastEnough t f w (length g.digits))
     (tiles : List PlacedTile) (drawn : AreDrawn t g w (map (placed_in t.order) tiles)) where
   -- the least enough depth is one
   same_depth : within.drawn_within.depth ≡ length g.digits
@@ -59,21 +61,30 @@ module _ (t : Tiling) (f g : FrameValue) (w : Window) (is_frame : IsFrameOf t f)
 
   its_frame : at_level (full t f) within.drawn_within.depth ≡ whole g
   its_frame =
-      ap (at_level (full t f)) same_depth ∙ level-at t f is_frame (length g.digits) grown.no_shallower grown.is_frame.at_most_64 ∙ ap whole (sym (GrowsTo-is t f g grown))
+      ap (at_level (full t f)) same_depth ∙ level-at t f is_frame (length g.digits) grown.no_shallower
+      grown.is_frame.at_most_64 ∙ ap whole (sym (GrowsTo-is t f g grown))
 
   -- so the tiles that the limits speak of are those drawn
   same_tiles : AreDrawn t g w within.drawn_within.drawn
   same_tiles =
-      subst (λ (a : Address). AreAllThatMeet (points_of t.order).real (TileOf t) (frame_patch (points_of t.order) t.rule a) (box_of t w) within.drawn_within.drawn) its_frame within.drawn_within.all_that_meet
+      subst (λ (a : Address). AreAllThatMeet (points_of t.order).real (TileOf t)
+      (frame_patch (points_of t.order) t.rule a) (box_of t w) within.drawn_within.drawn) its_frame
+      within.drawn_within.all_that_meet
 
   unrefused : (x : TileOf t) → IsAmong x (map (placed_in t.order) tiles) → is_refused t.order x.motion.shift ≡ false
   unrefused x i =
-      let here = AllByRecursion-among (λ y. IsAmong y (frame_patch (points_of t.order) t.rule (whole g)).tiles) x (map (placed_in t.order) tiles) i drawn.of_patch in
-      AllByRecursion-among (λ (y : TileOf t). is_refused t.order y.motion.shift ≡ false) x within.drawn_within.drawn ((same_tiles.meeting x here).0 ((drawn.meeting x here).1 i)) within.drawn_within.none_refused
+      let here = AllByRecursion-among (λ y. IsAmong y
+      (frame_patch (points_of t.order) t.rule (whole g)).tiles) x (map (placed_in t.order) tiles) i
+      drawn.of_patch in
+      AllByRecursion-among (λ (y : TileOf t). is_refused t.order y.motion.shift ≡ false) x
+      within.drawn_within.drawn ((same_tiles.meeting x here).0 ((drawn.meeting x here).1 i))
+      within.drawn_within.none_refused
 
   drawable : (x : PlacedTile) → IsAmong x tiles → Stands t g x → CanBeDrawn t x
   drawable x i stands =
-      drawable_within t g x stands (within-some_beyond x.motion.shift (some_beyond-refused t.order x.motion.shift stands.in_order ∙ unrefused (placed_in t.order x) (IsAmong-map (placed_in t.order) x tiles i)))
+      drawable_within t g x stands (within-some_beyond x.motion.shift
+      (some_beyond-refused t.order x.motion.shift stands.in_order
+      ∙ unrefused (placed_in t.order x) (IsAmong-map (placed_in t.order) x tiles i)))
 
   -- and no more than the limit
   pub at_most_limit : length tiles ≤ most_tiles
@@ -84,12 +95,16 @@ module _ (t : Tiling) (f g : FrameValue) (w : Window) (is_frame : IsFrameOf t f)
     where
       among : (x : TileOf t) → IsAmong x (map (placed_in t.order) tiles) → IsAmong x within.drawn_within.drawn
       among x i =
-          let here = AllByRecursion-among (λ y. IsAmong y (frame_patch (points_of t.order) t.rule (whole g)).tiles) x (map (placed_in t.order) tiles) i drawn.of_patch in
+          let here = AllByRecursion-among (λ y. IsAmong y
+          (frame_patch (points_of t.order) t.rule (whole g)).tiles) x (map (placed_in t.order) tiles) i
+          drawn.of_patch in
           (same_tiles.meeting x here).0 ((drawn.meeting x here).1 i)
 
   pub can_be_drawn : All (Stands t g) tiles → All (CanBeDrawn t) tiles
   can_be_drawn stand =
-      All-from_recursion (CanBeDrawn t) tiles (AllByRecursion-from (CanBeDrawn t) tiles (λ x i. drawable x i (AllByRecursion-among (Stands t g) x tiles i (recursion_from_All (Stands t g) tiles stand))))
+      All-from_recursion (CanBeDrawn t) tiles (AllByRecursion-from (CanBeDrawn t) tiles
+      (λ x i. drawable x i (AllByRecursion-among (Stands t g) x tiles i
+      (recursion_from_All (Stands t g) tiles stand))))
 
 -- ---- the window
 pub reduced-is : (o : Order) (p q : Point) → length q.c ≡ 4 → IsOf o q → point_in o q ≡ combination (points_of o) (quad_of p) → q ≡ reduced o p
@@ -111,12 +126,15 @@ module _ (asked : Bool) (t : Tiling) (w : Window) (f g : FrameValue) (grown : Gr
   ends : (fault : CoverFault) → HasCause t f g w fault → (IsWithinLimits t f w → ⊥) → EndsDrawing t f w fault
   ends fault cause beyond = record { beyond = beyond; frame = g; grown = grown; cause = cause }
 
-  pub cover_refused : (fault : CoverFault) → HasCause t f g w fault → (IsWithinLimits t f w → fault ≡ NoMemory) → OrNoMemory (DrawRefuses asked t f w) (status_of_cover fault)
+  pub cover_refused : (fault : CoverFault) → HasCause t f g w fault
+      → (IsWithinLimits t f w → fault ≡ NoMemory)
+      → OrNoMemory (DrawRefuses asked t f w) (status_of_cover fault)
   cover_refused (DepthLimit addr edge) cause only = inl (ends (DepthLimit addr edge) cause (λ h. absurd (cc (only h))))
   cover_refused (CoordLimit value) cause only = inl (ends (CoordLimit value) cause (λ h. absurd (cc (only h))))
   cover_refused TooManyTiles cause only = ends TooManyTiles cause (λ h. absurd (cc (only h)))
   cover_refused NoMemory cause only = tt
 
-  pub refused_if_err : {T : Type 0} (r : Result T CoverFault) (fault : CoverFault) → r ≡ Err fault → HasCause t f g w fault → (IsWithinLimits t f w → (r ≡ Err NoMemory) ⊎ IsOk r)
+  pub refused_if_err : {T : Type 0} (r : Result T CoverFault) (fault : CoverFault) → r ≡ Err fault
+      → HasCause t f g w fault → (IsWithinLimits t f w → (r ≡ Err NoMemory) ⊎ IsOk r)
       → OrNoMemory (DrawRefuses asked t f w) (status_of_cover fault)
   refused_if_err r fault e cause answered = cover_refused fault cause (λ h. fault-or_ok NoMemory r fault e (answered h))

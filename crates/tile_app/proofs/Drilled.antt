@@ -17,7 +17,8 @@ kept : (z : ℤ) → Within 32 z → to_z w64 (of_z w64 z) ≡ z
 kept z h = omega (arith, ints)
 
 -- a coefficient made of a word that is known by another name
-pub coefficient-at : (start j s t : ℕ) (z : ℤ) → z ≡ coefficient_of (word s t) → Within 32 z → s ≡ start → t ≡ j → to_z w64 (of_z w64 z) ≡ coefficient_of (word start j)
+pub coefficient-at : (start j s t : ℕ) (z : ℤ) → z ≡ coefficient_of (word s t) → Within 32 z → s ≡ start
+    → t ≡ j → to_z w64 (of_z w64 z) ≡ coefficient_of (word start j)
 coefficient-at start j s t z e h p q = kept z h ∙ e ∙ ap₂ (λ u v. coefficient_of (word u v)) p q
 
 -- the window of the next six words, where so many windows before have had theirs
@@ -25,7 +26,8 @@ pub window-is : (o p : Order) (start s j i : ℕ) (w : Window) → w ≡ window_
 window-is o p start s j i w e same f g = e ∙ ap (λ q. window_from q s j) same ∙ ap₂ (window_from p) f g
 
 -- the summary of one window more
-pub one_more : (t : Tiling) (start i : ℕ) (frame : FrameValue) (window : Window) (before after : Summary) → IsSummary t start i before → frame ≡ fresh_frame start
+pub one_more : (t : Tiling) (start i : ℕ) (frame : FrameValue) (window : Window) (before after : Summary)
+    → IsSummary t start i before → frame ≡ fresh_frame start
     → window ≡ window_of t.order start i → Adds t frame window before after → IsSummary t start (i + 1) after
 one_more t start i frame window before after h f w adds =
     let in_fresh : Adds t (fresh_frame start) window before after = subst (λ x. Adds t x window before after) f adds in
@@ -35,8 +37,11 @@ one_more t start i frame window before after h f w adds =
 pub summary_text_of : (n : ℕ) (s : Summary)
     → codes "windows " ++ (decimal n ++ (newline ∷ codes "tiles " ++ (decimal s.tiles ++ (newline ∷ codes "largest " ++ (decimal s.largest
     ++ (newline ∷ codes "depth " ++ (decimal s.depth ++ (newline ∷ codes "refused " ++ (decimal s.refused ++ newline ∷ []))))))))) ≡ summary_text n s
-summary_text_of n s = joined (codes "windows ") (decimal n) (newline ∷ codes "tiles ") (decimal s.tiles) (newline ∷ codes "largest ") (decimal s.largest)
+summary_text_of n s = joined (codes "windows ") (decimal n) (newline ∷ codes "tiles ") (decimal s.tiles)
+    (newline ∷ codes "largest ") (decimal s.largest)
     (newline ∷ codes "depth ") (decimal s.depth) (newline ∷ codes "refused ") (decimal s.refused) (newline ∷ [])
   where
-    joined : (a b c d e f g h i j k : List ℕ) → a ++ (b ++ (c ++ (d ++ (e ++ (f ++ (g ++ (h ++ (i ++ (j ++ k))))))))) ≡ a ++ b ++ c ++ d ++ e ++ f ++ g ++ h ++ i ++ j ++ k
+    joined : (a b c d e f g h i j k : List ℕ) → a
+        ++ (b ++ (c ++ (d ++ (e ++ (f ++ (g ++ (h ++ (i ++ (j ++ k))))))))) ≡ a ++ b ++ c ++ d ++ e ++ f ++ g
+        ++ h ++ i ++ j ++ k
     joined a b c d e f g h i j k = simp append_assoc

@@ -11,16 +11,21 @@ use Rattle.tile_app.specs.Asked.{WasRead}
 use Rattle.tile_app.specs.FileKinds.{longest_of, too_long_of}
 use Rattle.tile_app.specs.Reading.{IsFileUnread}
 
-pub whole_read : (longest : ℕ) (left rest : Option (List ℕ)) (file : List ℕ) → Gives left rest file → IfSome rest (λ bytes. bytes ≡ []) → length file ≤ longest → WasRead longest left rest file
+pub whole_read : (longest : ℕ) (left rest : Option (List ℕ)) (file : List ℕ) → Gives left rest file
+    → IfSome rest (λ bytes. bytes ≡ []) → length file ≤ longest → WasRead longest left rest file
 whole_read longest left rest file given end short = record { given = given; to_the_end = λ l. end; at_most = omega (arith, short) }
 
 -- one byte too many was read
-unread : (kind : FileKind) (left rest : Option (List ℕ)) (file : List ℕ) → WasRead (longest_of kind) left rest file → longest_of kind < length file → IsFileUnread kind left rest (too_long_of kind)
+unread : (kind : FileKind) (left rest : Option (List ℕ)) (file : List ℕ)
+    → WasRead (longest_of kind) left rest file → longest_of kind < length file
+    → IsFileUnread kind left rest (too_long_of kind)
 unread Rule left rest file read long = record { told = refl; file = file; read = read; too_long = long }
 unread Script left rest file read long = record { told = refl; file = file; read = read; too_long = long }
 unread Listing left rest file read long = record { told = refl; file = file; read = read; too_long = long }
 
-pub too_long_read : (kind : FileKind) (left rest : Option (List ℕ)) (why : ReadAllFault) → GivesPart left rest (longest_of kind) why → why ≡ TooLong → IsFileUnread kind left rest (too_long_of kind)
+pub too_long_read : (kind : FileKind) (left rest : Option (List ℕ)) (why : ReadAllFault)
+    → GivesPart left rest (longest_of kind) why → why ≡ TooLong
+    → IsFileUnread kind left rest (too_long_of kind)
 too_long_read kind left rest why h e =
     let piece = h.0 in
     let long : length piece ≡ longest_of kind + 1 = h.3.0 e in

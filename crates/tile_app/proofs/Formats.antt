@@ -7,7 +7,8 @@ use Rattle.layer_api.specs.declared.format.Format.TheVariants.{Svg, List as List
 use Rattle.call_words.specs.FormatWords.{same_format, is_among, first_lacking}
 
 -- ---- where none lacks, each has a layer
-pub has_layer : (handed named : List Format) (i : ℕ) (d : Format) → i < length named → first_lacking handed named ≡ None → is_among (get_or named i d) handed ≡ true
+pub has_layer : (handed named : List Format) (i : ℕ) (d : Format) → i < length named
+    → first_lacking handed named ≡ None → is_among (get_or named i d) handed ≡ true
 has_layer handed [] i d l e = absurd (omega (arith, l))
 has_layer handed (f ∷ fs) zero d l e = at_test (is_among f handed) refl e
   where
@@ -28,7 +29,8 @@ same_formats Census Census e = refl
 same_formats f g e = absurd (cc e)
 
 -- a format for which there is a layer isn't the first that lacks one
-pub went_on : (handed named : List Format) (i : ℕ) (place : Option ℕ) → i < length named → is_some place ≡ is_among (get_or named i Svg) handed → is_some place ≡ true
+pub went_on : (handed named : List Format) (i : ℕ) (place : Option ℕ) → i < length named
+    → is_some place ≡ is_among (get_or named i Svg) handed → is_some place ≡ true
     → first_lacking handed (drop i named) ≡ first_lacking handed named → first_lacking handed (drop (i + 1) named) ≡ first_lacking handed named
 went_on handed named i None below has e before = absurd (cc e)
 went_on handed named i (Some place) below has e before =

@@ -21,6 +21,7 @@ module _ (t : Tiling) (f g : FrameValue) (grown : GrowsTo t f g) where
   last-is h more = ap whole (GrowsTo-is t g h more) ∙ frame-is (length h.digits)
 
 -- a fault of a path is refused for its cause
-pub walking_ends : (t : Tiling) (f : FrameValue) (path : List ℕ) (fault : PathFault) → IsPathFault t (frame_at t f 64) path fault → OrNoMemory (WalkRefuses t f path) (status_of_path fault)
+pub walking_ends : (t : Tiling) (f : FrameValue) (path : List ℕ) (fault : PathFault)
+    → IsPathFault t (frame_at t f 64) path fault → OrNoMemory (WalkRefuses t f path) (status_of_path fault)
 walking_ends t f path (NoEdge edge edges) h = h
 walking_ends t f path (DepthLimit limit) h = h

@@ -1,7 +1,7 @@
 -- The headline, of what the two commands that carry it print.
 use Rattle.std.proofs.Common.{◌≡◌, ℕ, Bool, List, map, Result, Ok, sym, ap, subst, ◌∙◌}
 use Rattle.std.specs.declared.option.Option.{Option}
-use Rattle.addressing.specs.Address.{Address}
+use Rattle.theory_addresses.specs.Address.{Address}
 use Rattle.call_words.specs.declared.rule_choice.RuleChoice.{RuleChoice}
 use Rattle.call_words.specs.Given.{WindowAsked}
 use Rattle.call_words.specs.Request.{Request, request_in}
@@ -23,7 +23,8 @@ use Rattle.tile_app.specs.Windows.{window_in}
 tells : (t : Tiling) (a : Address) (edge : ℕ) (text : List ℕ) → PrintsNeighbour t a edge text → TellsOnlyNeighbour t a edge text
 tells t a edge text p = record { across = p.across; back = p.back; only_across = p.only_across; leads_back = p.leads_back; line = p.line }
 
-writes : (t : Tiling) (f : FrameValue) (window : Window) (glue : Bool) (formats : List Format) (text : List ℕ) → PrintsDraw glue formats t f window text → WritesExactlyTheWindow t f window glue formats text
+writes : (t : Tiling) (f : FrameValue) (window : Window) (glue : Bool) (formats : List Format) (text : List ℕ)
+    → PrintsDraw glue formats t f window text → WritesExactlyTheWindow t f window glue formats text
 writes t f window glue formats text p = record {
   frame = p.pictures.frame;
   tiles = p.pictures.tiles;
@@ -53,21 +54,44 @@ module _ (words : List (List ℕ)) (handed : List Format) (left rest : Option (L
   of_request q right = subst (λ p. IsPrinted p done.0.file printed.tiling done.2.0) (same q right) printed.holds
 
   pub only_neighbour : (rule : RuleChoice) (addr : List ℕ) (edge : ℕ) → request_in words ≡ Ok (Neighbour rule addr edge)
-      → OfCall words handed left rest (λ c. (t : Tiling) × (text : List ℕ) × Names c (Neighbour rule addr edge) t × OfTile t addr (λ a. TellsOnlyNeighbour t a edge text) × Took text)
+      → OfCall words handed left rest (λ c. (t : Tiling) × (text : List ℕ)
+      × Names c (Neighbour rule addr edge) t × OfTile t addr (λ a. TellsOnlyNeighbour t a edge text)
+      × Took text)
   only_neighbour rule addr edge right =
       let p = of_request (Neighbour rule addr edge) right in
-      let tells_it = tells printed.tiling p.address edge done.2.0 p.holds in
-      (done.0, done.1, (printed.tiling, done.2.0, names (Neighbour rule addr edge) right, record { address = p.address; tile = p.tile; holds = tells_it }, done.2.2))
+      let tells_it = tells printed.tiling p.address edge done.2.0 p.holds in (
+        done.0,
+        done.1,
+        (
+          printed.tiling,
+          done.2.0,
+          names (Neighbour rule addr edge) right,
+          record
+              { address = p.address; tile = p.tile; holds = tells_it },
+          done.2.2,
+        ),
+      )
 
-  pub exactly_the_window : (rule : RuleChoice) (addr : List ℕ) (seed : ℕ) (window : WindowAsked) (formats : List Format) (glue : Bool) → request_in words ≡ Ok (Draw rule addr seed window formats glue)
+  pub exactly_the_window : (rule : RuleChoice) (addr : List ℕ) (seed : ℕ) (window : WindowAsked)
+      (formats : List Format) (glue : Bool) → request_in words ≡ Ok (Draw rule addr seed window formats glue)
       → OfCall words handed left rest (λ c. (t : Tiling) × (text : List ℕ) × Names c (Draw rule addr seed window formats glue) t
       × OfTile t addr (λ a. WritesExactlyTheWindow t (frame_of a seed) (window_in t.order window) glue formats text) × Took text)
   exactly_the_window rule addr seed window formats glue right =
       let p = of_request (Draw rule addr seed window formats glue) right in
-      let writes_it = writes printed.tiling (frame_of p.address seed) (window_in printed.tiling.order window) glue formats done.2.0 p.holds in
-      (done.0, done.1, (printed.tiling, done.2.0, names (Draw rule addr seed window formats glue) right, record { address = p.address; tile = p.tile; holds = writes_it }, done.2.2))
+      let writes_it = writes printed.tiling (frame_of p.address seed) (window_in printed.tiling.order window) glue formats done.2.0 p.holds in (
+        done.0,
+        done.1,
+        (
+          printed.tiling,
+          done.2.0,
+          names (Draw rule addr seed window formats glue) right,
+          record { address = p.address; tile = p.tile; holds = writes_it },
+          done.2.2,
+        ),
+      )
 
 -- what holds of equal words and layers
-pub with_same : {D : Type 0} (form : D → Format) (words other : List (List ℕ)) (layers had : List D) (P : List (List ℕ) → List Format → Type 0) → words ≡ other → layers ≡ had
+pub with_same : {D : Type 0} (form : D → Format) (words other : List (List ℕ)) (layers had : List D)
+    (P : List (List ℕ) → List Format → Type 0) → words ≡ other → layers ≡ had
     → P words (map form layers) → P other (map form had)
 with_same form words other layers had P e f h = subst (λ ds. P other (map form ds)) f (subst (λ ws. P ws (map form layers)) e h)

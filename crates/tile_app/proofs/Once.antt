@@ -1,6 +1,6 @@
 -- What is asked of one tile has one answer: it is answered or refused, and the cause of one status is no cause of another.
 use Rattle.std.proofs.Common.{◌≡◌, ◌⊎◌, inl, inr, ℕ, ◌<◌, ◌≤◌, Bool, List, refl, sym, ap, ap₂, ◌∙◌, arith}
-use Rattle.addressing.specs.Address.{Address}
+use Rattle.theory_addresses.specs.Address.{Address}
 use Rattle.cyclo_points.specs.declared.point.Point.{Point}
 use Rattle.cyclo_points.specs.Order.{coefficients}
 use Rattle.cyclo_points.proofs.SamePoints.{same_point}
@@ -41,7 +41,8 @@ module _ (t : Tiling) where
   place_once a Done u h k = absurd k
   place_once a (CoordLimit v) Done h k = absurd (cc (k, h.first))
   place_once a (CoordLimit v) (CoordLimit w) h k =
-      ap (λ x. CoordLimit x) (same_point v w (h.is_value ∙ ap (coefficients t.order) (some_is h.number k.number (sym h.first ∙ k.first)) ∙ sym k.is_value))
+      ap (λ x. CoordLimit x) (same_point v w (h.is_value
+      ∙ ap (coefficients t.order) (some_is h.number k.number (sym h.first ∙ k.first)) ∙ sym k.is_value))
   place_once a (CoordLimit v) u h k = absurd k
   place_once a s u h k = absurd h
 
@@ -49,7 +50,9 @@ module _ (t : Tiling) where
   edge_or_none : (a : Address) (own edges : ℕ) → own < edges_of t a.kind → HasNoEdge t a own edges → ⊥
   edge_or_none a own edges h k = let g = k.count in let l = k.beyond in omega arith
 
-  pub neighbour_once : (a : Address) (own : ℕ) (s u : Status) → IsOf (IsInside t a own) (NeighbourRefuses t a own) s → IsOf (IsInside t a own) (NeighbourRefuses t a own) u → s ≡ u
+  pub neighbour_once : (a : Address) (own : ℕ) (s u : Status)
+      → IsOf (IsInside t a own) (NeighbourRefuses t a own) s
+      → IsOf (IsInside t a own) (NeighbourRefuses t a own) u → s ≡ u
   neighbour_once a own Done Done h k = refl
   neighbour_once a own Done (NoEdge e es) h k = absurd (edge_or_none a own es h.exists k.1)
   neighbour_once a own Done (Outside e i) h k = absurd (h.on_none e (part_along t a own e i k.along))
@@ -85,12 +88,15 @@ module _ (t : Tiling) where
 
     stopped_once : (a b : program.Address) (e g : ℕ) → IsWalked (DepthLimit a e) → IsWalked (DepthLimit b g) → DepthLimit a e ≡ DepthLimit b g
     stopped_once a b e g h k =
-        let one = halts_once t top (address_of a) (address_of b) e g path (stopped_halts t top (address_of a) e path h) (stopped_halts t top (address_of b) g path k) h.comes k.comes in
+        let one = halts_once t top (address_of a) (address_of b) e g path
+        (stopped_halts t top (address_of a) e path h) (stopped_halts t top (address_of b) g path k)
+        h.comes k.comes in
         ap₂ DepthLimit (same_program_address a b one.0) one.1
 
     lacking_or_stopped : (b : program.Address) (e es g : ℕ) → IsWalked (NoEdge e es) → IsWalked (DepthLimit b g) → ⊥
     lacking_or_stopped b e es g h k =
-        let one = halts_once t top h.tile (address_of b) e g path (lacking_halts t top e es path h) (stopped_halts t top (address_of b) g path k) h.comes k.comes in
+        let one = halts_once t top h.tile (address_of b) e g path (lacking_halts t top e es path h)
+        (stopped_halts t top (address_of b) g path k) h.comes k.comes in
         let below : g < edges_of t (address_of b).kind = k.edge_exists in
         let count : es ≡ edges_of t (address_of b).kind = h.count ∙ ap (λ (a : Address). edges_of t a.kind) one.0 in
         let beyond : es ≤ e = h.beyond in
@@ -121,7 +127,9 @@ module _ (t : Tiling) where
     searching_passes fault h = λ within. h.beyond within.within
 
     gluing_passes : (fault : GlueFault) → EndsGluing asked t f w fault → PassesLimits asked t f w
-    gluing_passes fault h = λ within. h.beyond (within.can_be_glued h.is_asked h.frame h.tiles h.exactly.grown h.exactly.least h.exactly.stand h.exactly.drawn)
+    gluing_passes fault h = λ within. h.beyond
+        (within.can_be_glued h.is_asked h.frame h.tiles h.exactly.grown h.exactly.least h.exactly.stand
+        h.exactly.drawn)
 
     either_passes : (fault : CoverFault) (other : GlueFault) → EndsDrawing t f w fault ⊎ EndsGluing asked t f w other → PassesLimits asked t f w
     either_passes fault other (inl h) = searching_passes fault h

@@ -1,7 +1,7 @@
 -- A call has one answer: the cause of one status is no cause of another.
 use Rattle.std.proofs.Common.{◌≡◌, ◌⊎◌, inl, inr, ℕ, ◌<◌, ◌≤◌, List, length, Some, None, Result, Ok, Err, refl, sym, ap, ◌∙◌, subst, arith}
 use Rattle.std.specs.declared.option.Option.{Option}
-use Rattle.addressing.specs.Address.{Address}
+use Rattle.theory_addresses.specs.Address.{Address}
 use Rattle.addr_calc.specs.declared.calc_fault.CalcFault.{CalcFault}
 use Rattle.addr_calc.specs.Script.{Outcome as ScriptOutcome, IsAnswer}
 use Rattle.addr_calc.proofs.Faults.{OneText, fault_once}
@@ -49,7 +49,8 @@ use Rattle.tile_app.proofs.Windows.{window-fits}
 
 -- ---- the laws from which it follows
 abbrev pub OneOutcome : Type 0
-OneOutcome = (t : Tiling) (script : List ℕ) (one other : ScriptOutcome) → AreUsable (children t) → IsAnswer t script one → IsAnswer t script other → one ≡ other
+OneOutcome = (t : Tiling) (script : List ℕ) (one other : ScriptOutcome) → AreUsable (children t)
+    → IsAnswer t script one → IsAnswer t script other → one ≡ other
 
 pub record Laws : Type 0 where
   pub one_text : OneText
@@ -68,7 +69,8 @@ module _ (laws : Laws) (t : Tiling) (usable : AreUsable (children t)) where
   module _ (addr : List ℕ) where
     same_tile : (a b : Address) → IsTile t addr a → IsTile t addr b → a ≡ b
     same_tile a b p q =
-        laws.one_text a b (laws.short (children t) a usable p.accepted.fits) (laws.short (children t) b usable q.accepted.fits) (sym p.is_text ∙ q.is_text)
+        laws.one_text a b (laws.short (children t) a usable p.accepted.fits)
+        (laws.short (children t) b usable q.accepted.fits) (sym p.is_text ∙ q.is_text)
 
     tile_or_none : (a : Address) (fault : AddressFault) → IsTile t addr a → IsNoTile t addr fault → ⊥
     tile_or_none a fault p q = q.none a p.accepted p.is_text
@@ -92,7 +94,8 @@ module _ (laws : Laws) (t : Tiling) (usable : AreUsable (children t)) where
       tile_or_not (BadAddress fault) h = inl (fault, refl, h)
       tile_or_not s h = inr h
 
-      module _ (L : Status → Type 0) (once : (a : Address) → IsTile t addr a → (s u : Status) → IsOf (Has a) (R a) s → IsOf (Has a) (R a) u → (s ≡ u) ⊎ (L s × L u)) where
+      module _ (L : Status → Type 0) (once : (a : Address) → IsTile t addr a → (s u : Status)
+          → IsOf (Has a) (R a) s → IsOf (Has a) (R a) u → (s ≡ u) ⊎ (L s × L u)) where
         both : (s u : Status) → IsNone s ⊎ IsAtTile s → IsNone u ⊎ IsAtTile u → (s ≡ u) ⊎ (L s × L u)
         both s u (inl h) (inl k) = inl (h.1 ∙ ap (λ f. BadAddress f) (same_fault h.0 k.0 h.2 k.2) ∙ sym k.1)
         both s u (inl h) (inr k) = absurd (tile_or_none k.address h.0 k.tile h.2)
@@ -106,7 +109,8 @@ module _ (laws : Laws) (t : Tiling) (usable : AreUsable (children t)) where
       module _ (B : Address → Type 0) (beyond : (a : Address) → IsTile t addr a → (s : Status) → IsOf (Has a) (R a) s → B a → IsLimit s) where
         at_beyond : (s : Status) → IsNone s ⊎ IsAtTile s → OfTile t addr B → IsLimit s
         at_beyond s (inl h) k = absurd (tile_or_none k.address h.0 k.tile h.2)
-        at_beyond s (inr h) k = beyond k.address k.tile s (subst (λ a. IsOf (Has a) (R a) s) (same_tile h.address k.address h.tile k.tile) h.holds) k.holds
+        at_beyond s (inr h) k = beyond k.address k.tile s
+            (subst (λ a. IsOf (Has a) (R a) s) (same_tile h.address k.address h.tile k.tile) h.holds) k.holds
 
         tile_beyond : (s : Status) → IsAsked s → OfTile t addr B → IsLimit s
         tile_beyond s h k = at_beyond s (tile_or_not s h) k
@@ -124,7 +128,8 @@ module _ (laws : Laws) (t : Tiling) (usable : AreUsable (children t)) where
     calc_once Done (BadScript (script.Calc f)) h k = absurd (calc_or_refused f h k)
     calc_once Done u h k = absurd k
     calc_once (BadScript (script.Calc f)) Done h k = absurd (calc_or_refused f k h)
-    calc_once (BadScript (script.Calc f)) (BadScript (script.Calc g)) h k = ap (λ x. BadScript (script.Calc x)) (err_is f g (laws.one_outcome t file (Err f) (Err g) usable h k))
+    calc_once (BadScript (script.Calc f)) (BadScript (script.Calc g)) h k = ap
+        (λ x. BadScript (script.Calc x)) (err_is f g (laws.one_outcome t file (Err f) (Err g) usable h k))
     calc_once (BadScript (script.Calc f)) u h k = absurd k
     calc_once s u h k = absurd h
 
@@ -150,32 +155,43 @@ module _ (laws : Laws) (t : Tiling) (usable : AreUsable (children t)) where
   request_once (Place rule addr) file s u law h k =
       tile_once addr (CanBePlaced t) (PlaceRefuses t) (λ x. ⊥) (λ a tile x y p q. inl (place_once t a x y p q)) s u h k
   request_once (Neighbour rule addr edge) file s u law h k =
-      tile_once addr (λ a. IsInside t a edge) (λ a. NeighbourRefuses t a edge) (λ x. ⊥) (λ a tile x y p q. inl (neighbour_once t a edge x y p q)) s u h k
+      tile_once addr (λ a. IsInside t a edge) (λ a. NeighbourRefuses t a edge) (λ x. ⊥)
+      (λ a tile x y p q. inl (neighbour_once t a edge x y p q)) s u h k
   request_once (Walk rule addr seed grow path) file s u law h k =
-      tile_once addr (λ a. CanWalk t (frame_of a seed) path) (λ a. WalkRefuses t (frame_of a seed) path) (λ x. ⊥) (λ a tile x y p q. inl (walk_once t (frame_of a seed) path x y p q)) s u h k
+      tile_once addr (λ a. CanWalk t (frame_of a seed) path) (λ a. WalkRefuses t (frame_of a seed) path)
+      (λ x. ⊥) (λ a tile x y p q. inl (walk_once t (frame_of a seed) path x y p q)) s u h k
   request_once (Draw rule addr seed window layers glue) file s u law h k =
-      tile_once addr (λ a. IsWithinTheirLimits glue t (frame_of a seed) (window_in t.order window)) (λ a. DrawRefuses glue t (frame_of a seed) (window_in t.order window)) IsLimit
+      tile_once addr (λ a. IsWithinTheirLimits glue t (frame_of a seed) (window_in t.order window))
+      (λ a. DrawRefuses glue t (frame_of a seed) (window_in t.order window)) IsLimit
       (λ a tile x y p q. draw_once t glue (frame_of a seed) (window_in t.order window) x y p q) s u h k
   request_once (Check rule) file s u law h k = inl (done_once s u h k)
   request_once (Calc name) file s u law h k = inl (calc_once file s u h k)
   request_once (Drill rule count seed) file s u law h k = inl (done_once s u h k)
   request_once (Star rule addr seed vertex) file s u law h k =
-      tile_once addr (λ a. HasStar t (frame_of a seed) vertex) (λ a. StarRefuses t (frame_of a seed) vertex) IsLimit (λ a tile x y p q. star_once t (frame_of a seed) vertex x y p q) s u h k
+      tile_once addr (λ a. HasStar t (frame_of a seed) vertex) (λ a. StarRefuses t (frame_of a seed) vertex)
+      IsLimit (λ a tile x y p q. star_once t (frame_of a seed) vertex x y p q) s u h k
   request_once (Verify name addr seed window) file s u law h k =
-      tile_once addr (λ a. CanVerify t (frame_of a seed) (window_in t.order window) file) (λ a. VerifyRefuses t (frame_of a seed) (window_in t.order window) file) IsLimit
-      (λ a tile x y p q. verify_once t (frame_of a seed) (window_in t.order window) file (law (frame_of a seed) file (base-is_frame addr seed a tile)) x y p q) s u h k
+      tile_once addr (λ a. CanVerify t (frame_of a seed) (window_in t.order window) file)
+      (λ a. VerifyRefuses t (frame_of a seed) (window_in t.order window) file) IsLimit
+      (λ a tile x y p q. verify_once t (frame_of a seed) (window_in t.order window) file
+      (law (frame_of a seed) file (base-is_frame addr seed a tile)) x y p q) s u h k
 
   request_beyond : (q : Request) (file : List ℕ) (s : Status) → HasVerdictFor q t → IsFor q file s → IsBeyond q file t → IsLimit s
   request_beyond (Draw rule addr seed window layers glue) file s law h k =
-      tile_beyond addr (λ a. IsWithinTheirLimits glue t (frame_of a seed) (window_in t.order window)) (λ a. DrawRefuses glue t (frame_of a seed) (window_in t.order window))
-      (λ a. PassesLimits glue t (frame_of a seed) (window_in t.order window)) (λ a tile x p b. draw_beyond t glue (frame_of a seed) (window_in t.order window) x p b) s h k
+      tile_beyond addr (λ a. IsWithinTheirLimits glue t (frame_of a seed) (window_in t.order window))
+      (λ a. DrawRefuses glue t (frame_of a seed) (window_in t.order window))
+      (λ a. PassesLimits glue t (frame_of a seed) (window_in t.order window))
+      (λ a tile x p b. draw_beyond t glue (frame_of a seed) (window_in t.order window) x p b) s h k
   request_beyond (Star rule addr seed vertex) file s law h k =
-      tile_beyond addr (λ a. HasStar t (frame_of a seed) vertex) (λ a. StarRefuses t (frame_of a seed) vertex) (λ a. PassesStarLimits t (frame_of a seed) vertex)
+      tile_beyond addr (λ a. HasStar t (frame_of a seed) vertex) (λ a. StarRefuses t (frame_of a seed) vertex)
+      (λ a. PassesStarLimits t (frame_of a seed) vertex)
       (λ a tile x p b. star_beyond t (frame_of a seed) vertex x p b) s h k
   request_beyond (Verify name addr seed window) file s law h k =
-      tile_beyond addr (λ a. CanVerify t (frame_of a seed) (window_in t.order window) file) (λ a. VerifyRefuses t (frame_of a seed) (window_in t.order window) file)
+      tile_beyond addr (λ a. CanVerify t (frame_of a seed) (window_in t.order window) file)
+      (λ a. VerifyRefuses t (frame_of a seed) (window_in t.order window) file)
       (λ a. LacksTiles t (frame_of a seed) (window_in t.order window) file)
-      (λ a tile x p b. verify_beyond t (frame_of a seed) (window_in t.order window) file (law (frame_of a seed) file (base-is_frame addr seed a tile)) x p b) s h k
+      (λ a tile x p b. verify_beyond t (frame_of a seed) (window_in t.order window) file
+      (law (frame_of a seed) file (base-is_frame addr seed a tile)) x p b) s h k
   request_beyond q file s law h k = absurd k
 
 -- ---- words and files
@@ -223,11 +239,14 @@ module _ (c : Call) where
   wrong_or_long p s h k = right_or_wrong c.words k.request p k.right.asked h
 
   lacking_or_right : (f : Format) (q : Request) → Causes c (NoLayer f) → IsRight c q → ⊥
-  lacking_or_right f q h k = has_or_lacks f (lacking q c.handed) k.layers (subst (λ r. lacking r c.handed ≡ Some f) (ok_is h.0 q (request_in c.words) h.1 k.asked) h.2)
+  lacking_or_right f q h k = has_or_lacks f (lacking q c.handed) k.layers
+      (subst (λ r. lacking r c.handed ≡ Some f) (ok_is h.0 q (request_in c.words) h.1 k.asked) h.2)
 
   refused_or_long : (x : RuleFault) (s : Status) → HasRuleFault c x → TellsTooLong c s → ⊥
   refused_or_long x s h k =
-      long_or_not (longest_for k.request) (length c.file) k.too_long (subst (λ q. length c.file ≤ longest_for q) (same_request h.request k.request h.right k.right) h.not_too_long)
+      long_or_not (longest_for k.request) (length c.file) k.too_long
+      (subst (λ q. length c.file ≤ longest_for q) (same_request h.request k.request h.right k.right)
+      h.not_too_long)
 
   -- by one status it is told
   told_once : (s u : Status) → TellsTooLong c s → TellsTooLong c u → s ≡ u
@@ -243,7 +262,9 @@ module _ (c : Call) where
   long_once s u h k = absurd k
 
   rule_once : (x y : RuleFault) → HasRuleFault c x → HasRuleFault c y → x ≡ y
-  rule_once x y h k = fault_is x y (tiling_chosen c.file (rule_of k.request)) (subst (λ q. tiling_chosen c.file (rule_of q) ≡ Err x) (same_request h.request k.request h.right k.right) h.first) k.first
+  rule_once x y h k = fault_is x y (tiling_chosen c.file (rule_of k.request))
+      (subst (λ q. tiling_chosen c.file (rule_of q) ≡ Err x)
+      (same_request h.request k.request h.right k.right) h.first) k.first
 
   lacking_once : (f g : Format) → Causes c (NoLayer f) → Causes c (NoLayer g) → f ≡ g
   lacking_once f g h k = some_is f g (sym (subst (λ r. lacking r c.handed ≡ Some f) (ok_is h.0 k.0 (request_in c.words) h.1 k.1) h.2) ∙ k.2)
@@ -277,7 +298,9 @@ module _ (c : Call) where
 
   long_or_asks : (s : Status) (q : Request) (t : Tiling) → TellsTooLong c s → Asks c q t → ⊥
   long_or_asks s q t h k =
-      long_or_not (longest_for q) (length c.file) (subst (λ p. longest_for p < length c.file) (same_request h.request q h.right k.right) h.too_long) k.names.not_too_long
+      long_or_not (longest_for q) (length c.file)
+      (subst (λ p. longest_for p < length c.file) (same_request h.request q h.right k.right) h.too_long)
+      k.names.not_too_long
 
   early_or_asks : (s : Status) (q : Request) (t : Tiling) → IsEarly c s → Asks c q t → ⊥
   early_or_asks (BadWords p) q t h k = right_or_wrong c.words q p k.right.asked h
@@ -286,7 +309,9 @@ module _ (c : Call) where
   early_or_asks (BadScript script.TooLong) q t h k = long_or_asks (BadScript script.TooLong) q t h k
   early_or_asks (BadListing listing.TooLong) q t h k = long_or_asks (BadListing listing.TooLong) q t h k
   early_or_asks (RuleRefused x) q t h k =
-      either t x (tiling_chosen c.file (rule_of q)) k.names.chosen (subst (λ p. tiling_chosen c.file (rule_of p) ≡ Err x) (same_request h.request q h.right k.right) h.first)
+      either t x (tiling_chosen c.file (rule_of q)) k.names.chosen
+      (subst (λ p. tiling_chosen c.file (rule_of p) ≡ Err x) (same_request h.request q h.right k.right)
+      h.first)
   early_or_asks s q t h k = h
 
   -- something to print, where all is done, or the cause of a refusal
@@ -333,8 +358,11 @@ module _ (c : Call) where
   for_asked : (q : Request) (t : Tiling) (s : Status) → Asks c q t → IsOfRequest s → IsOf (HasAnswer q c.file t) (Refuses q c.file t) s
   for_asked q t s k h =
       let same = same_request h.request q h.asks.right k.right in
-      let tiling = tiling_is h.tiling t (tiling_chosen c.file (rule_of q)) (subst (λ p. tiling_chosen c.file (rule_of p) ≡ Ok h.tiling) same h.asks.names.chosen) k.names.chosen in
-      subst (λ x. IsOf (HasAnswer q c.file x) (Refuses q c.file x) s) tiling (subst (λ p. IsOf (HasAnswer p c.file h.tiling) (Refuses p c.file h.tiling) s) same h.holds)
+      let tiling = tiling_is h.tiling t (tiling_chosen c.file (rule_of q))
+      (subst (λ p. tiling_chosen c.file (rule_of p) ≡ Ok h.tiling) same h.asks.names.chosen)
+      k.names.chosen in
+      subst (λ x. IsOf (HasAnswer q c.file x) (Refuses q c.file x) s) tiling
+      (subst (λ p. IsOf (HasAnswer p c.file h.tiling) (Refuses p c.file h.tiling) s) same h.holds)
 
   -- `verify` is asked of the tiling of a built-in rule, and of a window that fits
   has_verdict : (laws : Laws) (q : Request) (t : Tiling) → Asks c q t → HasVerdictFor q t
@@ -342,7 +370,8 @@ module _ (c : Call) where
       let same = builtin-chosen c.file name t asks.names.chosen in
       let frame = subst (λ s. IsFrameOf s f) (sym same) is_frame in
       let fits = window-fits t.order c.words name addr seed window asks.right.asked in
-      subst (λ (s : Tiling). HasOneVerdict s f (window_in t.order window) file) same (laws.one_verdict name f (window_in t.order window) file frame fits)
+      subst (λ (s : Tiling). HasOneVerdict s f (window_in t.order window) file) same
+      (laws.one_verdict name f (window_in t.order window) file frame fits)
   has_verdict laws q t asks = tt
 
   -- the two are the same, or both are limits of what is asked for
@@ -354,7 +383,8 @@ module _ (c : Call) where
 
   asked_once : (laws : Laws) (s u : Status) → IsOfRequest s → IsOfRequest u → AreOne s u
   asked_once laws s u h k =
-      elim (request_once laws k.tiling (usable laws k.request k.tiling k.asks) k.request c.file s u (has_verdict laws k.request k.tiling k.asks) (for_asked k.request k.tiling s k.asks h) k.holds) [
+      elim (request_once laws k.tiling (usable laws k.request k.tiling k.asks) k.request c.file s u
+      (has_verdict laws k.request k.tiling k.asks) (for_asked k.request k.tiling s k.asks h) k.holds) [
         | inl e ↦ inl e
         | inr l ↦ inr (k.request, k.asks.right.asked, l.0, l.1)
       ]
@@ -364,7 +394,8 @@ module _ (c : Call) where
   limit_beyond laws s h k =
       elim (early_or_request s h) [
         | inl e ↦ absurd (early_or_asks s k.request k.tiling e k.asks)
-        | inr e ↦ request_beyond laws k.tiling (usable laws k.request k.tiling k.asks) k.request c.file s (has_verdict laws k.request k.tiling k.asks) (for_asked k.request k.tiling s k.asks e) k.holds
+        | inr e ↦ request_beyond laws k.tiling (usable laws k.request k.tiling k.asks) k.request c.file s
+            (has_verdict laws k.request k.tiling k.asks) (for_asked k.request k.tiling s k.asks e) k.holds
       ]
 
   pub one_answer : (laws : Laws) (s u : Status) → Outcome s → Outcome u → AreOne s u

@@ -21,7 +21,8 @@ use Rattle.tile_app.specs.Pictures.{IsPictureOf, AreDrawnWhole}
 use Rattle.tile_app.specs.TilesOfWindow.{TilesOfWindow}
 use Rattle.tile_app.proofs.Gluing.{glued-in_window}
 
-module _ (glue : Bool) (t : Tiling) (w : Window) (f g : FrameValue) (within : IsWithinLimits t f w) (tiles : List PlacedTile) (exactly : TilesOfWindow t f w g tiles) where
+module _ (glue : Bool) (t : Tiling) (w : Window) (f g : FrameValue) (within : IsWithinLimits t f w)
+    (tiles : List PlacedTile) (exactly : TilesOfWindow t f w g tiles) where
   pictures : (picture : List Drawn) → (glue ≡ true → CanBeGluedInWindow t f w) → IsPictureOf glue t w g tiles picture → Pictures glue t f w picture
   pictures picture can_be_glued is_picture = record {
     within = record { within = within; can_be_glued = can_be_glued };
@@ -34,11 +35,14 @@ module _ (glue : Bool) (t : Tiling) (w : Window) (f g : FrameValue) (within : Is
   -- without glue the window's tiles
   pub pictures-tiles : glue ≡ false → Pictures glue t f w (map (drawn_of t) tiles)
   pictures-tiles asked =
-      pictures (map (drawn_of t) tiles) (λ e. absurd (cc (asked, e))) (subst (λ b. IsPictureOf b t w g tiles (map (drawn_of t) tiles)) (sym asked) refl)
+      pictures (map (drawn_of t) tiles) (λ e. absurd (cc (asked, e)))
+      (subst (λ b. IsPictureOf b t w g tiles (map (drawn_of t) tiles)) (sym asked) refl)
 
   -- and with glue the whole tiles of theirs, by the laws of whole tiles
-  module _ (asked : glue ≡ true) (counts : WholesCountLaw t) (covering : WholesCoverLaw t) (h : FrameValue) (grown_on : GrowsTo t g h) (depth : IsLeastForGlue t g tiles (length h.digits))
-      (can : CanBeGlued t g tiles) (wholes : List WholeTile) (whole_tiles : AreWholeTilesOf t h tiles wholes) (ordered : glued.AreInOrder wholes) where
+  module _ (asked : glue ≡ true) (counts : WholesCountLaw t) (covering : WholesCoverLaw t) (h : FrameValue)
+      (grown_on : GrowsTo t g h) (depth : IsLeastForGlue t g tiles (length h.digits))
+      (can : CanBeGlued t g tiles) (wholes : List WholeTile) (whole_tiles : AreWholeTilesOf t h tiles wholes)
+      (ordered : glued.AreInOrder wholes) where
     are-whole : AreDrawnWhole t w g tiles (map (drawn_whole t) wholes)
     are-whole = record {
       can_be_glued = can;

@@ -24,7 +24,8 @@ zero≤ : (n : ℕ) → 0 ≤ n
 zero≤ n = omega arith
 
 -- no file is read
-module _ (words : List (List ℕ)) (handed : List Format) (name : Name) (addr : List ℕ) (right : request_in words ≡ Ok (Place (Builtin name) addr)) (left : Option (List ℕ)) where
+module _ (words : List (List ℕ)) (handed : List Format) (name : Name) (addr : List ℕ)
+    (right : request_in words ≡ Ok (Place (Builtin name) addr)) (left : Option (List ℕ)) where
   abbrev asked : Request
   asked = Place (Builtin name) addr
 
@@ -35,7 +36,9 @@ module _ (words : List (List ℕ)) (handed : List Format) (name : Name) (addr : 
   rule = record { file = []; read = refl; not_too_long = zero≤ longest_file; chosen = refl }
 
   pub named_printed : (text : List ℕ) → OfTile t addr (λ a. PrintsPlace t a text) → OfCall words handed left left (λ c. Prints c text)
-  named_printed text h = prints_asked words handed asked right refl t left left left rule (λ e. refl) (λ e. refl) text (alone_printed asked t left refl text h)
+  named_printed text h = prints_asked words handed asked right refl t left left left rule (λ e. refl)
+      (λ e. refl) text (alone_printed asked t left refl text h)
 
   pub named_refused : (s : Status) → OrNoMemory (TileRefuses t addr (PlaceRefuses t)) s → IsRefused words handed left left s
-  named_refused s h = request_refused words handed asked right refl t left left left rule (λ e. refl) (λ e. refl) s (alone_refused asked t left refl s h)
+  named_refused s h = request_refused words handed asked right refl t left left left rule (λ e. refl)
+      (λ e. refl) s (alone_refused asked t left refl s h)

@@ -7,7 +7,7 @@ use Rattle.cyclo_points.specs.Point.{point_in}
 use Rattle.rule_model.specs.declared.rule.Rule.{Rule}
 use Rattle.rule_model.specs.Usable.{IsSmall, IsUsable}
 use Rattle.rule_model.specs.Views.{rule_of}
-use Rattle.substitution.specs.RuleParts.{vertices_of, edge_count}
+use Rattle.theory_substitution.specs.RuleParts.{vertices_of, edge_count}
 
 pub record HasVertices (m : Rule) (kind : ℕ) (vs : List Point) : Type 0 where
   pub numbers : map (point_in m.order) vs ≡ vertices_of (rule_of m) kind
@@ -15,9 +15,12 @@ pub record HasVertices (m : Rule) (kind : ℕ) (vs : List Point) : Type 0 where
   pub small : All (IsSmall m.order) vs
 
 -- those that a checked rule has are those of the machine's rule
-pub its-vertices : (m r : Rule) (kind : ℕ) (vs : List Point) → r ≡ m → map (point_in r.order) vs ≡ vertices_of (rule_of r) kind → length vs ≡ edge_count (rule_of r) kind → All (IsSmall r.order) vs
+pub its-vertices : (m r : Rule) (kind : ℕ) (vs : List Point) → r ≡ m
+    → map (point_in r.order) vs ≡ vertices_of (rule_of r) kind → length vs ≡ edge_count (rule_of r) kind
+    → All (IsSmall r.order) vs
     → HasVertices m kind vs
-its-vertices m r kind vs same numbers each small = subst (λ q. HasVertices q kind vs) same (record { numbers = numbers; each_edge = each; small = small })
+its-vertices m r kind vs same numbers each small = subst (λ q. HasVertices q kind vs) same
+    (record { numbers = numbers; each_edge = each; small = small })
 
 -- as many vertices
 pub as-many : (m : Rule) (kind : ℕ) (vs : List Point) → HasVertices m kind vs → length vs ≡ length (vertices_of (rule_of m) kind)

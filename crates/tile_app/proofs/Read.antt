@@ -63,7 +63,8 @@ its_tiling (Verify name addr seed window) left rest t h = sym (ok_is (builtin_ti
 its_tiling q left rest t h = tt
 
 -- what a request of the rule of a file prints, or is refused for, doesn't speak of a file of its own
-pub prints_without : (t : Tiling) (text : List ℕ) (q : Request) → rule_of q ≡ File → (file other : List ℕ) → IsPrinted q file t text → IsPrinted q other t text
+pub prints_without : (t : Tiling) (text : List ℕ) (q : Request) → rule_of q ≡ File → (file other : List ℕ)
+    → IsPrinted q file t text → IsPrinted q other t text
 prints_without t text (Calc name) e file other h = absurd (cc e)
 prints_without t text (Verify name addr seed window) e file other h = absurd (cc e)
 prints_without t text (Place rule addr) e file other h = h
@@ -104,8 +105,10 @@ right_false false b e = e
 rule_has_file : (q : Request) (b : Bool) → is_file (rule_of q) ≡ b → has_file q ≡ b || has_own_file q
 rule_has_file q b e = ap (λ c. c || has_own_file q) e
 
-module _ (q : Request) (t : Tiling) (left mid rest : Option (List ℕ)) (P : List ℕ → Type 0) (without : rule_of q ≡ File → (file other : List ℕ) → P file → P other)
-    (rule : IsRuleRead (rule_of q) left mid t) (unread : is_file (rule_of q) ≡ false → mid ≡ left) (unread_own : has_own_file q ≡ false → rest ≡ mid) (own : OfOwnFile q mid rest P) where
+module _ (q : Request) (t : Tiling) (left mid rest : Option (List ℕ)) (P : List ℕ → Type 0)
+    (without : rule_of q ≡ File → (file other : List ℕ) → P file → P other)
+    (rule : IsRuleRead (rule_of q) left mid t) (unread : is_file (rule_of q) ≡ false → mid ≡ left)
+    (unread_own : has_own_file q ≡ false → rest ≡ mid) (own : OfOwnFile q mid rest P) where
   by_choice : (choice : RuleChoice) → rule_of q ≡ choice → OfItsFile q left rest t P
   by_choice File e =
       let n : longest_for q ≡ longest_file = ap (λ k. longest_of k) (rule_kind q e) in
@@ -113,7 +116,8 @@ module _ (q : Request) (t : Tiling) (left mid rest : Option (List ℕ)) (P : Lis
       let there = subst (λ r. WasFileIn longest_file (is_file (rule_of q)) left r rule.file) (sym (unread_own (own_or_rule q e))) rule.read in
       record {
         file = rule.file;
-        read = subst (λ m. WasFileIn m (has_file q) left rest rule.file) (sym n) (subst (λ b. WasFileIn longest_file b left rest rule.file) reads there);
+        read = subst (λ m. WasFileIn m (has_file q) left rest rule.file) (sym n)
+            (subst (λ b. WasFileIn longest_file b left rest rule.file) reads there);
         not_too_long = subst (λ m. length rule.file ≤ m) (sym n) rule.not_too_long;
         chosen = rule.chosen;
         holds = without e own.file rule.file own.holds;
@@ -151,14 +155,17 @@ module _ (words : List (List ℕ)) (handed : List Format) (q : Request) (right :
   is_right : (file : List ℕ) → IsRight (call file) q
   is_right file = record { asked = right; layers = have }
 
-  was_asked : (left rest : Option (List ℕ)) (file : List ℕ) → WasFileIn (longest_for q) (has_file q) left rest file → WasAsked words handed left rest (call file)
+  was_asked : (left rest : Option (List ℕ)) (file : List ℕ)
+      → WasFileIn (longest_for q) (has_file q) left rest file → WasAsked words handed left rest (call file)
   was_asked left rest file h = record {
     by_words = refl;
     by_layers = refl;
-    from_source = subst (λ n. WasFileIn n (reads_file words handed) left rest file) (sym longest_is) (subst (λ b. WasFileIn (longest_for q) b left rest file) (sym reads_is) h);
+    from_source = subst (λ n. WasFileIn n (reads_file words handed) left rest file) (sym longest_is)
+        (subst (λ b. WasFileIn (longest_for q) b left rest file) (sym reads_is) h);
   }
 
-  of_request : (t : Tiling) (left rest : Option (List ℕ)) (P : Request → List ℕ → Tiling → Type 0) → OfItsFile q left rest t (λ file. P q file t) → OfCall words handed left rest (OfRequest P)
+  of_request : (t : Tiling) (left rest : Option (List ℕ)) (P : Request → List ℕ → Tiling → Type 0)
+      → OfItsFile q left rest t (λ file. P q file t) → OfCall words handed left rest (OfRequest P)
   of_request t left rest P h = (
     call h.file,
     was_asked left rest h.file h.read,
@@ -181,7 +188,8 @@ module _ (words : List (List ℕ)) (handed : List Format) (q : Request) (right :
     rule_too_long : WasRead longest_file left rest file → longest_file < length file → OfCall words handed left rest (λ c. TellsTooLong c RuleTooLong)
     rule_too_long read long = (
       call file,
-      was_asked left rest file (subst (λ b. WasFileIn (longest_for q) b left rest file) (sym (is_its_file e)) (subst (λ n. WasRead n left rest file) (sym rule_longest) read)),
+      was_asked left rest file (subst (λ b. WasFileIn (longest_for q) b left rest file) (sym (is_its_file e))
+          (subst (λ n. WasRead n left rest file) (sym rule_longest) read)),
       record {
         request = q;
         right = is_right file;
@@ -191,10 +199,13 @@ module _ (words : List (List ℕ)) (handed : List Format) (q : Request) (right :
       },
     )
 
-    rule_faulty : (fault : RuleFault) → WasRead longest_file left rest file → length file ≤ longest_file → tiling_chosen file (rule_of q) ≡ Err fault → OfCall words handed left rest (λ c. HasRuleFault c fault)
+    rule_faulty : (fault : RuleFault) → WasRead longest_file left rest file → length file ≤ longest_file
+        → tiling_chosen file (rule_of q) ≡ Err fault
+        → OfCall words handed left rest (λ c. HasRuleFault c fault)
     rule_faulty fault read short first = (
       call file,
-      was_asked left rest file (subst (λ b. WasFileIn (longest_for q) b left rest file) (sym (is_its_file e)) (subst (λ n. WasRead n left rest file) (sym rule_longest) read)),
+      was_asked left rest file (subst (λ b. WasFileIn (longest_for q) b left rest file) (sym (is_its_file e))
+          (subst (λ n. WasRead n left rest file) (sym rule_longest) read)),
       record { request = q; right = is_right file; not_too_long = subst (λ n. length file ≤ n) (sym rule_longest) short; first = first },
     )
 
@@ -213,55 +224,67 @@ module _ (words : List (List ℕ)) (handed : List Format) (q : Request) (right :
   rule_refused left rest s h = absurd h
 
   -- ---- the request itself
-  module _ (t : Tiling) (left mid rest : Option (List ℕ)) (rule : IsRuleRead (rule_of q) left mid t) (unread : is_file (rule_of q) ≡ false → mid ≡ left) (unread_own : has_own_file q ≡ false → rest ≡ mid) where
-    pub prints_asked : (text : List ℕ) → OfOwnFile q mid rest (λ file. IsPrinted q file t text) → OfCall words handed left rest (λ c. Prints c text)
-    prints_asked text own =
-        of_request t left rest (λ p file u. IsPrinted p file u text) (its_file q t left mid rest (λ file. IsPrinted q file t text) (prints_without t text q) rule unread unread_own own)
+  module _ (t : Tiling) (left mid rest : Option (List ℕ)) (rule : IsRuleRead (rule_of q) left mid t)
+      (unread : is_file (rule_of q) ≡ false → mid ≡ left) (unread_own : has_own_file q ≡ false → rest ≡ mid)
+    where
+      pub prints_asked : (text : List ℕ) → OfOwnFile q mid rest (λ file. IsPrinted q file t text) → OfCall words handed left rest (λ c. Prints c text)
+      prints_asked text own =
+          of_request t left rest (λ p file u. IsPrinted p file u text)
+          (its_file q t left mid rest (λ file. IsPrinted q file t text) (prints_without t text q) rule
+          unread unread_own own)
 
-    refused_asked : (s : Status) → OfOwnFile q mid rest (λ file. Refuses q file t s) → OfCall words handed left rest (OfRequest (λ p file u. Refuses p file u s))
-    refused_asked s own =
-        of_request t left rest (λ p file u. Refuses p file u s) (its_file q t left mid rest (λ file. Refuses q file t s) (refuses_without t s q) rule unread unread_own own)
+      refused_asked : (s : Status) → OfOwnFile q mid rest (λ file. Refuses q file t s)
+          → OfCall words handed left rest (OfRequest (λ p file u. Refuses p file u s))
+      refused_asked s own =
+          of_request t left rest (λ p file u. Refuses p file u s)
+          (its_file q t left mid rest (λ file. Refuses q file t s) (refuses_without t s q) rule unread
+          unread_own own)
 
-    -- by its own cause
-    own_refused : (s : Status) → OfOwnFile q mid rest (λ file. Refuses q file t s) → IsRefused words handed left rest s
-    own_refused (BadWords place) h = absurd (no_words h.file t place q h.holds)
-    own_refused (NoLayer format) h = absurd (no_layer h.file t format q h.holds)
-    own_refused ReadFault h = absurd (no_read_fault h.file t q h.holds)
-    own_refused RuleTooLong h = absurd (no_long_rule h.file t q h.holds)
-    own_refused (RuleRefused fault) h = absurd (no_rule h.file t fault q h.holds)
-    own_refused (BadScript script.TooLong) h = absurd (no_long_script h.file t q h.holds)
-    own_refused (BadListing listing.TooLong) h = let k = refused_asked (BadListing listing.TooLong) h in (k.0, k.1, inr k.2)
-    own_refused NoMemory h = (q, right, have)
-    own_refused s h = refused_asked s h
+      -- by its own cause
+      own_refused : (s : Status) → OfOwnFile q mid rest (λ file. Refuses q file t s) → IsRefused words handed left rest s
+      own_refused (BadWords place) h = absurd (no_words h.file t place q h.holds)
+      own_refused (NoLayer format) h = absurd (no_layer h.file t format q h.holds)
+      own_refused ReadFault h = absurd (no_read_fault h.file t q h.holds)
+      own_refused RuleTooLong h = absurd (no_long_rule h.file t q h.holds)
+      own_refused (RuleRefused fault) h = absurd (no_rule h.file t fault q h.holds)
+      own_refused (BadScript script.TooLong) h = absurd (no_long_script h.file t q h.holds)
+      own_refused (BadListing listing.TooLong) h = let k = refused_asked (BadListing listing.TooLong) h in (k.0, k.1, inr k.2)
+      own_refused NoMemory h = (q, right, have)
+      own_refused s h = refused_asked s h
 
-    -- or its own file is too long
-    long_call : (s : Status) → IsOwnTooLong q mid rest s → OfCall words handed left rest (λ c. TellsTooLong c s)
-    long_call s h =
-        let none = own_builtin q h.reads in
-        let own : has_file q ≡ true = rule_has_file q false none ∙ h.reads in (
-          call h.file,
-          was_asked left rest h.file (subst (λ b. WasFileIn (longest_for q) b left rest h.file) (sym own) (subst (λ l. WasRead (longest_for q) l rest h.file) (unread none) h.read)),
-          record { request = q; right = is_right h.file; reads = own; too_long = h.too_long; told = h.told },
-        )
+      -- or its own file is too long
+      long_call : (s : Status) → IsOwnTooLong q mid rest s → OfCall words handed left rest (λ c. TellsTooLong c s)
+      long_call s h =
+          let none = own_builtin q h.reads in
+          let own : has_file q ≡ true = rule_has_file q false none ∙ h.reads in (
+            call h.file,
+            was_asked left rest h.file (subst (λ b. WasFileIn (longest_for q) b left rest h.file) (sym own)
+                (subst (λ l. WasRead (longest_for q) l rest h.file) (unread none) h.read)),
+            record { request = q; right = is_right h.file; reads = own; too_long = h.too_long; told = h.told },
+          )
 
-    long_refused : (p : Request) → q ≡ p → (s : Status) → IsOwnTooLong q mid rest s → has_own_file p ≡ true → s ≡ too_long_for p → IsRefused words handed left rest s
-    long_refused (Calc name) same s h own told = subst (IsRefused words handed left rest) (sym told) (long_call (BadScript script.TooLong) (subst (IsOwnTooLong q mid rest) told h))
-    long_refused (Verify name addr seed window) same s h own told =
-        let k = long_call (BadListing listing.TooLong) (subst (IsOwnTooLong q mid rest) told h) in
-        subst (IsRefused words handed left rest) (sym told) (k.0, k.1, inl k.2)
-    long_refused p same s h own told = absurd (cc own)
+      long_refused : (p : Request) → q ≡ p → (s : Status) → IsOwnTooLong q mid rest s → has_own_file p ≡ true
+          → s ≡ too_long_for p → IsRefused words handed left rest s
+      long_refused (Calc name) same s h own told = subst (IsRefused words handed left rest) (sym told)
+          (long_call (BadScript script.TooLong) (subst (IsOwnTooLong q mid rest) told h))
+      long_refused (Verify name addr seed window) same s h own told =
+          let k = long_call (BadListing listing.TooLong) (subst (IsOwnTooLong q mid rest) told h) in
+          subst (IsRefused words handed left rest) (sym told) (k.0, k.1, inl k.2)
+      long_refused p same s h own told = absurd (cc own)
 
-    either_refused : (s : Status) → IsOwnTooLong q mid rest s ⊎ OfOwnFile q mid rest (λ file. Refuses q file t s) → IsRefused words handed left rest s
-    either_refused s (inl h) = long_refused q refl s h h.reads h.told
-    either_refused s (inr h) = own_refused s h
+      either_refused : (s : Status) → IsOwnTooLong q mid rest s
+          ⊎ OfOwnFile q mid rest (λ file. Refuses q file t s) → IsRefused words handed left rest s
+      either_refused s (inl h) = long_refused q refl s h h.reads h.told
+      either_refused s (inr h) = own_refused s h
 
-    pub request_refused : (s : Status) → IsRequestRefused q t mid rest s → IsRefused words handed left rest s
-    request_refused NoMemory h = (q, right, have)
-    request_refused ReadFault h = reads_is ∙ rule_has_file q false (own_builtin q h) ∙ h
-    request_refused s h = either_refused s h
+      pub request_refused : (s : Status) → IsRequestRefused q t mid rest s → IsRefused words handed left rest s
+      request_refused NoMemory h = (q, right, have)
+      request_refused ReadFault h = reads_is ∙ rule_has_file q false (own_builtin q h) ∙ h
+      request_refused s h = either_refused s h
 
 -- ---- words that aren't right make this call of any source, which isn't read
-pub wrong_words : (words : List (List ℕ)) (handed : List Format) (left : Option (List ℕ)) (place : ℕ) → request_in words ≡ Err place → wrong_place words ≡ Some place
+pub wrong_words : (words : List (List ℕ)) (handed : List Format) (left : Option (List ℕ)) (place : ℕ)
+    → request_in words ≡ Err place → wrong_place words ≡ Some place
     → OfCall words handed left left (λ c. wrong_place c.words ≡ Some place)
 wrong_words words handed left place e wrong = (
   record { words = words; handed = handed; file = [] },
@@ -274,14 +297,16 @@ wrong_words words handed left place e wrong = (
 )
 
 -- and so do right words one of whose formats has no layer
-pub layer_lacks : (words : List (List ℕ)) (handed : List Format) (left : Option (List ℕ)) (q : Request) (format : Format) → request_in words ≡ Ok q → lacking q handed ≡ Some format
+pub layer_lacks : (words : List (List ℕ)) (handed : List Format) (left : Option (List ℕ)) (q : Request)
+    (format : Format) → request_in words ≡ Ok q → lacking q handed ≡ Some format
     → OfCall words handed left left (λ c. Causes c (NoLayer format))
 layer_lacks words handed left q format right lacks = (
   record { words = words; handed = handed; file = [] },
   record {
     by_words = refl;
     by_layers = refl;
-    from_source = subst (λ b. WasFileIn (longest_read words) b left left []) (sym (ap (λ r. has_file_in r handed) right ∙ ap (λ l. is_none l && has_file q) lacks)) refl;
+    from_source = subst (λ b. WasFileIn (longest_read words) b left left [])
+        (sym (ap (λ r. has_file_in r handed) right ∙ ap (λ l. is_none l && has_file q) lacks)) refl;
   },
   (q, right, lacks),
 )

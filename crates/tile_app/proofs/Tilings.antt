@@ -1,8 +1,8 @@
 -- The tilings that are named: of a rule that is made for a name, of one that is read, and of which child kinds.
 use Rattle.std.proofs.Common.{◌≡◌, ℕ, List, Result, Ok, Err, Some, None, refl, ap, ◌∙◌, subst}
 use Rattle.std.specs.declared.option.Option.{Option}
-use Rattle.substitution.specs.RuleParts.{map_rule}
-use Rattle.substitution.specs.Rule.{Rule as TheRule, child_kinds}
+use Rattle.theory_substitution.specs.RuleParts.{map_rule}
+use Rattle.theory_substitution.specs.Rule.{Rule as TheRule, child_kinds}
 use Rattle.cyclo_points.specs.declared.order.Order.{Order}
 use Rattle.cyclo_points.specs.declared.point.Point.{Point}
 use Rattle.cyclo_points.specs.Point.{point_in}
@@ -43,10 +43,12 @@ file_is_usable law t (Err e) h = absurd (cc h)
 file_is_usable law t (Ok x) h = at_fault (fault_of_lists x.edition x.order x.rule) refl h
   where
     at_fault : (o : Option CheckFault) → fault_of_lists x.edition x.order x.rule ≡ o → tiling_unless o x ≡ Ok t → AreUsable (child_kinds t.rule)
-    at_fault None f g = subst (λ (s : Tiling). AreUsable (child_kinds s.rule)) (ok_is (tiling_listed x) t (Ok (tiling_listed x)) refl g) (law x.edition x.order x.rule f)
+    at_fault None f g = subst (λ (s : Tiling). AreUsable (child_kinds s.rule))
+        (ok_is (tiling_listed x) t (Ok (tiling_listed x)) refl g) (law x.edition x.order x.rule f)
     at_fault (Some e) f g = absurd (cc g)
 
-pub chosen_is_usable : AcceptedAreUsable → (file : List ℕ) (t : Tiling) (choice : RuleChoice) → tiling_chosen file choice ≡ Ok t → AreUsable (child_kinds t.rule)
+pub chosen_is_usable : AcceptedAreUsable → (file : List ℕ) (t : Tiling) (choice : RuleChoice)
+    → tiling_chosen file choice ≡ Ok t → AreUsable (child_kinds t.rule)
 chosen_is_usable law file t File h = file_is_usable law t (rule_in_file file) h
 chosen_is_usable law file t (Builtin name) h =
     subst (λ (s : Tiling). AreUsable (child_kinds s.rule)) (ok_is (builtin_tiling name) t (Ok (builtin_tiling name)) refl h) (rows_usable name)

@@ -26,7 +26,8 @@ pub corners-more : (t : Tiling) (cs : List Corner) (i : ℕ) (k : Corner) (text 
 corners-more t cs i k text new l is so_far e =
     e ∙ ap (λ xs. xs ++ corner_line t (corner_in t.order k)) so_far
     ∙ flat_map_more (corner_line t) [] (map (corner_in t.order) (take i cs)) (corner_in t.order k)
-    ∙ ap (flat_map (corner_line t)) (sym (map-append (corner_in t.order) (take i cs) (k ∷ [])) ∙ ap (map (corner_in t.order)) (ap (λ y. take i cs ++ y ∷ []) is ∙ sym (take_more cs i k l)))
+    ∙ ap (flat_map (corner_line t)) (sym (map-append (corner_in t.order) (take i cs) (k ∷ []))
+    ∙ ap (map (corner_in t.order)) (ap (λ y. take i cs ++ y ∷ []) is ∙ sym (take_more cs i k l)))
 
 -- a fault of the turn is refused for its cause
 pub turning_ends : (t : Tiling) (f : FrameValue) (vertex : ℕ) (passes : PassesStarLimits t f vertex) (frame : FrameValue) → GrowsTo t f frame
@@ -42,8 +43,10 @@ module _ (t : Tiling) (f : FrameValue) (window : Window) (file : List ℕ) where
   listing_fault frame grown fault cause = record { frame = frame; grown = grown; cause = cause }
 
   pub listing_refused : {T U : Type 0} (g : FrameValue) → GrowsTo t f g → (answer : Result T ListFault) (fault : ListFault) → answer ≡ Err fault
-      → IfErr answer (λ e. listed.HasCause t f g window file e) → (r : Result U Status) (s : Status) → r ≡ Err s → s ≡ status_of_list fault → IfErr r (OrNoMemory (VerifyRefuses t f window file))
+      → IfErr answer (λ e. listed.HasCause t f g window file e) → (r : Result U Status) (s : Status)
+      → r ≡ Err s → s ≡ status_of_list fault → IfErr r (OrNoMemory (VerifyRefuses t f window file))
   listing_refused g grown answer fault was cause r s e same =
       let here : listed.HasCause t f g window file fault = subst (λ a. IfErr a (λ e. listed.HasCause t f g window file e)) was cause in
       let refused = listing_fault g grown fault here in
-      subst (λ x. IfErr x (OrNoMemory (VerifyRefuses t f window file))) (sym e) (subst (OrNoMemory (VerifyRefuses t f window file)) (sym same) refused)
+      subst (λ x. IfErr x (OrNoMemory (VerifyRefuses t f window file))) (sym e)
+      (subst (OrNoMemory (VerifyRefuses t f window file)) (sym same) refused)

@@ -18,7 +18,9 @@ use Rattle.window_cover.specs.Windows.{IsWindow}
 use Rattle.tile_app.specs.DrawnTile.{point_of}
 use Rattle.tile_app.specs.Windows.{reduced, window_in}
 
-pub window_made : (half : HalfExtents) {p q : Point} → p ≡ q → (let v : Window = record { centre = p; w = half.w; h = half.h } in v) ≡ record { centre = q; w = half.w; h = half.h }
+pub window_made : (half : HalfExtents) {p q : Point} → p ≡ q
+    → (let v : Window = record { centre = p; w = half.w; h = half.h } in v) ≡ record
+    { centre = q; w = half.w; h = half.h }
 window_made half e = ap (λ c. (let v : Window = record { centre = c; w = half.w; h = half.h } in v)) e
 
 -- ---- a centre is small, also where orders four and six reduce it
@@ -47,7 +49,9 @@ reduced-within Ten p h = subst (λ z. IsWithin (2 ^ 22) (point_of Ten z)) (reduc
     whole p h = let k = point_wider (2 ^ 20) (2 ^ 22) p (lit≤ tt) h in record { at_0 = k.at_0; at_1 = k.at_1; at_2 = k.at_2; at_3 = k.at_3 }
 
 -- the window of `verify`
-pub window-fits : (o : Order) (words : List (List ℕ)) (name : Name) (addr : List ℕ) (seed : ℕ) (window : WindowAsked) → request_in words ≡ Ok (Verify name addr seed window) → IsWindow (window_in o window)
+pub window-fits : (o : Order) (words : List (List ℕ)) (name : Name) (addr : List ℕ) (seed : ℕ)
+    (window : WindowAsked) → request_in words ≡ Ok (Verify name addr seed window)
+    → IsWindow (window_in o window)
 window-fits o words name addr seed window e =
     let fit = window-asked name addr seed window words e in
     record {

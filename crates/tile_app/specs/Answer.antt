@@ -1,6 +1,6 @@
 -- What a request is answered, by its cases.
 use Rattle.std.specs.Prelude.{◌≡◌, ℕ, List}
-use Rattle.addressing.specs.Address.{Address}
+use Rattle.theory_addresses.specs.Address.{Address}
 use Rattle.call_words.specs.Request.{Request}
 use Rattle.call_words.specs.Request.Request.{Place, Neighbour, Walk, Draw, Check, Calc, Drill, Star, Verify}
 use Rattle.list_verify.specs.Verdict.{LacksTiles}

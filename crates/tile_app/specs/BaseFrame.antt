@@ -1,6 +1,6 @@
 -- The frame of a base, before it grows.
 use Rattle.std.specs.Prelude.{◌≡◌, ℕ, List}
-use Rattle.addressing.specs.Address.{Address}
+use Rattle.theory_addresses.specs.Address.{Address}
 use Rattle.lazy_walk.specs.Frames.{FrameValue, IsFrameOf}
 use Rattle.rule_model.specs.Tiling.{Tiling}
 use Rattle.tile_app.specs.Tile.{IsTile}

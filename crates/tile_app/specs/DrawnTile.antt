@@ -1,8 +1,8 @@
 -- A tile of a tiling, and a whole tile, as they are drawn.
 use Rattle.std.specs.Prelude.{◌≡◌, ℕ, ◌<◌, ◌^◌, map, Option, None, Some, length}
 use Rattle.std.specs.Option.{option_map}
-use Rattle.substitution.specs.Motion.{moved}
-use Rattle.substitution.specs.RuleParts.{vertices_of}
+use Rattle.theory_substitution.specs.Motion.{moved}
+use Rattle.theory_substitution.specs.RuleParts.{vertices_of}
 use Rattle.cyclo_points.specs.declared.order.Order.{Order}
 use Rattle.cyclo_points.specs.declared.point.Point.{Point}
 use Rattle.cyclo_points.specs.declared.motion.Motion.{Motion}

@@ -1,6 +1,6 @@
 -- The headline, as the two commands that carry it print it.
 use Rattle.std.specs.Prelude.{◌≡◌, ℕ, Bool, List}
-use Rattle.addressing.specs.Address.{Address}
+use Rattle.theory_addresses.specs.Address.{Address}
 use Rattle.layer_api.specs.declared.drawn.Drawn.{Drawn}
 use Rattle.layer_api.specs.declared.format.Format.{Format}
 use Rattle.lazy_walk.specs.Frames.{FrameValue}

@@ -1,7 +1,7 @@
 -- What `neighbour` prints of an edge of a tile, and what it refuses.
 use Rattle.std.specs.Prelude.{◌≡◌, ℕ, ◌<◌, ◌≤◌, List, [], ◌∷◌, ◌++◌}
 use Rattle.std.specs.Fmt.{decimal}
-use Rattle.addressing.specs.Address.{Address}
+use Rattle.theory_addresses.specs.Address.{Address}
 use Rattle.cyclo_points.specs.Text.{blank, newline}
 use Rattle.rule_model.specs.Tiling.{Tiling}
 use Rattle.tile_place.specs.Crossed.{IsOnlyAcross, LiesAlongNone, IsOutside, edges_of}

@@ -1,8 +1,8 @@
 -- What `place` prints of a tile, and what it refuses.
 use Rattle.std.specs.Prelude.{◌≡◌, ℕ, List, [], ◌∷◌, ◌++◌, Some, None}
 use Rattle.std.specs.Fmt.{decimal}
-use Rattle.addressing.specs.Address.{Address}
-use Rattle.substitution.specs.Motion.{Motion}
+use Rattle.theory_addresses.specs.Address.{Address}
+use Rattle.theory_substitution.specs.Motion.{Motion}
 use Rattle.cyclo_points.specs.declared.order.Order.{Order}
 use Rattle.cyclo_points.specs.declared.point.Point.{Point}
 use Rattle.cyclo_points.specs.Order.{NumberOf, coefficients}

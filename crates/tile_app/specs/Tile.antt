@@ -1,6 +1,6 @@
 -- A tile by the text of its address.
 use Rattle.std.specs.Prelude.{◌≡◌, ℕ, Bool, List, is_ok}
-use Rattle.addressing.specs.Address.{Address}
+use Rattle.theory_addresses.specs.Address.{Address}
 use Rattle.rule_model.specs.Tiling.{Tiling, children}
 use Rattle.tile_shape.specs.Accepted.{IsAcceptedAddress}
 use Rattle.tile_shape.specs.AddressIn.{address_in}

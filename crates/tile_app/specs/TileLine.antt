@@ -2,11 +2,11 @@
 use Rattle.std.specs.Prelude.{ℕ, List, [], ◌∷◌, ◌++◌, codes, None, Some}
 use Rattle.std.specs.declared.option.Option.{Option}
 use Rattle.std.specs.Fmt.{decimal}
-use Rattle.addressing.specs.Address.{Address}
+use Rattle.theory_addresses.specs.Address.{Address}
 use Rattle.cyclo_points.specs.declared.order.Order.{Order}
 use Rattle.cyclo_points.specs.Order.{NumberOf}
 use Rattle.cyclo_points.specs.Text.{number_text, blank, newline}
-use Rattle.substitution.specs.Motion.{Motion}
+use Rattle.theory_substitution.specs.Motion.{Motion}
 use Rattle.tile_shape.specs.Text.{address_text}
 
 -- the number of an edge or a vertex, or `-` where there is none

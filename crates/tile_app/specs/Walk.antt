@@ -1,9 +1,9 @@
 -- What `walk` prints of a path in a frame, and what it refuses.
 use Rattle.std.specs.Prelude.{◌≡◌, ℕ, ◌<◌, ◌≤◌, max, List, [], ◌∷◌, ◌++◌, None, Some}
 use Rattle.std.specs.declared.option.Option.{Option}
-use Rattle.addressing.specs.Address.{Address, depth}
+use Rattle.theory_addresses.specs.Address.{Address, depth}
 use Rattle.cyclo_points.specs.Order.{points_of}
-use Rattle.frames.specs.Frame.{StandsInFrame}
+use Rattle.theory_frames.specs.Frame.{StandsInFrame}
 use Rattle.lazy_walk.specs.Frames.{FrameValue, whole, at_depth}
 use Rattle.lazy_walk.specs.Paths.{CanBeWalked, IsStopped, IsStoppedAt, LacksEdge}
 use Rattle.rule_model.specs.Tiling.{Tiling, MotionOf}

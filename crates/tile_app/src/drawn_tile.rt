@@ -7,8 +7,8 @@ ghost use Rattle.half_glue.specs.Outline.{glue_edge_of, begun_behind, inner_of, 
 ghost use Rattle.layer_api.specs.Drawable.{IsNear, IsDrawable};
 ghost use Rattle.rule_model.specs.Tiling.{tiling_of};
 ghost use Rattle.rule_model.specs.Views.{rule_of};
-ghost use Rattle.substitution.specs.Motion.{moved};
-ghost use Rattle.substitution.specs.RuleParts.{vertices_of, edge_count};
+ghost use Rattle.theory_substitution.specs.Motion.{moved};
+ghost use Rattle.theory_substitution.specs.RuleParts.{vertices_of, edge_count};
 ghost use Rattle.tile_app.specs.DrawnTile.{point_of, tile_of, whole_by, drawn_of, drawn_whole, CanBeDrawn, IsDrawableHalf, CanBeDrawnWhole};
 
 use arrayvec::ArrayVec;
@@ -51,9 +51,11 @@ fn put_corners(
     requires room { length outline.old.items + end ≤ 24 }
     requires can { CanBeDrawn (tiling_of machine.now) (tile_of half.now) }
     ensures placed { outline.new.items ≡ outline.old.items
-        ++ map (λ z. point_of machine.now.order (moved (points_of machine.now.order) (motion_in machine.now.order half.now.motion) z))
+        ++ map (λ z. point_of machine.now.order (moved (points_of machine.now.order)
+        (motion_in machine.now.order half.now.motion) z))
         (take (end - first) (drop first (vertices_of (rule_of machine.now) half.now.kind))) }
-    ensures near { All (IsNear machine.now.order) outline.old.items → All (IsNear machine.now.order) outline.new.items }
+    ensures near { All (IsNear machine.now.order) outline.old.items
+        → All (IsNear machine.now.order) outline.new.items }
 {
     let _each_edge = machine.checked().vertices(half.kind);
     for number in first..end {
@@ -75,7 +77,9 @@ fn put_tile(
     requires within { IsWithin (2 ^ 24) motion.now.shift }
     ensures three { 3 ≤ length outline.new.items }
     ensures near { All (IsNear machine.now.order) outline.new.items }
-    ensures placed { outline.new.items ≡ map (λ z. point_of machine.now.order (moved (points_of machine.now.order) (motion_in machine.now.order motion.now) z)) (vertices_of (rule_of machine.now) kind) }
+    ensures placed { outline.new.items ≡ map (λ z. point_of machine.now.order
+        (moved (points_of machine.now.order) (motion_in machine.now.order motion.now) z))
+        (vertices_of (rule_of machine.now) kind) }
 {
     let vertices = machine.checked().vertices(kind);
     for number in 0..vertices.len() {
@@ -92,7 +96,9 @@ fn overwrite_tile(outline: &mut [Point], machine: &Machine, kind: u8, motion: &M
     requires within { IsWithin (2 ^ 24) motion.now.shift }
     ensures three { 3 ≤ length outline.new }
     ensures near { All (IsNear machine.now.order) outline.new }
-    ensures placed { outline.new ≡ map (λ z. point_of machine.now.order (moved (points_of machine.now.order) (motion_in machine.now.order motion.now) z)) (vertices_of (rule_of machine.now) kind) }
+    ensures placed { outline.new ≡ map (λ z. point_of machine.now.order
+        (moved (points_of machine.now.order) (motion_in machine.now.order motion.now) z))
+        (vertices_of (rule_of machine.now) kind) }
 {
     let _each_edge = machine.checked().vertices(kind);
     for number in 0..outline.len() {
@@ -113,7 +119,9 @@ fn put_outline(
     requires within { IsWithin (2 ^ 24) motion.now.shift }
     ensures three { 3 ≤ length outline.new.items }
     ensures near { All (IsNear machine.now.order) outline.new.items }
-    ensures placed { outline.new.items ≡ map (λ z. point_of machine.now.order (moved (points_of machine.now.order) (motion_in machine.now.order motion.now) z)) (vertices_of (rule_of machine.now) kind) }
+    ensures placed { outline.new.items ≡ map (λ z. point_of machine.now.order
+        (moved (points_of machine.now.order) (motion_in machine.now.order motion.now) z))
+        (vertices_of (rule_of machine.now) kind) }
 {
     if outline.len() == machine.checked().vertices(kind).len() {
         return overwrite_tile(outline.as_mut_slice(), machine, kind, motion);
@@ -139,7 +147,9 @@ fn put_first_half(outline: &mut ArrayVec<Point, MOST_VERTICES>, machine: &Machin
     ensures three { 3 ≤ length outline.new.items }
     ensures at_most { length outline.new.items ≤ 12 }
     ensures near { All (IsNear machine.now.order) outline.new.items }
-    ensures placed { outline.new.items ≡ map (point_of machine.now.order) (begun_behind (glue_edge_of (rule_of machine.now) half.now.kind) (vertices_in_place (tiling_of machine.now) (tile_of half.now))) }
+    ensures placed { outline.new.items ≡ map (point_of machine.now.order)
+        (begun_behind (glue_edge_of (rule_of machine.now) half.now.kind)
+        (vertices_in_place (tiling_of machine.now) (tile_of half.now))) }
 {
     let edge = glue_edge(machine, half);
     let count = machine.checked().vertices(half.kind).len();
@@ -151,8 +161,12 @@ fn put_first_half(outline: &mut ArrayVec<Point, MOST_VERTICES>, machine: &Machin
 fn put_second_half(outline: &mut ArrayVec<Point, MOST_VERTICES>, machine: &Machine, half: &Part)
     requires room { length outline.old.items ≤ 12 }
     requires half { IsDrawableHalf (tiling_of machine.now) (tile_of half.now) }
-    ensures near { All (IsNear machine.now.order) outline.old.items → All (IsNear machine.now.order) outline.new.items }
-    ensures placed { outline.new.items ≡ outline.old.items ++ map (point_of machine.now.order) (inner_of (begun_behind (glue_edge_of (rule_of machine.now) half.now.kind) (vertices_in_place (tiling_of machine.now) (tile_of half.now)))) }
+    ensures near { All (IsNear machine.now.order) outline.old.items
+        → All (IsNear machine.now.order) outline.new.items }
+    ensures placed { outline.new.items ≡ outline.old.items
+        ++ map (point_of machine.now.order) (inner_of
+        (begun_behind (glue_edge_of (rule_of machine.now) half.now.kind)
+        (vertices_in_place (tiling_of machine.now) (tile_of half.now)))) }
 {
     let edge = glue_edge(machine, half);
     let count = machine.checked().vertices(half.kind).len();
@@ -175,7 +189,8 @@ fn put_whole(
     requires can { CanBeDrawnWhole (tiling_of machine.now) (whole_by first.now second.now) }
     ensures three { 3 ≤ length outline.new.items }
     ensures near { All (IsNear machine.now.order) outline.new.items }
-    ensures placed { outline.new.items ≡ map (point_of machine.now.order) (outline_of (tiling_of machine.now) (whole_by first.now second.now)) }
+    ensures placed { outline.new.items ≡ map (point_of machine.now.order)
+        (outline_of (tiling_of machine.now) (whole_by first.now second.now)) }
 {
     match second {
         None => put_tile(outline, machine, first.kind, &first.motion),
@@ -203,7 +218,8 @@ pub fn fill(drawn: &mut Drawn, machine: &Machine)
 /// Fills in a whole tile from its parts.
 pub fn fill_whole(drawn: &mut Drawn, machine: &Machine)
     requires can { CanBeDrawnWhole (tiling_of machine.now) (whole_by drawn.old.first drawn.old.second) }
-    ensures tile { drawn.new ≡ drawn_whole (tiling_of machine.now) (whole_by drawn.old.first drawn.old.second) }
+    ensures tile { drawn.new ≡ drawn_whole (tiling_of machine.now)
+        (whole_by drawn.old.first drawn.old.second) }
     ensures drawable { IsDrawable machine.now.order drawn.new }
 {
     drawn.class = drawn.first.kind;

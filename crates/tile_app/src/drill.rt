@@ -4,7 +4,7 @@ ghost use Rattle.cyclo_points.specs.Point.{Within, IsWithin};
 ghost use Rattle.lazy_walk.specs.Frames.{IsFrameOf};
 ghost use Rattle.rule_model.specs.Tiling.{tiling_of};
 ghost use Rattle.seeded_growth.specs.Words.{word};
-ghost use Rattle.windows.specs.Limits.{most_tiles};
+ghost use Rattle.theory_windows.specs.Limits.{most_tiles};
 ghost use Rattle.window_cover.specs.Windows.{IsWindow};
 ghost use Rattle.tile_app.specs.Drill.{coefficient_of, extent_of, centre_from, window_from, fresh_frame, Adds, IsSummary, summary_text, PrintsDrill};
 

@@ -125,7 +125,9 @@ fn put_what(line: &mut ArrayString<LINE_ROOM>, what: What)
 /// Puts the name of a fault and three numbers.
 fn put_triple(line: &mut ArrayString<LINE_ROOM>, word: &str, first: u8, second: u8, third: u8)
     requires room { array_string_len line.old + length word.now + 64 ≤ LINE_ROOM }
-    ensures triple { line.new.bytes ≡ line.old.bytes ++ blank ∷ (word.now ++ blank ∷ (decimal first ++ codes " " ++ decimal second ++ codes " " ++ decimal third)) }
+    ensures triple { line.new.bytes ≡ line.old.bytes ++ blank
+        ∷ (word.now ++ blank ∷ (decimal first ++ codes " " ++ decimal second ++ codes " "
+        ++ decimal third)) }
     ensures at_most { array_string_len line.new ≤ array_string_len line.old + length word.now + 64 }
 {
     put_numbered(line, word, u64::from(first));

@@ -48,7 +48,8 @@ pub fn put_numbered(line: &mut ArrayString<LINE_ROOM>, word: &str, number: u64)
 /// Puts a name and two numbers, each after a space.
 pub fn put_pair(line: &mut ArrayString<LINE_ROOM>, word: &str, first: u8, second: u8)
     requires room { array_string_len line.old + length word.now + 43 ≤ LINE_ROOM }
-    ensures pair { line.new.bytes ≡ line.old.bytes ++ blank ∷ (word.now ++ blank ∷ decimal first ++ blank ∷ decimal second) }
+    ensures pair { line.new.bytes ≡ line.old.bytes ++ blank
+        ∷ (word.now ++ blank ∷ decimal first ++ blank ∷ decimal second) }
     ensures at_most { array_string_len line.new ≤ array_string_len line.old + length word.now + 43 }
 {
     put_numbered(line, word, u64::from(first));
@@ -104,7 +105,8 @@ pub fn put_motion(line: &mut ArrayString<LINE_ROOM>, motion: &Motion)
 /// Puts a `DepthLimit`: the tile and the edge that is on the boundary at depth 64.
 pub fn put_depth_limit(line: &mut ArrayString<LINE_ROOM>, addr: &Address, edge: u8)
     requires room { array_string_len line.old + 548 ≤ LINE_ROOM }
-    ensures limit { line.new.bytes ≡ line.old.bytes ++ blank ∷ (codes "DepthLimit " ++ address_text (address_of addr.now) ++ blank ∷ decimal edge) }
+    ensures limit { line.new.bytes ≡ line.old.bytes ++ blank
+        ∷ (codes "DepthLimit " ++ address_text (address_of addr.now) ++ blank ∷ decimal edge) }
     ensures at_most { array_string_len line.new ≤ array_string_len line.old + 548 }
 {
     put_word(line, "DepthLimit");

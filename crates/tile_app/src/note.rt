@@ -75,7 +75,8 @@ fn note(status: &Status) -> ArrayString<LINE_ROOM>
 
 /// Writes the note of a status, and nothing for `Done`. A failure of the notes is ignored.
 pub fn write_note<N: Sink>(notes: &mut N, status: &Status)
-    ensures noted { IsNoted (N.faults notes.old) (N.faults notes.new) (N.taken notes.old) (N.taken notes.new) (note_of status.now) }
+    ensures noted { IsNoted (N.faults notes.old) (N.faults notes.new) (N.taken notes.old)
+        (N.taken notes.new) (note_of status.now) }
     ensures not_noted { status.now ≡ Status.Done → notes.new ≡ notes.old }
 {
     if let Status::Done = status {

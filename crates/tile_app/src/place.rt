@@ -1,6 +1,6 @@
 //! The command `place`: where a tile lies in its supertile.
 ghost use Rattle.std.specs.Prelude.{◌≡◌, IfOk, IfErr, string_bytes};
-ghost use Rattle.addressing.specs.Address.{Fits};
+ghost use Rattle.theory_addresses.specs.Address.{Fits};
 ghost use Rattle.cyclo_points.specs.declared.order.Order.{Order};
 ghost use Rattle.cyclo_points.specs.Motion.{motion_in};
 ghost use Rattle.cyclo_points.specs.Point.{IsOf};

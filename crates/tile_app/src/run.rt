@@ -51,15 +51,20 @@ fn answer<R: Source, W: Sink, D: Layer, L: Ledger>(
     requires name { blank.name ≡ L.name }
     requires parts { blank.parts ≡ L.parts }
     requires some { 0 < blank.parts }
-    ensures done { result ≡ Status.Done → OfCall (texts words.now) (map D.form layers.old) (R.left source.old) (R.left source.new)
+    ensures done { result ≡ Status.Done → OfCall (texts words.now) (map D.form layers.old)
+        (R.left source.old) (R.left source.new)
         (λ c. (text : List ℕ) × Prints c text × Takes (W.taken sink.old) (W.taken sink.new) text) }
     ensures write_fault { result ≡ Status.WriteFault → Rose (W.faults sink.old) (W.faults sink.new) }
-    ensures part { result ≡ Status.WriteFault → OfCall (texts words.now) (map D.form layers.old) (R.left source.old) (R.left source.new)
-        (λ c. (text : List ℕ) × Prints c text × TakesProperPrefix (W.taken sink.old) (W.taken sink.new) text) }
-    ensures refused { IsRefusal result → IsRefused (texts words.now) (map D.form layers.old) (R.left source.old) (R.left source.new) result }
+    ensures part { result ≡ Status.WriteFault
+        → OfCall (texts words.now) (map D.form layers.old) (R.left source.old) (R.left source.new)
+        (λ c. (text : List ℕ) × Prints c text × TakesProperPrefix (W.taken sink.old) (W.taken sink.new)
+        text) }
+    ensures refused { IsRefusal result → IsRefused (texts words.now) (map D.form layers.old)
+        (R.left source.old) (R.left source.new) result }
     ensures read_fault { result ≡ Status.ReadFault → Rose (R.faults source.old) (R.faults source.new) }
     ensures nothing_written { IsRefusal result → sink.new ≡ sink.old }
-    ensures untouched { reads_file (texts words.now) (map D.form layers.old) ≡ false → source.new ≡ source.old }
+    ensures untouched { reads_file (texts words.now) (map D.form layers.old) ≡ false
+        → source.new ≡ source.old }
 {
     let mut steps = Steps::<L>::new(blank);
     let answer = match answer_text(alloc, words, source, layers, &mut steps) {
@@ -123,19 +128,24 @@ pub fn run<R: Source, W: Sink, N: Sink>(
     // their common supertile, and the return edge leads back.
     ensures only_neighbour { (rule : RuleChoice) (addr : List ℕ) (edge : ℕ)
         → result ≡ Status.Done → request_in (texts words.now.items) ≡ Ok (Neighbour rule addr edge)
-        → OfCall (texts words.now.items) (map (λ d. form d) layers.items) (R.left source.old) (R.left source.new)
+        → OfCall (texts words.now.items) (map (λ d. form d) layers.items) (R.left source.old)
+        (R.left source.new)
         (λ c. (t : Tiling) × (text : List ℕ) × Names c (Neighbour rule addr edge) t
-        × OfTile t addr (λ a. TellsOnlyNeighbour t a edge text) × Takes (W.taken sink.old) (W.taken sink.new) text) }
+        × OfTile t addr (λ a. TellsOnlyNeighbour t a edge text)
+        × Takes (W.taken sink.old) (W.taken sink.new) text) }
 
     // On `Done`, `draw` wrote exactly the tiles that meet the window. Each comes once; they are disjoint and
     // cover the window. The supertile has the least depth that is enough. With `glue=yes` these are the whole
     // tiles.
     ensures exactly_the_window { (rule : RuleChoice) (addr : List ℕ) (seed : ℕ) (window : WindowAsked)
         (formats : List Format) (glue : Bool)
-        → result ≡ Status.Done → request_in (texts words.now.items) ≡ Ok (Draw rule addr seed window formats glue)
-        → OfCall (texts words.now.items) (map (λ d. form d) layers.items) (R.left source.old) (R.left source.new)
+        → result ≡ Status.Done → request_in (texts words.now.items) ≡ Ok
+        (Draw rule addr seed window formats glue)
+        → OfCall (texts words.now.items) (map (λ d. form d) layers.items) (R.left source.old)
+        (R.left source.new)
         (λ c. (t : Tiling) × (text : List ℕ) × Names c (Draw rule addr seed window formats glue) t
-        × OfTile t addr (λ a. WritesExactlyTheWindow t (frame_of a seed) (window_in t.order window) glue formats text)
+        × OfTile t addr (λ a. WritesExactlyTheWindow t (frame_of a seed) (window_in t.order window) glue
+        formats text)
         × Takes (W.taken sink.old) (W.taken sink.new) text) }
 
     // On `Done` the sink took exactly the text that the command prints for this request:
@@ -153,36 +163,45 @@ pub fn run<R: Source, W: Sink, N: Sink>(
     //
     // A file that was read was read to its end.
     ensures done { result ≡ Status.Done
-        → OfCall (texts words.now.items) (map (λ d. form d) layers.items) (R.left source.old) (R.left source.new)
+        → OfCall (texts words.now.items) (map (λ d. form d) layers.items) (R.left source.old)
+        (R.left source.new)
         (λ c. (text : List ℕ) × Prints c text × Takes (W.taken sink.old) (W.taken sink.new) text) }
 
     // A refusal comes only if its cause, in the table `Causes`, holds. Conversely, if a cause holds, its
     // refusal comes, unless the source fails or memory runs out. Several limits of a window or vertex may be
     // passed at once, and several tiles of a list may be missing or misplaced. Then one of those refusals
     // comes; which one is left open.
-    ensures refused { IsRefusal result → IsRefused (texts words.now.items) (map (λ d. form d) layers.items) (R.left source.old) (R.left source.new) result }
-    ensures refused_when { (c : Call) (status : Status) → IsAsked (texts words.now.items) (map (λ d. form d) layers.items) (R.left source.old) c
+    ensures refused { IsRefusal result → IsRefused (texts words.now.items) (map (λ d. form d) layers.items)
+        (R.left source.old) (R.left source.new) result }
+    ensures refused_when { (c : Call) (status : Status)
+        → IsAsked (texts words.now.items) (map (λ d. form d) layers.items) (R.left source.old) c
         → Causes c status → IsNoLimit c status → (result ≡ status) ⊎ IsCutShort result }
-    ensures beyond_limits { (c : Call) → IsAsked (texts words.now.items) (map (λ d. form d) layers.items) (R.left source.old) c
+    ensures beyond_limits { (c : Call) → IsAsked (texts words.now.items) (map (λ d. form d) layers.items)
+        (R.left source.old) c
         → IsBeyondLimits c → IsLimit result ⊎ IsCutShort result }
 
     // If a source or a sink is to blame, it failed. What was written is then a part of the text.
     ensures read_fault { result ≡ Status.ReadFault → Rose (R.faults source.old) (R.faults source.new) }
     ensures write_fault { result ≡ Status.WriteFault → Rose (W.faults sink.old) (W.faults sink.new) }
     ensures part { result ≡ Status.WriteFault
-        → OfCall (texts words.now.items) (map (λ d. form d) layers.items) (R.left source.old) (R.left source.new)
-        (λ c. (text : List ℕ) × Prints c text × TakesProperPrefix (W.taken sink.old) (W.taken sink.new) text) }
+        → OfCall (texts words.now.items) (map (λ d. form d) layers.items) (R.left source.old)
+        (R.left source.new)
+        (λ c. (text : List ℕ) × Prints c text × TakesProperPrefix (W.taken sink.old) (W.taken sink.new)
+        text) }
 
     // What stays untouched, and when the call succeeds.
     ensures nothing_written { IsRefusal result → sink.new ≡ sink.old }
-    ensures source_untouched { reads_file (texts words.now.items) (map (λ d. form d) layers.items) ≡ false → source.new ≡ source.old }
-    ensures complete { (c : Call) → IsAsked (texts words.now.items) (map (λ d. form d) layers.items) (R.left source.old) c → CanBeAnswered c
+    ensures source_untouched { reads_file (texts words.now.items) (map (λ d. form d) layers.items) ≡ false
+        → source.new ≡ source.old }
+    ensures complete { (c : Call) → IsAsked (texts words.now.items) (map (λ d. form d) layers.items)
+        (R.left source.old) c → CanBeAnswered c
         → ¬ Rose (W.faults sink.old) (W.faults sink.new) → ¬ Rose (R.faults source.old) (R.faults source.new)
         → (result ≡ Status.Done) ⊎ (result ≡ Status.NoMemory) }
 
     // The notes take nothing on `Done`, and otherwise the one line of the refusal. If the notes fail, they
     // took the start of that line.
-    ensures noted { IsNoted (N.faults notes.old) (N.faults notes.new) (N.taken notes.old) (N.taken notes.new) (note_of result) }
+    ensures noted { IsNoted (N.faults notes.old) (N.faults notes.new) (N.taken notes.old)
+        (N.taken notes.new) (note_of result) }
     ensures not_noted { result ≡ Status.Done → notes.new ≡ notes.old }
 {
     // These calls do nothing: their contracts are laws by which a request has only one answer. So a status

@@ -10,7 +10,9 @@ front left rest count h =
     ∙ take_all count (take count left) (omega (arith, length-take count left))
 
 -- the bytes given, and then those from there on
-pub given_then_left : (bytes left copied rest : List ℕ) (at count : ℕ) → drop at bytes ≡ left → copied ≡ take count left → count ≤ length left → left ≡ take count (copied ++ rest) ++ drop (at + count) bytes
+pub given_then_left : (bytes left copied rest : List ℕ) (at count : ℕ) → drop at bytes ≡ left
+    → copied ≡ take count left → count ≤ length left → left ≡ take count (copied ++ rest)
+    ++ drop (at + count) bytes
 given_then_left bytes left copied rest at count l e h =
     sym (rw (e, front left rest count h, sym (drop-drop count at bytes), l) (take-append-drop count left))
 

@@ -8,13 +8,15 @@ use Rattle.tile_io.specs.ReadingAll.{GivesPart}
 use Rattle.tile_io.specs.declared.read_all_fault.ReadAllFault.TheVariants.{TooLong, NoMemory}
 
 -- one byte too many was read
-pub one_over : (a b c : Option (List ℕ)) (xs ys : List ℕ) (most : ℕ) → Gives a b xs → Gives b c ys → length xs + length ys ≡ most + 1 → GivesPart a c most TooLong
+pub one_over : (a b c : Option (List ℕ)) (xs ys : List ℕ) (most : ℕ) → Gives a b xs → Gives b c ys
+    → length xs + length ys ≡ most + 1 → GivesPart a c most TooLong
 one_over a b c xs ys most h k l =
     let e : length (xs ++ ys) ≡ most + 1 = length-append xs ys ∙ l in
     (xs ++ ys, given_in_turn a b c xs ys h k, omega (arith, e), ((λ _. e), (λ _. refl)))
 
 -- the bytes read aren't too many, and no memory is there for them
-pub no_memory : (a b c : Option (List ℕ)) (xs ys : List ℕ) (most : ℕ) → Gives a b xs → Gives b c ys → length xs + length ys ≤ most → GivesPart a c most NoMemory
+pub no_memory : (a b c : Option (List ℕ)) (xs ys : List ℕ) (most : ℕ) → Gives a b xs → Gives b c ys
+    → length xs + length ys ≤ most → GivesPart a c most NoMemory
 no_memory a b c xs ys most h k l =
     let e = length-append xs ys in
     (xs ++ ys, given_in_turn a b c xs ys h k, omega (arith, e, l), ((λ same. absurd (search rules)), (λ long. absurd (omega (arith, e, l, long)))))

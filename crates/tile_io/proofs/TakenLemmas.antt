@@ -17,7 +17,8 @@ pub to_end : (bytes : List ℕ) (at : ℕ) → take (length bytes - at) (drop at
 to_end bytes at = take_all (length bytes - at) (drop at bytes) (omega (arith, length-drop at bytes))
 
 -- after the first `at` bytes the next `count` make the first `at + count`
-pub takes_next : (a b c : Option (List ℕ)) (bytes : List ℕ) (at count : ℕ) → Takes a b (take at bytes) → Takes b c (take count (take (length bytes - at) (drop at bytes))) → Takes a c (take (at + count) bytes)
+pub takes_next : (a b c : Option (List ℕ)) (bytes : List ℕ) (at count : ℕ) → Takes a b (take at bytes)
+    → Takes b c (take count (take (length bytes - at) (drop at bytes))) → Takes a c (take (at + count) bytes)
 takes_next a b c bytes at count h k =
     let P : List ℕ → Type 0 = λ piece. Takes b c (take count piece) in
     let Q : List ℕ → Type 0 = λ piece. Takes a c piece in

@@ -1,9 +1,9 @@
 -- A motion that digits place is that which stands beside their address.
 use Rattle.std.proofs.Common.{◌≡◌, Result, IfOk, sym, subst}
 use Rattle.std.proofs.lemmas.Result.{IfOk-weaker}
-use Rattle.addressing.specs.Address.{Address, Fits}
-use Rattle.substitution.specs.Supertile.{StandsBeside}
-use Rattle.substitution.specs.Placement.{placement}
+use Rattle.theory_addresses.specs.Address.{Address, Fits}
+use Rattle.theory_substitution.specs.Supertile.{StandsBeside}
+use Rattle.theory_substitution.specs.Placement.{placement}
 use Rattle.cyclo_points.specs.declared.motion.Motion.{Motion}
 use Rattle.cyclo_points.specs.declared.order.Order.{Order}
 use Rattle.cyclo_points.specs.Order.{points_of}

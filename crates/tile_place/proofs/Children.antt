@@ -2,15 +2,16 @@
 use Rattle.std.proofs.Common.{◌≡◌, ℕ, zero, suc, ◌<◌, List, [], ◌∷◌, map, length, get_or, Some, arith}
 use Rattle.std.proofs.lemmas.List.{length-map}
 use Rattle.std.proofs.lemmas.Option.{slice_get_within}
-use Rattle.addressing.specs.Address.{child_kind, Climbs}
-use Rattle.substitution.specs.Rule.{Child, Kind, Rule, child_kinds, children_of}
+use Rattle.theory_addresses.specs.Address.{child_kind, Climbs}
+use Rattle.theory_substitution.specs.Rule.{Child, Kind, Rule, child_kinds, children_of}
 use Rattle.tile_shape.specs.declared.step.Step as program
 use Rattle.tile_shape.specs.Views.{step_of}
 
 abbrev kinds_of : {A : Type 0} → List (Child A) → List ℕ
 kinds_of {A} cs = map (λ (c : Child A). c.kind) cs
 
-child-among : {A : Type 0} (kinds : List (Kind A)) (parent child kind : ℕ) → child_kind (map (λ (k : Kind A). kinds_of k.children) kinds) parent child ≡ Some kind
+child-among : {A : Type 0} (kinds : List (Kind A)) (parent child kind : ℕ)
+    → child_kind (map (λ (k : Kind A). kinds_of k.children) kinds) parent child ≡ Some kind
     → (parent < length kinds) × (child < length (get_or kinds parent (record { vertices = []; edges = []; children = [] })).children)
 child-among [] parent child kind e = absurd cc
 child-among {A} (k ∷ ks) zero child kind e =
@@ -25,7 +26,8 @@ pub child-listed : {A : Type 0} (r : Rule A) (parent child kind : ℕ) → child
 child-listed r parent child kind e = child-among r.kinds parent child kind e
 
 -- and so each digit names one
-pub digit-listed : {A : Type 0} (r : Rule A) (kind : ℕ) (digits : List program.Step) (i : ℕ) (d : program.Step) → Climbs (child_kinds r) kind (map step_of digits) → i < length digits
+pub digit-listed : {A : Type 0} (r : Rule A) (kind : ℕ) (digits : List program.Step) (i : ℕ)
+    (d : program.Step) → Climbs (child_kinds r) kind (map step_of digits) → i < length digits
     → ((get_or digits i d).parent < length r.kinds) × ((get_or digits i d).child < length (children_of r (get_or digits i d).parent))
 digit-listed r kind [] i d h l = absurd (omega arith)
 digit-listed r kind (s ∷ ss) zero d h l = child-listed r s.parent s.child kind h.0

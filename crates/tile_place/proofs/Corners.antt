@@ -2,18 +2,18 @@
 use Rattle.std.proofs.Common.{◌≡◌, ℕ, ℤ, pos, ◌+◌, ◌<◌, ◌≤◌, refl, [], ◌∷◌, arith, true, false, List, map, drop, get_or, length, find, Some, sym, ap, ◌∙◌, subst}
 use Rattle.std.specs.Ordering.{int_eq}
 use Rattle.std.proofs.lemmas.Simd.{map-map}
-use Rattle.ordered_plane.specs.Plane.{PlanePoint}
-use Rattle.ordered_plane.specs.Crossing.{count, member}
+use Rattle.theory_plane.specs.Plane.{PlanePoint}
+use Rattle.theory_plane.specs.Crossing.{count, member}
 use Rattle.plane_geom.specs.Spots.{spot_of, test_of}
-use Rattle.substitution.specs.Plane.{plane_point}
-use Rattle.ordered_ring.specs.Ring.{power}
-use Rattle.substitution.specs.RuleParts.{vertices_of, edge_count}
-use Rattle.frames.specs.Outline.{outline, holds_point}
+use Rattle.theory_substitution.specs.Plane.{plane_point}
+use Rattle.theory_ring.specs.Ring.{power}
+use Rattle.theory_substitution.specs.RuleParts.{vertices_of, edge_count}
+use Rattle.theory_frames.specs.Outline.{outline, holds_point}
 use Rattle.rule_model.specs.declared.rule.Rule.{Rule}
 use Rattle.rule_model.specs.Views.{rule_of}
 use Rattle.rule_model.specs.Usable.{IsUsable}
 use Rattle.tile_place.proofs.Ahead.{there, found_here, found_later}
-use Rattle.substitution.specs.Motion.{moved}
+use Rattle.theory_substitution.specs.Motion.{moved}
 use Rattle.cyclo_points.specs.declared.order.Order.{Order}
 use Rattle.cyclo_points.specs.declared.point.Point.{Point}
 use Rattle.cyclo_points.specs.declared.motion.Motion.{Motion}
@@ -26,34 +26,45 @@ corner_of o scale at v = moved (points_of o) (motion_in o at) ((points_of o).rin
 
 -- the scale may be turned instead of the vertex
 pub corner-is : (o : Order) (W : PointsLaw o) (scale : Point) (at : Motion) (v turned product corner : Point)
-    → point_in o turned ≡ (points_of o).ring.mul (power (points_of o).ring (points_of o).zeta at.turn) (point_in o scale) → point_in o product ≡ (points_of o).ring.mul (point_in o turned) (point_in o v)
+    → point_in o turned ≡ (points_of o).ring.mul (power (points_of o).ring (points_of o).zeta at.turn)
+    (point_in o scale) → point_in o product ≡ (points_of o).ring.mul (point_in o turned) (point_in o v)
     → point_in o corner ≡ (points_of o).ring.add (point_in o product) (point_in o at.shift) → point_in o corner ≡ corner_of o scale at v
 corner-is o W scale at v turned product corner t p s =
     s ∙ ap (λ (z : NumberOf o). (points_of o).ring.add z (point_in o at.shift))
-    (p ∙ ap (λ (z : NumberOf o). (points_of o).ring.mul z (point_in o v)) t ∙ W.of_ring.mul_assoc (power (points_of o).ring (points_of o).zeta at.turn) (point_in o scale) (point_in o v))
+    (p ∙ ap (λ (z : NumberOf o). (points_of o).ring.mul z (point_in o v)) t
+    ∙ W.of_ring.mul_assoc (power (points_of o).ring (points_of o).zeta at.turn) (point_in o scale)
+    (point_in o v))
 
 -- the same of a product that is moved at once
 pub corner-turned : (o : Order) (W : PointsLaw o) (scale : Point) (at : Motion) (v turned corner : Point)
     → point_in o turned ≡ (points_of o).ring.mul (power (points_of o).ring (points_of o).zeta at.turn) (point_in o scale)
-    → point_in o corner ≡ (points_of o).ring.add ((points_of o).ring.mul (point_in o turned) (point_in o v)) (point_in o at.shift) → point_in o corner ≡ corner_of o scale at v
+    → point_in o corner ≡ (points_of o).ring.add ((points_of o).ring.mul (point_in o turned) (point_in o v))
+    (point_in o at.shift) → point_in o corner ≡ corner_of o scale at v
 corner-turned o W scale at v turned corner t s =
     s ∙ ap (λ (z : NumberOf o). (points_of o).ring.add z (point_in o at.shift))
-    (ap (λ (z : NumberOf o). (points_of o).ring.mul z (point_in o v)) t ∙ W.of_ring.mul_assoc (power (points_of o).ring (points_of o).zeta at.turn) (point_in o scale) (point_in o v))
+    (ap (λ (z : NumberOf o). (points_of o).ring.mul z (point_in o v)) t
+    ∙ W.of_ring.mul_assoc (power (points_of o).ring (points_of o).zeta at.turn) (point_in o scale)
+    (point_in o v))
 
 -- the corner of this vertex is looked at: it is the first that is refused, or those further on decide
 module _ (o : Order) (W : PointsLaw o) (scale : Point) (at : Motion) (vs : List Point) (i : ℕ) (d : Point) (h : i < length vs) (turned corner : Point)
     (t : point_in o turned ≡ (points_of o).ring.mul (power (points_of o).ring (points_of o).zeta at.turn) (point_in o scale))
-    (s : point_in o corner ≡ (points_of o).ring.add ((points_of o).ring.mul (point_in o turned) (point_in o (get_or vs i d))) (point_in o at.shift)) where
+    (s : point_in o corner ≡ (points_of o).ring.add
+    ((points_of o).ring.mul (point_in o turned) (point_in o (get_or vs i d))) (point_in o at.shift)) where
   is_corner : point_in o corner ≡ corner_of o scale at (get_or vs i d)
   is_corner = corner-turned o W scale at (get_or vs i d) turned corner t s
 
-  pub corner_refused : is_refused o (point_in o corner) ≡ true → find (is_refused o) (map (corner_of o scale at) (drop i vs)) ≡ Some (point_in o corner)
+  pub corner_refused : is_refused o (point_in o corner) ≡ true
+      → find (is_refused o) (map (corner_of o scale at) (drop i vs)) ≡ Some (point_in o corner)
   corner_refused e =
       found_here (is_refused o) (corner_of o scale at) vs i (get_or vs i d) h (there vs i d h) (ap (is_refused o) (sym is_corner) ∙ e)
       ∙ ap (λ (z : NumberOf o). Some z) (sym is_corner)
 
-  pub corner_passed : is_refused o (point_in o corner) ≡ false → find (is_refused o) (map (corner_of o scale at) (drop (i + 1) vs)) ≡ find (is_refused o) (map (corner_of o scale at) (drop i vs))
-  corner_passed e = sym (found_later (is_refused o) (corner_of o scale at) vs i (get_or vs i d) h (there vs i d h) (ap (is_refused o) (sym is_corner) ∙ e))
+  pub corner_passed : is_refused o (point_in o corner) ≡ false
+      → find (is_refused o) (map (corner_of o scale at) (drop (i + 1) vs)) ≡ find (is_refused o)
+      (map (corner_of o scale at) (drop i vs))
+  corner_passed e = sym (found_later (is_refused o) (corner_of o scale at) vs i (get_or vs i d) h
+      (there vs i d h) (ap (is_refused o) (sym is_corner) ∙ e))
 
   pub corner_there : spot_of o corner ≡ plane_point (points_of o) (corner_of o scale at (get_or vs i d))
   corner_there = ap (plane_point (points_of o)) is_corner
@@ -63,7 +74,8 @@ abbrev pub corner_spot : (o : Order) → Point → Motion → Point → PlanePoi
 corner_spot o scale at v = plane_point (points_of o) (corner_of o scale at v)
 
 -- a count of 1 of the corners decides whether their polygon holds a point
-pub holds-counted : (o : Order) (scale : Point) (at : Motion) (vs : List Point) (p : Point) (n : ℤ) → n ≡ count (points_of o).real (map (corner_spot o scale at) vs) (test_of o p)
+pub holds-counted : (o : Order) (scale : Point) (at : Motion) (vs : List Point) (p : Point) (n : ℤ)
+    → n ≡ count (points_of o).real (map (corner_spot o scale at) vs) (test_of o p)
     → int_eq n (pos 1) ≡ holds_point (points_of o) (map (corner_of o scale at) vs) (point_in o p)
 holds-counted o scale at vs p n e =
     ap (λ m. int_eq m (pos 1)) e

@@ -1,14 +1,15 @@
 -- Members of a list that pass a test, by how many there are.
 use Rattle.std.proofs.Common.{◌≡◌, ◌⊎◌, inl, inr, ℕ, suc, Bool, true, false, cond, List, [], ◌∷◌, map, refl, sym, ap, ◌∙◌}
-use Rattle.addressing.specs.Search.{IsAmong}
-use Rattle.dissection.specs.Sums.{number_of}
+use Rattle.theory_addresses.specs.Search.{IsAmong}
+use Rattle.theory_dissection.specs.Sums.{number_of}
 
 -- where there are some, there is one
 pub one_of : {A : Type 0} (test : A → Bool) (xs : List A) (n : ℕ) → number_of test xs ≡ suc n → (x : A) × IsAmong x xs × (test x ≡ true)
 one_of test [] n e = absurd (cc e)
 one_of {A} test (x ∷ xs) n e = at_test (test x) refl e (one_of test xs n)
   where
-    at_test : (b : Bool) → test x ≡ b → cond b (suc (number_of test xs)) (number_of test xs) ≡ suc n → (number_of test xs ≡ suc n → (y : A) × IsAmong y xs × (test y ≡ true))
+    at_test : (b : Bool) → test x ≡ b → cond b (suc (number_of test xs)) (number_of test xs) ≡ suc n
+        → (number_of test xs ≡ suc n → (y : A) × IsAmong y xs × (test y ≡ true))
         → (y : A) × IsAmong y (x ∷ xs) × (test y ≡ true)
     at_test true h f rest = (x, inl refl, h)
     at_test false h f rest = let y = rest f in (y.0, inr y.1, y.2)
@@ -24,7 +25,8 @@ some_of_one test x (y ∷ ys) (inr i) h = let rest = some_of_one test x ys i h i
     at_test false rest = rest
 
 -- where there is one alone, two that pass are one
-pub one_alone : {A : Type 0} (test : A → Bool) (xs : List A) → number_of test xs ≡ 1 → (x y : A) → IsAmong x xs → test x ≡ true → IsAmong y xs → test y ≡ true → x ≡ y
+pub one_alone : {A : Type 0} (test : A → Bool) (xs : List A) → number_of test xs ≡ 1 → (x y : A)
+    → IsAmong x xs → test x ≡ true → IsAmong y xs → test y ≡ true → x ≡ y
 one_alone test [] e x y i h j k = elim i [ ]
 one_alone {A} test (z ∷ zs) e x y i h j k = at_test (test z) refl e i j (λ f a b. one_alone test zs f x y a h b k)
   where

@@ -2,14 +2,14 @@
 use Rattle.std.proofs.Common.{◌≡◌, ℕ, zero, suc, ◌+◌, ◌<◌, ◌≤◌, true, false, cond, List, [], ◌∷◌, map, drop, length, get_or, Some, None, sym, ap, ◌∙◌, subst, arith}
 use Rattle.std.proofs.Math.ListN.{get_or-map}
 use Rattle.std.proofs.lemmas.List.{length-map, drop_more, drop_all}
-use Rattle.substitution.specs.Motion.{Motion, still}
-use Rattle.addressing.specs.Address.{Step}
-use Rattle.substitution.specs.Placement.{finer, placement, horner_values}
-use Rattle.substitution.specs.RuleParts.{child_of}
+use Rattle.theory_substitution.specs.Motion.{Motion, still}
+use Rattle.theory_addresses.specs.Address.{Step}
+use Rattle.theory_substitution.specs.Placement.{finer, placement, horner_values}
+use Rattle.theory_substitution.specs.RuleParts.{child_of}
 use Rattle.cyclo_points.specs.Order.{NumberOf, points_of, is_refused}
 use Rattle.tile_shape.specs.declared.step.Step as program
 use Rattle.tile_shape.specs.Views.{step_of}
-use Rattle.substitution.specs.Rule.{Rule}
+use Rattle.theory_substitution.specs.Rule.{Rule}
 use Rattle.cyclo_points.specs.declared.order.Order.{Order}
 use Rattle.rule_model.specs.Tiling.{Tiling}
 use Rattle.tile_place.specs.Placing.{first_refused}
@@ -35,7 +35,8 @@ module _ (o : Order) (r : Rule (NumberOf o)) where
   -- one digit finer: the value found decides
   value_decides : (digits : List Step) (level : ℕ) (d : Step) (m n : Motion (NumberOf o)) → level < length digits → Descends digits (level + 1) m
       → n ≡ finer (points_of o) r m (child_of (points_of o) r (get_or digits level d).parent (get_or digits level d).child).motion
-      → (n ≡ placement (points_of o) r (drop level digits)) × (first_refused (tiling o r) (drop level digits) ≡ cond (is_refused o n.shift) (Some n.shift) None)
+      → (n ≡ placement (points_of o) r (drop level digits))
+      × (first_refused (tiling o r) (drop level digits) ≡ cond (is_refused o n.shift) (Some n.shift) None)
   value_decides digits level d m n l h e = (
     whole ∙ ap (placement (points_of o) r) (sym split),
     ap (first_refused (tiling o r)) split ∙ find-append_none (is_refused o) (horner_values (points_of o) r (drop (level + 1) digits)) _ h.none
@@ -46,25 +47,37 @@ module _ (o : Order) (r : Rule (NumberOf o)) where
       split = drop_more digits level d l
 
       whole : n ≡ placement (points_of o) r (get_or digits level d ∷ drop (level + 1) digits)
-      whole = e ∙ ap (λ (g : Motion (NumberOf o)). finer (points_of o) r g (child_of (points_of o) r (get_or digits level d).parent (get_or digits level d).child).motion) h.motion
+      whole = e ∙ ap (λ (g : Motion (NumberOf o)). finer (points_of o) r g
+          (child_of (points_of o) r (get_or digits level d).parent (get_or digits level d).child).motion)
+          h.motion
 
   pub Descends-finer : (digits : List Step) (level : ℕ) (d : Step) (m n : Motion (NumberOf o)) → level < length digits → Descends digits (level + 1) m
-      → n ≡ finer (points_of o) r m (child_of (points_of o) r (get_or digits level d).parent (get_or digits level d).child).motion → is_refused o n.shift ≡ false → Descends digits level n
+      → n ≡ finer (points_of o) r m (child_of (points_of o) r (get_or digits level d).parent
+      (get_or digits level d).child).motion → is_refused o n.shift ≡ false → Descends digits level n
   Descends-finer digits level d m n l h e f =
-      let v : (n ≡ placement (points_of o) r (drop level digits)) × (first_refused (tiling o r) (drop level digits) ≡ cond (is_refused o n.shift) (Some n.shift) None) = value_decides digits level d m n l h e in
+      let v : (n ≡ placement (points_of o) r (drop level digits))
+      × (first_refused (tiling o r) (drop level digits) ≡ cond (is_refused o n.shift) (Some n.shift) None)
+      = value_decides digits level d m n l h e in
       record { motion = v.0; none = v.1 ∙ ap (λ b. cond b (Some n.shift) None) f }
 
   -- what is found among the coarse digits' values is found among all
-  first_refused-drop : (digits : List Step) (level : ℕ) (v : NumberOf o) → first_refused (tiling o r) (drop level digits) ≡ Some v → first_refused (tiling o r) digits ≡ Some v
+  first_refused-drop : (digits : List Step) (level : ℕ) (v : NumberOf o)
+      → first_refused (tiling o r) (drop level digits) ≡ Some v → first_refused (tiling o r) digits ≡ Some v
   first_refused-drop [] zero v e = e
   first_refused-drop [] (suc level) v e = e
   first_refused-drop (d ∷ ds) zero v e = e
-  first_refused-drop (d ∷ ds) (suc level) v e = find-append_found (is_refused o) (horner_values (points_of o) r ds) _ v (first_refused-drop ds level v e)
+  first_refused-drop (d ∷ ds) (suc level) v e = find-append_found (is_refused o)
+      (horner_values (points_of o) r ds) _ v (first_refused-drop ds level v e)
 
-  pub first_refused-finer : (digits : List Step) (level : ℕ) (d : Step) (m n : Motion (NumberOf o)) → level < length digits → Descends digits (level + 1) m
-      → n ≡ finer (points_of o) r m (child_of (points_of o) r (get_or digits level d).parent (get_or digits level d).child).motion → is_refused o n.shift ≡ true → first_refused (tiling o r) digits ≡ Some n.shift
+  pub first_refused-finer : (digits : List Step) (level : ℕ) (d : Step) (m n : Motion (NumberOf o))
+      → level < length digits → Descends digits (level + 1) m
+      → n ≡ finer (points_of o) r m (child_of (points_of o) r (get_or digits level d).parent
+      (get_or digits level d).child).motion → is_refused o n.shift ≡ true
+      → first_refused (tiling o r) digits ≡ Some n.shift
   first_refused-finer digits level d m n l h e f =
-      let v : (n ≡ placement (points_of o) r (drop level digits)) × (first_refused (tiling o r) (drop level digits) ≡ cond (is_refused o n.shift) (Some n.shift) None) = value_decides digits level d m n l h e in
+      let v : (n ≡ placement (points_of o) r (drop level digits))
+      × (first_refused (tiling o r) (drop level digits) ≡ cond (is_refused o n.shift) (Some n.shift) None)
+      = value_decides digits level d m n l h e in
       first_refused-drop digits level n.shift (v.1 ∙ ap (λ b. cond b (Some n.shift) None) f)
 
   -- the digit at a level of the program's address, from the level above it to that level
@@ -72,12 +85,17 @@ module _ (o : Order) (r : Rule (NumberOf o)) where
     pub on : is_refused o n.shift ≡ false → Descends (map step_of digits) level n
     pub out : is_refused o n.shift ≡ true → first_refused (tiling o r) (map step_of digits) ≡ Some n.shift
 
-  pub Goes-finer : (digits : List program.Step) (above level : ℕ) (d : program.Step) (m n : Motion (NumberOf o)) → above ≡ level + 1 → above ≤ length digits
-      → Descends (map step_of digits) above m → n ≡ finer (points_of o) r m (child_of (points_of o) r (step_of (get_or digits level d)).parent (step_of (get_or digits level d)).child).motion → Goes digits level n
+  pub Goes-finer : (digits : List program.Step) (above level : ℕ) (d : program.Step)
+      (m n : Motion (NumberOf o)) → above ≡ level + 1 → above ≤ length digits
+      → Descends (map step_of digits) above m → n ≡ finer (points_of o) r m
+      (child_of (points_of o) r (step_of (get_or digits level d)).parent
+      (step_of (get_or digits level d)).child).motion → Goes digits level n
   Goes-finer digits above level d m n e l h f =
       let g : level < length (map step_of digits) = omega (arith, length-map digits step_of) in
       let k : Descends (map step_of digits) (level + 1) m = subst (λ i. Descends (map step_of digits) i m) e h in
-      let w : n ≡ finer (points_of o) r m (child_of (points_of o) r (get_or (map step_of digits) level (step_of d)).parent (get_or (map step_of digits) level (step_of d)).child).motion =
+      let w : n ≡ finer (points_of o) r m (child_of (points_of o) r
+      (get_or (map step_of digits) level (step_of d)).parent
+      (get_or (map step_of digits) level (step_of d)).child).motion =
       f ∙ ap (λ s. finer (points_of o) r m (child_of (points_of o) r s.parent s.child).motion) (sym (get_or-map step_of digits level d)) in
       record {
         on = Descends-finer (map step_of digits) level (step_of d) m n g k w;

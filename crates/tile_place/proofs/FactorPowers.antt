@@ -1,9 +1,9 @@
 -- Powers of the inflation factor, one after another.
 use Rattle.std.proofs.Common.{◌≡◌, ℕ, zero, suc, ◌+◌, ◌-◌, ◌<◌, ◌≤◌, List, [], ◌∷◌, ◌++◌, length, map, get_or, refl, sym, ap, ◌∙◌, subst, arith, add-one, append_assoc, pos, false, add-zero, zero-add}
 use Rattle.std.proofs.lemmas.List.{map-append}
-use Rattle.ordered_ring.specs.Ring.{power}
-use Rattle.substitution.specs.Points.{Points}
-use Rattle.frames.specs.Looked.{powers_from}
+use Rattle.theory_ring.specs.Ring.{power}
+use Rattle.theory_substitution.specs.Points.{Points}
+use Rattle.theory_frames.specs.Looked.{powers_from}
 use Rattle.cyclo_points.specs.declared.order.Order.{Order}
 use Rattle.cyclo_points.specs.declared.order.Order.TheVariants.{Four, Six, Eight, Ten}
 use Rattle.cyclo_points.specs.declared.point.Point.{Point}
@@ -15,7 +15,9 @@ use Rattle.rule_model.specs.declared.rule.Rule.{Rule}
 use Rattle.rule_model.specs.Views.{rule_of}
 
 -- the next power stands in front
-pub powers-next : (P : Points) (l : P.ring.carrier) (i depth : ℕ) → i < depth → powers_from P l (i + 1) (depth - i) ≡ power P.ring l (i + 1) ∷ powers_from P l ((i + 1) + 1) (depth - (i + 1))
+pub powers-next : (P : Points) (l : P.ring.carrier) (i depth : ℕ) → i < depth
+    → powers_from P l (i + 1) (depth - i) ≡ power P.ring l (i + 1)
+    ∷ powers_from P l ((i + 1) + 1) (depth - (i + 1))
 powers-next P l i depth h = ap (powers_from P l (i + 1)) count
   where
     count : depth - i ≡ suc (depth - (i + 1))
@@ -38,7 +40,8 @@ one-in_order Eight = tt
 one-in_order Ten = tt
 
 -- what is said of the powers of the factor found is said of those of the rule's
-pub of_factor : (o : Order) (r m : Rule) (factor : Point) (n : ℕ) (T : (o : Order) → List (NumberOf o) → Type 0) → o ≡ r.order → r ≡ m → factor ≡ r.factor
+pub of_factor : (o : Order) (r m : Rule) (factor : Point) (n : ℕ)
+    (T : (o : Order) → List (NumberOf o) → Type 0) → o ≡ r.order → r ≡ m → factor ≡ r.factor
     → T o (powers_from (points_of o) (point_in o factor) 0 n) → T m.order (powers_from (points_of m.order) (rule_of m).factor 0 n)
 of_factor o r m factor n T eo er ef t =
     subst (λ (m : Rule). T m.order (powers_from (points_of m.order) (rule_of m).factor 0 n)) er
@@ -46,7 +49,8 @@ of_factor o r m factor n T eo er ef t =
     (subst (λ q. T q (powers_from (points_of q) (point_in q factor) 0 n)) eo t))
 
 -- λ^0 is 1, and is never refused
-pub powers-start : (P : Points) (l : P.ring.carrier) (depth : ℕ) → powers_from P l 0 (depth + 1) ≡ P.ring.int (pos 1) ∷ powers_from P l (0 + 1) (depth - 0)
+pub powers-start : (P : Points) (l : P.ring.carrier) (depth : ℕ)
+    → powers_from P l 0 (depth + 1) ≡ P.ring.int (pos 1) ∷ powers_from P l (0 + 1) (depth - 0)
 powers-start P l depth = ap (powers_from P l 0) (add-one depth) ∙ ap (λ n. P.ring.int (pos 1) ∷ powers_from P l (0 + 1) n) same
   where
     same : depth ≡ depth - 0
@@ -59,8 +63,10 @@ one-unrefused Eight = refl
 one-unrefused Ten = refl
 
 -- one power more is behind
-pub seen-next : (o : Order) (f : NumberOf o) (items : List Point) (p : Point) (i depth : ℕ) → i < depth → point_in o p ≡ power (points_of o).ring f (i + 1)
-    → map (point_in o) (items ++ p ∷ []) ++ powers_from (points_of o) f ((i + 1) + 1) (depth - (i + 1)) ≡ map (point_in o) items ++ powers_from (points_of o) f (i + 1) (depth - i)
+pub seen-next : (o : Order) (f : NumberOf o) (items : List Point) (p : Point) (i depth : ℕ) → i < depth
+    → point_in o p ≡ power (points_of o).ring f (i + 1)
+    → map (point_in o) (items ++ p ∷ []) ++ powers_from (points_of o) f ((i + 1) + 1) (depth - (i + 1)) ≡ map
+    (point_in o) items ++ powers_from (points_of o) f (i + 1) (depth - i)
 seen-next o f items p i depth h e =
     ap (λ xs. xs ++ powers_from (points_of o) f ((i + 1) + 1) (depth - (i + 1))) (map-append (point_in o) items (p ∷ []))
     ∙ append_assoc (map (point_in o) items) (point_in o p ∷ []) (powers_from (points_of o) f ((i + 1) + 1) (depth - (i + 1)))
@@ -78,7 +84,12 @@ Within-pos : (k n : ℕ) → k ≤ n → Within n (pos k)
 Within-pos k n h = record { low = omega (arith, ints); high = omega (arith, ints) }
 
 pub one-within : (n : ℕ) → 1 ≤ n → IsWithin n one
-one-within n h = record { at_0 = Within-pos 1 n h; at_1 = Within-pos 0 n (omega arith); at_2 = Within-pos 0 n (omega arith); at_3 = Within-pos 0 n (omega arith) }
+one-within n h = record {
+  at_0 = Within-pos 1 n h;
+  at_1 = Within-pos 0 n (omega arith);
+  at_2 = Within-pos 0 n (omega arith);
+  at_3 = Within-pos 0 n (omega arith);
+}
 
 -- the power of a number in the list
 pub power-at : (P : Points) (l : P.ring.carrier) (i n j : ℕ) (d : P.ring.carrier) → j < n → get_or (powers_from P l i n) j d ≡ power P.ring l (i + j)
@@ -90,6 +101,9 @@ power-at P l i (suc n) (suc j) d h = power-at P l (i + 1) n j d (omega arith) �
     next = omega arith
 
 -- the same, of the program's list
-pub power-read : (o : Order) (l : NumberOf o) (n : ℕ) (ps : List Point) (j : ℕ) (d : Point) → map (point_in o) ps ≡ powers_from (points_of o) l 0 n → j < n → point_in o (get_or ps j d) ≡ power (points_of o).ring l j
+pub power-read : (o : Order) (l : NumberOf o) (n : ℕ) (ps : List Point) (j : ℕ) (d : Point)
+    → map (point_in o) ps ≡ powers_from (points_of o) l 0 n → j < n
+    → point_in o (get_or ps j d) ≡ power (points_of o).ring l j
 power-read o l n ps j d e h =
-    sym (get_or-map (point_in o) ps j d) ∙ ap (λ xs. get_or xs j (point_in o d)) e ∙ power-at (points_of o) l 0 n j (point_in o d) h ∙ ap (power (points_of o).ring l) (zero-add j)
+    sym (get_or-map (point_in o) ps j d) ∙ ap (λ xs. get_or xs j (point_in o d)) e
+    ∙ power-at (points_of o) l 0 n j (point_in o d) h ∙ ap (power (points_of o).ring l) (zero-add j)

@@ -1,17 +1,17 @@
 -- What gluing says of the machine's rule.
 use Rattle.std.proofs.Common.{◌≡◌, ◌↔◌, ◌<◌, ◌+◌, ◌-◌, ◌/◌, ◌%◌, ℕ, length, pos, negsuc, [], ◌∷◌, refl, sym, ap, ap₂, ◌∙◌, subst}
 use Rattle.std.proofs.Math.Nat.{mod-lt}
-use Rattle.ordered_ring.specs.Ring.{difference}
-use Rattle.ordered_ring.proofs.Normaliser.{var, con, ring, ring_from, ◌⊕◌, ◌⊖◌, ◌⊗◌}
-use Rattle.ordered_ring.specs.Ring.{power}
-use Rattle.substitution.specs.RuleParts.{next, vertex}
-use Rattle.edge_to_edge.specs.EdgeTypes.{edge_vector}
-use Rattle.edge_to_edge.proofs.ChildEdges.{kind-with_edge}
+use Rattle.theory_ring.specs.Ring.{difference}
+use Rattle.theory_ring.proofs.Normaliser.{var, con, ring, ring_from, ◌⊕◌, ◌⊖◌, ◌⊗◌}
+use Rattle.theory_ring.specs.Ring.{power}
+use Rattle.theory_substitution.specs.RuleParts.{next, vertex}
+use Rattle.theory_edge_to_edge.specs.EdgeTypes.{edge_vector}
+use Rattle.theory_edge_to_edge.proofs.ChildEdges.{kind-with_edge}
 use Rattle.cyclo_points.specs.declared.order.Order.{Order}
 use Rattle.cyclo_points.specs.Order.{NumberOf, PointsLaw, points_of}
-use Rattle.dissection.specs.Glue.{TurnsOnto}
-use Rattle.dissection.specs.Laws.{GlueLaw}
-use Rattle.dissection.proofs.GlueMotions.{glue_motion, glues}
+use Rattle.theory_dissection.specs.Glue.{TurnsOnto}
+use Rattle.theory_dissection.specs.Laws.{GlueLaw}
+use Rattle.theory_dissection.proofs.GlueMotions.{glue_motion, glues}
 use Rattle.rule_model.specs.declared.rule.Rule.{Rule}
 use Rattle.rule_model.specs.Tiling.{tiling_of}
 use Rattle.rule_model.specs.Views.{rule_of}
@@ -49,7 +49,8 @@ module _ (m : Rule) where
 
     module _ (of_own : IsGreatest m.order own a) (of_its : IsGreatest m.order its b) where
       pub one_vector : Meets (tiling_of m) k e l f → turned_by m.order a own ≡ turned_by m.order b its
-      one_vector met = one-greatest m.order W own its a b ((points_of m.order).order / 2 + met.turn) of_own of_its (onto-itself m.order W own its met.turn met.turns)
+      one_vector met = one-greatest m.order W own its a b ((points_of m.order).order / 2 + met.turn) of_own
+          of_its (onto-itself m.order W own its met.turn met.turns)
 
       pub turn_below : glue_turn < (points_of m.order).order
       turn_below = mod-lt (b + ((points_of m.order).order / 2 + (points_of m.order).order - a)) (some_order m.order)
@@ -61,29 +62,37 @@ module _ (m : Rule) where
       met = ((λ same. record { turn = glue_turn; below = turn_below; turns = turns_onto same }), one_vector)
 
   -- the motions that such a turn gives
-  module _ (W : PointsLaw m.order) (k e l f turn : ℕ) (below : turn < (points_of m.order).order) (turns : TurnsOnto (points_of m.order) (rule_of m) k e l f turn) where
+  module _ (W : PointsLaw m.order) (k e l f turn : ℕ) (below : turn < (points_of m.order).order)
+      (turns : TurnsOnto (points_of m.order) (rule_of m) k e l f turn) where
     abbrev end_vertex : NumberOf m.order
     end_vertex = vertex (points_of m.order) (rule_of m) k (next (rule_of m) k e)
 
     abbrev start_vertex : NumberOf m.order
     start_vertex = vertex (points_of m.order) (rule_of m) l f
 
-    pub glued : (end start shift : NumberOf m.order) → end ≡ turned_by m.order 0 end_vertex → start ≡ turned_by m.order turn start_vertex → shift ≡ difference (points_of m.order).ring end start
+    pub glued : (end start shift : NumberOf m.order) → end ≡ turned_by m.order 0 end_vertex
+        → start ≡ turned_by m.order turn start_vertex → shift ≡ difference (points_of m.order).ring end start
         → Glues (tiling_of m) k e l f (record { turn = turn; shift = shift })
     glued end start shift end_is start_is shift_is =
         subst (λ (s : NumberOf m.order). Glues (tiling_of m) k e l f (record { turn = turn; shift = s }))
-        (sym (shift_is ∙ ap₂ (difference (points_of m.order).ring) (end_is ∙ ring (points_of m.order).ring W.of_ring (end_vertex ∷ []) (con (pos 1) ⊗ var 0) (var 0) refl) start_is))
+        (sym (shift_is ∙ ap₂ (difference (points_of m.order).ring)
+        (end_is ∙ ring (points_of m.order).ring W.of_ring (end_vertex ∷ []) (con (pos 1) ⊗ var 0) (var 0)
+        refl) start_is))
         (glues (points_of m.order) W (rule_of m) k e l f turn below turns)
 
-    pub across : (at : ℕ) (s end start shift : NumberOf m.order) → end ≡ turned_by m.order at end_vertex → start ≡ turned_by m.order ((at + turn) % (points_of m.order).order) start_vertex
+    pub across : (at : ℕ) (s end start shift : NumberOf m.order) → end ≡ turned_by m.order at end_vertex
+        → start ≡ turned_by m.order ((at + turn) % (points_of m.order).order) start_vertex
         → shift ≡ difference (points_of m.order).ring ((points_of m.order).ring.add end s) start
-        → IsMotionAcross (tiling_of m) k e l f (record { turn = at; shift = s }) (record { turn = (at + turn) % (points_of m.order).order; shift = shift })
+        → IsMotionAcross (tiling_of m) k e l f (record { turn = at; shift = s })
+        (record { turn = (at + turn) % (points_of m.order).order; shift = shift })
     across at s end start shift end_is start_is shift_is = record {
       glue = glue_motion (points_of m.order) (rule_of m) k e l f turn;
       glues = glues (points_of m.order) W (rule_of m) k e l f turn below turns;
       motion_is = ap (λ (v : NumberOf m.order). record { turn = (at + turn) % (points_of m.order).order; shift = v })
           (shift_is ∙ ring_from (points_of m.order).ring W.of_ring
-          (power (points_of m.order).ring (points_of m.order).zeta at ∷ (power (points_of m.order).ring (points_of m.order).zeta turn ∷ (end_vertex ∷ (start_vertex ∷ (s ∷ (end ∷ (start ∷ [])))))))
+          (power (points_of m.order).ring (points_of m.order).zeta at
+          ∷ (power (points_of m.order).ring (points_of m.order).zeta turn
+          ∷ (end_vertex ∷ (start_vertex ∷ (s ∷ (end ∷ (start ∷ [])))))))
           ((var 5 ⊕ var 4) ⊖ var 6) (var 0 ⊗ (var 2 ⊖ var 1 ⊗ var 3) ⊕ var 4)
           ((con (pos 1), var 5, var 0 ⊗ var 2) ∷ ((con (negsuc 0), var 6, var 0 ⊗ (var 1 ⊗ var 3)) ∷ []))
           (end_is, (start_is ∙ turned-mod m.order W (at + turn) start_vertex ∙ turned-twice m.order W at turn start_vertex, tt)) refl);

@@ -9,9 +9,9 @@ use Rattle.std.specs.Cmp.Lexicographic.{slice_cmp, pointwise, lists_total, lists
 use Rattle.std.specs.Cmp.Rules.{signed_items}
 use Rattle.std.specs.Ordering.{ordering_reverse, int_cmp, int_eq, is_gt, is_eq}
 use Rattle.std.proofs.lemmas.Cmp.{int_cmp_total}
-use Rattle.ordered_ring.specs.Ring.{power}
-use Rattle.ordered_ring.proofs.Normaliser.{var, con, neg, ring, ring_from, ◌⊕◌, ◌⊖◌, ◌⊗◌}
-use Rattle.substitution.proofs.Motions.{power-add, power-mod}
+use Rattle.theory_ring.specs.Ring.{power}
+use Rattle.theory_ring.proofs.Normaliser.{var, con, neg, ring, ring_from, ◌⊕◌, ◌⊖◌, ◌⊗◌}
+use Rattle.theory_substitution.proofs.Motions.{power-add, power-mod}
 use Rattle.cyclo_points.specs.declared.order.Order.{Order}
 use Rattle.cyclo_points.specs.declared.order.Order.TheVariants.{Four, Six, Eight, Ten}
 use Rattle.cyclo_points.specs.declared.point.Point.{Point}
@@ -79,7 +79,8 @@ module _ (o : Order) (v : NumberOf o) where
   pub first-turn : IsGreatestBelow o v 1 0
   first-turn = record {
     below = some_order o;
-    none_above = λ j h. let zero : 0 ≡ j = omega (arith, h) in subst (λ i. is_gt (cmp (turn_of i) (turn_of 0)) ≡ false) zero (not_above_itself (turn_of 0));
+    none_above = λ j h. let zero : 0 ≡ j = omega (arith, h) in subst
+        (λ i. is_gt (cmp (turn_of i) (turn_of 0)) ≡ false) zero (not_above_itself (turn_of 0));
   }
 
   module _ (steps best : ℕ) (so_far : IsGreatestBelow o v steps best) where
@@ -88,7 +89,8 @@ module _ (o : Order) (v : NumberOf o) where
       below = below;
       none_above = λ j h. elim (cases_lt j steps) [
         | inl lt ↦ none_above_higher (turn_of j) (turn_of best) (turn_of steps) (so_far.none_above j lt) above
-        | inr ge ↦ let last : steps ≡ j = omega (arith, h, ge) in subst (λ i. is_gt (cmp (turn_of i) (turn_of steps)) ≡ false) last (not_above_itself (turn_of steps))
+        | inr ge ↦ let last : steps ≡ j = omega (arith, h, ge) in subst
+            (λ i. is_gt (cmp (turn_of i) (turn_of steps)) ≡ false) last (not_above_itself (turn_of steps))
       ];
     }
 
@@ -128,28 +130,36 @@ module _ (o : Order) (W : PointsLaw o) where
   turned-back j v w e =
       let small = mod-lt j (some_order o) in
       let whole : (n - j % n) + j % n ≡ n = omega (arith, small) in
-      ap (turned_by o (n - j % n)) (sym e ∙ sym (turned-mod j w)) ∙ sym (turned-twice (n - j % n) (j % n) w) ∙ ap (λ i. turned_by o i w) whole ∙ turned-round w
+      ap (turned_by o (n - j % n)) (sym e ∙ sym (turned-mod j w)) ∙ sym (turned-twice (n - j % n) (j % n) w)
+      ∙ ap (λ i. turned_by o i w) whole ∙ turned-round w
 
   -- a turn of v is none above the greatest of w
-  none-above : (v w : NumberOf o) (b j : ℕ) → IsGreatest o w b → turned_by o j w ≡ v → (a : ℕ) → is_gt (cmp (coefficients o (turned_by o a v)) (coefficients o (turned_by o b w))) ≡ false
+  none-above : (v w : NumberOf o) (b j : ℕ) → IsGreatest o w b → turned_by o j w ≡ v → (a : ℕ)
+      → is_gt (cmp (coefficients o (turned_by o a v)) (coefficients o (turned_by o b w))) ≡ false
   none-above v w b j greatest e a =
-      subst (λ z. is_gt (cmp (coefficients o z) (coefficients o (turned_by o b w))) ≡ false) (turned-mod (a + j) w ∙ turned-twice a j w ∙ ap (turned_by o a) e)
+      subst (λ z. is_gt (cmp (coefficients o z) (coefficients o (turned_by o b w))) ≡ false)
+      (turned-mod (a + j) w ∙ turned-twice a j w ∙ ap (turned_by o a) e)
       (greatest.none_above ((a + j) % n) (mod-lt (a + j) (some_order o)))
 
   pub one-greatest : (v w : NumberOf o) (a b j : ℕ) → IsGreatest o v a → IsGreatest o w b → turned_by o j w ≡ v → turned_by o a v ≡ turned_by o b w
   one-greatest v w a b j of_v of_w e =
       same_numbers o (turned_by o a v) (turned_by o b w)
-      (neither (coefficients o (turned_by o a v)) (coefficients o (turned_by o b w)) (none-above v w b j of_w e a) (none-above w v a (n - j % n) of_v (turned-back j v w e) b))
+      (neither (coefficients o (turned_by o a v)) (coefficients o (turned_by o b w))
+      (none-above v w b j of_w e a) (none-above w v a (n - j % n) of_v (turned-back j v w e) b))
 
   -- half a turn more than onto the reverse
   pub onto-itself : (v w : NumberOf o) (j : ℕ) → turned_by o j w ≡ (points_of o).ring.neg v → turned_by o (n / 2 + j) w ≡ v
   onto-itself v w j e =
-      turned-twice (n / 2) j w ∙ turned-half (turned_by o j w) ∙ ap (points_of o).ring.neg e ∙ ring (points_of o).ring W.of_ring (v ∷ []) (neg (neg (var 0))) (var 0) refl
+      turned-twice (n / 2) j w ∙ turned-half (turned_by o j w) ∙ ap (points_of o).ring.neg e
+      ∙ ring (points_of o).ring W.of_ring (v ∷ []) (neg (neg (var 0))) (var 0) refl
 
   -- of one greatest vector: onto the reverse
-  pub onto-reverse : (v w : NumberOf o) (a b : ℕ) → a < n → turned_by o a v ≡ turned_by o b w → turned_by o ((b + (n / 2 + n - a)) % n) w ≡ (points_of o).ring.neg v
+  pub onto-reverse : (v w : NumberOf o) (a b : ℕ) → a < n → turned_by o a v ≡ turned_by o b w
+      → turned_by o ((b + (n / 2 + n - a)) % n) w ≡ (points_of o).ring.neg v
   onto-reverse v w a b below e =
       let apart : b + (n / 2 + n - a) ≡ n / 2 + ((n - a) + b) = omega (arith, below) in
       let whole : (n - a) + a ≡ n = omega (arith, below) in
-      turned-mod (b + (n / 2 + n - a)) w ∙ ap (λ i. turned_by o i w) apart ∙ turned-twice (n / 2) ((n - a) + b) w ∙ turned-half (turned_by o ((n - a) + b) w)
-      ∙ ap (points_of o).ring.neg (turned-twice (n - a) b w ∙ ap (turned_by o (n - a)) (sym e) ∙ sym (turned-twice (n - a) a v) ∙ ap (λ i. turned_by o i v) whole ∙ turned-round v)
+      turned-mod (b + (n / 2 + n - a)) w ∙ ap (λ i. turned_by o i w) apart
+      ∙ turned-twice (n / 2) ((n - a) + b) w ∙ turned-half (turned_by o ((n - a) + b) w)
+      ∙ ap (points_of o).ring.neg (turned-twice (n - a) b w ∙ ap (turned_by o (n - a)) (sym e)
+      ∙ sym (turned-twice (n - a) a v) ∙ ap (λ i. turned_by o i v) whole ∙ turned-round v)

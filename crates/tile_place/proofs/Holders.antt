@@ -1,15 +1,15 @@
 -- Children looked at one after another.
 use Rattle.std.proofs.Common.{◌≡◌, ℕ, ◌+◌, ◌<◌, Bool, true, false, cond, ◌&&◌, not, is_some, List, [], ◌∷◌, ◌++◌, length, drop, get_or, find, Option, None, Some, IfSome, refl, sym, ap, ap₂, ◌∙◌}
-use Rattle.substitution.specs.Points.{Points}
-use Rattle.substitution.specs.Motion.{Motion}
-use Rattle.substitution.specs.Rule.{Rule, Child}
-use Rattle.frames.specs.Outline.{outline, holds_point}
-use Rattle.frames.specs.Part.{Part, holder}
-use Rattle.frames.specs.Looked.{values_of_children}
+use Rattle.theory_substitution.specs.Points.{Points}
+use Rattle.theory_substitution.specs.Motion.{Motion}
+use Rattle.theory_substitution.specs.Rule.{Rule, Child}
+use Rattle.theory_frames.specs.Outline.{outline, holds_point}
+use Rattle.theory_frames.specs.Part.{Part, holder}
+use Rattle.theory_frames.specs.Looked.{values_of_children}
 use Rattle.std.specs.Option.{option_map}
-use Rattle.addressing.specs.Search.{or_else}
-use Rattle.frames.specs.Part.{child_part}
-use Rattle.frames.specs.Looked.{values_of_child}
+use Rattle.theory_addresses.specs.Search.{or_else}
+use Rattle.theory_frames.specs.Part.{child_part}
+use Rattle.theory_frames.specs.Looked.{values_of_child}
 use Rattle.tile_place.specs.Parts.{if_holds}
 use Rattle.tile_place.proofs.Ahead.{there, drop-next}
 use Rattle.tile_place.proofs.Values.{find-append_found}
@@ -38,11 +38,15 @@ pub find-front : {A : Type 0} (test : A → Bool) (xs ys : List A) → find test
 find-front test [] ys e = refl
 find-front {A} test (x ∷ xs) ys e = at_test (test x) e (find-front test xs ys)
   where
-    at_test : (b : Bool) → cond b (Some x) (find test xs) ≡ None → (find test xs ≡ None → find test (xs ++ ys) ≡ find test ys) → cond b (Some x) (find test (xs ++ ys)) ≡ find test ys
+    at_test : (b : Bool) → cond b (Some x) (find test xs) ≡ None
+        → (find test xs ≡ None → find test (xs ++ ys) ≡ find test ys)
+        → cond b (Some x) (find test (xs ++ ys)) ≡ find test ys
     at_test true f rest = absurd (cc f)
     at_test false f rest = rest f
 
-module _ (P : Points) (r : Rule P.ring.carrier) (scale : P.ring.carrier) (m : Motion P.ring.carrier) (point : P.ring.carrier) (cs : List (Child P.ring.carrier)) (n : ℕ) (d : Child P.ring.carrier) (h : n < length cs) where
+module _ (P : Points) (r : Rule P.ring.carrier) (scale : P.ring.carrier) (m : Motion P.ring.carrier)
+    (point : P.ring.carrier) (cs : List (Child P.ring.carrier)) (n : ℕ) (d : Child P.ring.carrier)
+    (h : n < length cs) where
   abbrev here : Part P.ring.carrier
   here = child_part P r scale m n (get_or cs n d)
 
@@ -54,15 +58,23 @@ module _ (P : Points) (r : Rule P.ring.carrier) (scale : P.ring.carrier) (m : Mo
 
   -- one child further: the part that is looked at comes before those further on
   pub held-next : {X : Type 0} (f : X → Part P.ring.carrier) (held : Option X) (x : X) (b : Bool) → f x ≡ here → b ≡ it_holds
-      → or_else (option_map f (or_else held (if_holds b x))) (holder P r scale m point (n + 1) (drop (n + 1) cs)) ≡ or_else (option_map f held) (holder P r scale m point n (drop n cs))
+      → or_else (option_map f (or_else held (if_holds b x)))
+      (holder P r scale m point (n + 1) (drop (n + 1) cs)) ≡ or_else (option_map f held)
+      (holder P r scale m point n (drop n cs))
   held-next f held x b e t =
-      ap (λ y. or_else y (holder P r scale m point (n + 1) (drop (n + 1) cs))) (or_else-map f held (if_holds b x) ∙ ap (or_else (option_map f held)) (if_holds-map f b x ∙ ap₂ if_holds t e))
+      ap (λ y. or_else y (holder P r scale m point (n + 1) (drop (n + 1) cs)))
+      (or_else-map f held (if_holds b x) ∙ ap (or_else (option_map f held))
+      (if_holds-map f b x ∙ ap₂ if_holds t e))
       ∙ or_else-assoc (option_map f held) (if_holds it_holds here) (holder P r scale m point (n + 1) (drop (n + 1) cs))
-      ∙ ap (or_else (option_map f held)) (sym (cond-or_else it_holds here (holder P r scale m point (n + 1) (drop (n + 1) cs))) ∙ ap (holder P r scale m point n) (sym split))
+      ∙ ap (or_else (option_map f held)) (sym (cond-or_else it_holds here
+      (holder P r scale m point (n + 1) (drop (n + 1) cs))) ∙ ap (holder P r scale m point n) (sym split))
 
   -- the same where it is asked only as long as none is held
-  pub sought-next : {X : Type 0} (f : X → Part P.ring.carrier) (held : Option X) (x : X) (sought b : Bool) → is_some held ≡ not sought → f x ≡ here → b ≡ (sought && it_holds)
-      → or_else (option_map f (or_else held (if_holds b x))) (holder P r scale m point (n + 1) (drop (n + 1) cs)) ≡ or_else (option_map f held) (holder P r scale m point n (drop n cs))
+  pub sought-next : {X : Type 0} (f : X → Part P.ring.carrier) (held : Option X) (x : X) (sought b : Bool)
+      → is_some held ≡ not sought → f x ≡ here → b ≡ (sought && it_holds)
+      → or_else (option_map f (or_else held (if_holds b x)))
+      (holder P r scale m point (n + 1) (drop (n + 1) cs)) ≡ or_else (option_map f held)
+      (holder P r scale m point n (drop n cs))
   sought-next f None x true b q e t = held-next f None x b e t
   sought-next f None x false b q e t = absurd (cc q)
   sought-next f (Some y) x sought b q e t = refl

@@ -26,7 +26,8 @@ carried Equal m f g h = g m
 carried Greater m f g h = h m
 
 raised-cmp : (x y : ℤ) → Within (2 ^ 24) x → Within (2 ^ 24) y → int_cmp x y ≡ nat_cmp (raised_shift x) (raised_shift y)
-raised-cmp x y v w = nat_cmp_is (raised_shift x) (raised_shift y) (int_cmp x y) (carried (int_cmp x y) (int_ranks x y) (below x y v w) (ap raised_shift) (below y x w v))
+raised-cmp x y v w = nat_cmp_is (raised_shift x) (raised_shift y) (int_cmp x y)
+    (carried (int_cmp x y) (int_ranks x y) (below x y v w) (ap raised_shift) (below y x w v))
   where
     below : (a b : ℤ) → Within (2 ^ 24) a → Within (2 ^ 24) b → a <ℤ b → raised_shift a < raised_shift b
     below a b v w e = let l = v.low in let h = v.high in let m = w.low in let k = w.high in omega (arith, ints, l, h, m, k, e)
@@ -35,7 +36,9 @@ raised-below : (x : ℤ) → Within (2 ^ 24) x → raised_shift x < 2 ^ 26
 raised-below x w = let l = w.low in let h = w.high in omega (arith, ints, l, h)
 
 pub pos-cmp : (m n : ℕ) → int_cmp (pos m) (pos n) ≡ nat_cmp m n
-pos-cmp m n = nat_cmp_is m n (int_cmp (pos m) (pos n)) (carried (int_cmp (pos m) (pos n)) (int_ranks (pos m) (pos n)) (λ e. omega (arith, ints, e)) (λ e. omega (arith, ints, e)) (λ e. omega (arith, ints, e)))
+pos-cmp m n = nat_cmp_is m n (int_cmp (pos m) (pos n))
+    (carried (int_cmp (pos m) (pos n)) (int_ranks (pos m) (pos n)) (λ e. omega (arith, ints, e))
+    (λ e. omega (arith, ints, e)) (λ e. omega (arith, ints, e)))
 
 -- a number in two parts, the second below n
 pub parts-before : (n p q r s : ℕ) → p < r → q < n → p * n + q < r * n + s
@@ -45,7 +48,8 @@ parts-before n p q r s e f =
     omega (arith, f, l, k)
 
 pub parts-cmp : (n a b c d : ℕ) → b < n → d < n → nat_cmp (a * n + b) (c * n + d) ≡ ordering_then (nat_cmp a c) (nat_cmp b d)
-parts-cmp n a b c d v w = sym (nat_cmp_is (a * n + b) (c * n + d) (ordering_then (nat_cmp a c) (nat_cmp b d)) (at (nat_cmp a c) (nat_cmp b d) (ranked a c (nat_cmp a c) refl) (ranked b d (nat_cmp b d) refl)))
+parts-cmp n a b c d v w = sym (nat_cmp_is (a * n + b) (c * n + d) (ordering_then (nat_cmp a c) (nat_cmp b d))
+    (at (nat_cmp a c) (nat_cmp b d) (ranked a c (nat_cmp a c) refl) (ranked b d (nat_cmp b d) refl)))
   where
     at : (o p : Ordering) → MatchOrdering o (a < c) (a ≡ c) (c < a) → MatchOrdering p (b < d) (b ≡ d) (d < b)
         → MatchOrdering (ordering_then o p) (a * n + b < c * n + d) (a * n + b ≡ c * n + d) (c * n + d < a * n + b)
@@ -93,7 +97,8 @@ module _ (m n : Motion) (k l : ℕ) (fm : FitsKey m k) (fn : FitsKey n l) where
       kinds = nat_cmp k l
 
       spread : Ordering → Ordering → Ordering
-      spread o p = ordering_then (cmp_at 0) (ordering_then (cmp_at 1) (ordering_then (cmp_at 2) (ordering_then (cmp_at 3) (ordering_then o (ordering_then p Equal)))))
+      spread o p = ordering_then (cmp_at 0) (ordering_then (cmp_at 1)
+          (ordering_then (cmp_at 2) (ordering_then (cmp_at 3) (ordering_then o (ordering_then p Equal)))))
 
       high : nat_cmp (key_of m k i).high (key_of n l j).high ≡ ordering_then (cmp_at 0) (cmp_at 1)
       high = pair-cmp _ _ _ _ fm.within.at_0 fm.within.at_1 fn.within.at_0 fn.within.at_1
@@ -104,12 +109,15 @@ module _ (m n : Motion) (k l : ℕ) (fm : FitsKey m k) (fn : FitsKey n l) where
           ∙ ap (λ o. ordering_then o kinds) (parts-cmp (2 ^ 4) _ m.turn _ n.turn fm.turn_fits fn.turn_fits
           ∙ ap (λ o. ordering_then o turns) (pair-cmp _ _ _ _ fm.within.at_2 fm.within.at_3 fn.within.at_2 fn.within.at_3))
 
-      tail : ordering_then (ordering_then (ordering_then (cmp_at 2) (cmp_at 3)) turns) kinds ≡ ordering_then (cmp_at 2) (ordering_then (cmp_at 3) (ordering_then turns (ordering_then kinds Equal)))
+      tail : ordering_then (ordering_then (ordering_then (cmp_at 2) (cmp_at 3)) turns) kinds ≡ ordering_then
+          (cmp_at 2) (ordering_then (cmp_at 3) (ordering_then turns (ordering_then kinds Equal)))
       tail =
           then-assoc (ordering_then (cmp_at 2) (cmp_at 3)) turns kinds ∙ then-assoc (cmp_at 2) (cmp_at 3) (ordering_then turns kinds)
           ∙ ap (λ o. ordering_then (cmp_at 2) (ordering_then (cmp_at 3) (ordering_then turns o))) (sym (then-equal kinds))
 
-      joined : ordering_then (ordering_then (cmp_at 0) (cmp_at 1)) (ordering_then (ordering_then (ordering_then (cmp_at 2) (cmp_at 3)) turns) kinds) ≡ spread turns kinds
+      joined : ordering_then (ordering_then (cmp_at 0) (cmp_at 1))
+          (ordering_then (ordering_then (ordering_then (cmp_at 2) (cmp_at 3)) turns) kinds) ≡ spread turns
+          kinds
       joined = then-assoc (cmp_at 0) (cmp_at 1) _ ∙ ap (λ o. ordering_then (cmp_at 0) (ordering_then (cmp_at 1) o)) tail
 
 exact : (xs ys : List ℤ) → slice_cmp int_cmp xs ys ≡ Equal → xs ≡ ys
@@ -131,7 +139,8 @@ not_first Equal n e h = cc h
 not_first Greater n e h = cc h
 
 -- the places of two tiles, and their keys
-module _ (m n : Motion) (k l : ℕ) (a b : OrderKey) (fm : FitsKey m k) (fn : FitsKey n l) (ea : a ≡ key_of m k a.number) (eb : b ≡ key_of n l b.number) where
+module _ (m n : Motion) (k l : ℕ) (a b : OrderKey) (fm : FitsKey m k) (fn : FitsKey n l)
+    (ea : a ≡ key_of m k a.number) (eb : b ≡ key_of n l b.number) where
   -- keys that have the same words are of the same numbers
   pub level-numbers : a.high ≡ b.high → a.low ≡ b.low → order_numbers m k ≡ order_numbers n l
   level-numbers high low =
@@ -167,4 +176,5 @@ module _ (m n : Motion) (k l : ℕ) (a b : OrderKey) (fm : FitsKey m k) (fn : Fi
     -- and comes after it, where they are not numbered the same
     pub comes-first : (order_numbers m k ≡ order_numbers n l → ⊥) → slice_cmp int_cmp (order_numbers m k) (order_numbers n l) ≡ Less
     comes-first apart =
-        (lists_total int_cmp_total).antisymm (order_numbers m k) (order_numbers n l) ∙ reversed o number not_less (λ e. apart (sym (exact (order_numbers n l) (order_numbers m k) e)))
+        (lists_total int_cmp_total).antisymm (order_numbers m k) (order_numbers n l)
+        ∙ reversed o number not_less (λ e. apart (sym (exact (order_numbers n l) (order_numbers m k) e)))

@@ -1,9 +1,9 @@
 -- The tile across an edge is one.
 use Rattle.std.proofs.Common.{◌≡◌, ℕ, ap}
-use Rattle.addressing.specs.Address.{Address}
+use Rattle.theory_addresses.specs.Address.{Address}
 use Rattle.cyclo_points.specs.Order.{NumberOf}
 use Rattle.rule_model.specs.Tiling.{Tiling}
-use Rattle.substitution.specs.Supertile.{Placed}
+use Rattle.theory_substitution.specs.Supertile.{Placed}
 use Rattle.tile_place.specs.Crossed.{IsOnlyAcross}
 
 -- the only tile across an edge, and its edge there, are no other's

@@ -1,14 +1,14 @@
 -- What the tables say of an edge, in the plane.
 use Rattle.std.proofs.Common.{◌≡◌, ℕ, ◌<◌, Result, Ok, Err, IfOk, IfErr, OnOk, sym, subst}
-use Rattle.addressing.specs.Address.{Address as TheAddress, Fits}
-use Rattle.addressing.specs.Across.{IsAcross, LiesOn}
-use Rattle.addressing.specs.Tables.{Tables, child_kinds}
+use Rattle.theory_addresses.specs.Address.{Address as TheAddress, Fits}
+use Rattle.theory_addresses.specs.Across.{IsAcross, LiesOn}
+use Rattle.theory_addresses.specs.Tables.{Tables, child_kinds}
 use Rattle.cyclo_points.specs.declared.order.Order.{Order}
 use Rattle.cyclo_points.specs.Order.{points_of, is_refused}
 use Rattle.cyclo_points.proofs.OrderLaws.{laws_of}
-use Rattle.dissection.specs.Accepted.{AcceptedRule, HasEdge}
-use Rattle.dissection.specs.Laws.{AcrossLaw, BoundaryLaw}
-use Rattle.dissection.proofs.BoundaryTrace.{along-boundary}
+use Rattle.theory_dissection.specs.Accepted.{AcceptedRule, HasEdge}
+use Rattle.theory_dissection.specs.Laws.{AcrossLaw, BoundaryLaw}
+use Rattle.theory_dissection.proofs.BoundaryTrace.{along-boundary}
 use Rattle.rule_model.specs.declared.rule.Rule.{Rule}
 use Rattle.rule_model.specs.Accepted.{IsAccepted}
 use Rattle.rule_model.specs.Tiling.{Tiling, tiling_of, contacts, children}
@@ -49,7 +49,8 @@ module _ (m : Rule) (settled : IsSettled m) where
   pub fits_tables : (a : TheAddress) → Fits (children (tiling_of m)) a → Fits (child_kinds (contacts (tiling_of m))) a
   fits_tables a h = subst (λ u. Fits u a) (sym settled.same_child_kinds) h
 
-  pub has_edge : (a : TheAddress) (e : ℕ) → Fits (child_kinds (contacts (tiling_of m))) a → e < edges_of (tiling_of m) a.kind → HasEdge (points_of m.order) (rule_of m) a e
+  pub has_edge : (a : TheAddress) (e : ℕ) → Fits (child_kinds (contacts (tiling_of m))) a
+      → e < edges_of (tiling_of m) a.kind → HasEdge (points_of m.order) (rule_of m) a e
   has_edge a e fits edge = record { fits = fits; edge_exists = edge }
 
   module _ (a : TheAddress) (e : ℕ) (fits : Fits (children (tiling_of m)) a) (edge : e < edges_of (tiling_of m) a.kind) where
@@ -72,14 +73,17 @@ module _ (m : Rule) (settled : IsSettled m) where
     lies_on_boundary law (Ok x) h = tt
     lies_on_boundary law (Err o) h = (law its_rule a e o.edge o.part own).1 (h.cuts, h.trace, sym h.is_part)
 
-    pub boundary_lies : BoundariesLaw m.order → (top part : ℕ) → LiesOnBoundary (tiling_of m) a e top part → LiesOn (contacts (tiling_of m)) a e top part
+    pub boundary_lies : BoundariesLaw m.order → (top part : ℕ) → LiesOnBoundary (tiling_of m) a e top part
+        → LiesOn (contacts (tiling_of m)) a e top part
     boundary_lies law top part on =
         let h = (law its_rule a e top part own).0 on in
         record { cuts = h.0; trace = h.1; is_part = sym h.2 }
 
     -- what lies along an edge of the supertile's polygon lies on some part of it
     pub on_some_part : (top : ℕ) → LiesAlong (tiling_of m) a e top → (part : ℕ) × LiesOnBoundary (tiling_of m) a e top part
-    on_some_part top h = along-boundary (record { points = points_of m.order; laws = laws_of m.order; accepted = its_rule }) a e top own.fits own.edge_exists h.exists h.along
+    on_some_part top h = along-boundary (record
+        { points = points_of m.order; laws = laws_of m.order; accepted = its_rule }) a e top own.fits
+        own.edge_exists h.exists h.along
 
     -- an edge that lies on some part is answered by it, and so none that is crossed lies along an edge of that polygon
     module _ (law : BoundariesLaw m.order) (t : Tables) (same : t ≡ contacts (tiling_of m)) (x : Result ℕ Outside)
@@ -90,6 +94,7 @@ module _ (m : Rule) (settled : IsSettled m) where
       pub along_none : OnOk x (LiesAlongNone (tiling_of m) a e)
       along_none = none x outside_on
         where
-          none : (y : Result ℕ Outside) → ((top part : ℕ) → LiesOnBoundary (tiling_of m) a e top part → y ≡ Err (record { edge = top; part = part })) → OnOk y (LiesAlongNone (tiling_of m) a e)
+          none : (y : Result ℕ Outside) → ((top part : ℕ) → LiesOnBoundary (tiling_of m) a e top part
+              → y ≡ Err (record { edge = top; part = part })) → OnOk y (LiesAlongNone (tiling_of m) a e)
           none (Ok f) outside = λ top h. let on = on_some_part top h in let is = outside top on.0 on.1 in absurd cc
           none (Err o) outside = tt

@@ -36,7 +36,9 @@ pub same_number : (o : Order) (p q : Point) → p.c ≡ q.c → point_in o p ≡
 same_number o p q e = ap (λ (c : List ℤ). (let s : Point = record { c = c } in point_in o s)) e
 
 -- where the first three are the same, the last decides
-gt-at : (b c : Bool) → cond b Less (cond c Greater Equal) ≡ ordering_reverse (cond c Less (cond b Greater Equal)) → is_gt (ordering_then (cond b Less (cond c Greater Equal)) Equal) ≡ c
+gt-at : (b c : Bool) → cond b Less (cond c Greater Equal) ≡ ordering_reverse
+    (cond c Less (cond b Greater Equal)) → is_gt
+    (ordering_then (cond b Less (cond c Greater Equal)) Equal) ≡ c
 gt-at true true h = absurd (cc h)
 gt-at true false h = refl
 gt-at false true h = refl
@@ -46,10 +48,14 @@ last-two : (a b c x y : ℤ) → is_gt (slice_cmp int_cmp (a ∷ b ∷ c ∷ x �
 last-two a b c x y =
     ap (λ r. is_gt (ordering_then r (slice_cmp int_cmp (b ∷ c ∷ x ∷ []) (b ∷ c ∷ y ∷ [])))) (tied_itself int_cmp_total a)
     ∙ ap (λ r. is_gt (ordering_then r (slice_cmp int_cmp (c ∷ x ∷ []) (c ∷ y ∷ [])))) (tied_itself int_cmp_total b)
-    ∙ ap (λ r. is_gt (ordering_then r (slice_cmp int_cmp (x ∷ []) (y ∷ [])))) (tied_itself int_cmp_total c) ∙ gt-at (int_lt x y) (int_lt y x) (int_cmp_total.antisymm x y)
+    ∙ ap (λ r. is_gt (ordering_then r (slice_cmp int_cmp (x ∷ []) (y ∷ [])))) (tied_itself int_cmp_total c)
+    ∙ gt-at (int_lt x y) (int_lt y x) (int_cmp_total.antisymm x y)
 
-pub last_decides : (p q : Point) → length p.c ≡ 4 → length q.c ≡ 4 → coefficient p 0 ≡ coefficient q 0 → coefficient p 1 ≡ coefficient q 1 → coefficient p 2 ≡ coefficient q 2
+pub last_decides : (p q : Point) → length p.c ≡ 4 → length q.c ≡ 4 → coefficient p 0 ≡ coefficient q 0
+    → coefficient p 1 ≡ coefficient q 1 → coefficient p 2 ≡ coefficient q 2
     → is_gt (slice_cmp int_cmp p.c q.c) ≡ int_lt (coefficient q 3) (coefficient p 3)
 last_decides p q l m e f g =
-    ap₂ (λ xs ys. is_gt (slice_cmp int_cmp xs ys)) (four p.c l ∙ ap₂ (λ a b. a ∷ (b ∷ (coefficient p 2 ∷ (coefficient p 3 ∷ [])))) e f ∙ ap (λ c. coefficient q 0 ∷ (coefficient q 1 ∷ (c ∷ (coefficient p 3 ∷ [])))) g) (four q.c m)
+    ap₂ (λ xs ys. is_gt (slice_cmp int_cmp xs ys))
+    (four p.c l ∙ ap₂ (λ a b. a ∷ (b ∷ (coefficient p 2 ∷ (coefficient p 3 ∷ [])))) e f
+    ∙ ap (λ c. coefficient q 0 ∷ (coefficient q 1 ∷ (c ∷ (coefficient p 3 ∷ [])))) g) (four q.c m)
     ∙ last-two (coefficient q 0) (coefficient q 1) (coefficient q 2) (coefficient p 3) (coefficient q 3)

@@ -1,7 +1,7 @@
 -- The motion that Horner's scheme begins with moves nothing, in each order.
 use Rattle.std.proofs.Common.{◌≡◌, ℕ, ℤ, pos, ◌<◌, refl, arith}
 use Rattle.std.proofs.lemmas.Int.{ints}
-use Rattle.substitution.specs.Motion.{still}
+use Rattle.theory_substitution.specs.Motion.{still}
 use Rattle.cyclo_points.specs.declared.order.Order.{Order}
 use Rattle.cyclo_points.specs.declared.order.Order.TheVariants.{Four, Six, Eight, Ten}
 use Rattle.cyclo_points.specs.declared.motion.Motion.{Motion}
@@ -39,4 +39,9 @@ within-zero : (n : ℕ) (x : ℤ) → x ≡ pos 0 → Within n x
 within-zero n x h = record { low = omega (arith, ints); high = omega (arith, ints) }
 
 pub start-within : (n : ℕ) (p : Point) → IsOrigin p → IsWithin n p
-start-within n p h = record { at_0 = within-zero n _ h.at_0; at_1 = within-zero n _ h.at_1; at_2 = within-zero n _ h.at_2; at_3 = within-zero n _ h.at_3 }
+start-within n p h = record {
+  at_0 = within-zero n _ h.at_0;
+  at_1 = within-zero n _ h.at_1;
+  at_2 = within-zero n _ h.at_2;
+  at_3 = within-zero n _ h.at_3;
+}

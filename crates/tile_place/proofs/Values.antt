@@ -4,7 +4,8 @@ use Rattle.std.specs.Option.{option_or}
 use Rattle.std.proofs.lemmas.List.Folds.{find-append}
 
 -- where none of the first values passes, the one behind them decides
-pub find-append_none : {A : Type 0} (test : A → Bool) (xs : List A) (x : A) → find test xs ≡ None → find test (xs ++ x ∷ []) ≡ cond (test x) (Some x) None
+pub find-append_none : {A : Type 0} (test : A → Bool) (xs : List A) (x : A) → find test xs ≡ None
+    → find test (xs ++ x ∷ []) ≡ cond (test x) (Some x) None
 find-append_none {A} test xs x e = find-append test xs (x ∷ []) ∙ ap (λ (o : Option A). option_or o (cond (test x) (Some x) None)) e
 
 -- what is found stays the first

@@ -1,7 +1,7 @@
 -- The corners of a tile.
 use Rattle.std.specs.Prelude.{◌≡◌, ℕ, ◌<◌, ◌^◌, List, length, get_or}
-use Rattle.substitution.specs.Motion.{moved}
-use Rattle.substitution.specs.RuleParts.{edge_count, vertex}
+use Rattle.theory_substitution.specs.Motion.{moved}
+use Rattle.theory_substitution.specs.RuleParts.{edge_count, vertex}
 use Rattle.cyclo_points.specs.declared.motion.Motion.{Motion}
 use Rattle.cyclo_points.specs.declared.point.Point.{Point}
 use Rattle.cyclo_points.specs.Motion.{motion_in}

@@ -1,15 +1,15 @@
 -- The result of a crossing, in the plane: the only tile across an edge, and edges on the boundary of the
 -- supertile.
 use Rattle.std.specs.Prelude.{◌≡◌, ℕ, ◌<◌, true}
-use Rattle.addressing.specs.Address.{Address, depth, top_kind}
+use Rattle.theory_addresses.specs.Address.{Address, depth, top_kind}
 use Rattle.cyclo_points.specs.Order.{NumberOf, points_of}
-use Rattle.dissection.specs.Across.{IsOnlyTileAcross}
-use Rattle.dissection.specs.OnBoundary.{IsOnBoundary}
-use Rattle.dissection.specs.TileEdges.{edge_of, supertile_edge, tile_at}
-use Rattle.edge_to_edge.specs.Edges.{lies_along}
+use Rattle.theory_dissection.specs.Across.{IsOnlyTileAcross}
+use Rattle.theory_dissection.specs.OnBoundary.{IsOnBoundary}
+use Rattle.theory_dissection.specs.TileEdges.{edge_of, supertile_edge, tile_at}
+use Rattle.theory_edge_to_edge.specs.Edges.{lies_along}
 use Rattle.rule_model.specs.Tiling.{Tiling}
-use Rattle.substitution.specs.RuleParts.{edge_count}
-use Rattle.substitution.specs.Supertile.{Placed}
+use Rattle.theory_substitution.specs.RuleParts.{edge_count}
+use Rattle.theory_substitution.specs.Supertile.{Placed}
 
 -- how many edges the rule gives a kind
 abbrev pub edges_of : Tiling → ℕ → ℕ

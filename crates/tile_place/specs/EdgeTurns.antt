@@ -3,8 +3,8 @@
 use Rattle.std.specs.Prelude.{◌≡◌, ℕ, ◌+◌, ◌*◌, ◌<◌, ◌≤◌, false, List, length, get_or}
 use Rattle.std.specs.Cmp.Lexicographic.{slice_cmp}
 use Rattle.std.specs.Ordering.{int_cmp, is_gt}
-use Rattle.substitution.specs.RuleParts.{edge_count}
-use Rattle.edge_to_edge.specs.EdgeTypes.{edge_vector}
+use Rattle.theory_substitution.specs.RuleParts.{edge_count}
+use Rattle.theory_edge_to_edge.specs.EdgeTypes.{edge_vector}
 use Rattle.cyclo_points.specs.declared.order.Order.{Order}
 use Rattle.cyclo_points.specs.Order.{NumberOf, points_of, coefficients}
 use Rattle.rule_model.specs.Tiling.{Tiling}

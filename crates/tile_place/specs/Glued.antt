@@ -1,10 +1,10 @@
 -- Which edges of prototiles meet, and the motions that glue them.
 use Rattle.std.specs.Prelude.{◌≡◌, ℕ, ◌<◌}
-use Rattle.addressing.specs.Address.{Address, Fits}
+use Rattle.theory_addresses.specs.Address.{Address, Fits}
 use Rattle.cyclo_points.specs.Order.{points_of}
-use Rattle.dissection.specs.Glue.{IsMet, IsGlueMotion}
+use Rattle.theory_dissection.specs.Glue.{IsMet, IsGlueMotion}
 use Rattle.rule_model.specs.Tiling.{Tiling, MotionOf, children}
-use Rattle.substitution.specs.Motion.{followed}
+use Rattle.theory_substitution.specs.Motion.{followed}
 use Rattle.tile_place.specs.Crossed.{edges_of, placed_tile, IsOnlyAcross}
 
 -- a kind of the tiling has an edge of this number

@@ -1,15 +1,15 @@
 -- What is answered of a point in a supertile that is moved.
 use Rattle.std.specs.Prelude.{◌≡◌, ℕ, true, List, map, find, None, Some}
 use Rattle.std.specs.declared.option.Option.{Option}
-use Rattle.addressing.specs.Search.{IsAmong}
-use Rattle.substitution.specs.Motion.{followed}
-use Rattle.substitution.specs.Plane.{plane_point}
-use Rattle.substitution.specs.Supertile.{Placed, supertile}
-use Rattle.ordered_plane.specs.Plane.{test_point}
-use Rattle.ordered_plane.specs.Crossing.{member}
-use Rattle.dissection.specs.Polygons.{tile_polygon}
-use Rattle.frames.specs.Outline.{supertile_holds}
-use Rattle.frames.specs.Looked.{values_looked_at}
+use Rattle.theory_addresses.specs.Search.{IsAmong}
+use Rattle.theory_substitution.specs.Motion.{followed}
+use Rattle.theory_substitution.specs.Plane.{plane_point}
+use Rattle.theory_substitution.specs.Supertile.{Placed, supertile}
+use Rattle.theory_plane.specs.Plane.{test_point}
+use Rattle.theory_plane.specs.Crossing.{member}
+use Rattle.theory_dissection.specs.Polygons.{tile_polygon}
+use Rattle.theory_frames.specs.Outline.{supertile_holds}
+use Rattle.theory_frames.specs.Looked.{values_looked_at}
 use Rattle.cyclo_points.specs.Order.{NumberOf, points_of, is_refused}
 use Rattle.cyclo_points.specs.Point.{point_in, IsOf}
 use Rattle.rule_model.specs.Tiling.{Tiling, MotionOf}

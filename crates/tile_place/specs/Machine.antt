@@ -1,6 +1,6 @@
 -- What a machine holds in addition to its rule.
 use Rattle.std.specs.Prelude.{◌≡◌}
-use Rattle.addressing.specs.Tables.{Tables}
+use Rattle.theory_addresses.specs.Tables.{Tables}
 use Rattle.rule_model.specs.Tiling.{Tiling, contacts}
 use Rattle.tile_place.specs.EdgeTurns.{EdgeTable, AreGreatest}
 use Rattle.tile_place.specs.TurnedVertices.{TurnedTable, AreTurned}

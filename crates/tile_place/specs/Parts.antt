@@ -1,7 +1,7 @@
 -- The parts of a supertile that a search looks at.
 use Rattle.std.specs.Prelude.{◌<◌, ◌^◌, length, Bool, cond, None, Some}
 use Rattle.std.specs.declared.option.Option.{Option}
-use Rattle.frames.specs.Part as theory
+use Rattle.theory_frames.specs.Part as theory
 use Rattle.cyclo_points.specs.declared.order.Order.{Order}
 use Rattle.cyclo_points.specs.Order.{NumberOf, points_of}
 use Rattle.cyclo_points.specs.Point.{IsOf, IsWithin}

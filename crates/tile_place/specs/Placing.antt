@@ -1,8 +1,8 @@
 -- Which values of Horner's scheme are refused.
 use Rattle.std.specs.Prelude.{List, find}
 use Rattle.std.specs.declared.option.Option.{Option}
-use Rattle.addressing.specs.Address.{Step}
-use Rattle.substitution.specs.Placement.{horner_values}
+use Rattle.theory_addresses.specs.Address.{Step}
+use Rattle.theory_substitution.specs.Placement.{horner_values}
 use Rattle.cyclo_points.specs.Order.{NumberOf, points_of, is_refused}
 use Rattle.rule_model.specs.Tiling.{Tiling}
 

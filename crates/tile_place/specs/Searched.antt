@@ -1,7 +1,7 @@
 -- What the search from a supertile down to the tile that holds a point answers.
 use Rattle.std.specs.Prelude.{◌≡◌, List, find, None, Some}
 use Rattle.std.specs.declared.option.Option.{Option}
-use Rattle.substitution.specs.Supertile.{Placed}
+use Rattle.theory_substitution.specs.Supertile.{Placed}
 use Rattle.cyclo_points.specs.declared.order.Order.{Order}
 use Rattle.cyclo_points.specs.Order.{NumberOf, is_refused}
 use Rattle.cyclo_points.specs.Point.{point_in, IsOf}

@@ -1,7 +1,7 @@
 -- The vertices of all kinds, turned by all numbers of steps below the order, in one list.
 use Rattle.std.specs.Prelude.{◌≡◌, ℕ, ◌+◌, ◌*◌, ◌<◌, ◌≤◌, ◌^◌, List, length, get_or}
-use Rattle.ordered_ring.specs.Ring.{power}
-use Rattle.substitution.specs.RuleParts.{edge_count, vertex}
+use Rattle.theory_ring.specs.Ring.{power}
+use Rattle.theory_substitution.specs.RuleParts.{edge_count, vertex}
 use Rattle.cyclo_points.specs.declared.order.Order.{Order}
 use Rattle.cyclo_points.specs.declared.point.Point.{Point}
 use Rattle.cyclo_points.specs.Order.{NumberOf, points_of}

@@ -1,7 +1,7 @@
 //! The turns of edges.
 ghost use Rattle.std.specs.Prelude.{◌≡◌, ◌+◌, ◌*◌, ◌<◌, suc, length, get_or, cond, nat_lt, IfOk};
-ghost use Rattle.substitution.specs.RuleParts.{edge_count, next};
-ghost use Rattle.edge_to_edge.specs.EdgeTypes.{edge_vector};
+ghost use Rattle.theory_substitution.specs.RuleParts.{edge_count, next};
+ghost use Rattle.theory_edge_to_edge.specs.EdgeTypes.{edge_vector};
 ghost use Rattle.cyclo_points.specs.Order.{points_of, coefficients};
 ghost use Rattle.rule_model.specs.Tiling.{tiling_of};
 ghost use Rattle.rule_model.specs.Views.{rule_of};
@@ -72,7 +72,8 @@ fn turn_if_edge(checked: &Checked, vertices: &TurnedVertices, kind: u8, edge: us
     requires vertices { AreTurned (tiling_of checked.now) vertices.now }
     requires exists { kind < length (rule_of checked.now).kinds }
     ensures { edge < edge_count (rule_of checked.now) kind
-        → IsGreatest checked.now.order (edge_vector (points_of checked.now.order) (rule_of checked.now) kind edge) result }
+        → IsGreatest checked.now.order (edge_vector (points_of checked.now.order) (rule_of checked.now) kind
+        edge) result }
 {
     let edges = checked.vertices(kind).len();
     if edge < edges {
@@ -94,7 +95,8 @@ fn greatest_turn(
     requires exists { kind < length (rule_of checked.now).kinds }
     requires edge_exists { edge < edge_count (rule_of checked.now) kind }
     requires end { end ≡ next (rule_of checked.now) kind edge }
-    ensures { IsGreatest checked.now.order (edge_vector (points_of checked.now.order) (rule_of checked.now) kind edge) result }
+    ensures { IsGreatest checked.now.order (edge_vector (points_of checked.now.order) (rule_of checked.now)
+        kind edge) result }
 {
     let mut best = 0;
     for steps in 1..checked.order().n() {
@@ -121,7 +123,9 @@ fn turned_vector(
     requires turn_below { steps < (points_of checked.now.order).order }
     requires edge_exists { edge < edge_count (rule_of checked.now) kind }
     requires end { end ≡ next (rule_of checked.now) kind edge }
-    ensures { result.c ≡ coefficients checked.now.order (turned_by checked.now.order steps (edge_vector (points_of checked.now.order) (rule_of checked.now) kind edge)) }
+    ensures { result.c ≡ coefficients checked.now.order
+        (turned_by checked.now.order steps (edge_vector (points_of checked.now.order) (rule_of checked.now)
+        kind edge)) }
 {
     points_law(checked.order());
     let to = vertices.at(kind, steps, end);

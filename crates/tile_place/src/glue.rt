@@ -1,11 +1,11 @@
 //! Edges that meet, the motion that glues them, and the motion of the tile across an edge.
 ghost use Rattle.std.specs.Prelude.{◌≡◌, ◌↔◌, ◌+◌, ◌<◌, ◌^◌, ℕ, IsTrue};
-ghost use Rattle.substitution.specs.RuleParts.{next};
-ghost use Rattle.edge_to_edge.specs.EdgeTypes.{edge_vector};
+ghost use Rattle.theory_substitution.specs.RuleParts.{next};
+ghost use Rattle.theory_edge_to_edge.specs.EdgeTypes.{edge_vector};
 ghost use Rattle.cyclo_points.specs.Order.{points_of};
 ghost use Rattle.cyclo_points.specs.Point.{point_in, IsOf, IsWithin};
 ghost use Rattle.cyclo_points.specs.Motion.{motion_in};
-ghost use Rattle.dissection.specs.Glue.{TurnsOnto};
+ghost use Rattle.theory_dissection.specs.Glue.{TurnsOnto};
 ghost use Rattle.rule_model.specs.Tiling.{tiling_of};
 ghost use Rattle.rule_model.specs.Views.{rule_of};
 ghost use Rattle.tile_place.specs.Glued.{HasKindEdge, Meets, Glues, IsMotionAcross, GluingLaw};
@@ -18,7 +18,7 @@ use cyclo_points::arithmetic::{add, sub};
 use cyclo_points::motion::Motion;
 use cyclo_points::point::Point;
 use cyclo_points::points_law;
-use dissection::laws::glue_law;
+use theory_dissection::laws::glue_law;
 
 impl Machine {
     /// Returns the vertex at which an edge begins, turned by ζ^steps.
@@ -45,7 +45,8 @@ impl Machine {
         requires exists { HasKindEdge (tiling_of self.now) kind edge }
         requires turn_below { steps < (points_of self.now.order).order }
         ensures vector { point_in self.now.order result
-            ≡ turned_by self.now.order steps (edge_vector (points_of self.now.order) (rule_of self.now) kind edge) }
+            ≡ turned_by self.now.order steps (edge_vector (points_of self.now.order) (rule_of self.now) kind
+            edge) }
         ensures in_order { IsOf self.now.order result }
     {
         points_law(self.checked().order());
@@ -60,7 +61,8 @@ impl Machine {
         requires other_exists { HasKindEdge (tiling_of self.now) other other_edge }
         requires meets { Meets (tiling_of self.now) kind edge other other_edge }
         ensures below { result < (points_of self.now.order).order }
-        ensures turns { TurnsOnto (points_of self.now.order) (rule_of self.now) kind edge other other_edge result }
+        ensures turns { TurnsOnto (points_of self.now.order) (rule_of self.now) kind edge other other_edge
+            result }
     {
         let order = self.checked().order();
         points_law(order);
@@ -89,7 +91,8 @@ impl Machine {
         requires edge_exists { HasKindEdge (tiling_of self.now) kind edge }
         requires other_exists { HasKindEdge (tiling_of self.now) other other_edge }
         requires meets { Meets (tiling_of self.now) kind edge other other_edge }
-        ensures glues { Glues (tiling_of self.now) kind edge other other_edge (motion_in self.now.order result) }
+        ensures glues { Glues (tiling_of self.now) kind edge other other_edge
+            (motion_in self.now.order result) }
         ensures shift_within { IsWithin (2 ^ 8) result.shift }
         ensures in_order { IsOf self.now.order result.shift }
     {
@@ -119,7 +122,8 @@ impl Machine {
         requires turn_below { motion.now.turn < (points_of self.now.order).order }
         requires shift_within { IsWithin (2 ^ 24) motion.now.shift }
         requires in_order { IsOf self.now.order motion.now.shift }
-        ensures across { IsMotionAcross (tiling_of self.now) kind edge other other_edge (motion_in self.now.order motion.now) (motion_in self.now.order result) }
+        ensures across { IsMotionAcross (tiling_of self.now) kind edge other other_edge
+            (motion_in self.now.order motion.now) (motion_in self.now.order result) }
         ensures turn_below { result.turn < (points_of self.now.order).order }
         ensures bounded { (k : ℕ) → IsWithin k motion.now.shift → IsWithin (k + 2 ^ 8) result.shift }
         ensures in_order { IsOf self.now.order result.shift }

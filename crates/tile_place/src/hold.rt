@@ -1,7 +1,7 @@
 //! Tests if a prototile that is scaled and moved holds a point, one vertex after another.
 ghost use Rattle.std.specs.Prelude.{◌≡◌, ◌<◌, ◌≤◌, ◌^◌, ◌&&◌, pos, true, false, length, find, None, Some, IfOk, IfErr};
 ghost use Rattle.std.specs.Ordering.{int_eq};
-ghost use Rattle.frames.specs.Outline.{outline, holds_point};
+ghost use Rattle.theory_frames.specs.Outline.{outline, holds_point};
 ghost use Rattle.cyclo_points.specs.Order.{points_of, is_refused};
 ghost use Rattle.cyclo_points.specs.Point.{point_in, IsOf, IsWithin};
 ghost use Rattle.cyclo_points.specs.Motion.{motion_in};
@@ -36,12 +36,15 @@ impl Machine {
         requires at_in_order { IsOf self.now.order at.now.shift }
         requires point_within { IsWithin (2 ^ 24) point.now }
         ensures holds { IfOk result (λ holds. holds ≡ (sought && holds_point (points_of self.now.order)
-            (outline (points_of self.now.order) (rule_of self.now) kind (point_in self.now.order scale.now) (motion_in self.now.order at.now))
+            (outline (points_of self.now.order) (rule_of self.now) kind (point_in self.now.order scale.now)
+            (motion_in self.now.order at.now))
             (point_in self.now.order point.now))) }
         ensures none_refused { IfOk result (λ _. find (is_refused self.now.order)
-            (outline (points_of self.now.order) (rule_of self.now) kind (point_in self.now.order scale.now) (motion_in self.now.order at.now)) ≡ None) }
+            (outline (points_of self.now.order) (rule_of self.now) kind (point_in self.now.order scale.now)
+            (motion_in self.now.order at.now)) ≡ None) }
         ensures limit { IfErr result (λ limit. find (is_refused self.now.order)
-            (outline (points_of self.now.order) (rule_of self.now) kind (point_in self.now.order scale.now) (motion_in self.now.order at.now))
+            (outline (points_of self.now.order) (rule_of self.now) kind (point_in self.now.order scale.now)
+            (motion_in self.now.order at.now))
             ≡ Some (point_in self.now.order limit.value)) }
         ensures limit_in_order { IfErr result (λ limit. IsOf self.now.order limit.value) }
     {
@@ -74,12 +77,15 @@ impl Machine {
         requires at_in_order { IsOf self.now.order at.now.shift }
         requires point_within { IsWithin (2 ^ 24) point.now }
         ensures holds { IfOk result (λ holds. holds ≡ (sought && holds_point (points_of self.now.order)
-            (outline (points_of self.now.order) (rule_of self.now) kind (point_in self.now.order scale.now) (motion_in self.now.order at.now))
+            (outline (points_of self.now.order) (rule_of self.now) kind (point_in self.now.order scale.now)
+            (motion_in self.now.order at.now))
             (point_in self.now.order point.now))) }
         ensures none_refused { IfOk result (λ _. find (is_refused self.now.order)
-            (outline (points_of self.now.order) (rule_of self.now) kind (point_in self.now.order scale.now) (motion_in self.now.order at.now)) ≡ None) }
+            (outline (points_of self.now.order) (rule_of self.now) kind (point_in self.now.order scale.now)
+            (motion_in self.now.order at.now)) ≡ None) }
         ensures limit { IfErr result (λ limit. find (is_refused self.now.order)
-            (outline (points_of self.now.order) (rule_of self.now) kind (point_in self.now.order scale.now) (motion_in self.now.order at.now))
+            (outline (points_of self.now.order) (rule_of self.now) kind (point_in self.now.order scale.now)
+            (motion_in self.now.order at.now))
             ≡ Some (point_in self.now.order limit.value)) }
         ensures limit_in_order { IfErr result (λ limit. IsOf self.now.order limit.value) }
     {
@@ -109,12 +115,15 @@ impl Machine {
         requires at_in_order { IsOf self.now.order at.now.shift }
         requires point_within { IsWithin (2 ^ 24) point.now }
         ensures holds { IfOk result (λ holds. holds ≡ holds_point (points_of self.now.order)
-            (outline (points_of self.now.order) (rule_of self.now) kind (point_in self.now.order scale.now) (motion_in self.now.order at.now))
+            (outline (points_of self.now.order) (rule_of self.now) kind (point_in self.now.order scale.now)
+            (motion_in self.now.order at.now))
             (point_in self.now.order point.now)) }
         ensures none_refused { IfOk result (λ _. find (is_refused self.now.order)
-            (outline (points_of self.now.order) (rule_of self.now) kind (point_in self.now.order scale.now) (motion_in self.now.order at.now)) ≡ None) }
+            (outline (points_of self.now.order) (rule_of self.now) kind (point_in self.now.order scale.now)
+            (motion_in self.now.order at.now)) ≡ None) }
         ensures limit { IfErr result (λ limit. find (is_refused self.now.order)
-            (outline (points_of self.now.order) (rule_of self.now) kind (point_in self.now.order scale.now) (motion_in self.now.order at.now))
+            (outline (points_of self.now.order) (rule_of self.now) kind (point_in self.now.order scale.now)
+            (motion_in self.now.order at.now))
             ≡ Some (point_in self.now.order limit.value)) }
         ensures limit_in_order { IfErr result (λ limit. IsOf self.now.order limit.value) }
     {
@@ -157,9 +166,11 @@ impl Machine {
         requires at_in_order { IsOf self.now.order at.now.shift }
         ensures is_false { IfOk result (λ holds. holds ≡ false) }
         ensures none_refused { IfOk result (λ _. find (is_refused self.now.order)
-            (outline (points_of self.now.order) (rule_of self.now) kind (point_in self.now.order scale.now) (motion_in self.now.order at.now)) ≡ None) }
+            (outline (points_of self.now.order) (rule_of self.now) kind (point_in self.now.order scale.now)
+            (motion_in self.now.order at.now)) ≡ None) }
         ensures limit { IfErr result (λ limit. find (is_refused self.now.order)
-            (outline (points_of self.now.order) (rule_of self.now) kind (point_in self.now.order scale.now) (motion_in self.now.order at.now))
+            (outline (points_of self.now.order) (rule_of self.now) kind (point_in self.now.order scale.now)
+            (motion_in self.now.order at.now))
             ≡ Some (point_in self.now.order limit.value)) }
         ensures limit_in_order { IfErr result (λ limit. IsOf self.now.order limit.value) }
     {
@@ -189,11 +200,13 @@ fn corner(order: Order, scale: &Point, vertex: &Point, shift: &Point) -> Result<
     requires shift_within { IsWithin (2 ^ 24) shift.now }
     requires shift_in_order { IsOf order shift.now }
     ensures corner { IfOk result (λ corner. point_in order corner ≡ (points_of order).ring.add
-        ((points_of order).ring.mul (point_in order scale.now) (point_in order vertex.now)) (point_in order shift.now)) }
+        ((points_of order).ring.mul (point_in order scale.now) (point_in order vertex.now))
+        (point_in order shift.now)) }
     ensures not_refused { IfOk result (λ corner. is_refused order (point_in order corner) ≡ false) }
     ensures within { IfOk result (λ corner. IsWithin (2 ^ 24) corner) }
     ensures limit { IfErr result (λ limit. point_in order limit.value ≡ (points_of order).ring.add
-        ((points_of order).ring.mul (point_in order scale.now) (point_in order vertex.now)) (point_in order shift.now)) }
+        ((points_of order).ring.mul (point_in order scale.now) (point_in order vertex.now))
+        (point_in order shift.now)) }
     ensures is_refused { IfErr result (λ limit. is_refused order (point_in order limit.value) ≡ true) }
     ensures limit_in_order { IfErr result (λ limit. IsOf order limit.value) }
 {

@@ -1,9 +1,9 @@
 //! The tile of a supertile that holds a point.
 ghost use Rattle.std.specs.Prelude.{◌≡◌, ◌↔◌, ◌<◌, ◌≤◌, ◌^◌, length, None, Some, Err, IsOk, IfOk, IfErr};
-ghost use Rattle.addressing.specs.Address.{depth as depth_of, Fits};
-ghost use Rattle.substitution.specs.Motion.{followed};
-ghost use Rattle.substitution.specs.Placement.{placement};
-ghost use Rattle.frames.specs.Descent.{tile_holding};
+ghost use Rattle.theory_addresses.specs.Address.{depth as depth_of, Fits};
+ghost use Rattle.theory_substitution.specs.Motion.{followed};
+ghost use Rattle.theory_substitution.specs.Placement.{placement};
+ghost use Rattle.theory_frames.specs.Descent.{tile_holding};
 ghost use Rattle.cyclo_points.specs.Order.{points_of};
 ghost use Rattle.cyclo_points.specs.Point.{point_in, IsOf, IsWithin};
 ghost use Rattle.cyclo_points.specs.Motion.{motion_in};
@@ -20,7 +20,7 @@ use crate::placed_tile::PlacedTile;
 use cyclo_points::motion::Motion;
 use cyclo_points::point::Point;
 use cyclo_points::{placement_law, points_law};
-use dissection::laws::dissection_law;
+use theory_dissection::laws::dissection_law;
 
 impl Machine {
     /// Finds the only tile that holds a point, in the supertile of this kind and depth, moved by `at`. The
@@ -53,25 +53,38 @@ impl Machine {
         requires point_within { IsWithin (2 ^ 24) point.now }
 
         // In the plane: this is the only tile that holds the point.
-        ensures only_tile { IfOk result (λ tile. IsOnlyTileHolding (tiling_of self.now) kind depth (motion_in self.now.order at.now)
+        ensures only_tile { IfOk result (λ tile. IsOnlyTileHolding (tiling_of self.now) kind depth
+            (motion_in self.now.order at.now)
             (point_in self.now.order point.now) (placed_in self.now.order tile)) }
         ensures its_kind { IfOk result (λ tile. tile.kind ≡ tile.addr.kind) }
         ensures its_depth { IfOk result (λ tile. depth_of (address_of tile.addr) ≡ depth) }
-        ensures its_address { IfOk result (λ tile. Fits (children (tiling_of self.now)) (address_of tile.addr)) }
-        ensures its_motion { IfOk result (λ tile. motion_in self.now.order tile.motion ≡ followed (points_of self.now.order)
-            (placement (points_of self.now.order) (rule_of self.now) (address_of tile.addr).digits) (motion_in self.now.order at.now)) }
-        ensures not_inside { (result ≡ Err NotInside) ↔ ((first_refused_looked_at (tiling_of self.now) kind depth (motion_in self.now.order at.now)
-            (point_in self.now.order point.now) ≡ None) × (¬ HasInside (tiling_of self.now) kind depth (motion_in self.now.order at.now) (point_in self.now.order point.now))) }
-        ensures found_exactly { IsOk result ↔ ((first_refused_looked_at (tiling_of self.now) kind depth (motion_in self.now.order at.now)
-            (point_in self.now.order point.now) ≡ None) × HasInside (tiling_of self.now) kind depth (motion_in self.now.order at.now) (point_in self.now.order point.now)) }
-        ensures fault { IfErr result (IsCauseOf (tiling_of self.now) kind depth (motion_in self.now.order at.now) (point_in self.now.order point.now)) }
+        ensures its_address { IfOk result (λ tile. Fits (children (tiling_of self.now))
+            (address_of tile.addr)) }
+        ensures its_motion { IfOk result (λ tile. motion_in self.now.order tile.motion ≡ followed
+            (points_of self.now.order)
+            (placement (points_of self.now.order) (rule_of self.now) (address_of tile.addr).digits)
+            (motion_in self.now.order at.now)) }
+        ensures not_inside { (result ≡ Err NotInside)
+            ↔ ((first_refused_looked_at (tiling_of self.now) kind depth (motion_in self.now.order at.now)
+            (point_in self.now.order point.now) ≡ None)
+            × (¬ HasInside (tiling_of self.now) kind depth (motion_in self.now.order at.now)
+            (point_in self.now.order point.now))) }
+        ensures found_exactly { IsOk result ↔ ((first_refused_looked_at (tiling_of self.now) kind depth
+            (motion_in self.now.order at.now)
+            (point_in self.now.order point.now) ≡ None)
+            × HasInside (tiling_of self.now) kind depth (motion_in self.now.order at.now)
+            (point_in self.now.order point.now)) }
+        ensures fault { IfErr result (IsCauseOf (tiling_of self.now) kind depth
+            (motion_in self.now.order at.now) (point_in self.now.order point.now)) }
         ensures turn_below { IfOk result (λ tile. tile.motion.turn < (points_of self.now.order).order) }
         ensures shift_within { IfOk result (λ tile. IsWithin (2 ^ 24) tile.motion.shift) }
         ensures in_order { IfOk result (λ tile. IsOf self.now.order tile.motion.shift) }
 
         // As the definition of the descent computes it.
-        ensures by_descent { IfOk result (λ tile. tile_holding (points_of self.now.order) (rule_of self.now) kind depth
-            (motion_in self.now.order at.now) (point_in self.now.order point.now) ≡ Some (placed_in self.now.order tile)) }
+        ensures by_descent { IfOk result (λ tile. tile_holding (points_of self.now.order) (rule_of self.now)
+            kind depth
+            (motion_in self.now.order at.now) (point_in self.now.order point.now) ≡ Some
+            (placed_in self.now.order tile)) }
     {
         let order = self.checked().order();
         points_law(order);

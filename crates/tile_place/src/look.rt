@@ -1,18 +1,18 @@
 //! Finds the child of a part of a supertile that holds a point.
 ghost use Rattle.std.specs.Prelude.{◌≡◌, ◌<◌, ◌≤◌, ◌^◌, ◌&&◌, All, length, find, None, Some, IfOk, IfErr, IfSome};
 ghost use Rattle.std.specs.Option.{option_map};
-ghost use Rattle.substitution.specs.Rule.{children_of};
-ghost use Rattle.substitution.specs.RuleParts.{child_of};
-ghost use Rattle.frames.specs.Outline.{outline, holds_point};
-ghost use Rattle.frames.specs.Part.{child_motion, holder};
-ghost use Rattle.frames.specs.Looked.{values_of_children};
+ghost use Rattle.theory_substitution.specs.Rule.{children_of};
+ghost use Rattle.theory_substitution.specs.RuleParts.{child_of};
+ghost use Rattle.theory_frames.specs.Outline.{outline, holds_point};
+ghost use Rattle.theory_frames.specs.Part.{child_motion, holder};
+ghost use Rattle.theory_frames.specs.Looked.{values_of_children};
 ghost use Rattle.cyclo_points.specs.Order.{points_of, is_refused};
 ghost use Rattle.cyclo_points.specs.Point.{point_in, IsOf, IsWithin};
 ghost use Rattle.cyclo_points.specs.Motion.{motion_in};
 ghost use Rattle.rule_model.specs.Views.{rule_of};
-ghost use Rattle.addressing.specs.Search.{or_else};
-ghost use Rattle.frames.specs.Part.{child_part};
-ghost use Rattle.frames.specs.Looked.{values_of_child};
+ghost use Rattle.theory_addresses.specs.Search.{or_else};
+ghost use Rattle.theory_frames.specs.Part.{child_part};
+ghost use Rattle.theory_frames.specs.Looked.{values_of_child};
 ghost use Rattle.tile_place.specs.Parts.{part_in, IsPart, if_holds};
 
 use crate::coord_limit::CoordLimit;
@@ -45,18 +45,23 @@ impl Machine {
         requires at_in_order { IsOf self.now.order at.now.shift }
         requires point_within { IsWithin (2 ^ 24) point.now }
         ensures part { IfOk result (λ seen. part_in self.now.order seen.part
-            ≡ child_part (points_of self.now.order) (rule_of self.now) (point_in self.now.order scale.now) (motion_in self.now.order at.now) number
+            ≡ child_part (points_of self.now.order) (rule_of self.now) (point_in self.now.order scale.now)
+            (motion_in self.now.order at.now) number
             (child_of (points_of self.now.order) (rule_of self.now) kind number)) }
         ensures holds { IfOk result (λ seen. seen.holds ≡ (sought && holds_point (points_of self.now.order)
-            (outline (points_of self.now.order) (rule_of self.now) seen.part.kind (point_in self.now.order scale.now) (motion_in self.now.order seen.part.motion))
+            (outline (points_of self.now.order) (rule_of self.now) seen.part.kind
+            (point_in self.now.order scale.now) (motion_in self.now.order seen.part.motion))
             (point_in self.now.order point.now))) }
         ensures is_part { IfOk result (λ seen. IsPart self.now seen.part) }
         ensures none_refused { IfOk result (λ _. find (is_refused self.now.order)
-            (values_of_child (points_of self.now.order) (rule_of self.now) (point_in self.now.order scale.now) (motion_in self.now.order at.now)
+            (values_of_child (points_of self.now.order) (rule_of self.now)
+            (point_in self.now.order scale.now) (motion_in self.now.order at.now)
             (child_of (points_of self.now.order) (rule_of self.now) kind number)) ≡ None) }
         ensures limit { IfErr result (λ limit. find (is_refused self.now.order)
-            (values_of_child (points_of self.now.order) (rule_of self.now) (point_in self.now.order scale.now) (motion_in self.now.order at.now)
-            (child_of (points_of self.now.order) (rule_of self.now) kind number)) ≡ Some (point_in self.now.order limit.value)) }
+            (values_of_child (points_of self.now.order) (rule_of self.now)
+            (point_in self.now.order scale.now) (motion_in self.now.order at.now)
+            (child_of (points_of self.now.order) (rule_of self.now) kind number)) ≡ Some
+            (point_in self.now.order limit.value)) }
         ensures limit_in_order { IfErr result (λ limit. IsOf self.now.order limit.value) }
     {
         let checked = self.checked();
@@ -99,14 +104,17 @@ impl Machine {
         requires at_in_order { IsOf self.now.order at.now.shift }
         requires point_within { IsWithin (2 ^ 24) point.now }
         ensures held { IfOk result (λ part. option_map (part_in self.now.order) part
-            ≡ holder (points_of self.now.order) (rule_of self.now) (point_in self.now.order scale.now) (motion_in self.now.order at.now) (point_in self.now.order point.now)
+            ≡ holder (points_of self.now.order) (rule_of self.now) (point_in self.now.order scale.now)
+            (motion_in self.now.order at.now) (point_in self.now.order point.now)
             0 (children_of (rule_of self.now) kind)) }
         ensures is_part { IfOk result (λ part. IfSome part (IsPart self.now)) }
         ensures none_refused { IfOk result (λ _. find (is_refused self.now.order)
-            (values_of_children (points_of self.now.order) (rule_of self.now) (point_in self.now.order scale.now) (motion_in self.now.order at.now)
+            (values_of_children (points_of self.now.order) (rule_of self.now)
+            (point_in self.now.order scale.now) (motion_in self.now.order at.now)
             (children_of (rule_of self.now) kind)) ≡ None) }
         ensures limit { IfErr result (λ limit. find (is_refused self.now.order)
-            (values_of_children (points_of self.now.order) (rule_of self.now) (point_in self.now.order scale.now) (motion_in self.now.order at.now)
+            (values_of_children (points_of self.now.order) (rule_of self.now)
+            (point_in self.now.order scale.now) (motion_in self.now.order at.now)
             (children_of (rule_of self.now) kind)) ≡ Some (point_in self.now.order limit.value)) }
         ensures limit_in_order { IfErr result (λ limit. IsOf self.now.order limit.value) }
     {

@@ -1,11 +1,11 @@
 //! An accepted rule, ready for questions about its tiles.
 ghost use Rattle.std.specs.Prelude.{◌≡◌, ◌+◌, ◌*◌, ◌<◌, ◌≤◌, ◌^◌, ℕ, length, IsOk, None, Some, IfOk, IfErr, OnOk, OnErr, Err};
-ghost use Rattle.addressing.specs.Address.{Address as TheAddress, depth, Fits};
-ghost use Rattle.addressing.specs.Tables.{child_kinds};
-ghost use Rattle.addressing.specs.Touch.{Touches};
-ghost use Rattle.addressing.specs.Across.{IsAcross, LiesOn};
-ghost use Rattle.substitution.specs.RuleParts.{edge_count};
-ghost use Rattle.edge_to_edge.specs.EdgeTypes.{edge_vector};
+ghost use Rattle.theory_addresses.specs.Address.{Address as TheAddress, depth, Fits};
+ghost use Rattle.theory_addresses.specs.Tables.{child_kinds};
+ghost use Rattle.theory_addresses.specs.Touch.{Touches};
+ghost use Rattle.theory_addresses.specs.Across.{IsAcross, LiesOn};
+ghost use Rattle.theory_substitution.specs.RuleParts.{edge_count};
+ghost use Rattle.theory_edge_to_edge.specs.EdgeTypes.{edge_vector};
 ghost use Rattle.cyclo_points.specs.Order.{points_of};
 ghost use Rattle.cyclo_points.specs.Point.{point_in, IsOf, IsWithin};
 ghost use Rattle.cyclo_points.specs.Motion.{motion_in};
@@ -26,12 +26,12 @@ use crate::place::place;
 use crate::turned_vertices::TurnedVertices;
 use cyclo_points::motion::Motion;
 use cyclo_points::point::Point;
-use dissection::laws::{across_law, boundary_law};
 use edge_tables::steps::Steps;
 use rule_model::checked::Checked;
 use std::alloc::Global;
 use std::marker::Model;
 use std::sync::ledger::Ledger;
+use theory_dissection::laws::{across_law, boundary_law};
 use tile_shape::address::Address;
 use tile_shape::no_memory::NoMemory;
 use transducer_core::crossing::{Crossing, put_digits};
@@ -81,7 +81,8 @@ impl Machine {
         ensures rule { result.now ≡ self.now }
         ensures accepted { IsAccepted self.now }
         ensures usable { IsUsable self.now }
-        ensures same_child_kinds { child_kinds (contacts (tiling_of self.now)) ≡ children (tiling_of self.now) }
+        ensures same_child_kinds { child_kinds (contacts (tiling_of self.now)) ≡ children
+            (tiling_of self.now) }
     {
         let _accepted = self.checked.rule();
         let _same_child_kinds = self.checked.tables();
@@ -101,7 +102,8 @@ impl Machine {
     /// Returns the turn by which the vector of an edge becomes greatest.
     pub(crate) fn edge_turn(&self, kind: u8, edge: u8) -> u8
         requires exists { HasKindEdge (tiling_of self.now) kind edge }
-        ensures { IsGreatest self.now.order (edge_vector (points_of self.now.order) (rule_of self.now) kind edge) result }
+        ensures { IsGreatest self.now.order (edge_vector (points_of self.now.order) (rule_of self.now) kind
+            edge) result }
     {
         self.edges.at(kind, edge)
     }
@@ -109,8 +111,10 @@ impl Machine {
     /// Returns the motion of a tile in its supertile, like [`place`]. The address must fit the rule.
     pub fn place(&self, addr: &Address) -> Result<Motion, CoordLimit>
         requires fits { Fits (children (tiling_of self.now)) (address_of addr.now) }
-        ensures beside { IfOk result (λ motion. IsPlaced (tiling_of self.now) (address_of addr.now) (motion_in self.now.order motion)) }
-        ensures within { IfOk result (λ _. first_refused (tiling_of self.now) (address_of addr.now).digits ≡ None) }
+        ensures beside { IfOk result (λ motion. IsPlaced (tiling_of self.now) (address_of addr.now)
+            (motion_in self.now.order motion)) }
+        ensures within { IfOk result (λ _. first_refused (tiling_of self.now)
+            (address_of addr.now).digits ≡ None) }
         ensures turn_below { IfOk result (λ motion. motion.turn < (points_of self.now.order).order) }
         ensures shift_within { IfOk result (λ motion. IsWithin (2 ^ 24) motion.shift) }
         ensures in_order { IfOk result (λ motion. IsOf self.now.order motion.shift) }
@@ -140,20 +144,27 @@ impl Machine {
         requires edge_exists { HasKindEdge (tiling_of self.now) addr.now.kind edge }
 
         // By the contact tables of the rule's geometry.
-        ensures across { IfOk result (λ x. IsAcross (contacts (tiling_of self.now)) (address_of addr.now) edge (address_of x.addr) x.edge) }
+        ensures across { IfOk result (λ x. IsAcross (contacts (tiling_of self.now)) (address_of addr.now)
+            edge (address_of x.addr) x.edge) }
         ensures answer_fits { IfOk result (λ x. Fits (children (tiling_of self.now)) (address_of x.addr)) }
-        ensures on_boundary { IfErr result (λ o. LiesOn (contacts (tiling_of self.now)) (address_of addr.now) edge o.edge o.part) }
-        ensures boundary_when { (own part : ℕ) → LiesOn (contacts (tiling_of self.now)) (address_of addr.now) edge own part
+        ensures on_boundary { IfErr result (λ o. LiesOn (contacts (tiling_of self.now))
+            (address_of addr.now) edge o.edge o.part) }
+        ensures boundary_when { (own part : ℕ) → LiesOn (contacts (tiling_of self.now))
+            (address_of addr.now) edge own part
             → result ≡ Err (record { edge = own; part = part }) }
         ensures across_when { (b : TheAddress) (f : ℕ) → Fits (children (tiling_of self.now)) b
             → Touches (contacts (tiling_of self.now)) (address_of addr.now) edge b f → IsOk result }
 
         // In the plane, with both tiles placed in their common supertile: the result is the only tile across,
         // its edge leads back, and the call fails exactly on the boundary.
-        ensures only_tile_across { IfOk result (λ x. IsOnlyAcross (tiling_of self.now) (address_of addr.now) edge (address_of x.addr) x.edge) }
-        ensures leads_back { IfOk result (λ x. IsOnlyAcross (tiling_of self.now) (address_of x.addr) x.edge (address_of addr.now) edge) }
-        ensures outside_on_boundary { IfErr result (λ o. LiesOnBoundary (tiling_of self.now) (address_of addr.now) edge o.edge o.part) }
-        ensures boundary_is_outside { (own part : ℕ) → LiesOnBoundary (tiling_of self.now) (address_of addr.now) edge own part
+        ensures only_tile_across { IfOk result (λ x. IsOnlyAcross (tiling_of self.now) (address_of addr.now)
+            edge (address_of x.addr) x.edge) }
+        ensures leads_back { IfOk result (λ x. IsOnlyAcross (tiling_of self.now) (address_of x.addr) x.edge
+            (address_of addr.now) edge) }
+        ensures outside_on_boundary { IfErr result
+            (λ o. LiesOnBoundary (tiling_of self.now) (address_of addr.now) edge o.edge o.part) }
+        ensures boundary_is_outside { (own part : ℕ)
+            → LiesOnBoundary (tiling_of self.now) (address_of addr.now) edge own part
             → result ≡ Err (record { edge = own; part = part }) }
         ensures inside { OnOk result (LiesAlongNone (tiling_of self.now) (address_of addr.now) edge) }
 
@@ -181,18 +192,25 @@ impl Machine {
         requires fits { Fits (children (tiling_of self.now)) (address_of addr.old) }
         requires edge_exists { HasKindEdge (tiling_of self.now) addr.old.kind edge }
 
-        ensures across { IfOk result (λ back. IsAcross (contacts (tiling_of self.now)) (address_of addr.old) edge (address_of addr.new) back) }
+        ensures across { IfOk result (λ back. IsAcross (contacts (tiling_of self.now)) (address_of addr.old)
+            edge (address_of addr.new) back) }
         ensures answer_fits { Fits (children (tiling_of self.now)) (address_of addr.new) }
         ensures unchanged { OnErr result (addr.new ≡ addr.old) }
-        ensures on_boundary { IfErr result (λ o. LiesOn (contacts (tiling_of self.now)) (address_of addr.old) edge o.edge o.part) }
-        ensures boundary_when { (own part : ℕ) → LiesOn (contacts (tiling_of self.now)) (address_of addr.old) edge own part
+        ensures on_boundary { IfErr result (λ o. LiesOn (contacts (tiling_of self.now))
+            (address_of addr.old) edge o.edge o.part) }
+        ensures boundary_when { (own part : ℕ) → LiesOn (contacts (tiling_of self.now))
+            (address_of addr.old) edge own part
             → result ≡ Err (record { edge = own; part = part }) }
         ensures across_when { (b : TheAddress) (f : ℕ) → Fits (children (tiling_of self.now)) b
             → Touches (contacts (tiling_of self.now)) (address_of addr.old) edge b f → IsOk result }
-        ensures only_tile_across { IfOk result (λ back. IsOnlyAcross (tiling_of self.now) (address_of addr.old) edge (address_of addr.new) back) }
-        ensures leads_back { IfOk result (λ back. IsOnlyAcross (tiling_of self.now) (address_of addr.new) back (address_of addr.old) edge) }
-        ensures outside_on_boundary { IfErr result (λ o. LiesOnBoundary (tiling_of self.now) (address_of addr.old) edge o.edge o.part) }
-        ensures boundary_is_outside { (own part : ℕ) → LiesOnBoundary (tiling_of self.now) (address_of addr.old) edge own part
+        ensures only_tile_across { IfOk result (λ back. IsOnlyAcross (tiling_of self.now)
+            (address_of addr.old) edge (address_of addr.new) back) }
+        ensures leads_back { IfOk result (λ back. IsOnlyAcross (tiling_of self.now) (address_of addr.new)
+            back (address_of addr.old) edge) }
+        ensures outside_on_boundary { IfErr result
+            (λ o. LiesOnBoundary (tiling_of self.now) (address_of addr.old) edge o.edge o.part) }
+        ensures boundary_is_outside { (own part : ℕ)
+            → LiesOnBoundary (tiling_of self.now) (address_of addr.old) edge own part
             → result ≡ Err (record { edge = own; part = part }) }
         ensures inside { OnOk result (LiesAlongNone (tiling_of self.now) (address_of addr.old) edge) }
         ensures steps_within_bound { steps.new ≤ steps.old + (2 * depth (address_of addr.old) + 2) }

@@ -1,6 +1,6 @@
 //! Vertices of supertiles.
 ghost use Rattle.std.specs.Prelude.{◌≡◌, ◌<◌, ◌≤◌, ◌^◌, All, length, map, find, None, Some, IfOk, IfErr};
-ghost use Rattle.frames.specs.Outline.{outline};
+ghost use Rattle.theory_frames.specs.Outline.{outline};
 ghost use Rattle.cyclo_points.specs.Order.{points_of, is_refused};
 ghost use Rattle.cyclo_points.specs.Point.{point_in, IsOf, IsWithin};
 ghost use Rattle.cyclo_points.specs.Motion.{motion_in};
@@ -31,14 +31,17 @@ impl Machine {
         requires at_within { IsWithin (2 ^ 24) at.now.shift }
         requires at_in_order { IsOf self.now.order at.now.shift }
         ensures vertices { IfOk result (λ corners. map (point_in self.now.order) corners.items
-            ≡ outline (points_of self.now.order) (rule_of self.now) kind (point_in self.now.order scale.now) (motion_in self.now.order at.now)) }
+            ≡ outline (points_of self.now.order) (rule_of self.now) kind (point_in self.now.order scale.now)
+            (motion_in self.now.order at.now)) }
         ensures none_refused { IfOk result (λ corners. find (is_refused self.now.order)
-            (outline (points_of self.now.order) (rule_of self.now) kind (point_in self.now.order scale.now) (motion_in self.now.order at.now)) ≡ None) }
+            (outline (points_of self.now.order) (rule_of self.now) kind (point_in self.now.order scale.now)
+            (motion_in self.now.order at.now)) ≡ None) }
         ensures within { IfOk result (λ corners. All (IsWithin (2 ^ 24)) corners.items) }
         ensures in_order { IfOk result (λ corners. All (IsOf self.now.order) corners.items) }
         ensures at_least_3 { IfOk result (λ corners. 3 ≤ length corners.items) }
         ensures limit { IfErr result (λ limit. find (is_refused self.now.order)
-            (outline (points_of self.now.order) (rule_of self.now) kind (point_in self.now.order scale.now) (motion_in self.now.order at.now))
+            (outline (points_of self.now.order) (rule_of self.now) kind (point_in self.now.order scale.now)
+            (motion_in self.now.order at.now))
             ≡ Some (point_in self.now.order limit.value)) }
         ensures limit_in_order { IfErr result (λ limit. IsOf self.now.order limit.value) }
     {

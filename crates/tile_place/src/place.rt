@@ -1,8 +1,8 @@
 //! Where a tile lies in its supertile, by Horner's scheme on the digits of its address.
 ghost use Rattle.std.specs.Prelude.{◌≡◌, ◌<◌, ◌^◌, ℕ, length, map, None, Some, IfOk, IfErr};
-ghost use Rattle.addressing.specs.Address.{Climbs, Fits};
-ghost use Rattle.substitution.specs.Rule.{children_of};
-ghost use Rattle.substitution.specs.Placement.{finer, placement};
+ghost use Rattle.theory_addresses.specs.Address.{Climbs, Fits};
+ghost use Rattle.theory_substitution.specs.Rule.{children_of};
+ghost use Rattle.theory_substitution.specs.Placement.{finer, placement};
 ghost use Rattle.cyclo_points.specs.Order.{points_of};
 ghost use Rattle.cyclo_points.specs.Point.{point_in, IsOf, IsWithin};
 ghost use Rattle.cyclo_points.specs.Motion.{motion_in};
@@ -31,8 +31,10 @@ use tile_shape::step::Step;
 /// the first such value, from coarse to fine.
 pub fn place(checked: &Checked, addr: &Address) -> Result<Motion, CoordLimit>
     requires fits { Fits (children (tiling_of checked.now)) (address_of addr.now) }
-    ensures beside { IfOk result (λ motion. IsPlaced (tiling_of checked.now) (address_of addr.now) (motion_in checked.now.order motion)) }
-    ensures within { IfOk result (λ _. first_refused (tiling_of checked.now) (address_of addr.now).digits ≡ None) }
+    ensures beside { IfOk result (λ motion. IsPlaced (tiling_of checked.now) (address_of addr.now)
+        (motion_in checked.now.order motion)) }
+    ensures within { IfOk result (λ _. first_refused (tiling_of checked.now)
+        (address_of addr.now).digits ≡ None) }
     ensures turn_below { IfOk result (λ motion. motion.turn < (points_of checked.now.order).order) }
     ensures shift_within { IfOk result (λ motion. IsWithin (2 ^ 24) motion.shift) }
     ensures in_order { IfOk result (λ motion. IsOf checked.now.order motion.shift) }
@@ -45,8 +47,10 @@ pub fn place(checked: &Checked, addr: &Address) -> Result<Motion, CoordLimit>
 
 /// Like [`place`], for a kind and digits, finest first. It takes any tiling whose numbers may be read.
 pub fn place_digits<P: Placing>(rule: &P, kind: u8, digits: &[Step]) -> Result<Motion, CoordLimit>
-    requires fits { Fits (children (P.tiling rule.now)) (record { kind = kind; digits = map step_of digits.now }) }
-    ensures beside { IfOk result (λ motion. IsPlaced (P.tiling rule.now) (record { kind = kind; digits = map step_of digits.now })
+    requires fits { Fits (children (P.tiling rule.now))
+        (record { kind = kind; digits = map step_of digits.now }) }
+    ensures beside { IfOk result (λ motion. IsPlaced (P.tiling rule.now)
+        (record { kind = kind; digits = map step_of digits.now })
         (motion_in (P.tiling rule.now).order motion)) }
     ensures within { IfOk result (λ _. first_refused (P.tiling rule.now) (map step_of digits.now) ≡ None) }
     ensures turn_below { IfOk result (λ motion. motion.turn < (points_of (P.tiling rule.now).order).order) }
@@ -105,7 +109,8 @@ fn finer<P: Placing>(rule: &P, order: Order, motion: &Motion, step: Step) -> Mot
     requires turn_below { motion.now.turn < (points_of (P.tiling rule.now).order).order }
     requires within { IsWithin (2 ^ 24) motion.now.shift }
     ensures moved { motion_in (P.tiling rule.now).order result
-        ≡ finer (points_of (P.tiling rule.now).order) (P.tiling rule.now).rule (motion_in (P.tiling rule.now).order motion.now)
+        ≡ finer (points_of (P.tiling rule.now).order) (P.tiling rule.now).rule
+        (motion_in (P.tiling rule.now).order motion.now)
         (its_child (P.tiling rule.now) step.parent step.child).motion }
     ensures turn_below { result.turn < (points_of (P.tiling rule.now).order).order }
     ensures in_order { IsOf (P.tiling rule.now).order result.shift }

@@ -1,6 +1,6 @@
 //! Powers of the inflation factor.
 ghost use Rattle.std.specs.Prelude.{◌≡◌, ◌+◌, ◌≤◌, ◌^◌, All, length, map, find, None, Some, IfOk, IfErr};
-ghost use Rattle.frames.specs.Looked.{powers_from};
+ghost use Rattle.theory_frames.specs.Looked.{powers_from};
 ghost use Rattle.cyclo_points.specs.Order.{points_of, is_refused};
 ghost use Rattle.cyclo_points.specs.Point.{point_in, IsOf, IsWithin};
 ghost use Rattle.rule_model.specs.Views.{rule_of};
@@ -25,7 +25,8 @@ impl Machine {
         ensures within { IfOk result (λ powers. All (IsWithin (2 ^ 24)) powers.items) }
         ensures count { IfOk result (λ powers. length powers.items ≡ depth + 1) }
         ensures limit { IfErr result (λ limit. find (is_refused self.now.order)
-            (powers_from (points_of self.now.order) (rule_of self.now).factor 0 (depth + 1)) ≡ Some (point_in self.now.order limit.value)) }
+            (powers_from (points_of self.now.order) (rule_of self.now).factor 0 (depth + 1)) ≡ Some
+            (point_in self.now.order limit.value)) }
         ensures limit_in_order { IfErr result (λ limit. IsOf self.now.order limit.value) }
     {
         let checked = self.checked();

@@ -1,7 +1,7 @@
 //! The search from a supertile down to the tile that holds a point.
 ghost use Rattle.std.specs.Prelude.{◌≡◌, ◌+◌, ◌<◌, ◌≤◌, ◌^◌, All, length, map, find, None, Some, IfOk, IfErr};
-ghost use Rattle.frames.specs.Descent.{tile_below, tile_holding};
-ghost use Rattle.frames.specs.Looked.{powers_from, values_below, values_looked_at};
+ghost use Rattle.theory_frames.specs.Descent.{tile_below, tile_holding};
+ghost use Rattle.theory_frames.specs.Looked.{powers_from, values_below, values_looked_at};
 ghost use Rattle.cyclo_points.specs.Order.{points_of, is_refused};
 ghost use Rattle.cyclo_points.specs.Point.{point_in, IsOf, IsWithin};
 ghost use Rattle.cyclo_points.specs.Motion.{motion_in};
@@ -34,15 +34,19 @@ impl Machine {
         requires at_within { IsWithin (2 ^ 24) at.now.shift }
         requires at_in_order { IsOf self.now.order at.now.shift }
         requires point_within { IsWithin (2 ^ 24) point.now }
-        ensures holder { IfOk result (λ tile. tile_holding (points_of self.now.order) (rule_of self.now) kind depth
-            (motion_in self.now.order at.now) (point_in self.now.order point.now) ≡ Some (placed_in self.now.order tile)) }
+        ensures holder { IfOk result (λ tile. tile_holding (points_of self.now.order) (rule_of self.now)
+            kind depth
+            (motion_in self.now.order at.now) (point_in self.now.order point.now) ≡ Some
+            (placed_in self.now.order tile)) }
         ensures its_kind { IfOk result (λ tile. tile.kind ≡ tile.addr.kind) }
         ensures turn_below { IfOk result (λ tile. tile.motion.turn < (points_of self.now.order).order) }
         ensures shift_within { IfOk result (λ tile. IsWithin (2 ^ 24) tile.motion.shift) }
         ensures in_order { IfOk result (λ tile. IsOf self.now.order tile.motion.shift) }
-        ensures none_refused { IfOk result (λ _. find (is_refused self.now.order) (values_looked_at (points_of self.now.order) (rule_of self.now) kind depth
+        ensures none_refused { IfOk result (λ _. find (is_refused self.now.order)
+            (values_looked_at (points_of self.now.order) (rule_of self.now) kind depth
             (motion_in self.now.order at.now) (point_in self.now.order point.now)) ≡ None) }
-        ensures fault { IfErr result (λ fault. IsSearchFault self.now.order (values_looked_at (points_of self.now.order) (rule_of self.now) kind depth
+        ensures fault { IfErr result (λ fault. IsSearchFault self.now.order
+            (values_looked_at (points_of self.now.order) (rule_of self.now) kind depth
             (motion_in self.now.order at.now) (point_in self.now.order point.now))
             (tile_holding (points_of self.now.order) (rule_of self.now) kind depth
             (motion_in self.now.order at.now) (point_in self.now.order point.now)) fault) }
@@ -77,17 +81,22 @@ impl Machine {
         requires at_within { IsWithin (2 ^ 24) at.now.shift }
         requires at_in_order { IsOf self.now.order at.now.shift }
         requires point_within { IsWithin (2 ^ 24) point.now }
-        requires powers { map (point_in self.now.order) powers.now ≡ powers_from (points_of self.now.order) (rule_of self.now).factor 0 (depth + 1) }
+        requires powers { map (point_in self.now.order) powers.now ≡ powers_from (points_of self.now.order)
+            (rule_of self.now).factor 0 (depth + 1) }
         requires powers_within { All (IsWithin (2 ^ 24)) powers.now }
-        ensures holder { IfOk result (λ tile. tile_below (points_of self.now.order) (rule_of self.now) kind depth
-            (motion_in self.now.order at.now) (point_in self.now.order point.now) ≡ Some (placed_in self.now.order tile)) }
+        ensures holder { IfOk result (λ tile. tile_below (points_of self.now.order) (rule_of self.now) kind
+            depth
+            (motion_in self.now.order at.now) (point_in self.now.order point.now) ≡ Some
+            (placed_in self.now.order tile)) }
         ensures its_kind { IfOk result (λ tile. tile.kind ≡ tile.addr.kind) }
         ensures turn_below { IfOk result (λ tile. tile.motion.turn < (points_of self.now.order).order) }
         ensures shift_within { IfOk result (λ tile. IsWithin (2 ^ 24) tile.motion.shift) }
         ensures in_order { IfOk result (λ tile. IsOf self.now.order tile.motion.shift) }
-        ensures none_refused { IfOk result (λ _. find (is_refused self.now.order) (values_below (points_of self.now.order) (rule_of self.now) kind depth
+        ensures none_refused { IfOk result (λ _. find (is_refused self.now.order)
+            (values_below (points_of self.now.order) (rule_of self.now) kind depth
             (motion_in self.now.order at.now) (point_in self.now.order point.now)) ≡ None) }
-        ensures fault { IfErr result (λ fault. IsSearchFault self.now.order (values_below (points_of self.now.order) (rule_of self.now) kind depth
+        ensures fault { IfErr result (λ fault. IsSearchFault self.now.order
+            (values_below (points_of self.now.order) (rule_of self.now) kind depth
             (motion_in self.now.order at.now) (point_in self.now.order point.now))
             (tile_below (points_of self.now.order) (rule_of self.now) kind depth
             (motion_in self.now.order at.now) (point_in self.now.order point.now)) fault) }

@@ -1,6 +1,6 @@
 //! Corners of tiles.
 ghost use Rattle.std.specs.Prelude.{◌<◌, ◌≤◌, ◌^◌, length};
-ghost use Rattle.substitution.specs.RuleParts.{edge_count};
+ghost use Rattle.theory_substitution.specs.RuleParts.{edge_count};
 ghost use Rattle.cyclo_points.specs.Order.{points_of};
 ghost use Rattle.cyclo_points.specs.Point.{IsOf, IsWithin};
 ghost use Rattle.rule_model.specs.Tiling.{tiling_of};

@@ -1,7 +1,7 @@
 //! The vertices of all kinds, in every turn.
 ghost use Rattle.std.specs.Prelude.{◌≡◌, ◌+◌, ◌*◌, ◌<◌, ◌≤◌, ◌^◌, ℕ, All, [], map, length, get_or, IsSome, IfOk, OnOk};
-ghost use Rattle.addressing.specs.Tables.{type_of};
-ghost use Rattle.substitution.specs.RuleParts.{edge_count};
+ghost use Rattle.theory_addresses.specs.Tables.{type_of};
+ghost use Rattle.theory_substitution.specs.RuleParts.{edge_count};
 ghost use Rattle.cyclo_points.specs.Order.{points_of};
 ghost use Rattle.cyclo_points.specs.Point.{point_in, IsOf, IsWithin};
 ghost use Rattle.rule_model.specs.Tiling.{tiling_of};

@@ -9,7 +9,8 @@ no_smaller : (n m : ℕ) (cs : List ℕ) → continued n cs ≡ Some m → n ≤
 no_smaller n m [] e = let f : n ≡ m = cc in omega arith
 no_smaller n m (c ∷ cs) e = at_test (is_figure c) e (no_smaller (10 * n + (c - 48)) m cs)
   where
-    at_test : (b : Bool) → cond b (continued (10 * n + (c - 48)) cs) None ≡ Some m → (continued (10 * n + (c - 48)) cs ≡ Some m → 10 * n + (c - 48) ≤ m) → n ≤ m
+    at_test : (b : Bool) → cond b (continued (10 * n + (c - 48)) cs) None ≡ Some m
+        → (continued (10 * n + (c - 48)) cs ≡ Some m → 10 * n + (c - 48) ≤ m) → n ≤ m
     at_test true f rest = let g = rest f in omega arith
     at_test false f rest = absurd (cc f)
 
@@ -25,7 +26,8 @@ past_limit most n cs l = at_value (continued n cs) refl
     at_value (Some m) e = ap (λ b. cond b (Some m) None) (above_limit most n m l (no_smaller n m cs e))
 
 -- a text whose first figures make a number past the limit has none up to it
-pub number_up_to-none : (most n : ℕ) (text rest : List ℕ) → begins_right text ≡ true → continued 0 text ≡ continued n rest → most < n → number_up_to most text ≡ None
+pub number_up_to-none : (most n : ℕ) (text rest : List ℕ) → begins_right text ≡ true
+    → continued 0 text ≡ continued n rest → most < n → number_up_to most text ≡ None
 number_up_to-none most n text rest b e l =
     ap (λ v. option_and_then (λ k. cond (nat_le k most) (Some k) None) (cond v (continued 0 text) None)) b
     ∙ ap (option_and_then (λ k. cond (nat_le k most) (Some k) None)) e

@@ -1,7 +1,7 @@
 -- Digits of the program that are equal are the same digits.
 use Rattle.std.proofs.Common.{◌≡◌, ◌↔◌, List, [], ◌∷◌, map, true, nat_eq, refl, ap, ap₂, eqb-true}
 use Rattle.std.proofs.lemmas.Bool.{and_parts, and_from, eq-eqb}
-use Rattle.addressing.specs.Address as theory
+use Rattle.theory_addresses.specs.Address as theory
 use Rattle.tile_shape.specs.declared.step.Step.{Step}
 use Rattle.tile_shape.specs.contracts.step.StepPartialEq.TheImpl as step_eq
 use Rattle.tile_shape.specs.Views.{step_of}

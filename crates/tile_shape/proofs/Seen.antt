@@ -1,6 +1,6 @@
 -- Addresses of the program seen in the theory, and back.
 use Rattle.std.proofs.Common.{◌≡◌, List, [], ◌∷◌, map, refl, sym, ap, ◌∙◌}
-use Rattle.addressing.specs.Address as theory
+use Rattle.theory_addresses.specs.Address as theory
 use Rattle.tile_shape.specs.declared.address.Address.{Address}
 use Rattle.tile_shape.specs.declared.step.Step.{Step}
 use Rattle.tile_shape.specs.Views.{step_of, address_of, step_as, address_as}
@@ -18,4 +18,10 @@ address-there a = λ i. record { kind = a.kind; digits = steps-there a.digits i 
 
 -- an address is known by what it is in the theory
 pub address-known : (a : Address) (b : theory.Address) → address_of a ≡ b → a ≡ address_as b
-address-known a b e = λ i. record { kind = (e i).kind; digits = record { items = (sym (steps-back a.digits.items) ∙ ap (λ (z : theory.Address). map step_as z.digits) e) i } }
+address-known a b e = λ i. record {
+  kind = (e i).kind;
+  digits = record {
+    items = (sym (steps-back a.digits.items)
+        ∙ ap (λ (z : theory.Address). map step_as z.digits) e) i;
+  };
+}

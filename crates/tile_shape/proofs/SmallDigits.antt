@@ -41,7 +41,8 @@ unfolding digit_at
 small_read c p bs f g = rw (before_slash c (p ∷ comma ∷ bs) f, behind_slash (p ∷ comma ∷ bs), before_comma p bs g) refl
 
 -- the same of a text whose first bytes are these
-pub small_read_at : (text : List ℕ) → 3 < length text → is_figure (get_or text 0 0) ≡ true → get_or text 1 0 ≡ slash → is_figure (get_or text 2 0) ≡ true → get_or text 3 0 ≡ comma
+pub small_read_at : (text : List ℕ) → 3 < length text → is_figure (get_or text 0 0) ≡ true
+    → get_or text 1 0 ≡ slash → is_figure (get_or text 2 0) ≡ true → get_or text 3 0 ≡ comma
     → digit_at text ≡ Ok (record { child = get_or text 0 0 - 48; parent = get_or text 2 0 - 48 }, comma ∷ drop 4 text)
 small_read_at [] h f s g m = absurd (omega (arith, h))
 small_read_at (c ∷ []) h f s g m = absurd (omega (arith, h))

@@ -1,6 +1,6 @@
 -- What a text is as an address: the address, or the first fault.
 use Rattle.std.specs.Prelude.{◌≡◌, ℕ, ◌-◌, List, length, nat_le, Option, Some, None, Result, Ok, Err, if◌then◌else◌}
-use Rattle.addressing.specs.Address.{Address, depth}
+use Rattle.theory_addresses.specs.Address.{Address, depth}
 use Rattle.tile_shape.specs.declared.address_fault.AddressFault.{AddressFault}
 use Rattle.tile_shape.specs.declared.address_fault.AddressFault.TheVariants.{BadText, TooDeep}
 use Rattle.tile_shape.specs.declared.address.Address as program

@@ -1,7 +1,7 @@
 -- The uses of a kind: which child of which parent it is, ordered by parent and then by the number of the
 -- child.
 use Rattle.std.specs.Prelude.{ℕ, ◌+◌, List, [], ◌∷◌, ◌++◌, nat_eq, cond}
-use Rattle.addressing.specs.Address.{Step}
+use Rattle.theory_addresses.specs.Address.{Step}
 
 -- the uses of a kind among the children of one parent, of which these are those from number n on
 abbrev pub uses_in_row : ℕ → ℕ → ℕ → List ℕ → List Step

@@ -1,7 +1,7 @@
 -- What a crossing in place says of the address that was given.
 use Rattle.std.proofs.Common.{◌≡◌, ◌<◌, ◌≤◌, ℕ, Err, sym, ap, ◌∙◌, subst, arith}
 use Rattle.std.specs.Prelude.{Result}
-use Rattle.addressing.specs.Address.{Address}
+use Rattle.theory_addresses.specs.Address.{Address}
 use Rattle.rule_model.specs.Tiling.{Tiling}
 use Rattle.tile_place.specs.Crossed.{edges_of, LiesOnBoundary, IsOutside}
 use Rattle.transducer_core.specs.declared.outside.Outside.{Outside}
@@ -16,7 +16,8 @@ pub not_both : {A : Type 0} (edge edges : ℕ) → edge < edges → edges ≤ ed
 not_both edge edges below above = absurd (omega arith)
 
 -- on the boundary of the supertile, along that edge of it and no other
-pub outside_given : {A : Type 0} (t : Tiling) (a b : Address) (edge : ℕ) (result : Result A Outside) (o : Outside) → a ≡ b → edge < edges_of t b.kind → result ≡ Err o
+pub outside_given : {A : Type 0} (t : Tiling) (a b : Address) (edge : ℕ) (result : Result A Outside)
+    (o : Outside) → a ≡ b → edge < edges_of t b.kind → result ≡ Err o
     → LiesOnBoundary t a edge o.edge o.part
     → ((own part : ℕ) → LiesOnBoundary t a edge own part → result ≡ Err (record { edge = own; part = part }))
     → IsOutside t b edge o.edge o.part

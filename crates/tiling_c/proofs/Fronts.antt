@@ -13,16 +13,19 @@ shown_more shown all i a below at =
     ∙ map-append shown (take i all) (a ∷ [])
 
 -- it is put behind those that are there
-pub front_more : {A B : Type 0} (shown : A → B) (all : List A) (xs : List B) (i : ℕ) (a : A) (y : B) → i < length all → i < length xs → slice_get all i ≡ Some a → y ≡ shown a
+pub front_more : {A B : Type 0} (shown : A → B) (all : List A) (xs : List B) (i : ℕ) (a : A) (y : B)
+    → i < length all → i < length xs → slice_get all i ≡ Some a → y ≡ shown a
     → take i xs ≡ map shown (take i all) → take (i + 1) (slice_set xs i y) ≡ map shown (take (i + 1) all)
 front_more shown all xs i a y in_all in_xs at same front =
     take_more_set xs i y in_xs ∙ ap (λ c. take i xs ++ c ∷ []) same ∙ ap (λ cs. cs ++ shown a ∷ []) front ∙ sym (shown_more shown all i a in_all at)
 
 -- and so where what is put is seen through a view
 pub seen_more : {A B C : Type 0} (view : B → C) (shown : A → C) (all : List A) (xs : List B) (i : ℕ) (a : A) (y : B) → i < length all → i < length xs
-    → slice_get all i ≡ Some a → view y ≡ shown a → map view (take i xs) ≡ map shown (take i all) → map view (take (i + 1) (slice_set xs i y)) ≡ map shown (take (i + 1) all)
+    → slice_get all i ≡ Some a → view y ≡ shown a → map view (take i xs) ≡ map shown (take i all)
+    → map view (take (i + 1) (slice_set xs i y)) ≡ map shown (take (i + 1) all)
 seen_more view shown all xs i a y in_all in_xs at same front =
-    ap (map view) (take_more_set xs i y in_xs) ∙ map-append view (take i xs) (y ∷ []) ∙ ap (λ c. map view (take i xs) ++ c ∷ []) same ∙ ap (λ cs. cs ++ shown a ∷ []) front
+    ap (map view) (take_more_set xs i y in_xs) ∙ map-append view (take i xs) (y ∷ [])
+    ∙ ap (λ c. map view (take i xs) ++ c ∷ []) same ∙ ap (λ cs. cs ++ shown a ∷ []) front
     ∙ sym (shown_more shown all i a in_all at)
 
 -- what is behind it stays
@@ -30,16 +33,19 @@ pub behind_more : {B : Type 0} (xs old : List B) (i : ℕ) (y : B) → drop i xs
 behind_more xs old i y same = drop-set-lt (i + 1) xs i y (omega arith) ∙ drop_more_same xs old i same
 
 -- the same where the list is read by its places
-shown_at : {A B : Type 0} (shown : A → B) (all : List A) (i : ℕ) (d : A) → i < length all → map shown (take (i + 1) all) ≡ map shown (take i all) ++ shown (get_or all i d) ∷ []
+shown_at : {A B : Type 0} (shown : A → B) (all : List A) (i : ℕ) (d : A) → i < length all
+    → map shown (take (i + 1) all) ≡ map shown (take i all) ++ shown (get_or all i d) ∷ []
 shown_at shown all i d below = ap (map shown) (take_more all i d below) ∙ map-append shown (take i all) (get_or all i d ∷ [])
 
 pub front_at : {A B : Type 0} (shown : A → B) (all : List A) (xs : List B) (i : ℕ) (d : A) (y : B) → i < length all → i < length xs
     → y ≡ shown (get_or all i d) → take i xs ≡ map shown (take i all) → take (i + 1) (slice_set xs i y) ≡ map shown (take (i + 1) all)
 front_at shown all xs i d y in_all in_xs same front =
-    take_more_set xs i y in_xs ∙ ap (λ c. take i xs ++ c ∷ []) same ∙ ap (λ cs. cs ++ shown (get_or all i d) ∷ []) front ∙ sym (shown_at shown all i d in_all)
+    take_more_set xs i y in_xs ∙ ap (λ c. take i xs ++ c ∷ []) same
+    ∙ ap (λ cs. cs ++ shown (get_or all i d) ∷ []) front ∙ sym (shown_at shown all i d in_all)
 
 pub seen_at : {A B C : Type 0} (view : B → C) (shown : A → C) (all : List A) (xs : List B) (i : ℕ) (d : A) (y : B) → i < length all → i < length xs
-    → view y ≡ shown (get_or all i d) → map view (take i xs) ≡ map shown (take i all) → map view (take (i + 1) (slice_set xs i y)) ≡ map shown (take (i + 1) all)
+    → view y ≡ shown (get_or all i d) → map view (take i xs) ≡ map shown (take i all)
+    → map view (take (i + 1) (slice_set xs i y)) ≡ map shown (take (i + 1) all)
 seen_at view shown all xs i d y in_all in_xs same front =
     ap (map view) (take_more_set xs i y in_xs) ∙ map-append view (take i xs) (y ∷ []) ∙ ap (λ c. map view (take i xs) ++ c ∷ []) same
     ∙ ap (λ cs. cs ++ shown (get_or all i d) ∷ []) front ∙ sym (shown_at shown all i d in_all)

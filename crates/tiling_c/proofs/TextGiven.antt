@@ -1,7 +1,7 @@
 -- What reading a text says of the tiling's own table of child kinds.
 use Rattle.std.proofs.Common.{◌≡◌, ℕ, List, Ok, Err, IsOk, refl, sym, ap, ◌∙◌, subst}
 use Rattle.std.specs.Prelude.{Result}
-use Rattle.addressing.specs.Address.{Address}
+use Rattle.theory_addresses.specs.Address.{Address}
 use Rattle.tile_shape.specs.AddressIn.{address_in as address_of_text}
 use Rattle.tile_shape.specs.declared.address_fault.AddressFault.{AddressFault}
 use Rattle.c_values.specs.Statuses.{bad_address}
@@ -19,8 +19,12 @@ ok_not_refused u v text a same read =
 
 pub refused_not_ok : (u v : List (List ℕ)) (text : List ℕ) (fault : AddressFault) → u ≡ v → address_of_text u text ≡ Err fault
     → (4 ≡ bad_address → ¬ IsOk (address_of_text v text)) × ((¬ IsOk (address_of_text v text)) → 4 ≡ bad_address)
-refused_not_ok u v text fault same read =
-    (λ _ read_ok. none fault (subst IsOk (subst (λ w. address_of_text w text ≡ (let r : Result Address AddressFault = Err fault in r)) same read) read_ok), λ _. refl)
+refused_not_ok u v text fault same read = (
+  λ _ read_ok. none fault (subst IsOk (subst
+      (λ w. address_of_text w text ≡ (let r : Result Address AddressFault = Err fault in r)) same read)
+      read_ok),
+  λ _. refl,
+)
   where
     none : (x : AddressFault) → IsOk (let r : Result Address AddressFault = Err x in r) → ⊥
     none x f = absurd (cc f)

@@ -1,6 +1,6 @@
 -- The tile of a supertile that holds a point, as plain numbers.
 use Rattle.std.specs.Prelude.{◌≡◌, ◌↔◌, ◌≤◌, ℕ, None}
-use Rattle.addressing.specs.Address.{depth as depth_of}
+use Rattle.theory_addresses.specs.Address.{depth as depth_of}
 use Rattle.cyclo_points.specs.Order.{NumberOf}
 use Rattle.cyclo_points.specs.Point.{point_in}
 use Rattle.cyclo_points.specs.Motion.{motion_in}

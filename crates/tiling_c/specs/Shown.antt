@@ -1,5 +1,5 @@
 -- Tiles of the engine as plain numbers.
-use Rattle.addressing.specs.Address as theory
+use Rattle.theory_addresses.specs.Address as theory
 use Rattle.tile_place.specs.declared.placed_tile.PlacedTile.{PlacedTile}
 use Rattle.tile_shape.specs.Views.{address_of}
 use Rattle.c_values.specs.declared.plain_tile.PlainTile.{PlainTile}

@@ -15,9 +15,11 @@ use tile_shape::writing::write_address;
 
 /// Like [`tiling_read_address`], for a machine.
 pub fn put_address(machine: &Machine, text: &[u8], out: &mut PlainAddress) -> u8
-    ensures read { result ≡ ok → address_of_text (children (tiling_of machine.now)) text.now ≡ Ok (address_in out.new) }
+    ensures read { result ≡ ok → address_of_text (children (tiling_of machine.now)) text.now ≡ Ok
+        (address_in out.new) }
     ensures names { result ≡ ok → NamesTile (tiling_of machine.now) out.new }
-    ensures bad_address { (result ≡ bad_address) ↔ (¬ IsOk (address_of_text (children (tiling_of machine.now)) text.now)) }
+    ensures bad_address { (result ≡ bad_address)
+        ↔ (¬ IsOk (address_of_text (children (tiling_of machine.now)) text.now)) }
     ensures unchanged { ¬ result ≡ ok → out.new ≡ out.old }
     ensures statuses { (result ≡ ok) ⊎ (result ≡ bad_address) }
 {
@@ -33,9 +35,11 @@ pub fn put_address(machine: &Machine, text: &[u8], out: &mut PlainAddress) -> u8
 /// Reads the text of an address. The address must be that of a tile of the rule.
 #[unsafe(no_mangle)]
 pub extern "C" fn tiling_read_address(t: SharedMachine, text: &[u8], out: &mut PlainAddress) -> u8
-    ensures read { result ≡ ok → address_of_text (children (tiling_of t.rule)) text.now ≡ Ok (address_in out.new) }
+    ensures read { result ≡ ok → address_of_text (children (tiling_of t.rule)) text.now ≡ Ok
+        (address_in out.new) }
     ensures names { result ≡ ok → NamesTile (tiling_of t.rule) out.new }
-    ensures bad_address { (result ≡ bad_address) ↔ (¬ IsOk (address_of_text (children (tiling_of t.rule)) text.now)) }
+    ensures bad_address { (result ≡ bad_address)
+        ↔ (¬ IsOk (address_of_text (children (tiling_of t.rule)) text.now)) }
     ensures unchanged { ¬ result ≡ ok → out.new ≡ out.old }
     ensures statuses { (result ≡ ok) ⊎ (result ≡ bad_address) }
 {
@@ -51,7 +55,8 @@ pub extern "C" fn tiling_write_address(
 ) -> u8
     ensures written { result ≡ ok → text.new ≡ address_text (address_in addr.now) ++ drop bytes.new text.old }
     ensures bytes { result ≡ ok → bytes.new ≡ length (address_text (address_in addr.now)) }
-    ensures bad_words { (result ≡ bad_words) ↔ ((64 < addr.now.depth) ⊎ (length text.old < length (address_text (address_in addr.now)))) }
+    ensures bad_words { (result ≡ bad_words) ↔ ((64 < addr.now.depth)
+        ⊎ (length text.old < length (address_text (address_in addr.now)))) }
     ensures text_unchanged { ¬ result ≡ ok → text.new ≡ text.old }
     ensures bytes_unchanged { ¬ result ≡ ok → bytes.new ≡ bytes.old }
     ensures statuses { (result ≡ ok) ⊎ (result ≡ bad_words) }

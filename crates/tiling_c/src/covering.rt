@@ -89,9 +89,11 @@ fn put_window(
     requires frame { IsFrameOf (tiling_of machine.now) frame.old }
     requires window_fits { IsWindow window.now }
     requires lengths { (length addrs.old ≡ 0) ⊎ (length addrs.old ≡ length tiles.old) }
-    ensures covers { result ≡ ok → IsCover (tiling_of machine.now) frame.old window.now tiles.old tiles.new addrs.old addrs.new count.new }
+    ensures covers { result ≡ ok → IsCover (tiling_of machine.now) frame.old window.now tiles.old tiles.new
+        addrs.old addrs.new count.new }
     ensures within { result ≡ ok → IsWithinLimits (tiling_of machine.now) frame.old window.now }
-    ensures answered { IsWithinLimits (tiling_of machine.now) frame.old window.now → (result ≡ ok) ⊎ (result ≡ no_memory) }
+    ensures answered { IsWithinLimits (tiling_of machine.now) frame.old window.now → (result ≡ ok)
+        ⊎ (result ≡ no_memory) }
     ensures ended { ¬ result ≡ ok → EndsCover (tiling_of machine.now) frame.old window.now result }
     ensures tiles_unchanged { ¬ result ≡ ok → tiles.new ≡ tiles.old }
     ensures addresses_unchanged { ¬ result ≡ ok → addrs.new ≡ addrs.old }
@@ -126,15 +128,22 @@ fn cover(
     addrs: &mut [PlainAddress],
     count: &mut usize,
 ) -> u8
-    ensures covers { result ≡ ok → IsCover (tiling_of machine.now) (frame_in frame.now) (window_in machine.now.order window.now)
+    ensures covers { result ≡ ok → IsCover (tiling_of machine.now) (frame_in frame.now)
+        (window_in machine.now.order window.now)
         tiles.old tiles.new addrs.old addrs.new count.new }
-    ensures within { result ≡ ok → IsWithinLimits (tiling_of machine.now) (frame_in frame.now) (window_in machine.now.order window.now) }
-    ensures answered { AsksForWindow window.now tiles.old addrs.old → NamesTile (tiling_of machine.now) frame.now.base
-        → IsWithinLimits (tiling_of machine.now) (frame_in frame.now) (window_in machine.now.order window.now) → (result ≡ ok) ⊎ (result ≡ no_memory) }
+    ensures within { result ≡ ok → IsWithinLimits (tiling_of machine.now) (frame_in frame.now)
+        (window_in machine.now.order window.now) }
+    ensures answered { AsksForWindow window.now tiles.old addrs.old
+        → NamesTile (tiling_of machine.now) frame.now.base
+        → IsWithinLimits (tiling_of machine.now) (frame_in frame.now)
+        (window_in machine.now.order window.now) → (result ≡ ok) ⊎ (result ≡ no_memory) }
     ensures bad_words { (result ≡ bad_words) ↔ (¬ AsksForWindow window.now tiles.old addrs.old) }
-    ensures bad_address { (result ≡ bad_address) ↔ (AsksForWindow window.now tiles.old addrs.old × (¬ NamesTile (tiling_of machine.now) frame.now.base)) }
+    ensures bad_address { (result ≡ bad_address)
+        ↔ (AsksForWindow window.now tiles.old addrs.old
+        × (¬ NamesTile (tiling_of machine.now) frame.now.base)) }
     ensures ended { ¬ result ≡ ok → ¬ result ≡ bad_words → ¬ result ≡ bad_address
-        → EndsCover (tiling_of machine.now) (frame_in frame.now) (window_in machine.now.order window.now) result }
+        → EndsCover (tiling_of machine.now) (frame_in frame.now) (window_in machine.now.order window.now)
+        result }
     ensures tiles_unchanged { ¬ result ≡ ok → tiles.new ≡ tiles.old }
     ensures addresses_unchanged { ¬ result ≡ ok → addrs.new ≡ addrs.old }
     ensures count_unchanged { ¬ result ≡ ok → count.new ≡ count.old }
@@ -165,16 +174,21 @@ pub extern "C" fn tiling_cover(
 ) -> u8
     // Exactly the tiles of the frame that meet the window, each exactly once and in its place. The depth is
     // the least that is enough, and the tiles cover the window.
-    ensures covers { result ≡ ok → IsCover (tiling_of t.rule) (frame_in frame.now) (window_in t.rule.order window.now)
+    ensures covers { result ≡ ok → IsCover (tiling_of t.rule) (frame_in frame.now)
+        (window_in t.rule.order window.now)
         tiles.old tiles.new addrs.old addrs.new count.new }
 
     // The call succeeds exactly within the limits, unless memory runs out, and each refusal comes only for
     // its cause.
-    ensures within { result ≡ ok → IsWithinLimits (tiling_of t.rule) (frame_in frame.now) (window_in t.rule.order window.now) }
-    ensures answered { AsksForWindow window.now tiles.old addrs.old → NamesTile (tiling_of t.rule) frame.now.base
-        → IsWithinLimits (tiling_of t.rule) (frame_in frame.now) (window_in t.rule.order window.now) → (result ≡ ok) ⊎ (result ≡ no_memory) }
+    ensures within { result ≡ ok → IsWithinLimits (tiling_of t.rule) (frame_in frame.now)
+        (window_in t.rule.order window.now) }
+    ensures answered { AsksForWindow window.now tiles.old addrs.old
+        → NamesTile (tiling_of t.rule) frame.now.base
+        → IsWithinLimits (tiling_of t.rule) (frame_in frame.now) (window_in t.rule.order window.now)
+        → (result ≡ ok) ⊎ (result ≡ no_memory) }
     ensures bad_words { (result ≡ bad_words) ↔ (¬ AsksForWindow window.now tiles.old addrs.old) }
-    ensures bad_address { (result ≡ bad_address) ↔ (AsksForWindow window.now tiles.old addrs.old × (¬ NamesTile (tiling_of t.rule) frame.now.base)) }
+    ensures bad_address { (result ≡ bad_address)
+        ↔ (AsksForWindow window.now tiles.old addrs.old × (¬ NamesTile (tiling_of t.rule) frame.now.base)) }
     ensures ended { ¬ result ≡ ok → ¬ result ≡ bad_words → ¬ result ≡ bad_address
         → EndsCover (tiling_of t.rule) (frame_in frame.now) (window_in t.rule.order window.now) result }
 

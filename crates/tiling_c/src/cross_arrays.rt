@@ -30,9 +30,11 @@ pub fn cross_all(
     edges: &[u8],
     crossings: &mut [PlainCrossing],
 ) -> u8
-    ensures each { result ≡ ok → (i : ℕ) → i < length edges.now → ShowsCrossing (tiling_of machine.now) (address_at addrs.old i)
+    ensures each { result ≡ ok → (i : ℕ) → i < length edges.now
+        → ShowsCrossing (tiling_of machine.now) (address_at addrs.old i)
         (get_or edges.now i 0) (address_at addrs.new i) (crossing_at crossings.new i) }
-    ensures bad_words { (result ≡ bad_words) ↔ (¬ ((length addrs.old ≡ length edges.now) × (length crossings.old ≡ length edges.now))) }
+    ensures bad_words { (result ≡ bad_words) ↔ (¬
+        ((length addrs.old ≡ length edges.now) × (length crossings.old ≡ length edges.now))) }
     ensures addresses_unchanged { ¬ result ≡ ok → addrs.new ≡ addrs.old }
     ensures crossings_unchanged { ¬ result ≡ ok → crossings.new ≡ crossings.old }
     ensures statuses { (result ≡ ok) ⊎ (result ≡ bad_words) }
@@ -58,9 +60,11 @@ pub extern "C" fn tiling_neighbour_all(
     edges: &[u8],
     crossings: &mut [PlainCrossing],
 ) -> u8
-    ensures each { result ≡ ok → (i : ℕ) → i < length edges.now → ShowsCrossing (tiling_of t.rule) (address_at addrs.old i)
+    ensures each { result ≡ ok → (i : ℕ) → i < length edges.now
+        → ShowsCrossing (tiling_of t.rule) (address_at addrs.old i)
         (get_or edges.now i 0) (address_at addrs.new i) (crossing_at crossings.new i) }
-    ensures bad_words { (result ≡ bad_words) ↔ (¬ ((length addrs.old ≡ length edges.now) × (length crossings.old ≡ length edges.now))) }
+    ensures bad_words { (result ≡ bad_words) ↔ (¬
+        ((length addrs.old ≡ length edges.now) × (length crossings.old ≡ length edges.now))) }
     ensures addresses_unchanged { ¬ result ≡ ok → addrs.new ≡ addrs.old }
     ensures crossings_unchanged { ¬ result ≡ ok → crossings.new ≡ crossings.old }
     ensures statuses { (result ≡ ok) ⊎ (result ≡ bad_words) }

@@ -25,13 +25,17 @@ pub fn cross<L: Ledger>(
     requires name { blank.name ≡ L.name }
     requires parts { blank.parts ≡ L.parts }
     requires some { 0 < blank.parts }
-    ensures across { result ≡ ok → IsOnlyAcross (tiling_of machine.now) (address_in addr.old) edge (address_in addr.new) back.new }
-    ensures leads_back { result ≡ ok → IsOnlyAcross (tiling_of machine.now) (address_in addr.new) back.new (address_in addr.old) edge }
+    ensures across { result ≡ ok → IsOnlyAcross (tiling_of machine.now) (address_in addr.old) edge
+        (address_in addr.new) back.new }
+    ensures leads_back { result ≡ ok → IsOnlyAcross (tiling_of machine.now) (address_in addr.new) back.new
+        (address_in addr.old) edge }
     ensures names { result ≡ ok → NamesTile (tiling_of machine.now) addr.new }
     ensures inside { result ≡ ok → LiesAlongNone (tiling_of machine.now) (address_in addr.old) edge }
-    ensures outside { result ≡ outside → IsOutside (tiling_of machine.now) (address_in addr.old) edge back.new part.new }
+    ensures outside { result ≡ outside → IsOutside (tiling_of machine.now) (address_in addr.old) edge
+        back.new part.new }
     ensures bad_address { (result ≡ bad_address) ↔ (¬ NamesTile (tiling_of machine.now) addr.old) }
-    ensures no_edge { (result ≡ no_edge) ↔ (NamesTile (tiling_of machine.now) addr.old × (edges_of (tiling_of machine.now) addr.old.kind ≤ edge)) }
+    ensures no_edge { (result ≡ no_edge) ↔ (NamesTile (tiling_of machine.now) addr.old
+        × (edges_of (tiling_of machine.now) addr.old.kind ≤ edge)) }
     ensures unchanged { ¬ result ≡ ok → addr.new ≡ addr.old }
     ensures back_unchanged { ¬ result ≡ ok → ¬ result ≡ outside → back.new ≡ back.old }
     ensures part_unchanged { ¬ result ≡ outside → part.new ≡ part.old }
@@ -70,15 +74,19 @@ pub extern "C" fn tiling_neighbour(
 ) -> u8
     // In the plane, with both tiles placed in their common supertile: the only tile across the edge, and the
     // edge back.
-    ensures across { result ≡ ok → IsOnlyAcross (tiling_of t.rule) (address_in addr.old) edge (address_in addr.new) back.new }
-    ensures leads_back { result ≡ ok → IsOnlyAcross (tiling_of t.rule) (address_in addr.new) back.new (address_in addr.old) edge }
+    ensures across { result ≡ ok → IsOnlyAcross (tiling_of t.rule) (address_in addr.old) edge
+        (address_in addr.new) back.new }
+    ensures leads_back { result ≡ ok → IsOnlyAcross (tiling_of t.rule) (address_in addr.new) back.new
+        (address_in addr.old) edge }
     ensures names { result ≡ ok → NamesTile (tiling_of t.rule) addr.new }
     ensures inside { result ≡ ok → LiesAlongNone (tiling_of t.rule) (address_in addr.old) edge }
 
     // Each refusal comes only for its cause, and leaves the address unchanged.
-    ensures outside { result ≡ outside → IsOutside (tiling_of t.rule) (address_in addr.old) edge back.new part.new }
+    ensures outside { result ≡ outside → IsOutside (tiling_of t.rule) (address_in addr.old) edge back.new
+        part.new }
     ensures bad_address { (result ≡ bad_address) ↔ (¬ NamesTile (tiling_of t.rule) addr.old) }
-    ensures no_edge { (result ≡ no_edge) ↔ (NamesTile (tiling_of t.rule) addr.old × (edges_of (tiling_of t.rule) addr.old.kind ≤ edge)) }
+    ensures no_edge { (result ≡ no_edge) ↔ (NamesTile (tiling_of t.rule) addr.old
+        × (edges_of (tiling_of t.rule) addr.old.kind ≤ edge)) }
     ensures unchanged { ¬ result ≡ ok → addr.new ≡ addr.old }
     ensures back_unchanged { ¬ result ≡ ok → ¬ result ≡ outside → back.new ≡ back.old }
     ensures part_unchanged { ¬ result ≡ outside → part.new ≡ part.old }

@@ -30,8 +30,10 @@ fn put_holder(
 ) -> u8
     requires frame { IsFrameOf (tiling_of machine.now) frame.old }
     requires point_within { IsWithin (2 ^ 22) point.now }
-    ensures holds { result ≡ ok → ShowsHolder (tiling_of machine.now) frame.old (point_in machine.now.order point.now) tile.new addr.new }
-    ensures found { (result ≡ ok) ↔ (first_refused_outward (tiling_of machine.now) frame.old (point_in machine.now.order point.now) ≡ None) }
+    ensures holds { result ≡ ok → ShowsHolder (tiling_of machine.now) frame.old
+        (point_in machine.now.order point.now) tile.new addr.new }
+    ensures found { (result ≡ ok) ↔ (first_refused_outward (tiling_of machine.now) frame.old
+        (point_in machine.now.order point.now) ≡ None) }
     ensures tile_unchanged { ¬ result ≡ ok → tile.new ≡ tile.old }
     ensures address_unchanged { ¬ result ≡ ok → addr.new ≡ addr.old }
     ensures statuses { (result ≡ ok) ⊎ (result ≡ coord_limit) }
@@ -54,14 +56,18 @@ fn at(
     tile: &mut PlainTile,
     addr: &mut PlainAddress,
 ) -> u8
-    ensures holds { result ≡ ok → ShowsHolder (tiling_of machine.now) (frame_in frame.now) (point_in machine.now.order (point_given machine.now.order point.now.c)) tile.new addr.new }
+    ensures holds { result ≡ ok → ShowsHolder (tiling_of machine.now) (frame_in frame.now)
+        (point_in machine.now.order (point_given machine.now.order point.now.c)) tile.new addr.new }
     ensures found { NamesTile (tiling_of machine.now) frame.now.base → IsNearby point.now.c
-        → (result ≡ ok) ↔ (first_refused_outward (tiling_of machine.now) (frame_in frame.now) (point_in machine.now.order (point_given machine.now.order point.now.c)) ≡ None) }
+        → (result ≡ ok) ↔ (first_refused_outward (tiling_of machine.now) (frame_in frame.now)
+        (point_in machine.now.order (point_given machine.now.order point.now.c)) ≡ None) }
     ensures bad_words { (result ≡ bad_words) ↔ (¬ IsNearby point.now.c) }
-    ensures bad_address { (result ≡ bad_address) ↔ (IsNearby point.now.c × (¬ NamesTile (tiling_of machine.now) frame.now.base)) }
+    ensures bad_address { (result ≡ bad_address)
+        ↔ (IsNearby point.now.c × (¬ NamesTile (tiling_of machine.now) frame.now.base)) }
     ensures tile_unchanged { ¬ result ≡ ok → tile.new ≡ tile.old }
     ensures address_unchanged { ¬ result ≡ ok → addr.new ≡ addr.old }
-    ensures statuses { (result ≡ ok) ⊎ (result ≡ bad_words) ⊎ (result ≡ bad_address) ⊎ (result ≡ coord_limit) }
+    ensures statuses { (result ≡ ok) ⊎ (result ≡ bad_words) ⊎ (result ≡ bad_address)
+        ⊎ (result ≡ coord_limit) }
 {
     let Some(point) = point.point(machine.checked().order()) else {
         return BAD_WORDS;
@@ -83,16 +89,20 @@ pub extern "C" fn tiling_at(
 ) -> u8
     // In the plane: this is the only tile of the frame that holds the point, at the least depth at which the
     // frame holds it.
-    ensures holds { result ≡ ok → ShowsHolder (tiling_of t.rule) (frame_in frame.now) (point_in t.rule.order (point_given t.rule.order point.now.c)) tile.new addr.new }
+    ensures holds { result ≡ ok → ShowsHolder (tiling_of t.rule) (frame_in frame.now)
+        (point_in t.rule.order (point_given t.rule.order point.now.c)) tile.new addr.new }
 
     // Each refusal comes only for its cause. `coord_limit` comes exactly if a value on the way is refused.
     ensures found { NamesTile (tiling_of t.rule) frame.now.base → IsNearby point.now.c
-        → (result ≡ ok) ↔ (first_refused_outward (tiling_of t.rule) (frame_in frame.now) (point_in t.rule.order (point_given t.rule.order point.now.c)) ≡ None) }
+        → (result ≡ ok) ↔ (first_refused_outward (tiling_of t.rule) (frame_in frame.now)
+        (point_in t.rule.order (point_given t.rule.order point.now.c)) ≡ None) }
     ensures bad_words { (result ≡ bad_words) ↔ (¬ IsNearby point.now.c) }
-    ensures bad_address { (result ≡ bad_address) ↔ (IsNearby point.now.c × (¬ NamesTile (tiling_of t.rule) frame.now.base)) }
+    ensures bad_address { (result ≡ bad_address)
+        ↔ (IsNearby point.now.c × (¬ NamesTile (tiling_of t.rule) frame.now.base)) }
     ensures tile_unchanged { ¬ result ≡ ok → tile.new ≡ tile.old }
     ensures address_unchanged { ¬ result ≡ ok → addr.new ≡ addr.old }
-    ensures statuses { (result ≡ ok) ⊎ (result ≡ bad_words) ⊎ (result ≡ bad_address) ⊎ (result ≡ coord_limit) }
+    ensures statuses { (result ≡ ok) ⊎ (result ≡ bad_words) ⊎ (result ≡ bad_address)
+        ⊎ (result ≡ coord_limit) }
 {
     at(t.get(), frame, point, tile, addr)
 }

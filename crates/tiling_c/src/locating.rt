@@ -35,7 +35,8 @@ fn put_located(
     requires at_within { IsWithin (2 ^ 24) at.now.shift }
     requires at_in_order { IsOf machine.now.order at.now.shift }
     requires point_within { IsWithin (2 ^ 24) point.now }
-    ensures located { result ≡ ok → ShowsLocated (tiling_of machine.now) kind depth (motion_in machine.now.order at.now)
+    ensures located { result ≡ ok → ShowsLocated (tiling_of machine.now) kind depth
+        (motion_in machine.now.order at.now)
         (point_in machine.now.order point.now) tile.new addr.new }
     ensures by { IsLocatedBy (tiling_of machine.now) kind depth (motion_in machine.now.order at.now)
         (point_in machine.now.order point.now) result }
@@ -63,12 +64,15 @@ pub fn locate(
     tile: &mut PlainTile,
     addr: &mut PlainAddress,
 ) -> u8
-    ensures located { result ≡ ok → ShowsLocated (tiling_of machine.now) top.now.kind depth (motion_given (tiling_of machine.now) top.now)
+    ensures located { result ≡ ok → ShowsLocated (tiling_of machine.now) top.now.kind depth
+        (motion_given (tiling_of machine.now) top.now)
         (number_given (tiling_of machine.now) point.now) tile.new addr.new }
     ensures by { AsksToLocate (tiling_of machine.now) top.now depth point.now
-        → IsLocatedBy (tiling_of machine.now) top.now.kind depth (motion_given (tiling_of machine.now) top.now)
+        → IsLocatedBy (tiling_of machine.now) top.now.kind depth
+        (motion_given (tiling_of machine.now) top.now)
         (number_given (tiling_of machine.now) point.now) result }
-    ensures bad_words { (result ≡ bad_words) ↔ (¬ AsksToLocate (tiling_of machine.now) top.now depth point.now) }
+    ensures bad_words { (result ≡ bad_words) ↔ (¬ AsksToLocate (tiling_of machine.now) top.now depth
+        point.now) }
     ensures tile_unchanged { ¬ result ≡ ok → tile.new ≡ tile.old }
     ensures address_unchanged { ¬ result ≡ ok → addr.new ≡ addr.old }
     ensures statuses { (result ≡ ok) ⊎ (result ≡ bad_words) ⊎ (result ≡ coord_limit) ⊎ (result ≡ outside) }
@@ -100,7 +104,8 @@ pub extern "C" fn tiling_locate(
     addr: &mut PlainAddress,
 ) -> u8
     // In the plane: this is the only tile of the supertile that holds the point.
-    ensures located { result ≡ ok → ShowsLocated (tiling_of t.rule) top.now.kind depth (motion_given (tiling_of t.rule) top.now)
+    ensures located { result ≡ ok → ShowsLocated (tiling_of t.rule) top.now.kind depth
+        (motion_given (tiling_of t.rule) top.now)
         (number_given (tiling_of t.rule) point.now) tile.new addr.new }
 
     // Each refusal comes only for its cause.

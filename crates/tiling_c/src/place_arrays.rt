@@ -26,7 +26,8 @@ fn place_of(machine: &Machine, addr: &PlainAddress) -> PlainTile
 
 /// Puts where each tile lies.
 pub fn put_places(machine: &Machine, addrs: &[PlainAddress], tiles: &mut [PlainTile]) -> u8
-    ensures each { result ≡ ok → (i : ℕ) → i < length addrs.now → ShowsPlace (tiling_of machine.now) (address_at addrs.now i) (tile_at tiles.new i) }
+    ensures each { result ≡ ok → (i : ℕ) → i < length addrs.now
+        → ShowsPlace (tiling_of machine.now) (address_at addrs.now i) (tile_at tiles.new i) }
     ensures bad_words { (result ≡ bad_words) ↔ (¬ length addrs.now ≡ length tiles.old) }
     ensures unchanged { ¬ result ≡ ok → tiles.new ≡ tiles.old }
     ensures statuses { (result ≡ ok) ⊎ (result ≡ bad_words) }
@@ -48,7 +49,8 @@ pub extern "C" fn tiling_place_all(
     addrs: &[PlainAddress],
     tiles: &mut [PlainTile],
 ) -> u8
-    ensures each { result ≡ ok → (i : ℕ) → i < length addrs.now → ShowsPlace (tiling_of t.rule) (address_at addrs.now i) (tile_at tiles.new i) }
+    ensures each { result ≡ ok → (i : ℕ) → i < length addrs.now
+        → ShowsPlace (tiling_of t.rule) (address_at addrs.now i) (tile_at tiles.new i) }
     ensures bad_words { (result ≡ bad_words) ↔ (¬ length addrs.now ≡ length tiles.old) }
     ensures unchanged { ¬ result ≡ ok → tiles.new ≡ tiles.old }
     ensures statuses { (result ≡ ok) ⊎ (result ≡ bad_words) }

@@ -17,13 +17,15 @@ use tile_place::machine::Machine;
 
 /// Puts into `out` where a tile of a machine's rule lies.
 pub fn put_place(machine: &Machine, addr: &PlainAddress, out: &mut PlainTile) -> u8
-    ensures placed { result ≡ ok → IsPlaced (tiling_of machine.now) (address_in addr.now) (motion_in machine.now.order (motion_of out.new)) }
+    ensures placed { result ≡ ok → IsPlaced (tiling_of machine.now) (address_in addr.now)
+        (motion_in machine.now.order (motion_of out.new)) }
     ensures plain { result ≡ ok → out.new ≡ tile_as addr.now.kind (motion_of out.new) 0 }
     ensures turn_below { result ≡ ok → out.new.turn < (points_of machine.now.order).order }
     ensures in_order { result ≡ ok → IsOf machine.now.order (motion_of out.new).shift }
     ensures within { result ≡ ok → first_refused (tiling_of machine.now) (address_in addr.now).digits ≡ None }
     ensures bad_address { (result ≡ bad_address) ↔ (¬ NamesTile (tiling_of machine.now) addr.now) }
-    ensures coord_limit { result ≡ coord_limit → IsSome (first_refused (tiling_of machine.now) (address_in addr.now).digits) }
+    ensures coord_limit { result ≡ coord_limit
+        → IsSome (first_refused (tiling_of machine.now) (address_in addr.now).digits) }
     ensures unchanged { ¬ result ≡ ok → out.new ≡ out.old }
     ensures statuses { (result ≡ ok) ⊎ (result ≡ bad_address) ⊎ (result ≡ coord_limit) }
 {
@@ -44,7 +46,8 @@ pub fn put_place(machine: &Machine, addr: &PlainAddress, out: &mut PlainTile) ->
 pub extern "C" fn tiling_place(t: SharedMachine, addr: &PlainAddress, out: &mut PlainTile) -> u8
     // The tile's motion in the supertile that its address names. The shift's coefficients are those of the
     // order, and no value of Horner's scheme is refused.
-    ensures placed { result ≡ ok → IsPlaced (tiling_of t.rule) (address_in addr.now) (motion_in t.rule.order (motion_of out.new)) }
+    ensures placed { result ≡ ok → IsPlaced (tiling_of t.rule) (address_in addr.now)
+        (motion_in t.rule.order (motion_of out.new)) }
     ensures plain { result ≡ ok → out.new ≡ tile_as addr.now.kind (motion_of out.new) 0 }
     ensures turn_below { result ≡ ok → out.new.turn < (points_of t.rule.order).order }
     ensures in_order { result ≡ ok → IsOf t.rule.order (motion_of out.new).shift }
@@ -52,7 +55,8 @@ pub extern "C" fn tiling_place(t: SharedMachine, addr: &PlainAddress, out: &mut 
 
     // Each refusal comes only for its cause, and leaves `out` unchanged.
     ensures bad_address { (result ≡ bad_address) ↔ (¬ NamesTile (tiling_of t.rule) addr.now) }
-    ensures coord_limit { result ≡ coord_limit → IsSome (first_refused (tiling_of t.rule) (address_in addr.now).digits) }
+    ensures coord_limit { result ≡ coord_limit
+        → IsSome (first_refused (tiling_of t.rule) (address_in addr.now).digits) }
     ensures unchanged { ¬ result ≡ ok → out.new ≡ out.old }
     ensures statuses { (result ≡ ok) ⊎ (result ≡ bad_address) ⊎ (result ≡ coord_limit) }
 {

@@ -4,7 +4,7 @@ ghost use Rattle.std.specs.Prelude.{◌≡◌, ◌↔◌, ◌⊎◌, ◌<◌, �
 ghost use Rattle.rule_model.specs.Glue.{IsGlueEdge, IsOnlyGlueEdge};
 ghost use Rattle.rule_model.specs.Tiling.{tiling_of};
 ghost use Rattle.rule_model.specs.Views.{as_rule, rule_of};
-ghost use Rattle.substitution.specs.RuleParts.{vertices_of};
+ghost use Rattle.theory_substitution.specs.RuleParts.{vertices_of};
 ghost use Rattle.tile_place.specs.Corners.{AreCorners};
 ghost use Rattle.tile_place.specs.Crossed.{edges_of};
 ghost use Rattle.c_values.specs.Outlines.{corners_in};
@@ -85,7 +85,8 @@ pub extern "C" fn tiling_prototile(t: SharedMachine, kind: u8, out: &mut PlainOu
 /// Puts the edge along which a kind of a machine's rule is glued to another half.
 pub fn put_glue_edge(machine: &Machine, kind: u8, edge: &mut u8) -> u8
     ensures only { result ≡ ok → IsOnlyGlueEdge (rule_of machine.now) kind edge.new }
-    ensures no_edge { (result ≡ no_edge) ↔ (HasKind (tiling_of machine.now) kind × ((e : ℕ) → ¬ IsGlueEdge (rule_of machine.now) kind e)) }
+    ensures no_edge { (result ≡ no_edge) ↔ (HasKind (tiling_of machine.now) kind
+        × ((e : ℕ) → ¬ IsGlueEdge (rule_of machine.now) kind e)) }
     ensures bad_words { (result ≡ bad_words) ↔ (¬ HasKind (tiling_of machine.now) kind) }
     ensures unchanged { ¬ result ≡ ok → edge.new ≡ edge.old }
     ensures statuses { (result ≡ ok) ⊎ (result ≡ bad_words) ⊎ (result ≡ no_edge) }
@@ -106,7 +107,8 @@ pub fn put_glue_edge(machine: &Machine, kind: u8, edge: &mut u8) -> u8
 #[unsafe(no_mangle)]
 pub extern "C" fn tiling_glue_edge(t: SharedMachine, kind: u8, edge: &mut u8) -> u8
     ensures only { result ≡ ok → IsOnlyGlueEdge (rule_of t.rule) kind edge.new }
-    ensures no_edge { (result ≡ no_edge) ↔ (HasKind (tiling_of t.rule) kind × ((e : ℕ) → ¬ IsGlueEdge (rule_of t.rule) kind e)) }
+    ensures no_edge { (result ≡ no_edge) ↔ (HasKind (tiling_of t.rule) kind
+        × ((e : ℕ) → ¬ IsGlueEdge (rule_of t.rule) kind e)) }
     ensures bad_words { (result ≡ bad_words) ↔ (¬ HasKind (tiling_of t.rule) kind) }
     ensures unchanged { ¬ result ≡ ok → edge.new ≡ edge.old }
     ensures statuses { (result ≡ ok) ⊎ (result ≡ bad_words) ⊎ (result ≡ no_edge) }
@@ -116,7 +118,8 @@ pub extern "C" fn tiling_glue_edge(t: SharedMachine, kind: u8, edge: &mut u8) ->
 
 /// Puts the corners of a tile of a machine's rule.
 pub fn put_corners(machine: &Machine, tile: &PlainTile, out: &mut PlainOutline) -> u8
-    ensures corners { result ≡ ok → AreCorners (tiling_of machine.now) tile.now.kind (motion_of tile.now) (corners_in out.new) }
+    ensures corners { result ≡ ok → AreCorners (tiling_of machine.now) tile.now.kind (motion_of tile.now)
+        (corners_in out.new) }
     ensures bad_words { (result ≡ bad_words) ↔ (¬ IsTile (tiling_of machine.now) tile.now) }
     ensures unchanged { ¬ result ≡ ok → out.new ≡ out.old }
     ensures statuses { (result ≡ ok) ⊎ (result ≡ bad_words) }
@@ -137,7 +140,8 @@ pub fn put_corners(machine: &Machine, tile: &PlainTile, out: &mut PlainOutline) 
 #[unsafe(no_mangle)]
 pub extern "C" fn tiling_corners(t: SharedMachine, tile: &PlainTile, out: &mut PlainOutline) -> u8
     // Each corner is the vertex with the same number of the prototile, moved by the tile's motion.
-    ensures corners { result ≡ ok → AreCorners (tiling_of t.rule) tile.now.kind (motion_of tile.now) (corners_in out.new) }
+    ensures corners { result ≡ ok → AreCorners (tiling_of t.rule) tile.now.kind (motion_of tile.now)
+        (corners_in out.new) }
     ensures bad_words { (result ≡ bad_words) ↔ (¬ IsTile (tiling_of t.rule) tile.now) }
     ensures unchanged { ¬ result ≡ ok → out.new ≡ out.old }
     ensures statuses { (result ≡ ok) ⊎ (result ≡ bad_words) }

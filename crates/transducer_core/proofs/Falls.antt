@@ -5,13 +5,13 @@ use Rattle.std.proofs.lemmas.Option.{slice_get_within, get_or_from_slice_get}
 use Rattle.std.proofs.lemmas.List.{length-map, map-set}
 use Rattle.tile_shape.specs.declared.step.Step as program
 use Rattle.tile_shape.specs.Views.{step_of}
-use Rattle.addressing.specs.Address.{Address, Step, Fits}
-use Rattle.addressing.specs.Coherent.{IsCoherent}
-use Rattle.addressing.specs.Tables.{Tables, child_kinds, child_kind_of, part_count, type_of}
-use Rattle.addressing.specs.Touch.{Touches}
-use Rattle.addressing.proofs.Chains.{IsChain, IsChain-at, chain_of, fits_of}
-use Rattle.addressing.proofs.TableBounds.{child_bounds}
-use Rattle.addressing.proofs.Touching.{Touches-of}
+use Rattle.theory_addresses.specs.Address.{Address, Step, Fits}
+use Rattle.theory_addresses.specs.Coherent.{IsCoherent}
+use Rattle.theory_addresses.specs.Tables.{Tables, child_kinds, child_kind_of, part_count, type_of}
+use Rattle.theory_addresses.specs.Touch.{Touches}
+use Rattle.theory_addresses.proofs.Chains.{IsChain, IsChain-at, chain_of, fits_of}
+use Rattle.theory_addresses.proofs.TableBounds.{child_bounds}
+use Rattle.theory_addresses.proofs.Touching.{Touches-of}
 use Rattle.transducer_core.specs.declared.climb.Meeting.{Meeting}
 use Rattle.transducer_core.specs.declared.descent.Side.{Side}
 use Rattle.transducer_core.specs.Descending.{StartsDown, GoesDown}
@@ -24,10 +24,13 @@ use Rattle.transducer_core.proofs.Rising.{MetAt, met_of, digit_read}
 abbrev at_address : ℕ → List Step → Address
 at_address k xs = record { kind = k; digits = xs }
 
-met_at : (t : Tables) (k : ℕ) (xs : List Step) (e : ℕ) (m : Meeting) (parts : List ℕ) → StartsDown t (record { kind = k; digits = xs }) e m parts → MetAt t xs e m.level (m.word % 256) (m.word / 256 % 256) parts
+met_at : (t : Tables) (k : ℕ) (xs : List Step) (e : ℕ) (m : Meeting) (parts : List ℕ)
+    → StartsDown t (record { kind = k; digits = xs }) e m parts
+    → MetAt t xs e m.level (m.word % 256) (m.word / 256 % 256) parts
 met_at t k xs e m parts s = met_of (at_address k xs) s.meets
 
-chain_at : (t : Tables) (k : ℕ) (xs : List Step) (e : ℕ) (m : Meeting) (parts : List ℕ) → StartsDown t (record { kind = k; digits = xs }) e m parts → IsChain t k xs
+chain_at : (t : Tables) (k : ℕ) (xs : List Step) (e : ℕ) (m : Meeting) (parts : List ℕ)
+    → StartsDown t (record { kind = k; digits = xs }) e m parts → IsChain t k xs
 chain_at t k xs e m parts s = chain_of t (at_address k xs) s.fits
 
 -- the descent has come down to a level, at a side whose row is 256 times its kind
@@ -36,33 +39,44 @@ pub record Down (t : Tables) (xs : List Step) (m : Meeting) (parts : List ℕ) (
   pub chain : IsChain t (side.row / 256) (drop i ys)
   pub halfway : (k e : ℕ) → StartsDown t (record { kind = k; digits = xs }) e m parts → Halfway.Halfway t k xs e parts i ys (side.row / 256) side.edge
 
-module _ (t : Tables) (xs : List Step) (m : Meeting) (parts starts words kinds : List ℕ) (coherent : IsCoherent t) (begin : AllBegin (part_rows t) starts words) (spread : AreSpread (kind_rows t) kinds)
+module _ (t : Tables) (xs : List Step) (m : Meeting) (parts starts words kinds : List ℕ)
+    (coherent : IsCoherent t) (begin : AllBegin (part_rows t) starts words)
+    (spread : AreSpread (kind_rows t) kinds)
     (some : (k : ℕ) × (e : ℕ) × StartsDown t (record { kind = k; digits = xs }) e m parts) where
   -- ---- the meeting
   first_child : (s : Step) → slice_get xs m.level ≡ Some s → IsSome (child_kind_of t s.parent (m.word % 256))
   first_child s is =
-      Halfway.start_child t some.0 xs some.1 m.level (m.word % 256) (m.word / 256 % 256) parts s coherent (chain_at t some.0 xs some.1 m parts some.2) some.2.edge_exists (met_at t some.0 xs some.1 m parts some.2) is
+      Halfway.start_child t some.0 xs some.1 m.level (m.word % 256) (m.word / 256 % 256) parts s coherent
+      (chain_at t some.0 xs some.1 m parts some.2) some.2.edge_exists
+      (met_at t some.0 xs some.1 m parts some.2) is
 
   pub first_there : (s : Step) → slice_get xs m.level ≡ Some s → (row : ℕ) × (slice_get kinds (256 * s.parent + m.word % 256) ≡ Some row)
   first_there s is = FlatLooks.kind_there t kinds coherent spread s.parent (m.word % 256) (first_child s is)
 
-  pub first : (s : Step) (ys : List Step) (side : Side) → slice_get xs m.level ≡ Some s → slice_get kinds (256 * s.parent + m.word % 256) ≡ Some side.row → side.edge ≡ m.word / 256 % 256
+  pub first : (s : Step) (ys : List Step) (side : Side) → slice_get xs m.level ≡ Some s
+      → slice_get kinds (256 * s.parent + m.word % 256) ≡ Some side.row → side.edge ≡ m.word / 256 % 256
       → ys ≡ set xs m.level (record { child = m.word % 256; parent = s.parent }) → m.level < length xs → Down t xs m parts m.level ys side
   first s ys side is kind edge written inside =
       let read = FlatLooks.kind_read t kinds coherent spread s.parent (m.word % 256) side.row (first_child s is) kind in
       let below = Halfway.written xs ys m.level (record { child = m.word % 256; parent = s.parent }) written inside in
       record {
         row = read.1;
-        chain = Halfway.start_fits t some.0 xs m.level (m.word % 256) ys s (side.row / 256) (chain_at t some.0 xs some.1 m parts some.2) is read.0 below;
+        chain = Halfway.start_fits t some.0 xs m.level (m.word % 256) ys s (side.row / 256)
+            (chain_at t some.0 xs some.1 m parts some.2) is read.0 below;
         halfway = λ k e starts. rw edge
-            (Halfway.start t k xs e m.level (m.word % 256) (m.word / 256 % 256) parts ys s (side.row / 256) coherent (chain_at t k xs e m parts starts) starts.edge_exists (met_at t k xs e m parts starts) is read.0 below);
+            (Halfway.start t k xs e m.level (m.word % 256) (m.word / 256 % 256) parts ys s (side.row / 256)
+            coherent (chain_at t k xs e m parts starts) starts.edge_exists
+            (met_at t k xs e m parts starts) is read.0 below);
       }
 
   -- ---- one level
-  onward : (k e i n : ℕ) (ys : List Step) (side : Side) → i < m.level → n ≡ i + 1 → StartsDown t (record { kind = k; digits = xs }) e m parts → Down t xs m parts n ys side
+  onward : (k e i n : ℕ) (ys : List Step) (side : Side) → i < m.level → n ≡ i + 1
+      → StartsDown t (record { kind = k; digits = xs }) e m parts → Down t xs m parts n ys side
       → Halfway.Onward t k xs e parts i ys (side.row / 256) side.edge
   onward k e i n ys side below more starts d =
-      Halfway.onward t k xs e m.level (m.word % 256) (m.word / 256 % 256) parts i n ys (side.row / 256) side.edge coherent (chain_at t k xs e m parts starts) (met_at t k xs e m parts starts) below more (d.halfway k e starts)
+      Halfway.onward t k xs e m.level (m.word % 256) (m.word / 256 % 256) parts i n ys (side.row / 256)
+      side.edge coherent (chain_at t k xs e m parts starts) (met_at t k xs e m parts starts) below more
+      (d.halfway k e starts)
 
   -- the part that is looked up, by its number on the own side
   child_there : (i n : ℕ) (ys : List Step) (side : Side) (word : ℕ) → i < m.level → n ≡ i + 1 → Down t xs m parts n ys side
@@ -71,10 +85,13 @@ module _ (t : Tables) (xs : List Step) (m : Meeting) (parts starts words kinds :
       let o = onward some.0 some.1 i n ys side below more some.2 d in
       let q = part_count t (side.row / 256) side.edge - 1 - get_or parts i 0 in
       let mirror : q + (get_or parts i 0 + 1) ≡ part_count t (side.row / 256) side.edge = omega (arith, o.inside) in
-      o.child q (record { child = word % 256; edge = word / 256 }) mirror (FlatLooks.part_across_edge t starts words coherent begin (side.row / 256) side.edge (get_or parts i 0) word entry q mirror)
+      o.child q (record { child = word % 256; edge = word / 256 }) mirror
+      (FlatLooks.part_across_edge t starts words coherent begin (side.row / 256) side.edge
+      (get_or parts i 0) word entry q mirror)
 
   pub there : (i n : ℕ) (ys : List Step) (side : Side) → i < m.level → n ≡ i + 1 → Down t xs m parts n ys side
-      → (word : ℕ) × (row : ℕ) × HasEntry starts words (side.row + side.edge) (get_or parts i 0) word × (slice_get kinds (side.row + word % 256) ≡ Some row) × (side.row + word % 256 < 2 ^ 16)
+      → (word : ℕ) × (row : ℕ) × HasEntry starts words (side.row + side.edge) (get_or parts i 0) word
+      × (slice_get kinds (side.row + word % 256) ≡ Some row) × (side.row + word % 256 < 2 ^ 16)
   there i n ys side below more d =
       let o = onward some.0 some.1 i n ys side below more some.2 d in
       let w = FlatLooks.part_across_there t starts words coherent begin (side.row / 256) side.edge (get_or parts i 0) o.inside in
@@ -87,41 +104,53 @@ module _ (t : Tables) (xs : List Step) (m : Meeting) (parts starts words kinds :
         omega (arith, d.row, (child_bounds t (side.row / 256) (w.0 % 256) child).0, coherent.at_most_16_kinds),
       )
 
-  pub down : (i n : ℕ) (ys zs : List Step) (side : Side) (digit : program.Step) (below : Side) → i < m.level → n ≡ i + 1 → i < length ys → Down t xs m parts n ys side
+  pub down : (i n : ℕ) (ys zs : List Step) (side : Side) (digit : program.Step) (below : Side) → i < m.level
+      → n ≡ i + 1 → i < length ys → Down t xs m parts n ys side
       → GoesDown starts words kinds side (get_or parts i 0) digit below → zs ≡ set ys i (step_of digit) → Down t xs m parts i zs below
   down i n ys zs side digit below lower more inside d g written =
-      let entry : HasEntry starts words (256 * (side.row / 256) + side.edge) (get_or parts i 0) g.word = subst (λ r. HasEntry starts words (r + side.edge) (get_or parts i 0) g.word) d.row g.entry in
+      let entry : HasEntry starts words (256 * (side.row / 256) + side.edge) (get_or parts i 0) g.word = subst
+      (λ r. HasEntry starts words (r + side.edge) (get_or parts i 0) g.word) d.row g.entry in
       let child = child_there i n ys side g.word lower more d entry in
-      let kind : slice_get kinds (256 * (side.row / 256) + g.word % 256) ≡ Some below.row = ap (λ r. slice_get kinds (r + g.word % 256)) (sym d.row) ∙ g.kind_is in
+      let kind : slice_get kinds (256 * (side.row / 256) + g.word % 256) ≡ Some below.row = ap
+      (λ r. slice_get kinds (r + g.word % 256)) (sym d.row) ∙ g.kind_is in
       let read = FlatLooks.kind_read t kinds coherent spread (side.row / 256) (g.word % 256) below.row child kind in
       let its_child : (side.row + g.word % 256) % 256 ≡ g.word % 256 = omega (arith, d.row) in
       let its_parent : (side.row + g.word % 256) / 256 ≡ side.row / 256 = omega (arith, d.row) in
-      let is : step_of digit ≡ record { child = g.word % 256; parent = side.row / 256 } = ap step_of g.digit_is ∙ (λ j. record { child = its_child j; parent = its_parent j }) in
+      let is : step_of digit ≡ record { child = g.word % 256; parent = side.row / 256 } = ap step_of
+      g.digit_is ∙ (λ j. record { child = its_child j; parent = its_parent j }) in
       let under = Halfway.written ys zs i (record { child = g.word % 256; parent = side.row / 256 }) (written ∙ ap (set ys i) is) inside in
       let q = part_count t (side.row / 256) side.edge - 1 - get_or parts i 0 in
-      let mirror : q + (get_or parts i 0 + 1) ≡ part_count t (side.row / 256) side.edge = omega (arith, (onward some.0 some.1 i n ys side lower more some.2 d).inside) in
+      let mirror : q + (get_or parts i 0 + 1) ≡ part_count t (side.row / 256) side.edge = omega
+      (arith, (onward some.0 some.1 i n ys side lower more some.2 d).inside) in
       let part = FlatLooks.part_across_edge t starts words coherent begin (side.row / 256) side.edge (get_or parts i 0) g.word entry q mirror in
       record {
         row = read.1;
         chain = rw (under, ← more) (read.0, d.chain);
         halfway = λ k e starts. rw g.edge_is
-            ((onward k e i n ys side lower more starts d).more q (record { child = g.word % 256; edge = g.word / 256 }) (below.row / 256) zs mirror part read.0 under);
+            ((onward k e i n ys side lower more starts d).more q
+            (record { child = g.word % 256; edge = g.word / 256 }) (below.row / 256) zs mirror part read.0
+            under);
       }
 
   -- ---- at the fine end
-  pub touches : (i : ℕ) (ys : List Step) (side : Side) → i ≡ 0 → Down t xs m parts i ys side → (k e : ℕ) → StartsDown t (record { kind = k; digits = xs }) e m parts
+  pub touches : (i : ℕ) (ys : List Step) (side : Side) → i ≡ 0 → Down t xs m parts i ys side → (k e : ℕ)
+      → StartsDown t (record { kind = k; digits = xs }) e m parts
       → Touches t (record { kind = k; digits = xs }) e (record { kind = side.row / 256; digits = ys }) side.edge
   touches i ys side none d k e starts =
-      Touches-of (at_address k xs) (at_address (side.row / 256) ys) (Halfway.landed t k xs e parts i ys (side.row / 256) side.edge none (d.halfway k e starts))
+      Touches-of (at_address k xs) (at_address (side.row / 256) ys)
+      (Halfway.landed t k xs e parts i ys (side.row / 256) side.edge none (d.halfway k e starts))
 
-  pub fits : (i : ℕ) (ys : List Step) (side : Side) → i ≡ 0 → Down t xs m parts i ys side → Fits (child_kinds t) (record { kind = side.row / 256; digits = ys })
+  pub fits : (i : ℕ) (ys : List Step) (side : Side) → i ≡ 0 → Down t xs m parts i ys side
+      → Fits (child_kinds t) (record { kind = side.row / 256; digits = ys })
   fits i ys side none d = fits_of t (side.row / 256) ys coherent (rw none at d.chain)
 
   pub edge : (i : ℕ) (ys : List Step) (side : Side) → Down t xs m parts i ys side → IsSome (type_of t (side.row / 256) side.edge)
   edge i ys side d = Halfway.half_edge t some.0 xs some.1 parts i ys (side.row / 256) side.edge (d.halfway some.0 some.1 some.2)
 
 -- ---- over the program's digits
-module _ (t : Tables) (digits : List program.Step) (m : Meeting) (parts starts words kinds : List ℕ) (coherent : IsCoherent t) (begin : AllBegin (part_rows t) starts words) (spread : AreSpread (kind_rows t) kinds)
+module _ (t : Tables) (digits : List program.Step) (m : Meeting) (parts starts words kinds : List ℕ)
+    (coherent : IsCoherent t) (begin : AllBegin (part_rows t) starts words)
+    (spread : AreSpread (kind_rows t) kinds)
     (some : (k : ℕ) × (e : ℕ) × StartsDown t (record { kind = k; digits = map step_of digits }) e m parts) where
   pub inside : m.level < length digits
   inside = omega (arith, slice_get_within (map step_of digits) m.level some.2.meets.step some.2.meets.digit, length-map digits step_of)
@@ -137,13 +166,15 @@ module _ (t : Tables) (digits : List program.Step) (m : Meeting) (parts starts w
   met_parent =
       let two : Some some.2.meets.step ≡ Some (step_of met_digit) = sym some.2.meets.digit ∙ met_digit_is in
       let one : some.2.meets.step ≡ step_of met_digit = cc in
-      let child = IsChain-at t some.0 (map step_of digits) m.level some.2.meets.step (chain_at t some.0 (map step_of digits) some.1 m parts some.2) some.2.meets.digit in
+      let child = IsChain-at t some.0 (map step_of digits) m.level some.2.meets.step
+      (chain_at t some.0 (map step_of digits) some.1 m parts some.2) some.2.meets.digit in
       let b = child_bounds t some.2.meets.step.parent some.2.meets.step.child (rw child.0 refl) in
       omega (arith, some.2.meets.at_is, ap (λ (s : Step). s.parent) one, b.1, coherent.at_most_16_children some.2.meets.step.parent b.0)
 
   pub parent_small : m.at / 256 < 256
   parent_small =
-      let child = IsChain-at t some.0 (map step_of digits) m.level some.2.meets.step (chain_at t some.0 (map step_of digits) some.1 m parts some.2) some.2.meets.digit in
+      let child = IsChain-at t some.0 (map step_of digits) m.level some.2.meets.step
+      (chain_at t some.0 (map step_of digits) some.1 m parts some.2) some.2.meets.digit in
       let b = child_bounds t some.2.meets.step.parent some.2.meets.step.child (rw child.0 refl) in
       omega (arith, some.2.meets.at_is, b.0, coherent.at_most_16_kinds, b.1, coherent.at_most_16_children some.2.meets.step.parent b.0)
 
@@ -153,21 +184,31 @@ module _ (t : Tables) (digits : List program.Step) (m : Meeting) (parts starts w
       let same : cell ≡ 256 * met_digit.parent + m.word % 256 = omega (arith, is, at, met_parent) in
       (there.0, ap (slice_get kinds) same ∙ there.1)
 
-  pub begun : (child own cell row d : ℕ) → child ≡ m.word % 256 → own ≡ m.word / 256 % 256 → cell ≡ 256 * (m.at / 256) + child → row ≡ get_or kinds cell d
-      → Down t (map step_of digits) m parts m.level (map step_of (set digits m.level (record { child = child; parent = m.at / 256 }))) (record { row = row; edge = own })
+  pub begun : (child own cell row d : ℕ) → child ≡ m.word % 256 → own ≡ m.word / 256 % 256
+      → cell ≡ 256 * (m.at / 256) + child → row ≡ get_or kinds cell d
+      → Down t (map step_of digits) m parts m.level
+      (map step_of (set digits m.level (record { child = child; parent = m.at / 256 })))
+      (record { row = row; edge = own })
   begun child own cell row d child_is edge_is at row_is =
       let there = cell_there child cell child_is at in
       let same : cell ≡ 256 * met_digit.parent + m.word % 256 = omega (arith, child_is, at, met_parent) in
       let read : row ≡ there.0 = row_is ∙ get_or_from_slice_get kinds cell there.0 d there.1 in
-      let kind : slice_get kinds (256 * met_digit.parent + m.word % 256) ≡ Some row = ap (slice_get kinds) (sym same) ∙ there.1 ∙ ap Some (sym read) in
-      let written : map step_of (set digits m.level (record { child = child; parent = m.at / 256 })) ≡ set (map step_of digits) m.level (record { child = m.word % 256; parent = met_digit.parent }) =
-      map-set step_of digits m.level (record { child = child; parent = m.at / 256 }) ∙ (λ j. set (map step_of digits) m.level (record { child = child_is j; parent = met_parent j })) in
-      first t (map step_of digits) m parts starts words kinds coherent begin spread some (step_of met_digit) (map step_of (set digits m.level (record { child = child; parent = m.at / 256 }))) (record { row = row; edge = own })
+      let kind : slice_get kinds (256 * met_digit.parent + m.word % 256) ≡ Some row = ap (slice_get kinds)
+      (sym same) ∙ there.1 ∙ ap Some (sym read) in
+      let written : map step_of (set digits m.level (record { child = child; parent = m.at / 256 })) ≡ set
+      (map step_of digits) m.level (record { child = m.word % 256; parent = met_digit.parent }) =
+      map-set step_of digits m.level (record { child = child; parent = m.at / 256 })
+      ∙ (λ j. set (map step_of digits) m.level (record { child = child_is j; parent = met_parent j })) in
+      first t (map step_of digits) m parts starts words kinds coherent begin spread some (step_of met_digit)
+      (map step_of (set digits m.level (record { child = child; parent = m.at / 256 })))
+      (record { row = row; edge = own })
       met_digit_is kind edge_is written (omega (arith, inside, length-map digits step_of))
 
-  pub written_down : (i n : ℕ) (before : List program.Step) (side : Side) (digit : program.Step) (below : Side) → i < m.level → n ≡ i + 1 → length before ≡ length digits
+  pub written_down : (i n : ℕ) (before : List program.Step) (side : Side) (digit : program.Step)
+      (below : Side) → i < m.level → n ≡ i + 1 → length before ≡ length digits
       → Down t (map step_of digits) m parts n (map step_of before) side → GoesDown starts words kinds side (get_or parts i 0) digit below
       → Down t (map step_of digits) m parts i (map step_of (set before i digit)) below
   written_down i n before side digit below lower more count d g =
-      down t (map step_of digits) m parts starts words kinds coherent begin spread some i n (map step_of before) (map step_of (set before i digit)) side digit below lower more
+      down t (map step_of digits) m parts starts words kinds coherent begin spread some i n
+      (map step_of before) (map step_of (set before i digit)) side digit below lower more
       (omega (arith, lower, inside, count, length-map before step_of)) d g (map-set step_of before i digit)

@@ -4,11 +4,11 @@ use Rattle.std.specs.List.{slice_get}
 use Rattle.std.proofs.lemmas.Bool.{le-ltb, lt-ltb}
 use Rattle.std.proofs.lemmas.Option.{slice_get_within, slice_get-get_or, get_or_from_slice_get}
 use Rattle.std.proofs.lemmas.List.{length-map, length-reverse, get_or-reverse}
-use Rattle.addressing.specs.Coherent.{IsCoherent}
-use Rattle.addressing.specs.Contact.{Contact, ChildEdge, inner, outer}
-use Rattle.addressing.specs.Tables.{Tables, KindTables, kind_tables, child_kinds, type_of, child_kind_of, contacts_of, parts_of, contact_of, part_of, part_count}
-use Rattle.addressing.proofs.Ranges.{slice_get-append_left, slice_get-image}
-use Rattle.addressing.proofs.TableBounds.{some_within, contact_bounds, part_bounds, child_bounds, type_bounds, part_count-within, some_of, part_there}
+use Rattle.theory_addresses.specs.Coherent.{IsCoherent}
+use Rattle.theory_addresses.specs.Contact.{Contact, ChildEdge, inner, outer}
+use Rattle.theory_addresses.specs.Tables.{Tables, KindTables, kind_tables, child_kinds, type_of, child_kind_of, contacts_of, parts_of, contact_of, part_of, part_count}
+use Rattle.theory_addresses.proofs.Ranges.{slice_get-append_left, slice_get-image}
+use Rattle.theory_addresses.proofs.TableBounds.{some_within, contact_bounds, part_bounds, child_bounds, type_bounds, part_count-within, some_of, part_there}
 use Rattle.transducer_core.specs.FlatTables.{contact_rows, part_rows, kind_rows}
 use Rattle.transducer_core.specs.Merged.{Stands, AllBegin, HasEntry, AreSpread}
 use Rattle.transducer_core.specs.Words.{word_of_contact, contact_of_word, word_of_part, part_of_word, contact_words, part_words}
@@ -28,9 +28,11 @@ unfolding parts_of
 parts_at t k e h = rw (some_within (kind_tables t k).parts e h).1 refl
 
 -- ---- an entry of a block
-pub stands_entry : (words : List ℕ) (s : ℕ) (block : List ℕ) (e w : ℕ) → Stands words s block → slice_get block e ≡ Some w → slice_get words (s + e) ≡ Some w
+pub stands_entry : (words : List ℕ) (s : ℕ) (block : List ℕ) (e w : ℕ) → Stands words s block
+    → slice_get block e ≡ Some w → slice_get words (s + e) ≡ Some w
 stands_entry words s block e w h is =
-    rw (h.words_are, h.start_is) (slice_get-append_right h.front (block ++ h.rest) e ∙ slice_get-append_left block h.rest e (slice_get_within block e w is) ∙ is)
+    rw (h.words_are, h.start_is) (slice_get-append_right h.front (block ++ h.rest) e
+    ∙ slice_get-append_left block h.rest e (slice_get_within block e w is) ∙ is)
 
 pub same_entry : {starts words : List ℕ} {at place w v : ℕ} → HasEntry starts words at place w → HasEntry starts words at place v → w ≡ v
 same_entry {starts} {words} {at} {place} {w} {v} a b =
@@ -47,9 +49,15 @@ has_contact t k c e x starts words h is =
     let row = slice_get-image (λ (r : KindTables). map contact_words r.contacts) (kind_tables t k) t.kinds k (kind_at t k bounds.0) in
     let block = slice_get-image contact_words (contacts_of t k c) (kind_tables t k).contacts c (contacts_at t k c bounds.1) in
     let b = h k c (map contact_words (kind_tables t k).contacts) (contact_words (contacts_of t k c)) row block in
-    record { start = b.start; start_at = b.start_at; word_at = stands_entry words b.start (contact_words (contacts_of t k c)) e (word_of_contact x) b.stands (slice_get-image word_of_contact x (contacts_of t k c) e is) }
+    record {
+      start = b.start;
+      start_at = b.start_at;
+      word_at = stands_entry words b.start (contact_words (contacts_of t k c)) e (word_of_contact x)
+          b.stands (slice_get-image word_of_contact x (contacts_of t k c) e is);
+    }
 
-pub reversed : {A : Type 0} (xs : List A) (own p : ℕ) (x : A) → own + (p + 1) ≡ length xs → slice_get xs own ≡ Some x → slice_get (reverse xs) p ≡ Some x
+pub reversed : {A : Type 0} (xs : List A) (own p : ℕ) (x : A) → own + (p + 1) ≡ length xs
+    → slice_get xs own ≡ Some x → slice_get (reverse xs) p ≡ Some x
 reversed xs own p x count is =
     let inside : p < length xs = omega arith in
     let there = slice_get-get_or (reverse xs) p x (omega (arith, length-reverse xs)) in
@@ -64,16 +72,24 @@ has_part t k e own p x starts words h is mirrored =
     let row = slice_get-image (λ (r : KindTables). map part_words r.parts) (kind_tables t k) t.kinds k (kind_at t k bounds.0) in
     let block = slice_get-image part_words (parts_of t k e) (kind_tables t k).parts e (parts_at t k e bounds.1) in
     let b = h k e (map part_words (kind_tables t k).parts) (part_words (parts_of t k e)) row block in
-    let entry = reversed (map word_of_part (parts_of t k e)) own p (word_of_part x) (mirrored ∙ sym (length-map (parts_of t k e) word_of_part)) (slice_get-image word_of_part x (parts_of t k e) own is) in
-    record { start = b.start; start_at = b.start_at; word_at = stands_entry words b.start (part_words (parts_of t k e)) p (word_of_part x) b.stands entry }
+    let entry = reversed (map word_of_part (parts_of t k e)) own p (word_of_part x)
+    (mirrored ∙ sym (length-map (parts_of t k e) word_of_part))
+    (slice_get-image word_of_part x (parts_of t k e) own is) in
+    record {
+      start = b.start;
+      start_at = b.start_at;
+      word_at = stands_entry words b.start (part_words (parts_of t k e)) p (word_of_part x) b.stands entry;
+    }
 
 -- 256 times the kind of a child
-pub has_kind : (t : Tables) (k c kind : ℕ) (kinds : List ℕ) → AreSpread (kind_rows t) kinds → child_kind_of t k c ≡ Some kind → slice_get kinds (256 * k + c) ≡ Some (256 * kind)
+pub has_kind : (t : Tables) (k c kind : ℕ) (kinds : List ℕ) → AreSpread (kind_rows t) kinds
+    → child_kind_of t k c ≡ Some kind → slice_get kinds (256 * k + c) ≡ Some (256 * kind)
 unfolding child_kind_of
 has_kind t k c kind kinds h is =
     let bounds = child_bounds t k c (rw is refl) in
     let row = slice_get-image (λ (r : KindTables). r.children) (kind_tables t k) t.kinds k (kind_at t k bounds.0) in
-    h k c (map (λ n. 256 * n) (kind_tables t k).children) (256 * kind) (slice_get-image (map (λ n. 256 * n)) (kind_tables t k).children (child_kinds t) k row)
+    h k c (map (λ n. 256 * n) (kind_tables t k).children) (256 * kind)
+    (slice_get-image (map (λ n. 256 * n)) (kind_tables t k).children (child_kinds t) k row)
     (slice_get-image (λ n. 256 * n) kind (kind_tables t k).children c is)
 
 -- ---- words stand for one entry
@@ -115,8 +131,11 @@ small t k c e coherent h =
     let b = contact_bounds t k c e h in
     let inside : c < length (kind_tables t k).children = omega (arith, b.1, coherent.contacts_each k) in
     let kind = some_within (kind_tables t k).children c inside in
-    let exists = coherent.child_exists k c kind.0 kind.1 in
-    (omega (arith, inside, coherent.at_most_16_children k b.0), omega (arith, b.2, coherent.contact_each k c kind.0 kind.1, coherent.at_most_12_edges kind.0 exists))
+    let exists = coherent.child_exists k c kind.0 kind.1 in (
+      omega (arith, inside, coherent.at_most_16_children k b.0),
+      omega
+          (arith, b.2, coherent.contact_each k c kind.0 kind.1, coherent.at_most_12_edges kind.0 exists),
+    )
 
 outer_small : (t : Tables) (k c e f p : ℕ) → IsCoherent t → contact_of t k c e ≡ Some (outer f p) → (f < 256) × (p < 256)
 unfolding part_count
@@ -151,13 +170,15 @@ module _ (t : Tables) (starts words : List ℕ) (coherent : IsCoherent t) (begin
   pub contact_word : (k c e w : ℕ) (x : Contact) → contact_of t k c e ≡ Some x → HasEntry starts words (256 * k + c) e w → w ≡ word_of_contact x
   contact_word k c e w x is entry = same_entry entry (has_contact t k c e x starts words begin is)
 
-  pub contact_read : (k c e w : ℕ) (y : Contact) → IsSome (contact_of t k c e) → HasEntry starts words (256 * k + c) e w → y ≡ contact_of_word w → contact_of t k c e ≡ Some y
+  pub contact_read : (k c e w : ℕ) (y : Contact) → IsSome (contact_of t k c e)
+      → HasEntry starts words (256 * k + c) e w → y ≡ contact_of_word w → contact_of t k c e ≡ Some y
   contact_read k c e w y h entry is =
       let x = some_of (contact_of t k c e) h in
       x.1 ∙ ap Some (sym (is ∙ ap contact_of_word (contact_word k c e w x.0 x.1 entry) ∙ contact_back t k c e x.0 coherent x.1))
 
   -- below 2 ^ 16 it is outer, and else inner
-  pub outer_read : (k c e w : ℕ) → IsSome (contact_of t k c e) → HasEntry starts words (256 * k + c) e w → w < 2 ^ 16 → contact_of t k c e ≡ Some (outer (w / 256) (w % 256))
+  pub outer_read : (k c e w : ℕ) → IsSome (contact_of t k c e) → HasEntry starts words (256 * k + c) e w
+      → w < 2 ^ 16 → contact_of t k c e ≡ Some (outer (w / 256) (w % 256))
   outer_read k c e w h entry below =
       let x = some_of (contact_of t k c e) h in
       x.1 ∙ ap Some (as_outer x.0 x.1 (contact_word k c e w x.0 x.1 entry))
@@ -170,7 +191,8 @@ module _ (t : Tables) (starts words : List ℕ) (coherent : IsCoherent t) (begin
           let part : p ≡ w % 256 = omega arith in
           λ i. outer (edge i) (part i)
 
-  pub inner_read : (k c e w : ℕ) → IsSome (contact_of t k c e) → HasEntry starts words (256 * k + c) e w → 2 ^ 16 ≤ w → contact_of t k c e ≡ Some (inner (w % 256) (w / 256 % 256))
+  pub inner_read : (k c e w : ℕ) → IsSome (contact_of t k c e) → HasEntry starts words (256 * k + c) e w
+      → 2 ^ 16 ≤ w → contact_of t k c e ≡ Some (inner (w % 256) (w / 256 % 256))
   inner_read k c e w h entry above =
       let x = some_of (contact_of t k c e) h in
       x.1 ∙ ap Some (as_inner x.0 x.1 (contact_word k c e w x.0 x.1 entry))
@@ -191,7 +213,8 @@ module _ (t : Tables) (starts words : List ℕ) (coherent : IsCoherent t) (begin
       let x = some_of (part_of t k e own) (part_there t k e own (omega arith)) in
       (word_of_part x.0, has_part t k e own p x.0 starts words begin x.1 mirrored)
 
-  pub part_across_read : (k e p w : ℕ) (y : ChildEdge) → HasEntry starts words (256 * k + e) p w → y ≡ part_of_word w → (own : ℕ) → own + (p + 1) ≡ part_count t k e → part_of t k e own ≡ Some y
+  pub part_across_read : (k e p w : ℕ) (y : ChildEdge) → HasEntry starts words (256 * k + e) p w
+      → y ≡ part_of_word w → (own : ℕ) → own + (p + 1) ≡ part_count t k e → part_of t k e own ≡ Some y
   part_across_read k e p w y entry is own mirrored =
       let x = some_of (part_of t k e own) (part_there t k e own (omega arith)) in
       let same = same_entry entry (has_part t k e own p x.0 starts words begin x.1 mirrored) in
@@ -215,7 +238,8 @@ module _ (t : Tables) (kinds : List ℕ) (coherent : IsCoherent t) (spread : Are
       let x = some_of (child_kind_of t k c) h in
       (256 * x.0, has_kind t k c x.0 kinds spread x.1)
 
-  pub kind_read : (k c row : ℕ) → IsSome (child_kind_of t k c) → slice_get kinds (256 * k + c) ≡ Some row → (child_kind_of t k c ≡ Some (row / 256)) × (row ≡ 256 * (row / 256)) × (row / 256 < 16)
+  pub kind_read : (k c row : ℕ) → IsSome (child_kind_of t k c) → slice_get kinds (256 * k + c) ≡ Some row
+      → (child_kind_of t k c ≡ Some (row / 256)) × (row ≡ 256 * (row / 256)) × (row / 256 < 16)
   kind_read k c row h is =
       let x = some_of (child_kind_of t k c) h in
       let two : Some row ≡ Some (256 * x.0) = sym is ∙ has_kind t k c x.0 kinds spread x.1 in

@@ -3,13 +3,13 @@ use Rattle.std.proofs.Common.{◌≡◌, ℕ, zero, suc, ◌+◌, ◌*◌, ◌<�
 use Rattle.std.specs.List.{slice_get}
 use Rattle.std.proofs.lemmas.Option.{slice_get_within, get_or_from_slice_get}
 use Rattle.std.proofs.lemmas.List.{length-map, length-reverse, reverse-reverse, take_all}
-use Rattle.addressing.specs.Coherent.{IsCoherent}
-use Rattle.addressing.specs.Contact.{Contact, ChildEdge}
-use Rattle.addressing.specs.Search.{below}
-use Rattle.addressing.specs.Tables.{Tables, KindTables, kind_tables, type_of, child_kind_of, contacts_of, parts_of, contact_of, part_of, subs_of, child_type_of}
-use Rattle.addressing.proofs.Lists.{map-reverse}
-use Rattle.addressing.proofs.Ranges.{slice_get-image}
-use Rattle.addressing.proofs.TableBounds.{some_within}
+use Rattle.theory_addresses.specs.Coherent.{IsCoherent}
+use Rattle.theory_addresses.specs.Contact.{Contact, ChildEdge}
+use Rattle.theory_addresses.specs.Search.{below}
+use Rattle.theory_addresses.specs.Tables.{Tables, KindTables, kind_tables, type_of, child_kind_of, contacts_of, parts_of, contact_of, part_of, subs_of, child_type_of}
+use Rattle.theory_addresses.proofs.Lists.{map-reverse}
+use Rattle.theory_addresses.proofs.Ranges.{slice_get-image}
+use Rattle.theory_addresses.proofs.TableBounds.{some_within}
 use Rattle.transducer_core.specs.declared.joined.Joined.{Joined}
 use Rattle.transducer_core.specs.declared.merging.Merged.{Merged}
 use Rattle.transducer_core.specs.Flat.{Lists, lists_of, mates_in, subs_in, types_in, children_in, flat_tables, flat_kind, flat_contacts, flat_parts}
@@ -22,13 +22,15 @@ use Rattle.transducer_core.proofs.Joining.{pieces_are, subs_back, types_back, ch
 use Rattle.transducer_core.proofs.Standing.{take_at, block_read}
 
 -- ---- a list by its places
-below_take : {A : Type 0} (f : ℕ → A) (xs : List A) (n : ℕ) → n ≤ length xs → ((k : ℕ) (x : A) → slice_get xs k ≡ Some x → f k ≡ x) → below f n ≡ take n xs
+below_take : {A : Type 0} (f : ℕ → A) (xs : List A) (n : ℕ) → n ≤ length xs
+    → ((k : ℕ) (x : A) → slice_get xs k ≡ Some x → f k ≡ x) → below f n ≡ take n xs
 below_take f xs zero h same = refl
 below_take f xs (suc n) h same =
     let x = some_within xs n (omega arith) in
     let more = take_at xs n x.0 x.1 in
     let e : suc n ≡ n + 1 = omega arith in
-    ap (λ l. l ++ f n ∷ []) (below_take f xs n (omega arith) same) ∙ ap (λ y. take n xs ++ y ∷ []) (same n x.0 x.1) ∙ sym more ∙ ap (λ m. take m xs) (sym e)
+    ap (λ l. l ++ f n ∷ []) (below_take f xs n (omega arith) same)
+    ∙ ap (λ y. take n xs ++ y ∷ []) (same n x.0 x.1) ∙ sym more ∙ ap (λ m. take m xs) (sym e)
 
 below_all : {A : Type 0} (f : ℕ → A) (xs : List A) (n : ℕ) → n ≡ length xs → ((k : ℕ) (x : A) → slice_get xs k ≡ Some x → f k ≡ x) → below f n ≡ xs
 below_all f xs n size same = below_take f xs n (omega arith) same ∙ take_all n xs (omega arith)
@@ -83,18 +85,25 @@ pub record Holds (t : Tables) (f : Lists) (m n : ℕ) : Type 0 where
 
 module _ (t : Tables) (f : Lists) (m n : ℕ) (h : Holds t f m n) where
   types_of : (k : ℕ) → k < length t.kinds → get_or f.types k [] ≡ (kind_tables t k).types
-  types_of k inside = rw h.types (get_or_from_slice_get (map (λ (r : KindTables). r.types) t.kinds) k (kind_tables t k).types [] (slice_get-image (λ (r : KindTables). r.types) (kind_tables t k) t.kinds k (kind_at t k inside)))
+  types_of k inside = rw h.types (get_or_from_slice_get (map (λ (r : KindTables). r.types) t.kinds) k
+      (kind_tables t k).types [] (slice_get-image (λ (r : KindTables). r.types) (kind_tables t k) t.kinds k
+      (kind_at t k inside)))
 
   children_of : (k : ℕ) → k < length t.kinds → get_or f.children k [] ≡ (kind_tables t k).children
-  children_of k inside = rw h.children (get_or_from_slice_get (map (λ (r : KindTables). r.children) t.kinds) k (kind_tables t k).children [] (slice_get-image (λ (r : KindTables). r.children) (kind_tables t k) t.kinds k (kind_at t k inside)))
+  children_of k inside = rw h.children (get_or_from_slice_get (map (λ (r : KindTables). r.children) t.kinds) k
+      (kind_tables t k).children [] (slice_get-image (λ (r : KindTables). r.children) (kind_tables t k)
+      t.kinds k (kind_at t k inside)))
 
-  contacts_made : (k c : ℕ) (block : List Contact) → k < length t.kinds → slice_get (kind_tables t k).contacts c ≡ Some block → flat_contacts f k c ≡ block
+  contacts_made : (k c : ℕ) (block : List Contact) → k < length t.kinds
+      → slice_get (kind_tables t k).contacts c ≡ Some block → flat_contacts f k c ≡ block
   contacts_made k c block inside is =
-      let there : c < length (kind_tables t k).children = omega (arith, slice_get_within (kind_tables t k).contacts c block is, h.coherent.contacts_each k) in
+      let there : c < length (kind_tables t k).children = omega
+      (arith, slice_get_within (kind_tables t k).contacts c block is, h.coherent.contacts_each k) in
       let kind = some_within (kind_tables t k).children c there in
       let child = child_is t k c kind.0 kind.1 in
       let exists = h.coherent.child_exists k c kind.0 child in
-      let own : get_or (get_or f.children k []) c 0 ≡ kind.0 = rw (children_of k inside) (get_or_from_slice_get (kind_tables t k).children c kind.0 0 kind.1) in
+      let own : get_or (get_or f.children k []) c 0 ≡ kind.0 = rw (children_of k inside)
+      (get_or_from_slice_get (kind_tables t k).children c kind.0 0 kind.1) in
       let same = contacts_is t k c block is in
       let size : length (get_or f.types (get_or (get_or f.children k []) c 0) []) ≡ length (contact_words (contacts_of t k c)) =
       rw (own, types_of kind.0 exists) (sym (h.coherent.contact_each k c kind.0 child) ∙ sym (length-map (contacts_of t k c) word_of_contact)) in
@@ -102,26 +111,38 @@ module _ (t : Tables) (f : Lists) (m n : ℕ) (h : Holds t f m n) where
       (slice_get-image (λ (r : KindTables). map contact_words r.contacts) (kind_tables t k) t.kinds k (kind_at t k inside))
       (slice_get-image contact_words (contacts_of t k c) (kind_tables t k).contacts c (rw same is)) in
       let start : get_or f.contact_starts (256 * k + c) 0 ≡ b.start = get_or_from_slice_get f.contact_starts (256 * k + c) b.start 0 b.start_at in
-      let read = block_read f.contact_words b.start (length (get_or f.types (get_or (get_or f.children k []) c 0) [])) (contact_words (contacts_of t k c)) b.stands size in
-      ap (map contact_of_word) (ap (λ s. take (length (get_or f.types (get_or (get_or f.children k []) c 0) [])) (drop s f.contact_words)) start ∙ read) ∙ contact_block_back t k c h.coherent ∙ same
+      let read = block_read f.contact_words b.start
+      (length (get_or f.types (get_or (get_or f.children k []) c 0) []))
+      (contact_words (contacts_of t k c)) b.stands size in
+      ap (map contact_of_word) (ap (λ s. take (length
+      (get_or f.types (get_or (get_or f.children k []) c 0) [])) (drop s f.contact_words)) start ∙ read)
+      ∙ contact_block_back t k c h.coherent ∙ same
 
   parts_made : (k e : ℕ) (block : List ChildEdge) → k < length t.kinds → slice_get (kind_tables t k).parts e ≡ Some block → flat_parts f k e ≡ block
   parts_made k e block inside is =
-      let there : e < length (kind_tables t k).types = omega (arith, slice_get_within (kind_tables t k).parts e block is, h.coherent.parts_each k inside) in
+      let there : e < length (kind_tables t k).types = omega
+      (arith, slice_get_within (kind_tables t k).parts e block is, h.coherent.parts_each k inside) in
       let ty = some_within (kind_tables t k).types e there in
       let edge = type_is t k e ty.0 ty.1 in
       let exists : ty.0 < length t.subs = omega (arith, h.coherent.type_exists k e ty.0 edge, h.coherent.sub_each) in
       let own : get_or (get_or f.types k []) e 0 ≡ ty.0 = rw (types_of k inside) (get_or_from_slice_get (kind_tables t k).types e ty.0 0 ty.1) in
       let same = parts_is t k e block is in
-      let count : length (parts_of t k e) ≡ length (subs_of t ty.0) = sym (length-map (parts_of t k e) (child_type_of t k)) ∙ ap (λ l. length l) (h.coherent.part_types k e ty.0 edge) ∙ length-map (subs_of t ty.0) Some in
+      let count : length (parts_of t k e) ≡ length (subs_of t ty.0) = sym
+      (length-map (parts_of t k e) (child_type_of t k))
+      ∙ ap (λ l. length l) (h.coherent.part_types k e ty.0 edge) ∙ length-map (subs_of t ty.0) Some in
       let size : length (get_or f.subs (get_or (get_or f.types k []) e 0) []) ≡ length (part_words (parts_of t k e)) =
-      rw (own, h.subs, subs_are t ty.0 exists) (sym count ∙ sym (length-map (parts_of t k e) word_of_part) ∙ sym (length-reverse (map word_of_part (parts_of t k e)))) in
+      rw (own, h.subs, subs_are t ty.0 exists) (sym count ∙ sym (length-map (parts_of t k e) word_of_part)
+      ∙ sym (length-reverse (map word_of_part (parts_of t k e)))) in
       let b = h.parts.begins k e (map part_words (kind_tables t k).parts) (part_words (parts_of t k e))
       (slice_get-image (λ (r : KindTables). map part_words r.parts) (kind_tables t k) t.kinds k (kind_at t k inside))
       (slice_get-image part_words (parts_of t k e) (kind_tables t k).parts e (rw same is)) in
       let start : get_or f.part_starts (256 * k + e) 0 ≡ b.start = get_or_from_slice_get f.part_starts (256 * k + e) b.start 0 b.start_at in
-      let read = block_read f.part_words b.start (length (get_or f.subs (get_or (get_or f.types k []) e 0) [])) (part_words (parts_of t k e)) b.stands size in
-      ap (λ l. reverse (map part_of_word l)) (ap (λ s. take (length (get_or f.subs (get_or (get_or f.types k []) e 0) [])) (drop s f.part_words)) start ∙ read) ∙ part_block_back t k e h.coherent ∙ same
+      let read = block_read f.part_words b.start
+      (length (get_or f.subs (get_or (get_or f.types k []) e 0) [])) (part_words (parts_of t k e))
+      b.stands size in
+      ap (λ l. reverse (map part_of_word l)) (ap
+      (λ s. take (length (get_or f.subs (get_or (get_or f.types k []) e 0) [])) (drop s f.part_words))
+      start ∙ read) ∙ part_block_back t k e h.coherent ∙ same
 
   kind_made : (k : ℕ) (row : KindTables) → slice_get t.kinds k ≡ Some row → flat_kind f k ≡ row
   kind_made k row is =
@@ -129,8 +150,12 @@ module _ (t : Tables) (f : Lists) (m n : ℕ) (h : Holds t f m n) where
       let same = kind_is t k row is in
       let types = types_of k inside in
       let children = children_of k inside in
-      let contacts = below_all (flat_contacts f k) (kind_tables t k).contacts (length (get_or f.children k [])) (rw children (sym (h.coherent.contacts_each k))) (λ c block there. contacts_made k c block inside there) in
-      let parts = below_all (flat_parts f k) (kind_tables t k).parts (length (get_or f.types k [])) (rw types (sym (h.coherent.parts_each k inside))) (λ e block there. parts_made k e block inside there) in
+      let contacts = below_all (flat_contacts f k) (kind_tables t k).contacts
+      (length (get_or f.children k [])) (rw children (sym (h.coherent.contacts_each k)))
+      (λ c block there. contacts_made k c block inside there) in
+      let parts = below_all (flat_parts f k) (kind_tables t k).parts (length (get_or f.types k []))
+      (rw types (sym (h.coherent.parts_each k inside)))
+      (λ e block there. parts_made k e block inside there) in
       let made : flat_kind f k ≡ kind_tables t k = λ i. record { types = types i; children = children i; contacts = contacts i; parts = parts i } in
       made ∙ same
 

@@ -3,16 +3,16 @@ use Rattle.std.proofs.Common.{◌≡◌, ℕ, suc, zero, ◌+◌, ◌<◌, List,
 use Rattle.std.specs.List.{slice_get}
 use Rattle.std.proofs.lemmas.Option.{get_or_from_slice_get, slice_get_within}
 use Rattle.std.proofs.lemmas.List.{take_more, drop_more, drop-set, map-append, take_all}
-use Rattle.addressing.specs.Address.{Step}
-use Rattle.addressing.specs.Contact.{ChildEdge, inner, outer}
-use Rattle.addressing.specs.Tables.{Tables, type_of, child_kind_of, contact_of, part_of, part_count}
-use Rattle.addressing.specs.Coherent.{IsCoherent}
-use Rattle.addressing.specs.Trace.{Cut}
-use Rattle.addressing.proofs.TableBounds.{some_within}
-use Rattle.addressing.proofs.Chains.{IsChain, IsChain-at, IsChain-drop, level_kind}
-use Rattle.addressing.proofs.Traces.{Lies, itself, on, Lies-unsnoc}
-use Rattle.addressing.proofs.FineTouch.{Meets, as_children, as_parts}
-use Rattle.addressing.proofs.Mated.{IsMated, inner_mated, part_inside, same_parts, AcrossPart, across_part}
+use Rattle.theory_addresses.specs.Address.{Step}
+use Rattle.theory_addresses.specs.Contact.{ChildEdge, inner, outer}
+use Rattle.theory_addresses.specs.Tables.{Tables, type_of, child_kind_of, contact_of, part_of, part_count}
+use Rattle.theory_addresses.specs.Coherent.{IsCoherent}
+use Rattle.theory_addresses.specs.Trace.{Cut}
+use Rattle.theory_addresses.proofs.TableBounds.{some_within}
+use Rattle.theory_addresses.proofs.Chains.{IsChain, IsChain-at, IsChain-drop, level_kind}
+use Rattle.theory_addresses.proofs.Traces.{Lies, itself, on, Lies-unsnoc}
+use Rattle.theory_addresses.proofs.FineTouch.{Meets, as_children, as_parts}
+use Rattle.theory_addresses.proofs.Mated.{IsMated, inner_mated, part_inside, same_parts, AcrossPart, across_part}
 use Rattle.transducer_core.proofs.Rising.{Climbed, MetAt}
 
 snoc_inj : {X : Type 0} (xs ys : List X) (x y : X) → xs ++ x ∷ [] ≡ ys ++ y ∷ [] → (xs ≡ ys) × (x ≡ y)
@@ -28,7 +28,8 @@ snoc_inj (a ∷ xs) (b ∷ ys) x y h =
     (rw (heads, r.0) refl, r.1)
 
 -- an edge lies on an edge that exists
-on_edge : (t : Tables) (k : ℕ) (xs : List Step) (i : ℕ) {e own : ℕ} {cuts : List Cut} → IsCoherent t → Lies t e (take i xs) own cuts → IsSome (type_of t k e)
+on_edge : (t : Tables) (k : ℕ) (xs : List Step) (i : ℕ) {e own : ℕ} {cuts : List Cut} → IsCoherent t
+    → Lies t e (take i xs) own cuts → IsSome (type_of t k e)
     → IsSome (type_of t (level_kind k xs i) own)
 on_edge t k xs zero coherent itself edge = edge
 on_edge t k [] (suc i) coherent itself edge = edge
@@ -56,7 +57,8 @@ start_mated t k xs e i b f parts coherent fits edge m =
     let at = IsChain-at t k xs i m.step fits m.at in
     inner_mated t m.step.parent m.step.child (level_kind k xs i) m.own b f coherent at.0 (on_edge t k xs i coherent m.climbs.trace edge) m.met
 
-pub start : (t : Tables) (k : ℕ) (xs : List Step) (e i b f : ℕ) (parts : List ℕ) (ys : List Step) (s : Step) (kind : ℕ) → IsCoherent t → IsChain t k xs → IsSome (type_of t k e)
+pub start : (t : Tables) (k : ℕ) (xs : List Step) (e i b f : ℕ) (parts : List ℕ) (ys : List Step) (s : Step)
+    (kind : ℕ) → IsCoherent t → IsChain t k xs → IsSome (type_of t k e)
     → MetAt t xs e i b f parts → slice_get xs i ≡ Some s → child_kind_of t s.parent b ≡ Some kind
     → drop i ys ≡ (record { child = b; parent = s.parent }) ∷ drop (i + 1) xs → Halfway t k xs e parts i ys kind f
 start t k xs e i b f parts ys s kind coherent fits edge m is child below =
@@ -73,7 +75,8 @@ start t k xs e i b f parts ys s kind coherent fits edge m is child below =
       mated = rw (← kinds) other.2;
     }
 
-pub start_fits : (t : Tables) (k : ℕ) (xs : List Step) (i b : ℕ) (ys : List Step) (s : Step) (kind : ℕ) → IsChain t k xs → slice_get xs i ≡ Some s → child_kind_of t s.parent b ≡ Some kind
+pub start_fits : (t : Tables) (k : ℕ) (xs : List Step) (i b : ℕ) (ys : List Step) (s : Step) (kind : ℕ)
+    → IsChain t k xs → slice_get xs i ≡ Some s → child_kind_of t s.parent b ≡ Some kind
     → drop i ys ≡ (record { child = b; parent = s.parent }) ∷ drop (i + 1) xs → IsChain t kind (drop i ys)
 start_fits t k xs i b ys s kind fits is child below =
     let at = IsChain-at t k xs i s fits is in
@@ -82,7 +85,8 @@ start_fits t k xs i b ys s kind fits is child below =
     rw below (child, rest)
 
 -- the child that is met exists
-pub start_child : (t : Tables) (k : ℕ) (xs : List Step) (e i b f : ℕ) (parts : List ℕ) (s : Step) → IsCoherent t → IsChain t k xs → IsSome (type_of t k e)
+pub start_child : (t : Tables) (k : ℕ) (xs : List Step) (e i b f : ℕ) (parts : List ℕ) (s : Step)
+    → IsCoherent t → IsChain t k xs → IsSome (type_of t k e)
     → MetAt t xs e i b f parts → slice_get xs i ≡ Some s → IsSome (child_kind_of t s.parent b)
 start_child t k xs e i b f parts s coherent fits edge m is =
     let same : m.step ≡ s = let two : Some m.step ≡ Some s = sym m.at ∙ is in cc in
@@ -112,42 +116,66 @@ opened t k xs e parts i own fits in_xs in_parts climbs =
     let trace : Lies t e (take i xs ++ s.0 ∷ []) own climbs.cuts = rw (← (at_level xs i s.0 s.1).0) climbs.trace in
     let r = Lies-unsnoc (take i xs) s.0 trace in
     let both : take i parts ++ get_or parts i 0 ∷ [] ≡ map (λ (c : Cut). c.part) r.others ++ r.last.part ∷ []
-    = sym (take_more parts i 0 in_parts) ∙ climbs.parts_are ∙ ap (λ (l : List Cut). map (λ (c : Cut). c.part) l) r.cuts_are ∙ map-append (λ (c : Cut). c.part) r.others (r.last ∷ []) in
+    = sym (take_more parts i 0 in_parts) ∙ climbs.parts_are
+    ∙ ap (λ (l : List Cut). map (λ (c : Cut). c.part) l) r.cuts_are
+    ∙ map-append (λ (c : Cut). c.part) r.others (r.last ∷ []) in
     let two = snoc_inj (take i parts) (map (λ (c : Cut). c.part) r.others) (get_or parts i 0) r.last.part both in
-    record { step = s.0; at = s.1; below = r.below; met = rw two.1 r.own; climbs = record { cuts = r.others; parts_are = two.0; trace = r.rest }; child = at.0; parent = at.1 }
+    record {
+      step = s.0;
+      at = s.1;
+      below = r.below;
+      met = rw two.1 r.own;
+      climbs = record { cuts = r.others; parts_are = two.0; trace = r.rest };
+      child = at.0;
+      parent = at.1;
+    }
 
 -- the part on the way down exists
-half_part : (t : Tables) (k : ℕ) (xs : List Step) (e : ℕ) (parts : List ℕ) (i n : ℕ) (ys : List Step) (kind f : ℕ) → IsCoherent t → IsChain t k xs → i < length xs → i < length parts
+half_part : (t : Tables) (k : ℕ) (xs : List Step) (e : ℕ) (parts : List ℕ) (i n : ℕ) (ys : List Step)
+    (kind f : ℕ) → IsCoherent t → IsChain t k xs → i < length xs → i < length parts
     → n ≡ i + 1 → Halfway t k xs e parts n ys kind f → get_or parts i 0 < part_count t kind f
 half_part t k xs e parts i n ys kind f coherent fits in_xs in_parts more h' =
     let h : Halfway t k xs e parts (i + 1) ys kind f = rw (← more) h' in
     let o = opened t k xs e parts i h.own fits in_xs in_parts h.climbs in
     let mated : IsMated t o.step.parent h.own kind f = rw (← o.parent) h.mated in
-    omega (arith, part_inside t o.step.parent o.step.child o.below h.own (get_or parts i 0) coherent o.met, same_parts t o.step.parent h.own kind f coherent mated)
+    omega (
+      arith,
+      part_inside t o.step.parent o.step.child o.below h.own (get_or parts i 0) coherent o.met,
+      same_parts t o.step.parent h.own kind f coherent mated,
+    )
 
-half_across : (t : Tables) (k : ℕ) (xs : List Step) (e : ℕ) (parts : List ℕ) (i n : ℕ) (ys : List Step) (kind f q : ℕ) → IsCoherent t → IsChain t k xs → i < length xs → i < length parts
-    → n ≡ i + 1 → Halfway t k xs e parts n ys kind f → q + (get_or parts i 0 + 1) ≡ part_count t kind f → (own : ℕ) × AcrossPart t (level_kind k xs i) own kind f q
+half_across : (t : Tables) (k : ℕ) (xs : List Step) (e : ℕ) (parts : List ℕ) (i n : ℕ) (ys : List Step)
+    (kind f q : ℕ) → IsCoherent t → IsChain t k xs → i < length xs → i < length parts
+    → n ≡ i + 1 → Halfway t k xs e parts n ys kind f → q + (get_or parts i 0 + 1) ≡ part_count t kind f
+    → (own : ℕ) × AcrossPart t (level_kind k xs i) own kind f q
 half_across t k xs e parts i n ys kind f q coherent fits in_xs in_parts more h' mirror =
     let h : Halfway t k xs e parts (i + 1) ys kind f = rw (← more) h' in
     let o = opened t k xs e parts i h.own fits in_xs in_parts h.climbs in
-    let mated : IsMated t o.step.parent h.own kind f = rw (← o.parent) h.mated in
-    (o.below, across_part t o.step.parent h.own kind f o.step.child (level_kind k xs i) o.below (get_or parts i 0) q coherent mated o.child o.met mirror)
+    let mated : IsMated t o.step.parent h.own kind f = rw (← o.parent) h.mated in (
+      o.below,
+      across_part t o.step.parent h.own kind f o.step.child (level_kind k xs i) o.below
+          (get_or parts i 0) q coherent mated o.child o.met mirror,
+    )
 
-half_child : (t : Tables) (k own kind f q : ℕ) (next : ChildEdge) → AcrossPart t k own kind f q → part_of t kind f q ≡ Some next → IsSome (child_kind_of t kind next.child)
+half_child : (t : Tables) (k own kind f q : ℕ) (next : ChildEdge) → AcrossPart t k own kind f q
+    → part_of t kind f q ≡ Some next → IsSome (child_kind_of t kind next.child)
 half_child t k own kind f q next a is =
     let one : a.below ≡ next = let two : Some a.below ≡ Some next = sym a.below_is ∙ is in cc in
     let there : child_kind_of t kind next.child ≡ Some a.kind = rw (← one) a.kind_is in
     rw there refl
 
-half_next : (t : Tables) (k : ℕ) (xs : List Step) (e : ℕ) (parts : List ℕ) (i n : ℕ) (ys : List Step) (kind f q : ℕ) (next : ChildEdge) (kind' : ℕ) (zs : List Step) → IsCoherent t → IsChain t k xs
+half_next : (t : Tables) (k : ℕ) (xs : List Step) (e : ℕ) (parts : List ℕ) (i n : ℕ) (ys : List Step)
+    (kind f q : ℕ) (next : ChildEdge) (kind' : ℕ) (zs : List Step) → IsCoherent t → IsChain t k xs
     → i < length xs → i < length parts → n ≡ i + 1 → Halfway t k xs e parts n ys kind f → q + (get_or parts i 0 + 1) ≡ part_count t kind f
-    → part_of t kind f q ≡ Some next → child_kind_of t kind next.child ≡ Some kind' → drop i zs ≡ (record { child = next.child; parent = kind }) ∷ drop (i + 1) ys
+    → part_of t kind f q ≡ Some next → child_kind_of t kind next.child ≡ Some kind'
+    → drop i zs ≡ (record { child = next.child; parent = kind }) ∷ drop (i + 1) ys
     → Halfway t k xs e parts i zs kind' next.edge
 half_next t k xs e parts i n ys kind f q next kind' zs coherent fits in_xs in_parts more h' mirror is child below =
     let h : Halfway t k xs e parts (i + 1) ys kind f = rw (← more) h' in
     let o = opened t k xs e parts i h.own fits in_xs in_parts h.climbs in
     let mated : IsMated t o.step.parent h.own kind f = rw (← o.parent) h.mated in
-    let a = across_part t o.step.parent h.own kind f o.step.child (level_kind k xs i) o.below (get_or parts i 0) q coherent mated o.child o.met mirror in
+    let a = across_part t o.step.parent h.own kind f o.step.child (level_kind k xs i) o.below
+    (get_or parts i 0) q coherent mated o.child o.met mirror in
     let one : a.below ≡ next = let two : Some a.below ≡ Some next = sym a.below_is ∙ is in cc in
     let kinds : a.kind ≡ kind' = let two : Some a.kind ≡ Some kind' = sym a.kind_is ∙ rw one child in cc in
     let back : contact_of t kind next.child next.edge ≡ Some (outer f q) = rw (← one) a.back in
@@ -160,7 +188,8 @@ half_next t k xs e parts i n ys kind f q next kind' zs coherent fits in_xs in_pa
     }
 
 -- at the fine end
-pub landed : (t : Tables) (k : ℕ) (xs : List Step) (e : ℕ) (parts : List ℕ) (i : ℕ) (ys : List Step) (kind f : ℕ) → i ≡ 0 → Halfway t k xs e parts i ys kind f → Meets t xs e ys f
+pub landed : (t : Tables) (k : ℕ) (xs : List Step) (e : ℕ) (parts : List ℕ) (i : ℕ) (ys : List Step)
+    (kind f : ℕ) → i ≡ 0 → Halfway t k xs e parts i ys kind f → Meets t xs e ys f
 landed t k xs e parts i ys kind f none h =
     let h' : Halfway t k xs e parts 0 ys kind f = rw (← none) h in
     let same = top_is h'.climbs.trace in
@@ -169,18 +198,24 @@ landed t k xs e parts i ys kind f none h =
     top_is : {own : ℕ} {cuts : List Cut} → Lies t e [] own cuts → e ≡ own
     top_is itself = refl
 
-pub half_edge : (t : Tables) (k : ℕ) (xs : List Step) (e : ℕ) (parts : List ℕ) (i : ℕ) (ys : List Step) (kind f : ℕ) → Halfway t k xs e parts i ys kind f → IsSome (type_of t kind f)
+pub half_edge : (t : Tables) (k : ℕ) (xs : List Step) (e : ℕ) (parts : List ℕ) (i : ℕ) (ys : List Step)
+    (kind f : ℕ) → Halfway t k xs e parts i ys kind f → IsSome (type_of t kind f)
 half_edge t k xs e parts i ys kind f h = rw h.mated.other_is refl
 
 -- all that one level down needs and gives
 pub record Onward (t : Tables) (k : ℕ) (xs : List Step) (e : ℕ) (parts : List ℕ) (i : ℕ) (ys : List Step) (kind f : ℕ) : Type 0 where
   pub inside : get_or parts i 0 < part_count t kind f
   pub part : (q : ℕ) → q + (get_or parts i 0 + 1) ≡ part_count t kind f → IsSome (part_of t kind f q)
-  pub child : (q : ℕ) (next : ChildEdge) → q + (get_or parts i 0 + 1) ≡ part_count t kind f → part_of t kind f q ≡ Some next → IsSome (child_kind_of t kind next.child)
-  pub more : (q : ℕ) (next : ChildEdge) (kind' : ℕ) (zs : List Step) → q + (get_or parts i 0 + 1) ≡ part_count t kind f → part_of t kind f q ≡ Some next
-      → child_kind_of t kind next.child ≡ Some kind' → drop i zs ≡ (record { child = next.child; parent = kind }) ∷ drop (i + 1) ys → Halfway t k xs e parts i zs kind' next.edge
+  pub child : (q : ℕ) (next : ChildEdge) → q + (get_or parts i 0 + 1) ≡ part_count t kind f
+      → part_of t kind f q ≡ Some next → IsSome (child_kind_of t kind next.child)
+  pub more : (q : ℕ) (next : ChildEdge) (kind' : ℕ) (zs : List Step)
+      → q + (get_or parts i 0 + 1) ≡ part_count t kind f → part_of t kind f q ≡ Some next
+      → child_kind_of t kind next.child ≡ Some kind'
+      → drop i zs ≡ (record { child = next.child; parent = kind }) ∷ drop (i + 1) ys
+      → Halfway t k xs e parts i zs kind' next.edge
 
-pub onward : (t : Tables) (k : ℕ) (xs : List Step) (e level b g : ℕ) (parts : List ℕ) (i n : ℕ) (ys : List Step) (kind f : ℕ) → IsCoherent t → IsChain t k xs
+pub onward : (t : Tables) (k : ℕ) (xs : List Step) (e level b g : ℕ) (parts : List ℕ) (i n : ℕ)
+    (ys : List Step) (kind f : ℕ) → IsCoherent t → IsChain t k xs
     → MetAt t xs e level b g parts → i < level → n ≡ i + 1 → Halfway t k xs e parts n ys kind f → Onward t k xs e parts i ys kind f
 onward t k xs e level b g parts i n ys kind f coherent fits m below more h =
     let in_xs : i < length xs = omega (arith, below, slice_get_within xs level m.step m.at) in
@@ -188,6 +223,8 @@ onward t k xs e level b g parts i n ys kind f coherent fits m below more h =
     record {
       inside = half_part t k xs e parts i n ys kind f coherent fits in_xs in_parts more h;
       part = λ q mirror. let a = half_across t k xs e parts i n ys kind f q coherent fits in_xs in_parts more h mirror in rw a.1.below_is refl;
-      child = λ q next mirror is. let a = half_across t k xs e parts i n ys kind f q coherent fits in_xs in_parts more h mirror in half_child t (level_kind k xs i) a.0 kind f q next a.1 is;
-      more = λ q next kind' zs mirror is child down. half_next t k xs e parts i n ys kind f q next kind' zs coherent fits in_xs in_parts more h mirror is child down;
+      child = λ q next mirror is. let a = half_across t k xs e parts i n ys kind f q coherent fits in_xs
+          in_parts more h mirror in half_child t (level_kind k xs i) a.0 kind f q next a.1 is;
+      more = λ q next kind' zs mirror is child down. half_next t k xs e parts i n ys kind f q next kind' zs
+          coherent fits in_xs in_parts more h mirror is child down;
     }

@@ -3,8 +3,8 @@ use Rattle.std.proofs.Common.{◌≡◌, inl, inr, ℕ, zero, suc, ◌+◌, ◌*
 use Rattle.std.specs.List.{slice_get, concat}
 use Rattle.std.proofs.lemmas.Option.{slice_get-get_or}
 use Rattle.std.proofs.Math.Seq.{take-append_seam}
-use Rattle.addressing.specs.Search.{IsAmong}
-use Rattle.addressing.proofs.Ranges.{among-append, place-among}
+use Rattle.theory_addresses.specs.Search.{IsAmong}
+use Rattle.theory_addresses.proofs.Ranges.{among-append, place-among}
 use Rattle.transducer_core.specs.Merged.{Stands}
 use Rattle.transducer_core.specs.Merging.{ends_of, AreKept, StandsLast, IsPlaced, ArePlaced, AllStand}
 use Rattle.transducer_core.proofs.Once.{once_known, once_fresh}
@@ -14,10 +14,12 @@ pub ends_length : (from : ℕ) (kept : List (List ℕ)) → length (ends_of from
 ends_length from [] = refl
 ends_length from (b ∷ bs) = ap suc (ends_length (from + length b) bs)
 
-ends_push : (from : ℕ) (kept : List (List ℕ)) (b : List ℕ) → ends_of from (kept ++ b ∷ []) ≡ ends_of from kept ++ (from + length (concat kept) + length b) ∷ []
+ends_push : (from : ℕ) (kept : List (List ℕ)) (b : List ℕ) → ends_of from (kept ++ b ∷ []) ≡ ends_of from kept
+    ++ (from + length (concat kept) + length b) ∷ []
 ends_push from [] b = let e : from + length b ≡ from + 0 + length b = omega arith in ap (λ (n : ℕ). n ∷ []) e
 ends_push from (x ∷ xs) b =
-    let e : from + length x + length (concat xs) + length b ≡ from + length (x ++ concat xs) + length b = omega (arith, length-append x (concat xs)) in
+    let e : from + length x + length (concat xs) + length b ≡ from + length (x ++ concat xs) + length b
+    = omega (arith, length-append x (concat xs)) in
     ap (λ (l : List ℕ). (from + length x) ∷ l) (ends_push (from + length x) xs b ∙ ap (λ (n : ℕ). ends_of (from + length x) xs ++ n ∷ []) e)
 
 pub record EndsAt (from : ℕ) (kept : List (List ℕ)) (i e : ℕ) : Type 0 where
@@ -52,13 +54,23 @@ pub record Look (kept : List (List ℕ)) (block words : List ℕ) (begin last i 
   pub last_reads : take (length words - last) (drop last words) ≡ block
 
 pub last_stands : (kept : List (List ℕ)) (block words ends : List ℕ) (last : ℕ) → StandsLast kept block words ends last → Stands words last block
-last_stands kept block words ends last h = record { front = concat kept; rest = []; words_are = h.words_are ∙ ap (λ (l : List ℕ). concat kept ++ l) (sym (append-none block)); start_is = h.last_is }
+last_stands kept block words ends last h = record {
+  front = concat kept;
+  rest = [];
+  words_are = h.words_are
+      ∙ ap (λ (l : List ℕ). concat kept ++ l) (sym (append-none block));
+  start_is = h.last_is;
+}
 
-pub look : (kept : List (List ℕ)) (block words ends : List ℕ) (begin last i e : ℕ) → StandsLast kept block words ends last → IsPast kept block begin i → slice_get ends i ≡ Some e → Look kept block words begin last i e
+pub look : (kept : List (List ℕ)) (block words ends : List ℕ) (begin last i e : ℕ)
+    → StandsLast kept block words ends last → IsPast kept block begin i → slice_get ends i ≡ Some e
+    → Look kept block words begin last i e
 look kept block words ends begin last i e h past at =
     let r = ends_at 0 kept i e (ap (λ (l : List ℕ). slice_get l i) (sym h.ends_are) ∙ at) in
     let room = room_at kept i r.block r.at in
-    let there : Stands words begin r.block = rw (h.words_are, past.begin_is) (Stands-more (concat kept) block (length (concat (take i kept))) r.block (stands_at kept i r.block r.at)) in
+    let there : Stands words begin r.block = rw (h.words_are, past.begin_is)
+    (Stands-more (concat kept) block (length (concat (take i kept))) r.block
+    (stands_at kept i r.block r.at)) in
     let size : length words ≡ length (concat kept) + length block = ap (λ (l : List ℕ). length l) h.words_are ∙ length-append (concat kept) block in
     record {
       earlier = r.block;
@@ -70,7 +82,9 @@ look kept block words ends begin last i e h past at =
       last_reads = block_read words last (length words - last) block (last_stands kept block words ends last h) (omega (arith, size, h.last_is));
     }
 
-pub found : (kept : List (List ℕ)) (block words : List ℕ) (begin last i e : ℕ) → IsPast kept block begin i → Look kept block words begin last i e → take (e - begin) (drop begin words) ≡ take (length words - last) (drop last words)
+pub found : (kept : List (List ℕ)) (block words : List ℕ) (begin last i e : ℕ) → IsPast kept block begin i
+    → Look kept block words begin last i e → take (e - begin) (drop begin words) ≡ take (length words - last)
+    (drop last words)
     → Stands (concat kept) begin block × IsAmong block kept
 found kept block words begin last i e past l equal =
     let same : l.earlier ≡ block = sym l.reads ∙ equal ∙ l.last_reads in
@@ -81,7 +95,9 @@ pub past_more : (kept : List (List ℕ)) (block words : List ℕ) (begin last i 
     → (take (e - begin) (drop begin words) ≡ take (length words - last) (drop last words) → ⊥) → IsPast kept block e (i + 1)
 past_more kept block words begin last i e past l other =
     let more = take_at kept i l.earlier l.at in
-    let joined : concat (take (i + 1) kept) ≡ concat (take i kept) ++ l.earlier = ap concat more ∙ concat-append (take i kept) (l.earlier ∷ []) ∙ ap (λ (w : List ℕ). concat (take i kept) ++ w) (append-none l.earlier) in
+    let joined : concat (take (i + 1) kept) ≡ concat (take i kept) ++ l.earlier = ap concat more
+    ∙ concat-append (take i kept) (l.earlier ∷ [])
+    ∙ ap (λ (w : List ℕ). concat (take i kept) ++ w) (append-none l.earlier) in
     record {
       begin_is = omega (arith, ap (λ (w : List ℕ). length w) joined, length-append (concat (take i kept)) l.earlier, past.begin_is, l.end_is);
       fresh = λ a.
@@ -93,19 +109,25 @@ past_more kept block words begin last i e past l other =
     }
 
 -- ---- one more
-pub kept_more : (kept : List (List ℕ)) (block words ends longer ends' : List ℕ) (n : ℕ) → AreKept kept words ends → longer ≡ words ++ block → n ≡ length longer → ends' ≡ ends ++ n ∷ [] → AreKept (kept ++ block ∷ []) longer ends'
+pub kept_more : (kept : List (List ℕ)) (block words ends longer ends' : List ℕ) (n : ℕ)
+    → AreKept kept words ends → longer ≡ words ++ block → n ≡ length longer → ends' ≡ ends ++ n ∷ []
+    → AreKept (kept ++ block ∷ []) longer ends'
 kept_more kept block words ends longer ends' n h longer_is n_is ends_is =
     let here : longer ≡ concat kept ++ block = longer_is ∙ ap (λ (w : List ℕ). w ++ block) h.words_are in
-    let size : n ≡ 0 + length (concat kept) + length block = omega (arith, n_is, ap (λ (l : List ℕ). length l) here, length-append (concat kept) block) in
+    let size : n ≡ 0 + length (concat kept) + length block = omega
+    (arith, n_is, ap (λ (l : List ℕ). length l) here, length-append (concat kept) block) in
     record {
       words_are = here ∙ ap (λ (w : List ℕ). concat kept ++ w) (sym (append-none block)) ∙ sym (concat-append kept (block ∷ []));
       ends_are = ends_is ∙ ap (λ (l : List ℕ). l ++ n ∷ []) h.ends_are ∙ ap (λ (m : ℕ). ends_of 0 kept ++ m ∷ []) size ∙ sym (ends_push 0 kept block);
     }
 
 -- ---- the last block, kept or not
-pub kept_known : (kept : List (List ℕ)) (block words ends cut : List ℕ) (last start : ℕ) → StandsLast kept block words ends last → cut ≡ take last words → Stands (concat kept) start block → IsAmong block kept → IsPlaced kept block cut ends start
+pub kept_known : (kept : List (List ℕ)) (block words ends cut : List ℕ) (last start : ℕ)
+    → StandsLast kept block words ends last → cut ≡ take last words → Stands (concat kept) start block
+    → IsAmong block kept → IsPlaced kept block cut ends start
 kept_known kept block words ends cut last start h cut_is stands among =
-    let front : cut ≡ concat kept = cut_is ∙ ap (take last) h.words_are ∙ ap (λ (n : ℕ). take n (concat kept ++ block)) h.last_is ∙ take-append_seam (concat kept) block in
+    let front : cut ≡ concat kept = cut_is ∙ ap (take last) h.words_are
+    ∙ ap (λ (n : ℕ). take n (concat kept ++ block)) h.last_is ∙ take-append_seam (concat kept) block in
     let none = append-none kept in
     record {
       more = [];
@@ -116,12 +138,15 @@ kept_known kept block words ends cut last start h cut_is stands among =
       once = λ all once. rw none (once_known block all kept once among);
     }
 
-pub kept_fresh : (kept : List (List ℕ)) (block words ends longer : List ℕ) (last : ℕ) → StandsLast kept block words ends last → longer ≡ ends ++ length words ∷ [] → (IsAmong block kept → ⊥) → IsPlaced kept block words longer last
+pub kept_fresh : (kept : List (List ℕ)) (block words ends longer : List ℕ) (last : ℕ)
+    → StandsLast kept block words ends last → longer ≡ ends ++ length words ∷ [] → (IsAmong block kept → ⊥)
+    → IsPlaced kept block words longer last
 kept_fresh kept block words ends longer last h longer_is fresh =
     let none = append-none block in
     record {
       more = block ∷ [];
-      kept_are = kept_more kept block (concat kept) ends words longer (length words) (record { words_are = refl; ends_are = h.ends_are }) h.words_are refl longer_is;
+      kept_are = kept_more kept block (concat kept) ends words longer (length words)
+          (record { words_are = refl; ends_are = h.ends_are }) h.words_are refl longer_is;
       stands = last_stands kept block words ends last h;
       few = omega arith;
       short = omega (arith, ap (λ (w : List ℕ). length w) none);
@@ -143,11 +168,14 @@ placed_none kept words ends before h =
       once = λ all once. rw (append-none all, none) once;
     }
 
-pub words_grown : (kept more : List (List ℕ)) (words ends longer : List ℕ) → words ≡ concat kept → AreKept (kept ++ more) longer ends → longer ≡ words ++ concat more
+pub words_grown : (kept more : List (List ℕ)) (words ends longer : List ℕ) → words ≡ concat kept
+    → AreKept (kept ++ more) longer ends → longer ≡ words ++ concat more
 words_grown kept more words ends longer is h = h.words_are ∙ concat-append kept more ∙ ap (λ (w : List ℕ). w ++ concat more) (sym is)
 
-pub placed_more : (kept row : List (List ℕ)) (block words ends before after longer ends' after' : List ℕ) (start : ℕ) → length block ≤ 16 → (p : ArePlaced kept row words ends before after)
-    → IsPlaced (kept ++ p.more) block longer ends' start → after' ≡ after ++ start ∷ [] → ArePlaced kept (row ++ block ∷ []) longer ends' before after'
+pub placed_more : (kept row : List (List ℕ)) (block words ends before after longer ends' after' : List ℕ)
+    (start : ℕ) → length block ≤ 16 → (p : ArePlaced kept row words ends before after)
+    → IsPlaced (kept ++ p.more) block longer ends' start → after' ≡ after ++ start ∷ []
+    → ArePlaced kept (row ++ block ∷ []) longer ends' before after'
 placed_more kept row block words ends before after longer ends' after' start size p one after_is =
     let both = append_assoc kept p.more one.more in
     let grown = words_grown (kept ++ p.more) one.more words ends' longer p.kept_are.words_are one.kept_are in
@@ -159,12 +187,23 @@ placed_more kept row block words ends before after longer ends' after' start siz
       more = p.more ++ one.more;
       kept_are = record { words_are = one.kept_are.words_are ∙ ap concat both; ends_are = one.kept_are.ends_are ∙ ap (ends_of 0) both };
       few = omega (arith, length-append p.more one.more, length-append row (block ∷ []), p.few, one.few);
-      short = omega (arith, ap (λ (w : List ℕ). length w) (concat-append p.more one.more), length-append (concat p.more) (concat one.more), length-append row (block ∷ []), p.short, one.short, size);
+      short = omega (
+        arith,
+        ap (λ (w : List ℕ). length w) (concat-append p.more one.more),
+        length-append
+            (concat p.more) (concat one.more),
+        length-append row (block ∷ []),
+        p.short,
+        one.short,
+        size,
+      );
       once = λ all once. rw (← both, ← append_assoc all row (block ∷ [])) (one.once (all ++ row) (p.once all once));
     }
 
 -- a block that is written behind those that are kept
-pub last_of_row : (kept : List (List ℕ)) (block words longer ends : List ℕ) (last : ℕ) → AreKept kept words ends → longer ≡ words ++ block → last ≡ length words → StandsLast kept block longer ends last
+pub last_of_row : (kept : List (List ℕ)) (block words longer ends : List ℕ) (last : ℕ)
+    → AreKept kept words ends → longer ≡ words ++ block → last ≡ length words
+    → StandsLast kept block longer ends last
 last_of_row kept block words longer ends last h longer_is last_is = record {
   words_are = longer_is ∙ ap (λ (w : List ℕ). w ++ block) h.words_are;
   ends_are = h.ends_are;
@@ -172,6 +211,15 @@ last_of_row kept block words longer ends last h longer_is last_is = record {
 }
 
 -- the words of a row are few
-pub words_short : (kept row : List (List ℕ)) (words ends longer ends' before after : List ℕ) → AreKept kept words ends → ArePlaced kept row longer ends' before after → length longer ≤ length words + 16 * length row
+pub words_short : (kept row : List (List ℕ)) (words ends longer ends' before after : List ℕ)
+    → AreKept kept words ends → ArePlaced kept row longer ends' before after
+    → length longer ≤ length words + 16 * length row
 words_short kept row words ends longer ends' before after h p =
-    omega (arith, ap (λ (w : List ℕ). length w) (words_grown kept p.more words ends' longer h.words_are p.kept_are), length-append words (concat p.more), p.short)
+    omega (
+      arith,
+      ap (λ (w : List ℕ). length w)
+          (words_grown kept p.more words ends' longer h.words_are p.kept_are),
+      length-append words
+          (concat p.more),
+      p.short,
+    )

@@ -10,5 +10,7 @@ err_is : {A : Type 0} (x : Result A Outside) (o u : Outside) → x ≡ Err o →
 err_is x o u e f = cc
 
 -- an edge on the boundary lies on one edge of the supertile, on one part of it
-pub outside_is : {A : Type 0} (x : Result A Outside) (o : Outside) (top other : ℕ) → x ≡ Err o → x ≡ Err (record { edge = top; part = other }) → (top ≡ o.edge) × (other ≡ o.part)
-outside_is x o top other e f = let one = err_is x o (record { edge = top; part = other }) e f in (ap (λ (u : Outside). u.edge) one, ap (λ (u : Outside). u.part) one)
+pub outside_is : {A : Type 0} (x : Result A Outside) (o : Outside) (top other : ℕ) → x ≡ Err o
+    → x ≡ Err (record { edge = top; part = other }) → (top ≡ o.edge) × (other ≡ o.part)
+outside_is x o top other e f = let one = err_is x o (record { edge = top; part = other }) e
+    f in (ap (λ (u : Outside). u.edge) one, ap (λ (u : Outside). u.part) one)

@@ -5,19 +5,20 @@ use Rattle.std.proofs.lemmas.Option.{slice_get-get_or, slice_get-map, get_or_fro
 use Rattle.std.proofs.lemmas.List.{take_more, map-append, reverse-reverse, get_or_at}
 use Rattle.tile_shape.specs.declared.step.Step as program
 use Rattle.tile_shape.specs.Views.{step_of}
-use Rattle.addressing.specs.Address.{Step, Address}
-use Rattle.addressing.specs.Contact.{inner, outer}
-use Rattle.addressing.specs.Tables.{Tables, type_of, contact_of, part_count}
-use Rattle.addressing.specs.Coherent.{IsCoherent}
-use Rattle.addressing.specs.Trace.{Cut, first_part}
-use Rattle.addressing.proofs.Chains.{IsChain, IsChain-at, level_kind}
-use Rattle.addressing.proofs.Traces.{Lies, itself, Lies-snoc, lies_of, trace_of, reverse_cons}
-use Rattle.addressing.proofs.Mated.{contact_exists}
+use Rattle.theory_addresses.specs.Address.{Step, Address}
+use Rattle.theory_addresses.specs.Contact.{inner, outer}
+use Rattle.theory_addresses.specs.Tables.{Tables, type_of, contact_of, part_count}
+use Rattle.theory_addresses.specs.Coherent.{IsCoherent}
+use Rattle.theory_addresses.specs.Trace.{Cut, first_part}
+use Rattle.theory_addresses.proofs.Chains.{IsChain, IsChain-at, level_kind}
+use Rattle.theory_addresses.proofs.Traces.{Lies, itself, Lies-snoc, lies_of, trace_of, reverse_cons}
+use Rattle.theory_addresses.proofs.Mated.{contact_exists}
 use Rattle.transducer_core.specs.declared.climb.Meeting.{Meeting}
 use Rattle.transducer_core.specs.Climbing.{Rises, MeetsAt}
 
 -- a digit that is read, as the theory has it
-pub digit_read : (xs ys : List program.Step) (i : ℕ) (d : program.Step) → xs ≡ ys → i < length xs → slice_get (map step_of ys) i ≡ Some (step_of (get_or xs i d))
+pub digit_read : (xs ys : List program.Step) (i : ℕ) (d : program.Step) → xs ≡ ys → i < length xs
+    → slice_get (map step_of ys) i ≡ Some (step_of (get_or xs i d))
 digit_read xs ys i d e h = rw (← e, slice_get-map step_of xs i, slice_get-get_or xs i d h) refl
 
 -- edge e lies on edge `own` of the ancestor at that level, by these parts
@@ -42,7 +43,8 @@ rises_of a h = record { cuts = reverse h.cuts; parts_are = rw (reverse-reverse h
 pub climbed_of : {t : Tables} {e level own : ℕ} {parts : List ℕ} (a : Address) → Rises t a e level own parts → Climbed t a.digits e level own parts
 climbed_of a h = record { cuts = reverse h.cuts; parts_are = h.parts_are; trace = lies_of h.trace }
 
-pub met_of : {t : Tables} {e : ℕ} {m : Meeting} {parts : List ℕ} (a : Address) → MeetsAt t a e m parts → MetAt t a.digits e m.level (m.word % 256) (m.word / 256 % 256) parts
+pub met_of : {t : Tables} {e : ℕ} {m : Meeting} {parts : List ℕ} (a : Address) → MeetsAt t a e m parts
+    → MetAt t a.digits e m.level (m.word % 256) (m.word / 256 % 256) parts
 met_of a h = record { own = h.own; step = h.step; climbs = climbed_of a h.rises; at = h.digit; met = h.met; count = h.count }
 
 -- the climb, as far as it has come
@@ -54,13 +56,15 @@ pub record Rising (t : Tables) (k : ℕ) (ds : List Step) (e i own : ℕ) (parts
 pub rise_start : (t : Tables) (k : ℕ) (ds : List Step) (e : ℕ) → IsSome (type_of t k e) → Rising t k ds e 0 e []
 rise_start t k ds e edge = record { count = refl; climbs = record { cuts = []; parts_are = refl; trace = itself }; edge = edge }
 
-pub rise_exists : (t : Tables) (k : ℕ) (ds : List Step) (e i own : ℕ) (parts : List ℕ) (s : Step) → IsCoherent t → IsChain t k ds → Rising t k ds e i own parts
+pub rise_exists : (t : Tables) (k : ℕ) (ds : List Step) (e i own : ℕ) (parts : List ℕ) (s : Step)
+    → IsCoherent t → IsChain t k ds → Rising t k ds e i own parts
     → slice_get ds i ≡ Some s → IsSome (contact_of t s.parent s.child own)
 rise_exists t k ds e i own parts s coherent fits r is =
     let at = IsChain-at t k ds i s fits is in
     contact_exists t s.parent s.child (level_kind k ds i) own coherent at.0 r.edge
 
-pub rise_more : (t : Tables) (k : ℕ) (ds : List Step) (e i own : ℕ) (parts : List ℕ) (s : Step) (f p : ℕ) → IsCoherent t → IsChain t k ds → Rising t k ds e i own parts
+pub rise_more : (t : Tables) (k : ℕ) (ds : List Step) (e i own : ℕ) (parts : List ℕ) (s : Step) (f p : ℕ)
+    → IsCoherent t → IsChain t k ds → Rising t k ds e i own parts
     → slice_get ds i ≡ Some s → contact_of t s.parent s.child own ≡ Some (outer f p) → Rising t k ds e (i + 1) f (parts ++ p ∷ [])
 rise_more t k ds e i own parts s f p coherent fits r is met =
     let at = IsChain-at t k ds i s fits is in
@@ -78,8 +82,11 @@ rise_more t k ds e i own parts s f p coherent fits r is met =
       edge = rw at.1 (coherent.outer_edge s.parent s.child own f p met);
     }
 
-pub rise_meets : (t : Tables) (k : ℕ) (ds : List Step) (e i own : ℕ) (parts : List ℕ) (s : Step) (at word : ℕ) → at ≡ 256 * s.parent + s.child → Rising t k ds e i own parts
-    → slice_get ds i ≡ Some s → contact_of t s.parent s.child own ≡ Some (inner (word % 256) (word / 256 % 256)) → MeetsAt t (record { kind = k; digits = ds }) e (record { level = i; at = at; word = word }) parts
+pub rise_meets : (t : Tables) (k : ℕ) (ds : List Step) (e i own : ℕ) (parts : List ℕ) (s : Step) (at word : ℕ)
+    → at ≡ 256 * s.parent + s.child → Rising t k ds e i own parts
+    → slice_get ds i ≡ Some s → contact_of t s.parent s.child own ≡ Some
+    (inner (word % 256) (word / 256 % 256)) → MeetsAt t (record { kind = k; digits = ds }) e
+    (record { level = i; at = at; word = word }) parts
 rise_meets t k ds e i own parts s at word cell r is met =
     record { own = own; step = s; rises = rises_of (record { kind = k; digits = ds }) r.climbs; digit = is; at_is = cell; met = met; count = r.count }
 
@@ -88,7 +95,8 @@ pub rise_ends : (t : Tables) (k : ℕ) (ds : List Step) (e i own : ℕ) (parts :
 rise_ends t k ds e i own parts r end = rw (← end) (rises_of (record { kind = k; digits = ds }) r.climbs)
 
 -- the last part kept is the first of the trace
-pub last_part : (cuts : List Cut) → get_or (map (λ (c : Cut). c.part) (reverse cuts)) (length (map (λ (c : Cut). c.part) (reverse cuts)) - 1) 0 ≡ first_part cuts
+pub last_part : (cuts : List Cut) → get_or (map (λ (c : Cut). c.part) (reverse cuts))
+    (length (map (λ (c : Cut). c.part) (reverse cuts)) - 1) 0 ≡ first_part cuts
 last_part [] = refl
 last_part (c ∷ cuts) =
     let split : map (λ (c : Cut). c.part) (reverse (c ∷ cuts)) ≡ map (λ (c : Cut). c.part) (reverse cuts) ++ c.part ∷ [] =

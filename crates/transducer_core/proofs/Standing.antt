@@ -4,8 +4,8 @@ use Rattle.std.proofs.lemmas.Option.{slice_get-map, slice_get_read, get_or_from_
 use Rattle.std.proofs.lemmas.List.{take_more}
 use Rattle.std.proofs.Math.Seq.{drop-append_seam, take-append_seam}
 use Rattle.std.specs.List.{slice_get, concat, flat_map, AllByRecursion}
-use Rattle.addressing.proofs.Lists.{AllByRecursion-among}
-use Rattle.addressing.proofs.Ranges.{place-among}
+use Rattle.theory_addresses.proofs.Lists.{AllByRecursion-among}
+use Rattle.theory_addresses.proofs.Ranges.{place-among}
 use Rattle.transducer_core.specs.Merged.{Stands, IsMerged, AreSpread}
 use Rattle.transducer_core.specs.Once.{AreOnce}
 use Rattle.transducer_core.specs.Merging.{AllStand}
@@ -64,13 +64,15 @@ AllStand-more words more [] (b ∷ bs) h = elim h [ ]
 AllStand-more words more (s ∷ ss) [] h = elim h [ ]
 AllStand-more words more (s ∷ ss) (b ∷ bs) h = (Stands-more words more s b h.0, AllStand-more words more ss bs h.1)
 
-pub AllStand-push : (words ss : List ℕ) (bs : List (List ℕ)) (s : ℕ) (b : List ℕ) → AllStand words ss bs → Stands words s b → AllStand words (ss ++ s ∷ []) (bs ++ b ∷ [])
+pub AllStand-push : (words ss : List ℕ) (bs : List (List ℕ)) (s : ℕ) (b : List ℕ) → AllStand words ss bs
+    → Stands words s b → AllStand words (ss ++ s ∷ []) (bs ++ b ∷ [])
 AllStand-push words [] [] s b h here = (here, tt)
 AllStand-push words [] (c ∷ bs) s b h here = elim h [ ]
 AllStand-push words (r ∷ ss) [] s b h here = elim h [ ]
 AllStand-push words (r ∷ ss) (c ∷ bs) s b h here = (h.0, AllStand-push words ss bs s b h.1 here)
 
-pub AllStand-at : (words ss : List ℕ) (bs : List (List ℕ)) (c : ℕ) (b : List ℕ) → AllStand words ss bs → slice_get bs c ≡ Some b → (s : ℕ) × (slice_get ss c ≡ Some s) × Stands words s b
+pub AllStand-at : (words ss : List ℕ) (bs : List (List ℕ)) (c : ℕ) (b : List ℕ) → AllStand words ss bs
+    → slice_get bs c ≡ Some b → (s : ℕ) × (slice_get ss c ≡ Some s) × Stands words s b
 AllStand-at words [] [] c b h e = absurd cc
 AllStand-at words [] (d ∷ bs) c b h e = elim h [ ]
 AllStand-at words (s ∷ ss) [] c b h e = elim h [ ]
@@ -96,13 +98,16 @@ RowsStand-more words more [] (b ∷ bs) h = elim h [ ]
 RowsStand-more words more (s ∷ ss) [] h = elim h [ ]
 RowsStand-more words more (s ∷ ss) (b ∷ bs) h = (AllStand-more words more s b h.0, RowsStand-more words more ss bs h.1)
 
-pub RowsStand-push : (words : List ℕ) (ss : List (List ℕ)) (bs : List (List (List ℕ))) (s : List ℕ) (b : List (List ℕ)) → RowsStand words ss bs → AllStand words s b → RowsStand words (ss ++ s ∷ []) (bs ++ b ∷ [])
+pub RowsStand-push : (words : List ℕ) (ss : List (List ℕ)) (bs : List (List (List ℕ))) (s : List ℕ)
+    (b : List (List ℕ)) → RowsStand words ss bs → AllStand words s b
+    → RowsStand words (ss ++ s ∷ []) (bs ++ b ∷ [])
 RowsStand-push words [] [] s b h here = (here, tt)
 RowsStand-push words [] (c ∷ bs) s b h here = elim h [ ]
 RowsStand-push words (r ∷ ss) [] s b h here = elim h [ ]
 RowsStand-push words (r ∷ ss) (c ∷ bs) s b h here = (h.0, RowsStand-push words ss bs s b h.1 here)
 
-pub RowsStand-at : (words : List ℕ) (ss : List (List ℕ)) (bs : List (List (List ℕ))) (k : ℕ) (row : List (List ℕ)) → RowsStand words ss bs → slice_get bs k ≡ Some row
+pub RowsStand-at : (words : List ℕ) (ss : List (List ℕ)) (bs : List (List (List ℕ))) (k : ℕ)
+    (row : List (List ℕ)) → RowsStand words ss bs → slice_get bs k ≡ Some row
     → (s : List ℕ) × (slice_get ss k ≡ Some s) × AllStand words s row
 RowsStand-at words [] [] k row h e = absurd cc
 RowsStand-at words [] (d ∷ bs) k row h e = elim h [ ]
@@ -114,14 +119,20 @@ RowsStand-at words (s ∷ ss) (d ∷ bs) (suc k) row h e = RowsStand-at words ss
 pub of_row : {A : Type 0} (P : A → Type 0) (xs : List A) (i : ℕ) (x : A) → slice_get xs i ≡ Some x → AllByRecursion P xs → P x
 of_row P xs i x at all = AllByRecursion-among P x xs (place-among x xs i at) all
 
-pub flat_map-append : (xs ys : List (List (List ℕ))) → flat_map (λ (row : List (List ℕ)). row) (xs ++ ys) ≡ flat_map (λ (row : List (List ℕ)). row) xs ++ flat_map (λ (row : List (List ℕ)). row) ys
+pub flat_map-append : (xs ys : List (List (List ℕ)))
+    → flat_map (λ (row : List (List ℕ)). row) (xs ++ ys) ≡ flat_map (λ (row : List (List ℕ)). row) xs
+    ++ flat_map (λ (row : List (List ℕ)). row) ys
 flat_map-append [] ys = refl
 flat_map-append (x ∷ xs) ys =
-    ap (λ l. x ++ l) (flat_map-append xs ys) ∙ sym (append_assoc x (flat_map (λ (row : List (List ℕ)). row) xs) (flat_map (λ (row : List (List ℕ)). row) ys))
+    ap (λ l. x ++ l) (flat_map-append xs ys) ∙ sym
+    (append_assoc x (flat_map (λ (row : List (List ℕ)). row) xs)
+    (flat_map (λ (row : List (List ℕ)). row) ys))
 
 -- where each block of each row begins, from the places of the rows' blocks
 pub merged_of : (rows : List (List (List ℕ))) (starts : List (List ℕ)) (flat words : List ℕ) (kept : List (List ℕ)) (count : ℕ)
-    → RowsStand words starts rows → AreSpread starts flat → AreOnce (flat_map (λ (row : List (List ℕ)). row) rows) kept → words ≡ concat kept → count ≡ length kept → IsMerged rows flat words count
+    → RowsStand words starts rows → AreSpread starts flat
+    → AreOnce (flat_map (λ (row : List (List ℕ)). row) rows) kept → words ≡ concat kept
+    → count ≡ length kept → IsMerged rows flat words count
 merged_of rows starts flat words kept count stand spread once words_are count_is = record {
   begins = λ k c row block is there.
       let line = RowsStand-at words starts rows k row stand is in

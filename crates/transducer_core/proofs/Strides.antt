@@ -3,7 +3,7 @@ use Rattle.std.proofs.Common.{◌≡◌, inl, inr, ℕ, suc, ◌+◌, ◌*◌, �
 use Rattle.std.specs.List.{slice_get}
 use Rattle.std.proofs.lemmas.Bool.{cases_lt}
 use Rattle.std.proofs.lemmas.Option.{slice_get_within}
-use Rattle.addressing.proofs.Ranges.{slice_get-append_left, slice_get-append_last}
+use Rattle.theory_addresses.proofs.Ranges.{slice_get-append_left, slice_get-append_last}
 use Rattle.transducer_core.specs.Merged.{AreSpread}
 
 pub slice_get-append_right : {A : Type 0} (xs ys : List A) (j : ℕ) → slice_get (xs ++ ys) (length xs + j) ≡ slice_get ys j
@@ -26,7 +26,8 @@ last_of xs x k y far e =
 pub spread_none : (flat : List ℕ) → AreSpread {A = ℕ} [] flat
 spread_none flat = λ k c row x is there. absurd cc
 
-pub spread_more : (done : List (List ℕ)) (row flat pad : List ℕ) → length flat ≡ 256 * length done → AreSpread done flat → AreSpread (done ++ row ∷ []) ((flat ++ row) ++ pad)
+pub spread_more : (done : List (List ℕ)) (row flat pad : List ℕ) → length flat ≡ 256 * length done
+    → AreSpread done flat → AreSpread (done ++ row ∷ []) ((flat ++ row) ++ pad)
 spread_more done row flat pad size h = λ k c line x is there. elim (cases_lt k (length done)) [
   | inl lt ↦
       let old = h k c line x (sym (slice_get-append_left done (row ∷ []) k lt) ∙ is) there in
@@ -42,5 +43,7 @@ spread_more done row flat pad size h = λ k c line x is there. elim (cases_lt k 
       slice_get-append_left (flat ++ row) pad (256 * k + c) longer ∙ ap (slice_get (flat ++ row)) place ∙ slice_get-append_right flat row c ∙ there'
 ]
 
-pub spread_grown : (done : List (List ℕ)) (row flat longer whole pad : List ℕ) → longer ≡ flat ++ row → whole ≡ longer ++ pad → length flat ≡ 256 * length done → AreSpread done flat → AreSpread (done ++ row ∷ []) whole
+pub spread_grown : (done : List (List ℕ)) (row flat longer whole pad : List ℕ) → longer ≡ flat ++ row
+    → whole ≡ longer ++ pad → length flat ≡ 256 * length done → AreSpread done flat
+    → AreSpread (done ++ row ∷ []) whole
 spread_grown done row flat longer whole pad a b size h = rw (b, a) (spread_more done row flat pad size h)

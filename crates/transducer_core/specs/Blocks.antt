@@ -1,8 +1,8 @@
 -- The blocks of contact tables.
 use Rattle.std.specs.Prelude.{List}
 use Rattle.std.specs.List.{flat_map}
-use Rattle.addressing.specs.Contact.{Contact, ChildEdge}
-use Rattle.addressing.specs.Tables.{Tables, KindTables}
+use Rattle.theory_addresses.specs.Contact.{Contact, ChildEdge}
+use Rattle.theory_addresses.specs.Tables.{Tables, KindTables}
 
 -- the contact block of each child of each kind: its contacts, in the order of the edges
 abbrev pub contact_blocks : Tables → List (List Contact)

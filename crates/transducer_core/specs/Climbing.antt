@@ -1,9 +1,9 @@
 -- The climb from an edge, in the words of traces.
 use Rattle.std.specs.Prelude.{◌≡◌, ◌+◌, ◌*◌, ◌<◌, ◌/◌, ◌%◌, ◌^◌, ℕ, List, Some, Result, Ok, Err, length, map, reverse, take, slice_get, slice_set}
-use Rattle.addressing.specs.Address.{Step, Address, depth}
-use Rattle.addressing.specs.Contact.{inner}
-use Rattle.addressing.specs.Tables.{Tables, contact_of}
-use Rattle.addressing.specs.Trace.{Cut, IsTrace}
+use Rattle.theory_addresses.specs.Address.{Step, Address, depth}
+use Rattle.theory_addresses.specs.Contact.{inner}
+use Rattle.theory_addresses.specs.Tables.{Tables, contact_of}
+use Rattle.theory_addresses.specs.Trace.{Cut, IsTrace}
 use Rattle.transducer_core.specs.declared.climb.Meeting.{Meeting}
 
 -- the first digits, this number of them, have with edge e a trace to the edge `own`, by these parts, the

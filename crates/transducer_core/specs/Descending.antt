@@ -1,7 +1,7 @@
 -- The descent from a meeting.
 use Rattle.std.specs.Prelude.{◌≡◌, ◌+◌, ◌/◌, ◌%◌, ℕ, List, Some, IsSome, slice_get}
-use Rattle.addressing.specs.Address.{Address, Fits}
-use Rattle.addressing.specs.Tables.{Tables, child_kinds, type_of}
+use Rattle.theory_addresses.specs.Address.{Address, Fits}
+use Rattle.theory_addresses.specs.Tables.{Tables, child_kinds, type_of}
 use Rattle.tile_shape.specs.declared.step.Step.{Step}
 use Rattle.transducer_core.specs.declared.climb.Meeting.{Meeting}
 use Rattle.transducer_core.specs.declared.descent.Side.{Side}

@@ -1,8 +1,8 @@
 -- Contact tables in flat lists.
 use Rattle.std.specs.Prelude.{ℕ, ◌+◌, ◌-◌, ◌*◌, ◌/◌, List, [], ◌∷◌, ◌++◌, length, map, reverse, take, drop, get_or}
-use Rattle.addressing.specs.Contact.{Contact, ChildEdge}
-use Rattle.addressing.specs.Search.{below}
-use Rattle.addressing.specs.Tables.{Tables, KindTables}
+use Rattle.theory_addresses.specs.Contact.{Contact, ChildEdge}
+use Rattle.theory_addresses.specs.Search.{below}
+use Rattle.theory_addresses.specs.Tables.{Tables, KindTables}
 use Rattle.transducer_core.specs.Words.{contact_of_word, part_of_word}
 
 -- the lists of tables: the mates, the subdivision of each type, the types of the edges of each kind, and the

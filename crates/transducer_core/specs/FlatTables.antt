@@ -1,8 +1,8 @@
 -- When flat lists are laid out right.
 use Rattle.std.specs.Prelude.{ℕ, ◌*◌, List, map, Vec}
 use Rattle.std.specs.Global.{Global}
-use Rattle.addressing.specs.Coherent.{IsCoherent}
-use Rattle.addressing.specs.Tables.{Tables, KindTables, child_kinds}
+use Rattle.theory_addresses.specs.Coherent.{IsCoherent}
+use Rattle.theory_addresses.specs.Tables.{Tables, KindTables, child_kinds}
 use Rattle.transducer_core.specs.declared.joined.Joined.{Joined}
 use Rattle.transducer_core.specs.declared.merging.Merged.{Merged}
 use Rattle.transducer_core.specs.Flat.{Lists, lists_of, mates_in, subs_in, types_in, children_in, pieces}

@@ -1,6 +1,6 @@
 -- The different members of a list.
 use Rattle.std.specs.Prelude.{◌≡◌, ℕ, List, [], ◌∷◌, length}
-use Rattle.addressing.specs.Search.{IsAmong}
+use Rattle.theory_addresses.specs.Search.{IsAmong}
 
 -- no member is repeated
 abbrev pub HasNoneTwice : {A : Type 0} → List A → Type 0

@@ -1,6 +1,6 @@
 -- Entries of tables as words of 32 bits.
 use Rattle.std.specs.Prelude.{ℕ, ◌+◌, ◌*◌, ◌/◌, ◌%◌, nat_lt, cond, List, map, reverse}
-use Rattle.addressing.specs.Contact.{Contact, ChildEdge, inner, outer}
+use Rattle.theory_addresses.specs.Contact.{Contact, ChildEdge, inner, outer}
 
 -- the edge times 256, and the number of the part; of an inner contact that of the child, with 65536 on top
 abbrev pub word_of_contact : Contact → ℕ

@@ -1,8 +1,8 @@
 //! The way up from an edge, to where it is another child's edge or to the top.
 ghost use Rattle.std.specs.Prelude.{◌≡◌, ◌+◌, ◌*◌, ◌^◌, ◌<◌, ◌≤◌, ℕ, length, IsSome, IfOk, IfErr, OnOk};
-ghost use Rattle.addressing.specs.Address.{Fits};
-ghost use Rattle.addressing.specs.Coherent.{IsCoherent};
-ghost use Rattle.addressing.specs.Tables.{child_kinds, type_of};
+ghost use Rattle.theory_addresses.specs.Address.{Fits};
+ghost use Rattle.theory_addresses.specs.Coherent.{IsCoherent};
+ghost use Rattle.theory_addresses.specs.Tables.{child_kinds, type_of};
 ghost use Rattle.tile_shape.specs.Views.{address_of};
 ghost use Rattle.transducer_core.specs.Climbing.{EndsClimb, GoesUp};
 ghost use Rattle.transducer_core.specs.Merged.{HasEntry};
@@ -36,11 +36,15 @@ fn rise<L: Ledger>(
     steps: &mut Steps<L>,
 ) -> Result<usize, Meeting>
     requires level { level < 64 }
-    requires exists { (word : ℕ) × HasEntry contacts.starts.now contacts.words.now (256 * digit.parent + digit.child) own word }
-    ensures outer { IfOk result (λ next. (word : ℕ) × HasEntry contacts.entry.starts.now contacts.entry.words.now (256 * digit.parent + digit.child) own word
+    requires exists { (word : ℕ) × HasEntry contacts.starts.now contacts.words.now
+        (256 * digit.parent + digit.child) own word }
+    ensures outer { IfOk result (λ next. (word : ℕ)
+        × HasEntry contacts.entry.starts.now contacts.entry.words.now (256 * digit.parent + digit.child) own
+        word
         × GoesUp parts.old level word next parts.new) }
     ensures inner { IfErr result (λ m. (m.level ≡ level) × (m.at ≡ 256 * digit.parent + digit.child)
-        × HasEntry contacts.entry.starts.now contacts.entry.words.now (256 * digit.parent + digit.child) own m.word × (2 ^ 16 ≤ m.word)) }
+        × HasEntry contacts.entry.starts.now contacts.entry.words.now (256 * digit.parent + digit.child) own
+        m.word × (2 ^ 16 ≤ m.word)) }
     ensures unchanged { IfErr result (λ _. parts.new ≡ parts.old) }
     ensures one_step { steps.new ≡ steps.old + 1 }
 {

@@ -1,9 +1,9 @@
 //! The way down on the other side of an edge.
 ghost use Rattle.std.specs.Prelude.{◌≡◌, ◌+◌, ◌*◌, ◌/◌, ◌%◌, ◌^◌, ◌<◌, ℕ, length, map, Some, IsSome, slice_get};
-ghost use Rattle.addressing.specs.Address.{Fits};
-ghost use Rattle.addressing.specs.Coherent.{IsCoherent};
-ghost use Rattle.addressing.specs.Tables.{child_kinds, type_of};
-ghost use Rattle.addressing.specs.Touch.{Touches};
+ghost use Rattle.theory_addresses.specs.Address.{Fits};
+ghost use Rattle.theory_addresses.specs.Coherent.{IsCoherent};
+ghost use Rattle.theory_addresses.specs.Tables.{child_kinds, type_of};
+ghost use Rattle.theory_addresses.specs.Touch.{Touches};
 ghost use Rattle.tile_shape.specs.Views.{address_of, step_of};
 ghost use Rattle.transducer_core.specs.Climbing.{MeetsAt};
 ghost use Rattle.transducer_core.specs.Descending.{GoesDown, StartsDown};
@@ -37,9 +37,11 @@ fn fall<L: Ledger>(
     digit: &mut Step,
     steps: &mut Steps<L>,
 ) -> Side
-    requires { (word : ℕ) × (row : ℕ) × HasEntry blocks.starts.now blocks.words.now (side.row + side.edge) part word
+    requires { (word : ℕ) × (row : ℕ) × HasEntry blocks.starts.now blocks.words.now (side.row + side.edge)
+        part word
         × (slice_get kinds.now (side.row + word % 256) ≡ Some row) × (side.row + word % 256 < 2 ^ 16) }
-    ensures down { GoesDown blocks.entry.starts.now blocks.entry.words.now kinds.now side part digit.new result }
+    ensures down { GoesDown blocks.entry.starts.now blocks.entry.words.now kinds.now side part digit.new
+        result }
     ensures one_step { steps.new ≡ steps.old + 1 }
 {
     let word = blocks.look_up(side.row + side.edge, usize::from(part), steps);
@@ -60,10 +62,14 @@ fn write_down<L: Ledger>(
     steps: &mut Steps<L>,
 ) -> Side
     requires coherent { IsCoherent tables.now }
-    requires met { (kind : ℕ) × (e : ℕ) × StartsDown tables.now (record { kind = kind; digits = map step_of digits.old }) e meeting parts.now }
-    ensures touches { (kind e : ℕ) → StartsDown tables.now (record { kind = kind; digits = map step_of digits.old }) e meeting parts.now
-        → Touches tables.now (record { kind = kind; digits = map step_of digits.old }) e (record { kind = result.row / 256; digits = map step_of digits.new }) result.edge }
-    ensures fits { Fits (child_kinds tables.now) (record { kind = result.row / 256; digits = map step_of digits.new }) }
+    requires met { (kind : ℕ) × (e : ℕ) × StartsDown tables.now
+        (record { kind = kind; digits = map step_of digits.old }) e meeting parts.now }
+    ensures touches { (kind e : ℕ) → StartsDown tables.now
+        (record { kind = kind; digits = map step_of digits.old }) e meeting parts.now
+        → Touches tables.now (record { kind = kind; digits = map step_of digits.old }) e
+        (record { kind = result.row / 256; digits = map step_of digits.new }) result.edge }
+    ensures fits { Fits (child_kinds tables.now)
+        (record { kind = result.row / 256; digits = map step_of digits.new }) }
     ensures edge_exists { IsSome (type_of tables.now (result.row / 256) result.edge) }
     ensures a_step_a_level { steps.new ≡ steps.old + meeting.level }
 {
@@ -115,7 +121,8 @@ pub(crate) fn descend<L: Ledger>(
 ) -> u8
     requires coherent { IsCoherent tables.now }
     requires met { (e : ℕ) × StartsDown tables.now (address_of addr.old) e meeting parts.now }
-    ensures touches { (e : ℕ) → StartsDown tables.now (address_of addr.old) e meeting parts.now → Touches tables.now (address_of addr.old) e (address_of addr.new) result }
+    ensures touches { (e : ℕ) → StartsDown tables.now (address_of addr.old) e meeting parts.now
+        → Touches tables.now (address_of addr.old) e (address_of addr.new) result }
     ensures fits { Fits (child_kinds tables.now) (address_of addr.new) }
     ensures edge_exists { IsSome (type_of tables.now addr.new.kind result) }
     ensures a_step_a_level { steps.new ≡ steps.old + meeting.level }

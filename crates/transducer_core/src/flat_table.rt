@@ -1,7 +1,7 @@
 //! Contact tables in flat lists, and the look-ups in them.
 ghost use Rattle.std.specs.Prelude.{◌≡◌, ◌+◌, Some, IsSome, IfOk};
-ghost use Rattle.addressing.specs.Coherent.{IsCoherent};
-ghost use Rattle.addressing.specs.Tables.{type_of, contact_of, part_of, part_count};
+ghost use Rattle.theory_addresses.specs.Coherent.{IsCoherent};
+ghost use Rattle.theory_addresses.specs.Tables.{type_of, contact_of, part_of, part_count};
 ghost use Rattle.edge_tables.specs.Views.{as_contact, as_child_edge};
 ghost use Rattle.transducer_core.specs.Blocks.{contact_blocks, part_blocks};
 ghost use Rattle.transducer_core.specs.FlatTables.{contact_rows, part_rows, kind_rows};
@@ -37,7 +37,7 @@ pub struct FlatTable {
 }
 
 impl Model for FlatTable {
-    ghost use Rattle.addressing.specs.Tables.{Tables as TheTables};
+    ghost use Rattle.theory_addresses.specs.Tables.{Tables as TheTables};
     ghost use Rattle.transducer_core.specs.Flat.{flat_tables};
     ghost use Rattle.transducer_core.specs.FlatTables.{lists_in, IsFlat};
 

@@ -16,7 +16,8 @@ pub(crate) struct Joined {
 
 /// Appends a list to the others.
 fn add(joined: &mut Joined, list: &Vec<u8>) -> Result<(), NoMemory>
-    ensures { OnOk result ((lists : List (List ℕ)) → AreKept lists joined.old.items.items joined.old.ends.items
+    ensures { OnOk result ((lists : List (List ℕ))
+        → AreKept lists joined.old.items.items joined.old.ends.items
         → AreKept (lists ++ list.now.items ∷ []) joined.new.items.items joined.new.ends.items) }
 {
     joined.items.extend_from_slice(list)?;

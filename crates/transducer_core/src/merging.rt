@@ -1,7 +1,7 @@
 //! Blocks of words put one after another, equal ones only once.
 ghost use Rattle.std.specs.Prelude.{◌≡◌, ◌↔◌, ◌^◌, ◌<◌, ◌≤◌, ℕ, true, List, length, map, OnOk, IfOk, IfSome, IfNone};
 ghost use Rattle.std.specs.List.{concat};
-ghost use Rattle.addressing.specs.Search.{IsAmong};
+ghost use Rattle.theory_addresses.specs.Search.{IsAmong};
 ghost use Rattle.transducer_core.specs.Merged.{Stands, IsMerged};
 ghost use Rattle.transducer_core.specs.Merging.{AreKept, StandsLast, IsPlaced, ArePlaced, AreShort, AreSmall};
 ghost use Rattle.transducer_core.specs.RowBlocks.{blocks_of};
@@ -45,10 +45,14 @@ fn same_words(a: &[u32], b: &[u32]) -> bool
 
 /// Returns the position of an earlier block that equals the last one, which has no end yet, or None.
 fn find(words: &[u32], ends: &[u16], last: usize) -> Option<u16>
-    requires there { (kept : List (List ℕ)) × (block : List ℕ) × StandsLast kept block words.now ends.now last }
+    requires there { (kept : List (List ℕ)) × (block : List ℕ)
+        × StandsLast kept block words.now ends.now last }
     requires room { length words.now < 2 ^ 16 }
-    ensures stands { IfSome result (λ start. (kept : List (List ℕ)) (block : List ℕ) → StandsLast kept block words.now ends.now last → Stands (concat kept) start block × IsAmong block kept) }
-    ensures none { IfNone result ((kept : List (List ℕ)) (block : List ℕ) → StandsLast kept block words.now ends.now last → IsAmong block kept → ⊥) }
+    ensures stands { IfSome result (λ start. (kept : List (List ℕ)) (block : List ℕ)
+        → StandsLast kept block words.now ends.now last → Stands (concat kept) start block
+        × IsAmong block kept) }
+    ensures none { IfNone result ((kept : List (List ℕ)) (block : List ℕ)
+        → StandsLast kept block words.now ends.now last → IsAmong block kept → ⊥) }
 {
     let mut begin = 0usize;
     for end in ends {
@@ -70,9 +74,11 @@ struct Kept {
 
 /// Keeps the last block if no equal one is kept, and returns its position.
 fn keep(kept: &mut Kept, last: usize) -> Result<u16, NoMemory>
-    requires there { (blocks : List (List ℕ)) × (block : List ℕ) × StandsLast blocks block kept.old.words.items kept.old.ends.items last }
+    requires there { (blocks : List (List ℕ)) × (block : List ℕ)
+        × StandsLast blocks block kept.old.words.items kept.old.ends.items last }
     requires room { length kept.old.words.items < 2 ^ 16 }
-    ensures { IfOk result (λ start. (blocks : List (List ℕ)) (block : List ℕ) → StandsLast blocks block kept.old.words.items kept.old.ends.items last
+    ensures { IfOk result (λ start. (blocks : List (List ℕ)) (block : List ℕ)
+        → StandsLast blocks block kept.old.words.items kept.old.ends.items last
         → IsPlaced blocks block kept.new.words.items kept.new.ends.items start) }
 {
     match find(kept.words.as_slice(), kept.ends.as_slice(), last) {
@@ -99,7 +105,8 @@ fn place_row(
     requires room { length kept.old.words.items ≤ 2 ^ 15 }
     requires kept { (blocks : List (List ℕ)) × AreKept blocks kept.old.words.items kept.old.ends.items }
     ensures { OnOk result ((blocks : List (List ℕ)) → AreKept blocks kept.old.words.items kept.old.ends.items
-        → ArePlaced blocks (blocks_of which row.now) kept.new.words.items kept.new.ends.items starts.old.items starts.new.items) }
+        → ArePlaced blocks (blocks_of which row.now) kept.new.words.items kept.new.ends.items
+        starts.old.items starts.new.items) }
 {
     for number in 0..block_count(row, which) {
         let last = kept.words.len();
@@ -112,7 +119,8 @@ fn place_row(
 /// Merges the blocks of all kinds, equal ones only once.
 pub(crate) fn merge(alloc: Global, rows: &Vec<KindRows>, which: Which) -> Result<Merged, NoMemory>
     requires small { AreSmall (map (blocks_of which) rows.now.items) }
-    ensures { IfOk result (λ merged. IsMerged (map (blocks_of which) rows.now.items) merged.starts.items merged.words.items merged.count) }
+    ensures { IfOk result (λ merged. IsMerged (map (blocks_of which) rows.now.items) merged.starts.items
+        merged.words.items merged.count) }
 {
     let mut starts = Vec::with_capacity(alloc, 256 * rows.len())?;
     let mut kept = Kept {

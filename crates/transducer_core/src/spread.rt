@@ -34,7 +34,8 @@ pub(crate) fn digit_at(at: usize) -> Step
 /// Fills up the last row of a list, which has this many entries, to 256.
 pub(crate) fn fill_row(list: &mut Vec<u16>, count: usize) -> Result<(), NoMemory>
     requires short { count ≤ 256 }
-    ensures { OnOk result ((blanks : List ℕ) × (list.new.items ≡ list.old.items ++ blanks) × (count + length blanks ≡ 256)) }
+    ensures { OnOk result ((blanks : List ℕ) × (list.new.items ≡ list.old.items ++ blanks)
+        × (count + length blanks ≡ 256)) }
 {
     let blanks = BLANKS.as_slice();
     list.extend_from_slice(&blanks[count..])?;
@@ -55,7 +56,8 @@ fn push_kinds(list: &mut Vec<u16>, kinds: &Vec<u8>) -> Result<(), NoMemory>
 pub(crate) fn kind_cells(alloc: Global, rows: &Vec<KindRows>) -> Result<Vec<u16>, NoMemory>
     requires few { length rows.now.items ≤ 16 }
     requires short { AllByRecursion (λ r. length r.children.items ≤ 256) rows.now.items }
-    ensures { IfOk result (λ flat. AreSpread (map (λ r. map (λ n. 256 * n) r.children.items) rows.now.items) flat.items) }
+    ensures { IfOk result (λ flat. AreSpread (map (λ r. map (λ n. 256 * n) r.children.items) rows.now.items)
+        flat.items) }
 {
     let mut flat = Vec::with_capacity(alloc, 256 * rows.len())?;
     for row in rows {

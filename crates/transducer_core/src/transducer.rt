@@ -1,10 +1,10 @@
 //! The machine that finds the tile across an edge.
 ghost use Rattle.std.specs.Prelude.{◌≡◌, ◌+◌, ◌*◌, ◌≤◌, ◌-◌, ℕ, length, slice_index, IsSome, IsOk, IfOk, IfErr, OnErr, Err};
-ghost use Rattle.addressing.specs.Across.{IsAcross, LiesOn};
-ghost use Rattle.addressing.specs.Address.{Address as TheAddress, depth, Fits};
-ghost use Rattle.addressing.specs.Coherent.{IsCoherent};
-ghost use Rattle.addressing.specs.Tables.{child_kinds, type_of};
-ghost use Rattle.addressing.specs.Touch.{Touches};
+ghost use Rattle.theory_addresses.specs.Across.{IsAcross, LiesOn};
+ghost use Rattle.theory_addresses.specs.Address.{Address as TheAddress, depth, Fits};
+ghost use Rattle.theory_addresses.specs.Coherent.{IsCoherent};
+ghost use Rattle.theory_addresses.specs.Tables.{child_kinds, type_of};
+ghost use Rattle.theory_addresses.specs.Touch.{Touches};
 ghost use Rattle.tile_shape.specs.Views.{address_of};
 
 use crate::climb::climb;
@@ -27,8 +27,8 @@ pub struct Transducer {
 }
 
 impl Model for Transducer {
-    ghost use Rattle.addressing.specs.Tables.{Tables as TheTables};
-    ghost use Rattle.addressing.specs.Coherent.{IsCoherent};
+    ghost use Rattle.theory_addresses.specs.Tables.{Tables as TheTables};
+    ghost use Rattle.theory_addresses.specs.Coherent.{IsCoherent};
 
     ghost Value = { TheTables };
 
@@ -76,10 +76,13 @@ impl Transducer {
 
         // The result is a tile if and only if a pair is touched, and the boundary if and only if there is a
         // trace to the top.
-        ensures across { IfOk result (λ x. IsAcross self.now (address_of addr.now) edge (address_of x.addr) x.edge) }
+        ensures across { IfOk result (λ x. IsAcross self.now (address_of addr.now) edge (address_of x.addr)
+            x.edge) }
         ensures on_boundary { IfErr result (λ o. LiesOn self.now (address_of addr.now) edge o.edge o.part) }
-        ensures across_when { (b : TheAddress) (f : ℕ) → Fits (child_kinds self.now) b → Touches self.now (address_of addr.now) edge b f → IsOk result }
-        ensures boundary_when { (top part : ℕ) → LiesOn self.now (address_of addr.now) edge top part → result ≡ Err (record { edge = top; part = part }) }
+        ensures across_when { (b : TheAddress) (f : ℕ) → Fits (child_kinds self.now) b
+            → Touches self.now (address_of addr.now) edge b f → IsOk result }
+        ensures boundary_when { (top part : ℕ) → LiesOn self.now (address_of addr.now) edge top part
+            → result ≡ Err (record { edge = top; part = part }) }
 
         ensures steps_within_bound { steps.new ≤ steps.old + (2 * depth (address_of addr.now) + 2) }
     {
@@ -104,10 +107,13 @@ impl Transducer {
     ) -> Result<u8, Outside>
         requires fits { Fits (child_kinds self.now) (address_of addr.old) }
         requires edge_exists { IsSome (type_of self.now addr.old.kind edge) }
-        ensures across { IfOk result (λ back. IsAcross self.now (address_of addr.old) edge (address_of addr.new) back) }
+        ensures across { IfOk result (λ back. IsAcross self.now (address_of addr.old) edge
+            (address_of addr.new) back) }
         ensures on_boundary { IfErr result (λ o. LiesOn self.now (address_of addr.old) edge o.edge o.part) }
-        ensures across_when { (b : TheAddress) (f : ℕ) → Fits (child_kinds self.now) b → Touches self.now (address_of addr.old) edge b f → IsOk result }
-        ensures boundary_when { (top part : ℕ) → LiesOn self.now (address_of addr.old) edge top part → result ≡ Err (record { edge = top; part = part }) }
+        ensures across_when { (b : TheAddress) (f : ℕ) → Fits (child_kinds self.now) b
+            → Touches self.now (address_of addr.old) edge b f → IsOk result }
+        ensures boundary_when { (top part : ℕ) → LiesOn self.now (address_of addr.old) edge top part
+            → result ≡ Err (record { edge = top; part = part }) }
         ensures unchanged { OnErr result (addr.new ≡ addr.old) }
         ensures steps_within_bound { steps.new ≤ steps.old + (2 * depth (address_of addr.old) + 2) }
     {

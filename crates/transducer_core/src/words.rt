@@ -60,7 +60,8 @@ pub(crate) enum Which {
 
 /// Appends a contact block as words.
 fn write_contacts(words: &mut Vec<u32>, block: &Vec<Contact>) -> Result<(), NoMemory>
-    ensures { OnOk result (words.new.items ≡ words.old.items ++ contact_words (map as_contact block.now.items)) }
+    ensures { OnOk result (words.new.items ≡ words.old.items
+        ++ contact_words (map as_contact block.now.items)) }
 {
     for contact in block {
         words.push(contact_word(*contact))?;
@@ -70,7 +71,8 @@ fn write_contacts(words: &mut Vec<u32>, block: &Vec<Contact>) -> Result<(), NoMe
 
 /// Appends a part block as words, in reverse order.
 fn write_parts(words: &mut Vec<u32>, block: &Vec<ChildEdge>) -> Result<(), NoMemory>
-    ensures { OnOk result (words.new.items ≡ words.old.items ++ part_words (map as_child_edge block.now.items)) }
+    ensures { OnOk result (words.new.items ≡ words.old.items
+        ++ part_words (map as_child_edge block.now.items)) }
 {
     let count = block.len();
     for done in 0..count {
@@ -98,7 +100,8 @@ pub(crate) fn write_block(
     number: usize,
 ) -> Result<(), NoMemory>
     requires { number < length (blocks_of which row.now) }
-    ensures { OnOk result ((block : List ℕ) × (slice_get (blocks_of which row.now) number ≡ Some block) × (words.new.items ≡ words.old.items ++ block)) }
+    ensures { OnOk result ((block : List ℕ) × (slice_get (blocks_of which row.now) number ≡ Some block)
+        × (words.new.items ≡ words.old.items ++ block)) }
 {
     match which {
         Which::Contacts => {

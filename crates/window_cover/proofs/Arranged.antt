@@ -6,10 +6,10 @@ use Rattle.std.proofs.lemmas.List.Elements.{All-from_recursion, recursion_from_A
 use Rattle.std.proofs.lemmas.List.Sorted.{IsPermutation-map, length_permutation}
 use Rattle.std.proofs.lemmas.Option.{slice_get-get_or}
 use Rattle.std.proofs.lemmas.Slice.Zip.{AllZip-long}
-use Rattle.addressing.specs.Address as theory
-use Rattle.addressing.specs.Search.{IsAmong}
-use Rattle.addressing.proofs.Lists.{AllByRecursion-among, AllByRecursion-each}
-use Rattle.addressing.proofs.Ranges.{place-among}
+use Rattle.theory_addresses.specs.Address as theory
+use Rattle.theory_addresses.specs.Search.{IsAmong}
+use Rattle.theory_addresses.proofs.Lists.{AllByRecursion-among, AllByRecursion-each}
+use Rattle.theory_addresses.proofs.Ranges.{place-among}
 use Rattle.rule_model.specs.declared.rule.Rule.{Rule}
 use Rattle.rule_model.specs.Tiling.{Tiling, tiling_of}
 use Rattle.tile_place.specs.declared.placed_tile.PlacedTile.{PlacedTile}
@@ -22,7 +22,7 @@ use Rattle.window_cover.specs.Checked.{IsChecked}
 use Rattle.window_cover.specs.Covered.{none, placed_as, tiles_of, AreCovered}
 use Rattle.window_cover.specs.Found.{Found, CoverValue}
 use Rattle.window_cover.specs.InOrder.{AreInOrder, AreSorted, numbers_placed}
-use Rattle.windows.specs.Distinct.{AreDistinct}
+use Rattle.theory_windows.specs.Distinct.{AreDistinct}
 use Rattle.window_cover.specs.Keys.{HasKey, AreOrdered}
 use Rattle.window_cover.specs.Lifted.{CanBeLifted, IsLifted}
 use Rattle.window_cover.specs.Right.{IsFound, IsRight}
@@ -38,20 +38,25 @@ use Rattle.window_cover.proofs.Works.{works}
 
 -- the tiles found of a right state can be lifted
 pub right-lifted : (t : Tiling) (f : FrameValue) (c : CoverValue) → IsRight t f c → All (CanBeLifted f) c.found
-right-lifted t f c right = All-from_recursion (CanBeLifted f) c.found (AllByRecursion-each (IsFound t f) (CanBeLifted f) c.found (λ x h. h.of_frame.no_deeper) right.found)
+right-lifted t f c right = All-from_recursion (CanBeLifted f) c.found
+    (AllByRecursion-each (IsFound t f) (CanBeLifted f) c.found (λ x h. h.of_frame.no_deeper) right.found)
 
-zip-keys : {A B C : Type 0} (Q : A → Type 0) (R : B → C → Type 0) (S : A → C → Type 0) (g : A → B) (ks : List A) (ys : List C) → AllByRecursion Q ks → AllZip R (map g ks) ys
+zip-keys : {A B C : Type 0} (Q : A → Type 0) (R : B → C → Type 0) (S : A → C → Type 0) (g : A → B)
+    (ks : List A) (ys : List C) → AllByRecursion Q ks → AllZip R (map g ks) ys
     → ((k : A) (y : C) → Q k → R (g k) y → S k y) → AllZip S ks ys
 zip-keys Q R S g [] [] q z h = tt
 zip-keys Q R S g [] (y ∷ ys) q z h = absurd z
 zip-keys Q R S g (k ∷ ks) [] q z h = absurd z
 zip-keys Q R S g (k ∷ ks) (y ∷ ys) q z h = (h k y q.0 z.0, zip-keys Q R S g ks ys q.1 z.1 h)
 
-placed-keys : (above : List theory.Step) (found : List Found) (ks : List OrderKey) → map (placed_as above) (map (keyed_in found) ks) ≡ tiles_of above found (map (λ (k : OrderKey). k.number) ks)
+placed-keys : (above : List theory.Step) (found : List Found) (ks : List OrderKey)
+    → map (placed_as above) (map (keyed_in found) ks) ≡ tiles_of above found
+    (map (λ (k : OrderKey). k.number) ks)
 placed-keys above found [] = refl
 placed-keys above found (k ∷ ks) = ap (λ (ts : List PlacedTile). placed_as above (keyed_in found k) ∷ ts) (placed-keys above found ks)
 
-numbers-below : (found : List Found) (ks : List OrderKey) → AllByRecursion (IsKey found) ks → AllByRecursion (λ n. n < length found) (map (λ (k : OrderKey). k.number) ks)
+numbers-below : (found : List Found) (ks : List OrderKey) → AllByRecursion (IsKey found) ks
+    → AllByRecursion (λ n. n < length found) (map (λ (k : OrderKey). k.number) ks)
 numbers-below found [] h = tt
 numbers-below found (k ∷ ks) h = (h.0.below, numbers-below found ks h.1)
 
@@ -64,7 +69,8 @@ pub record IsArranged (f : FrameValue) (c : CoverValue) (found : List Found) (nu
   pub same : above ≡ f.digits
 
 -- what follows of its tiles
-module _ (f : FrameValue) (c : CoverValue) (found : List Found) (numbers : List ℕ) (above : List theory.Step) (are : IsArranged f c found numbers above) where
+module _ (f : FrameValue) (c : CoverValue) (found : List Found) (numbers : List ℕ) (above : List theory.Step)
+    (are : IsArranged f c found numbers above) where
   abbrev tiles : List PlacedTile
   tiles = tiles_of above found numbers
 
@@ -83,13 +89,15 @@ module _ (f : FrameValue) (c : CoverValue) (found : List Found) (numbers : List 
 
   all-keyed : AllZip (IsKeyed f) ks tiles
   all-keyed = zip-keys (IsKey c.found) (IsLifted f) (IsKeyed f) (keyed_in c.found) ks tiles mixed.keys zip (λ k a h l.
-      let i : IsAmong (keyed_in c.found k) c.found = place-among (keyed_in c.found k) c.found k.number (slice_get-get_or c.found k.number none h.below) in
+      let i : IsAmong (keyed_in c.found k) c.found = place-among (keyed_in c.found k) c.found k.number
+      (slice_get-get_or c.found k.number none h.below) in
       record { tile = keyed_in c.found k; lifted = l; has_key = AllByRecursion-among HasKey (keyed_in c.found k) c.found i are.keyed; key = h.is })
 
   pub arranged-fit : AreCovered above found numbers
   arranged-fit = record {
     numbered = subst (λ ns. AllByRecursion (λ n. n < length found) ns) (sym are.ordered.numbered)
-        (subst (λ (xs : List Found). AllByRecursion (λ n. n < length xs) (map (λ (k : OrderKey). k.number) ks)) (sym are.seen) (numbers-below c.found ks mixed.keys));
+        (subst (λ (xs : List Found). AllByRecursion (λ n. n < length xs)
+        (map (λ (k : OrderKey). k.number) ks)) (sym are.seen) (numbers-below c.found ks mixed.keys));
     no_deeper = subst (λ xs. AllByRecursion (λ (x : Found). length x.digits ≤ length above) xs) (sym are.seen)
         (subst (λ ds. AllByRecursion (λ (x : Found). length x.digits ≤ length ds) c.found) (sym are.same) are.can_be_lifted);
   }
@@ -104,7 +112,8 @@ module _ (f : FrameValue) (c : CoverValue) (found : List Found) (numbers : List 
   arranged-sorted = in-sorted f ks tiles all-keyed are.ordered.sorted
 
   pub arranged-as_many : length tiles ≡ length c.found
-  arranged-as_many = AllZip-long (IsLifted f) (map (keyed_in c.found) ks) tiles zip ∙ length_permutation c.found (map (keyed_in c.found) ks) mixed.tiles
+  arranged-as_many = AllZip-long (IsLifted f) (map (keyed_in c.found) ks) tiles zip
+      ∙ length_permutation c.found (map (keyed_in c.found) ks) mixed.tiles
 
   -- where no two are of one place and kind
   pub arranged-distinct : AreDistinct (map numbers_placed tiles) → AreInOrder tiles

@@ -33,13 +33,15 @@ exact (x ∷ xs) (y ∷ ys) e =
     ap₂ (λ (z : ℤ) (zs : List ℤ). z ∷ zs) (exact_signed x y parts.0) (exact xs ys parts.1)
 
 -- of tiles in order each comes before each one behind it
-pub far : (d : PlacedTile) (tiles : List PlacedTile) → AreInOrder tiles → (i j : ℕ) → i < j → j < length tiles → ComesBefore (get_or tiles i d) (get_or tiles j d)
+pub far : (d : PlacedTile) (tiles : List PlacedTile) → AreInOrder tiles → (i j : ℕ) → i < j → j < length tiles
+    → ComesBefore (get_or tiles i d) (get_or tiles j d)
 far d [] o i j l h = absurd (omega (arith, h))
 far d (a ∷ []) o i j l h = absurd (omega (arith, l, h))
 far d (a ∷ b ∷ tiles) o zero zero l h = absurd (omega (arith, l))
 far d (a ∷ b ∷ tiles) o zero (suc zero) l h = o.0
 far d (a ∷ b ∷ tiles) o zero (suc (suc j)) l h =
-    total.trans (numbers_placed a) (numbers_placed b) (numbers_placed (get_or (b ∷ tiles) (suc j) d)) o.0 (far d (b ∷ tiles) o.1 zero (suc j) (omega arith) (omega (arith, h)))
+    total.trans (numbers_placed a) (numbers_placed b) (numbers_placed (get_or (b ∷ tiles) (suc j) d)) o.0
+    (far d (b ∷ tiles) o.1 zero (suc j) (omega arith) (omega (arith, h)))
 far d (a ∷ b ∷ tiles) o (suc i) zero l h = absurd (omega (arith, l))
 far d (a ∷ b ∷ tiles) o (suc i) (suc j) l h = far d (b ∷ tiles) o.1 i j (omega (arith, l)) (omega (arith, h))
 
@@ -55,7 +57,8 @@ module _ (tiles : List PlacedTile) (m : Motion) (kind : ℕ) where
     pub behind : (k : ℕ) (d : PlacedTile) → end ≤ k → k < length tiles → stands (get_or tiles k d) ≡ Greater
 
   -- what is read of the tile at a place
-  pub read-at : (r : Ordering) (k : ℕ) → k < length tiles → IfSome (slice_get tiles k) (λ x. r ≡ stands x) → (d : PlacedTile) → stands (get_or tiles k d) ≡ r
+  pub read-at : (r : Ordering) (k : ℕ) → k < length tiles → IfSome (slice_get tiles k) (λ x. r ≡ stands x)
+      → (d : PlacedTile) → stands (get_or tiles k d) ≡ r
   read-at r k l h d = sym (subst (λ (o : Option PlacedTile). IfSome o (λ x. r ≡ stands x)) (slice_get-get_or tiles k d l) h)
 
   module _ (in_order : AreInOrder tiles) (first end : ℕ) (parted : ArePartedAt first end) (middle : ℕ) (below : middle < end) where
@@ -66,7 +69,8 @@ module _ (tiles : List PlacedTile) (m : Motion) (kind : ℕ) where
     higher e = record {
       within = parted.within;
       before = λ k d l h. elim (cases_lt k middle) [
-        | inl b ↦ total.trans (numbers_placed (get_or tiles k d)) (numbers_placed (get_or tiles middle d)) (order_numbers m kind) (far d tiles in_order k middle b inside) (e d)
+        | inl b ↦ total.trans (numbers_placed (get_or tiles k d)) (numbers_placed (get_or tiles middle d))
+            (order_numbers m kind) (far d tiles in_order k middle b inside) (e d)
         | inr b ↦ let same : middle ≡ k = omega (arith, l, b) in subst (λ i. stands (get_or tiles i d) ≡ Less) same (e d)
       ];
       behind = parted.behind;
@@ -91,7 +95,12 @@ module _ (tiles : List PlacedTile) (m : Motion) (kind : ℕ) where
             total.antisymm its sought ∙ ap ordering_reverse (total.trans sought own its up (far d tiles in_order middle k b h))
 
   pub is-there : (middle : ℕ) → middle < length tiles → (d : PlacedTile) → stands (get_or tiles middle d) ≡ Equal → IsPlacedAt tiles m kind middle
-  is-there middle l d e = (get_or tiles middle d, slice_get-get_or tiles middle d l, exact (numbers_placed (get_or tiles middle d)) (order_numbers m kind) e)
+  is-there middle l d e = (
+    get_or tiles middle d,
+    slice_get-get_or tiles middle d l,
+    exact
+        (numbers_placed (get_or tiles middle d)) (order_numbers m kind) e,
+  )
 
   pub none-there : (first end : ℕ) → ArePartedAt first end → end ≤ first → (place : ℕ) → ¬ IsPlacedAt tiles m kind place
   none-there first end parted met place there =

@@ -47,7 +47,8 @@ AreMade m leaves blocks =
 
 pub made-later : (m : Rule) (leaves more later : List Found) → later ≡ leaves ++ more → (blocks : List (Option Block)) → AreMade m leaves blocks
     → AreMade m later blocks
-made-later m leaves more later is blocks made level kind turn f g h = at_block (get_or blocks (row_place level kind turn) None) (made level kind turn f g h)
+made-later m leaves more later is blocks made level kind turn f g h = at_block
+    (get_or blocks (row_place level kind turn) None) (made level kind turn f g h)
   where
     at_block : (x : Option Block) → IfSome x (IsBlock m leaves level kind turn) → IfSome x (IsBlock m later level kind turn)
     at_block None b = tt
@@ -88,7 +89,8 @@ module _ (m : Rule) (few_kinds : length (rule_of m).kinds ≤ 16) (few_turns : (
 
 -- ---- the leaves found behind others
 behind-same : {A : Type 0} (n : ℕ) (xs ys us vs : List A) → length xs ≡ n → length us ≡ n → xs ++ ys ≡ us ++ vs → ys ≡ vs
-behind-same n xs ys us vs a b e = sym (drop-append_seam xs ys) ∙ ap (λ k. drop k (xs ++ ys)) (a ∙ sym b) ∙ ap (drop (length us)) e ∙ drop-append_seam us vs
+behind-same n xs ys us vs a b e = sym (drop-append_seam xs ys) ∙ ap (λ k. drop k (xs ++ ys)) (a ∙ sym b)
+    ∙ ap (drop (length us)) e ∙ drop-append_seam us vs
 
 -- those found are these tiles
 pub more-tiles : (m : Rule) (leaves more later : List Found) (ts : List (TileOf (tiling_of m))) → later ≡ leaves ++ more

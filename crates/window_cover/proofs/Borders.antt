@@ -17,7 +17,8 @@ use Rattle.window_cover.proofs.ClosedPlaces.{position-closed}
 use Rattle.window_cover.proofs.Opening.{position-closed_push, position-open_push}
 
 -- nothing is listed
-pub no-border : {ls : List Listed} {place_of : Ends → Option ℕ} {count : ℕ} → ls ≡ [] → ((k : Ends) → place_of k ≡ None) → count ≡ 0 → IsBorder ls place_of count 0
+pub no-border : {ls : List Listed} {place_of : Ends → Option ℕ} {count : ℕ} → ls ≡ []
+    → ((k : Ends) → place_of k ≡ None) → count ≡ 0 → IsBorder ls place_of count 0
 unfolding IsDistinct
 no-border {ls} e f c = record {
   found = λ q. f q ∙ sym (ap (position (waits_at q)) e);
@@ -55,7 +56,8 @@ closing-border {ls} {next = next} b k i r h e after f fewer c =
     let one = length-others k (open_of ls) b.distinct (has_ends-found b k i h) in
     let many = b.counted in
     record {
-      found = λ q. f q ∙ ap (λ (x : Option ℕ). cond (have_same_ends k q) None x) (b.found q) ∙ sym (ap (position (waits_at q)) same ∙ position-closed k q ls b.distinct);
+      found = λ q. f q ∙ ap (λ (x : Option ℕ). cond (have_same_ends k q) None x) (b.found q)
+          ∙ sym (ap (position (waits_at q)) same ∙ position-closed k q ls b.distinct);
       distinct = subst HasDistinctEnds (sym rest) (others-distinct k (open_of ls) b.distinct);
       counted = omega (arith, one, many, c, ap length rest);
       within = omega (arith, b.within, length-set ls i (closing r));
@@ -73,15 +75,18 @@ pushed-border {ls} {next = next} b n g ms e after f as_many c =
       distinct = subst HasDistinctEnds (sym same) b.distinct;
       counted = c ∙ b.counted ∙ sym (ap length same);
       within = omega (arith, b.within, ap length e, length-append ls (listed n g false ∷ []));
-      none_before = ap (λ (l : List Listed). open_of (take next l)) e ∙ ap open_of (take-append-le next ls (listed n g false ∷ []) b.within) ∙ b.none_before;
+      none_before = ap (λ (l : List Listed). open_of (take next l)) e
+          ∙ ap open_of (take-append-le next ls (listed n g false ∷ []) b.within) ∙ b.none_before;
     }
 
 -- that one opened
-pub opened : (ls : List Listed) (n : Ends) (g : OpenEdge) {ms : List Listed} {i : ℕ} {r : Listed} → ms ≡ ls ++ listed n g false ∷ [] → i ≡ length ls → r ≡ get_or ms i r
+pub opened : (ls : List Listed) (n : Ends) (g : OpenEdge) {ms : List Listed} {i : ℕ} {r : Listed} → ms ≡ ls
+    ++ listed n g false ∷ [] → i ≡ length ls → r ≡ get_or ms i r
     → set ms i (listed r.ends r.edge true) ≡ ls ++ listed n g true ∷ []
 opened ls n g {ms} {i} {r} e f h =
     let l = listed n g false in
-    let it : r ≡ l = h ∙ ap (λ (l : List Listed). get_or l i r) e ∙ ap (λ (j : ℕ). get_or (ls ++ listed n g false ∷ []) j r) f ∙ get_or-append_seam ls l [] r in
+    let it : r ≡ l = h ∙ ap (λ (l : List Listed). get_or l i r) e
+    ∙ ap (λ (j : ℕ). get_or (ls ++ listed n g false ∷ []) j r) f ∙ get_or-append_seam ls l [] r in
     ap (λ (m : Listed). set ms i (listed m.ends m.edge true)) it ∙ ap (λ (v : List Listed). set v i (listed n g true)) e
     ∙ ap (λ (j : ℕ). set (ls ++ listed n g false ∷ []) j (listed n g true)) f ∙ set-append_seam ls l [] (listed n g true)
 
@@ -94,10 +99,12 @@ opening-border {ls} {place_of} {next = next} b n g ms e fresh i at after f more 
     let same : open_of ms ≡ open_of ls ++ waiting n g ∷ [] = ap open_of e ∙ open_of-append ls (listed n g true ∷ []) in
     let many = b.counted in
     record {
-      found = λ q. f q ∙ ap (λ (j : ℕ). cond (have_same_ends n q) (Some j) (place_of q)) at ∙ ap (λ (x : Option ℕ). cond (have_same_ends n q) (Some (length ls)) x) (b.found q)
+      found = λ q. f q ∙ ap (λ (j : ℕ). cond (have_same_ends n q) (Some j) (place_of q)) at
+          ∙ ap (λ (x : Option ℕ). cond (have_same_ends n q) (Some (length ls)) x) (b.found q)
           ∙ sym (ap (position (waits_at q)) e ∙ position-open_push n g ls (position-none n ls fresh) q);
       distinct = subst HasDistinctEnds (sym same) (IsDistinct-push waiting-laws (open_of ls) (waiting n g) b.distinct fresh);
       counted = omega (arith, many, c, ap length same, length-append (open_of ls) (waiting n g ∷ []));
       within = omega (arith, b.within, ap length e, length-append ls (listed n g true ∷ []));
-      none_before = ap (λ (l : List Listed). open_of (take next l)) e ∙ ap open_of (take-append-le next ls (listed n g true ∷ []) b.within) ∙ b.none_before;
+      none_before = ap (λ (l : List Listed). open_of (take next l)) e
+          ∙ ap open_of (take-append-le next ls (listed n g true ∷ []) b.within) ∙ b.none_before;
     }

@@ -25,7 +25,8 @@ passed k q l ls e r =
     ∙ sym (ap (λ (x : Option ℕ). cond (have_same_ends k q) None x) (position-later (waits_at q) l ls e))
 
 -- the one that is closed has no place
-gone : (k q : Ends) (l : Listed) (ls : List Listed) → l.is_open ≡ true → have_same_ends k l.ends ≡ true → HasDistinctEnds (waiting l.ends l.edge ∷ open_of ls)
+gone : (k q : Ends) (l : Listed) (ls : List Listed) → l.is_open ≡ true → have_same_ends k l.ends ≡ true
+    → HasDistinctEnds (waiting l.ends l.edge ∷ open_of ls)
     → position (waits_at q) (closing l ∷ ls) ≡ cond (have_same_ends k q) None (position (waits_at q) (l ∷ ls))
 gone k q l ls o f d = position-later (waits_at q) (closing l) ls refl ∙ at_test (have_same_ends k q) refl
   where
@@ -34,7 +35,8 @@ gone k q l ls o f d = position-later (waits_at q) (closing l) ls refl ∙ at_tes
         let same : have_same_ends q l.ends ≡ true = sym (ap (λ (n : Ends). have_same_ends n l.ends) (have_same_ends-exact k q e)) ∙ f in
         ap (option_map suc) (position-none q ls (absent-after q (waiting l.ends l.edge) (open_of ls) same d))
     at_test false e =
-        let other : have_same_ends q l.ends ≡ false = have_same_ends-symm q l.ends ∙ sym (ap (λ (n : Ends). have_same_ends n q) (have_same_ends-exact k l.ends f)) ∙ e in
+        let other : have_same_ends q l.ends ≡ false = have_same_ends-symm q l.ends
+        ∙ sym (ap (λ (n : Ends). have_same_ends n q) (have_same_ends-exact k l.ends f)) ∙ e in
         sym (position-later (waits_at q) l ls (and_right l.is_open (have_same_ends q l.ends) other))
 
 -- the others keep their places
@@ -50,7 +52,8 @@ position-closed k q (l ∷ ls) d = step l.is_open (have_same_ends k l.ends) (hav
   where
     step : (b c e : Bool) → have_same_ends k l.ends ≡ c → have_same_ends q l.ends ≡ e → HasDistinctEnds (open_of (listed l.ends l.edge b ∷ ls))
         → (HasDistinctEnds (open_of ls) → position (waits_at q) (closed k ls) ≡ cond (have_same_ends k q) None (position (waits_at q) ls))
-        → position (waits_at q) (closed k (listed l.ends l.edge b ∷ ls)) ≡ cond (have_same_ends k q) None (position (waits_at q) (listed l.ends l.edge b ∷ ls))
+        → position (waits_at q) (closed k (listed l.ends l.edge b ∷ ls)) ≡ cond (have_same_ends k q) None
+        (position (waits_at q) (listed l.ends l.edge b ∷ ls))
     step false c e f g d r = passed k q (listed l.ends l.edge false) ls refl (r d)
     step true true e f g d r =
         ap (position (waits_at q)) (closed-here k (listed l.ends l.edge true) ls f) ∙ gone k q (listed l.ends l.edge true) ls refl f d
@@ -60,4 +63,5 @@ position-closed k q (l ∷ ls) d = step l.is_open (have_same_ends k l.ends) (hav
         let other : have_same_ends k q ≡ false = ap (have_same_ends k) (have_same_ends-exact q l.ends g) ∙ f in
         ap (position (waits_at q)) (closed-later k (listed l.ends l.edge true) ls f)
         ∙ position-here (waits_at q) (listed l.ends l.edge true) (closed k ls) g
-        ∙ sym (ap (λ (b : Bool). cond b None (position (waits_at q) (listed l.ends l.edge true ∷ ls))) other ∙ position-here (waits_at q) (listed l.ends l.edge true) ls g)
+        ∙ sym (ap (λ (b : Bool). cond b None (position (waits_at q) (listed l.ends l.edge true ∷ ls))) other
+        ∙ position-here (waits_at q) (listed l.ends l.edge true) ls g)

@@ -27,7 +27,8 @@ closed-here k l ls e = ap (λ (b : Bool). cond b (closing l ∷ ls) (l ∷ close
 pub closed-later : (k : Ends) (l : Listed) (ls : List Listed) → waits_at k l ≡ false → closed k (l ∷ ls) ≡ l ∷ closed k ls
 closed-later k l ls e = ap (λ (b : Bool). cond b (closing l ∷ ls) (l ∷ closed k ls)) e
 
-pub set-closed : (k : Ends) (ls : List Listed) (i : ℕ) (r : Listed) → position (waits_at k) ls ≡ Some i → r ≡ get_or ls i r → set ls i (closing r) ≡ closed k ls
+pub set-closed : (k : Ends) (ls : List Listed) (i : ℕ) (r : Listed) → position (waits_at k) ls ≡ Some i
+    → r ≡ get_or ls i r → set ls i (closing r) ≡ closed k ls
 set-closed k [] i r h e = refl
 set-closed k (l ∷ ls) zero r h e = ap (λ (m : Listed). closing m ∷ ls) e ∙ sym (closed-here k l ls (position-first (waits_at k) l ls h))
 set-closed k (l ∷ ls) (suc i) r h e =
@@ -50,7 +51,8 @@ pub others-all : (k : Ends) (ws : List Waiting) → has_ends k ws ≡ false → 
 others-all k [] h = refl
 others-all k (o ∷ ws) h = step (have_same_ends k o.ends) refl h (λ e. others-all k ws e)
   where
-    step : (b : Bool) → have_same_ends k o.ends ≡ b → b || has_ends k ws ≡ false → (has_ends k ws ≡ false → others k ws ≡ ws) → others k (o ∷ ws) ≡ o ∷ ws
+    step : (b : Bool) → have_same_ends k o.ends ≡ b → b || has_ends k ws ≡ false
+        → (has_ends k ws ≡ false → others k ws ≡ ws) → others k (o ∷ ws) ≡ o ∷ ws
     step true e h r = grind (arith, h)
     step false e h r = others-kept k o ws e ∙ ap (λ (vs : List Waiting). o ∷ vs) (r h)
 
@@ -69,7 +71,8 @@ open_of-closed k (l ∷ ls) d = step l.is_open (have_same_ends k l.ends) refl d 
         → open_of (closed k (listed l.ends l.edge b ∷ ls)) ≡ others k (open_of (listed l.ends l.edge b ∷ ls))
     step true true f d r =
         ap open_of (closed-here k (listed l.ends l.edge true) ls f)
-        ∙ sym (others-present k (waiting l.ends l.edge) (open_of ls) f ∙ others-all k (open_of ls) (absent-after k (waiting l.ends l.edge) (open_of ls) f d))
+        ∙ sym (others-present k (waiting l.ends l.edge) (open_of ls) f
+        ∙ others-all k (open_of ls) (absent-after k (waiting l.ends l.edge) (open_of ls) f d))
     step true false f d r =
         ap open_of (closed-later k (listed l.ends l.edge true) ls f)
         ∙ ap (λ (ws : List Waiting). waiting l.ends l.edge ∷ ws) (r d.1) ∙ sym (others-kept k (waiting l.ends l.edge) (open_of ls) f)
@@ -92,7 +95,8 @@ others-apart : (k n : Ends) (ws : List Waiting) → AllByRecursion (λ (p : Wait
 others-apart k n [] h = h
 others-apart k n (o ∷ ws) h = step (not (have_same_ends k o.ends)) h (others-apart k n ws h.1)
   where
-    step : (b : Bool) → AllByRecursion (λ (p : Waiting). have_same_ends n p.ends ≡ false) (o ∷ ws) → AllByRecursion (λ (p : Waiting). have_same_ends n p.ends ≡ false) (others k ws)
+    step : (b : Bool) → AllByRecursion (λ (p : Waiting). have_same_ends n p.ends ≡ false) (o ∷ ws)
+        → AllByRecursion (λ (p : Waiting). have_same_ends n p.ends ≡ false) (others k ws)
         → AllByRecursion (λ (p : Waiting). have_same_ends n p.ends ≡ false) (cond b (o ∷ others k ws) (others k ws))
     step true h r = (h.0, r)
     step false h r = r
@@ -102,7 +106,8 @@ unfolding IsDistinct
 others-distinct k [] d = d
 others-distinct k (o ∷ ws) d = step (not (have_same_ends k o.ends)) (others-apart k o.ends ws d.0) (others-distinct k ws d.1)
   where
-    step : (b : Bool) → AllByRecursion (λ (p : Waiting). have_same_ends o.ends p.ends ≡ false) (others k ws) → HasDistinctEnds (others k ws) → HasDistinctEnds (cond b (o ∷ others k ws) (others k ws))
+    step : (b : Bool) → AllByRecursion (λ (p : Waiting). have_same_ends o.ends p.ends ≡ false) (others k ws)
+        → HasDistinctEnds (others k ws) → HasDistinctEnds (cond b (o ∷ others k ws) (others k ws))
     step true a r = (a, r)
     step false a r = r
 
@@ -112,6 +117,8 @@ unfolding IsDistinct
 length-others k [] d h = grind (arith, h)
 length-others k (o ∷ ws) d h = step (have_same_ends k o.ends) refl h (λ e. length-others k ws d.1 e)
   where
-    step : (b : Bool) → have_same_ends k o.ends ≡ b → b || has_ends k ws ≡ true → (has_ends k ws ≡ true → suc (length (others k ws)) ≡ length ws) → suc (length (others k (o ∷ ws))) ≡ suc (length ws)
+    step : (b : Bool) → have_same_ends k o.ends ≡ b → b || has_ends k ws ≡ true
+        → (has_ends k ws ≡ true → suc (length (others k ws)) ≡ length ws)
+        → suc (length (others k (o ∷ ws))) ≡ suc (length ws)
     step true e h r = ap (λ (vs : List Waiting). suc (length vs)) (others-present k o ws e ∙ others-all k ws (absent-after k o ws e d))
     step false e h r = ap (λ (vs : List Waiting). suc (length vs)) (others-kept k o ws e) ∙ ap suc (r h)

@@ -7,11 +7,11 @@ use Rattle.std.proofs.lemmas.List.{length-map}
 use Rattle.std.proofs.lemmas.List.Elements.{All-from_recursion}
 use Rattle.std.proofs.lemmas.List.Sorted.{IsPermutation-map}
 use Rattle.std.proofs.lemmas.Simd.{map-map}
-use Rattle.addressing.specs.Address.{Address, depth, top_kind, Fits}
-use Rattle.addressing.specs.Search.{IsAmong}
-use Rattle.addressing.proofs.Filters.{IsAmong-filter}
-use Rattle.addressing.proofs.Lists.{AllByRecursion-among, AllByRecursion-from, AllByRecursion-map, AllByRecursion-each, IsAmong-map}
-use Rattle.substitution.specs.Points.{Points}
+use Rattle.theory_addresses.specs.Address.{Address, depth, top_kind, Fits}
+use Rattle.theory_addresses.specs.Search.{IsAmong}
+use Rattle.theory_addresses.proofs.Filters.{IsAmong-filter}
+use Rattle.theory_addresses.proofs.Lists.{AllByRecursion-among, AllByRecursion-from, AllByRecursion-map, AllByRecursion-each, IsAmong-map}
+use Rattle.theory_substitution.specs.Points.{Points}
 use Rattle.cyclo_points.specs.declared.order.Order.{Order}
 use Rattle.cyclo_points.specs.declared.point.Point.{Point}
 use Rattle.cyclo_points.specs.Order.{points_of, is_refused}
@@ -21,12 +21,12 @@ use Rattle.cyclo_points.specs.Point.{IsOf, IsWithin, point_in}
 use Rattle.cyclo_points.proofs.OrderLaws.{laws_of}
 use Rattle.cyclo_points.proofs.Divisors.{divisors_of}
 use Rattle.cyclo_points.proofs.SamePoints.{point_in-exact}
-use Rattle.dissection.specs.Accepted.{AcceptedRule, NamesTile}
-use Rattle.dissection.proofs.Setting.{Setting}
-use Rattle.frames.specs.Contain.{ancestor_motion}
-use Rattle.frames.specs.Frame.{at_level, frame_tiles, motion_beside, IsTileOf, StandsInFrame}
-use Rattle.frames.proofs.Carried.{some_turn}
-use Rattle.frames.proofs.Frames.{IsWhole, frame-placed, StandsInFrame-whole, at_level-fits}
+use Rattle.theory_dissection.specs.Accepted.{AcceptedRule, NamesTile}
+use Rattle.theory_dissection.proofs.Setting.{Setting}
+use Rattle.theory_frames.specs.Contain.{ancestor_motion}
+use Rattle.theory_frames.specs.Frame.{at_level, frame_tiles, motion_beside, IsTileOf, StandsInFrame}
+use Rattle.theory_frames.proofs.Carried.{some_turn}
+use Rattle.theory_frames.proofs.Frames.{IsWhole, frame-placed, StandsInFrame-whole, at_level-fits}
 use Rattle.plane_geom.specs.declared.window.Window.{Window}
 use Rattle.rule_model.specs.declared.rule.Rule.{Rule}
 use Rattle.rule_model.specs.Tiling.{Tiling, tiling_of, children}
@@ -45,19 +45,19 @@ use Rattle.lazy_walk.specs.Standing.{Stands}
 use Rattle.lazy_walk.proofs.InFull.{names, deep, level-own}
 use Rattle.lazy_walk.proofs.Walked.{whole-tile_of}
 use Rattle.lazy_walk.proofs.Walks.{StillFits}
-use Rattle.windows.specs.AnyOrder.{HaveSameMembers}
-use Rattle.windows.specs.Distinct.{AreDistinct}
-use Rattle.windows.specs.FramePatch.{frame_patch}
-use Rattle.windows.specs.FrameWindow.{AreAllThatMeet}
-use Rattle.windows.specs.Limits.{most_tiles}
-use Rattle.windows.specs.Patch.{Covers}
-use Rattle.windows.proofs.AnyOrder.{covers_any_order}
-use Rattle.windows.proofs.CarriedFrames as frames
-use Rattle.windows.proofs.Members.{among-map, same_whole}
-use Rattle.descents.specs.Parts.{tiles_below}
-use Rattle.descents.proofs.Carried as law
-use Rattle.descents.proofs.Descent.{top-of, turn-below, frame-dissection}
-use Rattle.descents.proofs.Parts.{IsBelow, below-tile}
+use Rattle.theory_windows.specs.AnyOrder.{HaveSameMembers}
+use Rattle.theory_windows.specs.Distinct.{AreDistinct}
+use Rattle.theory_windows.specs.FramePatch.{frame_patch}
+use Rattle.theory_windows.specs.FrameWindow.{AreAllThatMeet}
+use Rattle.theory_windows.specs.Limits.{most_tiles}
+use Rattle.theory_windows.specs.Patch.{Covers}
+use Rattle.theory_windows.proofs.AnyOrder.{covers_any_order}
+use Rattle.theory_windows.proofs.CarriedFrames as frames
+use Rattle.theory_windows.proofs.Members.{among-map, same_whole}
+use Rattle.theory_descents.specs.Parts.{tiles_below}
+use Rattle.theory_descents.proofs.Carried as law
+use Rattle.theory_descents.proofs.Descent.{top-of, turn-below, frame-dissection}
+use Rattle.theory_descents.proofs.Parts.{IsBelow, below-tile}
 use Rattle.window_descent.specs.Climbing.{IsClimbedTo}
 use Rattle.window_cover.specs.Answered.{drawn_in, IsFoundBelow, IsAnswered}
 use Rattle.window_cover.specs.Lifted.{CanBeLifted}

@@ -1,10 +1,10 @@
 -- Lists without repetitions.
 use Rattle.std.proofs.Common.{◌≡◌, inl, inr, ℕ, zero, suc, List, [], ◌∷◌, map, slice_get, Some, refl, sym, ap, subst}
-use Rattle.addressing.specs.Search.{IsAmong}
-use Rattle.addressing.proofs.Lists.{IsAmong-map}
-use Rattle.addressing.proofs.Ranges.{place-among}
-use Rattle.windows.specs.Distinct.{AreDistinct}
-use Rattle.windows.proofs.Members.{among-map}
+use Rattle.theory_addresses.specs.Search.{IsAmong}
+use Rattle.theory_addresses.proofs.Lists.{IsAmong-map}
+use Rattle.theory_addresses.proofs.Ranges.{place-among}
+use Rattle.theory_windows.specs.Distinct.{AreDistinct}
+use Rattle.theory_windows.proofs.Members.{among-map}
 
 pub some_one : {A : Type 0} {x y : A} → Some x ≡ Some y → x ≡ y
 some_one e = cc (e)
@@ -18,9 +18,13 @@ distinct-place (y ∷ ys) d (suc i) zero x e f = absurd (d.0 (subst (λ z. IsAmo
 distinct-place (y ∷ ys) d (suc i) (suc j) x e f = ap suc (distinct-place ys d.1 i j x e f)
 
 -- where g tells apart what f does, the images by g are distinct if those by f are
-pub distinct-by : {A B C : Type 0} (f : A → B) (g : A → C) (xs : List A) → ((x y : A) → IsAmong x xs → IsAmong y xs → g x ≡ g y → f x ≡ f y) → AreDistinct (map f xs) → AreDistinct (map g xs)
+pub distinct-by : {A B C : Type 0} (f : A → B) (g : A → C) (xs : List A)
+    → ((x y : A) → IsAmong x xs → IsAmong y xs → g x ≡ g y → f x ≡ f y) → AreDistinct (map f xs)
+    → AreDistinct (map g xs)
 distinct-by f g [] h d = tt
 distinct-by f g (x ∷ xs) h d = (
-  λ i. let m = among-map g (g x) xs i in absurd (d.0 (subst (λ u. IsAmong u (map f xs)) (sym (h x m.0 (inl refl) (inr m.1) m.2)) (IsAmong-map f m.0 xs m.1))),
+  λ i. let m = among-map g (g x) xs i in absurd
+      (d.0 (subst (λ u. IsAmong u (map f xs)) (sym (h x m.0 (inl refl) (inr m.1) m.2))
+      (IsAmong-map f m.0 xs m.1))),
   distinct-by f g xs (λ y z i j. h y z (inr i) (inr j)) d.1,
 )

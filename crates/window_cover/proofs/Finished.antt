@@ -4,27 +4,27 @@ use Rattle.std.specs.List.{AllByRecursion, AllZip}
 use Rattle.std.proofs.lemmas.List.{length-map}
 use Rattle.std.proofs.lemmas.List.Sorted.{IsPermutation-map}
 use Rattle.std.proofs.lemmas.Simd.{map-map}
-use Rattle.addressing.specs.Address.{Address, depth, Fits}
-use Rattle.addressing.specs.Search.{IsAmong}
-use Rattle.addressing.proofs.Lists.{AllByRecursion-among, AllByRecursion-from, AllByRecursion-map, IsAmong-map}
-use Rattle.substitution.specs.Motion.{Motion, moved}
-use Rattle.substitution.specs.Plane.{plane_point}
-use Rattle.substitution.specs.Points.{Points}
-use Rattle.substitution.specs.RuleParts.{vertices_of}
+use Rattle.theory_addresses.specs.Address.{Address, depth, Fits}
+use Rattle.theory_addresses.specs.Search.{IsAmong}
+use Rattle.theory_addresses.proofs.Lists.{AllByRecursion-among, AllByRecursion-from, AllByRecursion-map, IsAmong-map}
+use Rattle.theory_substitution.specs.Motion.{Motion, moved}
+use Rattle.theory_substitution.specs.Plane.{plane_point}
+use Rattle.theory_substitution.specs.Points.{Points}
+use Rattle.theory_substitution.specs.RuleParts.{vertices_of}
 use Rattle.cyclo_points.specs.Order.{NumberOf, PointsLaw, points_of, is_refused}
 use Rattle.cyclo_points.specs.Point.{IsOf, point_in}
 use Rattle.cyclo_points.specs.Quad.{Quad}
 use Rattle.cyclo_points.specs.declared.motion.Motion.{Motion as Moved}
 use Rattle.cyclo_points.specs.Motion.{motion_in}
-use Rattle.dissection.specs.Accepted.{NamesTile}
+use Rattle.theory_dissection.specs.Accepted.{NamesTile}
 use Rattle.cyclo_points.specs.declared.order.Order.{Order}
-use Rattle.frames.specs.Growth.{grown_by}
+use Rattle.theory_frames.specs.Growth.{grown_by}
 use Rattle.seeded_growth.specs.Words.{word}
 use Rattle.tile_shape.specs.Usable.{AreUsable}
 use Rattle.tile_shape.specs.UsesInOrder.{uses_in_order}
-use Rattle.frames.specs.Frame.{at_level, motion_beside, frame_tiles, lifted_in, IsTileOf, StandsInFrame}
-use Rattle.frames.proofs.Carried.{some_turn}
-use Rattle.frames.proofs.Frames.{IsWhole, lifted-whole, lifted-moves_none, frame-placed, StandsInFrame-whole}
+use Rattle.theory_frames.specs.Frame.{at_level, motion_beside, frame_tiles, lifted_in, IsTileOf, StandsInFrame}
+use Rattle.theory_frames.proofs.Carried.{some_turn}
+use Rattle.theory_frames.proofs.Frames.{IsWhole, lifted-whole, lifted-moves_none, frame-placed, StandsInFrame-whole}
 use Rattle.cyclo_points.proofs.SamePoints.{point_in-exact}
 use Rattle.rule_model.specs.declared.rule.Rule.{Rule}
 use Rattle.rule_model.specs.Tiling.{Tiling, tiling_of, children}
@@ -39,18 +39,18 @@ use Rattle.lazy_walk.proofs.Ancestors.{level-same, level-at}
 use Rattle.lazy_walk.proofs.Lifting.{Longer, longer, lifted-twice}
 use Rattle.lazy_walk.proofs.Walked.{whole-tile_of}
 use Rattle.lazy_walk.proofs.Walks.{StillFits, at_depth-depth, whole-fits}
-use Rattle.windows.specs.AnyOrder.{HaveSameMembers}
-use Rattle.windows.specs.Distinct.{AreDistinct}
-use Rattle.windows.specs.FrameCover.{IsWindowOn, IsFrameAnswer, FrameFinishLaw, FrameEndsLaw}
-use Rattle.windows.specs.FrameLaws.{FramePatchLaw}
-use Rattle.windows.specs.FramePatch.{frame_patch, lifted_tile}
-use Rattle.windows.specs.FrameWindow.{AreAllThatMeet, IsWindowWithin}
-use Rattle.windows.specs.Patch.{Covers}
-use Rattle.windows.specs.Laws.{OpenTestLaw, OutlineLaw}
-use Rattle.windows.proofs.Members.{same_whole}
+use Rattle.theory_windows.specs.AnyOrder.{HaveSameMembers}
+use Rattle.theory_windows.specs.Distinct.{AreDistinct}
+use Rattle.theory_windows.specs.FrameCover.{IsWindowOn, IsFrameAnswer, FrameFinishLaw, FrameEndsLaw}
+use Rattle.theory_windows.specs.FrameLaws.{FramePatchLaw}
+use Rattle.theory_windows.specs.FramePatch.{frame_patch, lifted_tile}
+use Rattle.theory_windows.specs.FrameWindow.{AreAllThatMeet, IsWindowWithin}
+use Rattle.theory_windows.specs.Patch.{Covers}
+use Rattle.theory_windows.specs.Laws.{OpenTestLaw, OutlineLaw}
+use Rattle.theory_windows.proofs.Members.{same_whole}
 use Rattle.tile_place.specs.declared.order_key.OrderKey.{OrderKey}
 use Rattle.window_cover.specs.Beyond.{IsNotBeyondEnough}
-use Rattle.windows.specs.Limits.{most_tiles}
+use Rattle.theory_windows.specs.Limits.{most_tiles}
 use Rattle.window_cover.specs.Checked.{IsChecked}
 use Rattle.window_cover.specs.Found.{Found, address_found}
 use Rattle.window_cover.specs.Lifted.{IsLifted}
@@ -68,13 +68,15 @@ map-same f g [] h = refl
 map-same {A} {B} f g (x ∷ xs) h = ap₂ (λ (y : B) (ys : List B). y ∷ ys) (h x (inl refl)) (map-same f g xs (λ y i. h y (inr i)))
 
 -- the images of tiles are those of what they were found as
-zip-images : {A B C : Type 0} (R : A → B → Type 0) (f : B → C) (g : A → C) (xs : List A) (ys : List B) → AllZip R xs ys → ((x : A) (y : B) → R x y → f y ≡ g x) → map f ys ≡ map g xs
+zip-images : {A B C : Type 0} (R : A → B → Type 0) (f : B → C) (g : A → C) (xs : List A) (ys : List B)
+    → AllZip R xs ys → ((x : A) (y : B) → R x y → f y ≡ g x) → map f ys ≡ map g xs
 zip-images R f g [] [] z h = refl
 zip-images R f g [] (y ∷ ys) z h = absurd z
 zip-images R f g (x ∷ xs) [] z h = absurd z
 zip-images {A} {B} {C} R f g (x ∷ xs) (y ∷ ys) z h = ap₂ (λ (u : C) (us : List C). u ∷ us) (h x y z.0) (zip-images R f g xs ys z.1 h)
 
-zip-each : {A B : Type 0} (R : A → B → Type 0) (Q : B → Type 0) (xs : List A) (ys : List B) → AllZip R xs ys → ((x : A) (y : B) → IsAmong x xs → R x y → Q y) → AllByRecursion Q ys
+zip-each : {A B : Type 0} (R : A → B → Type 0) (Q : B → Type 0) (xs : List A) (ys : List B) → AllZip R xs ys
+    → ((x : A) (y : B) → IsAmong x xs → R x y → Q y) → AllByRecursion Q ys
 zip-each R Q [] [] z h = tt
 zip-each R Q [] (y ∷ ys) z h = absurd z
 zip-each R Q (x ∷ xs) [] z h = absurd z
@@ -99,8 +101,11 @@ pub record HasLaws (m : Rule) : Type 0 where
   pub finish : FrameFinishLaw (points_of m.order)
 
 -- what the laws and the rule bring
-pub laws_of : (m : Rule) → IsChecked m → ((o : Order) → PointsLaw o) → ((o : Order) → FramePatchLaw (points_of o)) → ((o : Order) → OutlineLaw (points_of o)) → ((o : Order) → OpenTestLaw (points_of o)) → ((o : Order) → FrameFinishLaw (points_of o))
-    → ((kinds : List (List ℕ)) (base : Address) (start n : ℕ) → AreUsable kinds → Fits kinds base → Fits kinds (grown_by (uses_in_order kinds) (word start) n base)) → HasLaws m
+pub laws_of : (m : Rule) → IsChecked m → ((o : Order) → PointsLaw o)
+    → ((o : Order) → FramePatchLaw (points_of o)) → ((o : Order) → OutlineLaw (points_of o))
+    → ((o : Order) → OpenTestLaw (points_of o)) → ((o : Order) → FrameFinishLaw (points_of o))
+    → ((kinds : List (List ℕ)) (base : Address) (start n : ℕ) → AreUsable kinds → Fits kinds base
+    → Fits kinds (grown_by (uses_in_order kinds) (word start) n base)) → HasLaws m
 laws_of m checked points patch known open_test finish grown = record {
   checked = checked;
   still_fits = λ base start n h. grown (children (tiling_of m)) base start n checked.uses_usable h;
@@ -161,7 +166,8 @@ module _ (m : Rule) (laws : HasLaws m) (f : FrameValue) (c : Working) (right : I
     its = AllByRecursion-among (IsFound t f) x c.found i right.found
 
     name-among : IsAmong (name x) (frame_tiles P (rule_of m) wide)
-    name-among = AllByRecursion-among (λ u. IsAmong u (frame_tiles P (rule_of m) wide)) (name x) (map name c.found) (IsAmong-map name x c.found i) right.state.of_patch
+    name-among = AllByRecursion-among (λ u. IsAmong u (frame_tiles P (rule_of m) wide)) (name x)
+        (map name c.found) (IsAmong-map name x c.found i) right.state.of_patch
 
     no_deeper : depth (address_found x) ≤ length f.digits
     no_deeper = its.of_frame.no_deeper
@@ -170,14 +176,16 @@ module _ (m : Rule) (laws : HasLaws m) (f : FrameValue) (c : Working) (right : I
     at_wide = λ j. record { address = twice j; motion = motion_in m.order x.motion }
       where
         twice : lifted_in wide (lifted_in (whole f) (address_found x)) ≡ lifted_in wide (address_found x)
-        twice = subst (λ g. lifted_in g (lifted_in (whole f) (address_found x)) ≡ lifted_in g (address_found x)) (sym wide-is) (lifted-twice (whole f) (address_found x) up.more no_deeper)
+        twice = subst (λ g. lifted_in g (lifted_in (whole f) (address_found x)) ≡ lifted_in g
+            (address_found x)) (sym wide-is) (lifted-twice (whole f) (address_found x) up.more no_deeper)
 
     own : IsWhole (children t) (whole f) (lifted_in (whole f) (address_found x))
     own = lifted-whole (children t) (whole f) (address_found x) (whole-fits t laws.still_fits f right.frame) its.of_frame
 
     motion-is : motion_in m.order x.motion ≡ motion_beside P (rule_of m) (whole f).digits (lifted_in (whole f) (address_found x)).digits
     motion-is =
-        AllByRecursion-among (λ u. u.motion ≡ motion_beside P (rule_of m) wide.digits u.address.digits) (name x) (frame_tiles P (rule_of m) wide) name-among
+        AllByRecursion-among (λ u. u.motion ≡ motion_beside P (rule_of m) wide.digits u.address.digits)
+        (name x) (frame_tiles P (rule_of m) wide) name-among
         (frame-placed P laws.points some (rule_of m) wide)
         ∙ lifted-moves_none P laws.points some (rule_of m) wide (address_found x) (omega (arith, no_deeper, right.frame.at_most_64, wide-deep))
         ∙ ap (λ (g : Address). motion_beside P (rule_of m) g.digits x.digits) (level-same t f right.frame (depth (address_found x)) no_deeper)
@@ -189,7 +197,8 @@ module _ (m : Rule) (laws : HasLaws m) (f : FrameValue) (c : Working) (right : I
       of_frame = subst (IsTileOf (children t) (whole f)) (sym l.its_address) (whole-tile_of (children t) (whole f) _ own);
       at_depth = ap depth l.its_address ∙ own.same_depth;
       in_frame = subst (λ b. StandsInFrame P (rule_of m) (whole f) b (motion_in m.order a.motion)) (sym l.its_address)
-          (subst (StandsInFrame P (rule_of m) (whole f) (lifted_in (whole f) (address_found x))) (sym (ap (motion_in m.order) l.same_motion ∙ motion-is))
+          (subst (StandsInFrame P (rule_of m) (whole f) (lifted_in (whole f) (address_found x)))
+          (sym (ap (motion_in m.order) l.same_motion ∙ motion-is))
           (StandsInFrame-whole P laws.points some (rule_of m) (whole f) (lifted_in (whole f) (address_found x)) own));
       turn_below = subst (λ (g : Moved). g.turn < P.order) (sym l.same_motion) its.turn_below;
       in_order = subst (λ (g : Moved). IsOf m.order g.shift) (sym l.same_motion) its.in_order;
@@ -198,7 +207,8 @@ module _ (m : Rule) (laws : HasLaws m) (f : FrameValue) (c : Working) (right : I
   -- tiles found are known by the numbers of their order
   numbers-tell : (x y : Found) → IsAmong x c.found → IsAmong y c.found → numbers_of x ≡ numbers_of y → name x ≡ name y
   numbers-tell x y i j e =
-      laws.known (frame_patch P (rule_of m) wide) (laws.patch (its_rule m settled) wide wide-named) (name x) (name y) (name-among x i) (name-among y j)
+      laws.known (frame_patch P (rule_of m) wide) (laws.patch (its_rule m settled) wide wide-named) (name x)
+      (name y) (name-among x i) (name-among y j)
       (ap₂ (λ (g : Motion (NumberOf m.order)) (k : ℕ). map (λ z. plane_point P (moved P g z)) (vertices_of (rule_of m) k)) motions kinds)
     where
       kinds : x.kind ≡ y.kind
@@ -224,7 +234,8 @@ module _ (m : Rule) (laws : HasLaws m) (f : FrameValue) (c : Working) (right : I
   pub window-within : FrameEndsLaw P → c.border ≡ [] → (start : ℕ) → start ≤ 64 → IsNotBeyondEnough t f c.window start (length f.digits)
       → IsWindowWithin P (is_refused m.order) (rule_of m) wide (box_of t c.window) start most_tiles
   window-within ends closed start l beyond =
-      ends (its_rule m settled) wide (is_refused m.order) (box_of t c.window) on start most_tiles (omega (arith, l, wide-deep)) (state_of t f c) right.state (none-open closed) beyond
+      ends (its_rule m settled) wide (is_refused m.order) (box_of t c.window) on start most_tiles
+      (omega (arith, l, wide-deep)) (state_of t f c) right.state (none-open closed) beyond
       (let k = right.not_too_many in let n = length-map c.found name in omega (arith, k, n))
 
   -- ---- the tiles, in the order of keys
@@ -250,7 +261,8 @@ module _ (m : Rule) (laws : HasLaws m) (f : FrameValue) (c : Working) (right : I
     deep = AllByRecursion-map _ at_frame ys (AllByRecursion-from _ ys (λ x i. (own x (from-found x i)).same_depth))
 
     members : HaveSameMembers (map name c.found) (map (lifted_tile wide) placed)
-    members = subst (HaveSameMembers (map name c.found)) (sym named) (permuted-members (map name c.found) (map name ys) (IsPermutation-map name c.found ys mixed.tiles))
+    members = subst (HaveSameMembers (map name c.found)) (sym named)
+        (permuted-members (map name c.found) (map name ys) (IsPermutation-map name c.found ys mixed.tiles))
 
     pub answer : c.border ≡ [] → IsFrameAnswer P (is_refused m.order) (rule_of m) wide (box_of t c.window) (length f.digits) placed
     answer closed =
@@ -275,7 +287,8 @@ module _ (m : Rule) (laws : HasLaws m) (f : FrameValue) (c : Working) (right : I
         pub drawn : AreDrawn t f c.window (map (placed_in m.order) tiles)
         drawn =
             subst (AreDrawn t f c.window) (sym placed-is)
-            (subst (λ g. AreAllThatMeet P.real (TileOf t) (frame_patch P (rule_of m) g) (box_of t c.window) placed) level-whole (answer closed).all_that_meet)
+            (subst (λ g. AreAllThatMeet P.real (TileOf t) (frame_patch P (rule_of m) g) (box_of t c.window)
+            placed) level-whole (answer closed).all_that_meet)
 
         pub covered : CoverWindow t f c.window (map (placed_in m.order) tiles)
         covered =

@@ -1,9 +1,9 @@
 -- The first open edge is one of the kind of its tile.
 use Rattle.std.proofs.Common.{◌≡◌, ℕ, zero, suc, ◌<◌, inl, Some, List, [], ◌∷◌, length, map, slice_get, refl, sym, ◌∙◌, subst, arith}
 use Rattle.std.proofs.Math.ListN.{length-map}
-use Rattle.dissection.specs.Polygons.{tile_polygon}
+use Rattle.theory_dissection.specs.Polygons.{tile_polygon}
 use Rattle.window_cover.specs.Windows.{box_of}
-use Rattle.addressing.specs.Search.{IsAmong}
+use Rattle.theory_addresses.specs.Search.{IsAmong}
 use Rattle.cyclo_points.specs.Order.{points_of}
 use Rattle.lazy_walk.specs.Frames.{FrameValue}
 use Rattle.lazy_walk.proofs.Walks.{StillFits}
@@ -20,8 +20,11 @@ use Rattle.window_cover.specs.Working.{Working, state_of, IsWorking}
 use Rattle.window_cover.proofs.Names.{edge-exists}
 use Rattle.window_cover.proofs.NextState.{first-in}
 
-pub edge-there : (m : Rule) (settled : IsSettled m) (fits : StillFits (children (tiling_of m))) (L : HasSearchLaws (points_of m.order)) (f : FrameValue) (c : Working) (right : IsWorking (tiling_of m) f c)
-    (first : OpenEdge) → first_waiting c.border ≡ Some first → (x : Found) → slice_get c.found first.tile ≡ Some x → first.edge < edges_of (tiling_of m) x.kind
+pub edge-there : (m : Rule) (settled : IsSettled m) (fits : StillFits (children (tiling_of m)))
+    (L : HasSearchLaws (points_of m.order)) (f : FrameValue) (c : Working)
+    (right : IsWorking (tiling_of m) f c)
+    (first : OpenEdge) → first_waiting c.border ≡ Some first → (x : Found)
+    → slice_get c.found first.tile ≡ Some x → first.edge < edges_of (tiling_of m) x.kind
 edge-there m settled fits L f c right first is_first x at =
     let t = tiling_of m in
     let one = first-in t c.border (state_of t f c).open_edges first right.border is_first in
@@ -41,7 +44,12 @@ tile-there m L f c right first is_first =
     let t = tiling_of m in
     let one = first-in t c.border (state_of t f c).open_edges first right.border is_first in
     let among : IsAmong one.edge (state_of t f c).open_edges = subst (λ es. IsAmong one.edge es) (sym one.is) (inl refl) in
-    let it = (L.open_numbers (box_of t c.window) (map (λ y. tile_polygon (points_of m.order) (rule_of m) (λ z. z) y) (state_of t f c).found) one.edge among).0 in
-    let below = slice_get-within (map (λ y. tile_polygon (points_of m.order) (rule_of m) (λ z. z) y) (state_of t f c).found) one.edge.tile it.polygon it.tile_at in
-    let many : length (map (λ y. tile_polygon (points_of m.order) (rule_of m) (λ z. z) y) (state_of t f c).found) ≡ length c.found = length-map (state_of t f c).found _ ∙ length-map c.found _ in
+    let it = (L.open_numbers (box_of t c.window)
+    (map (λ y. tile_polygon (points_of m.order) (rule_of m) (λ z. z) y) (state_of t f c).found) one.edge
+    among).0 in
+    let below = slice_get-within (map (λ y. tile_polygon (points_of m.order) (rule_of m) (λ z. z) y)
+    (state_of t f c).found) one.edge.tile it.polygon it.tile_at in
+    let many : length (map (λ y. tile_polygon (points_of m.order) (rule_of m) (λ z. z) y)
+    (state_of t f c).found) ≡ length c.found = length-map (state_of t f c).found _
+    ∙ length-map c.found _ in
     omega (arith, below, many, one.same_tile)

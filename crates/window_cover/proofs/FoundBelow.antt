@@ -1,13 +1,13 @@
 -- What a descent from an ancestor of the base finds, where nothing was found before.
 use Rattle.std.proofs.Common.{◌≡◌, ℕ, ◌≤◌, false, List, [], ◌++◌, map, length, sym, ap, ap₂, ◌∙◌, subst}
 use Rattle.std.specs.List.{AllByRecursion}
-use Rattle.addressing.specs.Address.{top_kind}
-use Rattle.substitution.specs.Motion.{Motion}
+use Rattle.theory_addresses.specs.Address.{top_kind}
+use Rattle.theory_substitution.specs.Motion.{Motion}
 use Rattle.cyclo_points.specs.Order.{NumberOf, points_of}
 use Rattle.cyclo_points.specs.Motion.{motion_in}
-use Rattle.frames.specs.Contain.{ancestor_motion}
-use Rattle.frames.specs.Descent.{of_whole}
-use Rattle.frames.specs.Frame.{at_level}
+use Rattle.theory_frames.specs.Contain.{ancestor_motion}
+use Rattle.theory_frames.specs.Descent.{of_whole}
+use Rattle.theory_frames.specs.Frame.{at_level}
 use Rattle.plane_geom.specs.declared.window.Window.{Window}
 use Rattle.rule_model.specs.Tiling.{Tiling}
 use Rattle.tile_place.proofs.Ahead.{drop-end}
@@ -15,14 +15,14 @@ use Rattle.tile_shape.specs.declared.step.Step.{Step}
 use Rattle.tile_shape.specs.Views.{step_of}
 use Rattle.lazy_walk.specs.Ancestors.{full}
 use Rattle.lazy_walk.specs.Frames.{FrameValue}
-use Rattle.descents.specs.Parts.{drawn_below}
+use Rattle.theory_descents.specs.Parts.{drawn_below}
 use Rattle.window_descent.specs.declared.part.Part.{Part}
 use Rattle.window_cover.specs.Answered.{IsFoundBelow}
 use Rattle.window_cover.specs.Descending.{tiles_in, digits_above, found_of, IsDescended, IsKeptTile}
 use Rattle.window_cover.specs.Found.{CoverValue}
 use Rattle.window_cover.specs.Windows.{box_of}
 use Rattle.window_cover.proofs.PartLists.{behind-nothing}
-use Rattle.windows.specs.Limits.{most_tiles}
+use Rattle.theory_windows.specs.Limits.{most_tiles}
 
 pub whole-found : (t : Tiling) (f : FrameValue) (w : Window) (c d : CoverValue) (path after : List Step) (level : ℕ) (p : Part) → c.window ≡ w
     → c.found ≡ [] → c.border ≡ [] → length path ≤ level

@@ -2,8 +2,8 @@
 use Rattle.std.proofs.Common.{◌≡◌, ℕ, zero, suc, ◌+◌, ◌-◌, ◌<◌, ◌≤◌, ◌^◌, Bool, true, List, [], ◌∷◌, ◌++◌, map, drop, length, pos, Some, refl, sym, ap, ap₂, ◌∙◌, subst, arith, lit≤}
 use Rattle.std.specs.List.{AllByRecursion}
 use Rattle.std.proofs.lemmas.List.{map-append, append-nil}
-use Rattle.addressing.specs.Address.{Step as TheStep}
-use Rattle.addressing.proofs.Lists.{AllByRecursion-append}
+use Rattle.theory_addresses.specs.Address.{Step as TheStep}
+use Rattle.theory_addresses.proofs.Lists.{AllByRecursion-append}
 use Rattle.cyclo_points.specs.declared.order.Order.{Order}
 use Rattle.cyclo_points.specs.declared.order.Order.TheVariants.{Four, Six, Eight, Ten}
 use Rattle.cyclo_points.specs.declared.point.Point.{Point}
@@ -12,12 +12,12 @@ use Rattle.cyclo_points.specs.Point.{coefficient, point_in, IsWithin}
 use Rattle.cyclo_points.proofs.OrderLaws.{laws_of}
 use Rattle.cyclo_points.proofs.Sizes.{point_in-add, in_order-add, within_sum}
 use Rattle.cyclo_points.proofs.Within.{point_wider}
-use Rattle.frames.specs.Descent.{of_whole}
+use Rattle.theory_frames.specs.Descent.{of_whole}
 use Rattle.rule_model.specs.declared.rule.Rule.{Rule}
 use Rattle.rule_model.specs.Tiling.{tiling_of}
 use Rattle.rule_model.specs.Usable.{origin}
 use Rattle.rule_model.specs.Views.{rule_of}
-use Rattle.substitution.specs.Supertile.{Placed}
+use Rattle.theory_substitution.specs.Supertile.{Placed}
 use Rattle.tile_place.proofs.EachOrder.{order-fits}
 use Rattle.tile_shape.specs.declared.step.Step.{Step}
 use Rattle.tile_shape.specs.Views.{step_of}
@@ -58,7 +58,8 @@ tile-in o by digits x = λ i. record {
 tiles-in : (o : Order) (by : Point) (digits : List TheStep) (xs : List Found) → tiles_in o (map (run_tile (Some by) digits) xs)
     ≡ map (of_whole digits) (map (shifted (points_of o) (point_in o by)) (tiles_in o xs))
 tiles-in o by digits [] = refl
-tiles-in o by digits (x ∷ xs) = ap₂ (λ (t : Placed (NumberOf o)) (ts : List (Placed (NumberOf o))). t ∷ ts) (tile-in o by digits x) (tiles-in o by digits xs)
+tiles-in o by digits (x ∷ xs) = ap₂ (λ (t : Placed (NumberOf o)) (ts : List (Placed (NumberOf o))). t ∷ ts)
+    (tile-in o by digits x) (tiles-in o by digits xs)
 
 -- ---- of a block
 module _ (m : Rule) (level : ℕ) (p : Part) (is : IsPlacedPart m p) (leaves : List Found) (b : Block)
@@ -71,7 +72,8 @@ module _ (m : Rule) (level : ℕ) (p : Part) (is : IsPlacedPart m p) (leaves : L
   run-tiles digits =
       tiles-in m.order by digits (leaves_in b leaves)
       ∙ ap (map (of_whole digits)) (ap (map (shifted (points_of m.order) (point_in m.order by))) block.tiles
-      ∙ sym (below-shifted (points_of m.order) (laws_of m.order) (rule_of m) p.kind level p.motion.turn (point_in m.order origin) (point_in m.order by)
+      ∙ sym (below-shifted (points_of m.order) (laws_of m.order) (rule_of m) p.kind level p.motion.turn
+      (point_in m.order origin) (point_in m.order by)
       is.turn_below (origin-zero m.order)))
 
   module _ (near : IsWithin (2 ^ 24 - 2 ^ 20) by) (all_kept : AllByRecursion (IsKeptTile (tiling_of m)) leaves) where
@@ -124,7 +126,8 @@ module _ (m : Rule) (level : ℕ) (p : Part) (is : IsPlacedPart m p) (leaves : L
             within = sum-within x (close first (omega arith) (omega arith));
             in_order = in_order-add m.order (moved_by by x.motion.shift) x.motion.shift by refl k.in_order is.in_order;
           },
-      kept-from digits (suc first) count (λ i a e. kept i (omega (arith, a)) (omega (arith, e))) (λ i a e. close i (omega (arith, a)) (omega (arith, e))),
+      kept-from digits (suc first) count (λ i a e. kept i (omega (arith, a)) (omega (arith, e)))
+          (λ i a e. close i (omega (arith, a)) (omega (arith, e))),
     )
 
     -- a run of it is found behind the tiles before

@@ -3,7 +3,7 @@ use Rattle.std.proofs.Common.{◌≡◌, ℕ, zero, suc, ◌+◌, ◌<◌, ◌�
 use Rattle.std.specs.List.{AllByRecursion}
 use Rattle.std.proofs.Math.Seq.{drop-append_seam}
 use Rattle.std.proofs.lemmas.List.{take-append-le, drop-append-le, map-append, length-map}
-use Rattle.addressing.proofs.Lists.{AllByRecursion-each, AllByRecursion-map, AllByRecursion-append}
+use Rattle.theory_addresses.proofs.Lists.{AllByRecursion-each, AllByRecursion-map, AllByRecursion-append}
 use Rattle.tile_shape.specs.declared.step.Step.{Step}
 use Rattle.tile_shape.specs.Views.{step_of}
 use Rattle.window_cover.specs.declared.found_tile.FoundTile.{FoundTile}
@@ -12,11 +12,12 @@ use Rattle.window_cover.specs.Found.{Found}
 use Rattle.tile_place.specs.Keys.{FitsKey}
 use Rattle.window_cover.specs.Keys.{HasKey}
 use Rattle.window_cover.specs.Kept.{digits_in, found_in, AreKept, IsKept}
-use Rattle.windows.specs.Limits.{most_tiles}
+use Rattle.theory_windows.specs.Limits.{most_tiles}
 
 -- each tile as it is seen has a key
 pub all-found : (all : List Step) (xs : List FoundTile) → {border : List Waiting} → IsKept all xs border → AllByRecursion HasKey (found_in all xs)
-all-found all xs kept = AllByRecursion-map HasKey (λ (x : FoundTile). record { kind = x.kind; motion = x.motion; digits = digits_in all x }) xs kept.keyed
+all-found all xs kept = AllByRecursion-map HasKey
+    (λ (x : FoundTile). record { kind = x.kind; motion = x.motion; digits = digits_in all x }) xs kept.keyed
 
 -- and at most 64 digits
 take-few : {A : Type 0} (n : ℕ) (xs : List A) → length (take n xs) ≤ n
@@ -46,7 +47,8 @@ module _ (ds es more : List Step) (is : es ≡ ds ++ more) where
 
   -- digits behind the others change nothing
   pub spans-more : (xs : List FoundTile) → AreKept ds xs → AreKept es xs
-  spans-more xs h = AllByRecursion-each (λ (x : FoundTile). (x.first + x.depth ≤ length ds) × (x.depth ≤ 64)) (λ (x : FoundTile). (x.first + x.depth ≤ length es) × (x.depth ≤ 64)) xs
+  spans-more xs h = AllByRecursion-each (λ (x : FoundTile). (x.first + x.depth ≤ length ds) × (x.depth ≤ 64))
+      (λ (x : FoundTile). (x.first + x.depth ≤ length es) × (x.depth ≤ 64)) xs
       (λ x k. (omega (arith, longer, k.0), k.1)) h
 
   pub kept-more : (xs : List FoundTile) (border : List Waiting) → IsKept ds xs border → IsKept es xs border
@@ -55,31 +57,42 @@ module _ (ds es more : List Step) (is : es ≡ ds ++ more) where
   digits-more : (x : FoundTile) → x.first + x.depth ≤ length ds → digits_in es x ≡ digits_in ds x
   digits-more x h =
       let short : x.depth ≤ length (drop x.first ds) = omega (arith, h, length-drop x.first ds) in
-      ap (map step_of) (ap (λ l. take x.depth (drop x.first l)) is ∙ ap (take x.depth) (drop-append-le x.first ds more (omega (arith, h))) ∙ take-append-le x.depth (drop x.first ds) more short)
+      ap (map step_of) (ap (λ l. take x.depth (drop x.first l)) is
+      ∙ ap (take x.depth) (drop-append-le x.first ds more (omega (arith, h)))
+      ∙ take-append-le x.depth (drop x.first ds) more short)
 
   pub found-more : (xs : List FoundTile) → AreKept ds xs → found_in es xs ≡ found_in ds xs
   found-more [] h = refl
   found-more (x ∷ xs) h = ap₂ (λ l ys. record { kind = x.kind; motion = x.motion; digits = l } ∷ ys) (digits-more x h.0.0) (found-more xs h.1)
 
   -- one tile more, whose digits these are
-  module _ (x : FoundTile) (first : x.first ≡ length ds) (depth : x.depth ≡ length more) (at_most_64 : x.depth ≤ 64) (xs ys : List FoundTile) (one_more : ys ≡ xs ++ x ∷ []) where
+  module _ (x : FoundTile) (first : x.first ≡ length ds) (depth : x.depth ≡ length more)
+      (at_most_64 : x.depth ≤ 64) (xs ys : List FoundTile) (one_more : ys ≡ xs ++ x ∷ []) where
     own-digits : digits_in es x ≡ map step_of more
-    own-digits = ap (map step_of) (ap₂ (λ i n. take n (drop i es)) first depth ∙ ap (λ l. take (length more) (drop (length ds) l)) is ∙ ap (take (length more)) (drop-append_seam ds more)
+    own-digits = ap (map step_of) (ap₂ (λ i n. take n (drop i es)) first depth
+        ∙ ap (λ l. take (length more) (drop (length ds) l)) is
+        ∙ ap (take (length more)) (drop-append_seam ds more)
         ∙ take_all (length more) more (omega arith))
 
-    pub found-one_more : AreKept ds xs → found_in es ys ≡ found_in ds xs ++ record { kind = x.kind; motion = x.motion; digits = map step_of more } ∷ []
+    pub found-one_more : AreKept ds xs → found_in es ys ≡ found_in ds xs
+        ++ record { kind = x.kind; motion = x.motion; digits = map step_of more } ∷ []
     found-one_more h =
         ap (found_in es) one_more ∙ map-append (λ (y : FoundTile). record { kind = y.kind; motion = y.motion; digits = digits_in es y }) xs (x ∷ [])
         ∙ ap₂ (λ zs l. zs ++ record { kind = x.kind; motion = x.motion; digits = l } ∷ []) (found-more xs h) own-digits
 
-    pub kept-one_more : FitsKey x.motion x.kind → (before after : List Waiting) → IsKept ds xs before → length xs < most_tiles → length after ≤ length before + 12 → IsKept es ys after
+    pub kept-one_more : FitsKey x.motion x.kind → (before after : List Waiting) → IsKept ds xs before
+        → length xs < most_tiles → length after ≤ length before + 12 → IsKept es ys after
     kept-one_more key before after h room few =
         let n : length es ≡ length ds + length more = ap length is ∙ length-append ds more in
         let k : length ys ≡ length xs + 1 = ap length one_more ∙ length-append xs (x ∷ []) in
         record {
-          spans = subst (AreKept es) (sym one_more) (AllByRecursion-append (λ (y : FoundTile). (y.first + y.depth ≤ length es) × (y.depth ≤ 64)) xs (x ∷ []) (spans-more xs h.spans)
+          spans = subst (AreKept es) (sym one_more)
+              (AllByRecursion-append (λ (y : FoundTile). (y.first + y.depth ≤ length es) × (y.depth ≤ 64)) xs
+              (x ∷ []) (spans-more xs h.spans)
               ((omega (arith, first, depth, n), at_most_64), tt));
-          keyed = subst (AllByRecursion (λ (y : FoundTile). FitsKey y.motion y.kind)) (sym one_more) (AllByRecursion-append (λ (y : FoundTile). FitsKey y.motion y.kind) xs (x ∷ []) h.keyed (key, tt));
+          keyed = subst (AllByRecursion (λ (y : FoundTile). FitsKey y.motion y.kind)) (sym one_more)
+              (AllByRecursion-append (λ (y : FoundTile). FitsKey y.motion y.kind) xs (x ∷ []) h.keyed
+              (key, tt));
           few_tiles = omega (arith, room, k);
           few_open = omega (arith, few, k, h.few_open);
         }

@@ -10,10 +10,12 @@ use Rattle.tile_place.specs.Keys.{key_of}
 use Rattle.window_cover.specs.Keys.{keys_from}
 
 -- ---- one more
-pub keys-more : (n m k : ℕ) (xs : List Found) (key : OrderKey) → m ≡ n + k → k < length xs → IfSome (slice_get xs k) (λ x. key ≡ key_of x.motion x.kind m)
+pub keys-more : (n m k : ℕ) (xs : List Found) (key : OrderKey) → m ≡ n + k → k < length xs
+    → IfSome (slice_get xs k) (λ x. key ≡ key_of x.motion x.kind m)
     → keys_from n (take (suc k) xs) ≡ keys_from n (take k xs) ++ key ∷ []
 keys-more n m k [] key e l h = absurd (omega arith)
-keys-more n m zero (x ∷ xs) key e l h = let same : m ≡ n = omega (arith, e) in ap (λ (k : OrderKey). k ∷ []) (sym (h ∙ ap (key_of x.motion x.kind) same))
+keys-more n m zero (x ∷ xs) key e l h = let same : m ≡ n = omega (arith, e) in ap (λ (k : OrderKey). k ∷ [])
+    (sym (h ∙ ap (key_of x.motion x.kind) same))
 keys-more n m (suc k) (x ∷ xs) key e l h =
     ap (λ (ks : List OrderKey). key_of x.motion x.kind n ∷ ks) (keys-more (suc n) m k xs key (omega (arith, e)) (omega arith) h)
 
@@ -72,7 +74,8 @@ abbrev pub same_number : OrderKey → OrderKey → Bool
 same_number k l = nat_eq k.number l.number
 
 -- no two keys have one number
-later-numbers : (m n : ℕ) (xs : List Found) (key : OrderKey) → key.number ≡ m → m < n → AllByRecursion (λ l. same_number key l ≡ false) (keys_from n xs)
+later-numbers : (m n : ℕ) (xs : List Found) (key : OrderKey) → key.number ≡ m → m < n
+    → AllByRecursion (λ l. same_number key l ≡ false) (keys_from n xs)
 later-numbers m n [] key e l = tt
 later-numbers m n (x ∷ xs) key e l = (differ key.number n (omega (arith, e, l)), later-numbers m (suc n) xs key e (omega (arith, l)))
   where

@@ -1,14 +1,14 @@
 -- The tiles of a part are those of the part at the origin that is turned as it, moved.
 use Rattle.std.proofs.Common.{◌≡◌, ℕ, ◌+◌, ◌%◌, ◌<◌, map, pos, sym, ap, ◌∙◌}
 use Rattle.std.proofs.lemmas.Simd.{map-map}
-use Rattle.ordered_ring.specs.Ring.{power}
-use Rattle.addressing.proofs.Lists.{map-ext}
-use Rattle.substitution.specs.Motion.{Motion, followed}
-use Rattle.substitution.specs.Points.{Points, PointLaws}
-use Rattle.substitution.specs.Rule.{Rule}
-use Rattle.substitution.specs.Supertile.{Placed, supertile}
-use Rattle.descents.specs.Parts.{tiles_below}
-use Rattle.descents.proofs.Parts.{below-moved}
+use Rattle.theory_ring.specs.Ring.{power}
+use Rattle.theory_addresses.proofs.Lists.{map-ext}
+use Rattle.theory_substitution.specs.Motion.{Motion, followed}
+use Rattle.theory_substitution.specs.Points.{Points, PointLaws}
+use Rattle.theory_substitution.specs.Rule.{Rule}
+use Rattle.theory_substitution.specs.Supertile.{Placed, supertile}
+use Rattle.theory_descents.specs.Parts.{tiles_below}
+use Rattle.theory_descents.proofs.Parts.{below-moved}
 
 -- a tile moved further
 abbrev pub shifted : (P : Points) → P.ring.carrier → Placed P.ring.carrier → Placed P.ring.carrier

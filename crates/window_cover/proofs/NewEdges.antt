@@ -6,7 +6,7 @@ use Rattle.std.proofs.lemmas.List.{get_or_default}
 use Rattle.std.proofs.lemmas.List.Elements.{filter-append}
 use Rattle.std.proofs.lemmas.List.Folds.{list_any-append}
 use Rattle.std.proofs.lemmas.Map.Views.{any-filter_same}
-use Rattle.addressing.specs.Search.{some_below}
+use Rattle.theory_addresses.specs.Search.{some_below}
 use Rattle.cyclo_points.specs.declared.order.Order.{Order}
 use Rattle.cyclo_points.specs.declared.point.Point.{Point}
 use Rattle.plane_geom.specs.declared.window.Window.{Window}
@@ -45,15 +45,18 @@ pub filter-twice : {X : Type 0} (p q r : X → Bool) → ((x : X) → r x ≡ (q
 filter-twice p q r same [] = refl
 filter-twice {X} p q r same (x ∷ xs) = at_tests (q x) (p x) refl refl (filter-twice p q r same xs)
   where
-    at_tests : (a b : Bool) → q x ≡ a → p x ≡ b → filter p (filter q xs) ≡ filter r xs → filter p (cond (q x) (x ∷ filter q xs) (filter q xs)) ≡ cond (r x) (x ∷ filter r xs) (filter r xs)
+    at_tests : (a b : Bool) → q x ≡ a → p x ≡ b → filter p (filter q xs) ≡ filter r xs
+        → filter p (cond (q x) (x ∷ filter q xs) (filter q xs)) ≡ cond (r x) (x ∷ filter r xs) (filter r xs)
     at_tests true true e f h =
-        ap (λ c. filter p (cond c (x ∷ filter q xs) (filter q xs))) e ∙ ap (λ c. cond c (x ∷ filter p (filter q xs)) (filter p (filter q xs))) f ∙ ap (λ ys. x ∷ ys) h
+        ap (λ c. filter p (cond c (x ∷ filter q xs) (filter q xs))) e
+        ∙ ap (λ c. cond c (x ∷ filter p (filter q xs)) (filter p (filter q xs))) f ∙ ap (λ ys. x ∷ ys) h
         ∙ sym (ap (λ c. cond c (x ∷ filter r xs) (filter r xs)) (same x ∙ ap₂ (λ a b. a && b) e f))
     at_tests true false e f h =
         ap (λ c. filter p (cond c (x ∷ filter q xs) (filter q xs))) e ∙ ap (λ c. cond c (x ∷ filter p (filter q xs)) (filter p (filter q xs))) f ∙ h
         ∙ sym (ap (λ c. cond c (x ∷ filter r xs) (filter r xs)) (same x ∙ ap₂ (λ a b. a && b) e f))
     at_tests false b e f h =
-        ap (λ c. filter p (cond c (x ∷ filter q xs) (filter q xs))) e ∙ h ∙ sym (ap (λ c. cond c (x ∷ filter r xs) (filter r xs)) (same x ∙ ap₂ (λ a b. a && b) e f))
+        ap (λ c. filter p (cond c (x ∷ filter q xs) (filter q xs))) e ∙ h
+        ∙ sym (ap (λ c. cond c (x ∷ filter r xs) (filter r xs)) (same x ∙ ap₂ (λ a b. a && b) e f))
 
 -- no more are kept than there are
 pub length-kept : {X : Type 0} (p : X → Bool) (xs : List X) → length (filter p xs) ≤ length xs
@@ -83,14 +86,16 @@ module _ (ends back : Ends) (edge : OpenEdge) (old after : List Waiting) (closed
   met-opened new e m is = is ∙ ap₂ (λ ws b. ws ++ cond b (waiting ends edge ∷ []) []) after-is (sym (ap₂ (λ a b. a && not b) m (closes-is ∙ e)))
 
   pub met-closed : closed ≡ true → after ≡ met
-  met-closed e = after-is ∙ sym (ap (λ b. without ends old ++ cond b (waiting ends edge ∷ []) []) (ap (λ b. meets && not b) (closes-is ∙ e) ∙ no_more meets) ∙ append-nil (without ends old))
+  met-closed e = after-is ∙ sym (ap (λ b. without ends old ++ cond b (waiting ends edge ∷ []) [])
+      (ap (λ b. meets && not b) (closes-is ∙ e) ∙ no_more meets) ∙ append-nil (without ends old))
     where
       no_more : (b : Bool) → b && false ≡ false
       no_more true = refl
       no_more false = refl
 
   pub met-passed : meets ≡ false → after ≡ met
-  met-passed e = after-is ∙ sym (ap (λ b. without ends old ++ cond (b && not (closes ends old)) (waiting ends edge ∷ []) []) e ∙ append-nil (without ends old))
+  met-passed e = after-is ∙ sym (ap (λ b. without ends old
+      ++ cond (b && not (closes ends old)) (waiting ends edge ∷ []) []) e ∙ append-nil (without ends old))
 
   pub no_longer : length after ≤ length old
   no_longer = subst (λ ws. length ws ≤ length old) (sym left) (length-kept (λ o. not (have_same_ends back o.ends)) old)
@@ -98,7 +103,8 @@ module _ (ends back : Ends) (edge : OpenEdge) (old after : List Waiting) (closed
 -- ---- all edges
 reversed-apart : (a b : Ends) → have_same_ends a b ≡ false → have_same_ends (reversed a) (reversed b) ≡ false
 reversed-apart a b h =
-    fails _ (λ k. no_pass _ h (subst (λ x. have_same_ends a x ≡ true) (ap reversed (have_same_ends-exact (reversed a) (reversed b) k)) (have_same_ends-refl a)))
+    fails _ (λ k. no_pass _ h (subst (λ x. have_same_ends a x ≡ true)
+    (ap reversed (have_same_ends-exact (reversed a) (reversed b) k)) (have_same_ends-refl a)))
 
 none_below : (p : ℕ → Bool) (n : ℕ) → ((e : ℕ) → e < n → p e ≡ false) → some_below n p ≡ false
 none_below p zero h = refl
@@ -134,9 +140,13 @@ module _ (o : Order) (w : Window) (i : ℕ) (corners : List Point) (old : List W
         (own-absent (ends_at corners n) n (λ e l. is_new.apart n e below (omega (arith, l, below)) (λ same. absurd (omega (arith, l, same)))))
 
     -- an edge that it meets isn't met by those before it
-    not_before : (x : Waiting) → have_same_ends (reversed (ends_at corners n)) x.ends ≡ true → not (some_below n (λ e. have_same_ends (reversed (ends_at corners e)) x.ends)) ≡ true
-    not_before x h = ap not (none_below _ n (λ e l. subst (λ k. have_same_ends (reversed (ends_at corners e)) k ≡ false) (have_same_ends-exact (reversed (ends_at corners n)) x.ends h)
-        (reversed-apart (ends_at corners e) (ends_at corners n) (is_new.apart e n (omega (arith, l, below)) below (λ same. absurd (omega (arith, l, same)))))))
+    not_before : (x : Waiting) → have_same_ends (reversed (ends_at corners n)) x.ends ≡ true
+        → not (some_below n (λ e. have_same_ends (reversed (ends_at corners e)) x.ends)) ≡ true
+    not_before x h = ap not (none_below _ n (λ e l. subst
+        (λ k. have_same_ends (reversed (ends_at corners e)) k ≡ false)
+        (have_same_ends-exact (reversed (ends_at corners n)) x.ends h)
+        (reversed-apart (ends_at corners e) (ends_at corners n)
+        (is_new.apart e n (omega (arith, l, below)) below (λ same. absurd (omega (arith, l, same)))))))
 
     closes-still : closes (ends_at corners n) so_far ≡ closes (ends_at corners n) old
     closes-still =
@@ -153,12 +163,16 @@ module _ (o : Order) (w : Window) (i : ℕ) (corners : List Point) (old : List W
     not_or false b = refl
 
     pub next-met : (new : List Waiting)
-        → new ≡ without (ends_at corners n) so_far ++ cond (meets_window o w (start_at corners n) (end_at corners n) && not (closes (ends_at corners n) so_far)) (waiting_at i corners n ∷ []) []
+        → new ≡ without (ends_at corners n) so_far
+        ++ cond (meets_window o w (start_at corners n) (end_at corners n)
+        && not (closes (ends_at corners n) so_far)) (waiting_at i corners n ∷ []) []
         → new ≡ left_open corners (suc n) old ++ opened o w i corners (suc n) old
     next-met new is =
         is ∙ ap₂ (λ ws b. ws ++ cond b (waiting_at i corners n ∷ []) [])
         (filter-append (λ x. not (have_same_ends (reversed (ends_at corners n)) x.ends)) (left_open corners n old) (opened o w i corners n old)
-        ∙ ap₂ (λ xs ys. xs ++ ys) (filter-twice _ _ _ (λ x. not_or (some_below n (λ e. have_same_ends (reversed (ends_at corners e)) x.ends)) (have_same_ends (reversed (ends_at corners n)) x.ends)) old)
+        ∙ ap₂ (λ xs ys. xs ++ ys) (filter-twice _ _ _
+        (λ x. not_or (some_below n (λ e. have_same_ends (reversed (ends_at corners e)) x.ends))
+        (have_same_ends (reversed (ends_at corners n)) x.ends)) old)
         (others-all (reversed (ends_at corners n)) (opened o w i corners n old) own-no_return))
         (ap (λ b. meets_window o w (start_at corners n) (end_at corners n) && not b) closes-still)
         ∙ append_assoc (left_open corners (suc n) old) (opened o w i corners n old) (cond (opens n) (waiting_at i corners n ∷ []) [])
@@ -166,11 +180,16 @@ module _ (o : Order) (w : Window) (i : ℕ) (corners : List Point) (old : List W
 -- ---- corners as they are read
 pub end-next : (corners : List Point) (e : ℕ) (p d : Point) → e + 1 < length corners → p ≡ get_or corners (e + 1) d → p ≡ end_at corners e
 end-next corners e p d h is =
-    is ∙ get_or_default corners (e + 1) d origin h ∙ ap (λ i. get_or corners i origin) (add-one e ∙ sym (ap (λ b. cond b (suc e) 0) (lt-ltb (suc e) (length corners) (omega (arith, h)))))
+    is ∙ get_or_default corners (e + 1) d origin h
+    ∙ ap (λ i. get_or corners i origin) (add-one e
+    ∙ sym (ap (λ b. cond b (suc e) 0) (lt-ltb (suc e) (length corners) (omega (arith, h)))))
 
-pub end-last : (corners : List Point) (e : ℕ) (p d : Point) → length corners ≤ e + 1 → 0 < length corners → p ≡ get_or corners 0 d → p ≡ end_at corners e
+pub end-last : (corners : List Point) (e : ℕ) (p d : Point) → length corners ≤ e + 1 → 0 < length corners
+    → p ≡ get_or corners 0 d → p ≡ end_at corners e
 end-last corners e p d h some is =
-    is ∙ get_or_default corners 0 d origin some ∙ ap (λ i. get_or corners i origin) (sym (ap (λ b. cond b (suc e) 0) (le-ltb (suc e) (length corners) (omega (arith, h)))))
+    is ∙ get_or_default corners 0 d origin some
+    ∙ ap (λ i. get_or corners i origin) (sym
+    (ap (λ b. cond b (suc e) 0) (le-ltb (suc e) (length corners) (omega (arith, h)))))
 
 -- none of no edges meets another
 pub left-none : (corners : List Point) (ws : List Waiting) → left_open corners 0 ws ≡ ws

@@ -3,15 +3,15 @@ use Rattle.std.proofs.Common.{◌≡◌, inl, ℕ, ◌+◌, ◌<◌, max, false,
 use Rattle.std.specs.List.{filter, AllByRecursion, AllZip}
 use Rattle.std.proofs.Math.ListN.{length-map}
 use Rattle.std.proofs.lemmas.List.{map-append}
-use Rattle.addressing.specs.Address.{Address}
-use Rattle.addressing.specs.Search.{IsAmong}
-use Rattle.addressing.proofs.Lists.{AllByRecursion-each, AllByRecursion-append}
+use Rattle.theory_addresses.specs.Address.{Address}
+use Rattle.theory_addresses.specs.Search.{IsAmong}
+use Rattle.theory_addresses.proofs.Lists.{AllByRecursion-each, AllByRecursion-append}
 use Rattle.cyclo_points.specs.declared.point.Point.{Point}
 use Rattle.cyclo_points.specs.Order.{points_of, is_refused}
 use Rattle.cyclo_points.specs.Motion.{motion_in}
-use Rattle.dissection.specs.Accepted.{AcceptedRule}
-use Rattle.dissection.specs.Polygons.{tile_polygon}
-use Rattle.frames.specs.Frame.{IsTileOf, lifted_in}
+use Rattle.theory_dissection.specs.Accepted.{AcceptedRule}
+use Rattle.theory_dissection.specs.Polygons.{tile_polygon}
+use Rattle.theory_frames.specs.Frame.{IsTileOf, lifted_in}
 use Rattle.lazy_walk.specs.Ancestors.{full}
 use Rattle.lazy_walk.specs.Frames.{FrameValue, whole, GrowsTo}
 use Rattle.lazy_walk.proofs.Ancestors.{full-later}
@@ -19,23 +19,23 @@ use Rattle.lazy_walk.proofs.Lifting.{IsTileOf-later}
 use Rattle.lazy_walk.proofs.Walks.{StillFits}
 use Rattle.rule_model.specs.declared.rule.Rule.{Rule}
 use Rattle.rule_model.specs.Tiling.{Tiling, tiling_of, children}
-use Rattle.substitution.specs.Motion.{followed}
-use Rattle.substitution.specs.Points.{Points}
+use Rattle.theory_substitution.specs.Motion.{followed}
+use Rattle.theory_substitution.specs.Points.{Points}
 use Rattle.tile_place.specs.declared.placed_tile.PlacedTile.{PlacedTile}
 use Rattle.tile_place.proofs.Plane.{IsSettled, its_rule}
 use Rattle.tile_shape.specs.Views.{address_of}
-use Rattle.windows.specs.FrameCover.{IsOpenCrossing}
-use Rattle.windows.specs.FramePatch.{in_frame, frame_patch, level_in, growing_frame}
-use Rattle.windows.specs.FrameSearch.{IsGrownCrossing}
-use Rattle.windows.specs.OpenEdges.{NumberedEdge, edges_of_tile}
-use Rattle.windows.specs.OpenTest.{open_edges_of, is_met}
-use Rattle.windows.specs.OpenStep.{closes_one}
-use Rattle.windows.specs.Outlines.{edges}
-use Rattle.ordered_plane.specs.BoxTest.{box_test}
+use Rattle.theory_windows.specs.FrameCover.{IsOpenCrossing}
+use Rattle.theory_windows.specs.FramePatch.{in_frame, frame_patch, level_in, growing_frame}
+use Rattle.theory_windows.specs.FrameSearch.{IsGrownCrossing}
+use Rattle.theory_windows.specs.OpenEdges.{NumberedEdge, edges_of_tile}
+use Rattle.theory_windows.specs.OpenTest.{open_edges_of, is_met}
+use Rattle.theory_windows.specs.OpenStep.{closes_one}
+use Rattle.theory_windows.specs.Outlines.{edges}
+use Rattle.theory_plane.specs.BoxTest.{box_test}
 use Rattle.plane_geom.specs.declared.window.Window.{Window}
-use Rattle.windows.specs.PatchWindow.{PatchWindow, LiesAcross}
-use Rattle.windows.specs.SearchState.{SearchState, IsRightState, stepped}
-use Rattle.windows.specs.SearchSteps.{IsStep}
+use Rattle.theory_windows.specs.PatchWindow.{PatchWindow, LiesAcross}
+use Rattle.theory_windows.specs.SearchState.{SearchState, IsRightState, stepped}
+use Rattle.theory_windows.specs.SearchSteps.{IsStep}
 use Rattle.window_cover.specs.declared.open_edge.OpenEdge.{OpenEdge}
 use Rattle.tile_place.specs.Corners.{AreCorners}
 use Rattle.window_cover.specs.Admitted.{IsAdmitted, found_as}
@@ -60,15 +60,27 @@ pub record FirstIn (t : Tiling) (edges : List (NumberedEdge (points_of t.order).
   pub same_tile : first.tile ≡ edge.tile
   pub same_edge : first.edge ≡ edge.edge
 
-pub first-in : (t : Tiling) (border : List Waiting) (edges : List (NumberedEdge (points_of t.order).real)) (first : OpenEdge) → AllZip (IsEdgeWaiting t) border edges → first_waiting border ≡ Some first → FirstIn t edges first
+pub first-in : (t : Tiling) (border : List Waiting) (edges : List (NumberedEdge (points_of t.order).real))
+    (first : OpenEdge) → AllZip (IsEdgeWaiting t) border edges → first_waiting border ≡ Some first
+    → FirstIn t edges first
 first-in t [] edges first z h = cc
 first-in t (b ∷ bs) [] first z h = absurd z
 first-in t (b ∷ bs) (e ∷ es) first z h =
     let one : b.edge ≡ first = cc in
-    record { edge = e; rest = es; is = refl; same_tile = ap (λ (o : OpenEdge). o.tile) (sym one) ∙ z.0.same_tile; same_edge = ap (λ (o : OpenEdge). o.edge) (sym one) ∙ z.0.same_edge }
+    record {
+      edge = e;
+      rest = es;
+      is = refl;
+      same_tile = ap (λ (o : OpenEdge). o.tile) (sym one)
+          ∙ z.0.same_tile;
+      same_edge = ap (λ (o : OpenEdge). o.edge) (sym one) ∙ z.0.same_edge;
+    }
 
-module _ (m : Rule) (settled : IsSettled m) (fits : StillFits (children (tiling_of m))) (L : HasSearchLaws (points_of m.order)) (f : FrameValue) (g : FrameValue) (h : GrowsTo (tiling_of m) f g)
-    (c : Working) (right : IsWorking (tiling_of m) f c) (first : OpenEdge) (is_first : first_waiting c.border ≡ Some first) (x : Found) (at : slice_get c.found first.tile ≡ Some x)
+module _ (m : Rule) (settled : IsSettled m) (fits : StillFits (children (tiling_of m)))
+    (L : HasSearchLaws (points_of m.order)) (f : FrameValue) (g : FrameValue) (h : GrowsTo (tiling_of m) f g)
+    (c : Working) (right : IsWorking (tiling_of m) f c) (first : OpenEdge)
+    (is_first : first_waiting c.border ≡ Some first) (x : Found)
+    (at : slice_get c.found first.tile ≡ Some x)
     (tile : PlacedTile) (back : ℕ) (crossed : IsCrossedTo (tiling_of m) f g (address_found x) x.motion first.edge tile back) where
   abbrev t : Tiling
   t = tiling_of m
@@ -108,14 +120,17 @@ module _ (m : Rule) (settled : IsSettled m) (fits : StillFits (children (tiling_
   over = subst (λ e. IsCrossedTo t f g (address_found x) x.motion e tile back) first_edge.same_edge crossed
 
   pub crossing : IsGrownCrossing P T F (length f.digits) (length g.digits) (address_found x) o.edge b back
-  crossing = grown m settled fits f right.frame g h (address_found x) b o.edge back (its_found m settled fits L f right.frame c right o.tile x at_o).of_frame
+  crossing = grown m settled fits f right.frame g h (address_found x) b o.edge back
+      (its_found m settled fits L f right.frame c right o.tile x at_o).of_frame
       (edge-exists m settled fits L f right.frame c right o among x at_o) over.only_tile_across over.least
 
   pub opening : IsOpenCrossing P T F s o (length g.digits) (address_found x) b back
   opening = record { is_open = among; tile = found-at m settled fits L f right.frame c right o.tile x at_o; crossing = crossing }
 
   pub step : IsStep P.real (TileOf t) (growing t f) (box_of t c.window) s u × (max s.depth (level_in F (lifted_in F b)) ≡ length g.digits)
-  step = L.step T F (is_refused m.order) (box_of t c.window) (window-on m settled fits L f right.frame c right) s right.state o (length g.digits) (address_found x) b back opening
+  step = L.step T F (is_refused m.order) (box_of t c.window)
+      (window-on m settled fits L f right.frame c right) s right.state o (length g.digits) (address_found x) b
+      back opening
 
   pub placed : motion_in m.order tile.motion ≡ u.motion
   placed =
@@ -139,7 +154,9 @@ module _ (m : Rule) (settled : IsSettled m) (fits : StillFits (children (tiling_
   pub edges_new : (corners : List Point) → AreCorners t tile.kind tile.motion corners → AreNew corners c.border
   edges_new corners are =
       are-new m.order L.points T L.lines L.numbered u exists tile.motion placed corners (its_corners corners are) c.border s.open_edges right.border
-      (frame_patch P T.rule F) (λ y. refl) (L.patch T F (names m settled fits f right.frame)) lies_across.of_patch s.found right.state.of_patch (box_of t c.window) L.open_numbers right.state.open_is step.0.new
+      (frame_patch P T.rule F) (λ y. refl) (L.patch T F (names m settled fits f right.frame))
+      lies_across.of_patch s.found right.state.of_patch (box_of t c.window) L.open_numbers
+      right.state.open_is step.0.new
 
   module _ (d : Working) (new : IsAdmitted t c d tile) where
     abbrev G : PatchWindow P.real (TileOf t)
@@ -165,18 +182,25 @@ module _ (m : Rule) (settled : IsSettled m) (fits : StillFits (children (tiling_
 
     same_found : map (name_of t g) d.found ≡ s.found ++ u ∷ []
     same_found =
-        ap (λ y. map (name_by y) d.found) (full-later t f g h) ∙ ap (map (name_of t f)) new.found ∙ map-append (name_of t f) c.found (found_as tile ∷ [])
+        ap (λ y. map (name_by y) d.found) (full-later t f g h) ∙ ap (map (name_of t f)) new.found
+        ∙ map-append (name_of t f) c.found (found_as tile ∷ [])
         ∙ ap (λ y. s.found ++ y ∷ []) new_name
 
     pub state-is : state_of t g d ≡ stepped P.real (TileOf t) (growing t f) (box_of t c.window) s u
     state-is = λ i. record { found = same_found i; open_edges = same_edges i; depth = sym step.1 i }
       where
         same_edges : (state_of t g d).open_edges ≡ (stepped P.real (TileOf t) (growing t f) (box_of t c.window) s u).open_edges
-        same_edges = ap₂ (λ w ns. open_edges_of P.real (box_of t w) (map (λ y. tile_polygon P T.rule (λ z. z) y) ns)) new.same_window same_found ∙ sym next.open_is
+        same_edges = ap₂ (λ w ns. open_edges_of P.real (box_of t w)
+            (map (λ y. tile_polygon P T.rule (λ z. z) y) ns)) new.same_window same_found ∙ sym next.open_is
 
     found_later : AllByRecursion (IsFound t g) c.found
     found_later = AllByRecursion-each (IsFound t f) (IsFound t g) c.found
-        (λ y k. record { of_frame = IsTileOf-later t f g (address_found y) h right.frame k.of_frame; turn_below = k.turn_below; shift_within = k.shift_within; in_order = k.in_order }) right.found
+        (λ y k. record {
+          of_frame = IsTileOf-later t f g (address_found y) h right.frame k.of_frame;
+          turn_below = k.turn_below;
+          shift_within = k.shift_within;
+          in_order = k.in_order;
+        }) right.found
 
     found_new : IsFound t g (found_as tile)
     found_new = record {
@@ -192,23 +216,32 @@ module _ (m : Rule) (settled : IsSettled m) (fits : StillFits (children (tiling_
     border_is : AllZip (IsEdgeWaiting t) d.border (state_of t g d).open_edges
     border_is =
         subst (λ ws. AllZip (IsEdgeWaiting t) ws (state_of t g d).open_edges) (sym new.border)
-        (subst (λ es. AllZip (IsEdgeWaiting t) (left_open new.corners (length new.corners) c.border ++ opened m.order c.window (length c.found) new.corners (length new.corners) c.border) es)
-        (sym (ap (λ (z : SearchState P.real (TileOf t)). z.open_edges) state-is ∙ L.open_step G s right.state u lies_across.of_patch step.0.new ∙ ap next_edges (length-map c.found (name_of t f))))
-        (border-next m.order L.points T L.lines L.numbered u exists tile.motion placed new.corners (its_corners new.corners new.are_corners) c.border s.open_edges right.border c.window (length c.found)))
+        (subst (λ es. AllZip (IsEdgeWaiting t) (left_open new.corners (length new.corners) c.border
+        ++ opened m.order c.window (length c.found) new.corners (length new.corners) c.border) es)
+        (sym (ap (λ (z : SearchState P.real (TileOf t)). z.open_edges) state-is
+        ∙ L.open_step G s right.state u lies_across.of_patch step.0.new
+        ∙ ap next_edges (length-map c.found (name_of t f))))
+        (border-next m.order L.points T L.lines L.numbered u exists tile.motion placed new.corners
+        (its_corners new.corners new.are_corners) c.border s.open_edges right.border c.window
+        (length c.found)))
       where
         next_edges : ℕ → List (NumberedEdge P.real)
         next_edges i =
             filter (λ n. not (is_met P.real (edges (tile_polygon P T.rule (λ z. z) u)) n.line)) s.open_edges
-            ++ filter (λ n. box_test P.real n.line.from n.line.to (box_of t c.window) && not (closes_one P.real s.open_edges n.line)) (edges_of_tile P.real i (tile_polygon P T.rule (λ z. z) u))
+            ++ filter (λ n. box_test P.real n.line.from n.line.to (box_of t c.window)
+            && not (closes_one P.real s.open_edges n.line))
+            (edges_of_tile P.real i (tile_polygon P T.rule (λ z. z) u))
 
     pub right-next : IsWorking t g d
     right-next = record {
       frame = h.is_frame;
       window = subst IsWindow (sym new.same_window) right.window;
-      found = subst (AllByRecursion (IsFound t g)) (sym new.found) (AllByRecursion-append (IsFound t g) c.found (found_as tile ∷ []) found_later (found_new, tt));
+      found = subst (AllByRecursion (IsFound t g)) (sym new.found)
+          (AllByRecursion-append (IsFound t g) c.found (found_as tile ∷ []) found_later (found_new, tt));
       not_too_many = omega (arith, new.room, one_more);
       state = subst (λ (w : Window). IsRightState P.real (TileOf t) (growing t g) (box_of t w) (state_of t g d)) (sym new.same_window)
-          (subst (λ y. IsRightState P.real (TileOf t) (growing_frame P (is_refused m.order) T.rule y) (box_of t c.window) (state_of t g d)) (sym (full-later t f g h))
+          (subst (λ y. IsRightState P.real (TileOf t) (growing_frame P (is_refused m.order) T.rule y)
+          (box_of t c.window) (state_of t g d)) (sym (full-later t f g h))
           (subst (IsRightState P.real (TileOf t) (growing t f) (box_of t c.window)) (sym state-is) next));
       border = border_is;
     }

@@ -21,7 +21,8 @@ pub open_of-append : (ls ms : List Listed) → open_of (ls ++ ms) ≡ open_of ls
 open_of-append [] ms = refl
 open_of-append (l ∷ ls) ms = step l.is_open (open_of-append ls ms)
   where
-    step : (b : Bool) → open_of (ls ++ ms) ≡ open_of ls ++ open_of ms → open_of (listed l.ends l.edge b ∷ ls ++ ms) ≡ open_of (listed l.ends l.edge b ∷ ls) ++ open_of ms
+    step : (b : Bool) → open_of (ls ++ ms) ≡ open_of ls ++ open_of ms
+        → open_of (listed l.ends l.edge b ∷ ls ++ ms) ≡ open_of (listed l.ends l.edge b ∷ ls) ++ open_of ms
     step true r = ap (λ (ws : List Waiting). waiting l.ends l.edge ∷ ws) r
     step false r = r
 
@@ -36,25 +37,31 @@ first-at [] i d h e f = refl
 first-at (l ∷ ls) zero d h e f = rw f refl
 first-at (l ∷ ls) (suc i) d h e f = step l.is_open e (λ k. first-at ls i d (omega arith) k f)
   where
-    step : (b : Bool) → open_of (listed l.ends l.edge b ∷ take i ls) ≡ [] → (open_of (take i ls) ≡ [] → first_waiting (open_of ls) ≡ option_map (λ l. l.edge) (slice_get ls i))
+    step : (b : Bool) → open_of (listed l.ends l.edge b ∷ take i ls) ≡ []
+        → (open_of (take i ls) ≡ [] → first_waiting (open_of ls) ≡ option_map (λ l. l.edge) (slice_get ls i))
         → first_waiting (open_of (listed l.ends l.edge b ∷ ls)) ≡ option_map (λ l. l.edge) (slice_get ls i)
     step true k r = grind (arith, k)
     step false k r = r k
 
 -- one more that is closed
-pub none_before-more : (ls : List Listed) (i : ℕ) (d : Listed) → i < length ls → open_of (take i ls) ≡ [] → (get_or ls i d).is_open ≡ false → open_of (take (suc i) ls) ≡ []
+pub none_before-more : (ls : List Listed) (i : ℕ) (d : Listed) → i < length ls → open_of (take i ls) ≡ []
+    → (get_or ls i d).is_open ≡ false → open_of (take (suc i) ls) ≡ []
 none_before-more [] i d h e f = refl
 none_before-more (l ∷ ls) zero d h e f = rw f refl
 none_before-more (l ∷ ls) (suc i) d h e f = step l.is_open e (λ k. none_before-more ls i d (omega arith) k f)
   where
-    step : (b : Bool) → open_of (listed l.ends l.edge b ∷ take i ls) ≡ [] → (open_of (take i ls) ≡ [] → open_of (take (suc i) ls) ≡ []) → open_of (listed l.ends l.edge b ∷ take (suc i) ls) ≡ []
+    step : (b : Bool) → open_of (listed l.ends l.edge b ∷ take i ls) ≡ []
+        → (open_of (take i ls) ≡ [] → open_of (take (suc i) ls) ≡ [])
+        → open_of (listed l.ends l.edge b ∷ take (suc i) ls) ≡ []
     step true k r = grind (arith, k)
     step false k r = r k
 
 -- where all are closed there is no first
-pub none_left : (ls : List Listed) (i : ℕ) → length ls ≤ i → open_of (take i ls) ≡ [] → first_waiting (open_of ls) ≡ option_map (λ l. l.edge) (slice_get ls (length ls))
+pub none_left : (ls : List Listed) (i : ℕ) → length ls ≤ i → open_of (take i ls) ≡ []
+    → first_waiting (open_of ls) ≡ option_map (λ l. l.edge) (slice_get ls (length ls))
 none_left ls i h e =
-    ap first_waiting (sym (ap open_of (take_all i ls h)) ∙ e) ∙ sym (ap (option_map (λ (l : Listed). l.edge)) (slice_get_past ls (length ls) (omega arith)))
+    ap first_waiting (sym (ap open_of (take_all i ls h)) ∙ e)
+    ∙ sym (ap (option_map (λ (l : Listed). l.edge)) (slice_get_past ls (length ls) (omega arith)))
 
 later : (x : Option ℕ) → is_some (option_map suc x) ≡ is_some x
 later None = refl
@@ -67,7 +74,8 @@ has_ends-position k (l ∷ ls) = step l.is_open (have_same_ends k l.ends) refl (
   where
     step : (b c : Bool) → have_same_ends k l.ends ≡ c → has_ends k (open_of ls) ≡ is_some (position (waits_at k) ls)
         → has_ends k (open_of (listed l.ends l.edge b ∷ ls)) ≡ is_some (position (waits_at k) (listed l.ends l.edge b ∷ ls))
-    step true true f r = ap (λ (c : Bool). c || has_ends k (open_of ls)) f ∙ sym (ap is_some (position-here (waits_at k) (listed l.ends l.edge true) ls f))
+    step true true f r = ap (λ (c : Bool). c || has_ends k (open_of ls)) f
+        ∙ sym (ap is_some (position-here (waits_at k) (listed l.ends l.edge true) ls f))
     step true false f r =
         ap (λ (c : Bool). c || has_ends k (open_of ls)) f ∙ r
         ∙ sym (ap is_some (position-later (waits_at k) (listed l.ends l.edge true) ls f) ∙ later (position (waits_at k) ls))

@@ -10,7 +10,8 @@ use Rattle.window_cover.proofs.Positions.{position-push_failing, position-push_p
 use Rattle.window_cover.proofs.Open.{listed}
 
 -- one that is closed
-pub position-closed_push : (q n : Ends) (g : OpenEdge) (ls : List Listed) → position (waits_at q) (ls ++ listed n g false ∷ []) ≡ position (waits_at q) ls
+pub position-closed_push : (q n : Ends) (g : OpenEdge) (ls : List Listed)
+    → position (waits_at q) (ls ++ listed n g false ∷ []) ≡ position (waits_at q) ls
 position-closed_push q n g ls = position-push_failing (waits_at q) (listed n g false) ls refl
 
 -- one that is open, whose ends no open edge has
@@ -18,7 +19,11 @@ pub position-open_push : (n : Ends) (g : OpenEdge) (ls : List Listed) → positi
     → (q : Ends) → position (waits_at q) (ls ++ listed n g true ∷ []) ≡ cond (have_same_ends n q) (Some (length ls)) (position (waits_at q) ls)
 position-open_push n g ls h q = at_test (have_same_ends n q) refl
   where
-    at_test : (b : Bool) → have_same_ends n q ≡ b → position (waits_at q) (ls ++ listed n g true ∷ []) ≡ cond b (Some (length ls)) (position (waits_at q) ls)
+    at_test : (b : Bool) → have_same_ends n q ≡ b
+        → position (waits_at q) (ls ++ listed n g true ∷ []) ≡ cond b (Some (length ls))
+        (position (waits_at q) ls)
     at_test true e =
-        position-push_passing (waits_at q) (listed n g true) ls (sym (ap (λ (k : Ends). position (waits_at k) ls) (have_same_ends-exact n q e)) ∙ h) (have_same_ends-symm q n ∙ e)
+        position-push_passing (waits_at q) (listed n g true) ls
+        (sym (ap (λ (k : Ends). position (waits_at k) ls) (have_same_ends-exact n q e)) ∙ h)
+        (have_same_ends-symm q n ∙ e)
     at_test false e = position-push_failing (waits_at q) (listed n g true) ls (have_same_ends-symm q n ∙ e)

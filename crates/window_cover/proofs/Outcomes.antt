@@ -5,7 +5,8 @@ use Rattle.window_cover.specs.declared.cover_fault.CoverFault.{CoverFault}
 use Rattle.window_cover.specs.declared.cover_fault.CoverFault.TheVariants.{NoMemory}
 
 -- what a call refuses for want of memory alone is handed on as it is
-pub no_memory-on : {U V : Type 0} (r : Result U CoverFault) (s : Result V CoverFault) (fault : CoverFault) → r ≡ Err fault → IsErrAnd s (λ e. e ≡ fault)
+pub no_memory-on : {U V : Type 0} (r : Result U CoverFault) (s : Result V CoverFault) (fault : CoverFault)
+    → r ≡ Err fault → IsErrAnd s (λ e. e ≡ fault)
     → (r ≡ Err NoMemory) ⊎ IsOk r → (s ≡ Err NoMemory) ⊎ IsOk s
 no_memory-on r (Ok y) fault is h why = inr refl
 no_memory-on (Ok x) (Err e) fault is h why = cc

@@ -4,20 +4,20 @@ use Rattle.std.proofs.Common.{refl, sym, ap, ap₂, ◌∙◌, subst, arith, app
 use Rattle.std.specs.List.{enumerate_from}
 use Rattle.std.proofs.lemmas.List.{append-nil, map-append}
 use Rattle.std.proofs.lemmas.Simd.{map-map}
-use Rattle.addressing.specs.Address.{Step}
-use Rattle.addressing.proofs.Lists.{map-ext}
-use Rattle.ordered_ring.specs.Ring.{power}
-use Rattle.ordered_plane.specs.Box.{OpenBox}
-use Rattle.substitution.specs.Points.{Points}
-use Rattle.substitution.specs.Motion.{Motion}
-use Rattle.substitution.specs.Rule.{Child, Rule, children_of}
-use Rattle.substitution.specs.Supertile.{Placed}
-use Rattle.dissection.specs.Accepted.{AcceptedRule}
-use Rattle.frames.specs.Descent.{of_whole}
-use Rattle.frames.specs.Part.{child_motion}
+use Rattle.theory_addresses.specs.Address.{Step}
+use Rattle.theory_addresses.proofs.Lists.{map-ext}
+use Rattle.theory_ring.specs.Ring.{power}
+use Rattle.theory_plane.specs.Box.{OpenBox}
+use Rattle.theory_substitution.specs.Points.{Points}
+use Rattle.theory_substitution.specs.Motion.{Motion}
+use Rattle.theory_substitution.specs.Rule.{Child, Rule, children_of}
+use Rattle.theory_substitution.specs.Supertile.{Placed}
+use Rattle.theory_dissection.specs.Accepted.{AcceptedRule}
+use Rattle.theory_frames.specs.Descent.{of_whole}
+use Rattle.theory_frames.specs.Part.{child_motion}
 use Rattle.tile_place.proofs.Ahead.{there, drop-next}
-use Rattle.descents.specs.Parts.{digit}
-use Rattle.descents.specs.Laws.{PartsLaw}
+use Rattle.theory_descents.specs.Parts.{digit}
+use Rattle.theory_descents.specs.Laws.{PartsLaw}
 use Rattle.window_cover.specs.Descending.{found_below}
 
 -- ---- digits behind

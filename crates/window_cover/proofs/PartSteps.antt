@@ -3,14 +3,14 @@ use Rattle.std.proofs.Common.{◌≡◌, ℕ, suc, ◌+◌, ◌<◌, Bool, true,
 use Rattle.std.proofs.Common.{subst, arith, append_assoc}
 use Rattle.std.specs.List.{AllByRecursion}
 use Rattle.std.proofs.lemmas.List.{map-append, append-nil}
-use Rattle.ordered_ring.specs.Ring.{power}
-use Rattle.addressing.specs.Address.{Step as TheStep}
-use Rattle.addressing.proofs.Lists.{AllByRecursion-append}
-use Rattle.substitution.specs.Motion.{Motion, still}
-use Rattle.substitution.specs.Points.{Points}
-use Rattle.substitution.specs.Rule.{Child, Rule as TheRule, children_of}
-use Rattle.frames.specs.Descent.{of_whole}
-use Rattle.frames.specs.Part.{child_motion}
+use Rattle.theory_ring.specs.Ring.{power}
+use Rattle.theory_addresses.specs.Address.{Step as TheStep}
+use Rattle.theory_addresses.proofs.Lists.{AllByRecursion-append}
+use Rattle.theory_substitution.specs.Motion.{Motion, still}
+use Rattle.theory_substitution.specs.Points.{Points}
+use Rattle.theory_substitution.specs.Rule.{Child, Rule as TheRule, children_of}
+use Rattle.theory_frames.specs.Descent.{of_whole}
+use Rattle.theory_frames.specs.Part.{child_motion}
 use Rattle.cyclo_points.specs.declared.point.Point.{Point}
 use Rattle.cyclo_points.specs.Order.{NumberOf, points_of}
 use Rattle.cyclo_points.specs.Motion.{motion_in}
@@ -25,7 +25,7 @@ use Rattle.tile_place.proofs.Plane.{IsSettled, its_rule}
 use Rattle.tile_shape.specs.declared.step.Step.{Step}
 use Rattle.tile_shape.specs.Views.{step_of}
 use Rattle.lazy_walk.specs.Ancestors.{factor_power}
-use Rattle.descents.proofs.Carried as law
+use Rattle.theory_descents.proofs.Carried as law
 use Rattle.window_descent.specs.declared.part.Part.{Part}
 use Rattle.window_descent.specs.Parts.{IsPlacedPart, IsPartAt}
 use Rattle.window_cover.specs.Descending.{tile_in, tiles_in, IsKeptTile, found_below, found_of, digits_above, IsDescended, IsTakenIn, HasMore, found_part}

@@ -3,11 +3,11 @@ use Rattle.std.proofs.Common.{◌≡◌, ◌⊎◌, inl, inr, ◌≤◌, List, [
 use Rattle.std.proofs.Common.{length-append}
 use Rattle.std.specs.List.Sorted.{IsPermutation}
 use Rattle.std.proofs.lemmas.List.Sorted.{length_permutation}
-use Rattle.addressing.specs.Search.{IsAmong}
-use Rattle.addressing.proofs.Lists.{IsAmong-append_left, IsAmong-append_right}
-use Rattle.addressing.proofs.Ranges.{among-append}
-use Rattle.windows.specs.Distinct.{AreDistinct}
-use Rattle.windows.proofs.Members.{no-more}
+use Rattle.theory_addresses.specs.Search.{IsAmong}
+use Rattle.theory_addresses.proofs.Lists.{IsAmong-append_left, IsAmong-append_right}
+use Rattle.theory_addresses.proofs.Ranges.{among-append}
+use Rattle.theory_windows.specs.Distinct.{AreDistinct}
+use Rattle.theory_windows.proofs.Members.{no-more}
 use Rattle.window_cover.proofs.Shuffled.{permuted-members}
 
 -- lists that are one where they have the same elements by number

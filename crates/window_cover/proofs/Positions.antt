@@ -18,7 +18,8 @@ same_later : (o : Option ℕ) (i : ℕ) → option_map suc o ≡ Some (suc i) �
 same_later None i h = grind arith
 same_later (Some j) i h = grind arith
 
-pub position-rest : {X : Type 0} (p : X → Bool) (x : X) (xs : List X) (i : ℕ) → position p (x ∷ xs) ≡ Some (suc i) → (p x ≡ false) × (position p xs ≡ Some i)
+pub position-rest : {X : Type 0} (p : X → Bool) (x : X) (xs : List X) (i : ℕ)
+    → position p (x ∷ xs) ≡ Some (suc i) → (p x ≡ false) × (position p xs ≡ Some i)
 position-rest p x xs i h =
     let e : p x ≡ false = (position-Some p (x ∷ xs) (suc i) x h).2 0 (omega arith) in
     (e, same_later (position p xs) i (sym (position-later p x xs e) ∙ h))
@@ -36,10 +37,12 @@ no_later : (o : Option ℕ) → option_map suc o ≡ None → o ≡ None
 no_later None h = refl
 no_later (Some i) h = grind arith
 
-pub position-push_passing : {X : Type 0} (p : X → Bool) (y : X) (xs : List X) → position p xs ≡ None → p y ≡ true → position p (xs ++ y ∷ []) ≡ Some (length xs)
+pub position-push_passing : {X : Type 0} (p : X → Bool) (y : X) (xs : List X) → position p xs ≡ None
+    → p y ≡ true → position p (xs ++ y ∷ []) ≡ Some (length xs)
 position-push_passing p y [] h e = position-here p y [] e
 position-push_passing {X} p y (x ∷ xs) h e = step (p x) refl (λ k. position-push_passing p y xs k e)
   where
-    step : (b : Bool) → p x ≡ b → (position p xs ≡ None → position p (xs ++ y ∷ []) ≡ Some (length xs)) → position p (x ∷ xs ++ y ∷ []) ≡ Some (suc (length xs))
+    step : (b : Bool) → p x ≡ b → (position p xs ≡ None → position p (xs ++ y ∷ []) ≡ Some (length xs))
+        → position p (x ∷ xs ++ y ∷ []) ≡ Some (suc (length xs))
     step true f r = let k : Some 0 ≡ None = sym (position-here p x xs f) ∙ h in grind (arith, k)
     step false f r = position-later p x (xs ++ y ∷ []) f ∙ ap (option_map suc) (r (no_later (position p xs) (sym (position-later p x xs f) ∙ h)))

@@ -5,7 +5,7 @@ use Rattle.std.specs.List.{AllByRecursion}
 use Rattle.std.proofs.lemmas.Int.{ints}
 use Rattle.std.proofs.lemmas.List.{take_more}
 use Rattle.std.proofs.lemmas.List.Elements.{All-from_recursion}
-use Rattle.addressing.proofs.Lists.{AllByRecursion-append, AllByRecursion-each, AllByRecursion-map}
+use Rattle.theory_addresses.proofs.Lists.{AllByRecursion-append, AllByRecursion-each, AllByRecursion-map}
 use Rattle.cyclo_points.specs.declared.motion.Motion.{Motion}
 use Rattle.cyclo_points.specs.declared.point.Point.{Point}
 use Rattle.cyclo_points.specs.Point.{coefficient}
@@ -52,7 +52,8 @@ module _ (p : Point) where
 abbrev HoldsSums : Span → Span → Span → Type 0
 HoldsSums a b sums = (x y : ℤ) → LiesIn a x → LiesIn b y → LiesIn sums (x +ℤ y)
 
-pub held-moved : (f g h : Fields) → HoldsSums f.a0 g.a0 h.a0 → HoldsSums f.a1 g.a1 h.a1 → HoldsSums f.a2 g.a2 h.a2 → HoldsSums f.a3 g.a3 h.a3 → h.kinds ≡ f.kinds
+pub held-moved : (f g h : Fields) → HoldsSums f.a0 g.a0 h.a0 → HoldsSums f.a1 g.a1 h.a1
+    → HoldsSums f.a2 g.a2 h.a2 → HoldsSums f.a3 g.a3 h.a3 → h.kinds ≡ f.kinds
     → (m : Motion) (kind : ℕ) (by : Option Point) → AreHeld f m kind → AreHeld g (still by) 0
     → AreHeld h (record { turn = m.turn; shift = shifted_by by m.shift }) kind
 held-moved f g h s0 s1 s2 s3 kinds m kind by own moved = record {
@@ -71,7 +72,8 @@ pub held-seen : (r : Runs) → AreRuns r → (own moved all : Fields) → HoldEa
 held-seen r runs own moved all leaves shifts sums =
     AllByRecursion-map (λ (x : Found). AreHeld all x.motion x.kind) (tile_seen r.leaves.found r.runs.items r.spans.items) r.tiles.items
     (AllByRecursion-each (IsRunTile r.leaves.found r.runs.items r.spans.items)
-    (λ (t : RunTile). AreHeld all (tile_seen r.leaves.found r.runs.items r.spans.items t).motion (tile_seen r.leaves.found r.runs.items r.spans.items t).kind)
+    (λ (t : RunTile). AreHeld all (tile_seen r.leaves.found r.runs.items r.spans.items t).motion
+    (tile_seen r.leaves.found r.runs.items r.spans.items t).kind)
     r.tiles.items
     (λ t h. sums (get_or r.leaves.found t.leaf none).motion (get_or r.leaves.found t.leaf none).kind (run_of r.runs.items t.run).shift
     (All-from_recursion (λ (x : Found). AreHeld own x.motion x.kind) r.leaves.found leaves t.leaf none h.leaf_there)

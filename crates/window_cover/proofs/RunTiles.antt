@@ -5,8 +5,8 @@ use Rattle.std.specs.List.{AllByRecursion}
 use Rattle.std.proofs.Math.Seq.{drop-append_seam, get_or-append_seam}
 use Rattle.std.proofs.lemmas.List.{take-append-le, drop-append-le, map-append, get_or_append_left, append-nil, length-map, get_or-map}
 use Rattle.std.proofs.lemmas.List.Elements.{All-from_recursion}
-use Rattle.addressing.specs.Address.{Step as TheStep}
-use Rattle.addressing.proofs.Lists.{AllByRecursion-each, AllByRecursion-append}
+use Rattle.theory_addresses.specs.Address.{Step as TheStep}
+use Rattle.theory_addresses.proofs.Lists.{AllByRecursion-each, AllByRecursion-append}
 use Rattle.cyclo_points.specs.declared.point.Point.{Point}
 use Rattle.cyclo_points.specs.Point.{IsWithin}
 use Rattle.tile_place.specs.Keys.{FitsKey}
@@ -39,7 +39,8 @@ module _ (leaves more later : List Found) (runs further runs_later : List Run) (
         let there = h.span_there in
         let short : run.depth ≤ length (drop run.first spans) = omega (arith, there, length-drop run.first spans) in
         ap (map step_of) (ap (λ l. take run.depth (drop run.first l)) of_spans
-        ∙ ap (take run.depth) (drop-append-le run.first spans digits (omega (arith, there))) ∙ take-append-le run.depth (drop run.first spans) digits short)
+        ∙ ap (take run.depth) (drop-append-le run.first spans digits (omega (arith, there)))
+        ∙ take-append-le run.depth (drop run.first spans) digits short)
 
     pub later-seen : tile_seen later runs_later spans_later t ≡ tile_seen leaves runs spans t
     later-seen = ap (λ (r : Run). run_tile r.shift (span_of spans_later r) (tile_of later t.leaf)) run-same
@@ -81,7 +82,8 @@ module _ (leaves : List Found) (runs runs_later : List Run) (spans digits spans_
   own-run = ap (λ (rs : List Run). get_or rs (length runs) no_run) of_runs ∙ get_or-append_seam runs own [] no_run
 
   own-span : span_of spans_later own ≡ map step_of digits
-  own-span = ap (map step_of) (ap₂ (λ i n. take n (drop i spans_later)) its_first its_depth ∙ ap (λ l. take (length digits) (drop (length spans) l)) of_spans
+  own-span = ap (map step_of) (ap₂ (λ i n. take n (drop i spans_later)) its_first its_depth
+      ∙ ap (λ l. take (length digits) (drop (length spans) l)) of_spans
       ∙ ap (take (length digits)) (drop-append_seam spans digits) ∙ take_all (length digits) digits (omega arith))
 
   pub new-seen : (i : ℕ) → tile_seen leaves runs_later spans_later (record { run = length runs; leaf = i })
@@ -122,7 +124,8 @@ module _ (leaves : List Found) (runs runs_later : List Run) (spans digits spans_
 
 -- ---- the leaves of a block, as a further run
 module _ (leaves : List Found) (runs runs_later : List Run) (spans spans_later : List Step) (tiles tiles_later : List RunTile) (shift : Option Point)
-    (digits : List Step) (b : Block) (number first : ℕ) (of_runs : runs_later ≡ runs ++ record { shift = shift; first = first; depth = length digits } ∷ [])
+    (digits : List Step) (b : Block) (number first : ℕ)
+    (of_runs : runs_later ≡ runs ++ record { shift = shift; first = first; depth = length digits } ∷ [])
     (of_spans : spans_later ≡ spans ++ digits) (its_number : number ≡ length runs) (its_first : first ≡ length spans)
     (of_tiles : tiles_later ≡ tiles ++ run_tiles number b.first b.count) (are : AllByRecursion (IsRunTile leaves runs spans) tiles)
     (can : CanRun leaves b shift digits) where
@@ -136,7 +139,8 @@ module _ (leaves : List Found) (runs runs_later : List Run) (spans spans_later :
   pushed-all = subst (AllByRecursion (IsRunTile leaves runs_later spans_later)) (sym ordered)
       (AllByRecursion-append (IsRunTile leaves runs_later spans_later) tiles (run_tiles (length runs) b.first b.count)
       (later-all leaves [] leaves runs (its_run ∷ []) runs_later spans digits spans_later (sym (append-nil leaves)) of_runs of_spans tiles are)
-      (new-all leaves runs runs_later spans digits spans_later its_run of_runs of_spans its_first refl can.by_within b.first b.count can.fits can.each))
+      (new-all leaves runs runs_later spans digits spans_later its_run of_runs of_spans its_first refl
+      can.by_within b.first b.count can.fits can.each))
 
   pub pushed-seen : map (tile_seen leaves runs_later spans_later) tiles_later
       ≡ map (tile_seen leaves runs spans) tiles ++ map (run_tile shift (map step_of digits)) (leaves_in b leaves)
@@ -148,7 +152,8 @@ module _ (leaves : List Found) (runs runs_later : List Run) (spans spans_later :
       (new-map leaves runs runs_later spans digits spans_later its_run of_runs of_spans its_first refl b.first b.count)
 
 -- ---- lists
-pub run_tiles-more : (run first count : ℕ) → run_tiles run first (count + 1) ≡ run_tiles run first count ++ record { run = run; leaf = first + count } ∷ []
+pub run_tiles-more : (run first count : ℕ) → run_tiles run first (count + 1) ≡ run_tiles run first count
+    ++ record { run = run; leaf = first + count } ∷ []
 run_tiles-more run first count = ap (run_tiles run first) (sym next) ∙ more first count
   where
     next : suc count ≡ count + 1
@@ -201,7 +206,8 @@ pub runs-keyed : (r : Runs) → AreRuns r → AllByRecursion HasKey (seen r)
 runs-keyed r h = seen-keyed r.leaves.found r.runs.items r.spans.items r.tiles.items h.tiles
 
 pub runs-few : (r : Runs) → AreRuns r → length (seen r) < 2 ^ 18
-runs-few r h = let few = h.few in let long = length-map r.tiles.items (tile_seen r.leaves.found r.runs.items r.spans.items) in omega (arith, few, long)
+runs-few r h = let few = h.few in let long = length-map r.tiles.items
+    (tile_seen r.leaves.found r.runs.items r.spans.items) in omega (arith, few, long)
 
 -- ---- a single run that moves no leaf
 abbrev pub whole_run : Run

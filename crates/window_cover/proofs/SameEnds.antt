@@ -23,12 +23,14 @@ have_same_ends-exact a b h =
     let p = and_parts _ _ h in
     let q = and_parts _ _ p.1 in
     let r = and_parts _ _ q.1 in
-    same_words (eqb-true a.start_low b.start_low p.0) (eqb-true a.start_high b.start_high q.0) (eqb-true a.end_low b.end_low r.0) (eqb-true a.end_high b.end_high r.1)
+    same_words (eqb-true a.start_low b.start_low p.0) (eqb-true a.start_high b.start_high q.0)
+    (eqb-true a.end_low b.end_low r.0) (eqb-true a.end_high b.end_high r.1)
 
 pub have_same_ends-symm : (a b : Ends) → have_same_ends a b ≡ have_same_ends b a
 have_same_ends-symm a b = at_tests (cases_Bool (have_same_ends a b)) (cases_Bool (have_same_ends b a))
   where
-    at_tests : (have_same_ends a b ≡ true) ⊎ (have_same_ends a b ≡ false) → (have_same_ends b a ≡ true) ⊎ (have_same_ends b a ≡ false) → have_same_ends a b ≡ have_same_ends b a
+    at_tests : (have_same_ends a b ≡ true) ⊎ (have_same_ends a b ≡ false) → (have_same_ends b a ≡ true)
+        ⊎ (have_same_ends b a ≡ false) → have_same_ends a b ≡ have_same_ends b a
     at_tests (inl e) f = subst (λ (x : Ends). have_same_ends a x ≡ have_same_ends x a) (have_same_ends-exact a b e) refl
     at_tests (inr e) (inl f) = sym (subst (λ (x : Ends). have_same_ends b x ≡ have_same_ends x b) (have_same_ends-exact b a f) refl)
     at_tests (inr e) (inr f) = e ∙ sym f

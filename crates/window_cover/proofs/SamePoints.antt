@@ -1,7 +1,7 @@
 -- Two edges of an order have the same ends exactly where they have the same points.
 use Rattle.std.proofs.Common.{◌≡◌, ◌^◌, ℤ, pos, true, sym, ap, ap₂, ◌∙◌}
 use Rattle.std.specs.Bool.{Decides}
-use Rattle.ordered_ring.specs.Surd.{Pair}
+use Rattle.theory_ring.specs.Surd.{Pair}
 use Rattle.cyclo_points.specs.Quad.{Quad}
 use Rattle.cyclo_points.specs.declared.order.Order.{Order}
 use Rattle.cyclo_points.specs.declared.order.Order.TheVariants.{Four, Six, Eight, Ten}
@@ -21,7 +21,8 @@ IsShortIn o p = IsOf o p × IsWithin (2 ^ 25) p
 abbrev pack : Quad ℤ → Quad ℤ → Ends
 pack s e = record { start_low = word_of s.a0 s.a1; start_high = word_of s.a2 s.a3; end_low = word_of e.a0 e.a1; end_high = word_of e.a2 e.a3 }
 
-from_pair : (p q : Point) → (coefficient p 2 ≡ pos 0) × (coefficient p 3 ≡ pos 0) → (coefficient q 2 ≡ pos 0) × (coefficient q 3 ≡ pos 0) → pair_of p ≡ pair_of q → quad_of p ≡ quad_of q
+from_pair : (p q : Point) → (coefficient p 2 ≡ pos 0) × (coefficient p 3 ≡ pos 0) → (coefficient q 2 ≡ pos 0)
+    × (coefficient q 3 ≡ pos 0) → pair_of p ≡ pair_of q → quad_of p ≡ quad_of q
 from_pair p q f g e =
     ap (λ (z : Pair ℤ). quad z.a z.b (coefficient p 2) (coefficient p 3)) e
     ∙ ap₂ (λ (c d : ℤ). quad (coefficient q 0) (coefficient q 1) c d) (f.0 ∙ sym g.0) (f.1 ∙ sym g.1)

@@ -1,11 +1,11 @@
 -- What a search for the tiles of a window hands on, from step to step and at its end.
 use Rattle.std.proofs.Common.{◌≡◌, inl, inr, ℕ, List, [], ◌∷◌, None, find, refl, sym, ap, ◌∙◌, subst}
-use Rattle.addressing.specs.Address.{Address}
+use Rattle.theory_addresses.specs.Address.{Address}
 use Rattle.cyclo_points.specs.Order.{points_of, is_refused}
 use Rattle.cyclo_points.specs.Point.{point_in}
-use Rattle.frames.specs.Contain.{values_outward}
+use Rattle.theory_frames.specs.Contain.{values_outward}
 use Rattle.plane_geom.specs.declared.window.Window.{Window}
-use Rattle.addressing.specs.Tables.{child_kinds}
+use Rattle.theory_addresses.specs.Tables.{child_kinds}
 use Rattle.rule_model.specs.declared.rule.Rule.{Rule}
 use Rattle.rule_model.specs.Accepted.{IsAccepted}
 use Rattle.rule_model.specs.Tiling.{Tiling, tiling_of, contacts, children}
@@ -14,8 +14,8 @@ use Rattle.tile_shape.specs.Usable.{AreUsable}
 use Rattle.window_cover.specs.Checked.{IsChecked}
 use Rattle.lazy_walk.specs.Frames.{FrameValue, GrowsTo}
 use Rattle.lazy_walk.proofs.Ancestors.{full-later}
-use Rattle.windows.specs.EnoughDepth.{IsNotBeyond}
-use Rattle.windows.specs.FramePatch.{growing_frame}
+use Rattle.theory_windows.specs.EnoughDepth.{IsNotBeyond}
+use Rattle.theory_windows.specs.FramePatch.{growing_frame}
 use Rattle.window_cover.specs.declared.cover_fault.CoverFault.{CoverFault}
 use Rattle.window_cover.specs.declared.cover_fault.CoverFault.TheVariants.{DepthLimit, CoordLimit, TooManyTiles, NoMemory}
 use Rattle.window_cover.specs.Beyond.{IsNotBeyondEnough}
@@ -28,7 +28,8 @@ none-open [] e = refl
 none-open (o ∷ os) e = absurd (cc e)
 
 -- ---- what a machine says of its rule
-pub checked_of : (m inside : Rule) (kinds : List (List ℕ)) → inside ≡ m → IsAccepted m → IsUsable m → child_kinds (contacts (tiling_of m)) ≡ children (tiling_of m)
+pub checked_of : (m inside : Rule) (kinds : List (List ℕ)) → inside ≡ m → IsAccepted m → IsUsable m
+    → child_kinds (contacts (tiling_of m)) ≡ children (tiling_of m)
     → kinds ≡ children (tiling_of inside) → AreUsable kinds → IsChecked m
 checked_of m inside kinds e accepted usable same k h = record {
   accepted = accepted;
@@ -41,16 +42,22 @@ checked_of m inside kinds e accepted usable same k h = record {
 module _ (t : Tiling) (f g : FrameValue) (grows : GrowsTo t f g) where
   pub beyond-before : (w : Window) (m n : ℕ) → IsNotBeyondEnough t g w m n → IsNotBeyondEnough t f w m n
   beyond-before w m n h =
-      subst (λ (a : Address). IsNotBeyond (points_of t.order).real (TileOf t) (growing_frame (points_of t.order) (is_refused t.order) t.rule a) (box_of t w) m n) (full-later t f g grows) h
+      subst (λ (a : Address). IsNotBeyond (points_of t.order).real (TileOf t)
+      (growing_frame (points_of t.order) (is_refused t.order) t.rule a) (box_of t w) m n)
+      (full-later t f g grows) h
 
   pub beyond-later : (w : Window) (m n : ℕ) → IsNotBeyondEnough t f w m n → IsNotBeyondEnough t g w m n
   beyond-later w m n h =
-      subst (λ (a : Address). IsNotBeyond (points_of t.order).real (TileOf t) (growing_frame (points_of t.order) (is_refused t.order) t.rule a) (box_of t w) m n) (sym (full-later t f g grows)) h
+      subst (λ (a : Address). IsNotBeyond (points_of t.order).real (TileOf t)
+      (growing_frame (points_of t.order) (is_refused t.order) t.rule a) (box_of t w) m n)
+      (sym (full-later t f g grows)) h
 
   pub cause-before : (now : FrameValue) (w : Window) (fault : CoverFault) → HasCause t g now w fault → HasCause t f now w fault
   cause-before now w (DepthLimit addr edge) h = h
   cause-before now w (CoordLimit value) (inl h) = inl (record {
-    is_first = ap (λ (a : Address). find (is_refused t.order) (values_outward (points_of t.order) t.rule a (point_in t.order w.centre) 0 65)) (sym (full-later t f g grows)) ∙ h.is_first;
+    is_first = ap (λ (a : Address). find (is_refused t.order)
+        (values_outward (points_of t.order) t.rule a (point_in t.order w.centre) 0 65))
+        (sym (full-later t f g grows)) ∙ h.is_first;
     value_in_order = h.value_in_order;
   })
   cause-before now w (CoordLimit value) (inr e) = inr e

@@ -8,12 +8,12 @@ use Rattle.std.proofs.lemmas.List.Elements.{All-from_recursion, recursion_from_A
 use Rattle.std.proofs.lemmas.List.Sorted.{IsPermutation-map, IsPermutation-sym, All-permutation, Contains-permutation}
 use Rattle.std.proofs.lemmas.Map.Keys.{IsDistinct-IsPermutation}
 use Rattle.std.proofs.lemmas.Option.{slice_get_within, get_or_from_slice_get, slice_get-get_or}
-use Rattle.addressing.specs.Search.{IsAmong}
-use Rattle.addressing.proofs.Lists.{AllByRecursion-among}
-use Rattle.addressing.proofs.Ranges.{among-place, place-among, slice_get-image}
-use Rattle.windows.specs.AnyOrder.{HaveSameMembers}
-use Rattle.windows.specs.Distinct.{AreDistinct}
-use Rattle.windows.proofs.Members.{among-map}
+use Rattle.theory_addresses.specs.Search.{IsAmong}
+use Rattle.theory_addresses.proofs.Lists.{AllByRecursion-among}
+use Rattle.theory_addresses.proofs.Ranges.{among-place, place-among, slice_get-image}
+use Rattle.theory_windows.specs.AnyOrder.{HaveSameMembers}
+use Rattle.theory_windows.specs.Distinct.{AreDistinct}
+use Rattle.theory_windows.proofs.Members.{among-map}
 use Rattle.tile_place.specs.declared.order_key.OrderKey.{OrderKey}
 use Rattle.window_cover.specs.Found.{Found}
 use Rattle.window_cover.specs.Keys.{keys_from}
@@ -45,9 +45,11 @@ pub record AreShuffled (found : List Found) (ks : List OrderKey) : Type 0 where
 
 pub shuffled : (found : List Found) (ks : List OrderKey) → IsPermutation (keys_from 0 found) ks → AreShuffled found ks
 shuffled found ks p = record {
-  keys = recursion_from_All (IsKey found) ks (All-permutation (IsKey found) (keys_from 0 found) ks p (All-from_recursion (IsKey found) (keys_from 0 found) (keys-are found)));
+  keys = recursion_from_All (IsKey found) ks (All-permutation (IsKey found) (keys_from 0 found) ks p
+      (All-from_recursion (IsKey found) (keys_from 0 found) (keys-are found)));
   numbers = IsDistinct-IsPermutation same_number flips (keys_from 0 found) ks p (keys-distinct 0 found);
-  tiles = subst (λ (xs : List Found). IsPermutation xs (map (keyed_in found) ks)) (keys-tiles found) (IsPermutation-map (keyed_in found) (keys_from 0 found) ks p);
+  tiles = subst (λ (xs : List Found). IsPermutation xs (map (keyed_in found) ks)) (keys-tiles found)
+      (IsPermutation-map (keyed_in found) (keys_from 0 found) ks p);
 }
 
 module _ {B : Type 0} (found : List Found) (g : Found → B) (d : AreDistinct (map g found)) where
@@ -58,7 +60,8 @@ module _ {B : Type 0} (found : List Found) (g : Found → B) (d : AreDistinct (m
   one_number k l h i e = distinct-place (map g found) d k.number l.number (g (keyed_in found k)) (image-at k h) (image-at l i ∙ ap Some (sym e))
 
   -- the images of the tiles are distinct in the order of the keys too
-  pub keyed-distinct : (ks : List OrderKey) → AllByRecursion (IsKey found) ks → IsDistinct same_number ks → AreDistinct (map g (map (keyed_in found) ks))
+  pub keyed-distinct : (ks : List OrderKey) → AllByRecursion (IsKey found) ks → IsDistinct same_number ks
+      → AreDistinct (map g (map (keyed_in found) ks))
   unfolding IsDistinct
   keyed-distinct [] h n = tt
   keyed-distinct (k ∷ ks) h n = (

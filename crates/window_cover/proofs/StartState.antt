@@ -2,15 +2,15 @@
 use Rattle.std.proofs.Common.{◌≡◌, ℕ, ◌<◌, ◌≤◌, false, List, ◌++◌, [], ◌∷◌, length, map, refl, sym, ap, ap₂, ◌∙◌, subst, arith}
 use Rattle.std.specs.List.{AllByRecursion, AllZip}
 use Rattle.std.proofs.Math.ListN.{length-map}
-use Rattle.addressing.specs.Address.{Address, depth}
-use Rattle.addressing.specs.Search.{IsAmong}
+use Rattle.theory_addresses.specs.Address.{Address, depth}
+use Rattle.theory_addresses.specs.Search.{IsAmong}
 use Rattle.cyclo_points.specs.declared.point.Point.{Point}
 use Rattle.cyclo_points.specs.Order.{NumberOf, points_of, is_refused}
 use Rattle.cyclo_points.specs.Motion.{motion_in}
 use Rattle.cyclo_points.specs.Point.{point_in}
-use Rattle.dissection.specs.Accepted.{AcceptedRule}
-use Rattle.dissection.specs.Polygons.{tile_polygon}
-use Rattle.frames.specs.Frame.{IsTileOf, at_level, frame_tiles, lifted_in}
+use Rattle.theory_dissection.specs.Accepted.{AcceptedRule}
+use Rattle.theory_dissection.specs.Polygons.{tile_polygon}
+use Rattle.theory_frames.specs.Frame.{IsTileOf, at_level, frame_tiles, lifted_in}
 use Rattle.lazy_walk.specs.Ancestors.{full}
 use Rattle.lazy_walk.specs.Containing.{FrameHolds, IsOnlyHolder}
 use Rattle.lazy_walk.specs.Frames.{FrameValue, whole, at_depth, IsFrameOf, GrowsTo}
@@ -20,17 +20,17 @@ use Rattle.lazy_walk.proofs.Walks.{StillFits, at_depth-depth}
 use Rattle.plane_geom.specs.declared.window.Window.{Window}
 use Rattle.rule_model.specs.declared.rule.Rule.{Rule}
 use Rattle.rule_model.specs.Tiling.{Tiling, tiling_of, children}
-use Rattle.substitution.specs.Points.{Points}
+use Rattle.theory_substitution.specs.Points.{Points}
 use Rattle.tile_place.specs.declared.placed_tile.PlacedTile.{PlacedTile}
 use Rattle.tile_place.specs.Searched.{placed_in}
 use Rattle.tile_place.proofs.Plane.{IsSettled, its_rule}
 use Rattle.tile_shape.specs.Views.{address_of}
-use Rattle.windows.specs.FrameCover.{IsLeastHolding, IsWindowOn}
-use Rattle.windows.specs.FramePatch.{frame_patch, growing_frame, lifted_tile}
-use Rattle.windows.specs.EnoughDepth.{IsNotBeyond}
-use Rattle.windows.specs.GrowingPatch.{IsOfDepth}
-use Rattle.windows.specs.OpenTest.{open_edges_of}
-use Rattle.windows.specs.SearchState.{SearchState, IsRightState, started}
+use Rattle.theory_windows.specs.FrameCover.{IsLeastHolding, IsWindowOn}
+use Rattle.theory_windows.specs.FramePatch.{frame_patch, growing_frame, lifted_tile}
+use Rattle.theory_windows.specs.EnoughDepth.{IsNotBeyond}
+use Rattle.theory_windows.specs.GrowingPatch.{IsOfDepth}
+use Rattle.theory_windows.specs.OpenTest.{open_edges_of}
+use Rattle.theory_windows.specs.SearchState.{SearchState, IsRightState, started}
 use Rattle.tile_place.specs.Corners.{AreCorners}
 use Rattle.window_cover.specs.Admitted.{IsAdmitted, found_as}
 use Rattle.window_cover.specs.Found.{Found, address_found}
@@ -45,8 +45,10 @@ use Rattle.window_cover.proofs.NewOpen.{border-next, are-new}
 
 module _ (m : Rule) (settled : IsSettled m) (fits : StillFits (children (tiling_of m))) (L : HasSearchLaws (points_of m.order))
     (f : FrameValue) (is : IsFrameOf (tiling_of m) f) (g : FrameValue) (h : GrowsTo (tiling_of m) f g) (w : Window) (fit : IsWindow w)
-    (tile : PlacedTile) (stands : Stands (tiling_of m) g tile) (holder : IsOnlyHolder (tiling_of m) g (point_in m.order w.centre) (placed_in m.order tile))
-    (least : (n : ℕ) → length f.digits ≤ n → n < length g.digits → ¬ FrameHolds (tiling_of m) (at_depth (tiling_of m) n f) (point_in m.order w.centre)) where
+    (tile : PlacedTile) (stands : Stands (tiling_of m) g tile)
+    (holder : IsOnlyHolder (tiling_of m) g (point_in m.order w.centre) (placed_in m.order tile))
+    (least : (n : ℕ) → length f.digits ≤ n → n < length g.digits
+    → ¬ FrameHolds (tiling_of m) (at_depth (tiling_of m) n f) (point_in m.order w.centre)) where
   abbrev t : Tiling
   t = tiling_of m
 
@@ -110,7 +112,9 @@ module _ (m : Rule) (settled : IsSettled m) (fits : StillFits (children (tiling_
 
   -- what the law of the start says of it
   begun : IsNotBeyond P.real (TileOf t) (growing t f) (box_of t w) (length f.digits) (length g.digits)
-      × (is_refused m.order own.motion.shift ≡ false → IsRightState P.real (TileOf t) (growing t f) (box_of t w) (started P.real (TileOf t) (growing t f) (box_of t w) (length g.digits) u))
+      × (is_refused m.order own.motion.shift ≡ false
+      → IsRightState P.real (TileOf t) (growing t f) (box_of t w)
+      (started P.real (TileOf t) (growing t f) (box_of t w) (length g.digits) u))
   begun = L.start T F (is_refused m.order) p w.w w.h window-on (length f.digits) (length g.digits) least_holding own own_among holder.here.holds
 
   module _ (c d : Working) (empty : c ≡ record { window = w; found = []; border = [] }) (new : IsAdmitted t c d tile) where
@@ -129,13 +133,17 @@ module _ (m : Rule) (settled : IsSettled m) (fits : StillFits (children (tiling_
     same_found : map (name_of t g) d.found ≡ u ∷ []
     same_found =
         ap (λ y. map (name_by y) d.found) (full-later t f g h) ∙ ap (map (name_of t f)) new_found
-        ∙ (λ i. record { address = lifted_in F (record { kind = stands.its_kind i; digits = b.digits }); motion = motion_in m.order tile.motion } ∷ [])
+        ∙ (λ i. record {
+          address = lifted_in F (record { kind = stands.its_kind i; digits = b.digits });
+          motion = motion_in m.order tile.motion;
+        } ∷ [])
 
     state-is : state_of t g d ≡ started P.real (TileOf t) (growing t f) (box_of t w) (length g.digits) u
     state-is = λ i. record { found = same_found i; open_edges = same_edges i; depth = length g.digits }
       where
         same_edges : (state_of t g d).open_edges ≡ (started P.real (TileOf t) (growing t f) (box_of t w) (length g.digits) u).open_edges
-        same_edges = ap₂ (λ x ns. open_edges_of P.real (box_of t x) (map (λ y. tile_polygon P T.rule (λ z. z) y) ns)) same_window same_found ∙ sym first.open_is
+        same_edges = ap₂ (λ x ns. open_edges_of P.real (box_of t x)
+            (map (λ y. tile_polygon P T.rule (λ z. z) y) ns)) same_window same_found ∙ sym first.open_is
 
     pub one_tile : length d.found ≡ 1
     one_tile = ap length new_found
@@ -145,10 +153,14 @@ module _ (m : Rule) (settled : IsSettled m) (fits : StillFits (children (tiling_
 
     border_is : AllZip (IsEdgeWaiting t) d.border (state_of t g d).open_edges
     border_is =
-        subst (λ ws. AllZip (IsEdgeWaiting t) ws (state_of t g d).open_edges) (sym (new.border ∙ ap (λ (y : Working). left_open new.corners (length new.corners) y.border ++ opened m.order y.window (length y.found) new.corners (length new.corners) y.border) empty))
-        (subst (λ es. AllZip (IsEdgeWaiting t) (left_open new.corners (length new.corners) [] ++ opened m.order w 0 new.corners (length new.corners) []) es)
+        subst (λ ws. AllZip (IsEdgeWaiting t) ws (state_of t g d).open_edges)
+        (sym (new.border ∙ ap (λ (y : Working). left_open new.corners (length new.corners) y.border
+        ++ opened m.order y.window (length y.found) new.corners (length new.corners) y.border) empty))
+        (subst (λ es. AllZip (IsEdgeWaiting t) (left_open new.corners (length new.corners) []
+        ++ opened m.order w 0 new.corners (length new.corners) []) es)
         (sym (ap (λ (z : SearchState P.real (TileOf t)). z.open_edges) state-is))
-        (border-next m.order L.points T L.lines L.numbered u exists tile.motion refl new.corners (its_corners new.corners new.are_corners) [] [] tt w 0))
+        (border-next m.order L.points T L.lines L.numbered u exists tile.motion refl new.corners
+        (its_corners new.corners new.are_corners) [] [] tt w 0))
 
     pub right-first : IsWorking t g d
     right-first = record {
@@ -165,7 +177,8 @@ module _ (m : Rule) (settled : IsSettled m) (fits : StillFits (children (tiling_
       );
       not_too_many = omega (arith, one_tile);
       state = subst (λ (x : Window). IsRightState P.real (TileOf t) (growing t g) (box_of t x) (state_of t g d)) (sym same_window)
-          (subst (λ y. IsRightState P.real (TileOf t) (growing_frame P (is_refused m.order) T.rule y) (box_of t w) (state_of t g d)) (sym (full-later t f g h))
+          (subst (λ y. IsRightState P.real (TileOf t) (growing_frame P (is_refused m.order) T.rule y)
+          (box_of t w) (state_of t g d)) (sym (full-later t f g h))
           (subst (IsRightState P.real (TileOf t) (growing t f) (box_of t w)) (sym state-is) first));
       border = border_is;
     }

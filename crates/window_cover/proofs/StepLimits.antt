@@ -3,32 +3,32 @@ use Rattle.std.proofs.Common.{◌≡◌, ◌⊎◌, inl, inr, ℕ, ◌+◌, ◌<
 use Rattle.std.specs.List.{AllByRecursion}
 use Rattle.std.specs.Result.{IsOk}
 use Rattle.std.proofs.Math.ListN.{length-map}
-use Rattle.addressing.specs.Address.{Address, depth}
-use Rattle.addressing.specs.Search.{IsAmong}
-use Rattle.addressing.proofs.Lists.{AllByRecursion-among, AllByRecursion-append, AllByRecursion-from, IsAmong-map}
+use Rattle.theory_addresses.specs.Address.{Address, depth}
+use Rattle.theory_addresses.specs.Search.{IsAmong}
+use Rattle.theory_addresses.proofs.Lists.{AllByRecursion-among, AllByRecursion-append, AllByRecursion-from, IsAmong-map}
 use Rattle.cyclo_points.specs.declared.point.Point.{Point}
 use Rattle.cyclo_points.specs.Order.{points_of, is_refused}
 use Rattle.cyclo_points.specs.Point.{point_in, IsOf}
-use Rattle.frames.specs.Frame.{frame_tiles}
+use Rattle.theory_frames.specs.Frame.{frame_tiles}
 use Rattle.lazy_walk.specs.Ancestors.{full}
 use Rattle.lazy_walk.specs.Frames.{FrameValue, GrowsTo}
 use Rattle.lazy_walk.proofs.Ancestors.{full-later}
 use Rattle.lazy_walk.proofs.Walks.{StillFits}
 use Rattle.rule_model.specs.declared.rule.Rule.{Rule}
 use Rattle.rule_model.specs.Tiling.{Tiling, tiling_of, children}
-use Rattle.substitution.specs.Points.{Points}
-use Rattle.dissection.specs.Accepted.{AcceptedRule}
+use Rattle.theory_substitution.specs.Points.{Points}
+use Rattle.theory_dissection.specs.Accepted.{AcceptedRule}
 use Rattle.tile_place.specs.declared.placed_tile.PlacedTile.{PlacedTile}
 use Rattle.tile_place.proofs.Plane.{IsSettled, its_rule}
 use Rattle.tile_shape.specs.Views.{address_of}
-use Rattle.windows.specs.Distinct.{AreDistinct}
-use Rattle.windows.specs.EnoughDepth.{IsNotBeyond}
-use Rattle.windows.specs.FramePatch.{level_in, lifted_tile, in_frame}
-use Rattle.windows.specs.FrameWindow.{IsLeastDepth, IsWindowWithin}
-use Rattle.windows.specs.GrowingPatch.{IsOfDepth}
-use Rattle.windows.specs.Meeting.{PolygonMeetsBox}
-use Rattle.windows.specs.SearchState.{SearchState}
-use Rattle.windows.proofs.Places.{distinct-unmap}
+use Rattle.theory_windows.specs.Distinct.{AreDistinct}
+use Rattle.theory_windows.specs.EnoughDepth.{IsNotBeyond}
+use Rattle.theory_windows.specs.FramePatch.{level_in, lifted_tile, in_frame}
+use Rattle.theory_windows.specs.FrameWindow.{IsLeastDepth, IsWindowWithin}
+use Rattle.theory_windows.specs.GrowingPatch.{IsOfDepth}
+use Rattle.theory_windows.specs.Meeting.{PolygonMeetsBox}
+use Rattle.theory_windows.specs.SearchState.{SearchState}
+use Rattle.theory_windows.proofs.Places.{distinct-unmap}
 use Rattle.window_cover.specs.declared.cover_fault.CoverFault.{CoverFault}
 use Rattle.window_cover.specs.declared.cover_fault.CoverFault.TheVariants.{DepthLimit, CoordLimit, TooManyTiles, NoMemory}
 use Rattle.window_cover.specs.declared.open_edge.OpenEdge.{OpenEdge}
@@ -38,7 +38,7 @@ use Rattle.window_cover.specs.Causes.{IsRefusedShift, AreTooMany, HasCause}
 use Rattle.lazy_walk.specs.Crossed.{IsCrossedTo}
 use Rattle.window_cover.specs.Found.{Found, address_found}
 use Rattle.window_cover.specs.Limits.{IsWithinLimits}
-use Rattle.windows.specs.Limits.{most_tiles}
+use Rattle.theory_windows.specs.Limits.{most_tiles}
 use Rattle.window_cover.specs.Right.{growing}
 use Rattle.window_cover.specs.SearchLaws.{HasSearchLaws}
 use Rattle.window_cover.specs.Windows.{TileOf, box_of, polygon_of, MeetsWindow, IsOfFrame, IsLeastEnough}
@@ -60,7 +60,8 @@ distinct-more {A} (x ∷ xs) y d n = (here, distinct-more xs y d.1 (λ i. n (inr
     here : ¬ IsAmong x (xs ++ y ∷ [])
     here i = elim (at xs i) [ inl j ↦ d.0 j | inr e ↦ n (inl (sym e)) ]
 
-module _ (m : Rule) (settled : IsSettled m) (fits : StillFits (children (tiling_of m))) (L : HasSearchLaws (points_of m.order)) (f : FrameValue) (g : FrameValue) (h : GrowsTo (tiling_of m) f g)
+module _ (m : Rule) (settled : IsSettled m) (fits : StillFits (children (tiling_of m)))
+    (L : HasSearchLaws (points_of m.order)) (f : FrameValue) (g : FrameValue) (h : GrowsTo (tiling_of m) f g)
     (c : Working) (right : IsWorking (tiling_of m) f c) where
   abbrev t : Tiling
   t = tiling_of m
@@ -87,7 +88,8 @@ module _ (m : Rule) (settled : IsSettled m) (fits : StillFits (children (tiling_
     meets : MeetsWindow t c.window fine
     is : u ≡ lifted_tile F fine
 
-  fine-of : (u : TileOf t) → IsOfDepth P.real (TileOf t) (growing t f) (length g.digits) u → PolygonMeetsBox P.real (box_of t c.window) (polygon_of t u) → Fine u
+  fine-of : (u : TileOf t) → IsOfDepth P.real (TileOf t) (growing t f) (length g.digits) u
+      → PolygonMeetsBox P.real (box_of t c.window) (polygon_of t u) → Fine u
   fine-of u of meets =
       let at = (L.lifted T F (names m settled fits f right.frame) (is_refused m.order) (length g.digits) grown_within u).0 of in
       record {
@@ -123,24 +125,35 @@ module _ (m : Rule) (settled : IsSettled m) (fits : StillFits (children (tiling_
         let same_full : full t f ≡ full t f0 = full-later t f0 f grows in
         let d = deep m settled fits f right.frame in
         let one = step m settled fits L f g h c right first is_first x at tile back crossed in
-        let least = (L.least T F (names m settled fits f right.frame) (is_refused m.order) (box_of t c.window) (length f0.digits) n (omega (arith, d, grows.no_shallower, right.frame.at_most_64))).0
+        let least = (L.least T F (names m settled fits f right.frame) (is_refused m.order) (box_of t c.window)
+        (length f0.digits) n (omega (arith, d, grows.no_shallower, right.frame.at_most_64))).0
         (subst (λ y. IsLeastDepth P T.rule y (box_of t c.window) (length f0.digits) n) (sym same_full) enough) in
-        let here : IsNotBeyond P.real (TileOf t) (growing t f) (box_of t c.window) s.depth s.depth = record { not_below = omega arith; not_beyond = λ k l e. l } in
+        let here : IsNotBeyond P.real (TileOf t) (growing t f) (box_of t c.window) s.depth s.depth = record
+        { not_below = omega arith; not_beyond = λ k l e. l } in
         let beyond = (one.0.not_beyond s.depth here).not_beyond n below least.enough in
         subst (λ k. k ≤ n) one.1 beyond
 
-    pub within_next : (f0 : FrameValue) → GrowsTo t f0 f → IsWithinLimits t f0 c.window → {U : Type 0} (r : Result U CoverFault) → IfErr r (IsNotAdmitted t c tile) → (r ≡ Err NoMemory) ⊎ IsOk r
+    pub within_next : (f0 : FrameValue) → GrowsTo t f0 f → IsWithinLimits t f0 c.window
+        → {U : Type 0} (r : Result U CoverFault) → IfErr r (IsNotAdmitted t c tile) → (r ≡ Err NoMemory)
+        ⊎ IsOk r
     within_next f0 grows within r why =
         let same_full : full t f ≡ full t f0 = full-later t f0 f grows in
-        let on = L.onward T F (is_refused m.order) (box_of t c.window) (window-on m settled fits L f right.frame c right) (length f0.digits) most_tiles
-        (subst (λ y. IsWindowWithin P (is_refused m.order) T.rule y (box_of t c.window) (length f0.digits) most_tiles) (sym same_full) within.drawn_within)
-        s right.state (first_edge m settled fits L f g h c right first is_first x at tile back crossed).edge (length g.digits) (address_found x) (address_of tile.addr)
+        let on = L.onward T F (is_refused m.order) (box_of t c.window)
+        (window-on m settled fits L f right.frame c right) (length f0.digits) most_tiles
+        (subst (λ y. IsWindowWithin P (is_refused m.order) T.rule y (box_of t c.window) (length f0.digits)
+        most_tiles) (sym same_full) within.drawn_within)
+        s right.state (first_edge m settled fits L f g h c right first is_first x at tile back crossed).edge
+        (length g.digits) (address_found x) (address_of tile.addr)
         back (opening m settled fits L f g h c right first is_first x at tile back crossed) in
-        let kept : is_refused m.order (point_in m.order tile.motion.shift) ≡ false = ap (λ k. is_refused m.order k.shift) (placed m settled fits L f g h c right first is_first x at tile back crossed) ∙ on.0 in
+        let kept : is_refused m.order (point_in m.order tile.motion.shift) ≡ false = ap
+        (λ k. is_refused m.order k.shift) (placed m settled fits L f g h c right first is_first x at tile
+        back crossed) ∙ on.0 in
         let room : length c.found < most_tiles = subst (λ n. n < most_tiles) (length-map c.found _) on.1 in
         at_result r why kept room
       where
-        at_result : {U : Type 0} (r : Result U CoverFault) → IfErr r (IsNotAdmitted t c tile) → is_refused m.order (point_in m.order tile.motion.shift) ≡ false → length c.found < most_tiles → (r ≡ Err NoMemory) ⊎ IsOk r
+        at_result : {U : Type 0} (r : Result U CoverFault) → IfErr r (IsNotAdmitted t c tile)
+            → is_refused m.order (point_in m.order tile.motion.shift) ≡ false → length c.found < most_tiles
+            → (r ≡ Err NoMemory) ⊎ IsOk r
         at_result (Ok y) why kept room = inr refl
         at_result (Err (DepthLimit addr edge)) why kept room = absurd why
         at_result (Err (CoordLimit value)) why kept room = let k : true ≡ false = sym why.1 ∙ kept in cc
@@ -155,10 +168,14 @@ module _ (m : Rule) (settled : IsSettled m) (fits : StillFits (children (tiling_
     own_fine : Fine u
     own_fine = fine-of u own_depth (step m settled fits L f g h c right first is_first x at tile back crossed).0.meets
 
-    refused-shift : (value : Point) → value ≡ tile.motion.shift → is_refused m.order (point_in m.order tile.motion.shift) ≡ true → IsRefusedShift t g c.window value
+    refused-shift : (value : Point) → value ≡ tile.motion.shift
+        → is_refused m.order (point_in m.order tile.motion.shift) ≡ true → IsRefusedShift t g c.window value
     refused-shift value same r =
         let one = own_fine in
-        let shift : one.fine.motion.shift ≡ point_in m.order tile.motion.shift = sym (ap (λ (y : TileOf t). y.motion.shift) one.is) ∙ sym (ap (λ k. k.shift) (placed m settled fits L f g h c right first is_first x at tile back crossed)) in
+        let shift : one.fine.motion.shift ≡ point_in m.order tile.motion.shift = sym
+        (ap (λ (y : TileOf t). y.motion.shift) one.is)
+        ∙ sym (ap (λ k. k.shift) (placed m settled fits L f g h c right first is_first x at tile back
+        crossed)) in
         record {
           tile = one.fine;
           of_frame = one.of_frame;
@@ -172,16 +189,19 @@ module _ (m : Rule) (settled : IsSettled m) (fits : StillFits (children (tiling_
     too_many many kept =
         let d : AllByRecursion Fine s.found = AllByRecursion-from Fine s.found (λ y i. fine-of y (
           AllByRecursion-among (λ z. IsAmong z (frame_tiles P T.rule F)) y s.found i right.state.of_patch,
-          let l = AllByRecursion-among (λ (z : TileOf t). level_in F z.address ≤ length f.digits) y s.found i right.state.at_depth in omega (arith, l, h.no_shallower),
+          let l = AllByRecursion-among (λ (z : TileOf t). level_in F z.address ≤ length f.digits) y s.found i
+              right.state.at_depth in omega (arith, l, h.no_shallower),
         )
         (AllByRecursion-among (λ z. PolygonMeetsBox P.real (box_of t c.window) (polygon_of t z)) y s.found i right.state.each_meets)) in
         let all = fines-of (s.found ++ u ∷ []) (AllByRecursion-append Fine s.found (u ∷ []) d (own_fine, tt)) in
         let one = step m settled fits L f g h c right first is_first x at tile back crossed in
-        let count : length all.tiles ≡ length c.found + 1 = sym (length-map all.tiles (lifted_tile F)) ∙ ap length all.lifts ∙ length-append s.found (u ∷ []) ∙ ap (λ n. n + 1) (length-map c.found _) in
+        let count : length all.tiles ≡ length c.found + 1 = sym (length-map all.tiles (lifted_tile F))
+        ∙ ap length all.lifts ∙ length-append s.found (u ∷ []) ∙ ap (λ n. n + 1) (length-map c.found _) in
         record {
           tiles = all.tiles;
           count = omega (arith, count, many, right.not_too_many);
-          distinct = distinct-unmap (lifted_tile F) all.tiles (subst AreDistinct (sym all.lifts) (distinct-more s.found u right.state.distinct one.0.new));
+          distinct = distinct-unmap (lifted_tile F) all.tiles
+              (subst AreDistinct (sym all.lifts) (distinct-more s.found u right.state.distinct one.0.new));
           of_frame = all.each;
           none_refused = AllByRecursion-from Unrefused all.tiles (λ y i. AllByRecursion-among Unrefused (lifted_tile F y) (s.found ++ u ∷ [])
               (subst (IsAmong (lifted_tile F y)) all.lifts (IsAmong-map (lifted_tile F) y all.tiles i))

@@ -1,12 +1,12 @@
 -- Where the first open edge is on the boundary at depth 64.
 use Rattle.std.proofs.Common.{◌≡◌, ℕ, ◌<◌, inl, Some, length, slice_get, refl, sym, ap, ◌∙◌, subst, arith}
-use Rattle.addressing.specs.Address.{Address}
-use Rattle.addressing.specs.Search.{IsAmong}
-use Rattle.addressing.proofs.Lists.{AllByRecursion-among}
-use Rattle.addressing.proofs.Ranges.{place-among, slice_get-image}
+use Rattle.theory_addresses.specs.Address.{Address}
+use Rattle.theory_addresses.specs.Search.{IsAmong}
+use Rattle.theory_addresses.proofs.Lists.{AllByRecursion-among}
+use Rattle.theory_addresses.proofs.Ranges.{place-among, slice_get-image}
 use Rattle.cyclo_points.specs.Order.{points_of, is_refused}
-use Rattle.dissection.specs.Accepted.{AcceptedRule}
-use Rattle.frames.specs.Frame.{at_level, frame_tiles, lifted_in}
+use Rattle.theory_dissection.specs.Accepted.{AcceptedRule}
+use Rattle.theory_frames.specs.Frame.{at_level, frame_tiles, lifted_in}
 use Rattle.lazy_walk.specs.Ancestors.{full}
 use Rattle.lazy_walk.specs.Boundary.{IsBoundaryEdge}
 use Rattle.lazy_walk.specs.Frames.{FrameValue, whole, at_depth, GrowsTo}
@@ -15,24 +15,24 @@ use Rattle.lazy_walk.proofs.Crossings.{boundary-part}
 use Rattle.lazy_walk.proofs.Walks.{StillFits, later}
 use Rattle.rule_model.specs.declared.rule.Rule.{Rule}
 use Rattle.rule_model.specs.Tiling.{Tiling, tiling_of, children}
-use Rattle.substitution.specs.Points.{Points}
+use Rattle.theory_substitution.specs.Points.{Points}
 use Rattle.tile_place.specs.Crossed.{LiesOnBoundary}
 use Rattle.tile_place.proofs.Plane.{IsSettled, its_rule}
 use Rattle.tile_shape.specs.declared.address.Address as program
 use Rattle.tile_shape.specs.Views.{address_of}
-use Rattle.windows.specs.FrameLaws.{IsEdgeInFrame}
-use Rattle.windows.specs.FramePatch.{in_frame, line_of}
-use Rattle.windows.specs.FrameWindow.{IsLeastDepth, IsWindowWithin}
-use Rattle.substitution.specs.RuleParts.{edge_count}
-use Rattle.windows.specs.Outlines.{MeetsBox}
-use Rattle.windows.specs.Refusals as patch
-use Rattle.windows.specs.SearchState.{SearchState}
+use Rattle.theory_windows.specs.FrameLaws.{IsEdgeInFrame}
+use Rattle.theory_windows.specs.FramePatch.{in_frame, line_of}
+use Rattle.theory_windows.specs.FrameWindow.{IsLeastDepth, IsWindowWithin}
+use Rattle.theory_substitution.specs.RuleParts.{edge_count}
+use Rattle.theory_windows.specs.Outlines.{MeetsBox}
+use Rattle.theory_windows.specs.Refusals as patch
+use Rattle.theory_windows.specs.SearchState.{SearchState}
 use Rattle.window_cover.specs.declared.open_edge.OpenEdge.{OpenEdge}
 use Rattle.window_cover.specs.Border.{first_waiting}
 use Rattle.window_cover.specs.Causes.{IsDepthLimit}
 use Rattle.window_cover.specs.Found.{Found, address_found}
 use Rattle.window_cover.specs.Limits.{IsWithinLimits}
-use Rattle.windows.specs.Limits.{most_tiles}
+use Rattle.theory_windows.specs.Limits.{most_tiles}
 use Rattle.window_cover.specs.Right.{name_of, growing}
 use Rattle.window_cover.specs.SearchLaws.{HasSearchLaws}
 use Rattle.window_cover.specs.Windows.{TileOf, box_of, IsLeastEnough}
@@ -41,7 +41,9 @@ use Rattle.lazy_walk.proofs.InFull.{names, deep, level-grown, tile-full, whole-l
 use Rattle.window_cover.proofs.Names.{window-on, its_found, found-at, name-at, edge-exists}
 use Rattle.window_cover.proofs.NextState.{FirstIn, first-in}
 
-module _ (m : Rule) (settled : IsSettled m) (fits : StillFits (children (tiling_of m))) (L : HasSearchLaws (points_of m.order)) (f : FrameValue) (c : Working) (right : IsWorking (tiling_of m) f c)
+module _ (m : Rule) (settled : IsSettled m) (fits : StillFits (children (tiling_of m)))
+    (L : HasSearchLaws (points_of m.order)) (f : FrameValue) (c : Working)
+    (right : IsWorking (tiling_of m) f c)
     (first : OpenEdge) (is_first : first_waiting c.border ≡ Some first) (x : Found) (at : slice_get c.found first.tile ≡ Some x)
     (on : IsBoundaryEdge (tiling_of m) (lifted_in (full (tiling_of m) f) (address_found x)) first.edge) where
   abbrev t : Tiling
@@ -83,10 +85,12 @@ module _ (m : Rule) (settled : IsSettled m) (fits : StillFits (children (tiling_
 
   on_part : (own : ℕ) × (part : ℕ) × LiesOnBoundary t (lifted_in F a) one.edge.edge own part
   on_part =
-      boundary-part m fits f a right.frame (its_found m settled fits L f right.frame c right first.tile x at).of_frame settled one.edge.edge own_edge.edge_exists (at_depth t 64 f)
+      boundary-part m fits f a right.frame (its_found m settled fits L f right.frame c right first.tile x
+      at).of_frame settled one.edge.edge own_edge.edge_exists (at_depth t 64 f)
       (later t f 64 right.frame right.frame.at_most_64 (omega arith)) here
 
-  stop : patch.IsDepthLimit P.real (TileOf t) (growing t f) (box_of t c.window) (line_of P T.rule (in_frame P T.rule F a) one.edge.edge) (in_frame P T.rule F a)
+  stop : patch.IsDepthLimit P.real (TileOf t) (growing t f) (box_of t c.window)
+      (line_of P T.rule (in_frame P T.rule F a) one.edge.edge) (in_frame P T.rule F a)
       × ((n limit : ℕ) → ¬ IsWindowWithin P (is_refused m.order) T.rule F (box_of t c.window) n limit)
   stop = L.stop T F (is_refused m.order) (box_of t c.window) (window-on m settled fits L f right.frame c right) s right.state one.edge among a
       (found-at m settled fits L f right.frame c right one.edge.tile x at_o) own_edge on_part.0 on_part.1 on_part.2
@@ -94,22 +98,28 @@ module _ (m : Rule) (settled : IsSettled m) (fits : StillFits (children (tiling_
   pub not_enough : (f0 : FrameValue) (n : ℕ) → GrowsTo t f0 f → ¬ IsLeastEnough t f0 c.window n
   not_enough f0 n grows enough =
       let d = deep m settled fits f right.frame in
-      let least = (L.least T F (names m settled fits f right.frame) (is_refused m.order) (box_of t c.window) (length f0.digits) n (omega (arith, d, grows.no_shallower, right.frame.at_most_64))).0
+      let least = (L.least T F (names m settled fits f right.frame) (is_refused m.order) (box_of t c.window)
+      (length f0.digits) n (omega (arith, d, grows.no_shallower, right.frame.at_most_64))).0
       (subst (λ y. IsLeastDepth P T.rule y (box_of t c.window) (length f0.digits) n) (sym (full-later t f0 f grows)) enough) in
       stop.0.none_enough n least.enough
 
   pub not_within : (f0 : FrameValue) → GrowsTo t f0 f → ¬ IsWithinLimits t f0 c.window
   not_within f0 grows within =
-      stop.1 (length f0.digits) most_tiles (subst (λ y. IsWindowWithin P (is_refused m.order) T.rule y (box_of t c.window) (length f0.digits) most_tiles) (sym (full-later t f0 f grows)) within.drawn_within)
+      stop.1 (length f0.digits) most_tiles (subst
+      (λ y. IsWindowWithin P (is_refused m.order) T.rule y (box_of t c.window) (length f0.digits)
+      most_tiles) (sym (full-later t f0 f grows)) within.drawn_within)
 
-  pub depth_limit : (g : FrameValue) → GrowsTo t f g → length g.digits ≡ 64 → (addr : program.Address) → address_of addr ≡ lifted_in F a → (edge : ℕ) → edge ≡ first.edge → IsDepthLimit t g c.window addr edge
+  pub depth_limit : (g : FrameValue) → GrowsTo t f g → length g.digits ≡ 64 → (addr : program.Address)
+      → address_of addr ≡ lifted_in F a → (edge : ℕ) → edge ≡ first.edge → IsDepthLimit t g c.window addr edge
   depth_limit g h at_64 addr named edge same = record {
     at_64 = at_64;
     tile = in_frame P T.rule F a;
     its_address = sym named;
     of_frame = subst (λ y. IsAmong (in_frame P T.rule F a) (frame_tiles P T.rule y)) whole_is
         (subst (λ y. IsAmong y (frame_tiles P T.rule F)) (name-at m settled fits L f right.frame c right first.tile x at)
-        (AllByRecursion-among (λ z. IsAmong z (frame_tiles P T.rule F)) (name_of t f x) s.found (place-among (name_of t f x) s.found first.tile (slice_get-image (name_of t f) x c.found first.tile at)) right.state.of_patch));
+        (AllByRecursion-among (λ z. IsAmong z (frame_tiles P T.rule F)) (name_of t f x) s.found
+        (place-among (name_of t f x) s.found first.tile
+        (slice_get-image (name_of t f) x c.found first.tile at)) right.state.of_patch));
     tile_meets = stop.0.tile_meets;
     edge_exists = subst (λ e. e < edge_count T.rule a.kind) (sym its_edge) own_edge.edge_exists;
     edge_meets = subst (λ e. MeetsBox P.real (box_of t c.window) (line_of P T.rule (in_frame P T.rule F a) e)) (sym its_edge) stop.0.edge_meets;

@@ -1,7 +1,7 @@
 -- What a step of the search finds, and how far the frame grows for it.
 use Rattle.std.proofs.Common.{◌≡◌, ℕ, Some, slice_get, List, [], ◌∷◌, length, map, refl, sym, ap, ◌∙◌, subst}
 use Rattle.cyclo_points.specs.Order.{points_of}
-use Rattle.frames.specs.Frame.{lifted_in}
+use Rattle.theory_frames.specs.Frame.{lifted_in}
 use Rattle.lazy_walk.specs.Boundary.{IsBoundaryEdge}
 use Rattle.lazy_walk.specs.Crossed.{IsCrossedTo}
 use Rattle.lazy_walk.specs.Frames.{FrameValue, whole, GrowsTo, lifted_at}
@@ -9,12 +9,12 @@ use Rattle.lazy_walk.proofs.Lifting.{lifted-later}
 use Rattle.lazy_walk.proofs.Walks.{StillFits}
 use Rattle.rule_model.specs.declared.rule.Rule.{Rule}
 use Rattle.rule_model.specs.Tiling.{Tiling, tiling_of, children}
-use Rattle.substitution.specs.Points.{Points}
+use Rattle.theory_substitution.specs.Points.{Points}
 use Rattle.tile_place.specs.declared.placed_tile.PlacedTile.{PlacedTile}
 use Rattle.tile_place.proofs.Plane.{IsSettled}
-use Rattle.windows.specs.OpenEdges.{NumberedEdge}
-use Rattle.windows.specs.Outlines.{PlaneEdge}
-use Rattle.windows.specs.PatchWindow.{LiesAcross}
+use Rattle.theory_windows.specs.OpenEdges.{NumberedEdge}
+use Rattle.theory_windows.specs.Outlines.{PlaneEdge}
+use Rattle.theory_windows.specs.PatchWindow.{LiesAcross}
 use Rattle.window_cover.specs.declared.open_edge.OpenEdge.{OpenEdge}
 use Rattle.window_cover.specs.Admitted.{IsAdmitted, found_as}
 use Rattle.window_cover.specs.Found.{Found, address_found, PlacedEdge, CoverValue, first_of}
@@ -43,8 +43,10 @@ some-same : {A : Type 0} (x y : A) → Some x ≡ Some y → x ≡ y
 some-same x y e = cc
 
 -- ---- the tile across it
-module _ (m : Rule) (settled : IsSettled m) (fits : StillFits (children (tiling_of m))) (L : HasSearchLaws (points_of m.order)) (f : FrameValue) (g : FrameValue) (h : GrowsTo (tiling_of m) f g)
-    (c : CoverValue) (right : IsRight (tiling_of m) f c) (first : OpenEdge) (is_first : first_of c.border ≡ Some first) (x : Found) (at : slice_get c.found first.tile ≡ Some x)
+module _ (m : Rule) (settled : IsSettled m) (fits : StillFits (children (tiling_of m)))
+    (L : HasSearchLaws (points_of m.order)) (f : FrameValue) (g : FrameValue) (h : GrowsTo (tiling_of m) f g)
+    (c : CoverValue) (right : IsRight (tiling_of m) f c) (first : OpenEdge)
+    (is_first : first_of c.border ≡ Some first) (x : Found) (at : slice_get c.found first.tile ≡ Some x)
     (tile : PlacedTile) (back : ℕ) (crossed : IsCrossedTo (tiling_of m) f g (address_found x) x.motion first.edge tile back)
     (d : CoverValue) (new : IsAdmitted (tiling_of m) (working c) (working d) tile) where
   abbrev t : Tiling
@@ -63,20 +65,33 @@ module _ (m : Rule) (settled : IsSettled m) (fits : StillFits (children (tiling_
   front = placed-first c.border first is_first
 
   same : one.edge ≡ numbered t front.edge
-  same = sym (heads (numbered t front.edge) one.edge (map (numbered t) front.rest) one.rest (ap (map (numbered t)) (sym front.is) ∙ open-are t L.open_test f c right ∙ one.is))
+  same = sym (heads (numbered t front.edge) one.edge (map (numbered t) front.rest) one.rest
+      (ap (map (numbered t)) (sym front.is) ∙ open-are t L.open_test f c right ∙ one.is))
 
   across : LiesAcross P.real (TileOf t) (growing t f) (line_at t front.edge) (name_of t f (found_as tile))
   unfolding one
   across =
-      subst (λ (l : PlaneEdge P.real). LiesAcross P.real (TileOf t) (growing t f) l (name_of t f (found_as tile))) (ap (λ (n : NumberedEdge P.real). n.line) same)
-      (subst (LiesAcross P.real (TileOf t) (growing t f) one.edge.line) (sym (new_name m settled fits L f g h (working c) work first (first-packed c.border ∙ is_first) x at tile back crossed (working d) new))
+      subst (λ (l : PlaneEdge P.real). LiesAcross P.real (TileOf t) (growing t f) l
+      (name_of t f (found_as tile))) (ap (λ (n : NumberedEdge P.real). n.line) same)
+      (subst (LiesAcross P.real (TileOf t) (growing t f) one.edge.line)
+      (sym (new_name m settled fits L f g h (working c) work first (first-packed c.border ∙ is_first) x at
+      tile back crossed (working d) new))
       (lies_across m settled fits L f g h (working c) work first (first-packed c.border ∙ is_first) x at tile back crossed))
 
   pub steps_to : StepsTo t f c d
-  steps_to = record { same_window = new.same_window; first = front.edge; rest = front.rest; is_first = front.is; tile = found_as tile; one_more = new.found; across = across }
+  steps_to = record {
+    same_window = new.same_window;
+    first = front.edge;
+    rest = front.rest;
+    is_first = front.is;
+    tile = found_as tile;
+    one_more = new.found;
+    across = across;
+  }
 
 -- ---- how far the frame grows
-module _ (t : Tiling) (f g : FrameValue) (h : GrowsTo t f g) (c : CoverValue) (first : OpenEdge) (is_first : first_of c.border ≡ Some first) (x : Found) (at : slice_get c.found first.tile ≡ Some x) where
+module _ (t : Tiling) (f g : FrameValue) (h : GrowsTo t f g) (c : CoverValue) (first : OpenEdge)
+    (is_first : first_of c.border ≡ Some first) (x : Found) (at : slice_get c.found first.tile ≡ Some x) where
   pub first-inside : (¬ IsBoundaryEdge t (lifted_in (whole g) (address_found x)) first.edge) → ¬ IsFirstOnBoundary t f c (length g.digits)
   first-inside inside b = absurd (inside (subst (λ a. IsBoundaryEdge t a first.edge) (sym (lifted-later t f g (address_found x) h))
       (subst (λ (y : Found). IsBoundaryEdge t (lifted_at t f (address_found y) (length g.digits)) first.edge) its_tile

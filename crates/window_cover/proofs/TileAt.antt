@@ -1,7 +1,7 @@
 -- The tile at a place in the order.
 use Rattle.std.proofs.Common.{◌≡◌, ℕ, zero, suc, ◌<◌, List, [], ◌∷◌, map, length, get_or, slice_get, Some, refl, arith}
 use Rattle.std.specs.List.{AllByRecursion}
-use Rattle.addressing.specs.Address as theory
+use Rattle.theory_addresses.specs.Address as theory
 use Rattle.window_cover.specs.Covered.{placed_as, tile_of, tiles_of}
 use Rattle.window_cover.specs.Found.{Found}
 use Rattle.window_cover.specs.Words.{tile_number}

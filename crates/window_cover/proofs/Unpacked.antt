@@ -16,7 +16,8 @@ raised-fits x w = let l = w.low in let h = w.high in omega (arith, ints, l, h)
 pub raised-exact : (x y : ℤ) → Within (2 ^ 25) x → Within (2 ^ 25) y → raised x ≡ raised y → x ≡ y
 raised-exact x y v w e = let l = v.low in let h = v.high in let m = w.low in let k = w.high in omega (arith, ints, l, h, m, k, e)
 
-pub word-exact : (a b c d : ℤ) → Within (2 ^ 25) a → Within (2 ^ 25) b → Within (2 ^ 25) c → Within (2 ^ 25) d → word_of a b ≡ word_of c d → (a ≡ c) × (b ≡ d)
+pub word-exact : (a b c d : ℤ) → Within (2 ^ 25) a → Within (2 ^ 25) b → Within (2 ^ 25) c → Within (2 ^ 25) d
+    → word_of a b ≡ word_of c d → (a ≡ c) × (b ≡ d)
 word-exact a b c d v w x y e =
     let halves = split (raised a) (raised b) (raised c) (raised d) (raised-fits b w) (raised-fits d y) e in
     (raised-exact a c v x halves.0, raised-exact b d w y halves.1)
@@ -34,13 +35,17 @@ point-exact : (p q : Point) → IsWithin (2 ^ 25) p → IsWithin (2 ^ 25) q
 point-exact p q v w e f =
     let low = word-exact (coefficient p 0) (coefficient p 1) (coefficient q 0) (coefficient q 1) v.at_0 v.at_1 w.at_0 w.at_1 e in
     let high = word-exact (coefficient p 2) (coefficient p 3) (coefficient q 2) (coefficient q 3) v.at_2 v.at_3 w.at_2 w.at_3 f in
-    ap₂ (λ (a b : ℤ). quad a b (coefficient p 2) (coefficient p 3)) low.0 low.1 ∙ ap₂ (λ (c d : ℤ). quad (coefficient q 0) (coefficient q 1) c d) high.0 high.1
+    ap₂ (λ (a b : ℤ). quad a b (coefficient p 2) (coefficient p 3)) low.0 low.1
+    ∙ ap₂ (λ (c d : ℤ). quad (coefficient q 0) (coefficient q 1) c d) high.0 high.1
 
 -- equal ends, equal points
 pub ends_of-exact : (s e t f : Point) → IsWithin (2 ^ 25) s → IsWithin (2 ^ 25) e → IsWithin (2 ^ 25) t → IsWithin (2 ^ 25) f
     → ends_of s e ≡ ends_of t f → (quad_of s ≡ quad_of t) × (quad_of e ≡ quad_of f)
-ends_of-exact s e t f a b c d h =
-    (point-exact s t a c (ap (λ (x : Ends). x.start_low) h) (ap (λ (x : Ends). x.start_high) h), point-exact e f b d (ap (λ (x : Ends). x.end_low) h) (ap (λ (x : Ends). x.end_high) h))
+ends_of-exact s e t f a b c d h = (
+  point-exact s t a c (ap (λ (x : Ends). x.start_low) h) (ap (λ (x : Ends). x.start_high) h),
+  point-exact e
+      f b d (ap (λ (x : Ends). x.end_low) h) (ap (λ (x : Ends). x.end_high) h),
+)
 
 -- ---- a point out of its words
 lowered-raised : (x : ℤ) → Within (2 ^ 25) x → lowered (raised x) ≡ x
@@ -65,7 +70,8 @@ from-again p w =
     let b = coefficient p 1 in
     let c = coefficient p 2 in
     let d = coefficient p 3 in
-    ap₂ (λ (x y : ℤ). quad x y (lowered (word_of c d / 2 ^ 32)) (lowered (word_of c d % 2 ^ 32))) (high-again a b w.at_0 w.at_1) (low-again a b w.at_0 w.at_1)
+    ap₂ (λ (x y : ℤ). quad x y (lowered (word_of c d / 2 ^ 32)) (lowered (word_of c d % 2 ^ 32)))
+    (high-again a b w.at_0 w.at_1) (low-again a b w.at_0 w.at_1)
     ∙ ap₂ (λ (x y : ℤ). quad a b x y) (high-again c d w.at_2 w.at_3) (low-again c d w.at_2 w.at_3)
 
 -- ---- words again
@@ -78,7 +84,12 @@ words-again (w ∷ ws) = ap₂ (λ (x : Waiting) (xs : List Waiting). x ∷ xs) 
   where
     one : packed (unpacked w) ≡ w
     one = λ i. record {
-      ends = record { start_low = word-again w.ends.start_low i; start_high = word-again w.ends.start_high i; end_low = word-again w.ends.end_low i; end_high = word-again w.ends.end_high i };
+      ends = record {
+        start_low = word-again w.ends.start_low i;
+        start_high = word-again w.ends.start_high i;
+        end_low = word-again w.ends.end_low i;
+        end_high = word-again w.ends.end_high i;
+      };
       edge = w.edge;
     }
 

@@ -1,7 +1,7 @@
 -- A right state as the program keeps it, and back.
 use Rattle.std.proofs.Common.{◌≡◌, ℕ, ◌^◌, ℤ, List, [], ◌∷◌, map, length, refl, sym, ap, ap₂, ◌∙◌, subst}
 use Rattle.std.specs.List.{AllByRecursion, AllZip}
-use Rattle.addressing.proofs.Lists.{AllByRecursion-each}
+use Rattle.theory_addresses.proofs.Lists.{AllByRecursion-each}
 use Rattle.cyclo_points.specs.declared.order.Order.{Order}
 use Rattle.cyclo_points.specs.declared.order.Order.TheVariants.{Four, Six, Eight, Ten}
 use Rattle.cyclo_points.specs.declared.point.Point.{Point}
@@ -11,10 +11,10 @@ use Rattle.cyclo_points.specs.Quad.{Quad}
 use Rattle.cyclo_points.proofs.SamePoints.{point_in-exact}
 use Rattle.lazy_walk.specs.Frames.{FrameValue}
 use Rattle.rule_model.specs.Tiling.{Tiling}
-use Rattle.substitution.specs.Plane.{plane_point}
-use Rattle.windows.specs.GrowingPatch.{IsOfDepth}
-use Rattle.windows.specs.Laws.{OpenTestLaw}
-use Rattle.windows.specs.OpenEdges.{NumberedEdge}
+use Rattle.theory_substitution.specs.Plane.{plane_point}
+use Rattle.theory_windows.specs.GrowingPatch.{IsOfDepth}
+use Rattle.theory_windows.specs.Laws.{OpenTestLaw}
+use Rattle.theory_windows.specs.OpenEdges.{NumberedEdge}
 use Rattle.window_cover.specs.declared.ends.Ends.{Ends}
 use Rattle.window_cover.specs.Border.{Waiting, first_waiting}
 use Rattle.window_cover.specs.Found.{PlacedEdge, CoverValue, first_of}
@@ -92,13 +92,17 @@ module _ (t : Tiling) where
         stops : plane_point (points_of t.order) (point_in t.order (unpacked w).to) ≡ n.line.to
         stops = ap (plane_point (points_of t.order)) (point_in-exact t.order (unpacked w).to h.to to-is) ∙ h.ends_there
 
-  all-numbered : (ws : List Waiting) (ns : List (NumberedEdge (points_of t.order).real)) → AllZip (IsEdgeWaiting t) ws ns → map (numbered t) (map unpacked ws) ≡ ns
+  all-numbered : (ws : List Waiting) (ns : List (NumberedEdge (points_of t.order).real))
+      → AllZip (IsEdgeWaiting t) ws ns → map (numbered t) (map unpacked ws) ≡ ns
   all-numbered [] [] z = refl
   all-numbered [] (n ∷ ns) z = absurd z
   all-numbered (w ∷ ws) [] z = absurd z
-  all-numbered (w ∷ ws) (n ∷ ns) z = ap₂ (λ (x : NumberedEdge (points_of t.order).real) (xs : List (NumberedEdge (points_of t.order).real)). x ∷ xs) (numbered-is w n z.0) (all-numbered ws ns z.1)
+  all-numbered (w ∷ ws) (n ∷ ns) z = ap₂ (λ (x : NumberedEdge (points_of t.order).real)
+      (xs : List (NumberedEdge (points_of t.order).real)). x ∷ xs) (numbered-is w n z.0)
+      (all-numbered ws ns z.1)
 
-  all-ends : (ws : List Waiting) (ns : List (NumberedEdge (points_of t.order).real)) → AllZip (IsEdgeWaiting t) ws ns → AllByRecursion (HasEnds t) (map unpacked ws)
+  all-ends : (ws : List Waiting) (ns : List (NumberedEdge (points_of t.order).real))
+      → AllZip (IsEdgeWaiting t) ws ns → AllByRecursion (HasEnds t) (map unpacked ws)
   all-ends [] [] z = tt
   all-ends [] (n ∷ ns) z = absurd z
   all-ends (w ∷ ws) [] z = absurd z
@@ -119,8 +123,10 @@ module _ (t : Tiling) where
       found = right.found;
       not_too_many = right.not_too_many;
       state = record {
-        of_patch = AllByRecursion-each (IsOfDepth (points_of t.order).real (TileOf t) (growing t f) (length f.digits)) _ tiles (λ x h. h.0) right.of_frame;
-        at_depth = AllByRecursion-each (IsOfDepth (points_of t.order).real (TileOf t) (growing t f) (length f.digits)) _ tiles (λ x h. h.1) right.of_frame;
+        of_patch = AllByRecursion-each (IsOfDepth (points_of t.order).real (TileOf t) (growing t f)
+            (length f.digits)) _ tiles (λ x h. h.0) right.of_frame;
+        at_depth = AllByRecursion-each (IsOfDepth (points_of t.order).real (TileOf t) (growing t f)
+            (length f.digits)) _ tiles (λ x h. h.1) right.of_frame;
         distinct = right.distinct;
         none_refused = right.none_refused;
         each_meets = right.each_meets;
@@ -143,7 +149,8 @@ module _ (t : Tiling) where
       each_meets = work.state.each_meets;
       holds_centre = work.state.holds_centre;
       ends = subst (AllByRecursion (HasEnds t)) (sym exact) (all-ends (map packed c.border) edges work.border);
-      open_edges = (tested (box_of t c.window) (map (polygon_of t) tiles) (map (numbered t) c.border)).1 (ap (map (numbered t)) exact ∙ all-numbered (map packed c.border) edges work.border);
+      open_edges = (tested (box_of t c.window) (map (polygon_of t) tiles) (map (numbered t) c.border)).1
+          (ap (map (numbered t)) exact ∙ all-numbered (map packed c.border) edges work.border);
     }
       where
         edges : List (NumberedEdge (points_of t.order).real)

@@ -10,7 +10,7 @@ use Rattle.tile_shape.specs.Views.{address_of}
 use Rattle.window_cover.specs.declared.cover_fault.CoverFault.{CoverFault}
 use Rattle.window_cover.specs.declared.cover_fault.CoverFault.TheVariants.{DepthLimit, CoordLimit, TooManyTiles, NoMemory}
 use Rattle.window_cover.specs.Found.{Found}
-use Rattle.windows.specs.Limits.{most_tiles}
+use Rattle.theory_windows.specs.Limits.{most_tiles}
 use Rattle.window_cover.specs.NewEdges.{left_open, opened}
 use Rattle.window_cover.specs.Working.{Working}
 

@@ -1,10 +1,10 @@
 -- What a descent through a frame answers of a window.
 use Rattle.std.specs.Prelude.{◌≡◌, ◌≤◌, All, List, [], length, map}
 use Rattle.std.specs.List.{AllByRecursion}
-use Rattle.addressing.specs.Address.{top_kind}
+use Rattle.theory_addresses.specs.Address.{top_kind}
 use Rattle.cyclo_points.specs.Order.{points_of}
-use Rattle.frames.specs.Contain.{ancestor_motion}
-use Rattle.frames.specs.Frame.{at_level}
+use Rattle.theory_frames.specs.Contain.{ancestor_motion}
+use Rattle.theory_frames.specs.Frame.{at_level}
 use Rattle.plane_geom.specs.declared.window.Window.{Window}
 use Rattle.rule_model.specs.Tiling.{Tiling}
 use Rattle.tile_place.specs.declared.placed_tile.PlacedTile.{PlacedTile}
@@ -12,13 +12,13 @@ use Rattle.tile_place.specs.Searched.{placed_in}
 use Rattle.lazy_walk.specs.Ancestors.{full}
 use Rattle.lazy_walk.specs.Frames.{FrameValue}
 use Rattle.lazy_walk.specs.Standing.{Stands}
-use Rattle.descents.specs.Parts.{drawn_below}
+use Rattle.theory_descents.specs.Parts.{drawn_below}
 use Rattle.window_cover.specs.Descending.{tiles_in, IsKeptTile}
 use Rattle.window_cover.specs.Found.{CoverValue}
 use Rattle.window_cover.specs.InOrder.{AreInOrder}
 use Rattle.window_cover.specs.Limits.{IsWithinLimits}
 use Rattle.window_cover.specs.Windows.{TileOf, box_of, AreDrawn, CoverWindow, IsLeastEnough}
-use Rattle.windows.specs.Limits.{most_tiles}
+use Rattle.theory_windows.specs.Limits.{most_tiles}
 
 -- the tiles below the frame's supertile that meet the window
 abbrev pub drawn_in : (t : Tiling) → FrameValue → Window → List (TileOf t)

@@ -4,7 +4,7 @@ use Rattle.cyclo_points.specs.Order.{points_of}
 use Rattle.plane_geom.specs.declared.window.Window.{Window}
 use Rattle.rule_model.specs.Tiling.{Tiling}
 use Rattle.lazy_walk.specs.Frames.{FrameValue}
-use Rattle.windows.specs.EnoughDepth.{IsNotBeyond}
+use Rattle.theory_windows.specs.EnoughDepth.{IsNotBeyond}
 use Rattle.window_cover.specs.Right.{growing}
 use Rattle.window_cover.specs.Windows.{TileOf, box_of}
 

@@ -7,7 +7,7 @@ use Rattle.cyclo_points.specs.Point.{IsWithin}
 use Rattle.rule_model.specs.declared.rule.Rule.{Rule}
 use Rattle.rule_model.specs.Tiling.{tiling_of}
 use Rattle.rule_model.specs.Views.{rule_of}
-use Rattle.windows.specs.Limits.{most_tiles}
+use Rattle.theory_windows.specs.Limits.{most_tiles}
 use Rattle.window_descent.specs.declared.part.Part.{Part}
 use Rattle.window_descent.specs.declared.rows.Rows.{Rows}
 use Rattle.window_descent.specs.Parts.{all_of}

@@ -1,7 +1,7 @@
 -- Why a window has no answer.
 use Rattle.std.specs.Prelude.{◌≡◌, ◌⊎◌, ℕ, suc, ◌<◌, true, false, Some, List, length}
 use Rattle.std.specs.List.{AllByRecursion}
-use Rattle.substitution.specs.RuleParts.{edge_count}
+use Rattle.theory_substitution.specs.RuleParts.{edge_count}
 use Rattle.cyclo_points.specs.declared.point.Point.{Point}
 use Rattle.cyclo_points.specs.Order.{points_of, is_refused}
 use Rattle.cyclo_points.specs.Point.{point_in, IsOf}
@@ -12,13 +12,13 @@ use Rattle.tile_shape.specs.Views.{address_of}
 use Rattle.lazy_walk.specs.Boundary.{IsBoundaryEdge}
 use Rattle.lazy_walk.specs.Containing.{first_refused_outward}
 use Rattle.lazy_walk.specs.Frames.{FrameValue}
-use Rattle.windows.specs.Distinct.{AreDistinct}
-use Rattle.windows.specs.FramePatch.{line_of}
-use Rattle.windows.specs.Outlines.{MeetsBox}
+use Rattle.theory_windows.specs.Distinct.{AreDistinct}
+use Rattle.theory_windows.specs.FramePatch.{line_of}
+use Rattle.theory_windows.specs.Outlines.{MeetsBox}
 use Rattle.window_cover.specs.declared.cover_fault.CoverFault.{CoverFault}
 use Rattle.window_cover.specs.declared.cover_fault.CoverFault.TheVariants.{DepthLimit, CoordLimit, TooManyTiles, NoMemory}
 use Rattle.window_cover.specs.Windows.{TileOf, box_of, MeetsWindow, IsOfFrame}
-use Rattle.windows.specs.Limits.{most_tiles}
+use Rattle.theory_windows.specs.Limits.{most_tiles}
 
 -- the frame is at depth 64; the tile meets the window; and so does this edge of it, which is on the boundary of the frame's supertile
 pub record IsDepthLimit (t : Tiling) (f : FrameValue) (w : Window) (addr : Address) (edge : ℕ) : Type 0 where

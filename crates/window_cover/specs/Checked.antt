@@ -1,6 +1,6 @@
 -- What a checked rule brings.
 use Rattle.std.specs.Prelude.{◌≡◌}
-use Rattle.addressing.specs.Tables.{child_kinds}
+use Rattle.theory_addresses.specs.Tables.{child_kinds}
 use Rattle.rule_model.specs.declared.rule.Rule.{Rule}
 use Rattle.rule_model.specs.Accepted.{IsAccepted}
 use Rattle.rule_model.specs.Tiling.{tiling_of, contacts, children}

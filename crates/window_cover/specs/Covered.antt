@@ -1,7 +1,7 @@
 -- The tiles of a window in order, each with the digits of a frame behind its own.
 use Rattle.std.specs.Prelude.{ℕ, ◌<◌, ◌≤◌, List, [], ◌++◌, map, drop, length, get_or}
 use Rattle.std.specs.List.{AllByRecursion}
-use Rattle.addressing.specs.Address as theory
+use Rattle.theory_addresses.specs.Address as theory
 use Rattle.tile_shape.specs.Views.{step_as}
 use Rattle.tile_place.specs.declared.placed_tile.PlacedTile.{PlacedTile}
 use Rattle.window_cover.specs.Found.{Found}

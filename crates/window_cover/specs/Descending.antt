@@ -2,24 +2,24 @@
 use Rattle.std.specs.Prelude.{◌≡◌, ℕ, ◌<◌, ◌^◌, Bool, true, false, cond}
 use Rattle.std.specs.Prelude.{List, [], ◌∷◌, ◌++◌, map, drop, length}
 use Rattle.std.specs.List.{AllByRecursion, flat_map, enumerate_from}
-use Rattle.ordered_ring.specs.Ring.{power}
-use Rattle.ordered_plane.specs.Box.{OpenBox}
-use Rattle.substitution.specs.Motion.{Motion as MotionOf}
-use Rattle.substitution.specs.Points.{Points}
-use Rattle.substitution.specs.Rule.{Child, Rule, children_of}
-use Rattle.substitution.specs.Supertile.{Placed}
+use Rattle.theory_ring.specs.Ring.{power}
+use Rattle.theory_plane.specs.Box.{OpenBox}
+use Rattle.theory_substitution.specs.Motion.{Motion as MotionOf}
+use Rattle.theory_substitution.specs.Points.{Points}
+use Rattle.theory_substitution.specs.Rule.{Child, Rule, children_of}
+use Rattle.theory_substitution.specs.Supertile.{Placed}
 use Rattle.cyclo_points.specs.declared.order.Order.{Order}
 use Rattle.cyclo_points.specs.Order.{NumberOf, points_of}
 use Rattle.cyclo_points.specs.Motion.{motion_in}
 use Rattle.cyclo_points.specs.Point.{IsOf, IsWithin}
-use Rattle.frames.specs.Descent.{of_whole}
-use Rattle.frames.specs.Part.{child_motion}
+use Rattle.theory_frames.specs.Descent.{of_whole}
+use Rattle.theory_frames.specs.Part.{child_motion}
 use Rattle.plane_geom.specs.declared.window.Window.{Window}
 use Rattle.rule_model.specs.Tiling.{Tiling}
 use Rattle.tile_shape.specs.declared.step.Step.{Step}
-use Rattle.addressing.specs.Address.{Step as TheStep}
+use Rattle.theory_addresses.specs.Address.{Step as TheStep}
 use Rattle.tile_shape.specs.Views.{step_of}
-use Rattle.descents.specs.Parts.{digit, tiles_below, drawn_below}
+use Rattle.theory_descents.specs.Parts.{digit, tiles_below, drawn_below}
 use Rattle.window_descent.specs.declared.part.Part.{Part}
 use Rattle.window_descent.specs.declared.standing.Standing.{Standing}
 use Rattle.window_descent.specs.declared.standing.Standing.TheVariants.{Beyond, Within, Across}

@@ -1,7 +1,7 @@
 -- What is found of a window: the tiles, and those of their edges that wait for the tile across.
 use Rattle.std.specs.Prelude.{ℕ, List, [], ◌∷◌, None, Some}
 use Rattle.std.specs.declared.option.Option.{Option}
-use Rattle.addressing.specs.Address.{Step, Address}
+use Rattle.theory_addresses.specs.Address.{Step, Address}
 use Rattle.cyclo_points.specs.declared.motion.Motion.{Motion}
 use Rattle.cyclo_points.specs.declared.point.Point.{Point}
 use Rattle.plane_geom.specs.declared.window.Window.{Window}

@@ -1,14 +1,14 @@
 -- Tiles found, with the digits of all of them in one list.
 use Rattle.std.specs.Prelude.{◌+◌, ◌*◌, ◌≤◌, List, map, length, take, drop}
 use Rattle.std.specs.List.{AllByRecursion}
-use Rattle.addressing.specs.Address.{Step as TheStep}
+use Rattle.theory_addresses.specs.Address.{Step as TheStep}
 use Rattle.tile_shape.specs.declared.step.Step.{Step}
 use Rattle.tile_shape.specs.Views.{step_of}
 use Rattle.window_cover.specs.declared.found_tile.FoundTile.{FoundTile}
 use Rattle.window_cover.specs.Border.{Waiting}
 use Rattle.window_cover.specs.Found.{Found}
 use Rattle.tile_place.specs.Keys.{FitsKey}
-use Rattle.windows.specs.Limits.{most_tiles}
+use Rattle.theory_windows.specs.Limits.{most_tiles}
 
 -- its own digits among all
 abbrev pub digits_in : List Step → FoundTile → List TheStep

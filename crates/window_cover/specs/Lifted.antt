@@ -1,7 +1,7 @@
 -- Tiles found, lifted to the depth of a frame.
 use Rattle.std.specs.Prelude.{◌≡◌, ◌≤◌, length}
-use Rattle.addressing.specs.Address.{depth}
-use Rattle.frames.specs.Frame.{lifted_in}
+use Rattle.theory_addresses.specs.Address.{depth}
+use Rattle.theory_frames.specs.Frame.{lifted_in}
 use Rattle.tile_place.specs.declared.placed_tile.PlacedTile.{PlacedTile}
 use Rattle.tile_shape.specs.Views.{address_of}
 use Rattle.lazy_walk.specs.Frames.{FrameValue, whole}

@@ -7,8 +7,8 @@ use Rattle.rule_model.specs.Tiling.{Tiling}
 use Rattle.lazy_walk.specs.Ancestors.{full}
 use Rattle.lazy_walk.specs.Containing.{first_refused_outward}
 use Rattle.lazy_walk.specs.Frames.{FrameValue}
-use Rattle.windows.specs.FrameWindow.{IsWindowWithin}
-use Rattle.windows.specs.Limits.{most_tiles}
+use Rattle.theory_windows.specs.FrameWindow.{IsWindowWithin}
+use Rattle.theory_windows.specs.Limits.{most_tiles}
 use Rattle.window_cover.specs.Windows.{box_of}
 
 -- none of the values looked at for the centre is refused; some depth is enough; and of the tiles drawn at the least such depth none has a refused shift, and they

@@ -1,9 +1,9 @@
 -- The edges of a new tile against those that are open.
 use Rattle.std.specs.Prelude.{◌≡◌, ℕ, suc, ◌<◌, Bool, false, not, ◌&&◌, cond, nat_lt, List, length, get_or}
 use Rattle.std.specs.List.{filter}
-use Rattle.ordered_plane.specs.BoxTest.{box_test}
-use Rattle.addressing.specs.Search.{some_below, chosen_below}
-use Rattle.substitution.specs.Plane.{plane_point}
+use Rattle.theory_plane.specs.BoxTest.{box_test}
+use Rattle.theory_addresses.specs.Search.{some_below, chosen_below}
+use Rattle.theory_substitution.specs.Plane.{plane_point}
 use Rattle.cyclo_points.specs.declared.order.Order.{Order}
 use Rattle.cyclo_points.specs.declared.point.Point.{Point}
 use Rattle.cyclo_points.specs.Order.{points_of}

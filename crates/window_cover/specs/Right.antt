@@ -1,22 +1,22 @@
 -- What is found of a window is right for a tiling and a frame.
 use Rattle.std.specs.Prelude.{◌≡◌, ◌<◌, ◌≤◌, ◌^◌, false, List, map, length, IsTrue}
 use Rattle.std.specs.List.{AllByRecursion}
-use Rattle.ordered_plane.specs.Plane.{test_point}
-use Rattle.ordered_plane.specs.Crossing.{member}
+use Rattle.theory_plane.specs.Plane.{test_point}
+use Rattle.theory_plane.specs.Crossing.{member}
 use Rattle.cyclo_points.specs.Order.{points_of, is_refused}
 use Rattle.cyclo_points.specs.Point.{point_in, IsOf, IsWithin}
 use Rattle.cyclo_points.specs.Motion.{motion_in}
-use Rattle.frames.specs.Frame.{IsTileOf, lifted_in}
+use Rattle.theory_frames.specs.Frame.{IsTileOf, lifted_in}
 use Rattle.rule_model.specs.Tiling.{Tiling, children}
 use Rattle.lazy_walk.specs.Ancestors.{full}
 use Rattle.lazy_walk.specs.Frames.{FrameValue, whole, IsFrameOf}
-use Rattle.windows.specs.Distinct.{AreDistinct}
-use Rattle.windows.specs.FramePatch.{growing_frame, plane_edge}
-use Rattle.windows.specs.GrowingPatch.{GrowingPatch, IsOfDepth}
-use Rattle.windows.specs.Limits.{most_tiles}
-use Rattle.windows.specs.OpenEdges.{NumberedEdge, AreOpenEdges}
-use Rattle.windows.specs.Outlines.{PlaneEdge}
-use Rattle.windows.specs.SearchState.{IsFirst}
+use Rattle.theory_windows.specs.Distinct.{AreDistinct}
+use Rattle.theory_windows.specs.FramePatch.{growing_frame, plane_edge}
+use Rattle.theory_windows.specs.GrowingPatch.{GrowingPatch, IsOfDepth}
+use Rattle.theory_windows.specs.Limits.{most_tiles}
+use Rattle.theory_windows.specs.OpenEdges.{NumberedEdge, AreOpenEdges}
+use Rattle.theory_windows.specs.Outlines.{PlaneEdge}
+use Rattle.theory_windows.specs.SearchState.{IsFirst}
 use Rattle.window_cover.specs.Found.{Found, address_found, PlacedEdge, CoverValue}
 use Rattle.window_cover.specs.Windows.{TileOf, box_of, polygon_of, IsWindow, MeetsWindow}
 

@@ -3,13 +3,13 @@ use Rattle.std.specs.Prelude.{◌≡◌, ℕ, zero, suc, ◌+◌, ◌<◌, ◌�
 use Rattle.std.specs.declared.option.Option.{Option}
 use Rattle.std.specs.Option.{IfSome}
 use Rattle.std.specs.List.{AllByRecursion}
-use Rattle.addressing.specs.Address.{Step as TheStep}
+use Rattle.theory_addresses.specs.Address.{Step as TheStep}
 use Rattle.cyclo_points.specs.declared.point.Point.{Point}
 use Rattle.cyclo_points.specs.Point.{coefficient, IsWithin}
 use Rattle.tile_place.specs.Keys.{FitsKey}
 use Rattle.tile_shape.specs.declared.step.Step.{Step}
 use Rattle.tile_shape.specs.Views.{step_of}
-use Rattle.windows.specs.Limits.{most_tiles}
+use Rattle.theory_windows.specs.Limits.{most_tiles}
 use Rattle.window_cover.specs.declared.block.Block.{Block}
 use Rattle.window_cover.specs.declared.run.Run.{Run}
 use Rattle.window_cover.specs.declared.run_tile.RunTile.{RunTile}

@@ -1,10 +1,10 @@
 -- The laws on which the steps of the search rest.
-use Rattle.substitution.specs.Points.{Points, PointLaws}
-use Rattle.windows.specs.FrameCover.{FrameStartLaw, FrameStepLaw, FrameStopLaw, FrameGoesOnLaw}
-use Rattle.windows.specs.FrameLaws.{FramePatchLaw, LiftLaw, NamedLaw, LinesLaw, NumberedLaw}
-use Rattle.windows.specs.FrameSearch.{RenamedLaw, AtDepthLaw, GluedCrossingLaw, GrownCrossingLaw, HolderLevelLaw}
-use Rattle.windows.specs.FrameWindow.{LeastLaw}
-use Rattle.windows.specs.Laws.{OpenTestLaw, OpenNumberLaw, OpenStepLaw}
+use Rattle.theory_substitution.specs.Points.{Points, PointLaws}
+use Rattle.theory_windows.specs.FrameCover.{FrameStartLaw, FrameStepLaw, FrameStopLaw, FrameGoesOnLaw}
+use Rattle.theory_windows.specs.FrameLaws.{FramePatchLaw, LiftLaw, NamedLaw, LinesLaw, NumberedLaw}
+use Rattle.theory_windows.specs.FrameSearch.{RenamedLaw, AtDepthLaw, GluedCrossingLaw, GrownCrossingLaw, HolderLevelLaw}
+use Rattle.theory_windows.specs.FrameWindow.{LeastLaw}
+use Rattle.theory_windows.specs.Laws.{OpenTestLaw, OpenNumberLaw, OpenStepLaw}
 
 -- of points, of dissected frames and the names of their tiles, of edges, of crossings, and of the search
 pub record HasSearchLaws (P : Points) : Type 0 where

@@ -4,7 +4,7 @@ use Rattle.cyclo_points.specs.Order.{points_of}
 use Rattle.rule_model.specs.Tiling.{Tiling}
 use Rattle.lazy_walk.specs.Boundary.{IsBoundaryEdge}
 use Rattle.lazy_walk.specs.Frames.{FrameValue, lifted_at}
-use Rattle.windows.specs.PatchWindow.{LiesAcross}
+use Rattle.theory_windows.specs.PatchWindow.{LiesAcross}
 use Rattle.window_cover.specs.declared.open_edge.OpenEdge.{OpenEdge}
 use Rattle.window_cover.specs.Found.{Found, address_found, PlacedEdge, CoverValue, first_of}
 use Rattle.window_cover.specs.Right.{growing, name_of, line_at}

@@ -1,21 +1,21 @@
 -- Windows on the frame of a base tile, and the tiles of the frame that meet them.
 use Rattle.std.specs.Prelude.{ℕ, ◌≤◌, ◌^◌, List, length}
-use Rattle.ordered_plane.specs.Box.{OpenBox}
-use Rattle.addressing.specs.Search.{IsAmong}
-use Rattle.substitution.specs.Supertile.{Placed}
+use Rattle.theory_plane.specs.Box.{OpenBox}
+use Rattle.theory_addresses.specs.Search.{IsAmong}
+use Rattle.theory_substitution.specs.Supertile.{Placed}
 use Rattle.cyclo_points.specs.Order.{NumberOf, points_of}
 use Rattle.cyclo_points.specs.Point.{IsWithin}
-use Rattle.dissection.specs.Polygons.{tile_polygon}
-use Rattle.frames.specs.Frame.{frame_tiles}
+use Rattle.theory_dissection.specs.Polygons.{tile_polygon}
+use Rattle.theory_frames.specs.Frame.{frame_tiles}
 use Rattle.plane_geom.specs.declared.window.Window.{Window}
 use Rattle.rule_model.specs.Tiling.{Tiling}
 use Rattle.lazy_walk.specs.Ancestors.{full}
 use Rattle.lazy_walk.specs.Frames.{FrameValue, whole}
-use Rattle.windows.specs.FramePatch.{frame_patch}
-use Rattle.windows.specs.FrameWindow.{AreAllThatMeet, IsLeastDepth}
-use Rattle.windows.specs.Outlines.{Polygon}
-use Rattle.windows.specs.Meeting.{PolygonMeetsBox}
-use Rattle.windows.specs.Patch.{Covers}
+use Rattle.theory_windows.specs.FramePatch.{frame_patch}
+use Rattle.theory_windows.specs.FrameWindow.{AreAllThatMeet, IsLeastDepth}
+use Rattle.theory_windows.specs.Outlines.{Polygon}
+use Rattle.theory_windows.specs.Meeting.{PolygonMeetsBox}
+use Rattle.theory_windows.specs.Patch.{Covers}
 pub use Rattle.window_descent.specs.Standing.{window_box}
 
 -- half extents are 1 to 4,096, and the centre's coefficients at most 2^22

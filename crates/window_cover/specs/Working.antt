@@ -1,17 +1,17 @@
 -- The state of the search as the program keeps it: the open edges with their ends in words.
 use Rattle.std.specs.Prelude.{◌≤◌, ◌^◌, ◌≡◌, List, map, length}
 use Rattle.std.specs.List.{AllByRecursion, AllZip}
-use Rattle.substitution.specs.Plane.{plane_point}
+use Rattle.theory_substitution.specs.Plane.{plane_point}
 use Rattle.cyclo_points.specs.declared.point.Point.{Point}
 use Rattle.cyclo_points.specs.Order.{points_of}
 use Rattle.cyclo_points.specs.Point.{point_in, IsOf, IsWithin}
 use Rattle.plane_geom.specs.declared.window.Window.{Window}
 use Rattle.rule_model.specs.Tiling.{Tiling}
 use Rattle.lazy_walk.specs.Frames.{FrameValue, IsFrameOf}
-use Rattle.windows.specs.Limits.{most_tiles}
-use Rattle.windows.specs.OpenEdges.{NumberedEdge}
-use Rattle.windows.specs.OpenTest.{open_edges_of}
-use Rattle.windows.specs.SearchState.{SearchState, outlines, IsRightState}
+use Rattle.theory_windows.specs.Limits.{most_tiles}
+use Rattle.theory_windows.specs.OpenEdges.{NumberedEdge}
+use Rattle.theory_windows.specs.OpenTest.{open_edges_of}
+use Rattle.theory_windows.specs.SearchState.{SearchState, outlines, IsRightState}
 use Rattle.window_cover.specs.Border.{Waiting}
 use Rattle.window_cover.specs.Found.{Found, CoverValue}
 use Rattle.window_cover.specs.Packed.{ends_of, packed}

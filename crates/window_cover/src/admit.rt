@@ -31,10 +31,13 @@ impl Cover {
         requires turn_below { tile.now.motion.turn < (points_of machine.now.order).order }
         requires in_order { IsOf machine.now.order tile.now.motion.shift }
         requires window { IsWindow self.old.window }
-        requires new { (corners : List Point) → AreCorners (tiling_of machine.now) tile.now.kind tile.now.motion corners → AreNew corners (working self.old).border }
-        ensures admitted { OnOk result (IsAdmitted (tiling_of machine.now) (working self.old) (working self.new) tile.now) }
+        requires new { (corners : List Point) → AreCorners (tiling_of machine.now) tile.now.kind
+            tile.now.motion corners → AreNew corners (working self.old).border }
+        ensures admitted { OnOk result (IsAdmitted (tiling_of machine.now) (working self.old)
+            (working self.new) tile.now) }
         ensures same_ends { OnOk result (self.new.border ≡ map unpacked (map packed self.new.border)) }
-        ensures cause { IfErr result (λ fault. IsNotAdmitted (tiling_of machine.now) (working self.old) tile.now fault) }
+        ensures cause { IfErr result (λ fault. IsNotAdmitted (tiling_of machine.now) (working self.old)
+            tile.now fault) }
     {
         if refused(&tile.motion.shift) {
             return Err(CoverFault::CoordLimit {

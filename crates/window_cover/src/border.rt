@@ -124,7 +124,8 @@ fn first_open(listed: &[Listed], from: usize) -> usize
     requires none_before { open_of (take from listed.now) ≡ [] }
     ensures within { result ≤ length listed.now }
     ensures none_before { open_of (take result listed.now) ≡ [] }
-    ensures first { first_waiting (open_of listed.now) ≡ option_map (λ l. l.edge) (slice_get listed.now result) }
+    ensures first { first_waiting (open_of listed.now) ≡ option_map (λ l. l.edge)
+        (slice_get listed.now result) }
 {
     for place in from..listed.len() {
         if listed[place].is_open {

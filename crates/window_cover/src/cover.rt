@@ -7,7 +7,7 @@ ghost use Rattle.window_cover.specs.Admitted.{found_as};
 ghost use Rattle.window_cover.specs.Covered.{tile_of};
 ghost use Rattle.window_cover.specs.Found.{first_of};
 ghost use Rattle.window_cover.specs.Keys.{HasKey};
-ghost use Rattle.windows.specs.Limits.{most_tiles};
+ghost use Rattle.theory_windows.specs.Limits.{most_tiles};
 
 use crate::border::Border;
 use crate::found_tile::FoundTile;

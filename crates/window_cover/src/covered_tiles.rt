@@ -61,7 +61,8 @@ impl CoveredTiles {
     /// Replaces a kind, a motion and an address by those of the tile at a place in the order.
     pub fn put(&self, place: usize, kind: &mut u8, motion: &mut Motion, addr: &mut Address)
         requires below { place < length self.now }
-        ensures { slice_get self.now place ≡ Some (record { kind = kind.new; motion = motion.new; addr = addr.new }) }
+        ensures { slice_get self.now place ≡ Some
+            (record { kind = kind.new; motion = motion.new; addr = addr.new }) }
     {
         let number = tile_number(self.words[place]);
         let above = self.above.as_slice();

@@ -8,7 +8,7 @@ ghost use Rattle.lazy_walk.specs.Standing.{Stands};
 ghost use Rattle.window_cover.specs.Checked.{IsChecked};
 ghost use Rattle.window_cover.specs.Covered.{placed_as};
 ghost use Rattle.window_cover.specs.InOrder.{AreInOrder, AreSorted, numbers_placed};
-ghost use Rattle.windows.specs.Distinct.{AreDistinct};
+ghost use Rattle.theory_windows.specs.Distinct.{AreDistinct};
 ghost use Rattle.window_cover.specs.Lifted.{CanBeLifted};
 ghost use Rattle.window_cover.specs.Right.{IsRight};
 ghost use Rattle.window_cover.specs.Windows.{AreDrawn, CoverWindow};
@@ -30,17 +30,20 @@ impl Cover {
         requires none_open { self.border ≡ [] }
         requires no_deeper { All (CanBeLifted frame.now) self.found }
         // Each tile comes as often as it was found. The frame's digits follow its own.
-        ensures lifted { IfOk result (λ tiles. IsPermutation (map (placed_as frame.now.digits) self.found) tiles.items) }
+        ensures lifted { IfOk result (λ tiles. IsPermutation (map (placed_as frame.now.digits) self.found)
+            tiles.items) }
         ensures sorted { IfOk result (λ tiles. AreSorted tiles.items) }
         ensures as_many { IfOk result (λ tiles. length tiles.items ≡ length self.found) }
         // If the state is right for a rule, these are exactly the tiles of the frame that meet the window.
         ensures drawn { IfOk result (λ tiles. (r : Rule) → IsChecked r → IsRight (tiling_of r) frame.now self
             → AreDrawn (tiling_of r) frame.now self.window (map (placed_in r.order) tiles.items)) }
-        ensures covered { IfOk result (λ tiles. (r : Rule) → IsChecked r → IsRight (tiling_of r) frame.now self
+        ensures covered { IfOk result (λ tiles. (r : Rule) → IsChecked r
+            → IsRight (tiling_of r) frame.now self
             → CoverWindow (tiling_of r) frame.now self.window (map (placed_in r.order) tiles.items)) }
         ensures stand { IfOk result (λ tiles. (r : Rule) → IsChecked r → IsRight (tiling_of r) frame.now self
             → All (Stands (tiling_of r) frame.now) tiles.items) }
-        ensures in_order { IfOk result (λ tiles. (r : Rule) → IsChecked r → IsRight (tiling_of r) frame.now self → AreInOrder tiles.items) }
+        ensures in_order { IfOk result (λ tiles. (r : Rule) → IsChecked r
+            → IsRight (tiling_of r) frame.now self → AreInOrder tiles.items) }
     {
         let tiles = self.arranged(alloc, frame)?;
         tiles.listed(alloc)
@@ -51,19 +54,23 @@ impl Cover {
         requires none_open { self.border ≡ [] }
         requires no_deeper { All (CanBeLifted frame.now) self.found }
         // Each tile comes as often as it was found. The frame's digits follow its own.
-        ensures lifted { IfOk result (λ tiles. IsPermutation (map (placed_as frame.now.digits) self.found) tiles) }
+        ensures lifted { IfOk result (λ tiles. IsPermutation (map (placed_as frame.now.digits) self.found)
+            tiles) }
         ensures sorted { IfOk result (λ tiles. AreSorted tiles) }
         ensures as_many { IfOk result (λ tiles. length tiles ≡ length self.found) }
         // If the state is right for a rule, these are exactly the tiles of the frame that meet the window.
         ensures drawn { IfOk result (λ tiles. (r : Rule) → IsChecked r → IsRight (tiling_of r) frame.now self
             → AreDrawn (tiling_of r) frame.now self.window (map (placed_in r.order) tiles)) }
-        ensures covered { IfOk result (λ tiles. (r : Rule) → IsChecked r → IsRight (tiling_of r) frame.now self
+        ensures covered { IfOk result (λ tiles. (r : Rule) → IsChecked r
+            → IsRight (tiling_of r) frame.now self
             → CoverWindow (tiling_of r) frame.now self.window (map (placed_in r.order) tiles)) }
         ensures stand { IfOk result (λ tiles. (r : Rule) → IsChecked r → IsRight (tiling_of r) frame.now self
             → All (Stands (tiling_of r) frame.now) tiles) }
-        ensures in_order { IfOk result (λ tiles. (r : Rule) → IsChecked r → IsRight (tiling_of r) frame.now self → AreInOrder tiles) }
+        ensures in_order { IfOk result (λ tiles. (r : Rule) → IsChecked r
+            → IsRight (tiling_of r) frame.now self → AreInOrder tiles) }
         // If no two tiles have the same place and kind, the order is strict.
-        ensures distinct_in_order { IfOk result (λ tiles. AreDistinct (map numbers_placed tiles) → AreInOrder tiles) }
+        ensures distinct_in_order { IfOk result (λ tiles. AreDistinct (map numbers_placed tiles)
+            → AreInOrder tiles) }
     {
         end_laws();
         grown_fits_law();

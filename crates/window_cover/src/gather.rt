@@ -42,7 +42,8 @@ impl Runs {
         requires at_most_64 { length path.old ≤ 64 }
         requires state { AreGathering machine.now self.old rows.old blocks.old }
         requires enough { level < levels_of rows.old }
-        ensures { IfOk result (λ done. IsTrue done → IsGathered machine.now self.old self.new rows.old rows.new
+        ensures { IfOk result (λ done. IsTrue done
+            → IsGathered machine.now self.old self.new rows.old rows.new
             blocks.new path.old path.new all level part.now) }
     {
         match self.stands(machine, rows, level, part, all) {
@@ -92,7 +93,8 @@ impl Runs {
         requires state { AreGathering machine.now self.old rows.old blocks.old }
         requires enough { level < levels_of rows.old }
         requires no_tile { all ≡ false → 0 < level }
-        ensures { IfOk result (λ done. IsTrue done → IsGathered machine.now self.old self.new rows.old rows.new
+        ensures { IfOk result (λ done. IsTrue done
+            → IsGathered machine.now self.old self.new rows.old rows.new
             blocks.new path.old path.new all level part.now) }
     {
         if is_run(blocks, level, all) {
@@ -132,7 +134,8 @@ impl Runs {
         requires state { AreGathering machine.now self.old rows.old blocks.old }
         requires enough { level < levels_of rows.old }
         requires low { level ≤ 6 }
-        ensures { IfOk result (λ done. IsTrue done → IsGathered machine.now self.old self.new rows.old rows.new
+        ensures { IfOk result (λ done. IsTrue done
+            → IsGathered machine.now self.old self.new rows.old rows.new
             blocks.new path.now path.now true level part.now) }
     {
         let _usable = machine.checked();

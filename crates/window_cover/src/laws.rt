@@ -1,16 +1,16 @@
 //! The laws that the tiles of a window need, for the points of each order.
 ghost use Rattle.cyclo_points.specs.Order.{PointsLaw, points_of};
 ghost use Rattle.cyclo_points.specs.declared.order.Order.{Order};
-ghost use Rattle.windows.specs.FrameCover.{FrameFinishLaw};
-ghost use Rattle.windows.specs.FrameLaws.{FramePatchLaw};
-ghost use Rattle.windows.specs.Laws.{OpenTestLaw, OutlineLaw};
+ghost use Rattle.theory_windows.specs.FrameCover.{FrameFinishLaw};
+ghost use Rattle.theory_windows.specs.FrameLaws.{FramePatchLaw};
+ghost use Rattle.theory_windows.specs.Laws.{OpenTestLaw, OutlineLaw};
 
 use cyclo_points::order::Order;
 use cyclo_points::points_law;
-use windows::cover_laws::frame_search_law;
-use windows::frame_laws::frame_patch_law;
-use windows::patch_laws::outline_law;
-use windows::search_laws::open_edge_law;
+use theory_windows::cover_laws::frame_search_law;
+use theory_windows::frame_laws::frame_patch_law;
+use theory_windows::patch_laws::outline_law;
+use theory_windows::search_laws::open_edge_law;
 
 /// The laws that the end of a search needs, for each order.
 pub(crate) fn end_laws()

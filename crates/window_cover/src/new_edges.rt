@@ -31,7 +31,8 @@ fn meet_edge(
     requires centre_within { IsWithin (2 ^ 25) window.now.centre }
     requires fresh { has_ends (ends_of start.now end.now) border.old ≡ false }
     ensures met { OnOk result (border.new ≡ without (ends_of start.now end.now) border.old
-        ++ cond (meets_window order window.now start.now end.now && not (closes (ends_of start.now end.now) border.old))
+        ++ cond (meets_window order window.now start.now end.now
+        && not (closes (ends_of start.now end.now) border.old))
         (record { ends = ends_of start.now end.now; edge = edge } ∷ []) []) }
     ensures one_more { length border.new ≤ length border.old + 1 }
 {

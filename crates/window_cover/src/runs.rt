@@ -91,7 +91,8 @@ impl Runs {
         requires runs { AreRuns self.old }
         requires leaves { CanRun self.old.leaves.found block.now shift digits.now }
         ensures same_leaves { self.new.leaves ≡ self.old.leaves }
-        ensures pushed { IfOk result (λ done. IsTrue done → IsPushed self.old self.new block.now shift digits.now) }
+        ensures pushed { IfOk result (λ done. IsTrue done
+            → IsPushed self.old self.new block.now shift digits.now) }
     {
         let number = self.runs.len();
         if number >= MOST_TILES || self.tiles.len() + block.count as usize > MOST_TILES {

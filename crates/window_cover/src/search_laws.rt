@@ -4,12 +4,12 @@ ghost use Rattle.window_cover.specs.SearchLaws.{HasSearchLaws};
 
 use cyclo_points::order::Order;
 use cyclo_points::points_law;
-use windows::cover_laws::{frame_limits_law, frame_search_law};
-use windows::frame_laws::{
+use theory_windows::cover_laws::{frame_limits_law, frame_search_law};
+use theory_windows::frame_laws::{
     frame_crossing_law, frame_edge_law, frame_holds_law, frame_name_law, frame_patch_law,
     frame_window_law,
 };
-use windows::search_laws::open_edge_law;
+use theory_windows::search_laws::open_edge_law;
 
 /// States the laws of the search, for the points of each order.
 pub fn search_laws(order: Order)

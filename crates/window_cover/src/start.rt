@@ -37,13 +37,18 @@ impl Cover {
         ensures right { IfOk result (λ cover. IsRight (tiling_of machine.now) frame.new cover) }
         ensures its_window { IfOk result (λ cover. cover.window ≡ window.now) }
         ensures one_tile { IfOk result (λ cover. length cover.found ≡ 1) }
-        ensures centre_found { OnOk result (first_refused_outward (tiling_of machine.now) frame.old (point_in machine.now.order window.now.centre) ≡ None) }
+        ensures centre_found { OnOk result (first_refused_outward (tiling_of machine.now) frame.old
+            (point_in machine.now.order window.now.centre) ≡ None) }
         // The new depth is the least, not below the old one, at which the frame holds the centre.
         ensures least { (n : ℕ) → length frame.old.digits ≤ n → n < length frame.new.digits
-            → ¬ FrameHolds (tiling_of machine.now) (at_depth (tiling_of machine.now) n frame.old) (point_in machine.now.order window.now.centre) }
-        ensures not_beyond { (n : ℕ) → IsLeastEnough (tiling_of machine.now) frame.old window.now n → length frame.new.digits ≤ n }
-        ensures answered { IsWithinLimits (tiling_of machine.now) frame.old window.now → (result ≡ Err NoMemory) ⊎ IsOk result }
-        ensures cause { IfErr result (λ fault. HasCause (tiling_of machine.now) frame.old frame.new window.now fault) }
+            → ¬ FrameHolds (tiling_of machine.now) (at_depth (tiling_of machine.now) n frame.old)
+            (point_in machine.now.order window.now.centre) }
+        ensures not_beyond { (n : ℕ) → IsLeastEnough (tiling_of machine.now) frame.old window.now n
+            → length frame.new.digits ≤ n }
+        ensures answered { IsWithinLimits (tiling_of machine.now) frame.old window.now
+            → (result ≡ Err NoMemory) ⊎ IsOk result }
+        ensures cause { IfErr result (λ fault. HasCause (tiling_of machine.now) frame.old frame.new
+            window.now fault) }
     {
         let checked = machine.checked();
         let order = checked.order();

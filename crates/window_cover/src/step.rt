@@ -36,11 +36,14 @@ fn counted_step<L: Ledger>(
     requires right { IsRight (tiling_of machine.now) frame.old cover.old }
     requires is_first { first_of cover.old.border ≡ Some first }
     ensures frame { GrowsTo (tiling_of machine.now) frame.old frame.new }
-    ensures inside { OnOk result (¬ IsFirstOnBoundary (tiling_of machine.now) frame.old cover.old (length frame.new.digits)) }
-    ensures least { (n : ℕ) → length frame.old.digits ≤ n → n < length frame.new.digits → IsFirstOnBoundary (tiling_of machine.now) frame.old cover.old n }
+    ensures inside { OnOk result (¬ IsFirstOnBoundary (tiling_of machine.now) frame.old cover.old
+        (length frame.new.digits)) }
+    ensures least { (n : ℕ) → length frame.old.digits ≤ n → n < length frame.new.digits
+        → IsFirstOnBoundary (tiling_of machine.now) frame.old cover.old n }
     ensures steps_to { OnOk result (StepsTo (tiling_of machine.now) frame.old cover.old cover.new) }
     ensures right { OnOk result (IsRight (tiling_of machine.now) frame.new cover.new) }
-    ensures cause { IfErr result (λ fault. HasCause (tiling_of machine.now) frame.old frame.new cover.old.window fault) }
+    ensures cause { IfErr result (λ fault. HasCause (tiling_of machine.now) frame.old frame.new
+        cover.old.window fault) }
 {
     let mut steps = Steps::<L>::new(blank);
     cover.advance(machine, frame, first, &mut no_tile(), &mut steps)
@@ -60,11 +63,14 @@ impl Cover {
         ensures frame { GrowsTo (tiling_of machine.now) frame.old frame.new }
         // The new depth is the least, not below the old one, at which the first open edge is not on the
         // boundary.
-        ensures inside { OnOk result (¬ IsFirstOnBoundary (tiling_of machine.now) frame.old self (length frame.new.digits)) }
-        ensures least { (n : ℕ) → length frame.old.digits ≤ n → n < length frame.new.digits → IsFirstOnBoundary (tiling_of machine.now) frame.old self n }
+        ensures inside { OnOk result (¬ IsFirstOnBoundary (tiling_of machine.now) frame.old self
+            (length frame.new.digits)) }
+        ensures least { (n : ℕ) → length frame.old.digits ≤ n → n < length frame.new.digits
+            → IsFirstOnBoundary (tiling_of machine.now) frame.old self n }
         ensures steps_to { IfOk result (λ next. StepsTo (tiling_of machine.now) frame.old self next) }
         ensures right { IfOk result (λ next. IsRight (tiling_of machine.now) frame.new next) }
-        ensures cause { IfErr result (λ fault. HasCause (tiling_of machine.now) frame.old frame.new self.window fault) }
+        ensures cause { IfErr result (λ fault. HasCause (tiling_of machine.now) frame.old frame.new
+            self.window fault) }
     {
         let mut next = self;
         match next.first_open() {
@@ -89,17 +95,22 @@ impl Cover {
         requires right { IsRight (tiling_of machine.now) frame.old self.old }
         requires is_first { first_of self.old.border ≡ Some first }
         ensures frame { GrowsTo (tiling_of machine.now) frame.old frame.new }
-        ensures inside { OnOk result (¬ IsFirstOnBoundary (tiling_of machine.now) frame.old self.old (length frame.new.digits)) }
-        ensures least { (n : ℕ) → length frame.old.digits ≤ n → n < length frame.new.digits → IsFirstOnBoundary (tiling_of machine.now) frame.old self.old n }
+        ensures inside { OnOk result (¬ IsFirstOnBoundary (tiling_of machine.now) frame.old self.old
+            (length frame.new.digits)) }
+        ensures least { (n : ℕ) → length frame.old.digits ≤ n → n < length frame.new.digits
+            → IsFirstOnBoundary (tiling_of machine.now) frame.old self.old n }
         ensures steps_to { OnOk result (StepsTo (tiling_of machine.now) frame.old self.old self.new) }
         ensures right { OnOk result (IsRight (tiling_of machine.now) frame.new self.new) }
         ensures one_more { OnOk result (length self.new.found ≡ suc (length self.old.found)) }
         // This holds for each frame of the same base and seed from which the search may have begun.
-        ensures not_beyond { (f : FrameValue) (n : ℕ) → GrowsTo (tiling_of machine.now) f frame.old → IsLeastEnough (tiling_of machine.now) f self.old.window n
+        ensures not_beyond { (f : FrameValue) (n : ℕ) → GrowsTo (tiling_of machine.now) f frame.old
+            → IsLeastEnough (tiling_of machine.now) f self.old.window n
             → length frame.old.digits ≤ n → length frame.new.digits ≤ n }
-        ensures within { (f : FrameValue) → GrowsTo (tiling_of machine.now) f frame.old → IsWithinLimits (tiling_of machine.now) f self.old.window
+        ensures within { (f : FrameValue) → GrowsTo (tiling_of machine.now) f frame.old
+            → IsWithinLimits (tiling_of machine.now) f self.old.window
             → (result ≡ Err NoMemory) ⊎ IsOk result }
-        ensures cause { IfErr result (λ fault. HasCause (tiling_of machine.now) frame.old frame.new self.old.window fault) }
+        ensures cause { IfErr result (λ fault. HasCause (tiling_of machine.now) frame.old frame.new
+            self.old.window fault) }
     {
         let checked = machine.checked();
         search_laws(checked.order());

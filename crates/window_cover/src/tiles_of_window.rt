@@ -25,10 +25,10 @@ use seeded_growth::laws::grown_fits_law;
 use std::alloc::Global;
 use std::marker::Brand;
 use std::sync::ledger::{Blank, Ledger};
+use theory_windows::cover_laws::frame_limits_law;
+use theory_windows::frame_laws::frame_window_law;
 use tile_place::machine::Machine;
 use tile_place::placed_tile::PlacedTile;
-use windows::cover_laws::frame_limits_law;
-use windows::frame_laws::frame_window_law;
 
 /// Finds exactly the tiles of the frame that meet the window, ordered by shift, then turn, then kind. A tile
 /// that only touches the window does not meet it.
@@ -61,20 +61,26 @@ pub fn cover(
 
     // Exactly the tiles of the frame that meet the window, each exactly once and in its place. The depth is
     // the least that is enough, and the tiles cover the window.
-    ensures drawn { IfOk result (λ tiles. AreDrawn (tiling_of machine.now) frame.new window.now (map (placed_in machine.now.order) tiles.items)) }
+    ensures drawn { IfOk result (λ tiles. AreDrawn (tiling_of machine.now) frame.new window.now
+        (map (placed_in machine.now.order) tiles.items)) }
     ensures stand { IfOk result (λ tiles. All (Stands (tiling_of machine.now) frame.new) tiles.items) }
     ensures in_order { IfOk result (λ tiles. AreInOrder tiles.items) }
-    ensures least { OnOk result (IsLeastEnough (tiling_of machine.now) frame.old window.now (length frame.new.digits)) }
-    ensures covered { IfOk result (λ tiles. CoverWindow (tiling_of machine.now) frame.new window.now (map (placed_in machine.now.order) tiles.items)) }
+    ensures least { OnOk result (IsLeastEnough (tiling_of machine.now) frame.old window.now
+        (length frame.new.digits)) }
+    ensures covered { IfOk result (λ tiles. CoverWindow (tiling_of machine.now) frame.new window.now
+        (map (placed_in machine.now.order) tiles.items)) }
 
     // Even on an error the frame is no deeper than is enough for the window.
-    ensures not_beyond { (n : ℕ) → IsLeastEnough (tiling_of machine.now) frame.old window.now n → length frame.new.digits ≤ n }
+    ensures not_beyond { (n : ℕ) → IsLeastEnough (tiling_of machine.now) frame.old window.now n
+        → length frame.new.digits ≤ n }
 
     // The call succeeds if and only if the window is within the limits, unless memory runs out. Each error
     // comes only for its cause.
     ensures within { OnOk result (IsWithinLimits (tiling_of machine.now) frame.old window.now) }
-    ensures answered { IsWithinLimits (tiling_of machine.now) frame.old window.now → (result ≡ Err NoMemory) ⊎ IsOk result }
-    ensures cause { IfErr result (λ fault. HasCause (tiling_of machine.now) frame.old frame.new window.now fault) }
+    ensures answered { IsWithinLimits (tiling_of machine.now) frame.old window.now → (result ≡ Err NoMemory)
+        ⊎ IsOk result }
+    ensures cause { IfErr result (λ fault. HasCause (tiling_of machine.now) frame.old frame.new window.now
+        fault) }
 {
     let tiles = by_search(alloc, machine, frame, window)?;
     Ok(tiles.listed(alloc)?)
@@ -95,20 +101,26 @@ pub fn covered_tiles(
 
     // Exactly the tiles of the frame that meet the window, each exactly once and in its place. The depth is
     // the least that is enough, and the tiles cover the window.
-    ensures drawn { IfOk result (λ tiles. AreDrawn (tiling_of machine.now) frame.new window.now (map (placed_in machine.now.order) tiles)) }
+    ensures drawn { IfOk result (λ tiles. AreDrawn (tiling_of machine.now) frame.new window.now
+        (map (placed_in machine.now.order) tiles)) }
     ensures stand { IfOk result (λ tiles. All (Stands (tiling_of machine.now) frame.new) tiles) }
     ensures in_order { IfOk result (λ tiles. AreInOrder tiles) }
-    ensures least { OnOk result (IsLeastEnough (tiling_of machine.now) frame.old window.now (length frame.new.digits)) }
-    ensures covered { IfOk result (λ tiles. CoverWindow (tiling_of machine.now) frame.new window.now (map (placed_in machine.now.order) tiles)) }
+    ensures least { OnOk result (IsLeastEnough (tiling_of machine.now) frame.old window.now
+        (length frame.new.digits)) }
+    ensures covered { IfOk result (λ tiles. CoverWindow (tiling_of machine.now) frame.new window.now
+        (map (placed_in machine.now.order) tiles)) }
 
     // Even on an error the frame is no deeper than is enough for the window.
-    ensures not_beyond { (n : ℕ) → IsLeastEnough (tiling_of machine.now) frame.old window.now n → length frame.new.digits ≤ n }
+    ensures not_beyond { (n : ℕ) → IsLeastEnough (tiling_of machine.now) frame.old window.now n
+        → length frame.new.digits ≤ n }
 
     // The call succeeds if and only if the window is within the limits, unless memory runs out. Each error
     // comes only for its cause.
     ensures within { OnOk result (IsWithinLimits (tiling_of machine.now) frame.old window.now) }
-    ensures answered { IsWithinLimits (tiling_of machine.now) frame.old window.now → (result ≡ Err NoMemory) ⊎ IsOk result }
-    ensures cause { IfErr result (λ fault. HasCause (tiling_of machine.now) frame.old frame.new window.now fault) }
+    ensures answered { IsWithinLimits (tiling_of machine.now) frame.old window.now → (result ≡ Err NoMemory)
+        ⊎ IsOk result }
+    ensures cause { IfErr result (λ fault. HasCause (tiling_of machine.now) frame.old frame.new window.now
+        fault) }
 {
     let mut grown = frame.copy()?;
     match by_descent(alloc, machine, &mut grown, window)? {
@@ -135,20 +147,26 @@ fn by_search(
 
     // Exactly the tiles of the frame that meet the window, each exactly once and in its place. The depth is
     // the least that is enough, and the tiles cover the window.
-    ensures drawn { IfOk result (λ tiles. AreDrawn (tiling_of machine.now) frame.new window.now (map (placed_in machine.now.order) tiles)) }
+    ensures drawn { IfOk result (λ tiles. AreDrawn (tiling_of machine.now) frame.new window.now
+        (map (placed_in machine.now.order) tiles)) }
     ensures stand { IfOk result (λ tiles. All (Stands (tiling_of machine.now) frame.new) tiles) }
     ensures in_order { IfOk result (λ tiles. AreInOrder tiles) }
-    ensures least { OnOk result (IsLeastEnough (tiling_of machine.now) frame.old window.now (length frame.new.digits)) }
-    ensures covered { IfOk result (λ tiles. CoverWindow (tiling_of machine.now) frame.new window.now (map (placed_in machine.now.order) tiles)) }
+    ensures least { OnOk result (IsLeastEnough (tiling_of machine.now) frame.old window.now
+        (length frame.new.digits)) }
+    ensures covered { IfOk result (λ tiles. CoverWindow (tiling_of machine.now) frame.new window.now
+        (map (placed_in machine.now.order) tiles)) }
 
     // Even on an error the frame is no deeper than is enough for the window.
-    ensures not_beyond { (n : ℕ) → IsLeastEnough (tiling_of machine.now) frame.old window.now n → length frame.new.digits ≤ n }
+    ensures not_beyond { (n : ℕ) → IsLeastEnough (tiling_of machine.now) frame.old window.now n
+        → length frame.new.digits ≤ n }
 
     // The call succeeds if and only if the window is within the limits, unless memory runs out. Each error
     // comes only for its cause.
     ensures within { OnOk result (IsWithinLimits (tiling_of machine.now) frame.old window.now) }
-    ensures answered { IsWithinLimits (tiling_of machine.now) frame.old window.now → (result ≡ Err NoMemory) ⊎ IsOk result }
-    ensures cause { IfErr result (λ fault. HasCause (tiling_of machine.now) frame.old frame.new window.now fault) }
+    ensures answered { IsWithinLimits (tiling_of machine.now) frame.old window.now → (result ≡ Err NoMemory)
+        ⊎ IsOk result }
+    ensures cause { IfErr result (λ fault. HasCause (tiling_of machine.now) frame.old frame.new window.now
+        fault) }
 {
     end_laws();
     grown_fits_law();
@@ -178,10 +196,14 @@ fn searched<L: Ledger>(
     ensures right { IfOk result (λ cover. IsRight (tiling_of machine.now) frame.new cover) }
     ensures none_open { IfOk result (λ cover. cover.border ≡ []) }
     ensures its_window { IfOk result (λ cover. cover.window ≡ window.now) }
-    ensures centre_found { OnOk result (first_refused_outward (tiling_of machine.now) frame.old (point_in machine.now.order window.now.centre) ≡ None) }
-    ensures not_beyond { (n : ℕ) → IsLeastEnough (tiling_of machine.now) frame.old window.now n → length frame.new.digits ≤ n }
-    ensures answered { IsWithinLimits (tiling_of machine.now) frame.old window.now → (result ≡ Err NoMemory) ⊎ IsOk result }
-    ensures cause { IfErr result (λ fault. HasCause (tiling_of machine.now) frame.old frame.new window.now fault) }
+    ensures centre_found { OnOk result (first_refused_outward (tiling_of machine.now) frame.old
+        (point_in machine.now.order window.now.centre) ≡ None) }
+    ensures not_beyond { (n : ℕ) → IsLeastEnough (tiling_of machine.now) frame.old window.now n
+        → length frame.new.digits ≤ n }
+    ensures answered { IsWithinLimits (tiling_of machine.now) frame.old window.now → (result ≡ Err NoMemory)
+        ⊎ IsOk result }
+    ensures cause { IfErr result (λ fault. HasCause (tiling_of machine.now) frame.old frame.new window.now
+        fault) }
 {
     let mut steps = Steps::<L>::new(blank);
     let mut cover = Cover::start(alloc, machine, frame, window)?;

@@ -2,17 +2,17 @@
 use Rattle.std.proofs.Common.{◌≡◌, ◌↔◌, ◌<◌, ◌≤◌, ℕ, zero, suc, ◌+◌, List, [], ◌∷◌, drop, length, get_or, Bool, true, false, ◌||◌, IsTrue, refl, sym}
 use Rattle.std.proofs.Common.{ap, ◌∙◌, arith}
 use Rattle.std.specs.List.{list_any}
-use Rattle.ordered_ring.specs.Divisor.{DividesWhole}
-use Rattle.ordered_plane.specs.Box.{EdgeMeetsBox}
-use Rattle.ordered_plane.specs.BoxTest.{box_test}
-use Rattle.ordered_plane.proofs.BoxMeets.{box_test-exact}
+use Rattle.theory_ring.specs.Divisor.{DividesWhole}
+use Rattle.theory_plane.specs.Box.{EdgeMeetsBox}
+use Rattle.theory_plane.specs.BoxTest.{box_test}
+use Rattle.theory_plane.proofs.BoxMeets.{box_test-exact}
 use Rattle.cyclo_points.specs.declared.order.Order.{Order}
 use Rattle.cyclo_points.specs.declared.point.Point.{Point}
 use Rattle.cyclo_points.specs.Order.{PointsLaw}
 use Rattle.tile_place.proofs.Ahead.{there, drop-next}
 use Rattle.plane_geom.specs.declared.window.Window.{Window}
 use Rattle.plane_geom.specs.Spots.{PlanePointOf, reals_of, spot_of, spots_of}
-use Rattle.windows.specs.Outlines.{PlaneEdge, edges_from, edges}
+use Rattle.theory_windows.specs.Outlines.{PlaneEdge, edges_from, edges}
 use Rattle.window_descent.specs.Inside.{IsInside}
 use Rattle.window_descent.specs.Standing.{window_box}
 

@@ -4,9 +4,9 @@ use Rattle.std.specs.declared.cmp.Ordering.TheVariants.{Greater}
 use Rattle.std.proofs.Common.{arith, ℕ, ℤ, ◌≡◌, ◌^◌, ◌<◌, pos, neg_ℤ, ◌+ℤ◌, ◌<ℤ◌, ◌≤ℤ◌, negsuc, zero, suc, Bool, true, false, ◌&&◌, ◌||◌, refl, sym}
 use Rattle.std.proofs.Common.{◌∙◌, ap, ap₂, subst}
 use Rattle.std.proofs.lemmas.Int.{ints}
-use Rattle.ordered_ring.specs.Ring.{difference}
-use Rattle.ordered_ring.specs.Sign.{Signed}
-use Rattle.ordered_plane.specs.BoxTest.{Depths, meets_both}
+use Rattle.theory_ring.specs.Ring.{difference}
+use Rattle.theory_ring.specs.Sign.{Signed}
+use Rattle.theory_plane.specs.BoxTest.{Depths, meets_both}
 use Rattle.cyclo_points.specs.declared.order.Order.{Order}
 use Rattle.cyclo_points.specs.declared.order.Order.TheVariants.{Four, Six, Eight, Ten}
 use Rattle.cyclo_points.specs.declared.point.Point.{Point}

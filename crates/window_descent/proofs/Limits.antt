@@ -2,8 +2,8 @@
 use Rattle.std.specs.Ordering.{is_gt}
 use Rattle.std.proofs.Common.{arith, ℕ, ℤ, ◌≡◌, ◌^◌, ◌<◌, pos, neg_ℤ, ◌+ℤ◌, ◌<ℤ◌, ◌≤ℤ◌, Bool, true, false, refl, sym, ◌∙◌, ap, subst}
 use Rattle.std.proofs.lemmas.Int.{ints}
-use Rattle.ordered_ring.specs.Ring.{difference}
-use Rattle.substitution.specs.Points.{Points, PointLaws}
+use Rattle.theory_ring.specs.Ring.{difference}
+use Rattle.theory_substitution.specs.Points.{Points, PointLaws}
 use Rattle.cyclo_points.specs.declared.order.Order.{Order}
 use Rattle.cyclo_points.specs.declared.order.Order.TheVariants.{Four, Six, Eight, Ten}
 use Rattle.cyclo_points.specs.Order.{NumberOf, points_of}
@@ -109,14 +109,17 @@ module _ (o : Order) (n : ℕ) (few : n < 2 ^ 16) (far : RealOf o) (far-short : 
   sum-short : IsShort o (2 ^ 24) inner
   sum-short = subst (IsShort o (2 ^ 24)) (sym is) (short-add o x far x-short far-short)
 
-  pub below-limit : (limit : ℤ) → limit ≡ witness_in o (pos n) (pos 0) +ℤ neg_ℤ (witness_of o far) → IsBelow (below_test o n inner) (witness_of o x) limit
+  pub below-limit : (limit : ℤ) → limit ≡ witness_in o (pos n) (pos 0) +ℤ neg_ℤ (witness_of o far)
+      → IsBelow (below_test o n inner) (witness_of o x) limit
   below-limit limit e =
       shift-limit (witness_of o x) limit (witness_of o inner) (below_test o n inner) (witness_in o (pos n) (pos 0)) (witness_of o far) sum-witness e
       (below-of o n few inner sum-short)
 
-  pub above-limit : (limit : ℤ) → limit ≡ neg_ℤ (witness_in o (pos n) (pos 0)) +ℤ neg_ℤ (witness_of o far) → IsBelow (above_test o n inner) limit (witness_of o x)
+  pub above-limit : (limit : ℤ) → limit ≡ neg_ℤ (witness_in o (pos n) (pos 0)) +ℤ neg_ℤ (witness_of o far)
+      → IsBelow (above_test o n inner) limit (witness_of o x)
   above-limit limit e =
-      shift-least (witness_of o x) limit (witness_of o inner) (above_test o n inner) (neg_ℤ (witness_in o (pos n) (pos 0))) (witness_of o far) sum-witness e
+      shift-least (witness_of o x) limit (witness_of o inner) (above_test o n inner)
+      (neg_ℤ (witness_in o (pos n) (pos 0))) (witness_of o far) sum-witness e
       (above-of o n few inner sum-short)
 
 -- ---- the coordinates of a point that is shifted, relative to a centre

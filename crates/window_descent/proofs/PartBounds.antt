@@ -4,14 +4,14 @@ use Rattle.std.proofs.Common.{ℤ, ◌<ℤ◌, ◌≤ℤ◌, pos, ◌^◌}
 use Rattle.std.proofs.lemmas.Int.{ints}
 use Rattle.std.proofs.lemmas.List.{take_more}
 use Rattle.std.specs.List.{AllByRecursion}
-use Rattle.addressing.proofs.Lists.{AllByRecursion-append, AllByRecursion-each, AllByRecursion-map}
-use Rattle.ordered_ring.specs.Ring.{power}
-use Rattle.ordered_plane.specs.Plane.{PlanePoint}
-use Rattle.substitution.specs.Motion.{Motion, moved}
-use Rattle.substitution.specs.Plane.{plane_point}
-use Rattle.substitution.specs.Points.{Points}
-use Rattle.substitution.specs.RuleParts.{vertices_of}
-use Rattle.frames.specs.Outline.{outline}
+use Rattle.theory_addresses.proofs.Lists.{AllByRecursion-append, AllByRecursion-each, AllByRecursion-map}
+use Rattle.theory_ring.specs.Ring.{power}
+use Rattle.theory_plane.specs.Plane.{PlanePoint}
+use Rattle.theory_substitution.specs.Motion.{Motion, moved}
+use Rattle.theory_substitution.specs.Plane.{plane_point}
+use Rattle.theory_substitution.specs.Points.{Points}
+use Rattle.theory_substitution.specs.RuleParts.{vertices_of}
+use Rattle.theory_frames.specs.Outline.{outline}
 use Rattle.cyclo_points.specs.declared.order.Order.{Order}
 use Rattle.cyclo_points.specs.declared.point.Point.{Point}
 use Rattle.cyclo_points.specs.Order.{NumberOf, points_of}
@@ -27,9 +27,9 @@ use Rattle.rule_model.specs.Usable.{origin}
 use Rattle.rule_model.specs.Views.{rule_of}
 use Rattle.tile_place.proofs.Plane.{IsSettled, its_rule}
 use Rattle.lazy_walk.specs.Ancestors.{factor_power}
-use Rattle.descents.specs.Insets.{IsInBox, IsBeyondBox, IsWithinBox, inside_right, inside_left, inside_upper, inside_lower}
-use Rattle.descents.specs.Parts.{part_polygon}
-use Rattle.descents.proofs.Carried as law
+use Rattle.theory_descents.specs.Insets.{IsInBox, IsBeyondBox, IsWithinBox, inside_right, inside_left, inside_upper, inside_lower}
+use Rattle.theory_descents.specs.Parts.{part_polygon}
+use Rattle.theory_descents.proofs.Carried as law
 use Rattle.window_descent.specs.declared.bounds.Bounds.{Bounds}
 use Rattle.window_descent.specs.declared.part.Part.{Part}
 use Rattle.window_descent.specs.declared.standing.Standing.{Standing}
@@ -76,7 +76,8 @@ module _ (m : Rule) (settled : IsSettled m) (w : Window) (level : ℕ) (p : Part
   -- the vertices before they are shifted
   enclosed : AllByRecursion (λ z. Enclosed (plane_point P z))
       (outline P (rule_of m) p.kind (factor_power (tiling_of m) level) (motion_in m.order (only_turned p.motion.turn)))
-  enclosed = subst (λ z. AllByRecursion (λ v. Enclosed (plane_point P v)) (outline P (rule_of m) p.kind z (motion_in m.order (only_turned p.motion.turn)))) e bounds
+  enclosed = subst (λ z. AllByRecursion (λ v. Enclosed (plane_point P v))
+      (outline P (rule_of m) p.kind z (motion_in m.order (only_turned p.motion.turn)))) e bounds
 
   unshifted : (v : NumberOf m.order) → P.ring.add (far v) (point_in m.order origin) ≡ far v
   unshifted v = ap (P.ring.add (far v)) (origin-zero m.order) ∙ (laws_of m.order).of_ring.add_zero (far v)

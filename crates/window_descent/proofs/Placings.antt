@@ -1,9 +1,9 @@
 -- How a part stands to a window by its vertices, and how a tile does.
 use Rattle.std.proofs.Common.{◌≡◌, ℕ, ◌<◌, Bool, true, false, cond, List, [], ◌∷◌, map, sym, ap, ◌∙◌, subst}
 use Rattle.std.proofs.lemmas.Simd.{map-map}
-use Rattle.frames.specs.Outline.{outline}
-use Rattle.substitution.specs.Plane.{plane_point}
-use Rattle.substitution.specs.Motion.{Motion}
+use Rattle.theory_frames.specs.Outline.{outline}
+use Rattle.theory_substitution.specs.Plane.{plane_point}
+use Rattle.theory_substitution.specs.Motion.{Motion}
 use Rattle.cyclo_points.specs.declared.order.Order.{Order}
 use Rattle.cyclo_points.specs.declared.point.Point.{Point}
 use Rattle.cyclo_points.specs.Order.{NumberOf, points_of}
@@ -18,11 +18,11 @@ use Rattle.rule_model.specs.Tiling.{tiling_of}
 use Rattle.rule_model.specs.Views.{rule_of}
 use Rattle.tile_place.proofs.Plane.{IsSettled, its_rule}
 use Rattle.lazy_walk.specs.Ancestors.{factor_power}
-use Rattle.descents.specs.Insets.{IsBeyondBox, IsWithinBox}
-use Rattle.descents.specs.MeetingTest.{polygon_meets}
-use Rattle.descents.specs.Parts.{one_tile, part_polygon, tile_meets}
-use Rattle.descents.proofs.Carried as law
-use Rattle.descents.proofs.Parts.{tile-part}
+use Rattle.theory_descents.specs.Insets.{IsBeyondBox, IsWithinBox}
+use Rattle.theory_descents.specs.MeetingTest.{polygon_meets}
+use Rattle.theory_descents.specs.Parts.{one_tile, part_polygon, tile_meets}
+use Rattle.theory_descents.proofs.Carried as law
+use Rattle.theory_descents.proofs.Parts.{tile-part}
 use Rattle.window_descent.specs.declared.part.Part.{Part}
 use Rattle.window_descent.specs.declared.standing.Standing.{Standing}
 use Rattle.window_descent.specs.declared.standing.Standing.TheVariants.{Beyond, Within, Across}

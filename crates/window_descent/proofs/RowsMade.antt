@@ -4,10 +4,10 @@ use Rattle.std.proofs.Common.{pos}
 use Rattle.std.proofs.Common.{IfSome, ◌⊎◌, inl, inr, zero, suc}
 use Rattle.std.specs.declared.option.Option.{Option}
 use Rattle.std.proofs.lemmas.List.{get_or-set_same, get_or-set_other, length-append, get_or_append_left, get_or_push}
-use Rattle.ordered_ring.specs.Ring.{power}
-use Rattle.substitution.specs.Motion.{Motion as TheMotion}
-use Rattle.substitution.specs.Points.{Points}
-use Rattle.substitution.specs.Rule.{Child}
+use Rattle.theory_ring.specs.Ring.{power}
+use Rattle.theory_substitution.specs.Motion.{Motion as TheMotion}
+use Rattle.theory_substitution.specs.Points.{Points}
+use Rattle.theory_substitution.specs.Rule.{Child}
 use Rattle.cyclo_points.specs.declared.motion.Motion.{Motion}
 use Rattle.cyclo_points.specs.declared.order.Order.{Order}
 use Rattle.cyclo_points.specs.declared.order.Order.TheVariants.{Four, Six, Eight, Ten}

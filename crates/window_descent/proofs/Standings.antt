@@ -2,12 +2,12 @@
 use Rattle.std.proofs.Common.{◌≡◌, List, [], ◌∷◌, Bool, true, false, ◌&&◌, ◌||◌, refl, sym, ◌∙◌, inl, inr, ◌⊎◌}
 use Rattle.std.proofs.lemmas.Bool.{and_parts}
 use Rattle.std.specs.List.{AllByRecursion, list_all, list_any}
-use Rattle.addressing.proofs.Lists.{AllByRecursion-map}
+use Rattle.theory_addresses.proofs.Lists.{AllByRecursion-map}
 use Rattle.cyclo_points.specs.declared.order.Order.{Order}
 use Rattle.cyclo_points.specs.declared.point.Point.{Point}
 use Rattle.plane_geom.specs.declared.window.Window.{Window}
 use Rattle.plane_geom.specs.Spots.{reals_of, spot_of, spots_of}
-use Rattle.descents.specs.Insets.{IsInBox, IsBeyondBox, IsWithinBox}
+use Rattle.theory_descents.specs.Insets.{IsInBox, IsBeyondBox, IsWithinBox}
 use Rattle.window_descent.specs.declared.sides.Sides.{Sides}
 use Rattle.window_descent.specs.declared.standing.Standing.{Standing}
 use Rattle.window_descent.specs.declared.standing.Standing.TheVariants.{Beyond, Within, Across}

@@ -1,7 +1,7 @@
 -- Bounds of points in X and Y, and the sides of a window as limits for such bounds, both by witnesses.
 use Rattle.std.specs.Prelude.{◌≡◌, ◌⊎◌, ℕ, ℤ, ◌^◌, ◌<ℤ◌, ◌≤ℤ◌, Bool, true, false}
 use Rattle.std.specs.List.{AllByRecursion}
-use Rattle.substitution.specs.Plane.{plane_point}
+use Rattle.theory_substitution.specs.Plane.{plane_point}
 use Rattle.cyclo_points.specs.declared.order.Order.{Order}
 use Rattle.cyclo_points.specs.declared.order.Order.TheVariants.{Four, Six, Eight, Ten}
 use Rattle.cyclo_points.specs.declared.point.Point.{Point}
@@ -10,12 +10,12 @@ use Rattle.cyclo_points.specs.Motion.{motion_in}
 use Rattle.cyclo_points.specs.Point.{point_in, Within}
 use Rattle.cyclo_points.specs.Real.{RealOf}
 use Rattle.cyclo_points.specs.Witness.{witness_in}
-use Rattle.frames.specs.Outline.{outline}
+use Rattle.theory_frames.specs.Outline.{outline}
 use Rattle.plane_geom.specs.declared.window.Window.{Window}
 use Rattle.plane_geom.specs.Spots.{PlanePointOf, reals_of}
 use Rattle.rule_model.specs.declared.rule.Rule.{Rule}
 use Rattle.rule_model.specs.Views.{rule_of}
-use Rattle.descents.specs.Insets.{inside_right, inside_left, inside_upper, inside_lower}
+use Rattle.theory_descents.specs.Insets.{inside_right, inside_left, inside_upper, inside_lower}
 use Rattle.window_descent.specs.declared.bounds.Bounds.{Bounds}
 use Rattle.window_descent.specs.declared.standing.Standing.{Standing}
 use Rattle.window_descent.specs.declared.standing.Standing.TheVariants.{Beyond, Within as Inside, Across}

@@ -1,11 +1,11 @@
 -- The first of a base's ancestors that holds a window.
 use Rattle.std.specs.Prelude.{◌≡◌, ℕ, ◌≤◌, Bool, true, false}
-use Rattle.addressing.specs.Address.{Address}
+use Rattle.theory_addresses.specs.Address.{Address}
 use Rattle.cyclo_points.specs.Order.{points_of}
 use Rattle.plane_geom.specs.declared.window.Window.{Window}
 use Rattle.plane_geom.specs.Spots.{reals_of}
 use Rattle.rule_model.specs.Tiling.{Tiling}
-use Rattle.descents.specs.Climb.{holds_window, ancestor_polygon, IsFirstHolding}
+use Rattle.theory_descents.specs.Climb.{holds_window, ancestor_polygon, IsFirstHolding}
 use Rattle.window_descent.specs.Standing.{window_box}
 
 -- whether the base's ancestor at a level holds the window

@@ -1,6 +1,6 @@
 -- Points that plainly lie in the open box of a window.
 use Rattle.std.specs.Prelude.{◌≡◌, true}
-use Rattle.ordered_plane.specs.BoxTest.{box_test}
+use Rattle.theory_plane.specs.BoxTest.{box_test}
 use Rattle.cyclo_points.specs.declared.order.Order.{Order}
 use Rattle.cyclo_points.specs.declared.point.Point.{Point}
 use Rattle.plane_geom.specs.Spots.{PlanePointOf, reals_of, spot_of}

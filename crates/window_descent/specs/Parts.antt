@@ -1,18 +1,18 @@
 -- Parts of supertiles, and how they stand to a window.
 use Rattle.std.specs.Prelude.{◌≡◌, ℕ, ◌<◌, ◌^◌, Bool, cond, List, [], length}
-use Rattle.substitution.specs.Supertile.{Placed}
+use Rattle.theory_substitution.specs.Supertile.{Placed}
 use Rattle.cyclo_points.specs.declared.motion.Motion.{Motion}
 use Rattle.cyclo_points.specs.declared.point.Point.{Point}
 use Rattle.cyclo_points.specs.Order.{NumberOf, points_of}
 use Rattle.cyclo_points.specs.Motion.{motion_in}
 use Rattle.cyclo_points.specs.Point.{point_in, IsOf, IsWithin}
-use Rattle.frames.specs.Part.{child_motion}
+use Rattle.theory_frames.specs.Part.{child_motion}
 use Rattle.plane_geom.specs.declared.window.Window.{Window}
 use Rattle.rule_model.specs.declared.rule.Rule.{Rule}
 use Rattle.rule_model.specs.Tiling.{Tiling, tiling_of, its_child}
 use Rattle.rule_model.specs.Usable.{origin}
 use Rattle.rule_model.specs.Views.{rule_of}
-use Rattle.descents.specs.Parts.{tiles_below, drawn_below}
+use Rattle.theory_descents.specs.Parts.{tiles_below, drawn_below}
 use Rattle.window_descent.specs.declared.part.Part.{Part}
 use Rattle.window_descent.specs.declared.standing.Standing.{Standing}
 use Rattle.window_descent.specs.declared.standing.Standing.TheVariants.{Beyond, Within, Across}

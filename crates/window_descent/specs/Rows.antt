@@ -1,12 +1,12 @@
 -- The children of supertiles and the bounds of their polygons, each made once.
 use Rattle.std.specs.Prelude.{◌≡◌, ℕ, ◌+◌, ◌*◌, ◌<◌, ◌≤◌, ◌^◌, All, List, [], map, length, get_or, None}
 use Rattle.std.specs.Option.{IfSome}
-use Rattle.substitution.specs.Rule.{children_of}
+use Rattle.theory_substitution.specs.Rule.{children_of}
 use Rattle.cyclo_points.specs.declared.order.Order.{Order}
 use Rattle.cyclo_points.specs.declared.point.Point.{Point}
 use Rattle.cyclo_points.specs.Order.{points_of}
 use Rattle.cyclo_points.specs.Point.{point_in, IsOf, IsWithin}
-use Rattle.frames.specs.Looked.{powers_from}
+use Rattle.theory_frames.specs.Looked.{powers_from}
 use Rattle.rule_model.specs.declared.rule.Rule.{Rule}
 use Rattle.rule_model.specs.Views.{rule_of}
 use Rattle.window_descent.specs.declared.part.Part.{Part}

@@ -5,7 +5,7 @@ use Rattle.cyclo_points.specs.declared.order.Order.{Order}
 use Rattle.cyclo_points.specs.declared.point.Point.{Point}
 use Rattle.plane_geom.specs.declared.window.Window.{Window}
 use Rattle.plane_geom.specs.Spots.{reals_of, spot_of}
-use Rattle.descents.specs.Insets.{inside_right, inside_left, inside_upper, inside_lower}
+use Rattle.theory_descents.specs.Insets.{inside_right, inside_left, inside_upper, inside_lower}
 use Rattle.window_descent.specs.declared.sides.Sides.{Sides}
 use Rattle.window_descent.specs.Standing.{window_box}
 

@@ -1,14 +1,14 @@
 -- How the polygon of points stands to a window.
 use Rattle.std.specs.Prelude.{List}
-use Rattle.ordered_plane.specs.Box.{OpenBox}
-use Rattle.substitution.specs.Plane.{box_at}
+use Rattle.theory_plane.specs.Box.{OpenBox}
+use Rattle.theory_substitution.specs.Plane.{box_at}
 use Rattle.cyclo_points.specs.declared.order.Order.{Order}
 use Rattle.cyclo_points.specs.declared.point.Point.{Point}
 use Rattle.cyclo_points.specs.Order.{points_of}
 use Rattle.cyclo_points.specs.Point.{point_in}
 use Rattle.plane_geom.specs.declared.window.Window.{Window}
 use Rattle.plane_geom.specs.Spots.{reals_of, spots_of}
-use Rattle.descents.specs.Insets.{IsBeyondBox, IsWithinBox}
+use Rattle.theory_descents.specs.Insets.{IsBeyondBox, IsWithinBox}
 use Rattle.window_descent.specs.declared.standing.Standing.{Standing}
 use Rattle.window_descent.specs.declared.standing.Standing.TheVariants.{Beyond, Within, Across}
 

@@ -1,7 +1,7 @@
 //! Points that lie well inside a window.
 ghost use Rattle.std.specs.Prelude.{◌≡◌, ◌^◌, pos, true, IsTrue};
 ghost use Rattle.std.specs.Ordering.{is_gt};
-ghost use Rattle.ordered_ring.specs.Ring.{difference};
+ghost use Rattle.theory_ring.specs.Ring.{difference};
 ghost use Rattle.cyclo_points.specs.Order.{points_of};
 ghost use Rattle.cyclo_points.specs.Point.{IsWithin};
 ghost use Rattle.cyclo_points.specs.Real.{real_in, IsRealWithin};

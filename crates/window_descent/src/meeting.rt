@@ -1,12 +1,12 @@
 //! Polygons that meet a window, and polygons that hold one.
 ghost use Rattle.std.specs.Prelude.{◌≡◌, ◌^◌, ◌≤◌, All, length, true, IsTrue};
 ghost use Rattle.std.specs.List.{list_any};
-ghost use Rattle.ordered_plane.specs.BoxTest.{box_test};
+ghost use Rattle.theory_plane.specs.BoxTest.{box_test};
 ghost use Rattle.cyclo_points.specs.Point.{IsWithin};
 ghost use Rattle.plane_geom.specs.Spots.{reals_of, spot_of, spots_of};
-ghost use Rattle.windows.specs.Outlines.{edges};
-ghost use Rattle.descents.specs.Climb.{holds_window};
-ghost use Rattle.descents.specs.MeetingTest.{polygon_meets};
+ghost use Rattle.theory_windows.specs.Outlines.{edges};
+ghost use Rattle.theory_descents.specs.Climb.{holds_window};
+ghost use Rattle.theory_descents.specs.MeetingTest.{polygon_meets};
 ghost use Rattle.window_descent.specs.Standing.{window_box};
 
 use crate::inside::is_inside;

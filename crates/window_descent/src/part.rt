@@ -3,7 +3,7 @@ ghost use Rattle.std.specs.Prelude.{◌<◌, ◌^◌, length, IfSome};
 ghost use Rattle.cyclo_points.specs.Order.{points_of};
 ghost use Rattle.cyclo_points.specs.Point.{IsOf, IsWithin};
 ghost use Rattle.rule_model.specs.Views.{rule_of};
-ghost use Rattle.substitution.specs.Rule.{children_of};
+ghost use Rattle.theory_substitution.specs.Rule.{children_of};
 ghost use Rattle.window_descent.specs.Parts.{IsPartAt};
 
 use cyclo_points::arithmetic::refused;

@@ -5,7 +5,7 @@ ghost use Rattle.cyclo_points.specs.Point.{point_in, IsWithin};
 ghost use Rattle.lazy_walk.specs.Ancestors.{factor_power};
 ghost use Rattle.rule_model.specs.Tiling.{tiling_of};
 ghost use Rattle.rule_model.specs.Views.{rule_of};
-ghost use Rattle.substitution.specs.Rule.{children_of};
+ghost use Rattle.theory_substitution.specs.Rule.{children_of};
 ghost use Rattle.window_descent.specs.Parts.{IsPartAt, IsPlacedPart};
 ghost use Rattle.window_descent.specs.Rows.{AreRows, IsChildRow, IsLonger, IsShifted, row_place, scale_of};
 ghost use Rattle.window_descent.specs.Rows.{levels_of};

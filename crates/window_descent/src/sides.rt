@@ -1,11 +1,11 @@
 //! Which sides of a window a point is inside of.
 ghost use Rattle.std.specs.Prelude.{◌≡◌, ◌^◌, pos};
 ghost use Rattle.std.specs.Ordering.{is_gt};
-ghost use Rattle.ordered_ring.specs.Ring.{difference};
+ghost use Rattle.theory_ring.specs.Ring.{difference};
 ghost use Rattle.cyclo_points.specs.Point.{IsWithin};
 ghost use Rattle.cyclo_points.specs.Real.{real_in, IsRealWithin};
 ghost use Rattle.plane_geom.specs.Spots.{reals_of, spot_of};
-ghost use Rattle.descents.specs.Insets.{inside_right, inside_left, inside_upper, inside_lower};
+ghost use Rattle.theory_descents.specs.Insets.{inside_right, inside_left, inside_upper, inside_lower};
 ghost use Rattle.window_descent.specs.Standing.{window_box};
 
 use cyclo_points::coordinates::{x, y};

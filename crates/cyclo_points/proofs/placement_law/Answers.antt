@@ -1,4 +1,4 @@
-use Rattle.substitution.proofs.Addresses.{StandsBeside-placement}
+use Rattle.theory_substitution.proofs.Addresses.{StandsBeside-placement}
 use Rattle.cyclo_points.specs.Order.{points_of}
 use Rattle.cyclo_points.proofs.OrderLaws.{laws_of}
 use Rattle.cyclo_points.proofs.placement_law.Goals as goal

@@ -29,11 +29,14 @@ loop-left-preserved g c =
     let rest = parts_behind newline (option_map (λ text. text.now) c.cut.result.1) in
     let ran = c.in_ok-run.ensures.ran in
     let here : Comes t all c.loop-left.calculation (c.cut.result.0.now ∷ rest) =
-    subst (Comes t all c.loop-left.calculation) (ap (λ left. parts_behind newline (option_map (λ text. text.now) left)) c.in-Some.is ∙ c.cut.ensures.parts) c.loop-left.invariant.comes in
+    subst (Comes t all c.loop-left.calculation)
+    (ap (λ left. parts_behind newline (option_map (λ text. text.now) left)) c.in-Some.is
+    ∙ c.cut.ensures.parts) c.loop-left.invariant.comes in
     record {
       few =
           let few : c.loop-left.calculation.number + (length c.in-Some.text.now + 1) ≤ length c.args.script.now + 1 =
-          subst (λ left. c.loop-left.calculation.number + size_left (option_map (λ text. text.now) left) ≤ length c.args.script.now + 1) c.in-Some.is c.loop-left.invariant.few in
+          subst (λ left. c.loop-left.calculation.number + size_left (option_map (λ text. text.now) left) ≤
+          length c.args.script.now + 1) c.in-Some.is c.loop-left.invariant.few in
           let less = less_left c.in-Some.text.now c.cut.result.1 c.cut.ensures.shorter in
           let counted = ran.number in
           omega (arith, few, less, counted);
@@ -51,7 +54,8 @@ pub run-requires : goal.run-requires
 run-requires g c = record {
   few =
       let few : c.loop-left.calculation.number + (length c.in-Some.text.now + 1) ≤ length c.args.script.now + 1 =
-      subst (λ left. c.loop-left.calculation.number + size_left (option_map (λ text. text.now) left) ≤ length c.args.script.now + 1) c.in-Some.is c.loop-left.invariant.few in
+      subst (λ left. c.loop-left.calculation.number + size_left (option_map (λ text. text.now) left) ≤ length
+      c.args.script.now + 1) c.in-Some.is c.loop-left.invariant.few in
       let short = c.requires.short in
       omega (arith, few, short);
   all_fit = c.loop-left.invariant.all_fit;
@@ -65,8 +69,11 @@ returns-in_err-run-clause-fault g c =
     let rest = parts_behind newline (option_map (λ text. text.now) c.cut.result.1) in
     let p = err_from_is_err_and c.from_residual-in_err-run.result c.from_residual-in_err-run.ensures.1 in
     let here : Comes t all c.loop-left.calculation (c.cut.result.0.now ∷ rest) =
-    subst (Comes t all c.loop-left.calculation) (ap (λ left. parts_behind newline (option_map (λ text. text.now) left)) c.in-Some.is ∙ c.cut.ensures.parts) c.loop-left.invariant.comes in
-    rw (p.1, p.2) (comes_fault t all c.loop-left.calculation c.loop-left.calculation c.cut.result.0.now rest here c.in_err-run.field-0.0 c.in_err-run.ensures.fault)
+    subst (Comes t all c.loop-left.calculation)
+    (ap (λ left. parts_behind newline (option_map (λ text. text.now) left)) c.in-Some.is
+    ∙ c.cut.ensures.parts) c.loop-left.invariant.comes in
+    rw (p.1, p.2) (comes_fault t all c.loop-left.calculation c.loop-left.calculation c.cut.result.0.now rest
+    here c.in_err-run.field-0.0 c.in_err-run.ensures.fault)
 
 nothing_left : (left : Option (Bor (List ℕ))) → ((x : Bor (List ℕ)) → left ≡ Some x → ⊥) → left ≡ None
 nothing_left None h = refl
@@ -78,4 +85,6 @@ returns-clause-ran g c =
     let all = texts_between newline c.args.script.now in
     let none = nothing_left c.loop-left.left c.in_default.not-Some in
     subst (λ bytes. ComesOf t none_bound 1 all (Ok bytes)) (sym c.into_text.ensures)
-    (comes_last t all c.loop-left.calculation (subst (Comes t all c.loop-left.calculation) (ap (λ left. parts_behind newline (option_map (λ text. text.now) left)) none) c.loop-left.invariant.comes))
+    (comes_last t all c.loop-left.calculation (subst (Comes t all c.loop-left.calculation)
+    (ap (λ left. parts_behind newline (option_map (λ text. text.now) left)) none)
+    c.loop-left.invariant.comes))

@@ -1,5 +1,5 @@
 use Rattle.std.proofs.Common.{ap, ◌∙◌, subst}
-use Rattle.addressing.specs.Coherent.{IsCoherent}
+use Rattle.theory_addresses.specs.Coherent.{IsCoherent}
 use Rattle.pair_machine.specs.Verdicts.{IsVerdict}
 use Rattle.rule_model.specs.declared.rule.Rule.{Rule}
 use Rattle.rule_model.specs.Tiling.{tiling_of, contacts}
@@ -13,7 +13,14 @@ returns c =
     let m = c.args.machine.now in
     let a = address_of c.args.one.now in
     let b = address_of c.args.other.now in
-    let settled : IsSettled m = record { accepted = c.checked.ensures.accepted; usable = c.checked.ensures.usable; same_child_kinds = c.checked.ensures.same_child_kinds } in
+    let settled : IsSettled m = record {
+      accepted = c.checked.ensures.accepted;
+      usable = c.checked.ensures.usable;
+      same_child_kinds = c.checked.ensures.same_child_kinds;
+    } in
     let law = subst OnlyTilesLaw (c.order.ensures.order ∙ ap (λ (r : Rule). r.order) c.checked.ensures.rule) c.across_law.ensures in
-    let coherent = subst IsCoherent (c.tables.ensures.contacts ∙ ap (λ (r : Rule). contacts (tiling_of r)) c.checked-2.ensures.rule) c.kinds-coherent.ensures.coherent in
-    related m settled law coherent a b c.requires.one_fits c.requires.other_fits c.decide.result (subst (λ t. IsVerdict t a b c.decide.result) c.requires.tables c.decide.ensures.verdict)
+    let coherent = subst IsCoherent (c.tables.ensures.contacts
+    ∙ ap (λ (r : Rule). contacts (tiling_of r)) c.checked-2.ensures.rule)
+    c.kinds-coherent.ensures.coherent in
+    related m settled law coherent a b c.requires.one_fits c.requires.other_fits c.decide.result
+    (subst (λ t. IsVerdict t a b c.decide.result) c.requires.tables c.decide.ensures.verdict)

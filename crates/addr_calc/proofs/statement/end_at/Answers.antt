@@ -23,4 +23,5 @@ left p [] = λ s place. refl
 left p (x ∷ xs) = part_by (p x) x (slice_split p xs)
 
 pub returns-in-Some : goal.returns-in-Some
-returns-in-Some c = λ s. ap (λ words. no_word s c.args.place (words_left words)) c.in-Some.is ∙ left (λ byte. Rattle.std.proofs.Common.nat_eq byte blank) c.in-Some.field-0.now s c.args.place
+returns-in-Some c = λ s. ap (λ words. no_word s c.args.place (words_left words)) c.in-Some.is
+    ∙ left (λ byte. Rattle.std.proofs.Common.nat_eq byte blank) c.in-Some.field-0.now s c.args.place

@@ -1,6 +1,6 @@
 use Rattle.std.proofs.Common.{sym, subst, ap, ◌∙◌}
-use Rattle.addressing.specs.Coherent.{IsCoherent}
-use Rattle.addressing.specs.Tables.{Tables, child_kinds}
+use Rattle.theory_addresses.specs.Coherent.{IsCoherent}
+use Rattle.theory_addresses.specs.Tables.{Tables, child_kinds}
 use Rattle.tile_shape.specs.Usable.{AreUsable}
 use Rattle.rule_model.specs.Tiling.{ListedRule}
 use Rattle.builtin_rules.specs.Named.{contacts_named, IsWritten}
@@ -15,7 +15,10 @@ tables_from-requires c = record {
 }
 
 pub uses_from-requires : goal.uses_from-requires
-uses_from-requires c = record { usable = subst (λ (t : Tables). AreUsable (child_kinds t)) (sym c.numbers-numbers.ensures.contacts) (usable c.args.name) }
+uses_from-requires c = record {
+  usable = subst (λ (t : Tables). AreUsable (child_kinds t))
+      (sym c.numbers-numbers.ensures.contacts) (usable c.args.name);
+}
 
 pub admit-requires-clause-accepted : goal.admit-requires-clause-accepted
 admit-requires-clause-accepted c = accepted c.args.name c.in_ok-rule.rule

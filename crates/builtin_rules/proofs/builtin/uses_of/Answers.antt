@@ -1,6 +1,6 @@
 use Rattle.std.proofs.Common.{sym, subst, ap, ◌∙◌}
 use Rattle.std.proofs.lemmas.Result.{IfOk-weaker}
-use Rattle.addressing.specs.Tables.{Tables, child_kinds}
+use Rattle.theory_addresses.specs.Tables.{Tables, child_kinds}
 use Rattle.tile_shape.specs.Usable.{AreUsable}
 use Rattle.builtin_rules.proofs.Constants.{usable, its_kinds}
 use Rattle.builtin_rules.proofs.builtin.uses_of.Goals as goal

@@ -6,4 +6,5 @@ use Rattle.call_words.proofs.request.words_read.Given as goal
 -- what the words ask for is asked by those behind
 abbrev pub invariant-loop-place : goal.invariant-loop-place
 invariant-loop-place l =
-    asked_behind l.command (texts (take l.place l.words)) (texts (drop l.place l.words)) ≡ asked_behind l.command (texts (take 1 l.words)) (texts (drop 1 l.words))
+    asked_behind l.command (texts (take l.place l.words)) (texts (drop l.place l.words)) ≡ asked_behind
+    l.command (texts (take 1 l.words)) (texts (drop 1 l.words))

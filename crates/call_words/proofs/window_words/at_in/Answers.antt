@@ -3,7 +3,9 @@ use Rattle.call_words.proofs.Commas.{found_none, at_one, at_two, at_three, at_fo
 use Rattle.call_words.proofs.window_words.at_in.Goals as goal
 
 pub returns-in_err-first-clause-point : goal.returns-in_err-first-clause-point
-returns-in_err-first-clause-point c = c.from_residual.ensures ∙ sym (at_one c.args.text.now (found_none c.args.text.now c.split_once.result c.split_once.ensures.cases c.in_err-first.was))
+returns-in_err-first-clause-point c = c.from_residual.ensures
+    ∙ sym (at_one c.args.text.now (found_none c.args.text.now c.split_once.result c.split_once.ensures.cases
+    c.in_err-first.was))
 
 pub returns-in_err-second-clause-point : goal.returns-in_err-second-clause-point
 returns-in_err-second-clause-point c =

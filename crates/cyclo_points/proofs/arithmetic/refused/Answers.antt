@@ -8,7 +8,8 @@ use Rattle.cyclo_points.proofs.arithmetic.refused.Goals as goal
 use Rattle.cyclo_points.proofs.arithmetic.refused.Goals.{After-is_beyond-4}
 
 -- what the code returns
-tested : (c : After-is_beyond-4) → (c.is_beyond.result || c.is_beyond-2.result || c.is_beyond-3.result || c.is_beyond-4.result) ≡ some_beyond c.args.p.now
+tested : (c : After-is_beyond-4) → (c.is_beyond.result || c.is_beyond-2.result || c.is_beyond-3.result
+    || c.is_beyond-4.result) ≡ some_beyond c.args.p.now
 tested c =
     let p = c.args.p.now in
     let r0 : machine (coefficient p 0) ≡ coefficient p 0 = omega (arith, ints) in
@@ -16,7 +17,8 @@ tested c =
     let r2 : machine (coefficient p 2) ≡ coefficient p 2 = omega (arith, ints) in
     let r3 : machine (coefficient p 3) ≡ coefficient p 3 = omega (arith, ints) in
     ap₂ (λ a b. a || b) (ap₂ (λ a b. a || b) (ap₂ (λ a b. a || b)
-    (c.is_beyond.ensures ∙ ap beyond r0) (c.is_beyond-2.ensures ∙ ap beyond r1)) (c.is_beyond-3.ensures ∙ ap beyond r2)) (c.is_beyond-4.ensures ∙ ap beyond r3)
+    (c.is_beyond.ensures ∙ ap beyond r0) (c.is_beyond-2.ensures ∙ ap beyond r1))
+    (c.is_beyond-3.ensures ∙ ap beyond r2)) (c.is_beyond-4.ensures ∙ ap beyond r3)
 
 pub returns-clause-above : goal.returns-clause-above
 returns-clause-above c =

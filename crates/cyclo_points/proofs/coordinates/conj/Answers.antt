@@ -1,5 +1,5 @@
 use Rattle.std.proofs.Common.{pos, ◌*◌, subst, sym, refl}
-use Rattle.ordered_ring.specs.Ring.{integers}
+use Rattle.theory_ring.specs.Ring.{integers}
 use Rattle.cyclo_points.specs.Six.{conj_six}
 use Rattle.cyclo_points.specs.Eight.{conj_eight}
 use Rattle.cyclo_points.specs.Ten.{conj_ten}
@@ -24,7 +24,8 @@ returns-in-Six-clause-conjugate c =
 
 pub returns-in-Six-clause-at_most_doubled : goal.returns-in-Six-clause-at_most_doubled
 returns-in-Six-clause-at_most_doubled c =
-    λ m h. within_pair (2 * m) (conjugate_six c.args.p.now) (conj_six integers (pair_of c.args.p.now)) (conjugate_six-is c.args.p.now c.requires.p_within) refl refl
+    λ m h. within_pair (2 * m) (conjugate_six c.args.p.now) (conj_six integers (pair_of c.args.p.now))
+    (conjugate_six-is c.args.p.now c.requires.p_within) refl refl
     (conj_six-doubles m c.args.p.now h)
 
 pub returns-in-Eight-clause-conjugate : goal.returns-in-Eight-clause-conjugate
@@ -33,7 +34,8 @@ returns-in-Eight-clause-conjugate c =
 
 pub returns-in-Eight-clause-at_most_doubled : goal.returns-in-Eight-clause-at_most_doubled
 returns-in-Eight-clause-at_most_doubled c =
-    λ m h. within_quad (2 * m) (conjugate_eight c.args.p.now) (conj_eight integers (quad_of c.args.p.now)) (conjugate_eight-is c.args.p.now c.requires.p_within)
+    λ m h. within_quad (2 * m) (conjugate_eight c.args.p.now) (conj_eight integers (quad_of c.args.p.now))
+    (conjugate_eight-is c.args.p.now c.requires.p_within)
     (conj_eight-doubles m (quad_of c.args.p.now) (quad_within m c.args.p.now h))
 
 pub returns-in-Ten-clause-conjugate : goal.returns-in-Ten-clause-conjugate
@@ -42,5 +44,6 @@ returns-in-Ten-clause-conjugate c =
 
 pub returns-in-Ten-clause-at_most_doubled : goal.returns-in-Ten-clause-at_most_doubled
 returns-in-Ten-clause-at_most_doubled c =
-    λ m h. within_quad (2 * m) (conjugate_ten c.args.p.now) (conj_ten integers (quad_of c.args.p.now)) (conjugate_ten-is c.args.p.now c.requires.p_within)
+    λ m h. within_quad (2 * m) (conjugate_ten c.args.p.now) (conj_ten integers (quad_of c.args.p.now))
+    (conjugate_ten-is c.args.p.now c.requires.p_within)
     (conj_ten-doubles m (quad_of c.args.p.now) (quad_within m c.args.p.now h))

@@ -10,7 +10,8 @@ pub returns-in-Four-clause-same_number : goal.returns-in-Four-clause-same_number
 returns-in-Four-clause-same_number c =
     let p = c.args.p.now in
     let h = c.requires.p_within in
-    subst (λ o. IsReduced o p (point_of (machine_difference (coefficient p 0) (coefficient p 2)) (machine_difference (coefficient p 1) (coefficient p 3)) (pos 0) (pos 0))) (sym c.in-Four.is)
+    subst (λ o. IsReduced o p (point_of (machine_difference (coefficient p 0) (coefficient p 2))
+    (machine_difference (coefficient p 1) (coefficient p 3)) (pos 0) (pos 0))) (sym c.in-Four.is)
     (pair_path _ _ (machine_difference-is _ _ h.at_0 h.at_2) (machine_difference-is _ _ h.at_1 h.at_3) ∙ reduced_four (quad_of p))
 
 pub returns-in-Six-clause-same_number : goal.returns-in-Six-clause-same_number

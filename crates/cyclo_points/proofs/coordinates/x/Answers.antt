@@ -42,5 +42,6 @@ returns-in-Ten-clause-bounded c =
     let r = c.from_parts-in-Ten in
     λ m f. record {
       at_a = subst (Within (4 * m)) (sym (r.ensures.of_a ∙ part_of_x _ _ _ h.at_0 h.at_2 h.at_3)) (within_part_of_x m _ _ _ f.at_0 f.at_2 f.at_3);
-      at_b = subst (Within (4 * m)) (sym (r.ensures.of_b ∙ part_of_x-theta _ _ _ h.at_1 h.at_2 h.at_3)) (within_part_of_x-theta m _ _ _ f.at_1 f.at_2 f.at_3);
+      at_b = subst (Within (4 * m)) (sym (r.ensures.of_b ∙ part_of_x-theta _ _ _ h.at_1 h.at_2 h.at_3))
+          (within_part_of_x-theta m _ _ _ f.at_1 f.at_2 f.at_3);
     }

@@ -1,6 +1,6 @@
 use Rattle.std.proofs.Common.{◌+◌, ◌%◌, ◌∙◌, ap}
-use Rattle.substitution.specs.Motion.{moved}
-use Rattle.substitution.proofs.Motions.{moved-followed}
+use Rattle.theory_substitution.specs.Motion.{moved}
+use Rattle.theory_substitution.proofs.Motions.{moved-followed}
 use Rattle.cyclo_points.specs.Order.{points_of}
 use Rattle.cyclo_points.specs.Motion.{motion_in}
 use Rattle.cyclo_points.proofs.OrderLaws.{laws_of}

@@ -17,5 +17,7 @@ returns-clause-product c =
     let r0 : machine c.dot-c0.result ≡ c.dot-c0.result = omega (arith, ints) in
     let r1 : machine c.dot-c1.result ≡ c.dot-c1.result = omega (arith, ints) in
     pair_path _ _
-    (r0 ∙ c.dot-c0.ensures ∙ dot_path p _ _ _ _ q.a0 (neg_ℤ q.a1) (pos 0) (pos 0) (omega (arith, ints)) (omega (arith, ints)) (omega (arith, ints)) (omega (arith, ints)) ∙ six_0 p q)
-    (r1 ∙ c.dot-c1.ensures ∙ dot_path p _ _ _ _ q.a1 (q.a0 +ℤ q.a1) (pos 0) (pos 0) (omega (arith, ints)) (omega (arith, ints)) (omega (arith, ints)) (omega (arith, ints)) ∙ six_1 p q)
+    (r0 ∙ c.dot-c0.ensures ∙ dot_path p _ _ _ _ q.a0 (neg_ℤ q.a1) (pos 0) (pos 0) (omega (arith, ints))
+    (omega (arith, ints)) (omega (arith, ints)) (omega (arith, ints)) ∙ six_0 p q)
+    (r1 ∙ c.dot-c1.ensures ∙ dot_path p _ _ _ _ q.a1 (q.a0 +ℤ q.a1) (pos 0) (pos 0) (omega (arith, ints))
+    (omega (arith, ints)) (omega (arith, ints)) (omega (arith, ints)) ∙ six_1 p q)

@@ -43,7 +43,12 @@ returns c =
     let r2 : machine c.dot-c2.result ≡ c.dot-c2.result = omega (arith, ints) in
     let r3 : machine c.dot-c3.result ≡ c.dot-c3.result = omega (arith, ints) in
     quad_path _ _
-    (r0 ∙ c.dot-c0.ensures ∙ dot_path p _ _ _ _ q.a0 (neg_ℤ q.a3) (neg_ℤ (q.a2 +ℤ q.a3)) (neg_ℤ (q.a1 +ℤ q.a2)) (omega (arith, ints)) (omega (arith, ints)) (omega (arith, ints)) (omega (arith, ints)) ∙ ten_0 p q)
-    (r1 ∙ c.dot-c1.ensures ∙ dot_path p _ _ _ _ q.a1 (q.a0 +ℤ q.a3) q.a2 (q.a1 -ℤ q.a3) (omega (arith, ints)) (omega (arith, ints)) (omega (arith, ints)) (omega (arith, ints)) ∙ ten_1 p q)
-    (r2 ∙ c.dot-c2.ensures ∙ dot_path p _ _ _ _ q.a2 (q.a1 -ℤ q.a3) (q.a0 -ℤ q.a2) (neg_ℤ q.a1) (omega (arith, ints)) (omega (arith, ints)) (omega (arith, ints)) (omega (arith, ints)) ∙ ten_2 p q)
-    (r3 ∙ c.dot-c3.ensures ∙ dot_path p _ _ _ _ q.a3 (q.a2 +ℤ q.a3) (q.a1 +ℤ q.a2) (q.a0 +ℤ q.a1) (omega (arith, ints)) (omega (arith, ints)) (omega (arith, ints)) (omega (arith, ints)) ∙ ten_3 p q)
+    (r0 ∙ c.dot-c0.ensures ∙ dot_path p _ _ _ _ q.a0 (neg_ℤ q.a3) (neg_ℤ (q.a2 +ℤ q.a3))
+    (neg_ℤ (q.a1 +ℤ q.a2)) (omega (arith, ints)) (omega (arith, ints)) (omega (arith, ints))
+    (omega (arith, ints)) ∙ ten_0 p q)
+    (r1 ∙ c.dot-c1.ensures ∙ dot_path p _ _ _ _ q.a1 (q.a0 +ℤ q.a3) q.a2 (q.a1 -ℤ q.a3) (omega (arith, ints))
+    (omega (arith, ints)) (omega (arith, ints)) (omega (arith, ints)) ∙ ten_1 p q)
+    (r2 ∙ c.dot-c2.ensures ∙ dot_path p _ _ _ _ q.a2 (q.a1 -ℤ q.a3) (q.a0 -ℤ q.a2) (neg_ℤ q.a1)
+    (omega (arith, ints)) (omega (arith, ints)) (omega (arith, ints)) (omega (arith, ints)) ∙ ten_2 p q)
+    (r3 ∙ c.dot-c3.ensures ∙ dot_path p _ _ _ _ q.a3 (q.a2 +ℤ q.a3) (q.a1 +ℤ q.a2) (q.a0 +ℤ q.a1)
+    (omega (arith, ints)) (omega (arith, ints)) (omega (arith, ints)) (omega (arith, ints)) ∙ ten_3 p q)

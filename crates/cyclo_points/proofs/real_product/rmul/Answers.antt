@@ -49,11 +49,13 @@ returns-else-are_short-clause-positive c =
     let o = c.args.order in
     let p = c.wide_product-product in
     let e = kept_product o c.args.r.now c.args.s.now p.result p.ensures.product p.ensures.in_order c.requires.r_within c.requires.s_within in
-    λ f g. subst (λ t. (points_of o).real.sign (real_in o t) ≡ Greater) (sym e) (multiplied_positive o c.args.r.now c.args.s.now p.result p.ensures.product f g)
+    λ f g. subst (λ t. (points_of o).real.sign (real_in o t) ≡ Greater) (sym e)
+    (multiplied_positive o c.args.r.now c.args.s.now p.result p.ensures.product f g)
 
 pub returns-else-are_short-clause-bounded : goal.returns-else-are_short-clause-bounded
 returns-else-are_short-clause-bounded c =
     let o = c.args.order in
     let p = c.wide_product-product in
     let e = kept_product o c.args.r.now c.args.s.now p.result p.ensures.product p.ensures.in_order c.requires.r_within c.requires.s_within in
-    λ m k f g. subst (IsRealWithin (3 * m * k)) (sym e) (multiplied_within o m k c.args.r.now c.args.s.now p.result p.ensures.product p.ensures.in_order f g)
+    λ m k f g. subst (IsRealWithin (3 * m * k)) (sym e)
+    (multiplied_within o m k c.args.r.now c.args.s.now p.result p.ensures.product p.ensures.in_order f g)

@@ -8,9 +8,11 @@ pub returns-in-Four-clause-product : goal.returns-in-Four-clause-product
 returns-in-Four-clause-product c =
     let i = c.requires in
     let t = c.short_times in
-    let e = c.from_parts.ensures.of_a ∙ short_kept t.result t.ensures.bounded ∙ t.ensures.value ∙ read_short_product c.args.a c.args.c i.a_within i.c_within in
+    let e = c.from_parts.ensures.of_a ∙ short_kept t.result t.ensures.bounded ∙ t.ensures.value
+    ∙ read_short_product c.args.a c.args.c i.a_within i.c_within in
     in_either (λ o. real_in o c.from_parts.result ≡ multiplied o c.args.a c.args.b c.args.c c.args.d) c.args.order c.in-Four.is
-    (multiplied_four c.args.a c.args.b c.args.c c.args.d c.from_parts.result.a e) (multiplied_six c.args.a c.args.b c.args.c c.args.d c.from_parts.result.a e)
+    (multiplied_four c.args.a c.args.b c.args.c c.args.d c.from_parts.result.a e)
+    (multiplied_six c.args.a c.args.b c.args.c c.args.d c.from_parts.result.a e)
 
 pub returns-in-Eight-clause-product : goal.returns-in-Eight-clause-product
 returns-in-Eight-clause-product c =
@@ -44,4 +46,5 @@ returns-in-Ten-clause-product c =
     subst (λ o. real_in o made.result ≡ multiplied o c.args.a c.args.b c.args.c c.args.d) (sym c.in-Ten.is)
     (multiplied_ten c.args.a c.args.b c.args.c c.args.d made.result.a made.result.b
     (made.ensures.of_a ∙ short_sum first.result last.result first.ensures.bounded last.ensures.bounded ∙ ap₂ ◌+ℤ◌ ac bd)
-    (made.ensures.of_b ∙ short_three outer.result inner.result last.result outer.ensures.bounded inner.ensures.bounded last.ensures.bounded ∙ ap₂ ◌+ℤ◌ (ap₂ ◌+ℤ◌ ad bc) bd))
+    (made.ensures.of_b ∙ short_three outer.result inner.result last.result outer.ensures.bounded
+    inner.ensures.bounded last.ensures.bounded ∙ ap₂ ◌+ℤ◌ (ap₂ ◌+ℤ◌ ad bc) bd))

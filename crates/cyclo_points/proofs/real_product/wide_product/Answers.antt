@@ -54,4 +54,5 @@ returns-in-Ten-clause-product c =
     subst (λ o. number o x y ≡ multiplied o r.a r.b s.a s.b) (sym c.in-Ten.is)
     (multiplied_ten r.a r.b s.a s.b x y
     (wide_sum first.result last.result first.ensures.bounded last.ensures.bounded ∙ ap₂ ◌+ℤ◌ ac bd)
-    (wide_three outer.result inner.result last.result outer.ensures.bounded inner.ensures.bounded last.ensures.bounded ∙ ap₂ ◌+ℤ◌ (ap₂ ◌+ℤ◌ ad bc) bd))
+    (wide_three outer.result inner.result last.result outer.ensures.bounded inner.ensures.bounded
+    last.ensures.bounded ∙ ap₂ ◌+ℤ◌ (ap₂ ◌+ℤ◌ ad bc) bd))

@@ -13,4 +13,5 @@ returns-clause-sum c =
     ∙ number-add o c.args.r.now.a c.args.r.now.b c.args.s.now.a c.args.s.now.b
 
 pub returns-clause-positive : goal.returns-clause-positive
-returns-clause-positive c = λ o p q. subst (λ x. (points_of o).real.sign x ≡ Greater) (sym (returns-clause-sum c o)) ((laws_of o).of_order.sign-add _ _ p q)
+returns-clause-positive c = λ o p q. subst (λ x. (points_of o).real.sign x ≡ Greater)
+    (sym (returns-clause-sum c o)) ((laws_of o).of_order.sign-add _ _ p q)

@@ -1,4 +1,4 @@
-use Rattle.ordered_ring.specs.Ring.{integers}
+use Rattle.theory_ring.specs.Ring.{integers}
 use Rattle.cyclo_points.specs.Quad.{neg_quad}
 use Rattle.cyclo_points.specs.Point.{quad_of}
 use Rattle.cyclo_points.proofs.Readings.{negative_point, negative_point-is}

@@ -1,5 +1,5 @@
 use Rattle.std.proofs.Common.{◌≡◌, ◌*◌, ◌∙◌, ap, sym, refl, arith}
-use Rattle.ordered_ring.specs.Ring.{integers}
+use Rattle.theory_ring.specs.Ring.{integers}
 use Rattle.cyclo_points.specs.Point.{pair_of}
 use Rattle.cyclo_points.proofs.Readings.{machine_pair-is}
 use Rattle.cyclo_points.proofs.PairSizes.{within_pair}

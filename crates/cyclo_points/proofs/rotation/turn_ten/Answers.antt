@@ -1,5 +1,5 @@
 use Rattle.std.proofs.Common.{◌≡◌, ◌*◌, ◌∙◌, ap, sym, arith}
-use Rattle.ordered_ring.specs.Ring.{integers}
+use Rattle.theory_ring.specs.Ring.{integers}
 use Rattle.cyclo_points.specs.Point.{quad_of}
 use Rattle.cyclo_points.proofs.Sizes.{quad_within, within_quad}
 use Rattle.cyclo_points.proofs.TenTurns.{turned_by, none-is, table_1, table_1-is, code_1, code_1-is, table_1-doubles, table_2, table_2-is, code_2, code_2-is, table_2-doubles, table_3, table_3-is, code_3, code_3-is, table_3-doubles, table_4, table_4-is, code_4, code_4-is, table_4-doubles}

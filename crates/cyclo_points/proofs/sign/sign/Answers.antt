@@ -10,4 +10,5 @@ returns-then-is_short c =
     let r = c.args.r.now in
     let h = c.is_short.ensures.only_short c.if-is_short.true in
     let e = to_z-of_z w64 c.witness.result (record { sfits = c.witness.type_inv }) in
-    c.cmp.ensures ∙ ap (λ s. int_cmp s (pos 0)) e ∙ sym c.witness.ensures.same_sign ∙ ap₂ (sign_at c.args.order) (cast-is r.a h.at_a) (cast-is r.b h.at_b)
+    c.cmp.ensures ∙ ap (λ s. int_cmp s (pos 0)) e ∙ sym c.witness.ensures.same_sign
+    ∙ ap₂ (sign_at c.args.order) (cast-is r.a h.at_a) (cast-is r.b h.at_b)

@@ -10,7 +10,8 @@ use Rattle.cyclo_points.proofs.sign.signed_square.Goals.{After-abs}
 
 squared : (c : After-abs) → reading w128 (reading w128 c.args.u *ℤ reading w128 c.abs.result) ≡ signed_square c.args.u
 squared c =
-    read_square (3 * 2 ^ 61) c.args.u c.abs.result c.ranges.u (record { sfits = c.abs.type_inv }) c.abs.ensures.value c.requires.u_within (omega arith)
+    read_square (3 * 2 ^ 61) c.args.u c.abs.result c.ranges.u (record { sfits = c.abs.type_inv })
+    c.abs.ensures.value c.requires.u_within (omega arith)
 
 pub returns-clause-value : goal.returns-clause-value
 unfolding product_of

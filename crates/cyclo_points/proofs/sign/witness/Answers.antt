@@ -11,17 +11,21 @@ returns-in-Four-clause-same_sign c =
     in_either (λ o. sign_at o c.args.a c.args.b ≡ int_cmp (reading w64 c.args.a) (pos 0)) c.args.order c.in-Four.is e e
 
 pub returns-in-Eight-clause-value : goal.returns-in-Eight-clause-value
-returns-in-Eight-clause-value c = read_eight c.args.a c.args.b c.requires.a_within c.requires.b_within ∙ ap (λ o. witness_in o c.args.a c.args.b) (sym c.in-Eight.is)
+returns-in-Eight-clause-value c = read_eight c.args.a c.args.b c.requires.a_within c.requires.b_within
+    ∙ ap (λ o. witness_in o c.args.a c.args.b) (sym c.in-Eight.is)
 
 pub returns-in-Eight-clause-same_sign : goal.returns-in-Eight-clause-same_sign
 returns-in-Eight-clause-same_sign c =
     sign-witness c.args.order c.args.a c.args.b c.requires.a_within c.requires.b_within
-    ∙ ap (λ x. int_cmp x (pos 0)) (ap (λ o. witness_in o c.args.a c.args.b) c.in-Eight.is ∙ sym (read_eight c.args.a c.args.b c.requires.a_within c.requires.b_within))
+    ∙ ap (λ x. int_cmp x (pos 0)) (ap (λ o. witness_in o c.args.a c.args.b) c.in-Eight.is
+    ∙ sym (read_eight c.args.a c.args.b c.requires.a_within c.requires.b_within))
 
 pub returns-in-Ten-clause-value : goal.returns-in-Ten-clause-value
-returns-in-Ten-clause-value c = read_ten c.args.a c.args.b c.requires.a_within c.requires.b_within ∙ ap (λ o. witness_in o c.args.a c.args.b) (sym c.in-Ten.is)
+returns-in-Ten-clause-value c = read_ten c.args.a c.args.b c.requires.a_within c.requires.b_within
+    ∙ ap (λ o. witness_in o c.args.a c.args.b) (sym c.in-Ten.is)
 
 pub returns-in-Ten-clause-same_sign : goal.returns-in-Ten-clause-same_sign
 returns-in-Ten-clause-same_sign c =
     sign-witness c.args.order c.args.a c.args.b c.requires.a_within c.requires.b_within
-    ∙ ap (λ x. int_cmp x (pos 0)) (ap (λ o. witness_in o c.args.a c.args.b) c.in-Ten.is ∙ sym (read_ten c.args.a c.args.b c.requires.a_within c.requires.b_within))
+    ∙ ap (λ x. int_cmp x (pos 0)) (ap (λ o. witness_in o c.args.a c.args.b) c.in-Ten.is
+    ∙ sym (read_ten c.args.a c.args.b c.requires.a_within c.requires.b_within))

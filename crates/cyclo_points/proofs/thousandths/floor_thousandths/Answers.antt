@@ -28,7 +28,8 @@ floor-by_parts o a b s x y e f at_most below_next = record {
 read_thousand : (b : ℤ) → Within (2 ^ 30) b → pos 1000 *ℤ reading w128 b ≡ pos 1000 *ℤ b
 read_thousand b h = omega (arith, ints)
 
-read_sum : (a x : ℤ) → Within (2 ^ 30) a → Within (2 ^ 42) x → reading w128 (reading w128 (pos 1000 *ℤ reading w128 a) +ℤ reading w128 x) ≡ pos 1000 *ℤ a +ℤ x
+read_sum : (a x : ℤ) → Within (2 ^ 30) a → Within (2 ^ 42) x
+    → reading w128 (reading w128 (pos 1000 *ℤ reading w128 a) +ℤ reading w128 x) ≡ pos 1000 *ℤ a +ℤ x
 read_sum a x h k = omega (arith, ints)
 
 pub returns-clause-floor : goal.returns-clause-floor
@@ -36,7 +37,8 @@ returns-clause-floor c =
     let r = c.args.r.now in
     let i = c.requires.r_within in
     let x = c.thousandfold_multiple in
-    floor-by_parts c.args.order r.a r.b _ x.result _ (read_thousand r.b i.at_b) (read_sum r.a x.result i.at_a x.ensures.bounded) x.ensures.at_most x.ensures.below_next
+    floor-by_parts c.args.order r.a r.b _ x.result _ (read_thousand r.b i.at_b)
+    (read_sum r.a x.result i.at_a x.ensures.bounded) x.ensures.at_most x.ensures.below_next
 
 pub returns-clause-only : goal.returns-clause-only
 returns-clause-only c = λ f h. one_floor c.args.order (real_in c.args.order c.args.r.now) f _ h (returns-clause-floor c)

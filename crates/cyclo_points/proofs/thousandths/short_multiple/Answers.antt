@@ -7,7 +7,8 @@ use Rattle.cyclo_points.proofs.ShortMultiples.{thousand_back, product, read_prod
 use Rattle.cyclo_points.proofs.thousandths.short_multiple.Goals as goal
 
 pub returns-in-Four-clause-at_most : goal.returns-in-Four-clause-at_most
-returns-in-Four-clause-at_most c = in_either (λ o. sign_at o (pos 0) (thousand_back c.args.b) ≡ Greater → ⊥) c.args.order c.in-Four.is (λ e. cc e) (λ e. cc e)
+returns-in-Four-clause-at_most c = in_either (λ o. sign_at o (pos 0) (thousand_back c.args.b) ≡ Greater → ⊥)
+    c.args.order c.in-Four.is (λ e. cc e) (λ e. cc e)
 
 pub returns-in-Four-clause-below_next : goal.returns-in-Four-clause-below_next
 returns-in-Four-clause-below_next c = in_either (λ o. sign_at o (pos 1) (thousand_back c.args.b) ≡ Greater) c.args.order c.in-Four.is refl refl
@@ -17,7 +18,8 @@ returns-in-Eight-clause-at_most c =
     let b = c.args.b in
     let h = c.requires.b_within in
     λ e. eight-at_most (product b h 1414 7514057999150) b h (eight-low b h)
-    (ap (λ x. sign_at Eight x (thousand_back b)) (sym (read_eight b h)) ∙ ap (λ o. sign_at o (read_product b h 1414 7514057999150) (thousand_back b)) (sym c.in-Eight.is) ∙ e)
+    (ap (λ x. sign_at Eight x (thousand_back b)) (sym (read_eight b h))
+    ∙ ap (λ o. sign_at o (read_product b h 1414 7514057999150) (thousand_back b)) (sym c.in-Eight.is) ∙ e)
 
 pub returns-in-Eight-clause-below_next : goal.returns-in-Eight-clause-below_next
 returns-in-Eight-clause-below_next c =
@@ -28,14 +30,16 @@ returns-in-Eight-clause-below_next c =
     ∙ eight-below_next (product b h 1414 7514057999150) b h (eight-high b h)
 
 pub returns-in-Eight-clause-bounded : goal.returns-in-Eight-clause-bounded
-returns-in-Eight-clause-bounded c = subst (Within (2 ^ 42)) (sym (read_eight c.args.b c.requires.b_within)) (eight-within c.args.b c.requires.b_within)
+returns-in-Eight-clause-bounded c = subst (Within (2 ^ 42)) (sym (read_eight c.args.b c.requires.b_within))
+    (eight-within c.args.b c.requires.b_within)
 
 pub returns-in-Ten-clause-at_most : goal.returns-in-Ten-clause-at_most
 returns-in-Ten-clause-at_most c =
     let b = c.args.b in
     let h = c.requires.b_within in
     λ e. ten-at_most (product b h 1618 1195872823134) b h (ten-low b h)
-    (ap (λ x. sign_at Ten x (thousand_back b)) (sym (read_ten b h)) ∙ ap (λ o. sign_at o (read_product b h 1618 1195872823134) (thousand_back b)) (sym c.in-Ten.is) ∙ e)
+    (ap (λ x. sign_at Ten x (thousand_back b)) (sym (read_ten b h))
+    ∙ ap (λ o. sign_at o (read_product b h 1618 1195872823134) (thousand_back b)) (sym c.in-Ten.is) ∙ e)
 
 pub returns-in-Ten-clause-below_next : goal.returns-in-Ten-clause-below_next
 returns-in-Ten-clause-below_next c =

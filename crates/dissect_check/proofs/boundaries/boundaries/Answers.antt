@@ -13,4 +13,6 @@ returns-in_err-tables_of_kind-clause-fault c =
     let r = c.args.rule.now in
     let p = err_from_is_err_and c.from_residual-in_err-tables_of_kind.result c.from_residual-in_err-tables_of_kind.ensures.1 in
     rw (p.1, p.2)
-    (agrees_below (Vec KindRows Global) c.in_err-tables_of_kind.field-0.0 (boundary_of_kind r.order (as_rule r)) c.loop-kind.kind (length (rule_of r).kinds) c.loop-kind.invariant.no_fault (omega arith) c.in_err-tables_of_kind.ensures.fault)
+    (agrees_below (Vec KindRows Global) c.in_err-tables_of_kind.field-0.0
+    (boundary_of_kind r.order (as_rule r)) c.loop-kind.kind (length (rule_of r).kinds)
+    c.loop-kind.invariant.no_fault (omega arith) c.in_err-tables_of_kind.ensures.fault)

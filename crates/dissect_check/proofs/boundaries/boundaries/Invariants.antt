@@ -1,6 +1,6 @@
 use Rattle.std.proofs.Common.{◌≡◌, map, None}
-use Rattle.addressing.specs.Search.{first_below, below}
-use Rattle.edge_to_edge.specs.Contacts.{tables_of_kind}
+use Rattle.theory_addresses.specs.Search.{first_below, below}
+use Rattle.theory_edge_to_edge.specs.Contacts.{tables_of_kind}
 use Rattle.cyclo_points.specs.Order.{points_of}
 use Rattle.edge_tables.specs.Views.{as_kind_tables}
 use Rattle.rule_model.specs.Views.{as_rule, rule_of}

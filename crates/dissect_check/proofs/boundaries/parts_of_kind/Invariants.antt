@@ -1,7 +1,7 @@
 use Rattle.std.proofs.Common.{◌≡◌, map, None, All}
-use Rattle.addressing.specs.Search.{first_below, below}
-use Rattle.edge_to_edge.specs.Boundary.{parts_of_edge}
-use Rattle.edge_to_edge.specs.Contacts.{named_parts}
+use Rattle.theory_addresses.specs.Search.{first_below, below}
+use Rattle.theory_edge_to_edge.specs.Boundary.{parts_of_edge}
+use Rattle.theory_edge_to_edge.specs.Contacts.{named_parts}
 use Rattle.cyclo_points.specs.Order.{points_of}
 use Rattle.edge_tables.specs.Views.{as_child_edge}
 use Rattle.rule_model.specs.Views.{rule_of}

@@ -20,7 +20,8 @@ pub returns-in_err-rows-clause-fault : goal.returns-in_err-rows-clause-fault
 returns-in_err-rows-clause-fault c =
     let r = c.args.rule in
     let p = err_from_is_err_and c.from_residual-in_err-rows.result c.from_residual-in_err-rows.ensures.1 in
-    rw (p.1, p.2) (agrees_behind (Vec KindRows Global) Rule c.in_err-rows.field-0.0 (front r) (rest r) (sym c.in_ok-before_children.ensures) c.in_err-rows.ensures.fault)
+    rw (p.1, p.2) (agrees_behind (Vec KindRows Global) Rule c.in_err-rows.field-0.0 (front r) (rest r)
+    (sym c.in_ok-before_children.ensures) c.in_err-rows.ensures.fault)
 
 pub tables_of-requires-clause-coherent : goal.tables_of-requires-clause-coherent
 tables_of-requires-clause-coherent c = coherent-both c.args.rule c.points_law.ensures c.in_ok-before_children.ensures c.in_ok-rows.ensures.fault
@@ -29,7 +30,8 @@ pub uses_of_kinds-requires-clause-usable : goal.uses_of_kinds-requires-clause-us
 uses_of_kinds-requires-clause-usable c = usable-front c.args.rule c.in_ok-before_children.ensures
 
 pub uses_of_kinds-requires-clause-each_used : goal.uses_of_kinds-requires-clause-each_used
-uses_of_kinds-requires-clause-each_used c = (accepted-both c.args.rule c.in_ok-before_children.ensures c.in_ok-rows.ensures.fault).edge_to_edge.each_used
+uses_of_kinds-requires-clause-each_used c = (accepted-both c.args.rule c.in_ok-before_children.ensures
+    c.in_ok-rows.ensures.fault).edge_to_edge.each_used
 
 pub admit-requires-clause-accepted : goal.admit-requires-clause-accepted
 admit-requires-clause-accepted c = accepted-both c.args.rule c.in_ok-before_children.ensures c.in_ok-rows.ensures.fault

@@ -13,4 +13,5 @@ returns-in_err-parents-clause-fault c =
     let o = c.args.rule.now.order in
     let l = as_rule c.args.rule.now in
     let p = err_from_is_err_and c.from_residual.result c.from_residual.ensures.1 in
-    rw (p.1, p.2) (agrees_first (Vec Inflated Global) (Vec KindRows Global) c.in_err-parents.field-0.0 (loose_edges o l) (boundaries o l ∷ uses o l ∷ glues o l ∷ []) c.in_err-parents.ensures.fault)
+    rw (p.1, p.2) (agrees_first (Vec Inflated Global) (Vec KindRows Global) c.in_err-parents.field-0.0
+    (loose_edges o l) (boundaries o l ∷ uses o l ∷ glues o l ∷ []) c.in_err-parents.ensures.fault)

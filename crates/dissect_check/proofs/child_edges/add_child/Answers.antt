@@ -1,12 +1,12 @@
 use Rattle.std.proofs.Common.{[], ◌∷◌, ◌++◌, map, sym, ap, ap₂, ◌∙◌}
 use Rattle.std.proofs.lemmas.List.{map_push, append_assoc}
 use Rattle.std.proofs.lemmas.List.Elements.{All-push, All-same}
-use Rattle.addressing.specs.Search.{below}
-use Rattle.edge_to_edge.specs.Edges.{child_edge}
+use Rattle.theory_addresses.specs.Search.{below}
+use Rattle.theory_edge_to_edge.specs.Edges.{child_edge}
 use Rattle.cyclo_points.specs.Order.{points_of}
 use Rattle.rule_model.specs.Views.{rule_of}
 use Rattle.dissect_check.specs.Views.{edge_in, IsFit}
-use Rattle.addressing.proofs.Searches.{below-more}
+use Rattle.theory_addresses.proofs.Searches.{below-more}
 use Rattle.dissect_check.proofs.child_edges.add_child.Goals as goal
 
 pub loop-edge-preserved : goal.loop-edge-preserved

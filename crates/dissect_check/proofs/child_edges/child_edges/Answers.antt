@@ -1,11 +1,11 @@
 use Rattle.std.proofs.Common.{[], ◌++◌, sym, ap, ◌∙◌}
 use Rattle.std.specs.List.{flat_map}
 use Rattle.std.proofs.lemmas.List.{flat_map_more}
-use Rattle.addressing.specs.Search.{below}
-use Rattle.edge_to_edge.specs.Edges.{edges_of_child}
+use Rattle.theory_addresses.specs.Search.{below}
+use Rattle.theory_edge_to_edge.specs.Edges.{edges_of_child}
 use Rattle.cyclo_points.specs.Order.{points_of}
 use Rattle.rule_model.specs.Views.{rule_of}
-use Rattle.addressing.proofs.Searches.{below-more}
+use Rattle.theory_addresses.proofs.Searches.{below-more}
 use Rattle.dissect_check.proofs.child_edges.child_edges.Goals as goal
 
 pub loop-child-preserved : goal.loop-child-preserved

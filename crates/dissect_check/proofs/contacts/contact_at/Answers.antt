@@ -1,6 +1,6 @@
 use Rattle.std.proofs.Common.{◌<◌, map, length, get_or, sym, ap, subst, ◌∙◌}
-use Rattle.addressing.specs.Contact.{outer}
-use Rattle.edge_to_edge.specs.Contacts.{index_in, contact_by}
+use Rattle.theory_addresses.specs.Contact.{outer}
+use Rattle.theory_edge_to_edge.specs.Contacts.{index_in, contact_by}
 use Rattle.cyclo_points.specs.Order.{points_of}
 use Rattle.edge_tables.specs.Views.{as_child_edge}
 use Rattle.rule_model.specs.Views.{rule_of}

@@ -9,4 +9,6 @@ pub contacts_of_child-requires-clause-below : goal.contacts_of_child-requires-cl
 contacts_of_child-requires-clause-below c =
     let r = c.args.rule.now in
     let i = c.args.inflated.now in
-    subst (λ n. All (LiesBelow n) i.lies.items) (sym (part_lists r c.args.kind c.args.parts.now c.requires.parts)) (lies_below r c.args.kind i c.requires.inflated)
+    subst (λ n. All (LiesBelow n) i.lies.items)
+    (sym (part_lists r c.args.kind c.args.parts.now c.requires.parts))
+    (lies_below r c.args.kind i c.requires.inflated)

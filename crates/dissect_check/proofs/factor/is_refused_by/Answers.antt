@@ -1,10 +1,10 @@
 use Rattle.std.proofs.Common.{◌≡◌, ◌^◌, false, refl, sym, ◌∙◌, subst, arith}
-use Rattle.addressing.specs.Search.{some_below}
+use Rattle.theory_addresses.specs.Search.{some_below}
 use Rattle.cyclo_points.specs.Order.{points_of}
 use Rattle.cyclo_points.specs.Point.{point_in}
 use Rattle.cyclo_points.proofs.Within.{point_wider}
 use Rattle.dissect_check.proofs.Powers.{is_refused_at, refused-at, power-next, one-in, one-of}
-use Rattle.addressing.proofs.BoolLoops.{some_below-more, some_below-found}
+use Rattle.theory_addresses.proofs.BoolLoops.{some_below-more, some_below-found}
 use Rattle.dissect_check.proofs.factor.is_refused_by.Goals as goal
 
 pub loop-exponent-init : goal.loop-exponent-init
@@ -15,10 +15,12 @@ loop-exponent-preserved c =
     let o = c.args.order in
     let factor = c.args.factor.now in
     let here = c.loop-exponent in
-    let tested = refused-at o factor here.power here._exponent c.refused.result here.invariant.value (c.refused.ensures.in_order o here.invariant.in_order) in
+    let tested = refused-at o factor here.power here._exponent c.refused.result here.invariant.value
+    (c.refused.ensures.in_order o here.invariant.in_order) in
     record {
       none_refused = some_below-more (is_refused_at o factor) here._exponent here.invariant.none_refused (tested ∙ c.if-refused.false);
-      value = c.mul-power.ensures.product ∙ power-next (points_of o).ring c.points_law.ensures.of_ring (point_in o factor) (point_in o here.power) here._exponent here.invariant.value;
+      value = c.mul-power.ensures.product ∙ power-next (points_of o).ring c.points_law.ensures.of_ring
+          (point_in o factor) (point_in o here.power) here._exponent here.invariant.value;
       in_order = c.mul-power.ensures.in_order;
     }
 
@@ -33,7 +35,8 @@ returns-then-refused c =
     let o = c.args.order in
     let factor = c.args.factor.now in
     let here = c.loop-exponent in
-    let tested = refused-at o factor here.power here._exponent c.refused.result here.invariant.value (c.refused.ensures.in_order o here.invariant.in_order) in
+    let tested = refused-at o factor here.power here._exponent c.refused.result here.invariant.value
+    (c.refused.ensures.in_order o here.invariant.in_order) in
     sym (some_below-found (is_refused_at o factor) here._exponent c.args.powers (tested ∙ c.if-refused.true) (omega arith))
 
 pub returns : goal.returns

@@ -1,6 +1,6 @@
 use Rattle.std.proofs.Common.{◌≡◌, false}
-use Rattle.ordered_ring.specs.Ring.{power}
-use Rattle.addressing.specs.Search.{some_below}
+use Rattle.theory_ring.specs.Ring.{power}
+use Rattle.theory_addresses.specs.Search.{some_below}
 use Rattle.cyclo_points.specs.Order.{points_of}
 use Rattle.cyclo_points.specs.Point.{point_in, IsOf}
 use Rattle.dissect_check.proofs.Powers.{is_refused_at}

@@ -8,4 +8,5 @@ mul-requires-clause-p_within c = point_wider 64 (2 ^ 32) c.args.p.now (omega ari
 pub returns-clause-within : goal.returns-clause-within
 returns-clause-within c =
     let small = c.requires.small.within in
-    point_wider (8 * 64 * (2 * 64)) (2 ^ 16) c.mul.result (omega arith) (c.mul.ensures.bounded 64 (2 * 64) small (c.conj.ensures.at_most_doubled 64 small))
+    point_wider (8 * 64 * (2 * 64)) (2 ^ 16) c.mul.result (omega arith)
+    (c.mul.ensures.bounded 64 (2 * 64) small (c.conj.ensures.at_most_doubled 64 small))

@@ -1,9 +1,9 @@
 use Rattle.std.proofs.Common.{length, Some, arith, ap, ◌∙◌}
-use Rattle.addressing.specs.Search.{unless}
-use Rattle.edge_to_edge.specs.Glue.{glue_type, glues_halves}
+use Rattle.theory_addresses.specs.Search.{unless}
+use Rattle.theory_edge_to_edge.specs.Glue.{glue_type, glues_halves}
 use Rattle.rule_model.specs.Views.{rule_of}
 use Rattle.dissect_check.specs.declared.check_fault.CheckFault.TheVariants.{GlueWrong}
-use Rattle.addressing.proofs.Searches.{first_below-stop}
+use Rattle.theory_addresses.proofs.Searches.{first_below-stop}
 use Rattle.dissect_check.proofs.glue.glues.Goals as goal
 
 pub returns-then-not-glues_halves : goal.returns-then-not-glues_halves

@@ -1,6 +1,6 @@
 use Rattle.std.proofs.Common.{◌≡◌, None}
-use Rattle.addressing.specs.Search.{unless, first_below}
-use Rattle.edge_to_edge.specs.Glue.{glue_type, glues_halves}
+use Rattle.theory_addresses.specs.Search.{unless, first_below}
+use Rattle.theory_edge_to_edge.specs.Glue.{glue_type, glues_halves}
 use Rattle.rule_model.specs.Views.{rule_of}
 use Rattle.dissect_check.specs.declared.check_fault.CheckFault.TheVariants.{GlueWrong}
 use Rattle.dissect_check.proofs.glue.glues.Given as goal

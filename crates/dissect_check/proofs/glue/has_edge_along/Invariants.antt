@@ -1,7 +1,7 @@
 use Rattle.std.specs.Prelude.{nat_eq}
 use Rattle.std.specs.List.{list_any}
 use Rattle.std.proofs.Common.{◌≡◌, ◌||◌, false, take}
-use Rattle.substitution.specs.RuleParts.{mate, edge_types}
+use Rattle.theory_substitution.specs.RuleParts.{mate, edge_types}
 use Rattle.rule_model.specs.Views.{rule_of}
 use Rattle.dissect_check.proofs.glue.has_edge_along.Given as goal
 

@@ -1,5 +1,5 @@
 use Rattle.std.proofs.Common.{◌≡◌, ◌<◌, length, arith, sym, ap, ◌∙◌, subst}
-use Rattle.substitution.specs.RuleParts.{edge_types}
+use Rattle.theory_substitution.specs.RuleParts.{edge_types}
 use Rattle.rule_model.specs.Views.{rule_of}
 use Rattle.dissect_check.specs.Few.{one_more}
 use Rattle.dissect_check.proofs.Holders.{holders_below, one_more_edge, no_more_edge, one-below}

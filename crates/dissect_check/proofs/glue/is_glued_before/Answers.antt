@@ -1,10 +1,10 @@
 use Rattle.std.specs.Prelude.{nat_eq}
 use Rattle.std.specs.List.{list_any}
 use Rattle.std.proofs.Common.{ℕ, ◌||◌, arith, sym, ap, ◌∙◌}
-use Rattle.substitution.specs.RuleParts.{mate, edge_types}
-use Rattle.edge_to_edge.specs.Glue.{glue_type}
+use Rattle.theory_substitution.specs.RuleParts.{mate, edge_types}
+use Rattle.theory_edge_to_edge.specs.Glue.{glue_type}
 use Rattle.rule_model.specs.Views.{rule_of}
-use Rattle.addressing.proofs.BoolLoops.{some_below-found}
+use Rattle.theory_addresses.proofs.BoolLoops.{some_below-found}
 use Rattle.dissect_check.proofs.glue.is_glued_before.Goals as goal
 
 pub returns-then-has_edge_along : goal.returns-then-has_edge_along

@@ -1,9 +1,9 @@
 use Rattle.std.specs.Prelude.{nat_eq}
 use Rattle.std.specs.List.{list_any}
 use Rattle.std.proofs.Common.{◌≡◌, ◌||◌, false}
-use Rattle.substitution.specs.RuleParts.{mate, edge_types}
-use Rattle.addressing.specs.Search.{some_below}
-use Rattle.edge_to_edge.specs.Glue.{glue_type}
+use Rattle.theory_substitution.specs.RuleParts.{mate, edge_types}
+use Rattle.theory_addresses.specs.Search.{some_below}
+use Rattle.theory_edge_to_edge.specs.Glue.{glue_type}
 use Rattle.rule_model.specs.Views.{rule_of}
 use Rattle.dissect_check.proofs.glue.is_glued_before.Given as goal
 

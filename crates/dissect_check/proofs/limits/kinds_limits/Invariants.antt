@@ -1,5 +1,5 @@
 use Rattle.std.proofs.Common.{◌≡◌, None}
-use Rattle.addressing.specs.Search.{first_below}
+use Rattle.theory_addresses.specs.Search.{first_below}
 use Rattle.rule_model.specs.Views.{as_rule}
 use Rattle.dissect_check.specs.FirstFault.{kind_limits}
 use Rattle.dissect_check.proofs.limits.kinds_limits.Given as goal

@@ -1,6 +1,6 @@
 use Rattle.std.proofs.Common.{◌≡◌, ℕ, map, not, length, get_or, ◌<◌, ◌∙◌, Some, None, sym, ap, arith}
-use Rattle.addressing.specs.Search.{unless}
-use Rattle.edge_to_edge.specs.Lying.{loose, lie_of, is_loose}
+use Rattle.theory_addresses.specs.Search.{unless}
+use Rattle.theory_edge_to_edge.specs.Lying.{loose, lie_of, is_loose}
 use Rattle.cyclo_points.specs.Order.{points_of}
 use Rattle.rule_model.specs.declared.rule.Rule.{Rule}
 use Rattle.rule_model.specs.Views.{as_rule, rule_of}
@@ -30,10 +30,14 @@ returns-in-Loose-clause-fault c =
     let lie = λ (s : PlacedEdge). lie_of (points_of r.order) (rule_of r) k (edge_in r.order s) in
     let below : i < length p.edges.items = omega arith in
     let at : loose ≡ lie x
-    = ap as_lie (sym c.in-Loose.is ∙ c.index.ensures) ∙ lie_at r k p c.in_ok-parent.ensures i below c.index.result.now x ∙ ap lie (sym c.index-edge.ensures) in
+    = ap as_lie (sym c.in-Loose.is ∙ c.index.ensures)
+    ∙ lie_at r k p c.in_ok-parent.ensures i below c.index.result.now x
+    ∙ ap lie (sym c.index-edge.ensures) in
     let fault : loose_fault r.order (as_rule r) k (edge_in r.order (get_or p.edges.items i x)) ≡ Some (ChildEdgeLoose k x.child x.edge)
-    = ap (λ s. loose_fault r.order (as_rule r) k (edge_in r.order s)) (sym c.index-edge.ensures) ∙ ap (λ l. unless (not (is_loose l)) (ChildEdgeLoose k x.child x.edge)) (sym at) in
-    sym c.loop-i.invariant ∙ first_some-here (loose_fault r.order (as_rule r) k) (edge_in r.order) p.edges.items i x (ChildEdgeLoose k x.child x.edge) below fault
+    = ap (λ s. loose_fault r.order (as_rule r) k (edge_in r.order s)) (sym c.index-edge.ensures)
+    ∙ ap (λ l. unless (not (is_loose l)) (ChildEdgeLoose k x.child x.edge)) (sym at) in
+    sym c.loop-i.invariant ∙ first_some-here (loose_fault r.order (as_rule r) k) (edge_in r.order)
+    p.edges.items i x (ChildEdgeLoose k x.child x.edge) below fault
 
 pub loop-i-preserved : goal.loop-i-preserved
 loop-i-preserved c =
@@ -45,6 +49,7 @@ loop-i-preserved c =
     let below : i < length p.edges.items = omega arith in
     let none : (d : PlacedEdge) → loose_fault r.order (as_rule r) k (edge_in r.order (get_or p.edges.items i d)) ≡ None
     = λ d. let e = get_or p.edges.items i d in
-    ap (λ l. unless (not (is_loose l)) (ChildEdgeLoose k e.child e.edge)) (sym (lie_at r k p c.in_ok-parent.ensures i below lie d) ∙ ap as_lie (sym c.index.ensures))
+    ap (λ l. unless (not (is_loose l)) (ChildEdgeLoose k e.child e.edge))
+    (sym (lie_at r k p c.in_ok-parent.ensures i below lie d) ∙ ap as_lie (sym c.index.ensures))
     ∙ ap (λ b. unless (not b) (ChildEdgeLoose k e.child e.edge)) (not_loose lie c.in_default.not-Loose) in
     sym (first_some-later (loose_fault r.order (as_rule r) k) (edge_in r.order) p.edges.items i below none) ∙ c.loop-i.invariant

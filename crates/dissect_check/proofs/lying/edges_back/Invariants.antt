@@ -1,6 +1,6 @@
 use Rattle.std.proofs.Common.{◌≡◌, take, All}
 use Rattle.std.specs.List.{filter}
-use Rattle.edge_to_edge.specs.Edges.{is_opposite}
+use Rattle.theory_edge_to_edge.specs.Edges.{is_opposite}
 use Rattle.cyclo_points.specs.Order.{points_of}
 use Rattle.rule_model.specs.declared.rule.Rule.{Rule}
 use Rattle.dissect_check.specs.Few.{few_of}

@@ -1,8 +1,8 @@
 use Rattle.std.proofs.Common.{◌≡◌, ℕ, List, map, ◌∙◌, refl, sym, ap}
 use Rattle.std.proofs.lemmas.Bool.{eq-eqb, ne_eqb}
-use Rattle.substitution.specs.RuleParts.{mate}
-use Rattle.edge_to_edge.specs.Edges.{is_opposite}
-use Rattle.edge_to_edge.specs.Lying.{numbers_along, met_by, lie_among}
+use Rattle.theory_substitution.specs.RuleParts.{mate}
+use Rattle.theory_edge_to_edge.specs.Edges.{is_opposite}
+use Rattle.theory_edge_to_edge.specs.Lying.{numbers_along, met_by, lie_among}
 use Rattle.cyclo_points.specs.Order.{points_of}
 use Rattle.rule_model.specs.declared.rule.Rule.{Rule}
 use Rattle.rule_model.specs.Views.{rule_of}
@@ -22,15 +22,18 @@ numbers r wholes s = numbers_along (points_of r.order) 0 (map (line_in r.order) 
 
 lies : (r : Rule) (edges : List PlacedEdge) (wholes : List Line) (s : PlacedEdge) (f : Few PlacedEdge) (g : Few ℕ)
     → f ≡ few_of (filter (λ t. is_opposite (points_of r.order) (edge_in r.order s) (edge_in r.order t)) edges) → g ≡ few_of (numbers r wholes s)
-    → lie_few (rule_of r) (edge_in r.order s) (edge_in r.order) f g ≡ lie_among (points_of r.order) (rule_of r) (map (edge_in r.order) edges) (map (line_in r.order) wholes) (edge_in r.order s)
-lies r edges wholes s f g h k = lies_by (rule_of r) (edge_in r.order s) (edge_in r.order) (is_opposite (points_of r.order) (edge_in r.order s)) edges (numbers r wholes s) f g h k
+    → lie_few (rule_of r) (edge_in r.order s) (edge_in r.order) f g ≡ lie_among (points_of r.order)
+    (rule_of r) (map (edge_in r.order) edges) (map (line_in r.order) wholes) (edge_in r.order s)
+lies r edges wholes s f g h k = lies_by (rule_of r) (edge_in r.order s) (edge_in r.order)
+    (is_opposite (points_of r.order) (edge_in r.order s)) edges (numbers r wholes s) f g h k
 
 pub returns-then-mate-from : goal.returns-then-mate-from
 returns-then-mate-from c =
     let r = c.args.rule.now in
     let s = c.args.s.now in
     let t = c.in-One.t in
-    let mates : mate (rule_of r) s.ty ≡ t.ty = sym (ap (mate (rule_of r)) c.from.ensures) ∙ sym (c.mate.ensures.numbers r.order) ∙ c.if-mate-from.true ∙ c.from-in-One.ensures in
+    let mates : mate (rule_of r) s.ty ≡ t.ty = sym (ap (mate (rule_of r)) c.from.ensures)
+    ∙ sym (c.mate.ensures.numbers r.order) ∙ c.if-mate-from.true ∙ c.from-in-One.ensures in
     ap (λ b. met_by b (edge_in r.order t)) (sym (eq-eqb (mate (rule_of r) s.ty) t.ty mates))
     ∙ lies r c.args.edges.now c.args.wholes.now s (One t) _ (c.in-One.ensures r c.requires.edges_fit c.requires.s_fit) refl
 
@@ -52,10 +55,12 @@ returns-in-Many c =
 pub returns-in-One-wholes_along : goal.returns-in-One-wholes_along
 returns-in-One-wholes_along c =
     let r = c.args.rule.now in
-    lies r c.args.edges.now c.args.wholes.now c.args.s.now None (One c.in-One-wholes_along.edge) (c.in-None.ensures r c.requires.edges_fit c.requires.s_fit) c.in-One-wholes_along.ensures
+    lies r c.args.edges.now c.args.wholes.now c.args.s.now None (One c.in-One-wholes_along.edge)
+    (c.in-None.ensures r c.requires.edges_fit c.requires.s_fit) c.in-One-wholes_along.ensures
 
 pub returns-in_default : goal.returns-in_default
 returns-in_default c =
     let r = c.args.rule.now in
     not_alone c.wholes_along.result c.in_default.not-One
-    ∙ lies r c.args.edges.now c.args.wholes.now c.args.s.now None c.wholes_along.result (c.in-None.ensures r c.requires.edges_fit c.requires.s_fit) c.wholes_along.ensures
+    ∙ lies r c.args.edges.now c.args.wholes.now c.args.s.now None c.wholes_along.result
+    (c.in-None.ensures r c.requires.edges_fit c.requires.s_fit) c.wholes_along.ensures

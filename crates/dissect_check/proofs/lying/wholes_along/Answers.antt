@@ -12,8 +12,11 @@ loop-number-preserved c =
     elim c.if-lies_along.branch [
       | then-lies_along w ↦
           w.found-is ∙ w.more-found.ensures ∙ ap (λ f. one_more f c.loop-number.number) c.loop-number.invariant
-          ∙ along_one_more (points_of o) (line_in o c.args.edge.now) (line_in o) c.args.wholes.now c.loop-number.number _ c.loop-number-test.true (sym c.lies_along.ensures ∙ w.if-lies_along.true)
+          ∙ along_one_more (points_of o) (line_in o c.args.edge.now) (line_in o) c.args.wholes.now
+          c.loop-number.number _ c.loop-number-test.true (sym c.lies_along.ensures ∙ w.if-lies_along.true)
       | else-lies_along w ↦
           w.found-is ∙ c.loop-number.invariant
-          ∙ along_no_more (points_of o) (line_in o c.args.edge.now) (line_in o) c.args.wholes.now c.loop-number.number _ c.loop-number-test.true (sym c.lies_along.ensures ∙ w.if-lies_along.false)
+          ∙ along_no_more (points_of o) (line_in o c.args.edge.now) (line_in o) c.args.wholes.now
+          c.loop-number.number _ c.loop-number-test.true
+          (sym c.lies_along.ensures ∙ w.if-lies_along.false)
     ]

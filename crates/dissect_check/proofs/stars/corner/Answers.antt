@@ -1,5 +1,5 @@
 use Rattle.std.proofs.Common.{◌<◌, ◌^◌, ap, subst, arith}
-use Rattle.substitution.specs.Plane.{plane_point}
+use Rattle.theory_substitution.specs.Plane.{plane_point}
 use Rattle.cyclo_points.specs.Order.{points_of}
 use Rattle.cyclo_points.proofs.Within.{point_wider}
 use Rattle.dissect_check.proofs.stars.corner.Goals as goal

@@ -11,4 +11,10 @@ returns-clause-value c = c.vertex_count.ensures.numbers c.args.rule.now.order
 pub returns-clause-at_least_3 : goal.returns-clause-at_least_3
 returns-clause-at_least_3 c =
     let usable = c.requires.usable.numbered in
-    omega (arith, c.vertex_count.ensures.numbers c.args.rule.now.order, usable.vertex_each c.args.kind c.requires.kind_in, usable.at_least_3_edges c.args.kind c.requires.kind_in)
+    omega (
+      arith,
+      c.vertex_count.ensures.numbers c.args.rule.now.order,
+      usable.vertex_each c.args.kind
+          c.requires.kind_in,
+      usable.at_least_3_edges c.args.kind c.requires.kind_in,
+    )

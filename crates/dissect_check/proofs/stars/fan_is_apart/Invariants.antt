@@ -1,8 +1,8 @@
 use Rattle.std.proofs.Common.{◌≡◌, true}
-use Rattle.ordered_plane.specs.Triangle.{separated}
-use Rattle.substitution.specs.RuleParts.{vertices_of}
-use Rattle.addressing.specs.Search.{all_below}
-use Rattle.edge_to_edge.specs.Star.{fan_triangle}
+use Rattle.theory_plane.specs.Triangle.{separated}
+use Rattle.theory_substitution.specs.RuleParts.{vertices_of}
+use Rattle.theory_addresses.specs.Search.{all_below}
+use Rattle.theory_edge_to_edge.specs.Star.{fan_triangle}
 use Rattle.cyclo_points.specs.Order.{points_of}
 use Rattle.plane_geom.specs.Spots.{reals_of}
 use Rattle.rule_model.specs.Views.{rule_of}

@@ -1,7 +1,7 @@
 use Rattle.std.proofs.Common.{◌-◌, ◌&&◌, Bool, not, length, sym, ap, ◌∙◌}
-use Rattle.ordered_plane.specs.Segment.{on_segment}
-use Rattle.substitution.specs.RuleParts.{vertices_of}
-use Rattle.edge_to_edge.specs.Star.{corner}
+use Rattle.theory_plane.specs.Segment.{on_segment}
+use Rattle.theory_substitution.specs.RuleParts.{vertices_of}
+use Rattle.theory_edge_to_edge.specs.Star.{corner}
 use Rattle.cyclo_points.specs.Order.{points_of}
 use Rattle.plane_geom.specs.Spots.{reals_of}
 use Rattle.rule_model.specs.Views.{rule_of}

@@ -1,11 +1,11 @@
 use Rattle.std.proofs.Common.{arith, length, sym, ap, ◌∙◌}
-use Rattle.substitution.specs.RuleParts.{vertices_of}
-use Rattle.addressing.specs.Search.{unless}
-use Rattle.edge_to_edge.specs.Star.{is_star}
+use Rattle.theory_substitution.specs.RuleParts.{vertices_of}
+use Rattle.theory_addresses.specs.Search.{unless}
+use Rattle.theory_edge_to_edge.specs.Star.{is_star}
 use Rattle.cyclo_points.specs.Order.{points_of}
 use Rattle.rule_model.specs.Views.{rule_of}
 use Rattle.dissect_check.specs.declared.check_fault.CheckFault.TheVariants.{NotStar}
-use Rattle.addressing.proofs.Searches.{first_below-stop, first_below-step}
+use Rattle.theory_addresses.proofs.Searches.{first_below-stop, first_below-step}
 use Rattle.dissect_check.proofs.stars.stars.Goals as goal
 
 pub returns-then-not-is_star : goal.returns-then-not-is_star

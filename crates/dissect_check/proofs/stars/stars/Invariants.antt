@@ -1,7 +1,7 @@
 use Rattle.std.proofs.Common.{◌≡◌, None}
-use Rattle.substitution.specs.RuleParts.{vertices_of}
-use Rattle.addressing.specs.Search.{unless, first_below}
-use Rattle.edge_to_edge.specs.Star.{is_star}
+use Rattle.theory_substitution.specs.RuleParts.{vertices_of}
+use Rattle.theory_addresses.specs.Search.{unless, first_below}
+use Rattle.theory_edge_to_edge.specs.Star.{is_star}
 use Rattle.cyclo_points.specs.Order.{points_of}
 use Rattle.rule_model.specs.Views.{rule_of}
 use Rattle.dissect_check.specs.declared.check_fault.CheckFault.TheVariants.{NotStar}

@@ -1,5 +1,5 @@
 use Rattle.std.proofs.Common.{◌≡◌, ℕ, ◌-◌, ◌<◌, get_or}
-use Rattle.substitution.specs.RuleParts.{mate, parts}
+use Rattle.theory_substitution.specs.RuleParts.{mate, parts}
 use Rattle.rule_model.specs.Views.{rule_of}
 use Rattle.dissect_check.proofs.subdivisions.is_mirrored.Given as goal
 

@@ -1,6 +1,6 @@
 use Rattle.std.proofs.Common.{◌≡◌, None}
-use Rattle.addressing.specs.Search.{unless, first_below}
-use Rattle.edge_to_edge.specs.EdgeTypes.{is_mirrored}
+use Rattle.theory_addresses.specs.Search.{unless, first_below}
+use Rattle.theory_edge_to_edge.specs.EdgeTypes.{is_mirrored}
 use Rattle.rule_model.specs.Views.{rule_of}
 use Rattle.dissect_check.specs.declared.check_fault.CheckFault.TheVariants.{BadSubdivision}
 use Rattle.dissect_check.proofs.subdivisions.subdivisions.Given as goal

@@ -3,12 +3,12 @@ use Rattle.std.specs.Prelude.{nat_eq}
 use Rattle.std.specs.List.{list_any}
 use Rattle.std.proofs.lemmas.Bool.Decides.{nat_tests}
 use Rattle.std.proofs.lemmas.List.Folds.{list_any_at}
-use Rattle.substitution.specs.Motion.{still}
-use Rattle.substitution.specs.Rule.{Rule, Child, children_of}
-use Rattle.edge_to_edge.specs.Uses.{is_used}
+use Rattle.theory_substitution.specs.Motion.{still}
+use Rattle.theory_substitution.specs.Rule.{Rule, Child, children_of}
+use Rattle.theory_edge_to_edge.specs.Uses.{is_used}
 use Rattle.cyclo_points.specs.Order.{NumberOf, points_of}
 use Rattle.rule_model.specs.Views.{rule_of}
-use Rattle.addressing.proofs.BoolLoops.{some_below-found, some_below-more, list_any-step, list_any-end}
+use Rattle.theory_addresses.proofs.BoolLoops.{some_below-found, some_below-more, list_any-step, list_any-end}
 use Rattle.dissect_check.proofs.uses.is_used.Goals as goal
 
 equal : (a b : ℕ) → a ≡ b → nat_eq a b ≡ true
@@ -18,7 +18,8 @@ unequal : (a b : ℕ) → a ≢ b → nat_eq a b ≡ false
 unequal a b e = grind (arith, nat_tests)
 
 -- n is the kind of child number i of kind p
-module _ {A : Type 0} (r : Rule A) (kind p i n : ℕ) (none : Child A) (n_is : n ≡ (get_or (children_of r p) i none).kind) (i_in : i < length (children_of r p)) where
+module _ {A : Type 0} (r : Rule A) (kind p i n : ℕ) (none : Child A)
+    (n_is : n ≡ (get_or (children_of r p) i none).kind) (i_in : i < length (children_of r p)) where
   found : p < length r.kinds → n ≡ kind → true ≡ is_used r kind
   found l e =
       sym (some_below-found (λ q. list_any (λ (c : Child A). nat_eq c.kind kind) (children_of r q)) p (length r.kinds)
@@ -34,7 +35,8 @@ returns-then-from-kind c =
     let r = rule_of c.args.rule.now in
     let p = c.loop-parent.parent in
     let i = c.loop-child.child in
-    found r c.args.kind p i c.from.result (record { kind = 0; motion = still (points_of o) }) (c.from.ensures ∙ ap (λ (x : Child (NumberOf o)). x.kind) (c.child.ensures.numbers o))
+    found r c.args.kind p i c.from.result (record { kind = 0; motion = still (points_of o) })
+    (c.from.ensures ∙ ap (λ (x : Child (NumberOf o)). x.kind) (c.child.ensures.numbers o))
     (omega (arith, c.child_count-child-end.ensures.numbers o)) (omega (arith, c.kind_count-parent-end.ensures.numbers o)) c.if-from-kind.true
 
 pub loop-child-preserved : goal.loop-child-preserved
@@ -43,7 +45,8 @@ loop-child-preserved c =
     let r = rule_of c.args.rule.now in
     let p = c.loop-parent.parent in
     let i = c.loop-child.child in
-    passed r c.args.kind p i c.from.result (record { kind = 0; motion = still (points_of o) }) (c.from.ensures ∙ ap (λ (x : Child (NumberOf o)). x.kind) (c.child.ensures.numbers o))
+    passed r c.args.kind p i c.from.result (record { kind = 0; motion = still (points_of o) })
+    (c.from.ensures ∙ ap (λ (x : Child (NumberOf o)). x.kind) (c.child.ensures.numbers o))
     (omega (arith, c.child_count-child-end.ensures.numbers o)) c.loop-child.invariant c.if-from-kind.false
 
 pub loop-parent-preserved : goal.loop-parent-preserved

@@ -1,6 +1,6 @@
 use Rattle.std.proofs.Common.{◌≡◌, None}
-use Rattle.addressing.specs.Search.{unless, first_below}
-use Rattle.edge_to_edge.specs.Uses.{is_used}
+use Rattle.theory_addresses.specs.Search.{unless, first_below}
+use Rattle.theory_edge_to_edge.specs.Uses.{is_used}
 use Rattle.rule_model.specs.Views.{rule_of}
 use Rattle.dissect_check.specs.declared.check_fault.CheckFault.TheVariants.{Unused}
 use Rattle.dissect_check.proofs.uses.uses.Given as goal

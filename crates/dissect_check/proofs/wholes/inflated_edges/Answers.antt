@@ -1,11 +1,11 @@
 use Rattle.std.proofs.Common.{[], ◌∷◌, ◌++◌, map, sym, ap, ap₂, ◌∙◌}
 use Rattle.std.proofs.lemmas.List.{map_push}
 use Rattle.std.proofs.lemmas.List.Elements.{All-push, All-same}
-use Rattle.edge_to_edge.specs.Edges.{inflated_edge}
+use Rattle.theory_edge_to_edge.specs.Edges.{inflated_edge}
 use Rattle.cyclo_points.specs.Order.{points_of}
 use Rattle.rule_model.specs.Views.{rule_of}
 use Rattle.dissect_check.specs.Views.{line_in, IsSmallLine}
-use Rattle.addressing.proofs.Searches.{below-more}
+use Rattle.theory_addresses.proofs.Searches.{below-more}
 use Rattle.dissect_check.proofs.wholes.inflated_edges.Goals as goal
 
 pub loop-edge-preserved : goal.loop-edge-preserved

@@ -1,6 +1,6 @@
 use Rattle.std.proofs.Common.{◌≡◌, map, All}
-use Rattle.addressing.specs.Search.{below}
-use Rattle.edge_to_edge.specs.Edges.{inflated_edge}
+use Rattle.theory_addresses.specs.Search.{below}
+use Rattle.theory_edge_to_edge.specs.Edges.{inflated_edge}
 use Rattle.cyclo_points.specs.Order.{points_of}
 use Rattle.rule_model.specs.Views.{rule_of}
 use Rattle.dissect_check.specs.Views.{line_in, IsSmallLine}

@@ -19,5 +19,12 @@ loop-number-preserved c = λ f.
     let p : Pair = c.index.result.now in
     c.in_ok-push.ensures.items ∙ ap (λ (ks : List OrderKey). ks ++ c.of.result ∷ []) (c.loop-number.invariant f)
     ∙ ap (λ (key : OrderKey). first_keys (take k wholes) ++ key ∷ [])
-    (c.of.ensures ∙ ap (λ (x : PlacedTile). key_of x.motion x.kind k) (c.tile_of-first.ensures ∙ ap (λ (xs : List PlacedTile). tile_of (c.args.tiles.now ++ xs) p.first) c.as_slice.ensures.value))
-    ∙ sym (first-more f all pairs k p (omega (arith, c.loop-number-test.true, c.len-count.ensures, c.args.made.now.pairs.ok)) c.index.ensures) ∙ ap (λ n. first_keys (take n wholes)) (sym (add-one k))
+    (c.of.ensures ∙ ap (λ (x : PlacedTile). key_of x.motion x.kind k)
+    (c.tile_of-first.ensures ∙ ap (λ (xs : List PlacedTile). tile_of (c.args.tiles.now ++ xs) p.first)
+    c.as_slice.ensures.value))
+    ∙ sym (first-more f all pairs k p (omega (
+      arith,
+      c.loop-number-test.true,
+      c.len-count.ensures,
+      c.args.made.now.pairs.ok,
+    )) c.index.ensures) ∙ ap (λ n. first_keys (take n wholes)) (sym (add-one k))

@@ -5,4 +5,5 @@ use Rattle.half_glue.specs.Lifted.{wholes_of}
 use Rattle.half_glue.proofs.arranged.keys.Given as goal
 
 abbrev pub invariant-loop-number : goal.invariant-loop-number
-invariant-loop-number l = (f : FrameValue) → l.keys.items ≡ first_keys (take l.number (wholes_of f (l.fn.tiles ++ l.fn.made.crossed.items) l.fn.made.pairs.items))
+invariant-loop-number l = (f : FrameValue) → l.keys.items ≡ first_keys
+    (take l.number (wholes_of f (l.fn.tiles ++ l.fn.made.crossed.items) l.fn.made.pairs.items))

@@ -2,7 +2,7 @@ use Rattle.std.proofs.Common.{◌≡◌, ◌<◌, arith, length, true, false, Li
 use Rattle.tile_place.specs.declared.placed_tile.PlacedTile.{PlacedTile}
 use Rattle.half_glue.specs.declared.pairs.Pair.{Pair}
 use Rattle.half_glue.specs.declared.whole_tile.WholeTile.{WholeTile}
-use Rattle.addressing.specs.Search.{chosen_below}
+use Rattle.theory_addresses.specs.Search.{chosen_below}
 use Rattle.half_glue.specs.Keys.{no_key, is_new, whole_at}
 use Rattle.half_glue.specs.Lifted.{whole_of, wholes_of}
 use Rattle.half_glue.proofs.Firsts.{whole-there}
@@ -24,7 +24,8 @@ loop-place-preserved c = λ blank.
           let one : w.whole.result ≡ whole_at made blank ks n =
           w.whole.ensures ∙ ap (λ (xs : List PlacedTile). whole_of c.args.frame.now (c.args.tiles.now ++ xs) p) w.as_slice.ensures.value
           ∙ sym (whole-there c.args.frame.now all pairs (get_or ks n no_key).number p below w.index-pair.ensures blank) in
-          ap (λ v. v.items) w.wholes-is ∙ w.in_ok-push.ensures.items ∙ ap₂ (λ (ws : List WholeTile) (v : WholeTile). ws ++ v ∷ []) (c.loop-place.invariant blank) one
+          ap (λ v. v.items) w.wholes-is ∙ w.in_ok-push.ensures.items
+          ∙ ap₂ (λ (ws : List WholeTile) (v : WholeTile). ws ++ v ∷ []) (c.loop-place.invariant blank) one
           ∙ sym (chosen-more (is_new ks) (whole_at made blank ks) n true (sym c.is_new.ensures ∙ w.if-is_new.true))
       | else-is_new w ↦
           ap (λ v. v.items) w.wholes-is ∙ c.loop-place.invariant blank ∙ sym (append-nil _)

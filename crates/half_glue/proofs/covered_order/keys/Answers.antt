@@ -19,4 +19,9 @@ loop-number-preserved c = λ f.
     let p : Pair = c.index.result.now in
     c.in_ok-push.ensures.items ∙ ap (λ (ks : List OrderKey). ks ++ c.key_of.result ∷ []) (c.loop-number.invariant f)
     ∙ ap (λ (key : OrderKey). first_keys (take k wholes) ++ key ∷ []) c.key_of.ensures
-    ∙ sym (first-more f all pairs k p (omega (arith, c.loop-number-test.true, c.len-count.ensures, c.args.made.now.pairs.ok)) c.index.ensures) ∙ ap (λ n. first_keys (take n wholes)) (sym (add-one k))
+    ∙ sym (first-more f all pairs k p (omega (
+      arith,
+      c.loop-number-test.true,
+      c.len-count.ensures,
+      c.args.made.now.pairs.ok,
+    )) c.index.ensures) ∙ ap (λ n. first_keys (take n wholes)) (sym (add-one k))

@@ -9,7 +9,7 @@ use Rattle.half_glue.specs.declared.pairs.Pair.{Pair}
 use Rattle.half_glue.specs.declared.whole_tile.WholeTile.{WholeTile}
 use Rattle.half_glue.specs.Arranged.{AreArranged}
 use Rattle.half_glue.specs.InOrder.{AreInOrder}
-use Rattle.addressing.specs.Search.{chosen_below}
+use Rattle.theory_addresses.specs.Search.{chosen_below}
 use Rattle.half_glue.specs.Keys.{HasKey, key_order, first_keys, is_new, pair_at, whole_at}
 use Rattle.half_glue.specs.Lifted.{whole_of, wholes_of}
 use Rattle.half_glue.specs.Pairs.{ArePresent}
@@ -38,7 +38,9 @@ module _ (c : In_ok-keys) where
     own-mixed f = subst (λ (xs : List OrderKey). IsPermutation xs ks) (c.in_ok-keys.ensures f) mixed
 
     numbered : All (λ (k : OrderKey). k.number < length pairs) ks
-    numbered = subst (λ n. All (λ (k : OrderKey). k.number < n) ks) (length-map pairs (whole_of some_frame all)) (arranged-numbered (made some_frame) ks (own-mixed some_frame))
+    numbered = subst (λ n. All (λ (k : OrderKey). k.number < n) ks)
+        (length-map pairs (whole_of some_frame all))
+        (arranged-numbered (made some_frame) ks (own-mixed some_frame))
 
     fit : (f : FrameValue) → All (λ (w : WholeTile). HasKey w.first) (made f)
     fit f = firsts-fit f all pairs c.requires.fit c.requires.numbered
@@ -65,19 +67,34 @@ picked-requires c = record {
 }
 
 -- what is picked
-picked-is : (pairs : List Pair) (ks xs : List OrderKey) → xs ≡ ks → (ps : List Pair) → ps ≡ chosen_below (is_new xs) (pair_at pairs xs) (length xs) → chosen_below (is_new ks) (pair_at pairs ks) (length ks) ≡ ps
+picked-is : (pairs : List Pair) (ks xs : List OrderKey) → xs ≡ ks → (ps : List Pair)
+    → ps ≡ chosen_below (is_new xs) (pair_at pairs xs) (length xs)
+    → chosen_below (is_new ks) (pair_at pairs ks) (length ks) ≡ ps
 picked-is pairs ks xs e ps h = sym (h ∙ ap (λ (ys : List OrderKey). chosen_below (is_new ys) (pair_at pairs ys) (length ys)) e)
 
 pub returns-clause-numbered : goal.returns-clause-numbered
 returns-clause-numbered c =
-    IfOk-weaker c.picked.result _ _ (λ ps h. subst (All (ArePresent (length (all (goal.at.returns-clause-numbered c).In_ok-keys)))) (picked-is c.args.made.now.pairs.items c.sort_unstable.new.self.items c.as_slice.result.now c.as_slice.ensures.value ps.items h) (present (goal.at.returns-clause-numbered c).In_ok-keys c.sort_unstable.new.self.items c.sort_unstable.ensures.permutation)) c.picked.ensures
+    IfOk-weaker c.picked.result _ _ (λ ps h. subst
+    (All (ArePresent (length (all (goal.at.returns-clause-numbered c).In_ok-keys))))
+    (picked-is c.args.made.now.pairs.items c.sort_unstable.new.self.items c.as_slice.result.now
+    c.as_slice.ensures.value ps.items h) (present (goal.at.returns-clause-numbered c).In_ok-keys
+    c.sort_unstable.new.self.items c.sort_unstable.ensures.permutation)) c.picked.ensures
 
 pub returns-clause-in_order : goal.returns-clause-in_order
 returns-clause-in_order c =
-    IfOk-weaker c.picked.result _ _ (λ ps h f. subst (λ (qs : List Pair). AreInOrder (wholes_of f (all (goal.at.returns-clause-in_order c).In_ok-keys) qs)) (picked-is c.args.made.now.pairs.items c.sort_unstable.new.self.items c.as_slice.result.now c.as_slice.ensures.value ps.items h)
-    (in-order (goal.at.returns-clause-in_order c).In_ok-keys c.sort_unstable.new.self.items c.sort_unstable.ensures.permutation c.sort_unstable.ensures.sorted f)) c.picked.ensures
+    IfOk-weaker c.picked.result _ _ (λ ps h f. subst
+    (λ (qs : List Pair). AreInOrder (wholes_of f (all (goal.at.returns-clause-in_order c).In_ok-keys) qs))
+    (picked-is c.args.made.now.pairs.items c.sort_unstable.new.self.items c.as_slice.result.now
+    c.as_slice.ensures.value ps.items h)
+    (in-order (goal.at.returns-clause-in_order c).In_ok-keys c.sort_unstable.new.self.items
+    c.sort_unstable.ensures.permutation c.sort_unstable.ensures.sorted f)) c.picked.ensures
 
 pub returns-clause-same : goal.returns-clause-same
 returns-clause-same c =
-    IfOk-weaker c.picked.result _ _ (λ ps h f. subst (λ (qs : List Pair). AreArranged (made (goal.at.returns-clause-same c).In_ok-keys f) (wholes_of f (all (goal.at.returns-clause-same c).In_ok-keys) qs)) (picked-is c.args.made.now.pairs.items c.sort_unstable.new.self.items c.as_slice.result.now c.as_slice.ensures.value ps.items h)
-    (same (goal.at.returns-clause-same c).In_ok-keys c.sort_unstable.new.self.items c.sort_unstable.ensures.permutation c.sort_unstable.ensures.sorted f)) c.picked.ensures
+    IfOk-weaker c.picked.result _ _ (λ ps h f. subst
+    (λ (qs : List Pair). AreArranged (made (goal.at.returns-clause-same c).In_ok-keys f)
+    (wholes_of f (all (goal.at.returns-clause-same c).In_ok-keys) qs))
+    (picked-is c.args.made.now.pairs.items c.sort_unstable.new.self.items c.as_slice.result.now
+    c.as_slice.ensures.value ps.items h)
+    (same (goal.at.returns-clause-same c).In_ok-keys c.sort_unstable.new.self.items
+    c.sort_unstable.ensures.permutation c.sort_unstable.ensures.sorted f)) c.picked.ensures

@@ -1,7 +1,7 @@
 use Rattle.std.proofs.Common.{◌≡◌, ◌<◌, arith, length, true, false, List, [], ◌∷◌, ◌++◌, sym, ap, ap₂, ◌∙◌, append-nil, get_or}
 use Rattle.std.proofs.lemmas.List.{get_or_default}
 use Rattle.half_glue.specs.declared.pairs.Pair.{Pair}
-use Rattle.addressing.specs.Search.{chosen_below}
+use Rattle.theory_addresses.specs.Search.{chosen_below}
 use Rattle.half_glue.specs.Keys.{no_key, no_pair, is_new, pair_at}
 use Rattle.half_glue.proofs.Keyed.{chosen-more}
 use Rattle.half_glue.proofs.covered_order.picked.Goals.{then-is_new+in_ok-push, else-is_new}

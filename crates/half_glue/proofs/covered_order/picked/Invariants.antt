@@ -1,5 +1,5 @@
 use Rattle.std.proofs.Common.{◌≡◌}
-use Rattle.addressing.specs.Search.{chosen_below}
+use Rattle.theory_addresses.specs.Search.{chosen_below}
 use Rattle.half_glue.specs.Keys.{is_new, pair_at}
 use Rattle.half_glue.proofs.covered_order.picked.Given as goal
 

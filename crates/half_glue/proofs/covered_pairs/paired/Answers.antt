@@ -19,7 +19,8 @@ use Rattle.half_glue.proofs.covered_pairs.paired.Goals as goal
 
 pub other_half-requires-clause-given : goal.other_half-requires-clause-given
 other_half-requires-clause-given g c =
-    all-on c.args.machine.now c.glue_laws.ensures c.args.frame.now c.loop-number.frame c.requires.frame c.loop-number.invariant.0.grows c.args.tiles.now c.requires.given
+    all-on c.args.machine.now c.glue_laws.ensures c.args.frame.now c.loop-number.frame c.requires.frame
+    c.loop-number.invariant.0.grows c.args.tiles.now c.requires.given
 
 pub returns-in_err-found-clause-cause : goal.returns-in_err-found-clause-cause
 returns-in_err-found-clause-cause g c =
@@ -27,7 +28,13 @@ returns-in_err-found-clause-cause g c =
     let i = c.loop-number.number in
     let x = tile_of tiles i in
     if_err-is _ c.from_residual-in_err-found.result c.in_err-found.field-0.0 c.from_residual-in_err-found.ensures.1
-    (cause-of (tiling_of c.args.machine.now) c.args.frame.now c.loop-number.frame c.loop-number.invariant.0.grows tiles x (i, (subst (λ n. c.loop-number.number < n) c.len-count.ensures c.loop-number-test.true), get_or_default tiles i x no_tile (subst (λ n. c.loop-number.number < n) c.len-count.ensures c.loop-number-test.true))
+    (cause-of (tiling_of c.args.machine.now) c.args.frame.now c.loop-number.frame
+    c.loop-number.invariant.0.grows tiles x (
+      i,
+      (subst (λ n. c.loop-number.number < n) c.len-count.ensures c.loop-number-test.true),
+      get_or_default
+          tiles i x no_tile (subst (λ n. c.loop-number.number < n) c.len-count.ensures c.loop-number-test.true),
+    )
     c.other_half.new.frame c.in_err-found.field-0.0 c.in_err-found.ensures.cause)
 
 pub loop-number-preserved : goal.loop-number-preserved
@@ -46,28 +53,48 @@ loop-number-preserved g c =
     let up = c.in_ok-found.ensures.frame in
     let all_now = all-on c.args.machine.now L old now c.requires.frame settled.grows tiles c.requires.given in
     let all_after = all-on c.args.machine.now L now after settled.grows.is_frame up tiles all_now in
-    let paired = paired-on c.args.machine.now L now after settled.grows.is_frame up tiles (length inner) i c.loop-number.outer.crossed.items (inner ++ c.loop-number.outer.pairs.items) (omega (arith, below)) all_now c.loop-number.invariant.1 in
+    let paired = paired-on c.args.machine.now L now after settled.grows.is_frame up tiles (length inner) i
+    c.loop-number.outer.crossed.items (inner ++ c.loop-number.outer.pairs.items) (omega (arith, below))
+    all_now c.loop-number.invariant.1 in
     let more : List Pair = added_pairs tiles i (length c.loop-number.outer.crossed.items) c.in_ok-found.found in (
-      one-more c.args.machine.now L old now c.requires.frame tiles c.requires.given i below x (get_or_default tiles i x no_tile below) settled after up c.in_ok-found.ensures.inside c.in_ok-found.ensures.can_be_joined c.in_ok-found.ensures.least,
-      subst (λ (ps : List Pair). ArePaired t after tiles (length inner) (i + 1) c.put_covered.new.made.crossed.items ps) (sym (ap (λ (ps : List Pair). inner ++ ps) c.in_ok-put_covered.ensures.pairs ∙ sym (append_assoc inner c.loop-number.outer.pairs.items more)))
-          (subst (λ (xs : List PlacedTile). ArePaired t after tiles (length inner) (i + 1) xs ((inner ++ c.loop-number.outer.pairs.items) ++ more)) (sym c.in_ok-put_covered.ensures.crossed)
-          (taken-too t after tiles (length inner) i below c.loop-number.outer.crossed.items (inner ++ c.loop-number.outer.pairs.items) all_after paired c.in_ok-found.found c.in_ok-found.ensures.found)),
+      one-more c.args.machine.now L old now c.requires.frame tiles c.requires.given i below x
+          (get_or_default tiles i x no_tile below) settled after up c.in_ok-found.ensures.inside
+          c.in_ok-found.ensures.can_be_joined c.in_ok-found.ensures.least,
+      subst (λ (ps : List Pair). ArePaired t after tiles (length inner) (i + 1)
+          c.put_covered.new.made.crossed.items ps)
+          (sym (ap (λ (ps : List Pair). inner ++ ps) c.in_ok-put_covered.ensures.pairs
+          ∙ sym (append_assoc inner c.loop-number.outer.pairs.items more)))
+          (subst (λ (xs : List PlacedTile). ArePaired t after tiles (length inner) (i + 1) xs
+          ((inner ++ c.loop-number.outer.pairs.items) ++ more)) (sym c.in_ok-put_covered.ensures.crossed)
+          (taken-too t after tiles (length inner) i below c.loop-number.outer.crossed.items
+          (inner ++ c.loop-number.outer.pairs.items) all_after paired c.in_ok-found.found
+          c.in_ok-found.ensures.found)),
     )
 
 pub returns-clause-paired : goal.returns-clause-paired
 returns-clause-paired g c =
-    all-paired (tiling_of c.args.machine.now) c.loop-number.frame c.args.tiles.now (length c.in_ok-inner.inner.items) c.loop-number.number c.loop-number.outer.crossed.items (c.in_ok-inner.inner.items ++ c.loop-number.outer.pairs.items)
-    c.in_ok-inner.ensures.rising.few (omega (arith, c.loop-number.auto.number-end, c.len-count.ensures)) (λ l. omega (arith, l, c.loop-number-test.false, c.len-count.ensures)) c.loop-number.invariant.1
+    all-paired (tiling_of c.args.machine.now) c.loop-number.frame c.args.tiles.now
+    (length c.in_ok-inner.inner.items) c.loop-number.number c.loop-number.outer.crossed.items
+    (c.in_ok-inner.inner.items ++ c.loop-number.outer.pairs.items)
+    c.in_ok-inner.ensures.rising.few (omega (arith, c.loop-number.auto.number-end, c.len-count.ensures))
+    (λ l. omega (arith, l, c.loop-number-test.false, c.len-count.ensures)) c.loop-number.invariant.1
 
 pub returns-clause-least : goal.returns-clause-least
 returns-clause-least g c = record {
-  inside = subst (All (IsGluedInside (tiling_of c.args.machine.now) c.args.frame.now (length c.loop-number.frame.digits))) (take_all c.loop-number.number c.args.tiles.now (subst (λ n. n ≤ c.loop-number.number) c.len-count.ensures c.loop-number-test.false)) c.loop-number.invariant.0.inside;
+  inside = subst (All (IsGluedInside (tiling_of c.args.machine.now) c.args.frame.now
+      (length c.loop-number.frame.digits))) (take_all c.loop-number.number c.args.tiles.now
+      (subst (λ n. n ≤ c.loop-number.number) c.len-count.ensures c.loop-number-test.false))
+      c.loop-number.invariant.0.inside;
   least = c.loop-number.invariant.0.least;
 }
 
 pub returns-clause-within : goal.returns-clause-within
 returns-clause-within g c =
-    subst (All (CanBeJoined (tiling_of c.args.machine.now) (full (tiling_of c.args.machine.now) c.args.frame.now))) (take_all c.loop-number.number c.args.tiles.now (subst (λ n. n ≤ c.loop-number.number) c.len-count.ensures c.loop-number-test.false)) c.loop-number.invariant.0.joined
+    subst (All (CanBeJoined (tiling_of c.args.machine.now)
+    (full (tiling_of c.args.machine.now) c.args.frame.now)))
+    (take_all c.loop-number.number c.args.tiles.now
+    (subst (λ n. n ≤ c.loop-number.number) c.len-count.ensures c.loop-number-test.false))
+    c.loop-number.invariant.0.joined
 
 pub returns-in_err-found-clause-not_beyond : goal.returns-in_err-found-clause-not_beyond
 returns-in_err-found-clause-not_beyond g c =
@@ -75,7 +102,12 @@ returns-in_err-found-clause-not_beyond g c =
     let i = c.loop-number.number in
     let x = tile_of tiles i in
     let settled = c.loop-number.invariant.0 in
-    left-behind (tiling_of c.args.machine.now) c.args.frame.now c.loop-number.frame settled.grows tiles x (i, (subst (λ n. c.loop-number.number < n) c.len-count.ensures c.loop-number-test.true), get_or_default tiles i x no_tile (subst (λ n. c.loop-number.number < n) c.len-count.ensures c.loop-number-test.true))
+    left-behind (tiling_of c.args.machine.now) c.args.frame.now c.loop-number.frame settled.grows tiles x (
+      i,
+      (subst (λ n. c.loop-number.number < n) c.len-count.ensures c.loop-number-test.true),
+      get_or_default tiles i x no_tile (subst (λ n. c.loop-number.number < n) c.len-count.ensures
+          c.loop-number-test.true),
+    )
     settled.least c.other_half.new.frame c.in_err-found.ensures.least
 
 pub returns-in_err-put_covered-clause-not_beyond : goal.returns-in_err-put_covered-clause-not_beyond
@@ -84,14 +116,20 @@ returns-in_err-put_covered-clause-not_beyond g c =
     let i = c.loop-number.number in
     let x = tile_of tiles i in
     let settled = c.loop-number.invariant.0 in
-    left-behind (tiling_of c.args.machine.now) c.args.frame.now c.loop-number.frame settled.grows tiles x (i, (subst (λ n. c.loop-number.number < n) c.len-count.ensures c.loop-number-test.true), get_or_default tiles i x no_tile (subst (λ n. c.loop-number.number < n) c.len-count.ensures c.loop-number-test.true))
+    left-behind (tiling_of c.args.machine.now) c.args.frame.now c.loop-number.frame settled.grows tiles x (
+      i,
+      (subst (λ n. c.loop-number.number < n) c.len-count.ensures c.loop-number-test.true),
+      get_or_default tiles i x no_tile (subst (λ n. c.loop-number.number < n) c.len-count.ensures
+          c.loop-number-test.true),
+    )
     settled.least c.other_half.new.frame c.in_ok-found.ensures.least
 
 pub returns-clause-not_beyond : goal.returns-clause-not_beyond
 returns-clause-not_beyond g c = c.loop-number.invariant.0.least
 
 pub inner_pairs-requires-clause-placed : goal.inner_pairs-requires-clause-placed
-inner_pairs-requires-clause-placed g c = are-placed c.args.machine.now c.glue_laws.ensures c.args.frame.now c.requires.frame c.args.tiles.now c.requires.given
+inner_pairs-requires-clause-placed g c = are-placed c.args.machine.now c.glue_laws.ensures c.args.frame.now
+    c.requires.frame c.args.tiles.now c.requires.given
 
 pub loop-number-init : goal.loop-number-init
 loop-number-init g c =
@@ -99,10 +137,17 @@ loop-number-init g c =
     let f = c.args.frame.now in
     let tiles : List PlacedTile = c.args.tiles.now in
     let inner : List Pair = c.in_ok-inner.inner.items in (
-      record { grows = GrowsTo-self t f c.requires.frame; inside = All-nil (IsGluedInside t f (length f.digits)); joined = All-nil (CanBeJoined t (full t f)); least = λ k l h. absurd (omega (arith, l, h)) },
+      record {
+        grows = GrowsTo-self t f c.requires.frame;
+        inside = All-nil (IsGluedInside t f (length f.digits));
+        joined = All-nil (CanBeJoined t (full t f));
+        least = λ k l h. absurd (omega (arith, l, h));
+      },
       subst (λ (xs : List PlacedTile). ArePaired t f tiles (length inner) 0 xs (inner ++ c.new-2.result.items)) (sym c.new-3.ensures.items)
           (subst (λ (ps : List Pair). ArePaired t f tiles (length inner) 0 [] (inner ++ ps)) (sym c.new-2.ensures.items)
-          (none-crossed c.args.machine.now c.glue_laws.ensures f c.requires.frame tiles inner c.inner_pairs.new.taken (c.in_ok-inner.ensures.inner f c.requires.frame c.requires.given) c.requires.given)),
+          (none-crossed c.args.machine.now c.glue_laws.ensures f c.requires.frame tiles inner
+          c.inner_pairs.new.taken (c.in_ok-inner.ensures.inner f c.requires.frame c.requires.given)
+          c.requires.given)),
     )
 
 pub loop-number-preserved-then-index : goal.loop-number-preserved-then-index
@@ -128,8 +173,11 @@ loop-number-preserved-then-index g c =
     let set = read-mark c.in_ok-taken.taken.len marks _ i _ c.index.result.now c.index.ensures room inside c.if-index.true in
     let h = c.in_ok-inner.ensures.inner now is (all-on c.args.machine.now L old now c.requires.frame settled.grows tiles c.requires.given) in
     let own = taken-settled c.args.machine.now L now is tiles inner marks h i set in (
-      one-more c.args.machine.now L old now c.requires.frame tiles c.requires.given i below x (get_or_default tiles i x no_tile below) settled now (GrowsTo-self t now is) own.0 own.1 (λ n l k. absurd (omega (arith, l, k))),
-      taken-before t now tiles (length inner) i crossed (inner ++ outer) c.loop-number.invariant.1 (inner-taken c.args.machine.now L now is tiles inner marks h crossed outer i set),
+      one-more c.args.machine.now L old now c.requires.frame tiles c.requires.given i below x
+          (get_or_default tiles i x no_tile below) settled now (GrowsTo-self t now is) own.0 own.1
+          (λ n l k. absurd (omega (arith, l, k))),
+      taken-before t now tiles (length inner) i crossed (inner ++ outer) c.loop-number.invariant.1
+          (inner-taken c.args.machine.now L now is tiles inner marks h crossed outer i set),
     )
 
 pub returns-in_err-found-clause-answered : goal.returns-in_err-found-clause-answered
@@ -138,4 +186,7 @@ returns-in_err-found-clause-answered g c = λ can.
     let tiles : List PlacedTile = c.args.tiles.now in
     let i = c.loop-number.number in
     let below : i < length tiles = subst (λ n. i < n) c.len-count.ensures c.loop-number-test.true in
-    absurd (cc (c.in_err-found.ensures.answered (subst (λ y. CanBeJoined t y (tile_of tiles i)) (sym (full-later t c.args.frame.now c.loop-number.frame c.loop-number.invariant.0.grows)) (can i no_tile below))))
+    absurd (cc (c.in_err-found.ensures.answered
+    (subst (λ y. CanBeJoined t y (tile_of tiles i))
+    (sym (full-later t c.args.frame.now c.loop-number.frame c.loop-number.invariant.0.grows))
+    (can i no_tile below))))

@@ -7,4 +7,5 @@ use Rattle.half_glue.proofs.covered_pairs.paired.Given as goal
 abbrev pub invariant-loop-number : goal.invariant-loop-number
 invariant-loop-number g l =
     AreSettled (tiling_of l.fn.machine) l.fn.frame l.frame l.fn.tiles (take l.number l.fn.tiles)
-    × ArePaired (tiling_of l.fn.machine) l.frame l.fn.tiles (length l.inner.items) l.number l.outer.crossed.items (l.inner.items ++ l.outer.pairs.items)
+    × ArePaired (tiling_of l.fn.machine) l.frame l.fn.tiles (length l.inner.items) l.number
+    l.outer.crossed.items (l.inner.items ++ l.outer.pairs.items)

@@ -10,13 +10,19 @@ arranged-requires-clause-numbered g c = c.in_ok-made.ensures.paired.present
 
 pub arranged-requires-clause-fit : goal.arranged-requires-clause-fit
 arranged-requires-clause-fit g c =
-    all-keyed c.args.machine.now c.glue_laws.ensures c.paired.new.frame c.in_ok-made.ensures.frame.is_frame c.args.tiles.now c.in_ok-made.made.crossed.items c.in_ok-made.made.pairs.items c.in_ok-made.ensures.paired
+    all-keyed c.args.machine.now c.glue_laws.ensures c.paired.new.frame c.in_ok-made.ensures.frame.is_frame
+    c.args.tiles.now c.in_ok-made.made.crossed.items c.in_ok-made.made.pairs.items
+    c.in_ok-made.ensures.paired
 
 pub arranged-requires-clause-no_deeper : goal.arranged-requires-clause-no_deeper
 arranged-requires-clause-no_deeper g c =
-    all-no_deeper c.args.machine.now c.glue_laws.ensures c.paired.new.frame c.in_ok-made.ensures.frame.is_frame c.args.tiles.now c.in_ok-made.made.crossed.items c.in_ok-made.made.pairs.items c.in_ok-made.ensures.paired
+    all-no_deeper c.args.machine.now c.glue_laws.ensures c.paired.new.frame
+    c.in_ok-made.ensures.frame.is_frame c.args.tiles.now c.in_ok-made.made.crossed.items
+    c.in_ok-made.made.pairs.items c.in_ok-made.ensures.paired
 
 pub returns-clause-whole_tiles : goal.returns-clause-whole_tiles
 returns-clause-whole_tiles g c =
-    are-wholes c.args.machine.now c.glue_laws.ensures c.paired.new.frame c.in_ok-made.ensures.frame.is_frame c.args.tiles.now c.in_ok-made.made.crossed.items c.in_ok-made.made.pairs.items c.in_ok-made.ensures.paired
+    are-wholes c.args.machine.now c.glue_laws.ensures c.paired.new.frame c.in_ok-made.ensures.frame.is_frame
+    c.args.tiles.now c.in_ok-made.made.crossed.items c.in_ok-made.made.pairs.items
+    c.in_ok-made.ensures.paired
     c.in_ok-arranged.field-0.items c.in_ok-arranged.ensures.same

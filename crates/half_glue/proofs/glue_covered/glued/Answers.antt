@@ -19,12 +19,15 @@ ordered-requires-clause-few g c =
 pub ordered-requires-clause-numbered : goal.ordered-requires-clause-numbered
 ordered-requires-clause-numbered g c =
     let made = c.in_ok-made.made in
-    all-right (ArePresent (length (c.args.tiles.now ++ made.outer.crossed.items))) made.inner.items made.outer.pairs.items c.in_ok-made.ensures.paired.present
+    all-right (ArePresent (length (c.args.tiles.now ++ made.outer.crossed.items))) made.inner.items
+    made.outer.pairs.items c.in_ok-made.ensures.paired.present
 
 pub ordered-requires-clause-fit : goal.ordered-requires-clause-fit
 ordered-requires-clause-fit g c =
     let made = c.in_ok-made.made in
-    all-keyed c.args.machine.now c.glue_laws.ensures c.paired.new.frame c.in_ok-made.ensures.frame.is_frame c.args.tiles.now made.outer.crossed.items (made.inner.items ++ made.outer.pairs.items) c.in_ok-made.ensures.paired
+    all-keyed c.args.machine.now c.glue_laws.ensures c.paired.new.frame c.in_ok-made.ensures.frame.is_frame
+    c.args.tiles.now made.outer.crossed.items (made.inner.items ++ made.outer.pairs.items)
+    c.in_ok-made.ensures.paired
 
 pub merged-requires-clause-numbered : goal.merged-requires-clause-numbered
 merged-requires-clause-numbered g c =
@@ -32,7 +35,9 @@ merged-requires-clause-numbered g c =
     let sorted : List Pair = c.in_ok-sorted.sorted.items in
     subst (λ (ps : List Pair). All (λ (p : Pair). p.first < length (c.args.tiles.now ++ c.as_slice.result.now)) ps) (sym c.as_slice-3.ensures.value)
     (subst (λ (xs : List PlacedTile). All (λ (p : Pair). p.first < length (c.args.tiles.now ++ xs)) sorted) (sym c.as_slice.ensures.value)
-    (All-weaker (ArePresent (length (c.args.tiles.now ++ crossed))) (λ (p : Pair). p.first < length (c.args.tiles.now ++ crossed)) (λ p h. h.first) sorted c.in_ok-sorted.ensures.numbered))
+    (All-weaker (ArePresent (length (c.args.tiles.now ++ crossed)))
+    (λ (p : Pair). p.first < length (c.args.tiles.now ++ crossed)) (λ p h. h.first) sorted
+    c.in_ok-sorted.ensures.numbered))
 
 pub merged-requires-clause-outer_in_order : goal.merged-requires-clause-outer_in_order
 merged-requires-clause-outer_in_order g c =
@@ -54,11 +59,13 @@ returns-clause-can_be g c =
     let are : AreMerged (tiles ++ crossed) inner sorted pairs =
     subst (λ (xs : List PlacedTile). AreMerged (tiles ++ xs) inner sorted pairs) c.as_slice.ensures.value
     (subst (λ (ps : List Pair). AreMerged (tiles ++ c.as_slice.result.now) ps sorted pairs) c.as_slice-2.ensures.value
-    (subst (λ (ps : List Pair). AreMerged (tiles ++ c.as_slice.result.now) c.as_slice-2.result.now ps pairs) c.as_slice-3.ensures.value c.in_ok-pairs.ensures)) in
+    (subst (λ (ps : List Pair). AreMerged (tiles ++ c.as_slice.result.now) c.as_slice-2.result.now ps pairs)
+    c.as_slice-3.ensures.value c.in_ok-pairs.ensures)) in
     record {
       present = merged-all (ArePresent (length (tiles ++ crossed))) (tiles ++ crossed) inner sorted pairs
           (all-left (ArePresent (length (tiles ++ crossed))) inner outer c.in_ok-made.ensures.paired.present) c.in_ok-sorted.ensures.numbered are;
-      no_deeper = all-no_deeper c.args.machine.now c.glue_laws.ensures c.paired.new.frame c.in_ok-made.ensures.frame.is_frame tiles crossed (inner ++ outer) c.in_ok-made.ensures.paired;
+      no_deeper = all-no_deeper c.args.machine.now c.glue_laws.ensures c.paired.new.frame
+          c.in_ok-made.ensures.frame.is_frame tiles crossed (inner ++ outer) c.in_ok-made.ensures.paired;
     }
 
 pub returns-clause-whole_tiles : goal.returns-clause-whole_tiles
@@ -73,7 +80,8 @@ returns-clause-whole_tiles g c =
     let are : AreMerged (tiles ++ crossed) inner sorted pairs =
     subst (λ (xs : List PlacedTile). AreMerged (tiles ++ xs) inner sorted pairs) c.as_slice.ensures.value
     (subst (λ (ps : List Pair). AreMerged (tiles ++ c.as_slice.result.now) ps sorted pairs) c.as_slice-2.ensures.value
-    (subst (λ (ps : List Pair). AreMerged (tiles ++ c.as_slice.result.now) c.as_slice-2.result.now ps pairs) c.as_slice-3.ensures.value c.in_ok-pairs.ensures)) in
+    (subst (λ (ps : List Pair). AreMerged (tiles ++ c.as_slice.result.now) c.as_slice-2.result.now ps pairs)
+    c.as_slice-3.ensures.value c.in_ok-pairs.ensures)) in
     are-wholes c.args.machine.now c.glue_laws.ensures f c.in_ok-made.ensures.frame.is_frame tiles crossed (inner ++ outer) c.in_ok-made.ensures.paired
     (wholes_of f (tiles ++ crossed) pairs) (merged-arranged f (tiles ++ crossed) inner outer sorted pairs (c.in_ok-sorted.ensures.same f) are)
 
@@ -87,5 +95,6 @@ returns-clause-in_order g c =
     let are : AreMerged (tiles ++ crossed) inner sorted pairs =
     subst (λ (xs : List PlacedTile). AreMerged (tiles ++ xs) inner sorted pairs) c.as_slice.ensures.value
     (subst (λ (ps : List Pair). AreMerged (tiles ++ c.as_slice.result.now) ps sorted pairs) c.as_slice-2.ensures.value
-    (subst (λ (ps : List Pair). AreMerged (tiles ++ c.as_slice.result.now) c.as_slice-2.result.now ps pairs) c.as_slice-3.ensures.value c.in_ok-pairs.ensures)) in
+    (subst (λ (ps : List Pair). AreMerged (tiles ++ c.as_slice.result.now) c.as_slice-2.result.now ps pairs)
+    c.as_slice-3.ensures.value c.in_ok-pairs.ensures)) in
     order-wholes c.paired.new.frame (tiles ++ crossed) pairs are.in_order

@@ -1,17 +1,19 @@
 use Rattle.std.proofs.Common.{◌≡◌, ap, ◌∙◌, subst}
 use Rattle.cyclo_points.specs.Order.{PointsLaw, points_of}
-use Rattle.dissection.specs.Laws.{AcrossLaw, BoundaryLaw, CrossingLaw}
+use Rattle.theory_dissection.specs.Laws.{AcrossLaw, BoundaryLaw, CrossingLaw}
 use Rattle.rule_model.specs.declared.rule.Rule.{Rule}
 use Rattle.rule_model.specs.Tiling.{tiling_of, children}
 use Rattle.tile_shape.specs.Usable.{AreUsable}
-use Rattle.windows.specs.FrameSearch.{KnownLaw}
+use Rattle.theory_windows.specs.FrameSearch.{KnownLaw}
 use Rattle.half_glue.proofs.glue_laws.glue_laws.Goals as goal
 
 pub returns : goal.returns
 returns c =
     let m = c.args.machine.now in
     let same : c.order-order.result ≡ m.order = c.order-order.ensures.order ∙ ap (λ (r : Rule). r.order) c.checked-checked.ensures.rule in
-    let usable : AreUsable (children (tiling_of m)) = subst AreUsable (c.uses.ensures ∙ ap (λ (r : Rule). children (tiling_of r)) c.checked-checked.ensures.rule) c.kinds-usable.ensures.limits in
+    let usable : AreUsable (children (tiling_of m)) = subst AreUsable
+    (c.uses.ensures ∙ ap (λ (r : Rule). children (tiling_of r)) c.checked-checked.ensures.rule)
+    c.kinds-usable.ensures.limits in
     record {
       accepted = c.checked-checked.ensures.accepted;
       usable = c.checked-checked.ensures.usable;

@@ -15,6 +15,8 @@ returns c =
     let m = c.args.machine.now in
     let all_done : c.loop-kind.kind ≡ c.kind_count-count.result = omega (arith, c.loop-kind-test.false, c.loop-kind.auto.kind-end) in
     record {
-      each_kind = c.loop-kind.invariant.0 ∙ all_done ∙ c.kind_count-count.ensures.numbers m.order ∙ ap (λ (r : Rule). length (rule_in m.order r).kinds) (c.rule.ensures.rule ∙ c.checked.ensures.rule);
+      each_kind = c.loop-kind.invariant.0 ∙ all_done ∙ c.kind_count-count.ensures.numbers m.order
+          ∙ ap (λ (r : Rule). length (rule_in m.order r).kinds)
+          (c.rule.ensures.rule ∙ c.checked.ensures.rule);
       each = λ k l. c.loop-kind.invariant.1 k (let same = c.loop-kind.invariant.0 in omega (arith, l, same));
     }

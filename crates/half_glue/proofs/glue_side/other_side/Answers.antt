@@ -1,6 +1,6 @@
 use Rattle.std.proofs.Common.{sym, ◌∙◌, subst}
 use Rattle.std.proofs.lemmas.Bool.{eqb-true}
-use Rattle.substitution.specs.RuleParts.{mate, edge_type}
+use Rattle.theory_substitution.specs.RuleParts.{mate, edge_type}
 use Rattle.rule_model.specs.declared.rule.Rule.{Rule}
 use Rattle.rule_model.specs.Glue.{IsOnlyGlueEdge}
 use Rattle.rule_model.specs.Tiling.{tiling_of}
@@ -14,7 +14,8 @@ meets-requires-clause-edge_exists c = glue-edge-there c.args.machine.now c.glue_
 pub meets-requires-clause-other_exists : goal.meets-requires-clause-other_exists
 meets-requires-clause-other_exists c =
     glue-edge-there c.args.machine.now c.glue_laws.ensures c.loop-other.other c.in-Some.back
-    (subst (λ (r : Rule). IsOnlyGlueEdge (tiling_of r).rule c.loop-other.other c.in-Some.back) c.checked-in-loop-other.ensures.rule c.in-Some.ensures.only).glue_edge
+    (subst (λ (r : Rule). IsOnlyGlueEdge (tiling_of r).rule c.loop-other.other c.in-Some.back)
+    c.checked-in-loop-other.ensures.rule c.in-Some.ensures.only).glue_edge
 
 pub glue_motion-requires-clause-edge_exists : goal.glue_motion-requires-clause-edge_exists
 glue_motion-requires-clause-edge_exists c = glue-edge-there c.args.machine.now c.glue_laws.ensures c.args.kind c.args.edge c.requires.glue_edge
@@ -22,19 +23,24 @@ glue_motion-requires-clause-edge_exists c = glue-edge-there c.args.machine.now c
 pub glue_motion-requires-clause-other_exists : goal.glue_motion-requires-clause-other_exists
 glue_motion-requires-clause-other_exists c =
     glue-edge-there c.args.machine.now c.glue_laws.ensures c.loop-other.other c.in-Some.back
-    (subst (λ (r : Rule). IsOnlyGlueEdge (tiling_of r).rule c.loop-other.other c.in-Some.back) c.checked-in-loop-other.ensures.rule c.in-Some.ensures.only).glue_edge
+    (subst (λ (r : Rule). IsOnlyGlueEdge (tiling_of r).rule c.loop-other.other c.in-Some.back)
+    c.checked-in-loop-other.ensures.rule c.in-Some.ensures.only).glue_edge
 
 pub returns-then-meets : goal.returns-then-meets
 returns-then-meets c =
     let m = c.args.machine.now in
     let L = c.glue_laws.ensures in
     let r = (tiling_of m).rule in
-    let its = (subst (λ (r : Rule). IsOnlyGlueEdge (tiling_of r).rule c.loop-other.other c.in-Some.back) c.checked-in-loop-other.ensures.rule c.in-Some.ensures.only).glue_edge in
-    let mates = eqb-true (edge_type r c.loop-other.other c.in-Some.back) (mate r (edge_type r c.args.kind c.args.edge)) (sym c.are_mates.ensures ∙ c.if-are_mates.true) in
+    let its = (subst (λ (r : Rule). IsOnlyGlueEdge (tiling_of r).rule c.loop-other.other c.in-Some.back)
+    c.checked-in-loop-other.ensures.rule c.in-Some.ensures.only).glue_edge in
+    let mates = eqb-true (edge_type r c.loop-other.other c.in-Some.back)
+    (mate r (edge_type r c.args.kind c.args.edge)) (sym c.are_mates.ensures ∙ c.if-are_mates.true) in
     record {
       back_edge = c.in-Some.back;
       glue_edge = its;
-      other_kind = (other-edge r L.accepted.edge_to_edge.glue_right L.accepted.edge_to_edge.mates_back L.usable.numbered.glue_exists c.args.kind c.args.edge c.loop-other.other c.in-Some.back c.requires.exists c.requires.glue_edge its.exists mates).other_kind;
+      other_kind = (other-edge r L.accepted.edge_to_edge.glue_right L.accepted.edge_to_edge.mates_back
+          L.usable.numbered.glue_exists c.args.kind c.args.edge c.loop-other.other c.in-Some.back
+          c.requires.exists c.requires.glue_edge its.exists mates).other_kind;
       glues = c.glue_motion.ensures.glues;
       within = c.glue_motion.ensures.shift_within;
     }

@@ -13,7 +13,8 @@ returns-then-place-count c =
 pub returns-else-place-count : goal.returns-else-place-count
 returns-else-place-count c =
     let x = c.index-crossed-place.result in
-    let e = behind-there c.args.tiles.now c.args.crossed.now c.args.number c.len-count.result c.len-count.ensures c.if-place-count.false c.requires.below x c.index-crossed-place.is in
+    let e = behind-there c.args.tiles.now c.args.crossed.now c.args.number c.len-count.result
+    c.len-count.ensures c.if-place-count.false c.requires.below x c.index-crossed-place.is in
     let own : PlacedTile = record { kind = x.kind; motion = x.motion; addr = c.copy.result } in
     let same : ◌≡◌ {A = PlacedTile} own x = search rules in
     same ∙ sym e

@@ -12,5 +12,6 @@ returns c = λ yes.
     let below : n < length tiles = omega (arith, c.len.ensures, c.if-place-len.false) in (
       tile_of tiles n,
       slice_get-get_or tiles n no_tile below,
-      sym (ap₂ order_numbers (motion-is tiles n below c.motion.result c.motion.ensures) (kind-is tiles n below c.kind.result c.kind.ensures)) ∙ c.are_alike.ensures yes,
+      sym (ap₂ order_numbers (motion-is tiles n below c.motion.result c.motion.ensures)
+          (kind-is tiles n below c.kind.result c.kind.ensures)) ∙ c.are_alike.ensures yes,
     )

@@ -1,5 +1,5 @@
 use Rattle.std.proofs.Common.{◌≡◌, ◌<◌, refl, sym, ap, ◌∙◌, subst}
-use Rattle.frames.specs.Frame.{lifted_in}
+use Rattle.theory_frames.specs.Frame.{lifted_in}
 use Rattle.rule_model.specs.Glue.{IsGlueEdge}
 use Rattle.rule_model.specs.Tiling.{tiling_of}
 use Rattle.tile_place.specs.Crossed.{edges_of, IsOnlyAcross}
@@ -14,7 +14,10 @@ use Rattle.half_glue.proofs.half.crossed_half.Goals as goal
 
 pub cross_grow_in_place-requires-clause-edge_exists : goal.cross_grow_in_place-requires-clause-edge_exists
 cross_grow_in_place-requires-clause-edge_exists g c =
-    subst (λ k. c.args.edge < edges_of (tiling_of c.args.machine.now) k) (c.requires.given.its_kind ∙ sym c.copy-across.ensures.kind) (glue-edge-there c.args.machine.now c.glue_laws.ensures c.args.tile.now.kind c.args.edge c.requires.glue_edge.glue_edge)
+    subst (λ k. c.args.edge < edges_of (tiling_of c.args.machine.now) k)
+    (c.requires.given.its_kind ∙ sym c.copy-across.ensures.kind)
+    (glue-edge-there c.args.machine.now c.glue_laws.ensures c.args.tile.now.kind c.args.edge
+    c.requires.glue_edge.glue_edge)
 
 pub returns-in_err-back-clause-least : goal.returns-in_err-back-clause-least
 returns-in_err-back-clause-least g c = λ n l h.
@@ -24,7 +27,8 @@ returns-in_err-back-clause-least g c = λ n l h.
       edge = c.args.edge;
       is_given = the-one c.args.tile.now;
       glue_edge = c.requires.glue_edge.glue_edge;
-      on_boundary = subst (λ a. IsBoundaryEdge t (lifted_at t c.args.frame.now a n) c.args.edge) c.copy-across.ensures.seen (c.in_err-back.ensures.least n l h);
+      on_boundary = subst (λ a. IsBoundaryEdge t (lifted_at t c.args.frame.now a n) c.args.edge)
+          c.copy-across.ensures.seen (c.in_err-back.ensures.least n l h);
     }
 
 pub returns-in_err-back-clause-cause : goal.returns-in_err-back-clause-cause
@@ -45,12 +49,15 @@ returns-in_err-back-clause-cause g c =
 
 pub placed_beside-other-requires-clause-given : goal.placed_beside-other-requires-clause-given
 placed_beside-other-requires-clause-given g c =
-    given-on c.args.machine.now c.glue_laws.ensures c.args.frame.now c.requires.frame c.args.tile.now c.requires.given c.cross_grow_in_place.new.self c.in_ok-back.ensures.frame
+    given-on c.args.machine.now c.glue_laws.ensures c.args.frame.now c.requires.frame c.args.tile.now
+    c.requires.given c.cross_grow_in_place.new.self c.in_ok-back.ensures.frame
 
 pub placed_beside-other-requires-clause-only_tile_across : goal.placed_beside-other-requires-clause-only_tile_across
 placed_beside-other-requires-clause-only_tile_across g c =
     let t = tiling_of c.args.machine.now in
-    subst (λ a. IsOnlyAcross t (lifted_in (whole c.cross_grow_in_place.new.self) a) c.args.edge (address_of c.cross_grow_in_place.new.tile) c.in_ok-back.back) c.copy-across.ensures.seen c.in_ok-back.ensures.only_tile_across
+    subst (λ a. IsOnlyAcross t (lifted_in (whole c.cross_grow_in_place.new.self) a) c.args.edge
+    (address_of c.cross_grow_in_place.new.tile) c.in_ok-back.back) c.copy-across.ensures.seen
+    c.in_ok-back.ensures.only_tile_across
 
 pub returns-then-refused-clause-least : goal.returns-then-refused-clause-least
 returns-then-refused-clause-least g c = λ n l h.
@@ -60,42 +67,55 @@ returns-then-refused-clause-least g c = λ n l h.
       edge = c.args.edge;
       is_given = the-one c.args.tile.now;
       glue_edge = c.requires.glue_edge.glue_edge;
-      on_boundary = subst (λ a. IsBoundaryEdge t (lifted_at t c.args.frame.now a n) c.args.edge) c.copy-across.ensures.seen (c.in_ok-back.ensures.least n l h);
+      on_boundary = subst (λ a. IsBoundaryEdge t (lifted_at t c.args.frame.now a n) c.args.edge)
+          c.copy-across.ensures.seen (c.in_ok-back.ensures.least n l h);
     }
 
 pub returns-then-refused-clause-answered : goal.returns-then-refused-clause-answered
 returns-then-refused-clause-answered g c = λ can.
-    let fine = not-refused c.args.machine.now c.glue_laws.ensures c.args.frame.now c.requires.frame c.args.tile.now c.requires.given c.cross_grow_in_place.new.self c.in_ok-back.ensures.frame c.args.edge c.requires.glue_edge.glue_edge
+    let fine = not-refused c.args.machine.now c.glue_laws.ensures c.args.frame.now c.requires.frame
+    c.args.tile.now c.requires.given c.cross_grow_in_place.new.self c.in_ok-back.ensures.frame c.args.edge
+    c.requires.glue_edge.glue_edge
     c.placed_beside-other.result c.placed_beside-other.ensures.stands c.in_ok-back.back c.placed_beside-other.ensures.across can in
     sym fine ∙ sym (c.refused.ensures.in_order c.args.machine.now.order c.placed_beside-other.ensures.stands.in_order) ∙ c.if-refused.true
 
 pub returns-then-refused-clause-cause : goal.returns-then-refused-clause-cause
 returns-then-refused-clause-cause g c =
-    refused-shift c.args.machine.now c.glue_laws.ensures c.args.frame.now c.requires.frame c.args.tile.now c.requires.given c.cross_grow_in_place.new.self c.in_ok-back.ensures.frame c.args.edge c.requires.glue_edge.glue_edge
+    refused-shift c.args.machine.now c.glue_laws.ensures c.args.frame.now c.requires.frame c.args.tile.now
+    c.requires.given c.cross_grow_in_place.new.self c.in_ok-back.ensures.frame c.args.edge
+    c.requires.glue_edge.glue_edge
     c.placed_beside-other.result c.placed_beside-other.ensures.stands c.in_ok-back.back c.placed_beside-other.ensures.across
     (sym (c.refused.ensures.in_order c.args.machine.now.order c.placed_beside-other.ensures.stands.in_order) ∙ c.if-refused.true)
 
 pub returns-clause-crossed : goal.returns-clause-crossed
 returns-clause-crossed g c =
-    crossed-glued c.args.machine.now c.glue_laws.ensures c.args.frame.now c.requires.frame c.args.tile.now c.requires.given c.cross_grow_in_place.new.self c.in_ok-back.ensures.frame c.args.edge c.requires.glue_edge.glue_edge
+    crossed-glued c.args.machine.now c.glue_laws.ensures c.args.frame.now c.requires.frame c.args.tile.now
+    c.requires.given c.cross_grow_in_place.new.self c.in_ok-back.ensures.frame c.args.edge
+    c.requires.glue_edge.glue_edge
     c.placed_beside-other.result c.placed_beside-other.ensures.stands c.in_ok-back.back c.placed_beside-other.ensures.across
     (sym (c.refused.ensures.in_order c.args.machine.now.order c.placed_beside-other.ensures.stands.in_order) ∙ c.if-refused.false)
 
 pub returns-clause-inside : goal.returns-clause-inside
 returns-clause-inside g c =
     let now = c.cross_grow_in_place.new.self in
-    let h = crossed-glued c.args.machine.now c.glue_laws.ensures c.args.frame.now c.requires.frame c.args.tile.now c.requires.given now c.in_ok-back.ensures.frame c.args.edge c.requires.glue_edge.glue_edge
+    let h = crossed-glued c.args.machine.now c.glue_laws.ensures c.args.frame.now c.requires.frame
+    c.args.tile.now c.requires.given now c.in_ok-back.ensures.frame c.args.edge
+    c.requires.glue_edge.glue_edge
     c.placed_beside-other.result c.placed_beside-other.ensures.stands c.in_ok-back.back c.placed_beside-other.ensures.across
     (sym (c.refused.ensures.in_order c.args.machine.now.order c.placed_beside-other.ensures.stands.in_order) ∙ c.if-refused.false) in
-    settled-inside c.args.machine.now c.glue_laws.ensures c.args.frame.now c.requires.frame c.args.tile.now c.requires.given now c.in_ok-back.ensures.frame c.placed_beside-other.result h.0 h.1
+    settled-inside c.args.machine.now c.glue_laws.ensures c.args.frame.now c.requires.frame c.args.tile.now
+    c.requires.given now c.in_ok-back.ensures.frame c.placed_beside-other.result h.0 h.1
 
 pub returns-clause-can_be_joined : goal.returns-clause-can_be_joined
 returns-clause-can_be_joined g c =
     let now = c.cross_grow_in_place.new.self in
-    let h = crossed-glued c.args.machine.now c.glue_laws.ensures c.args.frame.now c.requires.frame c.args.tile.now c.requires.given now c.in_ok-back.ensures.frame c.args.edge c.requires.glue_edge.glue_edge
+    let h = crossed-glued c.args.machine.now c.glue_laws.ensures c.args.frame.now c.requires.frame
+    c.args.tile.now c.requires.given now c.in_ok-back.ensures.frame c.args.edge
+    c.requires.glue_edge.glue_edge
     c.placed_beside-other.result c.placed_beside-other.ensures.stands c.in_ok-back.back c.placed_beside-other.ensures.across
     (sym (c.refused.ensures.in_order c.args.machine.now.order c.placed_beside-other.ensures.stands.in_order) ∙ c.if-refused.false) in
-    settled-joined c.args.machine.now c.glue_laws.ensures c.args.frame.now c.requires.frame c.args.tile.now c.requires.given now c.in_ok-back.ensures.frame c.placed_beside-other.result h.0 h.1
+    settled-joined c.args.machine.now c.glue_laws.ensures c.args.frame.now c.requires.frame c.args.tile.now
+    c.requires.given now c.in_ok-back.ensures.frame c.placed_beside-other.result h.0 h.1
 
 pub returns-clause-least : goal.returns-clause-least
 returns-clause-least g c = λ n l h.
@@ -105,5 +125,6 @@ returns-clause-least g c = λ n l h.
       edge = c.args.edge;
       is_given = the-one c.args.tile.now;
       glue_edge = c.requires.glue_edge.glue_edge;
-      on_boundary = subst (λ a. IsBoundaryEdge t (lifted_at t c.args.frame.now a n) c.args.edge) c.copy-across.ensures.seen (c.in_ok-back.ensures.least n l h);
+      on_boundary = subst (λ a. IsBoundaryEdge t (lifted_at t c.args.frame.now a n) c.args.edge)
+          c.copy-across.ensures.seen (c.in_ok-back.ensures.least n l h);
     }

@@ -11,78 +11,124 @@ use Rattle.half_glue.proofs.half.other_half.Goals as goal
 pub bounds : goal.bounds
 bounds g c =
     subst (λ k. k < length c.args.sides.now) (sym c.from.ensures)
-    (kind-there c.args.machine.now c.glue_laws.ensures c.args.frame.now c.requires.frame c.args.tiles.now c.requires.given c.args.sides.now c.requires.sides c.args.number c.requires.below c.index-tiles-number.result c.index-tiles-number.is)
+    (kind-there c.args.machine.now c.glue_laws.ensures c.args.frame.now c.requires.frame c.args.tiles.now
+    c.requires.given c.args.sides.now c.requires.sides c.args.number c.requires.below
+    c.index-tiles-number.result c.index-tiles-number.is)
 
 pub returns-in-None-clause-found : goal.returns-in-None-clause-found
 returns-in-None-clause-found g c =
-    side-of c.args.machine.now c.glue_laws.ensures c.args.frame.now c.requires.frame c.args.tiles.now c.requires.given c.args.sides.now c.requires.sides c.args.number c.requires.below c.index-tiles-number.result c.index-tiles-number.is
+    side-of c.args.machine.now c.glue_laws.ensures c.args.frame.now c.requires.frame c.args.tiles.now
+    c.requires.given c.args.sides.now c.requires.sides c.args.number c.requires.below
+    c.index-tiles-number.result c.index-tiles-number.is
     c.from.result c.from.ensures None c.in-None.is
 
 pub returns-in-None-clause-inside : goal.returns-in-None-clause-inside
 returns-in-None-clause-inside g c =
-    none-inside c.args.machine.now c.glue_laws.ensures c.args.frame.now c.requires.frame c.args.tiles.now c.requires.given c.args.sides.now c.requires.sides c.args.number c.requires.below
-    (side-of c.args.machine.now c.glue_laws.ensures c.args.frame.now c.requires.frame c.args.tiles.now c.requires.given c.args.sides.now c.requires.sides c.args.number c.requires.below c.index-tiles-number.result c.index-tiles-number.is
+    none-inside c.args.machine.now c.glue_laws.ensures c.args.frame.now c.requires.frame c.args.tiles.now
+    c.requires.given c.args.sides.now c.requires.sides c.args.number c.requires.below
+    (side-of c.args.machine.now c.glue_laws.ensures c.args.frame.now c.requires.frame c.args.tiles.now
+    c.requires.given c.args.sides.now c.requires.sides c.args.number c.requires.below
+    c.index-tiles-number.result c.index-tiles-number.is
     c.from.result c.from.ensures None c.in-None.is) (length c.args.frame.now.digits)
 
 pub returns-in-None-clause-can_be_joined : goal.returns-in-None-clause-can_be_joined
 returns-in-None-clause-can_be_joined g c =
-    none-joined c.args.machine.now c.glue_laws.ensures c.args.frame.now c.requires.frame c.args.tiles.now c.requires.given c.args.sides.now c.requires.sides c.args.number c.requires.below
-    (side-of c.args.machine.now c.glue_laws.ensures c.args.frame.now c.requires.frame c.args.tiles.now c.requires.given c.args.sides.now c.requires.sides c.args.number c.requires.below c.index-tiles-number.result c.index-tiles-number.is
+    none-joined c.args.machine.now c.glue_laws.ensures c.args.frame.now c.requires.frame c.args.tiles.now
+    c.requires.given c.args.sides.now c.requires.sides c.args.number c.requires.below
+    (side-of c.args.machine.now c.glue_laws.ensures c.args.frame.now c.requires.frame c.args.tiles.now
+    c.requires.given c.args.sides.now c.requires.sides c.args.number c.requires.below
+    c.index-tiles-number.result c.index-tiles-number.is
     c.from.result c.from.ensures None c.in-None.is)
 
 pub returns-in-Some-given_half-clause-found : goal.returns-in-Some-given_half-clause-found
 returns-in-Some-given_half-clause-found g c =
-    given-found c.args.machine.now c.glue_laws.ensures c.args.frame.now c.requires.frame c.args.tiles.now c.requires.given c.args.sides.now c.requires.sides c.args.number c.requires.below c.args.keys.now c.requires.keys c.in-Some.side
-    (side-of c.args.machine.now c.glue_laws.ensures c.args.frame.now c.requires.frame c.args.tiles.now c.requires.given c.args.sides.now c.requires.sides c.args.number c.requires.below c.index-tiles-number.result c.index-tiles-number.is
+    given-found c.args.machine.now c.glue_laws.ensures c.args.frame.now c.requires.frame c.args.tiles.now
+    c.requires.given c.args.sides.now c.requires.sides c.args.number c.requires.below c.args.keys.now
+    c.requires.keys c.in-Some.side
+    (side-of c.args.machine.now c.glue_laws.ensures c.args.frame.now c.requires.frame c.args.tiles.now
+    c.requires.given c.args.sides.now c.requires.sides c.args.number c.requires.below
+    c.index-tiles-number.result c.index-tiles-number.is
     c.from.result c.from.ensures (Some c.in-Some.side) c.in-Some.is)
     c.in-Some-given_half.other
     (subst (λ (x : PlacedTile). StandsBeside c.args.machine.now.order c.in-Some.side.other x.motion c.args.keys.now c.in-Some-given_half.other)
-    (same-tile c.args.machine.now c.glue_laws.ensures c.args.frame.now c.requires.frame c.args.tiles.now c.requires.given c.args.sides.now c.requires.sides c.args.number c.requires.below c.index-tiles-number.result c.index-tiles-number.is) c.in-Some-given_half.ensures)
+    (same-tile c.args.machine.now c.glue_laws.ensures c.args.frame.now c.requires.frame c.args.tiles.now
+    c.requires.given c.args.sides.now c.requires.sides c.args.number c.requires.below
+    c.index-tiles-number.result c.index-tiles-number.is) c.in-Some-given_half.ensures)
 
 pub returns-in-Some-given_half-clause-inside : goal.returns-in-Some-given_half-clause-inside
 returns-in-Some-given_half-clause-inside g c =
-    given-inside c.args.machine.now c.glue_laws.ensures c.args.frame.now c.requires.frame c.args.tiles.now c.requires.given c.args.sides.now c.requires.sides c.args.number c.requires.below c.args.keys.now c.requires.keys c.in-Some.side
-    (side-of c.args.machine.now c.glue_laws.ensures c.args.frame.now c.requires.frame c.args.tiles.now c.requires.given c.args.sides.now c.requires.sides c.args.number c.requires.below c.index-tiles-number.result c.index-tiles-number.is
+    given-inside c.args.machine.now c.glue_laws.ensures c.args.frame.now c.requires.frame c.args.tiles.now
+    c.requires.given c.args.sides.now c.requires.sides c.args.number c.requires.below c.args.keys.now
+    c.requires.keys c.in-Some.side
+    (side-of c.args.machine.now c.glue_laws.ensures c.args.frame.now c.requires.frame c.args.tiles.now
+    c.requires.given c.args.sides.now c.requires.sides c.args.number c.requires.below
+    c.index-tiles-number.result c.index-tiles-number.is
     c.from.result c.from.ensures (Some c.in-Some.side) c.in-Some.is)
     c.in-Some-given_half.other
     (subst (λ (x : PlacedTile). StandsBeside c.args.machine.now.order c.in-Some.side.other x.motion c.args.keys.now c.in-Some-given_half.other)
-    (same-tile c.args.machine.now c.glue_laws.ensures c.args.frame.now c.requires.frame c.args.tiles.now c.requires.given c.args.sides.now c.requires.sides c.args.number c.requires.below c.index-tiles-number.result c.index-tiles-number.is) c.in-Some-given_half.ensures)
+    (same-tile c.args.machine.now c.glue_laws.ensures c.args.frame.now c.requires.frame c.args.tiles.now
+    c.requires.given c.args.sides.now c.requires.sides c.args.number c.requires.below
+    c.index-tiles-number.result c.index-tiles-number.is) c.in-Some-given_half.ensures)
 
 pub returns-in-Some-given_half-clause-can_be_joined : goal.returns-in-Some-given_half-clause-can_be_joined
 returns-in-Some-given_half-clause-can_be_joined g c =
-    given-joined c.args.machine.now c.glue_laws.ensures c.args.frame.now c.requires.frame c.args.tiles.now c.requires.given c.args.sides.now c.requires.sides c.args.number c.requires.below c.args.keys.now c.requires.keys c.in-Some.side
-    (side-of c.args.machine.now c.glue_laws.ensures c.args.frame.now c.requires.frame c.args.tiles.now c.requires.given c.args.sides.now c.requires.sides c.args.number c.requires.below c.index-tiles-number.result c.index-tiles-number.is
+    given-joined c.args.machine.now c.glue_laws.ensures c.args.frame.now c.requires.frame c.args.tiles.now
+    c.requires.given c.args.sides.now c.requires.sides c.args.number c.requires.below c.args.keys.now
+    c.requires.keys c.in-Some.side
+    (side-of c.args.machine.now c.glue_laws.ensures c.args.frame.now c.requires.frame c.args.tiles.now
+    c.requires.given c.args.sides.now c.requires.sides c.args.number c.requires.below
+    c.index-tiles-number.result c.index-tiles-number.is
     c.from.result c.from.ensures (Some c.in-Some.side) c.in-Some.is)
     c.in-Some-given_half.other
     (subst (λ (x : PlacedTile). StandsBeside c.args.machine.now.order c.in-Some.side.other x.motion c.args.keys.now c.in-Some-given_half.other)
-    (same-tile c.args.machine.now c.glue_laws.ensures c.args.frame.now c.requires.frame c.args.tiles.now c.requires.given c.args.sides.now c.requires.sides c.args.number c.requires.below c.index-tiles-number.result c.index-tiles-number.is) c.in-Some-given_half.ensures)
+    (same-tile c.args.machine.now c.glue_laws.ensures c.args.frame.now c.requires.frame c.args.tiles.now
+    c.requires.given c.args.sides.now c.requires.sides c.args.number c.requires.below
+    c.index-tiles-number.result c.index-tiles-number.is) c.in-Some-given_half.ensures)
 
 pub crossed_half-requires-clause-given : goal.crossed_half-requires-clause-given
 crossed_half-requires-clause-given g c =
-    read-given c.args.machine.now c.glue_laws.ensures c.args.frame.now c.requires.frame c.args.tiles.now c.requires.given c.args.sides.now c.requires.sides c.args.number c.requires.below c.index-tiles-number.result c.index-tiles-number.is
+    read-given c.args.machine.now c.glue_laws.ensures c.args.frame.now c.requires.frame c.args.tiles.now
+    c.requires.given c.args.sides.now c.requires.sides c.args.number c.requires.below
+    c.index-tiles-number.result c.index-tiles-number.is
 
 pub crossed_half-requires-clause-glue_edge : goal.crossed_half-requires-clause-glue_edge
 crossed_half-requires-clause-glue_edge g c =
-    only-of c.args.machine.now c.glue_laws.ensures c.args.frame.now c.requires.frame c.args.tiles.now c.requires.given c.args.sides.now c.requires.sides c.args.number c.requires.below c.index-tiles-number.result c.index-tiles-number.is
+    only-of c.args.machine.now c.glue_laws.ensures c.args.frame.now c.requires.frame c.args.tiles.now
+    c.requires.given c.args.sides.now c.requires.sides c.args.number c.requires.below
+    c.index-tiles-number.result c.index-tiles-number.is
     c.from.result c.from.ensures c.in-Some.side c.in-Some.is
 
 pub returns-in_err-other-clause-least : goal.returns-in_err-other-clause-least
 returns-in_err-other-clause-least g c = λ n l h.
-    subst (λ (x : PlacedTile). IsTooShallow (tiling_of c.args.machine.now) c.args.frame.now (x ∷ []) n) (same-tile c.args.machine.now c.glue_laws.ensures c.args.frame.now c.requires.frame c.args.tiles.now c.requires.given c.args.sides.now c.requires.sides c.args.number c.requires.below c.index-tiles-number.result c.index-tiles-number.is)
+    subst (λ (x : PlacedTile). IsTooShallow (tiling_of c.args.machine.now) c.args.frame.now (x ∷ []) n)
+    (same-tile c.args.machine.now c.glue_laws.ensures c.args.frame.now c.requires.frame c.args.tiles.now
+    c.requires.given c.args.sides.now c.requires.sides c.args.number c.requires.below
+    c.index-tiles-number.result c.index-tiles-number.is)
     (c.in_err-other.ensures.least n l h)
 
 pub returns-in_err-other-clause-cause : goal.returns-in_err-other-clause-cause
 returns-in_err-other-clause-cause g c =
     if_err-is _ c.from_residual.result c.in_err-other.field-0.0 c.from_residual.ensures.1
-    (subst (λ (x : PlacedTile). HasGlueCause (tiling_of c.args.machine.now) c.args.frame.now c.crossed_half.new.frame (x ∷ []) c.in_err-other.field-0.0) (same-tile c.args.machine.now c.glue_laws.ensures c.args.frame.now c.requires.frame c.args.tiles.now c.requires.given c.args.sides.now c.requires.sides c.args.number c.requires.below c.index-tiles-number.result c.index-tiles-number.is)
+    (subst (λ (x : PlacedTile). HasGlueCause (tiling_of c.args.machine.now) c.args.frame.now
+    c.crossed_half.new.frame (x ∷ []) c.in_err-other.field-0.0)
+    (same-tile c.args.machine.now c.glue_laws.ensures c.args.frame.now c.requires.frame c.args.tiles.now
+    c.requires.given c.args.sides.now c.requires.sides c.args.number c.requires.below
+    c.index-tiles-number.result c.index-tiles-number.is)
     c.in_err-other.ensures.cause)
 
 pub returns-clause-inside : goal.returns-clause-inside
 returns-clause-inside g c =
-    subst (IsGluedInside (tiling_of c.args.machine.now) c.args.frame.now (length c.crossed_half.new.frame.digits)) (same-tile c.args.machine.now c.glue_laws.ensures c.args.frame.now c.requires.frame c.args.tiles.now c.requires.given c.args.sides.now c.requires.sides c.args.number c.requires.below c.index-tiles-number.result c.index-tiles-number.is)
+    subst (IsGluedInside (tiling_of c.args.machine.now) c.args.frame.now
+    (length c.crossed_half.new.frame.digits))
+    (same-tile c.args.machine.now c.glue_laws.ensures c.args.frame.now c.requires.frame c.args.tiles.now
+    c.requires.given c.args.sides.now c.requires.sides c.args.number c.requires.below
+    c.index-tiles-number.result c.index-tiles-number.is)
     c.in_ok-other.ensures.inside
 
 pub returns-clause-least : goal.returns-clause-least
 returns-clause-least g c = λ n l h.
-    subst (λ (x : PlacedTile). IsTooShallow (tiling_of c.args.machine.now) c.args.frame.now (x ∷ []) n) (same-tile c.args.machine.now c.glue_laws.ensures c.args.frame.now c.requires.frame c.args.tiles.now c.requires.given c.args.sides.now c.requires.sides c.args.number c.requires.below c.index-tiles-number.result c.index-tiles-number.is)
+    subst (λ (x : PlacedTile). IsTooShallow (tiling_of c.args.machine.now) c.args.frame.now (x ∷ []) n)
+    (same-tile c.args.machine.now c.glue_laws.ensures c.args.frame.now c.requires.frame c.args.tiles.now
+    c.requires.given c.args.sides.now c.requires.sides c.args.number c.requires.below
+    c.index-tiles-number.result c.index-tiles-number.is)
     (c.in_ok-other.ensures.least n l h)

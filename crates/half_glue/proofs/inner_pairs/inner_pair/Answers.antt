@@ -12,35 +12,54 @@ use Rattle.half_glue.proofs.inner_pairs.inner_pair.Goals as goal
 pub returns-in-None-clause-inner : goal.returns-in-None-clause-inner
 returns-in-None-clause-inner c = λ f is given.
     let kind = kind-is c.args.tiles.now c.args.number c.requires.below c.kind-kind.result c.kind-kind.ensures in
-    alone-inner c.args.machine.now c.glue_laws.ensures c.args.tiles.now c.args.sides.now c.requires.sides c.args.number c.requires.below f is given c.from.result (c.from.ensures ∙ kind) c.in-None.is (record { first = c.args.number; second = None }) refl
+    alone-inner c.args.machine.now c.glue_laws.ensures c.args.tiles.now c.args.sides.now c.requires.sides
+    c.args.number c.requires.below f is given c.from.result (c.from.ensures ∙ kind) c.in-None.is
+    (record { first = c.args.number; second = None }) refl
 
 pub half_among-requires-clause-turn_below : goal.half_among-requires-clause-turn_below
 half_among-requires-clause-turn_below c =
-    subst (λ (v : Motion). v.turn < (points_of c.args.machine.now.order).order) (sym (motion-is c.args.tiles.now c.args.number c.requires.below c.motion-motion.result c.motion-motion.ensures)) (c.requires.placed c.args.number no_tile c.requires.below).turn_below
+    subst (λ (v : Motion). v.turn < (points_of c.args.machine.now.order).order)
+    (sym (motion-is c.args.tiles.now c.args.number c.requires.below c.motion-motion.result
+    c.motion-motion.ensures)) (c.requires.placed c.args.number no_tile c.requires.below).turn_below
 
 pub half_among-requires-clause-within : goal.half_among-requires-clause-within
 half_among-requires-clause-within c =
-    subst (λ (v : Motion). IsWithin (2 ^ 24) v.shift) (sym (motion-is c.args.tiles.now c.args.number c.requires.below c.motion-motion.result c.motion-motion.ensures)) (c.requires.placed c.args.number no_tile c.requires.below).within
+    subst (λ (v : Motion). IsWithin (2 ^ 24) v.shift)
+    (sym (motion-is c.args.tiles.now c.args.number c.requires.below c.motion-motion.result
+    c.motion-motion.ensures)) (c.requires.placed c.args.number no_tile c.requires.below).within
 
 pub returns-clause-present : goal.returns-clause-present
 returns-clause-present c =
-    record { first = c.requires.below; second = among-below c.args.machine.now.order c.in-Some.side.other c.motion-motion.result c.args.tiles.now c.in_ok-second.second c.in_ok-second.ensures }
+    record {
+      first = c.requires.below;
+      second = among-below c.args.machine.now.order c.in-Some.side.other
+          c.motion-motion.result c.args.tiles.now c.in_ok-second.second c.in_ok-second.ensures;
+    }
 
 pub returns-clause-inner : goal.returns-clause-inner
 returns-clause-inner c = λ f is given.
     let m = c.args.machine.now in
     let kind = kind-is c.args.tiles.now c.args.number c.requires.below c.kind-kind.result c.kind-kind.ensures in
     let motion = motion-is c.args.tiles.now c.args.number c.requires.below c.motion-motion.result c.motion-motion.ensures in
-    let less : c.kind-kind.result < c.in_ok-other.other.kind = ltb-true c.kind-kind.result c.in_ok-other.other.kind (sym c.is_less.ensures ∙ c.if-not-is_less.false) in
-    pair-inner m c.glue_laws.ensures c.args.tiles.now c.args.sides.now c.requires.sides c.args.number c.requires.below f is given c.from.result (c.from.ensures ∙ kind) c.in-Some.side c.in-Some.is c.in_ok-other.other c.in_ok-other.was (omega (arith, less, kind))
-    c.in_ok-second.second (subst (λ (v : Motion). StandsAmong m.order c.in-Some.side.other v c.args.tiles.now c.in_ok-second.second) motion c.in_ok-second.ensures) (record { first = c.args.number; second = Some c.in_ok-second.second }) refl
+    let less : c.kind-kind.result < c.in_ok-other.other.kind = ltb-true c.kind-kind.result
+    c.in_ok-other.other.kind (sym c.is_less.ensures ∙ c.if-not-is_less.false) in
+    pair-inner m c.glue_laws.ensures c.args.tiles.now c.args.sides.now c.requires.sides c.args.number
+    c.requires.below f is given c.from.result (c.from.ensures ∙ kind) c.in-Some.side c.in-Some.is
+    c.in_ok-other.other c.in_ok-other.was (omega (arith, less, kind))
+    c.in_ok-second.second (subst (λ (v : Motion). StandsAmong m.order c.in-Some.side.other v c.args.tiles.now
+    c.in_ok-second.second) motion c.in_ok-second.ensures)
+    (record { first = c.args.number; second = Some c.in_ok-second.second }) refl
 
 pub bounds-sides-from : goal.bounds-sides-from
 bounds-sides-from c =
-    read-below (tiling_of c.args.machine.now) c.args.sides.now c.requires.sides (tile_of c.args.tiles.now c.args.number) (c.requires.placed c.args.number no_tile c.requires.below) c.kind-kind.result c.from.result c.from.ensures
+    read-below (tiling_of c.args.machine.now) c.args.sides.now c.requires.sides
+    (tile_of c.args.tiles.now c.args.number) (c.requires.placed c.args.number no_tile c.requires.below)
+    c.kind-kind.result c.from.result c.from.ensures
     (kind-is c.args.tiles.now c.args.number c.requires.below c.kind-kind.result c.kind-kind.ensures)
 
 pub half_among-requires-clause-other : goal.half_among-requires-clause-other
 half_among-requires-clause-other c =
-    read-other (tiling_of c.args.machine.now) c.args.sides.now c.requires.sides (tile_of c.args.tiles.now c.args.number) (c.requires.placed c.args.number no_tile c.requires.below) c.kind-kind.result c.from.result c.from.ensures
+    read-other (tiling_of c.args.machine.now) c.args.sides.now c.requires.sides
+    (tile_of c.args.tiles.now c.args.number) (c.requires.placed c.args.number no_tile c.requires.below)
+    c.kind-kind.result c.from.result c.from.ensures
     (kind-is c.args.tiles.now c.args.number c.requires.below c.kind-kind.result c.kind-kind.ensures) c.in-Some.side c.in-Some.is

@@ -20,7 +20,9 @@ loop-number-preserved c =
           let p : Pair = w.in-Some.pair in
           let items = ap (λ v. v.items) w.pairs-is ∙ w.in_ok-push.ensures.items in
           let first = subst (λ (o : Option Pair). IfSome o (λ q. q.first ≡ n)) w.in-Some.is c.inner_pair.ensures.first in
-          let inner = subst (λ (o : Option Pair). IfSome o (λ q. (f : FrameValue) → IsFrameOf t f → AreGiven t f tiles → IsInner t f tiles q)) w.in-Some.is c.inner_pair.ensures.inner in
+          let inner = subst (λ (o : Option Pair). IfSome o
+          (λ q. (f : FrameValue) → IsFrameOf t f → AreGiven t f tiles → IsInner t f tiles q)) w.in-Some.is
+          c.inner_pair.ensures.inner in
           record {
             as_many = subst (λ (xs : List Bool). length xs ≡ length tiles) (sym w.taken-is) (w.mark.ensures.as_many ∙ inv.as_many);
             rising = subst (AreRising (n + 1)) (sym items) (rising-more n before p inv.rising first);

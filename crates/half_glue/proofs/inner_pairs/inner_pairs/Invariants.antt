@@ -9,5 +9,7 @@ abbrev pub invariant-loop-number : goal.invariant-loop-number
 invariant-loop-number l = record {
   as_many : length l.taken ≡ length l.fn.tiles;
   rising : AreRising l.number l.pairs.items;
-  inner : (f : FrameValue) → IsFrameOf (tiling_of l.fn.machine) f → AreGiven (tiling_of l.fn.machine) f l.fn.tiles → AreInner (tiling_of l.fn.machine) f l.fn.tiles l.pairs.items l.taken;
+  inner : (f : FrameValue) → IsFrameOf (tiling_of l.fn.machine) f
+      → AreGiven (tiling_of l.fn.machine) f l.fn.tiles
+      → AreInner (tiling_of l.fn.machine) f l.fn.tiles l.pairs.items l.taken;
 }

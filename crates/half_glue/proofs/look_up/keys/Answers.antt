@@ -12,4 +12,5 @@ loop-number-preserved c =
     let x = c.index-tiles-number.result in
     c.in_ok-push.ensures.items ∙ ap (λ (ks : List OrderKey). ks ++ c.of.result ∷ []) c.loop-number.invariant
     ∙ ap (λ (key : OrderKey). own_keys (take k tiles) ++ key ∷ []) c.of.ensures
-    ∙ sym (keys-more (λ (y : PlacedTile). y) 0 k k tiles x (omega arith) c.loop-number-test.true c.index-tiles-number.is) ∙ ap (λ n. own_keys (take n tiles)) (sym (add-one k))
+    ∙ sym (keys-more (λ (y : PlacedTile). y) 0 k k tiles x (omega arith) c.loop-number-test.true
+    c.index-tiles-number.is) ∙ ap (λ n. own_keys (take n tiles)) (sym (add-one k))

@@ -10,4 +10,6 @@ returns c =
     let inner = c.args.inner.now in
     let outer = c.args.outer.now in
     subst (AreMerged (tiles ++ crossed) inner outer) (sym c.in_ok-extend_from_slice.ensures.items)
-    (rest-merged tiles crossed inner outer c.requires.in_order c.requires.rising c.requires.outer_in_order c.loop-next.done c.loop-next.next c.loop-next.pairs.items c.loop-next.invariant c.loop-next-test.false c.loop-next.auto.next-end)
+    (rest-merged tiles crossed inner outer c.requires.in_order c.requires.rising c.requires.outer_in_order
+    c.loop-next.done c.loop-next.next c.loop-next.pairs.items c.loop-next.invariant c.loop-next-test.false
+    c.loop-next.auto.next-end)

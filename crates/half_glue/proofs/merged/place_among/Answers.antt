@@ -16,8 +16,11 @@ loop-first-preserved-in-Less c =
     let w = c.loop-first.invariant.within in
     let below : k < c.loop-first.end = omega (arith, c.loop-first-test.true) in
     let inside : k < length pairs = omega (arith, below, w) in
-    higher c.args.tiles.now pairs c.args.from sought (rising-order c.args.tiles.now [] pairs c.requires.rising c.requires.in_order) c.loop-first.first c.loop-first.end c.loop-first.invariant k (omega arith) below
-    (read-at c.args.tiles.now pairs c.args.from sought c.compared.result k _ inside (c.requires.rising.below k no_pair inside) c.compared.ensures ∙ c.in-Less.is)
+    higher c.args.tiles.now pairs c.args.from sought
+    (rising-order c.args.tiles.now [] pairs c.requires.rising c.requires.in_order) c.loop-first.first
+    c.loop-first.end c.loop-first.invariant k (omega arith) below
+    (read-at c.args.tiles.now pairs c.args.from sought c.compared.result k _ inside
+    (c.requires.rising.below k no_pair inside) c.compared.ensures ∙ c.in-Less.is)
 
 pub returns-in-Equal : goal.returns-in-Equal
 returns-in-Equal c =
@@ -27,8 +30,11 @@ returns-in-Equal c =
     let w = c.loop-first.invariant.within in
     let below : k < c.loop-first.end = omega (arith, c.loop-first-test.true) in
     let inside : k < length pairs = omega (arith, below, w) in
-    there c.args.tiles.now pairs c.args.from sought (rising-order c.args.tiles.now [] pairs c.requires.rising c.requires.in_order) c.loop-first.first c.loop-first.end c.loop-first.invariant k (omega arith) below
-    (read-at c.args.tiles.now pairs c.args.from sought c.compared.result k _ inside (c.requires.rising.below k no_pair inside) c.compared.ensures ∙ c.in-Equal.is)
+    there c.args.tiles.now pairs c.args.from sought
+    (rising-order c.args.tiles.now [] pairs c.requires.rising c.requires.in_order) c.loop-first.first
+    c.loop-first.end c.loop-first.invariant k (omega arith) below
+    (read-at c.args.tiles.now pairs c.args.from sought c.compared.result k _ inside
+    (c.requires.rising.below k no_pair inside) c.compared.ensures ∙ c.in-Equal.is)
 
 pub loop-first-preserved : goal.loop-first-preserved
 loop-first-preserved c =
@@ -38,8 +44,13 @@ loop-first-preserved c =
     let w = c.loop-first.invariant.within in
     let below : k < c.loop-first.end = omega (arith, c.loop-first-test.true) in
     let inside : k < length pairs = omega (arith, below, w) in
-    lower c.args.tiles.now pairs c.args.from sought (rising-order c.args.tiles.now [] pairs c.requires.rising c.requires.in_order) c.loop-first.first c.loop-first.end c.loop-first.invariant k (omega arith) below
-    (read-at c.args.tiles.now pairs c.args.from sought c.compared.result k _ inside (c.requires.rising.below k no_pair inside) c.compared.ensures ∙ c.in-Greater.is)
+    lower c.args.tiles.now pairs c.args.from sought
+    (rising-order c.args.tiles.now [] pairs c.requires.rising c.requires.in_order) c.loop-first.first
+    c.loop-first.end c.loop-first.invariant k (omega arith) below
+    (read-at c.args.tiles.now pairs c.args.from sought c.compared.result k _ inside
+    (c.requires.rising.below k no_pair inside) c.compared.ensures ∙ c.in-Greater.is)
 
 pub returns : goal.returns
-returns c = not-there c.args.tiles.now c.args.pairs.now c.args.from (order_numbers c.args.motion.now c.args.kind) c.loop-first.first c.loop-first.end c.loop-first.invariant (omega (arith, c.loop-first-test.false))
+returns c = not-there c.args.tiles.now c.args.pairs.now c.args.from
+    (order_numbers c.args.motion.now c.args.kind) c.loop-first.first c.loop-first.end c.loop-first.invariant
+    (omega (arith, c.loop-first-test.false))

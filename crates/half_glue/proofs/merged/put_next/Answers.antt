@@ -12,8 +12,10 @@ returns-in_ok-extend_from_slice-in-Ok c =
     let outer = c.args.outer.now in
     let sought = order_numbers c.first_of-kind.result.0 c.first_of-kind.result.1 in
     subst (IsMerging (tiles ++ crossed) inner outer (c.in-Ok.same + 1) (c.args.next + 1)) (sym c.in_ok-extend_from_slice-in-Ok.ensures.items)
-    (found-merged tiles crossed inner outer c.requires.in_order c.requires.rising c.requires.outer_in_order c.args.done c.args.next c.args.pairs.now.items c.requires.merging c.requires.one_more sought
-    (numbers-of (tiles ++ crossed) outer c.args.next _ c.requires.one_more c.first_of-kind.result.0 c.first_of-kind.result.1 c.first_of-kind.ensures.motion c.first_of-kind.ensures.kind)
+    (found-merged tiles crossed inner outer c.requires.in_order c.requires.rising c.requires.outer_in_order
+    c.args.done c.args.next c.args.pairs.now.items c.requires.merging c.requires.one_more sought
+    (numbers-of (tiles ++ crossed) outer c.args.next _ c.requires.one_more c.first_of-kind.result.0
+    c.first_of-kind.result.1 c.first_of-kind.ensures.motion c.first_of-kind.ensures.kind)
     c.in-Ok.same (subst (IsPlaceAmong tiles inner c.args.done sought) c.in-Ok.is c.place_among.ensures))
 
 pub returns-in_ok-push-in-Err : goal.returns-in_ok-push-in-Err
@@ -23,7 +25,9 @@ returns-in_ok-push-in-Err c =
     let inner = c.args.inner.now in
     let outer = c.args.outer.now in
     let sought = order_numbers c.first_of-kind.result.0 c.first_of-kind.result.1 in
-    pushed-merged tiles crossed inner outer c.requires.in_order c.requires.rising c.requires.outer_in_order c.args.done c.args.next c.args.pairs.now.items c.requires.merging c.requires.one_more sought
-    (numbers-of (tiles ++ crossed) outer c.args.next _ c.requires.one_more c.first_of-kind.result.0 c.first_of-kind.result.1 c.first_of-kind.ensures.motion c.first_of-kind.ensures.kind)
+    pushed-merged tiles crossed inner outer c.requires.in_order c.requires.rising c.requires.outer_in_order
+    c.args.done c.args.next c.args.pairs.now.items c.requires.merging c.requires.one_more sought
+    (numbers-of (tiles ++ crossed) outer c.args.next _ c.requires.one_more c.first_of-kind.result.0
+    c.first_of-kind.result.1 c.first_of-kind.ensures.motion c.first_of-kind.ensures.kind)
     c.in-Err.end (subst (IsPlaceAmong tiles inner c.args.done sought) c.in-Err.is c.place_among.ensures)
     c.extend_from_slice-in-Err.new.self.items c.push.new.self.items _ c.in_ok-extend_from_slice-in-Err.ensures.items c.in_ok-push-in-Err.ensures.items

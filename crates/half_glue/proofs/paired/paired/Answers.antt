@@ -15,11 +15,13 @@ use Rattle.half_glue.proofs.Taking.{ArePaired, all-on, paired-on, taken-too, all
 use Rattle.half_glue.proofs.paired.paired.Goals as goal
 
 pub sorted_keys-requires-clause-fit : goal.sorted_keys-requires-clause-fit
-sorted_keys-requires-clause-fit g c = λ k d l. given-key c.args.machine.now c.glue_laws.ensures c.args.frame.now c.requires.frame _ (c.requires.given k d l)
+sorted_keys-requires-clause-fit g c = λ k d l. given-key c.args.machine.now c.glue_laws.ensures
+    c.args.frame.now c.requires.frame _ (c.requires.given k d l)
 
 pub other_half-requires-clause-given : goal.other_half-requires-clause-given
 other_half-requires-clause-given g c =
-    all-on c.args.machine.now c.glue_laws.ensures c.args.frame.now c.loop-number.frame c.requires.frame c.loop-number.invariant.0.grows c.args.tiles.now c.requires.given
+    all-on c.args.machine.now c.glue_laws.ensures c.args.frame.now c.loop-number.frame c.requires.frame
+    c.loop-number.invariant.0.grows c.args.tiles.now c.requires.given
 
 pub returns-in_err-found-clause-cause : goal.returns-in_err-found-clause-cause
 returns-in_err-found-clause-cause g c =
@@ -27,7 +29,13 @@ returns-in_err-found-clause-cause g c =
     let i = c.loop-number.number in
     let x = tile_of tiles i in
     if_err-is _ c.from_residual-in_err-found.result c.in_err-found.field-0.0 c.from_residual-in_err-found.ensures.1
-    (cause-of (tiling_of c.args.machine.now) c.args.frame.now c.loop-number.frame c.loop-number.invariant.0.grows tiles x (i, c.loop-number-test.true, get_or_default tiles i x no_tile c.loop-number-test.true)
+    (cause-of (tiling_of c.args.machine.now) c.args.frame.now c.loop-number.frame
+    c.loop-number.invariant.0.grows tiles x (
+      i,
+      c.loop-number-test.true,
+      get_or_default tiles i x no_tile
+          c.loop-number-test.true,
+    )
     c.other_half.new.frame c.in_err-found.field-0.0 c.in_err-found.ensures.cause)
 
 pub loop-number-preserved : goal.loop-number-preserved
@@ -46,28 +54,38 @@ loop-number-preserved g c =
     let up = c.in_ok-found.ensures.frame in
     let all_now = all-on m L old now c.requires.frame settled.grows tiles c.requires.given in
     let all_after = all-on m L now after settled.grows.is_frame up tiles all_now in
-    let paired = paired-on m L now after settled.grows.is_frame up tiles 0 i c.loop-number.made.crossed.items c.loop-number.made.pairs.items (omega (arith, below)) all_now c.loop-number.invariant.1 in
+    let paired = paired-on m L now after settled.grows.is_frame up tiles 0 i c.loop-number.made.crossed.items
+    c.loop-number.made.pairs.items (omega (arith, below)) all_now c.loop-number.invariant.1 in
     let ps : List Pair = c.loop-number.made.pairs.items ++ added_pairs tiles i (length c.loop-number.made.crossed.items) c.in_ok-found.found in (
-      one-more m L old now c.requires.frame tiles c.requires.given i below x (get_or_default tiles i x no_tile below) settled after up c.in_ok-found.ensures.inside c.in_ok-found.ensures.can_be_joined c.in_ok-found.ensures.least,
+      one-more m L old now c.requires.frame tiles c.requires.given i below x
+          (get_or_default tiles i x no_tile below) settled after up c.in_ok-found.ensures.inside
+          c.in_ok-found.ensures.can_be_joined c.in_ok-found.ensures.least,
       subst (λ (ps : List Pair). ArePaired t after tiles 0 (i + 1) c.put.new.made.crossed.items ps) (sym c.in_ok-put.ensures.pairs)
           (subst (λ (xs : List PlacedTile). ArePaired t after tiles 0 (i + 1) xs ps) (sym c.in_ok-put.ensures.crossed)
-          (taken-too t after tiles 0 i below c.loop-number.made.crossed.items c.loop-number.made.pairs.items all_after paired c.in_ok-found.found c.in_ok-found.ensures.found)),
+          (taken-too t after tiles 0 i below c.loop-number.made.crossed.items c.loop-number.made.pairs.items
+          all_after paired c.in_ok-found.found c.in_ok-found.ensures.found)),
     )
 
 pub returns-clause-paired : goal.returns-clause-paired
 returns-clause-paired g c =
-    all-paired (tiling_of c.args.machine.now) c.loop-number.frame c.args.tiles.now 0 c.loop-number.number c.loop-number.made.crossed.items c.loop-number.made.pairs.items
+    all-paired (tiling_of c.args.machine.now) c.loop-number.frame c.args.tiles.now 0 c.loop-number.number
+    c.loop-number.made.crossed.items c.loop-number.made.pairs.items
     (omega arith) c.loop-number.auto.number-end (λ l. omega (arith, l, c.loop-number-test.false)) c.loop-number.invariant.1
 
 pub returns-clause-least : goal.returns-clause-least
 returns-clause-least g c = record {
-  inside = subst (All (IsGluedInside (tiling_of c.args.machine.now) c.args.frame.now (length c.loop-number.frame.digits))) (take_all c.loop-number.number c.args.tiles.now c.loop-number-test.false) c.loop-number.invariant.0.inside;
+  inside = subst (All (IsGluedInside (tiling_of c.args.machine.now) c.args.frame.now
+      (length c.loop-number.frame.digits))) (take_all c.loop-number.number c.args.tiles.now
+      c.loop-number-test.false) c.loop-number.invariant.0.inside;
   least = c.loop-number.invariant.0.least;
 }
 
 pub returns-clause-within : goal.returns-clause-within
 returns-clause-within g c =
-    subst (All (CanBeJoined (tiling_of c.args.machine.now) (full (tiling_of c.args.machine.now) c.args.frame.now))) (take_all c.loop-number.number c.args.tiles.now c.loop-number-test.false) c.loop-number.invariant.0.joined
+    subst (All (CanBeJoined (tiling_of c.args.machine.now)
+    (full (tiling_of c.args.machine.now) c.args.frame.now)))
+    (take_all c.loop-number.number c.args.tiles.now c.loop-number-test.false)
+    c.loop-number.invariant.0.joined
 
 pub returns-in_err-found-clause-not_beyond : goal.returns-in_err-found-clause-not_beyond
 returns-in_err-found-clause-not_beyond g c =
@@ -75,7 +93,8 @@ returns-in_err-found-clause-not_beyond g c =
     let i = c.loop-number.number in
     let x = tile_of tiles i in
     let settled = c.loop-number.invariant.0 in
-    left-behind (tiling_of c.args.machine.now) c.args.frame.now c.loop-number.frame settled.grows tiles x (i, c.loop-number-test.true, get_or_default tiles i x no_tile c.loop-number-test.true)
+    left-behind (tiling_of c.args.machine.now) c.args.frame.now c.loop-number.frame settled.grows tiles x
+    (i, c.loop-number-test.true, get_or_default tiles i x no_tile c.loop-number-test.true)
     settled.least c.other_half.new.frame c.in_err-found.ensures.least
 
 pub returns-in_err-put-clause-not_beyond : goal.returns-in_err-put-clause-not_beyond
@@ -84,7 +103,8 @@ returns-in_err-put-clause-not_beyond g c =
     let i = c.loop-number.number in
     let x = tile_of tiles i in
     let settled = c.loop-number.invariant.0 in
-    left-behind (tiling_of c.args.machine.now) c.args.frame.now c.loop-number.frame settled.grows tiles x (i, c.loop-number-test.true, get_or_default tiles i x no_tile c.loop-number-test.true)
+    left-behind (tiling_of c.args.machine.now) c.args.frame.now c.loop-number.frame settled.grows tiles x
+    (i, c.loop-number-test.true, get_or_default tiles i x no_tile c.loop-number-test.true)
     settled.least c.other_half.new.frame c.in_ok-found.ensures.least
 
 pub returns-clause-not_beyond : goal.returns-clause-not_beyond

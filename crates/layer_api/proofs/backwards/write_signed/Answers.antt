@@ -21,7 +21,9 @@ returns-clause-written c =
     let s = sized c.unsigned_abs.result (omega arith) in
     let w = c.write_digits-start in
     let own : to_z w64 (of_z w64 c.args.number) ≡ c.args.number = grind (arith, to_z-of_z) in
-    behind_sign c.args.number w.result w.new.buf _ (search rules) (omega arith) (omega arith) (w.ensures.written ∙ ap (λ n. decimal n ++ drop c.args.end c.args.buf.now) (c.unsigned_abs.ensures.value ∙ ap unsigned_abs own))
+    behind_sign c.args.number w.result w.new.buf _ (search rules) (omega arith) (omega arith)
+    (w.ensures.written ∙ ap (λ n. decimal n ++ drop c.args.end c.args.buf.now)
+    (c.unsigned_abs.ensures.value ∙ ap unsigned_abs own))
 
 pub returns-clause-at_most : goal.returns-clause-at_most
 returns-clause-at_most c = let s = sized c.unsigned_abs.result (omega arith) in omega arith

@@ -7,5 +7,7 @@ pub returns-clause-written : goal.returns-clause-written
 returns-clause-written c = λ small other.
     let four : length c.overwrite.new.out ≡ 4 = ap length (c.overwrite.ensures ∙ c.to_le_bytes.ensures) in
     take-put_mid c.args.place _ c.args.out.now c.overwrite.new.out (c.args.place + 4) (omega arith) (omega arith)
-    ∙ ap (λ t. take c.args.place c.args.out.now ++ t) (c.overwrite.ensures ∙ c.to_le_bytes.ensures ∙ word_is c.args.step c.numbers_of-word.result c.numbers_of-word.ensures.numbers small other)
+    ∙ ap (λ t. take c.args.place c.args.out.now ++ t)
+    (c.overwrite.ensures ∙ c.to_le_bytes.ensures
+    ∙ word_is c.args.step c.numbers_of-word.result c.numbers_of-word.ensures.numbers small other)
     ∙ sym (append_assoc (take c.args.place c.args.out.now) _ _)

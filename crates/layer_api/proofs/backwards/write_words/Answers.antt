@@ -6,7 +6,8 @@ use Rattle.layer_api.proofs.backwards.write_words.Goals as goal
 pub loop-i-preserved : goal.loop-i-preserved
 loop-i-preserved c = record {
   room = omega arith;
-  written = one_more c.args.steps.now c.loop-i.i c.loop-i.joined c.raised_numbers_of-joined.result c.loop-i.out c.write_word.new.out (record { child = 0; parent = 0 }) c.loop-i-test.true
+  written = one_more c.args.steps.now c.loop-i.i c.loop-i.joined c.raised_numbers_of-joined.result
+      c.loop-i.out c.write_word.new.out (record { child = 0; parent = 0 }) c.loop-i-test.true
       c.raised_numbers_of-joined.ensures.child c.raised_numbers_of-joined.ensures.parent c.loop-i.invariant.written c.write_word.ensures.written;
 }
 

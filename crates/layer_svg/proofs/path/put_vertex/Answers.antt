@@ -10,7 +10,10 @@ use Rattle.layer_svg.proofs.path.put_vertex.Goals as goal
 
 pub x-requires : goal.x-requires
 x-requires c =
-    record { p_within = point_wider (2 ^ 25 + 2 ^ 25) (2 ^ 40) c.sub-offset.result (omega arith) (c.sub-offset.ensures.bounded (2 ^ 25) (2 ^ 25) c.requires.near.within c.requires.centre.within) }
+    record {
+      p_within = point_wider (2 ^ 25 + 2 ^ 25) (2 ^ 40) c.sub-offset.result (omega arith)
+          (c.sub-offset.ensures.bounded (2 ^ 25) (2 ^ 25) c.requires.near.within c.requires.centre.within);
+    }
 
 pub floor_thousandths-across-requires : goal.floor_thousandths-across-requires
 floor_thousandths-across-requires c =
@@ -21,7 +24,10 @@ floor_thousandths-across-requires c =
 
 pub y-requires : goal.y-requires
 y-requires c =
-    record { p_within = point_wider (2 ^ 25 + 2 ^ 25) (2 ^ 40) c.sub-offset.result (omega arith) (c.sub-offset.ensures.bounded (2 ^ 25) (2 ^ 25) c.requires.near.within c.requires.centre.within) }
+    record {
+      p_within = point_wider (2 ^ 25 + 2 ^ 25) (2 ^ 40) c.sub-offset.result (omega arith)
+          (c.sub-offset.ensures.bounded (2 ^ 25) (2 ^ 25) c.requires.near.within c.requires.centre.within);
+    }
 
 pub floor_thousandths-up-requires : goal.floor_thousandths-up-requires
 floor_thousandths-up-requires c =
@@ -39,6 +45,10 @@ returns-clause-vertex c =
     let across = c.floor_thousandths-across in
     let up = c.floor_thousandths-up in
     vertex_from c.args.view.now c.args.vertex.now _ _ c.args.line.now _ _ _
-    (read up.result up.ensures.bounded ∙ up.ensures.value ∙ ap (thousandths o) (c.y.ensures.coordinate ∙ ap (points_of o).y (c.sub-offset.ensures.is_difference o)))
-    (read across.result across.ensures.bounded ∙ across.ensures.value ∙ ap (thousandths o) (c.x.ensures.coordinate ∙ ap (points_of o).x (c.sub-offset.ensures.is_difference o)))
+    (read up.result up.ensures.bounded ∙ up.ensures.value
+    ∙ ap (thousandths o) (c.y.ensures.coordinate
+    ∙ ap (points_of o).y (c.sub-offset.ensures.is_difference o)))
+    (read across.result across.ensures.bounded ∙ across.ensures.value
+    ∙ ap (thousandths o) (c.x.ensures.coordinate
+    ∙ ap (points_of o).x (c.sub-offset.ensures.is_difference o)))
     c.put_signed.ensures.number c.put.ensures c.put_signed-2.ensures.number

@@ -19,10 +19,12 @@ some_lines : (n m : ℕ) → n ≡ m → ¬ (n ≡ 0) → 0 < m
 some_lines n m e h = omega arith
 
 brings : (c : Else-not-is_text_of) → Brings (λ _. Unit {0}) c.args.machine.now
-brings c = brought (λ _. Unit {0}) c.args.machine.now _ _ _ c.checked-checked.ensures.rule c.checked-checked.ensures.accepted c.checked-checked.ensures.usable
+brings c = brought (λ _. Unit {0}) c.args.machine.now _ _ _ c.checked-checked.ensures.rule
+    c.checked-checked.ensures.accepted c.checked-checked.ensures.usable
     c.checked-checked.ensures.same_child_kinds c.uses.ensures c.kinds-usable.ensures.limits refl tt c.grown_fits_law.ensures
 
-list : (c : Else-not-is_text_of) → IsListOf (tiling_of c.args.machine.now) c.args.frame.now c.covered_tiles.new.frame c.args.window.now c.in-Ok.tiles c.args.listing.now
+list : (c : Else-not-is_text_of) → IsListOf (tiling_of c.args.machine.now) c.args.frame.now
+    c.covered_tiles.new.frame c.args.window.now c.in-Ok.tiles c.args.listing.now
 list c = record {
   grows = c.in-Ok.ensures.frame;
   drawn = c.in-Ok.ensures.drawn;
@@ -38,11 +40,14 @@ module _ (c : Else-not-is_text_of) where
   usable = subst AreUsable (c.uses.ensures ∙ ap (λ (r : Rule). children (tiling_of r)) c.checked-checked.ensures.rule) c.kinds-usable.ensures.limits
 
   whole : IsListedAs (tiling_of c.args.machine.now) c.args.frame.now c.covered_tiles.new.frame c.args.window.now c.args.listing.now c.len-count.result
-  whole = listed_as c.args.machine.now (brings c).settled usable (brings c).fits (λ entries. c.written_law.ensures (children (tiling_of c.args.machine.now)) entries usable)
-      c.args.frame.now c.covered_tiles.new.frame c.requires.frame c.args.window.now c.in-Ok.tiles c.args.listing.now (list c) c.len-count.result c.len-count.ensures
+  whole = listed_as c.args.machine.now (brings c).settled usable (brings c).fits
+      (λ entries. c.written_law.ensures (children (tiling_of c.args.machine.now)) entries usable)
+      c.args.frame.now c.covered_tiles.new.frame c.requires.frame c.args.window.now c.in-Ok.tiles
+      c.args.listing.now (list c) c.len-count.result c.len-count.ensures
 
   few : length c.in-Ok.tiles < 2 ^ 32
-  few = fits_count c.args.machine.now (brings c).settled usable (brings c).fits (λ entries. c.written_law.ensures (children (tiling_of c.args.machine.now)) entries usable)
+  few = fits_count c.args.machine.now (brings c).settled usable (brings c).fits
+      (λ entries. c.written_law.ensures (children (tiling_of c.args.machine.now)) entries usable)
       c.args.frame.now c.covered_tiles.new.frame c.requires.frame c.args.window.now c.in-Ok.tiles c.args.listing.now (list c)
 
 pub returns : goal.returns

@@ -6,4 +6,5 @@ use Rattle.list_verify.proofs.lifted_lines.deepest.Given as goal
 
 abbrev pub invariant-loop-line : goal.invariant-loop-line
 invariant-loop-line l =
-    ((t : Tiling) → deepest_entry t l.depth (entries_of (drop l.line-index l.fn.lines)) ≡ deepest_entry t l.fn.least (entries_of l.fn.lines)) × (l.depth ≤ 64)
+    ((t : Tiling) → deepest_entry t l.depth (entries_of (drop l.line-index l.fn.lines)) ≡ deepest_entry t
+    l.fn.least (entries_of l.fn.lines)) × (l.depth ≤ 64)

@@ -1,7 +1,7 @@
 use Rattle.std.proofs.Common.{◌≡◌, ◌<◌, ℕ, List, length, slice_get, Some}
 use Rattle.std.specs.List.{All}
-use Rattle.addressing.specs.Address.{Fits}
-use Rattle.frames.specs.Frame.{IsTileOf}
+use Rattle.theory_addresses.specs.Address.{Fits}
+use Rattle.theory_frames.specs.Frame.{IsTileOf}
 use Rattle.lazy_walk.specs.Frames.{whole}
 use Rattle.listing_text.specs.Listing.{Entry}
 use Rattle.tile_shape.specs.Views.{address_of}

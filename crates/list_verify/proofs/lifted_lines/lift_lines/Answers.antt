@@ -1,10 +1,10 @@
 use Rattle.std.proofs.Common.{◌≡◌, ℕ, ◌≤◌, max, length, get_or, refl, sym, ap, ◌∙◌, subst, arith}
-use Rattle.addressing.specs.Address.{depth}
-use Rattle.addressing.proofs.Lists.{IsAmong-map}
-use Rattle.addressing.proofs.Ranges.{place-among}
+use Rattle.theory_addresses.specs.Address.{depth}
+use Rattle.theory_addresses.proofs.Lists.{IsAmong-map}
+use Rattle.theory_addresses.proofs.Ranges.{place-among}
 use Rattle.listing_text.specs.declared.entry.Entry as program
 use Rattle.listing_text.specs.Views.{entry_of}
-use Rattle.listings.proofs.FrameLines.{deepest-first, deepest-among}
+use Rattle.theory_listings.proofs.FrameLines.{deepest-first, deepest-among}
 use Rattle.rule_model.specs.Tiling.{tiling_of}
 use Rattle.tile_shape.specs.Views.{address_of}
 use Rattle.list_verify.specs.FoundLines.{entries_of}
@@ -15,7 +15,8 @@ use Rattle.list_verify.proofs.lifted_lines.lift_lines.Goals.{After-grow_to}
 use Rattle.list_verify.proofs.lifted_lines.lift_lines.Goals as goal
 
 -- the frame has the depth of the deepest line
-deep-is : (c : After-grow_to) → length c.grow_to.new.self.digits ≡ deepest_entry (tiling_of c.args.machine.now) (length c.args.frame.now.digits) (entries_of c.args.lines.now)
+deep-is : (c : After-grow_to) → length c.grow_to.new.self.digits ≡ deepest_entry
+    (tiling_of c.args.machine.now) (length c.args.frame.now.digits) (entries_of c.args.lines.now)
 deep-is c =
     let t = tiling_of c.args.machine.now in
     let listing = tiles_listed t (entries_of c.args.lines.now) in

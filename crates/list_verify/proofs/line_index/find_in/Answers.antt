@@ -9,17 +9,22 @@ below : (at first : Option ℕ) (places : _) (place n k line : ℕ) → at ≡ l
 below at first places place n k line is some within = let l = (last-some places place n line (sym is ∙ some)).below in omega arith
 
 pub bounds-lines-line : goal.bounds-lines-line
-bounds-lines-line c = let l = below c.loop-at.at c.args.first _ _ c.loop-at.invariant.0 (length c.args.before.now) c.in-Some.line c.loop-at.invariant.2 c.in-Some.is c.loop-at.invariant.1 in let m = c.requires.within in omega arith
+bounds-lines-line c = let l = below c.loop-at.at c.args.first _ _ c.loop-at.invariant.0
+    (length c.args.before.now) c.in-Some.line c.loop-at.invariant.2 c.in-Some.is
+    c.loop-at.invariant.1 in let m = c.requires.within in omega arith
 
 pub bounds-before-line : goal.bounds-before-line
-bounds-before-line c = below c.loop-at.at c.args.first _ _ c.loop-at.invariant.0 (length c.args.before.now) c.in-Some.line c.loop-at.invariant.2 c.in-Some.is c.loop-at.invariant.1
+bounds-before-line c = below c.loop-at.at c.args.first _ _ c.loop-at.invariant.0 (length c.args.before.now)
+    c.in-Some.line c.loop-at.invariant.2 c.in-Some.is c.loop-at.invariant.1
 
 pub returns-then-is_same_address-clause-below : goal.returns-then-is_same_address-clause-below
-returns-then-is_same_address-clause-below c = below c.loop-at.at c.args.first _ _ c.loop-at.invariant.0 (length c.args.before.now) c.in-Some.line c.loop-at.invariant.2 c.in-Some.is c.loop-at.invariant.1
+returns-then-is_same_address-clause-below c = below c.loop-at.at c.args.first _ _ c.loop-at.invariant.0
+    (length c.args.before.now) c.in-Some.line c.loop-at.invariant.2 c.in-Some.is c.loop-at.invariant.1
 
 pub returns-then-is_same_address-clause-found : goal.returns-then-is_same_address-clause-found
 returns-then-is_same_address-clause-found c =
-    let l = below c.loop-at.at c.args.first _ _ c.loop-at.invariant.0 (length c.args.before.now) c.in-Some.line c.loop-at.invariant.2 c.in-Some.is c.loop-at.invariant.1 in
+    let l = below c.loop-at.at c.args.first _ _ c.loop-at.invariant.0 (length c.args.before.now)
+    c.in-Some.line c.loop-at.invariant.2 c.in-Some.is c.loop-at.invariant.1 in
     let m = c.requires.within in (
       c.index-lines-line.result,
       slice_get-at c.args.lines.now c.in-Some.line c.index-lines-line.result _ (omega arith) c.index-lines-line.is,
@@ -28,8 +33,10 @@ returns-then-is_same_address-clause-found c =
 
 pub loop-at-smaller : goal.loop-at-smaller
 loop-at-smaller c =
-    let l = below c.loop-at.at c.args.first _ _ c.loop-at.invariant.0 (length c.args.before.now) c.in-Some.line c.loop-at.invariant.2 c.in-Some.is c.loop-at.invariant.1 in
-    let next = shorter _ _ c.in-Some.line (get_or c.args.before.now c.in-Some.line None) (get_or-at c.args.before.now c.in-Some.line _ None (c.requires.before c.in-Some.line l)) in
+    let l = below c.loop-at.at c.args.first _ _ c.loop-at.invariant.0 (length c.args.before.now)
+    c.in-Some.line c.loop-at.invariant.2 c.in-Some.is c.loop-at.invariant.1 in
+    let next = shorter _ _ c.in-Some.line (get_or c.args.before.now c.in-Some.line None)
+    (get_or-at c.args.before.now c.in-Some.line _ None (c.requires.before c.in-Some.line l)) in
     subst (λ o. links (get_or c.args.before.now c.in-Some.line None) < links o) (sym c.in-Some.is) (omega (arith, next))
 
 pub loop-at-preserved : goal.loop-at-preserved
@@ -38,7 +45,8 @@ loop-at-preserved c =
     let buckets = c.args.buckets in
     let lines = c.args.lines.now in
     let a = address_of c.args.address.now in
-    let l = below c.loop-at.at c.args.first _ _ n (length c.args.before.now) c.in-Some.line c.loop-at.invariant.2 c.in-Some.is c.loop-at.invariant.1 in
+    let l = below c.loop-at.at c.args.first _ _ n (length c.args.before.now) c.in-Some.line
+    c.loop-at.invariant.2 c.in-Some.is c.loop-at.invariant.1 in
     let low = c.loop-at.invariant.1 in
     let m = c.requires.within in
     let linked : last_in (buckets_of buckets lines) (bucket_of buckets a) n ≡ Some c.in-Some.line = sym c.loop-at.invariant.2 ∙ c.in-Some.is in (
@@ -47,10 +55,14 @@ loop-at-preserved c =
       get_or-at c.args.before.now c.in-Some.line _ None (c.requires.before c.in-Some.line l)
           ∙ ap (λ place. last_in (buckets_of buckets lines) place c.in-Some.line) (next-link buckets lines a n c.in-Some.line (omega arith) linked),
       λ i from below_k. onward buckets lines a n (length c.args.before.now) c.in-Some.line m low linked
-          (λ has. absurd (cc (sym c.if-is_same_address.false ∙ c.is_same_address.ensures.1 (sym (ap (λ (e : Entry). address_of e.address) c.index-lines-line.is) ∙ ap (λ (e : Entry). address_of e.address) (c.index-lines-line.is ∙ get_or-at lines c.in-Some.line has.0 _ has.1) ∙ has.2))))
+          (λ has. absurd (cc (sym c.if-is_same_address.false
+          ∙ c.is_same_address.ensures.1 (sym (ap (λ (e : Entry). address_of e.address)
+          c.index-lines-line.is) ∙ ap (λ (e : Entry). address_of e.address)
+          (c.index-lines-line.is ∙ get_or-at lines c.in-Some.line has.0 _ has.1) ∙ has.2))))
           (λ j h k. c.loop-at.invariant.3 j h k) i from below_k,
     )
 
 pub returns-clause-none : goal.returns-clause-none
-returns-clause-none c i h has = absurd (none-left c.args.buckets c.args.lines.now (address_of c.args.address.now) c.loop-at.invariant.0 (length c.args.before.now)
+returns-clause-none c i h has = absurd (none-left c.args.buckets c.args.lines.now
+    (address_of c.args.address.now) c.loop-at.invariant.0 (length c.args.before.now)
     (sym c.loop-at.invariant.2 ∙ c.in_default.is) (λ j g k. c.loop-at.invariant.3 j g k) i h has)

@@ -10,10 +10,13 @@ returns-in-Some-clause-unread c = λ fault e. absurd (cc (e, c.in-Some.ensures.l
 
 pub returns-clause-not_beyond : goal.returns-clause-not_beyond
 returns-clause-not_beyond c =
-    subst (λ (f : FrameValue). (n : ℕ) → IsEnoughListed (tiling_of c.args.machine.now) f c.args.window.now c.args.listing.now n → length c.by_walk.new.frame.digits ≤ n)
+    subst (λ (f : FrameValue). (n : ℕ) → IsEnoughListed (tiling_of c.args.machine.now) f c.args.window.now
+    c.args.listing.now n → length c.by_walk.new.frame.digits ≤ n)
     c.in_default.ensures.stays c.by_walk.ensures.not_beyond
 
 pub returns-clause-cause : goal.returns-clause-cause
 returns-clause-cause c =
-    subst (λ (f : FrameValue). IfErr c.by_walk.result (λ fault. HasCause (tiling_of c.args.machine.now) f c.by_walk.new.frame c.args.window.now c.args.listing.now fault))
+    subst (λ (f : FrameValue). IfErr c.by_walk.result
+    (λ fault. HasCause (tiling_of c.args.machine.now) f c.by_walk.new.frame c.args.window.now
+    c.args.listing.now fault))
     c.in_default.ensures.stays c.by_walk.ensures.cause

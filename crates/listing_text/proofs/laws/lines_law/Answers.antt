@@ -11,7 +11,8 @@ no_newline : (line : List ℕ) → All (λ byte. byte ≢ newline) line → All 
 no_newline line = All-weaker (λ byte. byte ≢ newline) (λ byte. nat_eq byte newline ≡ false) (λ byte h. ne_eqb byte newline h) line
 
 pub returns-clause-ended : goal.returns-clause-ended
-returns-clause-ended c = λ line rest h. line_cut (line ++ newline ∷ rest) line rest (slice_split_at (λ byte. nat_eq byte newline) line newline rest (no_newline line h) refl)
+returns-clause-ended c = λ line rest h. line_cut (line ++ newline ∷ rest) line rest
+    (slice_split_at (λ byte. nat_eq byte newline) line newline rest (no_newline line h) refl)
 
 pub returns-clause-last : goal.returns-clause-last
 returns-clause-last c = λ line some h. last_cut line some (slice_split_none (λ byte. nat_eq byte newline) line (no_newline line h))

@@ -8,4 +8,5 @@ returns-then-text-place-clause-texts c =
 
 pub returns-clause-texts : goal.returns-clause-texts
 returns-clause-texts c =
-    whole c.args.mark c.args.text.now (λ k l. c.loop-place.invariant k (let e = c.loop-place.auto.place-end in let f = c.loop-place-test.false in omega (arith, l, e, f)))
+    whole c.args.mark c.args.text.now (λ k l. c.loop-place.invariant k
+    (let e = c.loop-place.auto.place-end in let f = c.loop-place-test.false in omega (arith, l, e, f)))

@@ -12,7 +12,8 @@ use Rattle.listing_text.proofs.line.shift_in.Goals as goal
 pub returns-in_err-c : goal.returns-in_err-c
 returns-in_err-c c =
     c.from_residual-in_err-c.ensures
-    ∙ third_fails (texts_between comma c.args.text.now) (texts_behind comma c.in_ok-a.left) (texts_behind comma c.in_ok-b.left) c.in_ok-a.a c.in_ok-b.b
+    ∙ third_fails (texts_between comma c.args.text.now) (texts_behind comma c.in_ok-a.left)
+    (texts_behind comma c.in_ok-b.left) c.in_ok-a.a c.in_ok-b.b
     c.in_ok-a.ensures
     (c.in_ok-b.ensures ∙ ap (λ l. first_by signed_in (texts_behind comma l)) (sym c.in_ok-left.was))
     (c.in_err-c.ensures ∙ ap (λ l. first_by signed_in (texts_behind comma l)) (sym c.in_ok-left-2.was))
@@ -24,7 +25,8 @@ returns-in-Some c =
     (c.in_ok-b.ensures ∙ ap (λ l. first_by signed_in (texts_behind comma l)) (sym c.in_ok-left.was))
     c.in_ok-c.c c.in_ok-d.d (texts_behind comma c.in_ok-c.left) c.in-Some.field-0.now
     (c.in_ok-c.ensures ∙ ap (λ l. first_by signed_in (texts_behind comma l)) (sym c.in_ok-left-2.was))
-    (sym (ap (λ l. Some (c.in_ok-d.d, texts_behind comma l)) c.in-Some.is) ∙ c.in_ok-d.ensures ∙ ap (λ l. first_by signed_in (texts_behind comma l)) (sym c.in_ok-left-3.was))
+    (sym (ap (λ l. Some (c.in_ok-d.d, texts_behind comma l)) c.in-Some.is) ∙ c.in_ok-d.ensures
+    ∙ ap (λ l. first_by signed_in (texts_behind comma l)) (sym c.in_ok-left-3.was))
 
 pub returns-in-None : goal.returns-in-None
 returns-in-None c =
@@ -33,9 +35,11 @@ returns-in-None c =
     let fits_c : SFits w64 c.in_ok-c.c = search rules in
     let fits_d : SFits w64 c.in_ok-d.d = search rules in
     ap (λ p. Some p) (simp to_z-of_z at c.point_of.ensures)
-    ∙ none_follow (texts_between comma c.args.text.now) (texts_behind comma c.in_ok-a.left) (texts_behind comma c.in_ok-b.left) c.in_ok-a.a c.in_ok-b.b
+    ∙ none_follow (texts_between comma c.args.text.now) (texts_behind comma c.in_ok-a.left)
+    (texts_behind comma c.in_ok-b.left) c.in_ok-a.a c.in_ok-b.b
     c.in_ok-a.ensures
     (c.in_ok-b.ensures ∙ ap (λ l. first_by signed_in (texts_behind comma l)) (sym c.in_ok-left.was))
     c.in_ok-c.c c.in_ok-d.d (texts_behind comma c.in_ok-c.left)
     (c.in_ok-c.ensures ∙ ap (λ l. first_by signed_in (texts_behind comma l)) (sym c.in_ok-left-2.was))
-    (sym (ap (λ l. Some (c.in_ok-d.d, texts_behind comma l)) c.in-None.is) ∙ c.in_ok-d.ensures ∙ ap (λ l. first_by signed_in (texts_behind comma l)) (sym c.in_ok-left-3.was))
+    (sym (ap (λ l. Some (c.in_ok-d.d, texts_behind comma l)) c.in-None.is) ∙ c.in_ok-d.ensures
+    ∙ ap (λ l. first_by signed_in (texts_behind comma l)) (sym c.in_ok-left-3.was))

@@ -13,7 +13,8 @@ invariant-loop-rest l = record {
   few : length l.entries.items ≤ most_lines;
   counted : length l.entries.items + length (lines_in l.rest) ≡ length (lines_in l.listing);
   accepted : All (λ entry. IsAcceptedAddress l.uses (address_of entry.address)) l.entries.items;
-  so_far : entries_from l.uses 1 (lines_in l.listing) ≡ entries_before (map entry_of l.entries.items) (entries_from l.uses (length l.entries.items + 1) (lines_in l.rest));
+  so_far : entries_from l.uses 1 (lines_in l.listing) ≡ entries_before (map entry_of l.entries.items)
+      (entries_from l.uses (length l.entries.items + 1) (lines_in l.rest));
 }
 
 abbrev pub decreases-loop-rest : goal.decreases-loop-rest

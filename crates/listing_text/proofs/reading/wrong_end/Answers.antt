@@ -6,7 +6,8 @@ use Rattle.listing_text.proofs.reading.wrong_end.Goals as goal
 
 pub returns-then-is_empty : goal.returns-then-is_empty
 returns-then-is_empty c = λ children kind motion refused.
-    no_fourth children c.args.line c.args.text.now kind motion c.args.text.now c.cut.result.0.now (texts_behind blank c.cut.result.1) c.cut.ensures.texts (sym c.is_empty.ensures ∙ c.if-is_empty.true)
+    no_fourth children c.args.line c.args.text.now kind motion c.args.text.now c.cut.result.0.now
+    (texts_behind blank c.cut.result.1) c.cut.ensures.texts (sym c.is_empty.ensures ∙ c.if-is_empty.true)
 
 pub returns-in-Some : goal.returns-in-Some
 returns-in-Some c = λ children kind motion refused.

@@ -1,5 +1,5 @@
 use Rattle.std.proofs.Common.{◌≡◌, ◌<◌, ◌/◌, ◌%◌, ℕ}
-use Rattle.addressing.specs.Tables.{parts_of}
+use Rattle.theory_addresses.specs.Tables.{parts_of}
 use Rattle.pair_machine.proofs.alike.first_alike.Given as goal
 
 abbrev pub invariant-loop-other : goal.invariant-loop-other

@@ -1,6 +1,6 @@
 use Rattle.std.proofs.Common.{arith, refl}
-use Rattle.addressing.proofs.Mated.{contact_exists}
-use Rattle.addressing.proofs.TableBounds.{contact_bounds}
+use Rattle.theory_addresses.proofs.Mated.{contact_exists}
+use Rattle.theory_addresses.proofs.TableBounds.{contact_bounds}
 use Rattle.pair_machine.specs.Itself.{MeetsItself}
 use Rattle.pair_machine.proofs.itself.meets_itself.Goals as goal
 

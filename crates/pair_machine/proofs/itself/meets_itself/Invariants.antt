@@ -1,6 +1,6 @@
 use Rattle.std.proofs.Common.{◌≡◌, ◌<◌, ℕ, Some}
-use Rattle.addressing.specs.Contact.{inner}
-use Rattle.addressing.specs.Tables.{contact_of}
+use Rattle.theory_addresses.specs.Contact.{inner}
+use Rattle.theory_addresses.specs.Tables.{contact_of}
 use Rattle.pair_machine.proofs.itself.meets_itself.Given as goal
 
 abbrev pub invariant-loop-edge : goal.invariant-loop-edge

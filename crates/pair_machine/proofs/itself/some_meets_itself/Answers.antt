@@ -1,5 +1,5 @@
 use Rattle.std.proofs.Common.{arith, refl}
-use Rattle.addressing.proofs.TableBounds.{contact_bounds}
+use Rattle.theory_addresses.proofs.TableBounds.{contact_bounds}
 use Rattle.pair_machine.specs.Itself.{SomeMeetsItself}
 use Rattle.pair_machine.proofs.itself.some_meets_itself.Goals as goal
 

@@ -1,7 +1,7 @@
 use Rattle.std.proofs.Common.{◌≡◌, ◌∙◌, ◌<◌, map, length, ap, sym, arith, get_or, []}
 use Rattle.std.proofs.Math.ListN.{get_or-map}
 use Rattle.std.proofs.lemmas.List.{length-map}
-use Rattle.addressing.specs.Search.{IsAmong}
+use Rattle.theory_addresses.specs.Search.{IsAmong}
 use Rattle.pair_machine.specs.Nodes.{IsNode}
 use Rattle.pair_machine.specs.Views.{as_node}
 use Rattle.pair_machine.proofs.Places.{read-among}
@@ -52,12 +52,16 @@ loop-next-preserved c =
       nodes = covers_nodes c.args.tables.now (map as_node c.loop-next.found.list.items) (map as_node c.add_row.new.self.list.items) _ _ _ covers
           (λ n j. row-node c.args.tables.now (as_node c.index-node.result.now) n node j) c.loop-next.invariant.nodes;
       firsts = λ n j. kept_in n covers (c.loop-next.invariant.firsts n j);
-      rows = rows_more c.args.tables.now (map as_node c.loop-next.found.list.items) (map as_node c.add_row.new.self.list.items) _ _ c.loop-next.next (as_node c.index-node.result.now) (as_node c.index-node.result.now)
+      rows = rows_more c.args.tables.now (map as_node c.loop-next.found.list.items)
+          (map as_node c.add_row.new.self.list.items) _ _ c.loop-next.next (as_node c.index-node.result.now)
+          (as_node c.index-node.result.now)
           (omega (arith, lt, length-map c.loop-next.found.list.items as_node)) at covers c.loop-next.invariant.rows;
     }
 
 pub returns-clause-all : goal.returns-clause-all
 returns-clause-all c = λ n. (
   c.loop-next.invariant.nodes n,
-  all_found c.args.tables.now (map as_node c.loop-next.found.list.items) c.loop-next.next c.width.ensures.coherent (omega (arith, c.len.ensures, length-map c.loop-next.found.list.items as_node)) c.loop-next.invariant.firsts c.loop-next.invariant.rows n,
+  all_found c.args.tables.now (map as_node c.loop-next.found.list.items) c.loop-next.next
+      c.width.ensures.coherent (omega (arith, c.len.ensures, length-map c.loop-next.found.list.items as_node))
+      c.loop-next.invariant.firsts c.loop-next.invariant.rows n,
 )

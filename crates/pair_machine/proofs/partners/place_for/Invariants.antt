@@ -1,5 +1,5 @@
 use Rattle.std.proofs.Common.{◌<◌, map, take}
-use Rattle.addressing.specs.Search.{IsAmong}
+use Rattle.theory_addresses.specs.Search.{IsAmong}
 use Rattle.pair_machine.specs.Between.{Pair}
 use Rattle.pair_machine.specs.Views.{as_pair}
 use Rattle.pair_machine.proofs.partners.place_for.Given as goal

@@ -1,5 +1,5 @@
 use Rattle.cyclo_points.specs.Order.{points_of}
-use Rattle.ordered_plane.proofs.BoxMeets.{exact-by_offsets}
+use Rattle.theory_plane.proofs.BoxMeets.{exact-by_offsets}
 use Rattle.plane_geom.proofs.box_edges.edge_meets_box.Goals as goal
 
 pub returns : goal.returns

@@ -1,6 +1,6 @@
 use Rattle.plane_geom.specs.Spots.{reals_of}
-use Rattle.ordered_plane.proofs.Crossing.{crossing-turned, crossing-parts}
-use Rattle.ordered_plane.proofs.OnSegment.{between-on_segment}
+use Rattle.theory_plane.proofs.Crossing.{crossing-turned, crossing-parts}
+use Rattle.theory_plane.proofs.OnSegment.{between-on_segment}
 use Rattle.plane_geom.proofs.laws.crossing_law.Goals as goal
 
 pub returns-clause-antisymmetric : goal.returns-clause-antisymmetric
@@ -11,4 +11,5 @@ returns-clause-antisymmetric c =
 pub returns-clause-additive : goal.returns-clause-additive
 returns-clause-additive c =
     let w = c.points_law.ensures in
-    λ a b m p h. crossing-parts (reals_of c.args.order) w.of_real w.of_order a b m p (between-on_segment (reals_of c.args.order) w.of_real w.of_order a b m h)
+    λ a b m p h. crossing-parts (reals_of c.args.order) w.of_real w.of_order a b m p
+    (between-on_segment (reals_of c.args.order) w.of_real w.of_order a b m h)

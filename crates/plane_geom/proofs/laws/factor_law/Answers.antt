@@ -1,6 +1,6 @@
 use Rattle.cyclo_points.specs.Order.{points_of}
-use Rattle.substitution.proofs.Lengths.{real_growth}
-use Rattle.substitution.proofs.Keeping.{factor-keeps, powers-keep}
+use Rattle.theory_substitution.proofs.Lengths.{real_growth}
+use Rattle.theory_substitution.proofs.Keeping.{factor-keeps, powers-keep}
 use Rattle.plane_geom.proofs.laws.factor_law.Goals as goal
 
 pub returns-clause-keeps : goal.returns-clause-keeps

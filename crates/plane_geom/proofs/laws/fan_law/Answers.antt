@@ -1,5 +1,5 @@
 use Rattle.plane_geom.specs.Spots.{reals_of}
-use Rattle.ordered_plane.proofs.Fan.{count-fan}
+use Rattle.theory_plane.proofs.Fan.{count-fan}
 use Rattle.plane_geom.proofs.laws.fan_law.Goals as goal
 
 pub returns : goal.returns

@@ -1,6 +1,6 @@
 use Rattle.cyclo_points.specs.Order.{points_of}
-use Rattle.substitution.proofs.Lengths.{motion-length}
-use Rattle.substitution.proofs.Keeping.{motion-keeps}
+use Rattle.theory_substitution.proofs.Lengths.{motion-length}
+use Rattle.theory_substitution.proofs.Keeping.{motion-keeps}
 use Rattle.plane_geom.proofs.laws.motion_law.Goals as goal
 
 pub returns-clause-keeps : goal.returns-clause-keeps

@@ -1,6 +1,6 @@
 use Rattle.cyclo_points.specs.Order.{points_of}
-use Rattle.substitution.proofs.Lengths.{norm-mul}
-use Rattle.substitution.proofs.Keeping.{product-orientation, product-keeps}
+use Rattle.theory_substitution.proofs.Lengths.{norm-mul}
+use Rattle.theory_substitution.proofs.Keeping.{product-orientation, product-keeps}
 use Rattle.plane_geom.proofs.laws.product_law.Goals as goal
 
 pub returns-clause-orientations : goal.returns-clause-orientations

@@ -1,6 +1,6 @@
 use Rattle.plane_geom.specs.Spots.{reals_of}
-use Rattle.ordered_plane.proofs.Triangle.{denominator_pos, triangle-good}
-use Rattle.ordered_plane.proofs.Separated.{separated-apart}
+use Rattle.theory_plane.proofs.Triangle.{denominator_pos, triangle-good}
+use Rattle.theory_plane.proofs.Separated.{separated-apart}
 use Rattle.plane_geom.proofs.laws.triangle_law.Goals as goal
 
 pub returns-clause-zero_or_one : goal.returns-clause-zero_or_one

@@ -5,7 +5,7 @@ use Rattle.cyclo_points.specs.Point.{IsWithin}
 use Rattle.plane_geom.specs.Spots.{reals_of}
 use Rattle.plane_geom.specs.Spots.{spot_of, test_of}
 use Rattle.plane_geom.proofs.Spots.{nowhere}
-use Rattle.ordered_plane.proofs.Rounds.{count-begun, count-next, count-ended}
+use Rattle.theory_plane.proofs.Rounds.{count-begun, count-next, count-ended}
 use Rattle.plane_geom.proofs.polygons.count.Goals as goal
 
 pub bounds-poly-0 : goal.bounds-poly-0
@@ -14,8 +14,10 @@ bounds-poly-0 c = let n = c.requires.at_least_three in omega arith
 pub loop-i-init : goal.loop-i-init
 unfolding nowhere
 loop-i-init c = record {
-  counted = count-begun (reals_of c.args.order) (test_of c.args.order c.args.p.now) (spot_of c.args.order) nowhere c.args.poly.now c.requires.at_least_three;
-  from_within = All-get_or (IsWithin (2 ^ 25)) c.args.poly.now 0 nowhere (let n = c.requires.at_least_three in omega arith) c.requires.vertices_within;
+  counted = count-begun (reals_of c.args.order) (test_of c.args.order c.args.p.now) (spot_of c.args.order)
+      nowhere c.args.poly.now c.requires.at_least_three;
+  from_within = All-get_or (IsWithin (2 ^ 25)) c.args.poly.now 0 nowhere
+      (let n = c.requires.at_least_three in omega arith) c.requires.vertices_within;
   height = c.is_above-begins_above.ensures;
   bounded = record { low = omega (arith, ints); high = omega (arith, ints) };
 }
@@ -30,7 +32,8 @@ pub crossing_between-crossed-requires-clause-a_within : goal.crossing_between-cr
 crossing_between-crossed-requires-clause-a_within c = c.loop-i.invariant.from_within
 
 pub crossing_between-crossed-requires-clause-b_within : goal.crossing_between-crossed-requires-clause-b_within
-crossing_between-crossed-requires-clause-b_within c = All-get_or (IsWithin (2 ^ 25)) c.args.poly.now c.loop-i.i _ c.loop-i-test.true c.requires.vertices_within
+crossing_between-crossed-requires-clause-b_within c = All-get_or (IsWithin (2 ^ 25)) c.args.poly.now
+    c.loop-i.i _ c.loop-i-test.true c.requires.vertices_within
 
 pub crossing_between-crossed-requires-clause-p_within : goal.crossing_between-crossed-requires-clause-p_within
 crossing_between-crossed-requires-clause-p_within c = c.requires.p_within
@@ -65,7 +68,9 @@ loop-i-preserved c =
     let sum : to_z w32 (of_z w32 (total +ℤ to_z w32 (of_z w32 (to_z w8 (of_z w8 crossed))))) ≡ total +ℤ crossed = omega (arith, ints) in
     record {
       counted = count-next (reals_of c.args.order) (test_of c.args.order c.args.p.now) (spot_of c.args.order) nowhere c.args.poly.now c.loop-i.i
-          (spot_of c.args.order (slice_index_or c.args.poly.now 0 nowhere)) (spot_of c.args.order c.loop-i.from) total _ crossed _ sum c.crossing_between-crossed.ensures.value h c.loop-i.invariant.counted;
+          (spot_of c.args.order (slice_index_or c.args.poly.now 0 nowhere))
+          (spot_of c.args.order c.loop-i.from) total _ crossed _ sum
+          c.crossing_between-crossed.ensures.value h c.loop-i.invariant.counted;
       from_within = All-get_or (IsWithin (2 ^ 25)) c.args.poly.now c.loop-i.i nowhere h c.requires.vertices_within;
       height = c.is_above-ends_above.ensures;
       bounded = record { low = omega (arith, ints); high = omega (arith, ints) };
@@ -112,4 +117,6 @@ returns c =
     let crossed : ℤ = c.crossing_between-crossed-2.result in
     let sum : to_z w32 (of_z w32 (total +ℤ to_z w32 (of_z w32 (to_z w8 (of_z w8 crossed))))) ≡ total +ℤ crossed = omega (arith, ints) in
     count-ended (reals_of c.args.order) (test_of c.args.order c.args.p.now) (spot_of c.args.order) nowhere c.args.poly.now c.loop-i.i
-    (spot_of c.args.order (slice_index_or c.args.poly.now 0 nowhere)) (spot_of c.args.order c.loop-i.from) total _ crossed _ sum c.crossing_between-crossed-2.ensures.value c.loop-i-test.false c.loop-i.invariant.counted
+    (spot_of c.args.order (slice_index_or c.args.poly.now 0 nowhere)) (spot_of c.args.order c.loop-i.from)
+    total _ crossed _ sum c.crossing_between-crossed-2.ensures.value c.loop-i-test.false
+    c.loop-i.invariant.counted

@@ -1,6 +1,6 @@
 use Rattle.cyclo_points.specs.Order.{points_of}
-use Rattle.ordered_plane.proofs.Close.{points_right}
-use Rattle.substitution.proofs.RightSide.{points_right-edges}
+use Rattle.theory_plane.proofs.Close.{points_right}
+use Rattle.theory_substitution.proofs.RightSide.{points_right-edges}
 use Rattle.plane_geom.proofs.right_side.right_side_law.Goals as goal
 
 pub returns-clause-in_the_plane : goal.returns-clause-in_the_plane

@@ -9,4 +9,5 @@ x-requires c = record {
 }
 
 pub returns-clause-bounded : goal.returns-clause-bounded
-returns-clause-bounded c = c.x.ensures.bounded (8 * 2 ^ 8 * (2 * 2 ^ 8)) (c.mul.ensures.bounded (2 ^ 8) (2 * 2 ^ 8) c.requires (c.conj.ensures.at_most_doubled (2 ^ 8) c.requires))
+returns-clause-bounded c = c.x.ensures.bounded (8 * 2 ^ 8 * (2 * 2 ^ 8))
+    (c.mul.ensures.bounded (2 ^ 8) (2 * 2 ^ 8) c.requires (c.conj.ensures.at_most_doubled (2 ^ 8) c.requires))

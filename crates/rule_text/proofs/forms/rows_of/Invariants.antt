@@ -6,5 +6,6 @@ use Rattle.rule_text.proofs.forms.rows_of.Given as goal
 
 abbrev pub invariant-loop-value : goal.invariant-loop-value
 invariant-loop-value l =
-    (behind (map (λ w. w.items) l.rows.items) (each (λ v. row l.len (view v)) (drop l.value-index l.values)) ≡ each (λ v. row l.len (view v)) l.values)
+    (behind (map (λ w. w.items) l.rows.items) (each (λ v. row l.len (view v)) (drop l.value-index l.values))
+    ≡ each (λ v. row l.len (view v)) l.values)
     × All (λ w. length w.items ≡ l.len) l.rows.items

@@ -15,5 +15,8 @@ returns c =
     let seen : Vec Point Global → List Point = λ v. v.items in
     let form : rows 4 (view c.in-Some.value.now) ≡ Some (map items given) = sym (rw c.in-Some-2.is at c.in_ok-rows.ensures.read) in
     let range : each (point_of o) (map items given) ≡ option_map seen c.in_ok-points_of.field-0 =
-    each-map (point_of o) items given ∙ ap (each (λ (row : Vec ℤ Global). point_of o row.items)) (sym c.as_slice.ensures.value) ∙ sym c.in_ok-points_of.ensures in
-    rw c.ok_or.ensures.value (Gives-ok_or seen c.in_ok-points_of.field-0 _ _ (value_at-formed c.args.key (codes "vertices") (rows 4) (each (point_of o)) (table_view c.args.table.now) _ _ _ (sym c.in-Some.ensures) form range))
+    each-map (point_of o) items given ∙ ap (each (λ (row : Vec ℤ Global). point_of o row.items))
+    (sym c.as_slice.ensures.value) ∙ sym c.in_ok-points_of.ensures in
+    rw c.ok_or.ensures.value (Gives-ok_or seen c.in_ok-points_of.field-0 _ _
+    (value_at-formed c.args.key (codes "vertices") (rows 4) (each (point_of o))
+    (table_view c.args.table.now) _ _ _ (sym c.in-Some.ensures) form range))

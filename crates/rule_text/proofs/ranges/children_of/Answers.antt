@@ -10,4 +10,7 @@ loop-row-preserved c =
     let found = sym (c.in-Some.ensures ∙ ap (child_in_row c.args.order) c.as_slice.ensures.value) in
     let done : map as_child c.push.new.self.items ≡ map as_child c.loop-row.children.items ++ as_child c.in-Some.child ∷ [] =
     ap (map as_child) c.in_ok-push.ensures.items ∙ map_push as_child c.loop-row.children.items c.in-Some.child in
-    rw done (each-more (λ (row : Vec ℤ Global). child_in_row c.args.order row.items) c.args.rows.now c.loop-row.row-index c.row-item.result (as_child c.in-Some.child) (map as_child c.loop-row.children.items) c.loop-row-test.true c.row-item.is found c.loop-row.invariant)
+    rw done (each-more (λ (row : Vec ℤ Global). child_in_row c.args.order row.items) c.args.rows.now
+    c.loop-row.row-index c.row-item.result (as_child c.in-Some.child)
+    (map as_child c.loop-row.children.items) c.loop-row-test.true c.row-item.is found
+    c.loop-row.invariant)

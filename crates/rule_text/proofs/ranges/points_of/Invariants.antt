@@ -5,4 +5,6 @@ use Rattle.rule_text.proofs.Walks.{behind}
 use Rattle.rule_text.proofs.ranges.points_of.Given as goal
 
 abbrev pub invariant-loop-row : goal.invariant-loop-row
-invariant-loop-row l = behind l.points.items (each (λ row. point_of l.order row.items) (drop l.row-index l.rows)) ≡ each (λ row. point_of l.order row.items) l.rows
+invariant-loop-row l = behind l.points.items
+    (each (λ row. point_of l.order row.items) (drop l.row-index l.rows)) ≡ each
+    (λ row. point_of l.order row.items) l.rows

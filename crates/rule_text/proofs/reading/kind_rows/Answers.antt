@@ -2,7 +2,7 @@ use Rattle.std.proofs.Common.{◌≡◌, ◌∙◌, ◌++◌, ◌∷◌, [], ℕ
 use Rattle.std.proofs.lemmas.List.{map_push}
 use Rattle.toml.specs.declared.value.Value.{Value}
 use Rattle.toml.specs.View.{table_view}
-use Rattle.substitution.specs.Rule.{Kind}
+use Rattle.theory_substitution.specs.Rule.{Kind}
 use Rattle.cyclo_points.specs.declared.point.Point.{Point}
 use Rattle.rule_model.specs.Views.{as_kind}
 use Rattle.rule_text.specs.declared.text_fault.TextFault.{TextFault}
@@ -18,4 +18,5 @@ loop-i-preserved c =
     let here : read c.loop-i.i x ≡ Ok (as_kind c.in_ok-row.row) = c.in_ok-row.ensures in
     let done : map as_kind c.push.new.self.items ≡ map as_kind c.loop-i.rows.items ++ as_kind c.in_ok-row.row ∷ [] =
     ap (map as_kind) c.in_ok-push.ensures.items ∙ map_push as_kind c.loop-i.rows.items c.in_ok-row.row in
-    rw done (in_order-more read c.args.entries.now c.loop-i.i x (as_kind c.in_ok-row.row) (map as_kind c.loop-i.rows.items) _ c.loop-i-test.true c.index-entries-i.is here c.loop-i.invariant)
+    rw done (in_order-more read c.args.entries.now c.loop-i.i x (as_kind c.in_ok-row.row)
+    (map as_kind c.loop-i.rows.items) _ c.loop-i-test.true c.index-entries-i.is here c.loop-i.invariant)

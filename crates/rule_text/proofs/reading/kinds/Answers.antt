@@ -2,7 +2,7 @@ use Rattle.std.proofs.Common.{◌∙◌, List, Result, Bor, BTreeMap, String, Gl
 use Rattle.toml.specs.Data.{Members}
 use Rattle.toml.specs.View.{table_view}
 use Rattle.toml.specs.declared.value.Value.{Value}
-use Rattle.substitution.specs.Rule.{Kind}
+use Rattle.theory_substitution.specs.Rule.{Kind}
 use Rattle.cyclo_points.specs.declared.point.Point.{Point}
 use Rattle.rule_model.specs.Views.{as_kind}
 use Rattle.rule_text.specs.declared.key.Key.TheVariants as key
@@ -17,7 +17,9 @@ use Rattle.rule_text.proofs.reading.kinds.Goals as goal
 pub kind_rows-requires : goal.kind_rows-requires
 kind_rows-requires c =
     let seen : Bor (BTreeMap (String Global) Value) → Members = λ t. table_view t.now in
-    let few : length c.as_slice.result.now ≤ 1048578 = seen-few 1048578 key.KindList (codes "kind") (table_view c.args.table.now) seen c.in_ok-entries.entries.items c.as_slice.result.now c.requires.few c.in_ok-entries.ensures c.as_slice.ensures.value in
+    let few : length c.as_slice.result.now ≤ 1048578 = seen-few 1048578 key.KindList (codes "kind")
+    (table_view c.args.table.now) seen c.in_ok-entries.entries.items c.as_slice.result.now c.requires.few
+    c.in_ok-entries.ensures c.as_slice.ensures.value in
     record { numbered = omega (arith, few) }
 
 pub returns : goal.returns

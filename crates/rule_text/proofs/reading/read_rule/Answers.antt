@@ -10,7 +10,10 @@ use Rattle.rule_text.proofs.reading.read_rule.Goals as goal
 use Rattle.rule_text.proofs.reading.read_rule.Goals.{After-drop-table}
 
 pub rule_of-requires : goal.rule_of-requires
-rule_of-requires c = record { few = document-few 1048576 c.args.bytes.now (table_view c.in-Ok.table) c.requires.at_most_a_mebibyte c.in-Ok.ensures.ok.1 }
+rule_of-requires c = record {
+  few = document-few 1048576 c.args.bytes.now (table_view c.in-Ok.table)
+      c.requires.at_most_a_mebibyte c.in-Ok.ensures.ok.1;
+}
 
 document : (c : After-drop-table) → document_in c.args.bytes.now ≡ Some (table_view c.in-Ok.table)
 document c = document-some c.args.bytes.now (table_view c.in-Ok.table) c.in-Ok.ensures.ok.0 c.in-Ok.ensures.ok.1
@@ -29,10 +32,12 @@ returns-in-Ok-clause-not_toml c = λ _. toml-document c.args.bytes.now _ c.rule_
 
 pub returns-in-Err-2-clause-fault : goal.returns-in-Err-2-clause-fault
 returns-in-Err-2-clause-fault c =
-    let none : document_in c.args.bytes.now ≡ None = document-none c.args.bytes.now (c.in-Err.ensures.refused (λ m. false≢true (sym c.if-is_memory.false ∙ c.is_memory.ensures.1 m))) in
+    let none : document_in c.args.bytes.now ≡ None = document-none c.args.bytes.now
+    (c.in-Err.ensures.refused (λ m. false≢true (sym c.if-is_memory.false ∙ c.is_memory.ensures.1 m))) in
     λ _. ap rule_of_document none
 
 pub returns-in-Err-2-clause-not_toml : goal.returns-in-Err-2-clause-not_toml
 returns-in-Err-2-clause-not_toml c =
-    let none : document_in c.args.bytes.now ≡ None = document-none c.args.bytes.now (c.in-Err.ensures.refused (λ m. false≢true (sym c.if-is_memory.false ∙ c.is_memory.ensures.1 m))) in
+    let none : document_in c.args.bytes.now ≡ None = document-none c.args.bytes.now
+    (c.in-Err.ensures.refused (λ m. false≢true (sym c.if-is_memory.false ∙ c.is_memory.ensures.1 m))) in
     λ _. (λ _. none, λ _. refl)

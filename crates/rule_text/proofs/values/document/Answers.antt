@@ -5,5 +5,8 @@ use Rattle.rule_text.specs.Written.{HasFours}
 use Rattle.rule_text.proofs.values.document.Goals as goal
 
 pub returns-clause-fours : goal.returns-clause-fours
-returns-clause-fours c =
-    (c.in_ok-point.ensures.fours, subst (λ (rows : List KindRow). All HasFours (map as_kind rows)) c.as_slice-3.ensures.value c.in_ok-kinds.ensures.fours)
+returns-clause-fours c = (
+  c.in_ok-point.ensures.fours,
+  subst (λ (rows : List KindRow). All HasFours (map as_kind rows))
+      c.as_slice-3.ensures.value c.in_ok-kinds.ensures.fours,
+)

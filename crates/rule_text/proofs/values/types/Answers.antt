@@ -6,4 +6,5 @@ use Rattle.rule_text.proofs.Items.{list_data-all}
 use Rattle.rule_text.proofs.values.types.Goals as goal
 
 pub returns : goal.returns
-returns c = c.from.ensures ∙ list_data-all view type_data as_type c.args.rows.now c.loop-row.values.items c.loop-row.row-index c.loop-row-test.false c.loop-row.invariant
+returns c = c.from.ensures ∙ list_data-all view type_data as_type c.args.rows.now c.loop-row.values.items
+    c.loop-row.row-index c.loop-row-test.false c.loop-row.invariant

@@ -23,5 +23,6 @@ returns-in-Ok c =
     let document : document_in text ≡ Some (rule_members x) = document-some text (rule_members x) (IsUtf8-string_bytes c.in-Ok.text) parsed in
     let fit : IsFit x = fits-limits x c.requires.within_limits c.in_ok-table.ensures.fours.0 c.in_ok-table.ensures.fours.1 in
     let printed : IsDocumentText false (rule_members x) text = subst (λ (ms : Members). IsDocumentText false ms text) written c.in-Ok.ensures.text in
-    let short : length text ≤ 1048576 = document-short x c.requires.within_limits c.in_ok-table.ensures.fours.0 c.in_ok-table.ensures.fours.1 text printed in
+    let short : length text ≤ 1048576 = document-short x c.requires.within_limits
+    c.in_ok-table.ensures.fours.0 c.in_ok-table.ensures.fours.1 text printed in
     record { printed = printed; document = ap rule_of_document document ∙ rule-read x fit c.requires.order_of_edition; short = short }

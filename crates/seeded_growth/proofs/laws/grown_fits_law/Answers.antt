@@ -4,4 +4,5 @@ use Rattle.seeded_growth.proofs.laws.grown_fits_law.Goals as goal
 
 pub returns : goal.returns
 returns c = λ children base start n u h.
-    grown_fits children (word start) (λ kind k. c.uses_law.ensures.some children kind u k) (λ kind i s e. c.uses_law.ensures.child children kind i s e) base n h
+    grown_fits children (word start) (λ kind k. c.uses_law.ensures.some children kind u k)
+    (λ kind i s e. c.uses_law.ensures.child children kind i s e) base n h

@@ -6,7 +6,7 @@ use Rattle.tile_shape.specs.Views.{address_of}
 use Rattle.lazy_walk.specs.Boundary.{IsBoundaryEdge}
 use Rattle.lazy_walk.specs.Frames.{lifted_at}
 use Rattle.lazy_walk.specs.Crossed.{IsCrossedTo}
-use Rattle.vertex_stars.specs.Corners.{edge_into}
+use Rattle.theory_stars.specs.Corners.{edge_into}
 use Rattle.star_walk.specs.Found.{its_edge}
 use Rattle.star_walk.proofs.step_round.step_round.Given.{Over}
 use Rattle.star_walk.proofs.step_round.step_round.Goals.{After-edge_before-edge}
@@ -15,14 +15,18 @@ use Rattle.star_walk.proofs.step_round.step_round.Goals as goal
 pub edge_before-edge-requires : goal.edge_before-edge-requires
 edge_before-edge-requires g c =
     let vertex = c.args.corner.now.vertex in
-    let count = edges_counted c.tables.result.now c.checked.result.now c.args.machine.now c.args.corner.now.tile.addr.kind c.edges-edges.result c.tables.ensures.contacts c.checked.ensures.rule c.edges-edges.ensures.count in
+    let count = edges_counted c.tables.result.now c.checked.result.now c.args.machine.now
+    c.args.corner.now.tile.addr.kind c.edges-edges.result c.tables.ensures.contacts c.checked.ensures.rule
+    c.edges-edges.ensures.count in
     record { below = subst (λ n. vertex < n) (sym count) c.requires.vertex_exists }
 
 pub step_grow-requires-clause-edge_exists : goal.step_grow-requires-clause-edge_exists
 step_grow-requires-clause-edge_exists g c =
     let edge = c.edge_before-edge.result in
     subst (λ n. edge < n)
-    (edges_counted c.tables.result.now c.checked.result.now c.args.machine.now c.args.corner.now.tile.addr.kind c.edges-edges.result c.tables.ensures.contacts c.checked.ensures.rule c.edges-edges.ensures.count)
+    (edges_counted c.tables.result.now c.checked.result.now c.args.machine.now
+    c.args.corner.now.tile.addr.kind c.edges-edges.result c.tables.ensures.contacts c.checked.ensures.rule
+    c.edges-edges.ensures.count)
     c.edge_before-edge.ensures.exists
 
 -- the edge that is crossed
@@ -30,18 +34,26 @@ number : (g : Over) (c : After-edge_before-edge g) → c.edge_before-edge.result
 number g c =
     c.edge_before-edge.ensures.number
     ∙ ap (λ k. edge_into k c.args.corner.now.vertex)
-    (edges_counted c.tables.result.now c.checked.result.now c.args.machine.now c.args.corner.now.tile.addr.kind c.edges-edges.result c.tables.ensures.contacts c.checked.ensures.rule c.edges-edges.ensures.count)
+    (edges_counted c.tables.result.now c.checked.result.now c.args.machine.now
+    c.args.corner.now.tile.addr.kind c.edges-edges.result c.tables.ensures.contacts c.checked.ensures.rule
+    c.edges-edges.ensures.count)
 
 pub returns-in_err-corner-clause-limit_exactly : goal.returns-in_err-corner-clause-limit_exactly
 returns-in_err-corner-clause-limit_exactly g c =
     let t = tiling_of c.args.machine.now in
-    let a = lifted_at t c.args.frame.now (address_of c.args.corner.now.tile.addr) 64 in
-    (λ h. subst (IsBoundaryEdge t a) (number g ((goal.at.returns-in_err-corner-clause-limit_exactly g c).After-edge_before-edge)) (c.in_err-corner.ensures.limit_exactly.0 refl), λ k. c.from_residual.ensures.0)
+    let a = lifted_at t c.args.frame.now (address_of c.args.corner.now.tile.addr) 64 in (
+      λ h. subst (IsBoundaryEdge t a) (number g
+          ((goal.at.returns-in_err-corner-clause-limit_exactly g c).After-edge_before-edge))
+          (c.in_err-corner.ensures.limit_exactly.0 refl),
+      λ k. c.from_residual.ensures.0,
+    )
 
 pub returns-in_err-corner-clause-limit_edge : goal.returns-in_err-corner-clause-limit_edge
 returns-in_err-corner-clause-limit_edge g c =
     let h : IfErr c.from_residual.result (λ limit. limit.edge ≡ c.edge_before-edge.result) = search rules in
-    IfErr-weaker c.from_residual.result (λ limit. limit.edge ≡ c.edge_before-edge.result) _ (λ limit e. e ∙ number g ((goal.at.returns-in_err-corner-clause-limit_edge g c).After-edge_before-edge)) h
+    IfErr-weaker c.from_residual.result (λ limit. limit.edge ≡ c.edge_before-edge.result) _
+    (λ limit e. e ∙ number g ((goal.at.returns-in_err-corner-clause-limit_edge g
+    c).After-edge_before-edge)) h
 
 pub returns-clause-crossed : goal.returns-clause-crossed
 returns-clause-crossed g c =
@@ -54,5 +66,8 @@ pub returns-clause-limit_exactly : goal.returns-clause-limit_exactly
 returns-clause-limit_exactly g c =
     let t = tiling_of c.args.machine.now in
     let a = lifted_at t c.args.frame.now (address_of c.args.corner.now.tile.addr) 64 in
-    let e = number g ((goal.at.returns-clause-limit_exactly g c).After-edge_before-edge) in
-    (λ h. subst (IsBoundaryEdge t a) e (c.in_ok-corner.ensures.limit_exactly.0 h), λ k. c.in_ok-corner.ensures.limit_exactly.1 (subst (IsBoundaryEdge t a) (sym e) k))
+    let e = number g ((goal.at.returns-clause-limit_exactly g c).After-edge_before-edge) in (
+      λ h. subst (IsBoundaryEdge t a) e (c.in_ok-corner.ensures.limit_exactly.0 h),
+      λ k.
+          c.in_ok-corner.ensures.limit_exactly.1 (subst (IsBoundaryEdge t a) (sym e) k),
+    )

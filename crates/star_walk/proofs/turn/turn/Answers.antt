@@ -16,11 +16,14 @@ use Rattle.star_walk.proofs.turn.turn.Goals as goal
 
 -- what the rule and the laws bring
 brings : (g : Over) (c : After-base_tile g) → Brings HasStarLaws c.args.machine.now
-brings g c = brought HasStarLaws c.args.machine.now _ _ _ c.checked-checked.ensures.rule c.checked-checked.ensures.accepted c.checked-checked.ensures.usable c.checked-checked.ensures.same_child_kinds
+brings g c = brought HasStarLaws c.args.machine.now _ _ _ c.checked-checked.ensures.rule
+    c.checked-checked.ensures.accepted c.checked-checked.ensures.usable
+    c.checked-checked.ensures.same_child_kinds
     c.uses.ensures c.kinds-usable.ensures.limits c.order.ensures.order c.star_laws.ensures c.grown_fits_law.ensures
 
 -- the turn on its way, with the corner put down
-way : (g : Over) (c : After-push g) → IsOnTheWay (tiling_of c.args.machine.now) c.args.frame.now c.loop-frame.frame c.args.vertex c.push.new.self.items c.loop-frame.corner
+way : (g : Over) (c : After-push g) → IsOnTheWay (tiling_of c.args.machine.now) c.args.frame.now
+    c.loop-frame.frame c.args.vertex c.push.new.self.items c.loop-frame.corner
 way g c =
     subst (λ cs. IsOnTheWay (tiling_of c.args.machine.now) c.args.frame.now c.loop-frame.frame c.args.vertex cs c.loop-frame.corner)
     (sym (c.push.ensures.items ∙ ap (λ (k : Corner). c.loop-frame.corners.items ++ k ∷ []) c.copy.ensures)) c.loop-frame.invariant.0
@@ -37,7 +40,9 @@ loop-frame-init g c =
     let none = c.requires.none_yet in
     let corner : Corner = record { tile = c.base_tile.result; vertex = c.args.vertex } in (
       subst (λ cs. IsOnTheWay (tiling_of c.args.machine.now) c.args.frame.now c.args.frame.now c.args.vertex (cs ++ corner ∷ []) corner) (sym none)
-          (started c.args.machine.now B.settled B.fits B.laws c.args.frame.now c.requires.frame c.args.vertex c.requires.vertex_exists c.base_tile.result c.base_tile.ensures.base c.base_tile.ensures.stands c.base_tile.ensures.at_origin),
+          (started c.args.machine.now B.settled B.fits B.laws c.args.frame.now c.requires.frame c.args.vertex
+          c.requires.vertex_exists c.base_tile.result c.base_tile.ensures.base c.base_tile.ensures.stands
+          c.base_tile.ensures.at_origin),
       subst (λ (cs : List Corner). length cs < 64) (sym none) (omega arith),
     )
 
@@ -45,7 +50,8 @@ pub step_round-requires-clause-vertex_exists : goal.step_round-requires-clause-v
 step_round-requires-clause-vertex_exists g c =
     let p = (goal.at.step_round-requires-clause-vertex_exists g c).After-push in
     let B = brings g ((goal.at.step_round-requires-clause-vertex_exists g c).After-base_tile) in
-    last-exists c.args.machine.now B.settled B.fits B.laws c.args.frame.now c.requires.frame c.args.vertex c.requires.vertex_exists c.loop-frame.frame c.push.new.self.items c.loop-frame.corner (way g p)
+    last-exists c.args.machine.now B.settled B.fits B.laws c.args.frame.now c.requires.frame c.args.vertex
+    c.requires.vertex_exists c.loop-frame.frame c.push.new.self.items c.loop-frame.corner (way g p)
 
 pub step_round-requires-clause-within : goal.step_round-requires-clause-within
 step_round-requires-clause-within g c =
@@ -59,9 +65,12 @@ returns-in_err-step_round-clause-cause g c =
     let p = (goal.at.returns-in_err-step_round-clause-cause g c).After-push in
     let B = brings g ((goal.at.returns-in_err-step_round-clause-cause g c).After-base_tile) in
     let limit = c.in_err-step_round.field-0.0 in
-    if_err-is (HasCause (tiling_of c.args.machine.now) c.step_round.new.frame c.args.vertex) c.from_residual.result (DepthLimit limit.addr limit.edge) c.from_residual.ensures.1
-    (limited c.args.machine.now B.settled B.fits B.laws c.args.frame.now c.requires.frame c.args.vertex c.requires.vertex_exists c.loop-frame.frame c.push.new.self.items c.loop-frame.corner (way g p)
-    c.step_round.new.frame c.in_err-step_round.ensures.frame c.in_err-step_round.ensures.deepest_at_limit (c.in_err-step_round.ensures.limit_exactly.0 refl) limit.addr limit.edge
+    if_err-is (HasCause (tiling_of c.args.machine.now) c.step_round.new.frame c.args.vertex)
+    c.from_residual.result (DepthLimit limit.addr limit.edge) c.from_residual.ensures.1
+    (limited c.args.machine.now B.settled B.fits B.laws c.args.frame.now c.requires.frame c.args.vertex
+    c.requires.vertex_exists c.loop-frame.frame c.push.new.self.items c.loop-frame.corner (way g p)
+    c.step_round.new.frame c.in_err-step_round.ensures.frame c.in_err-step_round.ensures.deepest_at_limit
+    (c.in_err-step_round.ensures.limit_exactly.0 refl) limit.addr limit.edge
     c.in_err-step_round.ensures.limit_tile c.in_err-step_round.ensures.limit_edge)
 
 pub returns-in_err-step_round-clause-not_beyond : goal.returns-in_err-step_round-clause-not_beyond
@@ -77,8 +86,11 @@ pub returns-in_err-step_round-clause-answered : goal.returns-in_err-step_round-c
 returns-in_err-step_round-clause-answered g c =
     let p = (goal.at.returns-in_err-step_round-clause-answered g c).After-push in
     let B = brings g ((goal.at.returns-in_err-step_round-clause-answered g c).After-base_tile) in
-    λ limits. absurd (not_limited c.args.machine.now B.settled B.fits B.laws c.args.frame.now c.requires.frame c.args.vertex c.requires.vertex_exists c.loop-frame.frame c.push.new.self.items c.loop-frame.corner (way g p)
-    c.step_round.new.frame c.in_err-step_round.ensures.frame c.in_err-step_round.ensures.deepest_at_limit (c.in_err-step_round.ensures.limit_exactly.0 refl) limits)
+    λ limits. absurd (not_limited c.args.machine.now B.settled B.fits B.laws c.args.frame.now c.requires.frame
+    c.args.vertex c.requires.vertex_exists c.loop-frame.frame c.push.new.self.items c.loop-frame.corner
+    (way g p)
+    c.step_round.new.frame c.in_err-step_round.ensures.frame c.in_err-step_round.ensures.deepest_at_limit
+    (c.in_err-step_round.ensures.limit_exactly.0 refl) limits)
 
 pub returns-then-is_base-clause-not_beyond : goal.returns-then-is_base-clause-not_beyond
 returns-then-is_base-clause-not_beyond g c =
@@ -95,22 +107,28 @@ pub returns-then-is_base-clause-turned : goal.returns-then-is_base-clause-turned
 returns-then-is_base-clause-turned g c =
     let p = (goal.at.returns-then-is_base-clause-turned g c).After-push in
     let B = brings g ((goal.at.returns-then-is_base-clause-turned g c).After-base_tile) in
-    ended c.args.machine.now B.settled B.fits B.laws c.args.frame.now c.requires.frame c.args.vertex c.requires.vertex_exists c.loop-frame.frame c.push.new.self.items c.loop-frame.corner (way g p)
-    c.step_round.new.frame c.in_ok-step_round.ensures.frame c.step_round.new.corner c.in_ok-step_round.ensures.crossed (c.is_base.ensures.0 c.if-is_base.true) (count g p)
+    ended c.args.machine.now B.settled B.fits B.laws c.args.frame.now c.requires.frame c.args.vertex
+    c.requires.vertex_exists c.loop-frame.frame c.push.new.self.items c.loop-frame.corner (way g p)
+    c.step_round.new.frame c.in_ok-step_round.ensures.frame c.step_round.new.corner
+    c.in_ok-step_round.ensures.crossed (c.is_base.ensures.0 c.if-is_base.true) (count g p)
 
 pub returns-then-len-eq64-clause-cause : goal.returns-then-len-eq64-clause-cause
 returns-then-len-eq64-clause-cause g c =
     let p = (goal.at.returns-then-len-eq64-clause-cause g c).After-push in
     let B = brings g ((goal.at.returns-then-len-eq64-clause-cause g c).After-base_tile) in
-    too_big c.args.machine.now B.settled B.fits B.laws c.args.frame.now c.requires.frame c.args.vertex c.requires.vertex_exists c.loop-frame.frame c.push.new.self.items c.loop-frame.corner (way g p)
-    c.step_round.new.frame c.in_ok-step_round.ensures.frame c.step_round.new.corner c.in_ok-step_round.ensures.crossed (λ e. absurd (cc (sym c.if-is_base.false ∙ c.is_base.ensures.1 e))) (sym c.len.ensures.value ∙ c.if-len-eq64.true)
+    too_big c.args.machine.now B.settled B.fits B.laws c.args.frame.now c.requires.frame c.args.vertex
+    c.requires.vertex_exists c.loop-frame.frame c.push.new.self.items c.loop-frame.corner (way g p)
+    c.step_round.new.frame c.in_ok-step_round.ensures.frame c.step_round.new.corner
+    c.in_ok-step_round.ensures.crossed (λ e. absurd (cc (sym c.if-is_base.false ∙ c.is_base.ensures.1 e)))
+    (sym c.len.ensures.value ∙ c.if-len-eq64.true)
 
 pub returns-then-len-eq64-clause-not_beyond : goal.returns-then-len-eq64-clause-not_beyond
 returns-then-len-eq64-clause-not_beyond g c =
     let p = (goal.at.returns-then-len-eq64-clause-not_beyond g c).After-push in
     let B = brings g ((goal.at.returns-then-len-eq64-clause-not_beyond g c).After-base_tile) in
     not_beyond-way c.args.machine.now B.settled B.fits B.laws c.args.frame.now
-    c.requires.frame c.args.vertex c.requires.vertex_exists c.step_round.new.frame (c.push.new.self.items ++ c.step_round.new.corner ∷ []) c.step_round.new.corner
+    c.requires.frame c.args.vertex c.requires.vertex_exists c.step_round.new.frame
+    (c.push.new.self.items ++ c.step_round.new.corner ∷ []) c.step_round.new.corner
     (stepped c.args.machine.now B.settled B.fits B.laws c.args.frame.now
     c.requires.frame c.args.vertex c.requires.vertex_exists c.loop-frame.frame c.push.new.self.items c.loop-frame.corner (way g p)
     c.step_round.new.frame c.in_ok-step_round.ensures.frame c.step_round.new.corner c.in_ok-step_round.ensures.crossed
@@ -120,8 +138,12 @@ pub returns-then-len-eq64-clause-answered : goal.returns-then-len-eq64-clause-an
 returns-then-len-eq64-clause-answered g c =
     let p = (goal.at.returns-then-len-eq64-clause-answered g c).After-push in
     let B = brings g ((goal.at.returns-then-len-eq64-clause-answered g c).After-base_tile) in
-    λ limits. absurd (not_too_big c.args.machine.now B.settled B.fits B.laws c.args.frame.now c.requires.frame c.args.vertex c.requires.vertex_exists c.loop-frame.frame c.push.new.self.items c.loop-frame.corner (way g p)
-    c.step_round.new.frame c.in_ok-step_round.ensures.frame c.step_round.new.corner c.in_ok-step_round.ensures.crossed (λ e. absurd (cc (sym c.if-is_base.false ∙ c.is_base.ensures.1 e))) (sym c.len.ensures.value ∙ c.if-len-eq64.true) limits)
+    λ limits. absurd (not_too_big c.args.machine.now B.settled B.fits B.laws c.args.frame.now c.requires.frame
+    c.args.vertex c.requires.vertex_exists c.loop-frame.frame c.push.new.self.items c.loop-frame.corner
+    (way g p)
+    c.step_round.new.frame c.in_ok-step_round.ensures.frame c.step_round.new.corner
+    c.in_ok-step_round.ensures.crossed (λ e. absurd (cc (sym c.if-is_base.false ∙ c.is_base.ensures.1 e)))
+    (sym c.len.ensures.value ∙ c.if-len-eq64.true) limits)
 
 pub loop-frame-preserved : goal.loop-frame-preserved
 loop-frame-preserved g c =
@@ -130,7 +152,10 @@ loop-frame-preserved g c =
     let few = count g p in
     let same = c.len.ensures.value in
     let full = c.if-len-eq64.false in (
-      stepped c.args.machine.now B.settled B.fits B.laws c.args.frame.now c.requires.frame c.args.vertex c.requires.vertex_exists c.loop-frame.frame c.push.new.self.items c.loop-frame.corner (way g p)
-          c.step_round.new.frame c.in_ok-step_round.ensures.frame c.step_round.new.corner c.in_ok-step_round.ensures.crossed (λ e. absurd (cc (sym c.if-is_base.false ∙ c.is_base.ensures.1 e))),
+      stepped c.args.machine.now B.settled B.fits B.laws c.args.frame.now c.requires.frame c.args.vertex
+          c.requires.vertex_exists c.loop-frame.frame c.push.new.self.items c.loop-frame.corner (way g p)
+          c.step_round.new.frame c.in_ok-step_round.ensures.frame c.step_round.new.corner
+          c.in_ok-step_round.ensures.crossed (λ e. absurd
+          (cc (sym c.if-is_base.false ∙ c.is_base.ensures.1 e))),
       omega arith,
     )

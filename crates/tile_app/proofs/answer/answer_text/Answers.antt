@@ -27,7 +27,8 @@ use Rattle.tile_app.proofs.answer.answer_text.Goals as goal
 pub returns-in-Err-clause-refused : goal.returns-in-Err-clause-refused
 returns-in-Err-clause-refused g c =
     let words = texts c.args.words.now in
-    let asked : request_in words ≡ Err c.in-Err.place = subst (λ r. AnswersAs request_of r (request_in words)) c.in-Err.is c.request_in.ensures.asked in
+    let asked : request_in words ≡ Err c.in-Err.place = subst (λ r. AnswersAs request_of r (request_in words))
+    c.in-Err.is c.request_in.ensures.asked in
     wrong_words words (map g.D.Layer.form c.args.layers.now) (g.R.Source.left c.args.source.now) c.in-Err.place asked
     (sym c.request_in.ensures.bad_words ∙ ap (λ r. place_refused r) c.in-Err.is)
 
@@ -37,7 +38,8 @@ returns-in-Some-clause-refused g c =
     let handed = map g.D.Layer.form c.args.layers.now in
     let q = request_of c.in-Ok.request in
     let asked : request_in words ≡ Ok q = subst (λ r. AnswersAs request_of r (request_in words)) c.in-Ok.is c.request_in.ensures.asked in
-    layer_lacks words handed (g.R.Source.left c.args.source.now) q c.in-Some.format asked (ap (first_lacking handed) (sym c.formats.ensures) ∙ sym c.first_lacking.ensures ∙ c.in-Some.is)
+    layer_lacks words handed (g.R.Source.left c.args.source.now) q c.in-Some.format asked
+    (ap (first_lacking handed) (sym c.formats.ensures) ∙ sym c.first_lacking.ensures ∙ c.in-Some.is)
 
 -- ---- right words, each of whose formats has a layer
 right : (g : Over) (c : After-rule_chosen g) → request_in (texts c.args.words.now) ≡ Ok (request_of c.in-Ok.request)
@@ -60,7 +62,8 @@ returns-in_err-checked-clause-refused g c =
     let left = g.R.Source.left c.args.source.now in
     let rest = g.R.Source.left c.rule_chosen.new.source in
     let of_rule = subst (λ r. IfErr c.rule_chosen.result (IsRuleRefused r left rest)) c.rule-rule.ensures c.rule_chosen.ensures.refused in
-    let h = refused_by (IsRuleRefused (rule_of q) left rest) (IsRefused words handed left rest) (rule_refused words handed q (right g s) (have g s) left rest) c.rule_chosen.result of_rule in
+    let h = refused_by (IsRuleRefused (rule_of q) left rest) (IsRefused words handed left rest)
+    (rule_refused words handed q (right g s) (have g s) left rest) c.rule_chosen.result of_rule in
     search (rules, h)
 
 pub returns-in_err-checked-clause-untouched : goal.returns-in_err-checked-clause-untouched
@@ -70,9 +73,11 @@ returns-in_err-checked-clause-untouched g c = λ e.
 
 -- ---- the rule was made, and the request has its tiling
 made : (g : Over) (c : In_ok-checked g)
-    → IsRuleRead (rule_of (request_of c.in-Ok.request)) (g.R.Source.left c.args.source.now) (g.R.Source.left c.rule_chosen.new.source) (tiling_of c.in_ok-checked.checked)
+    → IsRuleRead (rule_of (request_of c.in-Ok.request)) (g.R.Source.left c.args.source.now)
+    (g.R.Source.left c.rule_chosen.new.source) (tiling_of c.in_ok-checked.checked)
 made g c =
-    subst (λ r. IsRuleRead r (g.R.Source.left c.args.source.now) (g.R.Source.left c.rule_chosen.new.source) (tiling_of c.in_ok-checked.checked)) c.rule-rule.ensures c.in_ok-checked.ensures.chosen
+    subst (λ r. IsRuleRead r (g.R.Source.left c.args.source.now) (g.R.Source.left c.rule_chosen.new.source)
+    (tiling_of c.in_ok-checked.checked)) c.rule-rule.ensures c.in_ok-checked.ensures.chosen
 
 pub request_text-requires : goal.request_text-requires
 request_text-requires g c =
@@ -80,7 +85,9 @@ request_text-requires g c =
     record {
       within = subst (λ r. IfOk r IsWithinForms) c.in-Ok.is c.request_in.ensures.within;
       have_layers = have g s.After-rule_chosen;
-      its_tiling = its_tiling (request_of c.in-Ok.request) (g.R.Source.left c.args.source.now) (g.R.Source.left c.rule_chosen.new.source) (tiling_of c.in_ok-checked.checked) (made g s.In_ok-checked);
+      its_tiling = its_tiling (request_of c.in-Ok.request) (g.R.Source.left c.args.source.now)
+          (g.R.Source.left c.rule_chosen.new.source) (tiling_of c.in_ok-checked.checked)
+          (made g s.In_ok-checked);
     }
 
 pub returns-clause-printed : goal.returns-clause-printed
@@ -123,7 +130,8 @@ returns-clause-read_fault g c = λ e.
     let mid = g.R.Source.left c.rule_chosen.new.source in
     let rest = g.R.Source.left c.request_text.new.source in
     let own = source_failed q (tiling_of c.in_ok-checked.checked) mid rest c.request_text.result c.request_text.ensures.refused e in
-    subst (λ x. Rose (g.R.Source.faults x) (g.R.Source.faults c.request_text.new.source)) (unread g s (own_builtin q own)) (c.request_text.ensures.read_fault e)
+    subst (λ x. Rose (g.R.Source.faults x) (g.R.Source.faults c.request_text.new.source))
+    (unread g s (own_builtin q own)) (c.request_text.ensures.read_fault e)
 
 pub returns-clause-untouched : goal.returns-clause-untouched
 returns-clause-untouched g c = λ e.
@@ -131,13 +139,15 @@ returns-clause-untouched g c = λ e.
     let words = texts c.args.words.now in
     let handed = map g.D.Layer.form c.args.layers.now in
     let q = request_of c.in-Ok.request in
-    c.request_text.ensures.untouched (own_unread words handed q (right g s) (have g s) e) ∙ unread g s (rule_unread words handed q (right g s) (have g s) e)
+    c.request_text.ensures.untouched (own_unread words handed q (right g s) (have g s) e)
+    ∙ unread g s (rule_unread words handed q (right g s) (have g s) e)
 
 -- ---- a tile of a built-in rule is placed at once
 pub returns-in-Place-Builtin-clause-printed : goal.returns-in-Place-Builtin-clause-printed
 returns-in-Place-Builtin-clause-printed g c =
     let words = texts c.args.words.now in
-    let asked : request_in words ≡ Ok (request_of c.in-Ok.request) = subst (λ r. AnswersAs request_of r (request_in words)) c.in-Ok.is c.request_in.ensures.asked in
+    let asked : request_in words ≡ Ok (request_of c.in-Ok.request) = subst
+    (λ r. AnswersAs request_of r (request_in words)) c.in-Ok.is c.request_in.ensures.asked in
     let of_rule = subst (λ r. request_in words ≡ Ok (request_of r)) c.in-Place-Builtin.is-0 asked in
     let rule = ap (λ r. rule_of (request_of r)) (sym c.in-Place-Builtin.is-0) ∙ sym c.rule-rule.ensures ∙ c.in-Place-Builtin.is-1 in
     let q = subst (λ r. request_in words ≡ Ok (Place r c.in-Place-Builtin.addr.now)) rule of_rule in
@@ -153,14 +163,16 @@ returns-in-Place-Builtin-clause-printed g c =
 pub returns-in-Place-Builtin-clause-refused : goal.returns-in-Place-Builtin-clause-refused
 returns-in-Place-Builtin-clause-refused g c =
     let words = texts c.args.words.now in
-    let asked : request_in words ≡ Ok (request_of c.in-Ok.request) = subst (λ r. AnswersAs request_of r (request_in words)) c.in-Ok.is c.request_in.ensures.asked in
+    let asked : request_in words ≡ Ok (request_of c.in-Ok.request) = subst
+    (λ r. AnswersAs request_of r (request_in words)) c.in-Ok.is c.request_in.ensures.asked in
     let of_rule = subst (λ r. request_in words ≡ Ok (request_of r)) c.in-Place-Builtin.is-0 asked in
     let rule = ap (λ r. rule_of (request_of r)) (sym c.in-Place-Builtin.is-0) ∙ sym c.rule-rule.ensures ∙ c.in-Place-Builtin.is-1 in
     let q = subst (λ r. request_in words ≡ Ok (Place r c.in-Place-Builtin.addr.now)) rule of_rule in
     text_refused (IsRefused words (map g.D.Layer.form c.args.layers.now) (g.R.Source.left c.args.source.now) (g.R.Source.left c.args.source.now))
     c.named_place_text.result c.map.result c.map.ensures.cases
     (IfErr-weaker c.named_place_text.result _ _
-    (named_refused words (map g.D.Layer.form c.args.layers.now) c.in-Place-Builtin.name c.in-Place-Builtin.addr.now q (g.R.Source.left c.args.source.now))
+    (named_refused words (map g.D.Layer.form c.args.layers.now) c.in-Place-Builtin.name
+    c.in-Place-Builtin.addr.now q (g.R.Source.left c.args.source.now))
     c.named_place_text.ensures.refused)
 
 pub returns-in-Place-Builtin-clause-read_fault : goal.returns-in-Place-Builtin-clause-read_fault

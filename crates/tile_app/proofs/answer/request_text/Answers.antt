@@ -20,7 +20,8 @@ pub returns-in-Place-clause-printed : goal.returns-in-Place-clause-printed
 returns-in-Place-clause-printed g c =
     let q : Request = Place c.in-Place.rule c.in-Place.addr.now in
     rw c.in-Place.is (alone_told g.D.Layer.form g.D.Layer.seen g.D.Layer.ended g.D.Layer.draws c.args.layers.now
-    q (tiling_of c.args.checked) (g.R.Source.left c.args.source.now) refl c.place_text.result c.map.result c.map.ensures.cases c.place_text.ensures.printed)
+    q (tiling_of c.args.checked) (g.R.Source.left c.args.source.now) refl c.place_text.result c.map.result
+    c.map.ensures.cases c.place_text.ensures.printed)
 
 pub returns-in-Place-clause-refused : goal.returns-in-Place-clause-refused
 returns-in-Place-clause-refused g c =
@@ -38,7 +39,8 @@ pub returns-in-Neighbour-clause-printed : goal.returns-in-Neighbour-clause-print
 returns-in-Neighbour-clause-printed g c =
     let q : Request = Neighbour c.in-Neighbour.rule c.in-Neighbour.addr.now c.in-Neighbour.edge in
     rw c.in-Neighbour.is (alone_told g.D.Layer.form g.D.Layer.seen g.D.Layer.ended g.D.Layer.draws c.args.layers.now
-    q (tiling_of c.args.checked) (g.R.Source.left c.args.source.now) refl c.neighbour_text.result c.map-in-Neighbour.result c.map-in-Neighbour.ensures.cases c.neighbour_text.ensures.printed)
+    q (tiling_of c.args.checked) (g.R.Source.left c.args.source.now) refl c.neighbour_text.result
+    c.map-in-Neighbour.result c.map-in-Neighbour.ensures.cases c.neighbour_text.ensures.printed)
 
 pub returns-in-Neighbour-clause-refused : goal.returns-in-Neighbour-clause-refused
 returns-in-Neighbour-clause-refused g c =
@@ -56,7 +58,8 @@ pub returns-in-Star-clause-printed : goal.returns-in-Star-clause-printed
 returns-in-Star-clause-printed g c =
     let q : Request = Star c.in-Star.rule c.in-Star.addr.now c.in-Star.seed c.in-Star.vertex in
     rw c.in-Star.is (alone_told g.D.Layer.form g.D.Layer.seen g.D.Layer.ended g.D.Layer.draws c.args.layers.now
-    q (tiling_of c.args.checked) (g.R.Source.left c.args.source.now) refl c.star_text.result c.map-in-Star.result c.map-in-Star.ensures.cases c.star_text.ensures.printed)
+    q (tiling_of c.args.checked) (g.R.Source.left c.args.source.now) refl c.star_text.result
+    c.map-in-Star.result c.map-in-Star.ensures.cases c.star_text.ensures.printed)
 
 pub returns-in-Star-clause-refused : goal.returns-in-Star-clause-refused
 returns-in-Star-clause-refused g c =
@@ -78,7 +81,9 @@ pub returns-in-Walk-clause-printed : goal.returns-in-Walk-clause-printed
 returns-in-Walk-clause-printed g c =
     let t = tiling_of c.args.checked in
     let q : Request = Walk c.in-Walk.rule c.in-Walk.addr.now c.in-Walk.seed c.in-Walk.grow c.in-Walk.path.now.items in
-    let h = subst (λ xs. IfOk c.walk_text.result (λ text. IsPrinted (Walk c.in-Walk.rule c.in-Walk.addr.now c.in-Walk.seed c.in-Walk.grow xs) [] t text.items))
+    let h = subst (λ xs. IfOk c.walk_text.result
+    (λ text. IsPrinted (Walk c.in-Walk.rule c.in-Walk.addr.now c.in-Walk.seed c.in-Walk.grow xs) [] t
+    text.items))
     c.as_slice.ensures.value c.walk_text.ensures.printed in
     rw c.in-Walk.is (alone_told g.D.Layer.form g.D.Layer.seen g.D.Layer.ended g.D.Layer.draws c.args.layers.now
     q t (g.R.Source.left c.args.source.now) refl c.walk_text.result c.map-in-Walk.result c.map-in-Walk.ensures.cases h)
@@ -87,7 +92,9 @@ pub returns-in-Walk-clause-refused : goal.returns-in-Walk-clause-refused
 returns-in-Walk-clause-refused g c =
     let t = tiling_of c.args.checked in
     let q : Request = Walk c.in-Walk.rule c.in-Walk.addr.now c.in-Walk.seed c.in-Walk.grow c.in-Walk.path.now.items in
-    let h = subst (λ xs. IfErr c.walk_text.result (OrNoMemory (λ s. Refuses (Walk c.in-Walk.rule c.in-Walk.addr.now c.in-Walk.seed c.in-Walk.grow xs) [] t s)))
+    let h = subst (λ xs. IfErr c.walk_text.result
+    (OrNoMemory (λ s. Refuses (Walk c.in-Walk.rule c.in-Walk.addr.now c.in-Walk.seed c.in-Walk.grow xs) []
+    t s)))
     c.as_slice.ensures.value c.walk_text.ensures.refused in
     rw c.in-Walk.is (alone_untold q t c.walk_text.result
     c.map-in-Walk.result c.map-in-Walk.ensures.cases h (g.R.Source.left c.args.source.now) refl)
@@ -138,14 +145,17 @@ pub returns-in-Drill-clause-printed : goal.returns-in-Drill-clause-printed
 returns-in-Drill-clause-printed g c =
     let q : Request = Drill c.in-Drill.rule c.in-Drill.count c.in-Drill.seed in
     rw c.in-Drill.is (alone_told g.D.Layer.form g.D.Layer.seen g.D.Layer.ended g.D.Layer.draws c.args.layers.now
-    q (tiling_of c.args.checked) (g.R.Source.left c.args.source.now) refl c.drill_text.result c.map-in-Drill.result c.map-in-Drill.ensures.cases c.drill_text.ensures.printed)
+    q (tiling_of c.args.checked) (g.R.Source.left c.args.source.now) refl c.drill_text.result
+    c.map-in-Drill.result c.map-in-Drill.ensures.cases c.drill_text.ensures.printed)
 
 pub returns-in-Drill-clause-refused : goal.returns-in-Drill-clause-refused
 returns-in-Drill-clause-refused g c =
     let q : Request = Drill c.in-Drill.rule c.in-Drill.count c.in-Drill.seed in
-    rw c.in-Drill.is (text_refused (IsRequestRefused q (tiling_of c.args.checked) (g.R.Source.left c.args.source.now) (g.R.Source.left c.args.source.now))
+    rw c.in-Drill.is (text_refused (IsRequestRefused q (tiling_of c.args.checked)
+    (g.R.Source.left c.args.source.now) (g.R.Source.left c.args.source.now))
     c.drill_text.result c.map-in-Drill.result c.map-in-Drill.ensures.cases
-    (IfErr-weaker c.drill_text.result _ _ (only_memory q (tiling_of c.args.checked) (g.R.Source.left c.args.source.now)) c.drill_text.ensures.refused))
+    (IfErr-weaker c.drill_text.result _ _ (only_memory q (tiling_of c.args.checked)
+    (g.R.Source.left c.args.source.now)) c.drill_text.ensures.refused))
 
 pub returns-in-Drill-clause-read_fault : goal.returns-in-Drill-clause-read_fault
 returns-in-Drill-clause-read_fault g c = λ e.
@@ -169,7 +179,8 @@ returns-in-Calc-clause-refused g c =
     let rest = g.R.Source.left c.calc_text.new.source in
     rw c.in-Calc.is (text_refused (IsRequestRefused (Calc c.in-Calc.name) (tiling_of c.args.checked) (g.R.Source.left c.args.source.now) rest)
     c.calc_text.result c.map-in-Calc.result c.map-in-Calc.ensures.cases
-    (IfErr-weaker c.calc_text.result _ _ (script_refused c.in-Calc.name (tiling_of c.args.checked) (g.R.Source.left c.args.source.now) rest) c.calc_text.ensures.refused))
+    (IfErr-weaker c.calc_text.result _ _ (script_refused c.in-Calc.name (tiling_of c.args.checked)
+    (g.R.Source.left c.args.source.now) rest) c.calc_text.ensures.refused))
 
 pub returns-in-Calc-clause-untouched : goal.returns-in-Calc-clause-untouched
 returns-in-Calc-clause-untouched g c = rw c.in-Calc.is (λ e. absurd (false≢true (sym e)))
@@ -199,10 +210,12 @@ returns-in-Verify-clause-refused g c =
     let its = subst (λ r. IsItsTiling (request_of r) (tiling_of c.args.checked)) c.in-Verify.is c.requires.its_tiling in
     let rest = g.R.Source.left c.verify_text.new.source in
     rw c.in-Verify.is (text_refused
-    (IsRequestRefused (Verify c.in-Verify.name c.in-Verify.addr.now c.in-Verify.seed window) (tiling_of c.args.checked) (g.R.Source.left c.args.source.now) rest)
+    (IsRequestRefused (Verify c.in-Verify.name c.in-Verify.addr.now c.in-Verify.seed window)
+    (tiling_of c.args.checked) (g.R.Source.left c.args.source.now) rest)
     c.verify_text.result c.map-in-Verify.result c.map-in-Verify.ensures.cases
     (IfErr-weaker c.verify_text.result _ _
-    (listing_refused c.in-Verify.name c.in-Verify.addr.now c.in-Verify.seed window (tiling_of c.args.checked) its (g.R.Source.left c.args.source.now) rest
+    (listing_refused c.in-Verify.name c.in-Verify.addr.now c.in-Verify.seed window (tiling_of c.args.checked)
+    its (g.R.Source.left c.args.source.now) rest
     (λ e. ap (λ s. g.R.Source.left s) (c.verify_text.ensures.untouched e))) c.verify_text.ensures.refused))
 
 pub returns-in-Verify-clause-untouched : goal.returns-in-Verify-clause-untouched

@@ -10,21 +10,25 @@ pub returns-in_err-tiles-clause-refused : goal.returns-in_err-tiles-clause-refus
 returns-in_err-tiles-clause-refused c =
     let p = err_from_is_err_and c.from_residual.result c.from_residual.ensures.1 in
     rw (p.1, p.2) (refused_if_err c.args.whole
-    (tiling_of c.args.machine.now) c.args.window.now c.args.frame.now c.covered_tiles.new.frame c.covered_tiles.ensures.frame c.covered_tiles.result c.in_err-tiles.field-0.0 c.in_err-tiles.was
+    (tiling_of c.args.machine.now) c.args.window.now c.args.frame.now c.covered_tiles.new.frame
+    c.covered_tiles.ensures.frame c.covered_tiles.result c.in_err-tiles.field-0.0 c.in_err-tiles.was
     c.in_err-tiles.ensures.cause c.covered_tiles.ensures.answered)
 
 pub returns-in_err-covered_tiles-clause-refused : goal.returns-in_err-covered_tiles-clause-refused
 returns-in_err-covered_tiles-clause-refused c =
     let p = err_from_is_err_and c.from_residual-in_err-covered_tiles.result c.from_residual-in_err-covered_tiles.ensures.1 in
     rw (p.1, p.2) (refused_if_err c.args.whole
-    (tiling_of c.args.machine.now) c.args.window.now c.args.frame.now c.covered_tiles-else-whole.new.frame c.covered_tiles-else-whole.ensures.frame c.covered_tiles-else-whole.result c.in_err-covered_tiles.field-0.0
+    (tiling_of c.args.machine.now) c.args.window.now c.args.frame.now c.covered_tiles-else-whole.new.frame
+    c.covered_tiles-else-whole.ensures.frame c.covered_tiles-else-whole.result
+    c.in_err-covered_tiles.field-0.0
     c.in_err-covered_tiles.was c.in_err-covered_tiles.ensures.cause c.covered_tiles-else-whole.ensures.answered)
 
 -- ---- what is given to be glued
 pub glue_covered-requires-clause-few : goal.glue_covered-requires-clause-few
 glue_covered-requires-clause-few c =
     let x = c.in_ok-tiles.ensures in
-    at_most_limit (tiling_of c.args.machine.now) c.args.frame.now c.covered_tiles.new.frame c.args.window.now c.requires.frame x.frame x.within x.least c.in_ok-tiles.tiles x.drawn
+    at_most_limit (tiling_of c.args.machine.now) c.args.frame.now c.covered_tiles.new.frame c.args.window.now
+    c.requires.frame x.frame x.within x.least c.in_ok-tiles.tiles x.drawn
 
 pub glue_covered-requires-clause-given : goal.glue_covered-requires-clause-given
 glue_covered-requires-clause-given c =
@@ -41,7 +45,16 @@ returns-in_err-glue_covered-clause-refused c =
     let p = err_from_is_err_and c.from_residual-in_err-glue_covered.result c.from_residual-in_err-glue_covered.ensures.1 in
     rw (p.1, p.2) (glue_refused_if_err c.args.whole
     (tiling_of c.args.machine.now) c.args.window.now c.if-whole.true c.args.frame.now c.covered_tiles.new.frame x.within
-    c.in_ok-tiles.tiles (record { grown = x.frame; least = x.least; stand = x.stand; drawn = x.drawn; in_order = x.in_order; covered = x.covered }) c.glue_covered.new.frame c.glue_covered.ensures.frame c.glue_covered.result c.in_err-glue_covered.field-0.0 c.in_err-glue_covered.was c.in_err-glue_covered.ensures.cause c.glue_covered.ensures.answered)
+    c.in_ok-tiles.tiles (record {
+      grown = x.frame;
+      least = x.least;
+      stand = x.stand;
+      drawn = x.drawn;
+      in_order = x.in_order;
+      covered = x.covered;
+    }) c.glue_covered.new.frame c.glue_covered.ensures.frame
+    c.glue_covered.result c.in_err-glue_covered.field-0.0 c.in_err-glue_covered.was
+    c.in_err-glue_covered.ensures.cause c.glue_covered.ensures.answered)
 
 -- ---- the pictures
 pub returns-in_ok-glue_covered-clause-can : goal.returns-in_ok-glue_covered-clause-can
@@ -71,7 +84,9 @@ returns-in_ok-glue_covered-clause-pictures c =
 pub returns-in_ok-covered_tiles-clause-can : goal.returns-in_ok-covered_tiles-clause-can
 returns-in_ok-covered_tiles-clause-can c =
     let x = c.in_ok-covered_tiles.ensures in
-    can_be_drawn (tiling_of c.args.machine.now) c.args.frame.now c.covered_tiles-else-whole.new.frame c.args.window.now c.requires.frame x.frame x.within x.least c.in_ok-covered_tiles.field-0 x.drawn x.stand
+    can_be_drawn (tiling_of c.args.machine.now) c.args.frame.now c.covered_tiles-else-whole.new.frame
+    c.args.window.now c.requires.frame x.frame x.within x.least c.in_ok-covered_tiles.field-0 x.drawn
+    x.stand
 
 pub returns-in_ok-covered_tiles-clause-pictures : goal.returns-in_ok-covered_tiles-clause-pictures
 returns-in_ok-covered_tiles-clause-pictures c =

@@ -7,8 +7,8 @@ use Rattle.cyclo_points.specs.Order.{NumberOf, points_of}
 use Rattle.layer_api.specs.Drawable.{IsNear}
 use Rattle.rule_model.specs.Tiling.{tiling_of}
 use Rattle.rule_model.specs.Views.{rule_of}
-use Rattle.substitution.specs.Motion.{moved}
-use Rattle.substitution.specs.RuleParts.{vertices_of}
+use Rattle.theory_substitution.specs.Motion.{moved}
+use Rattle.theory_substitution.specs.RuleParts.{vertices_of}
 use Rattle.tile_app.specs.DrawnTile.{point_of}
 use Rattle.tile_app.proofs.Placed.{corner_placed, one_more_of}
 use Rattle.tile_app.proofs.Prototiles.{its-vertices, as-many, at-least_3}
@@ -18,7 +18,9 @@ pub loop-number-preserved : goal.loop-number-preserved
 loop-number-preserved c =
     let m = c.args.machine.now in
     let vs = c.vertices-each_edge.result.now in
-    let h = its-vertices m c.checked.result.now c.args.kind vs c.checked.ensures.rule c.vertices-each_edge.ensures.numbers c.vertices-each_edge.ensures.each_edge c.vertices-each_edge.ensures.small in
+    let h = its-vertices m c.checked.result.now c.args.kind vs c.checked.ensures.rule
+    c.vertices-each_edge.ensures.numbers c.vertices-each_edge.ensures.each_edge
+    c.vertices-each_edge.ensures.small in
     let ns = vertices_of (rule_of m) c.args.kind in
     let xs = c.loop-number.outline in
     let i = c.loop-number.number in
@@ -29,15 +31,24 @@ loop-number-preserved c =
     let below : i < length ns = omega (arith, c.loop-number-test.true, c.requires.as_many, as-many m c.args.kind vs h, h.each_edge) in
     record {
       as_many = length-set xs i p ∙ long;
-      near = rw (take_more_set xs i p inside) (All-push (IsNear m.order) (take i xs) p c.loop-number.invariant.near (record { of_order = c.corner.ensures.in_order; within = c.corner.ensures.within }));
-      placed = one_more_of (λ z. point_of m.order (moved (points_of m.order) (motion_in m.order c.args.motion.now) z)) ns [] (take i xs) (take (i + 1) (set xs i p)) i p ((points_of m.order).ring.int (pos 0))
-          c.loop-number.invariant.placed (take_more_set xs i p inside) below (corner_placed (tiling_of m) c.args.kind c.args.motion.now i p four c.corner.ensures);
+      near = rw (take_more_set xs i p inside) (All-push (IsNear m.order) (take i xs) p
+          c.loop-number.invariant.near (record {
+            of_order = c.corner.ensures.in_order;
+            within = c.corner.ensures.within;
+          }));
+      placed = one_more_of (λ z. point_of m.order
+          (moved (points_of m.order) (motion_in m.order c.args.motion.now) z)) ns [] (take i xs)
+          (take (i + 1) (set xs i p)) i p ((points_of m.order).ring.int (pos 0))
+          c.loop-number.invariant.placed (take_more_set xs i p inside) below
+          (corner_placed (tiling_of m) c.args.kind c.args.motion.now i p four c.corner.ensures);
     }
 
 pub returns-clause-three : goal.returns-clause-three
 returns-clause-three c =
     let vs = c.vertices-each_edge.result.now in
-    let h = its-vertices c.args.machine.now c.checked.result.now c.args.kind vs c.checked.ensures.rule c.vertices-each_edge.ensures.numbers c.vertices-each_edge.ensures.each_edge c.vertices-each_edge.ensures.small in
+    let h = its-vertices c.args.machine.now c.checked.result.now c.args.kind vs c.checked.ensures.rule
+    c.vertices-each_edge.ensures.numbers c.vertices-each_edge.ensures.each_edge
+    c.vertices-each_edge.ensures.small in
     let least = at-least_3 c.args.machine.now c.args.kind vs h c.checked.ensures.usable c.requires.exists in
     omega (arith, least, h.each_edge, c.requires.as_many, c.loop-number.invariant.as_many)
 
@@ -45,7 +56,9 @@ pub returns-clause-placed : goal.returns-clause-placed
 returns-clause-placed c =
     let m = c.args.machine.now in
     let vs = c.vertices-each_edge.result.now in
-    let h = its-vertices m c.checked.result.now c.args.kind vs c.checked.ensures.rule c.vertices-each_edge.ensures.numbers c.vertices-each_edge.ensures.each_edge c.vertices-each_edge.ensures.small in
+    let h = its-vertices m c.checked.result.now c.args.kind vs c.checked.ensures.rule
+    c.vertices-each_edge.ensures.numbers c.vertices-each_edge.ensures.each_edge
+    c.vertices-each_edge.ensures.small in
     let ns = vertices_of (rule_of m) c.args.kind in
     let i = c.loop-number.number in
     let F : NumberOf m.order → Point = λ z. point_of m.order (moved (points_of m.order) (motion_in m.order c.args.motion.now) z) in

@@ -3,8 +3,8 @@ use Rattle.cyclo_points.specs.Motion.{motion_in}
 use Rattle.cyclo_points.specs.Order.{points_of}
 use Rattle.layer_api.specs.Drawable.{IsNear}
 use Rattle.rule_model.specs.Views.{rule_of}
-use Rattle.substitution.specs.Motion.{moved}
-use Rattle.substitution.specs.RuleParts.{vertices_of}
+use Rattle.theory_substitution.specs.Motion.{moved}
+use Rattle.theory_substitution.specs.RuleParts.{vertices_of}
 use Rattle.tile_app.specs.DrawnTile.{point_of}
 use Rattle.tile_app.proofs.drawn_tile.overwrite_tile.Given as goal
 
@@ -13,5 +13,7 @@ abbrev pub invariant-loop-number : goal.invariant-loop-number
 invariant-loop-number l = record {
   as_many : length l.outline ≡ length l.fn.outline;
   near : All (IsNear l.machine.order) (take l.number l.outline);
-  placed : take l.number l.outline ≡ map (λ z. point_of l.machine.order (moved (points_of l.machine.order) (motion_in l.machine.order l.motion) z)) (take l.number (vertices_of (rule_of l.machine) l.kind));
+  placed : take l.number l.outline ≡ map (λ z. point_of l.machine.order
+      (moved (points_of l.machine.order) (motion_in l.machine.order l.motion) z))
+      (take l.number (vertices_of (rule_of l.machine) l.kind));
 }

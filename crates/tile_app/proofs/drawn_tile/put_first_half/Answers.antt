@@ -8,8 +8,8 @@ use Rattle.layer_api.specs.Drawable.{IsNear}
 use Rattle.layer_api.specs.declared.part.Part.{Part}
 use Rattle.rule_model.specs.declared.rule.Rule.{Rule}
 use Rattle.rule_model.specs.Views.{rule_of}
-use Rattle.substitution.specs.Motion.{moved}
-use Rattle.substitution.specs.RuleParts.{vertices_of}
+use Rattle.theory_substitution.specs.Motion.{moved}
+use Rattle.theory_substitution.specs.RuleParts.{vertices_of}
 use Rattle.tile_app.specs.DrawnTile.{point_of, placed_point}
 use Rattle.tile_app.proofs.Outlines.{corner-piece, first-room, first-long, first-is}
 use Rattle.tile_app.proofs.Prototiles.{HasVertices, its-vertices, edge-there, at-least_3, at-most_12, none-of}
@@ -81,7 +81,8 @@ pub put_corners-requires-clause-there : goal.put_corners-requires-clause-there
 put_corners-requires-clause-there c = let v = h ((goal.at.put_corners-requires-clause-there c).After-vertices-count) in omega (arith, v.each_edge)
 
 pub put_corners-requires-clause-room : goal.put_corners-requires-clause-room
-put_corners-requires-clause-room c = let l = most ((goal.at.put_corners-requires-clause-room c).After-vertices-count) in omega (arith, l, c.requires.empty)
+put_corners-requires-clause-room c = let l = most
+    ((goal.at.put_corners-requires-clause-room c).After-vertices-count) in omega (arith, l, c.requires.empty)
 
 pub put_corners-requires-2-clause-there : goal.put_corners-requires-2-clause-there
 put_corners-requires-2-clause-there c =

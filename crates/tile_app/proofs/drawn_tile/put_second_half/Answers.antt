@@ -7,8 +7,8 @@ use Rattle.half_glue.specs.Outline.{glue_edge_of}
 use Rattle.layer_api.specs.declared.part.Part.{Part}
 use Rattle.rule_model.specs.declared.rule.Rule.{Rule}
 use Rattle.rule_model.specs.Views.{rule_of}
-use Rattle.substitution.specs.Motion.{moved}
-use Rattle.substitution.specs.RuleParts.{vertices_of, edge_count}
+use Rattle.theory_substitution.specs.Motion.{moved}
+use Rattle.theory_substitution.specs.RuleParts.{vertices_of, edge_count}
 use Rattle.tile_app.specs.DrawnTile.{point_of, placed_point}
 use Rattle.tile_app.proofs.Outlines.{corner-piece, second-room, second-is, last-is}
 use Rattle.tile_app.proofs.Prototiles.{HasVertices, its-vertices, edge-there, at-least_3, at-most_12}

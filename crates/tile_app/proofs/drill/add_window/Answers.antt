@@ -12,14 +12,16 @@ pub overflow_cast-count : goal.overflow_cast-count
 overflow_cast-count c =
     let x = c.in-Ok.ensures in
     let few = at_most_limit
-    (tiling_of c.args.machine.now) c.args.frame.now c.covered_tiles.new.frame c.args.window.now c.requires.frame x.frame x.within x.least c.in-Ok.tiles x.drawn in
+    (tiling_of c.args.machine.now) c.args.frame.now c.covered_tiles.new.frame c.args.window.now
+    c.requires.frame x.frame x.within x.least c.in-Ok.tiles x.drawn in
     omega (arith, few, c.len-count.ensures)
 
 pub add-requires : goal.add-requires
 add-requires c =
     let x = c.in-Ok.ensures in
     let few = at_most_limit
-    (tiling_of c.args.machine.now) c.args.frame.now c.covered_tiles.new.frame c.args.window.now c.requires.frame x.frame x.within x.least c.in-Ok.tiles x.drawn in
+    (tiling_of c.args.machine.now) c.args.frame.now c.covered_tiles.new.frame c.args.window.now
+    c.requires.frame x.frame x.within x.least c.in-Ok.tiles x.drawn in
     record { few_tiles = omega (arith, few, c.len-count.ensures) }
 
 pub returns-in-Ok-clause-adds : goal.returns-in-Ok-clause-adds
@@ -48,7 +50,8 @@ pub returns-in-Ok-clause-most_tiles_more : goal.returns-in-Ok-clause-most_tiles_
 returns-in-Ok-clause-most_tiles_more c =
     let x = c.in-Ok.ensures in
     let few = at_most_limit
-    (tiling_of c.args.machine.now) c.args.frame.now c.covered_tiles.new.frame c.args.window.now c.requires.frame x.frame x.within x.least c.in-Ok.tiles x.drawn in
+    (tiling_of c.args.machine.now) c.args.frame.now c.covered_tiles.new.frame c.args.window.now
+    c.requires.frame x.frame x.within x.least c.in-Ok.tiles x.drawn in
     omega (arith, few, c.len-count.ensures, ap (λ (s : Summary). s.tiles) c.add.ensures)
 
 pub returns-in-Ok-clause-one_refused_more : goal.returns-in-Ok-clause-one_refused_more

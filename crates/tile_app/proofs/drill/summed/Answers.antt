@@ -13,8 +13,11 @@ loop-number-preserved c =
     let added = c.in_ok-add_window.ensures in
     let same = c.order-order.ensures.order ∙ ap (λ (r : Rule). r.order) c.checked.ensures.rule in
     record {
-      summary = one_more (tiling_of machine) c.args.start i c.fresh_frame-frame.result window.result c.loop-number.summary c.add_window.new.summary before.summary c.fresh_frame-frame.ensures.fresh
-          (window-is c.order-order.result machine.order c.args.start c.loop-number.growth.start c.loop-number.growth.taken i window.result window.ensures.window same before.same_start before.six_words)
+      summary = one_more (tiling_of machine) c.args.start i c.fresh_frame-frame.result window.result
+          c.loop-number.summary c.add_window.new.summary before.summary c.fresh_frame-frame.ensures.fresh
+          (window-is c.order-order.result machine.order c.args.start c.loop-number.growth.start
+          c.loop-number.growth.taken i window.result window.ensures.window same before.same_start
+          before.six_words)
           added.adds;
       six_words = omega (arith, window.ensures.six_words, before.six_words);
       same_start = window.ensures.same_start ∙ before.same_start;

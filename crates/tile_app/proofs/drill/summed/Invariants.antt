@@ -1,6 +1,6 @@
 use Rattle.std.proofs.Common.{◌≡◌, ◌*◌, ◌≤◌}
 use Rattle.rule_model.specs.Tiling.{tiling_of}
-use Rattle.windows.specs.Limits.{most_tiles}
+use Rattle.theory_windows.specs.Limits.{most_tiles}
 use Rattle.tile_app.specs.Drill.{IsSummary}
 use Rattle.tile_app.proofs.drill.summed.Given as goal
 

@@ -9,5 +9,7 @@ is_ok (Err e) U P Q h u = absurd (h.0 u)
 
 pub unwrap-requires : goal.unwrap-requires
 unwrap-requires c =
-    let utf8 : IsUtf8 c.as_slice.result.now = subst IsUtf8 (sym (c.as_slice.ensures.value ∙ c.write_address-text.ensures.text)) (address_is_utf8 (address_of c.args.addr.now) c.write_address-text.ensures.short) in
+    let utf8 : IsUtf8 c.as_slice.result.now = subst IsUtf8
+    (sym (c.as_slice.ensures.value ∙ c.write_address-text.ensures.text))
+    (address_is_utf8 (address_of c.args.addr.now) c.write_address-text.ensures.short) in
     is_ok c.from_utf8.result (IsUtf8 c.as_slice.result.now) _ _ c.from_utf8.ensures.cases utf8

@@ -1,7 +1,7 @@
 use Rattle.std.proofs.Common.{◌<◌, refl, ap, ◌∙◌, subst, arith}
 use Rattle.std.proofs.lemmas.Result.{err_from_is_err_and}
-use Rattle.addressing.specs.Tables.{child_kinds}
-use Rattle.addressing.proofs.EdgesOf.{kind_in_tables}
+use Rattle.theory_addresses.specs.Tables.{child_kinds}
+use Rattle.theory_addresses.proofs.EdgesOf.{kind_in_tables}
 use Rattle.rule_model.specs.Checked.{rule_contacts, child_kinds_of}
 use Rattle.tile_place.proofs.KindEdges.{edges_counted}
 use Rattle.tile_shape.specs.Views.{address_of}
@@ -19,7 +19,8 @@ pub returns-then-edge-edges-clause-refused : goal.returns-then-edge-edges-clause
 returns-then-edge-edges-clause-refused g c = (
   refl,
   record {
-    count = edges_counted c.tables.result.now c.checked.result.now c.args.machine.now c.args.address.now.kind c.edges-edges.result c.tables.ensures.contacts c.checked.ensures.rule c.edges-edges.ensures.count;
+    count = edges_counted c.tables.result.now c.checked.result.now c.args.machine.now c.args.address.now.kind
+        c.edges-edges.result c.tables.ensures.contacts c.checked.ensures.rule c.edges-edges.ensures.count;
     beyond = c.if-edge-edges.true;
   },
 )
@@ -30,14 +31,18 @@ cross-requires-clause-fits g c = c.requires.accepted.fits
 pub cross-requires-clause-edge_exists : goal.cross-requires-clause-edge_exists
 cross-requires-clause-edge_exists g c =
     subst (λ n. c.args.edge < n)
-    (edges_counted c.tables.result.now c.checked.result.now c.args.machine.now c.args.address.now.kind c.edges-edges.result c.tables.ensures.contacts c.checked.ensures.rule c.edges-edges.ensures.count) c.if-edge-edges.false
+    (edges_counted c.tables.result.now c.checked.result.now c.args.machine.now c.args.address.now.kind
+    c.edges-edges.result c.tables.ensures.contacts c.checked.ensures.rule c.edges-edges.ensures.count)
+    c.if-edge-edges.false
 
 pub returns-in_err-crossing-clause-refused : goal.returns-in_err-crossing-clause-refused
 returns-in_err-crossing-clause-refused g c =
     let p = err_from_is_err_and c.from_residual.result c.from_residual.ensures.1 in
     rw (p.1, p.2) (record {
       exists = subst (λ n. c.args.edge < n)
-          (edges_counted c.tables.result.now c.checked.result.now c.args.machine.now c.args.address.now.kind c.edges-edges.result c.tables.ensures.contacts c.checked.ensures.rule c.edges-edges.ensures.count) c.if-edge-edges.false;
+          (edges_counted c.tables.result.now c.checked.result.now c.args.machine.now c.args.address.now.kind
+          c.edges-edges.result c.tables.ensures.contacts c.checked.ensures.rule
+          c.edges-edges.ensures.count) c.if-edge-edges.false;
       along = c.in_err-crossing.ensures.outside_on_boundary;
       alone = λ top other on. outside_is _ _ top other c.in_err-crossing.was (c.cross.ensures.boundary_is_outside top other on);
     })
@@ -46,7 +51,9 @@ pub returns-clause-printed : goal.returns-clause-printed
 returns-clause-printed g c = record {
   inside = record {
     exists = subst (λ n. c.args.edge < n)
-        (edges_counted c.tables.result.now c.checked.result.now c.args.machine.now c.args.address.now.kind c.edges-edges.result c.tables.ensures.contacts c.checked.ensures.rule c.edges-edges.ensures.count) c.if-edge-edges.false;
+        (edges_counted c.tables.result.now c.checked.result.now c.args.machine.now c.args.address.now.kind
+        c.edges-edges.result c.tables.ensures.contacts c.checked.ensures.rule c.edges-edges.ensures.count)
+        c.if-edge-edges.false;
     on_none = c.in_ok-crossing.ensures.inside;
   };
   across = address_of c.in_ok-crossing.crossing.addr;

@@ -1,7 +1,7 @@
 use Rattle.std.proofs.Common.{◌≡◌, None, Some, length, map, sym, subst, arith}
 use Rattle.std.specs.Prelude.{string_bytes}
 use Rattle.std.proofs.lemmas.Result.{err_from_is_err_and}
-use Rattle.addressing.specs.Address.{Fits}
+use Rattle.theory_addresses.specs.Address.{Fits}
 use Rattle.cyclo_points.specs.Motion.{motion_in}
 use Rattle.cyclo_points.specs.Point.{point_in}
 use Rattle.cyclo_points.proofs.Coefficients.{coefficients_of}

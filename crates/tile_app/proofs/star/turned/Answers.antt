@@ -1,9 +1,9 @@
 use Rattle.std.proofs.Common.{◌≡◌, ◌<◌, All, length, map, refl, sym, ap, ◌∙◌, subst}
 use Rattle.std.specs.List.{flat_map}
 use Rattle.std.proofs.lemmas.Result.{err_from_is_err_and}
-use Rattle.addressing.specs.Address.{Address}
-use Rattle.addressing.specs.Tables.{child_kinds}
-use Rattle.addressing.proofs.EdgesOf.{kind_in_tables}
+use Rattle.theory_addresses.specs.Address.{Address}
+use Rattle.theory_addresses.specs.Tables.{child_kinds}
+use Rattle.theory_addresses.proofs.EdgesOf.{kind_in_tables}
 use Rattle.lazy_walk.specs.Standing.{Stands}
 use Rattle.rule_model.specs.Checked.{rule_contacts, child_kinds_of}
 use Rattle.rule_model.specs.Tiling.{tiling_of, children}
@@ -20,7 +20,8 @@ use Rattle.tile_app.proofs.star.turned.Goals as goal
 -- the kind of the base has its number of edges in the tables
 count : (g : Over) (c : After-edges-edges g) → c.edges-edges.result ≡ edges_of (tiling_of c.args.machine.now) c.args.frame.now.base.kind
 count g c =
-    edges_counted c.tables.result.now c.checked.result.now c.args.machine.now c.base.result.now.kind c.edges-edges.result c.tables.ensures.contacts c.checked.ensures.rule c.edges-edges.ensures.count
+    edges_counted c.tables.result.now c.checked.result.now c.args.machine.now c.base.result.now.kind
+    c.edges-edges.result c.tables.ensures.contacts c.checked.ensures.rule c.edges-edges.ensures.count
     ∙ ap (λ (a : Address). edges_of (tiling_of c.args.machine.now) a.kind) c.base.ensures
 
 pub edges-edges-requires : goal.edges-edges-requires

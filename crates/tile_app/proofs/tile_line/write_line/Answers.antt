@@ -12,8 +12,11 @@ pub returns : goal.returns
 returns c = λ order h kind.
     let tile = c.args.tile.now in
     let made = line_put _ _ _ _ _ _ _ _ (decimal tile.kind) (motion_text tile.motion) (address_text (address_of tile.addr)) (decimal c.args.back)
-    c.clear.ensures c.put.ensures c.put_small.ensures.number c.put-2.ensures c.put_address.ensures.address c.put-3.ensures c.put_motion.ensures.motion c.put-4.ensures c.put_small-2.ensures.number in
+    c.clear.ensures c.put.ensures c.put_small.ensures.number c.put-2.ensures c.put_address.ensures.address
+    c.put-3.ensures c.put_motion.ensures.motion c.put-4.ensures c.put_small-2.ensures.number in
     c.in_ok-extend_from_slice.ensures.items
     ∙ ap (λ bs. c.args.text.now.items ++ bs) (c.as_bytes.ensures ∙ made
-    ∙ pieces_of_walk (decimal tile.kind) (decimal tile.addr.kind) (decimal tile.motion.turn) (point_text tile.motion.shift) (number_text order (point_in order tile.motion.shift)) (address_text (address_of tile.addr)) (decimal c.args.back)
+    ∙ pieces_of_walk (decimal tile.kind) (decimal tile.addr.kind) (decimal tile.motion.turn)
+    (point_text tile.motion.shift) (number_text order (point_in order tile.motion.shift))
+    (address_text (address_of tile.addr)) (decimal c.args.back)
     (point_text-number order tile.motion.shift h) (ap decimal kind))

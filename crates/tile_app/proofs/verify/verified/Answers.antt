@@ -7,7 +7,8 @@ pub returns-in_err-lines-clause-refused : goal.returns-in_err-lines-clause-refus
 returns-in_err-lines-clause-refused c =
     let p = err_from_is_err_and c.from_residual.result c.from_residual.ensures.1 in
     listing_refused (tiling_of c.args.machine.now) c.args.frame.now c.args.window.now c.args.listing.now
-    c.verify.new.frame c.verify.ensures.frame c.verify.result c.in_err-lines.field-0.0 c.in_err-lines.was c.verify.ensures.cause c.from_residual.result p.0 p.1 p.2
+    c.verify.new.frame c.verify.ensures.frame c.verify.result c.in_err-lines.field-0.0 c.in_err-lines.was
+    c.verify.ensures.cause c.from_residual.result p.0 p.1 p.2
 
 pub returns-in_err-right_line-clause-refused : goal.returns-in_err-right_line-clause-refused
 returns-in_err-right_line-clause-refused c =

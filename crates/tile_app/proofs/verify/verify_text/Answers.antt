@@ -41,11 +41,13 @@ returns-in_err-listing-clause-refused g c =
     let left = g.R.Source.left c.args.source.now in
     let rest = g.R.Source.left c.file_read.new.source in
     let h = refused_by (IsFileUnread Listing left rest) (IsListingRefused t c.args.addr.now c.args.seed (window_of c.args.asked.now) left rest)
-    (listing_unread t c.args.addr.now c.args.seed (window_of c.args.asked.now) f.base c.in_ok-frame.ensures.base.tile is left rest) c.file_read.result c.file_read.ensures.refused in
+    (listing_unread t c.args.addr.now c.args.seed (window_of c.args.asked.now) f.base
+    c.in_ok-frame.ensures.base.tile is left rest) c.file_read.result c.file_read.ensures.refused in
     search (rules, h)
 
 pub verified-requires-clause-frame : goal.verified-requires-clause-frame
-verified-requires-clause-frame g c = subst (λ m. IsFrameOf (tiling_of m) c.in_ok-frame.frame) (sym c.in_ok-machine.ensures.its_rule) c.in_ok-frame.ensures.base.is_frame
+verified-requires-clause-frame g c = subst (λ m. IsFrameOf (tiling_of m) c.in_ok-frame.frame)
+    (sym c.in_ok-machine.ensures.its_rule) c.in_ok-frame.ensures.base.is_frame
 
 pub verified-requires-clause-begun : goal.verified-requires-clause-begun
 verified-requires-clause-begun g c = begun (tiling_of c.args.checked) c.args.addr.now c.args.seed c.in_ok-frame.frame c.in_ok-frame.ensures.base
@@ -56,19 +58,23 @@ returns-in_err-verified-clause-refused g c =
     let t = tiling_of c.args.checked in
     let f = c.in_ok-frame.frame in
     let w = c.window_in-window.result in
-    let of_rule = subst (λ m. IfErr c.verified.result (OrNoMemory (VerifyRefuses (tiling_of m) f w c.as_slice.result.now))) c.in_ok-machine.ensures.its_rule c.verified.ensures.refused in
+    let of_rule = subst (λ m. IfErr c.verified.result
+    (OrNoMemory (VerifyRefuses (tiling_of m) f w c.as_slice.result.now))) c.in_ok-machine.ensures.its_rule
+    c.verified.ensures.refused in
     let of_file = subst (λ file. IfErr c.verified.result (OrNoMemory (VerifyRefuses t f w file))) c.as_slice.ensures.value of_rule in
     let h = listing_wrong t c.args.addr.now c.args.seed (window_of c.args.asked.now) f c.in_ok-frame.ensures.base
     (told g ((goal.at.returns-in_err-verified-clause-refused g c).In_ok-frame)) w
     (window g ((goal.at.returns-in_err-verified-clause-refused g c).After-window_in-window))
-    (g.R.Source.left c.args.source.now) (g.R.Source.left c.file_read.new.source) c.in_ok-listing.listing.items c.in_ok-listing.ensures.read c.in_ok-listing.ensures.not_too_long c.verified.result of_file in
+    (g.R.Source.left c.args.source.now) (g.R.Source.left c.file_read.new.source) c.in_ok-listing.listing.items
+    c.in_ok-listing.ensures.read c.in_ok-listing.ensures.not_too_long c.verified.result of_file in
     let p = err_from_is_err_and c.from_residual-in_err-verified.result c.from_residual-in_err-verified.ensures.1 in
     rw (p.1, p.2) (subst (λ r. IfErr r (IsListingRefused t c.args.addr.now c.args.seed (window_of c.args.asked.now)
     (g.R.Source.left c.args.source.now) (g.R.Source.left c.file_read.new.source))) c.in_err-verified.was h)
 
 pub returns-in_err-verified-clause-read_fault : goal.returns-in_err-verified-clause-read_fault
 returns-in_err-verified-clause-read_fault g c =
-    let h = listing_unfailed (tiling_of c.in_ok-machine.machine) c.in_ok-frame.frame c.window_in-window.result c.as_slice.result.now c.verified.result c.verified.ensures.refused in
+    let h = listing_unfailed (tiling_of c.in_ok-machine.machine) c.in_ok-frame.frame c.window_in-window.result
+    c.as_slice.result.now c.verified.result c.verified.ensures.refused in
     search (rules, h)
 
 pub returns-clause-printed : goal.returns-clause-printed
@@ -82,10 +88,12 @@ returns-clause-printed g c =
     let asked = window_of c.args.asked.now in
     let text = string_bytes c.in_ok-verified.field-0 in
     let same : c.into_bytes.result.items ≡ text = search rules in
-    let of_rule = subst (λ m. PrintsVerify (tiling_of m) f w c.as_slice.result.now text) c.in_ok-machine.ensures.its_rule c.in_ok-verified.ensures.printed in
+    let of_rule = subst (λ m. PrintsVerify (tiling_of m) f w c.as_slice.result.now text)
+    c.in_ok-machine.ensures.its_rule c.in_ok-verified.ensures.printed in
     let of_file = subst (λ file. PrintsVerify t f w file text) c.as_slice.ensures.value of_rule in
     subst (IsListingPrinted t c.args.addr.now c.args.seed asked left rest) (sym same)
-    (listing_done t c.args.addr.now c.args.seed asked f c.in_ok-frame.ensures.base (told g s.In_ok-frame) w (window g s.After-window_in-window) left rest c.in_ok-listing.listing.items
+    (listing_done t c.args.addr.now c.args.seed asked f c.in_ok-frame.ensures.base (told g s.In_ok-frame) w
+    (window g s.After-window_in-window) left rest c.in_ok-listing.listing.items
     c.in_ok-listing.ensures.read c.in_ok-listing.ensures.not_too_long text of_file)
 
 -- the source is read only if the address is that of a tile

@@ -1,6 +1,6 @@
 use Rattle.std.proofs.Common.{rules, ◌≡◌, ◌+◌, ◌*◌, ◌^◌, ◌++◌, [], get_or, take, drop, None, Some, string_bytes, refl, sym, ap, ◌∙◌, subst, arith, append_assoc, append-nil}
 use Rattle.std.proofs.lemmas.List.{take_more}
-use Rattle.addressing.specs.Address.{Address}
+use Rattle.theory_addresses.specs.Address.{Address}
 use Rattle.cyclo_points.specs.Motion.{motion_in}
 use Rattle.cyclo_points.proofs.Within.{point_wider}
 use Rattle.lazy_walk.specs.Frames.{whole}
@@ -25,7 +25,11 @@ loop-edge-init g c =
       after = [];
       base = subst (λ (a : Address). IsWalkLine (tiling_of m) (whole c.args.frame.now) a None
           (string_bytes c.in_ok-first_line.field-0)) c.base_tile-tile.ensures.base
-          (record { motion = motion_in m.order tile.motion; stands = stands.in_frame; is_line = c.in_ok-first_line.ensures m.order stands.in_order stands.its_kind });
+          (record {
+            motion = motion_in m.order tile.motion;
+            stands = stands.in_frame;
+            is_line = c.in_ok-first_line.ensures m.order stands.in_order stands.its_kind;
+          });
       along = (c.base_tile-tile.ensures.base, refl);
       is_text = same ∙ sym (append-nil (string_bytes c.in_ok-first_line.field-0));
       stands = stands;
@@ -40,7 +44,8 @@ step-requires-clause-within g c = point_wider (512 * c.loop-edge.edge-index) (2 
 pub unwrap-back-requires : goal.unwrap-back-requires
 unwrap-back-requires g c =
     let ahead = ahead_at (tiling_of c.args.machine.now)
-    (address_of c.loop-edge.tile.addr) c.loop-edge.invariant.ahead.0 c.args.path.now c.loop-edge.edge-index c.loop-edge-test.true c.loop-edge.invariant.ahead.1 in
+    (address_of c.loop-edge.tile.addr) c.loop-edge.invariant.ahead.0 c.args.path.now c.loop-edge.edge-index
+    c.loop-edge-test.true c.loop-edge.invariant.ahead.1 in
     ok_inside (tiling_of c.args.machine.now) (address_of c.loop-edge.tile.addr) ahead.0
     (get_or c.args.path.now c.loop-edge.edge-index 0) ahead.1 c.step.result c.step.ensures.outside_on_boundary ahead.2
 

@@ -1,6 +1,6 @@
 use Rattle.std.proofs.Common.{◌≡◌, ◌≤◌, max, length, sym, ap, ◌∙◌, subst}
 use Rattle.std.proofs.lemmas.Result.{err_from_is_err_and}
-use Rattle.addressing.specs.Address.{Address, depth}
+use Rattle.theory_addresses.specs.Address.{Address, depth}
 use Rattle.lazy_walk.specs.Faults.{IsPathFault}
 use Rattle.lazy_walk.specs.Paths.{CanBeWalked, IsStopped}
 use Rattle.rule_model.specs.Tiling.{tiling_of}
@@ -17,7 +17,9 @@ returns-in_err-grow_along-clause-refused g c =
     let path = c.args.path.now in
     let p = err_from_is_err_and c.from_residual.result c.from_residual.ensures.1 in
     let fault = c.in_err-grow_along.field-0.0 in
-    let h = subst (λ (b : Address). IsPathFault t b path fault) (frame-is t f c.grow_to.new.self c.grow_to.ensures.frame 64) c.in_err-grow_along.ensures.fault_at_64 in
+    let h = subst (λ (b : Address). IsPathFault t b path fault)
+    (frame-is t f c.grow_to.new.self c.grow_to.ensures.frame 64)
+    c.in_err-grow_along.ensures.fault_at_64 in
     rw (p.1, p.2) (walking_ends t f path fault h)
 
 pub returns-clause-printed : goal.returns-clause-printed

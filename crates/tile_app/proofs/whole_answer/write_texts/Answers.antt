@@ -57,7 +57,8 @@ returns-in_err-write_all-clause-part g c =
     let picture = h.picture in
     let is = its-text g.D.Layer.form g.D.Layer.seen g.D.Layer.ended g.D.Layer.draws view picture c.args.layers.now formats h.drawn
     i c.loop-format-test.true c.place_of.result c.unwrap-place.result c.index-layers-place.result
-    c.place_of.ensures.first c.unwrap-place.ensures c.index-layers-place.is c.place_of.ensures.inside c.place_of.ensures.its_form c.bytes.result.now c.bytes.ensures in
+    c.place_of.ensures.first c.unwrap-place.ensures c.index-layers-place.is c.place_of.ensures.inside
+    c.place_of.ensures.its_form c.bytes.result.now c.bytes.ensures in
     let after = texts_of view picture (drop (i + 1) formats) in
     let whole = h.is_text ∙ before-and-behind view picture formats i Svg c.loop-format-test.true in
     on-err (TakesProperPrefix old new text) c.from_residual.result

@@ -8,7 +8,18 @@ pub returns-then-count-room-clause-part : goal.returns-then-count-room-clause-pa
 returns-then-count-room-clause-part g c =
     let count = c.in_ok-count.count in
     one_over _ _ _ c.loop-bytes.bytes.items (take count c.read.new.buf) c.args.most c.loop-bytes.invariant.given c.in_ok-count.ensures.gives
-    (omega (arith, c.loop-bytes.bytes.ok.0, c.len.ensures, c.if-count-room.true, c.in_ok-count.ensures.within.0, c.min-wanted.ensures, c.read.auto.buf, c.loop-bytes.invariant.at_most, length-take count c.read.new.buf, length-take (c.min-wanted.result + 1) c.loop-bytes.buf))
+    (omega (
+      arith,
+      c.loop-bytes.bytes.ok.0,
+      c.len.ensures,
+      c.if-count-room.true,
+      c.in_ok-count.ensures.within.0,
+      c.min-wanted.ensures,
+      c.read.auto.buf,
+      c.loop-bytes.invariant.at_most,
+      length-take count c.read.new.buf,
+      length-take (c.min-wanted.result + 1) c.loop-bytes.buf,
+    ))
 
 pub returns-in_err-extend_from_slice-clause-part :
     goal.returns-in_err-extend_from_slice-clause-part
@@ -18,4 +29,12 @@ returns-in_err-extend_from_slice-clause-part g c =
     at_error c.from_residual-in_err-extend_from_slice.result NoMemory (GivesPart (left c.args.source.now) (left c.read.new.self) c.args.most)
     (c.from_residual-in_err-extend_from_slice.ensures.1)
     (no_memory _ _ _ c.loop-bytes.bytes.items (take count c.read.new.buf) c.args.most c.loop-bytes.invariant.given c.in_ok-count.ensures.gives
-    (omega (arith, c.loop-bytes.bytes.ok.0, c.len.ensures, c.if-count-room.false, c.in_ok-count.ensures.within.0, c.loop-bytes.invariant.at_most, length-take count c.read.new.buf)))
+    (omega (
+      arith,
+      c.loop-bytes.bytes.ok.0,
+      c.len.ensures,
+      c.if-count-room.false,
+      c.in_ok-count.ensures.within.0,
+      c.loop-bytes.invariant.at_most,
+      length-take count c.read.new.buf,
+    )))

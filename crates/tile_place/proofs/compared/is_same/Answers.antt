@@ -11,7 +11,8 @@ use Rattle.tile_place.proofs.compared.is_same.Goals as goal
 use Rattle.tile_place.proofs.compared.is_same.Goals.{After-is_equal-4}
 
 -- what the code returns
-tested : (c : After-is_equal-4) → (c.is_equal.result && c.is_equal-2.result && c.is_equal-3.result && c.is_equal-4.result) ≡ pointwise int_eq c.args.p.now.c c.args.q.now.c
+tested : (c : After-is_equal-4) → (c.is_equal.result && c.is_equal-2.result && c.is_equal-3.result
+    && c.is_equal-4.result) ≡ pointwise int_eq c.args.p.now.c c.args.q.now.c
 tested c =
     let p = c.args.p.now in
     let q = c.args.q.now in
@@ -26,7 +27,8 @@ tested c =
     let q2 : machine (coefficient q 2) ≡ coefficient q 2 = omega (arith, ints) in
     let q3 : machine (coefficient q 3) ≡ coefficient q 3 = omega (arith, ints) in
     ap₂ (λ a b. a && b) (ap₂ (λ a b. a && b) (ap₂ (λ a b. a && b)
-    (c.is_equal.ensures ∙ ap₂ int_eq p0 q0) (c.is_equal-2.ensures ∙ ap₂ int_eq p1 q1)) (c.is_equal-3.ensures ∙ ap₂ int_eq p2 q2)) (c.is_equal-4.ensures ∙ ap₂ int_eq p3 q3)
+    (c.is_equal.ensures ∙ ap₂ int_eq p0 q0) (c.is_equal-2.ensures ∙ ap₂ int_eq p1 q1))
+    (c.is_equal-3.ensures ∙ ap₂ int_eq p2 q2)) (c.is_equal-4.ensures ∙ ap₂ int_eq p3 q3)
     ∙ sym (one_by_one p q l m)
 
 pub returns : goal.returns

@@ -1,7 +1,7 @@
 use Rattle.std.specs.Cmp.Lexicographic.{slice_cmp}
 use Rattle.std.specs.Ordering.{int_cmp, is_gt}
 use Rattle.std.proofs.Common.{◌≡◌, ℕ, ◌+◌, ◌<◌, sym, ap, ap₂, ◌∙◌, subst, arith}
-use Rattle.edge_to_edge.specs.EdgeTypes.{edge_vector}
+use Rattle.theory_edge_to_edge.specs.EdgeTypes.{edge_vector}
 use Rattle.cyclo_points.specs.Order.{points_of}
 use Rattle.rule_model.specs.Views.{rule_of}
 use Rattle.tile_place.proofs.GreatestTurns.{IsGreatestBelow, turn_of, first-turn, higher-turn, no_higher-turn}
@@ -26,7 +26,8 @@ loop-steps-preserved c =
       | then-is_above w ↦
           subst (IsGreatestBelow m.order v (s + 1)) (sym w.best-is)
           (higher-turn m.order v s best c.loop-steps.invariant (subst (λ n. s < n) turns c.loop-steps-test.true) (sym above ∙ w.if-is_above.true))
-      | else-is_above w ↦ subst (IsGreatestBelow m.order v (s + 1)) (sym w.best-is) (no_higher-turn m.order v s best c.loop-steps.invariant (sym above ∙ w.if-is_above.false))
+      | else-is_above w ↦ subst (IsGreatestBelow m.order v (s + 1)) (sym w.best-is)
+          (no_higher-turn m.order v s best c.loop-steps.invariant (sym above ∙ w.if-is_above.false))
     ]
 
 pub returns : goal.returns

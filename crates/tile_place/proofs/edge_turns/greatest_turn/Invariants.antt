@@ -1,4 +1,4 @@
-use Rattle.edge_to_edge.specs.EdgeTypes.{edge_vector}
+use Rattle.theory_edge_to_edge.specs.EdgeTypes.{edge_vector}
 use Rattle.cyclo_points.specs.Order.{points_of}
 use Rattle.rule_model.specs.Views.{rule_of}
 use Rattle.tile_place.proofs.GreatestTurns.{IsGreatestBelow}

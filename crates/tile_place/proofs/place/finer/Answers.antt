@@ -1,7 +1,7 @@
 use Rattle.std.proofs.Common.{◌≡◌, ◌^◌, ◌*◌, ◌∙◌, ap, subst, lit≤}
-use Rattle.ordered_ring.specs.Ring.{power}
-use Rattle.substitution.specs.Rule.{Child}
-use Rattle.substitution.specs.Placement.{finer}
+use Rattle.theory_ring.specs.Ring.{power}
+use Rattle.theory_substitution.specs.Rule.{Child}
+use Rattle.theory_substitution.specs.Placement.{finer}
 use Rattle.cyclo_points.specs.Order.{NumberOf, PointsLaw, points_of}
 use Rattle.cyclo_points.specs.Point.{point_in, IsOf}
 use Rattle.cyclo_points.specs.Motion.{motion_in}
@@ -20,10 +20,12 @@ pub turn-turned-requires-clause-p_within : goal.turn-turned-requires-clause-p_wi
 turn-turned-requires-clause-p_within g c = point_wider 64 (2 ^ 40) _ (lit≤ tt) c.child-child.ensures.small.within
 
 pub add-requires-clause-p_within : goal.add-requires-clause-p_within
-add-requires-clause-p_within g c = point_wider (8 * 2 ^ 24 * 64) (2 ^ 40) _ (lit≤ tt) (c.mul-inflated.ensures.bounded (2 ^ 24) 64 c.requires.within c.factor.ensures.small.within)
+add-requires-clause-p_within g c = point_wider (8 * 2 ^ 24 * 64) (2 ^ 40) _ (lit≤ tt)
+    (c.mul-inflated.ensures.bounded (2 ^ 24) 64 c.requires.within c.factor.ensures.small.within)
 
 pub add-requires-clause-q_within : goal.add-requires-clause-q_within
-add-requires-clause-q_within g c = point_wider (2 * 64) (2 ^ 40) _ (lit≤ tt) (c.turn-turned.ensures.at_most_doubled 64 c.child-child.ensures.small.within)
+add-requires-clause-q_within g c = point_wider (2 * 64) (2 ^ 40) _ (lit≤ tt)
+    (c.turn-turned.ensures.at_most_doubled 64 c.child-child.ensures.small.within)
 
 pub returns-clause-moved : goal.returns-clause-moved
 returns-clause-moved g c =
@@ -31,12 +33,17 @@ returns-clause-moved g c =
     let m = c.args.motion.now in
     let child = c.child-child.result in
     let its_order : c.args.order ≡ t.order = c.requires.order in
-    finer_is (points_of t.order) (subst PointsLaw its_order c.points_law.ensures) t.rule (motion_in t.order m) (child_in t.order child).motion c.n.result
-    (point_in t.order c.factor.result) (point_in t.order c.mul-inflated.result) (point_in t.order c.turn-turned.result) (point_in t.order c.add.result)
+    finer_is (points_of t.order) (subst PointsLaw its_order c.points_law.ensures) t.rule (motion_in t.order m)
+    (child_in t.order child).motion c.n.result
+    (point_in t.order c.factor.result) (point_in t.order c.mul-inflated.result)
+    (point_in t.order c.turn-turned.result) (point_in t.order c.add.result)
     (subst (λ o. c.n.result ≡ (points_of o).order) its_order c.n.ensures)
     c.factor.ensures.factor
-    (subst (λ o. point_in o c.mul-inflated.result ≡ (points_of o).ring.mul (point_in o m.shift) (point_in o c.factor.result)) its_order c.mul-inflated.ensures.product)
-    (subst (λ o. point_in o c.turn-turned.result ≡ (points_of o).ring.mul (power (points_of o).ring (points_of o).zeta m.turn) (point_in o child.shift)) its_order c.turn-turned.ensures.turned)
+    (subst (λ o. point_in o c.mul-inflated.result ≡ (points_of o).ring.mul (point_in o m.shift)
+    (point_in o c.factor.result)) its_order c.mul-inflated.ensures.product)
+    (subst (λ o. point_in o c.turn-turned.result ≡ (points_of o).ring.mul
+    (power (points_of o).ring (points_of o).zeta m.turn) (point_in o child.shift)) its_order
+    c.turn-turned.ensures.turned)
     (c.add.ensures.sum t.order)
     ∙ ap (λ (child : Child (NumberOf t.order)). finer (points_of t.order) t.rule (motion_in t.order m) child.motion) c.child-child.ensures.number
 

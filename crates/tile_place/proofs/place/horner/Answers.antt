@@ -1,6 +1,6 @@
 use Rattle.std.proofs.Common.{◌≡◌, ◌-◌, ◌∙◌, ◌^◌, drop, length, map, pos, sym, ap, arith}
 use Rattle.std.proofs.lemmas.List.{length-map}
-use Rattle.substitution.specs.Placement.{placement}
+use Rattle.theory_substitution.specs.Placement.{placement}
 use Rattle.cyclo_points.specs.Order.{points_of}
 use Rattle.cyclo_points.specs.Motion.{motion_in}
 use Rattle.tile_shape.specs.Views.{step_of}
@@ -15,10 +15,16 @@ loop-level-init g c =
     let m = c.default-motion.result in
     let xs = c.args.digits.now in
     let default = c.default-motion.ensures in
-    let origin : IsOrigin m.shift = record { at_0 = default.1.at 0 (pos 0) (omega arith); at_1 = default.1.at 1 (pos 0) (omega arith); at_2 = default.1.at 2 (pos 0) (omega arith); at_3 = default.1.at 3 (pos 0) (omega arith) } in
+    let origin : IsOrigin m.shift = record {
+      at_0 = default.1.at 0 (pos 0) (omega arith);
+      at_1 = default.1.at 1 (pos 0) (omega arith);
+      at_2 = default.1.at 2 (pos 0) (omega arith);
+      at_3 = default.1.at 3 (pos 0) (omega arith);
+    } in
     record {
       level = omega arith;
-      descends = start t.order t.rule (map step_of xs) (length xs) (motion_in t.order m) (omega (arith, length-map xs step_of)) (start-still t.order m default.0 origin);
+      descends = start t.order t.rule (map step_of xs) (length xs) (motion_in t.order m)
+          (omega (arith, length-map xs step_of)) (start-still t.order m default.0 origin);
       turn = start-turn t.order m default.0;
       within = start-within (2 ^ 24) m.shift origin;
       in_order = start-in_order t.order m.shift origin;
@@ -38,7 +44,8 @@ pub loop-level-preserved : goal.loop-level-preserved
 loop-level-preserved g c =
     let t = g.P.Placing.tiling c.args.rule.now in
     let goes : Goes t.order t.rule c.args.digits.now (c.loop-level.level - 1) (motion_in t.order c.finer-motion.result) =
-    Goes-finer t.order t.rule c.args.digits.now c.loop-level.level (c.loop-level.level - 1) _ (motion_in t.order c.loop-level.motion) (motion_in t.order c.finer-motion.result)
+    Goes-finer t.order t.rule c.args.digits.now c.loop-level.level (c.loop-level.level - 1) _
+    (motion_in t.order c.loop-level.motion) (motion_in t.order c.finer-motion.result)
     (omega arith) c.loop-level.invariant.level c.loop-level.invariant.descends c.finer-motion.ensures.moved in
     record {
       level = omega arith;
@@ -52,7 +59,8 @@ pub returns-then-refused-clause-limit : goal.returns-then-refused-clause-limit
 returns-then-refused-clause-limit g c =
     let t = g.P.Placing.tiling c.args.rule.now in
     let goes : Goes t.order t.rule c.args.digits.now (c.loop-level.level - 1) (motion_in t.order c.finer-motion.result) =
-    Goes-finer t.order t.rule c.args.digits.now c.loop-level.level (c.loop-level.level - 1) _ (motion_in t.order c.loop-level.motion) (motion_in t.order c.finer-motion.result)
+    Goes-finer t.order t.rule c.args.digits.now c.loop-level.level (c.loop-level.level - 1) _
+    (motion_in t.order c.loop-level.motion) (motion_in t.order c.finer-motion.result)
     (omega arith) c.loop-level.invariant.level c.loop-level.invariant.descends c.finer-motion.ensures.moved in
     goes.out (sym (c.refused.ensures.in_order t.order c.finer-motion.ensures.in_order) ∙ c.if-refused.true)
 

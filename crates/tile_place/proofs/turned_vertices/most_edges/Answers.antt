@@ -1,5 +1,5 @@
 use Rattle.std.proofs.Common.{arith}
-use Rattle.addressing.proofs.TableBounds.{type_bounds}
+use Rattle.theory_addresses.proofs.TableBounds.{type_bounds}
 use Rattle.tile_place.proofs.turned_vertices.most_edges.Goals as goal
 
 pub returns : goal.returns

@@ -1,5 +1,5 @@
 use Rattle.std.proofs.Common.{ℕ, ◌<◌, IsSome}
-use Rattle.addressing.specs.Tables.{type_of}
+use Rattle.theory_addresses.specs.Tables.{type_of}
 use Rattle.tile_place.proofs.turned_vertices.most_edges.Given as goal
 
 abbrev pub invariant-loop-kind : goal.invariant-loop-kind

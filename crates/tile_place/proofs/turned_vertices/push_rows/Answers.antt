@@ -4,7 +4,7 @@ use Rattle.std.proofs.lemmas.List.{map-append}
 use Rattle.std.proofs.lemmas.Nat.{div_below}
 use Rattle.cyclo_points.specs.Order.{points_of}
 use Rattle.rule_model.specs.Tiling.{tiling_of}
-use Rattle.substitution.specs.RuleParts.{edge_count}
+use Rattle.theory_substitution.specs.RuleParts.{edge_count}
 use Rattle.tile_place.specs.TurnedVertices.{TurnedTable, widened, place_of}
 use Rattle.tile_place.proofs.GreatestTurns.{some_order}
 use Rattle.tile_place.proofs.TurnedPlaces.{AreTurnedBelow, row-vertex, one_more-vertex, vertex-below}
@@ -15,7 +15,8 @@ overflow_cast-row c =
     let o = c.args.order in
     let turns : c.from-turns.result ≡ (points_of o).order = c.from-turns.ensures ∙ c.n.ensures in
     let kinds = length (tiling_of c.args.checked.now).rule.kinds in
-    let row : c.loop-row.row < kinds * c.from-turns.result = subst (λ n. c.loop-row.row < kinds * n) (sym turns) (omega (arith, c.loop-row-test.true, c.requires.rows)) in
+    let row : c.loop-row.row < kinds * c.from-turns.result = subst (λ n. c.loop-row.row < kinds * n)
+    (sym turns) (omega (arith, c.loop-row-test.true, c.requires.rows)) in
     let some : 0 < c.from-turns.result = subst (λ n. 0 < n) (sym turns) (some_order o) in
     let below = div_below c.loop-row.row c.from-turns.result kinds some row in
     omega (arith, below, c.requires.few)
@@ -35,7 +36,8 @@ loop-number-preserved c =
     ap (map widened) c.in_ok-push.ensures.items ∙ map-append widened items (c.of.result ∷ []) ∙ ap (λ p. map widened items ++ p ∷ []) c.of.ensures in
     let each = one_more-vertex t x c.requires.hold (map widened c.push.new.self.items) c.turned_point.result c.loop-row.row c.loop-number.number
     (omega (arith, c.loop-number-test.true, c.from-number-end.ensures)) (length-map items widened ∙ c.loop-number.invariant.count) more
-    (row-vertex m o c.vertices-vertices.result.now c.loop-row.row (points_of o).order c.from-turns.result c.from-turns.result c.loop-number.number c.turned_point.result
+    (row-vertex m o c.vertices-vertices.result.now c.loop-row.row (points_of o).order c.from-turns.result
+    c.from-turns.result c.loop-number.number c.turned_point.result
     c.requires.order turns turns c.vertices-vertices.ensures.numbers c.vertices-vertices.ensures.each_edge
     c.turned_point.ensures.turned (λ h. c.turned_point.ensures.within) c.turned_point.ensures.in_order)
     c.loop-number.invariant.each in
@@ -51,12 +53,15 @@ returns c =
     let sides = c.args.sides in
     let items = c.loop-row.points.items in
     let x : TurnedTable = record { sides = sides; turns = (points_of o).order; points = map widened items } in
-    let total : c.loop-row.row * sides ≡ length t.rule.kinds * (points_of o).order * sides = ap (λ n. n * sides) (omega (arith, c.loop-row-test.false, c.loop-row.auto.row-end, c.requires.rows)) in
+    let total : c.loop-row.row * sides ≡ length t.rule.kinds * (points_of o).order * sides = ap
+    (λ n. n * sides) (omega (arith, c.loop-row-test.false, c.loop-row.auto.row-end, c.requires.rows)) in
     record {
       hold = λ k h. c.requires.hold k;
       turns = ap (λ o. (points_of o).order) c.requires.order;
       count = length-map items widened ∙ c.loop-row.invariant.count ∙ total;
       each = λ k s e hk hs he.
           let some = c.requires.hold k in
-          c.loop-row.invariant.each k s e hk hs he (subst (λ n. place_of x k s e < n) (sym total) (vertex-below t x k s e hk hs (omega (arith, he, some))));
+          c.loop-row.invariant.each k s e hk hs he
+          (subst (λ n. place_of x k s e < n) (sym total)
+          (vertex-below t x k s e hk hs (omega (arith, he, some))));
     }

@@ -8,11 +8,15 @@ use Rattle.tile_place.proofs.turned_vertices.push_rows.Given as goal
 abbrev pub invariant-loop-row : goal.invariant-loop-row
 invariant-loop-row l = record {
   count : length l.points.items ≡ l.row * l.sides;
-  each : AreTurnedBelow (tiling_of l.checked) (record { sides = l.sides; turns = (points_of l.order).order; points = map widened l.points.items }) (l.row * l.sides);
+  each : AreTurnedBelow (tiling_of l.checked)
+      (record { sides = l.sides; turns = (points_of l.order).order; points = map widened l.points.items })
+      (l.row * l.sides);
 }
 
 abbrev pub invariant-loop-number : goal.invariant-loop-number
 invariant-loop-number l = record {
   count : length l.points.items ≡ l.row * l.sides + l.number;
-  each : AreTurnedBelow (tiling_of l.checked) (record { sides = l.sides; turns = (points_of l.order).order; points = map widened l.points.items }) (l.row * l.sides + l.number);
+  each : AreTurnedBelow (tiling_of l.checked)
+      (record { sides = l.sides; turns = (points_of l.order).order; points = map widened l.points.items })
+      (l.row * l.sides + l.number);
 }

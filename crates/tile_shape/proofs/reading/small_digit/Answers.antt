@@ -10,5 +10,6 @@ all_behind xs = sym (take_all (length xs - 4) (drop 4 xs) (let n = length-drop 4
 pub returns-then-text-eq44-clause-exact : goal.returns-then-text-eq44-clause-exact
 returns-then-text-eq44-clause-exact c =
     let text = c.args.text.now in
-    small_read_at text c.if-text-gt3.true (sym c.is_figure.ensures ∙ c.if-is_figure.true) c.if-text-eq47.true (sym c.is_figure-then-text-eq47.ensures ∙ c.if-is_figure-2.true) c.if-text-eq44.true
+    small_read_at text c.if-text-gt3.true (sym c.is_figure.ensures ∙ c.if-is_figure.true) c.if-text-eq47.true
+    (sym c.is_figure-then-text-eq47.ensures ∙ c.if-is_figure-2.true) c.if-text-eq44.true
     ∙ ap (λ rest. Ok (record { child = get_or text 0 0 - 48; parent = get_or text 2 0 - 48 }, comma ∷ rest)) (all_behind text)

@@ -7,7 +7,8 @@ use Rattle.tiling_c.proofs.addresses.tiling_read_address.Goals as goal
 
 pub returns-clause-read : goal.returns-clause-read
 returns-clause-read c =
-    subst (λ r. c.put_address.result ≡ ok → address_of_text (children (tiling_of r)) c.args.text.now ≡ Ok (address_in c.put_address.new.out)) c.get.ensures c.put_address.ensures.read
+    subst (λ r. c.put_address.result ≡ ok → address_of_text (children (tiling_of r)) c.args.text.now ≡ Ok
+    (address_in c.put_address.new.out)) c.get.ensures c.put_address.ensures.read
 
 pub returns-clause-names : goal.returns-clause-names
 returns-clause-names c =
@@ -15,4 +16,6 @@ returns-clause-names c =
 
 pub returns-clause-bad_address : goal.returns-clause-bad_address
 returns-clause-bad_address c =
-    subst (λ r. (c.put_address.result ≡ bad_address) ↔ (¬ IsOk (address_of_text (children (tiling_of r)) c.args.text.now))) c.get.ensures c.put_address.ensures.bad_address
+    subst (λ r. (c.put_address.result ≡ bad_address)
+    ↔ (¬ IsOk (address_of_text (children (tiling_of r)) c.args.text.now))) c.get.ensures
+    c.put_address.ensures.bad_address

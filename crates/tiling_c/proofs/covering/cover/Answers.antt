@@ -30,20 +30,24 @@ returns-clause-covers c =
     let order = c.order.ensures.order ∙ ap (λ r. r.order) c.checked.ensures.rule in
     let window = c.in-Some.ensures.window ∙ ap (λ o. window_in o c.args.window.now) order in
     given_moved
-    (λ f w. c.put_window.result ≡ ok → IsCover (tiling_of c.args.machine.now) f w c.args.tiles.now c.put_window.new.tiles c.args.addrs.now c.put_window.new.addrs c.put_window.new.count)
+    (λ f w. c.put_window.result ≡ ok → IsCover (tiling_of c.args.machine.now) f w c.args.tiles.now
+    c.put_window.new.tiles c.args.addrs.now c.put_window.new.addrs c.put_window.new.count)
     _ _ _ _ c.in-Some-frame.ensures.seen window c.put_window.ensures.covers
 
 pub returns-clause-within : goal.returns-clause-within
 returns-clause-within c =
     let order = c.order.ensures.order ∙ ap (λ r. r.order) c.checked.ensures.rule in
     let window = c.in-Some.ensures.window ∙ ap (λ o. window_in o c.args.window.now) order in
-    given_moved (λ f w. c.put_window.result ≡ ok → IsWithinLimits (tiling_of c.args.machine.now) f w) _ _ _ _ c.in-Some-frame.ensures.seen window c.put_window.ensures.within
+    given_moved (λ f w. c.put_window.result ≡ ok → IsWithinLimits (tiling_of c.args.machine.now) f w) _ _ _ _
+    c.in-Some-frame.ensures.seen window c.put_window.ensures.within
 
 pub returns-clause-answered : goal.returns-clause-answered
 returns-clause-answered c =
     let order = c.order.ensures.order ∙ ap (λ r. r.order) c.checked.ensures.rule in
     let window = c.in-Some.ensures.window ∙ ap (λ o. window_in o c.args.window.now) order in
-    λ _ _. given_moved (λ f w. IsWithinLimits (tiling_of c.args.machine.now) f w → (c.put_window.result ≡ ok) ⊎ (c.put_window.result ≡ no_memory)) _ _ _ _ c.in-Some-frame.ensures.seen window c.put_window.ensures.answered
+    λ _ _. given_moved (λ f w. IsWithinLimits (tiling_of c.args.machine.now) f w → (c.put_window.result ≡ ok)
+    ⊎ (c.put_window.result ≡ no_memory)) _ _ _ _ c.in-Some-frame.ensures.seen window
+    c.put_window.ensures.answered
 
 pub returns-clause-bad_words : goal.returns-clause-bad_words
 returns-clause-bad_words c = (
@@ -61,4 +65,5 @@ pub returns-clause-ended : goal.returns-clause-ended
 returns-clause-ended c =
     let order = c.order.ensures.order ∙ ap (λ r. r.order) c.checked.ensures.rule in
     let window = c.in-Some.ensures.window ∙ ap (λ o. window_in o c.args.window.now) order in
-    λ not_ok _ _. given_moved (λ f w. EndsCover (tiling_of c.args.machine.now) f w c.put_window.result) _ _ _ _ c.in-Some-frame.ensures.seen window (c.put_window.ensures.ended not_ok)
+    λ not_ok _ _. given_moved (λ f w. EndsCover (tiling_of c.args.machine.now) f w c.put_window.result) _ _ _
+    _ c.in-Some-frame.ensures.seen window (c.put_window.ensures.ended not_ok)

@@ -6,7 +6,8 @@ use Rattle.tiling_c.proofs.covering.put_both.Goals as goal
 
 pub loop-place-preserved : goal.loop-place-preserved
 loop-place-preserved c =
-    let i = c.loop-place.place in let all = c.args.covered.now in let tiles = c.loop-place.tiles in let addrs = c.loop-place.addrs in let tile = c.tile-tile.result in
+    let i = c.loop-place.place in let all = c.args.covered.now in let tiles = c.loop-place.tiles in let addrs
+    = c.loop-place.addrs in let tile = c.tile-tile.result in
     let in_all : i < length all = search rules in
     let in_tiles : i < length tiles = search rules in
     let in_addrs : i < length addrs = search rules in
@@ -15,8 +16,10 @@ loop-place-preserved c =
     record {
       room = room;
       same = same;
-      front = front_more tile_shown all tiles i tile c.placed.result in_all in_tiles c.tile-tile.ensures c.placed.ensures c.loop-place.invariant.front;
+      front = front_more tile_shown all tiles i tile c.placed.result in_all in_tiles c.tile-tile.ensures
+          c.placed.ensures c.loop-place.invariant.front;
       behind = behind_more tiles c.args.tiles.now i c.placed.result c.loop-place.invariant.behind;
-      addresses_front = seen_more address_in address_shown all addrs i tile c.write.new.self in_all in_addrs c.tile-tile.ensures c.write.ensures.seen c.loop-place.invariant.addresses_front;
+      addresses_front = seen_more address_in address_shown all addrs i tile c.write.new.self in_all in_addrs
+          c.tile-tile.ensures c.write.ensures.seen c.loop-place.invariant.addresses_front;
       addresses_behind = behind_more addrs c.args.addrs.now i c.write.new.self c.loop-place.invariant.addresses_behind;
     }

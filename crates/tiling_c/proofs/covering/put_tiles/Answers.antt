@@ -11,6 +11,7 @@ loop-place-preserved c =
     let room : length (slice_set tiles i c.placed.result) ≡ length c.args.tiles.now = search rules in
     record {
       room = room;
-      front = front_more tile_shown all tiles i tile c.placed.result in_all in_tiles c.tile-tile.ensures c.placed.ensures c.loop-place.invariant.front;
+      front = front_more tile_shown all tiles i tile c.placed.result in_all in_tiles c.tile-tile.ensures
+          c.placed.ensures c.loop-place.invariant.front;
       behind = behind_more tiles c.args.tiles.now i c.placed.result c.loop-place.invariant.behind;
     }

@@ -7,14 +7,22 @@ returns-in-Ok-clause-covers c =
     λ _. record {
       frame = c.covered_tiles.new.frame;
       all = c.in-Ok.covered;
-      exactly = record { grown = c.covered_tiles.ensures.frame; least = found.least; stand = found.stand; drawn = found.drawn; in_order = found.in_order; covered = found.covered };
+      exactly = record {
+        grown = c.covered_tiles.ensures.frame;
+        least = found.least;
+        stand = found.stand;
+        drawn = found.drawn;
+        in_order = found.in_order;
+        covered = found.covered;
+      };
       number = c.len.ensures;
       held_tiles = c.put_covered.ensures.tiles;
       held_addresses = c.put_covered.ensures.addresses;
     }
 
 pub returns-in-Err-clause-answered : goal.returns-in-Err-clause-answered
-returns-in-Err-clause-answered c = λ within. answered_or_none c.covered_tiles.result c.in-Err.fault c.status_of.result c.in-Err.is c.status_of.ensures (c.covered_tiles.ensures.answered within)
+returns-in-Err-clause-answered c = λ within. answered_or_none c.covered_tiles.result c.in-Err.fault
+    c.status_of.result c.in-Err.is c.status_of.ensures (c.covered_tiles.ensures.answered within)
 
 pub returns-in-Err-clause-ended : goal.returns-in-Err-clause-ended
 returns-in-Err-clause-ended c = λ _. record {

@@ -10,23 +10,29 @@ use Rattle.tiling_c.proofs.covering.tiling_cover.Goals as goal
 
 pub returns-clause-covers : goal.returns-clause-covers
 returns-clause-covers c =
-    subst (λ r. c.cover.result ≡ ok → IsCover (tiling_of r) (frame_in c.args.frame.now) (window_in r.order c.args.window.now) c.args.tiles.now c.cover.new.tiles c.args.addrs.now c.cover.new.addrs c.cover.new.count)
+    subst (λ r. c.cover.result ≡ ok → IsCover (tiling_of r) (frame_in c.args.frame.now)
+    (window_in r.order c.args.window.now) c.args.tiles.now c.cover.new.tiles c.args.addrs.now
+    c.cover.new.addrs c.cover.new.count)
     c.get.ensures c.cover.ensures.covers
 
 pub returns-clause-within : goal.returns-clause-within
 returns-clause-within c =
-    subst (λ r. c.cover.result ≡ ok → IsWithinLimits (tiling_of r) (frame_in c.args.frame.now) (window_in r.order c.args.window.now)) c.get.ensures c.cover.ensures.within
+    subst (λ r. c.cover.result ≡ ok → IsWithinLimits (tiling_of r) (frame_in c.args.frame.now)
+    (window_in r.order c.args.window.now)) c.get.ensures c.cover.ensures.within
 
 pub returns-clause-answered : goal.returns-clause-answered
 returns-clause-answered c =
     subst
     (λ r. AsksForWindow c.args.window.now c.args.tiles.now c.args.addrs.now → NamesTile (tiling_of r) c.args.frame.now.base
-    → IsWithinLimits (tiling_of r) (frame_in c.args.frame.now) (window_in r.order c.args.window.now) → (c.cover.result ≡ ok) ⊎ (c.cover.result ≡ no_memory))
+    → IsWithinLimits (tiling_of r) (frame_in c.args.frame.now) (window_in r.order c.args.window.now)
+    → (c.cover.result ≡ ok) ⊎ (c.cover.result ≡ no_memory))
     c.get.ensures c.cover.ensures.answered
 
 pub returns-clause-bad_address : goal.returns-clause-bad_address
 returns-clause-bad_address c =
-    subst (λ r. (c.cover.result ≡ bad_address) ↔ (AsksForWindow c.args.window.now c.args.tiles.now c.args.addrs.now × (¬ NamesTile (tiling_of r) c.args.frame.now.base)))
+    subst (λ r. (c.cover.result ≡ bad_address)
+    ↔ (AsksForWindow c.args.window.now c.args.tiles.now c.args.addrs.now
+    × (¬ NamesTile (tiling_of r) c.args.frame.now.base)))
     c.get.ensures c.cover.ensures.bad_address
 
 pub returns-clause-ended : goal.returns-clause-ended

@@ -22,7 +22,8 @@ loop-i-preserved c =
     record {
       room = length-set addrs i addr ∙ c.loop-i.invariant.room;
       crossings_room = length-set crossings i crossing ∙ c.loop-i.invariant.crossings_room;
-      each = items_more no_address (record { status = 0; back = 0; part = 0 }) (λ j a x. ShowsCrossing t (address_at old j) (get_or edges j 0) a x) addrs crossings i addr crossing
+      each = items_more no_address (record { status = 0; back = 0; part = 0 })
+          (λ j a x. ShowsCrossing t (address_at old j) (get_or edges j 0) a x) addrs crossings i addr crossing
           in_addrs in_crossings c.loop-i.invariant.each first;
       rest = rest_more no_address addrs old i addr c.loop-i.invariant.rest;
     }

@@ -8,6 +8,7 @@ abbrev pub invariant-loop-i : goal.invariant-loop-i
 invariant-loop-i l = record {
   room : length l.addrs ≡ length l.fn.addrs;
   crossings_room : length l.crossings ≡ length l.fn.crossings;
-  each : (j : ℕ) → j < l.i → ShowsCrossing (tiling_of l.machine) (address_at l.fn.addrs j) (get_or l.edges j 0) (address_at l.addrs j) (crossing_at l.crossings j);
+  each : (j : ℕ) → j < l.i → ShowsCrossing (tiling_of l.machine) (address_at l.fn.addrs j)
+      (get_or l.edges j 0) (address_at l.addrs j) (crossing_at l.crossings j);
   rest : (j : ℕ) → l.i ≤ j → address_at l.addrs j ≡ address_at l.fn.addrs j;
 }

@@ -19,14 +19,18 @@ pub returns-clause-holds : goal.returns-clause-holds
 returns-clause-holds c =
     let order = c.order.ensures.order ∙ ap (λ r. r.order) c.checked.ensures.rule in
     let point = c.in-Some.ensures.point ∙ ap (λ o. point_given o c.args.point.now.c) order in
-    given_moved (λ f p. c.put_holder.result ≡ ok → ShowsHolder (tiling_of c.args.machine.now) f (point_in c.args.machine.now.order p) c.put_holder.new.tile c.put_holder.new.addr)
+    given_moved (λ f p. c.put_holder.result ≡ ok
+    → ShowsHolder (tiling_of c.args.machine.now) f (point_in c.args.machine.now.order p)
+    c.put_holder.new.tile c.put_holder.new.addr)
     _ _ _ _ c.in-Some-frame.ensures.seen point c.put_holder.ensures.holds
 
 pub returns-clause-found : goal.returns-clause-found
 returns-clause-found c =
     let order = c.order.ensures.order ∙ ap (λ r. r.order) c.checked.ensures.rule in
     let point = c.in-Some.ensures.point ∙ ap (λ o. point_given o c.args.point.now.c) order in
-    λ _ _. given_moved (λ f p. (c.put_holder.result ≡ ok) ↔ (first_refused_outward (tiling_of c.args.machine.now) f (point_in c.args.machine.now.order p) ≡ None))
+    λ _ _. given_moved (λ f p. (c.put_holder.result ≡ ok)
+    ↔ (first_refused_outward (tiling_of c.args.machine.now) f
+    (point_in c.args.machine.now.order p) ≡ None))
     _ _ _ _ c.in-Some-frame.ensures.seen point c.put_holder.ensures.found
 
 pub returns-clause-bad_words : goal.returns-clause-bad_words

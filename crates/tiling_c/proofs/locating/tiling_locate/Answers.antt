@@ -15,9 +15,11 @@ pub returns-clause-by : goal.returns-clause-by
 returns-clause-by c =
     subst
     (λ r. AsksToLocate (tiling_of r) c.args.top.now c.args.depth c.args.point.now
-    → IsLocatedBy (tiling_of r) c.args.top.now.kind c.args.depth (motion_given (tiling_of r) c.args.top.now) (number_given (tiling_of r) c.args.point.now) c.locate.result)
+    → IsLocatedBy (tiling_of r) c.args.top.now.kind c.args.depth (motion_given (tiling_of r) c.args.top.now)
+    (number_given (tiling_of r) c.args.point.now) c.locate.result)
     c.get.ensures c.locate.ensures.by
 
 pub returns-clause-bad_words : goal.returns-clause-bad_words
 returns-clause-bad_words c =
-    subst (λ r. (c.locate.result ≡ bad_words) ↔ (¬ AsksToLocate (tiling_of r) c.args.top.now c.args.depth c.args.point.now)) c.get.ensures c.locate.ensures.bad_words
+    subst (λ r. (c.locate.result ≡ bad_words) ↔ (¬ AsksToLocate (tiling_of r) c.args.top.now c.args.depth
+    c.args.point.now)) c.get.ensures c.locate.ensures.bad_words

@@ -7,5 +7,6 @@ use Rattle.tiling_c.proofs.place_arrays.tiling_place_all.Goals as goal
 pub returns-clause-each : goal.returns-clause-each
 returns-clause-each c =
     subst
-    (λ r. c.put_places.result ≡ ok → (i : ℕ) → i < length c.args.addrs.now → ShowsPlace (tiling_of r) (address_at c.args.addrs.now i) (tile_at c.put_places.new.tiles i))
+    (λ r. c.put_places.result ≡ ok → (i : ℕ) → i < length c.args.addrs.now
+    → ShowsPlace (tiling_of r) (address_at c.args.addrs.now i) (tile_at c.put_places.new.tiles i))
     c.get.ensures c.put_places.ensures.each

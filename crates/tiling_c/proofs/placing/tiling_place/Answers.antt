@@ -7,8 +7,11 @@ use Rattle.tiling_c.proofs.placing.tiling_place.Goals as goal
 
 pub returns-clause-within : goal.returns-clause-within
 returns-clause-within c =
-    subst (λ r. c.put_place.result ≡ ok → first_refused (tiling_of r) (address_in c.args.addr.now).digits ≡ None) c.get.ensures c.put_place.ensures.within
+    subst (λ r. c.put_place.result ≡ ok → first_refused (tiling_of r)
+    (address_in c.args.addr.now).digits ≡ None) c.get.ensures c.put_place.ensures.within
 
 pub returns-clause-coord_limit : goal.returns-clause-coord_limit
 returns-clause-coord_limit c =
-    subst (λ r. c.put_place.result ≡ coord_limit → IsSome (first_refused (tiling_of r) (address_in c.args.addr.now).digits)) c.get.ensures c.put_place.ensures.coord_limit
+    subst (λ r. c.put_place.result ≡ coord_limit
+    → IsSome (first_refused (tiling_of r) (address_in c.args.addr.now).digits)) c.get.ensures
+    c.put_place.ensures.coord_limit

@@ -1,5 +1,5 @@
 use Rattle.std.proofs.Common.{length, ap, ◌∙◌}
-use Rattle.substitution.specs.RuleParts.{vertices_of}
+use Rattle.theory_substitution.specs.RuleParts.{vertices_of}
 use Rattle.rule_model.specs.Tiling.{tiling_of}
 use Rattle.rule_model.specs.Views.{as_rule}
 use Rattle.tile_place.specs.Crossed.{edges_of}

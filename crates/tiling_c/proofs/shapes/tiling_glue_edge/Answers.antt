@@ -8,7 +8,8 @@ use Rattle.tiling_c.proofs.shapes.tiling_glue_edge.Goals as goal
 
 pub returns-clause-only : goal.returns-clause-only
 returns-clause-only c =
-    subst (λ r. c.put_glue_edge.result ≡ ok → IsOnlyGlueEdge (rule_of r) c.args.kind c.put_glue_edge.new.edge) c.get.ensures c.put_glue_edge.ensures.only
+    subst (λ r. c.put_glue_edge.result ≡ ok → IsOnlyGlueEdge (rule_of r) c.args.kind c.put_glue_edge.new.edge)
+    c.get.ensures c.put_glue_edge.ensures.only
 
 pub returns-clause-no_edge : goal.returns-clause-no_edge
 returns-clause-no_edge c =

@@ -1,5 +1,5 @@
 use Rattle.std.proofs.Common.{arith, ◌/◌}
-use Rattle.addressing.proofs.TableBounds.{type_bounds}
+use Rattle.theory_addresses.proofs.TableBounds.{type_bounds}
 use Rattle.transducer_core.proofs.descent.descend.Goals as goal
 
 pub overflow_cast-result : goal.overflow_cast-result

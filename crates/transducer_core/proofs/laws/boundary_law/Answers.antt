@@ -1,4 +1,4 @@
-use Rattle.addressing.proofs.Touching
+use Rattle.theory_addresses.proofs.Touching
 use Rattle.transducer_core.proofs.laws.boundary_law.Goals as goal
 
 pub returns : goal.returns

@@ -1,4 +1,4 @@
-use Rattle.addressing.proofs.Touching.{Touches-sym}
+use Rattle.theory_addresses.proofs.Touching.{Touches-sym}
 use Rattle.transducer_core.proofs.laws.touch_law.Goals as goal
 
 pub returns : goal.returns

@@ -1,4 +1,4 @@
-use Rattle.addressing.proofs.Traces.{IsTrace-unique}
+use Rattle.theory_addresses.proofs.Traces.{IsTrace-unique}
 use Rattle.transducer_core.proofs.laws.trace_law.Goals as goal
 
 pub returns : goal.returns

@@ -9,11 +9,21 @@ loop-row-preserved c =
     let rows : List (List ℕ) = map (λ r. map (λ n. 256 * n) r.children.items) c.args.rows.now.items in
     let line : List ℕ = map (λ n. 256 * n) c.row-item.result.children.items in
     let inside : c.loop-row.row-index < length c.args.rows.now.items = rw (← c.deref-row-items.ensures.value) c.loop-row-test.true in
-    let at = Standing.mapped_at (λ r. map (λ n. 256 * n) r.children.items) c.args.rows.now.items c.loop-row.row-index c.row-item.result inside (rw (← c.deref-row-items.ensures.value) c.row-item.is) in
+    let at = Standing.mapped_at (λ r. map (λ n. 256 * n) r.children.items) c.args.rows.now.items
+    c.loop-row.row-index c.row-item.result inside
+    (rw (← c.deref-row-items.ensures.value) c.row-item.is) in
     let next = Standing.take_at rows c.loop-row.row-index line at in
-    let done : length (take c.loop-row.row-index rows) ≡ c.loop-row.row-index = omega (arith, length-take c.loop-row.row-index rows, length-map c.args.rows.now.items (λ r. map (λ n. 256 * n) r.children.items), inside) in
+    let done : length (take c.loop-row.row-index rows) ≡ c.loop-row.row-index = omega (
+      arith,
+      length-take c.loop-row.row-index rows,
+      length-map c.args.rows.now.items
+          (λ r. map (λ n. 256 * n) r.children.items),
+      inside,
+    ) in
     let pad = c.in_ok-fill_row.ensures in
-    let more = Strides.spread_grown (take c.loop-row.row-index rows) line c.loop-row.flat.items c.push_kinds.new.list.items c.fill_row.new.list.items pad.0 c.in_ok-push_kinds.ensures pad.1 (omega (arith, done, c.loop-row.invariant.size)) c.loop-row.invariant.spread in
+    let more = Strides.spread_grown (take c.loop-row.row-index rows) line c.loop-row.flat.items
+    c.push_kinds.new.list.items c.fill_row.new.list.items pad.0 c.in_ok-push_kinds.ensures pad.1
+    (omega (arith, done, c.loop-row.invariant.size)) c.loop-row.invariant.spread in
     record {
       size = omega (
         arith,

@@ -1,5 +1,5 @@
 use Rattle.std.proofs.Common.{◌^◌, IfSome, length, ◌∙◌, subst, lit≤}
-use Rattle.addressing.specs.Address.{Address}
+use Rattle.theory_addresses.specs.Address.{Address}
 use Rattle.cyclo_points.proofs.Within.{point_wider}
 use Rattle.rule_model.specs.Tiling.{tiling_of, children}
 use Rattle.tile_place.proofs.Plane.{IsSettled}
@@ -27,7 +27,9 @@ arranged-requires-clause-no_deeper c =
     let f = c.args.frame.now in
     let g = c.climb.new.frame in
     let w = c.args.window.now in
-    let checked : IsChecked m = checked_of m _ _ c.checked-checked.ensures.rule c.checked-checked.ensures.accepted c.checked-checked.ensures.usable c.checked-checked.ensures.same_child_kinds c.uses.ensures c.kinds-usable.ensures.limits in
+    let checked : IsChecked m = checked_of m _ _ c.checked-checked.ensures.rule
+    c.checked-checked.ensures.accepted c.checked-checked.ensures.usable
+    c.checked-checked.ensures.same_child_kinds c.uses.ensures c.kinds-usable.ensures.limits in
     let settled : IsSettled m = record { accepted = checked.accepted; usable = checked.usable; same_child_kinds = checked.same_child_kinds } in
     let fits : StillFits (children t) = λ base start n h. c.grown_fits_law.ensures (children t) base start n checked.uses_usable h in
     let grows : GrowsTo t f g = GrowsTo-then t f c.is_contained.new.frame g c.is_contained.ensures.frame c.climb.ensures.frame in
@@ -46,7 +48,9 @@ returns-in_ok-arranged-in-Some-2-clause-answered c =
     let f = c.args.frame.now in
     let g = c.climb.new.frame in
     let w = c.args.window.now in
-    let checked : IsChecked m = checked_of m _ _ c.checked-checked.ensures.rule c.checked-checked.ensures.accepted c.checked-checked.ensures.usable c.checked-checked.ensures.same_child_kinds c.uses.ensures c.kinds-usable.ensures.limits in
+    let checked : IsChecked m = checked_of m _ _ c.checked-checked.ensures.rule
+    c.checked-checked.ensures.accepted c.checked-checked.ensures.usable
+    c.checked-checked.ensures.same_child_kinds c.uses.ensures c.kinds-usable.ensures.limits in
     let settled : IsSettled m = record { accepted = checked.accepted; usable = checked.usable; same_child_kinds = checked.same_child_kinds } in
     let fits : StillFits (children t) = λ base start n h. c.grown_fits_law.ensures (children t) base start n checked.uses_usable h in
     let grows : GrowsTo t f g = GrowsTo-then t f c.is_contained.new.frame g c.is_contained.ensures.frame c.climb.ensures.frame in

@@ -23,7 +23,8 @@ gather-requires-clause-state c =
       runs = c.new-runs.ensures.runs;
       rows = subst (λ x. IfSome x (AreRows m)) c.in-Some.is c.in_ok-rows.ensures.rows;
       blocks = subst (λ (xs : List Found). AreBlocks m xs c.in_ok-blocks.blocks) (sym leaves) c.in_ok-blocks.ensures;
-      window = subst IsWindow (sym (ap (λ (v : CoverValue). v.window) c.new-runs.ensures.leaves ∙ c.nothing_found.ensures.window)) c.requires.window_fits;
+      window = subst IsWindow (sym (ap (λ (v : CoverValue). v.window) c.new-runs.ensures.leaves
+          ∙ c.nothing_found.ensures.window)) c.requires.window_fits;
     }
 
 pub returns-then-done : goal.returns-then-done
@@ -36,6 +37,7 @@ returns-then-done c =
       g.state.runs,
       whole-found t c.args.frame.now c.args.window.now (gathered c.new-runs.result) (gathered r) _ _ c.args.top.now.level
           (record { kind = c.kind_of.result; motion = c.args.top.now.motion })
-          (ap (λ (v : CoverValue). v.window) c.new-runs.ensures.leaves ∙ c.nothing_found.ensures.window) c.new-runs.ensures.none refl (take-short c.args.top.now.level _)
+          (ap (λ (v : CoverValue). v.window) c.new-runs.ensures.leaves ∙ c.nothing_found.ensures.window)
+          c.new-runs.ensures.none refl (take-short c.args.top.now.level _)
           g.descended c.kind_of.ensures.kind c.requires.ancestor.motion_is c.requires.own_level (omega (arith, few, long)),
     )

@@ -26,20 +26,23 @@ returns-in_err-add-clause-met c = IfOk-from_err c.from_residual.result _ c.from_
 
 pub returns-in_err-add-clause-one_more : goal.returns-in_err-add-clause-one_more
 returns-in_err-add-clause-one_more c =
-    let shorter = no_longer c.of-ends.result c.reversed.result c.args.edge c.args.border.now c.close.new.self c.close.result true c.reversed.ensures c.close.ensures.found c.close.ensures.closed in
+    let shorter = no_longer c.of-ends.result c.reversed.result c.args.edge c.args.border.now c.close.new.self
+    c.close.result true c.reversed.ensures c.close.ensures.found c.close.ensures.closed in
     let same : length c.add.new.self ≡ length c.close.new.self = ap length c.in_err-add.ensures.kept in
     omega (arith, shorter, same)
 
 pub returns-in_ok-add-clause-met : goal.returns-in_ok-add-clause-met
 returns-in_ok-add-clause-met c =
-    met-opened _ c.reversed.result c.args.edge c.args.border.now c.close.new.self c.close.result (meets_window c.args.order c.args.window.now c.args.start.now c.args.end.now)
+    met-opened _ c.reversed.result c.args.edge c.args.border.now c.close.new.self c.close.result
+    (meets_window c.args.order c.args.window.now c.args.start.now c.args.end.now)
     (c.reversed.ensures ∙ ap reversed c.of-ends.ensures) c.close.ensures.found c.close.ensures.closed c.add.new.self
     c.if-not-close.true (sym c.meets.ensures ∙ c.if-meets.true)
     (c.in_ok-add.ensures.added ∙ ap (λ (k : Ends). c.close.new.self ++ record { ends = k; edge = c.args.edge } ∷ []) c.of-ends.ensures)
 
 pub returns-in_ok-add-clause-one_more : goal.returns-in_ok-add-clause-one_more
 returns-in_ok-add-clause-one_more c =
-    let shorter = no_longer c.of-ends.result c.reversed.result c.args.edge c.args.border.now c.close.new.self c.close.result true c.reversed.ensures c.close.ensures.found c.close.ensures.closed in
+    let shorter = no_longer c.of-ends.result c.reversed.result c.args.edge c.args.border.now c.close.new.self
+    c.close.result true c.reversed.ensures c.close.ensures.found c.close.ensures.closed in
     let same = ap length c.in_ok-add.ensures.added ∙ length-append c.close.new.self (record { ends = c.of-ends.result; edge = c.args.edge } ∷ []) in
     omega (arith, shorter, same)
 
@@ -50,12 +53,15 @@ returns-else-not-close-clause-met c =
     let n = ends_of c.args.start.now c.args.end.now in
     elim c.else-not-close.branch [
       | else-not-close-via-then-not-close+else-meets w ↦
-          met-passed n c.reversed.result c.args.edge c.args.border.now c.close.new.self c.close.result meets k c.close.ensures.found c.close.ensures.closed (sym w.meets.ensures ∙ w.if-meets.false)
+          met-passed n c.reversed.result c.args.edge c.args.border.now c.close.new.self c.close.result meets k
+          c.close.ensures.found c.close.ensures.closed (sym w.meets.ensures ∙ w.if-meets.false)
       | else-not-close-via-else-not-close w ↦
-          met-closed n c.reversed.result c.args.edge c.args.border.now c.close.new.self c.close.result meets k c.close.ensures.found c.close.ensures.closed w.if-not-close.false
+          met-closed n c.reversed.result c.args.edge c.args.border.now c.close.new.self c.close.result meets k
+          c.close.ensures.found c.close.ensures.closed w.if-not-close.false
     ]
 
 pub returns-else-not-close-clause-one_more : goal.returns-else-not-close-clause-one_more
 returns-else-not-close-clause-one_more c =
-    let shorter = no_longer c.of-ends.result c.reversed.result c.args.edge c.args.border.now c.close.new.self c.close.result true c.reversed.ensures c.close.ensures.found c.close.ensures.closed in
+    let shorter = no_longer c.of-ends.result c.reversed.result c.args.edge c.args.border.now c.close.new.self
+    c.close.result true c.reversed.ensures c.close.ensures.found c.close.ensures.closed in
     omega (arith, shorter)

@@ -11,27 +11,34 @@ use Rattle.window_cover.proofs.tiles_of_window.cover.Goals as goal
 
 pub returns-in_err-tiles-clause-answered : goal.returns-in_err-tiles-clause-answered
 returns-in_err-tiles-clause-answered c = λ h.
-    no_memory-on c.by_search.result c.from_residual.result c.in_err-tiles.field-0.0 c.in_err-tiles.was c.from_residual.ensures.1 (c.by_search.ensures.answered h)
+    no_memory-on c.by_search.result c.from_residual.result c.in_err-tiles.field-0.0 c.in_err-tiles.was
+    c.from_residual.ensures.1 (c.by_search.ensures.answered h)
 
 pub returns-in_err-tiles-clause-cause : goal.returns-in_err-tiles-clause-cause
-returns-in_err-tiles-clause-cause c = if_err-is _ c.from_residual.result c.in_err-tiles.field-0.0 c.from_residual.ensures.1 c.in_err-tiles.ensures.cause
+returns-in_err-tiles-clause-cause c = if_err-is _ c.from_residual.result c.in_err-tiles.field-0.0
+    c.from_residual.ensures.1 c.in_err-tiles.ensures.cause
 
 pub returns-in_err-listed-clause-answered : goal.returns-in_err-listed-clause-answered
 returns-in_err-listed-clause-answered c = λ h. only_memory c.from_residual-in_err-listed.result c.from_residual-in_err-listed.ensures.1
 
 pub returns-in_err-listed-clause-cause : goal.returns-in_err-listed-clause-cause
 returns-in_err-listed-clause-cause c =
-    if_err-is (HasCause (tiling_of c.args.machine.now) c.args.frame.now c.by_search.new.frame c.args.window.now) c.from_residual-in_err-listed.result NoMemory c.from_residual-in_err-listed.ensures.1 tt
+    if_err-is (HasCause (tiling_of c.args.machine.now) c.args.frame.now c.by_search.new.frame
+    c.args.window.now) c.from_residual-in_err-listed.result NoMemory
+    c.from_residual-in_err-listed.ensures.1 tt
 
 pub returns-clause-drawn : goal.returns-clause-drawn
 returns-clause-drawn c =
     let m = c.args.machine.now in
-    subst (λ ts. AreDrawn (tiling_of m) c.by_search.new.frame c.args.window.now (map (placed_in m.order) ts)) (sym c.in_ok-listed.ensures) c.in_ok-tiles.ensures.drawn
+    subst (λ ts. AreDrawn (tiling_of m) c.by_search.new.frame c.args.window.now (map (placed_in m.order) ts))
+    (sym c.in_ok-listed.ensures) c.in_ok-tiles.ensures.drawn
 
 pub returns-clause-stand : goal.returns-clause-stand
-returns-clause-stand c = subst (All (Stands (tiling_of c.args.machine.now) c.by_search.new.frame)) (sym c.in_ok-listed.ensures) c.in_ok-tiles.ensures.stand
+returns-clause-stand c = subst (All (Stands (tiling_of c.args.machine.now) c.by_search.new.frame))
+    (sym c.in_ok-listed.ensures) c.in_ok-tiles.ensures.stand
 
 pub returns-clause-covered : goal.returns-clause-covered
 returns-clause-covered c =
     let m = c.args.machine.now in
-    subst (λ ts. CoverWindow (tiling_of m) c.by_search.new.frame c.args.window.now (map (placed_in m.order) ts)) (sym c.in_ok-listed.ensures) c.in_ok-tiles.ensures.covered
+    subst (λ ts. CoverWindow (tiling_of m) c.by_search.new.frame c.args.window.now
+    (map (placed_in m.order) ts)) (sym c.in_ok-listed.ensures) c.in_ok-tiles.ensures.covered

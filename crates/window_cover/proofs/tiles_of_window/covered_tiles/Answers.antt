@@ -30,7 +30,8 @@ returns-in-Some-clause-stand c =
 pub returns-in-Some-clause-in_order : goal.returns-in-Some-clause-in_order
 returns-in-Some-clause-in_order c =
     (subst (λ x. IfSome x (IsAnswered
-    (tiling_of c.args.machine.now) c.in_ok-grown.grown c.by_descent.new.frame c.args.window.now)) c.in-Some.is c.in_ok-tiles.ensures.answered).in_order
+    (tiling_of c.args.machine.now) c.in_ok-grown.grown c.by_descent.new.frame c.args.window.now)) c.in-Some.is
+    c.in_ok-tiles.ensures.answered).in_order
 
 pub returns-in-Some-clause-covered : goal.returns-in-Some-clause-covered
 returns-in-Some-clause-covered c =
@@ -59,6 +60,7 @@ returns-in_err-tiles-clause-not_beyond c = λ n enough. enough.not_below
 pub returns-in-Some-clause-not_beyond : goal.returns-in-Some-clause-not_beyond
 returns-in-Some-clause-not_beyond c =
     let t = tiling_of c.args.machine.now in
-    let own = (subst (λ x. IfSome x (IsAnswered t c.in_ok-grown.grown c.by_descent.new.frame c.args.window.now)) c.in-Some.is c.in_ok-tiles.ensures.answered).least in
+    let own = (subst (λ x. IfSome x (IsAnswered t c.in_ok-grown.grown c.by_descent.new.frame
+    c.args.window.now)) c.in-Some.is c.in_ok-tiles.ensures.answered).least in
     subst (λ (f : FrameValue). (n : ℕ) → IsLeastEnough t f c.args.window.now n → length c.by_descent.new.frame.digits ≤ n) c.in_ok-grown.ensures
     (λ n enough. own.least n enough.not_below enough.within enough.holds)

@@ -1,7 +1,7 @@
 use Rattle.std.proofs.Common.{◌≡◌, List, ap, ◌∙◌}
-use Rattle.frames.specs.Frame.{at_level}
-use Rattle.addressing.specs.Address.{top_kind}
-use Rattle.substitution.specs.Motion.{Motion}
+use Rattle.theory_frames.specs.Frame.{at_level}
+use Rattle.theory_addresses.specs.Address.{top_kind}
+use Rattle.theory_substitution.specs.Motion.{Motion}
 use Rattle.cyclo_points.specs.declared.point.Point.{Point}
 use Rattle.cyclo_points.specs.Order.{NumberOf, points_of}
 use Rattle.cyclo_points.specs.Motion.{motion_in}
@@ -10,8 +10,8 @@ use Rattle.rule_model.specs.declared.rule.Rule.{Rule}
 use Rattle.rule_model.specs.Tiling.{tiling_of}
 use Rattle.rule_model.specs.Views.{rule_of}
 use Rattle.lazy_walk.specs.Ancestors.{full}
-use Rattle.descents.specs.Climb.{holds_window}
-use Rattle.descents.specs.Parts.{part_polygon}
+use Rattle.theory_descents.specs.Climb.{holds_window}
+use Rattle.theory_descents.specs.Parts.{part_polygon}
 use Rattle.window_descent.specs.Standing.{window_box}
 use Rattle.window_descent.proofs.Placings.{spots-part}
 use Rattle.window_descent.proofs.climb.ancestor_holds.Goals as goal

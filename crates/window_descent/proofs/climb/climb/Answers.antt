@@ -1,6 +1,6 @@
 use Rattle.std.proofs.Common.{◌≡◌, inl, inr, ℕ, ◌<◌, ◌≤◌, true, false, sym, subst, arith}
 use Rattle.std.proofs.lemmas.Bool.{cases_lt}
-use Rattle.addressing.specs.Address.{Address, depth}
+use Rattle.theory_addresses.specs.Address.{Address, depth}
 use Rattle.rule_model.specs.Tiling.{tiling_of}
 use Rattle.lazy_walk.specs.Ancestors.{full, IsAncestor}
 use Rattle.lazy_walk.proofs.Ancestors.{full-later}

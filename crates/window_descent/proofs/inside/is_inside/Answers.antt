@@ -1,5 +1,5 @@
 use Rattle.std.proofs.Common.{◌^◌, ◌+◌, ◌*◌, arith, ◌∙◌, ap₂}
-use Rattle.ordered_ring.specs.Ring.{difference}
+use Rattle.theory_ring.specs.Ring.{difference}
 use Rattle.cyclo_points.specs.Order.{points_of}
 use Rattle.cyclo_points.specs.Real.{real_in}
 use Rattle.cyclo_points.proofs.Within.{point_wider, real_wider}

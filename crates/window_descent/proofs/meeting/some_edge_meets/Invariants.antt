@@ -1,9 +1,9 @@
 use Rattle.std.proofs.Common.{◌≡◌, ◌^◌, drop}
 use Rattle.std.specs.List.{list_any}
-use Rattle.ordered_plane.specs.BoxTest.{box_test}
+use Rattle.theory_plane.specs.BoxTest.{box_test}
 use Rattle.cyclo_points.specs.Point.{IsWithin}
 use Rattle.plane_geom.specs.Spots.{reals_of, spot_of, spots_of}
-use Rattle.windows.specs.Outlines.{edges_from, edges}
+use Rattle.theory_windows.specs.Outlines.{edges_from, edges}
 use Rattle.window_descent.specs.Standing.{window_box}
 use Rattle.window_descent.proofs.meeting.some_edge_meets.Given as goal
 

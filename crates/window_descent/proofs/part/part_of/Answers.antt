@@ -2,7 +2,7 @@ use Rattle.std.proofs.Common.{◌≡◌, ◌<◌, ◌*◌, ◌^◌, length, sym,
 use Rattle.cyclo_points.specs.Order.{NumberOf, points_of}
 use Rattle.cyclo_points.specs.Point.{IsOf}
 use Rattle.cyclo_points.proofs.Within.{point_wider}
-use Rattle.frames.specs.Part as theory
+use Rattle.theory_frames.specs.Part as theory
 use Rattle.rule_model.specs.declared.rule.Rule.{Rule}
 use Rattle.rule_model.specs.Views.{rule_of}
 use Rattle.tile_place.proofs.Parts.{part_is}
@@ -26,7 +26,9 @@ returns c =
     let m = c.args.machine.now in
     let o = c.order-order.result in
     let same : o ≡ m.order = c.order-order.ensures.order ∙ ap (λ (r : Rule). r.order) c.checked-checked.ensures.rule in
-    let part = part_is o c.checked-checked.result.now m c.order-order.ensures.order c.checked-checked.ensures.rule c.child-child.result c.args.scale.now c.args.at.now c.mul.result c.compose-motion.result c.args.kind c.args.number
+    let part = part_is o c.checked-checked.result.now m c.order-order.ensures.order
+    c.checked-checked.ensures.rule c.child-child.result c.args.scale.now c.args.at.now c.mul.result
+    c.compose-motion.result c.args.kind c.args.number
     c.child-child.ensures.number c.mul.ensures.product c.compose-motion.ensures.followed_by in
     record {
       part = record {

@@ -32,11 +32,17 @@ returns-clause-placed c =
     let p = c.args.part.now in
     let o = c.order-order.result in
     let same : o ≡ m.order = c.order-order.ensures.order ∙ ap (λ (r : Rule). r.order) c.checked.ensures.rule in
-    let settled : IsSettled m = record { accepted = c.checked.ensures.accepted; usable = c.checked.ensures.usable; same_child_kinds = c.checked.ensures.same_child_kinds } in
+    let settled : IsSettled m = record {
+      accepted = c.checked.ensures.accepted;
+      usable = c.checked.ensures.usable;
+      same_child_kinds = c.checked.ensures.same_child_kinds;
+    } in
     let bounds = c.in_ok-bounds.bounds in
     let limits = c.in_ok-limits.limits in
-    let scale_is = power-read m.order (rule_of m).factor (levels_of rows) rows.powers.items level (record { c = [] }) c.requires.rows.powers c.requires.level_exists in
+    let scale_is = power-read m.order (rule_of m).factor (levels_of rows) rows.powers.items level
+    (record { c = [] }) c.requires.rows.powers c.requires.level_exists in
     decided c.unless_open.result c.beside.result level (IsPlacedBy (tiling_of m) w level p) c.unless_open.ensures.same c.unless_open.ensures.across
-    (λ s is known. placed-between m settled w level p c.requires.part c.requires.some_width c.requires.some_height (scale_of rows level) scale_is bounds limits
+    (λ s is known. placed-between m settled w level p c.requires.part c.requires.some_width
+    c.requires.some_height (scale_of rows level) scale_is bounds limits
     c.in_ok-bounds.ensures.bounds (subst (λ q. AreLimits q w p.motion.shift limits) same c.in_ok-limits.ensures) s
     (subst (IsBetween bounds limits) (sym is) c.beside.ensures) known)

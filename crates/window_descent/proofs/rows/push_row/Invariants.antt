@@ -1,6 +1,6 @@
 use Rattle.std.proofs.Common.{◌≡◌, ◌+◌, ◌<◌, ℕ, length, get_or}
 use Rattle.rule_model.specs.Views.{rule_of}
-use Rattle.substitution.specs.Rule.{children_of}
+use Rattle.theory_substitution.specs.Rule.{children_of}
 use Rattle.window_descent.specs.Parts.{IsPartAt}
 use Rattle.window_descent.specs.Rows.{IsLonger, only_turned, no_part}
 use Rattle.window_descent.proofs.rows.push_row.Given as goal

@@ -1,5 +1,5 @@
 use Rattle.std.proofs.Common.{◌^◌, ◌+◌, ◌*◌, arith, ◌∙◌, ap₂}
-use Rattle.ordered_ring.specs.Ring.{difference}
+use Rattle.theory_ring.specs.Ring.{difference}
 use Rattle.cyclo_points.proofs.Within.{point_wider, real_wider}
 use Rattle.plane_geom.specs.Spots.{reals_of}
 use Rattle.window_descent.proofs.sides.wide_of.Goals as goal

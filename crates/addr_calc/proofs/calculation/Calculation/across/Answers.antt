@@ -1,7 +1,7 @@
 use Rattle.std.proofs.Common.{◌<◌, ◌≤◌, Some, refl, sym, ap, ◌∙◌, subst}
-use Rattle.addressing.specs.Address.{Fits}
-use Rattle.addressing.specs.Tables.{child_kinds}
-use Rattle.addressing.proofs.EdgesOf.{kind_in_tables}
+use Rattle.theory_addresses.specs.Address.{Fits}
+use Rattle.theory_addresses.specs.Tables.{child_kinds}
+use Rattle.theory_addresses.proofs.EdgesOf.{kind_in_tables}
 use Rattle.rule_model.specs.Tiling.{tiling_of, children, contacts}
 use Rattle.tile_place.specs.Crossed.{edges_of}
 use Rattle.tile_place.proofs.KindEdges.{edges_counted}
@@ -23,7 +23,9 @@ edges-requires g c = record {
 pub returns-then-edge-edges-clause-refused : goal.returns-then-edge-edges-clause-refused
 returns-then-edge-edges-clause-refused g c =
     let edge = c.args.edge in
-    let count = edges_counted c.tables.result.now c.checked.result.now c.args.machine.now c.in-Some.address.now.kind c.edges.result c.tables.ensures.contacts c.checked.ensures.rule c.edges.ensures.count in (
+    let count = edges_counted c.tables.result.now c.checked.result.now c.args.machine.now
+    c.in-Some.address.now.kind c.edges.result c.tables.ensures.contacts c.checked.ensures.rule
+    c.edges.ensures.count in (
       refl,
       record { address = address_of c.in-Some.address.now; bound = sym c.in-Some.ensures; beyond = subst (λ n. n ≤ edge) count c.if-edge-edges.true },
     )
@@ -33,9 +35,11 @@ cross_in_place-requires g c =
     let t = tiling_of c.args.machine.now in
     let kind = c.in-Some.address.now.kind in
     let edge = c.args.edge in
-    let count = edges_counted c.tables.result.now c.checked.result.now c.args.machine.now kind c.edges.result c.tables.ensures.contacts c.checked.ensures.rule c.edges.ensures.count in
+    let count = edges_counted c.tables.result.now c.checked.result.now c.args.machine.now kind c.edges.result
+    c.tables.ensures.contacts c.checked.ensures.rule c.edges.ensures.count in
     record {
-      fits = subst (Fits (children t)) (sym c.put_digits.ensures.seen) (c.requires.all_fit c.args.name.number (address_of c.in-Some.address.now) (sym c.in-Some.ensures));
+      fits = subst (Fits (children t)) (sym c.put_digits.ensures.seen)
+          (c.requires.all_fit c.args.name.number (address_of c.in-Some.address.now) (sym c.in-Some.ensures));
       edge_exists = subst (λ k. edge < edges_of t k) (sym c.put_digits.ensures.kind) (subst (λ n. edge < n) count c.if-edge-edges.false);
     }
 
@@ -44,7 +48,8 @@ returns-in-Err-clause-refused g c =
     let t = tiling_of c.args.machine.now in
     let kind = c.in-Some.address.now.kind in
     let edge = c.args.edge in
-    let count = edges_counted c.tables.result.now c.checked.result.now c.args.machine.now kind c.edges.result c.tables.ensures.contacts c.checked.ensures.rule c.edges.ensures.count in (
+    let count = edges_counted c.tables.result.now c.checked.result.now c.args.machine.now kind c.edges.result
+    c.tables.ensures.contacts c.checked.ensures.rule c.edges.ensures.count in (
       refl,
       record {
         address = address_of c.put_digits.new.there;
@@ -65,7 +70,8 @@ returns-in_ok-print_across-in-Ok-clause-done g c =
     let back = c.in-Ok.back in
     let edge = c.args.edge in
     let other = c.args.other.number in
-    let count = edges_counted c.tables.result.now c.checked.result.now c.args.machine.now kind c.edges.result c.tables.ensures.contacts c.checked.ensures.rule c.edges.ensures.count in
+    let count = edges_counted c.tables.result.now c.checked.result.now c.args.machine.now kind c.edges.result
+    c.tables.ensures.contacts c.checked.ensures.rule c.edges.ensures.count in
     let after = c.bind.ensures ∙ ap (λ names. bind names other x) c.in_ok-print_across-in-Ok.ensures.names in
     record {
       printed = across_line other x back;

@@ -16,5 +16,6 @@ returns-in-Ok-clause-done c =
       does = record { address = a; accepted = accepted; its_text = c.in-Ok.ensures.read.1; binds = c.bind.ensures; silent = refl };
       text = sym (append-nil c.args.self.now.text.items);
       number = refl;
-      all_fit = λ fit. subst (Rattle.addr_calc.specs.Calculation.AllFit t) (sym c.bind.ensures) (bind_fits t c.args.self.now.names c.args.name.number a accepted.fits fit);
+      all_fit = λ fit. subst (Rattle.addr_calc.specs.Calculation.AllFit t) (sym c.bind.ensures)
+          (bind_fits t c.args.self.now.names c.args.name.number a accepted.fits fit);
     }

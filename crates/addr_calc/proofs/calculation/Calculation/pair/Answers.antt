@@ -34,7 +34,9 @@ returns-clause-done c =
       text = c.in_ok-print.ensures.printed
           ∙ ap (λ line. c.args.self.now.text.items ++ letter one ∷ blank ∷ line)
           (c.put-2.ensures ∙ ap (λ l. l ∷ c.put_relation.new.line) c.letter.ensures
-          ∙ ap (λ line. letter other ∷ line) (c.put_relation.ensures.relation ∙ ap (λ line. relation_text relation ++ line) (c.put.ensures ∙ ap (λ line. newline ∷ line) c.clear.ensures)));
+          ∙ ap (λ line. letter other ∷ line) (c.put_relation.ensures.relation
+          ∙ ap (λ line. relation_text relation ++ line)
+          (c.put.ensures ∙ ap (λ line. newline ∷ line) c.clear.ensures)));
       number = c.in_ok-print.ensures.number;
       all_fit = λ fit. subst (AllFit (tiling_of c.args.machine.now)) (sym c.in_ok-print.ensures.names) fit;
     }

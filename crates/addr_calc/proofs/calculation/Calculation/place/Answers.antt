@@ -33,8 +33,12 @@ returns-in_ok-print-in-Ok-clause-done c =
       text = c.in_ok-print-in-Ok.ensures.printed
           ∙ ap (λ line. c.args.self.now.text.items ++ letter n ∷ blank ∷ line)
           (c.put_small.ensures.number
-          ∙ ap (λ line. decimal a.kind ++ line) (c.put-in-Ok.ensures ∙ ap (λ line. blank ∷ line) (c.put_motion.ensures.motion ∙ ap (λ line. motion_text m ++ line) (c.put.ensures ∙ ap (λ line. newline ∷ line) c.clear.ensures)))
-          ∙ pieces_of_line (decimal a.kind) (decimal m.turn) (point_text m.shift) (number_text o (point_in o m.shift)) (point_text-number o m.shift c.in-Ok.ensures.in_order));
+          ∙ ap (λ line. decimal a.kind ++ line) (c.put-in-Ok.ensures
+          ∙ ap (λ line. blank ∷ line) (c.put_motion.ensures.motion
+          ∙ ap (λ line. motion_text m ++ line) (c.put.ensures
+          ∙ ap (λ line. newline ∷ line) c.clear.ensures)))
+          ∙ pieces_of_line (decimal a.kind) (decimal m.turn) (point_text m.shift)
+          (number_text o (point_in o m.shift)) (point_text-number o m.shift c.in-Ok.ensures.in_order));
       number = c.in_ok-print-in-Ok.ensures.number;
       all_fit = λ fit. subst (AllFit t) (sym c.in_ok-print-in-Ok.ensures.names) fit;
     }

@@ -1,5 +1,5 @@
 use Rattle.std.proofs.Common.{◌<◌, ℕ, length, sym, ap, subst}
-use Rattle.substitution.specs.Rule.{Child as TheChild, Kind, children_of}
+use Rattle.theory_substitution.specs.Rule.{Child as TheChild, Kind, children_of}
 use Rattle.cyclo_points.specs.declared.point.Point.{Point}
 use Rattle.cyclo_points.specs.Order.{points_of}
 use Rattle.rule_model.specs.Usable.{IsSmall}

@@ -1,5 +1,5 @@
 use Rattle.std.proofs.Common.{ℕ, map, sym, ap, ◌∙◌, subst}
-use Rattle.substitution.specs.Rule.{kind_of}
+use Rattle.theory_substitution.specs.Rule.{kind_of}
 use Rattle.rule_model.specs.Tiling.{ListedRule}
 use Rattle.rule_model.proofs.Views.{get_or-map}
 use Rattle.builtin_rules.specs.Numbers.{fixed_kind}

@@ -36,7 +36,8 @@ of_spec 𝓤 𝓛 𝓜 𝓡 wired =
     proved 𝓛 f.ended stayed c 𝓜 𝓡 (Goes-dropped 𝓛 0 (RefOf [] tt (plain (λ _. R)) (λ _. tt)) yes (λ κs x w. refl), tt)
     f.Key.name code.function (code.unfolded 𝓤 𝓛.H 𝓜 𝓡 wired)
     (λ κs. (shr_vals, tt)) (λ κs. (shr_Tells static [] R, tt)) (λ κs qs bounds a _ are.
-    let m = a.0 in let b = m.ref_ptr.0 in let o = m.ref_ptr.1 in let vs = shr_vals m in let some_now : Option R.Denot = Some m.now in let v : Val = vstruct (vcons (vptr b o) vnil) in
+    let m = a.0 in let b = m.ref_ptr.0 in let o = m.ref_ptr.1 in let vs = shr_vals m in let some_now : Option
+    R.Denot = Some m.now in let v : Val = vstruct (vcons (vptr b o) vnil) in
     let y : W.Ghost = ((κs, qs, bounds, a, (vs, tt)), tt) in
     qed 𝓛 ((‵ ftrue ⊛ ‵ ((ShrRef static [] R).own_val m vs) ⊛ ‵ ftrue) ∷ ‵ ftrue ∷ []) ∵
     split ! $ move ! (1 ∷ []) $ split ! $ keep ! (0 ∷ []) $ fsplit ! $ feq_l ! (λ e.

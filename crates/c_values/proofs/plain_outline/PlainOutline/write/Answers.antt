@@ -7,5 +7,6 @@ loop-i-preserved c =
     let in_corners : c.loop-i.i < length c.loop-i.self.corners = search rules in
     record {
       count = c.loop-i.invariant.count;
-      points = points_more c.loop-i.self.corners c.args.points.now c.loop-i.i (record { c = [] }) in_corners c.loop-i-test.true c.loop-i.invariant.points;
+      points = points_more c.loop-i.self.corners c.args.points.now c.loop-i.i (record { c = [] }) in_corners
+          c.loop-i-test.true c.loop-i.invariant.points;
     }

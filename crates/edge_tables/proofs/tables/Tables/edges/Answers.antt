@@ -1,10 +1,14 @@
 use Rattle.std.proofs.Common.{length, ap, arith}
-use Rattle.addressing.specs.Tables.{KindTables}
+use Rattle.theory_addresses.specs.Tables.{KindTables}
 use Rattle.edge_tables.proofs.Looks
 use Rattle.edge_tables.proofs.tables.Tables.edges.Goals as goal
 
 pub overflow_cast-result : goal.overflow_cast-result
-overflow_cast-result c = omega (arith, c.row.ensures.coherent.at_most_12_edges c.args.kind c.requires.exists, ap (λ (m : KindTables). length m.types) c.row.ensures.lists)
+overflow_cast-result c = omega (
+  arith,
+  c.row.ensures.coherent.at_most_12_edges c.args.kind c.requires.exists,
+  ap (λ (m : KindTables). length m.types) c.row.ensures.lists,
+)
 
 pub returns-clause-exist : goal.returns-clause-exist
 returns-clause-exist c = λ n. (

@@ -1,6 +1,6 @@
 use Rattle.std.proofs.Common.{length, ap, arith}
 use Rattle.std.proofs.lemmas.List.{length-map}
-use Rattle.addressing.specs.Tables.{Tables}
+use Rattle.theory_addresses.specs.Tables.{Tables}
 use Rattle.edge_tables.specs.Views.{as_kind_tables}
 use Rattle.edge_tables.proofs.Looks.{kind_tables-read}
 use Rattle.edge_tables.proofs.tables.Tables.row.Goals as goal

@@ -1,7 +1,7 @@
 use Rattle.std.proofs.Common.{◌≡◌, ℕ, ◌-◌, ◌<◌, ◌≤◌, max, false, length, find}
 use Rattle.cyclo_points.specs.Order.{points_of, is_refused}
 use Rattle.cyclo_points.specs.Point.{point_in}
-use Rattle.frames.specs.Contain.{ancestor_holds}
+use Rattle.theory_frames.specs.Contain.{ancestor_holds}
 use Rattle.rule_model.specs.Tiling.{tiling_of}
 use Rattle.rule_model.specs.Views.{rule_of}
 use Rattle.lazy_walk.specs.Ancestors.{full, factor_power, IsAncestor}
@@ -16,9 +16,12 @@ invariant-loop-self l = record {
   grown : GrowsTo (tiling_of l.machine) l.fn.self l.self;
   ancestor : IsAncestor (tiling_of l.machine) (full (tiling_of l.machine) l.fn.self) l.ancestor;
   least : length l.self.digits ≡ max (length l.fn.self.digits) l.ancestor.level;
-  first : (j : ℕ) → j < l.ancestor.level → ancestor_holds (points_of l.machine.order) (rule_of l.machine) (full (tiling_of l.machine) l.fn.self) j (point_in l.machine.order l.point) ≡ false;
+  first : (j : ℕ) → j < l.ancestor.level → ancestor_holds (points_of l.machine.order) (rule_of l.machine)
+      (full (tiling_of l.machine) l.fn.self) j (point_in l.machine.order l.point) ≡ false;
   powers : (j : ℕ) → j ≤ l.ancestor.level → is_refused l.machine.order (factor_power (tiling_of l.machine) j) ≡ false;
-  values : find (is_refused l.machine.order) (ahead (points_of l.machine.order) (rule_of l.machine) (full (tiling_of l.machine) l.fn.self) (point_in l.machine.order l.point) l.ancestor.level (64 - l.ancestor.level))
+  values : find (is_refused l.machine.order) (ahead (points_of l.machine.order) (rule_of l.machine)
+      (full (tiling_of l.machine) l.fn.self) (point_in l.machine.order l.point) l.ancestor.level
+      (64 - l.ancestor.level))
       ≡ first_refused_outward (tiling_of l.machine) l.fn.self (point_in l.machine.order l.point);
 }
 

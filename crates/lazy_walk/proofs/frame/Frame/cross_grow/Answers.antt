@@ -1,14 +1,18 @@
 use Rattle.std.proofs.Common.{subst}
-use Rattle.addressing.specs.Address.{Address}
+use Rattle.theory_addresses.specs.Address.{Address}
 use Rattle.rule_model.specs.Tiling.{tiling_of}
 use Rattle.lazy_walk.specs.Boundary.{IsBoundaryEdge}
 use Rattle.lazy_walk.specs.Frames.{lifted_at}
 use Rattle.lazy_walk.proofs.frame.Frame.cross_grow.Goals as goal
 
 pub returns-in-Ok-clause-least : goal.returns-in-Ok-clause-least
-returns-in-Ok-clause-least g c = λ n l h. subst (λ (a : Address). IsBoundaryEdge (tiling_of c.args.machine.now) (lifted_at (tiling_of c.args.machine.now) c.args.self.now a n) c.args.edge)
+returns-in-Ok-clause-least g c = λ n l h. subst
+    (λ (a : Address). IsBoundaryEdge (tiling_of c.args.machine.now)
+    (lifted_at (tiling_of c.args.machine.now) c.args.self.now a n) c.args.edge)
     c.copy-across.ensures.seen (c.cross_grow_in_place.ensures.least n l h)
 
 pub returns-in-Err-clause-least : goal.returns-in-Err-clause-least
-returns-in-Err-clause-least g c = λ n l h. subst (λ (a : Address). IsBoundaryEdge (tiling_of c.args.machine.now) (lifted_at (tiling_of c.args.machine.now) c.args.self.now a n) c.args.edge)
+returns-in-Err-clause-least g c = λ n l h. subst
+    (λ (a : Address). IsBoundaryEdge (tiling_of c.args.machine.now)
+    (lifted_at (tiling_of c.args.machine.now) c.args.self.now a n) c.args.edge)
     c.copy-across.ensures.seen (c.cross_grow_in_place.ensures.least n l h)

@@ -1,5 +1,5 @@
 use Rattle.std.proofs.Common.{refl, sym, ap, ◌∙◌, subst}
-use Rattle.frames.specs.Frame.{lifted_in}
+use Rattle.theory_frames.specs.Frame.{lifted_in}
 use Rattle.rule_model.specs.declared.rule.Rule.{Rule}
 use Rattle.rule_model.specs.Tiling.{tiling_of, children}
 use Rattle.tile_place.specs.Glued.{Meets, Glues}
@@ -25,9 +25,11 @@ motion_across-tile-requires-clause-meets g c =
     let fits : StillFits (children (tiling_of m)) = λ base start n h. c.grown_fits_law.ensures (children (tiling_of m)) base start n
     (subst AreUsable (c.uses.ensures ∙ ap (λ (r : Rule). children (tiling_of r)) c.checked-checked.ensures.rule) c.kinds-usable.ensures.limits) h in
     let a = lifted_in (whole c.cross_grow_in_place.new.self) (address_of c.args.tile.now.addr) in
-    let own = (lifted-is_whole m fits c.args.self.now (address_of c.args.tile.now.addr) c.requires.frame c.requires.of_frame c.cross_grow_in_place.new.self c.in_ok-back.ensures.frame).fits in
+    let own = (lifted-is_whole m fits c.args.self.now (address_of c.args.tile.now.addr) c.requires.frame
+    c.requires.of_frame c.cross_grow_in_place.new.self c.in_ok-back.ensures.frame).fits in
     subst (λ k. Meets (tiling_of m) k c.args.edge c.cross_grow_in_place.new.tile.kind c.in_ok-back.back) (sym c.requires.its_kind)
-    (c.gluing_law.ensures a (address_of c.cross_grow_in_place.new.tile) c.args.edge c.in_ok-back.back own c.requires.edge_exists c.in_ok-back.ensures.only_tile_across).0
+    (c.gluing_law.ensures a (address_of c.cross_grow_in_place.new.tile) c.args.edge c.in_ok-back.back own
+    c.requires.edge_exists c.in_ok-back.ensures.only_tile_across).0
 
 pub motion_across-tile-requires-clause-turn_below : goal.motion_across-tile-requires-clause-turn_below
 motion_across-tile-requires-clause-turn_below g c = c.requires.turn_below

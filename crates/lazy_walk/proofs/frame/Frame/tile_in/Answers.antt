@@ -1,13 +1,13 @@
 use Rattle.std.proofs.Common.{◌≡◌, ◌^◌, Some, find, refl, sym, ap, ap₂, ◌∙◌, subst, lit≤}
-use Rattle.addressing.specs.Address.{Address, depth}
+use Rattle.theory_addresses.specs.Address.{Address, depth}
 use Rattle.cyclo_points.specs.Order.{PointsLaw, points_of, is_refused}
 use Rattle.cyclo_points.specs.Point.{point_in}
 use Rattle.cyclo_points.specs.Motion.{motion_in}
 use Rattle.cyclo_points.proofs.Within.{point_wider}
-use Rattle.dissection.specs.Laws.{DissectionLaw}
-use Rattle.frames.specs.Frame.{StandsInFrame, IsTileOf}
-use Rattle.frames.specs.Laws.{FoundTileLaw}
-use Rattle.frames.specs.Looked.{values_looked_at}
+use Rattle.theory_dissection.specs.Laws.{DissectionLaw}
+use Rattle.theory_frames.specs.Frame.{StandsInFrame, IsTileOf}
+use Rattle.theory_frames.specs.Laws.{FoundTileLaw}
+use Rattle.theory_frames.specs.Looked.{values_looked_at}
 use Rattle.rule_model.specs.declared.rule.Rule.{Rule}
 use Rattle.rule_model.specs.Tiling.{tiling_of, children}
 use Rattle.rule_model.specs.Views.{rule_of}
@@ -31,14 +31,21 @@ returns-in-Ok-clause-only_tile c =
     let level = c.args.ancestor.now.level in
     let p = point_in m.order c.args.point.now in
     let same : c.order-order.result ≡ m.order = c.order-order.ensures.order ∙ ap (λ (r : Rule). r.order) c.checked.ensures.rule in
-    let settled : IsSettled m = record { accepted = c.checked.ensures.accepted; usable = c.checked.ensures.usable; same_child_kinds = c.checked.ensures.same_child_kinds } in
+    let settled : IsSettled m = record {
+      accepted = c.checked.ensures.accepted;
+      usable = c.checked.ensures.usable;
+      same_child_kinds = c.checked.ensures.same_child_kinds;
+    } in
     let points : PointsLaw m.order = subst PointsLaw same c.points_law.ensures in
     let dissected : DissectionLaw (points_of m.order) = subst (λ o. DissectionLaw (points_of o)) same c.dissection_law.ensures in
     let found_tile : FoundTileLaw (points_of m.order) = subst (λ o. FoundTileLaw (points_of o)) same c.found_tile_law.ensures in
     let tile = placed_in m.order c.in-Ok.tile in
-    let found = found_at (tiling_of m) f c.requires.frame level p c.kind_of-kind.result (motion_in m.order c.args.ancestor.now.motion) (Some tile) c.requires.deep c.kind_of-kind.ensures.kind c.requires.ancestor.motion_is c.in-Ok.ensures.by_descent in
+    let found = found_at (tiling_of m) f c.requires.frame level p c.kind_of-kind.result
+    (motion_in m.order c.args.ancestor.now.motion) (Some tile) c.requires.deep c.kind_of-kind.ensures.kind
+    c.requires.ancestor.motion_is c.in-Ok.ensures.by_descent in
     subst (λ a. IsOnlyHolder (tiling_of m) f p (record { address = a; motion = motion_in m.order c.in-Ok.tile.motion })) (sym c.raise.ensures)
-    (only_holder m settled points dissected f c.kind_of-kind.ensures.frame_fits level c.requires.deep p tile found found_tile c.in-Ok.ensures.only_tile.here.holds)
+    (only_holder m settled points dissected f c.kind_of-kind.ensures.frame_fits level c.requires.deep p tile
+    found found_tile c.in-Ok.ensures.only_tile.here.holds)
 
 pub returns-in-Ok-clause-held : goal.returns-in-Ok-clause-held
 returns-in-Ok-clause-held c =
@@ -47,13 +54,20 @@ returns-in-Ok-clause-held c =
     let level = c.args.ancestor.now.level in
     let p = point_in m.order c.args.point.now in
     let same : c.order-order.result ≡ m.order = c.order-order.ensures.order ∙ ap (λ (r : Rule). r.order) c.checked.ensures.rule in
-    let settled : IsSettled m = record { accepted = c.checked.ensures.accepted; usable = c.checked.ensures.usable; same_child_kinds = c.checked.ensures.same_child_kinds } in
+    let settled : IsSettled m = record {
+      accepted = c.checked.ensures.accepted;
+      usable = c.checked.ensures.usable;
+      same_child_kinds = c.checked.ensures.same_child_kinds;
+    } in
     let points : PointsLaw m.order = subst PointsLaw same c.points_law.ensures in
     let dissected : DissectionLaw (points_of m.order) = subst (λ o. DissectionLaw (points_of o)) same c.dissection_law.ensures in
     let found_tile : FoundTileLaw (points_of m.order) = subst (λ o. FoundTileLaw (points_of o)) same c.found_tile_law.ensures in
     let tile = placed_in m.order c.in-Ok.tile in
-    let found = found_at (tiling_of m) f c.requires.frame level p c.kind_of-kind.result (motion_in m.order c.args.ancestor.now.motion) (Some tile) c.requires.deep c.kind_of-kind.ensures.kind c.requires.ancestor.motion_is c.in-Ok.ensures.by_descent in
-    frame_too m settled points dissected f c.kind_of-kind.ensures.frame_fits level c.requires.deep p tile found found_tile c.in-Ok.ensures.only_tile.here.holds
+    let found = found_at (tiling_of m) f c.requires.frame level p c.kind_of-kind.result
+    (motion_in m.order c.args.ancestor.now.motion) (Some tile) c.requires.deep c.kind_of-kind.ensures.kind
+    c.requires.ancestor.motion_is c.in-Ok.ensures.by_descent in
+    frame_too m settled points dissected f c.kind_of-kind.ensures.frame_fits level c.requires.deep p tile
+    found found_tile c.in-Ok.ensures.only_tile.here.holds
 
 pub returns-in-Ok-clause-stands : goal.returns-in-Ok-clause-stands
 returns-in-Ok-clause-stands c =
@@ -62,18 +76,27 @@ returns-in-Ok-clause-stands c =
     let level = c.args.ancestor.now.level in
     let p = point_in m.order c.args.point.now in
     let same : c.order-order.result ≡ m.order = c.order-order.ensures.order ∙ ap (λ (r : Rule). r.order) c.checked.ensures.rule in
-    let settled : IsSettled m = record { accepted = c.checked.ensures.accepted; usable = c.checked.ensures.usable; same_child_kinds = c.checked.ensures.same_child_kinds } in
+    let settled : IsSettled m = record {
+      accepted = c.checked.ensures.accepted;
+      usable = c.checked.ensures.usable;
+      same_child_kinds = c.checked.ensures.same_child_kinds;
+    } in
     let points : PointsLaw m.order = subst PointsLaw same c.points_law.ensures in
     let dissected : DissectionLaw (points_of m.order) = subst (λ o. DissectionLaw (points_of o)) same c.dissection_law.ensures in
     let found_tile : FoundTileLaw (points_of m.order) = subst (λ o. FoundTileLaw (points_of o)) same c.found_tile_law.ensures in
     let tile = placed_in m.order c.in-Ok.tile in
-    let found = found_at (tiling_of m) f c.requires.frame level p c.kind_of-kind.result (motion_in m.order c.args.ancestor.now.motion) (Some tile) c.requires.deep c.kind_of-kind.ensures.kind c.requires.ancestor.motion_is c.in-Ok.ensures.by_descent in
+    let found = found_at (tiling_of m) f c.requires.frame level p c.kind_of-kind.result
+    (motion_in m.order c.args.ancestor.now.motion) (Some tile) c.requires.deep c.kind_of-kind.ensures.kind
+    c.requires.ancestor.motion_is c.in-Ok.ensures.by_descent in
     let own = found-whole m settled points dissected f c.kind_of-kind.ensures.frame_fits level c.requires.deep p tile found in
     record {
       its_kind = c.in-Ok.ensures.its_kind ∙ sym (ap (λ (a : Address). a.kind) c.raise.ensures);
       of_frame = subst (IsTileOf (children (tiling_of m)) (whole f)) (sym c.raise.ensures) (whole-tile_of (children (tiling_of m)) (whole f) _ own);
       at_depth = ap depth c.raise.ensures ∙ own.same_depth;
-      in_frame = subst (λ a. StandsInFrame (points_of m.order) (rule_of m) (whole f) a (motion_in m.order c.in-Ok.tile.motion)) (sym c.raise.ensures) (found-stands m settled points dissected f c.kind_of-kind.ensures.frame_fits level c.requires.deep p tile found found_tile);
+      in_frame = subst (λ a. StandsInFrame (points_of m.order) (rule_of m) (whole f) a
+          (motion_in m.order c.in-Ok.tile.motion)) (sym c.raise.ensures)
+          (found-stands m settled points dissected f c.kind_of-kind.ensures.frame_fits level c.requires.deep p
+          tile found found_tile);
       turn_below = c.in-Ok.ensures.turn_below;
       in_order = c.in-Ok.ensures.in_order;
     }
@@ -84,7 +107,8 @@ returns-in-Ok-clause-none_refused c =
     let f = c.args.self.now in
     let level = c.args.ancestor.now.level in
     let p = point_in m.order c.args.point.now in
-    ap₂ (λ k g. find (is_refused m.order) (values_looked_at (points_of m.order) (rule_of m) k level g p)) (sym c.kind_of-kind.ensures.kind) (sym c.requires.ancestor.motion_is)
+    ap₂ (λ k g. find (is_refused m.order) (values_looked_at (points_of m.order) (rule_of m) k level g p))
+    (sym c.kind_of-kind.ensures.kind) (sym c.requires.ancestor.motion_is)
     ∙ (c.in-Ok.ensures.found_exactly.0 refl).0
 
 pub returns-in-Err-CoordLimit-clause-limit : goal.returns-in-Err-CoordLimit-clause-limit
@@ -93,5 +117,8 @@ returns-in-Err-CoordLimit-clause-limit c =
     let f = c.args.self.now in
     let level = c.args.ancestor.now.level in
     let p = point_in m.order c.args.point.now in
-    ap₂ (λ k g. find (is_refused m.order) (values_looked_at (points_of m.order) (rule_of m) k level g p)) (sym c.kind_of-kind.ensures.kind) (sym c.requires.ancestor.motion_is)
-    ∙ (subst (IsCauseOf (tiling_of m) c.kind_of-kind.result level (motion_in m.order c.args.ancestor.now.motion) p) c.in-Err-CoordLimit.field-0-is c.in-Err-CoordLimit.ensures.fault).0
+    ap₂ (λ k g. find (is_refused m.order) (values_looked_at (points_of m.order) (rule_of m) k level g p))
+    (sym c.kind_of-kind.ensures.kind) (sym c.requires.ancestor.motion_is)
+    ∙ (subst (IsCauseOf (tiling_of m) c.kind_of-kind.result level
+    (motion_in m.order c.args.ancestor.now.motion) p) c.in-Err-CoordLimit.field-0-is
+    c.in-Err-CoordLimit.ensures.fault).0

@@ -11,5 +11,9 @@ if_none-each (Some x) P Q f h = tt
 pub returns-clause-none : goal.returns-clause-none
 returns-clause-none c = if_none-each c.find_in.result _ _ each c.find_in.ensures.none
   where
-    each : ((i : ℕ) → i < length c.as_slice.result.now → ¬ HasAddress c.args.lines.now i (address_of c.args.address.now)) → (i : ℕ) → ¬ HasAddress c.args.lines.now i (address_of c.args.address.now)
-    each none i has = absurd (none i (subst (λ n. i < n) (sym (ap length c.as_slice.ensures.value ∙ c.requires.index.many)) (slice_get_within c.args.lines.now i has.0 has.1)) has)
+    each : ((i : ℕ) → i < length c.as_slice.result.now
+        → ¬ HasAddress c.args.lines.now i (address_of c.args.address.now)) → (i : ℕ)
+        → ¬ HasAddress c.args.lines.now i (address_of c.args.address.now)
+    each none i has = absurd (none i (subst (λ n. i < n)
+        (sym (ap length c.as_slice.ensures.value ∙ c.requires.index.many))
+        (slice_get_within c.args.lines.now i has.0 has.1)) has)

@@ -1,8 +1,8 @@
 use Rattle.std.proofs.Common.{◌≡◌, ◌∙◌, ◌≤◌, ℕ, map, length, ap, sym, subst, arith, get_or}
 use Rattle.std.proofs.Math.ListN.{get_or-map}
 use Rattle.std.proofs.lemmas.List.{length-map}
-use Rattle.addressing.specs.Search.{IsAmong}
-use Rattle.addressing.specs.Tables.{Tables}
+use Rattle.theory_addresses.specs.Search.{IsAmong}
+use Rattle.theory_addresses.specs.Tables.{Tables}
 use Rattle.pair_machine.specs.declared.node.Node as program
 use Rattle.pair_machine.specs.Nodes.{Node, IsNode}
 use Rattle.pair_machine.specs.Numbers.{width_of, number_of}
@@ -30,8 +30,11 @@ index_mut-requires c =
     let node = (c.in_ok-nodes.ensures.all (as_node (get_or c.deref-node-items.result.now c.loop-node.node-index none))).0 i in
     let within = number_within (width_of c.args.tables.now) (as_node (get_or c.deref-node-items.result.now c.loop-node.node-index none))
     (node_small c.args.tables.now (as_node (get_or c.deref-node-items.result.now c.loop-node.node-index none)) c.width-width.ensures.coherent node) in
-    let number : c.number.result ≡ number_of (width_of c.args.tables.now) (as_node (get_or c.deref-node-items.result.now c.loop-node.node-index none)) =
-    c.number.ensures ∙ ap (λ (w : ℕ). number_of w (as_node (get_or c.deref-node-items.result.now c.loop-node.node-index none))) c.width-width.ensures.width in
+    let number : c.number.result ≡ number_of (width_of c.args.tables.now)
+    (as_node (get_or c.deref-node-items.result.now c.loop-node.node-index none)) =
+    c.number.ensures ∙ ap (λ (w : ℕ). number_of w
+    (as_node (get_or c.deref-node-items.result.now c.loop-node.node-index none)))
+    c.width-width.ensures.width in
     omega (arith, number, within, c.loop-node.invariant.numbered.size)
 
 pub loop-node-preserved : goal.loop-node-preserved
@@ -40,25 +43,39 @@ loop-node-preserved c =
     rw (← c.deref-node-items.ensures.value) (read-among as_node c.deref-node-items.result.now c.loop-node.node-index none (omega arith)) in
     let node = (c.in_ok-nodes.ensures.all (as_node (get_or c.deref-node-items.result.now c.loop-node.node-index none))).0 i in
     let are : (m : Node) → IsAmong m (map as_node c.deref-node-items.result.now) → IsNode c.args.tables.now m =
-    λ m j. let k : IsAmong m (map as_node c.in_ok-nodes.nodes.items) = rw (← c.deref-node-items.ensures.value) j in (c.in_ok-nodes.ensures.all m).0 k in
-    let number : c.number.result ≡ number_of (width_of c.args.tables.now) (as_node (get_or c.deref-node-items.result.now c.loop-node.node-index none)) =
-    c.number.ensures ∙ ap (λ (w : ℕ). number_of w (as_node (get_or c.deref-node-items.result.now c.loop-node.node-index none))) c.width-width.ensures.width in
+    λ m j. let k : IsAmong m (map as_node c.in_ok-nodes.nodes.items) = rw (← c.deref-node-items.ensures.value)
+    j in (c.in_ok-nodes.ensures.all m).0 k in
+    let number : c.number.result ≡ number_of (width_of c.args.tables.now)
+    (as_node (get_or c.deref-node-items.result.now c.loop-node.node-index none)) =
+    c.number.ensures ∙ ap (λ (w : ℕ). number_of w
+    (as_node (get_or c.deref-node-items.result.now c.loop-node.node-index none)))
+    c.width-width.ensures.width in
     record {
       numbered = rw number
-          (numbered_more c.args.tables.now (map as_node c.deref-node-items.result.now) c.loop-node.node-index c.loop-node.numbers.items (map (λ r. map as_row_pair r.items) c.loop-node.rows.list.items)
+          (numbered_more c.args.tables.now (map as_node c.deref-node-items.result.now) c.loop-node.node-index
+          c.loop-node.numbers.items (map (λ r. map as_row_pair r.items) c.loop-node.rows.list.items)
           (map (λ r. map as_row_pair r.items) c.number_of.new.self.list.items)
-          (as_node (get_or c.deref-node-items.result.now c.loop-node.node-index none)) (as_node none) c.in_ok-numbers-2.field-0 c.width-width.ensures.coherent are (omega (arith, length-map c.deref-node-items.result.now as_node))
-          (get_or-map as_node c.deref-node-items.result.now c.loop-node.node-index none) node c.loop-node.invariant.numbered c.in_ok-numbers-2.ensures.kept);
+          (as_node (get_or c.deref-node-items.result.now c.loop-node.node-index none)) (as_node none)
+          c.in_ok-numbers-2.field-0 c.width-width.ensures.coherent are
+          (omega (arith, length-map c.deref-node-items.result.now as_node))
+          (get_or-map as_node c.deref-node-items.result.now c.loop-node.node-index none) node
+          c.loop-node.invariant.numbered c.in_ok-numbers-2.ensures.kept);
       indexed = c.in_ok-numbers-2.ensures.indexed;
     }
 
 pub invariant_of-result : goal.invariant_of-result
 invariant_of-result c =
-    let numbered : Numbered c.args.tables.now (map as_node c.in_ok-nodes.nodes.items) c.loop-node.node-index c.loop-node.numbers.items (map (λ r. map as_row_pair r.items) c.loop-node.rows.list.items) =
+    let numbered : Numbered c.args.tables.now (map as_node c.in_ok-nodes.nodes.items) c.loop-node.node-index
+    c.loop-node.numbers.items (map (λ r. map as_row_pair r.items) c.loop-node.rows.list.items) =
     rw (← c.deref-node-items.ensures.value) c.loop-node.invariant.numbered in
     let end : c.loop-node.node-index ≡ length (map as_node c.in_ok-nodes.nodes.items) =
     omega (arith, length-map c.in_ok-nodes.nodes.items as_node, ap length c.deref-node-items.ensures.value) in
-    let few : length (map as_node c.in_ok-nodes.nodes.items) ≤ 36864 = omega (arith, length-map c.in_ok-nodes.nodes.items as_node, c.in_ok-nodes.ensures.few) in
-    let made = machine_of c.args.tables.now c.some_meets_itself-meets_itself.result (map as_node c.in_ok-nodes.nodes.items) c.loop-node.node-index c.loop-node.numbers.items (map (λ r. map as_row_pair r.items) c.loop-node.rows.list.items)
+    let few : length (map as_node c.in_ok-nodes.nodes.items) ≤ 36864 = omega
+    (arith, length-map c.in_ok-nodes.nodes.items as_node, c.in_ok-nodes.ensures.few) in
+    let made = machine_of c.args.tables.now c.some_meets_itself-meets_itself.result
+    (map as_node c.in_ok-nodes.nodes.items) c.loop-node.node-index c.loop-node.numbers.items
+    (map (λ r. map as_row_pair r.items) c.loop-node.rows.list.items)
     c.width-width.ensures.coherent c.some_meets_itself-meets_itself.ensures c.in_ok-nodes.ensures.once c.in_ok-nodes.ensures.all few end numbered in
-    subst (λ (t : Tables). IsMachine t c.some_meets_itself-meets_itself.result (map as_node c.in_ok-nodes.nodes.items) c.loop-node.numbers.items (map (λ r. map as_row_pair r.items) c.loop-node.rows.list.items)) (sym c.in_ok-copy.ensures) made
+    subst (λ (t : Tables). IsMachine t c.some_meets_itself-meets_itself.result
+    (map as_node c.in_ok-nodes.nodes.items) c.loop-node.numbers.items
+    (map (λ r. map as_row_pair r.items) c.loop-node.rows.list.items)) (sym c.in_ok-copy.ensures) made

@@ -15,4 +15,5 @@ vertex-requires-clause-i_in c =
 
 pub returns-clause-small : goal.returns-clause-small
 returns-clause-small c =
-    subst (IsSmall c.args.self.now.order) (sym (c.vertex.ensures.lists origin)) (c.requires.usable.vertex_small c.args.kind c.args.i c.requires.kind_in c.requires.i_in)
+    subst (IsSmall c.args.self.now.order) (sym (c.vertex.ensures.lists origin))
+    (c.requires.usable.vertex_small c.args.kind c.args.i c.requires.kind_in c.requires.i_in)

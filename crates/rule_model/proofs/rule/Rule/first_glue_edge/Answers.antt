@@ -1,6 +1,6 @@
 use Rattle.std.proofs.Common.{◌≡◌, inl, inr, ℕ, false, sym, ap, ◌∙◌, subst, arith, refl}
 use Rattle.std.proofs.lemmas.Bool.{cases_lt, false≢true}
-use Rattle.substitution.specs.RuleParts.{edge_type}
+use Rattle.theory_substitution.specs.RuleParts.{edge_type}
 use Rattle.rule_model.specs.Glue.{is_glued}
 use Rattle.rule_model.specs.Views.{rule_of}
 use Rattle.rule_model.proofs.rule.Rule.first_glue_edge.Goals as goal
@@ -17,7 +17,13 @@ loop-edge-preserved c e l =
 
 pub returns-clause-none : goal.returns-clause-none
 returns-clause-none c = (
-  λ _ e g. false≢true (sym (c.loop-edge.invariant e (omega (arith, g.exists, c.edge_count-edge-end.ensures.numbers c.args.self.now.order, c.loop-edge-test.false))) ∙ g.glued),
+  λ _ e g. false≢true (sym (c.loop-edge.invariant e
+      (omega (
+        arith,
+        g.exists,
+        c.edge_count-edge-end.ensures.numbers c.args.self.now.order,
+        c.loop-edge-test.false,
+      ))) ∙ g.glued),
   λ _. refl,
 )
 

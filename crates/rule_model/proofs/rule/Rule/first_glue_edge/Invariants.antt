@@ -1,5 +1,5 @@
 use Rattle.std.proofs.Common.{◌≡◌, ℕ, ◌<◌, false}
-use Rattle.substitution.specs.RuleParts.{edge_type}
+use Rattle.theory_substitution.specs.RuleParts.{edge_type}
 use Rattle.rule_model.specs.Glue.{is_glued}
 use Rattle.rule_model.specs.Views.{rule_of}
 use Rattle.rule_model.proofs.rule.Rule.first_glue_edge.Given as goal

@@ -1,10 +1,10 @@
 use Rattle.std.proofs.Common.{◌||◌, ◌<◌, inl, inr, length, sym, ap, ◌∙◌, subst}
 use Rattle.std.specs.Prelude.{nat_eq}
-use Rattle.substitution.specs.RuleParts.{mate}
-use Rattle.edge_to_edge.specs.Glue.{glue_type}
+use Rattle.theory_substitution.specs.RuleParts.{mate}
+use Rattle.theory_edge_to_edge.specs.Glue.{glue_type}
 use Rattle.rule_model.specs.Views.{rule_of}
 use Rattle.rule_model.proofs.Glue.{either}
-use Rattle.addressing.proofs.BoolLoops.{some_below-found}
+use Rattle.theory_addresses.proofs.BoolLoops.{some_below-found}
 use Rattle.rule_model.proofs.rule.Rule.is_glued.Goals as goal
 use Rattle.rule_model.proofs.rule.Rule.is_glued.Goals.{then-ty-glue-via-then-ty-glue, then-ty-glue-via-else-ty-glue+then-ty-mate}
 

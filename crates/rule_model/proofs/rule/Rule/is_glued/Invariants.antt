@@ -1,8 +1,8 @@
 use Rattle.std.proofs.Common.{◌≡◌, ◌||◌, false}
 use Rattle.std.specs.Prelude.{nat_eq}
-use Rattle.substitution.specs.RuleParts.{mate}
-use Rattle.addressing.specs.Search.{some_below}
-use Rattle.edge_to_edge.specs.Glue.{glue_type}
+use Rattle.theory_substitution.specs.RuleParts.{mate}
+use Rattle.theory_addresses.specs.Search.{some_below}
+use Rattle.theory_edge_to_edge.specs.Glue.{glue_type}
 use Rattle.rule_model.specs.Views.{rule_of}
 use Rattle.rule_model.proofs.rule.Rule.is_glued.Given as goal
 

@@ -1,5 +1,5 @@
 use Rattle.std.proofs.Common.{sym, ap, ◌∙◌}
-use Rattle.substitution.specs.RuleParts.{map_kind}
+use Rattle.theory_substitution.specs.RuleParts.{map_kind}
 use Rattle.cyclo_points.specs.Point.{point_in}
 use Rattle.rule_model.specs.Views.{as_rule}
 use Rattle.rule_model.proofs.Views.{kind_of-map}

@@ -1,5 +1,5 @@
 use Rattle.std.proofs.Common.{◌<◌, length, sym, ap, subst}
-use Rattle.substitution.specs.Rule.{Child as TheChild}
+use Rattle.theory_substitution.specs.Rule.{Child as TheChild}
 use Rattle.cyclo_points.specs.declared.point.Point.{Point}
 use Rattle.cyclo_points.specs.Order.{points_of, NumberOf}
 use Rattle.rule_model.specs.Usable.{IsSmall, no_child}

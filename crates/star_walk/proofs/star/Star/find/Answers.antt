@@ -17,7 +17,9 @@ use Rattle.star_walk.proofs.star.Star.find.Goals as goal
 
 -- what the rule and the laws bring
 brings : (g : Over) (c : After-kinds-usable g) → Brings HasStarLaws c.args.machine.now
-brings g c = brought HasStarLaws c.args.machine.now _ _ _ c.checked-checked.ensures.rule c.checked-checked.ensures.accepted c.checked-checked.ensures.usable c.checked-checked.ensures.same_child_kinds
+brings g c = brought HasStarLaws c.args.machine.now _ _ _ c.checked-checked.ensures.rule
+    c.checked-checked.ensures.accepted c.checked-checked.ensures.usable
+    c.checked-checked.ensures.same_child_kinds
     c.uses.ensures c.kinds-usable.ensures.limits c.order.ensures.order c.star_laws.ensures c.grown_fits_law.ensures
 
 -- the corners as they were found, and lifted
@@ -29,39 +31,53 @@ returns-clause-round g c =
     let m = c.args.machine.now in
     let B = brings g ((goal.at.returns-clause-round g c).After-kinds-usable) in
     let raised = lifted g ((goal.at.returns-clause-round g c).After-raise_all) in
-    subst (λ cs. AreRound (tiling_of m) c.turn.new.frame c.args.vertex (map (corner_in m.order) cs)) (sym (whole-back (IsRaised c.turn.new.frame) c.turn.new.corners.items c.raise_all.new.corners raised))
-    (star-round m B.settled B.fits B.laws c.args.frame.now c.requires.frame c.args.vertex c.requires.vertex_exists c.turn.new.frame c.turn.new.corners.items c.in_default.ensures.turned c.raise_all.new.corners raised)
+    subst (λ cs. AreRound (tiling_of m) c.turn.new.frame c.args.vertex (map (corner_in m.order) cs))
+    (sym (whole-back (IsRaised c.turn.new.frame) c.turn.new.corners.items c.raise_all.new.corners raised))
+    (star-round m B.settled B.fits B.laws c.args.frame.now c.requires.frame c.args.vertex
+    c.requires.vertex_exists c.turn.new.frame c.turn.new.corners.items c.in_default.ensures.turned
+    c.raise_all.new.corners raised)
 
 pub returns-clause-turning : goal.returns-clause-turning
 returns-clause-turning g c =
     let m = c.args.machine.now in
     let B = brings g ((goal.at.returns-clause-turning g c).After-kinds-usable) in
     let raised = lifted g ((goal.at.returns-clause-turning g c).After-raise_all) in
-    subst (λ cs. AreInTurn (tiling_of m) c.turn.new.frame c.args.vertex (map (corner_in m.order) cs)) (sym (whole-back (IsRaised c.turn.new.frame) c.turn.new.corners.items c.raise_all.new.corners raised))
-    (star-turns m B.settled B.fits B.laws c.args.frame.now c.requires.frame c.args.vertex c.requires.vertex_exists c.turn.new.frame c.turn.new.corners.items c.in_default.ensures.turned c.raise_all.new.corners raised)
+    subst (λ cs. AreInTurn (tiling_of m) c.turn.new.frame c.args.vertex (map (corner_in m.order) cs))
+    (sym (whole-back (IsRaised c.turn.new.frame) c.turn.new.corners.items c.raise_all.new.corners raised))
+    (star-turns m B.settled B.fits B.laws c.args.frame.now c.requires.frame c.args.vertex
+    c.requires.vertex_exists c.turn.new.frame c.turn.new.corners.items c.in_default.ensures.turned
+    c.raise_all.new.corners raised)
 
 pub returns-clause-stand : goal.returns-clause-stand
 returns-clause-stand g c =
     let m = c.args.machine.now in
     let B = brings g ((goal.at.returns-clause-stand g c).After-kinds-usable) in
     let raised = lifted g ((goal.at.returns-clause-stand g c).After-raise_all) in
-    subst (All (λ (k : Corner). Stands (tiling_of m) c.turn.new.frame k.tile)) (sym (whole-back (IsRaised c.turn.new.frame) c.turn.new.corners.items c.raise_all.new.corners raised))
-    (star-stands m B.settled B.fits B.laws c.args.frame.now c.requires.frame c.args.vertex c.requires.vertex_exists c.turn.new.frame c.turn.new.corners.items c.in_default.ensures.turned c.raise_all.new.corners raised)
+    subst (All (λ (k : Corner). Stands (tiling_of m) c.turn.new.frame k.tile))
+    (sym (whole-back (IsRaised c.turn.new.frame) c.turn.new.corners.items c.raise_all.new.corners raised))
+    (star-stands m B.settled B.fits B.laws c.args.frame.now c.requires.frame c.args.vertex
+    c.requires.vertex_exists c.turn.new.frame c.turn.new.corners.items c.in_default.ensures.turned
+    c.raise_all.new.corners raised)
 
 pub returns-clause-shifts_within : goal.returns-clause-shifts_within
 returns-clause-shifts_within g c =
     let m = c.args.machine.now in
     let B = brings g ((goal.at.returns-clause-shifts_within g c).After-kinds-usable) in
     let raised = lifted g ((goal.at.returns-clause-shifts_within g c).After-raise_all) in
-    subst (All (λ (k : Corner). IsWithin (2 ^ 24) k.tile.motion.shift)) (sym (whole-back (IsRaised c.turn.new.frame) c.turn.new.corners.items c.raise_all.new.corners raised))
-    (star-within m B.settled B.fits B.laws c.args.frame.now c.requires.frame c.args.vertex c.requires.vertex_exists c.turn.new.frame c.turn.new.corners.items c.in_default.ensures.turned c.raise_all.new.corners raised)
+    subst (All (λ (k : Corner). IsWithin (2 ^ 24) k.tile.motion.shift))
+    (sym (whole-back (IsRaised c.turn.new.frame) c.turn.new.corners.items c.raise_all.new.corners raised))
+    (star-within m B.settled B.fits B.laws c.args.frame.now c.requires.frame c.args.vertex
+    c.requires.vertex_exists c.turn.new.frame c.turn.new.corners.items c.in_default.ensures.turned
+    c.raise_all.new.corners raised)
 
 pub returns-clause-least : goal.returns-clause-least
 returns-clause-least g c =
     let B = brings g ((goal.at.returns-clause-least g c).After-kinds-usable) in
-    least c.args.machine.now B.settled B.fits B.laws c.args.frame.now c.requires.frame c.args.vertex c.requires.vertex_exists c.turn.new.frame c.turn.new.corners.items c.in_default.ensures.turned
+    least c.args.machine.now B.settled B.fits B.laws c.args.frame.now c.requires.frame c.args.vertex
+    c.requires.vertex_exists c.turn.new.frame c.turn.new.corners.items c.in_default.ensures.turned
 
 pub returns-clause-within : goal.returns-clause-within
 returns-clause-within g c =
     let B = brings g ((goal.at.returns-clause-within g c).After-kinds-usable) in
-    within-limits c.args.machine.now B.settled B.fits B.laws c.args.frame.now c.requires.frame c.args.vertex c.requires.vertex_exists c.turn.new.frame c.turn.new.corners.items c.in_default.ensures.turned
+    within-limits c.args.machine.now B.settled B.fits B.laws c.args.frame.now c.requires.frame c.args.vertex
+    c.requires.vertex_exists c.turn.new.frame c.turn.new.corners.items c.in_default.ensures.turned

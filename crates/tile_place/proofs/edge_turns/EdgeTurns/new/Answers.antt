@@ -1,7 +1,7 @@
 use Rattle.std.proofs.Common.{◌≡◌, ◌+◌, ◌*◌, ◌<◌, ◌≤◌, ◌/◌, ◌%◌, [], ◌∷◌, length, sym, ap, ap₂, ◌∙◌, subst, arith, length-append}
 use Rattle.std.proofs.Math.ListN.{length-map}
 use Rattle.rule_model.specs.Tiling.{tiling_of}
-use Rattle.substitution.specs.RuleParts.{edge_count}
+use Rattle.theory_substitution.specs.RuleParts.{edge_count}
 use Rattle.tile_place.specs.EdgeTurns.{EdgeTable}
 use Rattle.tile_place.proofs.TurnedPlaces.{IsEdgeTurn, one_more-edge, in-row}
 use Rattle.tile_place.proofs.edge_turns.EdgeTurns.new.Goals as goal
@@ -16,10 +16,15 @@ loop-place-preserved c =
     let first = c.from-in-loop-place.result in
     let turn = c.turn_if_edge.result in
     let last = subst (λ a. place % sides < edge_count t.rule (place / a) → IsEdgeTurn t (place / a) (place % sides) turn) c.from-in-loop-place.ensures
-    (subst (λ b. place % b < edge_count t.rule (place / first) → IsEdgeTurn t (place / first) (place % b) turn) c.from-in-loop-place-2.ensures c.turn_if_edge.ensures) in
+    (subst (λ b. place % b < edge_count t.rule (place / first)
+    → IsEdgeTurn t (place / first) (place % b) turn) c.from-in-loop-place-2.ensures
+    c.turn_if_edge.ensures) in
     record {
-      count = ap length c.in_ok-push.ensures.items ∙ length-append c.loop-place.turns.items (c.turn_if_edge.result ∷ []) ∙ ap (λ n. n + 1) c.loop-place.invariant.count;
-      each = one_more-edge t x (λ k h. subst (λ n. edge_count t.rule k ≤ n) (sym same) (c.requires.vertices.hold k h)) c.push.new.self.items c.turn_if_edge.result place
+      count = ap length c.in_ok-push.ensures.items
+          ∙ length-append c.loop-place.turns.items (c.turn_if_edge.result ∷ [])
+          ∙ ap (λ n. n + 1) c.loop-place.invariant.count;
+      each = one_more-edge t x (λ k h. subst (λ n. edge_count t.rule k ≤ n) (sym same)
+          (c.requires.vertices.hold k h)) c.push.new.self.items c.turn_if_edge.result place
           c.loop-place.invariant.count c.in_ok-push.ensures.items last c.loop-place.invariant.each;
     }
 
@@ -36,5 +41,6 @@ returns c =
       count = c.loop-place.invariant.count ∙ total;
       each = λ k e hk he.
           let some = c.requires.vertices.hold k hk in
-          c.loop-place.invariant.each k e hk he (subst (λ n. k * sides + e < n) (sym total) (in-row sides k e (length t.rule.kinds) hk (omega (arith, he, some, same))));
+          c.loop-place.invariant.each k e hk he (subst (λ n. k * sides + e < n) (sym total)
+          (in-row sides k e (length t.rule.kinds) hk (omega (arith, he, some, same))));
     }

@@ -10,11 +10,15 @@ pub at-requires : goal.at-requires
 at-requires c =
     let m = c.args.self.now in
     let are = subst (λ (r : Rule). AreGreatest (tiling_of r) c.self.inside.edges) c.self.view_is c.self.invariant.edges_are in
-    record { exists = (edge-there (tiling_of m) c.self.inside.edges are c.args.kind c.args.edge (kind_listed m c.args.kind c.args.edge c.requires.exists) c.requires.exists).0 }
+    record {
+      exists = (edge-there (tiling_of m) c.self.inside.edges are c.args.kind c.args.edge
+          (kind_listed m c.args.kind c.args.edge c.requires.exists) c.requires.exists).0;
+    }
 
 pub returns : goal.returns
 returns c =
     let m = c.args.self.now in
     let are = subst (λ (r : Rule). AreGreatest (tiling_of r) c.self.inside.edges) c.self.view_is c.self.invariant.edges_are in
     subst (IsEdgeTurn (tiling_of m) c.args.kind c.args.edge) (sym c.at.ensures)
-    (edge-there (tiling_of m) c.self.inside.edges are c.args.kind c.args.edge (kind_listed m c.args.kind c.args.edge c.requires.exists) c.requires.exists).1
+    (edge-there (tiling_of m) c.self.inside.edges are c.args.kind c.args.edge
+    (kind_listed m c.args.kind c.args.edge c.requires.exists) c.requires.exists).1

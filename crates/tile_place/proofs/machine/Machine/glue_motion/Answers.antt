@@ -22,7 +22,9 @@ returns-clause-glues c =
     let law = subst PointsLaw (c.order.ensures.order ∙ ap (λ (r : Rule). r.order) c.checked.ensures.rule) c.points_law.ensures in
     let end = c.end_of-end.result in
     let start = c.start_of-start.result in
-    glued m law c.args.kind c.args.edge c.args.other c.args.other_edge c.glue_turn-turn.result c.glue_turn-turn.ensures.below c.glue_turn-turn.ensures.turns (point_in m.order end) (point_in m.order start)
+    glued m law c.args.kind c.args.edge c.args.other c.args.other_edge c.glue_turn-turn.result
+    c.glue_turn-turn.ensures.below c.glue_turn-turn.ensures.turns (point_in m.order end)
+    (point_in m.order start)
     (point_in m.order c.sub.result) c.end_of-end.ensures.place c.start_of-start.ensures.place (c.sub.ensures.is_difference m.order)
 
 pub returns-clause-shift_within : goal.returns-clause-shift_within

@@ -1,6 +1,6 @@
 use Rattle.std.proofs.Common.{◌≡◌, ◌+◌, ◌-◌, ◌/◌, ◌%◌, ◌<◌, ◌∙◌, ℕ, sym, ap, subst}
 use Rattle.cyclo_points.specs.Order.{PointsLaw, points_of}
-use Rattle.dissection.specs.Glue.{TurnsOnto}
+use Rattle.theory_dissection.specs.Glue.{TurnsOnto}
 use Rattle.rule_model.specs.declared.rule.Rule.{Rule}
 use Rattle.rule_model.specs.Views.{rule_of}
 use Rattle.tile_place.proofs.Gluing.{one_vector, turn_below, turns_onto}
@@ -14,7 +14,8 @@ returns-clause-below c =
     let a = c.edge_turn.result in
     let b = c.edge_turn-2.result in
     subst (λ i. (b + (i / 2 + i - a)) % i < (points_of m.order).order) (sym n)
-    (turn_below m (subst PointsLaw same c.points_law.ensures) c.args.kind c.args.edge c.args.other c.args.other_edge a b c.edge_turn.ensures c.edge_turn-2.ensures)
+    (turn_below m (subst PointsLaw same c.points_law.ensures) c.args.kind c.args.edge c.args.other
+    c.args.other_edge a b c.edge_turn.ensures c.edge_turn-2.ensures)
 
 pub returns-clause-turns : goal.returns-clause-turns
 returns-clause-turns c =
@@ -29,4 +30,5 @@ returns-clause-turns c =
     let a = c.edge_turn.result in
     let b = c.edge_turn-2.result in
     subst (λ i. TurnsOnto (points_of m.order) (rule_of m) k e l f ((b + (i / 2 + i - a)) % i)) (sym n)
-    (turns_onto m law k e l f a b c.edge_turn.ensures c.edge_turn-2.ensures (one_vector m law k e l f a b c.edge_turn.ensures c.edge_turn-2.ensures c.requires.meets))
+    (turns_onto m law k e l f a b c.edge_turn.ensures c.edge_turn-2.ensures
+    (one_vector m law k e l f a b c.edge_turn.ensures c.edge_turn-2.ensures c.requires.meets))

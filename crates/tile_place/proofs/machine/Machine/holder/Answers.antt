@@ -1,14 +1,14 @@
 use Rattle.std.proofs.Common.{◌+◌, ◌<◌, length, drop, IfSome, ◌&&◌, sym, ap, ◌∙◌, subst, arith}
 use Rattle.std.specs.Option.{option_map}
-use Rattle.substitution.specs.Motion.{still}
-use Rattle.substitution.specs.Rule.{Child, children_of}
-use Rattle.frames.specs.Outline.{outline, holds_point}
-use Rattle.frames.specs.Part.{Part, holder}
+use Rattle.theory_substitution.specs.Motion.{still}
+use Rattle.theory_substitution.specs.Rule.{Child, children_of}
+use Rattle.theory_frames.specs.Outline.{outline, holds_point}
+use Rattle.theory_frames.specs.Part.{Part, holder}
 use Rattle.cyclo_points.specs.Order.{NumberOf, points_of, is_refused}
 use Rattle.cyclo_points.specs.Point.{point_in}
 use Rattle.cyclo_points.specs.Motion.{motion_in}
 use Rattle.rule_model.specs.Views.{rule_of}
-use Rattle.addressing.specs.Search.{or_else}
+use Rattle.theory_addresses.specs.Search.{or_else}
 use Rattle.tile_place.specs.Parts.{part_in, IsPart}
 use Rattle.tile_place.proofs.Ahead.{handed_on}
 use Rattle.tile_place.proofs.Holders.{sought-next, values-next, values-here, IfSome-or_else}
@@ -20,7 +20,9 @@ returns-in_err-seen-clause-limit c =
     let P = points_of m.order in
     handed_on c.from_residual.result c.in_err-seen.field-0.0 _ c.from_residual.ensures.1
     (sym c.loop-number.invariant.first
-    ∙ values-here P (rule_of m) (point_in m.order c.args.scale.now) (motion_in m.order c.args.at.now) (point_in m.order c.args.point.now) (children_of (rule_of m) c.args.kind) c.loop-number.number (record { kind = 0; motion = still P })
+    ∙ values-here P (rule_of m) (point_in m.order c.args.scale.now) (motion_in m.order c.args.at.now)
+    (point_in m.order c.args.point.now) (children_of (rule_of m) c.args.kind) c.loop-number.number
+    (record { kind = 0; motion = still P })
     (omega (arith, c.loop-number-test.true, c.loop-number.invariant.all)) (is_refused m.order) _ c.in_err-seen.ensures.limit)
 
 pub loop-number-preserved : goal.loop-number-preserved
@@ -39,10 +41,15 @@ loop-number-preserved c =
     record {
       held =
           ap (λ x. or_else (option_map (part_in m.order) x) (holder P r scale at point (n + 1) (drop (n + 1) cs))) c.first_held-held.ensures
-          ∙ sought-next P r scale at point cs n none within (part_in m.order) c.loop-number.held seen.part c.is_none.result seen.holds c.is_none.ensures c.in_ok-seen.ensures.part
-          (c.in_ok-seen.ensures.holds ∙ ap (λ (p : Part (NumberOf m.order)). c.is_none.result && holds_point P (outline P r p.kind scale p.motion) point) c.in_ok-seen.ensures.part)
+          ∙ sought-next P r scale at point cs n none within (part_in m.order) c.loop-number.held seen.part
+          c.is_none.result seen.holds c.is_none.ensures c.in_ok-seen.ensures.part
+          (c.in_ok-seen.ensures.holds ∙ ap (λ (p : Part (NumberOf m.order)). c.is_none.result
+          && holds_point P (outline P r p.kind scale p.motion) point) c.in_ok-seen.ensures.part)
           ∙ c.loop-number.invariant.held;
-      first = sym (values-next P r scale at point cs n none within (is_refused m.order) c.in_ok-seen.ensures.none_refused) ∙ c.loop-number.invariant.first;
-      is_part = subst (λ x. IfSome x (IsPart m)) (sym c.first_held-held.ensures) (IfSome-or_else (IsPart m) c.loop-number.held seen.holds seen.part c.loop-number.invariant.is_part c.in_ok-seen.ensures.is_part);
+      first = sym (values-next P r scale at point cs n none within (is_refused m.order)
+          c.in_ok-seen.ensures.none_refused) ∙ c.loop-number.invariant.first;
+      is_part = subst (λ x. IfSome x (IsPart m)) (sym c.first_held-held.ensures)
+          (IfSome-or_else (IsPart m) c.loop-number.held seen.holds seen.part c.loop-number.invariant.is_part
+          c.in_ok-seen.ensures.is_part);
       all = c.loop-number.invariant.all;
     }

@@ -17,33 +17,44 @@ pub compose-motion-requires-clause-f_within : goal.compose-motion-requires-claus
 compose-motion-requires-clause-f_within c = point_wider (2 ^ 24) (2 ^ 38) _ (lit≤ tt) c.requires.at_within
 
 pub compose-motion-requires-clause-g_within : goal.compose-motion-requires-clause-g_within
-compose-motion-requires-clause-g_within c = point_wider (8 * 2 ^ 24 * 64) (2 ^ 38) _ (lit≤ tt) (c.mul.ensures.bounded (2 ^ 24) 64 c.requires.scale_within c.child-child.ensures.small.within)
+compose-motion-requires-clause-g_within c = point_wider (8 * 2 ^ 24 * 64) (2 ^ 38) _ (lit≤ tt)
+    (c.mul.ensures.bounded (2 ^ 24) 64 c.requires.scale_within c.child-child.ensures.small.within)
 
 pub returns-then-refused-clause-limit : goal.returns-then-refused-clause-limit
 returns-then-refused-clause-limit c =
     let m = c.args.self.now in
     let same : c.order-order.result ≡ m.order = c.order-order.ensures.order ∙ ap (λ (r : Rule). r.order) c.checked-checked.ensures.rule in
-    let part = part_is c.order-order.result c.checked-checked.result.now m c.order-order.ensures.order c.checked-checked.ensures.rule c.child-child.result c.args.scale.now c.args.at.now c.mul.result c.compose-motion.result c.args.kind c.args.number
+    let part = part_is c.order-order.result c.checked-checked.result.now m c.order-order.ensures.order
+    c.checked-checked.ensures.rule c.child-child.result c.args.scale.now c.args.at.now c.mul.result
+    c.compose-motion.result c.args.kind c.args.number
     c.child-child.ensures.number c.mul.ensures.product c.compose-motion.ensures.followed_by in
     ap (λ p. find (is_refused m.order) (values_of_part m c.args.scale.now p)) (sym part)
     ∙ first_is (is_refused m.order) (point_in m.order c.compose-motion.result.shift) _
-    (sym (c.refused.ensures.in_order m.order (subst (λ q. IsOf q c.compose-motion.result.shift) same (c.compose-motion.ensures.in_order (subst (λ q. IsOf q c.args.at.now.shift) (sym same) c.requires.at_in_order)))) ∙ c.if-refused.true)
+    (sym (c.refused.ensures.in_order m.order (subst (λ q. IsOf q c.compose-motion.result.shift) same
+    (c.compose-motion.ensures.in_order (subst (λ q. IsOf q c.args.at.now.shift) (sym same)
+    c.requires.at_in_order)))) ∙ c.if-refused.true)
 
 pub returns-in_err-holds-clause-limit : goal.returns-in_err-holds-clause-limit
 returns-in_err-holds-clause-limit c =
     let m = c.args.self.now in
     let same : c.order-order.result ≡ m.order = c.order-order.ensures.order ∙ ap (λ (r : Rule). r.order) c.checked-checked.ensures.rule in
-    let part = part_is c.order-order.result c.checked-checked.result.now m c.order-order.ensures.order c.checked-checked.ensures.rule c.child-child.result c.args.scale.now c.args.at.now c.mul.result c.compose-motion.result c.args.kind c.args.number
+    let part = part_is c.order-order.result c.checked-checked.result.now m c.order-order.ensures.order
+    c.checked-checked.ensures.rule c.child-child.result c.args.scale.now c.args.at.now c.mul.result
+    c.compose-motion.result c.args.kind c.args.number
     c.child-child.ensures.number c.mul.ensures.product c.compose-motion.ensures.followed_by in
     handed_on c.from_residual.result c.in_err-holds.field-0.0 _ c.from_residual.ensures.1
     (ap (λ p. find (is_refused m.order) (values_of_part m c.args.scale.now p)) (sym part)
     ∙ first_not (is_refused m.order) (point_in m.order c.compose-motion.result.shift) _
-    (sym (c.refused.ensures.in_order m.order (subst (λ q. IsOf q c.compose-motion.result.shift) same (c.compose-motion.ensures.in_order (subst (λ q. IsOf q c.args.at.now.shift) (sym same) c.requires.at_in_order)))) ∙ c.if-refused.false)
+    (sym (c.refused.ensures.in_order m.order (subst (λ q. IsOf q c.compose-motion.result.shift) same
+    (c.compose-motion.ensures.in_order (subst (λ q. IsOf q c.args.at.now.shift) (sym same)
+    c.requires.at_in_order)))) ∙ c.if-refused.false)
     ∙ c.in_err-holds.ensures.limit)
 
 pub returns-clause-part : goal.returns-clause-part
 returns-clause-part c =
-    part_is c.order-order.result c.checked-checked.result.now c.args.self.now c.order-order.ensures.order c.checked-checked.ensures.rule c.child-child.result c.args.scale.now c.args.at.now c.mul.result c.compose-motion.result c.args.kind c.args.number
+    part_is c.order-order.result c.checked-checked.result.now c.args.self.now c.order-order.ensures.order
+    c.checked-checked.ensures.rule c.child-child.result c.args.scale.now c.args.at.now c.mul.result
+    c.compose-motion.result c.args.kind c.args.number
     c.child-child.ensures.number c.mul.ensures.product c.compose-motion.ensures.followed_by
 
 pub returns-clause-holds : goal.returns-clause-holds
@@ -53,9 +64,13 @@ pub returns-clause-none_refused : goal.returns-clause-none_refused
 returns-clause-none_refused c =
     let m = c.args.self.now in
     let same : c.order-order.result ≡ m.order = c.order-order.ensures.order ∙ ap (λ (r : Rule). r.order) c.checked-checked.ensures.rule in
-    let part = part_is c.order-order.result c.checked-checked.result.now m c.order-order.ensures.order c.checked-checked.ensures.rule c.child-child.result c.args.scale.now c.args.at.now c.mul.result c.compose-motion.result c.args.kind c.args.number
+    let part = part_is c.order-order.result c.checked-checked.result.now m c.order-order.ensures.order
+    c.checked-checked.ensures.rule c.child-child.result c.args.scale.now c.args.at.now c.mul.result
+    c.compose-motion.result c.args.kind c.args.number
     c.child-child.ensures.number c.mul.ensures.product c.compose-motion.ensures.followed_by in
     ap (λ p. find (is_refused m.order) (values_of_part m c.args.scale.now p)) (sym part)
     ∙ first_not (is_refused m.order) (point_in m.order c.compose-motion.result.shift) _
-    (sym (c.refused.ensures.in_order m.order (subst (λ q. IsOf q c.compose-motion.result.shift) same (c.compose-motion.ensures.in_order (subst (λ q. IsOf q c.args.at.now.shift) (sym same) c.requires.at_in_order)))) ∙ c.if-refused.false)
+    (sym (c.refused.ensures.in_order m.order (subst (λ q. IsOf q c.compose-motion.result.shift) same
+    (c.compose-motion.ensures.in_order (subst (λ q. IsOf q c.args.at.now.shift) (sym same)
+    c.requires.at_in_order)))) ∙ c.if-refused.false)
     ∙ c.in_ok-holds.ensures.none_refused

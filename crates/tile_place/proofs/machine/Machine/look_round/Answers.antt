@@ -24,7 +24,9 @@ pub loop-i-preserved : goal.loop-i-preserved
 loop-i-preserved c =
     record {
       refused =
-          corner_passed c.args.order c.points_law.ensures c.args.scale.now c.args.at.now c.vertices-vertices.result.now c.loop-i.i (record { c = [] }) c.loop-i-test.true c.turn-turned.result c.in_ok-corner.field-0
+          corner_passed c.args.order c.points_law.ensures c.args.scale.now c.args.at.now
+          c.vertices-vertices.result.now c.loop-i.i (record { c = [] }) c.loop-i-test.true
+          c.turn-turned.result c.in_ok-corner.field-0
           c.turn-turned.ensures.turned c.in_ok-corner.ensures.corner c.in_ok-corner.ensures.not_refused
           ∙ c.loop-i.invariant.refused;
     }
@@ -33,9 +35,13 @@ pub returns-in_err-corner-clause-limit : goal.returns-in_err-corner-clause-limit
 returns-in_err-corner-clause-limit c =
     handed_on c.from_residual.result c.in_err-corner.field-0.0 _ c.from_residual.ensures.1
     (of_outline c.args.order c.checked-checked.result.now c.args.self.now c.vertices-vertices.result.now c.args.kind c.args.scale.now c.args.at.now
-    (λ q xs. find (is_refused q) xs ≡ Some (point_in q c.in_err-corner.field-0.0.value)) (c.requires.its_order ∙ ap (λ (r : Rule). r.order) (sym c.checked-checked.ensures.rule)) c.checked-checked.ensures.rule c.vertices-vertices.ensures.numbers
+    (λ q xs. find (is_refused q) xs ≡ Some (point_in q c.in_err-corner.field-0.0.value))
+    (c.requires.its_order ∙ ap (λ (r : Rule). r.order) (sym c.checked-checked.ensures.rule))
+    c.checked-checked.ensures.rule c.vertices-vertices.ensures.numbers
     (sym c.loop-i.invariant.refused
-    ∙ corner_refused c.args.order c.points_law.ensures c.args.scale.now c.args.at.now c.vertices-vertices.result.now c.loop-i.i (record { c = [] }) c.loop-i-test.true c.turn-turned.result c.in_err-corner.field-0.0.value
+    ∙ corner_refused c.args.order c.points_law.ensures c.args.scale.now c.args.at.now
+    c.vertices-vertices.result.now c.loop-i.i (record { c = [] }) c.loop-i-test.true c.turn-turned.result
+    c.in_err-corner.field-0.0.value
     c.turn-turned.ensures.turned c.in_err-corner.ensures.limit c.in_err-corner.ensures.is_refused))
 
 pub returns-in_err-corner-clause-limit_in_order : goal.returns-in_err-corner-clause-limit_in_order
@@ -46,5 +52,9 @@ returns-in_err-corner-clause-limit_in_order c =
 pub returns-clause-none_refused : goal.returns-clause-none_refused
 returns-clause-none_refused c =
     of_outline c.args.order c.checked-checked.result.now c.args.self.now c.vertices-vertices.result.now c.args.kind c.args.scale.now c.args.at.now
-    (λ q xs. find (is_refused q) xs ≡ None) (c.requires.its_order ∙ ap (λ (r : Rule). r.order) (sym c.checked-checked.ensures.rule)) c.checked-checked.ensures.rule c.vertices-vertices.ensures.numbers
-    (sym c.loop-i.invariant.refused ∙ none_left (is_refused c.args.order) (corner_of c.args.order c.args.scale.now c.args.at.now) c.vertices-vertices.result.now c.loop-i.i c.loop-i-test.false)
+    (λ q xs. find (is_refused q) xs ≡ None) (c.requires.its_order
+    ∙ ap (λ (r : Rule). r.order) (sym c.checked-checked.ensures.rule)) c.checked-checked.ensures.rule
+    c.vertices-vertices.ensures.numbers
+    (sym c.loop-i.invariant.refused ∙ none_left (is_refused c.args.order)
+    (corner_of c.args.order c.args.scale.now c.args.at.now) c.vertices-vertices.result.now c.loop-i.i
+    c.loop-i-test.false)

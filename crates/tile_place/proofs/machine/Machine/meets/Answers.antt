@@ -11,5 +11,6 @@ returns c =
     let own = c.vector_of-own.ensures in
     let its = c.vector_of-its.ensures in
     let same = c.is_same.ensures m.order own.in_order its.in_order in
-    let one = met m law c.args.kind c.args.edge c.args.other c.args.other_edge c.edge_turn.result c.edge_turn-2.result c.edge_turn.ensures c.edge_turn-2.ensures in
+    let one = met m law c.args.kind c.args.edge c.args.other c.args.other_edge c.edge_turn.result
+    c.edge_turn-2.result c.edge_turn.ensures c.edge_turn-2.ensures in
     (λ h. one.0 (sym own.vector ∙ same.0 h ∙ its.vector), λ h. same.1 (own.vector ∙ one.1 h ∙ sym its.vector))

@@ -1,6 +1,6 @@
 use Rattle.std.proofs.Common.{◌≡◌, ◌+◌, ◌^◌, ◌%◌, ◌∙◌, ap, sym, subst, lit≤, arith}
-use Rattle.ordered_ring.specs.Ring.{difference}
-use Rattle.substitution.specs.RuleParts.{vertex}
+use Rattle.theory_ring.specs.Ring.{difference}
+use Rattle.theory_substitution.specs.RuleParts.{vertex}
 use Rattle.cyclo_points.specs.Order.{PointsLaw, points_of}
 use Rattle.cyclo_points.specs.Point.{point_in}
 use Rattle.cyclo_points.specs.Motion.{motion_in}
@@ -20,7 +20,8 @@ pub add-requires-clause-q_within : goal.add-requires-clause-q_within
 add-requires-clause-q_within c = point_wider (2 ^ 24) (2 ^ 40) _ (lit≤ tt) c.requires.shift_within
 
 pub sub-requires-clause-p_within : goal.sub-requires-clause-p_within
-sub-requires-clause-p_within c = point_wider (2 ^ 7 + 2 ^ 24) (2 ^ 40) _ (lit≤ tt) (c.add.ensures.bounded (2 ^ 7) (2 ^ 24) c.end_of-end.ensures.within c.requires.shift_within)
+sub-requires-clause-p_within c = point_wider (2 ^ 7 + 2 ^ 24) (2 ^ 40) _ (lit≤ tt)
+    (c.add.ensures.bounded (2 ^ 7) (2 ^ 24) c.end_of-end.ensures.within c.requires.shift_within)
 
 pub sub-requires-clause-q_within : goal.sub-requires-clause-q_within
 sub-requires-clause-q_within c = point_wider (2 ^ 7) (2 ^ 40) _ (lit≤ tt) c.start_of-start.ensures.within
@@ -40,7 +41,8 @@ returns-clause-across c =
     subst (λ i. IsMotionAcross (tiling_of m) k e l f (motion_in o at) (record { turn = (at.turn + g) % i; shift = point_in o c.sub.result })) (sym n)
     (across m (subst PointsLaw same c.points_law.ensures) k e l f g c.glue_turn.ensures.below c.glue_turn.ensures.turns at.turn (point_in o at.shift)
     (point_in o c.end_of-end.result) (point_in o c.start_of-start.result) (point_in o c.sub.result) c.end_of-end.ensures.place
-    (subst (λ i. point_in o c.start_of-start.result ≡ turned_by o ((at.turn + g) % i) (vertex (points_of o) (rule_of m) l f)) n c.start_of-start.ensures.place)
+    (subst (λ i. point_in o c.start_of-start.result ≡ turned_by o ((at.turn + g) % i)
+    (vertex (points_of o) (rule_of m) l f)) n c.start_of-start.ensures.place)
     (c.sub.ensures.is_difference o ∙ ap (λ z. difference (points_of o).ring z (point_in o c.start_of-start.result)) (c.add.ensures.sum o)))
 
 pub returns-clause-in_order : goal.returns-clause-in_order

@@ -8,10 +8,13 @@ use Rattle.tile_place.proofs.Corners.{corner_of, corner-is, of_outline}
 use Rattle.tile_place.proofs.machine.Machine.outline.Goals as goal
 
 pub mul-requires-clause-p_within : goal.mul-requires-clause-p_within
-mul-requires-clause-p_within c = point_wider (2 * 2 ^ 24) (2 ^ 32) _ (lit≤ tt) (c.turn-turned.ensures.at_most_doubled (2 ^ 24) c.requires.scale_within)
+mul-requires-clause-p_within c = point_wider (2 * 2 ^ 24) (2 ^ 32) _ (lit≤ tt)
+    (c.turn-turned.ensures.at_most_doubled (2 ^ 24) c.requires.scale_within)
 
 pub mul-requires-clause-q_within : goal.mul-requires-clause-q_within
-mul-requires-clause-q_within c = point_wider 64 (2 ^ 16) _ (lit≤ tt) (c.vertices-vertices.ensures.small c.loop-vertex.vertex-index (record { c = [] }) c.loop-vertex-test.true).within
+mul-requires-clause-q_within c = point_wider 64 (2 ^ 16) _ (lit≤ tt)
+    (c.vertices-vertices.ensures.small c.loop-vertex.vertex-index (record { c = [] })
+    c.loop-vertex-test.true).within
 
 pub add-corner-requires-clause-p_within : goal.add-corner-requires-clause-p_within
 add-corner-requires-clause-p_within c =
@@ -33,11 +36,17 @@ returns-then-refused-clause-limit c =
     let v = get_or vs i (record { c = [] }) in
     let same : o ≡ c.args.self.now.order = c.order-order.ensures.order ∙ ap (λ (r : Rule). r.order) c.checked-checked.ensures.rule in
     let corner : point_in o c.add-corner.result ≡ corner_of o c.args.scale.now c.args.at.now v =
-    corner-is o c.points_law.ensures c.args.scale.now c.args.at.now v c.turn-turned.result c.mul.result c.add-corner.result c.turn-turned.ensures.turned c.mul.ensures.product (c.add-corner.ensures.sum o) in
-    of_outline o c.checked-checked.result.now c.args.self.now vs c.args.kind c.args.scale.now c.args.at.now (λ q xs. find (is_refused q) xs ≡ Some (point_in q c.add-corner.result))
+    corner-is o c.points_law.ensures c.args.scale.now c.args.at.now v c.turn-turned.result c.mul.result
+    c.add-corner.result c.turn-turned.ensures.turned c.mul.ensures.product (c.add-corner.ensures.sum o) in
+    of_outline o c.checked-checked.result.now c.args.self.now vs c.args.kind c.args.scale.now c.args.at.now
+    (λ q xs. find (is_refused q) xs ≡ Some (point_in q c.add-corner.result))
     c.order-order.ensures.order c.checked-checked.ensures.rule c.vertices-vertices.ensures.numbers
-    (sym c.loop-vertex.invariant.first ∙ found_here (is_refused o) (corner_of o c.args.scale.now c.args.at.now) vs i v c.loop-vertex-test.true (there vs i _ c.loop-vertex-test.true)
-    (ap (is_refused o) (sym corner) ∙ sym (c.refused.ensures.in_order o (c.add-corner.ensures.in_order o c.mul.ensures.in_order (subst (λ q. IsOf q c.args.at.now.shift) (sym same) c.requires.at_in_order))) ∙ c.if-refused.true)
+    (sym c.loop-vertex.invariant.first ∙ found_here (is_refused o)
+    (corner_of o c.args.scale.now c.args.at.now) vs i v c.loop-vertex-test.true
+    (there vs i _ c.loop-vertex-test.true)
+    (ap (is_refused o) (sym corner) ∙ sym (c.refused.ensures.in_order o
+    (c.add-corner.ensures.in_order o c.mul.ensures.in_order
+    (subst (λ q. IsOf q c.args.at.now.shift) (sym same) c.requires.at_in_order))) ∙ c.if-refused.true)
     ∙ ap (λ z. Some z) (sym corner))
 
 pub loop-vertex-preserved : goal.loop-vertex-preserved
@@ -48,41 +57,63 @@ loop-vertex-preserved c =
     let v = get_or vs i (record { c = [] }) in
     let same : o ≡ c.args.self.now.order = c.order-order.ensures.order ∙ ap (λ (r : Rule). r.order) c.checked-checked.ensures.rule in
     let corner : point_in o c.add-corner.result ≡ corner_of o c.args.scale.now c.args.at.now v =
-    corner-is o c.points_law.ensures c.args.scale.now c.args.at.now v c.turn-turned.result c.mul.result c.add-corner.result c.turn-turned.ensures.turned c.mul.ensures.product (c.add-corner.ensures.sum o) in
+    corner-is o c.points_law.ensures c.args.scale.now c.args.at.now v c.turn-turned.result c.mul.result
+    c.add-corner.result c.turn-turned.ensures.turned c.mul.ensures.product (c.add-corner.ensures.sum o) in
     record {
       seen =
           ap (λ xs. map (point_in o) xs ++ map (corner_of o c.args.scale.now c.args.at.now) (drop (i + 1) vs)) c.push.ensures.items
-          ∙ mapped_next (is_refused o) (corner_of o c.args.scale.now c.args.at.now) vs i v c.loop-vertex-test.true (there vs i _ c.loop-vertex-test.true) (point_in o) c.loop-vertex.corners.items c.add-corner.result corner
+          ∙ mapped_next (is_refused o) (corner_of o c.args.scale.now c.args.at.now) vs i v
+          c.loop-vertex-test.true (there vs i _ c.loop-vertex-test.true) (point_in o)
+          c.loop-vertex.corners.items c.add-corner.result corner
           ∙ c.loop-vertex.invariant.seen;
       first =
-          sym (found_later (is_refused o) (corner_of o c.args.scale.now c.args.at.now) vs i v c.loop-vertex-test.true (there vs i _ c.loop-vertex-test.true)
-          (ap (is_refused o) (sym corner) ∙ sym (c.refused.ensures.in_order o (c.add-corner.ensures.in_order o c.mul.ensures.in_order (subst (λ q. IsOf q c.args.at.now.shift) (sym same) c.requires.at_in_order))) ∙ c.if-refused.false))
+          sym (found_later (is_refused o) (corner_of o c.args.scale.now c.args.at.now) vs i v
+          c.loop-vertex-test.true (there vs i _ c.loop-vertex-test.true)
+          (ap (is_refused o) (sym corner) ∙ sym (c.refused.ensures.in_order o
+          (c.add-corner.ensures.in_order o c.mul.ensures.in_order
+          (subst (λ q. IsOf q c.args.at.now.shift) (sym same) c.requires.at_in_order)))
+          ∙ c.if-refused.false))
           ∙ c.loop-vertex.invariant.first;
-      within = subst (λ xs. All (IsWithin (2 ^ 24)) xs) (sym c.push.ensures.items) (All-one_more (IsWithin (2 ^ 24)) c.loop-vertex.corners.items c.add-corner.result c.loop-vertex.invariant.within (c.refused.ensures.within c.if-refused.false));
-      in_order = subst (λ xs. All (IsOf o) xs) (sym c.push.ensures.items) (All-one_more (IsOf o) c.loop-vertex.corners.items c.add-corner.result c.loop-vertex.invariant.in_order
+      within = subst (λ xs. All (IsWithin (2 ^ 24)) xs) (sym c.push.ensures.items)
+          (All-one_more (IsWithin (2 ^ 24)) c.loop-vertex.corners.items c.add-corner.result
+          c.loop-vertex.invariant.within (c.refused.ensures.within c.if-refused.false));
+      in_order = subst (λ xs. All (IsOf o) xs) (sym c.push.ensures.items)
+          (All-one_more (IsOf o) c.loop-vertex.corners.items c.add-corner.result
+          c.loop-vertex.invariant.in_order
           (c.add-corner.ensures.in_order o c.mul.ensures.in_order (subst (λ q. IsOf q c.args.at.now.shift) (sym same) c.requires.at_in_order)));
       count = c.push.ensures.len ∙ ap (λ n. n + 1) c.loop-vertex.invariant.count;
     }
 
 pub returns-clause-vertices : goal.returns-clause-vertices
 returns-clause-vertices c =
-    of_outline c.order-order.result c.checked-checked.result.now c.args.self.now c.vertices-vertices.result.now c.args.kind c.args.scale.now c.args.at.now
-    (λ q xs. map (point_in q) c.loop-vertex.corners.items ≡ xs) c.order-order.ensures.order c.checked-checked.ensures.rule c.vertices-vertices.ensures.numbers
-    (mapped_all (is_refused c.order-order.result) (corner_of c.order-order.result c.args.scale.now c.args.at.now) c.vertices-vertices.result.now c.loop-vertex.vertex-index c.loop-vertex-test.false
+    of_outline c.order-order.result c.checked-checked.result.now c.args.self.now
+    c.vertices-vertices.result.now c.args.kind c.args.scale.now c.args.at.now
+    (λ q xs. map (point_in q) c.loop-vertex.corners.items ≡ xs) c.order-order.ensures.order
+    c.checked-checked.ensures.rule c.vertices-vertices.ensures.numbers
+    (mapped_all (is_refused c.order-order.result)
+    (corner_of c.order-order.result c.args.scale.now c.args.at.now) c.vertices-vertices.result.now
+    c.loop-vertex.vertex-index c.loop-vertex-test.false
     (point_in c.order-order.result) c.loop-vertex.corners.items c.loop-vertex.invariant.seen)
 
 pub returns-clause-none_refused : goal.returns-clause-none_refused
 returns-clause-none_refused c =
-    of_outline c.order-order.result c.checked-checked.result.now c.args.self.now c.vertices-vertices.result.now c.args.kind c.args.scale.now c.args.at.now
+    of_outline c.order-order.result c.checked-checked.result.now c.args.self.now
+    c.vertices-vertices.result.now c.args.kind c.args.scale.now c.args.at.now
     (λ q xs. find (is_refused q) xs ≡ None) c.order-order.ensures.order c.checked-checked.ensures.rule c.vertices-vertices.ensures.numbers
-    (sym c.loop-vertex.invariant.first ∙ none_left (is_refused c.order-order.result) (corner_of c.order-order.result c.args.scale.now c.args.at.now) c.vertices-vertices.result.now c.loop-vertex.vertex-index c.loop-vertex-test.false)
+    (sym c.loop-vertex.invariant.first ∙ none_left (is_refused c.order-order.result)
+    (corner_of c.order-order.result c.args.scale.now c.args.at.now) c.vertices-vertices.result.now
+    c.loop-vertex.vertex-index c.loop-vertex-test.false)
 
 pub returns-then-refused-clause-limit_in_order : goal.returns-then-refused-clause-limit_in_order
 returns-then-refused-clause-limit_in_order c =
-    let same : c.order-order.result ≡ c.args.self.now.order = c.order-order.ensures.order ∙ ap (λ (r : Rule). r.order) c.checked-checked.ensures.rule in
-    subst (λ q. IsOf q c.add-corner.result) same (c.add-corner.ensures.in_order c.order-order.result c.mul.ensures.in_order (subst (λ q. IsOf q c.args.at.now.shift) (sym same) c.requires.at_in_order))
+    let same : c.order-order.result ≡ c.args.self.now.order = c.order-order.ensures.order
+    ∙ ap (λ (r : Rule). r.order) c.checked-checked.ensures.rule in
+    subst (λ q. IsOf q c.add-corner.result) same
+    (c.add-corner.ensures.in_order c.order-order.result c.mul.ensures.in_order
+    (subst (λ q. IsOf q c.args.at.now.shift) (sym same) c.requires.at_in_order))
 
 pub returns-clause-in_order : goal.returns-clause-in_order
 returns-clause-in_order c =
-    let same : c.order-order.result ≡ c.args.self.now.order = c.order-order.ensures.order ∙ ap (λ (r : Rule). r.order) c.checked-checked.ensures.rule in
+    let same : c.order-order.result ≡ c.args.self.now.order = c.order-order.ensures.order
+    ∙ ap (λ (r : Rule). r.order) c.checked-checked.ensures.rule in
     subst (λ q. All (IsOf q) c.loop-vertex.corners.items) same c.loop-vertex.invariant.in_order

@@ -1,7 +1,7 @@
 use Rattle.std.proofs.Common.{◌≡◌, ◌+◌, ◌-◌, ◌++◌, ◌^◌, All, [], ◌∷◌, length, map, find, None, Some, sym, ap, ◌∙◌, subst, arith, lit≤}
 use Rattle.std.proofs.lemmas.List.{append-nil}
 use Rattle.std.proofs.lemmas.List.Elements.{All-nil, All-push}
-use Rattle.frames.specs.Looked.{powers_from}
+use Rattle.theory_frames.specs.Looked.{powers_from}
 use Rattle.cyclo_points.specs.Order.{points_of, is_refused}
 use Rattle.cyclo_points.specs.Point.{point_in, IsWithin}
 use Rattle.cyclo_points.proofs.Within.{point_wider}
@@ -16,9 +16,12 @@ loop-i-init c =
     let items = c.push.ensures.items ∙ ap (λ xs. xs ++ one ∷ []) c.new-powers.ensures in
     record {
       last = one-is o;
-      seen = ap (λ xs. map (point_in o) xs ++ powers_from (points_of o) f (0 + 1) (c.args.depth - 0)) items ∙ ap (λ z. z ∷ powers_from (points_of o) f (0 + 1) (c.args.depth - 0)) (one-is o) ∙ sym (powers-start (points_of o) f c.args.depth);
+      seen = ap (λ xs. map (point_in o) xs ++ powers_from (points_of o) f (0 + 1) (c.args.depth - 0)) items
+          ∙ ap (λ z. z ∷ powers_from (points_of o) f (0 + 1) (c.args.depth - 0)) (one-is o)
+          ∙ sym (powers-start (points_of o) f c.args.depth);
       first = sym (ap (find (is_refused o)) (powers-start (points_of o) f c.args.depth) ∙ first_not (is_refused o) _ _ (one-unrefused o));
-      within = subst (All (IsWithin (2 ^ 24))) (sym items) (All-push (IsWithin (2 ^ 24)) [] one (All-nil (IsWithin (2 ^ 24))) (one-within (2 ^ 24) (lit≤ tt)));
+      within = subst (All (IsWithin (2 ^ 24))) (sym items)
+          (All-push (IsWithin (2 ^ 24)) [] one (All-nil (IsWithin (2 ^ 24))) (one-within (2 ^ 24) (lit≤ tt)));
       small = one-within (2 ^ 24) (lit≤ tt);
       count = ap length items;
     }
@@ -30,27 +33,39 @@ pub returns-then-refused-clause-limit : goal.returns-then-refused-clause-limit
 returns-then-refused-clause-limit c =
     let o = c.order-order.result in
     let f = point_in o c.factor-factor.result in
-    let last = next-power o f (point_in o c.loop-i.power) (point_in o c.mul-power.result) c.loop-i.i c.points_law.ensures.of_ring.mul_comm c.mul-power.ensures.product c.loop-i.invariant.last in
-    of_factor o c.checked-checked.result.now c.args.self.now c.factor-factor.result (c.args.depth + 1) (λ q xs. find (is_refused q) xs ≡ Some (point_in q c.mul-power.result))
+    let last = next-power o f (point_in o c.loop-i.power) (point_in o c.mul-power.result) c.loop-i.i
+    c.points_law.ensures.of_ring.mul_comm c.mul-power.ensures.product c.loop-i.invariant.last in
+    of_factor o c.checked-checked.result.now c.args.self.now c.factor-factor.result (c.args.depth + 1)
+    (λ q xs. find (is_refused q) xs ≡ Some (point_in q c.mul-power.result))
     c.order-order.ensures.order c.checked-checked.ensures.rule c.factor-factor.ensures.factor
-    (sym c.loop-i.invariant.first ∙ ap (find (is_refused o)) (powers-next (points_of o) f c.loop-i.i c.args.depth c.loop-i-test.true ∙ ap (λ z. z ∷ powers_from (points_of o) f ((c.loop-i.i + 1) + 1) (c.args.depth - (c.loop-i.i + 1))) (sym last))
+    (sym c.loop-i.invariant.first ∙ ap (find (is_refused o))
+    (powers-next (points_of o) f c.loop-i.i c.args.depth c.loop-i-test.true
+    ∙ ap (λ z. z ∷ powers_from (points_of o) f ((c.loop-i.i + 1) + 1) (c.args.depth - (c.loop-i.i + 1)))
+    (sym last))
     ∙ first_is (is_refused o) (point_in o c.mul-power.result) _ (sym (c.refused.ensures.in_order o c.mul-power.ensures.in_order) ∙ c.if-refused.true))
 
 pub loop-i-preserved : goal.loop-i-preserved
 loop-i-preserved c =
     let o = c.order-order.result in
     let f = point_in o c.factor-factor.result in
-    let last = next-power o f (point_in o c.loop-i.power) (point_in o c.mul-power.result) c.loop-i.i c.points_law.ensures.of_ring.mul_comm c.mul-power.ensures.product c.loop-i.invariant.last in
+    let last = next-power o f (point_in o c.loop-i.power) (point_in o c.mul-power.result) c.loop-i.i
+    c.points_law.ensures.of_ring.mul_comm c.mul-power.ensures.product c.loop-i.invariant.last in
     let small : IsWithin (2 ^ 24) c.mul-power.result = c.refused.ensures.within c.if-refused.false in
     record {
       last = last;
-      seen = ap (λ xs. map (point_in o) xs ++ powers_from (points_of o) f ((c.loop-i.i + 1) + 1) (c.args.depth - (c.loop-i.i + 1))) c.push-in-loop-i.ensures.items
+      seen = ap (λ xs. map (point_in o) xs ++ powers_from (points_of o) f ((c.loop-i.i + 1) + 1)
+          (c.args.depth - (c.loop-i.i + 1))) c.push-in-loop-i.ensures.items
           ∙ seen-next o f c.loop-i.powers.items c.mul-power.result c.loop-i.i c.args.depth c.loop-i-test.true last ∙ c.loop-i.invariant.seen;
       first =
-          sym (ap (find (is_refused o)) (powers-next (points_of o) f c.loop-i.i c.args.depth c.loop-i-test.true ∙ ap (λ z. z ∷ powers_from (points_of o) f ((c.loop-i.i + 1) + 1) (c.args.depth - (c.loop-i.i + 1))) (sym last))
-          ∙ first_not (is_refused o) (point_in o c.mul-power.result) _ (sym (c.refused.ensures.in_order o c.mul-power.ensures.in_order) ∙ c.if-refused.false))
+          sym (ap (find (is_refused o)) (powers-next (points_of o) f c.loop-i.i c.args.depth
+          c.loop-i-test.true ∙ ap (λ z. z ∷ powers_from (points_of o) f ((c.loop-i.i + 1) + 1)
+          (c.args.depth - (c.loop-i.i + 1))) (sym last))
+          ∙ first_not (is_refused o) (point_in o c.mul-power.result) _
+          (sym (c.refused.ensures.in_order o c.mul-power.ensures.in_order) ∙ c.if-refused.false))
           ∙ c.loop-i.invariant.first;
-      within = subst (All (IsWithin (2 ^ 24))) (sym c.push-in-loop-i.ensures.items) (All-push (IsWithin (2 ^ 24)) c.loop-i.powers.items c.mul-power.result c.loop-i.invariant.within small);
+      within = subst (All (IsWithin (2 ^ 24))) (sym c.push-in-loop-i.ensures.items)
+          (All-push (IsWithin (2 ^ 24)) c.loop-i.powers.items c.mul-power.result c.loop-i.invariant.within
+          small);
       small = small;
       count = c.push-in-loop-i.ensures.len ∙ ap (λ n. n + 1) c.loop-i.invariant.count;
     }
@@ -59,10 +74,13 @@ pub returns-clause-powers : goal.returns-clause-powers
 returns-clause-powers c =
     let o = c.order-order.result in
     let none : c.args.depth - c.loop-i.i ≡ 0 = omega arith in
-    of_factor o c.checked-checked.result.now c.args.self.now c.factor-factor.result (c.args.depth + 1) (λ q xs. map (point_in q) c.loop-i.powers.items ≡ xs)
+    of_factor o c.checked-checked.result.now c.args.self.now c.factor-factor.result (c.args.depth + 1)
+    (λ q xs. map (point_in q) c.loop-i.powers.items ≡ xs)
     c.order-order.ensures.order c.checked-checked.ensures.rule c.factor-factor.ensures.factor
     (sym (append-nil (map (point_in o) c.loop-i.powers.items))
-    ∙ ap (λ n. map (point_in o) c.loop-i.powers.items ++ powers_from (points_of o) (point_in o c.factor-factor.result) (c.loop-i.i + 1) n) (sym none) ∙ c.loop-i.invariant.seen)
+    ∙ ap (λ n. map (point_in o) c.loop-i.powers.items
+    ++ powers_from (points_of o) (point_in o c.factor-factor.result) (c.loop-i.i + 1) n) (sym none)
+    ∙ c.loop-i.invariant.seen)
 
 pub returns-clause-none_refused : goal.returns-clause-none_refused
 returns-clause-none_refused c =
@@ -70,4 +88,5 @@ returns-clause-none_refused c =
     let none : c.args.depth - c.loop-i.i ≡ 0 = omega arith in
     of_factor o c.checked-checked.result.now c.args.self.now c.factor-factor.result (c.args.depth + 1) (λ q xs. find (is_refused q) xs ≡ None)
     c.order-order.ensures.order c.checked-checked.ensures.rule c.factor-factor.ensures.factor
-    (sym c.loop-i.invariant.first ∙ ap (λ n. find (is_refused o) (powers_from (points_of o) (point_in o c.factor-factor.result) (c.loop-i.i + 1) n)) none)
+    (sym c.loop-i.invariant.first ∙ ap (λ n. find (is_refused o)
+    (powers_from (points_of o) (point_in o c.factor-factor.result) (c.loop-i.i + 1) n)) none)

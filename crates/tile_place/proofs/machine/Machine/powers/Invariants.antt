@@ -1,6 +1,6 @@
 use Rattle.std.proofs.Common.{◌≡◌, ◌+◌, ◌-◌, ◌++◌, ◌^◌, All, length, map, find}
-use Rattle.ordered_ring.specs.Ring.{power}
-use Rattle.frames.specs.Looked.{powers_from}
+use Rattle.theory_ring.specs.Ring.{power}
+use Rattle.theory_frames.specs.Looked.{powers_from}
 use Rattle.cyclo_points.specs.Order.{points_of, is_refused}
 use Rattle.cyclo_points.specs.Point.{point_in, IsWithin}
 use Rattle.tile_place.proofs.machine.Machine.powers.Given as goal

@@ -1,8 +1,8 @@
 use Rattle.std.proofs.Common.{◌≡◌, ◌+◌, true, false, get_or, [], refl, sym, ap, ◌∙◌, arith}
-use Rattle.ordered_ring.specs.Ring.{power}
-use Rattle.frames.specs.Outline.{outline, holds_point}
-use Rattle.frames.specs.Descent.{tile_below, tile_holding}
-use Rattle.frames.specs.Looked.{values_below, values_looked_at}
+use Rattle.theory_ring.specs.Ring.{power}
+use Rattle.theory_frames.specs.Outline.{outline, holds_point}
+use Rattle.theory_frames.specs.Descent.{tile_below, tile_holding}
+use Rattle.theory_frames.specs.Looked.{values_below, values_looked_at}
 use Rattle.cyclo_points.specs.Order.{points_of, is_refused}
 use Rattle.cyclo_points.specs.Point.{point_in}
 use Rattle.cyclo_points.specs.Motion.{motion_in}
@@ -15,8 +15,12 @@ use Rattle.tile_place.proofs.machine.Machine.search.Goals as goal
 
 pub returns-in-Err-clause-fault : goal.returns-in-Err-clause-fault
 returns-in-Err-clause-fault c =
-    let m = c.args.self.now in
-    (power_refused (points_of m.order) (rule_of m) (is_refused m.order) c.args.kind c.args.depth (motion_in m.order c.args.at.now) (point_in m.order c.args.point.now) _ refl (point_in m.order c.in-Err.limit.value) c.in-Err.ensures.limit, c.in-Err.ensures.limit_in_order)
+    let m = c.args.self.now in (
+      power_refused (points_of m.order) (rule_of m) (is_refused m.order) c.args.kind c.args.depth
+          (motion_in m.order c.args.at.now) (point_in m.order c.args.point.now) _ refl
+          (point_in m.order c.in-Err.limit.value) c.in-Err.ensures.limit,
+      c.in-Err.ensures.limit_in_order,
+    )
 
 pub returns-in-Err-outline-clause-fault : goal.returns-in-Err-outline-clause-fault
 returns-in-Err-outline-clause-fault c =
@@ -28,8 +32,12 @@ returns-in-Err-outline-clause-fault c =
     let scale = point_in m.order (get_or c.deref.result.now c.args.depth (record { c = [] })) in
     let power_is : scale ≡ power P.ring r.factor c.args.depth =
     ap (λ ps. point_in m.order (get_or ps c.args.depth (record { c = [] }))) c.deref.ensures.0
-    ∙ power-read m.order r.factor (c.args.depth + 1) c.in-Ok.powers.items c.args.depth (record { c = [] }) c.in-Ok.ensures.powers (omega arith) in
-    (vertex_refused P r (is_refused m.order) c.args.kind c.args.depth at point scale power_is (point_in m.order c.in-Err-outline.limit.value) c.in-Ok.ensures.none_refused c.in-Err-outline.ensures.limit, c.in-Err-outline.ensures.limit_in_order)
+    ∙ power-read m.order r.factor (c.args.depth + 1) c.in-Ok.powers.items c.args.depth (record { c = [] }) c.in-Ok.ensures.powers (omega arith) in (
+      vertex_refused P r (is_refused m.order) c.args.kind c.args.depth at point scale power_is
+          (point_in m.order c.in-Err-outline.limit.value) c.in-Ok.ensures.none_refused
+          c.in-Err-outline.ensures.limit,
+      c.in-Err-outline.ensures.limit_in_order,
+    )
 
 pub returns-then-not-member-clause-fault : goal.returns-then-not-member-clause-fault
 returns-then-not-member-clause-fault c =
@@ -43,10 +51,13 @@ returns-then-not-member-clause-fault c =
     ap (λ ps. point_in m.order (get_or ps c.args.depth (record { c = [] }))) c.deref.ensures.0
     ∙ power-read m.order r.factor (c.args.depth + 1) c.in-Ok.powers.items c.args.depth (record { c = [] }) c.in-Ok.ensures.powers (omega arith) in
     let held : c.member.result ≡ holds_point P (outline P r c.args.kind scale at) point =
-    holds_is c.order-order.result m.order (c.order-order.ensures.order ∙ ap (λ (q : Rule). q.order) c.checked.ensures.rule) c.in-Ok-outline.corners.items c.as_slice.result.now _ c.args.point.now c.member.result
+    holds_is c.order-order.result m.order (c.order-order.ensures.order
+    ∙ ap (λ (q : Rule). q.order) c.checked.ensures.rule) c.in-Ok-outline.corners.items
+    c.as_slice.result.now _ c.args.point.now c.member.result
     c.as_slice.ensures.value c.in-Ok-outline.ensures.vertices c.member.ensures in
     let outside : false ≡ holds_point P (outline P r c.args.kind scale at) point = sym c.if-not-member.true ∙ held in (
-      past_outline P r (is_refused m.order) c.args.kind c.args.depth at point scale power_is false outside c.in-Ok.ensures.none_refused c.in-Ok-outline.ensures.none_refused,
+      past_outline P r (is_refused m.order) c.args.kind c.args.depth at point scale power_is false outside
+          c.in-Ok.ensures.none_refused c.in-Ok-outline.ensures.none_refused,
       tile_same P r (is_refused m.order) c.args.kind c.args.depth at point scale power_is false outside,
     )
 
@@ -62,12 +73,16 @@ returns-clause-holder c =
     ap (λ ps. point_in m.order (get_or ps c.args.depth (record { c = [] }))) c.deref.ensures.0
     ∙ power-read m.order r.factor (c.args.depth + 1) c.in-Ok.powers.items c.args.depth (record { c = [] }) c.in-Ok.ensures.powers (omega arith) in
     let held : c.member.result ≡ holds_point P (outline P r c.args.kind scale at) point =
-    holds_is c.order-order.result m.order (c.order-order.ensures.order ∙ ap (λ (q : Rule). q.order) c.checked.ensures.rule) c.in-Ok-outline.corners.items c.as_slice.result.now _ c.args.point.now c.member.result
+    holds_is c.order-order.result m.order (c.order-order.ensures.order
+    ∙ ap (λ (q : Rule). q.order) c.checked.ensures.rule) c.in-Ok-outline.corners.items
+    c.as_slice.result.now _ c.args.point.now c.member.result
     c.as_slice.ensures.value c.in-Ok-outline.ensures.vertices c.member.ensures in
     let inside : true ≡ holds_point P (outline P r c.args.kind scale at) point = sym c.if-not-member.false ∙ held in
-    let values = past_outline P r (is_refused m.order) c.args.kind c.args.depth at point scale power_is true inside c.in-Ok.ensures.none_refused c.in-Ok-outline.ensures.none_refused in
+    let values = past_outline P r (is_refused m.order) c.args.kind c.args.depth at point scale power_is true
+    inside c.in-Ok.ensures.none_refused c.in-Ok-outline.ensures.none_refused in
     let tile = tile_same P r (is_refused m.order) c.args.kind c.args.depth at point scale power_is true inside in
-    same_tile m.order c.descend.result (tile_holding P r c.args.kind c.args.depth at point) (tile_below P r c.args.kind c.args.depth at point) tile c.descend.ensures.holder
+    same_tile m.order c.descend.result (tile_holding P r c.args.kind c.args.depth at point)
+    (tile_below P r c.args.kind c.args.depth at point) tile c.descend.ensures.holder
 
 pub returns-clause-none_refused : goal.returns-clause-none_refused
 returns-clause-none_refused c =
@@ -81,12 +96,16 @@ returns-clause-none_refused c =
     ap (λ ps. point_in m.order (get_or ps c.args.depth (record { c = [] }))) c.deref.ensures.0
     ∙ power-read m.order r.factor (c.args.depth + 1) c.in-Ok.powers.items c.args.depth (record { c = [] }) c.in-Ok.ensures.powers (omega arith) in
     let held : c.member.result ≡ holds_point P (outline P r c.args.kind scale at) point =
-    holds_is c.order-order.result m.order (c.order-order.ensures.order ∙ ap (λ (q : Rule). q.order) c.checked.ensures.rule) c.in-Ok-outline.corners.items c.as_slice.result.now _ c.args.point.now c.member.result
+    holds_is c.order-order.result m.order (c.order-order.ensures.order
+    ∙ ap (λ (q : Rule). q.order) c.checked.ensures.rule) c.in-Ok-outline.corners.items
+    c.as_slice.result.now _ c.args.point.now c.member.result
     c.as_slice.ensures.value c.in-Ok-outline.ensures.vertices c.member.ensures in
     let inside : true ≡ holds_point P (outline P r c.args.kind scale at) point = sym c.if-not-member.false ∙ held in
-    let values = past_outline P r (is_refused m.order) c.args.kind c.args.depth at point scale power_is true inside c.in-Ok.ensures.none_refused c.in-Ok-outline.ensures.none_refused in
+    let values = past_outline P r (is_refused m.order) c.args.kind c.args.depth at point scale power_is true
+    inside c.in-Ok.ensures.none_refused c.in-Ok-outline.ensures.none_refused in
     let tile = tile_same P r (is_refused m.order) c.args.kind c.args.depth at point scale power_is true inside in
-    same_none m.order c.descend.result (values_looked_at P r c.args.kind c.args.depth at point) (values_below P r c.args.kind c.args.depth at point) values c.descend.ensures.none_refused
+    same_none m.order c.descend.result (values_looked_at P r c.args.kind c.args.depth at point)
+    (values_below P r c.args.kind c.args.depth at point) values c.descend.ensures.none_refused
 
 pub returns-clause-fault : goal.returns-clause-fault
 returns-clause-fault c =
@@ -100,10 +119,13 @@ returns-clause-fault c =
     ap (λ ps. point_in m.order (get_or ps c.args.depth (record { c = [] }))) c.deref.ensures.0
     ∙ power-read m.order r.factor (c.args.depth + 1) c.in-Ok.powers.items c.args.depth (record { c = [] }) c.in-Ok.ensures.powers (omega arith) in
     let held : c.member.result ≡ holds_point P (outline P r c.args.kind scale at) point =
-    holds_is c.order-order.result m.order (c.order-order.ensures.order ∙ ap (λ (q : Rule). q.order) c.checked.ensures.rule) c.in-Ok-outline.corners.items c.as_slice.result.now _ c.args.point.now c.member.result
+    holds_is c.order-order.result m.order (c.order-order.ensures.order
+    ∙ ap (λ (q : Rule). q.order) c.checked.ensures.rule) c.in-Ok-outline.corners.items
+    c.as_slice.result.now _ c.args.point.now c.member.result
     c.as_slice.ensures.value c.in-Ok-outline.ensures.vertices c.member.ensures in
     let inside : true ≡ holds_point P (outline P r c.args.kind scale at) point = sym c.if-not-member.false ∙ held in
-    let values = past_outline P r (is_refused m.order) c.args.kind c.args.depth at point scale power_is true inside c.in-Ok.ensures.none_refused c.in-Ok-outline.ensures.none_refused in
+    let values = past_outline P r (is_refused m.order) c.args.kind c.args.depth at point scale power_is true
+    inside c.in-Ok.ensures.none_refused c.in-Ok-outline.ensures.none_refused in
     let tile = tile_same P r (is_refused m.order) c.args.kind c.args.depth at point scale power_is true inside in
     same_fault m.order c.descend.result (values_looked_at P r c.args.kind c.args.depth at point) (values_below P r c.args.kind c.args.depth at point)
     (tile_holding P r c.args.kind c.args.depth at point) (tile_below P r c.args.kind c.args.depth at point) values tile c.descend.ensures.fault

@@ -1,5 +1,5 @@
 use Rattle.std.proofs.Common.{◌≡◌, ◌<◌, sym, subst}
-use Rattle.substitution.specs.RuleParts.{edge_count}
+use Rattle.theory_substitution.specs.RuleParts.{edge_count}
 use Rattle.rule_model.specs.Tiling.{tiling_of}
 use Rattle.rule_model.specs.Views.{rule_of}
 use Rattle.tile_place.specs.TurnedVertices.{IsTurned}

@@ -15,7 +15,8 @@ pub returns-clause-vector : goal.returns-clause-vector
 returns-clause-vector c =
     let m = c.args.self.now in
     let law = subst PointsLaw (c.order.ensures.order ∙ ap (λ (r : Rule). r.order) c.checked.ensures.rule) c.points_law.ensures in
-    vector-turned m law c.args.kind c.args.steps c.args.edge c.end_of-end.result c.start_of-start.result c.sub.result c.end_of-end.ensures c.start_of-start.ensures (c.sub.ensures.is_difference m.order)
+    vector-turned m law c.args.kind c.args.steps c.args.edge c.end_of-end.result c.start_of-start.result
+    c.sub.result c.end_of-end.ensures c.start_of-start.ensures (c.sub.ensures.is_difference m.order)
 
 pub returns-clause-in_order : goal.returns-clause-in_order
 returns-clause-in_order c = c.sub.ensures.in_order c.args.self.now.order c.end_of-end.ensures.in_order c.start_of-start.ensures.in_order

@@ -17,5 +17,7 @@ returns c =
     let p1 : short (coefficient p 1) ≡ coefficient p 1 = omega (arith, ints, c.requires.at_1.low, c.requires.at_1.high) in
     let p2 : short (coefficient p 2) ≡ coefficient p 2 = omega (arith, ints, c.requires.at_2.low, c.requires.at_2.high) in
     let p3 : short (coefficient p 3) ≡ coefficient p 3 = omega (arith, ints, c.requires.at_3.low, c.requires.at_3.high) in
-    let all : short (coefficient p 0) ∷ (short (coefficient p 1) ∷ (short (coefficient p 2) ∷ (short (coefficient p 3) ∷ []))) ≡ p.c = (λ i. p0 i ∷ (p1 i ∷ (p2 i ∷ (p3 i ∷ [])))) ∙ sym (four p.c l) in
+    let all : short (coefficient p 0) ∷ (short (coefficient p 1)
+    ∷ (short (coefficient p 2) ∷ (short (coefficient p 3) ∷ []))) ≡ p.c
+    = (λ i. p0 i ∷ (p1 i ∷ (p2 i ∷ (p3 i ∷ [])))) ∙ sym (four p.c l) in
     λ i. record { c = all i }

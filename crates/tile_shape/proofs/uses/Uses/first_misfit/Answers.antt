@@ -14,6 +14,9 @@ loop-step-preserved c =
       counted = omega (arith, here.invariant.counted);
       same_fault =
           here.invariant.same_fault
-          ∙ ap (λ ds. climb_fault c.args.self.now here.level here.kind (map step_of ds)) (drop_more steps here.step-index (record { child = 0; parent = 0 }) c.loop-step-test.true)
-          ∙ climbed c.args.self.now here.level here.kind (step_of step) (map step_of (drop (here.step-index + 1) steps)) (sym c.child_kind.ensures.exact ∙ same_kind c.child_kind.result here.kind c.if-ne.ensures);
+          ∙ ap (λ ds. climb_fault c.args.self.now here.level here.kind (map step_of ds))
+          (drop_more steps here.step-index (record { child = 0; parent = 0 }) c.loop-step-test.true)
+          ∙ climbed c.args.self.now here.level here.kind (step_of step)
+          (map step_of (drop (here.step-index + 1) steps))
+          (sym c.child_kind.ensures.exact ∙ same_kind c.child_kind.result here.kind c.if-ne.ensures);
     }

@@ -1,6 +1,6 @@
 use Rattle.std.proofs.Common.{◌≡◌, ℕ, zero, suc, ◌+◌, ◌-◌, ◌<◌, ◌≤◌, List, [], ◌∷◌, ◌++◌, Some, length, map, set, take, sym, ap, ◌∙◌, subst, arith}
 use Rattle.std.proofs.lemmas.List.{length-set, length-append}
-use Rattle.frames.specs.Descent.{of_whole}
+use Rattle.theory_frames.specs.Descent.{of_whole}
 use Rattle.rule_model.specs.Tiling.{tiling_of}
 use Rattle.tile_place.proofs.Ahead.{drop-end}
 use Rattle.tile_place.proofs.EachOrder.{order-fits}
@@ -44,7 +44,8 @@ returns c =
     let turns = order-fits m.order in
     let room = c.requires.blocks.room in
     let there : row_place level kind turn < length c.args.self.now.blocks.items =
-    let place = block-there level kind turn c.requires.low (omega (arith, kinds, c.requires.kind_exists)) (omega (arith, turns, c.requires.turn_below)) in
+    let place = block-there level kind turn c.requires.low (omega (arith, kinds, c.requires.kind_exists))
+    (omega (arith, turns, c.requires.turn_below)) in
     omega (arith, place, room) in
     let d = c.in_ok-take_all.ensures.found c.if-not-branch.false in
     let first = c.tiles-first.ensures.count in

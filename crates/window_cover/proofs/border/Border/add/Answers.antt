@@ -21,7 +21,8 @@ invariant_of-self-2 c =
     let fresh : has_ends c.args.ends (open_of ls) ≡ false = ap (has_ends c.args.ends) c.self.view_is ∙ c.requires.fresh in
     let unfound = c.in_ok-insert.ensures.old ∙ c.self.invariant.found c.args.ends ∙ position-none c.args.ends ls fresh in
     let more = c.in_ok-insert.ensures.len ∙ ap (λ (x : Option ℕ). hash_map_len c.self.inside.places + (if is_some x then 0 else 1)) unfound in
-    opening-border c.self.invariant c.args.ends c.args.edge _ (opened ls c.args.ends c.args.edge c.in_ok-push.ensures.items at c.index_mut.ensures.value) fresh
+    opening-border c.self.invariant c.args.ends c.args.edge _
+    (opened ls c.args.ends c.args.edge c.in_ok-push.ensures.items at c.index_mut.ensures.value) fresh
     _ at _ c.in_ok-insert.ensures.updates.0 _ more
 
 pub returns-clause-added : goal.returns-clause-added
@@ -40,4 +41,6 @@ on_err (Err e) p = p
 
 pub returns-in_err-insert-clause-kept : goal.returns-in_err-insert-clause-kept
 returns-in_err-insert-clause-kept c =
-    on_err c.from_residual-in_err-insert.result (open_of-pushed c.self.inside.listed.items c.args.ends c.args.edge c.in_ok-push.ensures.items ∙ c.self.view_is)
+    on_err c.from_residual-in_err-insert.result
+    (open_of-pushed c.self.inside.listed.items c.args.ends c.args.edge c.in_ok-push.ensures.items
+    ∙ c.self.view_is)

@@ -16,7 +16,8 @@ pub invariant_of-self : goal.invariant_of-self
 invariant_of-self c =
     let found = sym c.remove.ensures.value ∙ c.in-Some.is in
     let fewer = ap (λ (x : Option ℕ). hash_map_len c.remove.new.self + (if is_some x then 1 else 0)) (sym c.in-Some.is) ∙ c.remove.ensures.len in
-    closing-border c.self.invariant c.args.ends.now c.in-Some.place c.index_mut.result.now found c.index_mut.ensures.value _ c.remove.ensures.updates.0 _ fewer
+    closing-border c.self.invariant c.args.ends.now c.in-Some.place c.index_mut.result.now found
+    c.index_mut.ensures.value _ c.remove.ensures.updates.0 _ fewer
 
 pub returns-in-Some-clause-found : goal.returns-in-Some-clause-found
 returns-in-Some-clause-found c =

@@ -3,8 +3,8 @@ use Rattle.std.proofs.lemmas.Result.{IfOk-weaker}
 use Rattle.rule_model.specs.declared.rule.Rule.{Rule}
 use Rattle.rule_model.specs.Tiling.{tiling_of}
 use Rattle.rule_model.specs.Views.{rule_of, rule_in}
-use Rattle.substitution.specs.Rule.{children_of}
-use Rattle.frames.specs.Descent.{of_whole}
+use Rattle.theory_substitution.specs.Rule.{children_of}
+use Rattle.theory_frames.specs.Descent.{of_whole}
 use Rattle.tile_place.proofs.FactorPowers.{power-read}
 use Rattle.tile_place.proofs.Plane.{IsSettled}
 use Rattle.window_descent.specs.Parts.{IsPartAt}
@@ -23,13 +23,19 @@ returns-then-level-eq0 t c =
       found = IfOk-weaker c.put.result (λ done. IsTrue done → IsTakenIn c.args.self.now c.put.new.self (found_part c.args.part.now c.args.path.now))
           (λ done. IsTrue done
           → IsDescended (tiling_of m) c.args.self.now c.put.new.self c.args.path.now c.args.path.now true c.args.level c.args.part.now)
-          (λ done h d. put-descended m c.args.self.now c.put.new.self c.args.path.now true c.args.level c.args.part.now c.requires.part c.if-level-eq0.true (λ e. absurd (cc e)) (h d)) c.put.ensures.put;
+          (λ done h d. put-descended m c.args.self.now c.put.new.self c.args.path.now true c.args.level
+          c.args.part.now c.requires.part c.if-level-eq0.true (λ e. absurd (cc e)) (h d))
+          c.put.ensures.put;
     }
 
 pub loop-number-init : goal.loop-number-init
 loop-number-init t c =
     let m = c.args.machine.now in
-    let settled : IsSettled m = record { accepted = c.checked.ensures.accepted; usable = c.checked.ensures.usable; same_child_kinds = c.checked.ensures.same_child_kinds } in
+    let settled : IsSettled m = record {
+      accepted = c.checked.ensures.accepted;
+      usable = c.checked.ensures.usable;
+      same_child_kinds = c.checked.ensures.same_child_kinds;
+    } in
     let some = c.if-level-eq0.false in
     let one : (c.args.level - 1) + 1 ≡ c.args.level = omega (arith, some) in
     record {
@@ -57,7 +63,11 @@ overflow_cast-path t c =
 pub loop-number-preserved : goal.loop-number-preserved
 loop-number-preserved t c =
     let m = c.args.machine.now in
-    let settled : IsSettled m = record { accepted = c.checked.ensures.accepted; usable = c.checked.ensures.usable; same_child_kinds = c.checked.ensures.same_child_kinds } in
+    let settled : IsSettled m = record {
+      accepted = c.checked.ensures.accepted;
+      usable = c.checked.ensures.usable;
+      same_child_kinds = c.checked.ensures.same_child_kinds;
+    } in
     let inv = c.loop-number.invariant in
     let below = c.args.level - 1 in
     let i = c.loop-number.number in
@@ -72,13 +82,15 @@ loop-number-preserved t c =
     let h : IsDescended (tiling_of m) c.loop-number.self c.take_all.new.self
     (set path below (record { child = i; parent = c.args.part.now.kind })) c.take_all.new.path true below c.in-Some.child
     = c.in_ok-take_all.ensures.found c.if-not-branch.false in
-    let next = next-found m settled c.args.self.now.window true c.args.part.now c.args.level below inv.one_below i few scale scale_is c.in-Some.child part
+    let next = next-found m settled c.args.self.now.window true c.args.part.now c.args.level below
+    inv.one_below i few scale scale_is c.in-Some.child part
     c.loop-number.self c.take_all.new.self path c.take_all.new.path c.args.path.now
     (omega (arith, c.loop-number.auto.path, inv.one_below, c.requires.on_path)) inv.same_above h inv.same_window in
     record {
       same_window = h.same_window ∙ inv.same_window;
       same_border = h.same_border ∙ inv.same_border;
-      same_above = next-above m settled c.args.self.now.window true c.args.part.now c.args.level below inv.one_below i few scale scale_is c.in-Some.child part
+      same_above = next-above m settled c.args.self.now.window true c.args.part.now c.args.level below
+          inv.one_below i few scale scale_is c.in-Some.child part
           c.loop-number.self c.take_all.new.self path c.take_all.new.path c.args.path.now
           (omega (arith, c.loop-number.auto.path, inv.one_below, c.requires.on_path)) inv.same_above h inv.same_window;
       longer = more-then c.args.self.now.found c.loop-number.self.found c.take_all.new.self.found inv.longer h.longer;

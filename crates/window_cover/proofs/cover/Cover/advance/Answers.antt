@@ -1,11 +1,11 @@
 use Rattle.std.proofs.Common.{rules, ◌≡◌, ◌<◌, Some, OnOk, IfErr, List, length, map, slice_get, refl, sym, ap, ◌∙◌, subst, add-one}
 use Rattle.std.proofs.lemmas.Result.{on_ok_weaker}
-use Rattle.frames.specs.Frame.{IsTileOf}
+use Rattle.theory_frames.specs.Frame.{IsTileOf}
 use Rattle.lazy_walk.specs.Frames.{whole, GrowsTo, lifted_at}
 use Rattle.rule_model.specs.Tiling.{tiling_of, children}
 use Rattle.tile_shape.specs.Views.{address_of}
 use Rattle.cyclo_points.specs.declared.point.Point.{Point}
-use Rattle.frames.specs.Frame.{lifted_in}
+use Rattle.theory_frames.specs.Frame.{lifted_in}
 use Rattle.lazy_walk.specs.Ancestors.{full}
 use Rattle.lazy_walk.specs.Boundary.{IsBoundaryEdge}
 use Rattle.tile_place.specs.Corners.{AreCorners}
@@ -37,7 +37,9 @@ use Rattle.window_cover.proofs.cover.Cover.advance.Goals as goal
 
 -- what the rule and the laws bring
 brings : (g : Over) (c : After-put_tile g) → Brings HasSearchLaws c.args.machine.now
-brings g c = brought HasSearchLaws c.args.machine.now _ _ _ c.checked-checked.ensures.rule c.checked-checked.ensures.accepted c.checked-checked.ensures.usable c.checked-checked.ensures.same_child_kinds
+brings g c = brought HasSearchLaws c.args.machine.now _ _ _ c.checked-checked.ensures.rule
+    c.checked-checked.ensures.accepted c.checked-checked.ensures.usable
+    c.checked-checked.ensures.same_child_kinds
     c.uses.ensures c.kinds-usable.ensures.limits c.order.ensures.order c.search_laws.ensures c.grown_fits_law.ensures
 
 -- what is found stays when closed edges are passed
@@ -48,16 +50,24 @@ passed : (g : Over) (c : After-put_tile g) → ◌≡◌ {A = CoverValue} (recor
 }) c.args.self.now
 passed g c =
     let inside = c.self.inside in
-    ap (λ (b : List Waiting). record { window = inside.window; found = found_in inside.digits.items inside.found.items; border = map unpacked b }) c.pass.ensures ∙ c.self.view_is
+    ap (λ (b : List Waiting). record {
+      window = inside.window;
+      found = found_in inside.digits.items inside.found.items;
+      border = map unpacked b;
+    }) c.pass.ensures
+    ∙ c.self.view_is
 
 -- the tile of the first open edge, as it was found
 at_first : (g : Over) (c : After-put_tile g) → slice_get c.args.self.now.found c.args.first.tile ≡ Some (found_as c.put_tile.new.tile)
-at_first g c = subst (λ (y : CoverValue). slice_get y.found c.args.first.tile ≡ Some (found_as c.put_tile.new.tile)) (passed g c) c.put_tile.ensures.as_found
+at_first g c = subst (λ (y : CoverValue). slice_get y.found c.args.first.tile ≡ Some
+    (found_as c.put_tile.new.tile)) (passed g c) c.put_tile.ensures.as_found
 
 is_found : (g : Over) (c : After-put_tile g) → IsFound (tiling_of c.args.machine.now) c.args.frame.now (found_as c.put_tile.new.tile)
 is_found g c =
     let B = brings g c in
-    its_found c.args.machine.now B.settled B.fits B.laws c.args.frame.now c.requires.right.frame (working c.args.self.now) (works (tiling_of c.args.machine.now) B.laws.open_test c.args.frame.now c.args.self.now c.requires.right) c.args.first.tile (found_as c.put_tile.new.tile) (at_first g c)
+    its_found c.args.machine.now B.settled B.fits B.laws c.args.frame.now c.requires.right.frame
+    (working c.args.self.now) (works (tiling_of c.args.machine.now) B.laws.open_test c.args.frame.now
+    c.args.self.now c.requires.right) c.args.first.tile (found_as c.put_tile.new.tile) (at_first g c)
 
 its_address : (g : Over) (c : After-put_tile g) → address_found (found_as c.put_tile.new.tile) ≡ address_of c.put_tile.new.tile.addr
 its_address g c = sym (λ i. record { kind = c.put_tile.ensures.its_kind i; digits = (address_of c.put_tile.new.tile.addr).digits })
@@ -71,12 +81,29 @@ overflow_cast-first g c = search rules
 pub put_tile-requires : goal.put_tile-requires
 put_tile-requires g c =
     let t = tiling_of c.args.machine.now in
-    let B = brought HasSearchLaws c.args.machine.now _ _ _ c.checked-checked.ensures.rule c.checked-checked.ensures.accepted c.checked-checked.ensures.usable c.checked-checked.ensures.same_child_kinds c.uses.ensures c.kinds-usable.ensures.limits
+    let B = brought HasSearchLaws c.args.machine.now _ _ _ c.checked-checked.ensures.rule
+    c.checked-checked.ensures.accepted c.checked-checked.ensures.usable
+    c.checked-checked.ensures.same_child_kinds c.uses.ensures c.kinds-usable.ensures.limits
     c.order.ensures.order c.search_laws.ensures c.grown_fits_law.ensures in
     let inside = c.self.inside in
-    let same : ◌≡◌ {A = CoverValue} (record { window = inside.window; found = found_in inside.digits.items inside.found.items; border = map unpacked c.pass.new.self }) c.args.self.now =
-    ap (λ (b : List Waiting). record { window = inside.window; found = found_in inside.digits.items inside.found.items; border = map unpacked b }) c.pass.ensures ∙ c.self.view_is in
-    record { found = subst (λ (y : CoverValue). c.args.first.tile < length y.found) (sym same) (tile-there c.args.machine.now B.laws c.args.frame.now (working c.args.self.now) (works t B.laws.open_test c.args.frame.now c.args.self.now c.requires.right) c.args.first (first-packed c.args.self.now.border ∙ c.requires.is_first)) }
+    let same : ◌≡◌ {A = CoverValue} (record {
+      window = inside.window;
+      found = found_in inside.digits.items inside.found.items;
+      border = map unpacked c.pass.new.self;
+    })
+    c.args.self.now =
+    ap (λ (b : List Waiting). record {
+      window = inside.window;
+      found = found_in inside.digits.items inside.found.items;
+      border = map unpacked b;
+    }) c.pass.ensures
+    ∙ c.self.view_is in
+    record {
+      found = subst (λ (y : CoverValue). c.args.first.tile < length y.found) (sym same)
+          (tile-there c.args.machine.now B.laws c.args.frame.now (working c.args.self.now)
+          (works t B.laws.open_test c.args.frame.now c.args.self.now c.requires.right) c.args.first
+          (first-packed c.args.self.now.border ∙ c.requires.is_first));
+    }
 
 pub step_grow-requires-clause-frame : goal.step_grow-requires-clause-frame
 step_grow-requires-clause-frame g c = c.requires.right.frame
@@ -99,7 +126,10 @@ step_grow-requires-clause-edge_exists g c =
     let B = brings g p in
     let x = found_as c.put_tile.new.tile in
     let at = at_first g p in
-    subst (λ n. c.args.first.edge < edges_of t n) (sym c.put_tile.ensures.its_kind) (edge-there c.args.machine.now B.settled B.fits B.laws c.args.frame.now (working c.args.self.now) (works t B.laws.open_test c.args.frame.now c.args.self.now c.requires.right) c.args.first (first-packed c.args.self.now.border ∙ c.requires.is_first) x at)
+    subst (λ n. c.args.first.edge < edges_of t n) (sym c.put_tile.ensures.its_kind)
+    (edge-there c.args.machine.now B.settled B.fits B.laws c.args.frame.now (working c.args.self.now)
+    (works t B.laws.open_test c.args.frame.now c.args.self.now c.requires.right) c.args.first
+    (first-packed c.args.self.now.border ∙ c.requires.is_first) x at)
 
 pub step_grow-requires-clause-turn_below : goal.step_grow-requires-clause-turn_below
 step_grow-requires-clause-turn_below g c =
@@ -131,8 +161,12 @@ admit-requires-clause-exists g c =
     let tile = c.step_grow.new.tile in
     let back = c.in-Ok.field-0 in
     let h : GrowsTo t c.args.frame.now k = c.in-Ok.ensures.frame in
-    let crossed : IsCrossedTo t c.args.frame.now k (address_found x) x.motion c.args.first.edge tile back = subst (λ a. IsCrossedTo t c.args.frame.now k a x.motion c.args.first.edge tile back) (sym a_is) c.in-Ok.ensures.crossed in
-    kind_exists c.args.machine.now B.settled B.fits B.laws c.args.frame.now k h (working c.args.self.now) (works t B.laws.open_test c.args.frame.now c.args.self.now c.requires.right) c.args.first (first-packed c.args.self.now.border ∙ c.requires.is_first) x at tile back crossed
+    let crossed : IsCrossedTo t c.args.frame.now k (address_found x) x.motion c.args.first.edge tile back
+    = subst (λ a. IsCrossedTo t c.args.frame.now k a x.motion c.args.first.edge tile back) (sym a_is)
+    c.in-Ok.ensures.crossed in
+    kind_exists c.args.machine.now B.settled B.fits B.laws c.args.frame.now k h (working c.args.self.now)
+    (works t B.laws.open_test c.args.frame.now c.args.self.now c.requires.right) c.args.first
+    (first-packed c.args.self.now.border ∙ c.requires.is_first) x at tile back crossed
 
 pub admit-requires-clause-turn_below : goal.admit-requires-clause-turn_below
 admit-requires-clause-turn_below g c = c.in-Ok.ensures.crossed.turn_below
@@ -156,8 +190,14 @@ admit-requires-clause-new g c =
     let tile = c.step_grow.new.tile in
     let back = c.in-Ok.field-0 in
     let h : GrowsTo t c.args.frame.now k = c.in-Ok.ensures.frame in
-    let crossed : IsCrossedTo t c.args.frame.now k (address_found x) x.motion c.args.first.edge tile back = subst (λ a. IsCrossedTo t c.args.frame.now k a x.motion c.args.first.edge tile back) (sym a_is) c.in-Ok.ensures.crossed in
-    subst (λ (y : CoverValue). (corners : List Point) → AreCorners t tile.kind tile.motion corners → AreNew corners (working y).border) (sym same) (edges_new c.args.machine.now B.settled B.fits B.laws c.args.frame.now k h (working c.args.self.now) (works t B.laws.open_test c.args.frame.now c.args.self.now c.requires.right) c.args.first (first-packed c.args.self.now.border ∙ c.requires.is_first) x at tile back crossed)
+    let crossed : IsCrossedTo t c.args.frame.now k (address_found x) x.motion c.args.first.edge tile back
+    = subst (λ a. IsCrossedTo t c.args.frame.now k a x.motion c.args.first.edge tile back) (sym a_is)
+    c.in-Ok.ensures.crossed in
+    subst (λ (y : CoverValue). (corners : List Point) → AreCorners t tile.kind tile.motion corners
+    → AreNew corners (working y).border) (sym same)
+    (edges_new c.args.machine.now B.settled B.fits B.laws c.args.frame.now k h (working c.args.self.now)
+    (works t B.laws.open_test c.args.frame.now c.args.self.now c.requires.right) c.args.first
+    (first-packed c.args.self.now.border ∙ c.requires.is_first) x at tile back crossed)
 
 pub returns-in-Ok-clause-frame : goal.returns-in-Ok-clause-frame
 returns-in-Ok-clause-frame g c = c.in-Ok.ensures.frame
@@ -175,9 +215,15 @@ returns-in-Ok-clause-steps_to g c =
     let tile = c.step_grow.new.tile in
     let back = c.in-Ok.field-0 in
     let h : GrowsTo t c.args.frame.now k = c.in-Ok.ensures.frame in
-    let crossed : IsCrossedTo t c.args.frame.now k (address_found x) x.motion c.args.first.edge tile back = subst (λ a. IsCrossedTo t c.args.frame.now k a x.motion c.args.first.edge tile back) (sym a_is) c.in-Ok.ensures.crossed in
-    let admitted : OnOk c.admit.result (IsAdmitted t (working c.args.self.now) (working c.admit.new.self) tile) = subst (λ y. OnOk c.admit.result (IsAdmitted t (working y) (working c.admit.new.self) tile)) same c.admit.ensures.admitted in
-    on_ok_weaker c.admit.result (λ n. stepped.steps_to c.args.machine.now B.settled B.fits B.laws c.args.frame.now k h c.args.self.now c.requires.right c.args.first c.requires.is_first x at tile back crossed c.admit.new.self n) admitted
+    let crossed : IsCrossedTo t c.args.frame.now k (address_found x) x.motion c.args.first.edge tile back
+    = subst (λ a. IsCrossedTo t c.args.frame.now k a x.motion c.args.first.edge tile back) (sym a_is)
+    c.in-Ok.ensures.crossed in
+    let admitted : OnOk c.admit.result (IsAdmitted t (working c.args.self.now) (working c.admit.new.self)
+    tile) = subst (λ y. OnOk c.admit.result (IsAdmitted t (working y) (working c.admit.new.self) tile))
+    same c.admit.ensures.admitted in
+    on_ok_weaker c.admit.result (λ n. stepped.steps_to c.args.machine.now B.settled B.fits B.laws
+    c.args.frame.now k h c.args.self.now c.requires.right c.args.first c.requires.is_first x at tile back
+    crossed c.admit.new.self n) admitted
 
 pub returns-in-Ok-clause-right : goal.returns-in-Ok-clause-right
 returns-in-Ok-clause-right g c =
@@ -192,11 +238,18 @@ returns-in-Ok-clause-right g c =
     let tile = c.step_grow.new.tile in
     let back = c.in-Ok.field-0 in
     let h : GrowsTo t c.args.frame.now k = c.in-Ok.ensures.frame in
-    let crossed : IsCrossedTo t c.args.frame.now k (address_found x) x.motion c.args.first.edge tile back = subst (λ a. IsCrossedTo t c.args.frame.now k a x.motion c.args.first.edge tile back) (sym a_is) c.in-Ok.ensures.crossed in
-    let admitted : OnOk c.admit.result (IsAdmitted t (working c.args.self.now) (working c.admit.new.self) tile) = subst (λ y. OnOk c.admit.result (IsAdmitted t (working y) (working c.admit.new.self) tile)) same c.admit.ensures.admitted in
+    let crossed : IsCrossedTo t c.args.frame.now k (address_found x) x.motion c.args.first.edge tile back
+    = subst (λ a. IsCrossedTo t c.args.frame.now k a x.motion c.args.first.edge tile back) (sym a_is)
+    c.in-Ok.ensures.crossed in
+    let admitted : OnOk c.admit.result (IsAdmitted t (working c.args.self.now) (working c.admit.new.self)
+    tile) = subst (λ y. OnOk c.admit.result (IsAdmitted t (working y) (working c.admit.new.self) tile))
+    same c.admit.ensures.admitted in
     on_ok_weaker c.admit.result
     (λ n. right-of t B.laws.open_test k c.admit.new.self n.1
-    (right-next c.args.machine.now B.settled B.fits B.laws c.args.frame.now k h (working c.args.self.now) (works t B.laws.open_test c.args.frame.now c.args.self.now c.requires.right) c.args.first (first-packed c.args.self.now.border ∙ c.requires.is_first) x at tile back crossed (working c.admit.new.self) n.0))
+    (right-next c.args.machine.now B.settled B.fits B.laws c.args.frame.now k h (working c.args.self.now)
+    (works t B.laws.open_test c.args.frame.now c.args.self.now c.requires.right) c.args.first
+    (first-packed c.args.self.now.border ∙ c.requires.is_first) x at tile back crossed
+    (working c.admit.new.self) n.0))
     (on_ok-both _ _ c.admit.result admitted c.admit.ensures.same_ends)
 
 pub returns-in-Ok-clause-one_more : goal.returns-in-Ok-clause-one_more
@@ -212,9 +265,16 @@ returns-in-Ok-clause-one_more g c =
     let tile = c.step_grow.new.tile in
     let back = c.in-Ok.field-0 in
     let h : GrowsTo t c.args.frame.now k = c.in-Ok.ensures.frame in
-    let crossed : IsCrossedTo t c.args.frame.now k (address_found x) x.motion c.args.first.edge tile back = subst (λ a. IsCrossedTo t c.args.frame.now k a x.motion c.args.first.edge tile back) (sym a_is) c.in-Ok.ensures.crossed in
-    let admitted : OnOk c.admit.result (IsAdmitted t (working c.args.self.now) (working c.admit.new.self) tile) = subst (λ y. OnOk c.admit.result (IsAdmitted t (working y) (working c.admit.new.self) tile)) same c.admit.ensures.admitted in
-    on_ok_weaker c.admit.result (λ n. one_more c.args.machine.now B.settled B.fits B.laws c.args.frame.now k h (working c.args.self.now) (works t B.laws.open_test c.args.frame.now c.args.self.now c.requires.right) c.args.first (first-packed c.args.self.now.border ∙ c.requires.is_first) x at tile back crossed (working c.admit.new.self) n ∙ add-one (length c.args.self.now.found)) admitted
+    let crossed : IsCrossedTo t c.args.frame.now k (address_found x) x.motion c.args.first.edge tile back
+    = subst (λ a. IsCrossedTo t c.args.frame.now k a x.motion c.args.first.edge tile back) (sym a_is)
+    c.in-Ok.ensures.crossed in
+    let admitted : OnOk c.admit.result (IsAdmitted t (working c.args.self.now) (working c.admit.new.self)
+    tile) = subst (λ y. OnOk c.admit.result (IsAdmitted t (working y) (working c.admit.new.self) tile))
+    same c.admit.ensures.admitted in
+    on_ok_weaker c.admit.result (λ n. one_more c.args.machine.now B.settled B.fits B.laws c.args.frame.now k h
+    (working c.args.self.now) (works t B.laws.open_test c.args.frame.now c.args.self.now c.requires.right)
+    c.args.first (first-packed c.args.self.now.border ∙ c.requires.is_first) x at tile back crossed
+    (working c.admit.new.self) n ∙ add-one (length c.args.self.now.found)) admitted
 
 pub returns-in-Ok-clause-not_beyond : goal.returns-in-Ok-clause-not_beyond
 returns-in-Ok-clause-not_beyond g c =
@@ -228,8 +288,12 @@ returns-in-Ok-clause-not_beyond g c =
     let tile = c.step_grow.new.tile in
     let back = c.in-Ok.field-0 in
     let h : GrowsTo t c.args.frame.now k = c.in-Ok.ensures.frame in
-    let crossed : IsCrossedTo t c.args.frame.now k (address_found x) x.motion c.args.first.edge tile back = subst (λ a. IsCrossedTo t c.args.frame.now k a x.motion c.args.first.edge tile back) (sym a_is) c.in-Ok.ensures.crossed in
-    not_beyond_next c.args.machine.now B.settled B.fits B.laws c.args.frame.now k h (working c.args.self.now) (works t B.laws.open_test c.args.frame.now c.args.self.now c.requires.right) c.args.first (first-packed c.args.self.now.border ∙ c.requires.is_first) x at tile back crossed
+    let crossed : IsCrossedTo t c.args.frame.now k (address_found x) x.motion c.args.first.edge tile back
+    = subst (λ a. IsCrossedTo t c.args.frame.now k a x.motion c.args.first.edge tile back) (sym a_is)
+    c.in-Ok.ensures.crossed in
+    not_beyond_next c.args.machine.now B.settled B.fits B.laws c.args.frame.now k h (working c.args.self.now)
+    (works t B.laws.open_test c.args.frame.now c.args.self.now c.requires.right) c.args.first
+    (first-packed c.args.self.now.border ∙ c.requires.is_first) x at tile back crossed
 
 pub returns-in-Ok-clause-within : goal.returns-in-Ok-clause-within
 returns-in-Ok-clause-within g c =
@@ -244,9 +308,15 @@ returns-in-Ok-clause-within g c =
     let tile = c.step_grow.new.tile in
     let back = c.in-Ok.field-0 in
     let h : GrowsTo t c.args.frame.now k = c.in-Ok.ensures.frame in
-    let crossed : IsCrossedTo t c.args.frame.now k (address_found x) x.motion c.args.first.edge tile back = subst (λ a. IsCrossedTo t c.args.frame.now k a x.motion c.args.first.edge tile back) (sym a_is) c.in-Ok.ensures.crossed in
-    let why : IfErr c.admit.result (IsNotAdmitted t (working c.args.self.now) tile) = subst (λ y. IfErr c.admit.result (IsNotAdmitted t (working y) tile)) same c.admit.ensures.cause in
-    λ f0 grows within. within_next c.args.machine.now B.settled B.fits B.laws c.args.frame.now k h (working c.args.self.now) (works t B.laws.open_test c.args.frame.now c.args.self.now c.requires.right) c.args.first (first-packed c.args.self.now.border ∙ c.requires.is_first) x at tile back crossed f0 grows within c.admit.result why
+    let crossed : IsCrossedTo t c.args.frame.now k (address_found x) x.motion c.args.first.edge tile back
+    = subst (λ a. IsCrossedTo t c.args.frame.now k a x.motion c.args.first.edge tile back) (sym a_is)
+    c.in-Ok.ensures.crossed in
+    let why : IfErr c.admit.result (IsNotAdmitted t (working c.args.self.now) tile) = subst
+    (λ y. IfErr c.admit.result (IsNotAdmitted t (working y) tile)) same c.admit.ensures.cause in
+    λ f0 grows within. within_next c.args.machine.now B.settled B.fits B.laws c.args.frame.now k h
+    (working c.args.self.now) (works t B.laws.open_test c.args.frame.now c.args.self.now c.requires.right)
+    c.args.first (first-packed c.args.self.now.border ∙ c.requires.is_first) x at tile back crossed f0
+    grows within c.admit.result why
 
 pub returns-in-Ok-clause-cause : goal.returns-in-Ok-clause-cause
 returns-in-Ok-clause-cause g c =
@@ -261,9 +331,14 @@ returns-in-Ok-clause-cause g c =
     let tile = c.step_grow.new.tile in
     let back = c.in-Ok.field-0 in
     let h : GrowsTo t c.args.frame.now k = c.in-Ok.ensures.frame in
-    let crossed : IsCrossedTo t c.args.frame.now k (address_found x) x.motion c.args.first.edge tile back = subst (λ a. IsCrossedTo t c.args.frame.now k a x.motion c.args.first.edge tile back) (sym a_is) c.in-Ok.ensures.crossed in
-    let why : IfErr c.admit.result (IsNotAdmitted t (working c.args.self.now) tile) = subst (λ y. IfErr c.admit.result (IsNotAdmitted t (working y) tile)) same c.admit.ensures.cause in
-    cause_next c.args.machine.now B.settled B.fits B.laws c.args.frame.now k h (working c.args.self.now) (works t B.laws.open_test c.args.frame.now c.args.self.now c.requires.right) c.args.first (first-packed c.args.self.now.border ∙ c.requires.is_first) x at tile back crossed c.admit.result why
+    let crossed : IsCrossedTo t c.args.frame.now k (address_found x) x.motion c.args.first.edge tile back
+    = subst (λ a. IsCrossedTo t c.args.frame.now k a x.motion c.args.first.edge tile back) (sym a_is)
+    c.in-Ok.ensures.crossed in
+    let why : IfErr c.admit.result (IsNotAdmitted t (working c.args.self.now) tile) = subst
+    (λ y. IfErr c.admit.result (IsNotAdmitted t (working y) tile)) same c.admit.ensures.cause in
+    cause_next c.args.machine.now B.settled B.fits B.laws c.args.frame.now k h (working c.args.self.now)
+    (works t B.laws.open_test c.args.frame.now c.args.self.now c.requires.right) c.args.first
+    (first-packed c.args.self.now.border ∙ c.requires.is_first) x at tile back crossed c.admit.result why
 
 pub returns-in-Err-clause-frame : goal.returns-in-Err-clause-frame
 returns-in-Err-clause-frame g c = c.in-Err.ensures.frame
@@ -276,8 +351,12 @@ returns-in-Err-clause-not_beyond g c =
     let x = found_as c.put_tile.new.tile in
     let at = at_first g p in
     let a_is = its_address g p in
-    let on : IsBoundaryEdge t (lifted_in (full t c.args.frame.now) (address_found x)) c.args.first.edge = subst (λ a. IsBoundaryEdge t (lifted_in (full t c.args.frame.now) a) c.args.first.edge) (sym a_is) (c.in-Err.ensures.limit_exactly.0 refl) in
-    λ f0 n grows enough below. absurd (not_enough c.args.machine.now B.settled B.fits B.laws c.args.frame.now (working c.args.self.now) (works t B.laws.open_test c.args.frame.now c.args.self.now c.requires.right) c.args.first (first-packed c.args.self.now.border ∙ c.requires.is_first) x at on f0 n grows enough)
+    let on : IsBoundaryEdge t (lifted_in (full t c.args.frame.now) (address_found x)) c.args.first.edge
+    = subst (λ a. IsBoundaryEdge t (lifted_in (full t c.args.frame.now) a) c.args.first.edge) (sym a_is)
+    (c.in-Err.ensures.limit_exactly.0 refl) in
+    λ f0 n grows enough below. absurd (not_enough c.args.machine.now B.settled B.fits B.laws c.args.frame.now
+    (working c.args.self.now) (works t B.laws.open_test c.args.frame.now c.args.self.now c.requires.right)
+    c.args.first (first-packed c.args.self.now.border ∙ c.requires.is_first) x at on f0 n grows enough)
 
 pub returns-in-Err-clause-within : goal.returns-in-Err-clause-within
 returns-in-Err-clause-within g c =
@@ -287,8 +366,12 @@ returns-in-Err-clause-within g c =
     let x = found_as c.put_tile.new.tile in
     let at = at_first g p in
     let a_is = its_address g p in
-    let on : IsBoundaryEdge t (lifted_in (full t c.args.frame.now) (address_found x)) c.args.first.edge = subst (λ a. IsBoundaryEdge t (lifted_in (full t c.args.frame.now) a) c.args.first.edge) (sym a_is) (c.in-Err.ensures.limit_exactly.0 refl) in
-    λ f0 grows within. absurd (not_within c.args.machine.now B.settled B.fits B.laws c.args.frame.now (working c.args.self.now) (works t B.laws.open_test c.args.frame.now c.args.self.now c.requires.right) c.args.first (first-packed c.args.self.now.border ∙ c.requires.is_first) x at on f0 grows within)
+    let on : IsBoundaryEdge t (lifted_in (full t c.args.frame.now) (address_found x)) c.args.first.edge
+    = subst (λ a. IsBoundaryEdge t (lifted_in (full t c.args.frame.now) a) c.args.first.edge) (sym a_is)
+    (c.in-Err.ensures.limit_exactly.0 refl) in
+    λ f0 grows within. absurd (not_within c.args.machine.now B.settled B.fits B.laws c.args.frame.now
+    (working c.args.self.now) (works t B.laws.open_test c.args.frame.now c.args.self.now c.requires.right)
+    c.args.first (first-packed c.args.self.now.border ∙ c.requires.is_first) x at on f0 grows within)
 
 pub returns-in-Err-clause-cause : goal.returns-in-Err-clause-cause
 returns-in-Err-clause-cause g c =
@@ -298,8 +381,15 @@ returns-in-Err-clause-cause g c =
     let x = found_as c.put_tile.new.tile in
     let at = at_first g p in
     let a_is = its_address g p in
-    let on : IsBoundaryEdge t (lifted_in (full t c.args.frame.now) (address_found x)) c.args.first.edge = subst (λ a. IsBoundaryEdge t (lifted_in (full t c.args.frame.now) a) c.args.first.edge) (sym a_is) (c.in-Err.ensures.limit_exactly.0 refl) in
-    depth_limit c.args.machine.now B.settled B.fits B.laws c.args.frame.now (working c.args.self.now) (works t B.laws.open_test c.args.frame.now c.args.self.now c.requires.right) c.args.first (first-packed c.args.self.now.border ∙ c.requires.is_first) x at on c.step_grow.new.self c.in-Err.ensures.frame c.in-Err.ensures.deepest_at_limit c.in-Err.limit.addr (c.in-Err.ensures.limit_tile ∙ ap (lifted_in (full t c.args.frame.now)) (sym a_is)) c.in-Err.limit.edge c.in-Err.ensures.limit_edge
+    let on : IsBoundaryEdge t (lifted_in (full t c.args.frame.now) (address_found x)) c.args.first.edge
+    = subst (λ a. IsBoundaryEdge t (lifted_in (full t c.args.frame.now) a) c.args.first.edge) (sym a_is)
+    (c.in-Err.ensures.limit_exactly.0 refl) in
+    depth_limit c.args.machine.now B.settled B.fits B.laws c.args.frame.now (working c.args.self.now)
+    (works t B.laws.open_test c.args.frame.now c.args.self.now c.requires.right) c.args.first
+    (first-packed c.args.self.now.border ∙ c.requires.is_first) x at on c.step_grow.new.self
+    c.in-Err.ensures.frame c.in-Err.ensures.deepest_at_limit c.in-Err.limit.addr
+    (c.in-Err.ensures.limit_tile ∙ ap (lifted_in (full t c.args.frame.now)) (sym a_is))
+    c.in-Err.limit.edge c.in-Err.ensures.limit_edge
 
 -- ---- how far the frame grows
 pub returns-in-Ok-clause-inside : goal.returns-in-Ok-clause-inside
@@ -308,19 +398,23 @@ returns-in-Ok-clause-inside g c =
     let p = (goal.at.returns-in-Ok-clause-inside g c).After-put_tile in
     let inside : ¬ IsBoundaryEdge t (lifted_in (whole c.step_grow.new.self) (address_found (found_as c.put_tile.new.tile))) c.args.first.edge
     = subst (λ a. ¬ IsBoundaryEdge t (lifted_in (whole c.step_grow.new.self) a) c.args.first.edge) (sym (its_address g p)) c.in-Ok.ensures.inside in
-    on_ok_weaker c.admit.result (λ n. first-inside t c.args.frame.now c.step_grow.new.self c.in-Ok.ensures.frame c.args.self.now c.args.first c.requires.is_first (found_as c.put_tile.new.tile) (at_first g p) inside)
+    on_ok_weaker c.admit.result (λ n. first-inside t c.args.frame.now c.step_grow.new.self
+    c.in-Ok.ensures.frame c.args.self.now c.args.first c.requires.is_first (found_as c.put_tile.new.tile)
+    (at_first g p) inside)
     c.admit.ensures.admitted
 
 pub returns-in-Ok-clause-least : goal.returns-in-Ok-clause-least
 returns-in-Ok-clause-least g c = λ n l h.
     let t = tiling_of c.args.machine.now in
     let p = (goal.at.returns-in-Ok-clause-least g c).After-put_tile in
-    first-outside t c.args.frame.now c.step_grow.new.self c.in-Ok.ensures.frame c.args.self.now c.args.first c.requires.is_first (found_as c.put_tile.new.tile) (at_first g p) n
+    first-outside t c.args.frame.now c.step_grow.new.self c.in-Ok.ensures.frame c.args.self.now c.args.first
+    c.requires.is_first (found_as c.put_tile.new.tile) (at_first g p) n
     (subst (λ a. IsBoundaryEdge t (lifted_at t c.args.frame.now a n) c.args.first.edge) (sym (its_address g p)) (c.in-Ok.ensures.least n l h))
 
 pub returns-in-Err-clause-least : goal.returns-in-Err-clause-least
 returns-in-Err-clause-least g c = λ n l h.
     let t = tiling_of c.args.machine.now in
     let p = (goal.at.returns-in-Err-clause-least g c).After-put_tile in
-    first-outside t c.args.frame.now c.step_grow.new.self c.in-Err.ensures.frame c.args.self.now c.args.first c.requires.is_first (found_as c.put_tile.new.tile) (at_first g p) n
+    first-outside t c.args.frame.now c.step_grow.new.self c.in-Err.ensures.frame c.args.self.now c.args.first
+    c.requires.is_first (found_as c.put_tile.new.tile) (at_first g p) n
     (subst (λ a. IsBoundaryEdge t (lifted_at t c.args.frame.now a n) c.args.first.edge) (sym (its_address g p)) (c.in-Err.ensures.least n l h))

@@ -17,39 +17,51 @@ its : (c : After-arranged) (tiles : List PlacedTile) → AreArranged c.args.fram
 its c tiles a = subst (λ (xs : List Found). AreArranged c.args.frame.now xs tiles) c.in_ok-runs.ensures.same a
 
 laws : (c : After-arranged) (m : Rule) → IsChecked m → HasLaws m
-laws c m checked = laws_of m checked c.end_laws.ensures.points c.end_laws.ensures.patch c.end_laws.ensures.known c.end_laws.ensures.open_test c.end_laws.ensures.finish c.grown_fits_law.ensures
+laws c m checked = laws_of m checked c.end_laws.ensures.points c.end_laws.ensures.patch
+    c.end_laws.ensures.known c.end_laws.ensures.open_test c.end_laws.ensures.finish c.grown_fits_law.ensures
 
 pub arranged-requires-clause-no_deeper : goal.arranged-requires-clause-no_deeper
-arranged-requires-clause-no_deeper c = subst (λ (xs : List Found). All (CanBeLifted c.args.frame.now) xs) (sym c.in_ok-runs.ensures.same) c.requires.no_deeper
+arranged-requires-clause-no_deeper c = subst (λ (xs : List Found). All (CanBeLifted c.args.frame.now) xs)
+    (sym c.in_ok-runs.ensures.same) c.requires.no_deeper
 
 pub returns-clause-lifted : goal.returns-clause-lifted
 returns-clause-lifted c =
-    IfOk-weaker c.arranged.result _ _ (λ tiles h. are-lifted c.args.frame.now c.args.self c.requires.no_deeper tiles (its c tiles h)) c.arranged.ensures
+    IfOk-weaker c.arranged.result _ _ (λ tiles h. are-lifted c.args.frame.now c.args.self c.requires.no_deeper
+    tiles (its c tiles h)) c.arranged.ensures
 
 pub returns-clause-sorted : goal.returns-clause-sorted
 returns-clause-sorted c =
-    IfOk-weaker c.arranged.result _ _ (λ tiles h. are-sorted c.args.frame.now c.args.self c.requires.no_deeper tiles (its c tiles h)) c.arranged.ensures
+    IfOk-weaker c.arranged.result _ _ (λ tiles h. are-sorted c.args.frame.now c.args.self c.requires.no_deeper
+    tiles (its c tiles h)) c.arranged.ensures
 
 pub returns-clause-as_many : goal.returns-clause-as_many
 returns-clause-as_many c =
-    IfOk-weaker c.arranged.result _ _ (λ tiles h. are-as_many c.args.frame.now c.args.self c.requires.no_deeper tiles (its c tiles h)) c.arranged.ensures
+    IfOk-weaker c.arranged.result _ _ (λ tiles h. are-as_many c.args.frame.now c.args.self
+    c.requires.no_deeper tiles (its c tiles h)) c.arranged.ensures
 
 pub returns-clause-drawn : goal.returns-clause-drawn
 returns-clause-drawn c =
-    IfOk-weaker c.arranged.result _ _ (λ tiles h r checked right. are-drawn c.args.frame.now c.args.self c.requires.no_deeper tiles (its c tiles h) (laws c) r checked right c.requires.none_open) c.arranged.ensures
+    IfOk-weaker c.arranged.result _ _ (λ tiles h r checked right. are-drawn c.args.frame.now c.args.self
+    c.requires.no_deeper tiles (its c tiles h) (laws c) r checked right c.requires.none_open)
+    c.arranged.ensures
 
 pub returns-clause-covered : goal.returns-clause-covered
 returns-clause-covered c =
-    IfOk-weaker c.arranged.result _ _ (λ tiles h r checked right. are-covered c.args.frame.now c.args.self c.requires.no_deeper tiles (its c tiles h) (laws c) r checked right c.requires.none_open) c.arranged.ensures
+    IfOk-weaker c.arranged.result _ _ (λ tiles h r checked right. are-covered c.args.frame.now c.args.self
+    c.requires.no_deeper tiles (its c tiles h) (laws c) r checked right c.requires.none_open)
+    c.arranged.ensures
 
 pub returns-clause-stand : goal.returns-clause-stand
 returns-clause-stand c =
-    IfOk-weaker c.arranged.result _ _ (λ tiles h r checked right. are-stand c.args.frame.now c.args.self c.requires.no_deeper tiles (its c tiles h) (laws c) r checked right) c.arranged.ensures
+    IfOk-weaker c.arranged.result _ _ (λ tiles h r checked right. are-stand c.args.frame.now c.args.self
+    c.requires.no_deeper tiles (its c tiles h) (laws c) r checked right) c.arranged.ensures
 
 pub returns-clause-in_order : goal.returns-clause-in_order
 returns-clause-in_order c =
-    IfOk-weaker c.arranged.result _ _ (λ tiles h r checked right. are-in_order c.args.frame.now c.args.self c.requires.no_deeper tiles (its c tiles h) (laws c) r checked right) c.arranged.ensures
+    IfOk-weaker c.arranged.result _ _ (λ tiles h r checked right. are-in_order c.args.frame.now c.args.self
+    c.requires.no_deeper tiles (its c tiles h) (laws c) r checked right) c.arranged.ensures
 
 pub returns-clause-distinct_in_order : goal.returns-clause-distinct_in_order
 returns-clause-distinct_in_order c =
-    IfOk-weaker c.arranged.result _ _ (λ tiles h. are-distinct c.args.frame.now c.args.self c.requires.no_deeper tiles (its c tiles h)) c.arranged.ensures
+    IfOk-weaker c.arranged.result _ _ (λ tiles h. are-distinct c.args.frame.now c.args.self
+    c.requires.no_deeper tiles (its c tiles h)) c.arranged.ensures

@@ -1,5 +1,5 @@
 use Rattle.std.proofs.Common.{ℕ, ◌<◌, ◌≤◌, length, take, sym, subst, arith, take_all}
-use Rattle.addressing.proofs.Lists.{AllByRecursion-each}
+use Rattle.theory_addresses.proofs.Lists.{AllByRecursion-each}
 use Rattle.cyclo_points.specs.declared.motion.Motion.{Motion}
 use Rattle.tile_place.specs.Keys.{FitsKey}
 use Rattle.window_cover.specs.declared.fields.Fields.{Fields}
@@ -17,7 +17,8 @@ widened-fields-requires-clause-fits c =
     let found = c.args.self.now.found in
     let k = c.loop-number.number in
     let below : k < length found = omega (arith, c.loop-number-test.true, c.tiles-count.ensures.count) in
-    subst (λ (i : ℕ). FitsKey c.place-kind.result.0 i) (sym c.place-kind.ensures.kind) (subst (λ (m : Motion). FitsKey m (tile_of found k).kind) (sym c.place-kind.ensures.motion)
+    subst (λ (i : ℕ). FitsKey c.place-kind.result.0 i) (sym c.place-kind.ensures.kind)
+    (subst (λ (m : Motion). FitsKey m (tile_of found k).kind) (sym c.place-kind.ensures.motion)
     (each-of HasKey found c.tiles_law.ensures.keyed k below))
 
 pub loop-number-preserved : goal.loop-number-preserved
@@ -26,12 +27,14 @@ loop-number-preserved c =
     let k = c.loop-number.number in
     let below : k < length found = omega (arith, c.loop-number-test.true, c.tiles-count.ensures.count) in
     let Held : Fields → Found → Type 0 = λ f x. AreHeld f x.motion x.kind in
-    let before = AllByRecursion-each (Held c.loop-number.fields) (Held c.widened-fields.result) (take k found) (λ x h. c.widened-fields.ensures.kept x.motion x.kind h) c.loop-number.invariant.held in
+    let before = AllByRecursion-each (Held c.loop-number.fields) (Held c.widened-fields.result) (take k found)
+    (λ x h. c.widened-fields.ensures.kept x.motion x.kind h) c.loop-number.invariant.held in
     record {
       fields = c.widened-fields.ensures.fields;
       held = held-one_more (Held c.widened-fields.result) found k below before
           (subst (λ (i : ℕ). AreHeld c.widened-fields.result (tile_of found k).motion i) c.place-kind.ensures.kind
-          (subst (λ (m : Motion). AreHeld c.widened-fields.result m c.place-kind.result.1) c.place-kind.ensures.motion c.widened-fields.ensures.held));
+          (subst (λ (m : Motion). AreHeld c.widened-fields.result m c.place-kind.result.1)
+          c.place-kind.ensures.motion c.widened-fields.ensures.held));
     }
 
 pub loop-number-init : goal.loop-number-init

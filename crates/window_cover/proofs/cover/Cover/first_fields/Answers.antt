@@ -10,6 +10,7 @@ pub of-requires : goal.of-requires
 of-requires c =
     let found = c.args.self.now.found in
     record {
-      fits = subst (λ (k : ℕ). FitsKey c.place-kind.result.0 k) (sym c.place-kind.ensures.kind) (subst (λ (m : Motion). FitsKey m (tile_of found 0).kind) (sym c.place-kind.ensures.motion)
+      fits = subst (λ (k : ℕ). FitsKey c.place-kind.result.0 k) (sym c.place-kind.ensures.kind)
+          (subst (λ (m : Motion). FitsKey m (tile_of found 0).kind) (sym c.place-kind.ensures.motion)
           (each-of HasKey found c.tiles_law.ensures.keyed 0 c.requires.some));
     }

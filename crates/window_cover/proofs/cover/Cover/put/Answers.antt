@@ -25,7 +25,9 @@ invariant_of-self-2 c =
           (arith, turn, turns);
       kind_fits = omega (arith, kinds, c.requires.part.kind_exists);
     } in
-    kept-one_more c.self.inside.digits.items c.extend_from_slice.new.self.items own c.in_ok-extend_from_slice.ensures.items tile first depth c.requires.at_most_64 c.self.inside.found.items c.push.new.self.items c.in_ok-push.ensures.items
+    kept-one_more c.self.inside.digits.items c.extend_from_slice.new.self.items own
+    c.in_ok-extend_from_slice.ensures.items tile first depth c.requires.at_most_64
+    c.self.inside.found.items c.push.new.self.items c.in_ok-push.ensures.items
     key c.self.inside.border c.self.inside.border c.self.invariant (omega (arith, count, c.if-len-ge-MOST_TILES.false)) (omega arith)
 
 pub returns : goal.returns
@@ -36,11 +38,18 @@ returns c = record {
       let first : c.len-first.result ≡ length c.self.inside.digits.items = omega (arith, digits, c.len-first.ensures) in
       let own = c.args.digits.now in
       let depth : length own ≡ length own = refl in
-      let tile : FoundTile = record { motion = c.args.part.now.motion; first = c.len-first.result; kind = c.args.part.now.kind; depth = length own } in
+      let tile : FoundTile = record {
+        motion = c.args.part.now.motion;
+        first = c.len-first.result;
+        kind = c.args.part.now.kind;
+        depth = length own;
+      } in
       record {
         same_window = ap (λ (v : CoverValue). v.window) c.self.view_is;
         same_border = ap (λ (v : CoverValue). v.border) c.self.view_is;
-        found = found-one_more c.self.inside.digits.items c.extend_from_slice.new.self.items own c.in_ok-extend_from_slice.ensures.items tile first depth c.requires.at_most_64 c.self.inside.found.items c.push.new.self.items c.in_ok-push.ensures.items c.self.invariant.spans
+        found = found-one_more c.self.inside.digits.items c.extend_from_slice.new.self.items own
+            c.in_ok-extend_from_slice.ensures.items tile first depth c.requires.at_most_64
+            c.self.inside.found.items c.push.new.self.items c.in_ok-push.ensures.items c.self.invariant.spans
             ∙ ap (λ (v : CoverValue). v.found ++ found_part c.args.part.now own ∷ []) c.self.view_is;
       };
 }

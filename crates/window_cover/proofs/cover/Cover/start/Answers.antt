@@ -25,13 +25,18 @@ use Rattle.window_cover.proofs.cover.Cover.start.Goals as goal
 
 -- what the rule and the laws bring
 brings : (c : After-contain) → Brings HasSearchLaws c.args.machine.now
-brings c = brought HasSearchLaws c.args.machine.now _ _ _ c.checked-checked.ensures.rule c.checked-checked.ensures.accepted c.checked-checked.ensures.usable c.checked-checked.ensures.same_child_kinds
+brings c = brought HasSearchLaws c.args.machine.now _ _ _ c.checked-checked.ensures.rule
+    c.checked-checked.ensures.accepted c.checked-checked.ensures.usable
+    c.checked-checked.ensures.same_child_kinds
     c.uses.ensures c.kinds-usable.ensures.limits c.order-order.ensures.order c.search_laws.ensures c.grown_fits_law.ensures
 
-not_beyond : (c : After-contain) (n : ℕ) → IsLeastEnough (tiling_of c.args.machine.now) c.args.frame.now c.args.window.now n → length c.contain.new.self.digits ≤ n
+not_beyond : (c : After-contain) (n : ℕ) → IsLeastEnough (tiling_of c.args.machine.now) c.args.frame.now
+    c.args.window.now n → length c.contain.new.self.digits ≤ n
 not_beyond c =
     let B = brings c in
-    not_beyond_start c.args.machine.now B.settled B.fits B.laws c.args.frame.now c.requires.frame c.contain.new.self c.contain.ensures.frame c.args.window.now c.requires.window_fits c.contain.ensures.least
+    not_beyond_start c.args.machine.now B.settled B.fits B.laws c.args.frame.now c.requires.frame
+    c.contain.new.self c.contain.ensures.frame c.args.window.now c.requires.window_fits
+    c.contain.ensures.least
 
 pub contain-requires-clause-frame : goal.contain-requires-clause-frame
 contain-requires-clause-frame c = c.requires.frame
@@ -73,7 +78,13 @@ pub returns-in_err-tile-clause-answered : goal.returns-in_err-tile-clause-answer
 returns-in_err-tile-clause-answered c = λ within. let e = c.in_err-tile.ensures.found_exactly.1 within.centre_found in cc (e)
 
 pub returns-in_err-tile-clause-cause : goal.returns-in_err-tile-clause-cause
-returns-in_err-tile-clause-cause c = if_err-is (HasCause (tiling_of c.args.machine.now) c.args.frame.now c.contain.new.self c.args.window.now) c.from_residual.result (CoordLimit c.in_err-tile.field-0.0.value) c.from_residual.ensures.1 (inl (record { is_first = c.in_err-tile.ensures.limit; value_in_order = c.in_err-tile.ensures.limit_in_order }))
+returns-in_err-tile-clause-cause c = if_err-is
+    (HasCause (tiling_of c.args.machine.now) c.args.frame.now c.contain.new.self c.args.window.now)
+    c.from_residual.result (CoordLimit c.in_err-tile.field-0.0.value) c.from_residual.ensures.1
+    (inl (record {
+      is_first = c.in_err-tile.ensures.limit;
+      value_in_order = c.in_err-tile.ensures.limit_in_order;
+    }))
 
 pub returns-in_err-admit-clause-answered : goal.returns-in_err-admit-clause-answered
 returns-in_err-admit-clause-answered c =
@@ -83,9 +94,17 @@ returns-in_err-admit-clause-answered c =
     let w = c.args.window.now in
     let B = brings (goal.at.returns-in_err-admit-clause-answered c).After-contain in
     let tile = c.in_ok-tile.tile in
-    let c0 : Working = record { window = w; found = found_in c.new-2.result.items c.new.result.items; border = map packed (map unpacked c.new-3.result) } in
+    let c0 : Working = record {
+      window = w;
+      found = found_in c.new-2.result.items c.new.result.items;
+      border = map packed (map unpacked c.new-3.result);
+    } in
     let none : length c0.found ≡ 0 = ap (λ xs. length (found_in c.new-2.result.items xs)) c.new.ensures.items in
-    λ within. no_memory-on c.admit.result c.from_residual-in_err-admit.result c.in_err-admit.field-0.0 c.in_err-admit.was c.from_residual-in_err-admit.ensures.1 (answered_first m B.settled B.fits B.laws f c.requires.frame k c.contain.ensures.frame w c.requires.window_fits c.contain.ensures.least tile c.in_ok-tile.ensures.stands c.in_ok-tile.ensures.only_tile c0 none within c.admit.result c.admit.ensures.cause)
+    λ within. no_memory-on c.admit.result c.from_residual-in_err-admit.result c.in_err-admit.field-0.0
+    c.in_err-admit.was c.from_residual-in_err-admit.ensures.1
+    (answered_first m B.settled B.fits B.laws f c.requires.frame k c.contain.ensures.frame w
+    c.requires.window_fits c.contain.ensures.least tile c.in_ok-tile.ensures.stands
+    c.in_ok-tile.ensures.only_tile c0 none within c.admit.result c.admit.ensures.cause)
 
 pub returns-in_err-admit-clause-cause : goal.returns-in_err-admit-clause-cause
 returns-in_err-admit-clause-cause c =
@@ -96,16 +115,30 @@ returns-in_err-admit-clause-cause c =
     let w = c.args.window.now in
     let B = brings (goal.at.returns-in_err-admit-clause-cause c).After-contain in
     let tile = c.in_ok-tile.tile in
-    let c0 : Working = record { window = w; found = found_in c.new-2.result.items c.new.result.items; border = map packed (map unpacked c.new-3.result) } in
+    let c0 : Working = record {
+      window = w;
+      found = found_in c.new-2.result.items c.new.result.items;
+      border = map packed (map unpacked c.new-3.result);
+    } in
     let none : length c0.found ≡ 0 = ap (λ xs. length (found_in c.new-2.result.items xs)) c.new.ensures.items in
-    if_err-is (HasCause t f k w) c.from_residual-in_err-admit.result c.in_err-admit.field-0.0 c.from_residual-in_err-admit.ensures.1 (cause_first m B.settled B.fits B.laws f c.requires.frame k c.contain.ensures.frame w c.requires.window_fits c.contain.ensures.least tile c.in_ok-tile.ensures.stands c.in_ok-tile.ensures.only_tile c0 none c.in_err-admit.field-0.0 c.in_err-admit.ensures.cause)
+    if_err-is (HasCause t f k w) c.from_residual-in_err-admit.result c.in_err-admit.field-0.0
+    c.from_residual-in_err-admit.ensures.1 (cause_first m B.settled B.fits B.laws f c.requires.frame k
+    c.contain.ensures.frame w c.requires.window_fits c.contain.ensures.least tile
+    c.in_ok-tile.ensures.stands c.in_ok-tile.ensures.only_tile c0 none c.in_err-admit.field-0.0
+    c.in_err-admit.ensures.cause)
 
 pub invariant_of-cover : goal.invariant_of-cover
 invariant_of-cover c =
     let m = c.args.machine.now in
     let found = ap length c.new.ensures.items in
     let border = ap length c.new-3.ensures in
-    record { spans = subst (AreKept c.new-2.result.items) (sym c.new.ensures.items) tt; keyed = subst (AllByRecursion (λ (y : FoundTile). FitsKey y.motion y.kind)) (sym c.new.ensures.items) tt; few_tiles = omega (arith, found); few_open = omega (arith, found, border) }
+    record {
+      spans = subst (AreKept c.new-2.result.items) (sym c.new.ensures.items) tt;
+      keyed = subst (AllByRecursion (λ (y : FoundTile). FitsKey y.motion y.kind)) (sym c.new.ensures.items)
+          tt;
+      few_tiles = omega (arith, found);
+      few_open = omega (arith, found, border);
+    }
 
 pub admit-requires-clause-exists : goal.admit-requires-clause-exists
 admit-requires-clause-exists c =
@@ -115,7 +148,9 @@ admit-requires-clause-exists c =
     let w = c.args.window.now in
     let B = brings (goal.at.admit-requires-clause-exists c).After-contain in
     let tile = c.in_ok-tile.tile in
-    kind_exists m B.settled B.fits B.laws f c.requires.frame k c.contain.ensures.frame w c.requires.window_fits tile c.in_ok-tile.ensures.stands c.in_ok-tile.ensures.only_tile c.contain.ensures.least
+    kind_exists m B.settled B.fits B.laws f c.requires.frame k c.contain.ensures.frame w
+    c.requires.window_fits tile c.in_ok-tile.ensures.stands c.in_ok-tile.ensures.only_tile
+    c.contain.ensures.least
 
 pub admit-requires-clause-turn_below : goal.admit-requires-clause-turn_below
 admit-requires-clause-turn_below c = c.in_ok-tile.ensures.stands.turn_below
@@ -135,7 +170,11 @@ admit-requires-clause-new c =
     let w = c.args.window.now in
     let B = brings (goal.at.admit-requires-clause-new c).After-contain in
     let tile = c.in_ok-tile.tile in
-    subst (λ b. (corners : List Point) → AreCorners t tile.kind tile.motion corners → AreNew corners (map packed (map unpacked b))) (sym c.new-3.ensures) (edges_new m B.settled B.fits B.laws f c.requires.frame k c.contain.ensures.frame w c.requires.window_fits tile c.in_ok-tile.ensures.stands c.in_ok-tile.ensures.only_tile c.contain.ensures.least)
+    subst (λ b. (corners : List Point) → AreCorners t tile.kind tile.motion corners
+    → AreNew corners (map packed (map unpacked b))) (sym c.new-3.ensures)
+    (edges_new m B.settled B.fits B.laws f c.requires.frame k c.contain.ensures.frame w
+    c.requires.window_fits tile c.in_ok-tile.ensures.stands c.in_ok-tile.ensures.only_tile
+    c.contain.ensures.least)
 
 pub returns-clause-frame : goal.returns-clause-frame
 returns-clause-frame c = c.contain.ensures.frame
@@ -148,10 +187,21 @@ returns-clause-right c =
     let w = c.args.window.now in
     let B = brings (goal.at.returns-clause-right c).After-contain in
     let tile = c.in_ok-tile.tile in
-    let c0 : Working = record { window = w; found = found_in c.new-2.result.items c.new.result.items; border = map packed (map unpacked c.new-3.result) } in
-    let empty : c0 ≡ record { window = w; found = []; border = [] } = ap₂ (λ xs b. record { window = w; found = found_in c.new-2.result.items xs; border = map packed (map unpacked b) }) c.new.ensures.items c.new-3.ensures in
+    let c0 : Working = record {
+      window = w;
+      found = found_in c.new-2.result.items c.new.result.items;
+      border = map packed (map unpacked c.new-3.result);
+    } in
+    let empty : c0 ≡ record { window = w; found = []; border = [] } = ap₂
+    (λ xs b. record {
+      window = w;
+      found = found_in c.new-2.result.items xs;
+      border = map packed (map unpacked b);
+    }) c.new.ensures.items c.new-3.ensures in
     right-of (tiling_of m) B.laws.open_test k c.admit.new.self c.in_ok-admit.ensures.same_ends
-    (right-first m B.settled B.fits B.laws f c.requires.frame k c.contain.ensures.frame w c.requires.window_fits tile c.in_ok-tile.ensures.stands c.in_ok-tile.ensures.only_tile c.contain.ensures.least c0 (working c.admit.new.self) empty c.in_ok-admit.ensures.admitted)
+    (right-first m B.settled B.fits B.laws f c.requires.frame k c.contain.ensures.frame w
+    c.requires.window_fits tile c.in_ok-tile.ensures.stands c.in_ok-tile.ensures.only_tile
+    c.contain.ensures.least c0 (working c.admit.new.self) empty c.in_ok-admit.ensures.admitted)
 
 pub returns-clause-its_window : goal.returns-clause-its_window
 returns-clause-its_window c =
@@ -161,9 +211,20 @@ returns-clause-its_window c =
     let w = c.args.window.now in
     let B = brings (goal.at.returns-clause-its_window c).After-contain in
     let tile = c.in_ok-tile.tile in
-    let c0 : Working = record { window = w; found = found_in c.new-2.result.items c.new.result.items; border = map packed (map unpacked c.new-3.result) } in
-    let empty : c0 ≡ record { window = w; found = []; border = [] } = ap₂ (λ xs b. record { window = w; found = found_in c.new-2.result.items xs; border = map packed (map unpacked b) }) c.new.ensures.items c.new-3.ensures in
-    its_window m B.settled B.fits B.laws f c.requires.frame k c.contain.ensures.frame w c.requires.window_fits tile c.in_ok-tile.ensures.stands c.in_ok-tile.ensures.only_tile c.contain.ensures.least c0 (working c.admit.new.self) empty c.in_ok-admit.ensures.admitted
+    let c0 : Working = record {
+      window = w;
+      found = found_in c.new-2.result.items c.new.result.items;
+      border = map packed (map unpacked c.new-3.result);
+    } in
+    let empty : c0 ≡ record { window = w; found = []; border = [] } = ap₂
+    (λ xs b. record {
+      window = w;
+      found = found_in c.new-2.result.items xs;
+      border = map packed (map unpacked b);
+    }) c.new.ensures.items c.new-3.ensures in
+    its_window m B.settled B.fits B.laws f c.requires.frame k c.contain.ensures.frame w c.requires.window_fits
+    tile c.in_ok-tile.ensures.stands c.in_ok-tile.ensures.only_tile c.contain.ensures.least c0
+    (working c.admit.new.self) empty c.in_ok-admit.ensures.admitted
 
 pub returns-clause-one_tile : goal.returns-clause-one_tile
 returns-clause-one_tile c =
@@ -173,9 +234,20 @@ returns-clause-one_tile c =
     let w = c.args.window.now in
     let B = brings (goal.at.returns-clause-one_tile c).After-contain in
     let tile = c.in_ok-tile.tile in
-    let c0 : Working = record { window = w; found = found_in c.new-2.result.items c.new.result.items; border = map packed (map unpacked c.new-3.result) } in
-    let empty : c0 ≡ record { window = w; found = []; border = [] } = ap₂ (λ xs b. record { window = w; found = found_in c.new-2.result.items xs; border = map packed (map unpacked b) }) c.new.ensures.items c.new-3.ensures in
-    one_tile m B.settled B.fits B.laws f c.requires.frame k c.contain.ensures.frame w c.requires.window_fits tile c.in_ok-tile.ensures.stands c.in_ok-tile.ensures.only_tile c.contain.ensures.least c0 (working c.admit.new.self) empty c.in_ok-admit.ensures.admitted
+    let c0 : Working = record {
+      window = w;
+      found = found_in c.new-2.result.items c.new.result.items;
+      border = map packed (map unpacked c.new-3.result);
+    } in
+    let empty : c0 ≡ record { window = w; found = []; border = [] } = ap₂
+    (λ xs b. record {
+      window = w;
+      found = found_in c.new-2.result.items xs;
+      border = map packed (map unpacked b);
+    }) c.new.ensures.items c.new-3.ensures in
+    one_tile m B.settled B.fits B.laws f c.requires.frame k c.contain.ensures.frame w c.requires.window_fits
+    tile c.in_ok-tile.ensures.stands c.in_ok-tile.ensures.only_tile c.contain.ensures.least c0
+    (working c.admit.new.self) empty c.in_ok-admit.ensures.admitted
 
 pub returns-clause-not_beyond : goal.returns-clause-not_beyond
 returns-clause-not_beyond c = not_beyond (goal.at.returns-clause-not_beyond c).After-contain

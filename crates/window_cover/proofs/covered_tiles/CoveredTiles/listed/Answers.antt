@@ -10,8 +10,11 @@ loop-place-preserved c =
     let here = get_or_from_slice_get tiles k c.tile.result c.tile.result c.tile.ensures in
     let below : k < length tiles = subst (λ n. k < n) c.len-count.ensures c.loop-place-test.true in
     let next : suc k ≡ k + 1 = omega arith in
-    let one : c.push.new.self.items ≡ take k tiles ++ c.tile.result ∷ [] = c.in_ok-push.ensures.items ∙ ap (λ (xs : List PlacedTile). xs ++ c.tile.result ∷ []) c.loop-place.invariant in
-    let two : take k tiles ++ c.tile.result ∷ [] ≡ take (suc k) tiles = ap (λ (y : PlacedTile). take k tiles ++ y ∷ []) (sym here) ∙ sym (take-suc tiles k c.tile.result below) in
+    let one : c.push.new.self.items ≡ take k tiles ++ c.tile.result ∷ [] = c.in_ok-push.ensures.items
+    ∙ ap (λ (xs : List PlacedTile). xs ++ c.tile.result ∷ []) c.loop-place.invariant in
+    let two : take k tiles ++ c.tile.result ∷ [] ≡ take (suc k) tiles = ap
+    (λ (y : PlacedTile). take k tiles ++ y ∷ []) (sym here)
+    ∙ sym (take-suc tiles k c.tile.result below) in
     one ∙ two ∙ ap (λ n. take n tiles) next
 
 pub returns : goal.returns

@@ -11,11 +11,15 @@ use Rattle.window_cover.proofs.covered_tiles.CoveredTiles.motion.Goals as goal
 pub place-requires-clause-below : goal.place-requires-clause-below
 place-requires-clause-below c =
     let words : List ℕ = c.self.inside.words.items in
-    let many = ap (λ (ts : List PlacedTile). length ts) (sym c.self.view_is) ∙ long (map step_of c.self.inside.above.items) (seen c.self.inside.tiles) words in
+    let many = ap (λ (ts : List PlacedTile). length ts) (sym c.self.view_is)
+    ∙ long (map step_of c.self.inside.above.items) (seen c.self.inside.tiles) words in
     let below : c.args.place < length words = omega (arith, many, c.requires.below) in
     let number : c.tile_number-number.result ≡ tile_number (get_or words c.args.place 0) =
-    c.tile_number-number.ensures ∙ ap tile_number (get_or_read_under words c.args.place (length words) c.index.result.now 0 c.index.ensures below refl) in
-    subst (λ (n : ℕ). n < length (seen c.self.inside.tiles)) (sym number) (number-at (seen c.self.inside.tiles) words c.args.place below c.self.invariant.covered.numbered)
+    c.tile_number-number.ensures ∙ ap tile_number
+    (get_or_read_under words c.args.place (length words) c.index.result.now 0 c.index.ensures below
+    refl) in
+    subst (λ (n : ℕ). n < length (seen c.self.inside.tiles)) (sym number)
+    (number-at (seen c.self.inside.tiles) words c.args.place below c.self.invariant.covered.numbered)
 
 pub returns : goal.returns
 returns c =
@@ -25,7 +29,9 @@ returns c =
     let many = ap (λ (ts : List PlacedTile). length ts) (sym c.self.view_is) ∙ long above found words in
     let below : c.args.place < length words = omega (arith, many, c.requires.below) in
     let number : c.tile_number-number.result ≡ tile_number (get_or words c.args.place 0) =
-    c.tile_number-number.ensures ∙ ap tile_number (get_or_read_under words c.args.place (length words) c.index.result.now 0 c.index.ensures below refl) in
+    c.tile_number-number.ensures ∙ ap tile_number
+    (get_or_read_under words c.args.place (length words) c.index.result.now 0 c.index.ensures below
+    refl) in
     let here : slice_get c.args.self.now c.args.place ≡ Some (placed_as above (tile_of found (tile_number (get_or words c.args.place 0)))) =
     ap (λ (ts : List PlacedTile). slice_get ts c.args.place) (sym c.self.view_is) ∙ tiles-at above found words c.args.place below in
     subst (λ o. IfSome o (λ (x : PlacedTile). c.place.result.0 ≡ x.motion)) (sym here)

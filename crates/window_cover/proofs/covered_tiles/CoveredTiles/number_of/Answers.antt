@@ -34,4 +34,5 @@ loop-first-preserved c =
     (λ d. read-at c.args.self.now c.args.motion.now c.args.kind c.compared.result k (omega (arith, below, w)) c.compared.ensures d ∙ c.in-Greater.is)
 
 pub returns-clause-none : goal.returns-clause-none
-returns-clause-none c = λ e. none-there c.args.self.now c.args.motion.now c.args.kind c.loop-first.first c.loop-first.end c.loop-first.invariant (omega (arith, c.loop-first-test.false))
+returns-clause-none c = λ e. none-there c.args.self.now c.args.motion.now c.args.kind c.loop-first.first
+    c.loop-first.end c.loop-first.invariant (omega (arith, c.loop-first-test.false))

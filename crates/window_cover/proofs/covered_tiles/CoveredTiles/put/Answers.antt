@@ -12,11 +12,15 @@ use Rattle.window_cover.proofs.covered_tiles.CoveredTiles.put.Goals as goal
 pub put_lifted-requires-clause-found : goal.put_lifted-requires-clause-found
 put_lifted-requires-clause-found c =
     let words : List ℕ = c.self.inside.words.items in
-    let many = ap (λ (ts : List PlacedTile). length ts) (sym c.self.view_is) ∙ long (map step_of c.self.inside.above.items) (seen c.self.inside.tiles) words in
+    let many = ap (λ (ts : List PlacedTile). length ts) (sym c.self.view_is)
+    ∙ long (map step_of c.self.inside.above.items) (seen c.self.inside.tiles) words in
     let below : c.args.place < length words = omega (arith, many, c.requires.below) in
     let number : c.tile_number-number.result ≡ tile_number (get_or words c.args.place 0) =
-    c.tile_number-number.ensures ∙ ap tile_number (get_or_read_under words c.args.place (length words) c.index.result.now 0 c.index.ensures below refl) in
-    subst (λ (n : ℕ). n < length (seen c.self.inside.tiles)) (sym number) (number-at (seen c.self.inside.tiles) words c.args.place below c.self.invariant.covered.numbered)
+    c.tile_number-number.ensures ∙ ap tile_number
+    (get_or_read_under words c.args.place (length words) c.index.result.now 0 c.index.ensures below
+    refl) in
+    subst (λ (n : ℕ). n < length (seen c.self.inside.tiles)) (sym number)
+    (number-at (seen c.self.inside.tiles) words c.args.place below c.self.invariant.covered.numbered)
 
 pub returns : goal.returns
 returns c =
@@ -26,8 +30,16 @@ returns c =
     let many = ap (λ (ts : List PlacedTile). length ts) (sym c.self.view_is) ∙ long above found words in
     let below : c.args.place < length words = omega (arith, many, c.requires.below) in
     let number : c.tile_number-number.result ≡ tile_number (get_or words c.args.place 0) =
-    c.tile_number-number.ensures ∙ ap tile_number (get_or_read_under words c.args.place (length words) c.index.result.now 0 c.index.ensures below refl) in
-    let its : ◌≡◌ {A = PlacedTile} (record { kind = c.put_lifted.new.kind; motion = c.put_lifted.new.motion; addr = c.put_lifted.new.addr }) (placed_as above (tile_of found (tile_number (get_or words c.args.place 0)))) =
-    c.put_lifted.ensures ∙ ap (λ (ds : List Step). placed_as (map step_of ds) (tile_of found c.tile_number-number.result)) c.as_slice-above.ensures.value
+    c.tile_number-number.ensures ∙ ap tile_number
+    (get_or_read_under words c.args.place (length words) c.index.result.now 0 c.index.ensures below
+    refl) in
+    let its : ◌≡◌ {A = PlacedTile} (record {
+      kind = c.put_lifted.new.kind;
+      motion = c.put_lifted.new.motion;
+      addr = c.put_lifted.new.addr;
+    }) (placed_as above
+    (tile_of found (tile_number (get_or words c.args.place 0)))) =
+    c.put_lifted.ensures ∙ ap (λ (ds : List Step). placed_as (map step_of ds)
+    (tile_of found c.tile_number-number.result)) c.as_slice-above.ensures.value
     ∙ ap (λ (n : ℕ). placed_as above (tile_of found n)) number in
     ap (λ (ts : List PlacedTile). slice_get ts c.args.place) (sym c.self.view_is) ∙ tiles-at above found words c.args.place below ∙ ap Some (sym its)

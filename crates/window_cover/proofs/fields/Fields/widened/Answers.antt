@@ -10,7 +10,14 @@ returns-clause-held c =
     let h1 : LiesIn c.widened-2.result (coefficient s 1) = let e = c.widened-2.ensures.held in search (rules, e) in
     let h2 : LiesIn c.widened-3.result (coefficient s 2) = let e = c.widened-3.ensures.held in search (rules, e) in
     let h3 : LiesIn c.widened-4.result (coefficient s 3) = let e = c.widened-4.ensures.held in search (rules, e) in
-    record { a0 = h0; a1 = h1; a2 = h2; a3 = h3; turn_below = c.requires.fits.turn_fits; kind_below = let e = c.from.ensures in let l = c.larger.ensures.second in omega (arith, e, l) }
+    record {
+      a0 = h0;
+      a1 = h1;
+      a2 = h2;
+      a3 = h3;
+      turn_below = c.requires.fits.turn_fits;
+      kind_below = let e = c.from.ensures in let l = c.larger.ensures.second in omega (arith, e, l);
+    }
 
 pub returns-clause-kept : goal.returns-clause-kept
 returns-clause-kept c = λ m k h. record {

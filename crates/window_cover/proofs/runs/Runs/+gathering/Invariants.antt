@@ -1,9 +1,9 @@
 use Rattle.std.proofs.Common.{◌≡◌, ◌+◌, ◌*◌, ◌++◌, map, drop, length}
 use Rattle.std.specs.List.{AllByRecursion}
-use Rattle.frames.specs.Descent.{of_whole}
+use Rattle.theory_frames.specs.Descent.{of_whole}
 use Rattle.rule_model.specs.Tiling.{tiling_of}
 use Rattle.rule_model.specs.Views.{rule_of}
-use Rattle.substitution.specs.Rule.{children_of}
+use Rattle.theory_substitution.specs.Rule.{children_of}
 use Rattle.window_descent.specs.Rows.{levels_of}
 use Rattle.window_cover.specs.Descending.{tiles_in, digits_above, found_of, from_number, HasMore, IsKeptTile}
 use Rattle.window_cover.specs.Gathering.{AreGathering}

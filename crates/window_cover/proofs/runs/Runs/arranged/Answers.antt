@@ -1,7 +1,7 @@
 use Rattle.std.proofs.Common.{◌≡◌, ◌≤◌, List, ◌++◌, map, length, refl, ap, ap₂, ◌∙◌, subst, arith}
 use Rattle.std.specs.Result.{IsOk}
 use Rattle.std.proofs.lemmas.List.Elements.{recursion_from_All}
-use Rattle.addressing.specs.Address as theory
+use Rattle.theory_addresses.specs.Address as theory
 use Rattle.tile_shape.specs.declared.step.Step.{Step}
 use Rattle.tile_shape.specs.Views.{step_of}
 use Rattle.window_cover.specs.Covered.{tiles_of}
@@ -21,12 +21,15 @@ same-digits : (c : After-try_extend_from_slice) → above c ≡ c.args.frame.now
 same-digits c =
     let held = c.digits.result.now.items in
     let few : length held ≤ 64 = subst (λ ds. length ds ≤ 64) c.as_slice.ensures.value c.as_slice.ensures.fits in
-    let room : IsOk c.try_extend_from_slice.result = c.try_extend_from_slice.ensures.variant.1 (omega (arith, few, ap length c.new-above.ensures, ap length c.as_slice.ensures.value)) in
+    let room : IsOk c.try_extend_from_slice.result = c.try_extend_from_slice.ensures.variant.1
+    (omega (arith, few, ap length c.new-above.ensures, ap length c.as_slice.ensures.value)) in
     let put : c.try_extend_from_slice.new.self.items ≡ held = on_ok-is _ c.try_extend_from_slice.result room c.try_extend_from_slice.ensures.ok
     ∙ ap₂ (λ (xs ys : List Step). xs ++ ys) c.new-above.ensures c.as_slice.ensures.value in
     ap (map step_of) put ∙ c.digits.ensures
 
-is_arranged : (c : After-try_extend_from_slice) → IsArranged c.args.frame.now (gathered c.args.self) (seen c.args.self) (map tile_number c.in_ok-words.words.items) (above c)
+is_arranged : (c : After-try_extend_from_slice)
+    → IsArranged c.args.frame.now (gathered c.args.self) (seen c.args.self)
+    (map tile_number c.in_ok-words.words.items) (above c)
 is_arranged c = record {
   seen = refl;
   can_be_lifted = recursion_from_All (CanBeLifted c.args.frame.now) (seen c.args.self) c.requires.no_deeper;
@@ -39,7 +42,8 @@ pub invariant_of-result : goal.invariant_of-result
 invariant_of-result c =
     record {
       runs = c.requires.runs;
-      covered = arranged-fit c.args.frame.now (gathered c.args.self) (seen c.args.self) (map tile_number c.in_ok-words.words.items) (above c) (is_arranged c);
+      covered = arranged-fit c.args.frame.now (gathered c.args.self) (seen c.args.self)
+          (map tile_number c.in_ok-words.words.items) (above c) (is_arranged c);
     }
 
 pub returns : goal.returns

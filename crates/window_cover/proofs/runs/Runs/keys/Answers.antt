@@ -16,14 +16,16 @@ of-requires-clause-within c =
     let found = seen c.args.self.now in
     let k = c.loop-number.number in
     let below : k < length found = omega (arith, c.loop-number-test.true, c.len-count.ensures) in
-    subst (λ (m : Motion). IsWithin (2 ^ 24) m.shift) (sym c.place-kind.ensures.motion) (each-of HasKey found (runs-keyed c.args.self.now c.requires.runs) k below).within
+    subst (λ (m : Motion). IsWithin (2 ^ 24) m.shift) (sym c.place-kind.ensures.motion)
+    (each-of HasKey found (runs-keyed c.args.self.now c.requires.runs) k below).within
 
 pub of-requires-clause-turn_fits : goal.of-requires-clause-turn_fits
 of-requires-clause-turn_fits c =
     let found = seen c.args.self.now in
     let k = c.loop-number.number in
     let below : k < length found = omega (arith, c.loop-number-test.true, c.len-count.ensures) in
-    subst (λ (m : Motion). m.turn < 16) (sym c.place-kind.ensures.motion) (each-of HasKey found (runs-keyed c.args.self.now c.requires.runs) k below).turn_fits
+    subst (λ (m : Motion). m.turn < 16) (sym c.place-kind.ensures.motion)
+    (each-of HasKey found (runs-keyed c.args.self.now c.requires.runs) k below).turn_fits
 
 pub loop-number-preserved : goal.loop-number-preserved
 loop-number-preserved c =

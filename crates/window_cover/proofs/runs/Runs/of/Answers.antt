@@ -23,7 +23,8 @@ returns-clause-runs c =
     c.in_ok-push.ensures.items ∙ ap (λ (rs : List Run). rs ++ whole_run ∷ []) c.new-runs.ensures.items in
     let long = ap (λ (ts : List RunTile). length ts) of_tiles ∙ length-run_tiles 0 0 c.tiles-count.result in
     record {
-      tiles = whole-all found c.push.new.self.items c.new.result.items c.push_tiles.new.tiles.items of_runs c.new.ensures.items c.tiles-count.result count of_tiles
+      tiles = whole-all found c.push.new.self.items c.new.result.items c.push_tiles.new.tiles.items of_runs
+          c.new.ensures.items c.tiles-count.result count of_tiles
           (subst (AllByRecursion HasKey) (sym same) c.tiles_law.ensures.keyed)
           (subst (AllByRecursion (λ (x : Found). length x.digits ≤ 64)) (sym same) c.tiles_law.ensures.short);
       few = omega (arith, few, long);
@@ -38,4 +39,5 @@ returns-clause-same c =
     c.in_ok-push_tiles.ensures ∙ ap (λ (ts : List RunTile). ts ++ run_tiles 0 0 c.tiles-count.result) c.in_ok-tiles.ensures.items in
     let of_runs : c.push.new.self.items ≡ whole_run ∷ [] =
     c.in_ok-push.ensures.items ∙ ap (λ (rs : List Run). rs ++ whole_run ∷ []) c.new-runs.ensures.items in
-    whole-seen found c.push.new.self.items c.new.result.items c.push_tiles.new.tiles.items of_runs c.new.ensures.items c.tiles-count.result count of_tiles ∙ same
+    whole-seen found c.push.new.self.items c.new.result.items c.push_tiles.new.tiles.items of_runs
+    c.new.ensures.items c.tiles-count.result count of_tiles ∙ same

@@ -13,7 +13,8 @@ pub returns-clause-ordered : goal.returns-clause-ordered
 returns-clause-ordered c =
     let found = seen c.args.self.now in
     let ks = c.sort_unstable.new.self.items in
-    let same : IsPermutation (keys_from 0 found) ks = subst (λ (own : List OrderKey). IsPermutation own ks) c.in_ok-keys.ensures.keys c.sort_unstable.ensures.permutation in
+    let same : IsPermutation (keys_from 0 found) ks = subst (λ (own : List OrderKey). IsPermutation own ks)
+    c.in_ok-keys.ensures.keys c.sort_unstable.ensures.permutation in
     IfOk-weaker c.numbers_in_keys.result _ _
     (λ numbers e. record {
       keys = ks;

@@ -23,7 +23,8 @@ read : (c : After-index-tile) → t c ≡ get_or c.args.self.now.tiles.items c.a
 read c =
     let r = c.args.self.now in
     let many = long r in
-    get_or_read_under r.tiles.items c.args.number (length r.tiles.items) (t c) no_run_tile c.index-tile.ensures (omega (arith, many, c.requires.below)) refl
+    get_or_read_under r.tiles.items c.args.number (length r.tiles.items) (t c) no_run_tile
+    c.index-tile.ensures (omega (arith, many, c.requires.below)) refl
 
 is : (c : After-index-tile) → IsRunTile c.args.self.now.leaves.found c.args.self.now.runs.items c.args.self.now.spans.items (t c)
 is c = run-tile-is c.args.self.now c.requires.runs c.args.number c.requires.below (t c) (read c)
@@ -54,11 +55,15 @@ place-kind-requires c = record { found = (is (goal.at.place-kind-requires c).Aft
 
 pub shifted-requires-clause-shift_within : goal.shifted-requires-clause-shift_within
 shifted-requires-clause-shift_within c =
-    subst (λ (m : Motion). IsWithin (2 ^ 24) m.shift) (sym c.place-kind.ensures.motion) (is (goal.at.shifted-requires-clause-shift_within c).After-index-tile).leaf_within
+    subst (λ (m : Motion). IsWithin (2 ^ 24) m.shift) (sym c.place-kind.ensures.motion)
+    (is (goal.at.shifted-requires-clause-shift_within c).After-index-tile).leaf_within
 
 pub shifted-requires-clause-by_within : goal.shifted-requires-clause-by_within
 shifted-requires-clause-by_within c =
-    subst (λ (r : Run). IfSome r.shift (IsWithin (2 ^ 24))) (sym (run-read c.args.self.now c.index-tile.result.now (is (goal.at.shifted-requires-clause-by_within c).After-index-tile).run_there c.index-run.result.now c.index-run.ensures))
+    subst (λ (r : Run). IfSome r.shift (IsWithin (2 ^ 24)))
+    (sym (run-read c.args.self.now c.index-tile.result.now
+    (is (goal.at.shifted-requires-clause-by_within c).After-index-tile).run_there c.index-run.result.now
+    c.index-run.ensures))
     (is (goal.at.shifted-requires-clause-by_within c).After-index-tile).run_within
 
 pub returns-clause-motion : goal.returns-clause-motion
@@ -66,7 +71,10 @@ returns-clause-motion c =
     let p = (goal.at.returns-clause-motion c).After-index-tile in
     let leaf : Found = tile_of c.args.self.now.leaves.found (t p).leaf in
     let turn = ap (λ (m : Motion). m.turn) c.place-kind.ensures.motion in
-    let shift = c.shifted.ensures ∙ ap₂ (λ (r : Run) (m : Motion). shifted_by r.shift m.shift) (run-read c.args.self.now c.index-tile.result.now (is (goal.at.returns-clause-motion c).After-index-tile).run_there c.index-run.result.now c.index-run.ensures) c.place-kind.ensures.motion in
+    let shift = c.shifted.ensures ∙ ap₂ (λ (r : Run) (m : Motion). shifted_by r.shift m.shift)
+    (run-read c.args.self.now c.index-tile.result.now
+    (is (goal.at.returns-clause-motion c).After-index-tile).run_there c.index-run.result.now
+    c.index-run.ensures) c.place-kind.ensures.motion in
     (λ i. record { turn = turn i; shift = shift i }) ∙ sym (ap (λ (x : Found). x.motion) (its p))
 
 pub returns-clause-kind : goal.returns-clause-kind

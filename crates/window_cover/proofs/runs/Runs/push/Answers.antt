@@ -27,16 +27,20 @@ returns-clause-pushed c = λ _.
     let held_tiles = r.tiles.ok in
     let number : c.len-number.result ≡ length r.runs.items = omega (arith, held_runs, c.len-number.ensures) in
     let first : c.len-first.result ≡ length r.spans.items = omega (arith, held_spans, c.len-first.ensures) in
-    let long = ap (λ (ts : List RunTile). length ts) c.in_ok-push_tiles.ensures ∙ length-append r.tiles.items (run_tiles c.len-number.result c.args.block.now.first c.args.block.now.count) in
+    let long = ap (λ (ts : List RunTile). length ts) c.in_ok-push_tiles.ensures
+    ∙ length-append r.tiles.items (run_tiles c.len-number.result c.args.block.now.first
+    c.args.block.now.count) in
     let own = length-run_tiles c.len-number.result c.args.block.now.first c.args.block.now.count in
     record {
       runs = record {
         tiles = pushed-all r.leaves.found r.runs.items c.push.new.self.items r.spans.items c.extend_from_slice.new.self.items r.tiles.items
             c.push_tiles.new.tiles.items c.args.shift c.args.digits.now c.args.block.now c.len-number.result c.len-first.result
-            c.in_ok-push.ensures.items c.in_ok-extend_from_slice.ensures.items number first c.in_ok-push_tiles.ensures c.requires.runs.tiles c.requires.leaves;
+            c.in_ok-push.ensures.items c.in_ok-extend_from_slice.ensures.items number first
+            c.in_ok-push_tiles.ensures c.requires.runs.tiles c.requires.leaves;
         few = omega (arith, long, own, held_tiles, c.len.ensures, c.if-len-block-gt-MOST_TILES.false);
       };
       tiles = pushed-seen r.leaves.found r.runs.items c.push.new.self.items r.spans.items c.extend_from_slice.new.self.items r.tiles.items
           c.push_tiles.new.tiles.items c.args.shift c.args.digits.now c.args.block.now c.len-number.result c.len-first.result
-          c.in_ok-push.ensures.items c.in_ok-extend_from_slice.ensures.items number first c.in_ok-push_tiles.ensures c.requires.runs.tiles c.requires.leaves;
+          c.in_ok-push.ensures.items c.in_ok-extend_from_slice.ensures.items number first
+          c.in_ok-push_tiles.ensures c.requires.runs.tiles c.requires.leaves;
     }

@@ -1,6 +1,6 @@
 use Rattle.std.proofs.Common.{◌≡◌, ◌+◌, ◌<◌, ◌++◌, List, length, map, take, drop, get_or, refl, sym, ap, ap₂, ◌∙◌, arith}
 use Rattle.std.proofs.lemmas.List.{get_or_read_under, length-append, length-map, map-append}
-use Rattle.addressing.specs.Address.{Step as TheStep}
+use Rattle.theory_addresses.specs.Address.{Step as TheStep}
 use Rattle.cyclo_points.specs.declared.motion.Motion.{Motion}
 use Rattle.tile_place.specs.declared.placed_tile.PlacedTile.{PlacedTile}
 use Rattle.tile_shape.specs.declared.step.Step.{Step}
@@ -25,7 +25,8 @@ read : (c : After-index-tile) → t c ≡ get_or c.args.self.now.tiles.items c.a
 read c =
     let r = c.args.self.now in
     let many = length-map r.tiles.items (tile_seen r.leaves.found r.runs.items r.spans.items) in
-    get_or_read_under r.tiles.items c.args.number (length r.tiles.items) (t c) no_run_tile c.index-tile.ensures (omega (arith, many, c.requires.found)) refl
+    get_or_read_under r.tiles.items c.args.number (length r.tiles.items) (t c) no_run_tile
+    c.index-tile.ensures (omega (arith, many, c.requires.found)) refl
 
 is : (c : After-index-tile) → IsRunTile c.args.self.now.leaves.found c.args.self.now.runs.items c.args.self.now.spans.items (t c)
 is c = run-tile-is c.args.self.now c.requires.runs c.args.number c.requires.found (t c) (read c)

@@ -9,7 +9,8 @@ use Rattle.window_cover.proofs.runs.Runs.shifts.Goals as goal
 pub loop-run-preserved : goal.loop-run-preserved
 loop-run-preserved c = record {
   fields = c.widened-fields.ensures.fields;
-  held = held-run_more (HoldRun c.loop-run.fields) (HoldRun c.widened-fields.result) (λ (r : Run) h. c.widened-fields.ensures.kept (still r.shift) 0 h)
+  held = held-run_more (HoldRun c.loop-run.fields) (HoldRun c.widened-fields.result)
+      (λ (r : Run) h. c.widened-fields.ensures.kept (still r.shift) 0 h)
       c.as_slice-runs.result.now c.loop-run.run-index _ c.loop-run-test.true c.loop-run.invariant.held
       (subst (λ (m : Motion). AreHeld c.widened-fields.result m 0) c.in_ok-motion_of-2.ensures.motion c.widened-fields.ensures.held);
 }

@@ -9,5 +9,6 @@ pub judged-requires-clause-window : goal.judged-requires-clause-window
 judged-requires-clause-window c = subst IsWindow (sym c.window.ensures) c.requires.window
 
 pub returns-clause-judged : goal.returns-clause-judged
-returns-clause-judged c = subst (λ (w : Window). IfSome c.judged.result (IsJudged (tiling_of c.args.machine.now) w c.args.all c.args.level c.args.part.now))
+returns-clause-judged c = subst (λ (w : Window). IfSome c.judged.result
+    (IsJudged (tiling_of c.args.machine.now) w c.args.all c.args.level c.args.part.now))
     c.window.ensures c.judged.ensures.judged

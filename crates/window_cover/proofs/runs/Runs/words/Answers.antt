@@ -16,7 +16,8 @@ word-requires-clause-held c =
     let k = c.loop-number.number in
     let f = c.args.fields.now in
     let below : k < length found = omega (arith, c.loop-number-test.true, c.len-count.ensures) in
-    subst (λ (i : ℕ). AreHeld f c.place-kind.result.0 i) (sym c.place-kind.ensures.kind) (subst (λ (m : Motion). AreHeld f m (tile_of found k).kind) (sym c.place-kind.ensures.motion)
+    subst (λ (i : ℕ). AreHeld f c.place-kind.result.0 i) (sym c.place-kind.ensures.kind)
+    (subst (λ (m : Motion). AreHeld f m (tile_of found k).kind) (sym c.place-kind.ensures.motion)
     (each-of (λ (x : Found). AreHeld f x.motion x.kind) found c.requires.hold.held k below))
 
 pub word-requires-clause-few : goal.word-requires-clause-few
@@ -35,7 +36,8 @@ loop-number-preserved c =
     c.word.ensures ∙ ap₂ (λ (m : Motion) (i : ℕ). tile_word f m i k) c.place-kind.ensures.motion c.place-kind.ensures.kind in
     subst (λ m. c.push.new.self.items ≡ words_from f 0 (take m found)) next
     (c.in_ok-push.ensures.items ∙ ap (λ ws. ws ++ c.word.result ∷ []) c.loop-number.invariant
-    ∙ sym (words-more f 0 k k found c.word.result (omega arith) below (some-at (λ x. c.word.result ≡ tile_word f x.motion x.kind k) found k below its)))
+    ∙ sym (words-more f 0 k k found c.word.result (omega arith) below
+    (some-at (λ x. c.word.result ≡ tile_word f x.motion x.kind k) found k below its)))
 
 pub returns-clause-keyed : goal.returns-clause-keyed
 returns-clause-keyed c = runs-keyed c.args.self.now c.requires.runs

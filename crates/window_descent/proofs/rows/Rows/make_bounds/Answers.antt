@@ -22,14 +22,16 @@ returns-clause-rows c =
     place-there (levels_of before) level kind turn _ c.requires.level_exists (omega (arith, kinds, c.requires.kind_exists))
     (omega (arith, turns, c.requires.turn_below)) rows.bounds_room in
     let own : IfSome made (AreBounds m (scale_of before level) kind turn) =
-    subst (λ (ps : List Point). IfSome made (AreBounds m (get_or ps level (record { c = [] })) kind turn)) c.as_slice.ensures.value c.bounds_of-made.ensures in
+    subst (λ (ps : List Point). IfSome made (AreBounds m (get_or ps level (record { c = [] })) kind turn))
+    c.as_slice.ensures.value c.bounds_of-made.ensures in
     record {
       powers = rows.powers;
       powers_within = rows.powers_within;
       room = rows.room;
       made = rows.made;
       bounds_room = length-set before.bounds.items c.place.result made ∙ rows.bounds_room;
-      bounded = subst (λ place. AreNoted m (levels_of before) (λ (l k t : ℕ). AreBounds m (scale_of before l) k t) (set before.bounds.items place made))
+      bounded = subst (λ place. AreNoted m (levels_of before)
+          (λ (l k t : ℕ). AreBounds m (scale_of before l) k t) (set before.bounds.items place made))
           (sym c.place.ensures)
           (noted-more m kinds turns (levels_of before) (λ (l k t : ℕ). AreBounds m (scale_of before l) k t) before.bounds.items level kind turn made
           c.requires.kind_exists c.requires.turn_below there own rows.bounded);

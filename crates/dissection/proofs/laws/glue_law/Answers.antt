@@ -1,8 +1,0 @@
-use Rattle.cyclo_points.specs.Order.{points_of}
-use Rattle.cyclo_points.proofs.OrderLaws.{laws_of}
-use Rattle.dissection.proofs.Carried as law
-use Rattle.dissection.proofs.Turns.{turns_of}
-use Rattle.dissection.proofs.laws.glue_law.Goals as goal
-
-pub returns : goal.returns
-returns c = law.glue_law (points_of c.args.order) (laws_of c.args.order) (turns_of c.args.order)

@@ -1,7 +1,0 @@
-use Rattle.cyclo_points.specs.Order.{points_of}
-use Rattle.cyclo_points.proofs.OrderLaws.{laws_of}
-use Rattle.dissection.proofs.Carried as law
-use Rattle.dissection.proofs.laws.touch_law.Goals as goal
-
-pub returns : goal.returns
-returns c = law.touch_law (points_of c.args.order) (laws_of c.args.order)

@@ -1,5 +1,0 @@
-use Rattle.frames.proofs.Grown.{grown-split}
-use Rattle.frames.proofs.laws.growth_law.Goals as goal
-
-pub returns : goal.returns
-returns c = grown-split

@@ -1,8 +1,0 @@
--- The law of the walk through a listing, over the points of P. Tiles are named by address and motion.
-use Rattle.substitution.specs.Points.{Points}
-use Rattle.substitution.specs.Motion.{Motion}
-use Rattle.substitution.specs.Supertile.{Placed}
-use Rattle.listings.specs.Theorem.{WalkTheorem}
-
-abbrev pub WalkLaw : Points → Type 0
-WalkLaw P = WalkTheorem P.real (Placed P.ring.carrier) (Motion P.ring.carrier)

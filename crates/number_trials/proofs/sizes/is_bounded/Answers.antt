@@ -1,6 +1,0 @@
-use Rattle.std.proofs.Common.{sym, ◌∙◌}
-use Rattle.number_trials.proofs.Bounds.{Within-is_at_most}
-use Rattle.number_trials.proofs.sizes.is_bounded.Goals as goal
-
-pub returns : goal.returns
-returns c = λ yes. Within-is_at_most c.args.most c.args.x.now (sym c.is_at_most.ensures ∙ yes)

@@ -1,4 +1,0 @@
-use Rattle.rule_trials.proofs.agreement.as_the_plain_program.Given as goal
-
-abbrev pub ghosts-tried : goal.ghosts-tried
-ghosts-tried g a = record { name = a.blank.name; parts = a.blank.parts }

@@ -1,4 +1,0 @@
-use Rattle.rule_trials.proofs.printed.contacts_text.Given as goal
-
-abbrev pub ghosts-contacts_from : goal.ghosts-contacts_from
-ghosts-contacts_from a = record { name = a.blank.name; parts = a.blank.parts }

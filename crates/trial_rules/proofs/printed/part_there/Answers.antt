@@ -1,0 +1,9 @@
+use Rattle.std.proofs.Common.{arith}
+use Rattle.theory_addresses.proofs.TableBounds
+use Rattle.trial_rules.proofs.printed.part_there.Goals as goal
+
+pub part-requires : goal.part-requires
+part-requires g c = record {
+  exists = TableBounds.part_there c.args.tables.now c.args.kind c.args.edge
+      c.args.part (omega (arith, c.parts.ensures.count));
+}

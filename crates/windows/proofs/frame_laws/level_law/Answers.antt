@@ -1,8 +1,0 @@
-use Rattle.windows.proofs.Level.{level_tells, lifts_tell}
-use Rattle.windows.proofs.frame_laws.level_law.Goals as goal
-
-pub returns-clause-level : goal.returns-clause-level
-returns-clause-level c = level_tells
-
-pub returns-clause-lifts : goal.returns-clause-lifts
-returns-clause-lifts c = lifts_tell

@@ -1,7 +1,0 @@
-use Rattle.cyclo_points.specs.Order.{points_of}
-use Rattle.cyclo_points.proofs.OrderLaws.{laws_of}
-use Rattle.windows.proofs.Carried as law
-use Rattle.windows.proofs.patch_laws.enough_law.Goals as goal
-
-pub returns : goal.returns
-returns c = law.enough_law (points_of c.args.order) (laws_of c.args.order)
