@@ -1,7 +1,7 @@
-pub mod Acceptance
-pub mod Evaluated
-pub mod Numbered
+mod Acceptance
+mod Evaluated
+mod Numbered
 pub mod Constants
-pub mod Admitted
-pub mod Lists
-pub mod Placeable
+mod Admitted
+mod Lists
+mod Placeable

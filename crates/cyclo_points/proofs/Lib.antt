@@ -1,36 +1,36 @@
-pub mod Identities
-pub mod QuadLaws
-pub mod PairLaws
-pub mod FourLaws
-pub mod SixLaws
-pub mod EightLaws
-pub mod TenLaws
+mod Identities
+mod QuadLaws
+mod PairLaws
+mod FourLaws
+mod SixLaws
+mod EightLaws
+mod TenLaws
 pub mod OrderLaws
 pub mod Readings
 pub mod Within
 pub mod Sizes
-pub mod PairSizes
-pub mod FourTurns
-pub mod SixTurns
-pub mod EightTurns
-pub mod TenTurns
-pub mod Turns
+mod PairSizes
+mod FourTurns
+mod SixTurns
+mod EightTurns
+mod TenTurns
+mod Turns
 pub mod Refusal
-pub mod Dots
-pub mod ProductSizes
-pub mod ProductReadings
+mod Dots
+mod ProductSizes
+mod ProductReadings
 pub mod Reals
 pub mod Shorts
-pub mod Witnesses
+mod Witnesses
 pub mod ShortWitness
-pub mod SignReadings
+mod SignReadings
 pub mod Divisors
-pub mod RealProducts
+mod RealProducts
 pub mod CoordinateReadings
 pub mod Undoing
-pub mod Roots
-pub mod Floors
-pub mod ShortMultiples
-pub mod Thetas
+mod Roots
+mod Floors
+mod ShortMultiples
+mod Thetas
 pub mod Coefficients
 pub mod SamePoints

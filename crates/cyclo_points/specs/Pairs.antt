@@ -11,7 +11,7 @@ add_pair R p q = record { a = R.add p.a q.a; b = R.add p.b q.b }
 abbrev pub neg_pair : (R : Ops) → Pair R.carrier → Pair R.carrier
 neg_pair R p = record { a = R.neg p.a; b = R.neg p.b }
 
--- a whole number
+-- an integer
 abbrev pub int_pair : (R : Ops) → ℤ → Pair R.carrier
 int_pair R n = record { a = R.int n; b = R.int (pos 0) }
 

@@ -31,7 +31,7 @@ motion_text m = decimal m.turn ++ blank ∷ point_text m.shift
 abbrev pub number_text : (o : Order) → NumberOf o → List ℕ
 number_text o z = coefficients_text (coefficients o z)
 
--- the point of four coefficients, where there are all four
+-- the point of four coefficients, if there are all four
 abbrev pub point_of_coefficients : Option ℤ → Option ℤ → Option ℤ → Option ℤ → Option Point
 point_of_coefficients a b c d = option_and_then (λ x. option_and_then (λ y. option_and_then (λ z. option_map (λ w. record { c = x ∷ y ∷ z ∷ w ∷ [] }) d) c) b) a
 

@@ -26,7 +26,7 @@ root_up_to (suc k) n = if nat_le (suc k * suc k) n then suc k else root_up_to k 
 unfoldable pub whole_root : ℕ → ℕ
 whole_root n = root_up_to n n
 
--- b √m, rounded down, where m b² is no square but 0
+-- b √m, rounded down; m b² is a square only if b is 0
 abbrev pub floor_root : ℕ → ℤ → ℤ
 floor_root m (pos n) = pos (whole_root (m * (n * n)))
 floor_root m (negsuc n) = negsuc (whole_root (m * (suc n * suc n)))

@@ -1,4 +1,4 @@
--- A whole number that has the sign of a + bθ, where the parts are short.
+-- An integer that has the sign of a + bθ, if the parts are short.
 use Rattle.std.specs.Prelude.{ℤ, pos, ◌+ℤ◌, ◌*ℤ◌}
 use Rattle.cyclo_points.specs.declared.order.Order.{Order}
 use Rattle.cyclo_points.specs.declared.order.Order.TheVariants.{Four, Six, Eight, Ten}

@@ -20,8 +20,8 @@ use Rattle.rule_model.specs.Views.{rule_of, as_edition}
 use Rattle.tile_place.specs.Crossed.{edges_of, placed_tile, IsOnlyAcross}
 use Rattle.tile_place.proofs.KindEdges.{edge_typed}
 use Rattle.tile_place.proofs.Plane.{its_rule, fits_tables, has_edge, on_some_part}
-use Rattle.lazy_walk.specs.Boundary.{IsBoundaryEdge}
-use Rattle.lazy_walk.specs.Paths.{Crosses}
+use Rattle.theory_walks.specs.Boundary.{IsBoundaryEdge}
+use Rattle.theory_walks.specs.Paths.{Crosses}
 use Rattle.half_glue.specs.Checked.{HasGlueLaws}
 use Rattle.half_glue.proofs.Growing.{settled}
 use Rattle.half_glue.proofs.GlueTypes.{OtherEdge, other-edge}

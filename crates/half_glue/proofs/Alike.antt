@@ -16,10 +16,10 @@ use Rattle.tile_place.specs.Searched.{placed_in}
 use Rattle.tile_place.specs.declared.placed_tile.PlacedTile.{PlacedTile}
 use Rattle.tile_place.proofs.Plane.{its_rule, fits_tables}
 use Rattle.tile_shape.specs.Views.{address_of}
-use Rattle.lazy_walk.specs.Frames.{FrameValue, whole, IsFrameOf}
-use Rattle.lazy_walk.specs.Paths.{Crosses}
+use Rattle.theory_walks.specs.Frames.{FrameValue, whole, IsFrameOf}
+use Rattle.theory_walks.specs.Paths.{Crosses}
 use Rattle.lazy_walk.specs.Standing.{Stands}
-use Rattle.lazy_walk.proofs.Walks.{whole-fits}
+use Rattle.theory_walks.proofs.Walks.{whole-fits}
 use Rattle.theory_windows.proofs.Members.{same_whole}
 use Rattle.half_glue.specs.declared.whole_tile.WholeTile.{WholeTile}
 use Rattle.half_glue.specs.Checked.{HasGlueLaws}

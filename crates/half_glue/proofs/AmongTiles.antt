@@ -9,9 +9,9 @@ use Rattle.rule_model.specs.Glue.{IsGlueEdge, IsOnlyGlueEdge}
 use Rattle.rule_model.specs.Tiling.{Tiling, tiling_of}
 use Rattle.tile_place.specs.Keys.{order_numbers}
 use Rattle.tile_place.specs.declared.placed_tile.PlacedTile.{PlacedTile}
-use Rattle.lazy_walk.specs.Ancestors.{full}
-use Rattle.lazy_walk.specs.Frames.{FrameValue, IsFrameOf}
-use Rattle.lazy_walk.proofs.Walks.{GrowsTo-self}
+use Rattle.theory_walks.specs.Ancestors.{full}
+use Rattle.theory_walks.specs.Frames.{FrameValue, IsFrameOf}
+use Rattle.theory_walks.proofs.Walks.{GrowsTo-self}
 use Rattle.window_cover.specs.InOrder.{numbers_placed}
 use Rattle.window_cover.specs.Numbered.{IsPlacedAt}
 use Rattle.half_glue.specs.declared.half.Found.{Found}

@@ -25,8 +25,8 @@ use Rattle.theory_windows.specs.Laws.{WholesLaw}
 use Rattle.theory_windows.specs.Outlines.{Polygon}
 use Rattle.theory_windows.specs.Patch.{IsDissected}
 use Rattle.theory_windows.specs.WholeTiles.{WholeTile as PatchWhole, AreGlued, WholesCover as PatchWholesCover}
-use Rattle.lazy_walk.specs.Frames.{FrameValue, whole, IsFrameOf}
-use Rattle.lazy_walk.proofs.Walks.{whole-fits}
+use Rattle.theory_walks.specs.Frames.{FrameValue, whole, IsFrameOf}
+use Rattle.theory_walks.proofs.Walks.{whole-fits}
 use Rattle.half_glue.specs.declared.whole_tile.WholeTile.{WholeTile}
 use Rattle.half_glue.specs.Checked.{HasGlueLaws}
 use Rattle.half_glue.specs.Covering.{BoxOf, TilesCover, WholesCover, WholesCoverLaw, all_parts}

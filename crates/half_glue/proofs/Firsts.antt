@@ -3,7 +3,7 @@ use Rattle.std.proofs.Common.{◌≡◌, ℕ, suc, ◌<◌, None, All, List, [],
 use Rattle.std.proofs.lemmas.List.{get_or-map, length-map}
 use Rattle.tile_place.specs.Keys.{key_of}
 use Rattle.tile_place.specs.declared.placed_tile.PlacedTile.{PlacedTile}
-use Rattle.lazy_walk.specs.Frames.{FrameValue}
+use Rattle.theory_walks.specs.Frames.{FrameValue}
 use Rattle.half_glue.specs.declared.pairs.Pair.{Pair}
 use Rattle.half_glue.specs.declared.whole_tile.WholeTile.{WholeTile}
 use Rattle.half_glue.specs.Found.{no_tile, tile_of}

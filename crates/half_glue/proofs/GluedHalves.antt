@@ -25,9 +25,9 @@ use Rattle.rule_model.specs.Tiling.{Tiling, MotionOf, tiling_of, children}
 use Rattle.tile_place.specs.declared.placed_tile.PlacedTile.{PlacedTile}
 use Rattle.tile_shape.specs.Views.{address_of}
 use Rattle.theory_windows.specs.Gluing.{Rotation, Gluing}
-use Rattle.lazy_walk.specs.Frames.{FrameValue, whole}
+use Rattle.theory_walks.specs.Frames.{FrameValue, whole}
 use Rattle.lazy_walk.specs.Standing.{Stands}
-use Rattle.lazy_walk.proofs.Walked.{tile_of-whole}
+use Rattle.theory_walks.proofs.Walked.{tile_of-whole}
 use Rattle.half_glue.specs.Checked.{HasGlueLaws}
 use Rattle.half_glue.specs.Outline.{glued, vertices_in_place, outline_by, parts_by, polygon_of_part, WholesCountLaw}
 use Rattle.half_glue.specs.WholeTiles.{AreHalves, IsWholeBy}

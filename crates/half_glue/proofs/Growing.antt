@@ -12,13 +12,13 @@ use Rattle.rule_model.specs.declared.rule.Rule.{Rule}
 use Rattle.rule_model.specs.Tiling.{Tiling, MotionOf, tiling_of, children}
 use Rattle.tile_place.specs.Crossed.{edges_of}
 use Rattle.tile_place.proofs.Plane.{IsSettled}
-use Rattle.lazy_walk.specs.Boundary.{IsBoundaryEdge}
-use Rattle.lazy_walk.specs.Frames.{FrameValue, whole, IsFrameOf, GrowsTo}
-use Rattle.lazy_walk.specs.Paths.{Crosses}
-use Rattle.lazy_walk.proofs.Lifting.{Longer, longer, IsTileOf-later, lifted-twice}
-use Rattle.lazy_walk.proofs.Longer.{further_up, across-whole, inside-longer, Crosses-longer}
-use Rattle.lazy_walk.proofs.Walked.{whole-tile_of}
-use Rattle.lazy_walk.proofs.Walks.{whole-fits, GrowsTo-is}
+use Rattle.theory_walks.specs.Boundary.{IsBoundaryEdge}
+use Rattle.theory_walks.specs.Frames.{FrameValue, whole, IsFrameOf, GrowsTo}
+use Rattle.theory_walks.specs.Paths.{Crosses}
+use Rattle.theory_walks.proofs.Lifting.{Longer, longer, IsTileOf-later, lifted-twice}
+use Rattle.theory_walks.proofs.Longer.{further_up, across-whole, inside-longer, Crosses-longer}
+use Rattle.theory_walks.proofs.Walked.{whole-tile_of}
+use Rattle.theory_walks.proofs.Walks.{whole-fits, GrowsTo-is}
 use Rattle.half_glue.specs.Checked.{HasGlueLaws}
 
 pub settled : (m : Rule) → HasGlueLaws m → IsSettled m

@@ -18,13 +18,13 @@ use Rattle.tile_place.specs.Crossed.{edges_of, IsOnlyAcross}
 use Rattle.tile_place.specs.declared.placed_tile.PlacedTile.{PlacedTile}
 use Rattle.tile_place.proofs.EachOrder.{order-fits}
 use Rattle.tile_shape.specs.Views.{address_of}
-use Rattle.lazy_walk.specs.Ancestors.{full}
-use Rattle.lazy_walk.specs.Boundary.{IsBoundaryEdge}
-use Rattle.lazy_walk.specs.Frames.{FrameValue, whole, at_depth, IsFrameOf, GrowsTo}
-use Rattle.lazy_walk.specs.Paths.{Crosses}
+use Rattle.theory_walks.specs.Ancestors.{full}
+use Rattle.theory_walks.specs.Boundary.{IsBoundaryEdge}
+use Rattle.theory_walks.specs.Frames.{FrameValue, whole, at_depth, IsFrameOf, GrowsTo}
+use Rattle.theory_walks.specs.Paths.{Crosses}
 use Rattle.lazy_walk.specs.Standing.{Stands}
-use Rattle.lazy_walk.proofs.Walked.{tile_of-whole}
-use Rattle.lazy_walk.proofs.Walks.{whole-fits, later}
+use Rattle.theory_walks.proofs.Walked.{tile_of-whole}
+use Rattle.theory_walks.proofs.Walks.{whole-fits, later}
 use Rattle.half_glue.specs.Checked.{HasGlueLaws}
 use Rattle.half_glue.specs.Found.{AreGlued}
 use Rattle.half_glue.specs.Given.{IsGiven}

@@ -36,7 +36,7 @@ use Rattle.tile_place.proofs.EachOrder.{order-fits}
 use Rattle.tile_place.proofs.KeyOrder.{level-numbers}
 use Rattle.tile_place.proofs.Plane.{its_rule, fits_tables, has_edge}
 use Rattle.tile_shape.specs.Views.{address_of}
-use Rattle.lazy_walk.specs.Frames.{FrameValue, whole, IsFrameOf}
+use Rattle.theory_walks.specs.Frames.{FrameValue, whole, IsFrameOf}
 use Rattle.theory_windows.proofs.Members.{same_whole}
 use Rattle.half_glue.specs.declared.glue_side.GlueSide.{GlueSide}
 use Rattle.half_glue.specs.declared.glue_side.OtherSide.{OtherSide}

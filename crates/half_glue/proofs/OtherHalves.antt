@@ -6,9 +6,9 @@ use Rattle.rule_model.specs.Glue.{IsOnlyGlueEdge}
 use Rattle.rule_model.specs.Tiling.{Tiling, tiling_of}
 use Rattle.tile_place.specs.declared.order_key.OrderKey.{OrderKey}
 use Rattle.tile_place.specs.declared.placed_tile.PlacedTile.{PlacedTile}
-use Rattle.lazy_walk.specs.Ancestors.{full}
-use Rattle.lazy_walk.specs.Frames.{FrameValue, IsFrameOf}
-use Rattle.lazy_walk.proofs.Walks.{GrowsTo-self}
+use Rattle.theory_walks.specs.Ancestors.{full}
+use Rattle.theory_walks.specs.Frames.{FrameValue, IsFrameOf}
+use Rattle.theory_walks.proofs.Walks.{GrowsTo-self}
 use Rattle.half_glue.specs.declared.glue_side.GlueSide.{GlueSide}
 use Rattle.half_glue.specs.Checked.{HasGlueLaws}
 use Rattle.half_glue.specs.Depth.{IsGluedInside}

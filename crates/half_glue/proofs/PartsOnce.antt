@@ -14,7 +14,7 @@ use Rattle.rule_model.specs.Tiling.{Tiling}
 use Rattle.tile_place.specs.Searched.{placed_in}
 use Rattle.theory_windows.specs.Distinct.{AreDistinct}
 use Rattle.theory_windows.proofs.Members.{distinct-append}
-use Rattle.lazy_walk.specs.Frames.{FrameValue}
+use Rattle.theory_walks.specs.Frames.{FrameValue}
 use Rattle.half_glue.specs.declared.whole_tile.WholeTile.{WholeTile}
 use Rattle.half_glue.specs.Covering.{all_parts, PartsOnceLaw}
 use Rattle.half_glue.specs.InOrder.{first_numbers, ComesBefore, AreInOrder}

@@ -4,7 +4,7 @@ use Rattle.std.proofs.lemmas.List.Elements.{All-nil, All-cons, All-append}
 use Rattle.theory_addresses.specs.Search.{chosen_below}
 use Rattle.tile_place.specs.declared.order_key.OrderKey.{OrderKey}
 use Rattle.tile_place.specs.declared.placed_tile.PlacedTile.{PlacedTile}
-use Rattle.lazy_walk.specs.Frames.{FrameValue}
+use Rattle.theory_walks.specs.Frames.{FrameValue}
 use Rattle.half_glue.specs.declared.pairs.Pair.{Pair}
 use Rattle.half_glue.specs.declared.whole_tile.WholeTile.{WholeTile}
 use Rattle.half_glue.specs.Keys.{no_key, no_pair, pair_at, whole_at}

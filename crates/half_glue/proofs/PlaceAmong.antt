@@ -32,7 +32,7 @@ exact (x ∷ xs) (y ∷ ys) e =
 
 module _ (tiles : List PlacedTile) (pairs : List Pair) (from : ℕ) (sought : List ℤ) where
   -- how a pair stands to what is sought
-  abbrev stands : ℕ → Ordering
+  abbrev pub stands : ℕ → Ordering
   stands k = slice_cmp int_cmp (pair_numbers tiles (pair_of_number pairs k)) sought
 
   -- those from the number on and in front of one place come before it, and those from another place on behind it

@@ -8,12 +8,12 @@ use Rattle.rule_model.specs.declared.rule.Rule.{Rule}
 use Rattle.rule_model.specs.Tiling.{Tiling, tiling_of}
 use Rattle.tile_place.specs.declared.placed_tile.PlacedTile.{PlacedTile}
 use Rattle.tile_shape.specs.Views.{address_of}
-use Rattle.lazy_walk.specs.Ancestors.{full}
-use Rattle.lazy_walk.specs.Boundary.{IsBoundaryEdge}
-use Rattle.lazy_walk.specs.Frames.{FrameValue, whole, IsFrameOf, GrowsTo}
-use Rattle.lazy_walk.proofs.Ancestors.{full-later}
-use Rattle.lazy_walk.proofs.Walked.{at_depth-grown}
-use Rattle.lazy_walk.proofs.Walks.{GrowsTo-then}
+use Rattle.theory_walks.specs.Ancestors.{full}
+use Rattle.theory_walks.specs.Boundary.{IsBoundaryEdge}
+use Rattle.theory_walks.specs.Frames.{FrameValue, whole, IsFrameOf, GrowsTo}
+use Rattle.theory_walks.proofs.Ancestors.{full-later}
+use Rattle.theory_walks.proofs.Walked.{at_depth-grown}
+use Rattle.theory_walks.proofs.Walks.{GrowsTo-then}
 use Rattle.half_glue.specs.declared.glue_fault.GlueFault.{GlueFault}
 use Rattle.half_glue.specs.declared.glue_fault.GlueFault.TheVariants.{DepthLimit, CoordLimit, NoMemory}
 use Rattle.half_glue.specs.Causes.{HasGlueCause}

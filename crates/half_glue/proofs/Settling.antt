@@ -14,13 +14,13 @@ use Rattle.rule_model.specs.Tiling.{Tiling, tiling_of, children}
 use Rattle.tile_place.specs.Crossed.{IsOnlyAcross}
 use Rattle.tile_place.specs.declared.placed_tile.PlacedTile.{PlacedTile}
 use Rattle.tile_shape.specs.Views.{address_of}
-use Rattle.lazy_walk.specs.Ancestors.{full}
-use Rattle.lazy_walk.specs.Boundary.{IsBoundaryEdge}
-use Rattle.lazy_walk.specs.Frames.{FrameValue, whole, IsFrameOf, GrowsTo, lifted_at}
-use Rattle.lazy_walk.specs.Paths.{Crosses}
+use Rattle.theory_walks.specs.Ancestors.{full}
+use Rattle.theory_walks.specs.Boundary.{IsBoundaryEdge}
+use Rattle.theory_walks.specs.Frames.{FrameValue, whole, IsFrameOf, GrowsTo, lifted_at}
+use Rattle.theory_walks.specs.Paths.{Crosses}
 use Rattle.lazy_walk.specs.Standing.{Stands}
-use Rattle.lazy_walk.proofs.Ancestors.{full-later}
-use Rattle.lazy_walk.proofs.Lifting.{IsTileOf-later, lifted-later}
+use Rattle.theory_walks.proofs.Ancestors.{full-later}
+use Rattle.theory_walks.proofs.Lifting.{IsTileOf-later, lifted-later}
 use Rattle.half_glue.specs.Causes.{IsRefusedShift}
 use Rattle.half_glue.specs.Checked.{HasGlueLaws}
 use Rattle.half_glue.specs.Depth.{IsGluedInside}

@@ -20,8 +20,8 @@ use Rattle.tile_place.specs.Searched.{placed_in}
 use Rattle.tile_place.specs.declared.placed_tile.PlacedTile.{PlacedTile}
 use Rattle.tile_shape.specs.Views.{address_of}
 use Rattle.theory_windows.specs.Distinct.{AreDistinct}
-use Rattle.lazy_walk.specs.Frames.{FrameValue, whole}
-use Rattle.lazy_walk.specs.Paths.{Crosses}
+use Rattle.theory_walks.specs.Frames.{FrameValue, whole}
+use Rattle.theory_walks.specs.Paths.{Crosses}
 use Rattle.lazy_walk.specs.Standing.{Stands}
 use Rattle.half_glue.specs.InOrder.{order_numbers}
 use Rattle.half_glue.specs.Outline.{parts_by}

@@ -8,7 +8,7 @@ use Rattle.std.proofs.Math.Seq.{get_or-append_seam}
 use Rattle.rule_model.specs.declared.rule.Rule.{Rule}
 use Rattle.rule_model.specs.Tiling.{Tiling, tiling_of}
 use Rattle.tile_place.specs.declared.placed_tile.PlacedTile.{PlacedTile}
-use Rattle.lazy_walk.specs.Frames.{FrameValue, IsFrameOf, GrowsTo}
+use Rattle.theory_walks.specs.Frames.{FrameValue, IsFrameOf, GrowsTo}
 use Rattle.half_glue.specs.declared.half.Found.{Found}
 use Rattle.half_glue.specs.declared.half.Found.TheVariants.{Alone, Given, Crossed}
 use Rattle.half_glue.specs.declared.pairs.Pair.{Pair}

@@ -16,10 +16,10 @@ use Rattle.tile_place.specs.Searched.{placed_in}
 use Rattle.tile_place.specs.declared.placed_tile.PlacedTile.{PlacedTile}
 use Rattle.tile_shape.specs.Views.{address_of}
 use Rattle.tile_shape.proofs.Seen.{address-there}
-use Rattle.lazy_walk.specs.Frames.{FrameValue, whole, IsFrameOf}
-use Rattle.lazy_walk.specs.Paths.{Crosses}
+use Rattle.theory_walks.specs.Frames.{FrameValue, whole, IsFrameOf}
+use Rattle.theory_walks.specs.Paths.{Crosses}
 use Rattle.lazy_walk.specs.Standing.{Stands}
-use Rattle.lazy_walk.proofs.Walked.{whole-tile_of}
+use Rattle.theory_walks.proofs.Walked.{whole-tile_of}
 use Rattle.half_glue.specs.declared.pairs.Pair.{Pair}
 use Rattle.half_glue.specs.declared.whole_tile.WholeTile.{WholeTile}
 use Rattle.half_glue.specs.Arranged.{AreArranged}

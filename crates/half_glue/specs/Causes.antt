@@ -1,4 +1,4 @@
--- Why tiles can't be glued.
+-- Why tiles cannot be glued.
 use Rattle.std.specs.Prelude.{◌≡◌, ℕ, true, List}
 use Rattle.std.specs.List.{Contains}
 use Rattle.theory_addresses.specs.Address as theory
@@ -11,13 +11,13 @@ use Rattle.rule_model.specs.Tiling.{Tiling, MotionOf}
 use Rattle.tile_place.specs.declared.placed_tile.PlacedTile.{PlacedTile}
 use Rattle.tile_shape.specs.declared.address.Address.{Address}
 use Rattle.tile_shape.specs.Views.{address_of}
-use Rattle.lazy_walk.specs.Boundary.{IsBoundaryEdge}
-use Rattle.lazy_walk.specs.Frames.{FrameValue, whole, lifted_at}
-use Rattle.lazy_walk.specs.Paths.{Crosses}
+use Rattle.theory_walks.specs.Boundary.{IsBoundaryEdge}
+use Rattle.theory_walks.specs.Frames.{FrameValue, whole, lifted_at}
+use Rattle.theory_walks.specs.Paths.{Crosses}
 use Rattle.half_glue.specs.declared.glue_fault.GlueFault.{GlueFault}
 use Rattle.half_glue.specs.declared.glue_fault.GlueFault.TheVariants.{DepthLimit, CoordLimit, NoMemory}
 
--- a tile given, lifted to depth 64, has this glue edge on the boundary
+-- a given tile, lifted to depth 64, has this glue edge on the boundary
 pub record IsDepthLimit (t : Tiling) (f : FrameValue) (tiles : List PlacedTile) (addr : Address) (edge : ℕ) : Type 0 where
   pub tile : PlacedTile
   pub is_given : Contains tiles tile
@@ -25,7 +25,7 @@ pub record IsDepthLimit (t : Tiling) (f : FrameValue) (tiles : List PlacedTile) 
   pub glue_edge : IsGlueEdge t.rule tile.kind edge
   pub on_boundary : IsBoundaryEdge t (lifted_at t f (address_of tile.addr) 64) edge
 
--- the tile across the glue edge of a tile given has this refused shift, a point of its order
+-- the tile across the glue edge of a given tile has this refused shift, a point of its order
 pub record IsRefusedShift (t : Tiling) (f : FrameValue) (tiles : List PlacedTile) (value : Point) : Type 0 where
   pub tile : PlacedTile
   pub is_given : Contains tiles tile

@@ -1,4 +1,4 @@
--- What a machine brings for gluing: its rule, and the laws of its tiling.
+-- What is known of a machine when tiles are glued: its rule, and the laws of its tiling.
 use Rattle.std.specs.Prelude.{◌≡◌, ℕ}
 use Rattle.theory_addresses.specs.Address.{Address, Fits}
 use Rattle.theory_addresses.specs.Tables.{child_kinds}
@@ -14,8 +14,9 @@ use Rattle.tile_shape.specs.Usable.{AreUsable}
 use Rattle.tile_shape.specs.UsesInOrder.{uses_in_order}
 use Rattle.theory_windows.specs.FrameSearch.{KnownLaw}
 
--- the rule is accepted, its numbers exist, each of its kinds has a use, and its contact tables have its child kinds; with grown digits addresses still fit; and
--- the laws of points, of crossings, and of the names of tiles
+-- The rule is accepted, and its numbers exist. Each of its kinds has a use, and its contact tables have its
+-- child kinds. With grown digits addresses still fit. The laws of points, of crossings, and of the names of
+-- tiles hold.
 pub record HasGlueLaws (m : Rule) : Type 0 where
   pub accepted : IsAccepted m
   pub usable : IsUsable m

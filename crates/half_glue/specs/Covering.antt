@@ -1,4 +1,4 @@
--- Whole tiles of tiles that cover a window.
+-- Whole tiles that cover a window, since their parts do.
 use Rattle.std.specs.Prelude.{◌≡◌, List, map, IsTrue, All}
 use Rattle.std.specs.List.{flat_map}
 use Rattle.theory_plane.specs.Plane.{TestPoint, IsTestPoint}
@@ -13,14 +13,14 @@ use Rattle.tile_place.specs.declared.placed_tile.PlacedTile.{PlacedTile}
 use Rattle.theory_windows.specs.Distinct.{AreDistinct}
 use Rattle.theory_windows.specs.FramePatch.{frame_patch}
 use Rattle.theory_windows.specs.Patch.{Covers}
-use Rattle.lazy_walk.specs.Frames.{FrameValue, whole, IsFrameOf, GrowsTo}
+use Rattle.theory_walks.specs.Frames.{FrameValue, whole, IsFrameOf, GrowsTo}
 use Rattle.lazy_walk.specs.Standing.{Stands}
 use Rattle.half_glue.specs.declared.whole_tile.WholeTile.{WholeTile}
 use Rattle.half_glue.specs.InOrder.{AreInOrder}
 use Rattle.half_glue.specs.Outline.{parts_of, polygon_of_whole}
 use Rattle.half_glue.specs.WholeTiles.{IsWholeTile, AreWholeTilesOf}
 
--- the box in which whole tiles of a tiling are to cover all
+-- a box in the plane of a tiling, to be covered
 abbrev pub BoxOf : Tiling → Type 0
 BoxOf t = OpenBox (points_of t.order).real.ops.carrier
 
@@ -34,14 +34,14 @@ WholesCover t box wholes =
     (p : TestPoint (points_of t.order).real.ops.carrier) → IsTestPoint (points_of t.order).real p → IsTrue (in_box (points_of t.order).real box p)
     → number_of (λ w. member (points_of t.order).real (polygon_of_whole t w) p) wholes ≡ 1
 
--- whole tiles of tiles that cover a window cover it, in each frame that the tiles' frame may become
+-- if tiles cover a box, their whole tiles do, in each frame to which the tiles' frame may grow
 abbrev pub WholesCoverLaw : Tiling → Type 0
 WholesCoverLaw t =
     (f g : FrameValue) (box : BoxOf t) (tiles : List PlacedTile) (wholes : List WholeTile)
     → IsFrameOf t f → GrowsTo t f g → All (Stands t f) tiles → TilesCover t f box tiles
     → AreWholeTilesOf t g tiles wholes → AreInOrder wholes → WholesCover t box wholes
 
--- the parts of these whole tiles, one whole tile after the other
+-- the parts of these whole tiles, in order
 abbrev pub all_parts : (t : Tiling) → List WholeTile → List (Placed (NumberOf t.order))
 all_parts t wholes = flat_map (λ w. map (placed_in t.order) (parts_of w)) wholes
 

@@ -1,18 +1,18 @@
--- The depth to which a frame grows to glue tiles.
+-- The depth to which a frame grows so that tiles can be glued.
 use Rattle.std.specs.Prelude.{ℕ, ◌<◌, ◌≤◌, List, All, length}
 use Rattle.std.specs.List.{Contains}
 use Rattle.rule_model.specs.Glue.{IsGlueEdge}
 use Rattle.rule_model.specs.Tiling.{Tiling}
 use Rattle.tile_place.specs.declared.placed_tile.PlacedTile.{PlacedTile}
 use Rattle.tile_shape.specs.Views.{address_of}
-use Rattle.lazy_walk.specs.Boundary.{IsBoundaryEdge}
-use Rattle.lazy_walk.specs.Frames.{FrameValue, lifted_at}
+use Rattle.theory_walks.specs.Boundary.{IsBoundaryEdge}
+use Rattle.theory_walks.specs.Frames.{FrameValue, lifted_at}
 
--- at depth n the tile's glue edge, where it has one, is inside the frame's supertile
+-- at depth n the tile's glue edge, if it has one, is inside the frame's supertile
 abbrev pub IsGluedInside : Tiling → FrameValue → ℕ → PlacedTile → Type 0
 IsGluedInside t f n x = (e : ℕ) → IsGlueEdge t.rule x.kind e → ¬ IsBoundaryEdge t (lifted_at t f (address_of x.addr) n) e
 
--- a tile of these has its glue edge on the boundary at depth n
+-- one of these tiles has its glue edge on the boundary at depth n
 pub record IsTooShallow (t : Tiling) (f : FrameValue) (tiles : List PlacedTile) (n : ℕ) : Type 0 where
   pub tile : PlacedTile
   pub edge : ℕ

@@ -1,4 +1,4 @@
--- What is found of the other half of a tile given.
+-- What is found of the other half of a given tile.
 use Rattle.std.specs.Prelude.{◌≡◌, ℕ, ◌<◌, ◌^◌, List, [], length, get_or, Option, None, Some}
 use Rattle.std.specs.List.{Contains}
 use Rattle.theory_substitution.specs.Motion.{followed}
@@ -15,39 +15,40 @@ use Rattle.tile_place.specs.declared.order_key.OrderKey.{OrderKey}
 use Rattle.tile_place.specs.declared.placed_tile.PlacedTile.{PlacedTile}
 use Rattle.tile_shape.specs.Views.{address_of}
 use Rattle.window_cover.specs.Numbered.{IsPlacedAt}
-use Rattle.lazy_walk.specs.Frames.{FrameValue, whole}
-use Rattle.lazy_walk.specs.Paths.{Crosses}
+use Rattle.theory_walks.specs.Frames.{FrameValue, whole}
+use Rattle.theory_walks.specs.Paths.{Crosses}
 use Rattle.half_glue.specs.declared.glue_side.OtherSide.{OtherSide}
 use Rattle.half_glue.specs.declared.half.Found.{Found}
 use Rattle.half_glue.specs.declared.half.Found.TheVariants.{Alone, Given, Crossed}
 use Rattle.half_glue.specs.Given.{IsGiven}
 use Rattle.half_glue.specs.WholeTiles.{HasNoGlueEdge}
 
--- a tile that stands for none
+-- a value for a number that no tile has
 abbrev pub no_tile : PlacedTile
 no_tile = record { kind = 0; motion = record { turn = 0; shift = record { c = [] } }; addr = record { kind = 0; digits = record { items = [] } } }
 
--- the tile of a number
+-- the tile with this number
 abbrev pub tile_of : List PlacedTile → ℕ → PlacedTile
 tile_of tiles n = get_or tiles n no_tile
 
--- the motion is the one that glues, followed by the half's own, and isn't refused
+-- the motion is the one that glues, followed by the half's own, and is not refused
 pub record IsBeside (o : Order) (s : OtherSide) (own m : Motion) : Type 0 where
   pub followed_by : motion_in o m ≡ followed (points_of o) (motion_in o s.glue) (motion_in o own)
   pub within : IsWithin (2 ^ 24) m.shift
   pub turn_below : m.turn < (points_of o).order
 
--- the key of that number is of a tile of the other kind that stands there
+-- the key with this number is that of a tile of the other kind, in the other half's place
 abbrev pub StandsBeside : Order → Option OtherSide → Motion → List OrderKey → ℕ → Type 0
 StandsBeside o None own keys n = ⊥
 StandsBeside o (Some s) own keys n = (m : Motion) × IsBeside o s own m × Contains keys (key_of m s.kind n)
 
--- the tile of that number is of the other kind and stands there
+-- the tile with this number is of the other kind, in the other half's place
 abbrev pub StandsAmong : Order → Option OtherSide → Motion → List PlacedTile → ℕ → Type 0
 StandsAmong o None own tiles n = ⊥
 StandsAmong o (Some s) own tiles n = (m : Motion) × IsBeside o s own m × IsPlacedAt tiles m s.kind n
 
--- each of two tiles of the frame is the only one across the only glue edge of the other, and they are of two kinds
+-- each of two tiles of the frame is the only one across the only glue edge of the other, and they are of two
+-- kinds
 pub record AreGlued (t : Tiling) (f : FrameValue) (x y : PlacedTile) : Type 0 where
   pub edge : ℕ
   pub its_edge : ℕ
@@ -61,13 +62,13 @@ pub record AreGlued (t : Tiling) (f : FrameValue) (x y : PlacedTile) : Type 0 wh
 abbrev pub IsCrossed : Tiling → FrameValue → PlacedTile → PlacedTile → Type 0
 IsCrossed t f x y = IsGiven t f y × AreGlued t f x y
 
--- what is found of the tile x: no glue edge, or the other half
+-- what is found of the tile x: that it has no glue edge, or its other half
 abbrev pub IsFound : Tiling → FrameValue → List PlacedTile → PlacedTile → Found → Type 0
 IsFound t f tiles x Alone = HasNoGlueEdge t x.kind
 IsFound t f tiles x (Given n) = (n < length tiles) × AreGlued t f x (tile_of tiles n)
 IsFound t f tiles x (Crossed y) = IsCrossed t f x y
 
--- a number found is that of a tile
+-- a number that is found is that of a tile
 abbrev pub IsNumbered : List PlacedTile → Found → Type 0
 IsNumbered tiles Alone = Unit {0}
 IsNumbered tiles (Given n) = n < length tiles

@@ -8,13 +8,13 @@ use Rattle.theory_frames.specs.Frame.{IsTileOf, StandsInFrame, lifted_in}
 use Rattle.rule_model.specs.Tiling.{Tiling, children}
 use Rattle.tile_place.specs.declared.placed_tile.PlacedTile.{PlacedTile}
 use Rattle.tile_shape.specs.Views.{address_of}
-use Rattle.lazy_walk.specs.Frames.{FrameValue, whole}
+use Rattle.theory_walks.specs.Frames.{FrameValue, whole}
 
--- the tile, lifted to the depth of the frame, with its motion
+-- the tile, lifted to the depth of the frame, with its own motion
 abbrev pub lifted_tile : (t : Tiling) → FrameValue → PlacedTile → Placed (NumberOf t.order)
 lifted_tile t f x = record { address = lifted_in (whole f) (address_of x.addr); motion = motion_in t.order x.motion }
 
--- the tile is of the frame, has its motion there, and no refused shift
+-- the tile is of the frame, with its motion there, and its shift is not refused
 pub record IsGiven (t : Tiling) (f : FrameValue) (x : PlacedTile) : Type 0 where
   pub its_kind : x.kind ≡ x.addr.kind
   pub of_frame : IsTileOf (children t) (whole f) (address_of x.addr)
@@ -23,6 +23,6 @@ pub record IsGiven (t : Tiling) (f : FrameValue) (x : PlacedTile) : Type 0 where
   pub in_order : IsOf t.order x.motion.shift
   pub within : IsWithin (2 ^ 24) x.motion.shift
 
--- so it is with each of these
+-- this holds for each of these tiles
 abbrev pub AreGiven : Tiling → FrameValue → List PlacedTile → Type 0
 AreGiven t f tiles = All (IsGiven t f) tiles

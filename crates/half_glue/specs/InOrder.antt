@@ -6,15 +6,15 @@ use Rattle.std.specs.declared.cmp.Ordering.TheVariants.{Less}
 pub use Rattle.tile_place.specs.Keys.{order_numbers}
 use Rattle.half_glue.specs.declared.whole_tile.WholeTile.{WholeTile}
 
--- those of the first half
+-- the numbers that order a whole tile: those of its first half
 abbrev pub first_numbers : WholeTile → List ℤ
 first_numbers w = order_numbers w.first.motion w.first.kind
 
--- one comes before the other
+-- one whole tile comes before the other
 abbrev pub ComesBefore : WholeTile → WholeTile → Type 0
 ComesBefore v w = slice_cmp int_cmp (first_numbers v) (first_numbers w) ≡ Less
 
--- each of these comes before the next, so none is there twice
+-- each of these comes before the next, so none is repeated
 abbrev pub AreInOrder : List WholeTile → Type 0
 AreInOrder [] = Unit {0}
 AreInOrder (v ∷ []) = Unit {0}

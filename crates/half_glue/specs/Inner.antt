@@ -1,22 +1,22 @@
--- Whole tiles whose tiles are all tiles of a window.
+-- Whole tiles of which every tile is given.
 use Rattle.std.specs.Prelude.{◌≡◌, ◌⊎◌, ℕ, ◌<◌, ◌≤◌, ◌^◌, Bool, false, List, All, length, get_or, Some, IsTrue}
 use Rattle.std.specs.List.{Contains}
 use Rattle.cyclo_points.specs.Order.{points_of}
 use Rattle.cyclo_points.specs.Point.{IsWithin}
 use Rattle.rule_model.specs.Tiling.{Tiling}
 use Rattle.tile_place.specs.declared.placed_tile.PlacedTile.{PlacedTile}
-use Rattle.lazy_walk.specs.Frames.{FrameValue}
+use Rattle.theory_walks.specs.Frames.{FrameValue}
 use Rattle.half_glue.specs.declared.pairs.Pair.{Pair}
 use Rattle.half_glue.specs.Keys.{no_pair}
 use Rattle.half_glue.specs.Pairs.{ArePresent, IsLoose, loose_of}
 
--- the kind of the tile is one of the rule's, and its motion is within the limits
+-- the tile's kind exists, and its motion is within the limits
 pub record IsPlaced (t : Tiling) (x : PlacedTile) : Type 0 where
   pub kind_exists : x.kind < length t.rule.kinds
   pub turn_below : x.motion.turn < (points_of t.order).order
   pub within : IsWithin (2 ^ 24) x.motion.shift
 
--- both numbers of the pair are those of tiles given, and these tiles are a whole one
+-- both numbers of the pair are those of given tiles, and these tiles are a whole one
 pub record IsInner (t : Tiling) (f : FrameValue) (tiles : List PlacedTile) (p : Pair) : Type 0 where
   pub present : ArePresent (length tiles) p
   pub loose : IsLoose t f tiles (loose_of tiles p)
@@ -25,12 +25,12 @@ pub record IsInner (t : Tiling) (f : FrameValue) (tiles : List PlacedTile) (p : 
 abbrev pub IsOfPair : ℕ → Pair → Type 0
 IsOfPair k p = (p.first ≡ k) ⊎ (p.second ≡ Some k)
 
--- so it is with each of these pairs, and each tile that is taken is of one of them
+-- this holds for each of these pairs, and each tile that is marked is of one of them
 pub record AreInner (t : Tiling) (f : FrameValue) (tiles : List PlacedTile) (pairs : List Pair) (marks : List Bool) : Type 0 where
   pub each : All (IsInner t f tiles) pairs
   pub taken : (k : ℕ) → IsTrue (get_or marks k false) → (p : Pair) × Contains pairs p × IsOfPair k p
 
--- the first number of each pair is below n and less than that of each pair behind it
+-- the first number of each pair is below n, and less than that of each pair after it
 pub record AreRising (n : ℕ) (pairs : List Pair) : Type 0 where
   pub few : length pairs ≤ n
   pub below : All (λ (p : Pair). p.first < n) pairs

@@ -17,20 +17,20 @@ key_order = (key_ord.ghosts).cmp
 abbrev pub HasKey : PlacedTile → Type 0
 HasKey x = FitsKey x.motion x.kind
 
--- the keys of things, each by a tile of it, of numbers from n on
+-- the keys of things, each by one of its tiles, numbered from n
 abbrev pub keys_by : {A : Type 0} → (A → PlacedTile) → ℕ → List A → List OrderKey
 keys_by tile n [] = []
 keys_by tile n (x ∷ xs) = key_of (tile x).motion (tile x).kind n ∷ keys_by tile (suc n) xs
 
--- those of tiles
+-- the keys of tiles
 abbrev pub own_keys : List PlacedTile → List OrderKey
 own_keys tiles = keys_by (λ x. x) 0 tiles
 
--- and of whole tiles, by their first halves
+-- the keys of whole tiles, by their first halves
 abbrev pub first_keys : List WholeTile → List OrderKey
 first_keys wholes = keys_by (λ w. w.first) 0 wholes
 
--- these are the keys of tiles, in order
+-- these are the keys of the tiles, in order
 pub record AreKeysOf (tiles : List PlacedTile) (keys : List OrderKey) : Type 0 where
   pub same : IsPermutation (own_keys tiles) keys
   pub sorted : IsSorted key_order keys
@@ -38,16 +38,16 @@ pub record AreKeysOf (tiles : List PlacedTile) (keys : List OrderKey) : Type 0 w
 abbrev pub no_key : OrderKey
 no_key = record { high = 0; low = 0; number = 0 }
 
--- whether the key at a place isn't level with the one before
+-- true if the key at a place differs from the one before in more than its number
 unfoldable pub is_new : List OrderKey → ℕ → Bool
 is_new ks zero = true
 is_new ks (suc i) = not (are_level (get_or ks (suc i) no_key) (get_or ks i no_key))
 
--- the whole tile of the key at a place
+-- the whole tile of the key at this place
 abbrev pub whole_at : List WholeTile → WholeTile → List OrderKey → ℕ → WholeTile
 whole_at made blank ks i = get_or made (get_or ks i no_key).number blank
 
--- the pair of the key at a place
+-- the pair of the key at this place
 abbrev pub no_pair : Pair
 no_pair = record { first = 0; second = None }
 

@@ -1,4 +1,4 @@
--- Whole tiles lifted to the depth of a frame, as the program has them.
+-- Whole tiles lifted to the depth of a frame, as values of the program.
 use Rattle.std.specs.Prelude.{◌≤◌, List, All, length, map, Option, None, Some}
 use Rattle.theory_addresses.specs.Address as theory
 use Rattle.theory_frames.specs.Frame.{lifted_in}
@@ -6,7 +6,7 @@ use Rattle.tile_place.specs.declared.placed_tile.PlacedTile.{PlacedTile}
 use Rattle.tile_shape.specs.declared.address.Address.{Address}
 use Rattle.tile_shape.specs.declared.step.Step.{Step}
 use Rattle.tile_shape.specs.Views.{address_of, address_as}
-use Rattle.lazy_walk.specs.Frames.{FrameValue, whole}
+use Rattle.theory_walks.specs.Frames.{FrameValue, whole}
 use Rattle.half_glue.specs.declared.pairs.Pair.{Pair}
 use Rattle.half_glue.specs.declared.whole_tile.WholeTile.{WholeTile}
 use Rattle.half_glue.specs.Pairs.{ArePresent, loose_of}
@@ -31,11 +31,11 @@ whole_to f w = record { first = lifted_to f w.first; second = second_to f w.seco
 abbrev pub whole_of : FrameValue → List PlacedTile → Pair → WholeTile
 whole_of f tiles p = whole_to f (loose_of tiles p)
 
--- those of all pairs
+-- the whole tiles of all pairs
 abbrev pub wholes_of : FrameValue → List PlacedTile → List Pair → List WholeTile
 wholes_of f tiles pairs = map (whole_of f tiles) pairs
 
--- the numbers of these pairs are those of tiles that can be lifted to the frame's depth
+-- the numbers of these pairs are those of tiles, and the tiles can be lifted to the frame's depth
 pub record CanBeWholes (f : FrameValue) (tiles : List PlacedTile) (pairs : List Pair) : Type 0 where
   pub present : All (ArePresent (length tiles)) pairs
   pub no_deeper : All (IsNoDeeper f) tiles

@@ -1,4 +1,4 @@
--- Two lists of pairs as one.
+-- Two lists of pairs, merged into one.
 use Rattle.std.specs.Prelude.{◌≡◌, ◌⊎◌, ℕ, ◌<◌, ◌≤◌, ℤ, List, All, length, get_or, Result, Ok, Err}
 use Rattle.std.specs.List.{Contains}
 use Rattle.std.specs.Ordering.{int_cmp}
@@ -14,7 +14,7 @@ use Rattle.half_glue.specs.Keys.{no_pair}
 abbrev pub pair_numbers : List PlacedTile → Pair → List ℤ
 pair_numbers tiles p = order_numbers (tile_of tiles p.first).motion (tile_of tiles p.first).kind
 
--- the pair of a number
+-- the pair with this number
 abbrev pub pair_of_number : List Pair → ℕ → Pair
 pair_of_number pairs n = get_or pairs n no_pair
 
@@ -22,18 +22,20 @@ pair_of_number pairs n = get_or pairs n no_pair
 abbrev pub PairComesBefore : List PlacedTile → Pair → Pair → Type 0
 PairComesBefore tiles p q = slice_cmp int_cmp (pair_numbers tiles p) (pair_numbers tiles q) ≡ Less
 
--- each of these pairs comes before each pair behind it
+-- each of these pairs comes before each pair after it
 abbrev pub ArePairsInOrder : List PlacedTile → List Pair → Type 0
 ArePairsInOrder tiles pairs = (i j : ℕ) → i < j → j < length pairs → PairComesBefore tiles (pair_of_number pairs i) (pair_of_number pairs j)
 
--- in order are all pairs of the first list, and of the second those with another first tile than each of these
+-- The pairs are in order: all pairs of the first list, and one of the second for each first tile that the
+-- first list does not have.
 pub record AreMerged (tiles : List PlacedTile) (inner outer pairs : List Pair) : Type 0 where
   pub in_order : ArePairsInOrder tiles pairs
   pub from : All (λ p. Contains inner p ⊎ Contains outer p) pairs
   pub each_inner : All (Contains pairs) inner
   pub each_outer : All (λ p. (q : Pair) × Contains pairs q × (pair_numbers tiles q ≡ pair_numbers tiles p)) outer
 
--- so it is with so many of the first list and of the second, and each pair comes before all that are left of both
+-- This holds for the first `done` pairs of the first list and the first `next` pairs of the second. Each pair
+-- comes before all that are left of both.
 pub record IsMerging (tiles : List PlacedTile) (inner outer : List Pair) (done next : ℕ) (pairs : List Pair) : Type 0 where
   pub within : done ≤ length inner
   pub in_order : ArePairsInOrder tiles pairs
@@ -43,7 +45,7 @@ pub record IsMerging (tiles : List PlacedTile) (inner outer : List Pair) (done n
   pub each_inner : (k : ℕ) → k < done → Contains pairs (pair_of_number inner k)
   pub each_outer : (k : ℕ) → k < next → (q : Pair) × Contains pairs q × (pair_numbers tiles q ≡ pair_numbers tiles (pair_of_number outer k))
 
--- among pairs from a number on, the one with these numbers, or the place where it would stand
+-- among the pairs from number `from` on: the one with these numbers, or the place where it belongs
 abbrev pub IsPlaceAmong : List PlacedTile → List Pair → ℕ → List ℤ → Result ℕ ℕ → Type 0
 IsPlaceAmong tiles pairs from sought (Ok k) = (from ≤ k) × (k < length pairs) × (pair_numbers tiles (pair_of_number pairs k) ≡ sought)
 IsPlaceAmong tiles pairs from sought (Err k) =

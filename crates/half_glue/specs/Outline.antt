@@ -16,15 +16,15 @@ use Rattle.rule_model.specs.Tiling.{Tiling}
 use Rattle.tile_place.specs.Searched.{placed_in}
 use Rattle.tile_place.specs.declared.placed_tile.PlacedTile.{PlacedTile}
 use Rattle.theory_windows.specs.Outlines.{Polygon}
-use Rattle.lazy_walk.specs.Frames.{FrameValue, IsFrameOf}
+use Rattle.theory_walks.specs.Frames.{FrameValue, IsFrameOf}
 use Rattle.half_glue.specs.declared.whole_tile.WholeTile.{WholeTile}
 use Rattle.half_glue.specs.WholeTiles.{IsWholeTile}
 
--- the first edge of a kind along which it is glued, and 0 where there is none
+-- the first edge of a kind along which it is glued, and 0 if there is none
 abbrev pub glue_edge_of : {A : Type 0} → Rule A → ℕ → ℕ
 glue_edge_of r k = unwrap_or (find (λ e. is_glued r (edge_type r k e)) (below (λ e. e) (edge_count r k))) 0
 
--- a list, begun with what stands behind number e, and ended with number e
+-- a list, begun after entry number e, and ended with it
 abbrev pub begun_behind : {A : Type 0} → ℕ → List A → List A
 begun_behind e xs = drop (suc e) xs ++ take (suc e) xs
 
@@ -32,8 +32,8 @@ begun_behind e xs = drop (suc e) xs ++ take (suc e) xs
 abbrev pub inner_of : {A : Type 0} → List A → List A
 inner_of xs = drop 1 (take (length xs - 1) xs)
 
--- Of two polygons, edge e of the first is glued to edge f of the second: the first one's vertices from the end of e round to its start, and then those of
--- the second one that aren't on f, in its order.
+-- Edge e of the first polygon is glued to edge f of the second. First come the vertices of the first, from
+-- the end of e around to its start. Then come those of the second that are not on f, in their order.
 abbrev pub glued : {A : Type 0} → ℕ → List A → ℕ → List A → List A
 glued e vs f ws = begun_behind e vs ++ inner_of (begun_behind f ws)
 
@@ -41,7 +41,7 @@ glued e vs f ws = begun_behind e vs ++ inner_of (begun_behind f ws)
 abbrev pub vertices_in_place : (t : Tiling) → PlacedTile → List (NumberOf t.order)
 vertices_in_place t x = map (moved (points_of t.order) (motion_in t.order x.motion)) (vertices_of t.rule x.kind)
 
--- the outline of a tile alone, and of two halves
+-- the outline of a tile alone, or of two halves
 abbrev pub outline_by : (t : Tiling) → PlacedTile → Option PlacedTile → List (NumberOf t.order)
 outline_by t a None = vertices_in_place t a
 outline_by t a (Some b) = glued (glue_edge_of t.rule a.kind) (vertices_in_place t a) (glue_edge_of t.rule b.kind) (vertices_in_place t b)
@@ -50,7 +50,7 @@ outline_by t a (Some b) = glued (glue_edge_of t.rule a.kind) (vertices_in_place 
 abbrev pub outline_of : (t : Tiling) → WholeTile → List (NumberOf t.order)
 outline_of t w = outline_by t w.first w.second
 
--- its parts
+-- the tiles of a whole tile
 abbrev pub parts_by : PlacedTile → Option PlacedTile → List PlacedTile
 parts_by a None = a ∷ []
 parts_by a (Some b) = a ∷ b ∷ []
@@ -72,10 +72,10 @@ CountsAsParts t w =
     (p : TestPoint (points_of t.order).real.ops.carrier)
     → count (points_of t.order).real (polygon_of_whole t w) p ≡ sum_over (λ x. count (points_of t.order).real (polygon_of_part t x) p) (parts_of w)
 
--- so it is with each whole tile of a frame
+-- this holds for each whole tile of a frame
 abbrev pub WholesCountLaw : Tiling → Type 0
 WholesCountLaw t = (f : FrameValue) (w : WholeTile) → IsFrameOf t f → IsWholeTile t f w → CountsAsParts t w
 
--- the only glue edge of a kind is the first one
+-- the only glue edge of a kind is its first one
 abbrev pub FirstGlueEdgeLaw : Tiling → Type 0
 FirstGlueEdgeLaw t = (kind e : ℕ) → IsOnlyGlueEdge t.rule kind e → glue_edge_of t.rule kind ≡ e

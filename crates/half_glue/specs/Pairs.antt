@@ -3,7 +3,7 @@ use Rattle.std.specs.Prelude.{◌≡◌, ◌⊎◌, ℕ, ◌+◌, ◌*◌, ◌<�
 use Rattle.std.specs.List.{Contains}
 use Rattle.rule_model.specs.Tiling.{Tiling}
 use Rattle.tile_place.specs.declared.placed_tile.PlacedTile.{PlacedTile}
-use Rattle.lazy_walk.specs.Frames.{FrameValue}
+use Rattle.theory_walks.specs.Frames.{FrameValue}
 use Rattle.half_glue.specs.declared.half.Found.{Found}
 use Rattle.half_glue.specs.declared.half.Found.TheVariants.{Alone, Given, Crossed}
 use Rattle.half_glue.specs.declared.pairs.Pair.{Pair}
@@ -13,23 +13,23 @@ use Rattle.half_glue.specs.Given.{IsGiven}
 use Rattle.half_glue.specs.WholeTiles.{HasNoGlueEdge}
 
 -- ---- numbers
--- two halves, that of the lesser kind first
+-- a pair of two halves, the one of the lesser kind first
 abbrev pub pair_of : ℕ → ℕ → ℕ → ℕ → Pair
 pair_of kind n other m = cond (nat_lt kind other) (record { first = n; second = Some m }) (record { first = m; second = Some n })
 
--- the pairs that the tile of number n brings, where so many tiles were crossed to before
+-- the pairs that tile number n adds, if this number of tiles were crossed to before
 abbrev pub added_pairs : List PlacedTile → ℕ → ℕ → Found → List Pair
 added_pairs tiles n crossed Alone = record { first = n; second = None } ∷ []
 added_pairs tiles n crossed (Given m) = cond (nat_lt (tile_of tiles n).kind (tile_of tiles m).kind) (record { first = n; second = Some m } ∷ []) []
 added_pairs tiles n crossed (Crossed y) = pair_of (tile_of tiles n).kind n y.kind (length tiles + crossed) ∷ []
 
--- the tiles crossed to that it brings
+-- the tiles that it adds, by crossing to them
 abbrev pub added_tiles : Found → List PlacedTile
 added_tiles Alone = []
 added_tiles (Given m) = []
 added_tiles (Crossed y) = y ∷ []
 
--- both numbers are below n
+-- both numbers of the pair are below n
 pub record ArePresent (n : ℕ) (p : Pair) : Type 0 where
   pub first : p.first < n
   pub second : IfSome p.second (λ m. m < n)
@@ -39,7 +39,7 @@ abbrev pub second_of : List PlacedTile → Option ℕ → Option PlacedTile
 second_of tiles None = None
 second_of tiles (Some n) = Some (tile_of tiles n)
 
--- the tiles of a pair, as they are
+-- the tiles of a pair, not lifted
 abbrev pub loose_of : List PlacedTile → Pair → WholeTile
 loose_of tiles p = record { first = tile_of tiles p.first; second = second_of tiles p.second }
 
@@ -51,17 +51,18 @@ abbrev pub IsEither : PlacedTile → PlacedTile → Option PlacedTile → Type 0
 IsEither x a None = a ≡ x
 IsEither x a (Some b) = (a ≡ x) ⊎ (b ≡ x)
 
--- tiles of the frame that are glued, the one of the lesser kind first, or one that has no glue edge; one of them is among the tiles given
+-- They are glued tiles of the frame, the one of the lesser kind first, or one tile without a glue edge. One
+-- of them is among the given tiles.
 pub record IsLoose (t : Tiling) (f : FrameValue) (tiles : List PlacedTile) (w : WholeTile) : Type 0 where
   pub glued : AreLoose t f w.first w.second
   pub of_given : (x : PlacedTile) × Contains tiles x × IsEither x w.first w.second
 
--- the tile x is of one of these, or its other half is another tile given, of a lesser kind
+-- the tile x is part of one of these, or its other half is another given tile, of a lesser kind
 abbrev pub IsTaken : Tiling → FrameValue → List PlacedTile → List WholeTile → PlacedTile → Type 0
 IsTaken t f tiles made x =
     ((w : WholeTile) × Contains made w × IsEither x w.first w.second) ⊎ ((y : PlacedTile) × Contains tiles y × AreGlued t f x y × (y.kind < x.kind))
 
--- the pairs of tiles given and crossed to, so that each tile given is taken
+-- the pairs of given tiles and of tiles crossed to; each given tile is taken
 pub record ArePairsOf (t : Tiling) (f : FrameValue) (tiles crossed : List PlacedTile) (pairs : List Pair) : Type 0 where
   pub few : length pairs ≤ 2 * length tiles
   pub given : All (IsGiven t f) (tiles ++ crossed)

@@ -1,9 +1,9 @@
--- Whole tiles each of whose parts has a shift that is not refused.
+-- Whole tiles whose parts have shifts that are not refused.
 use Rattle.std.specs.Prelude.{◌^◌, List, All}
 use Rattle.cyclo_points.specs.Point.{IsWithin}
 use Rattle.rule_model.specs.Tiling.{Tiling}
 use Rattle.tile_place.specs.declared.placed_tile.PlacedTile.{PlacedTile}
-use Rattle.lazy_walk.specs.Frames.{FrameValue, IsFrameOf, GrowsTo}
+use Rattle.theory_walks.specs.Frames.{FrameValue, IsFrameOf, GrowsTo}
 use Rattle.half_glue.specs.declared.whole_tile.WholeTile.{WholeTile}
 use Rattle.half_glue.specs.Given.{AreGiven}
 use Rattle.half_glue.specs.Limits.{CanBeGlued}
@@ -14,7 +14,7 @@ use Rattle.half_glue.specs.WholeTiles.{AreWholeTilesOf}
 abbrev pub HasPartsWithin : WholeTile → Type 0
 HasPartsWithin w = All (λ x. IsWithin (2 ^ 24) x.motion.shift) (parts_of w)
 
--- so it is with each whole tile of tiles that can be glued
+-- this holds for each whole tile of tiles that can be glued
 abbrev pub PartsWithinLaw : Tiling → Type 0
 PartsWithinLaw t =
     (f g : FrameValue) (tiles : List PlacedTile) (wholes : List WholeTile)

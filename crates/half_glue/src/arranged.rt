@@ -1,6 +1,6 @@
 //! Puts whole tiles in order, each exactly once.
 ghost use Rattle.std.specs.Prelude.{◌≡◌, ◌<◌, ◌^◌, ◌++◌, All, length, IfOk};
-ghost use Rattle.lazy_walk.specs.Frames.{FrameValue};
+ghost use Rattle.theory_walks.specs.Frames.{FrameValue};
 ghost use Rattle.half_glue.specs.Found.{tile_of};
 ghost use Rattle.half_glue.specs.InOrder.{AreInOrder};
 ghost use Rattle.theory_addresses.specs.Search.{chosen_below};

@@ -3,8 +3,8 @@ ghost use Rattle.std.specs.Prelude.{◌≡◌, ◌<◌, ◌≤◌, ◌^◌, ℕ,
 ghost use Rattle.cyclo_points.specs.Order.{points_of};
 ghost use Rattle.cyclo_points.specs.Point.{IsWithin};
 ghost use Rattle.rule_model.specs.Tiling.{tiling_of};
-ghost use Rattle.lazy_walk.specs.Ancestors.{full};
-ghost use Rattle.lazy_walk.specs.Frames.{IsFrameOf, GrowsTo};
+ghost use Rattle.theory_walks.specs.Ancestors.{full};
+ghost use Rattle.theory_walks.specs.Frames.{IsFrameOf, GrowsTo};
 ghost use Rattle.theory_windows.specs.Limits.{most_tiles};
 ghost use Rattle.window_cover.specs.InOrder as covered;
 ghost use Rattle.half_glue.specs.Causes.{HasGlueCause};

@@ -1,7 +1,7 @@
 //! Puts pairs of tiles of a window in order, each exactly once.
 ghost use Rattle.std.specs.Prelude.{◌≡◌, ◌<◌, ◌^◌, ◌++◌, All, length, IfOk};
 ghost use Rattle.theory_addresses.specs.Search.{chosen_below};
-ghost use Rattle.lazy_walk.specs.Frames.{FrameValue};
+ghost use Rattle.theory_walks.specs.Frames.{FrameValue};
 ghost use Rattle.tile_place.specs.Keys.{key_of};
 ghost use Rattle.tile_place.specs.declared.order_key.OrderKey as key;
 ghost use Rattle.half_glue.specs.Arranged.{AreArranged};

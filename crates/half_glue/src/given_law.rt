@@ -3,7 +3,7 @@ ghost use Rattle.std.specs.Prelude.{◌^◌};
 ghost use Rattle.cyclo_points.specs.Point.{IsWithin};
 ghost use Rattle.rule_model.specs.Tiling.{Tiling};
 ghost use Rattle.tile_place.specs.declared.placed_tile.PlacedTile as tile;
-ghost use Rattle.lazy_walk.specs.Frames.{FrameValue};
+ghost use Rattle.theory_walks.specs.Frames.{FrameValue};
 ghost use Rattle.lazy_walk.specs.Standing.{Stands};
 ghost use Rattle.half_glue.specs.Given.{IsGiven};
 

@@ -1,6 +1,6 @@
 //! Finds the whole tiles whose tiles are all in a window.
 ghost use Rattle.std.specs.Prelude.{◌≡◌, ◌⊎◌, ℕ, ◌<◌, ◌≤◌, All, false, get_or, length, IfOk, IfSome, IsTrue};
-ghost use Rattle.lazy_walk.specs.Frames.{FrameValue, IsFrameOf};
+ghost use Rattle.theory_walks.specs.Frames.{FrameValue, IsFrameOf};
 ghost use Rattle.rule_model.specs.Tiling.{tiling_of};
 ghost use Rattle.theory_windows.specs.Limits.{most_tiles};
 ghost use Rattle.window_cover.specs.InOrder as covered;

@@ -1,4 +1,4 @@
--- What a layer may be given.
+-- What a layer may be given: a view and tiles whose points have small coefficients.
 use Rattle.std.specs.Prelude.{◌≤◌, ◌^◌, length, All}
 use Rattle.cyclo_points.specs.declared.order.Order.{Order}
 use Rattle.cyclo_points.specs.declared.point.Point.{Point}
@@ -11,7 +11,7 @@ pub record IsNear (o : Order) (p : Point) : Type 0 where
   pub of_order : IsOf o p
   pub within : IsWithin (2 ^ 25) p
 
--- the centre is such a point
+-- the view's centre is such a point
 abbrev pub IsView : View → Type 0
 IsView v = IsNear v.order v.centre
 

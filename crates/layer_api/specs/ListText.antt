@@ -1,4 +1,4 @@
--- The list of tiles: one line a tile.
+-- The list of tiles: a line for each tile.
 use Rattle.std.specs.Prelude.{ℕ, List, [], ◌∷◌, ◌++◌, codes}
 use Rattle.std.specs.declared.option.Option.{Option}
 use Rattle.std.specs.Prelude.{Some, None}
@@ -14,7 +14,7 @@ use Rattle.layer_api.specs.declared.part.Part.{Part}
 abbrev pub part_text : Part → List ℕ
 part_text p = decimal p.kind ++ blank ∷ motion_text p.motion ++ blank ∷ address_text (address_of p.addr)
 
--- the second half of a whole tile, behind ` + `
+-- the second half of a whole tile, after ` + `
 abbrev pub second_text : Option Part → List ℕ
 second_text None = []
 second_text (Some p) = codes " + " ++ part_text p

@@ -1,4 +1,5 @@
-//! Layers: writers of pictures, lists and counts of tiles.
+//! What every layer does, as a trait, and the texts of the three formats: a picture, a list, and counts of
+//! tiles.
 //!
 //! A layer has a format. It begins with a view, and takes the tiles of that view one after another. At the
 //! end it has the text of its format: the picture as SVG, the list of the tiles, or the census, which counts

@@ -1,8 +1,8 @@
--- What a picture's layer is seen as.
+-- What contracts see of a layer that draws a picture.
 use Rattle.std.specs.Prelude.{ℕ, Bool, List}
 use Rattle.layer_api.specs.declared.view.View.{View}
 
--- the view, whether it has begun and ended, and the text written so far
+-- the view, whether the layer has begun and ended, and the text written so far
 pub record Picture : Type 0 where
   pub view : View
   pub begun : Bool

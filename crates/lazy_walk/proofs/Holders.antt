@@ -35,8 +35,8 @@ use Rattle.rule_model.specs.Views.{rule_of}
 use Rattle.tile_place.proofs.Counted.{some_of_one, among-map}
 use Rattle.tile_place.proofs.Held.{IsDissected, only_one}
 use Rattle.tile_place.proofs.Plane.{IsSettled, its_rule}
-use Rattle.lazy_walk.specs.Containing.{FrameHolds, IsOnlyHolder, frame_motion}
-use Rattle.lazy_walk.specs.Frames.{FrameValue, whole}
+use Rattle.theory_walks.specs.Containing.{FrameHolds, IsOnlyHolder, frame_motion}
+use Rattle.theory_walks.specs.Frames.{FrameValue, whole}
 
 module _ (P : Points) (W : PointLaws P) (r : TheRule P.ring.carrier) (dissected : IsDissected P r) (p : P.ring.carrier) where
   abbrev point : TestPoint P.real.ops.carrier

@@ -7,11 +7,11 @@ use Rattle.theory_frames.specs.Contain.{ancestor_holds}
 use Rattle.theory_frames.specs.Laws.{AncestorLaw}
 use Rattle.theory_frames.specs.Outward.{HasTurnsBelow}
 use Rattle.rule_model.specs.Tiling.{Tiling}
-use Rattle.lazy_walk.specs.Ancestors.{full}
-use Rattle.lazy_walk.specs.Containing.{FrameHolds, frame_motion}
-use Rattle.lazy_walk.specs.Frames.{FrameValue, whole, at_depth, IsFrameOf}
-use Rattle.lazy_walk.proofs.Walks.{at_depth-depth}
-use Rattle.lazy_walk.proofs.Ancestors.{level-at, frame-holds}
+use Rattle.theory_walks.specs.Ancestors.{full}
+use Rattle.theory_walks.specs.Containing.{FrameHolds, frame_motion}
+use Rattle.theory_walks.specs.Frames.{FrameValue, whole, at_depth, IsFrameOf}
+use Rattle.theory_walks.proofs.Walks.{at_depth-depth}
+use Rattle.theory_walks.proofs.Ancestors.{level-at, frame-holds}
 
 -- where no ancestor below a level holds the point, no frame that is shallower than that level does
 pub not_before : (t : Tiling) (old new : FrameValue) → IsFrameOf t old → AncestorLaw (points_of t.order)

@@ -1,14 +1,5 @@
-pub mod Walks
-pub mod Lifting
-pub mod Crossings
-pub mod Longer
-pub mod Walked
-pub mod Standing
-pub mod Ancestors
-pub mod Aheads
-pub mod Outs
-pub mod Holders
-pub mod Leasts
-pub mod InFull
-pub mod Brought
-pub mod Outcomes
+mod Aheads
+mod Outs
+mod Holders
+mod Leasts
+mod Searching

@@ -1,25 +1,14 @@
--- The ancestors of a frame's base, as a search from the base outward finds them one after another.
-use Rattle.std.specs.Prelude.{◌≡◌, ℕ, ◌<◌, ◌≤◌, ◌^◌, List, [], ◌∷◌}
-use Rattle.theory_ring.specs.Ring.{power}
-use Rattle.theory_addresses.specs.Address.{Address, top_kind}
-use Rattle.cyclo_points.specs.Order.{NumberOf, points_of}
+-- The ancestors of a frame's base, as the program finds them.
+use Rattle.std.specs.Prelude.{◌≡◌, ℕ, ◌+◌, ◌<◌, ◌≤◌, ◌^◌, max, false, find, None, length}
+use Rattle.theory_addresses.specs.Address.{Address}
+use Rattle.cyclo_points.specs.Order.{points_of, is_refused}
 use Rattle.cyclo_points.specs.Point.{point_in, IsOf, IsWithin}
 use Rattle.cyclo_points.specs.Motion.{motion_in}
-use Rattle.theory_frames.specs.Frame.{at_level}
-use Rattle.theory_frames.specs.Outline.{outline}
-use Rattle.theory_frames.specs.Looked.{values_looked_at}
 use Rattle.theory_frames.specs.Contain.{ancestor_motion}
 use Rattle.rule_model.specs.Tiling.{Tiling}
+use Rattle.theory_walks.specs.Ancestors.{full, factor_power, values_of_level}
+use Rattle.theory_walks.specs.Frames.{FrameValue}
 use Rattle.lazy_walk.specs.declared.ancestor.Ancestor.{Ancestor}
-use Rattle.lazy_walk.specs.Frames.{FrameValue, whole, at_depth}
-
--- the base's address at depth 64, whatever the depth of the frame
-abbrev pub full : Tiling → FrameValue → Address
-full t f = whole (at_depth t 64 f)
-
--- λ^level
-abbrev pub factor_power : (t : Tiling) → ℕ → NumberOf t.order
-factor_power t level = power (points_of t.order).ring t.rule.factor level
 
 -- the program has found the ancestor at its level
 pub record IsAncestor (t : Tiling) (f : Address) (a : Ancestor) : Type 0 where
@@ -31,14 +20,11 @@ pub record IsAncestor (t : Tiling) (f : Address) (a : Ancestor) : Type 0 where
   pub shift_within : IsWithin (2 ^ 24) a.motion.shift
   pub in_order : IsOf t.order a.motion.shift
 
--- the first two values looked at at a level: the power of the factor, and the ancestor's shift
-abbrev pub values_of_level : (t : Tiling) → Address → ℕ → List (NumberOf t.order)
-values_of_level t f level = factor_power t level ∷ ((ancestor_motion (points_of t.order) t.rule f level).shift ∷ [])
-
--- then its vertices
-abbrev pub vertices_of_ancestor : (t : Tiling) → Address → ℕ → List (NumberOf t.order)
-vertices_of_ancestor t f level = outline (points_of t.order) t.rule (top_kind (at_level f level)) (factor_power t level) (ancestor_motion (points_of t.order) t.rule f level)
-
--- and those that the search in it looks at
-abbrev pub values_in : (t : Tiling) → Address → NumberOf t.order → ℕ → List (NumberOf t.order)
-values_in t f p level = values_looked_at (points_of t.order) t.rule (top_kind (at_level f level)) level (ancestor_motion (points_of t.order) t.rule f level) p
+-- The next ancestor outward from this level, of a frame that was f and is g: the frame has grown to it, unless it
+-- was as deep already. Neither its power nor its shift is refused.
+pub record IsNextOut (t : Tiling) (f g : FrameValue) (level : ℕ) (next : Ancestor) : Type 0 where
+  pub one_more : next.level ≡ level + 1
+  pub ancestor : IsAncestor t (full t f) next
+  pub grown : length g.digits ≡ max (length f.digits) (level + 1)
+  pub power_unrefused : is_refused t.order (factor_power t (level + 1)) ≡ false
+  pub none_refused : find (is_refused t.order) (values_of_level t (full t f) (level + 1)) ≡ None

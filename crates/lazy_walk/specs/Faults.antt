@@ -5,7 +5,7 @@ use Rattle.rule_model.specs.Tiling.{Tiling}
 use Rattle.tile_shape.specs.Views.{address_of}
 use Rattle.lazy_walk.specs.declared.path_fault.PathFault.{PathFault}
 use Rattle.lazy_walk.specs.declared.path_fault.PathFault.TheVariants.{NoEdge, DepthLimit}
-use Rattle.lazy_walk.specs.Paths.{LacksEdge, IsStoppedAt}
+use Rattle.theory_walks.specs.Paths.{LacksEdge, IsStoppedAt}
 
 -- from a, it comes to a tile that does not have the next edge; or to a tile whose next edge is on the
 -- boundary

@@ -8,7 +8,7 @@ use Rattle.theory_frames.specs.Frame.{StandsInFrame, IsTileOf}
 use Rattle.rule_model.specs.Tiling.{Tiling, children}
 use Rattle.tile_place.specs.declared.placed_tile.PlacedTile.{PlacedTile}
 use Rattle.tile_shape.specs.Views.{address_of}
-use Rattle.lazy_walk.specs.Frames.{FrameValue, whole}
+use Rattle.theory_walks.specs.Frames.{FrameValue, whole}
 
 -- the tile names one of the frame's supertile, and its motion is listed with its address there, in the base's
 -- frame, and no other is

@@ -6,9 +6,11 @@ ghost use Rattle.theory_frames.specs.Contain.{ancestor_holds};
 ghost use Rattle.rule_model.specs.Tiling.{tiling_of};
 ghost use Rattle.rule_model.specs.Views.{rule_of};
 ghost use Rattle.tile_place.specs.Searched.{placed_in};
-ghost use Rattle.lazy_walk.specs.Ancestors.{full, IsAncestor, vertices_of_ancestor, values_in};
-ghost use Rattle.lazy_walk.specs.Containing.{FrameHolds, IsOnlyHolder, first_refused_outward};
-ghost use Rattle.lazy_walk.specs.Frames.{at_depth, IsFrameOf, GrowsTo};
+ghost use Rattle.theory_walks.specs.Ancestors.{full, vertices_of_ancestor, values_in};
+ghost use Rattle.lazy_walk.specs.Ancestors.{IsAncestor};
+ghost use Rattle.theory_walks.specs.Containing.{FrameHolds, IsOnlyHolder, first_refused_outward};
+ghost use Rattle.theory_walks.specs.Frames.{at_depth, IsFrameOf, GrowsTo};
+ghost use Rattle.lazy_walk.specs.Contained.{IsContained};
 ghost use Rattle.lazy_walk.specs.Standing.{Stands};
 
 use crate::ancestor::Ancestor;
@@ -123,11 +125,7 @@ impl Frame {
         requires holds { ancestor_holds (points_of machine.now.order) (rule_of machine.now)
             (full (tiling_of machine.now) self.now) ancestor.now.level
             (point_in machine.now.order point.now) ≡ true }
-        ensures only_tile { IfOk result (λ tile. IsOnlyHolder (tiling_of machine.now) self.now
-            (point_in machine.now.order point.now) (placed_in machine.now.order tile)) }
-        ensures stands { IfOk result (λ tile. Stands (tiling_of machine.now) self.now tile) }
-        ensures shift_within { IfOk result (λ tile. IsWithin (2 ^ 24) tile.motion.shift) }
-        ensures held { OnOk result (FrameHolds (tiling_of machine.now) self.now
+        ensures contained { IfOk result (IsContained (tiling_of machine.now) self.now
             (point_in machine.now.order point.now)) }
         ensures none_refused { IfOk result (λ _. find (is_refused machine.now.order)
             (values_in (tiling_of machine.now) (full (tiling_of machine.now) self.now)

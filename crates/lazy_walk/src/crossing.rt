@@ -1,13 +1,12 @@
 //! Crossing edges in a frame that grows.
 ghost use Rattle.std.specs.Prelude.{◌≡◌, ◌↔◌, ◌<◌, ◌≤◌, ℕ, length, IsErr, IfOk, IfErr, OnErr};
-ghost use Rattle.theory_addresses.specs.Across.{IsAcross};
-ghost use Rattle.theory_addresses.specs.Address.{depth};
-ghost use Rattle.theory_frames.specs.Frame.{IsTileOf, lifted_in};
-ghost use Rattle.rule_model.specs.Tiling.{tiling_of, contacts, children};
-ghost use Rattle.tile_place.specs.Crossed.{edges_of, IsOnlyAcross};
+ghost use Rattle.theory_frames.specs.Frame.{IsTileOf};
+ghost use Rattle.rule_model.specs.Tiling.{tiling_of, children};
+ghost use Rattle.tile_place.specs.Crossed.{edges_of};
 ghost use Rattle.tile_shape.specs.Views.{address_of};
-ghost use Rattle.lazy_walk.specs.Boundary.{IsBoundaryEdge};
-ghost use Rattle.lazy_walk.specs.Frames.{whole, IsFrameOf, GrowsTo, lifted_at};
+ghost use Rattle.theory_walks.specs.Boundary.{IsBoundaryEdge};
+ghost use Rattle.theory_walks.specs.Frames.{whole, IsFrameOf, GrowsTo, lifted_at};
+ghost use Rattle.lazy_walk.specs.Crossed.{IsCrossingIn, IsLimitAt};
 
 use crate::depth_limit::DepthLimit;
 use crate::frame::Frame;
@@ -43,29 +42,18 @@ impl Frame {
 
         // The only tile across the edge of the lifted tile, by the contact tables and in the plane. It is of
         // the frame, at the new depth, and it leads back.
-        ensures across { IfOk result (λ x. IsAcross (contacts (tiling_of machine.now))
-            (lifted_in (whole self.new) (address_of tile.now)) edge (address_of x.addr) x.edge) }
-        ensures only_tile_across { IfOk result (λ x. IsOnlyAcross (tiling_of machine.now)
-            (lifted_in (whole self.new) (address_of tile.now)) edge (address_of x.addr) x.edge) }
-        ensures leads_back { IfOk result (λ x. IsOnlyAcross (tiling_of machine.now) (address_of x.addr)
-            x.edge (lifted_in (whole self.new) (address_of tile.now)) edge) }
-        ensures at_new_depth { IfOk result (λ x. depth (address_of x.addr) ≡ length self.new.digits) }
-        ensures answer_of_frame { IfOk result (λ x. IsTileOf (children (tiling_of machine.now))
-            (whole self.new) (address_of x.addr)) }
+        ensures crossed { IfOk result (λ x. IsCrossingIn (tiling_of machine.now) self.new
+            (address_of tile.now) edge (address_of x.addr) x.edge) }
 
         // The new depth is the least, not below the old one, at which the edge is not on the boundary.
         // DepthLimit comes if and only if the edge is on the boundary at depth 64.
-        ensures inside { IfOk result (λ _. ¬ IsBoundaryEdge (tiling_of machine.now)
-            (lifted_in (whole self.new) (address_of tile.now)) edge) }
         ensures least { (n : ℕ) → length self.old.digits ≤ n → n < length self.new.digits
             → IsBoundaryEdge (tiling_of machine.now)
             (lifted_at (tiling_of machine.now) self.old (address_of tile.now) n) edge }
         ensures limit_exactly { IsErr result ↔ IsBoundaryEdge (tiling_of machine.now)
             (lifted_at (tiling_of machine.now) self.old (address_of tile.now) 64) edge }
-        ensures limit_tile { IfErr result (λ limit. address_of limit.addr ≡ lifted_at
-            (tiling_of machine.now) self.old (address_of tile.now) 64) }
-        ensures deepest_at_limit { OnErr result (length self.new.digits ≡ 64) }
-        ensures limit_edge { IfErr result (λ limit. limit.edge ≡ edge) }
+        ensures limit { IfErr result (IsLimitAt (tiling_of machine.now) self.old self.new
+            (address_of tile.now) edge) }
     {
         let mut across = tile.copy();
         match self.cross_grow_in_place(machine, &mut across, edge, steps) {
@@ -93,29 +81,17 @@ impl Frame {
 
         ensures frame { GrowsTo (tiling_of machine.now) self.old self.new }
 
-        ensures across { IfOk result (λ back. IsAcross (contacts (tiling_of machine.now))
-            (lifted_in (whole self.new) (address_of tile.old)) edge (address_of tile.new) back) }
-        ensures only_tile_across { IfOk result (λ back. IsOnlyAcross (tiling_of machine.now)
-            (lifted_in (whole self.new) (address_of tile.old)) edge (address_of tile.new) back) }
-        ensures leads_back { IfOk result (λ back. IsOnlyAcross (tiling_of machine.now) (address_of tile.new)
-            back (lifted_in (whole self.new) (address_of tile.old)) edge) }
-        ensures at_new_depth { IfOk result (λ _. depth (address_of tile.new) ≡ length self.new.digits) }
-        ensures answer_of_frame { IfOk result (λ _. IsTileOf (children (tiling_of machine.now))
-            (whole self.new) (address_of tile.new)) }
-
-        ensures inside { IfOk result (λ _. ¬ IsBoundaryEdge (tiling_of machine.now)
-            (lifted_in (whole self.new) (address_of tile.old)) edge) }
+        ensures crossed { IfOk result (IsCrossingIn (tiling_of machine.now) self.new
+            (address_of tile.old) edge (address_of tile.new)) }
         ensures least { (n : ℕ) → length self.old.digits ≤ n → n < length self.new.digits
             → IsBoundaryEdge (tiling_of machine.now)
             (lifted_at (tiling_of machine.now) self.old (address_of tile.old) n) edge }
         ensures limit_exactly { IsErr result ↔ IsBoundaryEdge (tiling_of machine.now)
             (lifted_at (tiling_of machine.now) self.old (address_of tile.old) 64) edge }
-        ensures limit_tile { IfErr result (λ limit. address_of limit.addr ≡ lifted_at
-            (tiling_of machine.now) self.old (address_of tile.old) 64) }
+        ensures limit { IfErr result (IsLimitAt (tiling_of machine.now) self.old self.new
+            (address_of tile.old) edge) }
         ensures lifted_at_limit { OnErr result (address_of tile.new ≡ lifted_at (tiling_of machine.now)
             self.old (address_of tile.old) 64) }
-        ensures deepest_at_limit { OnErr result (length self.new.digits ≡ 64) }
-        ensures limit_edge { IfErr result (λ limit. limit.edge ≡ edge) }
     {
         grown_fits_law();
         let checked = machine.checked();

@@ -4,7 +4,7 @@ ghost use Rattle.theory_addresses.specs.Address.{depth, kind_at, Fits};
 ghost use Rattle.theory_frames.specs.Frame.{lifted_in};
 ghost use Rattle.rule_model.specs.Tiling.{Tiling, tiling_of, children};
 ghost use Rattle.tile_shape.specs.Views.{address_of, step_of};
-ghost use Rattle.lazy_walk.specs.Frames.{whole, at_depth, IsFrameOf, GrowsTo};
+ghost use Rattle.theory_walks.specs.Frames.{whole, at_depth, IsFrameOf, GrowsTo};
 
 use arrayvec::ArrayVec;
 use seeded_growth::growth::Growth;
@@ -26,7 +26,7 @@ pub struct Frame {
 impl Model for Frame {
     ghost use Rattle.std.specs.Prelude.{◌≡◌, ◌+◌, length, map};
     ghost use Rattle.tile_shape.specs.Views.{address_of, step_of};
-    ghost use Rattle.lazy_walk.specs.Frames.{FrameValue};
+    ghost use Rattle.theory_walks.specs.Frames.{FrameValue};
 
     ghost Value = { FrameValue };
 

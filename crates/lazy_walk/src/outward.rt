@@ -1,5 +1,5 @@
 //! From the base of a frame outward, through its ancestors.
-ghost use Rattle.std.specs.Prelude.{◌≡◌, ◌+◌, ◌<◌, ◌≤◌, max, false, find, None, Some, length, slice_get, IfOk, IfErr, OnOk};
+ghost use Rattle.std.specs.Prelude.{◌≡◌, ◌+◌, ◌<◌, ◌≤◌, max, find, Some, length, slice_get, IfOk, IfErr};
 ghost use Rattle.theory_addresses.specs.Address.{top_kind, Fits};
 ghost use Rattle.cyclo_points.specs.Order.{is_refused};
 ghost use Rattle.cyclo_points.specs.Point.{point_in, IsOf};
@@ -8,8 +8,9 @@ ghost use Rattle.rule_model.specs.Tiling.{tiling_of, children};
 ghost use Rattle.rule_model.specs.Views.{rule_of};
 ghost use Rattle.theory_substitution.specs.Rule.{children_of};
 ghost use Rattle.tile_shape.specs.Views.{step_of};
-ghost use Rattle.lazy_walk.specs.Ancestors.{full, factor_power, IsAncestor, values_of_level};
-ghost use Rattle.lazy_walk.specs.Frames.{whole, IsFrameOf, GrowsTo};
+ghost use Rattle.theory_walks.specs.Ancestors.{full, values_of_level};
+ghost use Rattle.lazy_walk.specs.Ancestors.{IsAncestor, IsNextOut};
+ghost use Rattle.theory_walks.specs.Frames.{whole, IsFrameOf, GrowsTo};
 
 use crate::ancestor::{Ancestor, next_power, one_out};
 use crate::frame::Frame;
@@ -63,17 +64,9 @@ impl Frame {
         requires ancestor { IsAncestor (tiling_of machine.now) (full (tiling_of machine.now) self.old)
             ancestor.now }
         ensures frame { GrowsTo (tiling_of machine.now) self.old self.new }
-        ensures level { IfOk result (λ next. next.level ≡ ancestor.now.level + 1) }
-        ensures next { IfOk result (λ next. IsAncestor (tiling_of machine.now)
-            (full (tiling_of machine.now) self.old) next) }
-        ensures least { OnOk result (length self.new.digits ≡ max (length self.old.digits)
-            (ancestor.now.level + 1)) }
+        ensures next { IfOk result (IsNextOut (tiling_of machine.now) self.old self.new
+            ancestor.now.level) }
         ensures no_deeper { length self.new.digits ≤ max (length self.old.digits) (ancestor.now.level + 1) }
-        ensures power_unrefused { IfOk result (λ _. is_refused machine.now.order
-            (factor_power (tiling_of machine.now) (ancestor.now.level + 1)) ≡ false) }
-        ensures none_refused { IfOk result (λ _. find (is_refused machine.now.order)
-            (values_of_level (tiling_of machine.now) (full (tiling_of machine.now) self.old)
-            (ancestor.now.level + 1)) ≡ None) }
         ensures limit { IfErr result (λ limit. find (is_refused machine.now.order)
             (values_of_level (tiling_of machine.now) (full (tiling_of machine.now) self.old)
             (ancestor.now.level + 1)) ≡ Some (point_in machine.now.order limit.value)) }

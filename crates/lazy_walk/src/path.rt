@@ -1,8 +1,8 @@
 //! Paths in a frame that grows.
 ghost use Rattle.std.specs.Prelude.{◌≡◌, ◌<◌, ◌≤◌, ℕ, length, IfOk, IfErr};
 ghost use Rattle.rule_model.specs.Tiling.{tiling_of};
-ghost use Rattle.lazy_walk.specs.Frames.{whole, at_depth, IsFrameOf, GrowsTo};
-ghost use Rattle.lazy_walk.specs.Paths.{CanBeWalked, IsStopped};
+ghost use Rattle.theory_walks.specs.Frames.{whole, at_depth, IsFrameOf, GrowsTo};
+ghost use Rattle.theory_walks.specs.Paths.{CanBeWalked, IsStopped};
 ghost use Rattle.lazy_walk.specs.Faults.{IsPathFault};
 
 use crate::frame::Frame;

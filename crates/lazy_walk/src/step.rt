@@ -4,7 +4,7 @@ ghost use Rattle.cyclo_points.specs.Point.{IsWithin};
 ghost use Rattle.rule_model.specs.Tiling.{tiling_of};
 ghost use Rattle.tile_place.specs.Crossed.{edges_of, IsOnlyAcross, LiesOnBoundary};
 ghost use Rattle.tile_shape.specs.Views.{address_of};
-ghost use Rattle.lazy_walk.specs.Frames.{whole, IsFrameOf};
+ghost use Rattle.theory_walks.specs.Frames.{whole, IsFrameOf};
 ghost use Rattle.lazy_walk.specs.Standing.{Stands};
 
 use crate::frame::Frame;

@@ -2,13 +2,13 @@
 ghost use Rattle.std.specs.Prelude.{◌≡◌, ◌↔◌, ◌<◌, ◌≤◌, ◌^◌, ℕ, length, IsErr, IfOk, IfErr, OnErr};
 ghost use Rattle.cyclo_points.specs.Order.{points_of};
 ghost use Rattle.cyclo_points.specs.Point.{IsOf, IsWithin};
-ghost use Rattle.theory_frames.specs.Frame.{IsTileOf, lifted_in};
+ghost use Rattle.theory_frames.specs.Frame.{IsTileOf};
 ghost use Rattle.rule_model.specs.Tiling.{tiling_of, children};
 ghost use Rattle.tile_place.specs.Crossed.{edges_of};
 ghost use Rattle.tile_shape.specs.Views.{address_of};
-ghost use Rattle.lazy_walk.specs.Boundary.{IsBoundaryEdge};
-ghost use Rattle.lazy_walk.specs.Crossed.{IsCrossedTo};
-ghost use Rattle.lazy_walk.specs.Frames.{whole, IsFrameOf, GrowsTo, lifted_at};
+ghost use Rattle.theory_walks.specs.Boundary.{IsBoundaryEdge};
+ghost use Rattle.lazy_walk.specs.Crossed.{IsCrossedTo, IsLiftedTo64};
+ghost use Rattle.theory_walks.specs.Frames.{whole, IsFrameOf, GrowsTo, lifted_at};
 
 use crate::depth_limit::DepthLimit;
 use crate::frame::Frame;
@@ -45,8 +45,6 @@ impl Frame {
         ensures frame { GrowsTo (tiling_of machine.now) self.old self.new }
         ensures crossed { IfOk result (λ back. IsCrossedTo (tiling_of machine.now) self.old self.new
             (address_of tile.old.addr) tile.old.motion edge tile.new back) }
-        ensures inside { IfOk result (λ _. ¬ IsBoundaryEdge (tiling_of machine.now)
-            (lifted_in (whole self.new) (address_of tile.old.addr)) edge) }
         ensures least { (n : ℕ) → length self.old.digits ≤ n → n < length self.new.digits
             → IsBoundaryEdge (tiling_of machine.now)
             (lifted_at (tiling_of machine.now) self.old (address_of tile.old.addr) n) edge }
@@ -55,10 +53,8 @@ impl Frame {
         ensures limit_tile { IfErr result (λ limit. address_of limit.addr ≡ lifted_at
             (tiling_of machine.now) self.old (address_of tile.old.addr) 64) }
         ensures limit_edge { IfErr result (λ limit. limit.edge ≡ edge) }
-        ensures lifted_at_limit { OnErr result (address_of tile.new.addr ≡ lifted_at (tiling_of machine.now)
-            self.old (address_of tile.old.addr) 64) }
-        ensures same_place_at_limit { OnErr result (tile.new.motion ≡ tile.old.motion) }
-        ensures same_kind_at_limit { OnErr result (tile.new.kind ≡ tile.old.kind) }
+        ensures kept_at_limit { OnErr result (IsLiftedTo64 (tiling_of machine.now) self.old tile.old
+            tile.new) }
         ensures deepest_at_limit { OnErr result (length self.new.digits ≡ 64) }
     {
         let checked = machine.checked();

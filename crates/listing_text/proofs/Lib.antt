@@ -1,10 +1,10 @@
-pub mod Figures
-pub mod NumberOn
-pub mod Shifts
-pub mod ListedLines
-pub mod CountedLines
-pub mod AddressAlone
-pub mod LineRead
-pub mod ListingRead
-pub mod Numbers
-pub mod Written
+mod Figures
+mod NumberOn
+mod Shifts
+mod ListedLines
+mod CountedLines
+mod AddressAlone
+mod LineRead
+mod ListingRead
+mod Numbers
+mod Written

@@ -44,7 +44,7 @@ abbrev pub entries_from : List (List ℕ) → ℕ → List (List ℕ) → Result
 entries_from children number [] = Ok []
 entries_from children number (line ∷ lines) = first_then (entry_in children number line) (entries_from children (number + 1) lines)
 
--- the entries of lines, where they aren't too many; line numbers start at 1
+-- the entries of lines, if there are not too many; line numbers start at 1
 abbrev pub entries_of_lines : List (List ℕ) → List (List ℕ) → Result (List Entry) ListingFault
 entries_of_lines children lines = if nat_le (length lines) most_lines then entries_from children 1 lines else Err TooLong
 

@@ -26,7 +26,7 @@ pub record CanBeListed (children : List (List ℕ)) (e : Entry) : Type 0 where
   pub four : length e.motion.shift.c ≡ 4
   pub within : IsWithin most_shift e.motion.shift
 
--- so are all, and they aren't too many
+-- this holds for all entries, and there are not too many
 pub record CanAllBeListed (children : List (List ℕ)) (entries : List Entry) : Type 0 where
   pub each : AllByRecursion (CanBeListed children) entries
   pub few : length entries ≤ most_lines

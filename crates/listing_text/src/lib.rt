@@ -1,4 +1,4 @@
-//! The text of a list of tiles, a line for each.
+//! Reads the text of a list of tiles, a line for each.
 //!
 //! What a list means is one total function of its bytes: the entries of its lines, or the first fault. The
 //! reader returns what that function gives, whatever the bytes are.

@@ -18,7 +18,7 @@ pub record RowPair : Type 0 where
   pub mine : ChildEdge
   pub theirs : ChildEdge
 
--- both, where both are there
+-- both, if both exist
 abbrev pub both_of : Option ChildEdge → Option ChildEdge → List RowPair
 both_of None there = []
 both_of (Some x) None = []

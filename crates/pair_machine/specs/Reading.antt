@@ -15,7 +15,7 @@ same_steps [] (y ∷ ys) = false
 same_steps (x ∷ xs) [] = false
 same_steps (x ∷ xs) (y ∷ ys) = (x.child == y.child) && ((x.parent == y.parent) && same_steps xs ys)
 
--- the one, where the test passes
+-- the value, if the test passes
 abbrev pub only_if : {A : Type 0} → Bool → A → List A
 only_if true x = x ∷ []
 only_if false x = []
@@ -30,7 +30,7 @@ met_by e b (Some (outer f p)) = []
 unfoldable pub between_children : Tables → ℕ → ℕ → ℕ → List Pair
 between_children t k a b = flat_map (λ e. met_by e b (contact_of t k a e)) (below (λ e. e) (length (contacts_of t k a)))
 
--- a pair of a row, where these children are read
+-- a pair of a row, if these children are the ones read
 abbrev pub left_one : RowPair → ℕ → ℕ → List Pair
 left_one r a b = only_if ((r.mine.child == a) && (r.theirs.child == b)) (record { mine = r.mine.edge; theirs = r.theirs.edge })
 
@@ -42,7 +42,7 @@ left_of row a b = flat_map (λ (r : RowPair). left_one r a b) row
 abbrev pub node_of : Step → Step → Pair → Node
 node_of x y p = record { kind = x.parent; edge = p.mine; other = y.parent; back = p.theirs }
 
--- the pairs where two addresses may part: two digits of one parent, below the same digits
+-- the pairs of two digits of one parent, if the digits above are the same
 abbrev pub first_pairs : Tables → Step → Step → Bool → List Pair
 first_pairs t x y false = []
 first_pairs t x y true = between_children t x.parent x.child y.child

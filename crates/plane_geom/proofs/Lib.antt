@@ -1,2 +1,2 @@
-pub mod OrderLaws
-pub mod Spots
+mod OrderLaws
+mod Spots

@@ -7,7 +7,7 @@ use Rattle.theory_plane.specs.Crossing.{crossing, count, member}
 use Rattle.theory_plane.specs.Triangle.{Triangle, corners, fan, counts, turns_left, separated}
 use Rattle.theory_plane.specs.Segment.{on_segment, Between}
 
--- an edge turned round crosses the other way
+-- an edge traversed backwards crosses the other way
 abbrev pub AntisymmetryLaw : Order → Type 0
 AntisymmetryLaw o = (a b : PlanePointOf o) (p : TestPointOf o) → crossing (reals_of o) b a p ≡ neg_ℤ (crossing (reals_of o) a b p)
 

@@ -19,7 +19,7 @@ IsometryLaw o = (m : Motion (NumberOf o)) (a b : NumberOf o)
     → twice_squared_length (points_of o) (difference (points_of o).ring (moved (points_of o) m b) (moved (points_of o) m a))
     ≡ twice_squared_length (points_of o) (difference (points_of o).ring b a)
 
--- the orientation of three numbers of an order, where they lie in the plane
+-- the orientation of three numbers of an order, as points of the plane
 abbrev pub orientation_at : (o : Order) → NumberOf o → NumberOf o → NumberOf o → (reals_of o).ops.carrier
 orientation_at o a b c = orientation (reals_of o).ops (plane_point (points_of o) a) (plane_point (points_of o) b) (plane_point (points_of o) c)
 

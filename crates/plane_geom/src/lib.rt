@@ -1,5 +1,5 @@
-//! Exact geometry of the plane: sides, crossings and winding numbers, triangles, segments, and edges against
-//! open boxes, over the ordered rings in which the coordinates X and Y lie.
+//! Exact geometry of the plane: sides, crossings and winding numbers, triangles, segments, and the test of an
+//! edge against an open box. It is over the ordered rings in which the coordinates X and Y lie.
 //!
 //! A point belongs to a polygon if the polygon's winding number about it is 1. The winding number is a sum of
 //! signed crossings of directed edges, by a half-open rule. An edge has its lower end and not its upper one,

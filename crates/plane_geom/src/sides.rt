@@ -67,7 +67,7 @@ pub fn is_above(order: Order, vertex: &Point, p: &Point) -> bool
 }
 
 /// Returns the crossing of the directed edge a→b about p. It is 1 if Y(a) ≤ Y(p) < Y(b) and p is strictly
-/// left of the edge, and -1 if Y(b) ≤ Y(p) < Y(a) and p is strictly right of it. Otherwise it is 0.
+/// left of the edge. It is -1 if Y(b) ≤ Y(p) < Y(a) and p is strictly right of it. Otherwise it is 0.
 /// Coefficients may be up to 2^25 in absolute value.
 pub fn crossing(order: Order, a: &Point, b: &Point, p: &Point) -> i8
     requires a_within { IsWithin (2 ^ 25) a.now }

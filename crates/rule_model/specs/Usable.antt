@@ -19,11 +19,11 @@ pub record IsSmall (o : Order) (p : Point) : Type 0 where
 abbrev pub origin : Point
 origin = record { c = pos 0 ∷ pos 0 ∷ pos 0 ∷ pos 0 ∷ [] }
 
--- vertex number i of kind k in the lists of the program, and the point 0 where there is none
+-- vertex number i of kind k in the lists of the program; the point 0 if there is none
 abbrev pub listed_vertex : Rule → ℕ → ℕ → Point
 listed_vertex r k i = get_or (vertices_of (as_rule r) k) i origin
 
--- a child that stands for none
+-- a value for a number that no child has
 abbrev pub no_child : TheChild Point
 no_child = record { kind = 0; motion = record { turn = 0; shift = origin } }
 

@@ -7,11 +7,11 @@ use Rattle.theory_addresses.proofs.Ranges.{place-among}
 use Rattle.cyclo_points.specs.Order.{NumberOf, points_of, is_refused}
 use Rattle.theory_dissection.specs.Accepted.{AcceptedRule}
 use Rattle.theory_dissection.specs.Polygons.{tile_polygon}
-use Rattle.lazy_walk.specs.Ancestors.{full}
-use Rattle.lazy_walk.specs.Boundary.{IsBoundaryEdge}
-use Rattle.lazy_walk.specs.Frames.{FrameValue, IsFrameOf, GrowsTo, lifted_at}
-use Rattle.lazy_walk.proofs.InFull.{names}
-use Rattle.lazy_walk.proofs.Walks.{StillFits}
+use Rattle.theory_walks.specs.Ancestors.{full}
+use Rattle.theory_walks.specs.Boundary.{IsBoundaryEdge}
+use Rattle.theory_walks.specs.Frames.{FrameValue, IsFrameOf, GrowsTo, lifted_at}
+use Rattle.theory_walks.proofs.InFull.{names}
+use Rattle.theory_walks.proofs.Walks.{StillFits}
 use Rattle.rule_model.specs.declared.rule.Rule.{Rule}
 use Rattle.rule_model.specs.Tiling.{Tiling, tiling_of, children}
 use Rattle.theory_substitution.specs.Points.{Points}

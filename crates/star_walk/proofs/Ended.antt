@@ -15,12 +15,12 @@ use Rattle.theory_dissection.specs.Accepted.{AcceptedRule}
 use Rattle.theory_frames.specs.Frame.{at_level, lifted_in, motion_beside, StandsInFrame}
 use Rattle.theory_frames.proofs.Carried.{some_turn}
 use Rattle.theory_frames.proofs.Frames.{IsWhole, lifted-whole, StandsInFrame-whole}
-use Rattle.lazy_walk.specs.Ancestors.{full}
-use Rattle.lazy_walk.specs.Frames.{FrameValue, whole, IsFrameOf}
+use Rattle.theory_walks.specs.Ancestors.{full}
+use Rattle.theory_walks.specs.Frames.{FrameValue, whole, IsFrameOf}
 use Rattle.lazy_walk.specs.Standing.{Stands}
-use Rattle.lazy_walk.proofs.InFull.{names, deep, level-own, level-grown, same-full, by_level}
-use Rattle.lazy_walk.proofs.Walked.{whole-tile_of}
-use Rattle.lazy_walk.proofs.Walks.{StillFits, whole-fits}
+use Rattle.theory_walks.proofs.InFull.{names, deep, level-own, level-grown, same-full, by_level}
+use Rattle.theory_walks.proofs.Walked.{whole-tile_of}
+use Rattle.theory_walks.proofs.Walks.{StillFits, whole-fits}
 use Rattle.rule_model.specs.declared.rule.Rule.{Rule}
 use Rattle.rule_model.specs.Tiling.{Tiling, tiling_of, children}
 use Rattle.theory_substitution.specs.Plane.{plane_point}

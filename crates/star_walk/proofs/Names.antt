@@ -10,14 +10,14 @@ use Rattle.theory_dissection.specs.OnBoundary.{IsOnBoundary}
 use Rattle.theory_dissection.specs.TileEdges.{tile_at}
 use Rattle.theory_edge_to_edge.specs.Contacts.{tables_of}
 use Rattle.theory_frames.specs.Frame.{IsTileOf, lifted_in}
-use Rattle.lazy_walk.specs.Ancestors.{full}
+use Rattle.theory_walks.specs.Ancestors.{full}
 use Rattle.lazy_walk.specs.Crossed.{IsCrossedTo}
-use Rattle.lazy_walk.specs.Frames.{FrameValue, whole, at_depth, IsFrameOf, GrowsTo}
-use Rattle.lazy_walk.proofs.Ancestors.{level-at}
-use Rattle.lazy_walk.proofs.Crossings.{boundary-part}
-use Rattle.lazy_walk.proofs.InFull.{names, deep, by_tables, level-own, level-grown, same-full}
-use Rattle.lazy_walk.proofs.Lifting.{IsTileOf-later}
-use Rattle.lazy_walk.proofs.Walks.{StillFits, later}
+use Rattle.theory_walks.specs.Frames.{FrameValue, whole, at_depth, IsFrameOf, GrowsTo}
+use Rattle.theory_walks.proofs.Ancestors.{level-at}
+use Rattle.theory_walks.proofs.Crossings.{boundary-part}
+use Rattle.theory_walks.proofs.InFull.{names, deep, by_tables, level-own, level-grown, same-full}
+use Rattle.theory_walks.proofs.Lifting.{IsTileOf-later}
+use Rattle.theory_walks.proofs.Walks.{StillFits, later}
 use Rattle.rule_model.specs.declared.rule.Rule.{Rule}
 use Rattle.rule_model.specs.Tiling.{Tiling, tiling_of, children}
 use Rattle.theory_substitution.specs.Motion.{followed}

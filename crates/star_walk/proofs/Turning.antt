@@ -17,16 +17,16 @@ use Rattle.theory_dissection.specs.Polygons.{tile_polygon}
 use Rattle.theory_frames.specs.Frame.{at_level, IsTileOf, lifted_in, motion_beside}
 use Rattle.theory_frames.proofs.Carried.{some_turn}
 use Rattle.theory_frames.proofs.Frames.{IsWhole, StandsInFrame-whole}
-use Rattle.lazy_walk.specs.Ancestors.{full}
-use Rattle.lazy_walk.specs.Boundary.{IsBoundaryEdge}
+use Rattle.theory_walks.specs.Ancestors.{full}
+use Rattle.theory_walks.specs.Boundary.{IsBoundaryEdge}
 use Rattle.lazy_walk.specs.Crossed.{IsCrossedTo}
-use Rattle.lazy_walk.specs.Frames.{FrameValue, whole, at_depth, IsFrameOf, GrowsTo, lifted_at}
+use Rattle.theory_walks.specs.Frames.{FrameValue, whole, at_depth, IsFrameOf, GrowsTo, lifted_at}
 use Rattle.lazy_walk.specs.Standing.{Stands}
-use Rattle.lazy_walk.proofs.Ancestors.{full-later}
-use Rattle.lazy_walk.proofs.Crossings.{boundary-part}
-use Rattle.lazy_walk.proofs.InFull.{names, deep, tile-full, whole-level, level-own, level-grown}
-use Rattle.lazy_walk.proofs.Walked.{tile_of-whole}
-use Rattle.lazy_walk.proofs.Walks.{StillFits, GrowsTo-self, GrowsTo-then, later}
+use Rattle.theory_walks.proofs.Ancestors.{full-later}
+use Rattle.theory_walks.proofs.Crossings.{boundary-part}
+use Rattle.theory_walks.proofs.InFull.{names, deep, tile-full, whole-level, level-own, level-grown}
+use Rattle.theory_walks.proofs.Walked.{tile_of-whole}
+use Rattle.theory_walks.proofs.Walks.{StillFits, GrowsTo-self, GrowsTo-then, later}
 use Rattle.rule_model.specs.declared.rule.Rule.{Rule}
 use Rattle.rule_model.specs.Tiling.{Tiling, tiling_of, children}
 use Rattle.theory_substitution.specs.Plane.{plane_point}

@@ -1,13 +1,13 @@
--- Why a vertex has no star, and where it has one.
+-- Why a vertex has no star, and when it has one.
 use Rattle.std.specs.Prelude.{◌≡◌, ℕ, suc, ◌≤◌, List, length}
 use Rattle.cyclo_points.specs.Order.{points_of}
 use Rattle.theory_substitution.specs.RuleParts.{edge_count}
 use Rattle.rule_model.specs.Tiling.{Tiling}
 use Rattle.tile_shape.specs.declared.address.Address.{Address}
 use Rattle.tile_shape.specs.Views.{address_of}
-use Rattle.lazy_walk.specs.Ancestors.{full}
-use Rattle.lazy_walk.specs.Boundary.{IsBoundaryEdge}
-use Rattle.lazy_walk.specs.Frames.{FrameValue, whole}
+use Rattle.theory_walks.specs.Ancestors.{full}
+use Rattle.theory_walks.specs.Boundary.{IsBoundaryEdge}
+use Rattle.theory_walks.specs.Frames.{FrameValue, whole}
 use Rattle.theory_stars.specs.Corners.{edge_into}
 use Rattle.theory_stars.specs.FrameStar.{AreAtVertex}
 use Rattle.star_walk.specs.declared.star_fault.StarFault.{StarFault}
@@ -19,8 +19,8 @@ use Rattle.star_walk.specs.Round.{IsEnough}
 abbrev pub most_corners : ℕ
 most_corners = 64
 
--- the frame is at depth 64; the tile has vertex i of the base as a vertex; and its edge that ends there is on
--- the boundary of the frame's supertile
+-- The frame is at depth 64. The tile has vertex i of the base as a vertex, and its edge that ends there is on
+-- the boundary of the frame's supertile.
 pub record IsDepthLimit (t : Tiling) (f : FrameValue) (i : ℕ) (addr : Address) (edge : ℕ) : Type 0 where
   pub at_64 : length f.digits ≡ 64
   pub corner : CornerOf t
@@ -29,7 +29,7 @@ pub record IsDepthLimit (t : Tiling) (f : FrameValue) (i : ℕ) (addr : Address)
   pub its_edge : edge ≡ edge_into (edge_count t.rule corner.tile.address.kind) corner.vertex
   pub on_boundary : IsBoundaryEdge t (address_of addr) edge
 
--- one tile more than the most is of the frame and has vertex i of the base as a vertex
+-- there are 65 distinct tiles of the frame that have vertex i of the base as a vertex
 pub record AreTooMany (t : Tiling) (f : FrameValue) (i : ℕ) : Type 0 where
   pub corners : List (CornerOf t)
   pub count : length corners ≡ suc most_corners
@@ -40,7 +40,7 @@ abbrev pub HasCause : Tiling → FrameValue → ℕ → StarFault → Type 0
 HasCause t f i (DepthLimit addr edge) = IsDepthLimit t f i addr edge
 HasCause t f i TooBig = AreTooMany t f i
 
--- depth 64 is enough for vertex i of the base, and no more tiles than the most have it there
+-- depth 64 is enough for vertex i of the base, and at most 64 tiles have it there
 pub record IsWithinLimits (t : Tiling) (f : FrameValue) (i : ℕ) : Type 0 where
   pub enough : IsEnough t f i 64
   pub few : (corners : List (CornerOf t)) → AreAtVertex (points_of t.order) t.rule (full t f) (vertex_of_base t f i) corners → length corners ≤ most_corners

@@ -1,4 +1,4 @@
--- Corners of the program in the words of the theory, and the vertex of the base round which they lie.
+-- Corners of the program in the terms of the theory, and the vertex of the base around which they lie.
 use Rattle.std.specs.Prelude.{ℕ}
 use Rattle.theory_plane.specs.Plane.{PlanePoint}
 use Rattle.cyclo_points.specs.declared.order.Order.{Order}
@@ -9,23 +9,23 @@ use Rattle.theory_substitution.specs.Supertile.{Placed}
 use Rattle.theory_windows.specs.FramePatch.{frame_patch}
 use Rattle.rule_model.specs.Tiling.{Tiling}
 use Rattle.tile_place.specs.Searched.{placed_in}
-use Rattle.lazy_walk.specs.Frames.{FrameValue, whole}
+use Rattle.theory_walks.specs.Frames.{FrameValue, whole}
 use Rattle.theory_stars.specs.Corners.{Corner as TheCorner, IsCornerAt}
 use Rattle.star_walk.specs.declared.corner.Corner.{Corner}
 
--- a corner of a tile that is known by its address and its motion
+-- a corner, of a tile by its address and its motion
 abbrev pub CornerOf : Tiling → Type 0
 CornerOf t = TheCorner (Placed (NumberOf t.order))
 
--- a corner of the program as one of those
+-- a corner of the program, in that form
 abbrev pub corner_in : (o : Order) → Corner → TheCorner (Placed (NumberOf o))
 corner_in o c = record { tile = placed_in o c.tile; vertex = c.vertex }
 
--- where vertex number i of the base lies
+-- the position of vertex number i of the base
 abbrev pub vertex_of_base : (t : Tiling) → FrameValue → ℕ → PlanePoint (points_of t.order).real.ops.carrier
 vertex_of_base t f i = plane_point (points_of t.order) (vertex (points_of t.order) t.rule f.base.kind i)
 
--- the corner is of a tile of the frame, at the depth that it has, and lies at vertex number i of the base
+-- the corner is of a tile of the frame, at the frame's own depth, and lies at vertex number i of the base
 abbrev pub IsAtVertex : (t : Tiling) → FrameValue → ℕ → CornerOf t → Type 0
 IsAtVertex t f i c =
     IsCornerAt (points_of t.order).real (Placed (NumberOf t.order)) (frame_patch (points_of t.order) t.rule (whole f)) (vertex_of_base t f i) c

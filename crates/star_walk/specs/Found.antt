@@ -11,8 +11,8 @@ use Rattle.theory_frames.specs.Frame.{IsTileOf, lifted_in}
 use Rattle.theory_windows.specs.FramePatch.{frame_patch, growing_frame, in_frame}
 use Rattle.rule_model.specs.Tiling.{Tiling, children}
 use Rattle.tile_shape.specs.Views.{address_of}
-use Rattle.lazy_walk.specs.Ancestors.{full}
-use Rattle.lazy_walk.specs.Frames.{FrameValue, whole, GrowsTo}
+use Rattle.theory_walks.specs.Ancestors.{full}
+use Rattle.theory_walks.specs.Frames.{FrameValue, whole, GrowsTo}
 use Rattle.theory_stars.specs.Corners.{edge_into, Turns, last_corner, IsTurn}
 use Rattle.theory_stars.specs.FrameStar.{corner_named}
 use Rattle.theory_stars.specs.GrownStar.{deepest}
@@ -24,7 +24,7 @@ use Rattle.star_walk.specs.Corners.{CornerOf}
 abbrev pub its_edge : Tiling → Corner → ℕ
 its_edge t c = edge_into (edge_count t.rule c.tile.addr.kind) c.vertex
 
--- the tile is of the frame, in its place there, after at most n steps from the base
+-- the tile is of the frame, in its place there, and at most n steps from the base
 pub record IsFound (t : Tiling) (f : FrameValue) (n : ℕ) (c : Corner) : Type 0 where
   pub its_kind : c.tile.kind ≡ c.tile.addr.kind
   pub of_frame : IsTileOf (children t) (whole f) (address_of c.tile.addr)
@@ -33,21 +33,20 @@ pub record IsFound (t : Tiling) (f : FrameValue) (n : ℕ) (c : Corner) : Type 0
   pub shift_within : IsWithin (2 ^ 8 * n) c.tile.motion.shift
   pub in_order : IsOf t.order c.tile.motion.shift
 
--- the greatest of the frame's depth and those of the corners' tiles, of tiles by the names that they have at
--- depth 64
+-- the greatest of the frame's depth and the levels of the corners' tiles
 abbrev pub deepest_of : (t : Tiling) → FrameValue → List (CornerOf t) → ℕ
 deepest_of t f corners =
     deepest (points_of t.order).real (Placed (NumberOf t.order)) (growing_frame (points_of t.order) (is_refused t.order) t.rule (full t f)) (length f.digits) corners
 
--- a corner by the name that its tile has at depth 64, and the base with its vertex i
+-- a corner, by the name that its tile has at depth 64; and that of the base, with its vertex i
 abbrev pub name_of : (t : Tiling) → FrameValue → Corner → CornerOf t
 name_of t f c = corner_named (points_of t.order) t.rule (full t f) (address_of c.tile.addr) c.vertex
 
 abbrev pub base_name : (t : Tiling) → FrameValue → ℕ → CornerOf t
 base_name t f i = corner_named (points_of t.order) t.rule (full t f) (whole f) i
 
--- the corners are a turn from the base, in a frame that has grown from f to g, which has not come back; and
--- the last of them is this one
+-- The frame has grown from f to g. The corners are a turn from the base that has not come back, and this is
+-- the last of them.
 pub record IsOnTheWay (t : Tiling) (f g : FrameValue) (i : ℕ) (corners : List Corner) (last : Corner) : Type 0 where
   pub grows : GrowsTo t f g
   pub found : AllByRecursion (IsFound t g (length corners)) corners
@@ -59,7 +58,7 @@ pub record IsOnTheWay (t : Tiling) (f g : FrameValue) (i : ℕ) (corners : List 
   pub not_back : ¬ IsAmong (base_name t f i) others
   pub depth_is : length g.digits ≡ deepest_of t f others
 
--- the corners are a turn from the base that has come back to it, and no more than there may be
+-- the corners are a turn from the base that has come back to it, and there are at most 64
 pub record HasTurned (t : Tiling) (f g : FrameValue) (i : ℕ) (corners : List Corner) : Type 0 where
   pub grows : GrowsTo t f g
   pub few : length corners ≤ most_corners
@@ -69,7 +68,7 @@ pub record HasTurned (t : Tiling) (f g : FrameValue) (i : ℕ) (corners : List C
   pub turn : IsTurn (points_of t.order).real (Placed (NumberOf t.order)) (frame_patch (points_of t.order) t.rule (full t f)) (base_name t f i) others
   pub depth_is : length g.digits ≡ deepest_of t f others
 
--- the corner b is a, with the digits of the frame from the depth of its tile up after the tile's own
+-- the corner b is the corner a with its tile lifted in the frame
 pub record IsRaised (f : FrameValue) (a b : Corner) : Type 0 where
   pub same_kind : b.tile.kind ≡ a.tile.kind
   pub same_motion : b.tile.motion ≡ a.tile.motion

@@ -3,9 +3,9 @@ ghost use Rattle.std.specs.Prelude.{◌≡◌, ◌↔◌, ◌<◌, ◌≤◌, �
 ghost use Rattle.cyclo_points.specs.Order.{points_of};
 ghost use Rattle.cyclo_points.specs.Point.{IsOf, IsWithin};
 ghost use Rattle.theory_frames.specs.Frame.{IsTileOf};
-ghost use Rattle.lazy_walk.specs.Boundary.{IsBoundaryEdge};
+ghost use Rattle.theory_walks.specs.Boundary.{IsBoundaryEdge};
 ghost use Rattle.lazy_walk.specs.Crossed.{IsCrossedTo};
-ghost use Rattle.lazy_walk.specs.Frames.{whole, IsFrameOf, GrowsTo, lifted_at};
+ghost use Rattle.theory_walks.specs.Frames.{whole, IsFrameOf, GrowsTo, lifted_at};
 ghost use Rattle.rule_model.specs.Tiling.{tiling_of, children};
 ghost use Rattle.tile_place.specs.Crossed.{edges_of};
 ghost use Rattle.tile_shape.specs.Views.{address_of};

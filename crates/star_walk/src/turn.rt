@@ -6,7 +6,7 @@ ghost use Rattle.cyclo_points.specs.Point.{IsWithin};
 ghost use Rattle.tile_shape.specs.Views.{address_of};
 ghost use Rattle.rule_model.specs.Tiling.{tiling_of};
 ghost use Rattle.tile_place.specs.Crossed.{edges_of};
-ghost use Rattle.lazy_walk.specs.Frames.{whole, IsFrameOf, GrowsTo};
+ghost use Rattle.theory_walks.specs.Frames.{whole, IsFrameOf, GrowsTo};
 ghost use Rattle.lazy_walk.specs.Standing.{Stands};
 ghost use Rattle.star_walk.specs.Corners.{corner_in};
 ghost use Rattle.star_walk.specs.Round.{AreRound, AreInTurn, IsLeastEnough};

@@ -13,7 +13,7 @@ pub record IsAcross (t : Tables) (a : Address) (e : ℕ) (b : Address) (f : ℕ)
   pub edge_exists : IsSome (type_of t b.kind f)
   pub leads_back : IsOnlyTouched t b f a e
 
--- the edge lies on this edge of the supertile, in this part of it; part 0 where the tile is the supertile
+-- the edge lies on this edge of the supertile, in this part of it; part 0 if the tile is the supertile
 pub record LiesOn (t : Tables) (a : Address) (e : ℕ) (edge part : ℕ) : Type 0 where
   pub cuts : List Cut
   pub trace : HasTrace t a e edge cuts

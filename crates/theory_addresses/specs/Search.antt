@@ -1,12 +1,12 @@
 -- Searches through the numbers below a bound, from 0 upwards, and through the members of a list.
 use Rattle.std.specs.Prelude.{◌≡◌, ◌⊎◌, ℕ, zero, suc, Bool, true, false, ◌&&◌, ◌||◌, cond, List, [], ◌∷◌, ◌++◌, Option, Some, None}
 
--- the fault, where the test fails
+-- the fault, if the test fails
 abbrev pub unless : {F : Type 0} → Bool → F → Option F
 unless true e = None
 unless false e = Some e
 
--- the fault a, and b where there is none
+-- the fault a, or b if there is none
 abbrev pub or_else : {F : Type 0} → Option F → Option F → Option F
 or_else (Some e) b = Some e
 or_else None b = b

@@ -5,8 +5,8 @@ use Rattle.theory_addresses.specs.Contact.{inner}
 use Rattle.theory_addresses.specs.Tables.{Tables, child_kinds, contact_of}
 use Rattle.theory_addresses.specs.Trace.{Cut, IsTrace}
 
--- at each place the second number is s - 1 minus the first, where s is the number of parts of the edge that
--- is cut there
+-- at each place the second number is s - 1 minus the first; s is the number of parts of the edge that is cut
+-- there
 abbrev pub AreMirrored : List Cut → List Cut → Type 0
 AreMirrored [] [] = Unit {0}
 AreMirrored [] (d ∷ ds) = ⊥

@@ -25,7 +25,7 @@ pub data IsTrace (t : Tables) (e : ℕ) : List Step → ℕ → List Cut → Typ
 abbrev pub HasTrace : Tables → Address → ℕ → ℕ → List Cut → Type 0
 HasTrace t a e top cuts = IsTrace t e a.digits top cuts
 
--- the part of the supertile's own edge, 0 where the tile is the supertile
+-- the part of the supertile's own edge; 0 if the tile is the supertile
 abbrev pub first_part : List Cut → ℕ
 first_part [] = 0
 first_part (c ∷ cuts) = c.part

@@ -1,5 +1,5 @@
-//! Combinatorial coordinates and contact tables (S. Tatham, Combinatorial coordinates for the aperiodic
-//! monotile), without a ring and without a point of the plane.
+//! Addresses of tiles, as combinatorial coordinates, and contact tables (S. Tatham, Combinatorial coordinates
+//! for the aperiodic monotile), without a ring and without a point of the plane.
 //!
 //! A tile of a supertile is named by its kind and, level by level from fine to coarse, by which child of
 //! which parent it is. All that a crossing needs of a rule is a finite table.

@@ -1,7 +1,7 @@
-pub mod Extents
-pub mod Insets
-pub mod MeetingTest
+mod Extents
+mod Insets
+mod MeetingTest
 pub mod Parts
 pub mod Descent
-pub mod Climb
+mod Climb
 pub mod Carried

@@ -1,24 +1,24 @@
 pub mod Setting
 pub mod MovedStar
 pub mod Ahead
-pub mod Around
+mod Around
 pub mod StarEdges
-pub mod NoReturn
-pub mod EitherWay
-pub mod SameLengths
+mod NoReturn
+mod EitherWay
+mod SameLengths
 pub mod Injective
-pub mod EquallyFar
-pub mod PartChain
+mod EquallyFar
+mod PartChain
 pub mod MirroredCuts
-pub mod Frames
-pub mod MeetMates
+mod Frames
+mod MeetMates
 pub mod Opposite
-pub mod AlongAlong
+mod AlongAlong
 pub mod TraceAlong
 pub mod Sums
-pub mod EdgeSums
-pub mod OneLevel
-pub mod SupertileCount
+mod EdgeSums
+mod OneLevel
+mod SupertileCount
 pub mod ZeroOrOne
 pub mod StarCount
 pub mod CommonPoint
@@ -29,13 +29,13 @@ pub mod RuleAddresses
 pub mod AcrossTouches
 pub mod Join
 pub mod Positions
-pub mod CommonPiece
-pub mod Covering
+mod CommonPiece
+mod Covering
 pub mod BoundaryTrace
 pub mod Carried
-pub mod OneChild
+mod OneChild
 pub mod Glue
 pub mod GlueMotions
-pub mod GlueMotion
+mod GlueMotion
 pub mod Holder
 pub mod Turns

@@ -27,7 +27,7 @@ pub record IsGlueMotion (P : Points) (r : Rule P.ring.carrier) (k e l f : ℕ) (
   pub below : m.turn < P.order
   pub runs_back : RunsBack (kind_edge P r k e) (moved_edge P r l m f)
 
--- edge f of tile b meets edge e of tile a; exactly one motion glues the two edges; and the motion of b is
+-- edge f of tile b meets edge e of tile a; at most one motion glues the two edges; and the motion of b is
 -- that motion, followed by the motion of a
 pub record IsGlued (P : Points) (r : Rule P.ring.carrier) (a : Placed P.ring.carrier) (e : ℕ) (b : Placed P.ring.carrier) (f : ℕ) : Type 0 where
   pub met : IsMet P r a.address.kind e b.address.kind f

@@ -32,7 +32,7 @@ TouchLaw P =
     (T : AcceptedRule P) (a b : Address) (e f : ℕ) → HasEdge P T.rule a e → NamesTile P T.rule b
     → Touches (tables_of P T.rule) a e b f ↔ IsTileAcross P T.rule (tile_at P T.rule a) e (tile_at P T.rule b) f
 
--- so the only pair that an edge touches is the only tile across it, and the other way round
+-- so the only pair that an edge touches is the only tile across it, and conversely
 abbrev pub AcrossLaw : Points → Type 0
 AcrossLaw P =
     (T : AcceptedRule P) (a b : Address) (e f : ℕ) → HasEdge P T.rule a e → NamesTile P T.rule b
@@ -49,8 +49,8 @@ BoundaryLaw P =
 abbrev pub CrossingLaw : Points → Type 0
 CrossingLaw P = (T : AcceptedRule P) (a : Address) (e : ℕ) → HasEdge P T.rule a e → IsCrossed P T.rule a e ⊎ IsOutside P T.rule a e
 
--- The edges of tiles across from each other meet. The tile across lies where the motion that glues the two
--- edges, followed by that of the edge's own tile, puts it.
+-- Edges of tiles across from each other meet. Followed by the motion of the edge's own tile, a motion that
+-- glues the two edges is the motion of the tile across.
 abbrev pub GlueLaw : Points → Type 0
 GlueLaw P =
     (T : AcceptedRule P) (a : Address) (e : ℕ) → HasEdge P T.rule a e → (b : Placed P.ring.carrier) (f : ℕ)

@@ -14,7 +14,7 @@ use Rattle.theory_substitution.specs.Supertile.{Placed, supertile}
 abbrev pub IsTileBeside : (P : Points) → Rule P.ring.carrier → Address → Placed P.ring.carrier → Type 0
 IsTileBeside P r a t = IsAmong t (supertile P r (top_kind a) (depth a))
 
--- the tile of an address, where Horner's scheme puts it
+-- the tile of an address, with the motion of Horner's scheme
 abbrev pub tile_at : (P : Points) → Rule P.ring.carrier → Address → Placed P.ring.carrier
 tile_at P r a = record { address = a; motion = placement P r a.digits }
 
@@ -30,7 +30,7 @@ inflated_line P r n e = record { from = P.ring.mul (power P.ring r.factor n) e.f
 abbrev pub kind_edge : (P : Points) → Rule P.ring.carrier → ℕ → ℕ → Edge P.ring.carrier
 kind_edge P r k e = record { from = vertex P r k e; to = vertex P r k (next r k e) }
 
--- where f moves an edge
+-- an edge, moved by f
 abbrev pub image_of : (P : Points) → (P.ring.carrier → P.ring.carrier) → Edge P.ring.carrier → Edge P.ring.carrier
 image_of P f e = record { from = f e.from; to = f e.to }
 

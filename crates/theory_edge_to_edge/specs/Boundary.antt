@@ -11,7 +11,7 @@ use Rattle.theory_edge_to_edge.specs.Lying.{lie_among, is_along}
 abbrev pub boundary_among : (P : Points) → Rule P.ring.carrier → List (PlacedEdge P.ring.carrier) → List (Edge P.ring.carrier) → ℕ → List (PlacedEdge P.ring.carrier)
 boundary_among P r edges wholes e = filter (λ s. is_along e (lie_among P r edges wholes s)) edges
 
--- one more part in front of those that follow, where none of these fails
+-- one more part in front of those that follow, if none of these fails
 abbrev pub in_front : {A : Type 0} → A → Result (List A) ℕ → Result (List A) ℕ
 in_front s (Ok ss) = Ok (s ∷ ss)
 in_front s (Err j) = Err j

@@ -14,7 +14,7 @@ use Rattle.theory_addresses.specs.Tables.{Tables, KindTables}
 abbrev pub name_of : {A : Type 0} → PlacedEdge A → ChildEdge
 name_of s = record { child = s.child; edge = s.edge }
 
--- the parts, where none fails
+-- the parts, if none fails
 abbrev pub parts_or_none : {A : Type 0} → Result (List A) ℕ → List A
 parts_or_none (Ok ss) = ss
 parts_or_none (Err j) = []
@@ -28,7 +28,8 @@ abbrev pub index_in : ChildEdge → ℕ → List ChildEdge → ℕ
 index_in s n [] = n
 index_in s n (t ∷ ts) = cond (nat_eq s.child t.child && nat_eq s.edge t.edge) n (index_in s (suc n) ts)
 
--- what a child edge is, by where it lies; a loose one, which an accepted rule hasn't, is given no number
+-- what a child edge is, by where it lies; a loose one, which an accepted rule does not have, gets a contact
+-- without meaning
 abbrev pub contact_by : (P : Points) → Rule P.ring.carrier → ℕ → ChildEdge → Lie → Contact
 contact_by P r k s (lying.inner c e) = inner c e
 contact_by P r k s (lying.boundary e) = outer e (index_in s 0 (named_parts P r k e))

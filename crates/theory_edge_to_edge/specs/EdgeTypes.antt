@@ -28,7 +28,7 @@ vector_if P r ty k e = unless (not (nat_eq (edge_type r k e) ty || nat_eq (edge_
 abbrev pub first_vector : (P : Points) → Rule P.ring.carrier → ℕ → Option P.ring.carrier
 first_vector P r ty = first_below (λ k. first_below (vector_if P r ty k) (edge_count r k)) (length r.kinds)
 
--- equal squared lengths, where there is a second
+-- equal squared lengths, if there is a second
 abbrev pub is_as_long : (P : Points) → P.ring.carrier → Option P.ring.carrier → Bool
 is_as_long P d None = true
 is_as_long P d (Some e) = same_length P d e

@@ -33,7 +33,7 @@ glue_fits r = nat_le (length r.glue) 16 && list_all (is_type r) r.glue
 abbrev pub parts_fit : {A : Type 0} → Rule A → ℕ → Bool
 parts_fit r ty = is_from_to 1 8 (length (parts r ty)) && list_all (is_type r) (parts r ty)
 
--- 3 to 12 edges of a kind, as many as vertices, each of a type
+-- 3 to 12 edges of a kind, one for each vertex, each of a type
 abbrev pub edges_fit : {A : Type 0} → Rule A → ℕ → Bool
 edges_fit r k = is_from_to 3 12 (edge_count r k) && nat_eq (length (vertices_of r k)) (edge_count r k) && list_all (is_type r) (edge_types r k)
 

@@ -18,7 +18,7 @@ abbrev pub numbers_along : (P : Points) → ℕ → List (Edge P.ring.carrier) �
 numbers_along P n [] e = []
 numbers_along P n (whole ∷ wholes) e = cond (lies_along P whole e) (n ∷ []) [] ++ numbers_along P (suc n) wholes e
 
--- met by t, where the types are mates
+-- met by t, if the types are mates
 abbrev pub met_by : {A : Type 0} → Bool → PlacedEdge A → Lie
 met_by true t = inner t.child t.edge
 met_by false t = loose

@@ -8,7 +8,7 @@ use Rattle.theory_substitution.specs.Points.{Points}
 use Rattle.theory_substitution.specs.Plane.{plane_point}
 use Rattle.theory_addresses.specs.Search.{all_below}
 
--- where vertex number i lies
+-- the position of vertex number i
 abbrev pub corner : (P : Points) → List P.ring.carrier → ℕ → PlanePoint P.real.ops.carrier
 corner P vs i = plane_point P (get_or vs i (P.ring.int (pos 0)))
 

@@ -21,6 +21,6 @@ tile_below P r k zero m p = Some (record { address = record { kind = k; digits =
 tile_below P r k (suc n) m p =
     option_and_then (λ (c : Part P.ring.carrier). option_map (of_whole (record { child = c.child; parent = k } ∷ [])) (tile_below P r c.kind n c.motion p)) (holder_of P r k n m p)
 
--- the tile of that supertile that holds a point: none where the supertile doesn't hold it
+-- the tile of that supertile that holds a point; none if the supertile does not hold it
 abbrev pub tile_holding : (P : Points) → Rule P.ring.carrier → ℕ → ℕ → Motion P.ring.carrier → P.ring.carrier → Option (Placed P.ring.carrier)
 tile_holding P r k n m p = cond (supertile_holds P r k n m p) (tile_below P r k n m p) None

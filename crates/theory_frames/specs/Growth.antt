@@ -1,12 +1,12 @@
--- Growth: the digits that a stream of words gives at the coarse end.
+-- Growth: the digits that a stream of outputs gives at the coarse end.
 use Rattle.std.specs.Prelude.{ℕ, zero, suc, ◌+◌, ◌%◌, List, [], ◌∷◌, ◌++◌, length, get_or}
 use Rattle.theory_addresses.specs.Address.{Step, Address, top_kind}
 
--- where there is no use, as there always is
+-- a value for a kind without uses; an accepted rule has no such kind
 abbrev pub no_step : Step
 no_step = record { child = 0; parent = 0 }
 
--- the digit that a word gives on a kind: of the kind's uses, the one with the number word modulo their number
+-- the digit that an output chooses on a kind: the use with this number, modulo the number of the kind's uses
 abbrev pub chosen : List Step → ℕ → Step
 chosen uses word = get_or uses (word % length uses) no_step
 

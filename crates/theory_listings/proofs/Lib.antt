@@ -1,6 +1,6 @@
 pub mod Lines
-pub mod Walk
+mod Walk
 pub mod FrameLines
-pub mod FrameWalk
-pub mod FrameLifted
-pub mod Carried
+mod FrameWalk
+mod FrameLifted
+mod Carried

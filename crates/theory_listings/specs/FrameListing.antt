@@ -54,13 +54,13 @@ pub record AreAllListed (P : Points) (refused : P.ring.carrier → Bool) (r : Ru
 abbrev pub NamesMeeting : (P : Points) → Rule P.ring.carrier → Address → OpenBox P.real.ops.carrier → Address → Type 0
 NamesMeeting P r f box a = PolygonMeetsBox P.real box (tile_polygon P r (λ z. z) (in_frame P r f a))
 
--- all are listed, and line i, from 0, is the first whose tile doesn't meet the window
+-- all are listed, and line i, counted from 0, is the first whose tile does not meet the window
 pub record IsStray (P : Points) (refused : P.ring.carrier → Bool) (r : Rule P.ring.carrier) (f : Address) (box : OpenBox P.real.ops.carrier) (m : ℕ)
     (listing : List (Placed P.ring.carrier)) (i : ℕ) : Type 0 where
   pub all_listed : AreAllListed P refused r f box m listing
   pub first : IsFirstLine (λ x. ¬ NamesMeeting P r f box x.address) listing i
 
--- line i, from 0, is the first whose address isn't of the frame
+-- line i, counted from 0, is the first whose address is not of the frame
 abbrev pub IsNotOfFrame : (P : Points) → Rule P.ring.carrier → Address → List (Placed P.ring.carrier) → ℕ → Type 0
 IsNotOfFrame P r f listing i = IsFirstLine (λ (x : Placed P.ring.carrier). ¬ IsTileOf (child_kinds (tables_of P r)) f x.address) listing i
 

@@ -44,15 +44,15 @@ abbrev pub IsWalkOn : (P : Points) → (P.ring.carrier → Bool) → Rule P.ring
 IsWalkOn P refused r f box listing found =
     IsWalk P.real (Placed P.ring.carrier) (Motion P.ring.carrier) (growing_frame P refused r f) box (λ (x : Placed P.ring.carrier). x.motion) (lines_named P r f listing) found
 
--- a listing whose lines are of the frame at the depth to which they grow it, where no two of them have one
--- address
+-- a listing whose lines are of the frame at the depth to which they grow it, and of which no two have the
+-- same address
 pub record IsListingOn (P : Points) (T : AcceptedRule P) (f : Address) (box : OpenBox P.real.ops.carrier) (m : ℕ) (listing : List (Placed P.ring.carrier)) : Type 0 where
   pub window : IsWindowOn P T f box
   pub within : deepest_listed m listing ≤ depth f
   pub of_frame : AreOfFrame P T.rule (at_level f (deepest_listed m listing)) listing
   pub distinct : AreDistinct (map (λ (x : Placed P.ring.carrier). lifted_in (at_level f (deepest_listed m listing)) x.address) listing)
 
--- the walk comes to u, which meets the window; and it goes on with it where u is new, listed and not refused
+-- the walk comes to u, which meets the window; and it goes on with u if it is new, listed and not refused
 pub record ComesOnIn (P : Points) (refused : P.ring.carrier → Bool) (T : AcceptedRule P) (f : Address) (box : OpenBox P.real.ops.carrier)
     (listing : List (Placed P.ring.carrier)) (found : List (Placed P.ring.carrier)) (u : Placed P.ring.carrier) : Type 0 where
   pub meets : MeetsIn P.real (Placed P.ring.carrier) (frame_patch P T.rule f) box u
@@ -94,7 +94,7 @@ FrameBeyondLaw P =
     (T : AcceptedRule P) (f : Address) (box : OpenBox P.real.ops.carrier) (m : ℕ) (listing : List (Placed P.ring.carrier)) → IsListingOn P T f box m listing
     → (u : Placed P.ring.carrier) → deepest_listed m listing < level_in f u.address → ¬ IsAmong u (named_tiles (lines_named P T.rule f listing))
 
--- where no tile at all lies across an edge that meets the window, no depth is enough
+-- if no tile at all lies across an edge that meets the window, no depth is enough
 abbrev pub FrameWalkStopLaw : Points → Type 0
 FrameWalkStopLaw P =
     (T : AcceptedRule P) (f : Address) (refused : P.ring.carrier → Bool) (box : OpenBox P.real.ops.carrier) (m : ℕ) (listing : List (Placed P.ring.carrier))
@@ -102,7 +102,7 @@ FrameWalkStopLaw P =
     → ((u : Placed P.ring.carrier) → ¬ LiesAcross P.real (Placed P.ring.carrier) (growing_frame P refused T.rule f) (line_of P T.rule (in_frame P T.rule f a) e) u)
     → IsDepthLimit P.real (Placed P.ring.carrier) (growing_frame P refused T.rule f) box (line_of P T.rule (in_frame P T.rule f a) e) (in_frame P T.rule f a)
 
--- across each edge of a line's tile that is found lies a tile found, where the edge meets the window
+-- if an edge of a line's tile that is found meets the window, a tile found lies across it
 abbrev pub AreAllCrossed : (P : Points) → AcceptedRule P → Address → OpenBox P.real.ops.carrier → List (Placed P.ring.carrier) → List (Placed P.ring.carrier) → Type 0
 AreAllCrossed P T f box listing found =
     (x : Placed P.ring.carrier) → IsAmong x listing → IsAmong (in_frame P T.rule f x.address) found → (e : ℕ) → e < edge_count T.rule x.address.kind
@@ -124,7 +124,7 @@ FrameWalkEndLaw P =
     → IsListingOn P T f box m listing → (found : List (Placed P.ring.carrier)) → IsWalkOn P refused T.rule f box listing found → AreAllCrossed P T f box listing found
     → IsWalkEnd P refused T f box m listing found
 
--- where all are listed, no fault of the walk has a cause
+-- if all are listed, no fault of the walk has a cause
 abbrev pub FrameNoFaultLaw : Points → Type 0
 FrameNoFaultLaw P =
     (T : AcceptedRule P) (f : Address) (refused : P.ring.carrier → Bool) (box : OpenBox P.real.ops.carrier) (m : ℕ) (listing : List (Placed P.ring.carrier))

@@ -28,7 +28,7 @@ pub record IsWalk (S : Signed) (T M : Type 0) (F : GrowingPatch S T) (box : Open
   pub each_listed : AllByRecursion (IsListed motion_of lines) found
   pub holds_centre : (t : T) × IsAmong t found × IsTrue (member S (F.patch.outline t) (test_point S.ops box.centre))
 
--- the walk is at its end where across each edge of a tile found that meets the window lies a tile found
+-- the walk is at its end if a tile found lies across each edge of a tile found that meets the window
 abbrev pub IsWalkedOut : (S : Signed) (T : Type 0) → Patch S T → OpenBox S.ops.carrier → List T → Type 0
 IsWalkedOut S T P box found = (t : T) → IsAmong t found → (e : PlaneEdge S) → IsAmong e (edges (P.outline t)) → MeetsBox S box e → HasAcross S T P found e
 
@@ -39,7 +39,7 @@ pub data WalkFault (S : Signed) (T M : Type 0) : Type 0 where
   Refused : T → WalkFault S T M
   NoneAcross : PlaneEdge S → T → WalkFault S T M
 
--- the tile of line i meets the window and has the motion g, which isn't the line's
+-- the tile of line i meets the window and has the motion g, which is not the line's
 pub record IsWrongPlace (S : Signed) (T M : Type 0) (F : GrowingPatch S T) (box : OpenBox S.ops.carrier) (motion_of : T → M) (lines : List (ListLine T M)) (i : ℕ) (g : M) : Type 0 where
   pub line : ListLine T M
   pub is_line : IsLineAt lines i line

@@ -13,7 +13,7 @@ pub record Depths (A : Type 0) : Type 0 where
   pub at_start : A
   pub at_end : A
 
--- positive where an edge that starts in the half plane of f and ends in that of g enters the second before it
+-- positive if an edge that starts in the half plane of f and ends in that of g enters the second before it
 -- leaves the first
 abbrev pub overlap : (R : Ops) → Depths R.carrier → Depths R.carrier → R.carrier
 overlap R f g = difference R (R.mul f.at_start g.at_end) (R.mul g.at_start f.at_end)

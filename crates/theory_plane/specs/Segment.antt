@@ -27,7 +27,7 @@ same_place S a b = is_eq (S.sign (difference S.ops b.x a.x)) && is_eq (S.sign (d
 abbrev pub along : (S : Signed) → PlanePoint S.ops.carrier → PlanePoint S.ops.carrier → PlanePoint S.ops.carrier → PlanePoint S.ops.carrier → Bool
 along S a b c d = not (same_place S c d) && on_segment S a b d && on_segment S a d c
 
--- p is a mean of a and b: (i + j) p = i a + j b, for weights i and j that aren't negative and not both 0
+-- p is a mean of a and b: (i + j) p = i a + j b, for non-negative weights i and j that are not both 0
 pub record Between (S : Signed) (a b p : PlanePoint S.ops.carrier) : Type 0 where
   pub i : S.ops.carrier
   pub j : S.ops.carrier

@@ -1,5 +1,5 @@
 //! The plane over an ordered ring: sides of edges, crossings and winding numbers, triangles and fans,
-//! segments, and open boxes.
+//! segments, and the test of an edge against an open box.
 //!
 //! A point is a pair of numbers of the ring. A test point has an integer of at least 1 as its denominator, so
 //! every definition computes, and no fraction is needed. Crossings follow the half-open rule of

@@ -1,4 +1,4 @@
--- Numbers that divide a whole number.
+-- Numbers that divide an integer.
 use Rattle.std.specs.Prelude.{◌≡◌, ℕ, suc, pos}
 use Rattle.std.specs.declared.cmp.Ordering.TheVariants.{Greater}
 use Rattle.theory_ring.specs.Sign.{Signed}

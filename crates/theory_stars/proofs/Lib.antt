@@ -1,15 +1,15 @@
 pub mod CornerNumbers
 pub mod Turning
-pub mod ScaledPatch
-pub mod SmallBox
-pub mod WholeTurn
+mod ScaledPatch
+mod SmallBox
+mod WholeTurn
 pub mod GrownStar
-pub mod SharedPoint
-pub mod SimpleStar
-pub mod MovedStar
-pub mod SimpleFrame
-pub mod FrameStar
-pub mod FrameBase
-pub mod ScaledPoints
-pub mod PolygonEdges
-pub mod Carried
+mod SharedPoint
+mod SimpleStar
+mod MovedStar
+mod SimpleFrame
+mod FrameStar
+mod FrameBase
+mod ScaledPoints
+mod PolygonEdges
+mod Carried

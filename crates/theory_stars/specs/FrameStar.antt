@@ -43,7 +43,7 @@ FrameNextLaw P =
     → IsNext P.real (Placed P.ring.carrier) (frame_patch P T.rule f) (corner_named P T.rule f a i) (corner_named P T.rule f b g)
     × (max m (level_in f (lifted_in f b)) ≡ n)
 
--- tiles of corners have as many digits
+-- the tiles of these corners have n digits
 abbrev pub AreOfDepth : {A : Type 0} → ℕ → List (Corner (Placed A)) → Type 0
 AreOfDepth {A} n corners = AllByRecursion (λ (c : Corner (Placed A)). depth c.tile.address ≡ n) corners
 
@@ -53,7 +53,7 @@ pub record IsFrameStar (P : Points) (r : Rule P.ring.carrier) (f : Address) (v :
   pub round : IsRound P.real (Placed P.ring.carrier) (frame_patch P r f) v (base ∷ others)
   pub turn : IsTurn P.real (Placed P.ring.carrier) (frame_patch P r f) base others
 
--- what a turn in the whole frame has gone round at depth n, it has in the frame of that depth
+-- a star of the whole frame at depth n, with its turn, is one of the frame of that depth
 abbrev pub FrameStarLaw : Points → Type 0
 FrameStarLaw P =
     (T : AcceptedRule P) (f : Address) → NamesTile P T.rule f → (refused : P.ring.carrier → Bool) (v : PlanePoint P.real.ops.carrier) (m n : ℕ) → n ≤ depth f
@@ -67,7 +67,7 @@ pub record AreAtVertex (P : Points) (r : Rule P.ring.carrier) (f : Address) (v :
   pub distinct : AreDistinct (tiles_of corners)
   pub each : AllByRecursion (IsCornerAt P.real (Placed P.ring.carrier) (frame_patch P r f) v) corners
 
--- distinct tiles at depth n that have v as a vertex are as many in the frame of that depth
+-- for distinct tiles at depth n that have v as a vertex there are equally many in the frame of that depth
 abbrev pub FrameCornersLaw : Points → Type 0
 FrameCornersLaw P =
     (T : AcceptedRule P) (f : Address) → NamesTile P T.rule f → (refused : P.ring.carrier → Bool) (v : PlanePoint P.real.ops.carrier) (n : ℕ) → n ≤ depth f
@@ -76,8 +76,8 @@ FrameCornersLaw P =
     → (fine : List (Corner (Placed P.ring.carrier))) × (length fine ≡ length corners) × AreAtVertex P T.rule (at_level f n) v fine
 
 -- ---- the base, and what stops the turn
--- The base is in the position of its prototile. If it names a tile of a frame, its vertex number i lies where
--- that of the prototile does, and it is there from its own depth on.
+-- The base is in the position of its prototile. If it names a tile of a frame, its vertex number i is in the
+-- position of the prototile's, from the base's own depth on.
 abbrev pub FrameBaseLaw : Points → Type 0
 FrameBaseLaw P =
     (T : AcceptedRule P) (f : Address) → NamesTile P T.rule f → (refused : P.ring.carrier → Bool) (n : ℕ) → n ≤ depth f → (i : ℕ) → i < edge_count T.rule f.kind
@@ -92,7 +92,7 @@ FrameBackLaw P =
     → IsCornerAt P.real (Placed P.ring.carrier) (frame_patch P T.rule f) v (corner_named P T.rule f (at_level f m) i)
     → (b ≡ at_level f n) ↔ (corner_named P T.rule f b g ≡ corner_named P T.rule f (at_level f m) i)
 
--- where the edge that ends at v is on the boundary at the frame's own depth, that depth isn't enough for v
+-- if the edge that ends at v is on the boundary at the frame's own depth, that depth is not enough for v
 abbrev pub TurnStopLaw : Points → Type 0
 TurnStopLaw P =
     (T : AcceptedRule P) (f : Address) (refused : P.ring.carrier → Bool) (v : PlanePoint P.real.ops.carrier) (a : Address) (i : ℕ)

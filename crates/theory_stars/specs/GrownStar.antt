@@ -35,14 +35,14 @@ StarAnswers S T =
     (F : GrowingPatch S T) → IsSimplyDissected S T F.patch → (v : PlanePoint S.ops.carrier) (m : ℕ) (base : Corner T) → IsCornerOfDepth S T F v m base
     → (others : List (Corner T)) → IsTurn S T F.patch base others → IsStar S T F v m (deepest S T F m others) (base ∷ others)
 
--- where depth k is enough each corner reached is of depth k, and there is one after the last
+-- if depth k is enough, each corner reached is of depth k, and there is one after the last
 abbrev pub StarGoesOn : Signed → Type 0 → Type 0
 StarGoesOn S T =
     (F : GrowingPatch S T) → IsSimplyDissected S T F.patch → (v : PlanePoint S.ops.carrier) (m k : ℕ) → m ≤ k → IsEnoughAt S T F v k
     → (base : Corner T) → IsCornerOfDepth S T F v m base → (others : List (Corner T)) → Turns S T F.patch base others
     → (deepest S T F m others ≤ k) × ((d : Corner T) × IsNext S T F.patch (last_corner base others) d × (F.level d.tile ≤ k))
 
--- where the edge that ends at v of a tile of depth n is on the boundary there, the depth n isn't enough
+-- if the edge that ends at v of a tile of depth n is on the boundary there, the depth n is not enough
 abbrev pub DepthCause : Signed → Type 0 → Type 0
 DepthCause S T =
     (F : GrowingPatch S T) (v : PlanePoint S.ops.carrier) (n : ℕ) (c : Corner T) → IsCornerOfDepth S T F v n c
@@ -68,8 +68,8 @@ StarEnds S T =
     (F : GrowingPatch S T) → IsSimplyDissected S T F.patch → (v : PlanePoint S.ops.carrier) (m k most : ℕ) → m ≤ k → IsEnoughAt S T F v k → HasAtMost S T F v most
     → (base : Corner T) → IsCornerOfDepth S T F v m base → (others : List (Corner T)) × IsTurn S T F.patch base others × (length (base ∷ others) ≤ most)
 
--- If the turn comes back, each depth from the one on to which it has led is enough, and at most as many tiles
--- as it has visited have v as a vertex.
+-- If the turn comes back, each depth from the one to which it has led is enough, and no more tiles than it
+-- has visited have v as a vertex.
 abbrev pub StarIsWhole : Signed → Type 0 → Type 0
 StarIsWhole S T =
     (F : GrowingPatch S T) → IsSimplyDissected S T F.patch → (v : PlanePoint S.ops.carrier) (m : ℕ) (base : Corner T) → IsCornerOfDepth S T F v m base

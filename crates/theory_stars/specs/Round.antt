@@ -26,7 +26,7 @@ pub record IsSimplyDissected (S : Signed) (T : Type 0) (P : Patch S T) : Type 0 
   pub dissected : IsDissected S T P
   pub simple : (t : T) → IsAmong t P.tiles → IsSimple S (P.outline t)
 
--- the theorem of the turn: one that comes back has gone round all tiles that have v as a vertex
+-- the theorem of the turn: one that comes back has visited all tiles that have v as a vertex
 abbrev pub TurnTheorem : Signed → Type 0 → Type 0
 TurnTheorem S T =
     (P : Patch S T) → IsSimplyDissected S T P → (v : PlanePoint S.ops.carrier) (base : Corner T) → IsCornerAt S T P v base

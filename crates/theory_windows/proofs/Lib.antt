@@ -1,43 +1,43 @@
 pub mod Members
-pub mod PairedSums
-pub mod Avoiding
-pub mod LevelCrossing
-pub mod EdgeHeights
-pub mod UprightCrossing
+mod PairedSums
+mod Avoiding
+mod LevelCrossing
+mod EdgeHeights
+mod UprightCrossing
 pub mod Reverses
-pub mod EdgeCounts
+mod EdgeCounts
 pub mod ClosedChains
 pub mod Multiples
-pub mod MixedPoint
-pub mod FanEdges
+mod MixedPoint
+mod FanEdges
 pub mod Meeting
-pub mod OneOwner
-pub mod CutEdges
-pub mod Gluing
+mod OneOwner
+mod CutEdges
+mod Gluing
 pub mod EdgeNumbers
 pub mod CoveredBox
 pub mod Window
-pub mod WholeTiles
-pub mod OpenEdges
-pub mod OpenTest
+mod WholeTiles
+mod OpenEdges
+mod OpenTest
 pub mod EnoughDepth
-pub mod OpenFacts
-pub mod Steps
-pub mod Finish
-pub mod EveryEdge
-pub mod Limits
-pub mod FromLevel
+mod OpenFacts
+mod Steps
+mod Finish
+mod EveryEdge
+mod Limits
+mod FromLevel
 pub mod AnyOrder
-pub mod OpenNumbers
-pub mod OpenStep
-pub mod WholeSearch
-pub mod GrownPolygon
-pub mod Level
+mod OpenNumbers
+mod OpenStep
+mod WholeSearch
+mod GrownPolygon
+mod Level
 pub mod Places
-pub mod DistinctTiles
+mod DistinctTiles
 pub mod KindEdges
 pub mod MovedTiles
-pub mod MeetingParts
+mod MeetingParts
 pub mod BoundaryMeets
 pub mod FramePatch
 pub mod Lifts
@@ -45,11 +45,11 @@ pub mod FrameEdges
 pub mod FramePolygon
 pub mod Renamed
 pub mod GrownCrossings
-pub mod GluedInFrame
-pub mod FrameHolds
+mod GluedInFrame
+mod FrameHolds
 pub mod FrameDrawn
 pub mod FrameWindow
-pub mod FrameStart
-pub mod FrameCover
-pub mod Carried
+mod FrameStart
+mod FrameCover
+mod Carried
 pub mod CarriedFrames

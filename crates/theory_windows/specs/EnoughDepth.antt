@@ -28,7 +28,7 @@ pub record IsLeastEnough (S : Signed) (T : Type 0) (F : GrowingPatch S T) (box :
   pub enough : IsEnough S T F box n
   pub least : (k : ℕ) → m ≤ k → IsEnough S T F box k → n ≤ k
 
--- n isn't beyond any enough depth from m on
+-- n is not beyond any enough depth from m on
 pub record IsNotBeyond (S : Signed) (T : Type 0) (F : GrowingPatch S T) (box : OpenBox S.ops.carrier) (m n : ℕ) : Type 0 where
   pub not_below : m ≤ n
   pub not_beyond : (k : ℕ) → m ≤ k → IsEnough S T F box k → n ≤ k

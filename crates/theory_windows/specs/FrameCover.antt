@@ -1,5 +1,5 @@
 -- The search for the tiles of a window on a frame: its first state, a step by a crossing that grows the
--- frame, its end, and where it stops.
+-- frame, its end, and why it stops.
 use Rattle.std.specs.Prelude.{◌≡◌, ℕ, ◌<◌, ◌≤◌, max, Bool, true, false, List, [], Some, slice_get, length, map, IsTrue}
 use Rattle.std.specs.List.{AllByRecursion}
 use Rattle.theory_plane.specs.Plane.{test_point}
@@ -112,7 +112,7 @@ FrameGoesOnLaw P =
     → (o : NumberedEdge P.real) (n : ℕ) (a b : Address) (g : ℕ) → IsOpenCrossing P T f s o n a b g
     → (refused (in_frame P T.rule f b).motion.shift ≡ false) × (length s.found < limit)
 
--- and where the search comes to its end, the window is within the limits
+-- and if the search comes to its end, the window is within the limits
 abbrev pub FrameEndsLaw : Points → Type 0
 FrameEndsLaw P =
     (T : AcceptedRule P) (f : Address) (refused : P.ring.carrier → Bool) (box : OpenBox P.real.ops.carrier) → IsWindowOn P T f box

@@ -64,7 +64,7 @@ pub record IsEdgeInFrame (P : Points) (T : AcceptedRule P) (f a : Address) (e : 
   pub tile : IsTileOf (child_kinds (tables_of P T.rule)) f a
   pub edge_exists : e < edge_count T.rule a.kind
 
--- where a tile is across the edge in their common supertile, its edge is the reverse in the frame
+-- if a tile is across the edge in their common supertile, its edge is the reverse in the frame
 abbrev pub ReverseLaw : Points → Type 0
 ReverseLaw P =
     (T : AcceptedRule P) (f a : Address) (e : ℕ) → IsEdgeInFrame P T f a e → (b : Address) (g : ℕ) → IsTileAcross P T.rule (tile_at P T.rule a) e (tile_at P T.rule b) g

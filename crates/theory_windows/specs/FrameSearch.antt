@@ -66,7 +66,7 @@ pub record IsGrownCrossing (P : Points) (T : AcceptedRule P) (f : Address) (m n 
   pub across : IsTileAcross P T.rule (tile_at P T.rule (lifted_in (at_level f n) a)) e (tile_at P T.rule b) g
   pub least : (k : ℕ) → m ≤ k → k < n → (own : ℕ) × (part : ℕ) × IsOnBoundary P T.rule (tile_at P T.rule (lifted_in (at_level f k) a)) e own part
 
--- so the frame grows to the level of the tile across, where it isn't as deep already
+-- so the frame grows to the level of the tile across, unless it is as deep already
 abbrev pub GrownCrossingLaw : Points → Type 0
 GrownCrossingLaw P =
     (T : AcceptedRule P) (f : Address) (m n : ℕ) (a : Address) (e : ℕ) (b : Address) (g : ℕ) → IsGrownCrossing P T f m n a e b g → (refused : P.ring.carrier → Bool)
@@ -80,7 +80,7 @@ GluedCrossingLaw P =
     (T : AcceptedRule P) (f : Address) (m n : ℕ) (a : Address) (e : ℕ) (b : Address) (g : ℕ) → IsGrownCrossing P T f m n a e b g
     → (k : Motion P.ring.carrier) → IsGlueMotion P T.rule a.kind e b.kind g k → (in_frame P T.rule f b).motion ≡ followed P k (in_frame P T.rule f a).motion
 
--- where the edge is on the boundary at the frame's own depth, no tile lies across it at all
+-- if the edge is on the boundary at the frame's own depth, no tile at all lies across it
 abbrev pub LastBoundaryLaw : Points → Type 0
 LastBoundaryLaw P =
     (T : AcceptedRule P) (f a : Address) (e : ℕ) → IsEdgeInFrame P T f a e → (own part : ℕ) → IsOnBoundary P T.rule (tile_at P T.rule (lifted_in f a)) e own part
@@ -95,6 +95,6 @@ HolderLevelLaw P =
     → (p : P.ring.carrier) → IsTrue (member P.real (tile_polygon P T.rule (λ z. z) t) (test_point P.real.ops (plane_point P p)))
     → (n : ℕ) → n ≤ depth f → (frame_holds P T.rule f n p ≡ true) ↔ (level_in f t.address ≤ n)
 
--- and that is where the base's ancestor, found from level to level, holds it
+-- and these are the levels at which the base's ancestor, found from level to level, holds it
 abbrev pub AncestorHoldsLaw : Points → Type 0
 AncestorHoldsLaw P = (T : AcceptedRule P) (f : Address) (n : ℕ) (p : P.ring.carrier) → ancestor_holds P T.rule f n p ≡ frame_holds P T.rule f n p

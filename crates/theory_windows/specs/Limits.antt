@@ -24,14 +24,14 @@ pub record IsWithinLimits (S : Signed) (T : Type 0) (F : GrowingPatch S T) (box 
   pub none_refused : AllByRecursion (λ t. F.refused t ≡ false) drawn
   pub not_too_many : length drawn ≤ limit
 
--- within the limits each open edge has a tile across it, which isn't refused and isn't one too many
+-- within the limits each open edge has a tile across it, which is not refused and is not one too many
 abbrev pub GoesOn : Signed → Type 0 → Type 0
 GoesOn S T =
     (G : PatchWindow S T) (m limit : ℕ) → IsWithinLimits S T G.growing G.box m limit
     → (s : SearchState S T) → IsRightState S T G.growing G.box s → (o : NumberedEdge S) → IsAmong o s.open_edges
     → (u : T) × LiesAcross S T G.growing o.line u × (G.growing.refused u ≡ false) × (length s.found < limit)
 
--- and where the search comes to its end, the window is within the limits
+-- and if the search comes to its end, the window is within the limits
 abbrev pub EndsWithin : Signed → Type 0 → Type 0
 EndsWithin S T =
     (G : PatchWindow S T) (m limit : ℕ) (s : SearchState S T) → IsRightState S T G.growing G.box s → s.open_edges ≡ []

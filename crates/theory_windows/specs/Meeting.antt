@@ -21,12 +21,12 @@ pub record IsLeftFan (S : Signed) (polygon : Polygon S) : Type 0 where
   pub turns_left : AllByRecursion (λ t. turns_left S t ≡ true) (fan polygon)
   pub zero_or_one : (p : TestPoint S.ops.carrier) → IsTestPoint S p → (count S polygon p ≡ pos 0) ⊎ (count S polygon p ≡ pos 1)
 
--- a triangle that turns left meets an open box where its edge a→b does
+-- a triangle that turns left meets an open box if its edge a→b does
 abbrev pub TriangleMeets : Signed → Type 0
 TriangleMeets S =
     (box : OpenBox S.ops.carrier) (t : Triangle (PlanePoint S.ops.carrier)) → IsTrue (turns_left S t) → EdgeMeetsBox S t.a t.b box → PolygonMeetsBox S box (corners t)
 
--- a left fan meets an open box where one of its edges does
+-- a left fan meets an open box if one of its edges does
 abbrev pub PolygonMeets : Signed → Type 0
 PolygonMeets S =
     (box : OpenBox S.ops.carrier) (polygon : Polygon S) → IsLeftFan S polygon → (e : PlaneEdge S) → IsAmong e (edges polygon) → MeetsBox S box e

@@ -31,7 +31,7 @@ AllDrawn S T =
     (G : PatchWindow S T) (n : ℕ) → IsEnough S T G.growing G.box n → (drawn : List T) → AreDrawn S T G.growing G.box n drawn
     → (t : T) → IsAmong t G.growing.patch.tiles → PolygonMeetsBox S G.box (G.growing.patch.outline t) → IsAmong t drawn
 
--- where one tile more than those found meets the window, more tiles are drawn at each enough depth than were
+-- if one tile more than those found meets the window, more tiles are drawn at each enough depth than were
 -- found
 abbrev pub CountRefusal : Signed → Type 0 → Type 0
 CountRefusal S T =

@@ -13,16 +13,16 @@ use Rattle.theory_windows.specs.OpenEdges.{NumberedEdge}
 use Rattle.theory_windows.specs.SearchState.{SearchState, IsRightState, started, stepped}
 use Rattle.theory_windows.specs.PatchWindow.{PatchWindow, LiesAcross, HoldsCentre}
 
--- the least depth from m on at which the patch holds the centre isn't beyond any enough one; and where the
--- centre's tile isn't refused the state is right
+-- The least depth from m on at which the patch holds the centre is not beyond any enough one. If the centre's
+-- tile is not refused, the state is right.
 abbrev pub StartRight : Signed → Type 0 → Type 0
 StartRight S T =
     (G : PatchWindow S T) (t : T) → HoldsCentre S T G.growing G.box t → (m : ℕ)
     → IsNotBeyond S T G.growing G.box m (max m (G.growing.level t))
     × (G.growing.refused t ≡ false → IsRightState S T G.growing G.box (started S T G.growing G.box (max m (G.growing.level t)) t))
 
--- the tile u is new, and meets the window; where its shift isn't refused the next state is right, and not
--- beyond any enough depth
+-- The tile u is new, and meets the window. If its shift is not refused, the next state is right, and not
+-- beyond any enough depth.
 pub record IsStep (S : Signed) (T : Type 0) (F : GrowingPatch S T) (box : OpenBox S.ops.carrier) (s : SearchState S T) (u : T) : Type 0 where
   pub new : ¬ IsAmong u s.found
   pub meets : PolygonMeetsBox S box (F.patch.outline u)
@@ -41,6 +41,6 @@ pub record IsFinished (S : Signed) (T : Type 0) (F : GrowingPatch S T) (box : Op
   pub covers : Covers S T F.patch box s.found
   pub least : (m : ℕ) → IsNotBeyond S T F box m s.depth → IsLeastEnough S T F box m s.depth
 
--- where no edge is open it is so
+-- this holds if no edge is open
 abbrev pub FinishRight : Signed → Type 0 → Type 0
 FinishRight S T = (G : PatchWindow S T) (s : SearchState S T) → IsRightState S T G.growing G.box s → s.open_edges ≡ [] → IsFinished S T G.growing G.box s

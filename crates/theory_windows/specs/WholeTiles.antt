@@ -1,4 +1,4 @@
--- Whole tiles, each of one or more tiles of a patch, cover a window where those tiles do.
+-- Whole tiles, each of one or more tiles of a patch, cover a window if those tiles do.
 use Rattle.std.specs.Prelude.{◌≡◌, List, IsTrue}
 use Rattle.std.specs.List.{flat_map, AllByRecursion}
 use Rattle.theory_ring.specs.Sign.{Signed}

@@ -9,9 +9,9 @@ ghost use Rattle.theory_windows.specs.Laws.{CoversOrderLaw};
 use cyclo_points::order::Order;
 
 /// States the theorem of the window. Let some tiles of a dissected patch be such that one holds the centre,
-/// and the tile across each of their edges that meets the window is one of them. Then they are all that meet
-/// the window, and they cover it. A search that comes to its end returns such tiles, at the least enough
-/// depth, and it comes to its end exactly within the limits.
+/// and the tile across each of their edges that meets the window is one of them. Then each tile that meets
+/// the window is one of them, and they cover it. A search that comes to its end returns such tiles, at the
+/// least enough depth, and it comes to its end exactly within the limits.
 pub fn window_law(order: Order)
     ensures found { WindowLaw (points_of order) }
     ensures answers { SearchAnswersLaw (points_of order) }

@@ -24,7 +24,8 @@ pub fn open_edge_law(order: Order)
     ensures step { OpenStepLaw (points_of order) }
 {}
 
-/// States that a search that crosses each edge that meets the window, open or not, finds the same tiles.
+/// States that a search may cross each edge that meets the window, open or not. The tile across it is found
+/// already, or the edge is open. If all these tiles are found, no edge is open.
 pub fn every_edge_law(order: Order)
     ensures found_or_open { FoundOrOpenLaw (points_of order) }
     ensures none_open { NoneOpenLaw (points_of order) }

@@ -10,7 +10,7 @@ next_count count = min (count + 1) (2 ^ 64 - 1)
 abbrev pub Rose : ℕ → ℕ → Type 0
 Rose before after = next_count before ≤ after
 
--- a call failed only where the count rose, and the count never falls
+-- a call failed only if the count rose, and the count never falls
 pub record HasCause {T E : Type 0} (before after : ℕ) (result : Result T E) : Type 0 where
   pub never_falls : before ≤ after
   pub failed : OnErr result (Rose before after)

@@ -12,7 +12,7 @@ pub record Held : Type 0 where
 abbrev pub empty_held : ℕ → Held
 empty_held room = record { room = room; kept = []; whole = true }
 
--- a piece is kept where the room has place for it, and is dropped otherwise
+-- a piece is kept if there is room for it, and is dropped otherwise
 abbrev pub held_after : Held → List ℕ → Held
 held_after held piece =
     if nat_le (length held.kept + length piece) held.room

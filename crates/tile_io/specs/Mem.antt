@@ -24,6 +24,6 @@ abbrev pub first_taken : ℕ → ℕ → List ℕ → MemTaken
 first_taken room most fails =
     record { room = room; kept = []; most = most; plan = first_plan fails }
 
--- a piece that isn't empty meets a full room
+-- a piece that is not empty meets a full room
 abbrev pub MeetsFullRoom : MemTaken → List ℕ → Type 0
 MeetsFullRoom sink piece = (0 < length piece) × (length sink.kept ≡ sink.room)

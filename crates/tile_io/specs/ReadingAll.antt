@@ -13,7 +13,7 @@ GivesPart old new most fault =
     (piece : List ℕ) × Gives old new piece × (length piece ≤ most + 1)
     × ((fault ≡ TooLong) ↔ (length piece ≡ most + 1))
 
--- all of these bytes, where they are at most `most`; more than that at a refusal that says so
+-- all of these bytes, if they are at most `most`; TooLong only if they are more
 abbrev pub AnswersFor : List ℕ → ℕ → Result (Vec ℕ) ReadAllFault → Type 0
 AnswersFor bytes most result =
     MatchResult result (λ read. (read.items ≡ bytes) × (length bytes ≤ most))

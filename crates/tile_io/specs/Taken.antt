@@ -14,7 +14,7 @@ abbrev pub WriteTakes : {E : Type 0} → Option (List ℕ) → Option (List ℕ)
 WriteTakes old new result piece =
     MatchResult result (λ count. Takes old new (take count piece)) (λ _. new ≡ old)
 
--- a write took at least one byte of a piece that isn't empty
+-- a write took at least one byte of a piece that is not empty
 abbrev pub Advances : {E : Type 0} → Result ℕ E → List ℕ → Type 0
 Advances result piece = IfOk result (λ count. 0 < length piece → 0 < count)
 

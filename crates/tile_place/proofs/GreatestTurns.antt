@@ -1,20 +1,19 @@
 -- Vectors of which one is turned onto the other have one greatest vector, and the turns that make them greatest tell that turn.
-use Rattle.std.proofs.Common.{◌≡◌, ℕ, ◌+◌, ◌-◌, ◌/◌, ◌%◌, ◌<◌, ◌≤◌, true, false, inl, inr, List, ℤ, pos, negsuc, [], ◌∷◌, refl, sym, ap, ap₂, ◌∙◌, subst, arith}
+use Rattle.std.proofs.Common.{◌≡◌, ℕ, ◌+◌, ◌-◌, ◌/◌, ◌%◌, ◌<◌, ◌≤◌, true, false, inl, inr, List, ℤ, pos, negsuc, [], ◌∷◌, refl, sym, ap, ◌∙◌, subst, arith}
 use Rattle.std.proofs.Math.Nat.{mod-lt}
 use Rattle.std.proofs.lemmas.Bool.{cases_lt}
 use Rattle.std.specs.declared.cmp.Ordering.{Ordering}
 use Rattle.std.specs.declared.cmp.Ordering.TheVariants.{Less, Equal, Greater}
 use Rattle.std.specs.Cmp.{IsTotalOrder, tied_itself, upto}
-use Rattle.std.specs.Cmp.Lexicographic.{slice_cmp, pointwise, lists_total, lists_ties}
+use Rattle.std.specs.Cmp.Lexicographic.{slice_cmp, lists_total, lists_ties}
 use Rattle.std.specs.Cmp.Rules.{signed_items}
-use Rattle.std.specs.Ordering.{ordering_reverse, int_cmp, int_eq, is_gt, is_eq}
+use Rattle.std.specs.Ordering.{ordering_reverse, int_cmp, is_gt, is_eq}
 use Rattle.std.proofs.lemmas.Cmp.{int_cmp_total}
 use Rattle.theory_ring.specs.Ring.{power}
-use Rattle.theory_ring.proofs.Normaliser.{var, con, neg, ring, ring_from, ◌⊕◌, ◌⊖◌, ◌⊗◌}
+use Rattle.theory_ring.proofs.Normaliser.{var, con, neg, ring, ◌⊗◌}
 use Rattle.theory_substitution.proofs.Motions.{power-add, power-mod}
 use Rattle.cyclo_points.specs.declared.order.Order.{Order}
 use Rattle.cyclo_points.specs.declared.order.Order.TheVariants.{Four, Six, Eight, Ten}
-use Rattle.cyclo_points.specs.declared.point.Point.{Point}
 use Rattle.cyclo_points.specs.Order.{NumberOf, PointsLaw, points_of, coefficients}
 use Rattle.tile_place.specs.EdgeTurns.{IsGreatest}
 use Rattle.tile_place.specs.TurnedVertices.{turned_by}

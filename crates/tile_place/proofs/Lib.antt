@@ -1,24 +1,24 @@
 pub mod Children
 pub mod Values
 pub mod Start
-pub mod Finer
-pub mod Descent
+mod Finer
+mod Descent
 pub mod KindEdges
 pub mod Plane
 pub mod SamePoint
-pub mod GreatestTurns
-pub mod TurnedPlaces
-pub mod Gluing
+mod GreatestTurns
+mod TurnedPlaces
+mod Gluing
 pub mod Ahead
 pub mod Corners
 pub mod Parts
 pub mod FactorPowers
 pub mod Holders
-pub mod Below
+mod Below
 pub mod Counted
 pub mod Held
-pub mod Located
+mod Located
 pub mod EachOrder
 pub mod KeyOrder
 pub mod OneAcross
-pub mod Beside
+mod Beside

@@ -10,8 +10,8 @@ use Rattle.cyclo_points.specs.Order.{NumberOf, points_of, coefficients}
 use Rattle.rule_model.specs.Tiling.{Tiling}
 use Rattle.tile_place.specs.TurnedVertices.{turned_by}
 
--- of all turns below the order the one by ζ^k makes z greatest: no other has a greater coefficient at the
--- first place where they differ
+-- of all turns below the order, the one by ζ^k makes z greatest: no other has a greater coefficient at the
+-- first place at which they differ
 pub record IsGreatest (o : Order) (z : NumberOf o) (k : ℕ) : Type 0 where
   pub below : k < (points_of o).order
   pub none_above : (j : ℕ) → j < (points_of o).order → is_gt (slice_cmp int_cmp (coefficients o (turned_by o j z)) (coefficients o (turned_by o k z))) ≡ false

@@ -30,7 +30,7 @@ pub record IsMotionAcross (t : Tiling) (k e l f : ℕ) (a b : MotionOf t) : Type
 abbrev pub LiesBeyond : (t : Tiling) → Address → MotionOf t → Address → Type 0
 LiesBeyond t a m b = (placed_tile t b).motion ≡ followed (points_of t.order) m (placed_tile t a).motion
 
--- Edges across from each other meet, and exactly one motion glues them. The tile across lies where that
+-- Edges across from each other meet, and at most one motion glues them. The tile across lies where that
 -- motion, followed by the motion of the edge's own tile, puts it.
 abbrev pub GluingLaw : Tiling → Type 0
 GluingLaw t =

@@ -9,3 +9,5 @@ pub mod Parts
 pub mod Searched
 pub mod Located
 pub mod Keys
+pub mod Motions
+pub mod FactorPowers

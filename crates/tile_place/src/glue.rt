@@ -139,7 +139,7 @@ impl Machine {
         }
     }
 
-    /// States the law of gluing. Edges that lie across from each other meet, and exactly one motion glues
+    /// States the law of gluing. Edges that lie across from each other meet, and at most one motion glues
     /// them. The tile across lies where that motion, followed by the motion of the edge's own tile, puts it.
     pub fn gluing_law(&self)
         ensures { GluingLaw (tiling_of self.now) }

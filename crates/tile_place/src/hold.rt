@@ -6,6 +6,7 @@ ghost use Rattle.cyclo_points.specs.Order.{points_of, is_refused};
 ghost use Rattle.cyclo_points.specs.Point.{point_in, IsOf, IsWithin};
 ghost use Rattle.cyclo_points.specs.Motion.{motion_in};
 ghost use Rattle.rule_model.specs.Views.{rule_of};
+ghost use Rattle.tile_place.specs.Motions.{IsMotionOf};
 
 use crate::coord_limit::CoordLimit;
 use crate::machine::Machine;
@@ -31,9 +32,7 @@ impl Machine {
     ) -> Result<bool, CoordLimit>
         requires exists { kind < length (rule_of self.now).kinds }
         requires scale_within { IsWithin (2 ^ 24) scale.now }
-        requires turn_below { at.now.turn < (points_of self.now.order).order }
-        requires at_within { IsWithin (2 ^ 24) at.now.shift }
-        requires at_in_order { IsOf self.now.order at.now.shift }
+        requires moves { IsMotionOf self.now.order (2 ^ 24) at.now }
         requires point_within { IsWithin (2 ^ 24) point.now }
         ensures holds { IfOk result (λ holds. holds ≡ (sought && holds_point (points_of self.now.order)
             (outline (points_of self.now.order) (rule_of self.now) kind (point_in self.now.order scale.now)
@@ -72,9 +71,7 @@ impl Machine {
         requires its_order { order ≡ self.now.order }
         requires exists { kind < length (rule_of self.now).kinds }
         requires scale_within { IsWithin (2 ^ 24) scale.now }
-        requires turn_below { at.now.turn < (points_of self.now.order).order }
-        requires at_within { IsWithin (2 ^ 24) at.now.shift }
-        requires at_in_order { IsOf self.now.order at.now.shift }
+        requires moves { IsMotionOf self.now.order (2 ^ 24) at.now }
         requires point_within { IsWithin (2 ^ 24) point.now }
         ensures holds { IfOk result (λ holds. holds ≡ (sought && holds_point (points_of self.now.order)
             (outline (points_of self.now.order) (rule_of self.now) kind (point_in self.now.order scale.now)
@@ -110,9 +107,7 @@ impl Machine {
         requires its_order { order ≡ self.now.order }
         requires exists { kind < length (rule_of self.now).kinds }
         requires scale_within { IsWithin (2 ^ 24) scale.now }
-        requires turn_below { at.now.turn < (points_of self.now.order).order }
-        requires at_within { IsWithin (2 ^ 24) at.now.shift }
-        requires at_in_order { IsOf self.now.order at.now.shift }
+        requires moves { IsMotionOf self.now.order (2 ^ 24) at.now }
         requires point_within { IsWithin (2 ^ 24) point.now }
         ensures holds { IfOk result (λ holds. holds ≡ holds_point (points_of self.now.order)
             (outline (points_of self.now.order) (rule_of self.now) kind (point_in self.now.order scale.now)
@@ -161,9 +156,7 @@ impl Machine {
         requires its_order { order ≡ self.now.order }
         requires exists { kind < length (rule_of self.now).kinds }
         requires scale_within { IsWithin (2 ^ 24) scale.now }
-        requires turn_below { at.now.turn < (points_of self.now.order).order }
-        requires at_within { IsWithin (2 ^ 24) at.now.shift }
-        requires at_in_order { IsOf self.now.order at.now.shift }
+        requires moves { IsMotionOf self.now.order (2 ^ 24) at.now }
         ensures is_false { IfOk result (λ holds. holds ≡ false) }
         ensures none_refused { IfOk result (λ _. find (is_refused self.now.order)
             (outline (points_of self.now.order) (rule_of self.now) kind (point_in self.now.order scale.now)

@@ -12,6 +12,7 @@ ghost use Rattle.rule_model.specs.Views.{rule_of};
 ghost use Rattle.tile_shape.specs.Views.{address_of};
 ghost use Rattle.tile_place.specs.declared.locate_fault.LocateFault.TheVariants.{NotInside};
 ghost use Rattle.tile_place.specs.Located.{IsOnlyTileHolding, HasInside, first_refused_looked_at, IsCauseOf};
+ghost use Rattle.tile_place.specs.Motions.{IsMotionOf};
 ghost use Rattle.tile_place.specs.Searched.{placed_in};
 
 use crate::locate_fault::LocateFault;
@@ -76,9 +77,7 @@ impl Machine {
             (point_in self.now.order point.now)) }
         ensures fault { IfErr result (IsCauseOf (tiling_of self.now) kind depth
             (motion_in self.now.order at.now) (point_in self.now.order point.now)) }
-        ensures turn_below { IfOk result (λ tile. tile.motion.turn < (points_of self.now.order).order) }
-        ensures shift_within { IfOk result (λ tile. IsWithin (2 ^ 24) tile.motion.shift) }
-        ensures in_order { IfOk result (λ tile. IsOf self.now.order tile.motion.shift) }
+        ensures moves { IfOk result (λ tile. IsMotionOf self.now.order (2 ^ 24) tile.motion) }
 
         // As the definition of the descent computes it.
         ensures by_descent { IfOk result (λ tile. tile_holding (points_of self.now.order) (rule_of self.now)

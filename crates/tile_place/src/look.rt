@@ -10,10 +10,11 @@ ghost use Rattle.cyclo_points.specs.Order.{points_of, is_refused};
 ghost use Rattle.cyclo_points.specs.Point.{point_in, IsOf, IsWithin};
 ghost use Rattle.cyclo_points.specs.Motion.{motion_in};
 ghost use Rattle.rule_model.specs.Views.{rule_of};
+ghost use Rattle.tile_place.specs.Motions.{IsMotionOf};
 ghost use Rattle.theory_addresses.specs.Search.{or_else};
 ghost use Rattle.theory_frames.specs.Part.{child_part};
 ghost use Rattle.theory_frames.specs.Looked.{values_of_child};
-ghost use Rattle.tile_place.specs.Parts.{part_in, IsPart, if_holds};
+ghost use Rattle.tile_place.specs.Parts.{part_in, HasChild, IsPart, if_holds};
 
 use crate::coord_limit::CoordLimit;
 use crate::machine::Machine;
@@ -37,12 +38,9 @@ impl Machine {
         point: &Point,
         sought: bool,
     ) -> Result<Seen, CoordLimit>
-        requires exists { kind < length (rule_of self.now).kinds }
-        requires child_exists { number < length (children_of (rule_of self.now) kind) }
+        requires child_exists { HasChild self.now kind number }
         requires scale_within { IsWithin (2 ^ 24) scale.now }
-        requires turn_below { at.now.turn < (points_of self.now.order).order }
-        requires at_within { IsWithin (2 ^ 24) at.now.shift }
-        requires at_in_order { IsOf self.now.order at.now.shift }
+        requires moves { IsMotionOf self.now.order (2 ^ 24) at.now }
         requires point_within { IsWithin (2 ^ 24) point.now }
         ensures part { IfOk result (λ seen. part_in self.now.order seen.part
             ≡ child_part (points_of self.now.order) (rule_of self.now) (point_in self.now.order scale.now)
@@ -99,9 +97,7 @@ impl Machine {
     ) -> Result<Option<Part>, CoordLimit>
         requires exists { kind < length (rule_of self.now).kinds }
         requires scale_within { IsWithin (2 ^ 24) scale.now }
-        requires turn_below { at.now.turn < (points_of self.now.order).order }
-        requires at_within { IsWithin (2 ^ 24) at.now.shift }
-        requires at_in_order { IsOf self.now.order at.now.shift }
+        requires moves { IsMotionOf self.now.order (2 ^ 24) at.now }
         requires point_within { IsWithin (2 ^ 24) point.now }
         ensures held { IfOk result (λ part. option_map (part_in self.now.order) part
             ≡ holder (points_of self.now.order) (rule_of self.now) (point_in self.now.order scale.now)

@@ -1,9 +1,7 @@
 //! An accepted rule, ready for questions about its tiles.
 ghost use Rattle.std.specs.Prelude.{◌≡◌, ◌+◌, ◌*◌, ◌<◌, ◌≤◌, ◌^◌, ℕ, length, IsOk, None, Some, IfOk, IfErr, OnOk, OnErr, Err};
-ghost use Rattle.theory_addresses.specs.Address.{Address as TheAddress, depth, Fits};
+ghost use Rattle.theory_addresses.specs.Address.{depth, Fits};
 ghost use Rattle.theory_addresses.specs.Tables.{child_kinds};
-ghost use Rattle.theory_addresses.specs.Touch.{Touches};
-ghost use Rattle.theory_addresses.specs.Across.{IsAcross, LiesOn};
 ghost use Rattle.theory_substitution.specs.RuleParts.{edge_count};
 ghost use Rattle.theory_edge_to_edge.specs.EdgeTypes.{edge_vector};
 ghost use Rattle.cyclo_points.specs.Order.{points_of};
@@ -14,6 +12,7 @@ ghost use Rattle.rule_model.specs.Tiling.{tiling_of, contacts, children, IsPlace
 ghost use Rattle.rule_model.specs.Usable.{IsUsable};
 ghost use Rattle.rule_model.specs.Views.{rule_of};
 ghost use Rattle.tile_shape.specs.Views.{address_of};
+ghost use Rattle.transducer_core.specs.Crossed.{IsCrossing, IsCrossingInPlace};
 ghost use Rattle.tile_place.specs.Crossed.{IsOnlyAcross, LiesAlongNone, LiesOnBoundary};
 ghost use Rattle.tile_place.specs.EdgeTurns.{IsGreatest};
 ghost use Rattle.tile_place.specs.Glued.{HasKindEdge};
@@ -144,16 +143,9 @@ impl Machine {
         requires edge_exists { HasKindEdge (tiling_of self.now) addr.now.kind edge }
 
         // By the contact tables of the rule's geometry.
-        ensures across { IfOk result (λ x. IsAcross (contacts (tiling_of self.now)) (address_of addr.now)
-            edge (address_of x.addr) x.edge) }
+        ensures crossing { IsCrossing (contacts (tiling_of self.now)) (address_of addr.now) edge result
+            (λ x. address_of x.addr) (λ x. x.edge) }
         ensures answer_fits { IfOk result (λ x. Fits (children (tiling_of self.now)) (address_of x.addr)) }
-        ensures on_boundary { IfErr result (λ o. LiesOn (contacts (tiling_of self.now))
-            (address_of addr.now) edge o.edge o.part) }
-        ensures boundary_when { (own part : ℕ) → LiesOn (contacts (tiling_of self.now))
-            (address_of addr.now) edge own part
-            → result ≡ Err (record { edge = own; part = part }) }
-        ensures across_when { (b : TheAddress) (f : ℕ) → Fits (children (tiling_of self.now)) b
-            → Touches (contacts (tiling_of self.now)) (address_of addr.now) edge b f → IsOk result }
 
         // In the plane, with both tiles placed in their common supertile: the result is the only tile across,
         // its edge leads back, and the call fails exactly on the boundary.
@@ -192,17 +184,8 @@ impl Machine {
         requires fits { Fits (children (tiling_of self.now)) (address_of addr.old) }
         requires edge_exists { HasKindEdge (tiling_of self.now) addr.old.kind edge }
 
-        ensures across { IfOk result (λ back. IsAcross (contacts (tiling_of self.now)) (address_of addr.old)
-            edge (address_of addr.new) back) }
+        ensures crossing { IsCrossingInPlace (contacts (tiling_of self.now)) addr.old edge result addr.new }
         ensures answer_fits { Fits (children (tiling_of self.now)) (address_of addr.new) }
-        ensures unchanged { OnErr result (addr.new ≡ addr.old) }
-        ensures on_boundary { IfErr result (λ o. LiesOn (contacts (tiling_of self.now))
-            (address_of addr.old) edge o.edge o.part) }
-        ensures boundary_when { (own part : ℕ) → LiesOn (contacts (tiling_of self.now))
-            (address_of addr.old) edge own part
-            → result ≡ Err (record { edge = own; part = part }) }
-        ensures across_when { (b : TheAddress) (f : ℕ) → Fits (children (tiling_of self.now)) b
-            → Touches (contacts (tiling_of self.now)) (address_of addr.old) edge b f → IsOk result }
         ensures only_tile_across { IfOk result (λ back. IsOnlyAcross (tiling_of self.now)
             (address_of addr.old) edge (address_of addr.new) back) }
         ensures leads_back { IfOk result (λ back. IsOnlyAcross (tiling_of self.now) (address_of addr.new)

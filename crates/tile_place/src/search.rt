@@ -6,6 +6,8 @@ ghost use Rattle.cyclo_points.specs.Order.{points_of, is_refused};
 ghost use Rattle.cyclo_points.specs.Point.{point_in, IsOf, IsWithin};
 ghost use Rattle.cyclo_points.specs.Motion.{motion_in};
 ghost use Rattle.rule_model.specs.Views.{rule_of};
+ghost use Rattle.tile_place.specs.FactorPowers.{ArePowers};
+ghost use Rattle.tile_place.specs.Motions.{IsMotionOf};
 ghost use Rattle.tile_place.specs.Searched.{placed_in, IsSearchFault};
 
 use crate::locate_fault::LocateFault;
@@ -30,18 +32,14 @@ impl Machine {
     ) -> Result<PlacedTile, LocateFault>
         requires exists { kind < length (rule_of self.now).kinds }
         requires at_most_64 { depth ≤ 64 }
-        requires turn_below { at.now.turn < (points_of self.now.order).order }
-        requires at_within { IsWithin (2 ^ 24) at.now.shift }
-        requires at_in_order { IsOf self.now.order at.now.shift }
+        requires moves { IsMotionOf self.now.order (2 ^ 24) at.now }
         requires point_within { IsWithin (2 ^ 24) point.now }
         ensures holder { IfOk result (λ tile. tile_holding (points_of self.now.order) (rule_of self.now)
             kind depth
             (motion_in self.now.order at.now) (point_in self.now.order point.now) ≡ Some
             (placed_in self.now.order tile)) }
         ensures its_kind { IfOk result (λ tile. tile.kind ≡ tile.addr.kind) }
-        ensures turn_below { IfOk result (λ tile. tile.motion.turn < (points_of self.now.order).order) }
-        ensures shift_within { IfOk result (λ tile. IsWithin (2 ^ 24) tile.motion.shift) }
-        ensures in_order { IfOk result (λ tile. IsOf self.now.order tile.motion.shift) }
+        ensures moves { IfOk result (λ tile. IsMotionOf self.now.order (2 ^ 24) tile.motion) }
         ensures none_refused { IfOk result (λ _. find (is_refused self.now.order)
             (values_looked_at (points_of self.now.order) (rule_of self.now) kind depth
             (motion_in self.now.order at.now) (point_in self.now.order point.now)) ≡ None) }
@@ -77,21 +75,15 @@ impl Machine {
     ) -> Result<PlacedTile, LocateFault>
         requires exists { kind < length (rule_of self.now).kinds }
         requires at_most_64 { depth ≤ 64 }
-        requires turn_below { at.now.turn < (points_of self.now.order).order }
-        requires at_within { IsWithin (2 ^ 24) at.now.shift }
-        requires at_in_order { IsOf self.now.order at.now.shift }
+        requires moves { IsMotionOf self.now.order (2 ^ 24) at.now }
         requires point_within { IsWithin (2 ^ 24) point.now }
-        requires powers { map (point_in self.now.order) powers.now ≡ powers_from (points_of self.now.order)
-            (rule_of self.now).factor 0 (depth + 1) }
-        requires powers_within { All (IsWithin (2 ^ 24)) powers.now }
+        requires powers { ArePowers self.now depth powers.now }
         ensures holder { IfOk result (λ tile. tile_below (points_of self.now.order) (rule_of self.now) kind
             depth
             (motion_in self.now.order at.now) (point_in self.now.order point.now) ≡ Some
             (placed_in self.now.order tile)) }
         ensures its_kind { IfOk result (λ tile. tile.kind ≡ tile.addr.kind) }
-        ensures turn_below { IfOk result (λ tile. tile.motion.turn < (points_of self.now.order).order) }
-        ensures shift_within { IfOk result (λ tile. IsWithin (2 ^ 24) tile.motion.shift) }
-        ensures in_order { IfOk result (λ tile. IsOf self.now.order tile.motion.shift) }
+        ensures moves { IfOk result (λ tile. IsMotionOf self.now.order (2 ^ 24) tile.motion) }
         ensures none_refused { IfOk result (λ _. find (is_refused self.now.order)
             (values_below (points_of self.now.order) (rule_of self.now) kind depth
             (motion_in self.now.order at.now) (point_in self.now.order point.now)) ≡ None) }

@@ -1,4 +1,4 @@
--- Decimal numbers: `0`, or figures whose first isn't `0`.
+-- Decimal numbers: `0`, or figures of which the first is not `0`.
 use Rattle.std.specs.Prelude.{ℕ, ◌+◌, ◌-◌, ◌*◌, Bool, true, false, not, ◌&&◌, ◌==◌, List, [], ◌∷◌, Option, Some, None, option_and_then, nat_le, if◌then◌else◌}
 
 -- one of `0` to `9`, which are 48 to 57
@@ -20,6 +20,6 @@ begins_right (byte ∷ next ∷ bytes) = not (byte == 48)
 abbrev pub number_in : List ℕ → Option ℕ
 number_in text = if begins_right text then continued 0 text else None
 
--- the number that a text is, where it isn't above a limit
+-- the number that a text is, if it is not above a limit
 abbrev pub number_up_to : ℕ → List ℕ → Option ℕ
 number_up_to most text = option_and_then (λ n. if nat_le n most then Some n else None) (number_in text)

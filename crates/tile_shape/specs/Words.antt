@@ -16,7 +16,7 @@ first_by form (text ∷ texts) = option_map (λ x. (x, texts)) (form text)
 abbrev pub word_by : {A : Type 0} → (List ℕ → Option A) → ℕ → List (List ℕ) → Result (A × List (List ℕ)) ℕ
 word_by form place words = ok_or (first_by form words) place
 
--- a text that isn't empty
+-- a text that is not empty
 abbrev pub some_text : List ℕ → Option (List ℕ)
 some_text [] = None
 some_text (byte ∷ bytes) = Some (byte ∷ bytes)

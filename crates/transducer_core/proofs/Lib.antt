@@ -12,3 +12,4 @@ mod Rising
 mod Standing
 mod Strides
 pub mod OneOutside
+pub mod HandedOn

@@ -23,7 +23,7 @@ pub record MeetsAt (t : Tables) (a : Address) (e : ℕ) (m : Meeting) (parts : L
   pub met : contact_of t step.parent step.child own ≡ Some (inner (m.word % 256) (m.word / 256 % 256))
   pub count : length parts ≡ m.level
 
--- how a climb ends: on the top's own edge, or where it meets
+-- how a climb ends: on the top's own edge, or at the level at which the edge is another child's too
 abbrev pub EndsClimb : Tables → Address → ℕ → List ℕ → Result ℕ Meeting → Type 0
 EndsClimb t a e parts (Ok own) = Rises t a e (depth a) own (take (depth a) parts)
 EndsClimb t a e parts (Err m) = MeetsAt t a e m (take m.level parts)

@@ -14,7 +14,7 @@ lists_of t = t.mates ∷ (t.subs ++ (map (λ (k : KindTables). k.types) t.kinds 
 abbrev pub mates_in : List (List ℕ) → List ℕ
 mates_in lists = get_or lists 0 []
 
--- then come as many subdivisions as there are mates
+-- then there is a subdivision for each mate
 abbrev pub subs_in : List (List ℕ) → List (List ℕ)
 subs_in lists = take (length (mates_in lists)) (drop 1 lists)
 
@@ -33,8 +33,8 @@ abbrev pub pieces : List ℕ → ℕ → List ℕ → List (List ℕ)
 pieces items from [] = []
 pieces items from (e ∷ es) = take (e - from) (drop from items) ∷ pieces items e es
 
--- the lists of a flat table: mates, subdivisions, the types and the children of each kind; where each block
--- begins, and the words of the blocks
+-- the lists of a flat table: mates, subdivisions, the types and the children of each kind; the start of each
+-- block, and the words of the blocks
 pub record Lists : Type 0 where
   pub mates : List ℕ
   pub subs : List (List ℕ)

@@ -36,8 +36,8 @@ contact_rows t = map (λ (k : KindTables). map contact_words k.contacts) t.kinds
 abbrev pub part_rows : Tables → List (List (List ℕ))
 part_rows t = map (λ (k : KindTables). map part_words k.parts) t.kinds
 
--- The tables fit together. Their lists follow one another. 256 times their child kinds are where they are
--- looked up. So are their blocks, equal ones only once.
+-- The tables fit together. Their lists follow one another. 256 times each child kind is at the place at which
+-- it is looked up. So is each block, and equal blocks are kept once.
 pub record IsFlat (t : Tables) (joined : Joined) (kinds : Vec ℕ Global) (contacts parts : Merged) : Type 0 where
   pub coherent : IsCoherent t
   pub lists_at : AreKept (lists_of t) joined.items.items joined.ends.items

@@ -8,3 +8,4 @@ pub mod Merged
 pub mod Merging
 pub mod Flat
 pub mod FlatTables
+pub mod Crossed

@@ -9,7 +9,7 @@ abbrev pub ends_of : ℕ → List (List ℕ) → List ℕ
 ends_of from [] = []
 ends_of from (b ∷ bs) = (from + length b) ∷ ends_of (from + length b) bs
 
--- the words are these lists, one after another, and each ends where its end is written
+-- the words are these lists, one after another, and the end of each is kept
 pub record AreKept (kept : List (List ℕ)) (words ends : List ℕ) : Type 0 where
   pub words_are : words ≡ concat kept
   pub ends_are : ends ≡ ends_of 0 kept
@@ -36,7 +36,7 @@ AllStand words [] (b ∷ bs) = ⊥
 AllStand words (s ∷ ss) [] = ⊥
 AllStand words (s ∷ ss) (b ∷ bs) = Stands words s b × AllStand words ss bs
 
--- so are the blocks of a row, whose places are appended to others
+-- so are the blocks of a row, and their places are appended to the others
 pub record ArePlaced (kept row : List (List ℕ)) (words ends before after : List ℕ) : Type 0 where
   pub places : List ℕ
   pub places_are : after ≡ before ++ places
@@ -47,7 +47,7 @@ pub record ArePlaced (kept row : List (List ℕ)) (words ends before after : Lis
   pub short : length (concat more) ≤ 16 * length row
   pub once : (all : List (List ℕ)) → AreOnce all kept → AreOnce (all ++ row) (kept ++ more)
 
--- blocks are short; rows of them are few and short, and so are their blocks
+-- blocks are short, and there are few rows, each of few blocks
 abbrev pub AreShort : List (List ℕ) → Type 0
 AreShort = AllByRecursion (λ (b : List ℕ). length b ≤ 16)
 

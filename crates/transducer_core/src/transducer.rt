@@ -1,11 +1,10 @@
 //! The machine that finds the tile across an edge.
-ghost use Rattle.std.specs.Prelude.{◌≡◌, ◌+◌, ◌*◌, ◌≤◌, ◌-◌, ℕ, length, slice_index, IsSome, IsOk, IfOk, IfErr, OnErr, Err};
-ghost use Rattle.theory_addresses.specs.Across.{IsAcross, LiesOn};
-ghost use Rattle.theory_addresses.specs.Address.{Address as TheAddress, depth, Fits};
+ghost use Rattle.std.specs.Prelude.{◌≡◌, ◌+◌, ◌*◌, ◌≤◌, ◌-◌, length, slice_index, IsSome, IfOk};
+ghost use Rattle.theory_addresses.specs.Address.{depth, Fits};
 ghost use Rattle.theory_addresses.specs.Coherent.{IsCoherent};
 ghost use Rattle.theory_addresses.specs.Tables.{child_kinds, type_of};
-ghost use Rattle.theory_addresses.specs.Touch.{Touches};
 ghost use Rattle.tile_shape.specs.Views.{address_of};
+ghost use Rattle.transducer_core.specs.Crossed.{IsCrossing, IsCrossingInPlace};
 
 use crate::climb::climb;
 use crate::crossing::{Crossing, put_digits};
@@ -76,13 +75,8 @@ impl Transducer {
 
         // The result is a tile if and only if a pair is touched, and the boundary if and only if there is a
         // trace to the top.
-        ensures across { IfOk result (λ x. IsAcross self.now (address_of addr.now) edge (address_of x.addr)
-            x.edge) }
-        ensures on_boundary { IfErr result (λ o. LiesOn self.now (address_of addr.now) edge o.edge o.part) }
-        ensures across_when { (b : TheAddress) (f : ℕ) → Fits (child_kinds self.now) b
-            → Touches self.now (address_of addr.now) edge b f → IsOk result }
-        ensures boundary_when { (top part : ℕ) → LiesOn self.now (address_of addr.now) edge top part
-            → result ≡ Err (record { edge = top; part = part }) }
+        ensures crossing { IsCrossing self.now (address_of addr.now) edge result
+            (λ x. address_of x.addr) (λ x. x.edge) }
 
         ensures steps_within_bound { steps.new ≤ steps.old + (2 * depth (address_of addr.now) + 2) }
     {
@@ -107,14 +101,7 @@ impl Transducer {
     ) -> Result<u8, Outside>
         requires fits { Fits (child_kinds self.now) (address_of addr.old) }
         requires edge_exists { IsSome (type_of self.now addr.old.kind edge) }
-        ensures across { IfOk result (λ back. IsAcross self.now (address_of addr.old) edge
-            (address_of addr.new) back) }
-        ensures on_boundary { IfErr result (λ o. LiesOn self.now (address_of addr.old) edge o.edge o.part) }
-        ensures across_when { (b : TheAddress) (f : ℕ) → Fits (child_kinds self.now) b
-            → Touches self.now (address_of addr.old) edge b f → IsOk result }
-        ensures boundary_when { (top part : ℕ) → LiesOn self.now (address_of addr.old) edge top part
-            → result ≡ Err (record { edge = top; part = part }) }
-        ensures unchanged { OnErr result (addr.new ≡ addr.old) }
+        ensures crossing { IsCrossingInPlace self.now addr.old edge result addr.new }
         ensures steps_within_bound { steps.new ≤ steps.old + (2 * depth (address_of addr.old) + 2) }
     {
         let depth = addr.digits.len();

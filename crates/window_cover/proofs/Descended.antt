@@ -37,14 +37,14 @@ use Rattle.tile_place.specs.declared.placed_tile.PlacedTile.{PlacedTile}
 use Rattle.tile_place.specs.Searched.{placed_in}
 use Rattle.tile_place.proofs.Ahead.{drop-end}
 use Rattle.tile_place.proofs.Plane.{IsSettled, its_rule}
-use Rattle.lazy_walk.specs.Ancestors.{full}
-use Rattle.lazy_walk.specs.Frames.{FrameValue, whole, IsFrameOf, GrowsTo}
-use Rattle.lazy_walk.specs.Containing.{first_refused_outward}
-use Rattle.lazy_walk.proofs.Ancestors.{full-later}
+use Rattle.theory_walks.specs.Ancestors.{full}
+use Rattle.theory_walks.specs.Frames.{FrameValue, whole, IsFrameOf, GrowsTo}
+use Rattle.theory_walks.specs.Containing.{first_refused_outward}
+use Rattle.theory_walks.proofs.Ancestors.{full-later}
 use Rattle.lazy_walk.specs.Standing.{Stands}
-use Rattle.lazy_walk.proofs.InFull.{names, deep, level-own}
-use Rattle.lazy_walk.proofs.Walked.{whole-tile_of}
-use Rattle.lazy_walk.proofs.Walks.{StillFits}
+use Rattle.theory_walks.proofs.InFull.{names, deep, level-own}
+use Rattle.theory_walks.proofs.Walked.{whole-tile_of}
+use Rattle.theory_walks.proofs.Walks.{StillFits}
 use Rattle.theory_windows.specs.AnyOrder.{HaveSameMembers}
 use Rattle.theory_windows.specs.Distinct.{AreDistinct}
 use Rattle.theory_windows.specs.FramePatch.{frame_patch}

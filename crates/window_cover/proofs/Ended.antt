@@ -8,9 +8,9 @@ use Rattle.plane_geom.specs.declared.window.Window.{Window}
 use Rattle.rule_model.specs.declared.rule.Rule.{Rule}
 use Rattle.rule_model.specs.Tiling.{tiling_of}
 use Rattle.rule_model.specs.Views.{rule_of}
-use Rattle.lazy_walk.specs.Ancestors.{full}
-use Rattle.lazy_walk.specs.Frames.{FrameValue, GrowsTo}
-use Rattle.lazy_walk.proofs.Ancestors.{full-later}
+use Rattle.theory_walks.specs.Ancestors.{full}
+use Rattle.theory_walks.specs.Frames.{FrameValue, GrowsTo}
+use Rattle.theory_walks.proofs.Ancestors.{full-later}
 use Rattle.theory_windows.specs.FrameCover.{FrameEndsLaw}
 use Rattle.theory_windows.specs.FrameWindow.{IsLeastDepth, IsWindowWithin, LeastLaw}
 use Rattle.theory_windows.specs.EnoughDepth.{IsEnough}

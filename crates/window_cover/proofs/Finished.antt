@@ -32,13 +32,13 @@ use Rattle.rule_model.specs.Views.{rule_of}
 use Rattle.tile_place.specs.declared.placed_tile.PlacedTile.{PlacedTile}
 use Rattle.tile_place.specs.Searched.{placed_in}
 use Rattle.tile_place.proofs.Plane.{IsSettled, its_rule, fits_tables}
-use Rattle.lazy_walk.specs.Ancestors.{full}
-use Rattle.lazy_walk.specs.Frames.{FrameValue, whole}
+use Rattle.theory_walks.specs.Ancestors.{full}
+use Rattle.theory_walks.specs.Frames.{FrameValue, whole}
 use Rattle.lazy_walk.specs.Standing.{Stands}
-use Rattle.lazy_walk.proofs.Ancestors.{level-same, level-at}
-use Rattle.lazy_walk.proofs.Lifting.{Longer, longer, lifted-twice}
-use Rattle.lazy_walk.proofs.Walked.{whole-tile_of}
-use Rattle.lazy_walk.proofs.Walks.{StillFits, at_depth-depth, whole-fits}
+use Rattle.theory_walks.proofs.Ancestors.{level-same, level-at}
+use Rattle.theory_walks.proofs.Lifting.{Longer, longer, lifted-twice}
+use Rattle.theory_walks.proofs.Walked.{whole-tile_of}
+use Rattle.theory_walks.proofs.Walks.{StillFits, at_depth-depth, whole-fits}
 use Rattle.theory_windows.specs.AnyOrder.{HaveSameMembers}
 use Rattle.theory_windows.specs.Distinct.{AreDistinct}
 use Rattle.theory_windows.specs.FrameCover.{IsWindowOn, IsFrameAnswer, FrameFinishLaw, FrameEndsLaw}

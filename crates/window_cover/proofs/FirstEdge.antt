@@ -5,8 +5,8 @@ use Rattle.theory_dissection.specs.Polygons.{tile_polygon}
 use Rattle.window_cover.specs.Windows.{box_of}
 use Rattle.theory_addresses.specs.Search.{IsAmong}
 use Rattle.cyclo_points.specs.Order.{points_of}
-use Rattle.lazy_walk.specs.Frames.{FrameValue}
-use Rattle.lazy_walk.proofs.Walks.{StillFits}
+use Rattle.theory_walks.specs.Frames.{FrameValue}
+use Rattle.theory_walks.proofs.Walks.{StillFits}
 use Rattle.rule_model.specs.declared.rule.Rule.{Rule}
 use Rattle.rule_model.specs.Tiling.{tiling_of, children}
 use Rattle.rule_model.specs.Views.{rule_of}

@@ -13,8 +13,8 @@ use Rattle.rule_model.specs.Tiling.{Tiling}
 use Rattle.tile_place.proofs.Ahead.{drop-end}
 use Rattle.tile_shape.specs.declared.step.Step.{Step}
 use Rattle.tile_shape.specs.Views.{step_of}
-use Rattle.lazy_walk.specs.Ancestors.{full}
-use Rattle.lazy_walk.specs.Frames.{FrameValue}
+use Rattle.theory_walks.specs.Ancestors.{full}
+use Rattle.theory_walks.specs.Frames.{FrameValue}
 use Rattle.theory_descents.specs.Parts.{drawn_below}
 use Rattle.window_descent.specs.declared.part.Part.{Part}
 use Rattle.window_cover.specs.Answered.{IsFoundBelow}

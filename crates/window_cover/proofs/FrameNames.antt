@@ -10,14 +10,14 @@ use Rattle.theory_dissection.specs.TileEdges.{tile_at}
 use Rattle.theory_frames.specs.Back.{back}
 use Rattle.theory_frames.specs.Frame.{at_level, IsTileOf, lifted_in}
 use Rattle.theory_frames.specs.Outline.{supertile_holds}
-use Rattle.lazy_walk.specs.Ancestors.{full}
-use Rattle.lazy_walk.specs.Boundary.{IsBoundaryEdge}
-use Rattle.lazy_walk.specs.Containing.{frame_motion}
-use Rattle.lazy_walk.specs.Frames.{FrameValue, whole, at_depth, IsFrameOf, GrowsTo, lifted_at}
-use Rattle.lazy_walk.proofs.Ancestors.{level-at}
-use Rattle.lazy_walk.proofs.Crossings.{boundary-part}
-use Rattle.lazy_walk.proofs.InFull.{names, deep, level-grown, by_level}
-use Rattle.lazy_walk.proofs.Walks.{StillFits, GrowsTo-self, later}
+use Rattle.theory_walks.specs.Ancestors.{full}
+use Rattle.theory_walks.specs.Boundary.{IsBoundaryEdge}
+use Rattle.theory_walks.specs.Containing.{frame_motion}
+use Rattle.theory_walks.specs.Frames.{FrameValue, whole, at_depth, IsFrameOf, GrowsTo, lifted_at}
+use Rattle.theory_walks.proofs.Ancestors.{level-at}
+use Rattle.theory_walks.proofs.Crossings.{boundary-part}
+use Rattle.theory_walks.proofs.InFull.{names, deep, level-grown, by_level}
+use Rattle.theory_walks.proofs.Walks.{StillFits, GrowsTo-self, later}
 use Rattle.rule_model.specs.declared.rule.Rule.{Rule}
 use Rattle.rule_model.specs.Tiling.{Tiling, tiling_of, children}
 use Rattle.theory_substitution.specs.Placement.{placement}

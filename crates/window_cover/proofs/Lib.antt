@@ -46,3 +46,4 @@ mod StepLimits
 mod StepStops
 mod StartState
 pub mod StartLimits
+mod OneStep

@@ -12,10 +12,10 @@ use Rattle.theory_dissection.specs.Accepted.{AcceptedRule, NamesTile}
 use Rattle.theory_dissection.specs.Polygons.{tile_polygon}
 use Rattle.theory_edge_to_edge.specs.Contacts.{tables_of}
 use Rattle.theory_frames.specs.Frame.{frame_tiles, IsTileOf, lifted_in}
-use Rattle.lazy_walk.specs.Ancestors.{full}
-use Rattle.lazy_walk.specs.Frames.{FrameValue, whole, IsFrameOf}
-use Rattle.lazy_walk.proofs.InFull.{names, tile-full, whole-level}
-use Rattle.lazy_walk.proofs.Walks.{StillFits}
+use Rattle.theory_walks.specs.Ancestors.{full}
+use Rattle.theory_walks.specs.Frames.{FrameValue, whole, IsFrameOf}
+use Rattle.theory_walks.proofs.InFull.{names, tile-full, whole-level}
+use Rattle.theory_walks.proofs.Walks.{StillFits}
 use Rattle.rule_model.specs.declared.rule.Rule.{Rule}
 use Rattle.rule_model.specs.Tiling.{Tiling, tiling_of, children}
 use Rattle.theory_substitution.specs.Motion.{Motion}

@@ -12,11 +12,11 @@ use Rattle.cyclo_points.specs.Motion.{motion_in}
 use Rattle.theory_dissection.specs.Accepted.{AcceptedRule}
 use Rattle.theory_dissection.specs.Polygons.{tile_polygon}
 use Rattle.theory_frames.specs.Frame.{IsTileOf, lifted_in}
-use Rattle.lazy_walk.specs.Ancestors.{full}
-use Rattle.lazy_walk.specs.Frames.{FrameValue, whole, GrowsTo}
-use Rattle.lazy_walk.proofs.Ancestors.{full-later}
-use Rattle.lazy_walk.proofs.Lifting.{IsTileOf-later}
-use Rattle.lazy_walk.proofs.Walks.{StillFits}
+use Rattle.theory_walks.specs.Ancestors.{full}
+use Rattle.theory_walks.specs.Frames.{FrameValue, whole, GrowsTo}
+use Rattle.theory_walks.proofs.Ancestors.{full-later}
+use Rattle.theory_walks.proofs.Lifting.{IsTileOf-later}
+use Rattle.theory_walks.proofs.Walks.{StillFits}
 use Rattle.rule_model.specs.declared.rule.Rule.{Rule}
 use Rattle.rule_model.specs.Tiling.{Tiling, tiling_of, children}
 use Rattle.theory_substitution.specs.Motion.{followed}
@@ -47,7 +47,7 @@ use Rattle.window_cover.specs.Right.{name_of, growing, IsFound}
 use Rattle.window_cover.specs.SearchLaws.{HasSearchLaws}
 use Rattle.window_cover.specs.Windows.{TileOf, IsWindow, box_of}
 use Rattle.window_cover.specs.Working.{Working, state_of, IsEdgeWaiting, IsWorking}
-use Rattle.lazy_walk.proofs.InFull.{names}
+use Rattle.theory_walks.proofs.InFull.{names}
 use Rattle.window_cover.proofs.FrameNames.{grown}
 use Rattle.window_cover.proofs.Names.{window-on, found-at, name-at, its_found, edge-exists, line-is}
 use Rattle.window_cover.proofs.NewOpen.{border-next, are-new}

@@ -24,7 +24,7 @@ use Rattle.rule_model.specs.Views.{rule_of}
 use Rattle.tile_place.proofs.Plane.{IsSettled, its_rule}
 use Rattle.tile_shape.specs.declared.step.Step.{Step}
 use Rattle.tile_shape.specs.Views.{step_of}
-use Rattle.lazy_walk.specs.Ancestors.{factor_power}
+use Rattle.theory_walks.specs.Ancestors.{factor_power}
 use Rattle.theory_descents.proofs.Carried as law
 use Rattle.window_descent.specs.declared.part.Part.{Part}
 use Rattle.window_descent.specs.Parts.{IsPlacedPart, IsPartAt}

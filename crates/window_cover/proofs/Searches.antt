@@ -12,8 +12,8 @@ use Rattle.rule_model.specs.Tiling.{Tiling, tiling_of, contacts, children}
 use Rattle.rule_model.specs.Usable.{IsUsable}
 use Rattle.tile_shape.specs.Usable.{AreUsable}
 use Rattle.window_cover.specs.Checked.{IsChecked}
-use Rattle.lazy_walk.specs.Frames.{FrameValue, GrowsTo}
-use Rattle.lazy_walk.proofs.Ancestors.{full-later}
+use Rattle.theory_walks.specs.Frames.{FrameValue, GrowsTo}
+use Rattle.theory_walks.proofs.Ancestors.{full-later}
 use Rattle.theory_windows.specs.EnoughDepth.{IsNotBeyond}
 use Rattle.theory_windows.specs.FramePatch.{growing_frame}
 use Rattle.window_cover.specs.declared.cover_fault.CoverFault.{CoverFault}

@@ -9,12 +9,12 @@ use Rattle.cyclo_points.specs.declared.point.Point.{Point}
 use Rattle.cyclo_points.specs.Order.{points_of, is_refused}
 use Rattle.cyclo_points.specs.Point.{point_in, IsOf}
 use Rattle.theory_dissection.specs.Accepted.{AcceptedRule}
-use Rattle.lazy_walk.specs.Ancestors.{full}
-use Rattle.lazy_walk.specs.Containing.{FrameHolds, IsOnlyHolder}
-use Rattle.lazy_walk.specs.Frames.{FrameValue, at_depth, IsFrameOf, GrowsTo}
+use Rattle.theory_walks.specs.Ancestors.{full}
+use Rattle.theory_walks.specs.Containing.{FrameHolds, IsOnlyHolder}
+use Rattle.theory_walks.specs.Frames.{FrameValue, at_depth, IsFrameOf, GrowsTo}
 use Rattle.lazy_walk.specs.Standing.{Stands}
-use Rattle.lazy_walk.proofs.Ancestors.{level-at}
-use Rattle.lazy_walk.proofs.Walks.{StillFits, at_depth-depth}
+use Rattle.theory_walks.proofs.Ancestors.{level-at}
+use Rattle.theory_walks.proofs.Walks.{StillFits, at_depth-depth}
 use Rattle.plane_geom.specs.declared.window.Window.{Window}
 use Rattle.rule_model.specs.declared.rule.Rule.{Rule}
 use Rattle.rule_model.specs.Tiling.{Tiling, tiling_of, children}
@@ -32,7 +32,7 @@ use Rattle.window_cover.specs.Limits.{IsWithinLimits}
 use Rattle.window_cover.specs.SearchLaws.{HasSearchLaws}
 use Rattle.window_cover.specs.Windows.{TileOf, IsWindow, box_of, polygon_of, IsLeastEnough}
 use Rattle.window_cover.specs.Working.{Working}
-use Rattle.lazy_walk.proofs.InFull.{names, deep}
+use Rattle.theory_walks.proofs.InFull.{names, deep}
 use Rattle.window_cover.proofs.FrameNames.{level-holds}
 use Rattle.window_cover.proofs.StartState.{u, of_depth}
 

@@ -11,12 +11,12 @@ use Rattle.cyclo_points.specs.Point.{point_in}
 use Rattle.theory_dissection.specs.Accepted.{AcceptedRule}
 use Rattle.theory_dissection.specs.Polygons.{tile_polygon}
 use Rattle.theory_frames.specs.Frame.{IsTileOf, at_level, frame_tiles, lifted_in}
-use Rattle.lazy_walk.specs.Ancestors.{full}
-use Rattle.lazy_walk.specs.Containing.{FrameHolds, IsOnlyHolder}
-use Rattle.lazy_walk.specs.Frames.{FrameValue, whole, at_depth, IsFrameOf, GrowsTo}
+use Rattle.theory_walks.specs.Ancestors.{full}
+use Rattle.theory_walks.specs.Containing.{FrameHolds, IsOnlyHolder}
+use Rattle.theory_walks.specs.Frames.{FrameValue, whole, at_depth, IsFrameOf, GrowsTo}
 use Rattle.lazy_walk.specs.Standing.{Stands}
-use Rattle.lazy_walk.proofs.Ancestors.{full-later, level-at}
-use Rattle.lazy_walk.proofs.Walks.{StillFits, at_depth-depth}
+use Rattle.theory_walks.proofs.Ancestors.{full-later, level-at}
+use Rattle.theory_walks.proofs.Walks.{StillFits, at_depth-depth}
 use Rattle.plane_geom.specs.declared.window.Window.{Window}
 use Rattle.rule_model.specs.declared.rule.Rule.{Rule}
 use Rattle.rule_model.specs.Tiling.{Tiling, tiling_of, children}
@@ -39,7 +39,7 @@ use Rattle.window_cover.specs.Right.{name_of, growing, IsFound}
 use Rattle.window_cover.specs.SearchLaws.{HasSearchLaws}
 use Rattle.window_cover.specs.Windows.{TileOf, IsWindow, box_of}
 use Rattle.window_cover.specs.Working.{Working, state_of, IsEdgeWaiting, IsWorking}
-use Rattle.lazy_walk.proofs.InFull.{names, deep, level-grown}
+use Rattle.theory_walks.proofs.InFull.{names, deep, level-grown}
 use Rattle.window_cover.proofs.FrameNames.{level-holds}
 use Rattle.window_cover.proofs.NewOpen.{border-next, are-new}
 

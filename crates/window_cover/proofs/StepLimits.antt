@@ -10,10 +10,10 @@ use Rattle.cyclo_points.specs.declared.point.Point.{Point}
 use Rattle.cyclo_points.specs.Order.{points_of, is_refused}
 use Rattle.cyclo_points.specs.Point.{point_in, IsOf}
 use Rattle.theory_frames.specs.Frame.{frame_tiles}
-use Rattle.lazy_walk.specs.Ancestors.{full}
-use Rattle.lazy_walk.specs.Frames.{FrameValue, GrowsTo}
-use Rattle.lazy_walk.proofs.Ancestors.{full-later}
-use Rattle.lazy_walk.proofs.Walks.{StillFits}
+use Rattle.theory_walks.specs.Ancestors.{full}
+use Rattle.theory_walks.specs.Frames.{FrameValue, GrowsTo}
+use Rattle.theory_walks.proofs.Ancestors.{full-later}
+use Rattle.theory_walks.proofs.Walks.{StillFits}
 use Rattle.rule_model.specs.declared.rule.Rule.{Rule}
 use Rattle.rule_model.specs.Tiling.{Tiling, tiling_of, children}
 use Rattle.theory_substitution.specs.Points.{Points}
@@ -43,7 +43,7 @@ use Rattle.window_cover.specs.Right.{growing}
 use Rattle.window_cover.specs.SearchLaws.{HasSearchLaws}
 use Rattle.window_cover.specs.Windows.{TileOf, box_of, polygon_of, MeetsWindow, IsOfFrame, IsLeastEnough}
 use Rattle.window_cover.specs.Working.{Working, state_of, IsWorking}
-use Rattle.lazy_walk.proofs.InFull.{names, deep, level-grown}
+use Rattle.theory_walks.proofs.InFull.{names, deep, level-grown}
 use Rattle.window_cover.proofs.Names.{window-on}
 use Rattle.window_cover.proofs.NextState.{first_edge, opening, step, placed, lies_across}
 

@@ -7,12 +7,12 @@ use Rattle.theory_addresses.proofs.Ranges.{place-among, slice_get-image}
 use Rattle.cyclo_points.specs.Order.{points_of, is_refused}
 use Rattle.theory_dissection.specs.Accepted.{AcceptedRule}
 use Rattle.theory_frames.specs.Frame.{at_level, frame_tiles, lifted_in}
-use Rattle.lazy_walk.specs.Ancestors.{full}
-use Rattle.lazy_walk.specs.Boundary.{IsBoundaryEdge}
-use Rattle.lazy_walk.specs.Frames.{FrameValue, whole, at_depth, GrowsTo}
-use Rattle.lazy_walk.proofs.Ancestors.{full-later}
-use Rattle.lazy_walk.proofs.Crossings.{boundary-part}
-use Rattle.lazy_walk.proofs.Walks.{StillFits, later}
+use Rattle.theory_walks.specs.Ancestors.{full}
+use Rattle.theory_walks.specs.Boundary.{IsBoundaryEdge}
+use Rattle.theory_walks.specs.Frames.{FrameValue, whole, at_depth, GrowsTo}
+use Rattle.theory_walks.proofs.Ancestors.{full-later}
+use Rattle.theory_walks.proofs.Crossings.{boundary-part}
+use Rattle.theory_walks.proofs.Walks.{StillFits, later}
 use Rattle.rule_model.specs.declared.rule.Rule.{Rule}
 use Rattle.rule_model.specs.Tiling.{Tiling, tiling_of, children}
 use Rattle.theory_substitution.specs.Points.{Points}
@@ -37,7 +37,7 @@ use Rattle.window_cover.specs.Right.{name_of, growing}
 use Rattle.window_cover.specs.SearchLaws.{HasSearchLaws}
 use Rattle.window_cover.specs.Windows.{TileOf, box_of, IsLeastEnough}
 use Rattle.window_cover.specs.Working.{Working, state_of, IsWorking}
-use Rattle.lazy_walk.proofs.InFull.{names, deep, level-grown, tile-full, whole-level}
+use Rattle.theory_walks.proofs.InFull.{names, deep, level-grown, tile-full, whole-level}
 use Rattle.window_cover.proofs.Names.{window-on, its_found, found-at, name-at, edge-exists}
 use Rattle.window_cover.proofs.NextState.{FirstIn, first-in}
 

@@ -2,11 +2,11 @@
 use Rattle.std.proofs.Common.{◌≡◌, ℕ, Some, slice_get, List, [], ◌∷◌, length, map, refl, sym, ap, ◌∙◌, subst}
 use Rattle.cyclo_points.specs.Order.{points_of}
 use Rattle.theory_frames.specs.Frame.{lifted_in}
-use Rattle.lazy_walk.specs.Boundary.{IsBoundaryEdge}
+use Rattle.theory_walks.specs.Boundary.{IsBoundaryEdge}
 use Rattle.lazy_walk.specs.Crossed.{IsCrossedTo}
-use Rattle.lazy_walk.specs.Frames.{FrameValue, whole, GrowsTo, lifted_at}
-use Rattle.lazy_walk.proofs.Lifting.{lifted-later}
-use Rattle.lazy_walk.proofs.Walks.{StillFits}
+use Rattle.theory_walks.specs.Frames.{FrameValue, whole, GrowsTo, lifted_at}
+use Rattle.theory_walks.proofs.Lifting.{lifted-later}
+use Rattle.theory_walks.proofs.Walks.{StillFits}
 use Rattle.rule_model.specs.declared.rule.Rule.{Rule}
 use Rattle.rule_model.specs.Tiling.{Tiling, tiling_of, children}
 use Rattle.theory_substitution.specs.Points.{Points}

@@ -9,7 +9,7 @@ use Rattle.cyclo_points.specs.Order.{points_of}
 use Rattle.cyclo_points.specs.Point.{point_in, quad_of, IsOf, IsWithin, Within}
 use Rattle.cyclo_points.specs.Quad.{Quad}
 use Rattle.cyclo_points.proofs.SamePoints.{point_in-exact}
-use Rattle.lazy_walk.specs.Frames.{FrameValue}
+use Rattle.theory_walks.specs.Frames.{FrameValue}
 use Rattle.rule_model.specs.Tiling.{Tiling}
 use Rattle.theory_substitution.specs.Plane.{plane_point}
 use Rattle.theory_windows.specs.GrowingPatch.{IsOfDepth}

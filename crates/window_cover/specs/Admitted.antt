@@ -1,4 +1,4 @@
--- A new tile taken in.
+-- A new tile, added to those found.
 use Rattle.std.specs.Prelude.{◌≡◌, ◌<◌, ◌≤◌, ◌^◌, true, false, List, [], ◌∷◌, ◌++◌, length}
 use Rattle.cyclo_points.specs.declared.point.Point.{Point}
 use Rattle.cyclo_points.specs.Order.{is_refused}
@@ -18,8 +18,8 @@ use Rattle.window_cover.specs.Working.{Working}
 abbrev pub found_as : PlacedTile → Found
 found_as tile = record { kind = tile.kind; motion = tile.motion; digits = (address_of tile.addr).digits }
 
--- the tile is found, as one of no more than the limit and with no refused shift; the open edges that its edges meet are closed, and those of its own that
--- meet the window and none of these are open
+-- The tile is added to those found. There was room for it, and its shift is not refused. The open edges that
+-- its edges meet are closed. Those of its own edges that meet the window, and meet no open edge, are opened.
 pub record IsAdmitted (t : Tiling) (c d : Working) (tile : PlacedTile) : Type 0 where
   pub unrefused : is_refused t.order (point_in t.order tile.motion.shift) ≡ false
   pub shift_within : IsWithin (2 ^ 24) tile.motion.shift
@@ -30,7 +30,7 @@ pub record IsAdmitted (t : Tiling) (c d : Working) (tile : PlacedTile) : Type 0 
   pub are_corners : AreCorners t tile.kind tile.motion corners
   pub border : d.border ≡ left_open corners (length corners) c.border ++ opened t.order c.window (length c.found) corners (length corners) c.border
 
--- why it isn't: its shift is refused; or it isn't, and there are as many as the limit already
+-- why it is not added: its shift is refused; or it is not, and there are as many tiles as the limit already
 abbrev pub IsNotAdmitted : Tiling → Working → PlacedTile → CoverFault → Type 0
 IsNotAdmitted t c tile (DepthLimit addr edge) = ⊥
 IsNotAdmitted t c tile (CoordLimit value) = (value ≡ tile.motion.shift) × (is_refused t.order (point_in t.order tile.motion.shift) ≡ true)

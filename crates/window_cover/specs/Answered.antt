@@ -1,4 +1,4 @@
--- What a descent through a frame answers of a window.
+-- What a descent through a frame finds of a window.
 use Rattle.std.specs.Prelude.{◌≡◌, ◌≤◌, All, List, [], length, map}
 use Rattle.std.specs.List.{AllByRecursion}
 use Rattle.theory_addresses.specs.Address.{top_kind}
@@ -9,8 +9,8 @@ use Rattle.plane_geom.specs.declared.window.Window.{Window}
 use Rattle.rule_model.specs.Tiling.{Tiling}
 use Rattle.tile_place.specs.declared.placed_tile.PlacedTile.{PlacedTile}
 use Rattle.tile_place.specs.Searched.{placed_in}
-use Rattle.lazy_walk.specs.Ancestors.{full}
-use Rattle.lazy_walk.specs.Frames.{FrameValue}
+use Rattle.theory_walks.specs.Ancestors.{full}
+use Rattle.theory_walks.specs.Frames.{FrameValue}
 use Rattle.lazy_walk.specs.Standing.{Stands}
 use Rattle.theory_descents.specs.Parts.{drawn_below}
 use Rattle.window_cover.specs.Descending.{tiles_in, IsKeptTile}
@@ -34,7 +34,7 @@ pub record IsFoundBelow (t : Tiling) (f : FrameValue) (w : Window) (c : CoverVal
   pub kept : AllByRecursion (IsKeptTile t) c.found
   pub few : length c.found ≤ most_tiles
 
--- all that is promised of an answer; the frame was f, and is g
+-- all that is promised of a result; the frame was f, and is g
 pub record IsAnswered (t : Tiling) (f g : FrameValue) (w : Window) (tiles : List PlacedTile) : Type 0 where
   pub drawn : AreDrawn t g w (map (placed_in t.order) tiles)
   pub stand : All (Stands t g) tiles

@@ -1,8 +1,8 @@
--- Tiles found, in order and with the digits of a frame behind their own.
+-- The tiles found, in order, with the digits of a frame after their own.
 use Rattle.std.specs.Prelude.{◌≡◌, ℕ, List}
 use Rattle.std.specs.List.{AllByRecursion}
 use Rattle.tile_place.specs.declared.placed_tile.PlacedTile.{PlacedTile}
-use Rattle.lazy_walk.specs.Frames.{FrameValue}
+use Rattle.theory_walks.specs.Frames.{FrameValue}
 use Rattle.window_cover.specs.Covered.{tiles_of}
 use Rattle.window_cover.specs.Found.{Found}
 use Rattle.window_cover.specs.Keys.{HasKey, AreOrdered}

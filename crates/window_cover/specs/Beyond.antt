@@ -1,9 +1,9 @@
--- Depths of a frame that no enough depth is below.
+-- Depths of a frame that are not beyond an enough depth.
 use Rattle.std.specs.Prelude.{ℕ}
 use Rattle.cyclo_points.specs.Order.{points_of}
 use Rattle.plane_geom.specs.declared.window.Window.{Window}
 use Rattle.rule_model.specs.Tiling.{Tiling}
-use Rattle.lazy_walk.specs.Frames.{FrameValue}
+use Rattle.theory_walks.specs.Frames.{FrameValue}
 use Rattle.theory_windows.specs.EnoughDepth.{IsNotBeyond}
 use Rattle.window_cover.specs.Right.{growing}
 use Rattle.window_cover.specs.Windows.{TileOf, box_of}

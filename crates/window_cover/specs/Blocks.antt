@@ -1,4 +1,4 @@
--- The leaves of supertiles that are turned and not moved, as blocks of a list of leaves.
+-- The leaves of supertiles that are turned and not shifted, as blocks of a list of leaves.
 use Rattle.std.specs.Prelude.{◌≡◌, ℕ, ◌+◌, ◌*◌, ◌<◌, ◌≤◌, ◌^◌, List, length, get_or, None}
 use Rattle.std.specs.Option.{IfSome}
 use Rattle.std.specs.List.{AllByRecursion}
@@ -19,12 +19,12 @@ use Rattle.window_cover.specs.Descending.{tiles_in, IsKeptTile, HasMore}
 use Rattle.window_cover.specs.Found.{Found, CoverValue}
 use Rattle.window_cover.specs.Runs.{leaves_in}
 
--- the leaves from a number up to another are near the origin and have few digits
+-- the leaves from number `first` to before `end` are near the origin, and have few digits
 pub record AreNear (leaves : List Found) (first end depth : ℕ) : Type 0 where
   pub near : (i : ℕ) → first ≤ i → i < end → IsWithin (2 ^ 20) (tile_of leaves i).motion.shift
   pub short : (i : ℕ) → first ≤ i → i < end → length (tile_of leaves i).digits ≤ depth
 
--- the part of a kind that is turned and not moved
+-- the part of a kind that is turned and not shifted
 abbrev pub turned_part : ℕ → ℕ → Part
 turned_part kind turn = record { kind = kind; motion = only_turned turn }
 
@@ -43,7 +43,7 @@ pub record AreBlocks (m : Rule) (leaves : List Found) (bs : Blocks) : Type 0 whe
   pub made : (level kind turn : ℕ) → level ≤ 6 → kind < length (rule_of m).kinds → turn < (points_of m.order).order
       → IfSome (get_or bs.blocks.items (row_place level kind turn) None) (IsBlock m leaves level kind turn)
 
--- the block asked for, after which there may be more leaves, more blocks and more rows
+-- the block of this level, kind and turn; there may be more leaves, blocks and rows after it is made
 pub record IsBlockOf (m : Rule) (before after : Rows) (c d : CoverValue) (bs : Blocks) (level kind turn : ℕ) (b : Block) : Type 0 where
   pub rows : AreRows m after
   pub levels : levels_of after ≡ levels_of before

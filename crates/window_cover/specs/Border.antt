@@ -1,4 +1,4 @@
--- The open edges, each by its two ends.
+-- The open edges, each with its two ends.
 use Rattle.std.specs.Prelude.{◌≡◌, ℕ, ◌≤◌, Bool, ◌&&◌, cond, List, [], ◌∷◌, length, take, None, Some}
 use Rattle.std.specs.List.{list_any, position, IsDistinct}
 use Rattle.std.specs.declared.option.Option.{Option}
@@ -7,25 +7,25 @@ use Rattle.window_cover.specs.declared.open_edge.OpenEdge.{OpenEdge}
 use Rattle.window_cover.specs.declared.border.Listed.{Listed}
 use Rattle.window_cover.specs.contracts.ends.EndsPartialEq.TheImpl as ends_eq
 
--- whether two edges have one start and one end
+-- true if two edges have the same start and the same end
 abbrev pub have_same_ends : Ends → Ends → Bool
 have_same_ends = (ends_eq.ghosts).eq
 
--- an open edge and its ends
+-- an open edge, and its ends
 pub record Waiting : Type 0 where
   pub ends : Ends
   pub edge : OpenEdge
 
--- of the edges listed, those that are open
+-- the edges of a list that are open
 abbrev pub open_of : List Listed → List Waiting
 open_of [] = []
 open_of (l ∷ ls) = cond l.is_open (record { ends = l.ends; edge = l.edge } ∷ open_of ls) (open_of ls)
 
--- whether an edge listed is open and has these ends
+-- true if a listed edge is open and has these ends
 abbrev pub waits_at : Ends → Listed → Bool
 waits_at k l = l.is_open && have_same_ends k l.ends
 
--- whether one of these edges has these ends
+-- true if one of these edges has these ends
 abbrev pub has_ends : Ends → List Waiting → Bool
 has_ends k waiting = list_any (λ o. have_same_ends k o.ends) waiting
 
@@ -38,8 +38,8 @@ first_waiting (o ∷ os) = Some o.edge
 abbrev pub HasDistinctEnds : List Waiting → Type 0
 HasDistinctEnds waiting = IsDistinct (λ o p. have_same_ends o.ends p.ends) waiting
 
--- what the parts of a border say of each other: the edges listed, the place that is found for two ends, how many places are found, and a place
--- before which no edge is open
+-- How the parts of a border agree. `place_of` finds the place of the open edge with two ends, if there is
+-- one. `count` is the number of open edges, and no edge before place `next` is open.
 pub record IsBorder (ls : List Listed) (place_of : Ends → Option ℕ) (count next : ℕ) : Type 0 where
   pub found : (k : Ends) → place_of k ≡ position (waits_at k) ls
   pub distinct : HasDistinctEnds (open_of ls)

@@ -1,4 +1,4 @@
--- Why a window has no answer.
+-- Why the tiles of a window are refused.
 use Rattle.std.specs.Prelude.{◌≡◌, ◌⊎◌, ℕ, suc, ◌<◌, true, false, Some, List, length}
 use Rattle.std.specs.List.{AllByRecursion}
 use Rattle.theory_substitution.specs.RuleParts.{edge_count}
@@ -9,9 +9,9 @@ use Rattle.plane_geom.specs.declared.window.Window.{Window}
 use Rattle.rule_model.specs.Tiling.{Tiling}
 use Rattle.tile_shape.specs.declared.address.Address.{Address}
 use Rattle.tile_shape.specs.Views.{address_of}
-use Rattle.lazy_walk.specs.Boundary.{IsBoundaryEdge}
-use Rattle.lazy_walk.specs.Containing.{first_refused_outward}
-use Rattle.lazy_walk.specs.Frames.{FrameValue}
+use Rattle.theory_walks.specs.Boundary.{IsBoundaryEdge}
+use Rattle.theory_walks.specs.Containing.{first_refused_outward}
+use Rattle.theory_walks.specs.Frames.{FrameValue}
 use Rattle.theory_windows.specs.Distinct.{AreDistinct}
 use Rattle.theory_windows.specs.FramePatch.{line_of}
 use Rattle.theory_windows.specs.Outlines.{MeetsBox}
@@ -20,7 +20,8 @@ use Rattle.window_cover.specs.declared.cover_fault.CoverFault.TheVariants.{Depth
 use Rattle.window_cover.specs.Windows.{TileOf, box_of, MeetsWindow, IsOfFrame}
 use Rattle.theory_windows.specs.Limits.{most_tiles}
 
--- the frame is at depth 64; the tile meets the window; and so does this edge of it, which is on the boundary of the frame's supertile
+-- the frame is at depth 64; the tile meets the window; and so does this edge of it, which is on the boundary
+-- of the frame's supertile
 pub record IsDepthLimit (t : Tiling) (f : FrameValue) (w : Window) (addr : Address) (edge : ℕ) : Type 0 where
   pub at_64 : length f.digits ≡ 64
   pub tile : TileOf t
@@ -31,12 +32,12 @@ pub record IsDepthLimit (t : Tiling) (f : FrameValue) (w : Window) (addr : Addre
   pub edge_meets : MeetsBox (points_of t.order).real (box_of t w) (line_of (points_of t.order) t.rule tile edge)
   pub on_boundary : IsBoundaryEdge t tile.address edge
 
--- the first refused value looked at for the centre, a point of its order
+-- the first refused value on the way to the centre, as a point of its order
 pub record IsFirstRefused (t : Tiling) (f : FrameValue) (w : Window) (value : Point) : Type 0 where
   pub is_first : first_refused_outward t f (point_in t.order w.centre) ≡ Some (point_in t.order value)
   pub value_in_order : IsOf t.order value
 
--- a tile of the frame that meets the window has this refused shift, a point of its order
+-- a tile of the frame that meets the window has this refused shift, as a point of its order
 pub record IsRefusedShift (t : Tiling) (f : FrameValue) (w : Window) (value : Point) : Type 0 where
   pub tile : TileOf t
   pub of_frame : IsOfFrame t f tile
@@ -45,7 +46,8 @@ pub record IsRefusedShift (t : Tiling) (f : FrameValue) (w : Window) (value : Po
   pub value_in_order : IsOf t.order value
   pub is_refused : is_refused t.order tile.motion.shift ≡ true
 
--- one tile more than the limit is of the frame and meets the window, and none of these tiles has a refused shift
+-- one tile more than the limit is of the frame and meets the window, and none of these tiles has a refused
+-- shift
 pub record AreTooMany (t : Tiling) (f : FrameValue) (w : Window) : Type 0 where
   pub tiles : List (TileOf t)
   pub count : length tiles ≡ suc most_tiles

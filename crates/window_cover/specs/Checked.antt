@@ -1,4 +1,4 @@
--- What a checked rule brings.
+-- What is known of a checked rule.
 use Rattle.std.specs.Prelude.{◌≡◌}
 use Rattle.theory_addresses.specs.Tables.{child_kinds}
 use Rattle.rule_model.specs.declared.rule.Rule.{Rule}
@@ -7,7 +7,8 @@ use Rattle.rule_model.specs.Tiling.{tiling_of, contacts, children}
 use Rattle.rule_model.specs.Usable.{IsUsable}
 use Rattle.tile_shape.specs.Usable.{AreUsable}
 
--- the rule is accepted, its numbers exist, each of its kinds has a use, and its contact tables have its child kinds: so it is with the rule of every machine
+-- The rule is accepted, and its numbers exist. Each of its kinds has a use, and its contact tables have its
+-- child kinds. This holds for the rule of every machine.
 pub record IsChecked (r : Rule) : Type 0 where
   pub accepted : IsAccepted r
   pub usable : IsUsable r

@@ -26,21 +26,21 @@ use Rattle.window_descent.specs.declared.standing.Standing.TheVariants.{Beyond, 
 use Rattle.window_cover.specs.Found.{Found, address_found, CoverValue}
 use Rattle.window_cover.specs.Windows.{TileOf, box_of}
 
--- a tile found, with its own digits alone
+-- a tile found, with only its own digits
 abbrev pub tile_in : (o : Order) → Found → Placed (NumberOf o)
 tile_in o x = record { address = address_found x; motion = motion_in o x.motion }
 
 abbrev pub tiles_in : (o : Order) → List Found → List (Placed (NumberOf o))
 tiles_in o xs = map (tile_in o) xs
 
--- its motion is within the limits
+-- its kind exists, and its motion is within the limits
 pub record IsKeptTile (t : Tiling) (x : Found) : Type 0 where
   pub kind_exists : x.kind < length t.rule.kinds
   pub turn_below : x.motion.turn < (points_of t.order).order
   pub within : IsWithin (2 ^ 24) x.motion.shift
   pub in_order : IsOf t.order x.motion.shift
 
--- all tiles of a part, or those of them that meet the box
+-- all tiles of a part, or those that meet the box
 abbrev pub found_below : (P : Points) → Rule P.ring.carrier → OpenBox P.real.ops.carrier → Bool → ℕ → ℕ
     → MotionOf P.ring.carrier → List (Placed P.ring.carrier)
 found_below P r box all k n m = cond all (tiles_below P r k n m) (drawn_below P r box k n m)
@@ -53,13 +53,13 @@ found_of t w all level p = found_below (points_of t.order) t.rule (box_of t w) a
 abbrev pub digits_above : ℕ → List Step → List TheStep
 digits_above level path = map step_of (drop level path)
 
--- further tiles stand behind those before
+-- the list goes on after those before
 pub record HasMore (before after : List Found) : Type 0 where
   pub more : List Found
   pub is : after ≡ before ++ more
 
--- these tiles are found behind those before, with the coarser digits of the path behind their own; the path
--- keeps these
+-- These tiles are found after those before, with the coarser digits of the path after their own. The path
+-- keeps its coarser digits.
 pub record IsDescended (t : Tiling) (c d : CoverValue) (before after : List Step) (all : Bool) (level : ℕ)
     (p : Part) : Type 0 where
   pub same_window : d.window ≡ c.window
@@ -70,7 +70,7 @@ pub record IsDescended (t : Tiling) (c d : CoverValue) (before after : List Step
       ++ map (of_whole (digits_above level before)) (found_of t c.window all level p)
   pub kept : AllByRecursion (IsKeptTile t) c.found → AllByRecursion (IsKeptTile t) d.found
 
--- a part of which all tiles are sought is within, and of any other it is known how it stands
+-- How a part lies to the window. If all tiles of a part are wanted, it is taken as within.
 abbrev pub IsJudged : Tiling → Window → Bool → ℕ → Part → Standing → Type 0
 IsJudged t w all level p Beyond = found_of t w all level p ≡ []
 IsJudged t w all level p Within = found_of t w all level p ≡ found_of t w true level p
@@ -85,7 +85,7 @@ pub record IsTakenIn (c d : CoverValue) (x : Found) : Type 0 where
 abbrev pub found_part : Part → List Step → Found
 found_part p digits = record { kind = p.kind; motion = p.motion; digits = map step_of digits }
 
--- those of the children of a part from number i on, the children a level below
+-- the tiles of a part's children from number i on; the children are one level below
 abbrev pub from_number : (t : Tiling) → Window → Bool → ℕ → Part → ℕ → List (TileOf t)
 from_number t w all below p i =
     flat_map (λ (c : ℕ × Child (NumberOf t.order)). map (of_whole (digit c.0 p.kind))

@@ -1,4 +1,4 @@
--- What is found of a window: the tiles, and those of their edges that wait for the tile across.
+-- What is found of a window: the tiles, and those of their edges across which no tile is found yet.
 use Rattle.std.specs.Prelude.{ℕ, List, [], ◌∷◌, None, Some}
 use Rattle.std.specs.declared.option.Option.{Option}
 use Rattle.theory_addresses.specs.Address.{Step, Address}
@@ -13,11 +13,11 @@ pub record Found : Type 0 where
   pub motion : Motion
   pub digits : List Step
 
--- its address then
+-- its address at that time
 abbrev pub address_found : Found → Address
 address_found x = record { kind = x.kind; digits = x.digits }
 
--- an open edge, and where it starts and ends
+-- an open edge, with its start and its end
 pub record PlacedEdge : Type 0 where
   pub edge : OpenEdge
   pub from : Point

@@ -1,4 +1,4 @@
--- The tiles that a descent from part to part finds as runs.
+-- The tiles that a descent from part to part finds, as runs.
 use Rattle.std.specs.Prelude.{◌≡◌, ℕ, Bool, List, []}
 use Rattle.rule_model.specs.declared.rule.Rule.{Rule}
 use Rattle.rule_model.specs.Tiling.{tiling_of}
@@ -14,18 +14,18 @@ use Rattle.window_cover.specs.Found.{CoverValue}
 use Rattle.window_cover.specs.Runs.{AreRuns, seen}
 use Rattle.window_cover.specs.Windows.{IsWindow}
 
--- the tiles of runs as what is found of the window of their leaves, with no edge open
+-- the tiles of runs, as what is found of the window of their leaves, with no open edge
 abbrev pub gathered : Runs → CoverValue
 gathered r = record { window = r.leaves.window; found = seen r; border = [] }
 
--- what is kept on the way is right
+-- the state of the descent is right
 pub record AreGathering (m : Rule) (r : Runs) (children : Rows) (bs : Blocks) : Type 0 where
   pub runs : AreRuns r
   pub rows : AreRows m children
   pub blocks : AreBlocks m r.leaves.found bs
   pub window : IsWindow r.leaves.window
 
--- it stays so, and the tiles of a part are found behind those before
+-- it stays right, and the tiles of a part are found after those before
 pub record IsGathered (m : Rule) (r s : Runs) (children later : Rows) (bs : Blocks) (before after : List Step) (all : Bool) (level : ℕ)
     (p : Part) : Type 0 where
   pub state : AreGathering m s later bs

@@ -10,7 +10,7 @@ use Rattle.tile_place.specs.declared.placed_tile.PlacedTile.{PlacedTile}
 abbrev pub numbers_placed : PlacedTile → List ℤ
 numbers_placed a = order_numbers a.motion a.kind
 
--- one comes before the other
+-- one tile comes before the other
 abbrev pub ComesBefore : PlacedTile → PlacedTile → Type 0
 ComesBefore a b = slice_cmp int_cmp (order_numbers a.motion a.kind) (order_numbers b.motion b.kind) ≡ Less
 
@@ -20,7 +20,7 @@ AreInOrder [] = Unit {0}
 AreInOrder (a ∷ []) = Unit {0}
 AreInOrder (a ∷ b ∷ tiles) = ComesBefore a b × AreInOrder (b ∷ tiles)
 
--- none of these tiles comes before the one in front of it
+-- no tile comes before the one that it follows
 abbrev pub AreSorted : List PlacedTile → Type 0
 AreSorted [] = Unit {0}
 AreSorted (a ∷ []) = Unit {0}

@@ -10,11 +10,11 @@ use Rattle.window_cover.specs.Found.{Found}
 use Rattle.tile_place.specs.Keys.{FitsKey}
 use Rattle.theory_windows.specs.Limits.{most_tiles}
 
--- its own digits among all
+-- the tile's own digits, in the list of all
 abbrev pub digits_in : List Step → FoundTile → List TheStep
 digits_in all x = map step_of (take x.depth (drop x.first all))
 
--- the tiles as they are seen
+-- the tiles as contracts see them
 abbrev pub found_in : List Step → List FoundTile → List Found
 found_in all xs = map (λ (x : FoundTile). record { kind = x.kind; motion = x.motion; digits = digits_in all x }) xs
 
@@ -22,7 +22,8 @@ found_in all xs = map (λ (x : FoundTile). record { kind = x.kind; motion = x.mo
 abbrev pub AreKept : List Step → List FoundTile → Type 0
 AreKept all xs = AllByRecursion (λ (x : FoundTile). (x.first + x.depth ≤ length all) × (x.depth ≤ 64)) xs
 
--- so it is; each tile has a key; the tiles are no more than the limit, and the open edges no more than twelve for each
+-- This holds, and each tile has a key. There are no more tiles than the limit, and at most twelve open edges
+-- for each.
 pub record IsKept (all : List Step) (xs : List FoundTile) (border : List Waiting) : Type 0 where
   pub spans : AreKept all xs
   pub keyed : AllByRecursion (λ (x : FoundTile). FitsKey x.motion x.kind) xs

@@ -7,7 +7,7 @@ use Rattle.tile_place.specs.declared.order_key.OrderKey.{OrderKey}
 use Rattle.tile_place.specs.Keys.{key_of, FitsKey}
 use Rattle.window_cover.specs.Found.{Found}
 
--- the keys of tiles found, of numbers from n on
+-- the keys of tiles found, numbered from n
 abbrev pub keys_from : ℕ → List Found → List OrderKey
 keys_from n [] = []
 keys_from n (x ∷ xs) = key_of x.motion x.kind n ∷ keys_from (suc n) xs

@@ -5,6 +5,6 @@ use Rattle.tile_place.specs.Keys.{order_numbers}
 use Rattle.tile_place.specs.declared.placed_tile.PlacedTile.{PlacedTile}
 use Rattle.window_cover.specs.InOrder.{numbers_placed}
 
--- the tile at this place has the shift and the turn of the motion, and is of the kind
+-- the tile at this place is of this kind, and has the motion's shift and turn
 abbrev pub IsPlacedAt : List PlacedTile → Motion → ℕ → ℕ → Type 0
 IsPlacedAt tiles m kind place = (x : PlacedTile) × (slice_get tiles place ≡ Some x) × (numbers_placed x ≡ order_numbers m kind)

@@ -1,4 +1,4 @@
--- Two points in four words.
+-- The two ends of an edge in four words of 64 bits.
 use Rattle.std.specs.Prelude.{ℕ, ◌+◌, ◌*◌, ◌^◌, ◌/◌, ◌%◌, ℤ, pos, neg_ℤ, ◌+ℤ◌, nat_abs, [], ◌∷◌}
 use Rattle.cyclo_points.specs.declared.point.Point.{Point}
 use Rattle.cyclo_points.specs.Point.{coefficient}
@@ -14,7 +14,7 @@ raised x = nat_abs (x +ℤ pos (2 ^ 31))
 abbrev pub word_of : ℤ → ℤ → ℕ
 word_of a b = raised a * 2 ^ 32 + raised b
 
--- a start and an end
+-- a start and an end, as points
 abbrev pub ends_of : Point → Point → Ends
 ends_of start end = record {
   start_low = word_of (coefficient start 0) (coefficient start 1);
@@ -23,7 +23,7 @@ ends_of start end = record {
   end_high = word_of (coefficient end 2) (coefficient end 3);
 }
 
--- the coefficient that is raised to a number
+-- the coefficient that is raised to this number
 abbrev pub lowered : ℕ → ℤ
 lowered n = pos n +ℤ neg_ℤ (pos (2 ^ 31))
 

@@ -1,4 +1,4 @@
--- Fields that hold tiles by their runs and their leaves.
+-- Fields of words that have room for tiles, by their runs and their leaves.
 use Rattle.std.specs.Prelude.{List, None, Some}
 use Rattle.std.specs.declared.option.Option.{Option}
 use Rattle.std.specs.List.{AllByRecursion}
@@ -15,10 +15,10 @@ abbrev pub still : Option Point → Motion
 still None = record { turn = 0; shift = origin }
 still (Some by) = record { turn = 0; shift = by }
 
--- the fields hold each tile
+-- the fields have room for each tile
 abbrev pub HoldEach : Fields → List Found → Type 0
 HoldEach f found = AllByRecursion (λ (x : Found). AreHeld f x.motion x.kind) found
 
--- they hold the motion of a run, as that of a tile of kind 0
+-- they have room for the motion of a run, as for a tile of kind 0
 abbrev pub HoldRun : Fields → Run → Type 0
 HoldRun f r = AreHeld f (still r.shift) 0

@@ -1,4 +1,4 @@
--- What is found of a window is right for a tiling and a frame.
+-- When the state of a search is right, for a tiling and a frame.
 use Rattle.std.specs.Prelude.{◌≡◌, ◌<◌, ◌≤◌, ◌^◌, false, List, map, length, IsTrue}
 use Rattle.std.specs.List.{AllByRecursion}
 use Rattle.theory_plane.specs.Plane.{test_point}
@@ -8,8 +8,8 @@ use Rattle.cyclo_points.specs.Point.{point_in, IsOf, IsWithin}
 use Rattle.cyclo_points.specs.Motion.{motion_in}
 use Rattle.theory_frames.specs.Frame.{IsTileOf, lifted_in}
 use Rattle.rule_model.specs.Tiling.{Tiling, children}
-use Rattle.lazy_walk.specs.Ancestors.{full}
-use Rattle.lazy_walk.specs.Frames.{FrameValue, whole, IsFrameOf}
+use Rattle.theory_walks.specs.Ancestors.{full}
+use Rattle.theory_walks.specs.Frames.{FrameValue, whole, IsFrameOf}
 use Rattle.theory_windows.specs.Distinct.{AreDistinct}
 use Rattle.theory_windows.specs.FramePatch.{growing_frame, plane_edge}
 use Rattle.theory_windows.specs.GrowingPatch.{GrowingPatch, IsOfDepth}
@@ -20,7 +20,7 @@ use Rattle.theory_windows.specs.SearchState.{IsFirst}
 use Rattle.window_cover.specs.Found.{Found, address_found, PlacedEdge, CoverValue}
 use Rattle.window_cover.specs.Windows.{TileOf, box_of, polygon_of, IsWindow, MeetsWindow}
 
--- the tiles of the frame as they come while it grows to depth 64; growth changes no name there
+-- the tiles of the frame, as it grows to depth 64; growth does not change their names
 abbrev pub growing : (t : Tiling) → FrameValue → GrowingPatch (points_of t.order).real (TileOf t)
 growing t f = growing_frame (points_of t.order) (is_refused t.order) t.rule (full t f)
 
@@ -31,7 +31,7 @@ name_of t f x = record { address = lifted_in (full t f) (address_found x); motio
 abbrev pub tiles_found : (t : Tiling) → FrameValue → CoverValue → List (TileOf t)
 tiles_found t f c = map (name_of t f) c.found
 
--- where an open edge lies, and its numbers with it
+-- the line of an open edge, and the edge with its numbers
 abbrev pub line_at : (t : Tiling) → PlacedEdge → PlaneEdge (points_of t.order).real
 line_at t o = plane_edge (points_of t.order) (record { from = point_in t.order o.from; to = point_in t.order o.to })
 
@@ -52,9 +52,9 @@ pub record IsFound (t : Tiling) (f : FrameValue) (x : Found) : Type 0 where
   pub shift_within : IsWithin (2 ^ 24) x.motion.shift
   pub in_order : IsOf t.order x.motion.shift
 
--- The tiles found are of the frame and distinct, each in its place there, with no refused shift. Each meets the
--- window, and tile 0 holds its centre. The open edges are, by tile and then edge, exactly those of their edges that
--- meet the window and have no edge of these tiles for their reverse.
+-- The tiles found are distinct tiles of the frame, each in its place there, with no refused shift. Each meets
+-- the window, and tile 0 holds its centre. The open edges are, by tile and then edge, exactly those of their
+-- edges that meet the window and have no reverse among the edges of these tiles.
 pub record IsRight (t : Tiling) (f : FrameValue) (c : CoverValue) : Type 0 where
   pub frame : IsFrameOf t f
   pub window : IsWindow c.window

@@ -28,7 +28,7 @@ abbrev pub shifted_by : Option Point → Point → Point
 shifted_by None p = p
 shifted_by (Some by) p = moved_by by p
 
--- the leaf, moved, with these digits behind its own
+-- the leaf, shifted, with these digits after its own
 abbrev pub run_tile : Option Point → List TheStep → Found → Found
 run_tile by digits x = record {
   kind = x.kind;
@@ -53,7 +53,7 @@ tile_seen leaves runs spans t = run_tile (run_of runs t.run).shift (span_of span
 abbrev pub seen : Runs → List Found
 seen r = map (tile_seen r.leaves.found r.runs.items r.spans.items) r.tiles.items
 
--- its run, its leaf and its digits are there, and its numbers are small enough for a key
+-- its run, its leaf and its digits exist, and its numbers are small enough for a key
 pub record IsRunTile (leaves : List Found) (runs : List Run) (spans : List Step) (t : RunTile) : Type 0 where
   pub run_there : t.run < length runs
   pub leaf_there : t.leaf < length leaves
@@ -80,13 +80,13 @@ leaves_from first (suc count) leaves = tile_of leaves first ∷ leaves_from (suc
 abbrev pub leaves_in : Block → List Found → List Found
 leaves_in b leaves = leaves_from b.first b.count leaves
 
--- the leaf can be a tile of such a run
+-- the leaf, shifted and with these digits, is within all limits
 pub record CanRunLeaf (by : Option Point) (digits : List Step) (x : Found) : Type 0 where
   pub within : IsWithin (2 ^ 24) x.motion.shift
   pub short : length x.digits + length digits ≤ 64
   pub key : FitsKey (run_tile by (map step_of digits) x).motion x.kind
 
--- the leaves of a block are there, and each can be
+-- the leaves of a block exist, and each is
 pub record CanRun (leaves : List Found) (b : Block) (by : Option Point) (digits : List Step) : Type 0 where
   pub fits : b.first + b.count ≤ length leaves
   pub few : b.first + b.count ≤ most_tiles
@@ -94,7 +94,7 @@ pub record CanRun (leaves : List Found) (b : Block) (by : Option Point) (digits 
   pub at_most_64 : length digits ≤ 64
   pub each : (i : ℕ) → b.first ≤ i → i < b.first + b.count → CanRunLeaf by digits (tile_of leaves i)
 
--- the leaves of a block are taken in, moved and with these digits behind theirs
+-- the leaves of a block are added, shifted and with these digits after their own
 pub record IsPushed (r s : Runs) (b : Block) (by : Option Point) (digits : List Step) : Type 0 where
   pub runs : AreRuns s
   pub tiles : seen s ≡ seen r ++ map (run_tile by (map step_of digits)) (leaves_in b r.leaves.found)

@@ -2,15 +2,15 @@
 use Rattle.std.specs.Prelude.{◌≡◌, ℕ, List, [], ◌∷◌, ◌++◌, Some, slice_get}
 use Rattle.cyclo_points.specs.Order.{points_of}
 use Rattle.rule_model.specs.Tiling.{Tiling}
-use Rattle.lazy_walk.specs.Boundary.{IsBoundaryEdge}
-use Rattle.lazy_walk.specs.Frames.{FrameValue, lifted_at}
+use Rattle.theory_walks.specs.Boundary.{IsBoundaryEdge}
+use Rattle.theory_walks.specs.Frames.{FrameValue, lifted_at}
 use Rattle.theory_windows.specs.PatchWindow.{LiesAcross}
 use Rattle.window_cover.specs.declared.open_edge.OpenEdge.{OpenEdge}
 use Rattle.window_cover.specs.Found.{Found, address_found, PlacedEdge, CoverValue, first_of}
 use Rattle.window_cover.specs.Right.{growing, name_of, line_at}
 use Rattle.window_cover.specs.Windows.{TileOf}
 
--- one tile more is found: the one across the first open edge
+-- one more tile is found: the one across the first open edge
 pub record StepsTo (t : Tiling) (f : FrameValue) (c d : CoverValue) : Type 0 where
   pub same_window : d.window ≡ c.window
   pub first : PlacedEdge

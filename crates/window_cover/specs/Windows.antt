@@ -9,8 +9,8 @@ use Rattle.theory_dissection.specs.Polygons.{tile_polygon}
 use Rattle.theory_frames.specs.Frame.{frame_tiles}
 use Rattle.plane_geom.specs.declared.window.Window.{Window}
 use Rattle.rule_model.specs.Tiling.{Tiling}
-use Rattle.lazy_walk.specs.Ancestors.{full}
-use Rattle.lazy_walk.specs.Frames.{FrameValue, whole}
+use Rattle.theory_walks.specs.Ancestors.{full}
+use Rattle.theory_walks.specs.Frames.{FrameValue, whole}
 use Rattle.theory_windows.specs.FramePatch.{frame_patch}
 use Rattle.theory_windows.specs.FrameWindow.{AreAllThatMeet, IsLeastDepth}
 use Rattle.theory_windows.specs.Outlines.{Polygon}
@@ -18,7 +18,7 @@ use Rattle.theory_windows.specs.Meeting.{PolygonMeetsBox}
 use Rattle.theory_windows.specs.Patch.{Covers}
 pub use Rattle.window_descent.specs.Standing.{window_box}
 
--- half extents are 1 to 4,096, and the centre's coefficients at most 2^22
+-- the half-width and the half-height are 1 to 4,096, and the centre's coefficients at most 2^22
 pub record IsWindow (w : Window) : Type 0 where
   pub some_width : 1 ≤ w.w
   pub some_height : 1 ≤ w.h
@@ -41,11 +41,11 @@ polygon_of t x = tile_polygon (points_of t.order) t.rule (λ z. z) x
 abbrev pub MeetsWindow : (t : Tiling) → Window → TileOf t → Type 0
 MeetsWindow t w x = PolygonMeetsBox (points_of t.order).real (box_of t w) (polygon_of t x)
 
--- the tile is one of the frame's, at the depth that the frame has
+-- the tile is one of the frame's, at the frame's own depth
 abbrev pub IsOfFrame : (t : Tiling) → FrameValue → TileOf t → Type 0
 IsOfFrame t f x = IsAmong x (frame_tiles (points_of t.order) t.rule (whole f))
 
--- these are the tiles of the frame, at the depth that it has, that meet the window, each once
+-- these are the tiles of the frame, at its own depth, that meet the window, each exactly once
 abbrev pub AreDrawn : (t : Tiling) → FrameValue → Window → List (TileOf t) → Type 0
 AreDrawn t f w tiles = AreAllThatMeet (points_of t.order).real (TileOf t) (frame_patch (points_of t.order) t.rule (whole f)) (box_of t w) tiles
 
@@ -53,6 +53,7 @@ AreDrawn t f w tiles = AreAllThatMeet (points_of t.order).real (TileOf t) (frame
 abbrev pub CoverWindow : (t : Tiling) → FrameValue → Window → List (TileOf t) → Type 0
 CoverWindow t f w tiles = Covers (points_of t.order).real (TileOf t) (frame_patch (points_of t.order) t.rule (whole f)) (box_of t w) tiles
 
--- n is the least depth, from that of the frame to 64, that is enough: the frame's polygon there holds the centre, and none of its edges meets the window
+-- n is the least depth, from that of the frame to 64, that is enough: the frame's polygon there holds the
+-- centre, and none of its edges meets the window
 abbrev pub IsLeastEnough : (t : Tiling) → FrameValue → Window → ℕ → Type 0
 IsLeastEnough t f w n = IsLeastDepth (points_of t.order) t.rule (full t f) (box_of t w) (length f.digits) n

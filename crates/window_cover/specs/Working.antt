@@ -1,4 +1,4 @@
--- The state of the search as the program keeps it: the open edges with their ends in words.
+-- The state of the search as the program keeps it, with the ends of open edges in words.
 use Rattle.std.specs.Prelude.{◌≤◌, ◌^◌, ◌≡◌, List, map, length}
 use Rattle.std.specs.List.{AllByRecursion, AllZip}
 use Rattle.theory_substitution.specs.Plane.{plane_point}
@@ -7,7 +7,7 @@ use Rattle.cyclo_points.specs.Order.{points_of}
 use Rattle.cyclo_points.specs.Point.{point_in, IsOf, IsWithin}
 use Rattle.plane_geom.specs.declared.window.Window.{Window}
 use Rattle.rule_model.specs.Tiling.{Tiling}
-use Rattle.lazy_walk.specs.Frames.{FrameValue, IsFrameOf}
+use Rattle.theory_walks.specs.Frames.{FrameValue, IsFrameOf}
 use Rattle.theory_windows.specs.Limits.{most_tiles}
 use Rattle.theory_windows.specs.OpenEdges.{NumberedEdge}
 use Rattle.theory_windows.specs.OpenTest.{open_edges_of}
@@ -18,7 +18,8 @@ use Rattle.window_cover.specs.Packed.{ends_of, packed}
 use Rattle.window_cover.specs.Right.{growing, name_of, IsFound}
 use Rattle.window_cover.specs.Windows.{TileOf, IsWindow, box_of}
 
--- the window, the tiles in the order found, and the open edges by tile and then edge, with their ends in words
+-- the window, the tiles in the order found, and the open edges by tile and then edge, with their ends in
+-- words
 pub record Working : Type 0 where
   pub window : Window
   pub found : List Found
@@ -37,7 +38,7 @@ state_of t f c =
       depth = length f.digits;
     }
 
--- the edge that waits is this one, and its ends are those of it
+-- the open edge is this one, and has its ends
 pub record IsEdgeWaiting (t : Tiling) (o : Waiting) (n : NumberedEdge (points_of t.order).real) : Type 0 where
   pub same_tile : o.edge.tile ≡ n.tile
   pub same_edge : o.edge.edge ≡ n.edge
@@ -51,7 +52,7 @@ pub record IsEdgeWaiting (t : Tiling) (o : Waiting) (n : NumberedEdge (points_of
   pub starts : plane_point (points_of t.order) (point_in t.order from) ≡ n.line.from
   pub ends_there : plane_point (points_of t.order) (point_in t.order to) ≡ n.line.to
 
--- the state is right, and the edges that wait are the open ones
+-- the state is right, and the edges kept are the open ones
 pub record IsWorking (t : Tiling) (f : FrameValue) (c : Working) : Type 0 where
   pub frame : IsFrameOf t f
   pub window : IsWindow c.window

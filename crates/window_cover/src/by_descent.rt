@@ -2,9 +2,10 @@
 ghost use Rattle.std.specs.Prelude.{◌≡◌, [], None, length, IfOk, IfSome, IsTrue};
 ghost use Rattle.cyclo_points.specs.Point.{point_in};
 ghost use Rattle.rule_model.specs.Tiling.{tiling_of};
-ghost use Rattle.lazy_walk.specs.Ancestors.{full, IsAncestor};
-ghost use Rattle.lazy_walk.specs.Containing.{first_refused_outward};
-ghost use Rattle.lazy_walk.specs.Frames.{IsFrameOf, GrowsTo};
+ghost use Rattle.theory_walks.specs.Ancestors.{full};
+ghost use Rattle.lazy_walk.specs.Ancestors.{IsAncestor};
+ghost use Rattle.theory_walks.specs.Containing.{first_refused_outward};
+ghost use Rattle.theory_walks.specs.Frames.{IsFrameOf, GrowsTo};
 ghost use Rattle.window_descent.specs.Climbing.{IsClimbedTo};
 ghost use Rattle.window_cover.specs.Answered.{IsFoundBelow, IsAnswered};
 ghost use Rattle.window_cover.specs.Gathering.{gathered};

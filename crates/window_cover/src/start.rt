@@ -2,8 +2,8 @@
 ghost use Rattle.std.specs.Prelude.{◌≡◌, ◌⊎◌, ◌<◌, ◌≤◌, ℕ, None, length, IsOk, Err, IfOk, IfErr, OnOk};
 ghost use Rattle.rule_model.specs.Tiling.{tiling_of};
 ghost use Rattle.cyclo_points.specs.Point.{point_in};
-ghost use Rattle.lazy_walk.specs.Containing.{first_refused_outward, FrameHolds};
-ghost use Rattle.lazy_walk.specs.Frames.{at_depth, IsFrameOf, GrowsTo};
+ghost use Rattle.theory_walks.specs.Containing.{first_refused_outward, FrameHolds};
+ghost use Rattle.theory_walks.specs.Frames.{at_depth, IsFrameOf, GrowsTo};
 ghost use Rattle.window_cover.specs.declared.cover_fault.CoverFault.TheVariants.{NoMemory};
 ghost use Rattle.window_cover.specs.Windows.{IsWindow, IsLeastEnough};
 ghost use Rattle.window_cover.specs.Limits.{IsWithinLimits};

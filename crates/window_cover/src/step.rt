@@ -1,7 +1,7 @@
 //! Goes from tile to tile, across the first open edge.
 ghost use Rattle.std.specs.Prelude.{◌≡◌, ◌⊎◌, ◌<◌, ◌≤◌, ℕ, suc, length, IsOk, Err, Some, IfOk, IfErr, OnOk};
 ghost use Rattle.rule_model.specs.Tiling.{tiling_of};
-ghost use Rattle.lazy_walk.specs.Frames.{FrameValue, IsFrameOf, GrowsTo};
+ghost use Rattle.theory_walks.specs.Frames.{FrameValue, IsFrameOf, GrowsTo};
 ghost use Rattle.window_cover.specs.declared.cover_fault.CoverFault.TheVariants.{NoMemory};
 ghost use Rattle.window_cover.specs.Found.{first_of};
 ghost use Rattle.window_cover.specs.Windows.{IsLeastEnough};

@@ -3,8 +3,8 @@ ghost use Rattle.std.specs.Prelude.{◌≡◌, ◌⊎◌, ◌<◌, ◌≤◌, �
 ghost use Rattle.cyclo_points.specs.Point.{point_in};
 ghost use Rattle.rule_model.specs.Tiling.{tiling_of};
 ghost use Rattle.tile_place.specs.Searched.{placed_in};
-ghost use Rattle.lazy_walk.specs.Containing.{first_refused_outward};
-ghost use Rattle.lazy_walk.specs.Frames.{IsFrameOf, GrowsTo};
+ghost use Rattle.theory_walks.specs.Containing.{first_refused_outward};
+ghost use Rattle.theory_walks.specs.Frames.{IsFrameOf, GrowsTo};
 ghost use Rattle.lazy_walk.specs.Standing.{Stands};
 ghost use Rattle.window_cover.specs.declared.cover_fault.CoverFault.TheVariants.{NoMemory};
 ghost use Rattle.window_cover.specs.Windows.{IsWindow, AreDrawn, CoverWindow, IsLeastEnough};

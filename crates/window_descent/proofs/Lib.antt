@@ -1,7 +1,7 @@
-pub mod Standings
-pub mod Insides
-pub mod EdgeTests
-pub mod Placings
+mod Standings
+mod Insides
+mod EdgeTests
+mod Placings
 pub mod RowsMade
-pub mod Limits
-pub mod PartBounds
+mod Limits
+mod PartBounds

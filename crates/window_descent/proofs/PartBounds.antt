@@ -26,7 +26,7 @@ use Rattle.rule_model.specs.Tiling.{tiling_of}
 use Rattle.rule_model.specs.Usable.{origin}
 use Rattle.rule_model.specs.Views.{rule_of}
 use Rattle.tile_place.proofs.Plane.{IsSettled, its_rule}
-use Rattle.lazy_walk.specs.Ancestors.{factor_power}
+use Rattle.theory_walks.specs.Ancestors.{factor_power}
 use Rattle.theory_descents.specs.Insets.{IsInBox, IsBeyondBox, IsWithinBox, inside_right, inside_left, inside_upper, inside_lower}
 use Rattle.theory_descents.specs.Parts.{part_polygon}
 use Rattle.theory_descents.proofs.Carried as law

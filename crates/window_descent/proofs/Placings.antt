@@ -17,7 +17,7 @@ use Rattle.rule_model.specs.declared.rule.Rule.{Rule}
 use Rattle.rule_model.specs.Tiling.{tiling_of}
 use Rattle.rule_model.specs.Views.{rule_of}
 use Rattle.tile_place.proofs.Plane.{IsSettled, its_rule}
-use Rattle.lazy_walk.specs.Ancestors.{factor_power}
+use Rattle.theory_walks.specs.Ancestors.{factor_power}
 use Rattle.theory_descents.specs.Insets.{IsBeyondBox, IsWithinBox}
 use Rattle.theory_descents.specs.MeetingTest.{polygon_meets}
 use Rattle.theory_descents.specs.Parts.{one_tile, part_polygon, tile_meets}

@@ -1,4 +1,5 @@
--- Bounds of points in X and Y, and the sides of a window as limits for such bounds, both by witnesses.
+-- Bounds for the vertices of a part in X and Y, and the sides of a window as limits for such bounds. Both are
+-- witnesses: integers that have the sign of a number.
 use Rattle.std.specs.Prelude.{◌≡◌, ◌⊎◌, ℕ, ℤ, ◌^◌, ◌<ℤ◌, ◌≤ℤ◌, Bool, true, false}
 use Rattle.std.specs.List.{AllByRecursion}
 use Rattle.theory_substitution.specs.Plane.{plane_point}
@@ -22,7 +23,7 @@ use Rattle.window_descent.specs.declared.standing.Standing.TheVariants.{Beyond, 
 use Rattle.window_descent.specs.Standing.{window_box}
 use Rattle.window_descent.specs.Parts.{only_turned}
 
--- the witness of a number: an integer that has its sign if the number is short enough
+-- the witness of a number: an integer with the number's sign, if the number is short enough
 abbrev pub witness_of : (o : Order) → RealOf o → ℤ
 witness_of Four r = r
 witness_of Six r = r
@@ -36,7 +37,7 @@ IsShort Six n r = Within n r
 IsShort Eight n r = Within n r.a × Within n r.b
 IsShort Ten n r = Within n r.a × Within n r.b
 
--- the witnesses of X and Y of a point are within the bounds
+-- X and Y of the point are short, and their witnesses are within the bounds
 pub record IsEnclosed (o : Order) (b : Bounds) (v : PlanePointOf o) : Type 0 where
   pub short_x : IsShort o (2 ^ 23) v.x
   pub short_y : IsShort o (2 ^ 23) v.y
@@ -45,7 +46,7 @@ pub record IsEnclosed (o : Order) (b : Bounds) (v : PlanePointOf o) : Type 0 whe
   pub upper : witness_of o v.y ≤ℤ b.upper
   pub lower : b.lower ≤ℤ witness_of o v.y
 
--- so are those of each vertex of a scaled prototile that is turned and not shifted
+-- this holds for each vertex of a scaled prototile that is turned and not shifted
 abbrev pub AreBounds : Rule → Point → ℕ → ℕ → Bounds → Type 0
 AreBounds m scale kind turn b = AllByRecursion (λ z. IsEnclosed m.order b (plane_point (points_of m.order) z))
     (outline (points_of m.order) (rule_of m) kind (point_in m.order scale) (motion_in m.order (only_turned turn)))
@@ -55,12 +56,12 @@ pub record IsBelow (test : Bool) (x y : ℤ) : Type 0 where
   pub passes : x <ℤ y → test ≡ true
   pub fails : y ≤ℤ x → test ≡ false
 
--- where a point lies that is shifted
+-- the position of a point that is shifted
 abbrev pub shifted_spot : (o : Order) → Point → NumberOf o → PlanePointOf o
 shifted_spot o shift z = plane_point (points_of o) ((points_of o).ring.add z (point_in o shift))
 
--- limits for the witnesses of a point: they are kept exactly if the point, shifted, is inside the sides of a
--- window
+-- The limits for the witnesses of a point: it keeps within one if and only if the shifted point is inside
+-- that side of the window.
 pub record AreLimits (o : Order) (w : Window) (shift : Point) (b : Bounds) : Type 0 where
   pub right : (z : NumberOf o) → IsShort o (2 ^ 23) ((points_of o).x z)
       → IsBelow (inside_right (reals_of o) (window_box o w) (shifted_spot o shift z))
@@ -82,7 +83,7 @@ pub record AreWithin (b limits : Bounds) : Type 0 where
   pub upper : b.upper <ℤ limits.upper
   pub lower : limits.lower <ℤ b.lower
 
--- how bounds stand to limits: beyond one of them, or within all
+-- how bounds lie to limits: beyond one of them, or within all; otherwise they leave it open
 abbrev pub IsBetween : Bounds → Bounds → Standing → Type 0
 IsBetween b limits Beyond = ((limits.right ≤ℤ b.left) ⊎ (b.right ≤ℤ limits.left))
     ⊎ ((limits.upper ≤ℤ b.lower) ⊎ (b.upper ≤ℤ limits.lower))

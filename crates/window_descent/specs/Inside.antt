@@ -1,4 +1,4 @@
--- Points that plainly lie in the open box of a window.
+-- Points that lie well inside the open box of a window.
 use Rattle.std.specs.Prelude.{◌≡◌, true}
 use Rattle.theory_plane.specs.BoxTest.{box_test}
 use Rattle.cyclo_points.specs.declared.order.Order.{Order}
@@ -7,7 +7,7 @@ use Rattle.plane_geom.specs.Spots.{PlanePointOf, reals_of, spot_of}
 use Rattle.plane_geom.specs.declared.window.Window.{Window}
 use Rattle.window_descent.specs.Standing.{window_box}
 
--- each edge from the point meets the window
+-- every edge from the point meets the window
 abbrev pub IsInside : Order → Window → Point → Type 0
 IsInside o w p = (q : PlanePointOf o)
     → box_test (reals_of o) (spot_of o p) q (window_box o w) ≡ true

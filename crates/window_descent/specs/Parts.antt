@@ -1,4 +1,4 @@
--- Parts of supertiles, and how they stand to a window.
+-- Parts of supertiles, and how they lie to a window.
 use Rattle.std.specs.Prelude.{◌≡◌, ℕ, ◌<◌, ◌^◌, Bool, cond, List, [], length}
 use Rattle.theory_substitution.specs.Supertile.{Placed}
 use Rattle.cyclo_points.specs.declared.motion.Motion.{Motion}
@@ -29,7 +29,7 @@ pub record IsPlacedPart (m : Rule) (p : Part) : Type 0 where
   pub within : IsWithin (2 ^ 24) p.motion.shift
   pub in_order : IsOf m.order p.motion.shift
 
--- child number i of a kind as a part, its shift scaled, of a supertile with this motion
+-- the part is child number i of a kind, with its shift scaled, in a supertile with this motion
 pub record IsPartAt (m : Rule) (kind i : ℕ) (scale : Point) (at : Motion) (p : Part) : Type 0 where
   pub its_kind : p.kind ≡ (its_child (tiling_of m) kind i).kind
   pub its_motion : motion_in m.order p.motion
@@ -37,7 +37,7 @@ pub record IsPartAt (m : Rule) (kind i : ℕ) (scale : Point) (at : Motion) (p :
       (its_child (tiling_of m) kind i)
   pub is_part : IsPlacedPart m p
 
--- the tiles of a part of a level, and those that meet the window
+-- the tiles of a part at a level, and those of them that meet the window
 abbrev pub all_of : (t : Tiling) → ℕ → Part → List (Placed (NumberOf t.order))
 all_of t level p = tiles_below (points_of t.order) t.rule p.kind level (motion_in t.order p.motion)
 
@@ -45,7 +45,7 @@ abbrev pub drawn_part : (t : Tiling) → Window → ℕ → Part → List (Place
 drawn_part t w level p = drawn_below (points_of t.order) t.rule (window_box t.order w) p.kind level
     (motion_in t.order p.motion)
 
--- none of its tiles meets the window, or all do; a tile is one or the other
+-- None of its tiles meets the window, or all do. Only a part of level at least 1 may be neither.
 abbrev pub IsPlacedBy : Tiling → Window → ℕ → Part → Standing → Type 0
 IsPlacedBy t w level p Beyond = drawn_part t w level p ≡ []
 IsPlacedBy t w level p Within = drawn_part t w level p ≡ all_of t level p

@@ -1,4 +1,4 @@
--- The children of supertiles and the bounds of their polygons, each made once.
+-- The children of supertiles, and bounds for their vertices, each made only once.
 use Rattle.std.specs.Prelude.{◌≡◌, ℕ, ◌+◌, ◌*◌, ◌<◌, ◌≤◌, ◌^◌, All, List, [], map, length, get_or, None}
 use Rattle.std.specs.Option.{IfSome}
 use Rattle.theory_substitution.specs.Rule.{children_of}
@@ -15,15 +15,15 @@ use Rattle.window_descent.specs.Bounds.{AreBounds}
 pub use Rattle.window_descent.specs.Parts.{only_turned}
 use Rattle.window_descent.specs.Parts.{IsPartAt}
 
--- where the row and the bounds of a level, a kind and a turn are noted
+-- the place of the row and the bounds of a level, a kind and a turn
 abbrev pub row_place : ℕ → ℕ → ℕ → ℕ
 row_place level kind turn = (level * 16 + kind) * 16 + turn
 
--- a part that stands for none
+-- a value for a place without a part
 abbrev pub no_part : Part
 no_part = record { kind = 0; motion = only_turned 0 }
 
--- the children of a kind stand in a list from a place on, as parts of a supertile that is turned so and not
+-- from this place on, the list has the children of the kind, as parts of a supertile that is turned and not
 -- shifted
 pub record IsChildRow (m : Rule) (scale : Point) (kind turn : ℕ) (parts : List Part)
     (first : ℕ) : Type 0 where
@@ -31,14 +31,14 @@ pub record IsChildRow (m : Rule) (scale : Point) (kind turn : ℕ) (parts : List
   pub each : (i : ℕ) → i < length (children_of (rule_of m) kind)
       → IsPartAt m kind i scale (only_turned turn) (get_or parts (first + i) no_part)
 
--- how many levels have rows, and the power of the inflation factor at one of them
+-- the number of levels that have rows, and the power of the inflation factor at one of them
 abbrev pub levels_of : Rows → ℕ
 levels_of rows = length rows.powers.items
 
 abbrev pub scale_of : Rows → ℕ → Point
 scale_of rows level = get_or rows.powers.items level (record { c = [] })
 
--- the powers are those of the inflation factor, and each row and all bounds that are made are right
+-- the powers are those of the inflation factor, and all rows and bounds that are made are right
 pub record AreRows (m : Rule) (rows : Rows) : Type 0 where
   pub powers : map (point_in m.order) rows.powers.items
       ≡ powers_from (points_of m.order) (rule_of m).factor 0 (levels_of rows)
@@ -54,12 +54,12 @@ pub record AreRows (m : Rule) (rows : Rows) : Type 0 where
       → IfSome (get_or rows.bounds.items (row_place level kind turn) None)
       (AreBounds m (scale_of rows level) kind turn)
 
--- the parts of a list stand in another where they stood, and others may stand behind them
+-- the second list begins with the parts of the first
 pub record IsLonger (xs ys : List Part) : Type 0 where
   pub longer : length xs ≤ length ys
   pub same : (i : ℕ) → i < length xs → get_or ys i no_part ≡ get_or xs i no_part
 
--- a part is another, shifted further
+-- the part is the other one, shifted further
 pub record IsShifted (other : Part) (shift : Point) (p : Part) : Type 0 where
   pub same_kind : p.kind ≡ other.kind
   pub same_turn : p.motion.turn ≡ other.motion.turn

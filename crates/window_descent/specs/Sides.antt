@@ -1,4 +1,4 @@
--- Of which sides of a window all of some points are inside, and of which one is.
+-- The sides of a window that all of some points are inside of, and those that at least one of them is.
 use Rattle.std.specs.Prelude.{◌≡◌, List}
 use Rattle.std.specs.List.{list_all, list_any}
 use Rattle.cyclo_points.specs.declared.order.Order.{Order}

@@ -1,4 +1,4 @@
--- How the polygon of points stands to a window.
+-- How the polygon with these corners lies to a window.
 use Rattle.std.specs.Prelude.{List}
 use Rattle.theory_plane.specs.Box.{OpenBox}
 use Rattle.theory_substitution.specs.Plane.{box_at}
@@ -12,7 +12,7 @@ use Rattle.theory_descents.specs.Insets.{IsBeyondBox, IsWithinBox}
 use Rattle.window_descent.specs.declared.standing.Standing.{Standing}
 use Rattle.window_descent.specs.declared.standing.Standing.TheVariants.{Beyond, Within, Across}
 
--- the open box round the centre
+-- the open box around the window's centre
 abbrev pub window_box : (o : Order) → Window → OpenBox (points_of o).real.ops.carrier
 window_box o w = box_at (points_of o) (point_in o w.centre) w.w w.h
 

@@ -1,8 +1,9 @@
 //! Finds the first ancestor of a base that holds a window.
 ghost use Rattle.std.specs.Prelude.{◌≡◌, ◌≤◌, ◌^◌, length, max, IfSome};
 ghost use Rattle.cyclo_points.specs.Point.{IsWithin};
-ghost use Rattle.lazy_walk.specs.Ancestors.{full, IsAncestor};
-ghost use Rattle.lazy_walk.specs.Frames.{IsFrameOf, GrowsTo};
+ghost use Rattle.theory_walks.specs.Ancestors.{full};
+ghost use Rattle.lazy_walk.specs.Ancestors.{IsAncestor};
+ghost use Rattle.theory_walks.specs.Frames.{IsFrameOf, GrowsTo};
 ghost use Rattle.rule_model.specs.Tiling.{tiling_of};
 ghost use Rattle.window_descent.specs.Climbing.{holds_at, IsTried, IsClimbedTo};
 

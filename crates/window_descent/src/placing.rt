@@ -1,7 +1,7 @@
 //! How a part of a supertile lies relative to a window.
 ghost use Rattle.std.specs.Prelude.{◌≡◌, ◌<◌, ◌^◌, IfSome};
 ghost use Rattle.cyclo_points.specs.Point.{point_in, IsWithin};
-ghost use Rattle.lazy_walk.specs.Ancestors.{factor_power};
+ghost use Rattle.theory_walks.specs.Ancestors.{factor_power};
 ghost use Rattle.rule_model.specs.Tiling.{tiling_of};
 ghost use Rattle.window_descent.specs.Parts.{IsPlacedPart, IsPlacedBy, standing_of};
 ghost use Rattle.window_descent.specs.Rows.{AreRows, levels_of};

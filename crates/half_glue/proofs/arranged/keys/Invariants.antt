@@ -1,5 +1,5 @@
 use Rattle.std.proofs.Common.{◌≡◌, ◌++◌, take}
-use Rattle.lazy_walk.specs.Frames.{FrameValue}
+use Rattle.theory_walks.specs.Frames.{FrameValue}
 use Rattle.half_glue.specs.Keys.{first_keys}
 use Rattle.half_glue.specs.Lifted.{wholes_of}
 use Rattle.half_glue.proofs.arranged.keys.Given as goal

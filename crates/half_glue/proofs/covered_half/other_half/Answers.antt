@@ -11,8 +11,8 @@ use Rattle.half_glue.specs.Found.{StandsAmong, IsCrossed}
 use Rattle.half_glue.specs.Sides.{IsOtherSide}
 use Rattle.half_glue.specs.Given.{IsGiven}
 use Rattle.half_glue.specs.Limits.{CanBeJoined}
-use Rattle.lazy_walk.specs.Ancestors.{full}
-use Rattle.lazy_walk.proofs.Outcomes.{if_err-is}
+use Rattle.theory_walks.specs.Ancestors.{full}
+use Rattle.theory_walks.proofs.Outcomes.{if_err-is}
 use Rattle.half_glue.proofs.OtherHalves.{none-inside, none-joined}
 use Rattle.half_glue.proofs.AmongTiles.{kind-is, motion-is, tile-is, own-given, own-kind, own-side, own-only, half-found, half-inside, half-joined}
 use Rattle.half_glue.proofs.covered_half.other_half.Goals as goal

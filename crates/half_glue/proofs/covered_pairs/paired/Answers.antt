@@ -3,16 +3,16 @@ use Rattle.std.proofs.lemmas.List.{get_or_default}
 use Rattle.std.proofs.lemmas.List.Elements.{All-nil}
 use Rattle.rule_model.specs.Tiling.{tiling_of}
 use Rattle.tile_place.specs.declared.placed_tile.PlacedTile.{PlacedTile}
-use Rattle.lazy_walk.specs.Ancestors.{full}
+use Rattle.theory_walks.specs.Ancestors.{full}
 use Rattle.half_glue.specs.declared.pairs.Pair.{Pair}
 use Rattle.half_glue.specs.Depth.{IsGluedInside}
 use Rattle.half_glue.specs.Found.{no_tile, tile_of}
 use Rattle.half_glue.specs.Limits.{CanBeJoined}
 use Rattle.half_glue.specs.Pairs.{added_pairs}
 use Rattle.half_glue.proofs.InnerPairs.{are-placed, read-mark, none-crossed, taken-settled, taken-too as inner-taken}
-use Rattle.lazy_walk.proofs.Ancestors.{full-later}
-use Rattle.lazy_walk.proofs.Outcomes.{if_err-is}
-use Rattle.lazy_walk.proofs.Walks.{GrowsTo-self}
+use Rattle.theory_walks.proofs.Ancestors.{full-later}
+use Rattle.theory_walks.proofs.Outcomes.{if_err-is}
+use Rattle.theory_walks.proofs.Walks.{GrowsTo-self}
 use Rattle.half_glue.proofs.SettledTiles.{left-behind, cause-of, one-more}
 use Rattle.half_glue.proofs.Taking.{ArePaired, all-on, paired-on, taken-too, taken-before, all-paired}
 use Rattle.half_glue.proofs.covered_pairs.paired.Goals as goal

@@ -4,11 +4,11 @@ use Rattle.rule_model.specs.Glue.{IsGlueEdge}
 use Rattle.rule_model.specs.Tiling.{tiling_of}
 use Rattle.tile_place.specs.Crossed.{edges_of, IsOnlyAcross}
 use Rattle.tile_shape.specs.Views.{address_of}
-use Rattle.lazy_walk.specs.Boundary.{IsBoundaryEdge}
-use Rattle.lazy_walk.specs.Frames.{whole, lifted_at}
+use Rattle.theory_walks.specs.Boundary.{IsBoundaryEdge}
+use Rattle.theory_walks.specs.Frames.{whole, lifted_at}
 use Rattle.half_glue.specs.declared.glue_fault.GlueFault.TheVariants.{DepthLimit}
 use Rattle.half_glue.proofs.Across.{glue-edge-there}
-use Rattle.lazy_walk.proofs.Outcomes.{if_err-is}
+use Rattle.theory_walks.proofs.Outcomes.{if_err-is}
 use Rattle.half_glue.proofs.Settling.{the-one, given-on, settled-inside, settled-joined, crossed-glued, not-refused, refused-shift}
 use Rattle.half_glue.proofs.half.crossed_half.Goals as goal
 
@@ -41,9 +41,9 @@ returns-in_err-back-clause-cause g c =
     (record {
       tile = c.args.tile.now;
       is_given = the-one c.args.tile.now;
-      its_address = c.in_err-back.ensures.limit_tile ∙ ap (λ a. lifted_at t f a 64) seen;
-      glue_edge = subst (λ e. IsGlueEdge t.rule c.args.tile.now.kind e) (sym c.in_err-back.ensures.limit_edge) c.requires.glue_edge.glue_edge;
-      on_boundary = subst (λ e. IsBoundaryEdge t (lifted_at t f (address_of c.args.tile.now.addr) 64) e) (sym c.in_err-back.ensures.limit_edge)
+      its_address = c.in_err-back.ensures.limit.tile ∙ ap (λ a. lifted_at t f a 64) seen;
+      glue_edge = subst (λ e. IsGlueEdge t.rule c.args.tile.now.kind e) (sym c.in_err-back.ensures.limit.edge) c.requires.glue_edge.glue_edge;
+      on_boundary = subst (λ e. IsBoundaryEdge t (lifted_at t f (address_of c.args.tile.now.addr) 64) e) (sym c.in_err-back.ensures.limit.edge)
           (subst (λ a. IsBoundaryEdge t (lifted_at t f a 64) c.args.edge) seen (c.in_err-back.ensures.limit_exactly.0 refl));
     })
 
@@ -57,7 +57,7 @@ placed_beside-other-requires-clause-only_tile_across g c =
     let t = tiling_of c.args.machine.now in
     subst (λ a. IsOnlyAcross t (lifted_in (whole c.cross_grow_in_place.new.self) a) c.args.edge
     (address_of c.cross_grow_in_place.new.tile) c.in_ok-back.back) c.copy-across.ensures.seen
-    c.in_ok-back.ensures.only_tile_across
+    c.in_ok-back.ensures.crossed.only_tile_across
 
 pub returns-then-refused-clause-least : goal.returns-then-refused-clause-least
 returns-then-refused-clause-least g c = λ n l h.

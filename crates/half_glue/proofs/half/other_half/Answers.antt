@@ -4,7 +4,7 @@ use Rattle.tile_place.specs.declared.placed_tile.PlacedTile.{PlacedTile}
 use Rattle.half_glue.specs.Causes.{HasGlueCause}
 use Rattle.half_glue.specs.Depth.{IsGluedInside, IsTooShallow}
 use Rattle.half_glue.specs.Found.{StandsBeside}
-use Rattle.lazy_walk.proofs.Outcomes.{if_err-is}
+use Rattle.theory_walks.proofs.Outcomes.{if_err-is}
 use Rattle.half_glue.proofs.OtherHalves.{same-tile, kind-there, read-given, side-of, only-of, none-inside, none-joined, given-found, given-inside, given-joined}
 use Rattle.half_glue.proofs.half.other_half.Goals as goal
 

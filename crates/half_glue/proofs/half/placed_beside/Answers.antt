@@ -10,9 +10,9 @@ use Rattle.tile_place.specs.Glued.{Meets, Glues}
 use Rattle.rule_model.specs.declared.rule.Rule.{Rule}
 use Rattle.rule_model.specs.Tiling.{tiling_of, children}
 use Rattle.tile_shape.specs.Views.{address_of}
-use Rattle.lazy_walk.specs.Frames.{whole}
-use Rattle.lazy_walk.proofs.Walked.{tile_of-whole}
-use Rattle.lazy_walk.proofs.Standing.{stands-across}
+use Rattle.theory_walks.specs.Frames.{whole}
+use Rattle.theory_walks.proofs.Walked.{tile_of-whole}
+use Rattle.theory_walks.proofs.Standing.{stands-across}
 use Rattle.half_glue.proofs.Across.{glue-edge-there, crosses-back}
 use Rattle.half_glue.proofs.Halves.{given-whole, glue-edge-of}
 use Rattle.half_glue.proofs.half.placed_beside.Goals as goal

@@ -1,6 +1,6 @@
 use Rattle.std.proofs.Common.{◌≡◌, ◌+◌, Bool, List, length, Option, IfSome, sym, ap, ◌∙◌, subst}
 use Rattle.rule_model.specs.Tiling.{tiling_of}
-use Rattle.lazy_walk.specs.Frames.{FrameValue, IsFrameOf}
+use Rattle.theory_walks.specs.Frames.{FrameValue, IsFrameOf}
 use Rattle.half_glue.specs.declared.pairs.Pair.{Pair}
 use Rattle.half_glue.specs.Given.{AreGiven}
 use Rattle.half_glue.specs.Inner.{IsInner, AreInner, AreRising}

@@ -1,5 +1,5 @@
 use Rattle.std.proofs.Common.{◌≡◌, length}
-use Rattle.lazy_walk.specs.Frames.{FrameValue, IsFrameOf}
+use Rattle.theory_walks.specs.Frames.{FrameValue, IsFrameOf}
 use Rattle.rule_model.specs.Tiling.{tiling_of}
 use Rattle.half_glue.specs.Given.{AreGiven}
 use Rattle.half_glue.specs.Inner.{AreInner, AreRising}

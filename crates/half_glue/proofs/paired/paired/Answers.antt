@@ -2,14 +2,14 @@ use Rattle.std.proofs.Common.{◌+◌, All, List, ◌++◌, length, sym, subst, 
 use Rattle.std.proofs.lemmas.List.{get_or_default}
 use Rattle.rule_model.specs.Tiling.{tiling_of}
 use Rattle.tile_place.specs.declared.placed_tile.PlacedTile.{PlacedTile}
-use Rattle.lazy_walk.specs.Ancestors.{full}
+use Rattle.theory_walks.specs.Ancestors.{full}
 use Rattle.half_glue.specs.declared.pairs.Pair.{Pair}
 use Rattle.half_glue.specs.Depth.{IsGluedInside}
 use Rattle.half_glue.specs.Found.{no_tile, tile_of}
 use Rattle.half_glue.specs.Limits.{CanBeJoined}
 use Rattle.half_glue.specs.Pairs.{added_pairs}
 use Rattle.half_glue.proofs.Halves.{given-key}
-use Rattle.lazy_walk.proofs.Outcomes.{if_err-is}
+use Rattle.theory_walks.proofs.Outcomes.{if_err-is}
 use Rattle.half_glue.proofs.SettledTiles.{left-behind, cause-of, one-more}
 use Rattle.half_glue.proofs.Taking.{ArePaired, all-on, paired-on, taken-too, all-paired}
 use Rattle.half_glue.proofs.paired.paired.Goals as goal

@@ -3,8 +3,8 @@ use Rattle.std.proofs.lemmas.Result.{IfErr-weaker}
 use Rattle.rule_model.specs.Tiling.{tiling_of}
 use Rattle.tile_place.proofs.KindEdges.{edges_counted}
 use Rattle.tile_shape.specs.Views.{address_of}
-use Rattle.lazy_walk.specs.Boundary.{IsBoundaryEdge}
-use Rattle.lazy_walk.specs.Frames.{lifted_at}
+use Rattle.theory_walks.specs.Boundary.{IsBoundaryEdge}
+use Rattle.theory_walks.specs.Frames.{lifted_at}
 use Rattle.lazy_walk.specs.Crossed.{IsCrossedTo}
 use Rattle.theory_stars.specs.Corners.{edge_into}
 use Rattle.star_walk.specs.Found.{its_edge}
@@ -57,9 +57,9 @@ returns-in_err-corner-clause-limit_edge g c =
 
 pub returns-clause-crossed : goal.returns-clause-crossed
 returns-clause-crossed g c =
-    let t = tiling_of c.args.machine.now in
     let k = c.args.corner.now.tile in
-    subst (λ e. IsCrossedTo t c.args.frame.now c.step_grow.new.self (address_of k.addr) k.motion e c.step_grow.new.tile c.in_ok-corner.field-0)
+    subst (λ e. IsCrossedTo (tiling_of c.args.machine.now) c.args.frame.now c.step_grow.new.self (address_of k.addr) k.motion e
+    c.step_grow.new.tile c.in_ok-corner.field-0)
     (number g ((goal.at.returns-clause-crossed g c).After-edge_before-edge)) c.in_ok-corner.ensures.crossed
 
 pub returns-clause-limit_exactly : goal.returns-clause-limit_exactly

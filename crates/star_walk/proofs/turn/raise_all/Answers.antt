@@ -1,7 +1,7 @@
 use Rattle.std.proofs.Common.{◌≤◌, length, get_or, sym, ap, ◌∙◌, subst}
 use Rattle.theory_addresses.specs.Address.{depth}
 use Rattle.theory_frames.specs.Frame.{lifted_in}
-use Rattle.lazy_walk.specs.Frames.{whole}
+use Rattle.theory_walks.specs.Frames.{whole}
 use Rattle.tile_shape.specs.Views.{address_of}
 use Rattle.star_walk.specs.declared.corner.Corner.{Corner}
 use Rattle.star_walk.specs.Found.{IsRaised}

@@ -5,9 +5,9 @@ use Rattle.star_walk.specs.declared.corner.Corner.{Corner}
 use Rattle.star_walk.specs.declared.star_fault.StarFault.TheVariants.{DepthLimit}
 use Rattle.star_walk.specs.Causes.{HasCause}
 use Rattle.star_walk.specs.Found.{IsOnTheWay}
-use Rattle.lazy_walk.proofs.Brought.{Brings, brought}
+use Rattle.theory_walks.proofs.Brought.{Brings, brought}
 use Rattle.star_walk.specs.StarLaws.{HasStarLaws}
-use Rattle.lazy_walk.proofs.Outcomes.{if_err-is}
+use Rattle.theory_walks.proofs.Outcomes.{if_err-is}
 use Rattle.star_walk.proofs.Beyond.{not_beyond-way, not_beyond-turned, never-enough}
 use Rattle.star_walk.proofs.Turning.{started, last-exists, ended, stepped, too_big, not_too_big, limited, not_limited}
 use Rattle.star_walk.proofs.turn.turn.Given.{Over}

@@ -1,10 +1,9 @@
-use Rattle.std.proofs.Common.{◌≡◌, ◌+◌, ◌*◌, ◌/◌, ◌<◌, ◌≤◌, [], ◌∷◌, ◌++◌, map, length, sym, ap, ap₂, ◌∙◌, subst, arith, length-append}
+use Rattle.std.proofs.Common.{◌≡◌, ◌+◌, ◌*◌, ◌<◌, [], ◌∷◌, ◌++◌, map, length, sym, ap, ◌∙◌, subst, arith, length-append}
 use Rattle.std.proofs.Math.ListN.{length-map}
 use Rattle.std.proofs.lemmas.List.{map-append}
 use Rattle.std.proofs.lemmas.Nat.{div_below}
 use Rattle.cyclo_points.specs.Order.{points_of}
 use Rattle.rule_model.specs.Tiling.{tiling_of}
-use Rattle.theory_substitution.specs.RuleParts.{edge_count}
 use Rattle.tile_place.specs.TurnedVertices.{TurnedTable, widened, place_of}
 use Rattle.tile_place.proofs.GreatestTurns.{some_order}
 use Rattle.tile_place.proofs.TurnedPlaces.{AreTurnedBelow, row-vertex, one_more-vertex, vertex-below}

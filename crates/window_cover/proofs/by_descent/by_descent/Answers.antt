@@ -3,10 +3,10 @@ use Rattle.theory_addresses.specs.Address.{Address}
 use Rattle.cyclo_points.proofs.Within.{point_wider}
 use Rattle.rule_model.specs.Tiling.{tiling_of, children}
 use Rattle.tile_place.proofs.Plane.{IsSettled}
-use Rattle.lazy_walk.specs.Ancestors.{full}
-use Rattle.lazy_walk.specs.Frames.{GrowsTo}
-use Rattle.lazy_walk.proofs.Ancestors.{full-later}
-use Rattle.lazy_walk.proofs.Walks.{StillFits, GrowsTo-then}
+use Rattle.theory_walks.specs.Ancestors.{full}
+use Rattle.theory_walks.specs.Frames.{GrowsTo}
+use Rattle.theory_walks.proofs.Ancestors.{full-later}
+use Rattle.theory_walks.proofs.Walks.{StillFits, GrowsTo-then}
 use Rattle.window_descent.specs.Climbing.{IsClimbedTo}
 use Rattle.window_cover.specs.Answered.{IsFoundBelow}
 use Rattle.window_cover.specs.Checked.{IsChecked}

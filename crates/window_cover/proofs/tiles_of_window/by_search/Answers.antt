@@ -9,7 +9,7 @@ use Rattle.window_cover.specs.Windows.{AreDrawn, CoverWindow}
 use Rattle.window_cover.proofs.Arranged.{right-lifted}
 use Rattle.window_cover.proofs.Ended.{not-beyond, ended-least, ended-within}
 use Rattle.window_cover.proofs.Finished.{laws_of}
-use Rattle.lazy_walk.proofs.Outcomes.{if_err-is}
+use Rattle.theory_walks.proofs.Outcomes.{if_err-is}
 use Rattle.window_cover.specs.Packed.{packed}
 use Rattle.window_cover.specs.Working.{working}
 use Rattle.window_cover.proofs.Works.{works}

@@ -5,7 +5,7 @@ use Rattle.lazy_walk.specs.Standing.{Stands}
 use Rattle.window_cover.specs.Causes.{HasCause}
 use Rattle.window_cover.specs.Windows.{AreDrawn, CoverWindow}
 use Rattle.window_cover.specs.declared.cover_fault.CoverFault.TheVariants.{NoMemory}
-use Rattle.lazy_walk.proofs.Outcomes.{if_err-is}
+use Rattle.theory_walks.proofs.Outcomes.{if_err-is}
 use Rattle.window_cover.proofs.Outcomes.{no_memory-on, only_memory}
 use Rattle.window_cover.proofs.tiles_of_window.cover.Goals as goal
 

@@ -1,11 +1,11 @@
 use Rattle.std.proofs.Common.{sym, ◌∙◌, subst}
 use Rattle.std.proofs.lemmas.Result.{IfOk-from_err}
 use Rattle.rule_model.specs.Tiling.{tiling_of}
-use Rattle.lazy_walk.proofs.Walks.{GrowsTo-then}
+use Rattle.theory_walks.proofs.Walks.{GrowsTo-then}
 use Rattle.window_cover.specs.Windows.{IsLeastEnough}
 use Rattle.window_cover.specs.Causes.{HasCause}
 use Rattle.window_cover.specs.Limits.{IsWithinLimits}
-use Rattle.lazy_walk.proofs.Outcomes.{if_err-is}
+use Rattle.theory_walks.proofs.Outcomes.{if_err-is}
 use Rattle.window_cover.proofs.Outcomes.{no_memory-on}
 use Rattle.window_cover.proofs.Searches.{none-open, cause-before}
 use Rattle.window_cover.proofs.tiles_of_window.searched.Goals as goal

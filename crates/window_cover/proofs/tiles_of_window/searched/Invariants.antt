@@ -1,7 +1,7 @@
 use Rattle.std.proofs.Common.{◌≡◌, ◌-◌, ◌≤◌, length, ℕ}
 use Rattle.rule_model.specs.Tiling.{Tiling, tiling_of}
 use Rattle.plane_geom.specs.declared.window.Window.{Window}
-use Rattle.lazy_walk.specs.Frames.{FrameValue, GrowsTo}
+use Rattle.theory_walks.specs.Frames.{FrameValue, GrowsTo}
 use Rattle.window_cover.specs.Found.{CoverValue}
 use Rattle.window_cover.specs.Right.{IsRight}
 use Rattle.window_cover.specs.Windows.{IsLeastEnough}

@@ -9,7 +9,7 @@ use Rattle.plane_geom.specs.Spots.{reals_of, spots_of}
 use Rattle.rule_model.specs.declared.rule.Rule.{Rule}
 use Rattle.rule_model.specs.Tiling.{tiling_of}
 use Rattle.rule_model.specs.Views.{rule_of}
-use Rattle.lazy_walk.specs.Ancestors.{full}
+use Rattle.theory_walks.specs.Ancestors.{full}
 use Rattle.theory_descents.specs.Climb.{holds_window}
 use Rattle.theory_descents.specs.Parts.{part_polygon}
 use Rattle.window_descent.specs.Standing.{window_box}

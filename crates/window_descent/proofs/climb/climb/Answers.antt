@@ -2,9 +2,10 @@ use Rattle.std.proofs.Common.{◌≡◌, inl, inr, ℕ, ◌<◌, ◌≤◌, true
 use Rattle.std.proofs.lemmas.Bool.{cases_lt}
 use Rattle.theory_addresses.specs.Address.{Address, depth}
 use Rattle.rule_model.specs.Tiling.{tiling_of}
-use Rattle.lazy_walk.specs.Ancestors.{full, IsAncestor}
-use Rattle.lazy_walk.proofs.Ancestors.{full-later}
-use Rattle.lazy_walk.proofs.Walks.{GrowsTo-self, GrowsTo-then, at_depth-depth}
+use Rattle.theory_walks.specs.Ancestors.{full}
+use Rattle.lazy_walk.specs.Ancestors.{IsAncestor}
+use Rattle.theory_walks.proofs.Ancestors.{full-later}
+use Rattle.theory_walks.proofs.Walks.{GrowsTo-self, GrowsTo-then, at_depth-depth}
 use Rattle.window_descent.specs.Climbing.{holds_at, IsTried}
 use Rattle.window_descent.proofs.climb.climb.Goals as goal
 
@@ -52,11 +53,11 @@ loop-ancestor-preserved c =
     let tried : IsTried t (full t f) w c.args.from level false =
     subst (λ b. IsTried t (full t f) w c.args.from level b) c.in-Some-false.field-0-test
     (subst (λ (a : Address). IsTried t a w c.args.from level c.in-Some-false.field-0) same c.in-Some-false.ensures) in
-    let next = c.in-Ok.ensures.level in
+    let next = c.in-Ok.ensures.next.one_more in
     record {
       grown = GrowsTo-then t f c.loop-ancestor.frame c.next_out.new.self inv.grown c.next_out.ensures.frame;
-      deep = omega (arith, next, c.in-Ok.ensures.least);
-      ancestor = subst (λ (a : Address). IsAncestor t a c.in-Ok.next) same c.in-Ok.ensures.next;
+      deep = omega (arith, next, c.in-Ok.ensures.next.grown);
+      ancestor = subst (λ (a : Address). IsAncestor t a c.in-Ok.next) same c.in-Ok.ensures.next.ancestor;
       none_before = λ k l h. elim (cases_lt k level) [
         | inl lt ↦ inv.none_before k l lt
         | inr ge ↦

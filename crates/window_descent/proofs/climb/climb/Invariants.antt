@@ -1,6 +1,7 @@
 use Rattle.std.proofs.Common.{◌≡◌, ℕ, ◌-◌, ◌<◌, ◌≤◌, false, length}
-use Rattle.lazy_walk.specs.Ancestors.{full, IsAncestor}
-use Rattle.lazy_walk.specs.Frames.{GrowsTo}
+use Rattle.theory_walks.specs.Ancestors.{full}
+use Rattle.lazy_walk.specs.Ancestors.{IsAncestor}
+use Rattle.theory_walks.specs.Frames.{GrowsTo}
 use Rattle.rule_model.specs.Tiling.{tiling_of}
 use Rattle.window_descent.specs.Climbing.{holds_at}
 use Rattle.window_descent.proofs.climb.climb.Given as goal

@@ -9,10 +9,10 @@ use Rattle.rule_model.specs.Tiling.{tiling_of, children}
 use Rattle.tile_place.proofs.Start.{IsOrigin, start-still, start-turn, start-in_order}
 use Rattle.tile_shape.specs.Usable.{AreUsable}
 use Rattle.tile_shape.specs.Views.{address_of}
-use Rattle.lazy_walk.specs.Frames.{whole}
-use Rattle.lazy_walk.proofs.Walks.{whole-fits}
-use Rattle.lazy_walk.proofs.Walked.{whole-tile_of, base-lifted}
-use Rattle.lazy_walk.proofs.Standing.{stands-base}
+use Rattle.theory_walks.specs.Frames.{whole}
+use Rattle.theory_walks.proofs.Walks.{whole-fits}
+use Rattle.theory_walks.proofs.Walked.{whole-tile_of, base-lifted}
+use Rattle.theory_walks.proofs.Standing.{stands-base}
 use Rattle.lazy_walk.proofs.frame.Frame.base_tile.Goals as goal
 
 pub returns-clause-stands : goal.returns-clause-stands

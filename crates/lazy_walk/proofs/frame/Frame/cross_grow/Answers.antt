@@ -1,8 +1,8 @@
 use Rattle.std.proofs.Common.{subst}
 use Rattle.theory_addresses.specs.Address.{Address}
 use Rattle.rule_model.specs.Tiling.{tiling_of}
-use Rattle.lazy_walk.specs.Boundary.{IsBoundaryEdge}
-use Rattle.lazy_walk.specs.Frames.{lifted_at}
+use Rattle.theory_walks.specs.Boundary.{IsBoundaryEdge}
+use Rattle.theory_walks.specs.Frames.{lifted_at}
 use Rattle.lazy_walk.proofs.frame.Frame.cross_grow.Goals as goal
 
 pub returns-in-Ok-clause-least : goal.returns-in-Ok-clause-least

@@ -5,16 +5,16 @@ use Rattle.theory_addresses.specs.Address.{Fits}
 use Rattle.theory_frames.specs.Frame.{lifted_in}
 use Rattle.rule_model.specs.declared.rule.Rule.{Rule}
 use Rattle.rule_model.specs.Tiling.{tiling_of, contacts, children}
-use Rattle.tile_place.specs.Crossed.{LiesAlong}
+use Rattle.tile_place.specs.Crossed.{IsOnlyAcross, LiesAlong}
 use Rattle.tile_place.proofs.Plane.{BoundariesLaw, IsSettled, part_along}
 use Rattle.tile_shape.specs.declared.address.Address.{Address}
 use Rattle.tile_shape.specs.Usable.{AreUsable}
 use Rattle.tile_shape.specs.Views.{address_of}
-use Rattle.lazy_walk.specs.Boundary.{IsBoundaryEdge}
-use Rattle.lazy_walk.specs.Frames.{FrameValue, whole, lifted_at}
-use Rattle.lazy_walk.proofs.Walks.{StillFits, at_depth-depth, GrowsTo-then}
-use Rattle.lazy_walk.proofs.Lifting.{lifted-later, lifted-again}
-use Rattle.lazy_walk.proofs.Crossings.{lifted-is_whole, across-of_frame, traced-before, before-and_now}
+use Rattle.theory_walks.specs.Boundary.{IsBoundaryEdge}
+use Rattle.theory_walks.specs.Frames.{FrameValue, whole, lifted_at}
+use Rattle.theory_walks.proofs.Walks.{StillFits, at_depth-depth, GrowsTo-then}
+use Rattle.theory_walks.proofs.Lifting.{lifted-later, lifted-again}
+use Rattle.theory_walks.proofs.Crossings.{lifted-is_whole, across-of_frame, traced-before, before-and_now}
 use Rattle.lazy_walk.proofs.frame.Frame.cross_grow_in_place.Goals as goal
 
 -- the laws of growth, for the children of the machine's tiling
@@ -32,34 +32,26 @@ cross_in_place-requires-clause-fits g c =
     (lifted-is_whole c.args.machine.now fits c.args.self.now (address_of c.args.tile.now) c.requires.frame
     c.requires.of_frame c.loop-back.self c.loop-back.invariant.grown).fits
 
-pub returns-in-Ok-clause-answer_of_frame : goal.returns-in-Ok-clause-answer_of_frame
-returns-in-Ok-clause-answer_of_frame g c =
+pub returns-in-Ok-clause-crossed : goal.returns-in-Ok-clause-crossed
+returns-in-Ok-clause-crossed g c =
+    let t = tiling_of c.args.machine.now in
+    let lifted = c.loop-back.invariant.lifted in
+    let b = address_of c.cross_in_place.new.addr in
     let fits = still_fits c.uses.result.now c.args.machine.now c.checked-checked.result.now c.uses.ensures
     c.checked-checked.ensures.rule c.kinds-usable.ensures.limits
     (λ children usable base start n h. c.grown_fits_law.ensures children base start n usable h) in
-    (across-of_frame c.args.machine.now fits c.args.self.now (address_of c.args.tile.now) c.requires.frame
-    c.requires.of_frame c.loop-back.self (address_of c.cross_in_place.new.addr) c.args.edge
-    c.in-Ok.back c.loop-back.invariant.grown (subst
-    (λ a. IsAcross (contacts (tiling_of c.args.machine.now)) a c.args.edge
-    (address_of c.cross_in_place.new.addr) c.in-Ok.back)
-    c.loop-back.invariant.lifted c.in-Ok.ensures.across) c.in-Ok.ensures.answer_fits).0
-
-pub returns-in-Ok-clause-at_new_depth : goal.returns-in-Ok-clause-at_new_depth
-returns-in-Ok-clause-at_new_depth g c =
-    let fits = still_fits c.uses.result.now c.args.machine.now c.checked-checked.result.now c.uses.ensures
-    c.checked-checked.ensures.rule c.kinds-usable.ensures.limits
-    (λ children usable base start n h. c.grown_fits_law.ensures children base start n usable h) in
-    (across-of_frame c.args.machine.now fits c.args.self.now (address_of c.args.tile.now) c.requires.frame
-    c.requires.of_frame c.loop-back.self (address_of c.cross_in_place.new.addr) c.args.edge
-    c.in-Ok.back c.loop-back.invariant.grown (subst
-    (λ a. IsAcross (contacts (tiling_of c.args.machine.now)) a c.args.edge
-    (address_of c.cross_in_place.new.addr) c.in-Ok.back)
-    c.loop-back.invariant.lifted c.in-Ok.ensures.across) c.in-Ok.ensures.answer_fits).1
-
-pub returns-in-Ok-clause-inside : goal.returns-in-Ok-clause-inside
-returns-in-Ok-clause-inside g c = λ on.
-    c.in-Ok.ensures.inside on.own (subst (λ a. LiesAlong (tiling_of c.args.machine.now) a c.args.edge on.own)
-    (sym c.loop-back.invariant.lifted) on.along)
+    let across = subst (λ a. IsAcross (contacts t) a c.args.edge b c.in-Ok.back) lifted c.in-Ok.ensures.crossing.crossing.across in
+    let here = across-of_frame c.args.machine.now fits c.args.self.now (address_of c.args.tile.now)
+    c.requires.frame c.requires.of_frame c.loop-back.self b c.args.edge c.in-Ok.back
+    c.loop-back.invariant.grown across c.in-Ok.ensures.answer_fits in
+    record {
+      across = across;
+      only_tile_across = subst (λ a. IsOnlyAcross t a c.args.edge b c.in-Ok.back) lifted c.in-Ok.ensures.only_tile_across;
+      leads_back = subst (λ a. IsOnlyAcross t b c.in-Ok.back a c.args.edge) lifted c.in-Ok.ensures.leads_back;
+      of_frame = here.0;
+      at_depth = here.1;
+      inside = λ on. c.in-Ok.ensures.inside on.own (subst (λ a. LiesAlong t a c.args.edge on.own) (sym lifted) on.along);
+    }
 
 -- what is on the boundary at depth 64 was so before, and is answered as Outside
 pub returns-in-Ok-clause-limit_exactly : goal.returns-in-Ok-clause-limit_exactly
@@ -84,7 +76,7 @@ returns-in-Ok-clause-limit_exactly g c = (λ e. absurd (cc e), λ on. refute on)
         c.requires.frame c.requires.of_frame settled law c.args.edge c.requires.edge_exists
         c.loop-back.self
         c.loop-back.invariant.grown on in
-        cc (c.in-Ok.ensures.boundary_when traced.0 traced.1
+        cc (c.in-Ok.ensures.crossing.crossing.boundary_when traced.0 traced.1
         (subst (λ a. LiesOn (contacts (tiling_of c.args.machine.now)) a c.args.edge traced.0 traced.1)
         (sym c.loop-back.invariant.lifted) traced.2))
 
@@ -103,7 +95,7 @@ loop-back-preserved g c = record {
       c.loop-back.invariant.grown c.in-Ok-grow.ensures.frame;
   lifted =
       c.raise-in-Ok-grow.ensures ∙ ap (λ (a : Address). lifted_in (whole c.grow.new.self) (address_of a))
-      c.in_default.ensures.unchanged ∙ ap (lifted_in (whole c.grow.new.self)) c.loop-back.invariant.lifted
+      c.in_default.ensures.crossing.unchanged ∙ ap (lifted_in (whole c.grow.new.self)) c.loop-back.invariant.lifted
       ∙ lifted-again (tiling_of c.args.machine.now) c.loop-back.self c.grow.new.self (address_of c.args.tile.now) c.loop-back.invariant.grown.is_frame
       (omega (arith, c.requires.of_frame.no_deeper, c.loop-back.invariant.grown.no_shallower)) c.in-Ok-grow.ensures.one_more;
   before = before-and_now c.args.machine.now fits c.args.self.now (address_of c.args.tile.now)

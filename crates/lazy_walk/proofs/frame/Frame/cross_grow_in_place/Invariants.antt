@@ -2,8 +2,8 @@ use Rattle.std.proofs.Common.{◌≡◌, ℕ, ◌-◌, ◌<◌, ◌≤◌, lengt
 use Rattle.theory_frames.specs.Frame.{lifted_in}
 use Rattle.rule_model.specs.Tiling.{tiling_of}
 use Rattle.tile_shape.specs.Views.{address_of}
-use Rattle.lazy_walk.specs.Boundary.{IsBoundaryEdge}
-use Rattle.lazy_walk.specs.Frames.{whole, GrowsTo, lifted_at}
+use Rattle.theory_walks.specs.Boundary.{IsBoundaryEdge}
+use Rattle.theory_walks.specs.Frames.{whole, GrowsTo, lifted_at}
 use Rattle.lazy_walk.proofs.frame.Frame.cross_grow_in_place.Given as goal
 
 -- the tile is lifted to the frame as it is now, and its edge was on the boundary at each depth so far

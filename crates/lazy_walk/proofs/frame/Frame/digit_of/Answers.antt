@@ -7,8 +7,8 @@ use Rattle.rule_model.specs.Views.{rule_of}
 use Rattle.tile_place.proofs.Children.{digit-listed}
 use Rattle.tile_shape.specs.Usable.{AreUsable}
 use Rattle.tile_shape.specs.Views.{step_of}
-use Rattle.lazy_walk.proofs.Walks.{whole-fits}
-use Rattle.lazy_walk.proofs.Ancestors.{digit-same}
+use Rattle.theory_walks.proofs.Walks.{whole-fits}
+use Rattle.theory_walks.proofs.Ancestors.{digit-same}
 use Rattle.lazy_walk.proofs.frame.Frame.digit_of.Goals as goal
 
 pub returns-clause-digit : goal.returns-clause-digit

@@ -8,8 +8,8 @@ use Rattle.tile_shape.specs.Usable.{AreUsable}
 use Rattle.tile_shape.specs.UsesInOrder.{uses_in_order}
 use Rattle.tile_shape.specs.Views.{step_of}
 use Rattle.seeded_growth.specs.Words.{word}
-use Rattle.lazy_walk.specs.Frames.{FrameValue, whole, GrowsTo}
-use Rattle.lazy_walk.proofs.Walks.{StillFits, later, top-below, one_deeper}
+use Rattle.theory_walks.specs.Frames.{FrameValue, whole, GrowsTo}
+use Rattle.theory_walks.proofs.Walks.{StillFits, later, top-below, one_deeper}
 use Rattle.lazy_walk.proofs.frame.Frame.grow.Goals as goal
 
 pub next_digit-digit-requires-clause-exists : goal.next_digit-digit-requires-clause-exists

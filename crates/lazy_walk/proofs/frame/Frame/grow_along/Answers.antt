@@ -9,10 +9,10 @@ use Rattle.rule_model.specs.Tiling.{tiling_of, contacts, children}
 use Rattle.tile_place.specs.Crossed.{edges_of}
 use Rattle.tile_place.proofs.KindEdges.{edges_counted}
 use Rattle.tile_shape.specs.Views.{address_of}
-use Rattle.lazy_walk.specs.Frames.{FrameValue, whole, at_depth, lifted_at}
-use Rattle.lazy_walk.specs.Paths.{Leads, CanBeWalked, IsStopped, IsStoppedAt}
-use Rattle.lazy_walk.proofs.Walks.{GrowsTo-is, GrowsTo-then}
-use Rattle.lazy_walk.proofs.Walked.{stops_before, laws_are, parted, whole-tile_of, tile_of-whole, base-lifted, IsOnPath, at_base, walked_at_64, comes_at_64, goes_on}
+use Rattle.theory_walks.specs.Frames.{FrameValue, whole, at_depth, lifted_at}
+use Rattle.theory_walks.specs.Paths.{Leads, CanBeWalked, IsStopped, IsStoppedAt}
+use Rattle.theory_walks.proofs.Walks.{GrowsTo-is, GrowsTo-then}
+use Rattle.theory_walks.proofs.Walked.{stops_before, laws_are, parted, whole-tile_of, tile_of-whole, base-lifted, IsOnPath, at_base, walked_at_64, comes_at_64, goes_on}
 use Rattle.lazy_walk.proofs.frame.Frame.grow_along.Goals as goal
 
 -- in a frame before, the path is stopped within its front
@@ -167,9 +167,9 @@ returns-in-Err-clause-fault_at_64 g c =
           c.if-edge-edges.false;
       on_boundary = c.in-Err.ensures.limit_exactly.0 refl;
     } in
-    subst (λ e. IsStoppedAt t at c.args.path.now (address_of c.in-Err.limit.addr) e) (sym c.in-Err.ensures.limit_edge)
+    subst (λ e. IsStoppedAt t at c.args.path.now (address_of c.in-Err.limit.addr) e) (sym c.in-Err.ensures.limit.edge)
     (subst (λ (a : Address). IsStoppedAt t at c.args.path.now a
-    (get_or c.args.path.now c.loop-edge.edge-index 0)) (sym c.in-Err.ensures.limit_tile) here)
+    (get_or c.args.path.now c.loop-edge.edge-index 0)) (sym c.in-Err.ensures.limit.tile) here)
 
 pub returns-in-Err-clause-fault : goal.returns-in-Err-clause-fault
 returns-in-Err-clause-fault g c =
@@ -177,7 +177,7 @@ returns-in-Err-clause-fault g c =
     let old = c.args.self.now in
     let new = c.cross_grow_in_place.new.self in
     let grows = GrowsTo-then t old c.loop-edge.self new c.loop-edge.invariant.grows c.in-Err.ensures.frame in
-    let same : new ≡ at_depth t 64 old = GrowsTo-is t old new grows ∙ ap (λ n. at_depth t n old) c.in-Err.ensures.deepest_at_limit in
+    let same : new ≡ at_depth t 64 old = GrowsTo-is t old new grows ∙ ap (λ n. at_depth t n old) c.in-Err.ensures.limit.deepest in
     subst (λ (f : FrameValue). IsStoppedAt t (whole f) c.args.path.now (address_of c.in-Err.limit.addr)
     c.in-Err.limit.edge) (sym same) (returns-in-Err-clause-fault_at_64 g c)
 
@@ -194,8 +194,8 @@ loop-edge-preserved g c =
     c.uses.ensures c.kinds-usable.ensures.limits (λ children usable base start n h. c.grown_fits_law.ensures children base start n usable h) in
     let own : IsWhole (children (tiling_of c.args.machine.now)) (whole c.cross_grow_in_place.new.self) (address_of c.cross_grow_in_place.new.tile) =
     tile_of-whole (children (tiling_of c.args.machine.now)) (whole c.cross_grow_in_place.new.self)
-    (address_of c.cross_grow_in_place.new.tile) c.in_default.ensures.answer_of_frame
-    c.in_default.ensures.at_new_depth in
+    (address_of c.cross_grow_in_place.new.tile) c.in_default.ensures.crossed.of_frame
+    c.in_default.ensures.crossed.at_depth in
     subst (IsOnPath c.args.machine.now c.args.self.now c.cross_grow_in_place.new.self
     (address_of c.cross_grow_in_place.new.tile))
     (sym (take_more c.args.path.now c.loop-edge.edge-index 0 c.loop-edge-test.true))
@@ -208,9 +208,9 @@ loop-edge-preserved g c =
           c.loop-edge.tile.kind (get_or c.args.path.now c.loop-edge.edge-index 0) c.edges-edges.result
           c.tables.ensures.contacts c.checked-checked.ensures.rule c.edges-edges.ensures.count
           c.if-edge-edges.false;
-      inside = c.in_default.ensures.inside;
+      inside = c.in_default.ensures.crossed.inside;
       fits = own.fits;
-      across = c.in_default.ensures.only_tile_across;
+      across = c.in_default.ensures.crossed.only_tile_across;
     }) own c.in_default.ensures.least)
 
 pub returns-clause-walked : goal.returns-clause-walked

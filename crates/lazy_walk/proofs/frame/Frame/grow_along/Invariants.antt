@@ -1,6 +1,6 @@
 use Rattle.std.proofs.Common.{take}
 use Rattle.tile_shape.specs.Views.{address_of}
-use Rattle.lazy_walk.proofs.Walked.{IsOnPath}
+use Rattle.theory_walks.proofs.Walked.{IsOnPath}
 use Rattle.lazy_walk.proofs.frame.Frame.grow_along.Given as goal
 
 -- the edges crossed lead to the tile

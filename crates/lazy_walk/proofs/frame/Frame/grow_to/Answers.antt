@@ -1,7 +1,7 @@
 use Rattle.std.proofs.Common.{◌≡◌, ◌+◌, length, ap, ◌∙◌, arith}
 use Rattle.rule_model.specs.Tiling.{tiling_of}
-use Rattle.lazy_walk.specs.Frames.{FrameValue}
-use Rattle.lazy_walk.proofs.Walks.{GrowsTo-self, GrowsTo-then, at_depth-depth, on_ok}
+use Rattle.theory_walks.specs.Frames.{FrameValue}
+use Rattle.theory_walks.proofs.Walks.{GrowsTo-self, GrowsTo-then, at_depth-depth, on_ok}
 use Rattle.lazy_walk.proofs.frame.Frame.grow_to.Goals as goal
 
 pub loop-self-init : goal.loop-self-init

@@ -1,6 +1,6 @@
 use Rattle.std.proofs.Common.{◌-◌, ◌≤◌, length, max}
 use Rattle.rule_model.specs.Tiling.{tiling_of}
-use Rattle.lazy_walk.specs.Frames.{GrowsTo}
+use Rattle.theory_walks.specs.Frames.{GrowsTo}
 use Rattle.lazy_walk.proofs.frame.Frame.grow_to.Given as goal
 
 -- the frame has grown, and not past the depth

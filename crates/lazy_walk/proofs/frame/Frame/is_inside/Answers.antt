@@ -2,7 +2,7 @@ use Rattle.std.proofs.Common.{sym, ap, ◌∙◌}
 use Rattle.rule_model.specs.declared.rule.Rule.{Rule}
 use Rattle.rule_model.specs.Views.{rule_of}
 use Rattle.tile_place.proofs.Parts.{holds_is}
-use Rattle.lazy_walk.proofs.Ancestors.{same_outline}
+use Rattle.theory_walks.proofs.Ancestors.{same_outline}
 use Rattle.lazy_walk.proofs.frame.Frame.is_inside.Goals as goal
 
 pub returns-clause-holds : goal.returns-clause-holds

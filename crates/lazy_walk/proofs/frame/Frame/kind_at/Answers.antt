@@ -1,9 +1,9 @@
 use Rattle.std.proofs.Common.{refl, ap, ◌∙◌, arith, length, map}
 use Rattle.std.proofs.lemmas.List.{length-map}
-use Rattle.lazy_walk.specs.Frames.{FrameValue, whole}
+use Rattle.theory_walks.specs.Frames.{FrameValue, whole}
 use Rattle.theory_addresses.specs.Address.{kind_at}
 use Rattle.tile_shape.specs.Views.{step_of}
-use Rattle.lazy_walk.proofs.Walks.{kind_at_level}
+use Rattle.theory_walks.proofs.Walks.{kind_at_level}
 use Rattle.lazy_walk.proofs.frame.Frame.kind_at.Goals as goal
 
 pub returns-else-level-eq0 : goal.returns-else-level-eq0

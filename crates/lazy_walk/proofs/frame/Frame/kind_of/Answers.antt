@@ -3,8 +3,8 @@ use Rattle.rule_model.specs.declared.rule.Rule.{Rule}
 use Rattle.rule_model.specs.Tiling.{tiling_of, children}
 use Rattle.rule_model.specs.Views.{rule_of}
 use Rattle.tile_shape.specs.Usable.{AreUsable}
-use Rattle.lazy_walk.proofs.Walks.{whole-fits}
-use Rattle.lazy_walk.proofs.Ancestors.{kind-same, kind-exists}
+use Rattle.theory_walks.proofs.Walks.{whole-fits}
+use Rattle.theory_walks.proofs.Ancestors.{kind-same, kind-exists}
 use Rattle.lazy_walk.proofs.frame.Frame.kind_of.Goals as goal
 
 pub returns-clause-kind : goal.returns-clause-kind

@@ -1,8 +1,8 @@
 use Rattle.std.proofs.Common.{rules, ◌≡◌, ◌≤◌, length, map, ap, arith}
 use Rattle.std.proofs.lemmas.List.{length-map}
 use Rattle.tile_shape.specs.Views.{address_of, step_of}
-use Rattle.lazy_walk.specs.Frames.{FrameValue}
-use Rattle.lazy_walk.proofs.Walks.{new-is_frame}
+use Rattle.theory_walks.specs.Frames.{FrameValue}
+use Rattle.theory_walks.proofs.Walks.{new-is_frame}
 use Rattle.lazy_walk.proofs.frame.Frame.new.Goals as goal
 
 pub returns-clause-is_frame : goal.returns-clause-is_frame

@@ -2,8 +2,8 @@ use Rattle.std.proofs.Common.{◌+◌, ◌-◌, ◌≤◌, take, drop, length, a
 use Rattle.std.proofs.lemmas.List.{length-map, take_rest}
 use Rattle.tile_shape.specs.Views.{step_of, address_of}
 use Rattle.theory_frames.specs.Frame.{lifted_in}
-use Rattle.lazy_walk.specs.Frames.{FrameValue, whole}
-use Rattle.lazy_walk.proofs.Walks.{on_ok, raised}
+use Rattle.theory_walks.specs.Frames.{FrameValue, whole}
+use Rattle.theory_walks.proofs.Walks.{on_ok, raised}
 use Rattle.lazy_walk.proofs.frame.Frame.raise.Goals as goal
 
 pub returns : goal.returns

@@ -9,9 +9,9 @@ use Rattle.cyclo_points.proofs.Within.{point_wider}
 use Rattle.rule_model.specs.declared.rule.Rule.{Rule}
 use Rattle.rule_model.specs.Tiling.{tiling_of, children}
 use Rattle.tile_shape.specs.Views.{address_of}
-use Rattle.lazy_walk.specs.Frames.{whole}
-use Rattle.lazy_walk.proofs.Walked.{whole-tile_of, tile_of-whole}
-use Rattle.lazy_walk.proofs.Standing.{across-is_whole, stands-across}
+use Rattle.theory_walks.specs.Frames.{whole}
+use Rattle.theory_walks.proofs.Walked.{whole-tile_of, tile_of-whole}
+use Rattle.theory_walks.proofs.Standing.{across-is_whole, stands-across}
 use Rattle.lazy_walk.proofs.frame.Frame.step.Goals as goal
 
 pub returns-in_err-back-clause-within : goal.returns-in_err-back-clause-within
@@ -33,7 +33,7 @@ returns-clause-stands g c =
     let own : IsWhole (children (tiling_of m)) f a = tile_of-whole (children (tiling_of m)) f a
     c.requires.stands.of_frame c.requires.stands.at_depth in
     let across : IsWhole (children (tiling_of m)) f b = across-is_whole (tiling_of m) f a b c.args.edge
-    c.in_ok-back.back own c.in_ok-back.ensures.across c.in_ok-back.ensures.answer_fits in
+    c.in_ok-back.back own c.in_ok-back.ensures.crossing.crossing.across c.in_ok-back.ensures.answer_fits in
     let laws : PointsLaw m.order = subst PointsLaw
     (c.order.ensures.order ∙ ap (λ (r : Rule). r.order) c.checked-checked.ensures.rule)
     c.points_law.ensures in

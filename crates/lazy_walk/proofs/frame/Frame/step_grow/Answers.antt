@@ -5,9 +5,9 @@ use Rattle.rule_model.specs.Tiling.{tiling_of, children}
 use Rattle.tile_place.specs.Glued.{Meets, Glues}
 use Rattle.tile_shape.specs.Usable.{AreUsable}
 use Rattle.tile_shape.specs.Views.{address_of}
-use Rattle.lazy_walk.specs.Frames.{whole}
-use Rattle.lazy_walk.proofs.Crossings.{lifted-is_whole}
-use Rattle.lazy_walk.proofs.Walks.{StillFits}
+use Rattle.theory_walks.specs.Frames.{whole}
+use Rattle.theory_walks.proofs.Crossings.{lifted-is_whole}
+use Rattle.theory_walks.proofs.Walks.{StillFits}
 use Rattle.lazy_walk.proofs.frame.Frame.step_grow.Goals as goal
 
 pub cross_grow_in_place-requires-clause-of_frame : goal.cross_grow_in_place-requires-clause-of_frame
@@ -29,7 +29,7 @@ motion_across-tile-requires-clause-meets g c =
     c.requires.of_frame c.cross_grow_in_place.new.self c.in_ok-back.ensures.frame).fits in
     subst (λ k. Meets (tiling_of m) k c.args.edge c.cross_grow_in_place.new.tile.kind c.in_ok-back.back) (sym c.requires.its_kind)
     (c.gluing_law.ensures a (address_of c.cross_grow_in_place.new.tile) c.args.edge c.in_ok-back.back own
-    c.requires.edge_exists c.in_ok-back.ensures.only_tile_across).0
+    c.requires.edge_exists c.in_ok-back.ensures.crossed.only_tile_across).0
 
 pub motion_across-tile-requires-clause-turn_below : goal.motion_across-tile-requires-clause-turn_below
 motion_across-tile-requires-clause-turn_below g c = c.requires.turn_below
@@ -47,9 +47,10 @@ returns-clause-crossed g c =
     let across = c.motion_across-tile.ensures.across in
     record {
       its_kind = refl;
-      of_frame = c.in_ok-back.ensures.answer_of_frame;
-      at_depth = c.in_ok-back.ensures.at_new_depth;
-      only_tile_across = c.in_ok-back.ensures.only_tile_across;
+      of_frame = c.in_ok-back.ensures.crossed.of_frame;
+      at_depth = c.in_ok-back.ensures.crossed.at_depth;
+      only_tile_across = c.in_ok-back.ensures.crossed.only_tile_across;
+      inside = c.in_ok-back.ensures.crossed.inside;
       least = c.in_ok-back.ensures.least;
       glue = across.glue;
       glues = subst (λ k. Glues (tiling_of m) k c.args.edge b.kind c.in_ok-back.back across.glue) c.requires.its_kind across.glues;

@@ -1,4 +1,4 @@
-use Rattle.std.proofs.Common.{◌^◌, All, map, sym, subst}
+use Rattle.std.proofs.Common.{◌^◌, ◌++◌, List, All, map, length, take, drop, sym, subst}
 use Rattle.std.specs.List.{AllZip}
 use Rattle.cyclo_points.specs.Point.{IsWithin}
 use Rattle.lazy_walk.specs.Standing.{Stands}
@@ -7,7 +7,7 @@ use Rattle.star_walk.specs.declared.corner.Corner.{Corner}
 use Rattle.star_walk.specs.Corners.{corner_in}
 use Rattle.star_walk.specs.Found.{IsRaised}
 use Rattle.star_walk.specs.Round.{AreRound, AreInTurn}
-use Rattle.lazy_walk.proofs.Brought.{Brings, brought}
+use Rattle.theory_walks.proofs.Brought.{Brings, brought}
 use Rattle.star_walk.specs.StarLaws.{HasStarLaws}
 use Rattle.star_walk.proofs.Ended.{least, within-limits, star-round, star-turns, star-stands, star-within}
 use Rattle.star_walk.proofs.InTurn.{whole-back}
@@ -26,49 +26,45 @@ brings g c = brought HasStarLaws c.args.machine.now _ _ _ c.checked-checked.ensu
 lifted : (g : Over) (c : After-raise_all g) → AllZip (IsRaised c.turn.new.frame) c.turn.new.corners.items c.raise_all.new.corners
 lifted g c = subst (λ cs. AllZip (IsRaised c.turn.new.frame) cs c.raise_all.new.corners) c.as_mut_slice.ensures.value c.raise_all.ensures.raised
 
+-- so what is said of the corners lifted is said of the star's, in whose room they stand
+given-back : (g : Over) (c : After-raise_all g) (Q : List Corner → Type 0)
+    → ((ds : List Corner) → AllZip (IsRaised c.turn.new.frame) c.turn.new.corners.items ds → Q ds)
+    → Q (take (length c.turn.new.corners.items) (c.raise_all.new.corners ++ drop (length c.raise_all.new.corners) c.turn.new.corners.items))
+given-back g c Q said = subst Q
+    (sym (whole-back (IsRaised c.turn.new.frame) c.turn.new.corners.items c.raise_all.new.corners (lifted g c)))
+    (said c.raise_all.new.corners (lifted g c))
+
 pub returns-clause-round : goal.returns-clause-round
 returns-clause-round g c =
-    let m = c.args.machine.now in
     let B = brings g ((goal.at.returns-clause-round g c).After-kinds-usable) in
-    let raised = lifted g ((goal.at.returns-clause-round g c).After-raise_all) in
-    subst (λ cs. AreRound (tiling_of m) c.turn.new.frame c.args.vertex (map (corner_in m.order) cs))
-    (sym (whole-back (IsRaised c.turn.new.frame) c.turn.new.corners.items c.raise_all.new.corners raised))
-    (star-round m B.settled B.fits B.laws c.args.frame.now c.requires.frame c.args.vertex
-    c.requires.vertex_exists c.turn.new.frame c.turn.new.corners.items c.in_default.ensures.turned
-    c.raise_all.new.corners raised)
+    given-back g ((goal.at.returns-clause-round g c).After-raise_all)
+    (λ cs. AreRound (tiling_of c.args.machine.now) c.turn.new.frame c.args.vertex (map (corner_in c.args.machine.now.order) cs))
+    (star-round c.args.machine.now B.settled B.fits B.laws c.args.frame.now c.requires.frame c.args.vertex
+    c.requires.vertex_exists c.turn.new.frame c.turn.new.corners.items c.in_default.ensures.turned)
 
 pub returns-clause-turning : goal.returns-clause-turning
 returns-clause-turning g c =
-    let m = c.args.machine.now in
     let B = brings g ((goal.at.returns-clause-turning g c).After-kinds-usable) in
-    let raised = lifted g ((goal.at.returns-clause-turning g c).After-raise_all) in
-    subst (λ cs. AreInTurn (tiling_of m) c.turn.new.frame c.args.vertex (map (corner_in m.order) cs))
-    (sym (whole-back (IsRaised c.turn.new.frame) c.turn.new.corners.items c.raise_all.new.corners raised))
-    (star-turns m B.settled B.fits B.laws c.args.frame.now c.requires.frame c.args.vertex
-    c.requires.vertex_exists c.turn.new.frame c.turn.new.corners.items c.in_default.ensures.turned
-    c.raise_all.new.corners raised)
+    given-back g ((goal.at.returns-clause-turning g c).After-raise_all)
+    (λ cs. AreInTurn (tiling_of c.args.machine.now) c.turn.new.frame c.args.vertex (map (corner_in c.args.machine.now.order) cs))
+    (star-turns c.args.machine.now B.settled B.fits B.laws c.args.frame.now c.requires.frame c.args.vertex
+    c.requires.vertex_exists c.turn.new.frame c.turn.new.corners.items c.in_default.ensures.turned)
 
 pub returns-clause-stand : goal.returns-clause-stand
 returns-clause-stand g c =
-    let m = c.args.machine.now in
     let B = brings g ((goal.at.returns-clause-stand g c).After-kinds-usable) in
-    let raised = lifted g ((goal.at.returns-clause-stand g c).After-raise_all) in
-    subst (All (λ (k : Corner). Stands (tiling_of m) c.turn.new.frame k.tile))
-    (sym (whole-back (IsRaised c.turn.new.frame) c.turn.new.corners.items c.raise_all.new.corners raised))
-    (star-stands m B.settled B.fits B.laws c.args.frame.now c.requires.frame c.args.vertex
-    c.requires.vertex_exists c.turn.new.frame c.turn.new.corners.items c.in_default.ensures.turned
-    c.raise_all.new.corners raised)
+    given-back g ((goal.at.returns-clause-stand g c).After-raise_all)
+    (All (λ (k : Corner). Stands (tiling_of c.args.machine.now) c.turn.new.frame k.tile))
+    (star-stands c.args.machine.now B.settled B.fits B.laws c.args.frame.now c.requires.frame c.args.vertex
+    c.requires.vertex_exists c.turn.new.frame c.turn.new.corners.items c.in_default.ensures.turned)
 
 pub returns-clause-shifts_within : goal.returns-clause-shifts_within
 returns-clause-shifts_within g c =
-    let m = c.args.machine.now in
     let B = brings g ((goal.at.returns-clause-shifts_within g c).After-kinds-usable) in
-    let raised = lifted g ((goal.at.returns-clause-shifts_within g c).After-raise_all) in
-    subst (All (λ (k : Corner). IsWithin (2 ^ 24) k.tile.motion.shift))
-    (sym (whole-back (IsRaised c.turn.new.frame) c.turn.new.corners.items c.raise_all.new.corners raised))
-    (star-within m B.settled B.fits B.laws c.args.frame.now c.requires.frame c.args.vertex
-    c.requires.vertex_exists c.turn.new.frame c.turn.new.corners.items c.in_default.ensures.turned
-    c.raise_all.new.corners raised)
+    given-back g ((goal.at.returns-clause-shifts_within g c).After-raise_all)
+    (All (λ (k : Corner). IsWithin (2 ^ 24) k.tile.motion.shift))
+    (star-within c.args.machine.now B.settled B.fits B.laws c.args.frame.now c.requires.frame c.args.vertex
+    c.requires.vertex_exists c.turn.new.frame c.turn.new.corners.items c.in_default.ensures.turned)
 
 pub returns-clause-least : goal.returns-clause-least
 returns-clause-least g c =

@@ -20,7 +20,7 @@ bounds-powers-level c =
     let m = c.args.self.now in
     omega (
       arith,
-      ap length c.requires.powers,
+      ap length c.requires.powers.in_order,
       powers-length (points_of m.order) (rule_of m).factor 0
           (c.args.depth + 1),
       length-map c.args.powers.now (point_in m.order),
@@ -31,10 +31,10 @@ bounds-powers-level c =
 pub holder-requires-clause-scale_within : goal.holder-requires-clause-scale_within
 holder-requires-clause-scale_within c =
     let m = c.args.self.now in
-    c.requires.powers_within (c.loop-level.level - 1) _
+    c.requires.powers.within (c.loop-level.level - 1) _
     (omega (
       arith,
-      ap length c.requires.powers,
+      ap length c.requires.powers.in_order,
       powers-length (points_of m.order) (rule_of m).factor 0
           (c.args.depth + 1),
       length-map c.args.powers.now (point_in m.order),
@@ -51,7 +51,7 @@ loop-level-preserved c =
     let scale = point_in m.order (get_or c.args.powers.now n (record { c = [] })) in
     let down : c.loop-level.level ≡ suc n = omega (arith, c.loop-level-test.true) in
     let power_is : scale ≡ power P.ring r.factor n = power-read m.order r.factor (c.args.depth + 1)
-    c.args.powers.now n (record { c = [] }) c.requires.powers
+    c.args.powers.now n (record { c = [] }) c.requires.powers.in_order
     (omega (arith, c.loop-level.invariant.count, c.loop-level-test.true)) in
     let part = c.in-Ok-Some.part in
     let held : Some (part_in m.order part) ≡ holder P r scale (motion_in m.order c.loop-level.motion)
@@ -74,9 +74,7 @@ loop-level-preserved c =
           power_is (part_in m.order part) held)
           ∙ c.loop-level.invariant.tile;
       kind_exists = is_part.kind_exists;
-      turn_below = is_part.turn_below;
-      within = is_part.within;
-      in_order = is_part.in_order;
+      moves = is_part.moves;
       count = omega (arith, c.insert.ensures.len, c.loop-level.invariant.count, c.loop-level-test.true);
     }
 
@@ -89,7 +87,7 @@ returns-in-Ok-None-clause-fault c =
     let scale = point_in m.order (get_or c.args.powers.now n (record { c = [] })) in
     let down : c.loop-level.level ≡ suc n = omega (arith, c.loop-level-test.true) in
     let power_is : scale ≡ power P.ring r.factor n = power-read m.order r.factor (c.args.depth + 1)
-    c.args.powers.now n (record { c = [] }) c.requires.powers
+    c.args.powers.now n (record { c = [] }) c.requires.powers.in_order
     (omega (arith, c.loop-level.invariant.count, c.loop-level-test.true)) in
     let point = point_in m.order c.args.point.now in
     let at = motion_in m.order c.loop-level.motion in
@@ -111,7 +109,7 @@ returns-in-Err-clause-fault c =
     let scale = point_in m.order (get_or c.args.powers.now n (record { c = [] })) in
     let down : c.loop-level.level ≡ suc n = omega (arith, c.loop-level-test.true) in
     let power_is : scale ≡ power P.ring r.factor n = power-read m.order r.factor (c.args.depth + 1)
-    c.args.powers.now n (record { c = [] }) c.requires.powers
+    c.args.powers.now n (record { c = [] }) c.requires.powers.in_order
     (omega (arith, c.loop-level.invariant.count, c.loop-level-test.true)) in
     let point = point_in m.order c.args.point.now in
     let at = motion_in m.order c.loop-level.motion in (

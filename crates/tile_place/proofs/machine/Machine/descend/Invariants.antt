@@ -3,10 +3,11 @@ use Rattle.std.specs.Option.{option_map}
 use Rattle.theory_frames.specs.Descent.{tile_below, of_whole}
 use Rattle.theory_frames.specs.Looked.{values_below}
 use Rattle.cyclo_points.specs.Order.{points_of, is_refused}
-use Rattle.cyclo_points.specs.Point.{point_in, IsOf, IsWithin}
+use Rattle.cyclo_points.specs.Point.{point_in}
 use Rattle.cyclo_points.specs.Motion.{motion_in}
 use Rattle.rule_model.specs.Views.{rule_of}
 use Rattle.tile_shape.specs.Views.{step_of}
+use Rattle.tile_place.specs.Motions.{IsMotionOf}
 use Rattle.tile_place.proofs.machine.Machine.descend.Given as goal
 
 -- what is left to do is the same from the part that is reached, behind whose digits those found so far stand
@@ -21,9 +22,7 @@ invariant-loop-level l = record {
       (point_in l.self.order l.point))
       ≡ tile_below (points_of l.self.order) (rule_of l.self) l.kind l.depth (motion_in l.self.order l.at) (point_in l.self.order l.point);
   kind_exists : l.top < length (rule_of l.self).kinds;
-  turn_below : l.motion.turn < (points_of l.self.order).order;
-  within : IsWithin (2 ^ 24) l.motion.shift;
-  in_order : IsOf l.self.order l.motion.shift;
+  moves : IsMotionOf l.self.order (2 ^ 24) l.motion;
   count : length l.digits.items + l.level ≡ l.depth;
 }
 

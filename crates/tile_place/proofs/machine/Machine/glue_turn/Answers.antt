@@ -1,4 +1,4 @@
-use Rattle.std.proofs.Common.{◌≡◌, ◌+◌, ◌-◌, ◌/◌, ◌%◌, ◌<◌, ◌∙◌, ℕ, sym, ap, subst}
+use Rattle.std.proofs.Common.{◌+◌, ◌-◌, ◌/◌, ◌%◌, ◌<◌, ◌∙◌, sym, ap, subst}
 use Rattle.cyclo_points.specs.Order.{PointsLaw, points_of}
 use Rattle.theory_dissection.specs.Glue.{TurnsOnto}
 use Rattle.rule_model.specs.declared.rule.Rule.{Rule}

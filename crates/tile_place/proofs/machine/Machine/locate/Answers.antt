@@ -18,6 +18,7 @@ use Rattle.tile_place.specs.Located.{IsOnlyTileHolding}
 use Rattle.tile_place.specs.Searched.{placed_in}
 use Rattle.tile_place.proofs.Plane.{IsSettled}
 use Rattle.tile_place.proofs.Located.{located-only, located-depth, located-fits, located-motion, causes, found_exactly, not_inside}
+use Rattle.tile_place.proofs.machine.Machine.locate.Goals.{After-search}
 use Rattle.tile_place.proofs.machine.Machine.locate.Goals as goal
 
 -- what is so of the tile that a search finds is so of its answer
@@ -31,108 +32,56 @@ settled : (m : Rule) (o : Order) (r : Rule) → o ≡ r.order → r ≡ m → Po
 settled m o r e f points law =
     let same : o ≡ m.order = e ∙ ap (λ (q : Rule). q.order) f in (subst PointsLaw same points, subst (λ o. DissectionLaw (points_of o)) same law)
 
+-- the rule is settled, and the laws are those of its order
+its : (c : After-search) → IsSettled c.args.self.now
+its c = record {
+  accepted = c.checked.ensures.accepted;
+  usable = c.checked.ensures.usable;
+  same_child_kinds = c.checked.ensures.same_child_kinds;
+}
+
+laws : (c : After-search) → PointsLaw c.args.self.now.order × DissectionLaw (points_of c.args.self.now.order)
+laws c = settled c.args.self.now c.order-order.result c.checked.result.now c.order-order.ensures.order
+    c.checked.ensures.rule c.points_law.ensures c.dissection_law.ensures
+
+-- what a search finds is so of its answer, where it follows of the tile
+found : (c : After-search) (Q : Placed (NumberOf c.args.self.now.order) → Type 0)
+    → ((t : Placed (NumberOf c.args.self.now.order))
+    → tile_holding (points_of c.args.self.now.order) (rule_of c.args.self.now) c.args.kind c.args.depth
+    (motion_in c.args.self.now.order c.args.at.now) (point_in c.args.self.now.order c.args.point.now) ≡ Some t → Q t)
+    → IfOk c.search.result (λ t. Q (placed_in c.args.self.now.order t))
+found c Q each = so_of c.args.self.now.order c.search.result _ Q each c.search.ensures.holder
+
 pub returns-clause-only_tile : goal.returns-clause-only_tile
 returns-clause-only_tile c =
-    let m = c.args.self.now in
-    let s : IsSettled m = record {
-      accepted = c.checked.ensures.accepted;
-      usable = c.checked.ensures.usable;
-      same_child_kinds = c.checked.ensures.same_child_kinds;
-    } in
-    let laws = settled m c.order-order.result c.checked.result.now c.order-order.ensures.order
-    c.checked.ensures.rule c.points_law.ensures c.dissection_law.ensures in
-    let at = motion_in m.order c.args.at.now in
-    let point = point_in m.order c.args.point.now in
-    so_of m.order c.search.result (tile_holding (points_of m.order) (rule_of m) c.args.kind c.args.depth at
-    point) (IsOnlyTileHolding (tiling_of m) c.args.kind c.args.depth at point)
-    (located-only m s laws.0 laws.1 c.args.kind c.args.depth c.requires.exists at c.requires.turn_below point) c.search.ensures.holder
+    found c (IsOnlyTileHolding (tiling_of c.args.self.now) c.args.kind c.args.depth (motion_in c.args.self.now.order c.args.at.now)
+    (point_in c.args.self.now.order c.args.point.now))
+    (located-only c.args.self.now (its c) (laws c).0 (laws c).1 c.args.kind c.args.depth c.requires.exists _ c.requires.turn_below _)
 
 pub returns-clause-its_depth : goal.returns-clause-its_depth
-returns-clause-its_depth c =
-    let m = c.args.self.now in
-    let s : IsSettled m = record {
-      accepted = c.checked.ensures.accepted;
-      usable = c.checked.ensures.usable;
-      same_child_kinds = c.checked.ensures.same_child_kinds;
-    } in
-    let laws = settled m c.order-order.result c.checked.result.now c.order-order.ensures.order
-    c.checked.ensures.rule c.points_law.ensures c.dissection_law.ensures in
-    let at = motion_in m.order c.args.at.now in
-    let point = point_in m.order c.args.point.now in
-    so_of m.order c.search.result (tile_holding (points_of m.order) (rule_of m) c.args.kind c.args.depth at
-    point) (λ t. depth_of t.address ≡ c.args.depth)
-    (located-depth m s laws.0 laws.1 c.args.kind c.args.depth c.requires.exists at c.requires.turn_below point) c.search.ensures.holder
+returns-clause-its_depth c = found c (λ t. depth_of t.address ≡ c.args.depth)
+    (located-depth c.args.self.now (its c) (laws c).0 (laws c).1 c.args.kind c.args.depth c.requires.exists _ c.requires.turn_below _)
 
 pub returns-clause-its_address : goal.returns-clause-its_address
-returns-clause-its_address c =
-    let m = c.args.self.now in
-    let s : IsSettled m = record {
-      accepted = c.checked.ensures.accepted;
-      usable = c.checked.ensures.usable;
-      same_child_kinds = c.checked.ensures.same_child_kinds;
-    } in
-    let laws = settled m c.order-order.result c.checked.result.now c.order-order.ensures.order
-    c.checked.ensures.rule c.points_law.ensures c.dissection_law.ensures in
-    let at = motion_in m.order c.args.at.now in
-    let point = point_in m.order c.args.point.now in
-    so_of m.order c.search.result (tile_holding (points_of m.order) (rule_of m) c.args.kind c.args.depth at
-    point) (λ t. Fits (children (tiling_of m)) t.address)
-    (located-fits m s laws.0 laws.1 c.args.kind c.args.depth c.requires.exists at c.requires.turn_below point) c.search.ensures.holder
+returns-clause-its_address c = found c (λ t. Fits (children (tiling_of c.args.self.now)) t.address)
+    (located-fits c.args.self.now (its c) (laws c).0 (laws c).1 c.args.kind c.args.depth c.requires.exists _ c.requires.turn_below _)
 
 pub returns-clause-its_motion : goal.returns-clause-its_motion
-returns-clause-its_motion c =
-    let m = c.args.self.now in
-    let s : IsSettled m = record {
-      accepted = c.checked.ensures.accepted;
-      usable = c.checked.ensures.usable;
-      same_child_kinds = c.checked.ensures.same_child_kinds;
-    } in
-    let laws = settled m c.order-order.result c.checked.result.now c.order-order.ensures.order
-    c.checked.ensures.rule c.points_law.ensures c.dissection_law.ensures in
-    let at = motion_in m.order c.args.at.now in
-    let point = point_in m.order c.args.point.now in
-    so_of m.order c.search.result (tile_holding (points_of m.order) (rule_of m) c.args.kind c.args.depth at point)
-    (λ t. t.motion ≡ followed (points_of m.order) (placement (points_of m.order) (rule_of m) t.address.digits) at)
-    (located-motion m s laws.0 laws.1 c.args.kind c.args.depth c.requires.exists at c.requires.turn_below point) c.search.ensures.holder
+returns-clause-its_motion c = found c (λ t. t.motion ≡ followed (points_of c.args.self.now.order)
+    (placement (points_of c.args.self.now.order) (rule_of c.args.self.now) t.address.digits) (motion_in c.args.self.now.order c.args.at.now))
+    (located-motion c.args.self.now (its c) (laws c).0 (laws c).1 c.args.kind c.args.depth c.requires.exists _ c.requires.turn_below _)
 
 pub returns-clause-not_inside : goal.returns-clause-not_inside
 returns-clause-not_inside c =
-    let m = c.args.self.now in
-    let s : IsSettled m = record {
-      accepted = c.checked.ensures.accepted;
-      usable = c.checked.ensures.usable;
-      same_child_kinds = c.checked.ensures.same_child_kinds;
-    } in
-    let laws = settled m c.order-order.result c.checked.result.now c.order-order.ensures.order
-    c.checked.ensures.rule c.points_law.ensures c.dissection_law.ensures in
-    not_inside m s laws.0 laws.1 c.args.kind c.args.depth c.requires.exists (motion_in m.order c.args.at.now)
-    c.requires.turn_below (point_in m.order c.args.point.now)
+    not_inside c.args.self.now (its c) (laws c).0 (laws c).1 c.args.kind c.args.depth c.requires.exists _ c.requires.turn_below _
     c.search.result c.search.ensures.holder c.search.ensures.none_refused c.search.ensures.fault
 
 pub returns-clause-found_exactly : goal.returns-clause-found_exactly
 returns-clause-found_exactly c =
-    let m = c.args.self.now in
-    let s : IsSettled m = record {
-      accepted = c.checked.ensures.accepted;
-      usable = c.checked.ensures.usable;
-      same_child_kinds = c.checked.ensures.same_child_kinds;
-    } in
-    let laws = settled m c.order-order.result c.checked.result.now c.order-order.ensures.order
-    c.checked.ensures.rule c.points_law.ensures c.dissection_law.ensures in
-    found_exactly m s laws.0 laws.1 c.args.kind c.args.depth c.requires.exists
-    (motion_in m.order c.args.at.now) c.requires.turn_below (point_in m.order c.args.point.now)
+    found_exactly c.args.self.now (its c) (laws c).0 (laws c).1 c.args.kind c.args.depth c.requires.exists _ c.requires.turn_below _
     c.search.result c.search.ensures.holder c.search.ensures.none_refused c.search.ensures.fault
 
 pub returns-clause-fault : goal.returns-clause-fault
 returns-clause-fault c =
-    let m = c.args.self.now in
-    let s : IsSettled m = record {
-      accepted = c.checked.ensures.accepted;
-      usable = c.checked.ensures.usable;
-      same_child_kinds = c.checked.ensures.same_child_kinds;
-    } in
-    let laws = settled m c.order-order.result c.checked.result.now c.order-order.ensures.order
-    c.checked.ensures.rule c.points_law.ensures c.dissection_law.ensures in
-    causes m s laws.0 laws.1 c.args.kind c.args.depth c.requires.exists (motion_in m.order c.args.at.now)
-    c.requires.turn_below (point_in m.order c.args.point.now)
+    causes c.args.self.now (its c) (laws c).0 (laws c).1 c.args.kind c.args.depth c.requires.exists _ c.requires.turn_below _
     c.search.result c.search.ensures.holder c.search.ensures.none_refused c.search.ensures.fault

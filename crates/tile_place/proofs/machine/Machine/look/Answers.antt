@@ -14,7 +14,7 @@ pub mul-requires-clause-q_within : goal.mul-requires-clause-q_within
 mul-requires-clause-q_within c = point_wider 64 (2 ^ 16) _ (lit≤ tt) c.child-child.ensures.small.within
 
 pub compose-motion-requires-clause-f_within : goal.compose-motion-requires-clause-f_within
-compose-motion-requires-clause-f_within c = point_wider (2 ^ 24) (2 ^ 38) _ (lit≤ tt) c.requires.at_within
+compose-motion-requires-clause-f_within c = point_wider (2 ^ 24) (2 ^ 38) _ (lit≤ tt) c.requires.moves.within
 
 pub compose-motion-requires-clause-g_within : goal.compose-motion-requires-clause-g_within
 compose-motion-requires-clause-g_within c = point_wider (8 * 2 ^ 24 * 64) (2 ^ 38) _ (lit≤ tt)
@@ -32,7 +32,7 @@ returns-then-refused-clause-limit c =
     ∙ first_is (is_refused m.order) (point_in m.order c.compose-motion.result.shift) _
     (sym (c.refused.ensures.in_order m.order (subst (λ q. IsOf q c.compose-motion.result.shift) same
     (c.compose-motion.ensures.in_order (subst (λ q. IsOf q c.args.at.now.shift) (sym same)
-    c.requires.at_in_order)))) ∙ c.if-refused.true)
+    c.requires.moves.in_order)))) ∙ c.if-refused.true)
 
 pub returns-in_err-holds-clause-limit : goal.returns-in_err-holds-clause-limit
 returns-in_err-holds-clause-limit c =
@@ -47,7 +47,7 @@ returns-in_err-holds-clause-limit c =
     ∙ first_not (is_refused m.order) (point_in m.order c.compose-motion.result.shift) _
     (sym (c.refused.ensures.in_order m.order (subst (λ q. IsOf q c.compose-motion.result.shift) same
     (c.compose-motion.ensures.in_order (subst (λ q. IsOf q c.args.at.now.shift) (sym same)
-    c.requires.at_in_order)))) ∙ c.if-refused.false)
+    c.requires.moves.in_order)))) ∙ c.if-refused.false)
     ∙ c.in_err-holds.ensures.limit)
 
 pub returns-clause-part : goal.returns-clause-part
@@ -72,5 +72,5 @@ returns-clause-none_refused c =
     ∙ first_not (is_refused m.order) (point_in m.order c.compose-motion.result.shift) _
     (sym (c.refused.ensures.in_order m.order (subst (λ q. IsOf q c.compose-motion.result.shift) same
     (c.compose-motion.ensures.in_order (subst (λ q. IsOf q c.args.at.now.shift) (sym same)
-    c.requires.at_in_order)))) ∙ c.if-refused.false)
+    c.requires.moves.in_order)))) ∙ c.if-refused.false)
     ∙ c.in_ok-holds.ensures.none_refused

@@ -18,7 +18,7 @@ corner-requires-clause-vertex_within c = (c.vertices-vertices.ensures.small c.lo
 
 pub corner-requires-clause-shift_in_order : goal.corner-requires-clause-shift_in_order
 corner-requires-clause-shift_in_order c =
-    subst (λ q. IsOf q c.args.at.now.shift) (sym c.requires.its_order) c.requires.at_in_order
+    subst (λ q. IsOf q c.args.at.now.shift) (sym c.requires.its_order) c.requires.moves.in_order
 
 pub loop-i-preserved : goal.loop-i-preserved
 loop-i-preserved c =

@@ -1,4 +1,4 @@
-use Rattle.std.proofs.Common.{◌≡◌, ◌∙◌, sym, ap, subst}
+use Rattle.std.proofs.Common.{◌∙◌, sym, ap, subst}
 use Rattle.cyclo_points.specs.Order.{PointsLaw}
 use Rattle.rule_model.specs.declared.rule.Rule.{Rule}
 use Rattle.tile_place.proofs.Gluing.{met}

@@ -1,4 +1,4 @@
-use Rattle.std.proofs.Common.{◌≡◌, ◌+◌, true, false, get_or, [], refl, sym, ap, ◌∙◌, arith}
+use Rattle.std.proofs.Common.{◌≡◌, ◌+◌, true, false, find, get_or, [], refl, sym, ap, ◌∙◌, arith}
 use Rattle.theory_ring.specs.Ring.{power}
 use Rattle.theory_frames.specs.Outline.{outline, holds_point}
 use Rattle.theory_frames.specs.Descent.{tile_below, tile_holding}
@@ -11,6 +11,7 @@ use Rattle.rule_model.specs.Views.{rule_of}
 use Rattle.tile_place.proofs.FactorPowers.{power-read}
 use Rattle.tile_place.proofs.Parts.{holds_is}
 use Rattle.tile_place.proofs.Below.{power_refused, vertex_refused, past_outline, tile_same, same_tile, same_none, same_fault}
+use Rattle.tile_place.proofs.machine.Machine.search.Goals.{After-descend}
 use Rattle.tile_place.proofs.machine.Machine.search.Goals as goal
 
 pub returns-in-Err-clause-fault : goal.returns-in-Err-clause-fault
@@ -61,71 +62,59 @@ returns-then-not-member-clause-fault c =
       tile_same P r (is_refused m.order) c.args.kind c.args.depth at point scale power_is false outside,
     )
 
-pub returns-clause-holder : goal.returns-clause-holder
-returns-clause-holder c =
-    let m = c.args.self.now in
-    let P = points_of m.order in
-    let r = rule_of m in
-    let at = motion_in m.order c.args.at.now in
-    let point = point_in m.order c.args.point.now in
-    let scale = point_in m.order (get_or c.deref.result.now c.args.depth (record { c = [] })) in
-    let power_is : scale ≡ power P.ring r.factor c.args.depth =
-    ap (λ ps. point_in m.order (get_or ps c.args.depth (record { c = [] }))) c.deref.ensures.0
-    ∙ power-read m.order r.factor (c.args.depth + 1) c.in-Ok.powers.items c.args.depth (record { c = [] }) c.in-Ok.ensures.powers (omega arith) in
-    let held : c.member.result ≡ holds_point P (outline P r c.args.kind scale at) point =
-    holds_is c.order-order.result m.order (c.order-order.ensures.order
+-- ---- the supertile holds the point
+at_depth : (c : After-descend) → point_in c.args.self.now.order (get_or c.deref.result.now c.args.depth (record { c = [] }))
+    ≡ power (points_of c.args.self.now.order).ring (rule_of c.args.self.now).factor c.args.depth
+at_depth c =
+    ap (λ ps. point_in c.args.self.now.order (get_or ps c.args.depth (record { c = [] }))) c.deref.ensures.0
+    ∙ power-read c.args.self.now.order (rule_of c.args.self.now).factor (c.args.depth + 1) c.in-Ok.powers.items c.args.depth
+    (record { c = [] }) c.in-Ok.ensures.powers (omega arith)
+
+inside : (c : After-descend) → true ≡ holds_point (points_of c.args.self.now.order)
+    (outline (points_of c.args.self.now.order) (rule_of c.args.self.now) c.args.kind
+    (point_in c.args.self.now.order (get_or c.deref.result.now c.args.depth (record { c = [] })))
+    (motion_in c.args.self.now.order c.args.at.now)) (point_in c.args.self.now.order c.args.point.now)
+inside c = sym c.if-not-member.false
+    ∙ holds_is c.order-order.result c.args.self.now.order (c.order-order.ensures.order
     ∙ ap (λ (q : Rule). q.order) c.checked.ensures.rule) c.in-Ok-outline.corners.items
     c.as_slice.result.now _ c.args.point.now c.member.result
-    c.as_slice.ensures.value c.in-Ok-outline.ensures.vertices c.member.ensures in
-    let inside : true ≡ holds_point P (outline P r c.args.kind scale at) point = sym c.if-not-member.false ∙ held in
-    let values = past_outline P r (is_refused m.order) c.args.kind c.args.depth at point scale power_is true
-    inside c.in-Ok.ensures.none_refused c.in-Ok-outline.ensures.none_refused in
-    let tile = tile_same P r (is_refused m.order) c.args.kind c.args.depth at point scale power_is true inside in
-    same_tile m.order c.descend.result (tile_holding P r c.args.kind c.args.depth at point)
-    (tile_below P r c.args.kind c.args.depth at point) tile c.descend.ensures.holder
+    c.as_slice.ensures.value c.in-Ok-outline.ensures.vertices c.member.ensures
+
+values : (c : After-descend) → find (is_refused c.args.self.now.order)
+    (values_looked_at (points_of c.args.self.now.order) (rule_of c.args.self.now) c.args.kind c.args.depth
+    (motion_in c.args.self.now.order c.args.at.now) (point_in c.args.self.now.order c.args.point.now))
+    ≡ find (is_refused c.args.self.now.order)
+    (values_below (points_of c.args.self.now.order) (rule_of c.args.self.now) c.args.kind c.args.depth
+    (motion_in c.args.self.now.order c.args.at.now) (point_in c.args.self.now.order c.args.point.now))
+values c = past_outline (points_of c.args.self.now.order) (rule_of c.args.self.now) (is_refused c.args.self.now.order)
+    c.args.kind c.args.depth _ _ _ (at_depth c) true (inside c) c.in-Ok.ensures.none_refused c.in-Ok-outline.ensures.none_refused
+
+tile : (c : After-descend) → tile_holding (points_of c.args.self.now.order) (rule_of c.args.self.now) c.args.kind c.args.depth
+    (motion_in c.args.self.now.order c.args.at.now) (point_in c.args.self.now.order c.args.point.now)
+    ≡ tile_below (points_of c.args.self.now.order) (rule_of c.args.self.now) c.args.kind c.args.depth
+    (motion_in c.args.self.now.order c.args.at.now) (point_in c.args.self.now.order c.args.point.now)
+tile c = tile_same (points_of c.args.self.now.order) (rule_of c.args.self.now) (is_refused c.args.self.now.order)
+    c.args.kind c.args.depth _ _ _ (at_depth c) true (inside c)
+
+pub returns-clause-holder : goal.returns-clause-holder
+returns-clause-holder c = same_tile c.args.self.now.order c.descend.result _ _ (tile c) c.descend.ensures.holder
 
 pub returns-clause-none_refused : goal.returns-clause-none_refused
 returns-clause-none_refused c =
-    let m = c.args.self.now in
-    let P = points_of m.order in
-    let r = rule_of m in
-    let at = motion_in m.order c.args.at.now in
-    let point = point_in m.order c.args.point.now in
-    let scale = point_in m.order (get_or c.deref.result.now c.args.depth (record { c = [] })) in
-    let power_is : scale ≡ power P.ring r.factor c.args.depth =
-    ap (λ ps. point_in m.order (get_or ps c.args.depth (record { c = [] }))) c.deref.ensures.0
-    ∙ power-read m.order r.factor (c.args.depth + 1) c.in-Ok.powers.items c.args.depth (record { c = [] }) c.in-Ok.ensures.powers (omega arith) in
-    let held : c.member.result ≡ holds_point P (outline P r c.args.kind scale at) point =
-    holds_is c.order-order.result m.order (c.order-order.ensures.order
-    ∙ ap (λ (q : Rule). q.order) c.checked.ensures.rule) c.in-Ok-outline.corners.items
-    c.as_slice.result.now _ c.args.point.now c.member.result
-    c.as_slice.ensures.value c.in-Ok-outline.ensures.vertices c.member.ensures in
-    let inside : true ≡ holds_point P (outline P r c.args.kind scale at) point = sym c.if-not-member.false ∙ held in
-    let values = past_outline P r (is_refused m.order) c.args.kind c.args.depth at point scale power_is true
-    inside c.in-Ok.ensures.none_refused c.in-Ok-outline.ensures.none_refused in
-    let tile = tile_same P r (is_refused m.order) c.args.kind c.args.depth at point scale power_is true inside in
-    same_none m.order c.descend.result (values_looked_at P r c.args.kind c.args.depth at point)
-    (values_below P r c.args.kind c.args.depth at point) values c.descend.ensures.none_refused
+    same_none c.args.self.now.order c.descend.result
+    (values_looked_at (points_of c.args.self.now.order) (rule_of c.args.self.now) c.args.kind c.args.depth
+    (motion_in c.args.self.now.order c.args.at.now) (point_in c.args.self.now.order c.args.point.now))
+    (values_below (points_of c.args.self.now.order) (rule_of c.args.self.now) c.args.kind c.args.depth
+    (motion_in c.args.self.now.order c.args.at.now) (point_in c.args.self.now.order c.args.point.now))
+    (values c) c.descend.ensures.none_refused
 
 pub returns-clause-fault : goal.returns-clause-fault
 returns-clause-fault c =
     let m = c.args.self.now in
-    let P = points_of m.order in
-    let r = rule_of m in
     let at = motion_in m.order c.args.at.now in
     let point = point_in m.order c.args.point.now in
-    let scale = point_in m.order (get_or c.deref.result.now c.args.depth (record { c = [] })) in
-    let power_is : scale ≡ power P.ring r.factor c.args.depth =
-    ap (λ ps. point_in m.order (get_or ps c.args.depth (record { c = [] }))) c.deref.ensures.0
-    ∙ power-read m.order r.factor (c.args.depth + 1) c.in-Ok.powers.items c.args.depth (record { c = [] }) c.in-Ok.ensures.powers (omega arith) in
-    let held : c.member.result ≡ holds_point P (outline P r c.args.kind scale at) point =
-    holds_is c.order-order.result m.order (c.order-order.ensures.order
-    ∙ ap (λ (q : Rule). q.order) c.checked.ensures.rule) c.in-Ok-outline.corners.items
-    c.as_slice.result.now _ c.args.point.now c.member.result
-    c.as_slice.ensures.value c.in-Ok-outline.ensures.vertices c.member.ensures in
-    let inside : true ≡ holds_point P (outline P r c.args.kind scale at) point = sym c.if-not-member.false ∙ held in
-    let values = past_outline P r (is_refused m.order) c.args.kind c.args.depth at point scale power_is true
-    inside c.in-Ok.ensures.none_refused c.in-Ok-outline.ensures.none_refused in
-    let tile = tile_same P r (is_refused m.order) c.args.kind c.args.depth at point scale power_is true inside in
-    same_fault m.order c.descend.result (values_looked_at P r c.args.kind c.args.depth at point) (values_below P r c.args.kind c.args.depth at point)
-    (tile_holding P r c.args.kind c.args.depth at point) (tile_below P r c.args.kind c.args.depth at point) values tile c.descend.ensures.fault
+    same_fault m.order c.descend.result
+    (values_looked_at (points_of m.order) (rule_of m) c.args.kind c.args.depth at point)
+    (values_below (points_of m.order) (rule_of m) c.args.kind c.args.depth at point)
+    (tile_holding (points_of m.order) (rule_of m) c.args.kind c.args.depth at point)
+    (tile_below (points_of m.order) (rule_of m) c.args.kind c.args.depth at point) (values c) (tile c) c.descend.ensures.fault

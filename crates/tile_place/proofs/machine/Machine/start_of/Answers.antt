@@ -1,4 +1,4 @@
-use Rattle.std.proofs.Common.{◌≡◌, ◌<◌, sym, subst}
+use Rattle.std.proofs.Common.{◌<◌, sym, subst}
 use Rattle.theory_substitution.specs.RuleParts.{edge_count}
 use Rattle.rule_model.specs.Tiling.{tiling_of}
 use Rattle.rule_model.specs.Views.{rule_of}

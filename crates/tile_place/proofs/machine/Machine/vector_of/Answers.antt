@@ -1,4 +1,4 @@
-use Rattle.std.proofs.Common.{◌≡◌, ◌^◌, ◌∙◌, ap, subst, lit≤}
+use Rattle.std.proofs.Common.{◌^◌, ◌∙◌, ap, subst, lit≤}
 use Rattle.cyclo_points.specs.Order.{PointsLaw}
 use Rattle.cyclo_points.proofs.Within.{point_wider}
 use Rattle.rule_model.specs.declared.rule.Rule.{Rule}

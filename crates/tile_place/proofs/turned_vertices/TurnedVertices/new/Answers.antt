@@ -1,4 +1,4 @@
-use Rattle.std.proofs.Common.{◌≡◌, IsSome, map, sym, subst}
+use Rattle.std.proofs.Common.{IsSome, map, sym, subst}
 use Rattle.theory_addresses.specs.Tables.{Tables, type_of}
 use Rattle.rule_model.specs.Tiling.{tiling_of}
 use Rattle.tile_place.specs.TurnedVertices.{widened, AreTurned}

@@ -12,51 +12,46 @@ use Rattle.transducer_core.proofs.Carried.{is_across}
 use Rattle.transducer_core.proofs.Rising.{last_part}
 use Rattle.transducer_core.proofs.transducer.Transducer.step_across_in_place.Goals as goal
 
-pub returns-in-Err-clause-across : goal.returns-in-Err-clause-across
-returns-in-Err-clause-across g c =
-    let starts : StartsDown c.self.inside.flat (address_of c.args.addr.now) c.args.edge c.in-Err.meeting
-    (take c.in-Err.meeting.level c.climb.new.parts) =
+-- a tile across
+pub returns-in-Err-clause-crossing : goal.returns-in-Err-clause-crossing
+returns-in-Err-clause-crossing g c =
+    let a = address_of c.args.addr.now in
+    let starts : StartsDown c.self.inside.flat a c.args.edge c.in-Err.meeting (take c.in-Err.meeting.level c.climb.new.parts) =
     record { fits = rw c.self.view_is c.requires.fits; edge_exists = rw c.self.view_is c.requires.edge_exists; meets = c.in-Err.ensures.ends } in
     let touches = c.descend.ensures.touches c.args.edge starts in
-    rw (← c.self.view_is) (is_across (address_of c.args.addr.now) (address_of c.descend.new.addr) c.args.edge
-    c.descend.result c.self.invariant starts.fits starts.edge_exists touches c.descend.ensures.fits
-    c.descend.ensures.edge_exists)
+    record {
+      crossing = record {
+        across = rw (← c.self.view_is) (is_across a (address_of c.descend.new.addr) c.args.edge
+            c.descend.result c.self.invariant starts.fits starts.edge_exists touches c.descend.ensures.fits
+            c.descend.ensures.edge_exists);
+        on_boundary = tt;
+        across_when = λ b f fits touched. refl;
+        boundary_when = λ own part lies.
+            let trace : HasTrace c.self.inside.flat a c.args.edge own lies.cuts = rw c.self.view_is lies.trace in
+            absurd (trace_excludes_touch a (address_of c.descend.new.addr) c.self.invariant
+            starts.fits c.descend.ensures.fits starts.edge_exists trace touches);
+      };
+      unchanged = tt;
+    }
 
-pub returns-in-Err-clause-boundary_when : goal.returns-in-Err-clause-boundary_when
-returns-in-Err-clause-boundary_when g c = λ top part lies.
-    let starts : StartsDown c.self.inside.flat (address_of c.args.addr.now) c.args.edge c.in-Err.meeting
-    (take c.in-Err.meeting.level c.climb.new.parts) =
-    record { fits = rw c.self.view_is c.requires.fits; edge_exists = rw c.self.view_is c.requires.edge_exists; meets = c.in-Err.ensures.ends } in
-    let touches = c.descend.ensures.touches c.args.edge starts in
-    let trace : HasTrace c.self.inside.flat (address_of c.args.addr.now) c.args.edge top lies.cuts = rw c.self.view_is lies.trace in
-    absurd (trace_excludes_touch (address_of c.args.addr.now) (address_of c.descend.new.addr) c.self.invariant
-    starts.fits c.descend.ensures.fits starts.edge_exists trace touches)
-
-pub returns-in-Ok-clause-on_boundary : goal.returns-in-Ok-clause-on_boundary
-returns-in-Ok-clause-on_boundary g c =
+-- the boundary
+pub returns-in-Ok-clause-crossing : goal.returns-in-Ok-clause-crossing
+returns-in-Ok-clause-crossing g c =
+    let a = address_of c.args.addr.now in
     let ends = c.in-Ok.ensures.ends in
-    let trace : HasTrace c.args.self.now (address_of c.args.addr.now) c.args.edge c.in-Ok.edge ends.cuts = rw
-    (← c.self.view_is) (rw (take-length (address_of c.args.addr.now).digits) at ends.trace) in
-    let whole : c.len-depth.result ≡ depth (address_of c.args.addr.now) = c.len-depth.ensures.value
-    ∙ sym (length-map c.args.addr.now.digits.items step_of) in
+    let trace : HasTrace c.args.self.now a c.args.edge c.in-Ok.edge ends.cuts = rw (← c.self.view_is) (rw (take-length a.digits) at ends.trace) in
+    let whole : c.len-depth.result ≡ depth a = c.len-depth.ensures.value ∙ sym (length-map c.args.addr.now.digits.items step_of) in
     let part : c.top_part-part.result ≡ first_part ends.cuts = c.top_part-part.ensures ∙ rw (whole, ends.parts_are) (last_part ends.cuts) in
-    record { cuts = ends.cuts; trace = trace; is_part = part }
-
-pub returns-in-Ok-clause-boundary_when : goal.returns-in-Ok-clause-boundary_when
-returns-in-Ok-clause-boundary_when g c = λ top other lies.
-    let ends = c.in-Ok.ensures.ends in
-    let trace : HasTrace c.args.self.now (address_of c.args.addr.now) c.args.edge c.in-Ok.edge ends.cuts = rw
-    (← c.self.view_is) (rw (take-length (address_of c.args.addr.now).digits) at ends.trace) in
-    let whole : c.len-depth.result ≡ depth (address_of c.args.addr.now) = c.len-depth.ensures.value
-    ∙ sym (length-map c.args.addr.now.digits.items step_of) in
-    let part : c.top_part-part.result ≡ first_part ends.cuts = c.top_part-part.ensures ∙ rw (whole, ends.parts_are) (last_part ends.cuts) in
-    let same = IsTrace-unique trace lies.trace in
-    rw (part, lies.is_part, same.0, same.1) refl
-
-pub returns-in-Ok-clause-across_when : goal.returns-in-Ok-clause-across_when
-returns-in-Ok-clause-across_when g c = λ b f fits touches.
-    let ends = c.in-Ok.ensures.ends in
-    let trace : HasTrace c.args.self.now (address_of c.args.addr.now) c.args.edge c.in-Ok.edge ends.cuts = rw
-    (← c.self.view_is) (rw (take-length (address_of c.args.addr.now).digits) at ends.trace) in
     let coherent : IsCoherent c.args.self.now = rw (← c.self.view_is) c.self.invariant in
-    absurd (trace_excludes_touch (address_of c.args.addr.now) b coherent c.requires.fits fits c.requires.edge_exists trace touches)
+    record {
+      crossing = record {
+        across = tt;
+        on_boundary = record { cuts = ends.cuts; trace = trace; is_part = part };
+        across_when = λ b f fits touches.
+            absurd (trace_excludes_touch a b coherent c.requires.fits fits c.requires.edge_exists trace touches);
+        boundary_when = λ own other lies.
+            let same = IsTrace-unique trace lies.trace in
+            rw (part, lies.is_part, same.0, same.1) refl;
+      };
+      unchanged = refl;
+    }

@@ -17,7 +17,7 @@ use Rattle.tile_place.specs.Keys.{FitsKey}
 use Rattle.window_cover.specs.NewEdges.{AreNew, left_open, opened}
 use Rattle.window_cover.specs.declared.cover_fault.CoverFault.TheVariants.{NoMemory}
 use Rattle.tile_place.proofs.EachOrder.{order-fits}
-use Rattle.lazy_walk.proofs.Outcomes.{if_err-is}
+use Rattle.theory_walks.proofs.Outcomes.{if_err-is}
 use Rattle.window_cover.proofs.Keeping.{kept-more, kept-one_more, found-one_more}
 use Rattle.window_cover.specs.Working.{Working, working}
 use Rattle.window_cover.proofs.Unpacked.{words-again, points-again}

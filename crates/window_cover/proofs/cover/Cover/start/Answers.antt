@@ -11,9 +11,9 @@ use Rattle.window_cover.specs.Kept.{found_in, AreKept}
 use Rattle.tile_place.specs.Keys.{FitsKey}
 use Rattle.window_cover.specs.NewEdges.{AreNew}
 use Rattle.window_cover.specs.Windows.{IsLeastEnough}
-use Rattle.lazy_walk.proofs.Brought.{Brings, brought}
+use Rattle.theory_walks.proofs.Brought.{Brings, brought}
 use Rattle.window_cover.specs.SearchLaws.{HasSearchLaws}
-use Rattle.lazy_walk.proofs.Outcomes.{if_err-is}
+use Rattle.theory_walks.proofs.Outcomes.{if_err-is}
 use Rattle.window_cover.proofs.Outcomes.{no_memory-on}
 use Rattle.window_cover.proofs.StartState.{kind_exists, edges_new, right-first, one_tile, its_window}
 use Rattle.window_cover.proofs.StartLimits.{not_beyond_start, answered_first, cause_first}

@@ -10,11 +10,11 @@ use Rattle.rule_model.specs.declared.rule.Rule.{Rule}
 use Rattle.rule_model.specs.Tiling.{Tiling, tiling_of, children}
 use Rattle.theory_substitution.specs.Points.{Points}
 use Rattle.tile_place.proofs.Plane.{IsSettled, its_rule}
-use Rattle.lazy_walk.specs.Ancestors.{full}
-use Rattle.lazy_walk.specs.Frames.{FrameValue, whole, at_depth, IsFrameOf, GrowsTo}
-use Rattle.lazy_walk.proofs.Ancestors.{full-later, level-at}
-use Rattle.lazy_walk.proofs.Lifting.{IsTileOf-later}
-use Rattle.lazy_walk.proofs.Walks.{StillFits, at_depth-depth, later, whole-fits, GrowsTo-is}
+use Rattle.theory_walks.specs.Ancestors.{full}
+use Rattle.theory_walks.specs.Frames.{FrameValue, whole, at_depth, IsFrameOf, GrowsTo}
+use Rattle.theory_walks.proofs.Ancestors.{full-later, level-at}
+use Rattle.theory_walks.proofs.Lifting.{IsTileOf-later}
+use Rattle.theory_walks.proofs.Walks.{StillFits, at_depth-depth, later, whole-fits, GrowsTo-is}
 
 module _ (m : Rule) (settled : IsSettled m) (fits : StillFits (children (tiling_of m))) (f : FrameValue) (is : IsFrameOf (tiling_of m) f) where
   abbrev t : Tiling

@@ -15,8 +15,8 @@ use Rattle.theory_frames.proofs.Grown.{grown-split}
 use Rattle.rule_model.specs.Tiling.{Tiling, contacts, children}
 use Rattle.tile_shape.specs.UsesInOrder.{uses_in_order}
 use Rattle.seeded_growth.specs.Words.{word}
-use Rattle.lazy_walk.specs.Frames.{FrameValue, whole, at_depth, IsFrameOf, GrowsTo, lifted_at}
-use Rattle.lazy_walk.proofs.Walks.{at_depth-depth, GrowsTo-is}
+use Rattle.theory_walks.specs.Frames.{FrameValue, whole, at_depth, IsFrameOf, GrowsTo, lifted_at}
+use Rattle.theory_walks.proofs.Walks.{at_depth-depth, GrowsTo-is}
 
 -- ---- a tile lifted twice
 pub lifted-twice : (f a : Address) (more : List Step) → depth a ≤ depth f

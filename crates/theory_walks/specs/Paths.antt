@@ -3,7 +3,7 @@ use Rattle.std.specs.Prelude.{◌≡◌, ℕ, ◌<◌, ◌≤◌, List, [], ◌�
 use Rattle.theory_addresses.specs.Address.{Address, Fits}
 use Rattle.rule_model.specs.Tiling.{Tiling, children}
 use Rattle.tile_place.specs.Crossed.{IsOnlyAcross, edges_of}
-use Rattle.lazy_walk.specs.Boundary.{IsBoundaryEdge}
+use Rattle.theory_walks.specs.Boundary.{IsBoundaryEdge}
 
 -- edge e of the tile a exists and is inside the supertile; the tile b is across it, with its edge f, and no
 -- other is

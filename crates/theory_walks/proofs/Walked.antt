@@ -14,12 +14,12 @@ use Rattle.tile_place.proofs.Plane.{OnlyTilesLaw, BoundariesLaw, IsSettled}
 use Rattle.tile_shape.specs.Usable.{AreUsable}
 use Rattle.tile_shape.specs.UsesInOrder.{uses_in_order}
 use Rattle.cyclo_points.specs.declared.order.Order.{Order}
-use Rattle.lazy_walk.specs.Boundary.{IsBoundaryEdge}
-use Rattle.lazy_walk.specs.Frames.{FrameValue, whole, at_depth, IsFrameOf, GrowsTo, lifted_at}
-use Rattle.lazy_walk.specs.Paths.{Crosses, Leads, CanBeWalked, ComesTo, IsStopped}
-use Rattle.lazy_walk.proofs.Walks.{StillFits, whole-fits, later, GrowsTo-is, GrowsTo-self, GrowsTo-then}
-use Rattle.lazy_walk.proofs.Lifting.{Longer, longer}
-use Rattle.lazy_walk.proofs.Longer.{further_up, Leads-longer, Leads-further}
+use Rattle.theory_walks.specs.Boundary.{IsBoundaryEdge}
+use Rattle.theory_walks.specs.Frames.{FrameValue, whole, at_depth, IsFrameOf, GrowsTo, lifted_at}
+use Rattle.theory_walks.specs.Paths.{Crosses, Leads, CanBeWalked, ComesTo, IsStopped}
+use Rattle.theory_walks.proofs.Walks.{StillFits, whole-fits, later, GrowsTo-is, GrowsTo-self, GrowsTo-then}
+use Rattle.theory_walks.proofs.Lifting.{Longer, longer}
+use Rattle.theory_walks.proofs.Longer.{further_up, Leads-longer, Leads-further}
 
 -- the frame of a depth is the same from a frame that has grown
 pub at_depth-grown : (t : Tiling) (f g : FrameValue) (n : ℕ) → GrowsTo t f g → at_depth t n g ≡ at_depth t n f

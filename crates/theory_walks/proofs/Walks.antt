@@ -10,7 +10,7 @@ use Rattle.tile_shape.specs.UsesInOrder.{uses_in_order}
 use Rattle.tile_shape.specs.declared.step.Step as program
 use Rattle.tile_shape.specs.Views.{step_of}
 use Rattle.seeded_growth.specs.Words.{word}
-use Rattle.lazy_walk.specs.Frames.{FrameValue, whole, at_depth, IsFrameOf, GrowsTo}
+use Rattle.theory_walks.specs.Frames.{FrameValue, whole, at_depth, IsFrameOf, GrowsTo}
 
 pub frame_path : (f g : FrameValue) → f.base ≡ g.base → f.start ≡ g.start → f.digits ≡ g.digits → f ≡ g
 frame_path f g b s d = λ i. record { base = b i; start = s i; digits = d i }

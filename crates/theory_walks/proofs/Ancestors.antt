@@ -23,11 +23,11 @@ use Rattle.theory_substitution.specs.Supertile.{Placed}
 use Rattle.theory_frames.specs.Descent.{tile_holding}
 use Rattle.tile_shape.specs.declared.step.Step as program
 use Rattle.tile_shape.specs.Views.{step_of}
-use Rattle.lazy_walk.specs.Ancestors.{full}
-use Rattle.lazy_walk.specs.Containing.{frame_motion}
-use Rattle.lazy_walk.specs.Frames.{FrameValue, whole, at_depth, IsFrameOf, GrowsTo}
-use Rattle.lazy_walk.proofs.Walks.{StillFits, whole-fits, at_depth-depth}
-use Rattle.lazy_walk.proofs.Lifting.{Longer, longer}
+use Rattle.theory_walks.specs.Ancestors.{full}
+use Rattle.theory_walks.specs.Containing.{frame_motion}
+use Rattle.theory_walks.specs.Frames.{FrameValue, whole, at_depth, IsFrameOf, GrowsTo}
+use Rattle.theory_walks.proofs.Walks.{StillFits, whole-fits, at_depth-depth}
+use Rattle.theory_walks.proofs.Lifting.{Longer, longer}
 
 -- growth doesn't change the frame at depth 64
 pub full-later : (t : Tiling) (f g : FrameValue) → GrowsTo t f g → full t g ≡ full t f

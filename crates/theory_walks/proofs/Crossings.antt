@@ -9,10 +9,10 @@ use Rattle.rule_model.specs.declared.rule.Rule.{Rule}
 use Rattle.rule_model.specs.Tiling.{tiling_of, contacts, children}
 use Rattle.tile_place.specs.Crossed.{edges_of, LiesOnBoundary}
 use Rattle.tile_place.proofs.Plane.{BoundariesLaw, IsSettled, on_some_part, boundary_lies}
-use Rattle.lazy_walk.specs.Boundary.{IsBoundaryEdge}
-use Rattle.lazy_walk.specs.Frames.{FrameValue, whole, at_depth, IsFrameOf, GrowsTo, lifted_at}
-use Rattle.lazy_walk.proofs.Walks.{StillFits, whole-fits, later, at_depth-depth}
-use Rattle.lazy_walk.proofs.Lifting.{IsTraced, IsTileOf-later, lifted-later, traced-below, touching-top}
+use Rattle.theory_walks.specs.Boundary.{IsBoundaryEdge}
+use Rattle.theory_walks.specs.Frames.{FrameValue, whole, at_depth, IsFrameOf, GrowsTo, lifted_at}
+use Rattle.theory_walks.proofs.Walks.{StillFits, whole-fits, later, at_depth-depth}
+use Rattle.theory_walks.proofs.Lifting.{IsTraced, IsTileOf-later, lifted-later, traced-below, touching-top}
 
 module _ (m : Rule) (fits : StillFits (children (tiling_of m))) (f : FrameValue) (a : Address)
     (is : IsFrameOf (tiling_of m) f) (of : IsTileOf (children (tiling_of m)) (whole f) a) where

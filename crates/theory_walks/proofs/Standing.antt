@@ -12,7 +12,7 @@ use Rattle.theory_frames.proofs.Frames.{IsWhole, placement-turn, StandsInFrame-w
 use Rattle.theory_frames.proofs.Group.{followed-assoc, followed-back}
 use Rattle.rule_model.specs.Tiling.{Tiling, MotionOf, contacts, children}
 use Rattle.tile_place.specs.Glued.{LiesBeyond}
-use Rattle.lazy_walk.proofs.Lifting.{touching-top}
+use Rattle.theory_walks.proofs.Lifting.{touching-top}
 
 -- the tile across names one of the same supertile
 pub across-is_whole : (t : Tiling) (f a b : Address) (e back : ℕ) → IsWhole (children t) f a

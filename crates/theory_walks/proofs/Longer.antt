@@ -19,9 +19,9 @@ use Rattle.rule_model.specs.Views.{rule_of, as_edition}
 use Rattle.tile_place.specs.Crossed.{edges_of}
 use Rattle.tile_place.proofs.KindEdges.{edge_typed}
 use Rattle.tile_place.proofs.Plane.{OnlyTilesLaw, BoundariesLaw, IsSettled, its_rule, fits_tables, has_edge, part_along, on_some_part, boundary_lies}
-use Rattle.lazy_walk.specs.Boundary.{IsBoundaryEdge}
-use Rattle.lazy_walk.specs.Paths.{Crosses, Leads}
-use Rattle.lazy_walk.proofs.Lifting.{trace-front, touching-top}
+use Rattle.theory_walks.specs.Boundary.{IsBoundaryEdge}
+use Rattle.theory_walks.specs.Paths.{Crosses, Leads}
+use Rattle.theory_walks.proofs.Lifting.{trace-front, touching-top}
 
 -- an address with further digits
 abbrev pub further_up : Address → List Step → Address

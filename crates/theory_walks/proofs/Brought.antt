@@ -5,7 +5,7 @@ use Rattle.theory_addresses.specs.Tables.{child_kinds}
 use Rattle.cyclo_points.specs.declared.order.Order.{Order}
 use Rattle.cyclo_points.specs.Order.{points_of}
 use Rattle.theory_frames.specs.Growth.{grown_by}
-use Rattle.lazy_walk.proofs.Walks.{StillFits}
+use Rattle.theory_walks.proofs.Walks.{StillFits}
 use Rattle.rule_model.specs.declared.rule.Rule.{Rule}
 use Rattle.rule_model.specs.Accepted.{IsAccepted}
 use Rattle.rule_model.specs.Tiling.{tiling_of, contacts, children}

@@ -9,7 +9,7 @@ use Rattle.rule_model.specs.Tiling.{Tiling, MotionOf}
 use Rattle.theory_substitution.specs.Placement.{placement}
 use Rattle.theory_substitution.specs.Supertile.{Placed}
 use Rattle.tile_place.specs.Located.{IsOnlyTileHolding, HasInside}
-use Rattle.lazy_walk.specs.Frames.{FrameValue, whole, at_depth}
+use Rattle.theory_walks.specs.Frames.{FrameValue, whole, at_depth}
 
 -- the motion of the frame's supertile in the base's frame: the base's motion back
 abbrev pub frame_motion : (t : Tiling) → FrameValue → MotionOf t

@@ -1,0 +1,10 @@
+pub mod Walks
+pub mod Lifting
+pub mod Crossings
+pub mod Longer
+pub mod Walked
+pub mod Standing
+pub mod Ancestors
+pub mod InFull
+pub mod Brought
+pub mod Outcomes
