@@ -1,4 +1,4 @@
--- One line more in the state of a script that is run.
+-- The state of a script, before and after one more line.
 use Rattle.std.specs.Prelude.{◌≡◌, ℕ, ◌+◌, List, ◌++◌}
 use Rattle.theory_addresses.specs.Address.{Address, Fits}
 use Rattle.rule_model.specs.Tiling.{Tiling, children}
@@ -7,11 +7,11 @@ use Rattle.addr_calc.specs.declared.calculation.Calculation.{Calculation}
 use Rattle.addr_calc.specs.Does.{Does, Runs}
 use Rattle.addr_calc.specs.Statement.{Statement}
 
--- each address that is bound is that of a tile of the tiling
+-- each name is bound to the address of a tile of the tiling, if it is bound
 abbrev pub AllFit : Tiling → Bindings → Type 0
 AllFit t names = (name : ℕ) (a : Address) → IsBound names name a → Fits (children t) a
 
--- a statement was done: the names are bound as it says, and what it prints was appended
+-- A statement was done. The names are bound as it says, and what it prints was appended.
 pub record WasDone (t : Tiling) (statement : Statement) (before after : Calculation) : Type 0 where
   pub printed : List ℕ
   pub does : Does t before.names statement after.names printed
@@ -19,7 +19,7 @@ pub record WasDone (t : Tiling) (statement : Statement) (before after : Calculat
   pub number : after.number ≡ before.number
   pub all_fit : AllFit t before.names → AllFit t after.names
 
--- a line was run, and counted
+-- a line was run and counted
 pub record WasRun (t : Tiling) (line : List ℕ) (before after : Calculation) : Type 0 where
   pub printed : List ℕ
   pub runs : Runs t before.names line after.names printed

@@ -14,7 +14,7 @@ use Rattle.addr_calc.specs.Statement.Statement.{Nothing, Let, Show, Place, Acros
 use Rattle.addr_calc.specs.Reading.{statement_in}
 use Rattle.addr_calc.specs.Printed.{show_line, place_line, across_line, common_line, pair_line}
 
--- the name is bound to the address of this text, a tile of the tiling
+-- the name is bound to the address with this text, which is that of a tile of the tiling
 pub record Binds (t : Tiling) (names : Bindings) (name : ℕ) (text : List ℕ) (after : Bindings) (printed : List ℕ) : Type 0 where
   pub address : Address
   pub accepted : IsAcceptedAddress (children t) address
@@ -29,8 +29,7 @@ pub record Shows (names : Bindings) (name : ℕ) (after : Bindings) (printed : L
   pub keeps : after ≡ names
   pub line : printed ≡ show_line name address
 
--- none of the tile's Horner values is refused, and its kind and the motion by which it lies in its supertile
--- are printed
+-- No Horner value of the tile is refused. Its kind is printed, and its motion in its supertile.
 pub record Places (t : Tiling) (names : Bindings) (name : ℕ) (after : Bindings) (printed : List ℕ) : Type 0 where
   pub address : Address
   pub bound : IsBound names name address
@@ -55,7 +54,7 @@ pub record Crosses (t : Tiling) (names : Bindings) (name edge other : ℕ) (afte
   pub binds : after ≡ bind names other across
   pub line : printed ≡ across_line other across back
 
--- the least level from which the two addresses agree is printed, or that there is none
+-- the least level from which on the two addresses agree is printed, or that there is none
 pub record Compares (names : Bindings) (one other : ℕ) (after : Bindings) (printed : List ℕ) : Type 0 where
   pub address : Address
   pub bound : IsBound names one address
@@ -88,7 +87,7 @@ Does t names (Across name edge other) after printed = Crosses t names name edge 
 Does t names (Common one other) after printed = Compares names one other after printed
 Does t names (Pair one other) after printed = Relates t names one other after printed
 
--- a line that can be run, by its text
+-- a line can be run: its text is a statement, which does this
 pub record Runs (t : Tiling) (names : Bindings) (text : List ℕ) (after : Bindings) (printed : List ℕ) : Type 0 where
   pub statement : Statement
   pub is_statement : statement_in text ≡ Ok statement

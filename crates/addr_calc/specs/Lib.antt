@@ -7,7 +7,6 @@ pub mod Printed
 pub mod Does
 pub mod Refuses
 pub mod Script
-pub mod FaultText
 pub mod Views
 pub mod Calculation
 pub mod Compiled

@@ -18,7 +18,7 @@ letter name = 97 + name
 abbrev pub show_line : ℕ → Address → List ℕ
 show_line name a = letter name ∷ blank ∷ address_text a ++ newline ∷ []
 
--- a tile placed, as `name kind turn shift`
+-- where a tile lies, as `name kind turn shift`
 abbrev pub place_line : (o : Order) → ℕ → ℕ → Motion (NumberOf o) → List ℕ
 place_line o name kind m = letter name ∷ blank ∷ decimal kind ++ blank ∷ decimal m.turn ++ blank ∷ number_text o m.shift ++ newline ∷ []
 
@@ -44,7 +44,7 @@ abbrev pub pairs_text : List Pair → List ℕ
 pairs_text [] = []
 pairs_text (p ∷ ps) = blank ∷ pair_text p ++ pairs_text ps
 
--- how two tiles lie to each other: a word, or the pairs of edges
+-- how two tiles lie to each other: a name, or the pairs of edges
 abbrev pub relation_text : Relation → List ℕ
 relation_text Strangers = codes " none"
 relation_text Same = codes " same"

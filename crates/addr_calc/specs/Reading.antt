@@ -1,5 +1,6 @@
--- Reading a line, its fields from left to right. Each reader gives what it has read, or the number, from 0,
--- of the first field that is malformed or one too many. If a field is missing, it is the number of fields.
+-- Reading a line, its fields from left to right. Each reader returns what it has read. If a field is
+-- malformed or one too many, it returns the position of the first such field, counted from 0. If a field is
+-- missing, it returns the number of fields.
 use Rattle.std.specs.Prelude.{ℕ, ◌-◌, ◌&&◌, List, [], ◌∷◌, codes, Option, Some, None, Result, Ok, Err, nat_le, ◌==◌, if◌then◌else◌}
 use Rattle.std.specs.Str.{bytes_eq}
 use Rattle.cyclo_points.specs.Text.{blank}
@@ -13,13 +14,13 @@ use Rattle.addr_calc.specs.Statement.Statement.{Nothing, Let, Show, Place, Acros
 abbrev pub number_sign : ℕ
 number_sign = 35
 
--- the number of a name: the word is one letter from `a`, which is 97, to `z`
+-- the number of a name: the field is one letter from `a`, whose code is 97, to `z`
 abbrev pub name_in : List ℕ → Option ℕ
 name_in [] = None
 name_in (byte ∷ []) = if nat_le 97 byte && nat_le byte 122 then Some (byte - 97) else None
 name_in (byte ∷ next ∷ bytes) = None
 
--- the statement, where no words are left
+-- the statement, if no fields are left
 abbrev pub no_word : Statement → ℕ → List (List ℕ) → Result Statement ℕ
 no_word statement place [] = Ok statement
 no_word statement place (word ∷ words) = Err place
@@ -48,14 +49,14 @@ across_in words = do
   to ← word_by name_in 3 edge.1
   no_word (Across from.0 edge.0 to.0) 4 to.1
 
--- one that asks something of two names
+-- a statement that asks something of two names
 unfoldable pub two_names_in : (ℕ → ℕ → Statement) → List (List ℕ) → Result Statement ℕ
 two_names_in asks words = do
   one ← word_by name_in 1 words
   other ← word_by name_in 2 one.1
   no_word (asks one.0 other.0) 3 other.1
 
--- the statement of words, of which the first is the command
+-- the statement of fields, of which the first is the command
 unfoldable pub command_in : List (List ℕ) → Result Statement ℕ
 command_in [] = Err 0
 command_in (word ∷ words) =
@@ -66,7 +67,8 @@ command_in (word ∷ words) =
     (if bytes_eq word (codes "common") then two_names_in Common words else
     (if bytes_eq word (codes "pair") then two_names_in Pair words else Err 0)))))
 
--- the statement of a line: nothing if it is empty or a comment; otherwise single blanks separate its fields
+-- The statement of a line. It is Nothing if the line is empty or a comment. Otherwise single blanks separate
+-- the fields.
 unfoldable pub statement_in : List ℕ → Result Statement ℕ
 statement_in [] = Ok Nothing
 statement_in (byte ∷ bytes) = if byte == number_sign then Ok Nothing else command_in (texts_between blank (byte ∷ bytes))

@@ -1,6 +1,6 @@
--- The faults of a line. Each says that those before it do not hold, so that a line has one. They are: it is
--- no statement; a name that it reads is not bound; its text is no address; the tile does not have the edge.
--- Or the edge is on the boundary of the supertile; or a Horner value is refused.
+-- The faults of a line, in their order. The line is no statement. A name that it reads is not bound. Its text
+-- is no address. The tile does not have the edge. The edge is on the boundary of the supertile. A Horner
+-- value is refused. Each says that those before it do not hold, so a line has at most one.
 use Rattle.std.specs.Prelude.{◌≡◌, ◌⊎◌, ℕ, ◌≤◌, List, Some, Ok, Err}
 use Rattle.theory_addresses.specs.Address.{Address}
 use Rattle.cyclo_points.specs.Order.{NumberOf, coefficients}
@@ -19,7 +19,7 @@ use Rattle.addr_calc.specs.Statement.{Statement}
 use Rattle.addr_calc.specs.Statement.Statement.{Let, Show, Place, Across, Common, Pair}
 use Rattle.addr_calc.specs.Reading.{statement_in}
 
--- a name that the statement reads isn't bound
+-- a name that the statement reads is not bound
 abbrev pub ReadsUnbound : Bindings → Statement → Type 0
 ReadsUnbound names (Show name) = IsUnbound names name
 ReadsUnbound names (Place name) = IsUnbound names name
@@ -28,8 +28,7 @@ ReadsUnbound names (Common one other) = IsUnbound names one ⊎ IsUnbound names 
 ReadsUnbound names (Pair one other) = IsUnbound names one ⊎ IsUnbound names other
 ReadsUnbound names _ = ⊥
 
--- the text is that of no tile of the tiling, and has this fault: the first in the order of the faults of
--- addresses
+-- the text is not the address of a tile of the tiling, and this is its first fault
 pub record IsNoAddress (t : Tiling) (text : List ℕ) (fault : AddressFault) : Type 0 where
   pub none : (a : Address) → IsAcceptedAddress (children t) a → text ≡ address_text a → ⊥
   pub first : IsFaultOf (children t) text fault
@@ -40,14 +39,14 @@ pub record LacksEdge (t : Tiling) (names : Bindings) (name edge : ℕ) : Type 0 
   pub bound : IsBound names name address
   pub beyond : edges_of t address.kind ≤ edge
 
--- the edge of the tile of the name lies along this edge of the polygon of its supertile, on this part of it,
--- and along no other
+-- the edge of this name's tile lies along this edge of its supertile's polygon, on this part of it, and along
+-- no other
 pub record LiesOutside (t : Tiling) (names : Bindings) (name own edge part : ℕ) : Type 0 where
   pub address : Address
   pub bound : IsBound names name address
   pub outside : IsOutside t address own edge part
 
--- this point is the first Horner value of the tile of the name that is refused
+-- this point is the first refused Horner value of the tile of the name
 pub record PassesLimit (t : Tiling) (names : Bindings) (name : ℕ) (value : Point) : Type 0 where
   pub address : Address
   pub bound : IsBound names name address
@@ -55,7 +54,8 @@ pub record PassesLimit (t : Tiling) (names : Bindings) (name : ℕ) (value : Poi
   pub first : first_refused t address.digits ≡ Some number
   pub is_value : value.c ≡ coefficients t.order number
 
--- a statement is refused by this fault, which has the number of its line; out of memory is no fault
+-- The statement is refused by this fault, which has the number of its line. Out of memory is not a fault of a
+-- statement.
 abbrev pub Refuses : Tiling → Bindings → Statement → ℕ → CalcFault → Type 0
 Refuses t names statement number (UnknownName at) = (at ≡ number) × ReadsUnbound names statement
 Refuses t names (Let name text) number (BadAddress at fault) = (at ≡ number) × IsNoAddress t text fault

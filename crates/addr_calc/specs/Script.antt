@@ -13,39 +13,39 @@ use Rattle.addr_calc.specs.Refuses.{HasFault}
 abbrev pub Outcome : Type 0
 Outcome = Result (List ℕ) CalcFault
 
--- an outcome with text before it; before a fault there is no text
+-- an outcome with text before it; a fault drops the text
 abbrev pub put_before : List ℕ → Outcome → Outcome
 put_before text (Ok rest) = Ok (text ++ rest)
 put_before text (Err fault) = Err fault
 
--- The outcome of lines from a line number on. Nothing is printed if there are none. If the first has a fault,
--- that is the outcome. Otherwise it can be run, and what it prints comes before the outcome of the lines
--- after it, which see the names as it leaves them bound.
+-- The outcome of lines, of which the first has this number. If there are none, nothing is printed. If the
+-- first line has a fault, this is the outcome. Otherwise the line can be run. What it prints comes before the
+-- outcome of the lines after it, which see the names as it leaves them bound.
 abbrev pub ComesOf : Tiling → Bindings → ℕ → List (List ℕ) → Outcome → Type 0
 ComesOf t names number [] outcome = outcome ≡ Ok []
 ComesOf t names number (line ∷ lines) outcome =
     ((fault : CalcFault) × HasFault t names number line fault × (outcome ≡ Err fault))
     ⊎ ((after : Bindings) × (printed : List ℕ) × (rest : Outcome) × Runs t names line after printed × ComesOf t after (number + 1) lines rest × (outcome ≡ put_before printed rest))
 
--- the outcome of a script: newlines separate its lines, which are counted from 1 and begin with no name bound
+-- The outcome of a script. Newlines separate its lines, which are counted from 1. At first no name is bound.
 abbrev pub IsAnswer : Tiling → List ℕ → Outcome → Type 0
 IsAnswer t script outcome = ComesOf t none_bound 1 (texts_between newline script) outcome
 
--- memory was wanted, or there was this cause
+-- memory ran out, or the fault has this cause
 abbrev pub OrNoMemory : (CalcFault → Type 0) → CalcFault → Type 0
 OrNoMemory P NoMemory = Unit {0}
 OrNoMemory P fault = P fault
 
--- a result is out of memory, or this one
+-- memory ran out, or the result is this outcome
 abbrev pub IsOrNoMemory : Outcome → Outcome → Type 0
 IsOrNoMemory (Err NoMemory) outcome = Unit {0}
 IsOrNoMemory answer outcome = answer ≡ outcome
 
--- the answer of the program: the bytes of a text, or a fault
+-- the outcome that a result of the program stands for
 abbrev pub outcome_of : {A : Type 0} → Result (Vec ℕ A) CalcFault → Outcome
 outcome_of (Ok text) = Ok text.items
 outcome_of (Err fault) = Err fault
 
--- how many bytes a script may have
+-- the greatest length of a script, in bytes
 abbrev pub longest_script : ℕ
 longest_script = 1048576

@@ -1,4 +1,4 @@
--- The program's values as those of the definitions, and what its readers of words answer.
+-- The program's values in the terms of the definitions, and what its readers of fields return.
 use Rattle.std.specs.Prelude.{◌≡◌, ℕ, List, [], map, Option, Some, None, option_map, Result, Ok, Err}
 use Rattle.std.specs.Borrow.{Bor}
 use Rattle.cyclo_points.specs.Text.{blank}
@@ -23,7 +23,7 @@ statement_of (asked.Across name edge other) = Across name.number edge other.numb
 statement_of (asked.Common one other) = Common one.number other.number
 statement_of (asked.Pair one other) = Pair one.number other.number
 
--- what the machine of pairs says, with the pairs as a list
+-- the relation that a verdict of the pair machine stands for
 abbrev pub relation_of : Verdict → Relation
 relation_of verdict.Strangers = Strangers
 relation_of verdict.Same = Same
@@ -35,15 +35,15 @@ abbrev pub parts_behind : ℕ → Option (List ℕ) → List (List ℕ)
 parts_behind mark None = []
 parts_behind mark (Some rest) = texts_between mark rest
 
--- the words of what is left of a line
+-- the fields of what is left of a line
 abbrev pub words_left : Option (Bor (List ℕ)) → List (List ℕ)
 words_left left = parts_behind blank (option_map (λ rest. rest.now) left)
 
--- any word
+-- any field
 abbrev pub any_in : List ℕ → Option (List ℕ)
 any_in word = Some word
 
--- what a reader of the program answers, as seen, is what reading the words gives
+-- the result of a reader of the program is what the definition reads
 abbrev pub AnswersAs : {X Y : Type 0} → (X → Y) → Result X ℕ → Result Y ℕ → Type 0
 AnswersAs seen (Ok x) read = read ≡ Ok (seen x)
 AnswersAs seen (Err place) read = read ≡ Err place

@@ -1,10 +1,6 @@
 //! Why a script is refused.
-ghost use Rattle.std.specs.Prelude.{Some};
-ghost use Rattle.addr_calc.specs.FaultText.{calc_fault_text};
-
 use cyclo_points::point::Point;
 use std::alloc::{AllocError, AllocFailed};
-use std::fmt;
 use tile_shape::address_fault::AddressFault;
 use tile_shape::no_memory::NoMemory;
 
@@ -27,22 +23,6 @@ pub enum CalcFault {
     CoordLimit { line: u32, value: Point },
     /// Memory ran out.
     NoMemory,
-}
-
-impl fmt::Display for CalcFault {
-    ghost output = { λ fault. Some (calc_fault_text fault) };
-
-    fn fmt<W: fmt::Write>(&self, f: &mut fmt::Formatter<W>) -> fmt::Result {
-        match self {
-            CalcFault::BadLine { line, place } => write!(f, "BadLine {line} {place}"),
-            CalcFault::UnknownName { line } => write!(f, "UnknownName {line}"),
-            CalcFault::Address { line, fault } => write!(f, "Address {line} {fault}"),
-            CalcFault::NoEdge { line } => write!(f, "NoEdge {line}"),
-            CalcFault::Outside { line, edge, part } => write!(f, "Outside {line} {edge} {part}"),
-            CalcFault::CoordLimit { line, value } => write!(f, "CoordLimit {line} {value}"),
-            CalcFault::NoMemory => f.write_str("NoMemory"),
-        }
-    }
 }
 
 impl From<AllocError> for CalcFault {

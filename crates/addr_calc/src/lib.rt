@@ -1,4 +1,4 @@
-//! A calculator with the addresses of tiles, by a script.
+//! Runs a script of questions about the addresses of tiles.
 //!
 //! A script is read line by line. It binds the names `a` to `z` to addresses, and prints them. It prints
 //! where their tiles lie in the supertile, the tile across an edge, the level from which on two addresses

@@ -1,4 +1,4 @@
--- The parts of an inflated edge as the program finds them.
+-- The parts of an inflated edge, as the program finds them.
 use Rattle.std.specs.Prelude.{ℕ, List, map, Result, Ok, Err, Vec}
 use Rattle.std.specs.Global.{Global}
 use Rattle.theory_addresses.specs.Contact as theory
@@ -12,7 +12,7 @@ abbrev pub names_of : {A : Type 0} → Result (List (PlacedEdge A)) ℕ → Resu
 names_of (Ok ss) = Ok (map name_of ss)
 names_of (Err j) = Err j
 
--- the same, as the program has it
+-- the same from a result of the program
 abbrev pub as_parts : Result (Vec ChildEdge Global) ℕ → Result (List theory.ChildEdge) ℕ
 as_parts (Ok v) = Ok (map as_child_edge v.items)
 as_parts (Err j) = Err j

@@ -1,5 +1,5 @@
--- The fault of the first clause that fails, at its first place: a definition on an edition, an order and the
--- lists of a rule.
+-- The fault of the first clause that fails, at its first place. It is a definition on an edition, an order,
+-- and the lists of a rule.
 use Rattle.std.specs.Prelude.{ℕ, not, [], ◌∷◌, map, length, Option, Some, None, Result, Ok, Err}
 use Rattle.theory_substitution.specs.Rule as theory
 use Rattle.theory_addresses.specs.Search.{unless, first_some, first_below}
@@ -53,8 +53,8 @@ module _ (o : Order) (l : theory.Rule Point) where
   abbrev pub kinds_limits : Option CheckFault
   kinds_limits = first_below kind_limits (length l.kinds)
 
-  -- the limits: of the numbers of kinds and of types, of the factor and of the glue types, of each type, and
-  -- of each kind
+  -- the limits, in this order: the number of kinds, that of types, the factor, the glue types, each type,
+  -- each kind
   abbrev pub limits : Option CheckFault
   limits = first_some (
       unless (kinds_fit l) (TooMany Kinds)
@@ -84,11 +84,11 @@ module _ (o : Order) (l : theory.Rule Point) where
   abbrev pub subdivisions : Option CheckFault
   subdivisions = first_below (λ ty. unless (is_mirrored numbers ty) (BadSubdivision ty)) (length numbers.types)
 
-  -- a child edge of kind k is loose
+  -- a child edge of kind k may not be loose
   abbrev pub loose_fault : ℕ → PlacedEdge (NumberOf o) → Option CheckFault
   loose_fault k s = unless (not (is_loose (lie_of (points_of o) numbers k s))) (ChildEdgeLoose k s.child s.edge)
 
-  -- no child edge is, in order of child and edge
+  -- no child edge is loose, in the order of child and edge
   abbrev pub loose_of_kind : ℕ → Option CheckFault
   loose_of_kind k = first_some (map (loose_fault k) (child_edges (points_of o) numbers k))
 
@@ -111,15 +111,15 @@ module _ (o : Order) (l : theory.Rule Point) where
   glues = first_below (λ i. unless (glues_halves numbers i) (GlueWrong (glue_type numbers i))) (length numbers.glue)
 
 module _ (edition : Edition) (o : Order) (l : theory.Rule Point) where
-  -- the inflation factor, as the edition has it
+  -- the inflation factor, as the edition allows it
   abbrev pub factor : Option CheckFault
   factor = unless (is_inflation_factor (points_of o) (as_edition edition) (is_refused o) (numbers o l).factor) WrongFactor
 
-  -- all ten clauses in order
+  -- all ten clauses, in their order
   abbrev pub fault_of_lists : Option CheckFault
   fault_of_lists = first_some (
       limits o l ∷ stars o l ∷ factor ∷ mates o l ∷ lengths o l ∷ subdivisions o l ∷ loose_edges o l ∷ boundaries o l ∷ uses o l ∷ glues o l ∷ [])
 
--- the same of a rule, by its own edition, order and lists
+-- the first fault of a rule, by its own edition, order and lists
 abbrev pub first_fault : Rule → Option CheckFault
 first_fault r = fault_of_lists r.edition r.order (as_rule r)

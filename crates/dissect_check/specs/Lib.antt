@@ -4,4 +4,3 @@ pub mod Views
 pub mod Few
 pub mod Boundary
 pub mod Parts
-pub mod FaultText

@@ -12,13 +12,13 @@ use Rattle.rule_model.specs.Views.{rule_of}
 use Rattle.dissect_check.specs.declared.lie.Lie.{Lie}
 use Rattle.dissect_check.specs.declared.lie.Lie.TheVariants.{Inner, Boundary, Loose}
 
--- where it is on the boundary, the edge along which it lies is below n
+-- if the child edge is on the boundary, the edge along which it lies is below n
 abbrev pub LiesBelow : ℕ → Lie → Type 0
 LiesBelow n (Inner c e) = Unit {0}
 LiesBelow n (Boundary e) = e < n
 LiesBelow n Loose = Unit {0}
 
--- at most eight names
+-- there are at most eight names
 abbrev pub AreFew : Vec ChildEdge Global → Type 0
 AreFew v = length v.items ≤ 8
 

@@ -1,4 +1,4 @@
--- What the program keeps of an inflated prototile stands for that of the theory.
+-- What the program keeps of an inflated prototile, in the terms of the theory.
 use Rattle.std.specs.Prelude.{◌≡◌, ℕ, ◌^◌, ◌<◌, List, map, length, get_or, All}
 use Rattle.theory_edge_to_edge.specs.Edges as theory
 use Rattle.theory_edge_to_edge.specs.Edges.{child_edges, inflated_edges}
@@ -26,7 +26,7 @@ as_lie (Inner c e) = theory_lying.inner c e
 as_lie (Boundary e) = theory_lying.boundary e
 as_lie Loose = theory_lying.loose
 
--- both ends are points of the order, and their coefficients are at most 2^16 in absolute value
+-- both ends are points of the order, with coefficients of at most 2^16
 pub record IsSmallLine (o : Order) (l : Line) : Type 0 where
   pub from_within : IsWithin (2 ^ 16) l.from
   pub to_within : IsWithin (2 ^ 16) l.to
@@ -38,7 +38,7 @@ pub record IsFit (r : Rule) (s : PlacedEdge) : Type 0 where
   pub line : IsSmallLine r.order s.line
   pub type_exists : s.ty < length (rule_of r).types
 
--- this is the inflated prototile of kind k
+-- the program has the inflated prototile of kind k, and where each child edge of it lies
 pub record IsInflated (r : Rule) (k : ℕ) (i : Inflated) : Type 0 where
   pub wholes : map (line_in r.order) i.wholes.items ≡ inflated_edges (points_of r.order) (rule_of r) k
   pub wholes_small : All (IsSmallLine r.order) i.wholes.items

@@ -1,6 +1,5 @@
 use crate::what::What;
 use std::alloc::{AllocError, AllocFailed};
-use std::fmt;
 use tile_shape::no_memory::NoMemory;
 
 /// Why a rule is refused: the first clause that fails, at its first place. Kinds, types, children, edges and
@@ -29,33 +28,6 @@ pub enum CheckFault {
     GlueWrong { ty: u8 },
     /// Memory ran out.
     NoMemory,
-}
-
-impl fmt::Display for CheckFault {
-    ghost use Rattle.std.specs.Prelude.{Some};
-    ghost use Rattle.dissect_check.specs.FaultText.{check_fault_text};
-
-    ghost output = { λ fault. Some (check_fault_text fault) };
-
-    fn fmt<W: fmt::Write>(&self, f: &mut fmt::Formatter<W>) -> fmt::Result {
-        match self {
-            CheckFault::TooMany { what } => write!(f, "TooMany {what}"),
-            CheckFault::NotStar { kind } => write!(f, "NotStar {kind}"),
-            CheckFault::WrongFactor => f.write_str("WrongFactor"),
-            CheckFault::BadMate { ty } => write!(f, "BadMate {ty}"),
-            CheckFault::BadLength { kind, edge } => write!(f, "BadLength {kind} {edge}"),
-            CheckFault::BadSubdivision { ty } => write!(f, "BadSubdivision {ty}"),
-            CheckFault::ChildEdgeLoose { kind, child, edge } => {
-                write!(f, "ChildEdgeLoose {kind} {child} {edge}")
-            }
-            CheckFault::BoundaryWrong { kind, edge, part } => {
-                write!(f, "BoundaryWrong {kind} {edge} {part}")
-            }
-            CheckFault::Unused { kind } => write!(f, "Unused {kind}"),
-            CheckFault::GlueWrong { ty } => write!(f, "GlueWrong {ty}"),
-            CheckFault::NoMemory => f.write_str("NoMemory"),
-        }
-    }
 }
 
 impl From<AllocError> for CheckFault {

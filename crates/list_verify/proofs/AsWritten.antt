@@ -14,11 +14,11 @@ use Rattle.theory_dissection.specs.Accepted.{AcceptedRule}
 use Rattle.theory_edge_to_edge.specs.Contacts.{tables_of}
 use Rattle.theory_addresses.specs.Tables.{child_kinds}
 use Rattle.theory_frames.specs.Frame.{at_level, lifted_in, IsTileOf}
-use Rattle.lazy_walk.specs.Ancestors.{full}
-use Rattle.lazy_walk.specs.Frames.{FrameValue, whole, IsFrameOf, GrowsTo}
+use Rattle.theory_walks.specs.Ancestors.{full}
+use Rattle.theory_walks.specs.Frames.{FrameValue, whole, IsFrameOf, GrowsTo}
 use Rattle.lazy_walk.specs.Standing.{Stands}
-use Rattle.lazy_walk.proofs.InFull.{by_tables, level-grown}
-use Rattle.lazy_walk.proofs.Walks.{StillFits}
+use Rattle.theory_walks.proofs.InFull.{by_tables, level-grown}
+use Rattle.theory_walks.proofs.Walks.{StillFits}
 use Rattle.listing_text.specs.Limits.{most_lines}
 use Rattle.listing_text.specs.Lines.{lines_in}
 use Rattle.listing_text.specs.Listing.{Entry, entries_from, listing_in}

@@ -12,14 +12,14 @@ use Rattle.theory_dissection.specs.TileEdges.{tile_at}
 use Rattle.theory_dissection.proofs.Join.{across-back}
 use Rattle.theory_edge_to_edge.specs.Contacts.{tables_of}
 use Rattle.theory_frames.specs.Frame.{at_level, frame_tiles, IsTileOf, lifted_in}
-use Rattle.lazy_walk.specs.Ancestors.{full}
-use Rattle.lazy_walk.specs.Boundary.{IsBoundaryEdge}
+use Rattle.theory_walks.specs.Ancestors.{full}
+use Rattle.theory_walks.specs.Boundary.{IsBoundaryEdge}
 use Rattle.lazy_walk.specs.Crossed.{IsCrossedTo}
-use Rattle.lazy_walk.specs.Frames.{FrameValue, whole, at_depth, GrowsTo, lifted_at}
-use Rattle.lazy_walk.proofs.Crossings.{boundary-part}
-use Rattle.lazy_walk.proofs.InFull.{level-grown, whole-level, by_level}
-use Rattle.lazy_walk.proofs.Lifting.{IsTileOf-later}
-use Rattle.lazy_walk.proofs.Walks.{StillFits, later}
+use Rattle.theory_walks.specs.Frames.{FrameValue, whole, at_depth, GrowsTo, lifted_at}
+use Rattle.theory_walks.proofs.Crossings.{boundary-part}
+use Rattle.theory_walks.proofs.InFull.{level-grown, whole-level, by_level}
+use Rattle.theory_walks.proofs.Lifting.{IsTileOf-later}
+use Rattle.theory_walks.proofs.Walks.{StillFits, later}
 use Rattle.listing_text.specs.declared.entry.Entry as program
 use Rattle.theory_listings.specs.Walk.{MeetsIn, NoneAcross}
 use Rattle.theory_listings.specs.FrameWalk.{IsEdgeOfWalkOn}

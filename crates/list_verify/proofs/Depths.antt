@@ -2,9 +2,9 @@
 use Rattle.std.proofs.Common.{◌≡◌, ℕ, ◌≤◌, List, length, Ok, Result, sym, ◌∙◌, subst, arith}
 use Rattle.theory_addresses.specs.Address.{Address}
 use Rattle.cyclo_points.specs.Order.{points_of}
-use Rattle.lazy_walk.specs.Ancestors.{full}
-use Rattle.lazy_walk.specs.Frames.{FrameValue, GrowsTo}
-use Rattle.lazy_walk.proofs.Ancestors.{full-later}
+use Rattle.theory_walks.specs.Ancestors.{full}
+use Rattle.theory_walks.specs.Frames.{FrameValue, GrowsTo}
+use Rattle.theory_walks.proofs.Ancestors.{full-later}
 use Rattle.listing_text.specs.Listing.{Entry, listing_in}
 use Rattle.theory_listings.proofs.FrameLines.{deepest-first}
 use Rattle.plane_geom.specs.declared.window.Window.{Window}

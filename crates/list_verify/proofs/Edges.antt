@@ -10,8 +10,8 @@ use Rattle.cyclo_points.specs.declared.point.Point.{Point}
 use Rattle.cyclo_points.specs.Order.{points_of}
 use Rattle.cyclo_points.specs.Point.{point_in}
 use Rattle.cyclo_points.specs.Motion.{motion_in}
-use Rattle.lazy_walk.specs.Frames.{FrameValue}
-use Rattle.lazy_walk.proofs.Walks.{StillFits}
+use Rattle.theory_walks.specs.Frames.{FrameValue}
+use Rattle.theory_walks.proofs.Walks.{StillFits}
 use Rattle.listing_text.specs.declared.entry.Entry as program
 use Rattle.plane_geom.specs.declared.window.Window.{Window}
 use Rattle.rule_model.specs.declared.rule.Rule.{Rule}

@@ -9,9 +9,9 @@ use Rattle.cyclo_points.specs.Order.{points_of, is_refused}
 use Rattle.cyclo_points.specs.Point.{IsOf}
 use Rattle.theory_dissection.specs.Accepted.{AcceptedRule}
 use Rattle.theory_frames.specs.Frame.{frame_tiles}
-use Rattle.lazy_walk.specs.Ancestors.{full}
-use Rattle.lazy_walk.specs.Frames.{FrameValue}
-use Rattle.lazy_walk.proofs.Walks.{StillFits}
+use Rattle.theory_walks.specs.Ancestors.{full}
+use Rattle.theory_walks.specs.Frames.{FrameValue}
+use Rattle.theory_walks.proofs.Walks.{StillFits}
 use Rattle.listing_text.specs.declared.entry.Entry as program
 use Rattle.listing_text.specs.Listing.{Entry}
 use Rattle.listing_text.specs.Views.{entry_of}

@@ -9,14 +9,14 @@ use Rattle.cyclo_points.specs.Order.{points_of, is_refused}
 use Rattle.theory_dissection.specs.Accepted.{AcceptedRule, NamesTile}
 use Rattle.theory_dissection.specs.Polygons.{tile_polygon}
 use Rattle.theory_frames.specs.Frame.{at_level, motion_beside, frame_tiles, IsTileOf}
-use Rattle.lazy_walk.specs.Ancestors.{full}
-use Rattle.lazy_walk.specs.Boundary.{IsBoundaryEdge}
-use Rattle.lazy_walk.specs.Frames.{FrameValue, whole, at_depth, GrowsTo, lifted_at}
-use Rattle.lazy_walk.proofs.Ancestors.{full-later, level-same}
-use Rattle.lazy_walk.proofs.Crossings.{boundary-part}
-use Rattle.lazy_walk.proofs.InFull.{level-grown, by_tables}
-use Rattle.lazy_walk.proofs.Lifting.{IsTileOf-later}
-use Rattle.lazy_walk.proofs.Walks.{StillFits, later, at_depth-depth, whole-fits}
+use Rattle.theory_walks.specs.Ancestors.{full}
+use Rattle.theory_walks.specs.Boundary.{IsBoundaryEdge}
+use Rattle.theory_walks.specs.Frames.{FrameValue, whole, at_depth, GrowsTo, lifted_at}
+use Rattle.theory_walks.proofs.Ancestors.{full-later, level-same}
+use Rattle.theory_walks.proofs.Crossings.{boundary-part}
+use Rattle.theory_walks.proofs.InFull.{level-grown, by_tables}
+use Rattle.theory_walks.proofs.Lifting.{IsTileOf-later}
+use Rattle.theory_walks.proofs.Walks.{StillFits, later, at_depth-depth, whole-fits}
 use Rattle.listing_text.specs.declared.entry.Entry as program
 use Rattle.plane_geom.specs.declared.window.Window.{Window}
 use Rattle.rule_model.specs.declared.rule.Rule.{Rule}

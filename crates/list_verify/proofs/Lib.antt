@@ -10,8 +10,15 @@ pub mod Depths
 pub mod Start
 pub mod Edges
 pub mod Sides
+pub mod WalkLaws
+pub mod Onward
+pub mod AtCentre
+pub mod OneCrossing
+pub mod EachEdge
+pub mod EachLine
 pub mod Ended
 pub mod Verdicts
 pub mod SaidOfLifted
 pub mod AsWritten
 pub mod WrittenSoFar
+pub mod Answered

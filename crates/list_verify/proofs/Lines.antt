@@ -11,10 +11,10 @@ use Rattle.cyclo_points.specs.Order.{points_of}
 use Rattle.theory_dissection.specs.Accepted.{AcceptedRule, NamesTile}
 use Rattle.theory_edge_to_edge.specs.Contacts.{tables_of}
 use Rattle.theory_frames.specs.Frame.{at_level, IsTileOf, lifted_in}
-use Rattle.lazy_walk.specs.Ancestors.{full}
-use Rattle.lazy_walk.specs.Frames.{FrameValue, whole}
-use Rattle.lazy_walk.proofs.InFull.{names, deep, by_tables, level-grown, tile-full}
-use Rattle.lazy_walk.proofs.Walks.{StillFits, GrowsTo-self}
+use Rattle.theory_walks.specs.Ancestors.{full}
+use Rattle.theory_walks.specs.Frames.{FrameValue, whole}
+use Rattle.theory_walks.proofs.InFull.{names, deep, by_tables, level-grown, tile-full}
+use Rattle.theory_walks.proofs.Walks.{StillFits, GrowsTo-self}
 use Rattle.listing_text.specs.declared.entry.Entry as program
 use Rattle.listing_text.specs.Views.{entry_of}
 use Rattle.theory_listings.specs.FrameListing.{deepest_listed, AreOfFrame}

@@ -11,9 +11,9 @@ use Rattle.cyclo_points.specs.Point.{IsOf}
 use Rattle.theory_dissection.specs.Accepted.{AcceptedRule}
 use Rattle.theory_edge_to_edge.specs.Contacts.{tables_of}
 use Rattle.theory_frames.specs.Frame.{IsTileOf}
-use Rattle.lazy_walk.specs.Ancestors.{full}
-use Rattle.lazy_walk.specs.Frames.{FrameValue, IsFrameOf}
-use Rattle.lazy_walk.proofs.Walks.{StillFits}
+use Rattle.theory_walks.specs.Ancestors.{full}
+use Rattle.theory_walks.specs.Frames.{FrameValue, IsFrameOf}
+use Rattle.theory_walks.proofs.Walks.{StillFits}
 use Rattle.listing_text.specs.declared.listing_fault.ListingFault.{ListingFault}
 use Rattle.listing_text.specs.declared.listing_fault.ListingFault.TheVariants as text
 use Rattle.listing_text.specs.Listing.{Entry, listing_in}

@@ -16,12 +16,12 @@ use Rattle.theory_dissection.proofs.Setting.{Setting}
 use Rattle.theory_edge_to_edge.specs.Contacts.{tables_of}
 use Rattle.theory_frames.specs.Contain.{values_outward}
 use Rattle.theory_frames.specs.Frame.{at_level, IsTileOf, lifted_in}
-use Rattle.lazy_walk.specs.Ancestors.{full}
-use Rattle.lazy_walk.specs.Frames.{FrameValue, whole, IsFrameOf, GrowsTo}
-use Rattle.lazy_walk.proofs.Ancestors.{full-later}
-use Rattle.lazy_walk.proofs.InFull.{names, deep, level-grown}
-use Rattle.lazy_walk.proofs.Lifting.{lifted-twice, longer}
-use Rattle.lazy_walk.proofs.Walks.{StillFits, GrowsTo-is}
+use Rattle.theory_walks.specs.Ancestors.{full}
+use Rattle.theory_walks.specs.Frames.{FrameValue, whole, IsFrameOf, GrowsTo}
+use Rattle.theory_walks.proofs.Ancestors.{full-later}
+use Rattle.theory_walks.proofs.InFull.{names, deep, level-grown}
+use Rattle.theory_walks.proofs.Lifting.{lifted-twice, longer}
+use Rattle.theory_walks.proofs.Walks.{StillFits, GrowsTo-is}
 use Rattle.listing_text.specs.declared.entry.Entry as program
 use Rattle.listing_text.specs.Listing.{Entry, listing_in}
 use Rattle.listing_text.specs.Views.{entry_of}

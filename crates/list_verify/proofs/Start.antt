@@ -8,13 +8,13 @@ use Rattle.cyclo_points.specs.Point.{point_in, IsOf}
 use Rattle.cyclo_points.specs.Motion.{motion_in}
 use Rattle.theory_dissection.specs.Accepted.{AcceptedRule}
 use Rattle.theory_frames.specs.Frame.{at_level, frame_tiles}
-use Rattle.lazy_walk.specs.Ancestors.{full}
-use Rattle.lazy_walk.specs.Containing.{FrameHolds, IsOnlyHolder}
-use Rattle.lazy_walk.specs.Frames.{FrameValue, at_depth, GrowsTo}
+use Rattle.theory_walks.specs.Ancestors.{full}
+use Rattle.theory_walks.specs.Containing.{FrameHolds, IsOnlyHolder}
+use Rattle.theory_walks.specs.Frames.{FrameValue, at_depth, GrowsTo}
 use Rattle.lazy_walk.specs.Standing.{Stands}
-use Rattle.lazy_walk.proofs.Ancestors.{level-at}
-use Rattle.lazy_walk.proofs.InFull.{level-grown}
-use Rattle.lazy_walk.proofs.Walks.{StillFits, at_depth-depth}
+use Rattle.theory_walks.proofs.Ancestors.{level-at}
+use Rattle.theory_walks.proofs.InFull.{level-grown}
+use Rattle.theory_walks.proofs.Walks.{StillFits, at_depth-depth}
 use Rattle.listing_text.specs.declared.entry.Entry as program
 use Rattle.theory_listings.specs.FrameWalk.{ComesOnIn}
 use Rattle.plane_geom.specs.declared.window.Window.{Window}

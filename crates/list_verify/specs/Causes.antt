@@ -1,4 +1,4 @@
--- Why a tile that the walk comes to isn't found among the lines.
+-- Why a tile to which the walk comes is not found among the lines.
 use Rattle.std.specs.Prelude.{◌≡◌, ℕ, List, slice_get, Some}
 use Rattle.theory_addresses.specs.Search.{IsAmong}
 use Rattle.cyclo_points.specs.declared.motion.Motion.{Motion}
@@ -9,12 +9,12 @@ use Rattle.plane_geom.specs.declared.window.Window.{Window}
 use Rattle.rule_model.specs.Tiling.{Tiling}
 use Rattle.tile_shape.specs.declared.address.Address.{Address}
 use Rattle.tile_shape.specs.Views.{address_of}
-use Rattle.lazy_walk.specs.Frames.{FrameValue, whole}
+use Rattle.theory_walks.specs.Frames.{FrameValue, whole}
 use Rattle.listing_text.specs.Listing.{Entry}
 use Rattle.window_cover.specs.Windows.{TileOf, MeetsWindow, IsOfFrame}
 
--- the tile of this address is of the frame, at the depth that it has, and meets the window; and no line's
--- address, lifted to that depth, is it
+-- The tile of this address is of the frame, at the frame's own depth, and meets the window. It is the tile of
+-- no line's address, lifted to that depth.
 pub record IsMissingTile (t : Tiling) (g : FrameValue) (w : Window) (entries : List Entry) (addr : Address) : Type 0 where
   pub tile : TileOf t
   pub its_address : tile.address ≡ address_of addr
@@ -22,8 +22,8 @@ pub record IsMissingTile (t : Tiling) (g : FrameValue) (w : Window) (entries : L
   pub tile_meets : MeetsWindow t w tile
   pub no_line : (e : Entry) → IsAmong e entries → ¬ (lifted_in (whole g) e.address ≡ address_of addr)
 
--- the tile of line i, from 0, lifted to the depth that the frame has, meets the window and has this motion,
--- which is not the line's
+-- The tile of line i, counted from 0, lifted to the frame's own depth, meets the window. It has this motion,
+-- and the line has another.
 pub record IsMisplaced (t : Tiling) (g : FrameValue) (w : Window) (entries : List Entry) (i : ℕ) (motion : Motion) : Type 0 where
   pub entry : Entry
   pub is_line : slice_get entries i ≡ Some entry

@@ -7,8 +7,8 @@ pub mod Causes
 pub mod FoundLines
 pub mod Walked
 pub mod Lifted
-pub mod FaultText
 pub mod Verdict
 pub mod OneVerdict
 pub mod ListLaws
 pub mod Written
+pub mod Walk

@@ -11,11 +11,11 @@ use Rattle.list_verify.specs.declared.list_fault.ListFault.{ListFault}
 use Rattle.list_verify.specs.declared.list_fault.ListFault.TheVariants.{NotOfFrame}
 use Rattle.list_verify.specs.Listing.{tiles_listed}
 
--- a line whose address is lifted in a frame
+-- a line with its address lifted in a frame
 abbrev pub entry_lifted : Address → Entry → Entry
 entry_lifted f e = record { motion = e.motion; address = lifted_in f e.address }
 
--- so are the first n lines
+-- the lines, with the first n lifted
 abbrev pub first_lifted : Address → ℕ → List Entry → List Entry
 first_lifted f zero entries = entries
 first_lifted f (suc n) [] = []
@@ -25,7 +25,7 @@ first_lifted f (suc n) (e ∷ entries) = entry_lifted f e ∷ first_lifted f n e
 abbrev pub deepest_entry : Tiling → ℕ → List Entry → ℕ
 deepest_entry t m entries = deepest_listed m (tiles_listed t entries)
 
--- lines are of a frame, and these are the same ones lifted in it
+-- the lines are of the frame, and the others are the same lines, lifted in it
 pub record AreLifted (kinds : List (List ℕ)) (f : Address) (entries lifted : List Entry) : Type 0 where
   pub of_frame : AllByRecursion (λ (e : Entry). IsTileOf kinds f e.address) entries
   pub are : lifted ≡ map (entry_lifted f) entries

@@ -1,5 +1,5 @@
--- Lines by the addresses of their tiles: each line is in a bucket, and each bucket is a chain from its last
--- line to its first.
+-- Lines found by the addresses of their tiles. Each line is in a bucket, and each bucket is a chain from its
+-- last line to its first.
 use Rattle.std.specs.Prelude.{◌≡◌, ℕ, zero, suc, ◌+◌, ◌*◌, ◌%◌, ◌<◌, ◌≤◌, List, [], ◌∷◌, map, length, get_or, slice_get, Some, None, nat_eq, cond}
 use Rattle.std.specs.declared.option.Option.{Option}
 use Rattle.theory_addresses.specs.Address.{Step, Address}
@@ -8,7 +8,7 @@ use Rattle.list_verify.specs.declared.line_index.Buckets.{Buckets}
 use Rattle.list_verify.specs.declared.line_index.LineIndex.{LineIndex}
 use Rattle.tile_shape.specs.Views.{address_of}
 
--- digits, as one number below the prime 2^61 - 1: those before are multiplied
+-- digits as one number below the prime 2^61 - 1: each step multiplies what came before, and adds a digit
 abbrev pub digest_from : ℕ → ℕ → List Step → ℕ
 digest_from multiplier digest [] = digest
 digest_from multiplier digest (d ∷ ds) = digest_from multiplier ((digest * multiplier + (d.child * 256 + d.parent)) % 2305843009213693951) ds
@@ -21,13 +21,13 @@ bucket_of buckets a = digest_from buckets.multiplier a.kind a.digits % buckets.c
 abbrev pub buckets_of : Buckets → List Entry → List ℕ
 buckets_of buckets lines = map (λ e. bucket_of buckets (address_of e.address)) lines
 
--- of the first n lines, by their buckets, the number of the last one in a bucket
+-- among the first n lines, by their buckets, the number of the last one in a bucket
 abbrev pub last_in : List ℕ → ℕ → ℕ → Option ℕ
 last_in places place zero = None
 last_in places place (suc n) = cond (nat_eq (get_or places n (suc place)) place) (Some n) (last_in places place n)
 
--- the last line of each bucket among the first n lines, and for each of these lines the previous one in its
--- bucket
+-- The index has the last line of each bucket among the first n lines. For each of these lines it has the
+-- previous one in its bucket.
 pub record IsIndexOf (buckets : Buckets) (lines : List Entry) (n : ℕ) (last before : List (Option ℕ)) : Type 0 where
   pub some : 0 < buckets.count
   pub multiplier : buckets.multiplier < 2305843009213693951
@@ -37,7 +37,7 @@ pub record IsIndexOf (buckets : Buckets) (lines : List Entry) (n : ℕ) (last be
   pub last_is : (place : ℕ) → place < buckets.count → slice_get last place ≡ Some (last_in (buckets_of buckets lines) place n)
   pub before_is : (i : ℕ) → i < n → slice_get before i ≡ Some (last_in (buckets_of buckets lines) (get_or (buckets_of buckets lines) i 0) i)
 
--- so are the first n lines found by this index
+-- this holds for a value of the program
 abbrev pub Indexes : LineIndex → List Entry → ℕ → Type 0
 Indexes index lines n = IsIndexOf index.buckets lines n index.last.items index.before.items
 

@@ -6,9 +6,9 @@ use Rattle.cyclo_points.specs.Point.{point_in, IsOf}
 use Rattle.cyclo_points.specs.Motion.{motion_in}
 use Rattle.plane_geom.specs.declared.window.Window.{Window}
 use Rattle.rule_model.specs.Tiling.{Tiling, children}
-use Rattle.lazy_walk.specs.Ancestors.{full}
-use Rattle.lazy_walk.specs.Containing.{first_refused_outward}
-use Rattle.lazy_walk.specs.Frames.{FrameValue}
+use Rattle.theory_walks.specs.Ancestors.{full}
+use Rattle.theory_walks.specs.Containing.{first_refused_outward}
+use Rattle.theory_walks.specs.Frames.{FrameValue}
 use Rattle.listing_text.specs.Listing.{Entry, listing_in}
 use Rattle.theory_listings.specs.FrameListing.{IsRightListing, AreUnrefused, AreAllListed, NamesMeeting}
 use Rattle.theory_listings.specs.Lines.{IsFirstLine}
@@ -27,14 +27,14 @@ AreOfOrder t entries = AllByRecursion (λ (e : Entry). IsOf t.order e.motion.shi
 
 -- The listing is right for the window on the frame. Let n be the least depth, up to 64, that is enough for
 -- the window, and not below the frame's or a listed one. There is such a depth, each address is of the frame
--- at depth n, and the lines, lifted to depth n, are exactly the tiles there that meet the window. Each comes
--- exactly once, with its motion.
+-- at depth n, and the lines, lifted to depth n, are exactly the tiles there that meet the window. Each is
+-- listed exactly once, with its motion.
 pub record IsRightFor (t : Tiling) (f : FrameValue) (w : Window) (entries : List Entry) : Type 0 where
   pub of_order : AreOfOrder t entries
   pub right : IsRightListing (points_of t.order) t.rule (full t f) (box_of t w) (length f.digits) (tiles_listed t entries)
 
--- the text is read as a right listing of n lines; no value on the way to the centre is refused, and no shift
--- of a tile that meets the window
+-- The text is read as a right listing of n lines. No value on the way to the centre is refused, and no shift
+-- of a tile that meets the window.
 pub record IsVerified (t : Tiling) (f : FrameValue) (w : Window) (text : List ℕ) (n : ℕ) : Type 0 where
   pub entries : List Entry
   pub read : listing_in (children t) text ≡ Ok entries
@@ -47,13 +47,13 @@ pub record IsVerified (t : Tiling) (f : FrameValue) (w : Window) (text : List �
 abbrev pub NamesTileThere : Tiling → FrameValue → Window → Entry → Type 0
 NamesTileThere t f w e = NamesMeeting (points_of t.order) t.rule (full t f) (box_of t w) e.address
 
--- there is such a depth, and each tile there that meets the window has a line with its motion, and no refused
--- shift
+-- There is such a depth n. Each tile there that meets the window has a line with its motion, and no refused
+-- shift.
 pub record HasAllTiles (t : Tiling) (f : FrameValue) (w : Window) (m : ℕ) (entries : List Entry) : Type 0 where
   pub all_listed : AreAllListed (points_of t.order) (is_refused t.order) t.rule (full t f) (box_of t w) m (tiles_listed t entries)
   pub of_order : AllByRecursion (λ (e : Entry). NamesTileThere t f w e → IsOf t.order e.motion.shift) entries
 
--- this holds, and line i, from 0, is the first whose tile does not meet the window
+-- This holds, and line i, counted from 0, is the first whose tile does not meet the window.
 pub record HasStray (t : Tiling) (f : FrameValue) (w : Window) (m : ℕ) (entries : List Entry) (i : ℕ) : Type 0 where
   pub all_tiles : HasAllTiles t f w m entries
   pub first : IsFirstLine (λ e. ¬ NamesTileThere t f w e) entries i

@@ -1,4 +1,4 @@
--- A tile that is looked for among the lines.
+-- Looking for a tile among the lines.
 use Rattle.std.specs.Prelude.{◌≡◌, ◌⊎◌, ℕ, ◌+◌, ◌^◌, true, false, List, [], ◌∷◌, ◌++◌, slice_get, slice_set, Some}
 use Rattle.cyclo_points.specs.declared.motion.Motion.{Motion}
 use Rattle.cyclo_points.specs.declared.order.Order.{Order}
@@ -14,13 +14,13 @@ use Rattle.list_verify.specs.declared.list_fault.ListFault.{ListFault}
 use Rattle.list_verify.specs.declared.list_fault.ListFault.TheVariants.{Missing, WrongPlace, CoordLimit}
 use Rattle.list_verify.specs.LineIndex.{HasAddress}
 
--- line number i was found before
+-- line number i was found before, and nothing changes
 pub record IsKnown (old new : FoundLines) (i : ℕ) : Type 0 where
   pub known : slice_get old.marks.items i ≡ Some true
   pub same_lines : new.lines.items ≡ old.lines.items
   pub same_marks : new.marks.items ≡ old.marks.items
 
--- it is found now, with this tile
+-- line number i is found now, with this tile
 pub record IsNew (old new : FoundLines) (line : Entry) (tile : PlacedTile) (i : ℕ) : Type 0 where
   pub not_known : ¬ (slice_get old.marks.items i ≡ Some true)
   pub shift_within : IsWithin (2 ^ 24) tile.motion.shift
@@ -29,19 +29,19 @@ pub record IsNew (old new : FoundLines) (line : Entry) (tile : PlacedTile) (i : 
   pub one_more : new.lines.items ≡ old.lines.items ++ i ∷ []
   pub marked : new.marks.items ≡ slice_set old.marks.items i true
 
--- a tile is looked for: its line, of this number, was found before, or is found now; then the tile is not
--- refused, and the line has its motion
+-- The tile is looked for, and has the line with this number, which was found before or is found now. If it is
+-- found now, the tile is not refused, and the line has its motion.
 pub record IsLookedUp (old new : FoundLines) (lines : List Entry) (tile : PlacedTile) (number : ℕ) : Type 0 where
   pub line : Entry
   pub is_line : slice_get lines number ≡ Some line
   pub its_address : address_of line.address ≡ address_of tile.addr
   pub known_or_new : IsKnown old new number ⊎ IsNew old new line tile number
 
--- in no order of which both shifts are do these motions take points to the same places
+-- in no order to which both shifts belong are these motions the same
 abbrev pub IsMovedOtherwise : Motion → Motion → Type 0
 IsMovedOtherwise a b = (o : Order) → IsOf o a.shift → IsOf o b.shift → ¬ (motion_in o a ≡ motion_in o b)
 
--- why it isn't found: no line has its address, its line has another motion, or its shift is refused
+-- why the tile is not found: no line has its address, its line has another motion, or its shift is refused
 abbrev pub IsNotFound : Tiling → List Entry → PlacedTile → ListFault → Type 0
 IsNotFound t lines tile (Missing addr) = (address_of addr ≡ address_of tile.addr) × ((i : ℕ) → ¬ HasAddress lines i (address_of tile.addr))
 IsNotFound t lines tile (WrongPlace number motion) =

@@ -1,19 +1,22 @@
 -- What is said of the text of a listing that isn't right: for each fault its cause.
-use Rattle.std.specs.Prelude.{◌≡◌, ℕ, ◌+◌, List, length, None, Err, Ok}
+use Rattle.std.specs.Prelude.{◌≡◌, ◌↔◌, ℕ, ◌+◌, ◌<◌, ◌≤◌, List, length, None, Result, Err, Ok, IfOk, IfErr, OnOk}
 use Rattle.theory_addresses.specs.Address.{Address as TheAddress}
 use Rattle.cyclo_points.specs.Order.{points_of}
 use Rattle.theory_frames.specs.Frame.{at_level}
 use Rattle.plane_geom.specs.declared.window.Window.{Window}
 use Rattle.rule_model.specs.Tiling.{Tiling, children}
-use Rattle.lazy_walk.specs.Ancestors.{full}
-use Rattle.lazy_walk.specs.Frames.{FrameValue}
+use Rattle.theory_walks.specs.Ancestors.{full}
+use Rattle.theory_walks.specs.Frames.{FrameValue, GrowsTo}
 use Rattle.listing_text.specs.declared.listing_fault.ListingFault.{ListingFault}
 use Rattle.listing_text.specs.declared.listing_fault.ListingFault.TheVariants as text
+use Rattle.listing_text.specs.Limits.{most_lines}
+use Rattle.listing_text.specs.Lines.{lines_in}
 use Rattle.listing_text.specs.Listing.{Entry, listing_in}
 use Rattle.theory_listings.specs.FrameListing.{deepest_listed, AreOfFrame, IsNotOfFrame, IsDouble}
 use Rattle.list_verify.specs.declared.list_fault.ListFault.{ListFault}
 use Rattle.list_verify.specs.declared.list_fault.ListFault.TheVariants.{TooLong, BadLine, Address, BadKind, NotOfFrame, Double, Missing, WrongPlace, Stray, DepthLimit, CoordLimit, NoMemory}
-use Rattle.list_verify.specs.Listing.{tiles_listed, HasAllTiles, HasStray}
+use Rattle.list_verify.specs.Depth.{IsListedDepth, IsEnoughListed}
+use Rattle.list_verify.specs.Listing.{tiles_listed, HasAllTiles, HasStray, IsVerified}
 use Rattle.list_verify.specs.Walked.{first_refused_at, IsStoppedBy}
 
 -- the faults of the text, as faults of the listing
@@ -100,3 +103,15 @@ pub record LacksTiles (t : Tiling) (f : FrameValue) (w : Window) (listing : List
   pub entries : List Entry
   pub lines : AreApart t f listing entries
   pub lacking : first_refused_at t f w ≡ None → ¬ HasAllTiles t f w (length f.digits) entries
+
+-- What is answered of the text, in a frame that was f and is g: it is right, or a fault has its cause. The
+-- frame is as deep as the lines, and no deeper than is enough; with a fault of the text it stays. Too many
+-- lines are a fault in any case.
+pub record IsVerdict (t : Tiling) (f g : FrameValue) (w : Window) (listing : List ℕ) (answer : Result ℕ ListFault) : Type 0 where
+  pub frame : GrowsTo t f g
+  pub depth : OnOk answer (IsListedDepth t f listing (length g.digits))
+  pub not_beyond : (n : ℕ) → IsEnoughListed t f w listing n → length g.digits ≤ n
+  pub unread : (fault : ListingFault) → listing_in (children t) listing ≡ Err fault → g ≡ f
+  pub right : IfOk answer (λ n. IsVerified t f w listing n)
+  pub cause : IfErr answer (λ fault. HasCause t f g w listing fault)
+  pub too_long : (answer ≡ Err TooLong) ↔ (most_lines < length (lines_in listing))

@@ -1,13 +1,13 @@
--- What a walk through lines finds out at its end, and why it stops before.
+-- What a walk through lines has found out at its end, and why it stops before.
 use Rattle.std.specs.Prelude.{◌≡◌, ◌⊎◌, ℕ, ◌+◌, ◌<◌, Bool, true, false, List, length, slice_get, Some, None}
 use Rattle.std.specs.declared.option.Option.{Option}
 use Rattle.cyclo_points.specs.Order.{NumberOf, points_of, is_refused}
 use Rattle.cyclo_points.specs.Point.{point_in}
 use Rattle.plane_geom.specs.declared.window.Window.{Window}
 use Rattle.rule_model.specs.Tiling.{Tiling}
-use Rattle.lazy_walk.specs.Ancestors.{full}
-use Rattle.lazy_walk.specs.Containing.{first_refused_outward}
-use Rattle.lazy_walk.specs.Frames.{FrameValue}
+use Rattle.theory_walks.specs.Ancestors.{full}
+use Rattle.theory_walks.specs.Containing.{first_refused_outward}
+use Rattle.theory_walks.specs.Frames.{FrameValue}
 use Rattle.listing_text.specs.Listing.{Entry}
 use Rattle.theory_listings.specs.FrameListing.{IsRightListing, AreUnrefused}
 use Rattle.window_cover.specs.Causes.{IsDepthLimit, IsFirstRefused, IsRefusedShift}
@@ -17,13 +17,13 @@ use Rattle.list_verify.specs.declared.list_fault.ListFault.TheVariants.{Missing,
 use Rattle.list_verify.specs.Causes.{IsMissingTile, IsMisplaced}
 use Rattle.list_verify.specs.Listing.{tiles_listed, AreOfOrder, HasAllTiles, HasStray}
 
--- line i, from 0, is the first that isn't marked
+-- line i, counted from 0, is the first that is not marked
 pub record IsFirstUnmarked (marks : List Bool) (i : ℕ) : Type 0 where
   pub unmarked : slice_get marks i ≡ Some false
   pub first : (j : ℕ) → j < i → slice_get marks j ≡ Some true
 
--- each tile that meets the window has its line; if all lines are marked they are right, and otherwise the
--- first that is not is stray
+-- Each tile that meets the window has its line. If all lines are marked, they are right. Otherwise the first
+-- line that is not marked is stray.
 pub record Tells (t : Tiling) (f : FrameValue) (w : Window) (entries : List Entry) (marks : List Bool) : Type 0 where
   pub all_tiles : HasAllTiles t f w (length f.digits) entries
   pub right : ((i : ℕ) → i < length marks → slice_get marks i ≡ Some true)
@@ -31,7 +31,7 @@ pub record Tells (t : Tiling) (f : FrameValue) (w : Window) (entries : List Entr
       × AreUnrefused (is_refused t.order) (tiles_listed t entries) × AreOfOrder t entries
   pub stray : (i : ℕ) → IsFirstUnmarked marks i → HasStray t f w (length f.digits) entries i
 
--- the first refused value looked at for the centre
+-- the first refused value on the way to the centre
 abbrev pub first_refused_at : (t : Tiling) → FrameValue → Window → Option (NumberOf t.order)
 first_refused_at t f w = first_refused_outward t f (point_in t.order w.centre)
 
@@ -43,21 +43,21 @@ StopsFor t f g w entries (DepthLimit addr edge) = IsDepthLimit t g w addr edge
 StopsFor t f g w entries (CoordLimit value) = IsFirstRefused t f w value ⊎ IsRefusedShift t g w value
 StopsFor t f g w entries fault = ⊥
 
--- and then not each tile that meets the window has its line, unless a value on the way to the centre is
--- refused
+-- the walk has this cause to stop; and unless a value on the way to the centre is refused, some tile that
+-- meets the window lacks its line
 pub record IsStoppedBy (t : Tiling) (f g : FrameValue) (w : Window) (entries : List Entry) (fault : ListFault) : Type 0 where
   pub cause : StopsFor t f g w entries fault
   pub not_all : first_refused_at t f w ≡ None → ¬ HasAllTiles t f w (length f.digits) entries
 
--- the lines are right, none is refused, each shift is a number of the order, and no value on the way to the
--- centre is refused
+-- The lines are right, and no shift of theirs is refused. Each shift is a number of the order. No value on
+-- the way to the centre is refused.
 pub record AreRightLines (t : Tiling) (f : FrameValue) (w : Window) (entries : List Entry) : Type 0 where
   pub right : IsRightListing (points_of t.order) t.rule (full t f) (box_of t w) (length f.digits) (tiles_listed t entries)
   pub unrefused : AreUnrefused (is_refused t.order) (tiles_listed t entries)
   pub of_order : AreOfOrder t entries
   pub centre_found : first_refused_at t f w ≡ None
 
--- the fault is that of a stray line, and no value looked at for the centre is refused
+-- the fault is that of a stray line, and no value on the way to the centre is refused
 pub record IsStrayFault (t : Tiling) (f : FrameValue) (w : Window) (entries : List Entry) (fault : ListFault) : Type 0 where
   pub number : ℕ
   pub is : fault ≡ Stray (number + 1)

@@ -1,7 +1,7 @@
--- What is written of the tiles of a window: a line for each.
+-- What is written of the tiles of a window: one line each.
 use Rattle.std.specs.Prelude.{◌≡◌, ◌≤◌, ℕ, List, map, length}
 use Rattle.std.specs.List.{AllByRecursion}
-use Rattle.lazy_walk.specs.Frames.{FrameValue, GrowsTo}
+use Rattle.theory_walks.specs.Frames.{FrameValue, GrowsTo}
 use Rattle.listing_text.specs.Limits.{most_lines}
 use Rattle.listing_text.specs.Lines.{lines_in}
 use Rattle.listing_text.specs.Listing.{Entry}
@@ -25,8 +25,8 @@ pub record IsWrittenOf (tiles : List PlacedTile) (text : List ℕ) : Type 0 wher
   pub is : text ≡ entries_text (tile_entries tiles)
   pub four : AllByRecursion (λ (tile : PlacedTile). length tile.motion.shift.c ≡ 4) tiles
 
--- the text is a right listing of n lines, which are not too many; and the frame has grown to the depth of its
--- lines, and no further than is enough
+-- The text is a right listing of n lines, which are not too many. The frame has grown to the depth of its
+-- lines, and no further than is enough.
 pub record IsListedAs (t : Tiling) (f g : FrameValue) (w : Window) (text : List ℕ) (n : ℕ) : Type 0 where
   pub grows : GrowsTo t f g
   pub depth : IsListedDepth t f text (length g.digits)

@@ -1,7 +1,7 @@
 //! Listings that are the very text that is written of a window.
 ghost use Rattle.std.specs.Prelude.{◌≡◌, ◌++◌, ◌∷◌, [], length, IfNone, IfSome, IsTrue};
 ghost use Rattle.rule_model.specs.Tiling.{tiling_of};
-ghost use Rattle.lazy_walk.specs.Frames.{IsFrameOf};
+ghost use Rattle.theory_walks.specs.Frames.{IsFrameOf};
 ghost use Rattle.tile_place.specs.declared.placed_tile.PlacedTile.{PlacedTile};
 ghost use Rattle.window_cover.specs.Windows.{IsWindow};
 ghost use Rattle.listing_text.specs.Written.{entry_text};

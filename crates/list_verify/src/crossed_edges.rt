@@ -7,6 +7,13 @@ use tile_shape::no_memory::NoMemory;
 /// The number of marks of each line: no tile has more edges.
 const MARKS: usize = 12;
 
+/// An edge of a line's tile, by the numbers of both.
+#[derive(Clone, Copy)]
+pub(crate) struct Side {
+    pub(crate) line: u32,
+    pub(crate) edge: u8,
+}
+
 /// A mark for each edge of each line's tile: true if it has been crossed from its other side.
 #[derive(Drop)]
 pub(crate) struct CrossedEdges {
@@ -26,19 +33,18 @@ impl CrossedEdges {
     }
 
     /// Returns true if an edge of a line's tile is marked.
-    pub(crate) fn has(&self, line: u32, edge: usize) -> bool
-        requires exists { line * 12 + edge < length self.now.marks.items }
-        requires below { edge < 12 }
-        ensures { IsTrue result ↔ (slice_get self.now.marks.items (line * 12 + edge) ≡ Some true) }
+    pub(crate) fn has(&self, side: Side) -> bool
+        requires exists { side.line * 12 + side.edge < length self.now.marks.items }
+        ensures { IsTrue result ↔ (slice_get self.now.marks.items (side.line * 12 + side.edge) ≡ Some true) }
     {
-        self.marks[line as usize * MARKS + edge]
+        self.marks[side.line as usize * MARKS + side.edge as usize]
     }
 
     /// Marks an edge of a line's tile.
-    pub(crate) fn put(&mut self, line: u32, edge: u8)
-        requires exists { line * 12 + edge < length self.old.marks.items }
-        ensures { self.new.marks.items ≡ slice_set self.old.marks.items (line * 12 + edge) true }
+    pub(crate) fn put(&mut self, side: Side)
+        requires exists { side.line * 12 + side.edge < length self.old.marks.items }
+        ensures { self.new.marks.items ≡ slice_set self.old.marks.items (side.line * 12 + side.edge) true }
     {
-        self.marks[line as usize * MARKS + edge as usize] = true;
+        self.marks[side.line as usize * MARKS + side.edge as usize] = true;
     }
 }

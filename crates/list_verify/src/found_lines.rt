@@ -1,5 +1,5 @@
 //! The lines that a walk has found.
-ghost use Rattle.std.specs.Prelude.{◌≡◌, ◌<◌, ◌+◌, ◌*◌, ◌^◌, ℕ, [], ◌∷◌, ◌++◌, true, length, slice_get, slice_set, Some, IfOk, IfErr, OnOk};
+ghost use Rattle.std.specs.Prelude.{◌≡◌, ◌<◌, ◌+◌, ◌^◌, ℕ, [], ◌∷◌, ◌++◌, true, length, slice_get, slice_set, Some, IfSome, IfNone, IfOk, IfErr, OnOk};
 ghost use Rattle.cyclo_points.specs.Point.{IsOf};
 ghost use Rattle.rule_model.specs.Tiling.{Tiling};
 ghost use Rattle.listing_text.specs.declared.entry.Entry.{Entry as Line};
@@ -7,6 +7,8 @@ ghost use Rattle.list_verify.specs.declared.list_fault.ListFault.TheVariants.{Wr
 ghost use Rattle.list_verify.specs.Faults.{OrNoRoom};
 ghost use Rattle.list_verify.specs.LookedUp.{IsLookedUp, IsNotFound, IsMovedOtherwise};
 ghost use Rattle.list_verify.specs.LineIndex.{Indexes};
+ghost use Rattle.list_verify.specs.Walk.{HasNone};
+ghost use Rattle.list_verify.specs.Walked.{IsFirstUnmarked};
 
 use crate::crossed_edges::CrossedEdges;
 use crate::line_index::LineIndex;
@@ -31,12 +33,7 @@ impl FoundLines {
     /// Begins with this number of lines, none of them found.
     pub(crate) fn new(alloc: Global, count: usize) -> Result<FoundLines, NoMemory>
         requires few { count < 2 ^ 32 }
-        ensures none { IfOk result (λ found. found.lines.items ≡ []) }
-        ensures count { IfOk result (λ found. length found.marks.items ≡ count) }
-        ensures unmarked { IfOk result (λ found. (i : ℕ) → ¬ (slice_get found.marks.items i ≡ Some true)) }
-        ensures sides { IfOk result (λ found. length found.crossed.marks.items ≡ count * 12) }
-        ensures none_crossed { IfOk result (λ found. (i : ℕ)
-            → ¬ (slice_get found.crossed.marks.items i ≡ Some true)) }
+        ensures { IfOk result (HasNone count) }
     {
         Ok(FoundLines {
             lines: Vec::new(alloc),
@@ -78,6 +75,22 @@ impl FoundLines {
             }),
             Some(line) => self.mark(lines, line, tile),
         }
+    }
+
+    /// Returns the number of the first line that is not found.
+    pub(crate) fn first_unmarked(&self) -> Option<u32>
+        requires few { length self.now.marks.items < 2 ^ 32 }
+        ensures first { IfSome result (IsFirstUnmarked self.now.marks.items) }
+        ensures below { IfSome result (λ i. i < length self.now.marks.items) }
+        ensures none { IfNone result ((i : ℕ) → i < length self.now.marks.items
+            → slice_get self.now.marks.items i ≡ Some true) }
+    {
+        for line in 0..self.marks.len() {
+            if !self.marks[line] {
+                return Some(line as u32);
+            }
+        }
+        None
     }
 
     /// Marks the line of a tile, if it has the tile's motion.

@@ -1,4 +1,4 @@
-//! Lists of the tiles of a window from other programs, verified.
+//! Checks lists of the tiles of a window from other programs.
 //!
 //! A walk through the lines of a list decides whether it is right. It begins with the tile at the centre of
 //! the window, and goes on across edges that meet the window. It looks for each tile that it reaches among
@@ -7,7 +7,6 @@
 #![tactic(auto)]
 
 mod as_written;
-mod checked_lines;
 mod crossed_edges;
 mod found_lines;
 pub mod laws;

@@ -3,7 +3,7 @@ ghost use Rattle.std.specs.Prelude.{◌≡◌, ◌↔◌, ◌<◌, ◌≤◌, �
 ghost use Rattle.std.specs.List.{All};
 ghost use Rattle.theory_addresses.specs.Address.{depth, Fits};
 ghost use Rattle.theory_frames.specs.Frame.{IsTileOf};
-ghost use Rattle.lazy_walk.specs.Frames.{whole, IsFrameOf, GrowsTo};
+ghost use Rattle.theory_walks.specs.Frames.{whole, IsFrameOf, GrowsTo};
 ghost use Rattle.rule_model.specs.Tiling.{Tiling, tiling_of, children};
 ghost use Rattle.tile_shape.specs.Views.{address_of};
 ghost use Rattle.list_verify.specs.FoundLines.{entries_of};

@@ -1,43 +1,30 @@
 //! Whether a listing is the list of a window.
-ghost use Rattle.std.specs.Prelude.{◌≡◌, ◌⊎◌, ◌↔◌, ◌<◌, ◌≤◌, ◌*◌, ◌^◌, ℕ, List, [], true, length, slice_get, Some, Ok, Err, IfOk, IfErr, OnOk};
-ghost use Rattle.std.specs.List.{All};
-ghost use Rattle.theory_addresses.specs.Address.{Fits};
+ghost use Rattle.std.specs.Prelude.{◌≡◌, ◌⊎◌, ◌↔◌, ◌<◌, ◌≤◌, ℕ, length, Ok, Err, IfOk, IfErr, OnOk};
 ghost use Rattle.rule_model.specs.Tiling.{tiling_of, children};
-ghost use Rattle.tile_shape.specs.Views.{address_of};
-ghost use Rattle.lazy_walk.specs.Frames.{IsFrameOf, GrowsTo};
+ghost use Rattle.theory_walks.specs.Frames.{IsFrameOf, GrowsTo};
 ghost use Rattle.listing_text.specs.Limits.{most_lines};
 ghost use Rattle.listing_text.specs.Lines.{lines_in};
 ghost use Rattle.listing_text.specs.declared.listing_fault.ListingFault.{ListingFault as TextFault};
 ghost use Rattle.listing_text.specs.Listing.{listing_in};
-ghost use Rattle.window_cover.specs.Windows.{IsWindow, IsLeastEnough};
+ghost use Rattle.window_cover.specs.Windows.{IsWindow};
 ghost use Rattle.list_verify.specs.declared.list_fault.ListFault.{ListFault as Fault};
 ghost use Rattle.list_verify.specs.declared.list_fault.ListFault.TheVariants as faults;
 ghost use Rattle.list_verify.specs.Depth.{IsListedDepth, IsEnoughListed};
-ghost use Rattle.list_verify.specs.Faults.{OrNoRoom};
-ghost use Rattle.list_verify.specs.FoundLines.{entries_of, AreLinesIn};
-ghost use Rattle.list_verify.specs.LineIndex.{Indexes};
-ghost use Rattle.list_verify.specs.Lifted.{deepest_entry};
 ghost use Rattle.list_verify.specs.Listing.{IsVerified};
 ghost use Rattle.list_verify.specs.Verdict.{HasCause, IsTold, IsOfWalk, LacksTiles};
-ghost use Rattle.list_verify.specs.Walked.{IsStoppedBy, AreRightLines, IsStrayFault};
+ghost use Rattle.list_verify.specs.Verdict.{IsVerdict};
 
 use crate::as_written::as_written;
-use crate::checked_lines::check_lines;
-use crate::found_lines::FoundLines;
 use crate::laws::one_verdict_law;
 use crate::lifted_lines::lift_lines;
 use crate::line_index::{LineIndex, multiplier_of};
 use crate::list_fault::ListFault;
-use crate::list_laws::list_laws;
-use edge_tables::steps::Steps;
+use crate::list_laws::walk_laws;
+use crate::walk::Walk;
 use lazy_walk::frame::Frame;
-use listing_text::entry::Entry;
 use listing_text::reading::read_listing;
 use plane_geom::window::Window;
-use seeded_growth::laws::grown_fits_law;
 use std::alloc::Global;
-use std::marker::Brand;
-use std::sync::ledger::{Blank, Ledger};
 use tile_place::machine::Machine;
 
 /// Checks whether a list from another program has exactly the tiles that meet a window, and returns its
@@ -103,40 +90,14 @@ pub fn verify(
     // A list with too many lines is refused even if memory runs out.
     ensures too_long { (result ≡ Err faults.TooLong) ↔ (most_lines < length (lines_in listing.now)) }
 {
-    let checked = machine.checked();
-    one_verdict_law(checked.order());
-    verdict(alloc, machine, frame, window, listing)
-}
-
-/// Returns the number of lines, or the first fault, with its cause.
-fn verdict(
-    alloc: Global,
-    machine: &Machine,
-    frame: &mut Frame,
-    window: &Window,
-    listing: &[u8],
-) -> Result<u32, ListFault>
-    requires frame { IsFrameOf (tiling_of machine.now) frame.old }
-    requires window_fits { IsWindow window.now }
-    ensures frame { GrowsTo (tiling_of machine.now) frame.old frame.new }
-    ensures depth { OnOk result (IsListedDepth (tiling_of machine.now) frame.old listing.now
-        (length frame.new.digits)) }
-    ensures not_beyond { (n : ℕ) → IsEnoughListed (tiling_of machine.now) frame.old window.now listing.now n
-        → length frame.new.digits ≤ n }
-    ensures unread { (fault : TextFault) → listing_in (children (tiling_of machine.now)) listing.now ≡ Err
-        fault → frame.new ≡ frame.old }
-    ensures right { IfOk result (λ n. IsVerified (tiling_of machine.now) frame.old window.now listing.now n) }
-    ensures cause { IfErr result (λ fault. HasCause (tiling_of machine.now) frame.old frame.new window.now
-        listing.now fault) }
-    ensures too_long { (result ≡ Err faults.TooLong) ↔ (most_lines < length (lines_in listing.now)) }
-{
+    one_verdict_law(machine.checked().order());
     if let Some(count) = as_written(alloc, machine, frame, window, listing) {
         return Ok(count);
     }
     by_walk(alloc, machine, frame, window, listing)
 }
 
-/// Like [`verdict`], by a walk through the lines, in any order.
+/// Like [`verify`], by a walk through the lines, in any order.
 fn by_walk(
     alloc: Global,
     machine: &Machine,
@@ -146,125 +107,31 @@ fn by_walk(
 ) -> Result<u32, ListFault>
     requires frame { IsFrameOf (tiling_of machine.now) frame.old }
     requires window_fits { IsWindow window.now }
-    ensures frame { GrowsTo (tiling_of machine.now) frame.old frame.new }
-    ensures depth { OnOk result (IsListedDepth (tiling_of machine.now) frame.old listing.now
-        (length frame.new.digits)) }
-    ensures not_beyond { (n : ℕ) → IsEnoughListed (tiling_of machine.now) frame.old window.now listing.now n
-        → length frame.new.digits ≤ n }
-    ensures unread { (fault : TextFault) → listing_in (children (tiling_of machine.now)) listing.now ≡ Err
-        fault → frame.new ≡ frame.old }
-    ensures right { IfOk result (λ n. IsVerified (tiling_of machine.now) frame.old window.now listing.now n) }
-    ensures cause { IfErr result (λ fault. HasCause (tiling_of machine.now) frame.old frame.new window.now
-        listing.now fault) }
-    ensures too_long { (result ≡ Err faults.TooLong) ↔ (most_lines < length (lines_in listing.now)) }
+    ensures { IsVerdict (tiling_of machine.now) frame.old frame.new window.now listing.now result }
 {
-    let uses = machine.checked().uses();
-    let mut lines = match read_listing(alloc, uses, listing) {
-        Ok(lines) => lines,
+    walk_laws(machine);
+    let mut entries = match read_listing(alloc, machine.checked().uses(), listing) {
+        Ok(entries) => entries,
         Err(fault) => return Err(fault.into()),
     };
-    let count = lines.len() as u32;
-    let multiplier = multiplier_of(listing);
-    match verify_lines(
-        alloc,
-        machine,
-        frame,
-        window,
-        multiplier,
-        lines.as_mut_slice(),
-    ) {
-        Ok(()) => Ok(count),
-        Err(fault) => Err(fault),
-    }
-}
-
-/// Like [`by_walk`], for lines that have been read. It lifts their addresses in place. The multiplier decides
-/// only in which order lines are looked through for an address.
-fn verify_lines(
-    alloc: Global,
-    machine: &Machine,
-    frame: &mut Frame,
-    window: &Window,
-    multiplier: u64,
-    lines: &mut [Entry],
-) -> Result<(), ListFault>
-    requires frame { IsFrameOf (tiling_of machine.now) frame.old }
-    requires window_fits { IsWindow window.now }
-    requires fit { All (λ line. Fits (children (tiling_of machine.now)) (address_of line.address)) lines.old }
-    requires few { length lines.old < 2 ^ 31 }
-    requires multiplier { multiplier < 2305843009213693951 }
-    ensures frame { GrowsTo (tiling_of machine.now) frame.old frame.new }
-    ensures depth { OnOk result (length frame.new.digits ≡ deepest_entry (tiling_of machine.now)
-        (length frame.old.digits) (entries_of lines.old)) }
-    ensures not_beyond { (text : List ℕ) (n : ℕ)
-        → listing_in (children (tiling_of machine.now)) text ≡ Ok (entries_of lines.old)
-        → IsEnoughListed (tiling_of machine.now) frame.old window.now text n → length frame.new.digits ≤ n }
-    ensures right { (text : List ℕ) → listing_in (children (tiling_of machine.now)) text ≡ Ok
-        (entries_of lines.old)
-        → OnOk result (IsVerified (tiling_of machine.now) frame.old window.now text (length lines.old)) }
-    ensures cause { (text : List ℕ) → listing_in (children (tiling_of machine.now)) text ≡ Ok
-        (entries_of lines.old)
-        → IfErr result (λ fault. HasCause (tiling_of machine.now) frame.old frame.new window.now text fault) }
-{
-    let checked = machine.checked();
-    list_laws(checked.order());
-    grown_fits_law();
-    let _usable = checked.uses().kinds();
+    let count = entries.len() as u32;
+    let lines = entries.as_mut_slice();
     match lift_lines(machine, frame, lines) {
         Ok(()) => {}
         Err(fault) => return Err(fault),
     }
-    let index = match LineIndex::new(alloc, multiplier, lines) {
+    let index = match LineIndex::new(alloc, multiplier_of(listing), lines) {
         Ok(index) => index,
         Err(fault) => return Err(fault),
     };
-    let mut found = match FoundLines::new(alloc, lines.len()) {
-        Ok(found) => found,
-        Err(_) => return Err(ListFault::NoMemory),
-    };
-    walk_counted::<Brand>(
+    let walk = Walk {
         machine,
-        frame,
         window,
         lines,
-        &index,
-        &mut found,
-        Blank::new(1),
-    )
-}
-
-/// Walks through the lines, with look-ups counted on a ledger of this name.
-fn walk_counted<L: Ledger>(
-    machine: &Machine,
-    frame: &mut Frame,
-    window: &Window,
-    lines: &[Entry],
-    index: &LineIndex,
-    found: &mut FoundLines,
-    blank: Blank,
-) -> Result<(), ListFault>
-    requires name { blank.name ≡ L.name }
-    requires parts { blank.parts ≡ L.parts }
-    requires some { 0 < blank.parts }
-    requires lines { AreLinesIn (tiling_of machine.now) frame.old lines.now }
-    requires index { Indexes index.now lines.now (length lines.now) }
-    requires few { length lines.now < 2 ^ 31 }
-    requires window_fits { IsWindow window.now }
-    requires none { found.old.lines.items ≡ [] }
-    requires count { length found.old.marks.items ≡ length lines.now }
-    requires unmarked { (i : ℕ) → ¬ (slice_get found.old.marks.items i ≡ Some true) }
-    requires sides { length found.old.crossed.marks.items ≡ length lines.now * 12 }
-    requires none_crossed { (i : ℕ) → ¬ (slice_get found.old.crossed.marks.items i ≡ Some true) }
-    ensures frame { GrowsTo (tiling_of machine.now) frame.old frame.new }
-    ensures stays { OnOk result (frame.new ≡ frame.old) }
-    ensures not_beyond { (n : ℕ) → IsLeastEnough (tiling_of machine.now) frame.old window.now n
-        → length frame.new.digits ≤ n }
-    ensures right { OnOk result (AreRightLines (tiling_of machine.now) frame.old window.now
-        (entries_of lines.now)) }
-    ensures fault { IfErr result (OrNoRoom (λ fault. IsStoppedBy (tiling_of machine.now) frame.old frame.new
-        window.now (entries_of lines.now) fault
-        ⊎ IsStrayFault (tiling_of machine.now) frame.old window.now (entries_of lines.now) fault)) }
-{
-    let mut steps = Steps::<L>::new(blank);
-    check_lines(machine, frame, window, lines, index, found, &mut steps)
+        index: &index,
+    };
+    match walk.run(alloc, frame) {
+        Ok(()) => Ok(count),
+        Err(fault) => Err(fault),
+    }
 }

@@ -1,20 +1,18 @@
-//! The walk through lines, from tile to tile across edges that meet the window.
-ghost use Rattle.std.specs.Prelude.{◌≡◌, ◌<◌, ◌≤◌, ◌^◌, ◌+◌, ◌*◌, ℕ, [], true, length, slice_get, Some, None, IfErr, OnOk};
+//! The walk through the lines of a list.
+ghost use Rattle.std.specs.Prelude.{◌≡◌, ◌<◌, length, None, IfErr, OnOk};
 ghost use Rattle.theory_addresses.specs.Search.{IsAmong};
 ghost use Rattle.theory_windows.specs.Outlines.{MeetsBox};
 ghost use Rattle.cyclo_points.specs.Order.{points_of};
-ghost use Rattle.rule_model.specs.Tiling.{tiling_of};
-ghost use Rattle.lazy_walk.specs.Frames.{GrowsTo};
-ghost use Rattle.window_cover.specs.Windows.{IsWindow, IsLeastEnough, box_of};
-ghost use Rattle.list_verify.specs.Faults.{OrNoRoom};
-ghost use Rattle.list_verify.specs.FoundLines.{AreLinesIn, AreFound, HasMore, entries_of, IsCrossedOver, AreCrossedOver, AreSides, edges_of_line, edge_of_line};
-ghost use Rattle.list_verify.specs.LineIndex.{Indexes};
-ghost use Rattle.list_verify.specs.Walked.{first_refused_at, Tells, IsStoppedBy};
+ghost use Rattle.window_cover.specs.Windows.{box_of};
+ghost use Rattle.list_verify.specs.FoundLines.{IsCrossedOver, AreCrossedOver, edges_of_line, edge_of_line};
+ghost use Rattle.list_verify.specs.Walk.{tiling_in, IsOnFrame, HasNone, IsUnderWay, GoesOn, Stops, HasEnded, IsRight, IsNotRight};
+ghost use Rattle.list_verify.specs.Walked.{first_refused_at};
 
+use crate::crossed_edges::Side;
 use crate::found_lines::FoundLines;
 use crate::line_index::LineIndex;
 use crate::list_fault::ListFault;
-use crate::list_laws::list_laws;
+use crate::list_laws::walk_laws;
 use crate::window_edges::is_left;
 use arrayvec::ArrayVec;
 use cyclo_points::motion::Motion;
@@ -22,11 +20,170 @@ use edge_tables::steps::Steps;
 use lazy_walk::frame::Frame;
 use listing_text::entry::Entry;
 use plane_geom::window::Window;
-use seeded_growth::laws::grown_fits_law;
-use std::sync::ledger::Ledger;
+use std::alloc::Global;
+use std::marker::Brand;
+use std::sync::ledger::{Blank, Ledger};
 use tile_place::machine::Machine;
 use tile_place::placed_tile::PlacedTile;
 use tile_shape::address::Address;
+
+/// A walk through the lines of a list. It goes from tile to tile across edges that meet the window, and looks
+/// for each tile among the lines.
+#[derive(Clone, Copy)]
+pub(crate) struct Walk<'a> {
+    pub(crate) machine: &'a Machine,
+    pub(crate) window: &'a Window,
+    /// The lines, each lifted to the depth of the frame.
+    pub(crate) lines: &'a [Entry],
+    pub(crate) index: &'a LineIndex,
+}
+
+impl<'a> Walk<'a> {
+    /// Walks to the end. Err has the first fault of the walk, or else the first line that it has not found.
+    pub(crate) fn run(&self, alloc: Global, frame: &mut Frame) -> Result<(), ListFault>
+        requires on_frame { IsOnFrame self.now frame.old }
+        ensures right { OnOk result (IsRight self.now frame.old frame.new) }
+        ensures fault { IfErr result (IsNotRight self.now frame.old frame.new) }
+    {
+        let mut found = match FoundLines::new(alloc, self.lines.len()) {
+            Ok(found) => found,
+            Err(_) => return Err(ListFault::NoMemory),
+        };
+        match self.go::<Brand>(frame, &mut found, Blank::new(1)) {
+            Ok(()) => {}
+            Err(fault) => return Err(fault),
+        }
+        match found.first_unmarked() {
+            None => Ok(()),
+            Some(line) => Err(ListFault::Stray { line: line + 1 }),
+        }
+    }
+
+    /// Walks from the tile at the centre of the window across edges that meet it, and marks the lines that it
+    /// finds. Look-ups are counted on a ledger of this name.
+    fn go<L: Ledger>(
+        &self,
+        frame: &mut Frame,
+        found: &mut FoundLines,
+        blank: Blank,
+    ) -> Result<(), ListFault>
+        requires name { blank.name ≡ L.name }
+        requires parts { blank.parts ≡ L.parts }
+        requires some { 0 < blank.parts }
+        requires on_frame { IsOnFrame self.now frame.old }
+        requires none { HasNone (length self.now.lines.now) found.old }
+        ensures ended { OnOk result (HasEnded self.now frame.old frame.new found.new) }
+        ensures fault { IfErr result (Stops self.now frame.old frame.new) }
+    {
+        walk_laws(self.machine);
+        let mut steps = Steps::<L>::new(blank);
+        let mut tile = no_tile();
+        match self.find_centre(frame, found) {
+            Ok(_) => {}
+            Err(fault) => return Err(fault),
+        }
+        let mut place: usize = 0;
+        while place < found.lines.len() {
+            let line = found.lines[place];
+            match self.cross_edges(frame, found, line, &mut tile, &mut steps) {
+                Ok(()) => place += 1,
+                Err(fault) => return Err(fault),
+            }
+        }
+        Ok(())
+    }
+
+    /// Looks for the tile that holds the centre of the window, and returns the number of its line.
+    fn find_centre(&self, frame: &mut Frame, found: &mut FoundLines) -> Result<u32, ListFault>
+        requires on_frame { IsOnFrame self.now frame.old }
+        requires none { HasNone (length self.now.lines.now) found.old }
+        ensures goes_on { OnOk result (GoesOn self.now frame.old frame.new found.old found.new) }
+        ensures centre_found { OnOk result (first_refused_at (tiling_in self.now) frame.old
+            self.now.window.now ≡ None) }
+        ensures fault { IfErr result (Stops self.now frame.old frame.new) }
+    {
+        walk_laws(self.machine);
+        match frame.contain(self.machine, &self.window.centre) {
+            Ok(tile) => found.look_up(self.lines, self.index, &tile),
+            Err(limit) => Err(ListFault::CoordLimit { value: limit.value }),
+        }
+    }
+
+    /// Crosses the edges, which meet the window, of the tile of a found line, and looks for each tile across.
+    /// It omits edges that were crossed from their other sides.
+    fn cross_edges<L: Ledger>(
+        &self,
+        frame: &mut Frame,
+        found: &mut FoundLines,
+        line: u32,
+        tile: &mut PlacedTile,
+        steps: &mut Steps<L>,
+    ) -> Result<(), ListFault>
+        requires under_way { IsUnderWay self.now frame.old found.old }
+        requires line_found { IsAmong line found.old.lines.items }
+        ensures goes_on { OnOk result (GoesOn self.now frame.old frame.new found.old found.new) }
+        ensures crossed { OnOk result (AreCrossedOver (tiling_in self.now) frame.old self.now.window.now
+            self.now.lines.now found.new.lines.items line
+            (edges_of_line (tiling_in self.now) self.now.lines.now line)) }
+        ensures fault { IfErr result (Stops self.now frame.old frame.new) }
+    {
+        walk_laws(self.machine);
+        let order = self.machine.checked().order();
+        let own = &self.lines[line as usize];
+        let mut corners = ArrayVec::new();
+        self.machine
+            .put_corners(own.address.kind, &own.motion, &mut corners);
+        for edge in 0..corners.len() {
+            let side = Side {
+                line,
+                edge: edge as u8,
+            };
+            if is_left(order, self.window, corners.as_slice(), &found.crossed, side) {
+                match self.cross_edge(frame, found, side, tile, steps) {
+                    Ok(()) => {}
+                    Err(fault) => return Err(fault),
+                }
+            }
+        }
+        Ok(())
+    }
+
+    /// Crosses an edge, which meets the window, of the tile of a found line, and looks for the tile across. It
+    /// marks the edge that leads back, which need not be crossed.
+    fn cross_edge<L: Ledger>(
+        &self,
+        frame: &mut Frame,
+        found: &mut FoundLines,
+        side: Side,
+        tile: &mut PlacedTile,
+        steps: &mut Steps<L>,
+    ) -> Result<(), ListFault>
+        requires under_way { IsUnderWay self.now frame.old found.old }
+        requires line_found { IsAmong side.line found.old.lines.items }
+        requires edge_exists { side.edge < edges_of_line (tiling_in self.now) self.now.lines.now side.line }
+        requires edge_meets { MeetsBox (points_of self.now.machine.now.order).real
+            (box_of (tiling_in self.now) self.now.window.now)
+            (edge_of_line (tiling_in self.now) frame.old self.now.lines.now side.line side.edge) }
+        ensures goes_on { OnOk result (GoesOn self.now frame.old frame.new found.old found.new) }
+        ensures crossed { OnOk result (IsCrossedOver (tiling_in self.now) frame.old self.now.window.now
+            self.now.lines.now found.new.lines.items side.line side.edge) }
+        ensures fault { IfErr result (Stops self.now frame.old frame.new) }
+    {
+        walk_laws(self.machine);
+        put_line(&self.lines[side.line as usize], tile);
+        let edge = match frame.step_grow(self.machine, tile, side.edge, steps) {
+            Ok(edge) => edge,
+            Err(limit) => return Err(limit.into()),
+        };
+        match found.look_up(self.lines, self.index, tile) {
+            Ok(line) => {
+                found.crossed.put(Side { line, edge });
+                Ok(())
+            }
+            Err(fault) => Err(fault),
+        }
+    }
+}
 
 /// Puts the tile that a line names, with its motion.
 fn put_line(line: &Entry, tile: &mut PlacedTile)
@@ -42,226 +199,6 @@ fn put_line(line: &Entry, tile: &mut PlacedTile)
         .addr
         .digits
         .try_extend_from_slice(line.address.digits.as_slice());
-}
-
-/// Crosses an edge, which meets the window, of the tile of a found line, and looks for the tile across. It
-/// marks the edge that leads back, which need not be crossed.
-fn cross_edge<L: Ledger>(
-    machine: &Machine,
-    frame: &mut Frame,
-    window: &Window,
-    lines: &[Entry],
-    index: &LineIndex,
-    found: &mut FoundLines,
-    line: u32,
-    edge: u8,
-    tile: &mut PlacedTile,
-    steps: &mut Steps<L>,
-) -> Result<(), ListFault>
-    requires lines { AreLinesIn (tiling_of machine.now) frame.old lines.now }
-    requires index { Indexes index.now lines.now (length lines.now) }
-    requires few { length lines.now < 2 ^ 32 }
-    requires window_fits { IsWindow window.now }
-    requires found { AreFound (tiling_of machine.now) frame.old window.now lines.now found.old.lines.items
-        found.old.marks.items }
-    requires sides { AreSides (tiling_of machine.now) frame.old window.now lines.now found.old.lines.items
-        found.old.crossed.marks.items }
-    requires line_found { IsAmong line found.old.lines.items }
-    requires edge_exists { edge < edges_of_line (tiling_of machine.now) lines.now line }
-    requires edge_meets { MeetsBox (points_of machine.now.order).real
-        (box_of (tiling_of machine.now) window.now)
-        (edge_of_line (tiling_of machine.now) frame.old lines.now line edge) }
-    ensures frame { GrowsTo (tiling_of machine.now) frame.old frame.new }
-    ensures stays { OnOk result (frame.new ≡ frame.old) }
-    ensures not_beyond { (n : ℕ) → IsLeastEnough (tiling_of machine.now) frame.old window.now n
-        → length frame.new.digits ≤ n }
-    ensures found { OnOk result (AreFound (tiling_of machine.now) frame.old window.now lines.now
-        found.new.lines.items found.new.marks.items) }
-    ensures sides { OnOk result (AreSides (tiling_of machine.now) frame.old window.now lines.now
-        found.new.lines.items found.new.crossed.marks.items) }
-    ensures more { OnOk result (HasMore found.old.lines.items found.new.lines.items) }
-    ensures crossed { OnOk result (IsCrossedOver (tiling_of machine.now) frame.old window.now lines.now
-        found.new.lines.items line edge) }
-    ensures fault { IfErr result (OrNoRoom (IsStoppedBy (tiling_of machine.now) frame.old frame.new
-        window.now (entries_of lines.now))) }
-{
-    let checked = machine.checked();
-    list_laws(checked.order());
-    grown_fits_law();
-    let _usable = checked.uses().kinds();
-    put_line(&lines[line as usize], tile);
-    let back = match frame.step_grow(machine, tile, edge, steps) {
-        Ok(back) => back,
-        Err(limit) => {
-            return Err(ListFault::DepthLimit {
-                addr: limit.addr,
-                edge: limit.edge,
-            });
-        }
-    };
-    match found.look_up(lines, index, tile) {
-        Ok(across) => {
-            found.crossed.put(across, back);
-            Ok(())
-        }
-        Err(fault) => Err(fault),
-    }
-}
-
-/// Looks for the tile that holds the centre of the window, and returns the number of its line.
-fn find_centre(
-    machine: &Machine,
-    frame: &mut Frame,
-    window: &Window,
-    lines: &[Entry],
-    index: &LineIndex,
-    found: &mut FoundLines,
-) -> Result<u32, ListFault>
-    requires lines { AreLinesIn (tiling_of machine.now) frame.old lines.now }
-    requires index { Indexes index.now lines.now (length lines.now) }
-    requires few { length lines.now < 2 ^ 32 }
-    requires window_fits { IsWindow window.now }
-    requires none { found.old.lines.items ≡ [] }
-    requires count { length found.old.marks.items ≡ length lines.now }
-    requires unmarked { (i : ℕ) → ¬ (slice_get found.old.marks.items i ≡ Some true) }
-    ensures frame { GrowsTo (tiling_of machine.now) frame.old frame.new }
-    ensures stays { OnOk result (frame.new ≡ frame.old) }
-    ensures not_beyond { (n : ℕ) → IsLeastEnough (tiling_of machine.now) frame.old window.now n
-        → length frame.new.digits ≤ n }
-    ensures centre_found { OnOk result (first_refused_at (tiling_of machine.now) frame.old
-        window.now ≡ None) }
-    ensures crossed { found.new.crossed ≡ found.old.crossed }
-    ensures found { OnOk result (AreFound (tiling_of machine.now) frame.old window.now lines.now
-        found.new.lines.items found.new.marks.items) }
-    ensures fault { IfErr result (OrNoRoom (IsStoppedBy (tiling_of machine.now) frame.old frame.new
-        window.now (entries_of lines.now))) }
-{
-    let checked = machine.checked();
-    list_laws(checked.order());
-    grown_fits_law();
-    let _usable = checked.uses().kinds();
-    match frame.contain(machine, &window.centre) {
-        Ok(tile) => found.look_up(lines, index, &tile),
-        Err(limit) => Err(ListFault::CoordLimit { value: limit.value }),
-    }
-}
-
-/// Crosses the edges, which meet the window, of the tile of a found line, and looks for each tile across. It
-/// omits edges that were crossed from their other sides.
-fn cross_edges<L: Ledger>(
-    machine: &Machine,
-    frame: &mut Frame,
-    window: &Window,
-    lines: &[Entry],
-    index: &LineIndex,
-    found: &mut FoundLines,
-    line: u32,
-    tile: &mut PlacedTile,
-    steps: &mut Steps<L>,
-) -> Result<(), ListFault>
-    requires lines { AreLinesIn (tiling_of machine.now) frame.old lines.now }
-    requires index { Indexes index.now lines.now (length lines.now) }
-    requires few { length lines.now < 2 ^ 32 }
-    requires window_fits { IsWindow window.now }
-    requires found { AreFound (tiling_of machine.now) frame.old window.now lines.now found.old.lines.items
-        found.old.marks.items }
-    requires sides { AreSides (tiling_of machine.now) frame.old window.now lines.now found.old.lines.items
-        found.old.crossed.marks.items }
-    requires line_found { IsAmong line found.old.lines.items }
-    ensures frame { GrowsTo (tiling_of machine.now) frame.old frame.new }
-    ensures stays { OnOk result (frame.new ≡ frame.old) }
-    ensures not_beyond { (n : ℕ) → IsLeastEnough (tiling_of machine.now) frame.old window.now n
-        → length frame.new.digits ≤ n }
-    ensures found { OnOk result (AreFound (tiling_of machine.now) frame.old window.now lines.now
-        found.new.lines.items found.new.marks.items) }
-    ensures sides { OnOk result (AreSides (tiling_of machine.now) frame.old window.now lines.now
-        found.new.lines.items found.new.crossed.marks.items) }
-    ensures more { OnOk result (HasMore found.old.lines.items found.new.lines.items) }
-    ensures crossed { OnOk result (AreCrossedOver (tiling_of machine.now) frame.old window.now lines.now
-        found.new.lines.items line (edges_of_line (tiling_of machine.now) lines.now line)) }
-    ensures fault { IfErr result (OrNoRoom (IsStoppedBy (tiling_of machine.now) frame.old frame.new
-        window.now (entries_of lines.now))) }
-{
-    let checked = machine.checked();
-    let order = checked.order();
-    list_laws(order);
-    grown_fits_law();
-    let _usable = checked.uses().kinds();
-    let own = &lines[line as usize];
-    let mut corners = ArrayVec::new();
-    machine.put_corners(own.address.kind, &own.motion, &mut corners);
-    for edge in 0..corners.len() {
-        if is_left(
-            order,
-            window,
-            corners.as_slice(),
-            &found.crossed,
-            line,
-            edge,
-        ) {
-            match cross_edge(
-                machine, frame, window, lines, index, found, line, edge as u8, tile, steps,
-            ) {
-                Ok(()) => {}
-                Err(fault) => return Err(fault),
-            }
-        }
-    }
-    Ok(())
-}
-
-/// Walks through the lines, from the tile at the centre of the window across edges that meet it, and marks
-/// the lines that it finds.
-pub(crate) fn walk<L: Ledger>(
-    machine: &Machine,
-    frame: &mut Frame,
-    window: &Window,
-    lines: &[Entry],
-    index: &LineIndex,
-    found: &mut FoundLines,
-    steps: &mut Steps<L>,
-) -> Result<(), ListFault>
-    requires lines { AreLinesIn (tiling_of machine.now) frame.old lines.now }
-    requires index { Indexes index.now lines.now (length lines.now) }
-    requires few { length lines.now < 2 ^ 32 }
-    requires window_fits { IsWindow window.now }
-    requires none { found.old.lines.items ≡ [] }
-    requires count { length found.old.marks.items ≡ length lines.now }
-    requires unmarked { (i : ℕ) → ¬ (slice_get found.old.marks.items i ≡ Some true) }
-    requires sides { length found.old.crossed.marks.items ≡ length lines.now * 12 }
-    requires none_crossed { (i : ℕ) → ¬ (slice_get found.old.crossed.marks.items i ≡ Some true) }
-    ensures frame { GrowsTo (tiling_of machine.now) frame.old frame.new }
-    ensures stays { OnOk result (frame.new ≡ frame.old) }
-    ensures not_beyond { (n : ℕ) → IsLeastEnough (tiling_of machine.now) frame.old window.now n
-        → length frame.new.digits ≤ n }
-    ensures count { OnOk result (length found.new.marks.items ≡ length lines.now) }
-    ensures centre_found { OnOk result (first_refused_at (tiling_of machine.now) frame.old
-        window.now ≡ None) }
-    ensures tells { OnOk result (Tells (tiling_of machine.now) frame.old window.now (entries_of lines.now)
-        found.new.marks.items) }
-    ensures fault { IfErr result (OrNoRoom (IsStoppedBy (tiling_of machine.now) frame.old frame.new
-        window.now (entries_of lines.now))) }
-{
-    let checked = machine.checked();
-    list_laws(checked.order());
-    grown_fits_law();
-    let _usable = checked.uses().kinds();
-    match find_centre(machine, frame, window, lines, index, found) {
-        Ok(_) => {}
-        Err(fault) => return Err(fault),
-    }
-    let mut tile = no_tile();
-    let mut place: usize = 0;
-    while place < found.lines.len() {
-        let line = found.lines[place];
-        match cross_edges(
-            machine, frame, window, lines, index, found, line, &mut tile, steps,
-        ) {
-            Ok(()) => place += 1,
-            Err(fault) => return Err(fault),
-        }
-    }
-    Ok(())
 }
 
 /// Returns a placeholder for a tile.

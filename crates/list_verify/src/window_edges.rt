@@ -6,7 +6,7 @@ ghost use Rattle.cyclo_points.specs.Point.{IsWithin};
 ghost use Rattle.window_cover.specs.Windows.{window_box};
 ghost use Rattle.list_verify.specs.FoundLines.{line_between};
 
-use crate::crossed_edges::CrossedEdges;
+use crate::crossed_edges::{CrossedEdges, Side};
 use cyclo_points::order::Order;
 use cyclo_points::point::Point;
 use plane_geom::box_edges::edge_meets_box;
@@ -34,21 +34,20 @@ pub(crate) fn is_left(
     window: &Window,
     corners: &[Point],
     crossed: &CrossedEdges,
-    line: u32,
-    edge: usize,
+    side: Side,
 ) -> bool
-    requires exists { edge < length corners.now }
+    requires exists { side.edge < length corners.now }
     requires few { length corners.now ≤ 12 }
     requires within { All (IsWithin (2 ^ 25)) corners.now }
     requires centre_within { IsWithin (2 ^ 25) window.now.centre }
-    requires marked { line * 12 + edge < length crossed.now.marks.items }
+    requires marked { side.line * 12 + side.edge < length crossed.now.marks.items }
     ensures meets { IsTrue result → MeetsBox (points_of order).real (window_box order window.now)
-        (line_between order corners.now edge) }
+        (line_between order corners.now side.edge) }
     ensures over { result ≡ false → MeetsBox (points_of order).real (window_box order window.now)
-        (line_between order corners.now edge)
-        → slice_get crossed.now.marks.items (line * 12 + edge) ≡ Some true }
+        (line_between order corners.now side.edge)
+        → slice_get crossed.now.marks.items (side.line * 12 + side.edge) ≡ Some true }
 {
-    !crossed.has(line, edge) && edge_meets(order, window, corners, edge)
+    !crossed.has(side) && edge_meets(order, window, corners, side.edge as usize)
 }
 
 /// Returns the number of the next corner, of `count` corners.

@@ -1,9 +1,9 @@
--- What a reader answers, compared with the definition.
+-- What a reader returns, compared with the definition.
 use Rattle.std.specs.Prelude.{◌≡◌, ◌≢◌, Result, Ok, Err}
 use Rattle.rule_text.specs.declared.text_fault.TextFault.{TextFault}
 use Rattle.rule_text.specs.declared.text_fault.TextFault.TheVariants.{NoMemory}
 
--- a value that is seen as the one read, or the fault that was read, unless memory is wanted
+-- the value is the one that the definition reads, or the fault is its fault, unless memory ran out
 abbrev pub ReadsAs : {X Y : Type 0} → (X → Y) → Result X TextFault → Result Y TextFault → Type 0
 ReadsAs seen (Ok x) read = read ≡ Ok (seen x)
 ReadsAs seen (Err e) read = e ≢ NoMemory → read ≡ Err e

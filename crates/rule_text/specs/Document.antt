@@ -37,11 +37,11 @@ kind_in order k members = do
   children ← value_at (key.Children k) (codes "children") (rows 6) (each (child_in_row order)) members
   unless_further kind_keys (InKind k) members (record { vertices = vertices; edges = edges; children = children })
 
--- the key of the edge types itself, then each of its entries
+-- the edge types: first the key itself, then each entry
 unfoldable pub types_in : Members → Result (List EdgeType) TextFault
 types_in members = value_at key.TypeList (codes "type") tables Some members >>= in_order type_in 0
 
--- the key of the kinds itself, then each of its entries
+-- the kinds: first the key itself, then each entry
 unfoldable pub kinds_in : Order → Members → Result (List (Kind Point)) TextFault
 kinds_in order members = value_at key.KindList (codes "kind") tables Some members >>= in_order (kind_in order) 0
 

@@ -8,7 +8,7 @@ use Rattle.rule_text.specs.declared.text_fault.TextFault.TheVariants.{NotToml}
 use Rattle.rule_text.specs.Document.{rule_of_members}
 use Rattle.rule_model.specs.Tiling.{ListedRule}
 
--- the document that the bytes are the text of
+-- the document of which the bytes are the text, if they are one
 abbrev pub document_in : List ℕ → Option Members
 document_in bytes = if is_utf8 bytes then parse_document bytes else None
 

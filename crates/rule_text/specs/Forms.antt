@@ -1,5 +1,5 @@
--- The forms that the value of a key may have: an array of integers, an array of arrays of a number of
--- integers, an array of tables.
+-- The forms that the value of a key may have: an array of integers, an array of arrays of a fixed number of
+-- integers, or an array of tables.
 use Rattle.std.specs.Prelude.{ℕ, ℤ, List, [], ◌∷◌, length, Option, Some, None, option_and_then, ◌==◌, if◌then◌else◌}
 use Rattle.toml.specs.Data.{Data, Items, no_items, item, Members, as_integer, as_array, as_table}
 
@@ -7,7 +7,7 @@ infixl 10 ◌>>=◌
 abbrev pub ◌>>=◌ : {A B : Type 0} → Option A → (A → Option B) → Option B
 o >>= f = option_and_then f o
 
--- all of the values, where each has one
+-- all of the values, if each item has one
 abbrev pub each : {A B : Type 0} → (A → Option B) → List A → Option (List B)
 each f [] = Some []
 each f (x ∷ xs) = do
@@ -32,7 +32,7 @@ integer_list d = array_of as_integer d
 abbrev pub row : ℕ → Data → Option (List ℤ)
 row n d = integer_list d >>= λ zs. if length zs == n then Some zs else None
 
--- an array of arrays of n integers
+-- an array of arrays of n integers each
 abbrev pub rows : ℕ → Data → Option (List (List ℤ))
 rows n d = array_of (row n) d
 

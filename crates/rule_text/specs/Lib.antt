@@ -6,5 +6,4 @@ pub mod Document
 pub mod File
 pub mod Agrees
 pub mod Written
-pub mod FaultText
 pub mod Narrow

@@ -1,6 +1,6 @@
 -- The limit of a rule file.
 use Rattle.std.specs.Prelude.{ℕ}
 
--- how many bytes it may have: a mebibyte
+-- the greatest length of a rule file, in bytes: a mebibyte
 abbrev pub longest_file : ℕ
 longest_file = 1048576

@@ -1,4 +1,4 @@
--- The ranges of numbers, and what numbers in range stand for.
+-- The ranges of numbers, and what the numbers in range stand for.
 use Rattle.std.specs.Prelude.{ℕ, ℤ, pos, List, drop, get_or, Option, Some, None, nat_abs, int_le, int_lt, ◌&&◌, if◌then◌else◌}
 use Rattle.std.specs.Ordering.{int_eq}
 use Rattle.theory_substitution.specs.Rule.{Child}
@@ -11,11 +11,11 @@ use Rattle.rule_model.specs.declared.edition.Edition.TheVariants.{One, Two}
 use Rattle.rule_model.specs.Small.{is_small}
 use Rattle.rule_text.specs.Forms.{◌>>=◌}
 
--- a number from 0 to below n
+-- a number from 0 up, below n
 abbrev pub number_below : ℕ → ℤ → Option ℕ
 number_below n z = if int_le (pos 0) z && int_lt z (pos n) then Some (nat_abs z) else None
 
--- a format: 1 or 2, each of which is that of an edition
+-- a format: 1 or 2, each for one edition
 abbrev pub format_of : ℤ → Option Edition
 format_of z = if int_eq z (pos 1) then Some One else if int_eq z (pos 2) then Some Two else None
 
@@ -23,7 +23,7 @@ format_of z = if int_eq z (pos 1) then Some One else if int_eq z (pos 2) then So
 abbrev pub shared_order_of : ℤ → Option Order
 shared_order_of z = if int_eq z (pos 4) then Some Four else if int_eq z (pos 8) then Some Eight else if int_eq z (pos 10) then Some Ten else None
 
--- an order of the edition: 4, 8 or 10, and 6 in edition two alone
+-- an order of the edition: 4, 8 or 10, and in edition two also 6
 abbrev pub order_of : Edition → ℤ → Option Order
 order_of One z = shared_order_of z
 order_of Two z = if int_eq z (pos 6) then Some Six else shared_order_of z
@@ -32,7 +32,7 @@ order_of Two z = if int_eq z (pos 6) then Some Six else shared_order_of z
 abbrev pub point_of : Order → List ℤ → Option Point
 point_of o zs = if is_small o (record { c = zs }) then Some (record { c = zs }) else None
 
--- a child: a kind below 16, a turn below the order, and four coefficients of the shift
+-- a child: a kind below 16, a turn below the order, and the four coefficients of a shift
 abbrev pub child_in_row : Order → List ℤ → Option (Child Point)
 child_in_row o zs = do
   kind ← number_below 16 (get_or zs 0 (pos 0))

@@ -1,4 +1,4 @@
--- The document that a rule is written as.
+-- The document by which a rule is written.
 use Rattle.std.specs.Prelude.{◌≡◌, ℕ, pos, List, ◌∷◌, All, length, map, codes}
 use Rattle.std.specs.Ordering.{match_ordering, nat_cmp}
 use Rattle.std.specs.Cmp.Lexicographic.{slice_cmp}
@@ -11,7 +11,7 @@ use Rattle.rule_model.specs.declared.edition.Edition.{Edition}
 use Rattle.rule_model.specs.declared.edition.Edition.TheVariants.{One, Two}
 use Rattle.rule_model.specs.Tiling.{ListedRule}
 
--- the members with a value at a key, in the order of the keys
+-- the members, with a value put at a key, in the order of the keys
 abbrev pub put_member : List ℕ → Data → Members → Members
 put_member k d no_members = member k d no_members
 put_member k d (member l e ms) = match_ordering (slice_cmp nat_cmp k l) (member k d (member l e ms)) (member l d ms) (member l e (put_member k d ms))
@@ -62,7 +62,7 @@ rule_members x =
     (member (codes "order") (number_data (points_of x.order).order)
     (member (codes "type") (list_data type_data x.rule.types) no_members)))))
 
--- each point has four coefficients, as the type of a point has it
+-- each point has four coefficients, as its type in the program says
 abbrev pub IsFour : Point → Type 0
 IsFour p = length p.c ≡ 4
 

@@ -1,7 +1,6 @@
 use crate::key::Key;
 use crate::place::Place;
 use std::alloc::{AllocError, AllocFailed};
-use std::fmt;
 use tile_shape::no_memory::NoMemory;
 
 /// Why a text does not stand for a rule: its first fault, in the order of the format.
@@ -19,24 +18,6 @@ pub enum TextFault {
     UnknownKey { place: Place },
     /// Memory ran out during reading.
     NoMemory,
-}
-
-impl fmt::Display for TextFault {
-    ghost use Rattle.std.specs.Prelude.{Some};
-    ghost use Rattle.rule_text.specs.FaultText.{text_fault_text};
-
-    ghost output = { λ e. Some (text_fault_text e) };
-
-    fn fmt<W: fmt::Write>(&self, f: &mut fmt::Formatter<W>) -> fmt::Result {
-        match self {
-            TextFault::NotToml => f.write_str("NotToml"),
-            TextFault::Missing { key } => write!(f, "Missing {key}"),
-            TextFault::WrongType { key } => write!(f, "WrongType {key}"),
-            TextFault::OutOfRange { key } => write!(f, "OutOfRange {key}"),
-            TextFault::UnknownKey { place } => write!(f, "UnknownKey {place}"),
-            TextFault::NoMemory => f.write_str("NoMemory"),
-        }
-    }
 }
 
 impl From<AllocError> for TextFault {

@@ -9,7 +9,16 @@ use Rattle.addr_calc.specs.Script.{ComesOf}
 use Rattle.addr_calc.specs.Views.{parts_behind}
 use Rattle.addr_calc.proofs.Names.{none_fit}
 use Rattle.addr_calc.proofs.Scripts.{Comes, size_left, less_left, comes_first, comes_on, comes_fault, comes_last}
+use Rattle.addr_calc.proofs.calc.calculated.Given.{Over}
+use Rattle.addr_calc.proofs.calc.calculated.Goals.{After-cut}
 use Rattle.addr_calc.proofs.calc.calculated.Goals as goal
+
+-- what comes of the lines left, of which one is cut off
+here : (g : Over) (c : After-cut g) → Comes (tiling_of c.args.machine.now) (texts_between newline c.args.script.now) c.loop-left.calculation
+    (c.cut.result.0.now ∷ parts_behind newline (option_map (λ text. text.now) c.cut.result.1))
+here g c = subst (Comes (tiling_of c.args.machine.now) (texts_between newline c.args.script.now) c.loop-left.calculation)
+    (ap (λ left. parts_behind newline (option_map (λ text. text.now) left)) c.in-Some.is ∙ c.cut.ensures.parts)
+    c.loop-left.invariant.comes
 
 pub loop-left-init : goal.loop-left-init
 loop-left-init g c =
@@ -24,14 +33,7 @@ loop-left-init g c =
 
 pub loop-left-preserved : goal.loop-left-preserved
 loop-left-preserved g c =
-    let t = tiling_of c.args.machine.now in
-    let all = texts_between newline c.args.script.now in
-    let rest = parts_behind newline (option_map (λ text. text.now) c.cut.result.1) in
     let ran = c.in_ok-run.ensures.ran in
-    let here : Comes t all c.loop-left.calculation (c.cut.result.0.now ∷ rest) =
-    subst (Comes t all c.loop-left.calculation)
-    (ap (λ left. parts_behind newline (option_map (λ text. text.now) left)) c.in-Some.is
-    ∙ c.cut.ensures.parts) c.loop-left.invariant.comes in
     record {
       few =
           let few : c.loop-left.calculation.number + (length c.in-Some.text.now + 1) ≤ length c.args.script.now + 1 =
@@ -42,7 +44,9 @@ loop-left-preserved g c =
           omega (arith, few, less, counted);
       all_fit = ran.all_fit c.loop-left.invariant.all_fit;
       compiled = c.in_ok-run.ensures.compiled;
-      comes = comes_on t all c.loop-left.calculation c.run.new.self c.cut.result.0.now rest here ran;
+      comes = comes_on (tiling_of c.args.machine.now) (texts_between newline c.args.script.now) c.loop-left.calculation
+          c.run.new.self c.cut.result.0.now (parts_behind newline (option_map (λ text. text.now) c.cut.result.1))
+          (here g (goal.at.loop-left-preserved g c).After-cut) ran;
     }
 
 pub loop-left-smaller : goal.loop-left-smaller
@@ -64,16 +68,11 @@ run-requires g c = record {
 
 pub returns-in_err-run-clause-fault : goal.returns-in_err-run-clause-fault
 returns-in_err-run-clause-fault g c =
-    let t = tiling_of c.args.machine.now in
-    let all = texts_between newline c.args.script.now in
-    let rest = parts_behind newline (option_map (λ text. text.now) c.cut.result.1) in
     let p = err_from_is_err_and c.from_residual-in_err-run.result c.from_residual-in_err-run.ensures.1 in
-    let here : Comes t all c.loop-left.calculation (c.cut.result.0.now ∷ rest) =
-    subst (Comes t all c.loop-left.calculation)
-    (ap (λ left. parts_behind newline (option_map (λ text. text.now) left)) c.in-Some.is
-    ∙ c.cut.ensures.parts) c.loop-left.invariant.comes in
-    rw (p.1, p.2) (comes_fault t all c.loop-left.calculation c.loop-left.calculation c.cut.result.0.now rest
-    here c.in_err-run.field-0.0 c.in_err-run.ensures.fault)
+    rw (p.1, p.2) (comes_fault (tiling_of c.args.machine.now) (texts_between newline c.args.script.now)
+    c.loop-left.calculation c.loop-left.calculation c.cut.result.0.now
+    (parts_behind newline (option_map (λ text. text.now) c.cut.result.1))
+    (here g (goal.at.returns-in_err-run-clause-fault g c).After-cut) c.in_err-run.field-0.0 c.in_err-run.ensures.fault)
 
 nothing_left : (left : Option (Bor (List ℕ))) → ((x : Bor (List ℕ)) → left ≡ Some x → ⊥) → left ≡ None
 nothing_left None h = refl

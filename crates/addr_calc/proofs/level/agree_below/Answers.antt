@@ -55,8 +55,8 @@ returns-then-eq c =
     let i = c.args.level - 1 in
     let depths : depth a ≡ depth b = length-map c.args.one.now.digits.items step_of ∙ c.requires.one_depth
     ∙ sym (length-map c.args.other.now.digits.items step_of) in
-    let above : AgreeFrom a b (i + 1) = subst (AgreeFrom a b) (let l = c.requires.above_0 in omega (arith, l)) c.requires.agree in
-    let within : i < depth a = let e = c.requires.agree.exists in let l = c.requires.above_0 in omega (arith, e, l) in (
+    let above : AgreeFrom a b (i + 1) = subst (AgreeFrom a b) (omega (arith, c.requires.above_0)) c.requires.agree in
+    let within : i < depth a = omega (arith, c.requires.agree.exists, c.requires.above_0) in (
       λ t. agree_also a b i (step_of no_step) depths within above
           (seen_same c.args.one.now.digits.items c.args.other.now.digits.items c.deref.result.now
           c.deref-2.result.now i c.from-digit.result c.deref.ensures.0 c.deref-2.ensures.0
@@ -75,7 +75,7 @@ returns-else-eq c =
     let i = c.args.level - 1 in
     let depths : depth a ≡ depth b = length-map c.args.one.now.digits.items step_of ∙ c.requires.one_depth
     ∙ sym (length-map c.args.other.now.digits.items step_of) in
-    let within : i < depth a = let e = c.requires.agree.exists in let l = c.requires.above_0 in omega (arith, e, l) in (
+    let within : i < depth a = omega (arith, c.requires.agree.exists, c.requires.above_0) in (
       λ t. absurd (cc (t, c.if-eq.false)),
       λ h. c.eq.ensures ∙ tested_same c.args.one.now.digits.items c.args.other.now.digits.items
           c.deref.result.now c.deref-2.result.now i c.from-digit.result c.deref.ensures.0 c.deref-2.ensures.0

@@ -1,7 +1,7 @@
 use Rattle.std.proofs.Common.{◌≡◌, ◌<◌, ℕ, List, [], ◌∷◌, All, length, ap, ◌∙◌, subst, sym, refl, ◌^◌, arith}
 use Rattle.std.proofs.lemmas.List.Elements.{All-head, All-tail}
 use Rattle.std.specs.List.{AllByRecursion}
-use Rattle.lazy_walk.proofs.Brought.{Brings, brought}
+use Rattle.theory_walks.proofs.Brought.{Brings, brought}
 use Rattle.lazy_walk.specs.Standing.{Stands}
 use Rattle.rule_model.specs.declared.rule.Rule.{Rule}
 use Rattle.rule_model.specs.Tiling.{tiling_of, children}

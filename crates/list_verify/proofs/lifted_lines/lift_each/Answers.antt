@@ -5,7 +5,7 @@ use Rattle.theory_addresses.specs.Address.{depth, Fits}
 use Rattle.theory_addresses.proofs.Lists.{AllByRecursion-from}
 use Rattle.theory_addresses.proofs.Ranges.{among-place}
 use Rattle.theory_frames.specs.Frame.{IsTileOf}
-use Rattle.lazy_walk.specs.Frames.{whole}
+use Rattle.theory_walks.specs.Frames.{whole}
 use Rattle.listing_text.specs.declared.entry.Entry as program
 use Rattle.listing_text.specs.Listing.{Entry}
 use Rattle.listing_text.specs.Views.{entry_of}

@@ -2,7 +2,7 @@ use Rattle.std.proofs.Common.{◌≡◌, ◌<◌, ℕ, List, length, slice_get, 
 use Rattle.std.specs.List.{All}
 use Rattle.theory_addresses.specs.Address.{Fits}
 use Rattle.theory_frames.specs.Frame.{IsTileOf}
-use Rattle.lazy_walk.specs.Frames.{whole}
+use Rattle.theory_walks.specs.Frames.{whole}
 use Rattle.listing_text.specs.Listing.{Entry}
 use Rattle.tile_shape.specs.Views.{address_of}
 use Rattle.list_verify.specs.FoundLines.{entries_of}

@@ -1,32 +1,122 @@
-use Rattle.std.proofs.Common.{◌≡◌, List, Ok, Err, sym, ap, ◌∙◌, subst}
+use Rattle.std.proofs.Common.{◌≡◌, ◌≤◌, inl, inr, List, All, length, get_or, Ok, Err, sym, ap, ◌∙◌, subst, arith}
+use Rattle.std.proofs.lemmas.Bool.{cases_lt}
+use Rattle.std.proofs.lemmas.List.{length-map}
+use Rattle.theory_addresses.specs.Address.{Fits}
+use Rattle.tile_shape.specs.Accepted.{IsAcceptedAddress}
+use Rattle.tile_shape.specs.Views.{address_of}
+use Rattle.theory_walks.specs.Frames.{FrameValue}
 use Rattle.listing_text.specs.declared.entry.Entry.{Entry}
+use Rattle.listing_text.specs.Limits.{most_lines}
+use Rattle.listing_text.specs.Lines.{lines_in}
 use Rattle.listing_text.specs.Listing.{listing_in}
-use Rattle.listing_text.specs.Views.{OrWantsMemory}
+use Rattle.listing_text.specs.Views.{entry_of, OrWantsMemory}
 use Rattle.rule_model.specs.declared.rule.Rule.{Rule}
 use Rattle.rule_model.specs.Tiling.{tiling_of, children}
 use Rattle.list_verify.specs.FoundLines.{entries_of}
-use Rattle.list_verify.specs.Verdict.{HasCause}
-use Rattle.list_verify.proofs.Depths.{frame-not_beyond}
-use Rattle.list_verify.proofs.Verdicts.{text-caused}
+use Rattle.list_verify.specs.Verdict.{IsVerdict}
+use Rattle.list_verify.proofs.Answered.{text-refused, stranger-refused, as-many, double-refused, on-frame, its-fault, walk-refused, walk-accepted}
+use Rattle.list_verify.proofs.verify.by_walk.Goals.{After-uses, After-as_mut_slice-lines}
 use Rattle.list_verify.proofs.verify.by_walk.Goals as goal
 
-pub returns-in-Err-clause-cause : goal.returns-in-Err-clause-cause
-returns-in-Err-clause-cause c =
-    let t = tiling_of c.args.machine.now in
-    let kinds = c.uses-uses.ensures ∙ ap (λ (r : Rule). children (tiling_of r)) c.checked.ensures.rule in
-    subst (HasCause t c.args.frame.now c.args.frame.now c.args.window.now c.args.listing.now) (sym c.into.ensures)
-    (text-caused t c.args.frame.now c.args.frame.now c.args.window.now c.args.listing.now c.in-Err.fault
-    (subst (λ ks. OrWantsMemory (λ e. listing_in ks c.args.listing.now ≡ Err e) c.in-Err.fault) kinds c.in-Err.ensures.fault))
+kinds : (c : After-uses) → c.uses.result.now ≡ children (tiling_of c.args.machine.now)
+kinds c = c.uses.ensures ∙ ap (λ (r : Rule). children (tiling_of r)) c.checked.ensures.rule
 
-pub returns-in-Err-clause-not_beyond : goal.returns-in-Err-clause-not_beyond
-returns-in-Err-clause-not_beyond c = λ n enough. frame-not_beyond (tiling_of c.args.machine.now)
-    c.args.frame.now c.args.window.now c.args.listing.now n enough
+-- the lines are those of the text, and not too many
+read : (c : After-as_mut_slice-lines) → c.uses.result.now ≡ children (tiling_of c.args.machine.now)
+    → listing_in (children (tiling_of c.args.machine.now)) c.args.listing.now ≡ Ok (entries_of c.as_mut_slice-lines.result.now)
+read c e = subst (λ (lines : List Entry). listing_in (children (tiling_of c.args.machine.now)) c.args.listing.now ≡ Ok (entries_of lines))
+    (sym c.as_mut_slice-lines.ensures.value)
+    (subst (λ ks. listing_in ks c.args.listing.now ≡ Ok (entries_of c.in-Ok.entries.items)) e c.in-Ok.ensures.read)
 
-pub returns-clause-not_beyond : goal.returns-clause-not_beyond
-returns-clause-not_beyond c = λ n enough.
-    let t = tiling_of c.args.machine.now in
-    let kinds = c.uses-uses.ensures ∙ ap (λ (r : Rule). children (tiling_of r)) c.checked.ensures.rule in
-    let read = subst (λ ks. listing_in ks c.args.listing.now ≡ Ok (entries_of c.in-Ok.lines.items)) kinds c.in-Ok.ensures.read in
-    c.verify_lines.ensures.not_beyond c.args.listing.now n
-    (subst (λ (lines : List Entry). listing_in (children t) c.args.listing.now ≡ Ok (entries_of lines))
-    (sym c.as_mut_slice.ensures.value) read) enough
+count : (c : After-as_mut_slice-lines) → length (entries_of c.as_mut_slice-lines.result.now) ≡ length c.in-Ok.entries.items
+count c = length-map c.as_mut_slice-lines.result.now entry_of ∙ ap length c.as_mut_slice-lines.ensures.value
+
+few : (c : After-as_mut_slice-lines) → length (lines_in c.args.listing.now) ≤ most_lines
+few c = elim (cases_lt most_lines (length (lines_in c.args.listing.now))) [
+  | inl long ↦ absurd (cc (c.in-Ok.ensures.too_long.1 long))
+  | inr h ↦ h
+]
+
+pub returns-in-Err : goal.returns-in-Err
+returns-in-Err c =
+    subst (λ fault. IsVerdict (tiling_of c.args.machine.now) c.args.frame.now c.args.frame.now c.args.window.now
+    c.args.listing.now (Err fault)) (sym c.into.ensures)
+    (text-refused _ (tiling_of c.args.machine.now) c.args.frame.now c.args.window.now c.args.listing.now
+    c.in-Err.fault c.requires.frame
+    (subst (λ ks. OrWantsMemory (λ e. listing_in ks c.args.listing.now ≡ Err e) c.in-Err.fault)
+    (kinds ((goal.at.returns-in-Err c).After-uses)) c.in-Err.ensures.fault)
+    c.in-Err.ensures.too_long)
+
+pub lift_lines-requires-clause-fit : goal.lift_lines-requires-clause-fit
+lift_lines-requires-clause-fit c =
+    subst (All (λ (line : Entry). Fits (children (tiling_of c.args.machine.now)) (address_of line.address))) (sym c.as_mut_slice-lines.ensures.value)
+    (λ k d l. (subst (λ ks. IsAcceptedAddress ks (address_of (get_or c.in-Ok.entries.items k d).address))
+    (kinds (goal.at.lift_lines-requires-clause-fit c).After-uses) (c.in-Ok.ensures.accepted k d l)).fits)
+
+pub returns-in-Err-lift_lines : goal.returns-in-Err-lift_lines
+returns-in-Err-lift_lines c =
+    let at = goal.at.returns-in-Err-lift_lines c in
+    stranger-refused c.args.machine.now c.walk_laws.ensures c.args.frame.now c.requires.frame c.args.window.now
+    c.requires.window_fits c.args.listing.now (entries_of c.as_mut_slice-lines.result.now)
+    (read at.After-as_mut_slice-lines (kinds at.After-uses)) (few at.After-as_mut_slice-lines)
+    c.lift_lines.new.frame c.in-Err-lift_lines.ensures.frame c.in-Err-lift_lines.ensures.depth
+    c.in-Err-lift_lines.fault c.in-Err-lift_lines.ensures.fault
+
+pub returns-in-Err-new : goal.returns-in-Err-new
+returns-in-Err-new c =
+    let at = goal.at.returns-in-Err-new c in
+    double-refused c.args.machine.now c.walk_laws.ensures c.args.frame.now c.requires.frame c.args.window.now
+    c.requires.window_fits c.args.listing.now (entries_of c.as_mut_slice-lines.result.now)
+    (read at.After-as_mut_slice-lines (kinds at.After-uses)) (few at.After-as_mut_slice-lines)
+    c.lift_lines.new.frame c.in-Ok-lift_lines.ensures.frame c.in-Ok-lift_lines.ensures.depth
+    c.lift_lines.new.lines c.in-Ok-lift_lines.ensures.lifted
+    c.in-Err-new.fault c.in-Err-new.ensures.double
+
+-- ---- the walk
+pub run-requires : goal.run-requires
+run-requires c =
+    let at = goal.at.run-requires c in
+    record {
+      on_frame = record {
+        lines = on-frame c.args.machine.now c.walk_laws.ensures c.args.frame.now c.requires.frame c.args.window.now
+            c.requires.window_fits c.args.listing.now (entries_of c.as_mut_slice-lines.result.now)
+            (read at.After-as_mut_slice-lines (kinds at.After-uses)) (few at.After-as_mut_slice-lines)
+            c.lift_lines.new.frame c.in-Ok-lift_lines.ensures.frame c.in-Ok-lift_lines.ensures.depth
+            c.lift_lines.new.lines c.in-Ok-lift_lines.ensures.lifted c.in-Ok-new.ensures.distinct;
+        index = c.in-Ok-new.ensures.index;
+        few =
+            let many = as-many c.args.machine.now c.walk_laws.ensures c.args.frame.now c.requires.frame c.args.window.now
+            c.requires.window_fits c.args.listing.now (entries_of c.as_mut_slice-lines.result.now)
+            (read at.After-as_mut_slice-lines (kinds at.After-uses)) (few at.After-as_mut_slice-lines)
+            c.lift_lines.new.frame c.in-Ok-lift_lines.ensures.frame c.in-Ok-lift_lines.ensures.depth
+            c.lift_lines.new.lines c.in-Ok-lift_lines.ensures.lifted in
+            let all = count at.After-as_mut_slice-lines in
+            let lines = c.in-Ok.ensures.lines in
+            let most = few at.After-as_mut_slice-lines in
+            omega (arith, many, all, lines, most);
+        window_fits = c.requires.window_fits;
+      };
+    }
+
+pub returns : goal.returns
+returns c =
+    let at = goal.at.returns c in
+    walk-refused c.args.machine.now c.walk_laws.ensures c.args.frame.now c.requires.frame c.args.window.now
+    c.requires.window_fits c.args.listing.now (entries_of c.as_mut_slice-lines.result.now)
+    (read at.After-as_mut_slice-lines (kinds at.After-uses)) (few at.After-as_mut_slice-lines)
+    c.lift_lines.new.frame c.in-Ok-lift_lines.ensures.frame c.in-Ok-lift_lines.ensures.depth
+    c.lift_lines.new.lines c.in-Ok-lift_lines.ensures.lifted c.in-Ok-new.ensures.distinct
+    c.run.new.frame c.in-Err-run.fault (its-fault c.in-Err-run.ensures.fault)
+
+pub returns-in-Ok-run : goal.returns-in-Ok-run
+returns-in-Ok-run c =
+    let at = goal.at.returns-in-Ok-run c in
+    subst (λ (k : FrameValue). IsVerdict (tiling_of c.args.machine.now) c.args.frame.now k c.args.window.now
+    c.args.listing.now (Ok c.len-count.result))
+    (sym c.in-Ok-run.ensures.right.stays)
+    (walk-accepted c.args.machine.now c.walk_laws.ensures c.args.frame.now c.requires.frame c.args.window.now
+    c.requires.window_fits c.args.listing.now (entries_of c.as_mut_slice-lines.result.now)
+    (read at.After-as_mut_slice-lines (kinds at.After-uses)) (few at.After-as_mut_slice-lines)
+    c.lift_lines.new.frame c.in-Ok-lift_lines.ensures.frame c.in-Ok-lift_lines.ensures.depth
+    c.lift_lines.new.lines c.in-Ok-lift_lines.ensures.lifted c.in-Ok-new.ensures.distinct
+    c.len-count.result (omega (arith, c.len-count.ensures, c.in-Ok.entries.ok, count at.After-as_mut_slice-lines)) c.in-Ok-run.ensures.right.right)

@@ -6,7 +6,7 @@ use Rattle.list_verify.specs.declared.list_fault.ListFault.TheVariants.{Double}
 use Rattle.list_verify.specs.Faults.{OrNoRoom}
 use Rattle.list_verify.specs.LineIndex.{IsAgain, NoneAgain, HasAddress}
 use Rattle.list_verify.proofs.Chains.{below_or}
-use Rattle.lazy_walk.proofs.Outcomes.{if_err-is}
+use Rattle.theory_walks.proofs.Outcomes.{if_err-is}
 use Rattle.list_verify.proofs.line_index.LineIndex.new.Goals as goal
 
 doubled : (lines : List Entry) (line : ℕ) (fault : ListFault) → NoneAgain lines line

@@ -1,0 +1,169 @@
+-- What is answered of a listing by a walk through its lines.
+use Rattle.std.proofs.Common.{◌≡◌, ◌⊎◌, ◌↔◌, inl, inr, ℕ, ◌+◌, ◌<◌, ◌≤◌, List, length, Result, Ok, Err, refl, sym, ap, ◌∙◌, subst, arith}
+use Rattle.std.proofs.lemmas.List.{length-map}
+use Rattle.theory_walks.specs.Frames.{FrameValue, whole, IsFrameOf, GrowsTo}
+use Rattle.theory_walks.proofs.Brought.{Brings}
+use Rattle.theory_walks.proofs.Walks.{GrowsTo-self, GrowsTo-then}
+use Rattle.listing_text.specs.declared.entry.Entry as program
+use Rattle.listing_text.specs.Limits.{most_lines}
+use Rattle.listing_text.specs.Lines.{lines_in}
+use Rattle.listing_text.specs.Listing.{Entry, listing_in}
+use Rattle.listing_text.specs.Views.{entry_of, OrWantsMemory}
+use Rattle.listing_text.specs.declared.listing_fault.ListingFault.{ListingFault}
+use Rattle.listing_text.specs.declared.listing_fault.ListingFault.TheVariants as texts
+use Rattle.plane_geom.specs.declared.window.Window.{Window}
+use Rattle.rule_model.specs.declared.rule.Rule.{Rule}
+use Rattle.rule_model.specs.Tiling.{Tiling, tiling_of, children}
+use Rattle.window_cover.specs.Windows.{IsWindow, IsLeastEnough}
+use Rattle.list_verify.specs.declared.list_fault.ListFault.{ListFault}
+use Rattle.list_verify.specs.declared.list_fault.ListFault.TheVariants.{TooLong, Double}
+use Rattle.list_verify.specs.Depth.{IsEnoughListed}
+use Rattle.list_verify.specs.Faults.{OrNoRoom}
+use Rattle.list_verify.specs.FoundLines.{entries_of, AreLinesIn}
+use Rattle.list_verify.specs.Lifted.{deepest_entry, entry_lifted, AreLifted, IsStranger}
+use Rattle.list_verify.specs.LineIndex.{NoneAgain, IsAgain}
+use Rattle.list_verify.specs.Listing.{IsVerified}
+use Rattle.list_verify.specs.ListLaws.{HasListLaws, HasWalkLaws}
+use Rattle.list_verify.specs.Verdict.{fault_of_text, HasCause, IsVerdict}
+use Rattle.list_verify.specs.declared.walk.Walk.{Walk}
+use Rattle.list_verify.specs.Walk.{tiling_in, entries_in, IsNotRight}
+use Rattle.list_verify.specs.Walked.{IsStoppedBy, AreRightLines, IsStrayFault}
+use Rattle.list_verify.proofs.Depths.{frame-not_beyond, lines-not_beyond, enough-grown}
+use Rattle.list_verify.proofs.SaidOfLifted.{stranger-caused, double-caused, lines-in, verified, walk-said}
+use Rattle.list_verify.proofs.Verdicts.{text-caused}
+use Rattle.list_verify.proofs.WalkLaws.{brings}
+
+-- ---- a fault of the text
+only-too_long : (A : Type 0) (fault : ListingFault) → ◌≡◌ {A = Result ℕ ListFault} (Err (fault_of_text fault)) (Err TooLong)
+    → ◌≡◌ {A = Result A ListingFault} (Err fault) (Err texts.TooLong)
+only-too_long A texts.TooLong e = refl
+only-too_long A (texts.BadLine line place) e = absurd (cc e)
+only-too_long A (texts.Address line fault) e = absurd (cc e)
+only-too_long A (texts.BadKind line) e = absurd (cc e)
+only-too_long A texts.NoMemory e = absurd (cc e)
+
+same-fault : (A : Type 0) (fault : ListingFault) → ◌≡◌ {A = Result A ListingFault} (Err fault) (Err texts.TooLong) → fault_of_text fault ≡ TooLong
+same-fault A texts.TooLong e = refl
+same-fault A (texts.BadLine line place) e = absurd (cc e)
+same-fault A (texts.Address line fault) e = absurd (cc e)
+same-fault A (texts.BadKind line) e = absurd (cc e)
+same-fault A texts.NoMemory e = absurd (cc e)
+
+pub text-refused : (A : Type 0) (t : Tiling) (f : FrameValue) (w : Window) (listing : List ℕ) (fault : ListingFault) → IsFrameOf t f
+    → OrWantsMemory (λ e. listing_in (children t) listing ≡ Err e) fault
+    → ((◌≡◌ {A = Result A ListingFault} (Err fault) (Err texts.TooLong)) ↔ (most_lines < length (lines_in listing)))
+    → IsVerdict t f f w listing (Err (fault_of_text fault))
+text-refused A t f w listing fault is cause exactly = record {
+  frame = GrowsTo-self t f is;
+  depth = tt;
+  not_beyond = λ n enough. frame-not_beyond t f w listing n enough;
+  unread = λ other e. refl;
+  right = tt;
+  cause = text-caused t f f w listing fault cause;
+  too_long = (λ e. exactly.0 (only-too_long A fault e), λ h. ap (λ (x : ListFault). Err x) (same-fault A fault (exactly.1 h)));
+}
+
+-- ---- a fault of its lines, or of the walk through them
+module _ (t : Tiling) (f g : FrameValue) (w : Window) (listing : List ℕ) (entries : List Entry)
+    (read : listing_in (children t) listing ≡ Ok entries) (few : length (lines_in listing) ≤ most_lines) (grows : GrowsTo t f g)
+    (not_beyond : (n : ℕ) → IsEnoughListed t f w listing n → length g.digits ≤ n) where
+  not-read : (fault : ListingFault) → listing_in (children t) listing ≡ Err fault → g ≡ f
+  not-read fault e = absurd (cc (sym read ∙ e))
+
+  not-long : most_lines < length (lines_in listing) → ⊥
+  not-long h = omega (arith, few, h)
+
+  pub refused : (fault : ListFault) → HasCause t f g w listing fault → IsVerdict t f g w listing (Err fault)
+  refused fault cause = record {
+    frame = grows;
+    depth = tt;
+    not_beyond = not_beyond;
+    unread = not-read;
+    right = tt;
+    cause = cause;
+    too_long = (λ e. absurd (not-too_long (inside e)), λ h. absurd (not-long h));
+  }
+    where
+      inside : ◌≡◌ {A = Result ℕ ListFault} (Err fault) (Err TooLong) → fault ≡ TooLong
+      inside e = cc e
+
+      not-too_long : fault ≡ TooLong → ⊥
+      not-too_long e = text-long (subst (HasCause t f g w listing) e cause)
+        where
+          text-long : listing_in (children t) listing ≡ Err texts.TooLong → ⊥
+          text-long h = absurd (cc (sym read ∙ h))
+
+  pub accepted : (n : ℕ) → length g.digits ≡ deepest_entry t (length f.digits) entries → IsVerified t f w listing n → IsVerdict t f g w listing (Ok n)
+  accepted n depth is = record {
+    frame = grows;
+    depth = record { entries = entries; read = read; is = depth };
+    not_beyond = not_beyond;
+    unread = not-read;
+    right = is;
+    cause = tt;
+    too_long = (λ e. absurd (cc e), λ h. absurd (not-long h));
+  }
+
+-- ---- a walk through its lines
+-- it stops with the fault, or finds a stray line
+abbrev IsWalkFault : Tiling → FrameValue → FrameValue → Window → List Entry → ListFault → Type 0
+IsWalkFault t g k w entries fault =
+    (GrowsTo t g k × ((n : ℕ) → IsLeastEnough t g w n → length k.digits ≤ n) × OrNoRoom (IsStoppedBy t g k w entries) fault)
+    ⊎ ((k ≡ g) × IsStrayFault t g w entries fault)
+
+pub its-fault : {walk : Walk} {g k : FrameValue} {fault : ListFault} → IsNotRight walk g k fault
+    → IsWalkFault (tiling_in walk) g k walk.window.now (entries_in walk) fault
+its-fault (inl s) = inl (s.grows, s.not_beyond, s.cause)
+its-fault (inr s) = inr (s.stays, s.stray)
+
+module _ (m : Rule) (W : HasWalkLaws m) (f : FrameValue) (is : IsFrameOf (tiling_of m) f) (w : Window) (fit : IsWindow w)
+    (listing : List ℕ) (entries : List Entry) (read : listing_in (children (tiling_of m)) listing ≡ Ok entries)
+    (few : length (lines_in listing) ≤ most_lines) (g : FrameValue) (grows : GrowsTo (tiling_of m) f g)
+    (depth : length g.digits ≡ deepest_entry (tiling_of m) (length f.digits) entries) where
+  abbrev t : Tiling
+  t = tiling_of m
+
+  abbrev B : Brings HasListLaws m
+  B = brings m W
+
+  lines-beyond : (n : ℕ) → IsEnoughListed t f w listing n → length g.digits ≤ n
+  lines-beyond n enough = subst (λ k. k ≤ n) (sym depth) (lines-not_beyond t f w listing n enough entries read)
+
+  -- a line isn't of the frame
+  pub stranger-refused : (fault : ListFault) → IsStranger (children t) (whole g) entries fault → IsVerdict t f g w listing (Err fault)
+  stranger-refused fault s = refused t f g w listing entries read few grows lines-beyond fault
+      (stranger-caused m B.settled B.fits B.laws f is w fit entries g grows depth listing read g fault s)
+
+  module _ (lines : List program.Entry) (lifted : AreLifted (children t) (whole g) entries (entries_of lines)) where
+    pub as-many : length lines ≡ length entries
+    as-many = sym (length-map lines entry_of) ∙ ap length lifted.are ∙ length-map entries (entry_lifted (whole g))
+
+    -- one names the tile of an earlier one
+    pub double-refused : (fault : ListFault)
+        → OrNoRoom (λ e. (i : ℕ) × (e ≡ Double (i + 1)) × IsAgain lines i × NoneAgain lines i) fault → IsVerdict t f g w listing (Err fault)
+    double-refused fault s = refused t f g w listing entries read few grows lines-beyond fault
+        (double-caused m B.settled B.fits B.laws f is w fit entries g grows depth lines lifted listing read g fault s)
+
+    module _ (apart : NoneAgain lines (length lines)) where
+      pub on-frame : AreLinesIn t g lines
+      on-frame = lines-in m B.settled B.fits B.laws f is w fit entries g grows depth lines lifted apart
+
+      pub walk-refused : (k : FrameValue) (fault : ListFault) → IsWalkFault t g k w (entries_of lines) fault → IsVerdict t f k w listing (Err fault)
+      walk-refused k fault (inl s) =
+          refused t f k w listing entries read few (GrowsTo-then t f g k grows s.0)
+          (λ n enough. s.1 n (enough-grown t f w listing n enough entries read g grows depth)) fault
+          (walk-said m B.settled B.fits B.laws f is w fit entries g grows depth lines lifted apart k s.0 listing read fault (either s.2))
+        where
+          either : OrNoRoom (IsStoppedBy t g k w (entries_of lines)) fault
+              → OrNoRoom (λ e. IsStoppedBy t g k w (entries_of lines) e ⊎ IsStrayFault t g w (entries_of lines) e) fault
+          either (inl e) = inl e
+          either (inr h) = inr (inl h)
+      walk-refused k fault (inr s) = subst (λ (j : FrameValue). IsVerdict t f j w listing (Err fault)) (sym s.0)
+          (refused t f g w listing entries read few grows lines-beyond fault
+          (walk-said m B.settled B.fits B.laws f is w fit entries g grows depth lines lifted apart g
+          (GrowsTo-self t g grows.is_frame) listing read fault
+          (inr (inr s.1))))
+
+      pub walk-accepted : (n : ℕ) → n ≡ length entries → AreRightLines t g w (entries_of lines) → IsVerdict t f g w listing (Ok n)
+      walk-accepted n count right = accepted t f g w listing entries read few grows lines-beyond n depth
+          (verified m B.settled B.fits B.laws f is w fit entries g grows depth lines lifted apart listing n read count right)

@@ -1,0 +1,93 @@
+use Rattle.std.proofs.Common.{◌∙◌, sym, ap, arith, refl, subst}
+use Rattle.tile_shape.specs.declared.address.Address.{Address}
+use Rattle.list_verify.specs.Walk.{tiling_in, Stops}
+use Rattle.list_verify.proofs.OneCrossing as crossing
+use Rattle.list_verify.proofs.walk.Walk.cross_edge.Goals as goal
+
+pub bounds-self-side : goal.bounds-self-side
+bounds-self-side g c = (crossing.its-place c.args.self.now c.walk_laws.ensures c.args.frame.now c.args.found.now
+    c.requires.under_way c.args.side.line c.requires.line_found).below
+
+pub step_grow-requires-clause-frame : goal.step_grow-requires-clause-frame
+step_grow-requires-clause-frame g c = c.requires.under_way.on_frame.lines.frame
+
+pub step_grow-requires-clause-its_kind : goal.step_grow-requires-clause-its_kind
+step_grow-requires-clause-its_kind g c = c.put_line.ensures.kind ∙ sym (ap (λ (a : Address). a.kind) c.put_line.ensures.address)
+
+pub step_grow-requires-clause-of_frame : goal.step_grow-requires-clause-of_frame
+step_grow-requires-clause-of_frame g c = crossing.tile-there c.args.self.now c.walk_laws.ensures c.args.frame.now c.args.found.now
+    c.requires.under_way c.args.side.line c.requires.line_found _ c.index-self-side.result refl c.put_line.new.tile
+    c.put_line.ensures.motion c.put_line.ensures.address
+
+pub step_grow-requires-clause-edge_exists : goal.step_grow-requires-clause-edge_exists
+step_grow-requires-clause-edge_exists g c = crossing.edge-exists c.args.self.now c.walk_laws.ensures c.args.frame.now c.args.found.now
+    c.requires.under_way c.args.side.line c.requires.line_found _ c.index-self-side.result refl c.put_line.new.tile
+    c.put_line.ensures.motion c.put_line.ensures.address c.args.side.edge c.requires.edge_exists c.requires.edge_meets
+
+pub step_grow-requires-clause-turn_below : goal.step_grow-requires-clause-turn_below
+step_grow-requires-clause-turn_below g c = crossing.turn-below c.args.self.now c.walk_laws.ensures c.args.frame.now c.args.found.now
+    c.requires.under_way c.args.side.line c.requires.line_found _ c.index-self-side.result refl c.put_line.new.tile
+    c.put_line.ensures.motion c.put_line.ensures.address
+
+pub step_grow-requires-clause-within : goal.step_grow-requires-clause-within
+step_grow-requires-clause-within g c = crossing.shift-within c.args.self.now c.walk_laws.ensures c.args.frame.now c.args.found.now
+    c.requires.under_way c.args.side.line c.requires.line_found _ c.index-self-side.result refl c.put_line.new.tile
+    c.put_line.ensures.motion c.put_line.ensures.address
+
+pub step_grow-requires-clause-in_order : goal.step_grow-requires-clause-in_order
+step_grow-requires-clause-in_order g c = crossing.in-order c.args.self.now c.walk_laws.ensures c.args.frame.now c.args.found.now
+    c.requires.under_way c.args.side.line c.requires.line_found _ c.index-self-side.result refl c.put_line.new.tile
+    c.put_line.ensures.motion c.put_line.ensures.address
+
+pub look_up-requires-clause-index : goal.look_up-requires-clause-index
+look_up-requires-clause-index g c = c.requires.under_way.on_frame.index
+
+pub look_up-requires-clause-few : goal.look_up-requires-clause-few
+look_up-requires-clause-few g c = let h = c.requires.under_way.on_frame.few in omega (arith, h)
+
+pub look_up-requires-clause-count : goal.look_up-requires-clause-count
+look_up-requires-clause-count g c = c.requires.under_way.lines_found.are_marked.count
+
+pub put-requires : goal.put-requires
+put-requires g c = record {
+  exists = crossing.mark-there c.args.self.now c.walk_laws.ensures c.args.frame.now c.args.found.now
+      c.requires.under_way c.args.side.line c.requires.line_found _ c.index-self-side.result refl c.put_line.new.tile
+      c.put_line.ensures.motion c.put_line.ensures.address c.args.side.edge c.requires.edge_exists c.requires.edge_meets
+      c.step_grow.new.self c.in-Ok.ensures.frame c.in-Ok.ensures.least c.step_grow.new.tile c.in-Ok.edge
+      c.in-Ok.ensures.crossed c.look_up.new.self c.in-Ok-look_up.line c.in-Ok-look_up.ensures.looked_up
+      c.in-Ok-look_up.ensures.crossed;
+}
+
+pub returns-in-Err-clause-fault : goal.returns-in-Err-clause-fault
+returns-in-Err-clause-fault g c =
+    subst (Stops c.args.self.now c.args.frame.now c.step_grow.new.self) (sym c.into.ensures)
+    (crossing.stops-there c.args.self.now c.walk_laws.ensures c.args.frame.now c.args.found.now
+    c.requires.under_way c.args.side.line c.requires.line_found _ c.index-self-side.result refl c.put_line.new.tile
+    c.put_line.ensures.motion c.put_line.ensures.address c.args.side.edge c.requires.edge_exists c.requires.edge_meets
+    c.step_grow.new.self c.in-Err.ensures.frame c.in-Err.ensures.least c.in-Err.ensures.deepest_at_limit
+    (c.in-Err.ensures.limit_exactly.0 refl) c.in-Err.limit.addr c.in-Err.limit.edge c.in-Err.ensures.limit_tile
+    c.in-Err.ensures.limit_edge)
+
+pub returns-in-Err-look_up-clause-fault : goal.returns-in-Err-look_up-clause-fault
+returns-in-Err-look_up-clause-fault g c =
+    crossing.stops-looking c.args.self.now c.walk_laws.ensures c.args.frame.now c.args.found.now
+    c.requires.under_way c.args.side.line c.requires.line_found _ c.index-self-side.result refl c.put_line.new.tile
+    c.put_line.ensures.motion c.put_line.ensures.address c.args.side.edge c.requires.edge_exists c.requires.edge_meets
+    c.step_grow.new.self c.in-Ok.ensures.frame c.in-Ok.ensures.least c.step_grow.new.tile c.in-Ok.edge
+    c.in-Ok.ensures.crossed c.in-Err-look_up.fault
+    (c.in-Err-look_up.ensures.fault (tiling_in c.args.self.now) c.in-Ok.ensures.crossed.in_order)
+
+pub returns-in-Ok-look_up-clause-goes_on : goal.returns-in-Ok-look_up-clause-goes_on
+returns-in-Ok-look_up-clause-goes_on g c = crossing.goes-on c.args.self.now c.walk_laws.ensures c.args.frame.now c.args.found.now
+    c.requires.under_way c.args.side.line c.requires.line_found _ c.index-self-side.result refl c.put_line.new.tile
+    c.put_line.ensures.motion c.put_line.ensures.address c.args.side.edge c.requires.edge_exists c.requires.edge_meets
+    c.step_grow.new.self c.in-Ok.ensures.frame c.in-Ok.ensures.least c.step_grow.new.tile c.in-Ok.edge
+    c.in-Ok.ensures.crossed c.look_up.new.self c.in-Ok-look_up.line c.in-Ok-look_up.ensures.looked_up
+    c.in-Ok-look_up.ensures.crossed c.put.new.self c.put.ensures
+
+pub returns-in-Ok-look_up-clause-crossed : goal.returns-in-Ok-look_up-clause-crossed
+returns-in-Ok-look_up-clause-crossed g c = crossing.goes-over c.args.self.now c.walk_laws.ensures c.args.frame.now c.args.found.now
+    c.requires.under_way c.args.side.line c.requires.line_found _ c.index-self-side.result refl c.put_line.new.tile
+    c.put_line.ensures.motion c.put_line.ensures.address c.args.side.edge c.requires.edge_exists c.requires.edge_meets
+    c.step_grow.new.self c.in-Ok.ensures.frame c.in-Ok.ensures.least c.step_grow.new.tile c.in-Ok.edge
+    c.in-Ok.ensures.crossed c.look_up.new.self c.in-Ok-look_up.line c.in-Ok-look_up.ensures.looked_up
