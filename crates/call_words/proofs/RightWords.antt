@@ -2,18 +2,22 @@
 use Rattle.std.proofs.Common.{◌≡◌, ℕ, Bool, true, false, cond, not, ◌&&◌, ◌||◌, List, [], ◌∷◌, ◌++◌, length, codes, Some, None, Ok, Err, Result, is_some, nat_lt, refl, sym, ap, ap₂, ◌∙◌, subst}
 use Rattle.std.specs.declared.option.Option.{Option}
 use Rattle.std.specs.List.{list_all, list_any, before_first, after_first, position_or_len}
-use Rattle.std.specs.Option.{option_map_or, option_and_then, ok_or}
+use Rattle.std.specs.Option.{option_map, option_map_or, option_and_then, ok_or}
 use Rattle.std.specs.Str.{bytes_eq}
 use Rattle.std.proofs.lemmas.Slice.Eq.{bytes_eq-Decides}
 use Rattle.call_words.specs.declared.words.Command.{Command}
 use Rattle.call_words.specs.declared.words.Command.TheVariants.{Place, Neighbour, Walk, Draw, Check, Calc, Drill, Star, Verify}
 use Rattle.call_words.specs.declared.words.Key.{Key}
 use Rattle.call_words.specs.declared.words.Key.TheVariants.{Rule, Addr, Edge, Seed, Grow, Path, At, Half, Layers, Glue, Count, Vertex}
-use Rattle.call_words.specs.Choices.{choice_in, name_in}
-use Rattle.call_words.specs.Commands.{key_text, command_named, keys_of, required_keys, windows_in, has_form}
+use Rattle.builtin_rules.specs.declared.name.Name.{Name}
+use Rattle.call_words.specs.declared.rule_choice.RuleChoice.{RuleChoice}
+use Rattle.call_words.specs.declared.rule_choice.RuleChoice.TheVariants.{Builtin, File}
+use Rattle.call_words.specs.Choices.{choice_in, name_in, builtin_name}
+use Rattle.call_words.specs.Commands.{key_text, command_named, keys_of, is_rule_for, required_keys, windows_in, has_form}
 use Rattle.call_words.specs.FormatWords.{formats_in}
-use Rattle.call_words.specs.Given.{given, ◌>>=◌, addr_given, window_given}
+use Rattle.call_words.specs.Reading.{HaveForms}
 use Rattle.call_words.specs.Request.{asked_by, asked_behind, request_in}
+use Rattle.call_words.specs.Values.{values_given, ◌>>=◌}
 use Rattle.call_words.specs.Views.{AnswersAs}
 use Rattle.call_words.specs.WindowWords.{at_in, half_in}
 use Rattle.call_words.specs.Words.{is_equals, value_in, value_given, is_right}
@@ -22,7 +26,7 @@ use Rattle.tile_shape.specs.Decimal.{number_up_to}
 use Rattle.std.proofs.lemmas.Bool.{and_parts as both_true}
 
 -- ---- what is given among more words
-value_given-append : (key : Key) (before : List (List ℕ)) (word : List ℕ)
+pub value_given-append : (key : Key) (before : List (List ℕ)) (word : List ℕ)
     → value_given key (before ++ word ∷ []) ≡ option_map_or Some (value_given key before) (value_in key word)
 value_given-append key [] word = at_value (value_in key word)
   where
@@ -38,7 +42,7 @@ value_given-append key (w ∷ ws) word = at_value (value_in key w) (value_given-
     at_value (Some v) e = refl
 
 -- ---- the cases of the tests
-value_name : (key : Key) (word value : List ℕ) → value_in key word ≡ Some value → before_first is_equals word ≡ key_text key
+pub value_name : (key : Key) (word value : List ℕ) → value_in key word ≡ Some value → before_first is_equals word ≡ key_text key
 value_name key word value e = at_test (nat_lt (position_or_len is_equals word) (length word)
     && bytes_eq (before_first is_equals word) (key_text key)) refl e
   where
@@ -57,7 +61,7 @@ key_of_text text =
     (cond (bytes_eq text (codes "n")) (Some Count)
     (cond (bytes_eq text (codes "vertex")) (Some Vertex) None)))))))))))
 
-key_text-tells : (j k : Key) → key_text j ≡ key_text k → j ≡ k
+pub key_text-tells : (j k : Key) → key_text j ≡ key_text k → j ≡ k
 unfolding key_of_text
 key_text-tells j k e = some_is j k (sym (named j) ∙ ap key_of_text e ∙ named k)
   where
@@ -79,9 +83,6 @@ key_text-tells j k e = some_is j k (sym (named j) ∙ ap key_of_text e ∙ named
     some_is j k e = cc
 
 -- ---- the values that are given have the forms of their keys
-abbrev pub HaveForms : Command → List (List ℕ) → Type 0
-HaveForms command words = (key : Key) (value : List ℕ) → value_given key words ≡ Some value → has_form command key value ≡ true
-
 some_key : (test : Key → Bool) (keys : List Key) → list_any test keys ≡ true → (k : Key) × (test k ≡ true)
 some_key test [] e = absurd (cc e)
 some_key test (k ∷ ks) e = at_test (test k) refl e (some_key test ks)
@@ -98,7 +99,7 @@ form_of_value : (command : Command) (given : Bool) (key : Key) (o : Option (List
 form_of_value command given key None e = absurd (cc e)
 form_of_value command given key (Some v) e = (v, refl, (both_true _ _ e).1)
 
-have_forms : (command : Command) (before : List (List ℕ)) (word : List ℕ) → HaveForms command before
+pub have_forms : (command : Command) (before : List (List ℕ)) (word : List ℕ) → HaveForms command before
     → is_right command before word ≡ true → HaveForms command (before ++ word ∷ [])
 have_forms command before word h r key value e = at_value (value_given key before) refl (sym (value_given-append key before word) ∙ e)
   where
@@ -122,26 +123,26 @@ have_forms command before word h r key value e = at_value (value_given key befor
         from_word k.0 v.0 v.1 v.2 g
 
 -- a command's name gives nothing
-name_gives_nothing : (name : List ℕ) (command : Command) → command_named name ≡ Some command → HaveForms command (name ∷ [])
-name_gives_nothing name command e key value g =
+pub name_gives_none : (name : List ℕ) (command : Command) → command_named name ≡ Some command → (key : Key) → value_given key (name ∷ []) ≡ None
+name_gives_none name command e key =
     at (codes "place") Place _ refl (at (codes "neighbour") Neighbour _ refl (at (codes "walk") Walk _ refl (at (codes "draw") Draw _ refl
     (at (codes "check") Check _ refl (at (codes "calc") Calc _ refl (at (codes "drill") Drill _ refl (at (codes "star") Star _ refl
     (at (codes "verify") Verify None refl (λ h. absurd (cc h)))))))))) e
   where
-    nothing_in : (w : List ℕ) → name ≡ w → value_given key (w ∷ []) ≡ None → has_form command key value ≡ true
-    nothing_in w f h = absurd (cc (sym (subst (λ v. value_given key (v ∷ []) ≡ Some value) f g) ∙ h))
-
     at : (w : List ℕ) (c : Command) (rest : Option Command) → value_given key (w ∷ []) ≡ None
-        → (rest ≡ Some command → has_form command key value ≡ true)
-        → cond (bytes_eq name w) (Some c) rest ≡ Some command → has_form command key value ≡ true
+        → (rest ≡ Some command → value_given key (name ∷ []) ≡ None)
+        → cond (bytes_eq name w) (Some c) rest ≡ Some command → value_given key (name ∷ []) ≡ None
     at w c rest none go h = of (bytes_eq name w) refl h
       where
-        of : (b : Bool) → bytes_eq name w ≡ b → cond b (Some c) rest ≡ Some command → has_form command key value ≡ true
-        of true f k = nothing_in w ((bytes_eq-Decides _ _).0 f) none
+        of : (b : Bool) → bytes_eq name w ≡ b → cond b (Some c) rest ≡ Some command → value_given key (name ∷ []) ≡ None
+        of true f k = let same : name ≡ w = (bytes_eq-Decides _ _).0 f in ap (λ v. value_given key (v ∷ [])) same ∙ none
         of false f k = go k
 
+pub name_gives_nothing : (name : List ℕ) (command : Command) → command_named name ≡ Some command → HaveForms command (name ∷ [])
+name_gives_nothing name command e key value g = absurd (cc (sym (name_gives_none name command e key) ∙ g))
+
 -- ---- what is given is read, since it has its form
-read_or_not : {A : Type 0} (form : List ℕ → Option A) (o : Option (List ℕ))
+pub read_or_not : {A : Type 0} (form : List ℕ → Option A) (o : Option (List ℕ))
     → ((v : List ℕ) → o ≡ Some v → is_some (form v) ≡ true) → is_some (option_and_then form o) ≡ is_some o
 read_or_not form None h = refl
 read_or_not form (Some v) h = h v refl
@@ -159,40 +160,69 @@ module _ (command : Command) (words : List (List ℕ)) (h : HaveForms command wo
 
   asks : {A B : Type 0} (key : Key) (form : List ℕ → Option A) (next : A → Option B) (rest : Bool)
       → ((v : List ℕ) → has_form command key v ≡ true → is_some (form v) ≡ true)
-      → ((x : A) → is_some (next x) ≡ rest) → is_some (given key form words >>= next) ≡ has key && rest
+      → ((x : A) → is_some (next x) ≡ rest) → is_some (option_and_then form (value_given key words) >>= next) ≡ has key && rest
   asks key form next rest forms k =
-      chain (given key form words) next rest k ∙ ap (λ b. b && rest) (read_or_not form (value_given key words) (λ v e. forms v (h key v e)))
+      chain (option_and_then form (value_given key words)) next rest k
+      ∙ ap (λ b. b && rest) (read_or_not form (value_given key words) (λ v e. forms v (h key v e)))
 
   asks_addr : {B : Type 0} (next : List ℕ → Option B) (rest : Bool) → ((x : List ℕ) → is_some (next x) ≡ rest)
-      → is_some (addr_given words >>= next) ≡ has Addr && rest
-  asks_addr next rest k = chain (addr_given words) next rest k
+      → is_some (value_given Addr words >>= next) ≡ has Addr && rest
+  asks_addr next rest k = chain (value_given Addr words) next rest k
 
--- a window is given where its centre and its half extents are
-both_given : {A B C : Type 0} (o : Option A) (p : Option B) (make : A → B → C)
-    → is_some (o >>= λ x. p >>= λ y. Some (make x y)) ≡ is_some o && is_some p
-both_given None p make = refl
-both_given (Some x) None make = refl
-both_given (Some x) (Some y) make = refl
+-- ---- the name of a rule
+pub builtin_name-choice : (text : List ℕ) → option_and_then builtin_name (choice_in text) ≡ name_in text
+builtin_name-choice text = at_test (bytes_eq text (codes "-")) refl
+  where
+    at_name : (o : Option Name) → option_and_then builtin_name (option_map Builtin o) ≡ o
+    at_name None = refl
+    at_name (Some name) = refl
 
-and_last : (a b c : Bool) → (a && b) && c ≡ a && (b && c)
-and_last true b c = refl
-and_last false b c = refl
+    at_test : (b : Bool) → bytes_eq text (codes "-") ≡ b
+        → option_and_then builtin_name (cond b (Some File) (option_map Builtin (name_in text))) ≡ name_in text
+    at_test true e = let same : text ≡ codes "-" = (bytes_eq-Decides _ _).0 e in sym (ap name_in same)
+    at_test false e = at_name (name_in text)
+
+named : (text : List ℕ) → is_some (name_in text) ≡ true → is_some (choice_in text) ≡ true
+named text e = at_choice (choice_in text) (builtin_name-choice text)
+  where
+    at_choice : (o : Option RuleChoice) → option_and_then builtin_name o ≡ name_in text → is_some o ≡ true
+    at_choice None f = absurd (cc (sym e ∙ ap is_some (sym f)))
+    at_choice (Some rule) f = refl
+
+-- a text that is a rule for a command chooses one
+pub rule_form : (command : Command) (text : List ℕ) → is_rule_for command text ≡ true → is_some (choice_in text) ≡ true
+rule_form Calc text e = named text e
+rule_form Verify text e = named text e
+rule_form Place text e = e
+rule_form Neighbour text e = e
+rule_form Walk text e = e
+rule_form Draw text e = e
+rule_form Check text e = e
+rule_form Drill text e = e
+rule_form Star text e = e
+
+then_name : {B : Type 0} (o : Option RuleChoice) (next : Name → Option B)
+    → o >>= (λ rule. builtin_name rule >>= next) ≡ option_and_then builtin_name o >>= next
+then_name None next = refl
+then_name (Some rule) next = refl
 
 module _ (command : Command) (words : List (List ℕ)) (h : HaveForms command words)
-    (at : (v : List ℕ) → has_form command At v ≡ true → is_some (at_in v) ≡ true)
-    (half : (v : List ℕ) → has_form command Half v ≡ true → is_some (half_in v) ≡ true) where
-  asks_window : {B : Type 0} (next : _ → Option B) (rest : Bool) → ((x : _) → is_some (next x) ≡ rest)
-      → is_some (window_given words >>= next) ≡ is_some (value_given At words) && (is_some (value_given Half words) && rest)
-  asks_window next rest k =
-      chain (window_given words) next rest k
-      ∙ ap (λ b. b && rest) (both_given (given At at_in words) (given Half half_in words) _
-      ∙ ap₂ (λ a b. a && b) (read_or_not at_in (value_given At words) (λ v e. at v (h At v e)))
-      (read_or_not half_in (value_given Half words) (λ v e. half v (h Half v e))))
-      ∙ and_last (is_some (value_given At words)) (is_some (value_given Half words)) rest
+    (forms : (v : List ℕ) → has_form command Rule v ≡ true → is_some (name_in v) ≡ true) where
+  asks_name : {B : Type 0} (next : Name → Option B) (rest : Bool) → ((x : Name) → is_some (next x) ≡ rest)
+      → is_some (option_and_then choice_in (value_given Rule words) >>= (λ rule. builtin_name rule >>= next))
+      ≡ is_some (value_given Rule words) && rest
+  asks_name next rest k = at_value (value_given Rule words) (λ v e. forms v (h Rule v e))
+    where
+      at_value : (o : Option (List ℕ)) → ((v : List ℕ) → o ≡ Some v → is_some (name_in v) ≡ true)
+          → is_some (option_and_then choice_in o >>= (λ rule. builtin_name rule >>= next)) ≡ is_some o && rest
+      at_value None f = refl
+      at_value (Some v) f =
+          ap is_some (then_name (choice_in v) next ∙ ap (λ n. n >>= next) (builtin_name-choice v))
+          ∙ chain (name_in v) next rest k ∙ ap (λ b. b && rest) (f v refl)
 
 -- ---- by cases of the command: its request is there where all required keys are given
 pub required-asked : (command : Command) (words : List (List ℕ)) → HaveForms command words
-    → is_some (asked_by command words) ≡ list_all (λ key. is_some (value_given key words)) (required_keys command)
+    → is_some (asked_by command (values_given words)) ≡ list_all (λ key. is_some (value_given key words)) (required_keys command)
 unfolding asked_by
 required-asked Place words h = asks Place words h Rule choice_in _ _ (λ v e. e) (λ rule. asks_addr Place words h _ _ (λ addr. refl))
 required-asked Neighbour words h =
@@ -201,10 +231,13 @@ required-asked Neighbour words h =
     (λ addr. asks Neighbour words h Edge (number_up_to 255) _ _ (λ v e. e) (λ edge. refl)))
 required-asked Walk words h = asks Walk words h Rule choice_in _ _ (λ v e. e) (λ rule. asks_addr Walk words h _ _ (λ addr. refl))
 required-asked Draw words h =
-    asks Draw words h Rule choice_in _ _ (λ v e. e) (λ rule. asks_addr Draw words h _ _ (λ addr. asks_window Draw words h (λ v e. e) (λ v e. e) _ _
-    (λ window. asks Draw words h Layers formats_in _ _ (λ v e. e) (λ layers. refl))))
+    asks Draw words h Rule choice_in _ _ (λ v e. e)
+    (λ rule. asks_addr Draw words h _ _
+    (λ addr. asks Draw words h At at_in _ _ (λ v e. e)
+    (λ at. asks Draw words h Half half_in _ _ (λ v e. e)
+    (λ half. asks Draw words h Layers formats_in _ _ (λ v e. e) (λ layers. refl)))))
 required-asked Check words h = asks Check words h Rule choice_in _ _ (λ v e. e) (λ rule. refl)
-required-asked Calc words h = asks Calc words h Rule name_in _ _ (λ v e. e) (λ rule. refl)
+required-asked Calc words h = asks_name Calc words h (λ v e. e) _ _ (λ name. refl)
 required-asked Drill words h = asks Drill words h Rule choice_in _ _ (λ v e. e)
     (λ rule. asks Drill words h Count windows_in _ _ (λ v e. e) (λ count. refl))
 required-asked Star words h =
@@ -212,9 +245,10 @@ required-asked Star words h =
     (λ rule. asks_addr Star words h _ _ (λ addr. asks Star words h Vertex (number_up_to 255) _ _
     (λ v e. e) (λ vertex. refl)))
 required-asked Verify words h =
-    asks Verify words h Rule name_in _ _ (λ v e. e)
-    (λ rule. asks_addr Verify words h _ _ (λ addr. asks_window Verify words h (λ v e. e) (λ v e. e) _ _
-    (λ window. refl)))
+    asks_name Verify words h (λ v e. e) _ _
+    (λ name. asks_addr Verify words h _ _
+    (λ addr. asks Verify words h At at_in _ _ (λ v e. e)
+    (λ at. asks Verify words h Half half_in _ _ (λ v e. e) (λ half. refl))))
 
 -- ---- the place
 place_of_missing : {A : Type 0} (o : Option A) (n : ℕ) → place_refused (ok_or o n) ≡ cond (is_some o) None (Some n)
@@ -224,7 +258,8 @@ place_of_missing (Some x) n = refl
 place_behind : (command : Command) (before after : List (List ℕ)) → HaveForms command before
     → place_refused (asked_behind command before after) ≡ wrong_behind command before after
 place_behind command before [] h =
-    place_of_missing (asked_by command before) (length before) ∙ ap (λ b. cond b None (Some (length before))) (required-asked command before h)
+    place_of_missing (asked_by command (values_given before)) (length before)
+    ∙ ap (λ b. cond b None (Some (length before))) (required-asked command before h)
 place_behind command before (word ∷ after) h = at_test (is_right command before word) refl
     (λ e. place_behind command (before ++ word ∷ []) after (have_forms command before word h e))
   where

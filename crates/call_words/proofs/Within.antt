@@ -1,5 +1,7 @@
--- A window that is asked for is within the bounds of its form: its half extents are 1 to 4,096, and no coefficient of its centre is above 2^20.
-use Rattle.std.proofs.Common.{◌≡◌, ◌^◌, ◌≤◌, ℕ, zero, suc, ℤ, pos, neg_ℤ, Bool, true, false, cond, nat_le, List, [], ◌∷◌, ◌++◌, length, Some, None, Result, Ok, Err, ◌==◌, refl, subst, arith, lit≤, leb-true}
+-- The values of a request are within the bounds of their forms: half extents 1 to 4,096, no coefficient of a
+-- centre above 2^20, a depth at most 64, and at
+-- most 200 windows.
+use Rattle.std.proofs.Common.{◌≡◌, ◌^◌, ◌≤◌, ℕ, zero, suc, ℤ, pos, neg_ℤ, Bool, true, false, cond, nat_le, List, [], ◌∷◌, ◌++◌, length, Some, None, Result, Ok, Err, IfOk, ◌==◌, refl, subst, arith, lit≤, leb-true}
 use Rattle.std.proofs.lemmas.Int.{ints}
 use Rattle.std.specs.declared.option.Option.{Option}
 use Rattle.std.specs.Option.{option_map, option_and_then, option_map_or, ok_or}
@@ -12,16 +14,21 @@ use Rattle.tile_shape.specs.Decimal.{number_in, number_up_to}
 use Rattle.tile_shape.specs.Signed.{minus_sign, negated}
 use Rattle.tile_shape.specs.Text.{comma}
 use Rattle.tile_shape.specs.Words.{texts_between}
-use Rattle.layer_api.specs.declared.format.Format.{Format}
-use Rattle.call_words.specs.declared.rule_choice.RuleChoice.{RuleChoice}
+use Rattle.call_words.specs.declared.request.Question.{Question}
+use Rattle.call_words.specs.declared.request.Question.TheVariants as question
+use Rattle.call_words.specs.declared.request.Request.{Request as Asked}
+use Rattle.call_words.specs.declared.request.Request.TheVariants as asked
 use Rattle.call_words.specs.declared.window_words.HalfExtents.{HalfExtents}
 use Rattle.call_words.specs.declared.words.Command.{Command}
 use Rattle.call_words.specs.declared.words.Command.TheVariants as command
-use Rattle.call_words.specs.declared.words.Key.TheVariants.{At, Half}
-use Rattle.call_words.specs.Commands.{command_named}
-use Rattle.call_words.specs.Given.{WindowAsked, given, ◌>>=◌, rule_given, name_given, addr_given, edge_given, vertex_given, count_given, layers_given, window_given, seed_given, grow_given, path_given, glue_given}
-use Rattle.call_words.specs.Request.{Request, asked_by, asked_behind, request_in}
-use Rattle.call_words.specs.Request.Request.{Place, Neighbour, Walk, Draw, Check, Calc, Drill, Star, Verify}
+use Rattle.call_words.specs.declared.words.Key.TheVariants.{At, Half, Grow, Path, Count}
+use Rattle.call_words.specs.Choices.{builtin_name}
+use Rattle.call_words.specs.Commands.{command_named, most_windows, windows_in}
+use Rattle.call_words.specs.PathWords.{numbers, unless_long, longest_path, path_in}
+use Rattle.call_words.specs.Request.{Request, WindowAsked, asked_by, asked_behind, request_in}
+use Rattle.call_words.specs.Request.Request.{Walk, Draw, Drill, Verify}
+use Rattle.call_words.specs.Values.{Values, values_given, or_default, ◌>>=◌}
+use Rattle.call_words.specs.Views.{AnswersAs, AreWithinForms, IsWalkAsked, IsWithinForms, question_of, request_of}
 use Rattle.call_words.specs.WindowWords.{most_coefficient, coefficient_in, extent_in, extents_of_pieces, at_in, half_in, FitWindow, most_extent}
 use Rattle.call_words.specs.Words.{value_given, is_right}
 
@@ -128,119 +135,139 @@ pieces-fit [] half e = absurd (cc e)
 pieces-fit (a ∷ []) half e = absurd (cc e)
 pieces-fit (a ∷ b ∷ c ∷ ps) half e = absurd (cc e)
 
--- ---- the window that words give
--- a chain that ends well has its values
-bound : {A B : Type 0} (o : Option A) (next : A → Option B) (y : B) → o >>= next ≡ Some y → (x : A) × (o ≡ Some x) × (next x ≡ Some y)
-bound None next y e = absurd (cc e)
-bound (Some x) next y e = (x, refl, e)
+-- ---- the values that arguments give
+windows-limited : (text : List ℕ) (n : ℕ) → windows_in text ≡ Some n → n ≤ most_windows
+windows-limited text n e = at_number (number_up_to most_windows text) (number-limited most_windows text) e
+  where
+    at_test : (m : ℕ) (b : Bool) → m ≤ most_windows → cond b (Some m) None ≡ Some n → n ≤ most_windows
+    at_test m true l g = subst (λ k. k ≤ most_windows) (some_is m n g) l
+    at_test m false l g = absurd (cc g)
 
-never : {A B : Type 0} (o : Option A) (next : A → Option B) (y : B) → ((x : A) → next x ≡ Some y → ⊥) → o >>= next ≡ Some y → ⊥
-never o next y none e = let b = bound o next y e in none b.0 b.2
+    at_number : (o : Option ℕ) → ((m : ℕ) → o ≡ Some m → m ≤ most_windows)
+        → option_and_then (λ m. cond (nat_le 1 m) (Some m) None) o ≡ Some n → n ≤ most_windows
+    at_number None h f = absurd (cc f)
+    at_number (Some m) h f = at_test m (nat_le 1 m) (h m refl) f
 
+path-limited : (text path : List ℕ) → path_in text ≡ Some path → length path ≤ longest_path
+path-limited text path e = at_found (numbers (texts_between comma text)) e
+  where
+    at_test : (found : List ℕ) (b : Bool) → nat_le (length found) longest_path ≡ b → cond b (Some found) None ≡ Some path → length path ≤ longest_path
+    at_test found true f g = subst (λ p. length p ≤ longest_path) (some_is found path g) (leb-true (length found) longest_path f)
+    at_test found false f g = absurd (cc g)
+
+    at_found : (o : Option (List ℕ)) → unless_long o ≡ Some path → length path ≤ longest_path
+    at_found None f = absurd (cc f)
+    at_found (Some found) f = at_test found (nat_le (length found) longest_path) refl f
+
+-- values are within the bounds of their forms
+record AreFit (v : Values) : Type 0 where
+  grow : (n : ℕ) → v.grow ≡ Some n → n ≤ 64
+  path : (path : List ℕ) → v.path ≡ Some path → length path ≤ longest_path
+  count : (n : ℕ) → v.count ≡ Some n → n ≤ most_windows
+  at : (p : Point) → v.at ≡ Some p → IsWithin (2 ^ 20) p
+  half : (half : HalfExtents) → v.half ≡ Some half → FitWindow half
+
+values-fit : (words : List (List ℕ)) → AreFit (values_given words)
+values-fit words = record {
+  grow = λ n e. then_of (number_up_to 64) (λ m. m ≤ 64) (value_given Grow words) n (λ text. number-limited 64 text n) e;
+  path = λ path e. then_of path_in (λ p. length p ≤ longest_path) (value_given Path words) path (λ text. path-limited text path) e;
+  count = λ n e. then_of windows_in (λ m. m ≤ most_windows) (value_given Count words) n (λ text. windows-limited text n) e;
+  at = λ p e. then_of at_in (IsWithin (2 ^ 20)) (value_given At words) p (λ text. pieces-within (texts_between comma text) p) e;
+  half = λ half e. then_of half_in FitWindow (value_given Half words) half (λ text. pieces-fit (texts_between comma text) half) e;
+}
+
+-- ---- what a request asks for
 pub record IsFitAsked (window : WindowAsked) : Type 0 where
   pub centre : IsWithin (2 ^ 20) window.at
   pub half : FitWindow window.half
 
-window-given : (words : List (List ℕ)) (window : WindowAsked) → window_given words ≡ Some window → IsFitAsked window
-window-given words window e =
-    let at = bound (given At at_in words) _ window e in
-    let half = bound (given Half half_in words) _ window at.2 in
-    subst IsFitAsked (some_is (record { at = at.0; half = half.0 }) window half.2) (record {
-      centre = then_of at_in (IsWithin (2 ^ 20)) (value_given At words) at.0 (λ text f. pieces-within (texts_between comma text) at.0 f) at.1;
-      half = then_of half_in FitWindow (value_given Half words) half.0 (λ text f. pieces-fit (texts_between comma text) half.0 f) half.1;
-    })
+abbrev IsFit : Request → Type 0
+IsFit (Walk rule addr seed grow path) = IsWalkAsked grow path
+IsFit (Draw rule addr seed window layers glue) = IsFitAsked window
+IsFit (Drill rule count seed) = count ≤ most_windows
+IsFit (Verify name addr seed window) = IsFitAsked window
+IsFit _ = Unit {0}
 
--- ---- and for which `verify` asks
-module _ (name : Name) (addr : List ℕ) (seed : ℕ) (window : WindowAsked) where
-  abbrev asked : Request
-  asked = Verify name addr seed window
+abbrev MayFit : Option Request → Type 0
+MayFit None = Unit {0}
+MayFit (Some request) = IsFit request
 
-  window_is : (n : Name) (a : List ℕ) (s : ℕ) (w : WindowAsked) → Some (Verify n a s w) ≡ Some asked → w ≡ window
-  window_is n a s w e = cc
+then-fits : {A : Type 0} (o : Option A) (next : A → Option Request) → ((x : A) → o ≡ Some x → MayFit (next x)) → MayFit (o >>= next)
+then-fits None next h = tt
+then-fits (Some x) next h = h x refl
 
-  -- each other command asks for something else
-  not_place : (r : RuleChoice) (a : List ℕ) → Some (Place r a) ≡ Some asked → ⊥
-  not_place r a e = absurd (cc e)
+depth-fits : (o : Option ℕ) → ((n : ℕ) → o ≡ Some n → n ≤ 64) → or_default o 0 ≤ 64
+depth-fits None h = lit≤ tt
+depth-fits (Some n) h = h n refl
 
-  not_neighbour : (r : RuleChoice) (a : List ℕ) (n : ℕ) → Some (Neighbour r a n) ≡ Some asked → ⊥
-  not_neighbour r a n e = absurd (cc e)
+path-fits : (o : Option (List ℕ)) → ((path : List ℕ) → o ≡ Some path → length path ≤ longest_path) → length (or_default o []) ≤ longest_path
+path-fits None h = lit≤ tt
+path-fits (Some path) h = h path refl
 
-  not_walk : (r : RuleChoice) (a : List ℕ) (s g : ℕ) (p : List ℕ) → Some (Walk r a s g p) ≡ Some asked → ⊥
-  not_walk r a s g p e = absurd (cc e)
+of_command : (c : Command) (v : Values) → AreFit v → MayFit (asked_by c v)
+unfolding asked_by
+of_command command.Place v f = then-fits v.rule _ (λ rule e. then-fits v.addr _ (λ addr g. tt))
+of_command command.Neighbour v f = then-fits v.rule _ (λ rule e. then-fits v.addr _ (λ addr g. then-fits v.edge _ (λ edge h. tt)))
+of_command command.Walk v f = then-fits v.rule _ (λ rule e. then-fits v.addr _ (λ addr g.
+    record { depth = depth-fits v.grow f.grow; edges = path-fits v.path f.path }))
+of_command command.Draw v f =
+    then-fits v.rule _ (λ rule e. then-fits v.addr _ (λ addr g. then-fits v.at _ (λ at h. then-fits v.half _ (λ half k. then-fits v.layers _
+    (λ layers l. record { centre = f.at at h; half = f.half half k })))))
+of_command command.Check v f = then-fits v.rule _ (λ rule e. tt)
+of_command command.Calc v f = then-fits v.rule _ (λ rule e. then-fits (builtin_name rule) _ (λ name g. tt))
+of_command command.Drill v f = then-fits v.rule _ (λ rule e. then-fits v.count _ (λ count g. f.count count g))
+of_command command.Star v f = then-fits v.rule _ (λ rule e. then-fits v.addr _ (λ addr g. then-fits v.vertex _ (λ vertex h. tt)))
+of_command command.Verify v f =
+    then-fits v.rule _ (λ rule e. then-fits (builtin_name rule) _
+    (λ name g. then-fits v.addr _ (λ addr h. then-fits v.at _ (λ at k. then-fits v.half _
+    (λ half l. record { centre = f.at at k; half = f.half half l })))))
 
-  not_draw : (r : RuleChoice) (a : List ℕ) (s : ℕ) (w : WindowAsked) (l : List Format) (g : Bool) → Some (Draw r a s w l g) ≡ Some asked → ⊥
-  not_draw r a s w l g e = absurd (cc e)
+-- ---- what the arguments of a call ask for
+abbrev IsFitAnswer : Result Request ℕ → Type 0
+IsFitAnswer (Ok request) = IsFit request
+IsFitAnswer (Err place) = Unit {0}
 
-  not_check : (r : RuleChoice) → Some (Check r) ≡ Some asked → ⊥
-  not_check r e = absurd (cc e)
+behind-fits : (c : Command) (before after : List (List ℕ)) → IsFitAnswer (asked_behind c before after)
+behind-fits c before [] = at_request (asked_by c (values_given before)) (of_command c (values_given before) (values-fit before))
+  where
+    at_request : (o : Option Request) → MayFit o → IsFitAnswer (ok_or o (length before))
+    at_request None h = tt
+    at_request (Some request) h = h
+behind-fits c before (word ∷ after) = at_test (is_right c before word) (behind-fits c (before ++ word ∷ []) after)
+  where
+    at_test : (b : Bool) → IsFitAnswer (asked_behind c (before ++ word ∷ []) after)
+        → IsFitAnswer (cond b (asked_behind c (before ++ word ∷ []) after) (Err (length before)))
+    at_test true h = h
+    at_test false h = tt
 
-  not_calc : (n : Name) → Some (Calc n) ≡ Some asked → ⊥
-  not_calc n e = absurd (cc e)
+request-fits : (words : List (List ℕ)) → IsFitAnswer (request_in words)
+request-fits [] = tt
+request-fits (name ∷ words) = at_name (command_named name)
+  where
+    at_name : (o : Option Command) → IsFitAnswer (option_map_or (λ c. asked_behind c (name ∷ []) words) o (Err 0))
+    at_name None = tt
+    at_name (Some c) = behind-fits c (name ∷ []) words
 
-  not_drill : (r : RuleChoice) (c s : ℕ) → Some (Drill r c s) ≡ Some asked → ⊥
-  not_drill r c s e = absurd (cc e)
+-- the window for which `verify` asks
+pub window-asked : (name : Name) (addr : List ℕ) (seed : ℕ) (window : WindowAsked) (words : List (List ℕ))
+    → request_in words ≡ Ok (Verify name addr seed window) → IsFitAsked window
+window-asked name addr seed window words e = subst IsFitAnswer e (request-fits words)
 
-  not_star : (r : RuleChoice) (a : List ℕ) (s v : ℕ) → Some (Star r a s v) ≡ Some asked → ⊥
-  not_star r a s v e = absurd (cc e)
+-- ---- what the program answers
+within_question : (q : Question) → IsFit (question_of q) → AreWithinForms q
+within_question (question.Walk rule addr seed grow path) h = h
+within_question (question.Draw rule addr seed window layers glue) h = record { centre = h.centre; half = h.half }
+within_question (question.Drill rule count seed) h = h
+within_question (question.Verify name addr seed window) h = record { centre = h.centre; half = h.half }
+within_question (question.Neighbour rule addr edge) h = tt
+within_question (question.Calc name) h = tt
+within_question (question.Star rule addr seed vertex) h = tt
 
-  of_command : (c : Command) (words : List (List ℕ)) → asked_by c words ≡ Some asked → IsFitAsked window
-  unfolding asked_by
-  of_command command.Place words e = absurd (never (rule_given words) (λ rule. addr_given words >>= (λ addr. Some (Place rule addr))) asked
-      (λ rule. never (addr_given words) (λ addr. Some (Place rule addr)) asked
-      (λ addr. not_place rule addr)) e)
-  of_command command.Neighbour words e = absurd (never (rule_given words)
-      (λ rule. addr_given words >>= (λ addr. edge_given words >>= (λ edge. Some (Neighbour rule addr edge)))) asked
-      (λ rule. never (addr_given words) (λ addr. edge_given words >>= (λ edge. Some (Neighbour rule addr edge))) asked
-      (λ addr. never (edge_given words) (λ edge. Some (Neighbour rule addr edge)) asked
-      (λ edge. not_neighbour rule addr edge))) e)
-  of_command command.Walk words e = absurd (never (rule_given words)
-      (λ rule. addr_given words >>= (λ addr. Some (Walk rule addr (seed_given words) (grow_given words) (path_given words)))) asked
-      (λ rule. never (addr_given words) (λ addr. Some (Walk rule addr (seed_given words) (grow_given words) (path_given words))) asked
-      (λ addr. not_walk rule addr (seed_given words) (grow_given words) (path_given words))) e)
-  of_command command.Draw words e = absurd (never (rule_given words)
-      (λ rule. addr_given words >>= (λ addr. window_given words >>= (λ w. layers_given words >>= (λ layers.
-      Some (Draw rule addr (seed_given words) w layers (glue_given words)))))) asked
-      (λ rule. never (addr_given words) (λ addr. window_given words >>= (λ w. layers_given words >>= (λ layers.
-      Some (Draw rule addr (seed_given words) w layers (glue_given words))))) asked
-      (λ addr. never (window_given words) (λ w. layers_given words >>= (λ layers.
-      Some (Draw rule addr (seed_given words) w layers (glue_given words)))) asked
-      (λ w. never (layers_given words) (λ layers. Some (Draw rule addr (seed_given words) w layers (glue_given words))) asked
-      (λ layers. not_draw rule addr (seed_given words) w layers (glue_given words))))) e)
-  of_command command.Check words e = absurd (never (rule_given words) (λ rule. Some (Check rule)) asked (λ rule. not_check rule) e)
-  of_command command.Calc words e = absurd (never (name_given words) (λ n. Some (Calc n)) asked (λ n. not_calc n) e)
-  of_command command.Drill words e = absurd (never (rule_given words)
-      (λ rule. count_given words >>= (λ count. Some (Drill rule count (seed_given words)))) asked
-      (λ rule. never (count_given words) (λ count. Some (Drill rule count (seed_given words))) asked
-      (λ count. not_drill rule count (seed_given words))) e)
-  of_command command.Star words e = absurd (never (rule_given words)
-      (λ rule. addr_given words >>= (λ addr. vertex_given words >>= (λ vertex. Some (Star rule addr (seed_given words) vertex)))) asked
-      (λ rule. never (addr_given words) (λ addr. vertex_given words >>= (λ vertex. Some (Star rule addr (seed_given words) vertex))) asked
-      (λ addr. never (vertex_given words) (λ vertex. Some (Star rule addr (seed_given words) vertex)) asked
-      (λ vertex. not_star rule addr (seed_given words) vertex))) e)
-  of_command command.Verify words e =
-      let n = bound (name_given words)
-      (λ n. addr_given words >>= (λ a. window_given words >>= (λ w. Some (Verify n a (seed_given words) w)))) asked e in
-      let a = bound (addr_given words) (λ a. window_given words >>= (λ w. Some (Verify n.0 a (seed_given words) w))) asked n.2 in
-      let w = bound (window_given words) (λ w. Some (Verify n.0 a.0 (seed_given words) w)) asked a.2 in
-      subst IsFitAsked (window_is n.0 a.0 (seed_given words) w.0 w.2) (window-given words w.0 w.1)
+within_forms : (request : Asked) → IsFit (request_of request) → IsWithinForms request
+within_forms (asked.Place rule addr) h = tt
+within_forms (asked.Check rule) h = tt
+within_forms (asked.Ask q) h = within_question q h
 
-  ok_or_is : (o : Option Request) (n : ℕ) → ok_or o n ≡ Ok asked → o ≡ Some asked
-  ok_or_is None n e = absurd (cc e)
-  ok_or_is (Some r) n e = cc
-
-  behind : (c : Command) (before after : List (List ℕ)) → asked_behind c before after ≡ Ok asked → IsFitAsked window
-  behind c before [] e = of_command c before (ok_or_is (asked_by c before) (length before) e)
-  behind c before (word ∷ after) e = at_test (is_right c before word) (behind c (before ++ word ∷ []) after) e
-    where
-      at_test : (b : Bool) → (asked_behind c (before ++ word ∷ []) after ≡ Ok asked → IsFitAsked window)
-          → (let r : Result Request ℕ = cond b (asked_behind c (before ++ word ∷ []) after) (Err (length before)) in r) ≡ Ok asked → IsFitAsked window
-      at_test true rest f = rest f
-      at_test false rest f = absurd (cc f)
-
-  pub window-asked : (words : List (List ℕ)) → request_in words ≡ Ok asked → IsFitAsked window
-  window-asked [] e = absurd (cc e)
-  window-asked (word ∷ words) e = at_name (command_named word) e
-    where
-      at_name : (o : Option Command) → option_map_or (λ c. asked_behind c (word ∷ []) words) o (Err 0) ≡ Ok asked → IsFitAsked window
-      at_name None f = absurd (cc f)
-      at_name (Some c) f = behind c (word ∷ []) words f
+pub answer-within : (words : List (List ℕ)) (answer : Result Asked ℕ) → AnswersAs request_of answer (request_in words) → IfOk answer IsWithinForms
+answer-within words (Ok request) e = within_forms request (subst IsFitAnswer e (request-fits words))
+answer-within words (Err place) e = tt

@@ -1,4 +1,4 @@
--- What the value of the key `rule` chooses: a built-in rule by its name, or by `-` the rule of a file.
+-- What the value of the key `rule` chooses: a built-in rule by name, or the rule of a file for `-`.
 use Rattle.std.specs.Prelude.{ℕ, List, codes, Some, None, if◌then◌else◌}
 use Rattle.std.specs.declared.option.Option.{Option}
 use Rattle.std.specs.Option.{option_map}
@@ -20,3 +20,8 @@ name_in text =
 -- what a text chooses
 abbrev pub choice_in : List ℕ → Option RuleChoice
 choice_in text = if bytes_eq text (codes "-") then Some File else option_map Builtin (name_in text)
+
+-- the name of a rule, if it is a built-in one
+abbrev pub builtin_name : RuleChoice → Option Name
+builtin_name (Builtin name) = Some name
+builtin_name File = None

@@ -1,4 +1,4 @@
--- Formats in words, and which of them no layer has.
+-- Formats as arguments, and which of them no layer has.
 use Rattle.std.specs.Prelude.{ℕ, Bool, not, ◌&&◌, List, [], ◌∷◌, ◌++◌, length, codes, nat_lt, Some, None, if◌then◌else◌}
 use Rattle.std.specs.declared.option.Option.{Option}
 use Rattle.std.specs.List.{list_any, find}
@@ -23,31 +23,31 @@ format_named text =
     if bytes_eq text (codes "list") then Some Listing else
     if bytes_eq text (codes "census") then Some Census else None
 
--- whether two formats are the same
+-- true if two formats are the same
 abbrev pub same_format : Format → Format → Bool
 same_format = (format_eq.ghosts).eq
 
--- whether a format is one of these
+-- true if a format is one of these
 abbrev pub is_among : Format → List Format → Bool
 is_among format formats = list_any (λ f. same_format f format) formats
 
--- how many formats may be named
+-- the greatest number of formats that may be named
 abbrev pub most_formats : ℕ
 most_formats = 3
 
--- a format may be named behind these: they are not too many, and it is none of them
+-- true if a format may be named after these: there is room for it, and it is none of them
 abbrev pub is_new : Format → List Format → Bool
 is_new format before = nat_lt (length before) most_formats && not (is_among format before)
 
--- the formats before, and those that texts name, where each is a new one
+-- the formats before, and those that texts name, if each is new
 abbrev pub formats_behind : List Format → List (List ℕ) → Option (List Format)
 formats_behind before [] = Some before
 formats_behind before (piece ∷ rest) = option_and_then (λ f. if is_new f before then formats_behind (before ++ f ∷ []) rest else None) (format_named piece)
 
--- the formats that a text names: one to three, joined by commas, each once
+-- the formats that a text names: one to three different ones, with commas between them
 abbrev pub formats_in : List ℕ → Option (List Format)
 formats_in text = formats_behind [] (texts_between comma text)
 
--- the first of the formats named that is none of those handed in
+-- the first format named that is none of those handed in
 abbrev pub first_lacking : List Format → List Format → Option Format
 first_lacking handed named = find (λ f. not (is_among f handed)) named

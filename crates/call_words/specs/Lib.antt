@@ -5,6 +5,7 @@ pub mod WindowWords
 pub mod Commands
 pub mod Words
 pub mod WrongWord
-pub mod Given
+pub mod Values
 pub mod Request
 pub mod Views
+pub mod Reading

@@ -1,17 +1,25 @@
--- What the words of a call ask for: one function of the words.
-use Rattle.std.specs.Prelude.{ℕ, Bool, List, [], ◌∷◌, ◌++◌, length, Option, Some, Result, Err, if◌then◌else◌}
+-- What the arguments of a call ask for, as one function of the arguments.
+use Rattle.std.specs.Prelude.{ℕ, Bool, false, List, [], ◌∷◌, ◌++◌, length, Option, Some, Result, Err, if◌then◌else◌}
 use Rattle.std.specs.Option.{option_map_or, ok_or}
 use Rattle.builtin_rules.specs.declared.name.Name.{Name}
+use Rattle.cyclo_points.specs.declared.point.Point.{Point}
 use Rattle.layer_api.specs.declared.format.Format.{Format}
 use Rattle.call_words.specs.declared.rule_choice.RuleChoice.{RuleChoice}
 use Rattle.call_words.specs.declared.rule_choice.RuleChoice.TheVariants.{Builtin}
+use Rattle.call_words.specs.declared.window_words.HalfExtents.{HalfExtents}
 use Rattle.call_words.specs.declared.words.Command.{Command}
 use Rattle.call_words.specs.declared.words.Command.TheVariants as command
+use Rattle.call_words.specs.Choices.{builtin_name}
 use Rattle.call_words.specs.Commands.{command_named}
-use Rattle.call_words.specs.Given.{WindowAsked, rule_given, name_given, addr_given, edge_given, vertex_given, count_given, layers_given, window_given, seed_given, grow_given, path_given, glue_given, ◌>>=◌}
+use Rattle.call_words.specs.Values.{Values, values_given, or_default, ◌>>=◌}
 use Rattle.call_words.specs.Words.{is_right}
 
--- a request: by its rule, a tile by the text of its address, an edge, a vertex, a window, and the seed of growth
+-- a window as it is asked for: its centre, before it is reduced to the order, its half-width and its half-height
+pub record WindowAsked : Type 0 where
+  pub at : Point
+  pub half : HalfExtents
+
+-- a request; a tile is given by the text of its address
 pub data Request : Type 0 where
   Place : (rule : RuleChoice) (addr : List ℕ) → Request
   Neighbour : (rule : RuleChoice) (addr : List ℕ) (edge : ℕ) → Request
@@ -35,59 +43,64 @@ rule_of (Drill rule count seed) = rule
 rule_of (Star rule addr seed vertex) = rule
 rule_of (Verify name addr seed window) = Builtin name
 
--- the formats that a request asks layers for, in their order: `draw` alone asks for any
+-- the formats that need a layer, in order; only `draw` has any
 abbrev pub formats_of : Request → List Format
 formats_of (Draw rule addr seed window layers glue) = layers
 formats_of _ = []
 
--- what a command asks for, where the words give all that it requires
-unfoldable pub asked_by : Command → List (List ℕ) → Option Request
-asked_by command.Place words = do
-  rule ← rule_given words
-  addr ← addr_given words
+-- what a command asks for with these values, or None if a required key is missing
+unfoldable pub asked_by : Command → Values → Option Request
+asked_by command.Place v = do
+  rule ← v.rule
+  addr ← v.addr
   Some (Place rule addr)
-asked_by command.Neighbour words = do
-  rule ← rule_given words
-  addr ← addr_given words
-  edge ← edge_given words
+asked_by command.Neighbour v = do
+  rule ← v.rule
+  addr ← v.addr
+  edge ← v.edge
   Some (Neighbour rule addr edge)
-asked_by command.Walk words = do
-  rule ← rule_given words
-  addr ← addr_given words
-  Some (Walk rule addr (seed_given words) (grow_given words) (path_given words))
-asked_by command.Draw words = do
-  rule ← rule_given words
-  addr ← addr_given words
-  window ← window_given words
-  layers ← layers_given words
-  Some (Draw rule addr (seed_given words) window layers (glue_given words))
-asked_by command.Check words = do
-  rule ← rule_given words
+asked_by command.Walk v = do
+  rule ← v.rule
+  addr ← v.addr
+  Some (Walk rule addr (or_default v.seed 0) (or_default v.grow 0) (or_default v.path []))
+asked_by command.Draw v = do
+  rule ← v.rule
+  addr ← v.addr
+  at ← v.at
+  half ← v.half
+  layers ← v.layers
+  Some (Draw rule addr (or_default v.seed 0) (record { at = at; half = half }) layers (or_default v.glue false))
+asked_by command.Check v = do
+  rule ← v.rule
   Some (Check rule)
-asked_by command.Calc words = do
-  name ← name_given words
+asked_by command.Calc v = do
+  rule ← v.rule
+  name ← builtin_name rule
   Some (Calc name)
-asked_by command.Drill words = do
-  rule ← rule_given words
-  count ← count_given words
-  Some (Drill rule count (seed_given words))
-asked_by command.Star words = do
-  rule ← rule_given words
-  addr ← addr_given words
-  vertex ← vertex_given words
-  Some (Star rule addr (seed_given words) vertex)
-asked_by command.Verify words = do
-  name ← name_given words
-  addr ← addr_given words
-  window ← window_given words
-  Some (Verify name addr (seed_given words) window)
+asked_by command.Drill v = do
+  rule ← v.rule
+  count ← v.count
+  Some (Drill rule count (or_default v.seed 0))
+asked_by command.Star v = do
+  rule ← v.rule
+  addr ← v.addr
+  vertex ← v.vertex
+  Some (Star rule addr (or_default v.seed 0) vertex)
+asked_by command.Verify v = do
+  rule ← v.rule
+  name ← builtin_name rule
+  addr ← v.addr
+  at ← v.at
+  half ← v.half
+  Some (Verify name addr (or_default v.seed 0) (record { at = at; half = half }))
 
--- what is asked by words of which those before are right, or the number of the first that isn't; where one is missing, the number of words
+-- What is asked for if the arguments `before` are right, or the position of the first wrong one of the others. It is
+-- the number of arguments if a required key is missing.
 abbrev pub asked_behind : Command → List (List ℕ) → List (List ℕ) → Result Request ℕ
-asked_behind command before [] = ok_or (asked_by command before) (length before)
+asked_behind command before [] = ok_or (asked_by command (values_given before)) (length before)
 asked_behind command before (word ∷ words) = if is_right command before word then asked_behind command (before ++ word ∷ []) words else Err (length before)
 
--- what the words ask for, or the number of the first wrong one, from 0: the first of all where it names no command, or is missing
+-- what the arguments ask for, or the position of the first wrong one, counted from 0: the first if it names no command, or there are none
 abbrev pub request_in : List (List ℕ) → Result Request ℕ
 request_in [] = Err 0
 request_in (name ∷ words) = option_map_or (λ command. asked_behind command (name ∷ []) words) (command_named name) (Err 0)

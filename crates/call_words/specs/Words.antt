@@ -1,4 +1,5 @@
--- The words of a command line: a command, and behind it `key=value` words, in any order, each key of the command at most once.
+-- The arguments of a command line: a command, then `key=value` in any order. Each key is given at most once. In names,
+-- *words* are the arguments.
 use Rattle.std.specs.Prelude.{ℕ, Bool, false, not, ◌&&◌, List, [], ◌∷◌, map, length, string_bytes, Some, None, is_some, nat_lt, nat_eq, if◌then◌else◌}
 use Rattle.std.specs.declared.option.Option.{Option}
 use Rattle.std.specs.declared.string.String.{String}
@@ -9,7 +10,7 @@ use Rattle.call_words.specs.declared.words.Command.{Command}
 use Rattle.call_words.specs.declared.words.Key.{Key}
 use Rattle.call_words.specs.Commands.{key_text, keys_of, has_form}
 
--- the words as their bytes
+-- the arguments as their bytes
 abbrev pub texts : {A : Type 0} → List (String A) → List (List ℕ)
 texts words = map string_bytes words
 
@@ -17,18 +18,19 @@ texts words = map string_bytes words
 abbrev pub is_equals : ℕ → Bool
 is_equals c = nat_eq c 61
 
--- the value that a word gives the key: what stands behind its first `=`, where the key's name stands before it
+-- the value that an argument gives a key: what follows its first `=`, if the key's name is before it
 abbrev pub value_in : Key → List ℕ → Option (List ℕ)
 value_in key word =
     if nat_lt (position_or_len is_equals word) (length word) && bytes_eq (before_first is_equals word) (key_text key)
     then Some (after_first is_equals word) else None
 
--- the value that the first such word gives the key
+-- the value that the first argument with this key gives it
 abbrev pub value_given : Key → List (List ℕ) → Option (List ℕ)
 value_given key [] = None
 value_given key (word ∷ words) = option_map_or Some (value_in key word) (value_given key words)
 
--- whether a word is right behind the words before it: it gives a key of the command, that none of them gives, a value of the key's form
+-- True if an argument is right after those before it: it gives a value to a key of the command, which has no value
+-- yet, and the value has the key's form.
 abbrev pub is_right : Command → List (List ℕ) → List ℕ → Bool
 is_right command before word =
     list_any (λ key. option_map_or (λ value. not (is_some (value_given key before)) && has_form command key value) (value_in key word) false) (keys_of command)

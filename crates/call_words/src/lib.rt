@@ -9,8 +9,10 @@ mod glue_word;
 mod number;
 pub mod path_word;
 pub mod request;
+mod request_by;
 pub mod rule_choice;
 #[cfg(test)]
 mod trials;
+mod values;
 pub mod window_words;
 mod words;

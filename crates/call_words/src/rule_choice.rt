@@ -1,7 +1,6 @@
 //! The choice that the value of the key `rule` makes.
 ghost use Rattle.std.specs.Prelude.{◌≡◌};
-ghost use Rattle.call_words.specs.Choices.{choice_in};
-ghost use Rattle.call_words.specs.Choices.{name_in};
+ghost use Rattle.call_words.specs.Choices.{choice_in, name_in, builtin_name};
 
 use builtin_rules::name::Name;
 
@@ -12,6 +11,18 @@ pub enum RuleChoice {
     Builtin { name: Name },
     /// The rule of the file that is read from the source.
     File,
+}
+
+impl RuleChoice {
+    /// Returns the name of the rule, if it is a built-in one.
+    pub fn name(self) -> Option<Name>
+        ensures { result ≡ builtin_name self }
+    {
+        match self {
+            RuleChoice::Builtin { name } => Some(name),
+            RuleChoice::File => None,
+        }
+    }
 }
 
 /// Returns the built-in rule that a text names.

@@ -1,7 +1,6 @@
 //! Trials of the words of a call: requests, and the places of wrong words.
-use crate::request::{Request, request_in};
+use crate::request::{Question, Request, request_in};
 use crate::rule_choice::RuleChoice;
-use arrayvec::ArrayVec;
 use builtin_rules::name::Name;
 use layer_api::format::Format;
 use std::alloc::{AllocError, Global};
@@ -87,7 +86,7 @@ static REFUSED: [(&str, usize); 44] = [
 /// The place at which a line is refused.
 fn place_refused(alloc: Global, line: &str) -> Result<Option<usize>, AllocError> {
     let words = words_of(alloc, line)?;
-    Ok(request_in(words.as_slice(), &mut ArrayVec::new()).err())
+    Ok(request_in(words.as_slice(), &mut None).err())
 }
 
 #[test]
@@ -101,18 +100,20 @@ fn places_of_wrong_words(rt: HostRuntime) -> Result<(), Fail> {
 /// Returns true if a request is for the chair's tile `0:` with this seed, depth and path.
 fn is_walk(request: &Request<'_>, start: u64, depth: u8, edges: &[u8]) -> bool {
     match request {
-        Request::Walk {
-            rule,
-            addr,
-            seed,
-            grow,
-            path,
-        } => {
+        Request::Ask(
+            Question::Walk {
+                rule,
+                addr,
+                seed,
+                grow,
+                path,
+            },
+        ) => {
             *rule == RuleChoice::Builtin { name: Name::Chair }
                 && *addr == "0:"
                 && *seed == start
                 && *grow == depth
-                && path.as_slice() == edges
+                && *path == edges
         }
         _ => false,
     }
@@ -127,7 +128,7 @@ fn asks_for_walk(
     edges: &[u8],
 ) -> Result<bool, AllocError> {
     let words = words_of(alloc, line)?;
-    Ok(match request_in(words.as_slice(), &mut ArrayVec::new()) {
+    Ok(match request_in(words.as_slice(), &mut None) {
         Ok(request) => is_walk(&request, start, depth, edges),
         Err(_) => false,
     })
@@ -146,13 +147,15 @@ fn walks_with_and_without_their_optional_words(rt: HostRuntime) -> Result<(), Fa
 /// layers and with glue.
 fn is_draw(request: &Request<'_>, formats: &[Format]) -> bool {
     match request {
-        Request::Draw {
-            rule,
-            window,
-            layers,
-            glue,
-            ..
-        } => {
+        Request::Ask(
+            Question::Draw {
+                rule,
+                window,
+                layers,
+                glue,
+                ..
+            },
+        ) => {
             *rule == RuleChoice::File
                 && window.at.c == [-1, 2, 3, 4]
                 && window.half.w == 1
@@ -167,7 +170,7 @@ fn is_draw(request: &Request<'_>, formats: &[Format]) -> bool {
 /// Returns true if a line asks for that drawing.
 fn asks_for_draw(alloc: Global, line: &str, formats: &[Format]) -> Result<bool, AllocError> {
     let words = words_of(alloc, line)?;
-    Ok(match request_in(words.as_slice(), &mut ArrayVec::new()) {
+    Ok(match request_in(words.as_slice(), &mut None) {
         Ok(request) => is_draw(&request, formats),
         Err(_) => false,
     })

@@ -1,17 +1,12 @@
 //! The arguments of a command line: a command, then `key=value` arguments in any order. In the code they are
 //! *words*.
-ghost use Rattle.std.specs.Prelude.{◌≡◌, is_some};
-ghost use Rattle.std.specs.Option.{option_map};
-ghost use Rattle.call_words.specs.Commands.{key_text, command_named, keys_of, is_rule_for, has_form};
-ghost use Rattle.call_words.specs.Words.{texts, value_in, value_given, is_right};
+ghost use Rattle.std.specs.Prelude.{◌≡◌, true, is_some};
+ghost use Rattle.std.specs.List.{find};
+ghost use Rattle.std.specs.Str.{bytes_eq};
+ghost use Rattle.call_words.specs.Choices.{choice_in};
+ghost use Rattle.call_words.specs.Commands.{key_text, command_named, keys_of, is_rule_for};
 
-use crate::format_words::formats_in;
-use crate::glue_word::glue_in;
-use crate::number::number_up_to_255;
-use crate::path_word::path_in;
-use crate::rule_choice::{choice_in, name_in};
-use crate::window_words::{at_in, half_in, windows_in};
-use tile_shape::decimal::read_number;
+use crate::rule_choice::{RuleChoice, choice_in, name_in};
 
 /// A command of the program.
 #[derive(Clone, Copy, Debug, PartialEq, Eq)]
@@ -117,14 +112,29 @@ impl Command {
         }
     }
 
-    /// Returns true if a text names a rule for this command. `calc` reads a script and `verify` reads a list,
-    /// so they take no rule file.
-    fn is_rule(self, value: &str) -> bool
-        ensures { result ≡ is_rule_for self value.now }
+    /// Returns the key of the command with this name.
+    pub(crate) fn key_named(self, name: &str) -> Option<Key>
+        ensures { result ≡ find (λ key. bytes_eq name.now (key_text key)) (keys_of self) }
+    {
+        for key in self.keys() {
+            if name == key.text() {
+                return Some(*key);
+            }
+        }
+        None
+    }
+
+    /// Returns the rule that a text chooses for this command. `calc` reads a script and `verify` reads a
+    /// list, so they take no rule file.
+    pub(crate) fn rule_in(self, value: &str) -> Option<RuleChoice>
+        ensures right { is_some result ≡ is_rule_for self value.now }
+        ensures chosen { is_some result ≡ true → result ≡ choice_in value.now }
     {
         match self {
-            Command::Calc | Command::Verify => name_in(value).is_some(),
-            _ => choice_in(value).is_some(),
+            Command::Calc | Command::Verify => Some(RuleChoice::Builtin {
+                name: name_in(value)?,
+            }),
+            _ => choice_in(value),
         }
     }
 }
@@ -149,59 +159,4 @@ impl Key {
             Key::Vertex => "vertex",
         }
     }
-
-    /// Returns true if a value is well formed for this key of a command.
-    fn has_form(self, command: Command, value: &str) -> bool
-        ensures { result ≡ has_form command self value.now }
-    {
-        match self {
-            Key::Rule => command.is_rule(value),
-            Key::Addr => true,
-            Key::Edge | Key::Vertex => number_up_to_255(value).is_some(),
-            Key::Seed => read_number(value.as_bytes(), u64::MAX).is_some(),
-            Key::Grow => read_number(value.as_bytes(), 64).is_some(),
-            Key::Path => path_in(value).is_some(),
-            Key::At => at_in(value).is_some(),
-            Key::Half => half_in(value).is_some(),
-            Key::Layers => formats_in(value).is_some(),
-            Key::Glue => glue_in(value).is_some(),
-            Key::Count => windows_in(value).is_some(),
-        }
-    }
-
-    /// Returns the value that an argument gives this key.
-    fn value_in(self, word: &str) -> Option<&str>
-        ensures { option_map (λ v. v.now) result ≡ value_in self word.now }
-    {
-        let (name, value) = word.split_once('=')?;
-        if name == self.text() {
-            Some(value)
-        } else {
-            None
-        }
-    }
-
-    /// Returns the value that the first argument with this key gives it.
-    pub fn value_given(self, words: &[String]) -> Option<&str>
-        ensures { option_map (λ v. v.now) result ≡ value_given self (texts words.now) }
-    {
-        for word in words {
-            if let Some(value) = self.value_in(word.as_str()) {
-                return Some(value);
-            }
-        }
-        None
-    }
-}
-
-/// Returns true if an argument is right for the command, after the arguments before it.
-pub(crate) fn is_right(command: Command, before: &[String], word: &str) -> bool
-    ensures { result ≡ is_right command (texts before.now) word.now }
-{
-    for key in command.keys() {
-        if let Some(value) = key.value_in(word) {
-            return key.value_given(before).is_none() && key.has_form(command, value);
-        }
-    }
-    false
 }

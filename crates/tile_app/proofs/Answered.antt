@@ -7,15 +7,15 @@ use Rattle.call_words.specs.WrongWord.{wrong_place}
 use Rattle.layer_api.specs.declared.format.Format.{Format}
 use Rattle.list_verify.specs.declared.list_fault.ListFault.TheVariants as listing
 use Rattle.rule_model.specs.Tiling.{Tiling}
-use Rattle.tile_app.specs.declared.script_fault.ScriptFault.TheVariants as script
-use Rattle.tile_app.specs.declared.status.Status.{Status}
-use Rattle.tile_app.specs.declared.status.Status.TheVariants.{Done, BadWords, NoLayer, ReadFault, RuleTooLong, RuleRefused, BadScript, BadListing, WriteFault, NoMemory}
+use Rattle.call_notes.specs.declared.script_fault.ScriptFault.TheVariants as script
+use Rattle.call_notes.specs.declared.status.Status.{Status}
+use Rattle.call_notes.specs.declared.status.Status.TheVariants.{Done, BadWords, NoLayer, ReadFault, RuleTooLong, RuleRefused, BadScript, BadListing, WriteFault, NoMemory}
 use Rattle.tile_app.specs.Answer.{OfRequest, IsPrinted, HasAnswer, Refuses, Prints, CanBeAnswered, IsLimitOf, IsBeyondLimits}
 use Rattle.tile_app.specs.Asked.{OfCall, IsAsked, WasAsked}
 use Rattle.tile_app.specs.Call.{Call, Asks, HasRuleFault}
 use Rattle.tile_app.specs.Causes.{Causes, IsNoLimit, IsRefused}
 use Rattle.tile_app.specs.Layers.{lacking}
-use Rattle.tile_app.specs.Status.{IsCutShort, IsLimit, IsRefusal}
+use Rattle.call_notes.specs.Status.{IsCutShort, IsLimit, IsRefusal}
 use Rattle.tile_app.proofs.OneAnswer.{Laws, outcome_of, refused_at_done, AreOne, one_answer, limit_beyond}
 use Rattle.tile_app.proofs.Requested.{same_call, same_told, longest_is}
 

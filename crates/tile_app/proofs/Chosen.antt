@@ -6,8 +6,8 @@ use Rattle.call_words.specs.declared.rule_choice.RuleChoice.TheVariants.{Builtin
 use Rattle.rule_model.specs.Tiling.{Tiling}
 use Rattle.rule_text.specs.Limits.{longest_file}
 use Rattle.tile_app.specs.declared.file_kind.FileKind.TheVariants.{Rule}
-use Rattle.tile_app.specs.declared.status.Status.{Status}
-use Rattle.tile_app.specs.declared.status.Status.TheVariants.{ReadFault, RuleTooLong, RuleRefused, NoMemory}
+use Rattle.call_notes.specs.declared.status.Status.{Status}
+use Rattle.call_notes.specs.declared.status.Status.TheVariants.{ReadFault, RuleTooLong, RuleRefused, NoMemory}
 use Rattle.tile_app.specs.Asked.{WasRead}
 use Rattle.tile_app.specs.Reading.{IsFileUnread, IsFileRefused, IsRuleRead, IsRuleRefused}
 use Rattle.tile_app.specs.RuleFiles.{tiling_in_file}

@@ -9,11 +9,11 @@ use Rattle.theory_addresses.proofs.Lists.{AllByRecursion-among, AllByRecursion-f
 use Rattle.cyclo_points.specs.Order.{points_of, is_refused}
 use Rattle.cyclo_points.proofs.Refusal.{within-some_beyond, some_beyond-refused}
 use Rattle.theory_frames.specs.Frame.{at_level}
-use Rattle.lazy_walk.specs.Ancestors.{full}
-use Rattle.lazy_walk.specs.Frames.{FrameValue, whole, IsFrameOf, GrowsTo}
+use Rattle.theory_walks.specs.Ancestors.{full}
+use Rattle.theory_walks.specs.Frames.{FrameValue, whole, IsFrameOf, GrowsTo}
 use Rattle.lazy_walk.specs.Standing.{Stands}
-use Rattle.lazy_walk.proofs.Ancestors.{level-at}
-use Rattle.lazy_walk.proofs.Walks.{GrowsTo-is}
+use Rattle.theory_walks.proofs.Ancestors.{level-at}
+use Rattle.theory_walks.proofs.Walks.{GrowsTo-is}
 use Rattle.plane_geom.specs.declared.window.Window.{Window}
 use Rattle.rule_model.specs.Tiling.{Tiling, children}
 use Rattle.tile_place.specs.declared.placed_tile.PlacedTile.{PlacedTile}
@@ -35,8 +35,8 @@ use Rattle.window_cover.specs.Causes.{HasCause}
 use Rattle.tile_app.specs.Draw.{EndsDrawing, DrawRefuses}
 use Rattle.tile_app.specs.Windows.{reduced}
 use Rattle.tile_app.specs.DrawnTile.{point_of, CanBeDrawn}
-use Rattle.tile_app.specs.Status.{OrNoMemory}
-use Rattle.tile_app.specs.Turned.{status_of_cover}
+use Rattle.call_notes.specs.Status.{OrNoMemory}
+use Rattle.call_notes.specs.FaultStatus.{status_of_cover}
 
 -- a tile that stands in the frame with a shift that isn't refused
 pub drawable_within : (t : Tiling) (g : FrameValue) (x : PlacedTile) → Stands t g x → IsWithin (2 ^ 24) x.motion.shift → CanBeDrawn t x

@@ -2,13 +2,13 @@
 use Rattle.std.proofs.Common.{◌≡◌, ℕ, List, length, ap, ◌∙◌}
 use Rattle.lazy_walk.specs.declared.path_fault.PathFault.{PathFault}
 use Rattle.lazy_walk.specs.declared.path_fault.PathFault.TheVariants.{NoEdge, DepthLimit}
-use Rattle.lazy_walk.specs.Frames.{FrameValue, whole, at_depth, GrowsTo}
+use Rattle.theory_walks.specs.Frames.{FrameValue, whole, at_depth, GrowsTo}
 use Rattle.lazy_walk.specs.Faults.{IsPathFault}
-use Rattle.lazy_walk.proofs.Walks.{GrowsTo-is}
-use Rattle.lazy_walk.proofs.Walked.{at_depth-grown}
+use Rattle.theory_walks.proofs.Walks.{GrowsTo-is}
+use Rattle.theory_walks.proofs.Walked.{at_depth-grown}
 use Rattle.rule_model.specs.Tiling.{Tiling}
-use Rattle.tile_app.specs.Status.{OrNoMemory}
-use Rattle.tile_app.specs.Turned.{status_of_path}
+use Rattle.call_notes.specs.Status.{OrNoMemory}
+use Rattle.call_notes.specs.FaultStatus.{status_of_path}
 use Rattle.tile_app.specs.Walk.{frame_at, WalkRefuses}
 
 module _ (t : Tiling) (f g : FrameValue) (grown : GrowsTo t f g) where

@@ -16,12 +16,12 @@ use Rattle.half_glue.specs.Limits.{CanBeJoined, CanBeGlued}
 use Rattle.half_glue.specs.Outline.{parts_by, FirstGlueEdgeLaw}
 use Rattle.half_glue.specs.Parts.{HasPartsWithin}
 use Rattle.half_glue.specs.WholeTiles.{IsWholeBy, AreWholeTilesOf}
-use Rattle.lazy_walk.specs.Ancestors.{full}
-use Rattle.lazy_walk.specs.Boundary.{IsBoundaryEdge}
-use Rattle.lazy_walk.specs.Frames.{FrameValue, whole, at_depth, GrowsTo}
-use Rattle.lazy_walk.specs.Paths.{Crosses}
+use Rattle.theory_walks.specs.Ancestors.{full}
+use Rattle.theory_walks.specs.Boundary.{IsBoundaryEdge}
+use Rattle.theory_walks.specs.Frames.{FrameValue, whole, at_depth, GrowsTo}
+use Rattle.theory_walks.specs.Paths.{Crosses}
 use Rattle.lazy_walk.specs.Standing.{Stands}
-use Rattle.lazy_walk.proofs.Walks.{GrowsTo-is}
+use Rattle.theory_walks.proofs.Walks.{GrowsTo-is}
 use Rattle.plane_geom.specs.declared.window.Window.{Window}
 use Rattle.rule_model.specs.Glue.{IsGlueEdge}
 use Rattle.rule_model.specs.Tiling.{Tiling}
@@ -37,8 +37,8 @@ use Rattle.tile_app.specs.Draw.{EndsGluing, DrawRefuses}
 use Rattle.tile_app.specs.TilesOfWindow.{TilesOfWindow}
 use Rattle.tile_app.specs.DrawnTile.{CanBeDrawn, CanBeDrawnBy, CanBeDrawnWhole}
 use Rattle.tile_app.specs.Glue.{CanBeGluedInWindow}
-use Rattle.tile_app.specs.Status.{OrNoMemory}
-use Rattle.tile_app.specs.Turned.{status_of_glue}
+use Rattle.call_notes.specs.Status.{OrNoMemory}
+use Rattle.call_notes.specs.FaultStatus.{status_of_glue}
 use Rattle.tile_app.proofs.Drawing.{drawable_within, fault-or_ok}
 
 -- ---- whole tiles can be drawn

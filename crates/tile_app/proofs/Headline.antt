@@ -3,11 +3,11 @@ use Rattle.std.proofs.Common.{◌≡◌, ℕ, Bool, List, map, Result, Ok, sym, 
 use Rattle.std.specs.declared.option.Option.{Option}
 use Rattle.theory_addresses.specs.Address.{Address}
 use Rattle.call_words.specs.declared.rule_choice.RuleChoice.{RuleChoice}
-use Rattle.call_words.specs.Given.{WindowAsked}
+use Rattle.call_words.specs.Request.{WindowAsked}
 use Rattle.call_words.specs.Request.{Request, request_in}
 use Rattle.call_words.specs.Request.Request.{Neighbour, Draw}
 use Rattle.layer_api.specs.declared.format.Format.{Format}
-use Rattle.lazy_walk.specs.Frames.{FrameValue}
+use Rattle.theory_walks.specs.Frames.{FrameValue}
 use Rattle.plane_geom.specs.declared.window.Window.{Window}
 use Rattle.rule_model.specs.Tiling.{Tiling}
 use Rattle.tile_app.specs.Answer.{IsPrinted, Prints}

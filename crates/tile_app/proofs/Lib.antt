@@ -6,8 +6,8 @@ pub mod Gluing
 pub mod Outlines
 pub mod Pictured
 mod Prototiles
+mod GluedKinds
 mod Placed
-mod AddressBytes
 mod Frames
 mod Walking
 mod Turned

@@ -6,7 +6,7 @@ use Rattle.cyclo_points.specs.Order.{coefficients}
 use Rattle.cyclo_points.proofs.SamePoints.{same_point}
 use Rattle.half_glue.specs.declared.glue_fault.GlueFault.{GlueFault}
 use Rattle.half_glue.specs.declared.glue_fault.GlueFault.TheVariants as glue
-use Rattle.lazy_walk.specs.Frames.{FrameValue}
+use Rattle.theory_walks.specs.Frames.{FrameValue}
 use Rattle.plane_geom.specs.declared.window.Window.{Window}
 use Rattle.rule_model.specs.Tiling.{Tiling}
 use Rattle.tile_place.specs.Crossed.{edges_of}
@@ -15,14 +15,14 @@ use Rattle.tile_shape.specs.declared.address.Address as program
 use Rattle.tile_shape.specs.Views.{address_of}
 use Rattle.window_cover.specs.declared.cover_fault.CoverFault.{CoverFault}
 use Rattle.window_cover.specs.declared.cover_fault.CoverFault.TheVariants as cover
-use Rattle.tile_app.specs.declared.status.Status.{Status}
-use Rattle.tile_app.specs.declared.status.Status.TheVariants.{Done, NoEdge, NoVertex, Outside, DepthLimit, CoordLimit, TooManyTiles, StarTooBig}
+use Rattle.call_notes.specs.declared.status.Status.{Status}
+use Rattle.call_notes.specs.declared.status.Status.TheVariants.{Done, NoEdge, NoVertex, Outside, DepthLimit, CoordLimit, TooManyTiles, StarTooBig}
 use Rattle.tile_app.specs.Draw.{PassesLimits, EndsDrawing, EndsGluing, DrawRefuses}
 use Rattle.tile_app.specs.Glue.{IsWithinTheirLimits}
 use Rattle.tile_app.specs.Neighbour.{IsInside, HasNoEdge, NeighbourRefuses}
 use Rattle.tile_app.specs.Place.{CanBePlaced, PlaceRefuses}
 use Rattle.tile_app.specs.Star.{HasStar, HasNoVertex, PassesStarLimits, StarRefuses}
-use Rattle.tile_app.specs.Status.{IsLimit}
+use Rattle.call_notes.specs.Status.{IsLimit}
 use Rattle.tile_app.specs.Walk.{CanWalk, WalkRefuses, frame_at}
 use Rattle.tile_app.proofs.OnePath.{walked_or_halted, halts_once, stopped_halts, lacking_halts}
 use Rattle.tile_app.proofs.Requested.{some_is}

@@ -10,8 +10,8 @@ use Rattle.call_words.specs.Request.{Request, request_in, rule_of}
 use Rattle.call_words.specs.Request.Request.{Place, Neighbour, Walk, Draw, Check, Calc, Drill, Star, Verify}
 use Rattle.call_words.proofs.RightWords.{place-refused}
 use Rattle.call_words.specs.WrongWord.{place_refused, wrong_place}
-use Rattle.lazy_walk.specs.Frames.{FrameValue, IsFrameOf}
-use Rattle.lazy_walk.proofs.Walks.{new-is_frame}
+use Rattle.theory_walks.specs.Frames.{FrameValue, IsFrameOf}
+use Rattle.theory_walks.proofs.Walks.{new-is_frame}
 use Rattle.layer_api.specs.declared.format.Format.{Format}
 use Rattle.list_verify.specs.declared.list_fault.ListFault.TheVariants as listing
 use Rattle.list_verify.specs.OneVerdict.{HasOneVerdict}
@@ -19,10 +19,10 @@ use Rattle.list_verify.specs.Verdict.{LacksTiles}
 use Rattle.rule_model.specs.Tiling.{Tiling, children}
 use Rattle.tile_shape.specs.declared.address_fault.AddressFault.{AddressFault}
 use Rattle.tile_shape.specs.Usable.{AreUsable}
-use Rattle.tile_app.specs.declared.rule_fault.RuleFault.{RuleFault}
-use Rattle.tile_app.specs.declared.script_fault.ScriptFault.TheVariants as script
-use Rattle.tile_app.specs.declared.status.Status.{Status}
-use Rattle.tile_app.specs.declared.status.Status.TheVariants.{Done, BadWords, NoLayer, RuleTooLong, RuleRefused, BadAddress, BadScript, BadListing}
+use Rattle.call_notes.specs.declared.rule_fault.RuleFault.{RuleFault}
+use Rattle.call_notes.specs.declared.script_fault.ScriptFault.TheVariants as script
+use Rattle.call_notes.specs.declared.status.Status.{Status}
+use Rattle.call_notes.specs.declared.status.Status.TheVariants.{Done, BadWords, NoLayer, RuleTooLong, RuleRefused, BadAddress, BadScript, BadListing}
 use Rattle.tile_app.specs.Answer.{OfRequest, HasAnswer, Refuses, TileRefuses, CanBeAnswered, IsLimitOf, IsBeyond, IsBeyondLimits}
 use Rattle.tile_app.specs.BaseFrame.{frame_of}
 use Rattle.tile_app.specs.Calc.{CanCalculate, CalcRefuses}
@@ -36,7 +36,7 @@ use Rattle.tile_app.specs.Layers.{lacking}
 use Rattle.tile_app.specs.Neighbour.{IsInside, NeighbourRefuses}
 use Rattle.tile_app.specs.Place.{CanBePlaced, PlaceRefuses}
 use Rattle.tile_app.specs.Star.{HasStar, PassesStarLimits, StarRefuses}
-use Rattle.tile_app.specs.Status.{IsLimit}
+use Rattle.call_notes.specs.Status.{IsLimit}
 use Rattle.tile_app.specs.Tile.{IsTile, IsNoTile, OfTile}
 use Rattle.tile_app.specs.Verify.{CanVerify, VerifyRefuses, BuiltinVerdictLaw}
 use Rattle.tile_app.specs.Walk.{CanWalk, WalkRefuses}

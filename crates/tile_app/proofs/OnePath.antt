@@ -1,7 +1,7 @@
 -- A path leads to one end: to a tile, or to one edge that doesn't exist or is on the boundary.
 use Rattle.std.proofs.Common.{◌≡◌, ℕ, List, [], ◌∷◌, ◌++◌, refl, sym, ◌∙◌, subst, arith}
 use Rattle.theory_addresses.specs.Address.{Address}
-use Rattle.lazy_walk.specs.Paths.{Crosses, Leads, ComesTo, IsStoppedAt, LacksEdge}
+use Rattle.theory_walks.specs.Paths.{Crosses, Leads, ComesTo, IsStoppedAt, LacksEdge}
 use Rattle.rule_model.specs.Tiling.{Tiling}
 use Rattle.tile_place.specs.Crossed.{IsOnlyAcross}
 use Rattle.tile_place.proofs.OneAcross.{one_across}

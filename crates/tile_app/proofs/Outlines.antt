@@ -1,37 +1,17 @@
 -- Outlines of two halves, by the vertices of each in order.
-use Rattle.std.proofs.Common.{◌≡◌, ℕ, zero, suc, ◌+◌, ◌-◌, ◌<◌, ◌≤◌, List, [], ◌∷◌, ◌++◌, length, map, take, drop, refl, sym, ap, ap₂, ◌∙◌, append_assoc, arith}
-use Rattle.std.proofs.lemmas.List.{length-map, length-append, length-take-le, length-drop, map-append, take-map, drop-map, drop-drop, drop-take, drop-append-le, take_all, take_rest}
+use Rattle.std.specs.List.{refill}
+use Rattle.std.proofs.Common.{◌≡◌, ℕ, zero, suc, ◌+◌, ◌-◌, ◌<◌, List, [], ◌∷◌, ◌++◌, length, map, take, drop, refl, sym, ap, ap₂, ◌∙◌, arith}
+use Rattle.std.proofs.lemmas.List.{append-nil, length-map, length-append, length-take-le, length-drop, map-append, take-map, drop-map, drop-drop, drop-take, drop-append-le, take_all}
 use Rattle.std.proofs.lemmas.Simd.{map-map}
 use Rattle.std.proofs.Math.ListN.{drop_of_length-le}
 use Rattle.std.proofs.Math.Seq.{take-append-add}
-use Rattle.cyclo_points.specs.declared.motion.Motion.{Motion}
-use Rattle.cyclo_points.specs.declared.order.Order.{Order}
-use Rattle.cyclo_points.specs.declared.point.Point.{Point}
-use Rattle.cyclo_points.specs.Motion.{motion_in}
-use Rattle.cyclo_points.specs.Order.{NumberOf, points_of}
-use Rattle.cyclo_points.specs.Point.{point_in}
 use Rattle.half_glue.specs.Outline.{begun_behind, inner_of}
-use Rattle.theory_substitution.specs.Motion.{moved}
-use Rattle.tile_app.specs.DrawnTile.{point_of, placed_point}
 
--- ---- the vertices of a tile in its place
-pub placed-vertices : (o : Order) (m : Motion) (vs : List Point) (ns : List (NumberOf o)) → map (point_in o) vs ≡ ns
-    → map (placed_point o m) vs ≡ map (λ z. point_of o (moved (points_of o) (motion_in o m) z)) ns
-placed-vertices o m vs ns e =
-    sym (map-map (λ z. point_of o (moved (points_of o) (motion_in o m) z)) (point_in o) vs)
-    ∙ ap (map (λ z. point_of o (moved (points_of o) (motion_in o m) z))) e
-
-pub placed-numbers : (o : Order) (m : Motion) (vs : List Point) (ns : List (NumberOf o)) → map (point_in o) vs ≡ ns
-    → map (point_of o) (map (moved (points_of o) (motion_in o m)) ns) ≡ map (placed_point o m) vs
-placed-numbers o m vs ns e = map-map (point_of o) (moved (points_of o) (motion_in o m)) ns ∙ sym (placed-vertices o m vs ns e)
-
--- some of them, from a number on
-pub corner-piece : (o : Order) (m : Motion) (vs : List Point) (ns : List (NumberOf o)) → map (point_in o) vs ≡ ns → (k n : ℕ)
-    → map (λ z. point_of o (moved (points_of o) (motion_in o m) z)) (take k (drop n ns)) ≡ map (placed_point o m) (take k (drop n vs))
-corner-piece o m vs ns e k n =
-    sym (placed-vertices o m (take k (drop n vs)) (take k (drop n ns))
-    (sym (take-map (point_in o) k (drop n vs))
-    ∙ ap (take k) (sym (drop-map (point_in o) n vs) ∙ ap (drop n) e)))
+-- what is put back in as many places is what stands there
+pub filled-up : {A : Type 0} (n : ℕ) (xs ws : List A) → length ws ≡ n → refill n xs ws ≡ ws
+filled-up n xs ws is =
+    ap (λ k. take k (ws ++ drop (length ws) xs)) (let e : n ≡ length ws + 0 = omega (arith, is) in e)
+    ∙ take-append-add ws (drop (length ws) xs) 0 ∙ append-nil ws
 
 -- ---- images of lists begun elsewhere
 map-begun : {A B : Type 0} (f : A → B) (e : ℕ) (xs : List A) → map f (begun_behind e xs) ≡ begun_behind e (map f xs)
@@ -42,58 +22,7 @@ map-inner f xs =
     sym (drop-map f 1 (take (length xs - 1) xs))
     ∙ ap (drop 1) (sym (take-map f (length xs - 1) xs) ∙ ap (λ n. take (n - 1) (map f xs)) (sym (length-map xs f)))
 
--- ---- the first half: what is behind the edge, and what is before
-next : (e : ℕ) → e + 1 ≡ suc e
-next e = omega arith
-
-first-placed : (o : Order) (m : Motion) (vs : List Point) (ns : List (NumberOf o)) (e : ℕ) → map (point_in o) vs ≡ ns
-    → map (placed_point o m) (drop (e + 1) vs)
-    ++ map (placed_point o m) (take (e + 1) vs) ≡ map (point_of o)
-    (begun_behind e (map (moved (points_of o) (motion_in o m)) ns))
-first-placed o m vs ns e same =
-    sym (map-append (placed_point o m) (drop (e + 1) vs) (take (e + 1) vs))
-    ∙ ap (λ k. map (placed_point o m) (drop k vs ++ take k vs)) (next e)
-    ∙ map-begun (placed_point o m) e vs
-    ∙ ap (begun_behind e) (sym (placed-numbers o m vs ns same))
-    ∙ sym (map-begun (point_of o) e (map (moved (points_of o) (motion_in o m)) ns))
-
--- what is put behind nothing
-pub into-empty : (os ps qs : List Point) → length os ≡ 0 → qs ≡ os ++ ps → qs ≡ ps
-into-empty [] ps qs e is = is
-into-empty (x ∷ os) ps qs e is = absurd (omega (arith, e))
-
--- how many points there are then
-put-long : (F : Point → Point) (os ps vs : List Point) → ps ≡ os ++ map F vs → length ps ≡ length os + length vs
-put-long F os ps vs is = ap (λ (xs : List Point). length xs) is ∙ length-append os (map F vs) ∙ ap (λ n. length os + n) (length-map vs F)
-
--- it is put in two pieces
-module _ (F : Point → Point) (vs os ps : List Point) (e : ℕ) (below : e < length vs) (empty : length os ≡ 0)
-    (one : ps ≡ os ++ map F (take (length vs - (e + 1)) (drop (e + 1) vs))) where
-  pub behind-placed : ps ≡ map F (drop (e + 1) vs)
-  behind-placed = into-empty os (map F (take (length vs - (e + 1)) (drop (e + 1) vs))) ps empty one ∙ ap (map F) (take_rest vs (e + 1))
-
-  behind-long : length ps ≡ length vs - (e + 1)
-  behind-long = ap (λ (xs : List Point). length xs) behind-placed ∙ length-map (drop (e + 1) vs) F ∙ length-drop (e + 1) vs
-
-  before-long : length (take (e + 1) vs) ≡ e + 1
-  before-long = length-take-le (e + 1) vs (omega (arith, below))
-
-  pub first-room : length vs ≤ 12 → length ps + length (take (e + 1) vs) ≤ 24
-  first-room most = omega (arith, most, behind-long, before-long, below)
-
-  pub first-long : (qs : List Point) → qs ≡ ps ++ map F (take (e + 1) vs) → length qs ≡ length vs
-  first-long qs two = let a = put-long F ps qs (take (e + 1) vs) two in omega (arith, a, behind-long, before-long, below)
-
-pub first-is : (o : Order) (m : Motion) (vs os ps qs : List Point) (ns : List (NumberOf o)) (e g : ℕ)
-    → map (point_in o) vs ≡ ns → e < length vs → length os ≡ 0
-    → ps ≡ os ++ map (placed_point o m) (take (length vs - (e + 1)) (drop (e + 1) vs)) → qs ≡ ps ++ map (placed_point o m) (take (e + 1) vs) → e ≡ g
-    → qs ≡ map (point_of o) (begun_behind g (map (moved (points_of o) (motion_in o m)) ns))
-first-is o m vs os ps qs ns e g same below empty one two is =
-    two ∙ ap (λ xs. xs ++ map (placed_point o m) (take (e + 1) vs))
-    (behind-placed (placed_point o m) vs os ps e below empty one) ∙ first-placed o m vs ns e same
-    ∙ ap (λ d. map (point_of o) (begun_behind d (map (moved (points_of o) (motion_in o m)) ns))) is
-
--- ---- the second half, without the ends of its edge
+-- ---- the vertices without the ends of an edge
 module _ {A : Type 0} (xs : List A) (f : ℕ) where
   abbrev behind : List A
   behind = drop (suc f) xs
@@ -129,51 +58,43 @@ module _ {A : Type 0} (xs : List A) (f : ℕ) where
       whole : begun_behind f xs ≡ xs
       whole = ap₂ (λ a b. a ++ b) (drop_of_length-le xs {i = suc f} (omega (arith, e))) (take_all (suc f) xs (omega (arith, e)))
 
-module _ (o : Order) (m : Motion) (vs : List Point) (ns : List (NumberOf o)) (f : ℕ) (same : map (point_in o) vs ≡ ns) where
-  abbrev places : List (NumberOf o)
-  places = map (moved (points_of o) (motion_in o m)) ns
+-- ---- the vertices of a half in two pieces, or in one where its edge is the last
+module _ {A B C : Type 0} (p : B → C) (q : A → B) (ns : List A) (e : ℕ) where
+  abbrev both : A → C
+  both z = p (q z)
 
-  inner-placed : map (point_of o) (inner_of (begun_behind f places)) ≡ map (placed_point o m) (inner_of (begun_behind f vs))
-  inner-placed =
-      map-inner (point_of o) (begun_behind f places)
-      ∙ ap inner_of (map-begun (point_of o) f places ∙ ap (begun_behind f) (placed-numbers o m vs ns same)
-      ∙ sym (map-begun (placed_point o m) f vs))
-      ∙ sym (map-inner (placed_point o m) (begun_behind f vs))
+  begun-image : map p (begun_behind e (map q ns)) ≡ map both (begun_behind e ns)
+  begun-image = ap (map p) (sym (map-begun q e ns)) ∙ map-map p q (begun_behind e ns)
 
-  second-placed : f + 1 < length vs → map (placed_point o m) (drop (f + 2) vs)
-      ++ map (placed_point o m) (take f vs) ≡ map (point_of o) (inner_of (begun_behind f places))
-  second-placed l = sym (inner-placed ∙ ap (map (placed_point o m)) (inner-behind vs f l)
-      ∙ map-append (placed_point o m) (drop (f + 2) vs) (take f vs))
+  inner-image : map p (inner_of (begun_behind e (map q ns))) ≡ map both (inner_of (begun_behind e ns))
+  inner-image =
+      ap (λ ys. map p (inner_of ys)) (sym (map-begun q e ns))
+      ∙ ap (map p) (sym (map-inner q (begun_behind e ns))) ∙ map-map p q (inner_of (begun_behind e ns))
 
-  last-placed : f + 1 ≡ length vs → map (placed_point o m) (drop 1 (take f vs)) ≡ map (point_of o) (inner_of (begun_behind f places))
-  last-placed e = sym (inner-placed ∙ ap (map (placed_point o m)) (inner-last vs f e))
+  rest : (k b : ℕ) → b + k ≡ length ns → take b (drop k ns) ≡ drop k ns
+  rest k b all = take_all b (drop k ns) (let l = length-drop k ns in omega (arith, all, l))
 
-  -- it is put in two pieces, or in one where its edge is the last
-  pub second-is : (os ps qs : List Point) (g : ℕ) → f + 1 < length vs → ps ≡ os
-      ++ map (placed_point o m) (take (length vs - (f + 2)) (drop (f + 2) vs)) → qs ≡ ps
-      ++ map (placed_point o m) (take f vs) → f ≡ g
-      → qs ≡ os ++ map (point_of o) (inner_of (begun_behind g places))
-  second-is os ps qs g l one two is =
-      two
-      ∙ ap (λ xs. xs ++ map (placed_point o m) (take f vs)) (one ∙ ap (λ xs. os ++ map (placed_point o m) xs) (take_rest vs (f + 2)))
-      ∙ append_assoc os (map (placed_point o m) (drop (f + 2) vs)) (map (placed_point o m) (take f vs))
-      ∙ ap (λ xs. os ++ xs) (second-placed l)
-      ∙ ap (λ d. os ++ map (point_of o) (inner_of (begun_behind d places))) is
+  pub first-is : (b a : ℕ) → b + (e + 1) ≡ length ns → a ≡ e + 1
+      → map both (take b (drop (e + 1) ns)) ++ map both (take a ns) ≡ map p (begun_behind e (map q ns))
+  first-is b a all is =
+      ap₂ (λ xs k. map both xs ++ map both (take k ns)) (rest (e + 1) b all) is
+      ∙ sym (map-append both (drop (e + 1) ns) (take (e + 1) ns))
+      ∙ ap (λ k. map both (drop k ns ++ take k ns)) next ∙ sym begun-image
+    where
+      next : e + 1 ≡ suc e
+      next = omega arith
 
-  pub last-is : (os qs : List Point) (g : ℕ) → 1 ≤ f → f + 1 ≡ length vs → qs ≡ os
-      ++ map (placed_point o m) (take (f - 1) (drop 1 vs)) → f ≡ g → qs ≡ os
-      ++ map (point_of o) (inner_of (begun_behind g places))
-  last-is os qs g some e one is =
-      one
-      ∙ ap (λ xs. os ++ map (placed_point o m) xs) (sym (drop-take 1 (f - 1) vs) ∙ ap (λ n. drop 1 (take n vs)) (omega (arith, some)))
-      ∙ ap (λ xs. os ++ xs) (last-placed e)
-      ∙ ap (λ d. os ++ map (point_of o) (inner_of (begun_behind d places))) is
+  pub second-is : (b a : ℕ) → b + (e + 2) ≡ length ns → a ≡ e
+      → map both (take b (drop (e + 2) ns)) ++ map both (take a ns) ≡ map p (inner_of (begun_behind e (map q ns)))
+  second-is b a all is =
+      ap₂ (λ xs k. map both xs ++ map both (take k ns)) (rest (e + 2) b all) is
+      ∙ sym (map-append both (drop (e + 2) ns) (take e ns))
+      ∙ ap (map both) (sym (inner-behind ns e (omega (arith, all)))) ∙ sym inner-image
 
-pub second-room : (F : Point → Point) (vs os ps : List Point) (f : ℕ) → length os ≤ 12 → length vs ≤ 12
-    → f + 1 < length vs → ps ≡ os ++ map F (take (length vs - (f + 2)) (drop (f + 2) vs))
-    → length ps + length (take f vs) ≤ 24
-second-room F vs os ps f room most l one =
-    let a = put-long F os ps (take (length vs - (f + 2)) (drop (f + 2) vs)) one in
-    let b = ap (λ (xs : List Point). length xs) (take_rest vs (f + 2)) ∙ length-drop (f + 2) vs in
-    let d = length-take-le f vs (omega (arith, l)) in
-    omega (arith, room, most, l, a, b, d)
+  pub last-is : (n : ℕ) → n + 2 ≡ length ns → e + 1 ≡ length ns
+      → map both (take n (drop 1 ns)) ≡ map p (inner_of (begun_behind e (map q ns)))
+  last-is n all last =
+      ap (map both) (sym (drop-take 1 n ns) ∙ ap (λ k. drop 1 (take k ns)) before-last ∙ sym (inner-last ns e last)) ∙ sym inner-image
+    where
+      before-last : 1 + n ≡ e
+      before-last = omega (arith, all, last)

@@ -4,18 +4,18 @@ use Rattle.std.proofs.lemmas.Result.{IfErr-weaker}
 use Rattle.std.specs.declared.option.Option.{Option}
 use Rattle.theory_addresses.specs.Address.{Address}
 use Rattle.builtin_rules.specs.declared.name.Name.{Name}
-use Rattle.call_words.specs.Given.{WindowAsked}
+use Rattle.call_words.specs.Request.{WindowAsked}
 use Rattle.call_words.specs.Request.{Request}
 use Rattle.call_words.specs.Request.Request.{Calc, Verify}
 use Rattle.addr_calc.specs.declared.calc_fault.CalcFault.{CalcFault}
 use Rattle.addr_calc.specs.declared.calc_fault.CalcFault.TheVariants as calculating
 use Rattle.addr_calc.specs.Script as calculated
-use Rattle.lazy_walk.specs.Frames.{FrameValue}
+use Rattle.theory_walks.specs.Frames.{FrameValue}
 use Rattle.plane_geom.specs.declared.window.Window.{Window}
 use Rattle.rule_model.specs.Tiling.{Tiling}
 use Rattle.tile_app.specs.declared.file_kind.FileKind.TheVariants.{Script, Listing}
-use Rattle.tile_app.specs.declared.status.Status.{Status}
-use Rattle.tile_app.specs.declared.status.Status.TheVariants.{ReadFault, BadAddress, NoMemory}
+use Rattle.call_notes.specs.declared.status.Status.{Status}
+use Rattle.call_notes.specs.declared.status.Status.TheVariants.{ReadFault, BadAddress, NoMemory}
 use Rattle.tile_app.specs.Answer.{IsPrinted, Refuses}
 use Rattle.tile_app.specs.Asked.{WasRead, WasFileIn}
 use Rattle.tile_app.specs.BaseFrame.{frame_of, IsBaseFrame}
@@ -23,10 +23,10 @@ use Rattle.tile_app.specs.Calc.{PrintsCalc, CalcRefuses}
 use Rattle.tile_app.specs.FileKinds.{longest_of}
 use Rattle.tile_app.specs.Files.{has_own_file, longest_for}
 use Rattle.tile_app.specs.Reading.{OfFile, IsTooLong, IsFileUnread, OfOwnFile, IsOwnTooLong, IsRequestRefused, IsScriptPrinted, IsScriptRefused, IsListingPrinted, IsListingRefused}
-use Rattle.tile_app.specs.Status.{OrNoMemory}
+use Rattle.call_notes.specs.Status.{OrNoMemory}
 use Rattle.tile_app.specs.Tile.{IsTile, OfTile, is_tile}
 use Rattle.tile_app.specs.Tilings.{builtin_tiling}
-use Rattle.tile_app.specs.Turned.{status_of_calc}
+use Rattle.call_notes.specs.FaultStatus.{status_of_calc}
 use Rattle.tile_app.specs.Verify.{PrintsVerify, VerifyRefuses}
 use Rattle.tile_app.specs.Windows.{window_in}
 use Rattle.tile_app.proofs.Unrefused.{no_read_fault}

@@ -8,7 +8,7 @@ use Rattle.half_glue.specs.Limits.{CanBeGlued}
 use Rattle.half_glue.specs.Outline.{WholesCountLaw}
 use Rattle.half_glue.specs.WholeTiles.{AreWholeTilesOf}
 use Rattle.layer_api.specs.declared.drawn.Drawn.{Drawn}
-use Rattle.lazy_walk.specs.Frames.{FrameValue, GrowsTo}
+use Rattle.theory_walks.specs.Frames.{FrameValue, GrowsTo}
 use Rattle.plane_geom.specs.declared.window.Window.{Window}
 use Rattle.rule_model.specs.Tiling.{Tiling}
 use Rattle.tile_place.specs.declared.placed_tile.PlacedTile.{PlacedTile}

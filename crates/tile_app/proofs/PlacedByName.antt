@@ -8,13 +8,13 @@ use Rattle.call_words.specs.Request.Request.{Place}
 use Rattle.layer_api.specs.declared.format.Format.{Format}
 use Rattle.rule_model.specs.Tiling.{Tiling}
 use Rattle.rule_text.specs.Limits.{longest_file}
-use Rattle.tile_app.specs.declared.status.Status.{Status}
+use Rattle.call_notes.specs.declared.status.Status.{Status}
 use Rattle.tile_app.specs.Answer.{Prints, TileRefuses}
 use Rattle.tile_app.specs.Asked.{OfCall}
 use Rattle.tile_app.specs.Causes.{IsRefused}
 use Rattle.tile_app.specs.Place.{PrintsPlace, PlaceRefuses}
 use Rattle.tile_app.specs.Reading.{IsRuleRead}
-use Rattle.tile_app.specs.Status.{OrNoMemory}
+use Rattle.call_notes.specs.Status.{OrNoMemory}
 use Rattle.tile_app.specs.Tile.{OfTile}
 use Rattle.tile_app.specs.Tilings.{builtin_tiling}
 use Rattle.tile_app.proofs.Own.{alone_printed, alone_refused}

@@ -26,6 +26,11 @@ its-vertices m r kind vs same numbers each small = subst (λ q. HasVertices q ki
 pub as-many : (m : Rule) (kind : ℕ) (vs : List Point) → HasVertices m kind vs → length vs ≡ length (vertices_of (rule_of m) kind)
 as-many m kind vs h = sym (length-map vs (point_in m.order)) ∙ ap (λ (zs : List (NumberOf m.order)). length zs) h.numbers
 
+-- a vertex for each edge
+pub each-its-vertex : (m : Rule) (kind : ℕ) (vs : List Point) → HasVertices m kind vs
+    → edge_count (rule_of m) kind ≡ length (vertices_of (rule_of m) kind)
+each-its-vertex m kind vs h = sym h.each_edge ∙ as-many m kind vs h
+
 -- at least 3 and at most 12
 module _ (m : Rule) (kind : ℕ) (vs : List Point) (h : HasVertices m kind vs) (usable : IsUsable m) (exists : kind < length (rule_of m).kinds) where
   pub at-least_3 : 3 ≤ length vs

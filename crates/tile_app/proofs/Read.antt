@@ -11,10 +11,10 @@ use Rattle.list_verify.specs.declared.list_fault.ListFault.TheVariants as listin
 use Rattle.rule_model.specs.Tiling.{Tiling}
 use Rattle.rule_text.specs.Limits.{longest_file}
 use Rattle.tile_app.specs.declared.file_kind.FileKind.TheVariants.{Rule}
-use Rattle.tile_app.specs.declared.rule_fault.RuleFault.{RuleFault}
-use Rattle.tile_app.specs.declared.script_fault.ScriptFault.TheVariants as script
-use Rattle.tile_app.specs.declared.status.Status.{Status}
-use Rattle.tile_app.specs.declared.status.Status.TheVariants.{BadWords, NoLayer, ReadFault, RuleTooLong, RuleRefused, BadScript, BadListing, NoMemory}
+use Rattle.call_notes.specs.declared.rule_fault.RuleFault.{RuleFault}
+use Rattle.call_notes.specs.declared.script_fault.ScriptFault.TheVariants as script
+use Rattle.call_notes.specs.declared.status.Status.{Status}
+use Rattle.call_notes.specs.declared.status.Status.TheVariants.{BadWords, NoLayer, ReadFault, RuleTooLong, RuleRefused, BadScript, BadListing, NoMemory}
 use Rattle.tile_app.specs.Answer.{OfRequest, IsPrinted, Refuses, Prints}
 use Rattle.tile_app.specs.Asked.{WasRead, WasFileIn, WasAsked, OfCall}
 use Rattle.tile_app.specs.Call.{Call, IsRight, TellsTooLong, HasRuleFault, has_file_in, longest_in, reads_file, longest_read}

@@ -4,7 +4,7 @@ use Rattle.std.proofs.lemmas.List.{length-append, append-nil as append_nil}
 use Rattle.std.specs.declared.option.Option.{Option}
 use Rattle.layer_api.specs.declared.format.Format.{Format}
 use Rattle.tile_io.specs.Left.{Gives}
-use Rattle.tile_app.specs.declared.status.Status.{Status}
+use Rattle.call_notes.specs.declared.status.Status.{Status}
 use Rattle.tile_app.specs.Asked.{IsFileIn, WasFileIn, IsAsked, WasAsked}
 use Rattle.call_words.specs.Request.{Request, request_in}
 use Rattle.tile_app.specs.Call.{Call, TellsTooLong, reads_file, longest_in, longest_read}

@@ -8,15 +8,15 @@ use Rattle.layer_api.specs.declared.drawn.Drawn.{Drawn}
 use Rattle.layer_api.specs.declared.format.Format.{Format}
 use Rattle.layer_api.specs.declared.view.View.{View}
 use Rattle.rule_model.specs.Tiling.{Tiling}
-use Rattle.tile_app.specs.declared.status.Status.{Status}
-use Rattle.tile_app.specs.declared.status.Status.TheVariants.{ReadFault}
+use Rattle.call_notes.specs.declared.status.Status.{Status}
+use Rattle.call_notes.specs.declared.status.Status.TheVariants.{ReadFault}
 use Rattle.tile_app.specs.declared.whole_answer.WholeAnswer.{WholeAnswer}
 use Rattle.tile_app.specs.declared.whole_answer.WholeAnswer.TheVariants.{Text}
 use Rattle.tile_app.specs.Answer.{IsPrinted, Refuses}
 use Rattle.tile_app.specs.Files.{has_own_file}
 use Rattle.tile_app.specs.LayerTexts.{IsTextOf}
 use Rattle.tile_app.specs.Reading.{OfOwnFile, IsRequestRefused}
-use Rattle.tile_app.specs.Status.{OrNoMemory}
+use Rattle.call_notes.specs.Status.{OrNoMemory}
 use Rattle.tile_app.proofs.Own.{alone_printed, alone_refused, alone_unread}
 
 -- the answer is the text, or its refusal

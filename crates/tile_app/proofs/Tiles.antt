@@ -1,15 +1,15 @@
 -- From what is asked of a tile, or in its frame, to what is asked of the text of its address.
 use Rattle.std.proofs.Common.{◌≡◌, ℕ, List, length, Result, Ok, Err, IfErr, refl, sym, ap, ◌∙◌, subst}
 use Rattle.theory_addresses.specs.Address.{Address, depth}
-use Rattle.lazy_walk.specs.Frames.{FrameValue, IsFrameOf}
-use Rattle.lazy_walk.proofs.Walks.{frame_path}
+use Rattle.theory_walks.specs.Frames.{FrameValue, IsFrameOf}
+use Rattle.theory_walks.proofs.Walks.{frame_path}
 use Rattle.rule_model.specs.Tiling.{Tiling}
 use Rattle.tile_shape.specs.declared.address_fault.AddressFault.{AddressFault}
-use Rattle.tile_app.specs.declared.status.Status.{Status}
-use Rattle.tile_app.specs.declared.status.Status.TheVariants.{BadAddress, NoMemory}
+use Rattle.call_notes.specs.declared.status.Status.{Status}
+use Rattle.call_notes.specs.declared.status.Status.TheVariants.{BadAddress, NoMemory}
 use Rattle.tile_app.specs.Answer.{TileRefuses}
 use Rattle.tile_app.specs.BaseFrame.{frame_of, IsBegun, IsBaseFrame}
-use Rattle.tile_app.specs.Status.{OrNoMemory}
+use Rattle.call_notes.specs.Status.{OrNoMemory}
 use Rattle.tile_app.specs.Tile.{IsTile, OfTile}
 
 -- what is refused of the tile is refused of the text

@@ -19,7 +19,7 @@ use Rattle.builtin_rules.specs.Named.{named, IsWritten}
 use Rattle.builtin_rules.proofs.Constants.{rows_usable}
 use Rattle.call_words.specs.declared.rule_choice.RuleChoice.{RuleChoice}
 use Rattle.call_words.specs.declared.rule_choice.RuleChoice.TheVariants.{Builtin, File}
-use Rattle.tile_app.specs.declared.rule_fault.RuleFault.{RuleFault}
+use Rattle.call_notes.specs.declared.rule_fault.RuleFault.{RuleFault}
 use Rattle.tile_app.specs.Choices.{tiling_chosen}
 use Rattle.tile_app.specs.RuleFiles.{tiling_unless, tiling_of_text}
 use Rattle.tile_app.specs.Tilings.{builtin_tiling}

@@ -2,7 +2,7 @@
 use Rattle.std.proofs.Common.{◌≡◌, ℕ, ◌+◌, ◌<◌, List, [], ◌∷◌, ◌++◌, length, map, take, get_or, Result, Err, IfErr, sym, ap, ◌∙◌, subst}
 use Rattle.std.specs.List.{flat_map}
 use Rattle.std.proofs.lemmas.List.{take_more, flat_map_more, map-append}
-use Rattle.lazy_walk.specs.Frames.{FrameValue, GrowsTo}
+use Rattle.theory_walks.specs.Frames.{FrameValue, GrowsTo}
 use Rattle.list_verify.specs.declared.list_fault.ListFault.{ListFault}
 use Rattle.list_verify.specs.declared.list_fault.ListFault.TheVariants as listing
 use Rattle.list_verify.specs.Verdict as listed
@@ -13,10 +13,10 @@ use Rattle.star_walk.specs.declared.star_fault.StarFault.{StarFault}
 use Rattle.star_walk.specs.declared.star_fault.StarFault.TheVariants.{DepthLimit, TooBig}
 use Rattle.star_walk.specs.Causes.{HasCause}
 use Rattle.star_walk.specs.Corners.{corner_in}
-use Rattle.tile_app.specs.declared.status.Status.{Status}
+use Rattle.call_notes.specs.declared.status.Status.{Status}
 use Rattle.tile_app.specs.Star.{corner_line, PassesStarLimits, StarRefuses}
-use Rattle.tile_app.specs.Status.{OrNoMemory}
-use Rattle.tile_app.specs.Turned.{status_of_star, status_of_list}
+use Rattle.call_notes.specs.Status.{OrNoMemory}
+use Rattle.call_notes.specs.FaultStatus.{status_of_star, status_of_list}
 use Rattle.tile_app.specs.Verify.{VerifyRefuses}
 
 -- one line more

@@ -4,9 +4,9 @@ use Rattle.call_words.specs.Request.{Request}
 use Rattle.call_words.specs.Request.Request.{Place, Neighbour, Walk, Draw, Check, Calc, Drill, Star, Verify}
 use Rattle.layer_api.specs.declared.format.Format.{Format}
 use Rattle.rule_model.specs.Tiling.{Tiling}
-use Rattle.tile_app.specs.declared.rule_fault.RuleFault.{RuleFault}
-use Rattle.tile_app.specs.declared.script_fault.ScriptFault.TheVariants as script
-use Rattle.tile_app.specs.declared.status.Status.TheVariants.{BadWords, NoLayer, ReadFault, RuleTooLong, RuleRefused, BadScript}
+use Rattle.call_notes.specs.declared.rule_fault.RuleFault.{RuleFault}
+use Rattle.call_notes.specs.declared.script_fault.ScriptFault.TheVariants as script
+use Rattle.call_notes.specs.declared.status.Status.TheVariants.{BadWords, NoLayer, ReadFault, RuleTooLong, RuleRefused, BadScript}
 use Rattle.tile_app.specs.Answer.{Refuses}
 
 -- its words

@@ -1,16 +1,16 @@
 -- `verify` has one answer, by the law that one thing is said of a listing.
 use Rattle.std.proofs.Common.{◌≡◌, ◌⊎◌, inl, inr, List, ℕ, refl, sym, ap, ◌∙◌, subst}
-use Rattle.lazy_walk.specs.Frames.{FrameValue}
+use Rattle.theory_walks.specs.Frames.{FrameValue}
 use Rattle.list_verify.specs.declared.list_fault.ListFault.{ListFault}
 use Rattle.list_verify.specs.declared.list_fault.ListFault.TheVariants as listing
 use Rattle.list_verify.specs.OneVerdict.{HasOneVerdict}
 use Rattle.list_verify.specs.Verdict.{IsOfWalk, IsTold, LacksTiles}
 use Rattle.plane_geom.specs.declared.window.Window.{Window}
 use Rattle.rule_model.specs.Tiling.{Tiling}
-use Rattle.tile_app.specs.declared.status.Status.{Status}
-use Rattle.tile_app.specs.declared.status.Status.TheVariants.{Done, DepthLimit, CoordLimit, BadListing}
-use Rattle.tile_app.specs.Status.{IsLimit}
-use Rattle.tile_app.specs.Turned.{status_of_list}
+use Rattle.call_notes.specs.declared.status.Status.{Status}
+use Rattle.call_notes.specs.declared.status.Status.TheVariants.{Done, DepthLimit, CoordLimit, BadListing}
+use Rattle.call_notes.specs.Status.{IsLimit}
+use Rattle.call_notes.specs.FaultStatus.{status_of_list}
 use Rattle.tile_app.specs.Verify.{CanVerify, HasListFault, VerifyRefuses}
 use Rattle.tile_app.proofs.Once.{IsOf, AreLimits}
 

@@ -4,7 +4,7 @@ use Rattle.theory_addresses.specs.Address.{Address}
 use Rattle.rule_model.specs.Tiling.{Tiling}
 use Rattle.tile_place.specs.Crossed.{IsOnlyAcross, LiesOnBoundary}
 use Rattle.tile_place.proofs.Plane.{part_along}
-use Rattle.lazy_walk.specs.Paths.{Crosses, Leads}
+use Rattle.theory_walks.specs.Paths.{Crosses, Leads}
 use Rattle.transducer_core.specs.declared.outside.Outside.{Outside}
 use Rattle.cyclo_points.specs.Text.{blank, newline}
 use Rattle.call_words.proofs.Pieces.{at_place}

@@ -2,7 +2,7 @@
 use Rattle.std.proofs.Common.{◌≡◌, ◌*◌, ◌^◌, ℕ, List, Ok, ap, subst, lit≤}
 use Rattle.builtin_rules.specs.declared.name.Name.{Name}
 use Rattle.call_words.specs.declared.window_words.HalfExtents.{HalfExtents}
-use Rattle.call_words.specs.Given.{WindowAsked}
+use Rattle.call_words.specs.Request.{WindowAsked}
 use Rattle.call_words.specs.Request.{request_in}
 use Rattle.call_words.specs.Request.Request.{Verify}
 use Rattle.call_words.proofs.Within.{window-asked}

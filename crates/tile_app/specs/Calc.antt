@@ -1,12 +1,12 @@
--- What `calc` prints, and what it refuses: what comes of the script that is read, which is its text, or the fault of its first line that has one.
+-- What `calc` prints and refuses: the output of the script, or the fault of its first line that has one.
 use Rattle.std.specs.Prelude.{ℕ, List, Ok, Err}
 use Rattle.addr_calc.specs.Script.{IsAnswer}
 use Rattle.rule_model.specs.Tiling.{Tiling}
-use Rattle.tile_app.specs.declared.script_fault.ScriptFault.TheVariants as script
-use Rattle.tile_app.specs.declared.status.Status.{Status}
-use Rattle.tile_app.specs.declared.status.Status.TheVariants.{BadScript}
+use Rattle.call_notes.specs.declared.script_fault.ScriptFault.TheVariants as script
+use Rattle.call_notes.specs.declared.status.Status.{Status}
+use Rattle.call_notes.specs.declared.status.Status.TheVariants.{BadScript}
 
--- the text is what the script prints
+-- the text is the output of the script
 abbrev pub PrintsCalc : List ℕ → Tiling → List ℕ → Type 0
 PrintsCalc bytes t text = IsAnswer t bytes (Ok text)
 
@@ -14,7 +14,7 @@ PrintsCalc bytes t text = IsAnswer t bytes (Ok text)
 abbrev pub CanCalculate : List ℕ → Tiling → Type 0
 CanCalculate bytes t = (text : List ℕ) × PrintsCalc bytes t text
 
--- why `calc` refuses a script for a tiling: for its first fault; that a script is too long is seen before
+-- why `calc` refuses a script for a tiling: its first fault. A script that is too long is refused before.
 abbrev pub CalcRefuses : List ℕ → Tiling → Status → Type 0
 CalcRefuses bytes t (BadScript (script.Calc fault)) = IsAnswer t bytes (Err fault)
 CalcRefuses bytes t _ = ⊥

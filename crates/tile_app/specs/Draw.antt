@@ -9,7 +9,7 @@ use Rattle.layer_api.specs.declared.drawn.Drawn.{Drawn}
 use Rattle.layer_api.specs.declared.format.Format.{Format}
 use Rattle.layer_api.specs.declared.view.View.{View}
 use Rattle.layer_api.specs.LayerText.{layer_text}
-use Rattle.lazy_walk.specs.Frames.{FrameValue, GrowsTo}
+use Rattle.theory_walks.specs.Frames.{FrameValue, GrowsTo}
 use Rattle.plane_geom.specs.declared.window.Window.{Window}
 use Rattle.rule_model.specs.Tiling.{Tiling}
 use Rattle.tile_place.specs.declared.placed_tile.PlacedTile.{PlacedTile}
@@ -17,8 +17,8 @@ use Rattle.window_cover.specs.declared.cover_fault.CoverFault.{CoverFault}
 use Rattle.window_cover.specs.declared.cover_fault.CoverFault.TheVariants as cover
 use Rattle.window_cover.specs.Causes.{HasCause}
 use Rattle.window_cover.specs.Limits.{IsWithinLimits}
-use Rattle.tile_app.specs.declared.status.Status.{Status}
-use Rattle.tile_app.specs.declared.status.Status.TheVariants.{DepthLimit, CoordLimit, TooManyTiles}
+use Rattle.call_notes.specs.declared.status.Status.{Status}
+use Rattle.call_notes.specs.declared.status.Status.TheVariants.{DepthLimit, CoordLimit, TooManyTiles}
 use Rattle.tile_app.specs.Glue.{IsWithinTheirLimits}
 use Rattle.tile_app.specs.Pictures.{IsPictureOf}
 use Rattle.tile_app.specs.TilesOfWindow.{TilesOfWindow}

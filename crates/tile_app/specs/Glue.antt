@@ -1,7 +1,7 @@
 -- Whole tiles in the place of their halves: when they can be drawn.
 use Rattle.std.specs.Prelude.{◌≡◌, Bool, true, List, map, length, All}
 use Rattle.half_glue.specs.Limits.{CanBeGlued}
-use Rattle.lazy_walk.specs.Frames.{FrameValue, GrowsTo}
+use Rattle.theory_walks.specs.Frames.{FrameValue, GrowsTo}
 use Rattle.lazy_walk.specs.Standing.{Stands}
 use Rattle.plane_geom.specs.declared.window.Window.{Window}
 use Rattle.rule_model.specs.Tiling.{Tiling}

@@ -1,9 +1,9 @@
--- The headline, as the two commands that carry it print it.
+-- The headline: what `neighbour` and `draw` promise of the plane.
 use Rattle.std.specs.Prelude.{◌≡◌, ℕ, Bool, List}
 use Rattle.theory_addresses.specs.Address.{Address}
 use Rattle.layer_api.specs.declared.drawn.Drawn.{Drawn}
 use Rattle.layer_api.specs.declared.format.Format.{Format}
-use Rattle.lazy_walk.specs.Frames.{FrameValue}
+use Rattle.theory_walks.specs.Frames.{FrameValue}
 use Rattle.plane_geom.specs.declared.window.Window.{Window}
 use Rattle.rule_model.specs.Tiling.{Tiling}
 use Rattle.tile_place.specs.Crossed.{IsOnlyAcross}
@@ -13,7 +13,8 @@ use Rattle.tile_app.specs.Neighbour.{neighbour_line}
 use Rattle.tile_app.specs.Pictures.{IsPictureOf}
 use Rattle.tile_app.specs.TilesOfWindow.{TilesOfWindow}
 
--- The text is the line of the only tile across the edge of a tile, when both are placed in their common supertile, and of the return edge, which leads back.
+-- The text is the line of the only tile across the edge, with both tiles placed in their common supertile. The edge
+-- of that tile leads back.
 pub record TellsOnlyNeighbour (t : Tiling) (a : Address) (edge : ℕ) (text : List ℕ) : Type 0 where
   pub across : Address
   pub back : ℕ
@@ -21,8 +22,8 @@ pub record TellsOnlyNeighbour (t : Tiling) (a : Address) (edge : ℕ) (text : Li
   pub leads_back : IsOnlyAcross t across back a edge
   pub line : text ≡ neighbour_line across back
 
--- The texts are those of exactly the tiles that meet the window, each once, disjoint and covering it, in the base's frame at the least enough depth; with glue of
--- the whole tiles of which they are the halves.
+-- The texts are those of exactly the tiles that meet the window. Each comes exactly once; they are disjoint and cover
+-- the window. The base's frame has the least depth that is enough. With glue these are the whole tiles.
 pub record WritesExactlyTheWindow (t : Tiling) (f : FrameValue) (window : Window) (glue : Bool) (formats : List Format) (text : List ℕ) : Type 0 where
   pub frame : FrameValue
   pub tiles : List PlacedTile

@@ -1,14 +1,10 @@
-pub mod Status
-pub mod Turned
-pub mod RuleFaultText
-pub mod ScriptFaultText
-pub mod Notes
 pub mod Tilings
 pub mod RuleFiles
 pub mod Choices
 pub mod Tile
 pub mod BaseFrame
 pub mod DrawnTile
+pub mod GlueEdges
 pub mod Windows
 pub mod TileLine
 pub mod Layers

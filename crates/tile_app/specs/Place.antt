@@ -1,4 +1,4 @@
--- What `place` prints of a tile, and what it refuses.
+-- What `place` prints for a tile, and what it refuses.
 use Rattle.std.specs.Prelude.{◌≡◌, ℕ, List, [], ◌∷◌, ◌++◌, Some, None}
 use Rattle.std.specs.Fmt.{decimal}
 use Rattle.theory_addresses.specs.Address.{Address}
@@ -9,10 +9,10 @@ use Rattle.cyclo_points.specs.Order.{NumberOf, coefficients}
 use Rattle.cyclo_points.specs.Text.{number_text, blank, newline}
 use Rattle.rule_model.specs.Tiling.{Tiling, MotionOf, IsPlaced}
 use Rattle.tile_place.specs.Placing.{first_refused}
-use Rattle.tile_app.specs.declared.status.Status.{Status}
-use Rattle.tile_app.specs.declared.status.Status.TheVariants.{CoordLimit}
+use Rattle.call_notes.specs.declared.status.Status.{Status}
+use Rattle.call_notes.specs.declared.status.Status.TheVariants.{CoordLimit}
 
--- a tile placed, as `kind turn shift`
+-- the line of a tile in its place: `kind turn shift`
 abbrev pub place_line : (o : Order) → ℕ → Motion (NumberOf o) → List ℕ
 place_line o kind m = decimal kind ++ blank ∷ decimal m.turn ++ blank ∷ number_text o m.shift ++ newline ∷ []
 
@@ -20,7 +20,7 @@ place_line o kind m = decimal kind ++ blank ∷ decimal m.turn ++ blank ∷ numb
 abbrev pub CanBePlaced : Tiling → Address → Type 0
 CanBePlaced t a = first_refused t a.digits ≡ None
 
--- the tile can be placed, and the text is the line of its kind and of the motion by which it lies in its supertile
+-- the tile can be placed, and the text is the line of its kind and the motion by which it lies in its supertile
 pub record PrintsPlace (t : Tiling) (a : Address) (text : List ℕ) : Type 0 where
   pub within : CanBePlaced t a
   pub motion : MotionOf t
@@ -33,7 +33,7 @@ pub record PassesLimit (t : Tiling) (a : Address) (value : Point) : Type 0 where
   pub first : first_refused t a.digits ≡ Some number
   pub is_value : value.c ≡ coefficients t.order number
 
--- why `place` refuses a tile: for each status its cause
+-- the cause of each refusal
 abbrev pub PlaceRefuses : Tiling → Address → Status → Type 0
 PlaceRefuses t a (CoordLimit value) = PassesLimit t a value
 PlaceRefuses t a _ = ⊥

@@ -13,16 +13,16 @@ pub record IsTile (t : Tiling) (text : List ℕ) (a : Address) : Type 0 where
   pub is_text : text ≡ address_text a
   pub accepted : IsAcceptedAddress (children t) a
 
--- no tile of the tiling has an address of this text
+-- the text is the address of no tile of the tiling
 abbrev pub IsNoAddress : Tiling → List ℕ → Type 0
 IsNoAddress t text = (a : Address) → IsAcceptedAddress (children t) a → text ≡ address_text a → ⊥
 
--- the text is the address of no tile, and this is its fault: the first in the order of faults
+-- the text is not the address of a tile, for this fault, the first in the order of faults
 pub record IsNoTile (t : Tiling) (text : List ℕ) (fault : AddressFault) : Type 0 where
   pub none : IsNoAddress t text
   pub first : IsFaultOf (children t) text fault
 
--- whether the text is the address of a tile of the tiling, as a test that computes
+-- true if the text is the address of a tile of the tiling, as a test that computes
 abbrev pub is_tile : Tiling → List ℕ → Bool
 is_tile t text = is_ok (address_in (children t) text)
 

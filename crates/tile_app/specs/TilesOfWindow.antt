@@ -1,6 +1,6 @@
 -- The tiles of a window.
 use Rattle.std.specs.Prelude.{List, map, length, All}
-use Rattle.lazy_walk.specs.Frames.{FrameValue, GrowsTo}
+use Rattle.theory_walks.specs.Frames.{FrameValue, GrowsTo}
 use Rattle.lazy_walk.specs.Standing.{Stands}
 use Rattle.plane_geom.specs.declared.window.Window.{Window}
 use Rattle.rule_model.specs.Tiling.{Tiling}

@@ -2,7 +2,7 @@
 ghost use Rattle.std.specs.Prelude.{◌≡◌, ℕ, List, None, false, map, IfOk, IfErr, IsErrOf};
 ghost use Rattle.call_words.specs.FormatWords.{first_lacking};
 ghost use Rattle.call_words.specs.Request.{formats_of};
-ghost use Rattle.call_words.specs.Views.{IsWithinForms, request_of};
+ghost use Rattle.call_words.specs.Views.{AreWithinForms, IsWithinForms, question_of, request_of};
 ghost use Rattle.call_words.specs.Words.{texts};
 ghost use Rattle.rule_model.specs.Tiling.{tiling_of};
 ghost use Rattle.tile_io.specs.Causes.{Rose};
@@ -23,12 +23,11 @@ use crate::neighbour::neighbour_text;
 use crate::place::{named_place_text, place_text};
 use crate::rule_chosen::rule_chosen;
 use crate::star::star_text;
-use crate::status::Status;
 use crate::verify::verify_text;
 use crate::walk::walk_text;
 use crate::whole_answer::WholeAnswer;
-use arrayvec::ArrayVec;
-use call_words::request::{Request, request_in};
+use call_notes::status::Status;
+use call_words::request::{Question, Request, request_in};
 use call_words::rule_choice::RuleChoice;
 use edge_tables::steps::Steps;
 use layer_api::layer::Layer;
@@ -36,9 +35,70 @@ use rule_model::checked::Checked;
 use std::alloc::Global;
 use std::sync::ledger::Ledger;
 use tile_io::source::Source;
+use tile_place::machine::Machine;
 
-/// Returns the answer to a request with an accepted rule, or its refusal. `calc` and `verify` read the
-/// source, `verify` only if it names a tile.
+/// Returns the answer to a question with the machine of its rule, or its refusal. `calc` and `verify` read
+/// the source, `verify` only if it names a tile.
+fn question_text<R: Source, D: Layer, L: Ledger>(
+    alloc: Global,
+    question: &Question<'_>,
+    machine: &Machine,
+    source: &mut R,
+    layers: &mut [D],
+    steps: &mut Steps<L>,
+) -> Result<WholeAnswer, Status>
+    requires within { AreWithinForms question.now }
+    requires have_layers { first_lacking (map D.form layers.old) (formats_of (question_of question.now))
+        ≡ None }
+    requires its_tiling { IsItsTiling (question_of question.now) (tiling_of machine.now) }
+    ensures printed { IfOk result (λ answer. (text : List ℕ)
+        × OfOwnFile (question_of question.now) (R.left source.old) (R.left source.new)
+        (λ file. IsPrinted (question_of question.now) file (tiling_of machine.now) text)
+        × IsTextOf D.form D.seen D.ended D.draws layers.new answer text) }
+    ensures refused { IfErr result (IsRequestRefused (question_of question.now) (tiling_of machine.now)
+        (R.left source.old) (R.left source.new)) }
+    ensures read_fault { IsErrOf result Status.ReadFault → Rose (R.faults source.old) (R.faults source.new) }
+    ensures untouched { has_own_file (question_of question.now) ≡ false → source.new ≡ source.old }
+{
+    match question {
+        Question::Neighbour { addr, edge, .. } => {
+            neighbour_text(alloc, machine, addr, *edge, steps).map(WholeAnswer::Text)
+        }
+        Question::Walk {
+            addr,
+            seed,
+            grow,
+            path,
+            ..
+        } => walk_text(alloc, machine, addr, *seed, *grow, path, steps).map(WholeAnswer::Text),
+        Question::Draw {
+            addr,
+            seed,
+            window,
+            layers: formats,
+            glue,
+            ..
+        } => draw_text(alloc, machine, addr, *seed, window, formats, *glue, layers),
+        Question::Calc { .. } => calc_text(alloc, machine, source).map(WholeAnswer::Text),
+        Question::Drill { count, seed, .. } => {
+            drill_text(alloc, machine, *count, *seed).map(WholeAnswer::Text)
+        }
+        Question::Star {
+            addr,
+            seed,
+            vertex,
+            ..
+        } => star_text(alloc, machine, addr, *seed, *vertex, steps).map(WholeAnswer::Text),
+        Question::Verify {
+            addr,
+            seed,
+            window,
+            ..
+        } => verify_text(alloc, machine, addr, *seed, window, source).map(WholeAnswer::Text),
+    }
+}
+
+/// Returns the answer to a request with an accepted rule, or its refusal. Only a question needs a machine.
 fn request_text<R: Source, D: Layer, L: Ledger>(
     alloc: Global,
     request: &Request<'_>,
@@ -62,43 +122,11 @@ fn request_text<R: Source, D: Layer, L: Ledger>(
 {
     match request {
         Request::Place { addr, .. } => place_text(alloc, &checked, addr).map(WholeAnswer::Text),
-        Request::Neighbour { addr, edge, .. } => {
-            neighbour_text(alloc, checked, addr, *edge, steps).map(WholeAnswer::Text)
-        }
-        Request::Walk {
-            addr,
-            seed,
-            grow,
-            path,
-            ..
-        } => walk_text(alloc, checked, addr, *seed, *grow, path.as_slice(), steps).map(
-            WholeAnswer::Text,
-        ),
-        Request::Draw {
-            addr,
-            seed,
-            window,
-            layers: formats,
-            glue,
-            ..
-        } => draw_text(alloc, checked, addr, *seed, window, formats, *glue, layers),
         Request::Check { .. } => Ok(WholeAnswer::Text(check_text(alloc, &checked)?.into_bytes())),
-        Request::Calc { .. } => calc_text(alloc, checked, source).map(WholeAnswer::Text),
-        Request::Drill { count, seed, .. } => {
-            drill_text(alloc, checked, *count, *seed).map(WholeAnswer::Text)
+        Request::Ask(question) => {
+            let machine = Machine::new(alloc, checked)?;
+            question_text(alloc, question, &machine, source, layers, steps)
         }
-        Request::Star {
-            addr,
-            seed,
-            vertex,
-            ..
-        } => star_text(alloc, checked, addr, *seed, *vertex, steps).map(WholeAnswer::Text),
-        Request::Verify {
-            addr,
-            seed,
-            window,
-            ..
-        } => verify_text(alloc, checked, addr, *seed, window, source).map(WholeAnswer::Text),
     }
 }
 
@@ -124,7 +152,7 @@ pub fn answer_text<R: Source, D: Layer, L: Ledger>(
     ensures untouched { reads_file (texts words.now) (map D.form layers.old) ≡ false
         → source.new ≡ source.old }
 {
-    let mut room = ArrayVec::new();
+    let mut room = None;
     let request = match request_in(words, &mut room) {
         Ok(request) => request,
         Err(place) => return Err(Status::BadWords { place }),

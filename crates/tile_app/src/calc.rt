@@ -6,9 +6,8 @@ ghost use Rattle.tile_app.specs.Reading.{IsScriptPrinted, IsScriptRefused};
 
 use crate::file::file_read;
 use crate::file_kind::FileKind;
-use crate::status::Status;
 use addr_calc::calc::calc;
-use rule_model::checked::Checked;
+use call_notes::status::Status;
 use std::alloc::Global;
 use tile_io::source::Source;
 use tile_place::machine::Machine;
@@ -16,16 +15,15 @@ use tile_place::machine::Machine;
 /// Returns the output of the script that is read, or the fault of its first line that has one.
 pub fn calc_text<R: Source>(
     alloc: Global,
-    checked: Checked,
+    machine: &Machine,
     source: &mut R,
 ) -> Result<Vec<u8>, Status>
-    ensures printed { IfOk result (λ text. IsScriptPrinted (tiling_of checked) (R.left source.old)
+    ensures printed { IfOk result (λ text. IsScriptPrinted (tiling_of machine.now) (R.left source.old)
         (R.left source.new) text.items) }
-    ensures refused { IfErr result (IsScriptRefused (tiling_of checked) (R.left source.old)
+    ensures refused { IfErr result (IsScriptRefused (tiling_of machine.now) (R.left source.old)
         (R.left source.new)) }
     ensures read_fault { IsErrOf result Status.ReadFault → Rose (R.faults source.old) (R.faults source.new) }
 {
     let script = file_read(alloc, FileKind::Script, source)?;
-    let machine = Machine::new(alloc, checked)?;
-    Ok(calc(alloc, &machine, script.as_slice())?)
+    Ok(calc(alloc, machine, script.as_slice())?)
 }

@@ -4,7 +4,7 @@ ghost use Rattle.call_words.specs.FormatWords.{is_among, first_lacking};
 ghost use Rattle.call_words.specs.Views.{IsWindowAsked, window_of};
 ghost use Rattle.layer_api.specs.Drawable.{IsView};
 ghost use Rattle.layer_api.specs.declared.format.Format.{Format};
-ghost use Rattle.lazy_walk.specs.Frames.{IsFrameOf};
+ghost use Rattle.theory_walks.specs.Frames.{IsFrameOf};
 ghost use Rattle.rule_model.specs.Tiling.{tiling_of};
 ghost use Rattle.window_cover.specs.Windows.{IsWindow};
 ghost use Rattle.tile_app.specs.Answer.{TileRefuses};
@@ -12,18 +12,19 @@ ghost use Rattle.tile_app.specs.BaseFrame.{frame_of, IsBegun};
 ghost use Rattle.tile_app.specs.Draw.{view_of, Pictures, PrintsDraw, DrawRefuses};
 ghost use Rattle.tile_app.specs.LayerTexts.{FirstHasDrawn, IsTextOf};
 ghost use Rattle.tile_app.specs.Pictured.{picture_of, CanBePictured};
-ghost use Rattle.tile_app.specs.Status.{OrNoMemory};
+ghost use Rattle.call_notes.specs.Status.{OrNoMemory};
 ghost use Rattle.tile_app.specs.Tile.{OfTile};
 ghost use Rattle.tile_app.specs.Windows.{window_in};
 
 use crate::base_frame::base_frame;
 use crate::drawn_tile::blank;
+use crate::glue_edges::GlueEdges;
 use crate::layers::place_of;
 use crate::picture::Picture;
-use crate::status::Status;
 use crate::whole_answer::WholeAnswer;
 use crate::window::window_in;
 use arrayvec::ArrayVec;
+use call_notes::status::Status;
 use call_words::format_words::MOST_FORMATS;
 use call_words::window_words::WindowWords;
 use half_glue::given_law::given_law;
@@ -35,7 +36,6 @@ use layer_api::layer::Layer;
 use layer_api::view::View;
 use lazy_walk::frame::Frame;
 use plane_geom::window::Window;
-use rule_model::checked::Checked;
 use std::alloc::Global;
 use tile_place::machine::Machine;
 use tile_shape::no_memory::NoMemory;
@@ -63,7 +63,8 @@ fn pictured(
         parts_law(machine);
         whole_tiles_law(machine);
         let tiles = covered_tiles(alloc, machine, frame, window)?;
-        Ok(Picture::Wholes(glue_covered(alloc, machine, frame, tiles)?))
+        let wholes = glue_covered(alloc, machine, frame, tiles)?;
+        Ok(Picture::Wholes(wholes, GlueEdges::new(machine)))
     } else {
         Ok(Picture::Tiles(covered_tiles(alloc, machine, frame, window)?))
     }
@@ -188,7 +189,7 @@ fn drawn<D: Layer>(
 /// layer refuses, the refusal is out of memory.
 pub fn draw_text<D: Layer>(
     alloc: Global,
-    checked: Checked,
+    machine: &Machine,
     addr: &str,
     seed: u64,
     asked: &WindowWords,
@@ -198,15 +199,14 @@ pub fn draw_text<D: Layer>(
 ) -> Result<WholeAnswer, Status>
     requires asked { IsWindowAsked asked.now }
     requires have_layers { first_lacking (map D.form layers.old) formats.now.items ≡ None }
-    ensures printed { IfOk result (λ answer. (text : List ℕ) × OfTile (tiling_of checked) addr.now
-        (λ a. PrintsDraw whole formats.now.items (tiling_of checked) (frame_of a seed)
-        (window_in checked.order (window_of asked.now)) text)
+    ensures printed { IfOk result (λ answer. (text : List ℕ) × OfTile (tiling_of machine.now) addr.now
+        (λ a. PrintsDraw whole formats.now.items (tiling_of machine.now) (frame_of a seed)
+        (window_in machine.now.order (window_of asked.now)) text)
         × IsTextOf D.form D.seen D.ended D.draws layers.new answer text) }
-    ensures refused { IfErr result (OrNoMemory (TileRefuses (tiling_of checked) addr.now
-        (λ a. DrawRefuses whole (tiling_of checked) (frame_of a seed)
-        (window_in checked.order (window_of asked.now))))) }
+    ensures refused { IfErr result (OrNoMemory (TileRefuses (tiling_of machine.now) addr.now
+        (λ a. DrawRefuses whole (tiling_of machine.now) (frame_of a seed)
+        (window_in machine.now.order (window_of asked.now))))) }
 {
-    let mut frame = base_frame(&checked, addr, seed)?;
-    let machine = Machine::new(alloc, checked)?;
-    drawn(alloc, &machine, &mut frame, asked, formats, whole, layers)
+    let mut frame = base_frame(machine, addr, seed)?;
+    drawn(alloc, machine, &mut frame, asked, formats, whole, layers)
 }

@@ -1,16 +1,17 @@
 //! Tiles and whole tiles, ready to be drawn.
-ghost use Rattle.std.specs.Prelude.{◌≡◌, ◌+◌, ◌-◌, ◌<◌, ◌≤◌, ◌^◌, ◌++◌, All, drop, length, map, take};
+ghost use Rattle.std.specs.Prelude.{◌≡◌, ◌+◌, ◌<◌, ◌≤◌, All, Some, drop, length, map, take};
 ghost use Rattle.cyclo_points.specs.Motion.{motion_in};
 ghost use Rattle.cyclo_points.specs.Order.{points_of};
-ghost use Rattle.cyclo_points.specs.Point.{IsOf, IsWithin};
-ghost use Rattle.half_glue.specs.Outline.{glue_edge_of, begun_behind, inner_of, vertices_in_place, outline_of};
+ghost use Rattle.half_glue.specs.Outline.{glue_edge_of, begun_behind, inner_of, vertices_in_place, outline_by, outline_of};
 ghost use Rattle.layer_api.specs.Drawable.{IsNear, IsDrawable};
 ghost use Rattle.rule_model.specs.Tiling.{tiling_of};
 ghost use Rattle.rule_model.specs.Views.{rule_of};
 ghost use Rattle.theory_substitution.specs.Motion.{moved};
 ghost use Rattle.theory_substitution.specs.RuleParts.{vertices_of, edge_count};
+ghost use Rattle.tile_app.specs.GlueEdges.{AreGlueEdges};
 ghost use Rattle.tile_app.specs.DrawnTile.{point_of, tile_of, whole_by, drawn_of, drawn_whole, CanBeDrawn, IsDrawableHalf, CanBeDrawnWhole};
 
+use crate::glue_edges::GlueEdges;
 use arrayvec::ArrayVec;
 use cyclo_points::motion::Motion;
 use cyclo_points::point::Point;
@@ -38,154 +39,121 @@ pub fn blank_part() -> Part {
     }
 }
 
-/// Appends vertices of a tile to an outline: those from one number on, up to another.
-fn put_corners(
-    outline: &mut ArrayVec<Point, MOST_VERTICES>,
-    machine: &Machine,
-    half: &Part,
-    first: usize,
-    end: usize,
-)
-    requires in_turn { first ≤ end }
-    requires there { end ≤ edge_count (rule_of machine.now) half.now.kind }
-    requires room { length outline.old.items + end ≤ 24 }
-    requires can { CanBeDrawn (tiling_of machine.now) (tile_of half.now) }
-    ensures placed { outline.new.items ≡ outline.old.items
-        ++ map (λ z. point_of machine.now.order (moved (points_of machine.now.order)
-        (motion_in machine.now.order half.now.motion) z))
-        (take (end - first) (drop first (vertices_of (rule_of machine.now) half.now.kind))) }
-    ensures near { All (IsNear machine.now.order) outline.old.items
-        → All (IsNear machine.now.order) outline.new.items }
+/// Gives an outline this many points, whatever they are.
+fn resize(outline: &mut ArrayVec<Point, MOST_VERTICES>, count: usize)
+    requires at_most { count ≤ 24 }
+    ensures { length outline.new.items ≡ count }
 {
-    let _each_edge = machine.checked().vertices(half.kind);
-    for number in first..end {
-        outline.push(machine.corner(half.kind, &half.motion, number));
+    if count < outline.len() {
+        outline.truncate(count);
+    }
+    while outline.len() < count {
+        outline.push(Point::default());
     }
 }
 
-/// Puts the vertices of a tile, in order, into an empty outline.
-fn put_tile(
-    outline: &mut ArrayVec<Point, MOST_VERTICES>,
-    machine: &Machine,
-    kind: u8,
-    motion: &Motion,
-)
-    requires empty { length outline.old.items ≡ 0 }
-    requires exists { kind < length (rule_of machine.now).kinds }
-    requires turn_below { motion.now.turn < (points_of machine.now.order).order }
-    requires in_order { IsOf machine.now.order motion.now.shift }
-    requires within { IsWithin (2 ^ 24) motion.now.shift }
-    ensures three { 3 ≤ length outline.new.items }
-    ensures near { All (IsNear machine.now.order) outline.new.items }
-    ensures placed { outline.new.items ≡ map (λ z. point_of machine.now.order
-        (moved (points_of machine.now.order) (motion_in machine.now.order motion.now) z))
-        (vertices_of (rule_of machine.now) kind) }
+/// Overwrites points with as many vertices of a tile, in order, from one number on.
+fn overwrite(points: &mut [Point], machine: &Machine, part: &Part, first: usize)
+    requires there { first + length points.old ≤ edge_count (rule_of machine.now) part.now.kind }
+    requires can { CanBeDrawn (tiling_of machine.now) (tile_of part.now) }
+    ensures near { All (IsNear machine.now.order) points.new }
+    ensures placed { points.new ≡ map (λ z. point_of machine.now.order
+        (moved (points_of machine.now.order) (motion_in machine.now.order part.now.motion) z))
+        (take (length points.old) (drop first (vertices_of (rule_of machine.now) part.now.kind))) }
 {
-    let vertices = machine.checked().vertices(kind);
-    for number in 0..vertices.len() {
-        outline.push(machine.corner(kind, motion, number));
-    }
-}
-
-/// Overwrites as many points with the vertices of a tile, in order.
-fn overwrite_tile(outline: &mut [Point], machine: &Machine, kind: u8, motion: &Motion)
-    requires as_many { length outline.old ≡ edge_count (rule_of machine.now) kind }
-    requires exists { kind < length (rule_of machine.now).kinds }
-    requires turn_below { motion.now.turn < (points_of machine.now.order).order }
-    requires in_order { IsOf machine.now.order motion.now.shift }
-    requires within { IsWithin (2 ^ 24) motion.now.shift }
-    ensures three { 3 ≤ length outline.new }
-    ensures near { All (IsNear machine.now.order) outline.new }
-    ensures placed { outline.new ≡ map (λ z. point_of machine.now.order
-        (moved (points_of machine.now.order) (motion_in machine.now.order motion.now) z))
-        (vertices_of (rule_of machine.now) kind) }
-{
-    let _each_edge = machine.checked().vertices(kind);
-    for number in 0..outline.len() {
-        outline[number] = machine.corner(kind, motion, number);
+    let _each_edge = machine.checked().vertices(part.kind);
+    for number in 0..points.len() {
+        points[number] = machine.corner(part.kind, &part.motion, first + number);
     }
 }
 
 /// Replaces an outline by that of a tile.
-fn put_outline(
-    outline: &mut ArrayVec<Point, MOST_VERTICES>,
-    machine: &Machine,
-    kind: u8,
-    motion: &Motion,
-)
-    requires exists { kind < length (rule_of machine.now).kinds }
-    requires turn_below { motion.now.turn < (points_of machine.now.order).order }
-    requires in_order { IsOf machine.now.order motion.now.shift }
-    requires within { IsWithin (2 ^ 24) motion.now.shift }
+fn put_tile(outline: &mut ArrayVec<Point, MOST_VERTICES>, machine: &Machine, part: &Part)
+    requires can { CanBeDrawn (tiling_of machine.now) (tile_of part.now) }
     ensures three { 3 ≤ length outline.new.items }
     ensures near { All (IsNear machine.now.order) outline.new.items }
     ensures placed { outline.new.items ≡ map (λ z. point_of machine.now.order
-        (moved (points_of machine.now.order) (motion_in machine.now.order motion.now) z))
-        (vertices_of (rule_of machine.now) kind) }
+        (moved (points_of machine.now.order) (motion_in machine.now.order part.now.motion) z))
+        (vertices_of (rule_of machine.now) part.now.kind) }
 {
-    if outline.len() == machine.checked().vertices(kind).len() {
-        return overwrite_tile(outline.as_mut_slice(), machine, kind, motion);
-    }
-    outline.clear();
-    put_tile(outline, machine, kind, motion);
+    resize(outline, machine.checked().vertices(part.kind).len());
+    overwrite(outline.as_mut_slice(), machine, part, 0);
 }
 
-/// Returns the number of the glue edge of a half.
-fn glue_edge(machine: &Machine, half: &Part) -> usize
+/// Overwrites points with the vertices of the first half of a whole tile. They run from the end of its glue
+/// edge around to the start of that edge.
+fn overwrite_first_half(points: &mut [Point], machine: &Machine, edges: &GlueEdges, half: &Part)
+    requires edges { AreGlueEdges (tiling_of machine.now) edges.now }
+    requires as_many { length points.old ≡ edge_count (rule_of machine.now) half.now.kind }
     requires half { IsDrawableHalf (tiling_of machine.now) (tile_of half.now) }
-    ensures edge { result ≡ glue_edge_of (rule_of machine.now) half.now.kind }
-    ensures exists { result < edge_count (rule_of machine.now) half.now.kind }
-{
-    usize::from(machine.checked().glue_edge(half.kind).unwrap())
-}
-
-/// Puts the vertices of the first half of a whole tile into an empty outline. They run from the end of its
-/// glue edge around to the start of that edge.
-fn put_first_half(outline: &mut ArrayVec<Point, MOST_VERTICES>, machine: &Machine, half: &Part)
-    requires empty { length outline.old.items ≡ 0 }
-    requires half { IsDrawableHalf (tiling_of machine.now) (tile_of half.now) }
-    ensures three { 3 ≤ length outline.new.items }
-    ensures at_most { length outline.new.items ≤ 12 }
-    ensures near { All (IsNear machine.now.order) outline.new.items }
-    ensures placed { outline.new.items ≡ map (point_of machine.now.order)
+    ensures near { All (IsNear machine.now.order) points.new }
+    ensures placed { points.new ≡ map (point_of machine.now.order)
         (begun_behind (glue_edge_of (rule_of machine.now) half.now.kind)
         (vertices_in_place (tiling_of machine.now) (tile_of half.now))) }
 {
-    let edge = glue_edge(machine, half);
-    let count = machine.checked().vertices(half.kind).len();
-    put_corners(outline, machine, half, edge + 1, count);
-    put_corners(outline, machine, half, 0, edge + 1);
+    let _each_edge = machine.checked().vertices(half.kind);
+    let after = edges.of(machine, half) + 1;
+    let count = points.len();
+    let (behind, before) = points.split_at_mut(count - after);
+    overwrite(behind, machine, half, after);
+    overwrite(before, machine, half, 0);
 }
 
-/// Appends the vertices of the second half that are not on its glue edge, from the end of that edge around.
-fn put_second_half(outline: &mut ArrayVec<Point, MOST_VERTICES>, machine: &Machine, half: &Part)
-    requires room { length outline.old.items ≤ 12 }
+/// Overwrites points with the vertices of the second half that are not on its glue edge, from the end of that
+/// edge around.
+fn overwrite_second_half(points: &mut [Point], machine: &Machine, edges: &GlueEdges, half: &Part)
+    requires edges { AreGlueEdges (tiling_of machine.now) edges.now }
+    requires as_many { length points.old + 2 ≡ edge_count (rule_of machine.now) half.now.kind }
     requires half { IsDrawableHalf (tiling_of machine.now) (tile_of half.now) }
-    ensures near { All (IsNear machine.now.order) outline.old.items
-        → All (IsNear machine.now.order) outline.new.items }
-    ensures placed { outline.new.items ≡ outline.old.items
-        ++ map (point_of machine.now.order) (inner_of
+    ensures near { All (IsNear machine.now.order) points.new }
+    ensures placed { points.new ≡ map (point_of machine.now.order) (inner_of
         (begun_behind (glue_edge_of (rule_of machine.now) half.now.kind)
         (vertices_in_place (tiling_of machine.now) (tile_of half.now)))) }
 {
-    let edge = glue_edge(machine, half);
-    let count = machine.checked().vertices(half.kind).len();
-    if edge + 1 < count {
-        put_corners(outline, machine, half, edge + 2, count);
-        put_corners(outline, machine, half, 0, edge);
-    } else {
-        put_corners(outline, machine, half, 1, edge);
+    let _each_edge = machine.checked().vertices(half.kind);
+    let edge = edges.of(machine, half);
+    let count = points.len();
+    if count < edge {
+        return overwrite(points, machine, half, 1);
     }
+    let (behind, before) = points.split_at_mut(count - edge);
+    overwrite(behind, machine, half, edge + 2);
+    overwrite(before, machine, half, 0);
 }
 
-/// Puts the outline of the whole tile with these parts into an empty outline.
+/// Replaces an outline by that of two halves glued.
+fn put_halves(
+    outline: &mut ArrayVec<Point, MOST_VERTICES>,
+    machine: &Machine,
+    edges: &GlueEdges,
+    first: &Part,
+    second: &Part,
+)
+    requires edges { AreGlueEdges (tiling_of machine.now) edges.now }
+    requires first { IsDrawableHalf (tiling_of machine.now) (tile_of first.now) }
+    requires second { IsDrawableHalf (tiling_of machine.now) (tile_of second.now) }
+    ensures three { 3 ≤ length outline.new.items }
+    ensures near { All (IsNear machine.now.order) outline.new.items }
+    ensures placed { outline.new.items ≡ map (point_of machine.now.order)
+        (outline_by (tiling_of machine.now) (tile_of first.now) (Some (tile_of second.now))) }
+{
+    let count = machine.checked().vertices(first.kind).len();
+    let inner = machine.checked().vertices(second.kind).len() - 2;
+    resize(outline, count + inner);
+    let (of_first, of_second) = outline.as_mut_slice().split_at_mut(count);
+    overwrite_first_half(of_first, machine, edges, first);
+    overwrite_second_half(of_second, machine, edges, second);
+}
+
+/// Replaces an outline by that of the whole tile with these parts.
 fn put_whole(
     outline: &mut ArrayVec<Point, MOST_VERTICES>,
     machine: &Machine,
+    edges: &GlueEdges,
     first: &Part,
     second: &Option<Part>,
 )
-    requires empty { length outline.old.items ≡ 0 }
+    requires edges { AreGlueEdges (tiling_of machine.now) edges.now }
     requires can { CanBeDrawnWhole (tiling_of machine.now) (whole_by first.now second.now) }
     ensures three { 3 ≤ length outline.new.items }
     ensures near { All (IsNear machine.now.order) outline.new.items }
@@ -193,11 +161,8 @@ fn put_whole(
         (outline_of (tiling_of machine.now) (whole_by first.now second.now)) }
 {
     match second {
-        None => put_tile(outline, machine, first.kind, &first.motion),
-        Some(second) => {
-            put_first_half(outline, machine, first);
-            put_second_half(outline, machine, second);
-        }
+        None => put_tile(outline, machine, first),
+        Some(second) => put_halves(outline, machine, edges, first, second),
     }
 }
 
@@ -209,20 +174,26 @@ pub fn fill(drawn: &mut Drawn, machine: &Machine)
 {
     let kind = drawn.first.kind;
     drawn.class = kind;
-    put_outline(&mut drawn.outline, machine, kind, &drawn.first.motion);
+    put_tile(&mut drawn.outline, machine, &drawn.first);
     if drawn.second.is_some() {
         drawn.second = None;
     }
 }
 
 /// Fills in a whole tile from its parts.
-pub fn fill_whole(drawn: &mut Drawn, machine: &Machine)
+pub fn fill_whole(drawn: &mut Drawn, machine: &Machine, edges: &GlueEdges)
+    requires edges { AreGlueEdges (tiling_of machine.now) edges.now }
     requires can { CanBeDrawnWhole (tiling_of machine.now) (whole_by drawn.old.first drawn.old.second) }
     ensures tile { drawn.new ≡ drawn_whole (tiling_of machine.now)
         (whole_by drawn.old.first drawn.old.second) }
     ensures drawable { IsDrawable machine.now.order drawn.new }
 {
     drawn.class = drawn.first.kind;
-    drawn.outline.clear();
-    put_whole(&mut drawn.outline, machine, &drawn.first, &drawn.second);
+    put_whole(
+        &mut drawn.outline,
+        machine,
+        edges,
+        &drawn.first,
+        &drawn.second,
+    );
 }

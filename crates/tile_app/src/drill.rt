@@ -1,21 +1,20 @@
 //! The command `drill`: totals over pseudorandom windows, which the seed determines.
 ghost use Rattle.std.specs.Prelude.{◌≡◌, ◌+◌, ◌*◌, ◌<◌, ◌≤◌, ◌^◌, IfOk, IfErr, OnOk, string_bytes};
 ghost use Rattle.cyclo_points.specs.Point.{Within, IsWithin};
-ghost use Rattle.lazy_walk.specs.Frames.{IsFrameOf};
+ghost use Rattle.theory_walks.specs.Frames.{IsFrameOf};
 ghost use Rattle.rule_model.specs.Tiling.{tiling_of};
 ghost use Rattle.seeded_growth.specs.Words.{word};
 ghost use Rattle.theory_windows.specs.Limits.{most_tiles};
 ghost use Rattle.window_cover.specs.Windows.{IsWindow};
 ghost use Rattle.tile_app.specs.Drill.{coefficient_of, extent_of, centre_from, window_from, fresh_frame, Adds, IsSummary, summary_text, PrintsDrill};
 
-use crate::status::Status;
 use crate::summary::Summary;
+use call_notes::status::Status;
 use cyclo_points::coordinates::reduce;
 use cyclo_points::order::Order;
 use cyclo_points::point::Point;
 use lazy_walk::frame::Frame;
 use plane_geom::window::Window;
-use rule_model::checked::Checked;
 use seeded_growth::growth::Growth;
 use std::alloc::{AllocError, Global};
 use tile_place::machine::Machine;
@@ -153,12 +152,11 @@ fn summary_text(alloc: Global, count: u8, summary: &Summary) -> Result<String, A
 }
 
 /// Returns what `drill` prints for this number of windows of a seed. Fails only if memory runs out.
-pub fn drill_text(alloc: Global, checked: Checked, count: u8, seed: u64) -> Result<Vec<u8>, Status>
+pub fn drill_text(alloc: Global, machine: &Machine, count: u8, seed: u64) -> Result<Vec<u8>, Status>
     requires at_most_200 { count ≤ 200 }
-    ensures printed { IfOk result (λ text. PrintsDrill (tiling_of checked) seed count text.items) }
+    ensures printed { IfOk result (λ text. PrintsDrill (tiling_of machine.now) seed count text.items) }
     ensures refused { IfErr result (λ status. status ≡ Status.NoMemory) }
 {
-    let machine = Machine::new(alloc, checked)?;
-    let summary = summed(alloc, &machine, seed, count)?;
+    let summary = summed(alloc, machine, seed, count)?;
     Ok(summary_text(alloc, count, &summary)?.into_bytes())
 }

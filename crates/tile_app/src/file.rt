@@ -6,7 +6,7 @@ ghost use Rattle.tile_app.specs.FileKinds.{longest_of};
 ghost use Rattle.tile_app.specs.Reading.{IsFileUnread};
 
 use crate::file_kind::FileKind;
-use crate::status::Status;
+use call_notes::status::Status;
 use std::alloc::Global;
 use tile_io::read_all_fault::ReadAllFault;
 use tile_io::reading::read_all;

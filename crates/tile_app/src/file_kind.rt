@@ -2,8 +2,8 @@
 ghost use Rattle.std.specs.Prelude.{◌≡◌};
 ghost use Rattle.tile_app.specs.FileKinds.{longest_of, too_long_of};
 
-use crate::script_fault::ScriptFault;
-use crate::status::Status;
+use call_notes::script_fault::ScriptFault;
+use call_notes::status::Status;
 use list_verify::list_fault::ListFault;
 use rule_text::reading::LONGEST_FILE;
 

@@ -5,13 +5,12 @@ ghost use Rattle.tile_shape.specs.Accepted.{IsAcceptedAddress};
 ghost use Rattle.tile_shape.specs.Views.{address_of};
 ghost use Rattle.tile_app.specs.Answer.{TileRefuses};
 ghost use Rattle.tile_app.specs.Neighbour.{neighbour_line, PrintsNeighbour, NeighbourRefuses};
-ghost use Rattle.tile_app.specs.Status.{OrNoMemory};
+ghost use Rattle.call_notes.specs.Status.{OrNoMemory};
 ghost use Rattle.tile_app.specs.Tile.{OfTile};
 
-use crate::status::Status;
 use crate::tile::tile_at;
+use call_notes::status::Status;
 use edge_tables::steps::Steps;
-use rule_model::checked::Checked;
 use std::alloc::{AllocError, Global};
 use std::sync::ledger::Ledger;
 use tile_place::machine::Machine;
@@ -51,18 +50,17 @@ fn across<L: Ledger>(
 /// Returns what `neighbour` prints for an edge of the tile with this address, or its refusal.
 pub fn neighbour_text<L: Ledger>(
     alloc: Global,
-    checked: Checked,
+    machine: &Machine,
     addr: &str,
     edge: u8,
     steps: &mut Steps<L>,
 ) -> Result<Vec<u8>, Status>
-    ensures printed { IfOk result (λ text. OfTile (tiling_of checked) addr.now
-        (λ a. PrintsNeighbour (tiling_of checked) a edge text.items)) }
-    ensures refused { IfErr result (OrNoMemory (TileRefuses (tiling_of checked) addr.now
-        (λ a. NeighbourRefuses (tiling_of checked) a edge))) }
+    ensures printed { IfOk result (λ text. OfTile (tiling_of machine.now) addr.now
+        (λ a. PrintsNeighbour (tiling_of machine.now) a edge text.items)) }
+    ensures refused { IfErr result (OrNoMemory (TileRefuses (tiling_of machine.now) addr.now
+        (λ a. NeighbourRefuses (tiling_of machine.now) a edge))) }
     ensures steps_within_bound { steps.new ≤ steps.old + 130 }
 {
-    let address = tile_at(&checked, addr)?;
-    let machine = Machine::new(alloc, checked)?;
-    Ok(across(alloc, &machine, &address, edge, steps)?.into_bytes())
+    let address = tile_at(machine.checked(), addr)?;
+    Ok(across(alloc, machine, &address, edge, steps)?.into_bytes())
 }

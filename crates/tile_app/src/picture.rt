@@ -7,6 +7,7 @@ ghost use Rattle.tile_app.specs.DrawnTile.{tile_of, whole_by};
 ghost use Rattle.tile_app.specs.Pictured.{picture_of, CanBePictured};
 
 use crate::drawn_tile::{blank_part, fill, fill_whole};
+use crate::glue_edges::GlueEdges;
 use half_glue::glued_tiles::GluedTiles;
 use layer_api::drawn::Drawn;
 use layer_api::part::Part;
@@ -18,8 +19,8 @@ use window_cover::covered_tiles::CoveredTiles;
 pub enum Picture {
     /// Its tiles, each alone.
     Tiles(CoveredTiles),
-    /// The whole tiles of its tiles.
-    Wholes(GluedTiles),
+    /// The whole tiles of its tiles, and the glue edges of the rule's kinds.
+    Wholes(GluedTiles, GlueEdges),
 }
 
 impl Picture {
@@ -29,7 +30,7 @@ impl Picture {
     {
         match self {
             Picture::Tiles(tiles) => tiles.len(),
-            Picture::Wholes(wholes) => wholes.len(),
+            Picture::Wholes(wholes, _) => wholes.len(),
         }
     }
 
@@ -48,9 +49,9 @@ impl Picture {
                 tiles.put(place, &mut first.kind, &mut first.motion, &mut first.addr);
                 fill(drawn, machine);
             }
-            Picture::Wholes(wholes) => {
+            Picture::Wholes(wholes, edges) => {
                 put_parts(drawn, wholes, place);
-                fill_whole(drawn, machine);
+                fill_whole(drawn, machine, edges);
             }
         }
     }

@@ -8,15 +8,15 @@ ghost use Rattle.rule_model.specs.Tiling.{tiling_of, children};
 ghost use Rattle.tile_shape.specs.Views.{address_of};
 ghost use Rattle.tile_app.specs.Answer.{TileRefuses};
 ghost use Rattle.tile_app.specs.Place.{place_line, PrintsPlace, PlaceRefuses};
-ghost use Rattle.tile_app.specs.Status.{OrNoMemory};
+ghost use Rattle.call_notes.specs.Status.{OrNoMemory};
 ghost use Rattle.tile_app.specs.Tile.{OfTile};
 ghost use Rattle.tile_app.specs.Tilings.{builtin_tiling};
 
-use crate::status::Status;
 use crate::tile::{tile_among, tile_at};
 use builtin_rules::builtin::uses_of;
 use builtin_rules::name::Name;
 use builtin_rules::placing::NamedPlacing;
+use call_notes::status::Status;
 use cyclo_points::motion::Motion;
 use rule_model::checked::Checked;
 use std::alloc::{AllocError, Global};

@@ -9,8 +9,8 @@ ghost use Rattle.tile_app.specs.RuleFiles.{tiling_in_file};
 
 use crate::file::file_read;
 use crate::file_kind::FileKind;
-use crate::status::Status;
 use builtin_rules::builtin::builtin;
+use call_notes::status::Status;
 use call_words::rule_choice::RuleChoice;
 use dissect_check::check::check;
 use rule_model::checked::Checked;

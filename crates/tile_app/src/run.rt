@@ -1,7 +1,7 @@
 //! The top call: all that the program does.
 ghost use Rattle.std.specs.Prelude.{◌≡◌, ◌⊎◌, ◌<◌, ℕ, Bool, List, false, map, Ok};
 ghost use Rattle.call_words.specs.declared.rule_choice.RuleChoice.{RuleChoice};
-ghost use Rattle.call_words.specs.Given.{WindowAsked};
+ghost use Rattle.call_words.specs.Request.{WindowAsked};
 ghost use Rattle.call_words.specs.Request.{request_in};
 ghost use Rattle.call_words.specs.Request.Request.{Neighbour, Draw};
 ghost use Rattle.call_words.specs.Words.{texts};
@@ -9,24 +9,24 @@ ghost use Rattle.layer_api.specs.declared.format.Format.{Format};
 ghost use Rattle.rule_model.specs.Tiling.{Tiling};
 ghost use Rattle.tile_io.specs.Causes.{Rose};
 ghost use Rattle.tile_io.specs.Taken.{Takes, TakesProperPrefix};
-ghost use Rattle.tile_app.specs.declared.status.Status.{Status};
+ghost use Rattle.call_notes.specs.declared.status.Status.{Status};
 ghost use Rattle.tile_app.specs.Answer.{Prints, CanBeAnswered, IsBeyondLimits};
 ghost use Rattle.tile_app.specs.Asked.{OfCall, IsAsked};
 ghost use Rattle.tile_app.specs.Causes.{Causes, IsNoLimit, IsRefused};
 ghost use Rattle.tile_app.specs.Headline.{TellsOnlyNeighbour, WritesExactlyTheWindow};
-ghost use Rattle.tile_app.specs.Notes.{note_of, IsNoted};
+ghost use Rattle.call_notes.specs.Notes.{note_of, IsNoted};
 ghost use Rattle.tile_app.specs.BaseFrame.{frame_of};
 ghost use Rattle.tile_app.specs.Call.{Call, Names, reads_file};
-ghost use Rattle.tile_app.specs.Status.{IsCutShort, IsLimit, IsRefusal};
+ghost use Rattle.call_notes.specs.Status.{IsCutShort, IsLimit, IsRefusal};
 ghost use Rattle.tile_app.specs.Tile.{OfTile};
 ghost use Rattle.tile_app.specs.Windows.{window_in};
 
 use crate::answer::answer_text;
-use crate::note::write_note;
-use crate::status::Status;
 use crate::verify::builtin_verdict_law;
 use crate::whole_answer::write_answer;
 use addr_calc::laws::one_answer_law;
+use call_notes::note::write_note;
+use call_notes::status::Status;
 use dissect_check::laws::accepted_children_law;
 use edge_tables::steps::Steps;
 use layer_api::layer::Layer;

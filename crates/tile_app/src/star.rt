@@ -1,23 +1,22 @@
 //! The command `star`: the tiles around a vertex.
 ghost use Rattle.std.specs.Prelude.{◌≡◌, IfOk, IfErr, All, map};
 ghost use Rattle.std.specs.List.{flat_map};
-ghost use Rattle.lazy_walk.specs.Frames.{FrameValue, IsFrameOf};
+ghost use Rattle.theory_walks.specs.Frames.{FrameValue, IsFrameOf};
 ghost use Rattle.lazy_walk.specs.Standing.{Stands};
 ghost use Rattle.rule_model.specs.Tiling.{Tiling, tiling_of};
 ghost use Rattle.star_walk.specs.Corners.{corner_in};
 ghost use Rattle.tile_app.specs.Answer.{TileRefuses};
 ghost use Rattle.tile_app.specs.BaseFrame.{frame_of, IsBegun};
 ghost use Rattle.tile_app.specs.Star.{corner_line, PrintsStar, StarRefuses};
-ghost use Rattle.tile_app.specs.Status.{OrNoMemory};
+ghost use Rattle.call_notes.specs.Status.{OrNoMemory};
 ghost use Rattle.tile_app.specs.Tile.{OfTile};
 
 use crate::base_frame::base_frame;
-use crate::status::Status;
 use crate::tile_line::write_line;
+use call_notes::status::Status;
 use edge_tables::steps::Steps;
 use layer_api::line::Line;
 use lazy_walk::frame::Frame;
-use rule_model::checked::Checked;
 use star_walk::corner::Corner;
 use star_walk::turn::star;
 use std::alloc::{AllocError, Global};
@@ -63,18 +62,17 @@ fn turned<L: Ledger>(
 /// Returns what `star` prints for a vertex of the tile with this address, or its refusal.
 pub fn star_text<L: Ledger>(
     alloc: Global,
-    checked: Checked,
+    machine: &Machine,
     addr: &str,
     seed: u64,
     vertex: u8,
     steps: &mut Steps<L>,
 ) -> Result<Vec<u8>, Status>
-    ensures printed { IfOk result (λ text. OfTile (tiling_of checked) addr.now
-        (λ a. PrintsStar (tiling_of checked) (frame_of a seed) vertex text.items)) }
-    ensures refused { IfErr result (OrNoMemory (TileRefuses (tiling_of checked) addr.now
-        (λ a. StarRefuses (tiling_of checked) (frame_of a seed) vertex))) }
+    ensures printed { IfOk result (λ text. OfTile (tiling_of machine.now) addr.now
+        (λ a. PrintsStar (tiling_of machine.now) (frame_of a seed) vertex text.items)) }
+    ensures refused { IfErr result (OrNoMemory (TileRefuses (tiling_of machine.now) addr.now
+        (λ a. StarRefuses (tiling_of machine.now) (frame_of a seed) vertex))) }
 {
-    let mut frame = base_frame(&checked, addr, seed)?;
-    let machine = Machine::new(alloc, checked)?;
-    turned(alloc, &machine, &mut frame, vertex, steps)
+    let mut frame = base_frame(machine, addr, seed)?;
+    turned(alloc, machine, &mut frame, vertex, steps)
 }

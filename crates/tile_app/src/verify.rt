@@ -1,11 +1,11 @@
 //! The command `verify`: checks a list of tiles from another program.
 ghost use Rattle.std.specs.Prelude.{◌≡◌, ◌≤◌, false, length, IfOk, IfErr, IsErrOf, string_bytes};
 ghost use Rattle.call_words.specs.Views.{IsWindowAsked, window_of};
-ghost use Rattle.lazy_walk.specs.Frames.{IsFrameOf};
+ghost use Rattle.theory_walks.specs.Frames.{IsFrameOf};
 ghost use Rattle.rule_model.specs.Tiling.{tiling_of};
 ghost use Rattle.tile_io.specs.Causes.{Rose};
 ghost use Rattle.tile_app.specs.BaseFrame.{IsBegun};
-ghost use Rattle.tile_app.specs.Status.{OrNoMemory};
+ghost use Rattle.call_notes.specs.Status.{OrNoMemory};
 ghost use Rattle.tile_app.specs.Tile.{is_tile};
 ghost use Rattle.tile_app.specs.Verify.{right_line, PrintsVerify, VerifyRefuses, BuiltinVerdictLaw};
 ghost use Rattle.tile_app.specs.Reading.{IsListingPrinted, IsListingRefused};
@@ -14,16 +14,15 @@ ghost use Rattle.window_cover.specs.Windows.{IsWindow};
 use crate::base_frame::base_frame;
 use crate::file::file_read;
 use crate::file_kind::FileKind;
-use crate::status::Status;
 use crate::window::window_in;
 use builtin_rules::laws::accepted_names_law;
+use call_notes::status::Status;
 use call_words::window_words::WindowWords;
 use cyclo_points::order::Order;
 use lazy_walk::frame::Frame;
 use list_verify::laws::one_verdict_law;
 use list_verify::verify::verify;
 use plane_geom::window::Window;
-use rule_model::checked::Checked;
 use std::alloc::{AllocError, Global};
 use tile_io::source::Source;
 use tile_place::machine::Machine;
@@ -59,25 +58,25 @@ fn verified(
 /// address, or its refusal. The address is read before the source.
 pub fn verify_text<R: Source>(
     alloc: Global,
-    checked: Checked,
+    machine: &Machine,
     addr: &str,
     seed: u64,
     asked: &WindowWords,
     source: &mut R,
 ) -> Result<Vec<u8>, Status>
     requires asked { IsWindowAsked asked.now }
-    ensures printed { IfOk result (λ text. IsListingPrinted (tiling_of checked) addr.now seed
+    ensures printed { IfOk result (λ text. IsListingPrinted (tiling_of machine.now) addr.now seed
         (window_of asked.now) (R.left source.old) (R.left source.new) text.items) }
-    ensures refused { IfErr result (IsListingRefused (tiling_of checked) addr.now seed (window_of asked.now)
+    ensures refused { IfErr result (IsListingRefused (tiling_of machine.now) addr.now seed
+        (window_of asked.now)
         (R.left source.old) (R.left source.new)) }
     ensures read_fault { IsErrOf result Status.ReadFault → Rose (R.faults source.old) (R.faults source.new) }
-    ensures untouched { is_tile (tiling_of checked) addr.now ≡ false → source.new ≡ source.old }
+    ensures untouched { is_tile (tiling_of machine.now) addr.now ≡ false → source.new ≡ source.old }
 {
-    let mut frame = base_frame(&checked, addr, seed)?;
-    let window = window_in(checked.order(), asked);
+    let mut frame = base_frame(machine, addr, seed)?;
+    let window = window_in(machine.checked().order(), asked);
     let listing = file_read(alloc, FileKind::Listing, source)?;
-    let machine = Machine::new(alloc, checked)?;
-    Ok(verified(alloc, &machine, &mut frame, &window, listing.as_slice())?.into_bytes())
+    Ok(verified(alloc, machine, &mut frame, &window, listing.as_slice())?.into_bytes())
 }
 
 /// The law that a list has only one verdict, for a window in a frame of a built-in rule's tiling.

@@ -5,23 +5,22 @@ ghost use Rattle.cyclo_points.specs.declared.order.Order.{Order};
 ghost use Rattle.cyclo_points.specs.Motion.{motion_in};
 ghost use Rattle.cyclo_points.specs.Point.{IsOf};
 ghost use Rattle.rule_model.specs.Tiling.{tiling_of};
-ghost use Rattle.lazy_walk.specs.Frames.{whole, IsFrameOf};
-ghost use Rattle.lazy_walk.specs.Paths.{CanBeWalked};
+ghost use Rattle.theory_walks.specs.Frames.{whole, IsFrameOf};
+ghost use Rattle.theory_walks.specs.Paths.{CanBeWalked};
 ghost use Rattle.tile_app.specs.Answer.{TileRefuses};
 ghost use Rattle.tile_app.specs.BaseFrame.{frame_of, IsBegun};
-ghost use Rattle.tile_app.specs.Status.{OrNoMemory};
+ghost use Rattle.call_notes.specs.Status.{OrNoMemory};
 ghost use Rattle.tile_app.specs.Tile.{OfTile};
 ghost use Rattle.tile_app.specs.TileLine.{tile_line};
 ghost use Rattle.tile_app.specs.Walk.{IsWalkText, PrintsWalk, WalkRefuses};
 ghost use Rattle.tile_shape.specs.Views.{address_of};
 
 use crate::base_frame::base_frame;
-use crate::status::Status;
 use crate::tile_line::write_line;
+use call_notes::status::Status;
 use edge_tables::steps::Steps;
 use layer_api::line::Line;
 use lazy_walk::frame::Frame;
-use rule_model::checked::Checked;
 use std::alloc::{AllocError, Global};
 use std::sync::ledger::Ledger;
 use tile_place::machine::Machine;
@@ -86,7 +85,7 @@ fn walked<L: Ledger>(
 /// Returns what `walk` prints for the tile with this address, or its refusal.
 pub fn walk_text<L: Ledger>(
     alloc: Global,
-    checked: Checked,
+    machine: &Machine,
     addr: &str,
     seed: u64,
     grow: u8,
@@ -95,12 +94,11 @@ pub fn walk_text<L: Ledger>(
 ) -> Result<Vec<u8>, Status>
     requires at_most_64 { grow ≤ 64 }
     requires at_most_1000 { length path.now ≤ longest_path }
-    ensures printed { IfOk result (λ text. OfTile (tiling_of checked) addr.now
-        (λ a. PrintsWalk (tiling_of checked) (frame_of a seed) grow path.now text.items)) }
-    ensures refused { IfErr result (OrNoMemory (TileRefuses (tiling_of checked) addr.now
-        (λ a. WalkRefuses (tiling_of checked) (frame_of a seed) path.now))) }
+    ensures printed { IfOk result (λ text. OfTile (tiling_of machine.now) addr.now
+        (λ a. PrintsWalk (tiling_of machine.now) (frame_of a seed) grow path.now text.items)) }
+    ensures refused { IfErr result (OrNoMemory (TileRefuses (tiling_of machine.now) addr.now
+        (λ a. WalkRefuses (tiling_of machine.now) (frame_of a seed) path.now))) }
 {
-    let mut frame = base_frame(&checked, addr, seed)?;
-    let machine = Machine::new(alloc, checked)?;
-    walked(alloc, &machine, &mut frame, grow, path, steps)
+    let mut frame = base_frame(machine, addr, seed)?;
+    walked(alloc, machine, &mut frame, grow, path, steps)
 }

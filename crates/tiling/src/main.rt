@@ -1,4 +1,4 @@
-//! The program `tiling`: its arguments, the standard streams, and the exit code.
+//! The program `tiling`: its arguments, the standard streams, its three layers, and the exit code.
 //!
 //! It passes the arguments after the program's name, the standard streams, and a layer of each format to
 //! `run`. It ends with the exit code of the status. If an argument is not UTF-8, the code is 1. If memory

@@ -15,6 +15,8 @@ mod foreign;
 #[cfg(test)]
 mod hostile;
 #[cfg(test)]
+mod notes;
+#[cfg(test)]
 mod rows;
 #[cfg(test)]
 mod scripts;

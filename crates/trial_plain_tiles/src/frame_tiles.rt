@@ -1,7 +1,7 @@
 //! All tiles of a frame, listed as their definition says: the tiles of the supertile, each moved so that the
 //! base lies on its prototile.
 ghost use Rattle.std.specs.Prelude.{IfSome};
-ghost use Rattle.lazy_walk.specs.Frames.{IsFrameOf};
+ghost use Rattle.theory_walks.specs.Frames.{IsFrameOf};
 ghost use Rattle.rule_model.specs.Tiling.{tiling_of};
 
 use crate::placing::back;

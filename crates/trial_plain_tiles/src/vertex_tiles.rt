@@ -1,6 +1,6 @@
 //! The tiles around vertices, compared with a list of all tiles of the frame.
 ghost use Rattle.std.specs.Prelude.{IfSome};
-ghost use Rattle.lazy_walk.specs.Frames.{IsFrameOf};
+ghost use Rattle.theory_walks.specs.Frames.{IsFrameOf};
 ghost use Rattle.rule_model.specs.Tiling.{tiling_of};
 
 use crate::counts::Counts;

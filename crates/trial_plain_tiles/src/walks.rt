@@ -2,7 +2,7 @@
 ghost use Rattle.std.specs.Prelude.{◌≡◌, IfOk, IfSome};
 ghost use Rattle.theory_addresses.specs.Address.{Address as TheAddress};
 ghost use Rattle.rule_model.specs.Tiling.{tiling_of};
-ghost use Rattle.lazy_walk.specs.Frames.{IsFrameOf};
+ghost use Rattle.theory_walks.specs.Frames.{IsFrameOf};
 ghost use Rattle.lazy_walk.specs.Standing.{Stands};
 
 use crate::counts::Counts;

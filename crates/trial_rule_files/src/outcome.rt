@@ -1,23 +1,24 @@
 //! The outcome of a rule file.
 use crate::crowded::crowded;
 use crate::trials::trials;
+use arrayvec::ArrayString;
 use builtin_rules::builtin::builtin;
 use builtin_rules::name::Name;
+use call_notes::rule_fault::RuleFault;
+use call_notes::rule_fault_words::put_rule_fault;
 use dissect_check::check::check;
 use dissect_check::check_fault::CheckFault;
 use rule_model::checked::Checked;
 use rule_text::reading::{LONGEST_FILE, read_rule};
-use rule_text::text_fault::TextFault;
 use rule_text::writing::{write_rule, written_and_read};
 use std::alloc::{AllocError, Global};
 use tile_shape::no_memory::NoMemory;
 
-/// Why a rule is not accepted.
+/// Why a file is refused.
 #[derive(Clone, Copy, Debug, PartialEq, Eq)]
 enum Refused {
     TooLong,
-    Text(TextFault),
-    Check(CheckFault),
+    Rule(RuleFault),
 }
 
 /// Reads the rule of a file, and checks it.
@@ -25,8 +26,11 @@ fn checked(alloc: Global, bytes: &[u8]) -> Result<Checked, Refused> {
     if bytes.len() > LONGEST_FILE {
         return Err(Refused::TooLong);
     }
-    let rule = read_rule(alloc, bytes).map_err(Refused::Text)?;
-    check(alloc, rule).map_err(Refused::Check)
+    let rule = match read_rule(alloc, bytes) {
+        Ok(rule) => rule,
+        Err(fault) => return Err(Refused::Rule(RuleFault::Text(fault))),
+    };
+    check(alloc, rule).map_err(|fault: CheckFault| Refused::Rule(RuleFault::Check(fault)))
 }
 
 /// Returns true if a rule's own text is read back to a rule with the same text.
@@ -69,8 +73,11 @@ fn accepted(alloc: Global, rule: Checked, bytes: &[u8]) -> Result<String, NoMemo
 fn refusal(alloc: Global, fault: Refused) -> Result<String, NoMemory> {
     match fault {
         Refused::TooLong => Ok(format!(in alloc; "refused TooLong")?),
-        Refused::Text(fault) => Ok(format!(in alloc; "refused {fault}")?),
-        Refused::Check(fault) => Ok(format!(in alloc; "refused {fault}")?),
+        Refused::Rule(fault) => {
+            let mut line = ArrayString::new();
+            put_rule_fault(&mut line, fault);
+            Ok(format!(in alloc; "refused{}", line.as_str())?)
+        }
     }
 }
 

@@ -26,5 +26,3 @@ mod printed;
 mod refused;
 #[cfg(test)]
 mod shapes;
-#[cfg(test)]
-mod texts;

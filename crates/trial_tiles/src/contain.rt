@@ -1,7 +1,7 @@
 //! The tile of a frame that holds a point: rows worked out by hand, and points compared with a list of all
 //! tiles of the frame at each depth.
 ghost use Rattle.std.specs.Prelude.{IfSome};
-ghost use Rattle.lazy_walk.specs.Frames.{IsFrameOf};
+ghost use Rattle.theory_walks.specs.Frames.{IsFrameOf};
 ghost use Rattle.rule_model.specs.Tiling.{tiling_of};
 
 use crate::given::{deep, tile_text};

@@ -44,3 +44,5 @@ mod two_ways;
 mod walks;
 #[cfg(test)]
 mod whole_tiles;
+#[cfg(test)]
+mod window_wholes;

@@ -1,7 +1,7 @@
 //! The search step by step.
 ghost use Rattle.std.specs.Prelude.{IfSome};
 ghost use Rattle.rule_model.specs.Tiling.{tiling_of};
-ghost use Rattle.lazy_walk.specs.Frames.{IsFrameOf};
+ghost use Rattle.theory_walks.specs.Frames.{IsFrameOf};
 ghost use Rattle.window_cover.specs.Right.{IsRight};
 
 use crate::given::listed;

@@ -2,7 +2,7 @@
 ghost use Rattle.std.specs.Prelude.{◌≡◌, ◌^◌, All, IfOk, true};
 ghost use Rattle.cyclo_points.specs.Point.{IsWithin};
 ghost use Rattle.rule_model.specs.Tiling.{tiling_of};
-ghost use Rattle.lazy_walk.specs.Frames.{IsFrameOf};
+ghost use Rattle.theory_walks.specs.Frames.{IsFrameOf};
 ghost use Rattle.lazy_walk.specs.Standing.{Stands};
 
 use crate::given::tile_text;
@@ -36,7 +36,7 @@ fn none_refused(tiles: &[PlacedTile]) -> bool
 }
 
 /// The whole tiles of tiles of the frame, where these are few and none is refused.
-fn glued(
+pub(crate) fn glued(
     alloc: Global,
     machine: &Machine,
     frame: &mut Frame,

@@ -12,7 +12,7 @@ use Rattle.tile_app.proofs.calc.calc_text.Goals as goal
 
 pub returns-in_err-script-clause-refused : goal.returns-in_err-script-clause-refused
 returns-in_err-script-clause-refused g c =
-    let t = tiling_of c.args.checked in
+    let t = tiling_of c.args.machine.now in
     let left = g.R.Source.left c.args.source.now in
     let rest = g.R.Source.left c.file_read.new.source in
     let h = refused_by (IsFileUnread Script left rest) (IsScriptRefused t left rest)
@@ -22,22 +22,22 @@ returns-in_err-script-clause-refused g c =
 pub calc-requires : goal.calc-requires
 calc-requires g c = subst (λ f. length f ≤ longest_file) (sym c.as_slice.ensures.value) c.in_ok-script.ensures.not_too_long
 
--- the machine's rule is the checked rule, and the slice is the file
+-- the slice is the file
 pub returns-in_err-calc-clause-refused : goal.returns-in_err-calc-clause-refused
 returns-in_err-calc-clause-refused g c =
     let fault = c.in_err-calc.field-0.0 in
-    let of_rule = subst (λ m. OrNoMemory (λ f. IsAnswer (tiling_of m) c.as_slice.result.now (Err f)) fault)
-    c.in_ok-machine.ensures.its_rule c.in_err-calc.ensures.fault in
-    let of_file = subst (λ file. OrNoMemory (λ f. IsAnswer (tiling_of c.args.checked) file (Err f)) fault) c.as_slice.ensures.value of_rule in
+    let of_file = subst (λ file. OrNoMemory (λ f. IsAnswer (tiling_of c.args.machine.now) file (Err f)) fault)
+    c.as_slice.ensures.value c.in_err-calc.ensures.fault in
     let p = err_from_is_err_and c.from_residual-in_err-calc.result c.from_residual-in_err-calc.ensures.1 in
-    rw (p.1, p.2) (script_faulty (tiling_of c.args.checked) (g.R.Source.left c.args.source.now)
+    rw (p.1, p.2) (script_faulty (tiling_of c.args.machine.now) (g.R.Source.left c.args.source.now)
     (g.R.Source.left c.file_read.new.source) c.in_ok-script.script.items c.in_ok-script.ensures.read
     c.in_ok-script.ensures.not_too_long fault of_file)
 
 pub returns-clause-printed : goal.returns-clause-printed
 returns-clause-printed g c =
     let text = c.in_ok-calc.field-0.items in
-    let of_rule = subst (λ m. PrintsCalc c.as_slice.result.now (tiling_of m) text) c.in_ok-machine.ensures.its_rule c.in_ok-calc.ensures.ran in
-    script_done (tiling_of c.args.checked) (g.R.Source.left c.args.source.now)
+    script_done (tiling_of c.args.machine.now) (g.R.Source.left c.args.source.now)
     (g.R.Source.left c.file_read.new.source) c.in_ok-script.script.items c.in_ok-script.ensures.read
-    c.in_ok-script.ensures.not_too_long text (subst (λ file. PrintsCalc file (tiling_of c.args.checked) text) c.as_slice.ensures.value of_rule)
+    c.in_ok-script.ensures.not_too_long text (subst
+    (λ file. PrintsCalc file (tiling_of c.args.machine.now) text) c.as_slice.ensures.value
+    c.in_ok-calc.ensures.ran)

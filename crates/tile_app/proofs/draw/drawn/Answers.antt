@@ -11,7 +11,7 @@ use Rattle.rule_model.specs.Tiling.{tiling_of}
 use Rattle.tile_app.specs.Draw.{texts_of, PrintsDraw, DrawRefuses}
 use Rattle.tile_app.specs.LayerTexts.{FirstHasDrawn, HaveText, IsTextOf}
 use Rattle.tile_app.specs.Pictured.{picture_of}
-use Rattle.tile_app.specs.Status.{OrNoMemory}
+use Rattle.call_notes.specs.Status.{OrNoMemory}
 use Rattle.tile_app.specs.Windows.{window_in}
 use Rattle.tile_app.proofs.draw.drawn.Goals as goal
 

@@ -39,10 +39,10 @@ glue_covered-requires-clause-given c =
     may-be-given t g tiles (c.given_law.ensures t g) x.stand
     (can_be_drawn t c.args.frame.now g c.args.window.now c.requires.frame x.frame x.within x.least tiles x.drawn x.stand)
 
-pub returns-in_err-glue_covered-clause-refused : goal.returns-in_err-glue_covered-clause-refused
-returns-in_err-glue_covered-clause-refused c =
+pub returns-in_err-wholes-clause-refused : goal.returns-in_err-wholes-clause-refused
+returns-in_err-wholes-clause-refused c =
     let x = c.in_ok-tiles.ensures in
-    let p = err_from_is_err_and c.from_residual-in_err-glue_covered.result c.from_residual-in_err-glue_covered.ensures.1 in
+    let p = err_from_is_err_and c.from_residual-in_err-wholes.result c.from_residual-in_err-wholes.ensures.1 in
     rw (p.1, p.2) (glue_refused_if_err c.args.whole
     (tiling_of c.args.machine.now) c.args.window.now c.if-whole.true c.args.frame.now c.covered_tiles.new.frame x.within
     c.in_ok-tiles.tiles (record {
@@ -53,33 +53,35 @@ returns-in_err-glue_covered-clause-refused c =
       in_order = x.in_order;
       covered = x.covered;
     }) c.glue_covered.new.frame c.glue_covered.ensures.frame
-    c.glue_covered.result c.in_err-glue_covered.field-0.0 c.in_err-glue_covered.was
-    c.in_err-glue_covered.ensures.cause c.glue_covered.ensures.answered)
+    c.glue_covered.result c.in_err-wholes.field-0.0 c.in_err-wholes.was
+    c.in_err-wholes.ensures.cause c.glue_covered.ensures.answered)
 
 -- ---- the pictures
-pub returns-in_ok-glue_covered-clause-can : goal.returns-in_ok-glue_covered-clause-can
-returns-in_ok-glue_covered-clause-can c =
+pub returns-in_ok-wholes-clause-can : goal.returns-in_ok-wholes-clause-can
+returns-in_ok-wholes-clause-can c =
     let t = tiling_of c.args.machine.now in
     let g = c.covered_tiles.new.frame in
     let h = c.glue_covered.new.frame in
     let tiles = c.in_ok-tiles.tiles in
-    let wholes = c.in_ok-glue_covered.field-0 in
+    let wholes = c.in_ok-wholes.wholes in
     let x = c.in_ok-tiles.ensures in
-    let y = c.in_ok-glue_covered.ensures in
+    let y = c.in_ok-wholes.ensures in
     let given = may-be-given t g tiles (c.given_law.ensures t g) x.stand
-    (can_be_drawn t c.args.frame.now g c.args.window.now c.requires.frame x.frame x.within x.least tiles x.drawn x.stand) in
-    wholes-drawn t h c.whole_tiles_law.ensures.glue_edge tiles wholes y.whole_tiles
-    (c.parts_law.ensures g h tiles wholes x.frame.is_frame y.frame given y.within y.whole_tiles)
+    (can_be_drawn t c.args.frame.now g c.args.window.now c.requires.frame x.frame x.within x.least tiles x.drawn x.stand) in (
+      wholes-drawn t h c.whole_tiles_law.ensures.glue_edge tiles wholes y.whole_tiles
+          (c.parts_law.ensures g h tiles wholes x.frame.is_frame y.frame given y.within y.whole_tiles),
+      c.new.ensures,
+    )
 
-pub returns-in_ok-glue_covered-clause-pictures : goal.returns-in_ok-glue_covered-clause-pictures
-returns-in_ok-glue_covered-clause-pictures c =
+pub returns-in_ok-wholes-clause-pictures : goal.returns-in_ok-wholes-clause-pictures
+returns-in_ok-wholes-clause-pictures c =
     let t = tiling_of c.args.machine.now in
     let x = c.in_ok-tiles.ensures in
-    let y = c.in_ok-glue_covered.ensures in
+    let y = c.in_ok-wholes.ensures in
     let laws = c.whole_tiles_law.ensures in
     pictures-wholes c.args.whole t c.args.window.now c.args.frame.now c.covered_tiles.new.frame x.within c.in_ok-tiles.tiles
     (record { grown = x.frame; least = x.least; stand = x.stand; drawn = x.drawn; in_order = x.in_order; covered = x.covered })
-    c.if-whole.true laws.counts laws.covering c.glue_covered.new.frame y.frame y.least y.within c.in_ok-glue_covered.field-0 y.whole_tiles y.in_order
+    c.if-whole.true laws.counts laws.covering c.glue_covered.new.frame y.frame y.least y.within c.in_ok-wholes.wholes y.whole_tiles y.in_order
 
 pub returns-in_ok-covered_tiles-clause-can : goal.returns-in_ok-covered_tiles-clause-can
 returns-in_ok-covered_tiles-clause-can c =

@@ -1,6 +1,6 @@
 use Rattle.std.proofs.Common.{◌≡◌, All, map, take}
 use Rattle.std.specs.List.{flat_map}
-use Rattle.lazy_walk.specs.Frames.{FrameValue}
+use Rattle.theory_walks.specs.Frames.{FrameValue}
 use Rattle.lazy_walk.specs.Standing.{Stands}
 use Rattle.rule_model.specs.Tiling.{Tiling}
 use Rattle.star_walk.specs.declared.corner.Corner.{Corner}

@@ -1,9 +1,6 @@
-use Rattle.std.proofs.Common.{IfErr, sym, subst}
 use Rattle.std.proofs.lemmas.Result.{err_from_is_err_and, IfOk-weaker}
-use Rattle.lazy_walk.specs.Frames.{IsFrameOf}
 use Rattle.rule_model.specs.Tiling.{tiling_of}
 use Rattle.tile_app.specs.Star.{PrintsStar, StarRefuses}
-use Rattle.tile_app.specs.Status.{OrNoMemory}
 use Rattle.tile_app.proofs.Tiles.{begun, frame_holds, frame_refused}
 use Rattle.tile_app.proofs.star.star_text.Goals as goal
 
@@ -13,25 +10,23 @@ returns-in_err-frame-clause-refused g c =
     rw (p.1, p.2) c.in_err-frame.ensures.refused
 
 pub turned-requires-clause-frame : goal.turned-requires-clause-frame
-turned-requires-clause-frame g c = subst (λ m. IsFrameOf (tiling_of m) c.in_ok-frame.frame)
-    (sym c.in_ok-machine.ensures.its_rule) c.in_ok-frame.ensures.base.is_frame
+turned-requires-clause-frame g c = c.in_ok-frame.ensures.base.is_frame
 
 pub turned-requires-clause-begun : goal.turned-requires-clause-begun
-turned-requires-clause-begun g c = begun (tiling_of c.args.checked) c.args.addr.now c.args.seed c.in_ok-frame.frame c.in_ok-frame.ensures.base
+turned-requires-clause-begun g c = begun (tiling_of c.args.machine.now) c.args.addr.now c.args.seed c.in_ok-frame.frame c.in_ok-frame.ensures.base
 
--- the machine's rule is the checked rule, and the frame that of the tile
+-- the frame is that of the tile
 pub returns-clause-printed : goal.returns-clause-printed
 returns-clause-printed g c =
-    let t = tiling_of c.args.checked in
+    let t = tiling_of c.args.machine.now in
     let f = c.in_ok-frame.frame in
     IfOk-weaker c.turned.result _ _
-    (λ text h. frame_holds t c.args.addr.now c.args.seed f c.in_ok-frame.ensures.base (λ x. PrintsStar t x c.args.vertex text.items)
-    (subst (λ m. PrintsStar (tiling_of m) f c.args.vertex text.items) c.in_ok-machine.ensures.its_rule h)) c.turned.ensures.printed
+    (λ text h. frame_holds t c.args.addr.now c.args.seed f c.in_ok-frame.ensures.base (λ x. PrintsStar t x c.args.vertex text.items) h)
+    c.turned.ensures.printed
 
 pub returns-clause-refused : goal.returns-clause-refused
 returns-clause-refused g c =
-    let t = tiling_of c.args.checked in
+    let t = tiling_of c.args.machine.now in
     let f = c.in_ok-frame.frame in
-    let its = subst (λ m. IfErr c.turned.result
-    (OrNoMemory (StarRefuses (tiling_of m) f c.args.vertex))) c.in_ok-machine.ensures.its_rule c.turned.ensures.refused in
-    frame_refused t c.args.addr.now c.args.seed f c.in_ok-frame.ensures.base (λ x. StarRefuses t x c.args.vertex) (λ x fault k. k) c.turned.result its
+    frame_refused t c.args.addr.now c.args.seed f c.in_ok-frame.ensures.base
+    (λ x. StarRefuses t x c.args.vertex) (λ x fault k. k) c.turned.result c.turned.ensures.refused

@@ -2,11 +2,11 @@ use Rattle.std.proofs.Common.{rules, ◌≡◌, true, string_bytes, IfErr, is_ok
 use Rattle.std.proofs.lemmas.Bool.{false≢true}
 use Rattle.std.proofs.lemmas.Result.{err_from_is_err_and}
 use Rattle.call_words.specs.Views.{window_of}
-use Rattle.lazy_walk.specs.Frames.{IsFrameOf}
+use Rattle.rule_model.specs.declared.rule.Rule.{Rule}
 use Rattle.rule_model.specs.Tiling.{tiling_of}
 use Rattle.tile_app.specs.declared.file_kind.FileKind.TheVariants.{Listing}
 use Rattle.tile_app.specs.Reading.{IsFileUnread, IsListingPrinted, IsListingRefused}
-use Rattle.tile_app.specs.Status.{OrNoMemory}
+use Rattle.call_notes.specs.Status.{OrNoMemory}
 use Rattle.tile_app.specs.Tile.{is_tile}
 use Rattle.tile_app.specs.Verify.{PrintsVerify, VerifyRefuses}
 use Rattle.tile_app.specs.Windows.{window_in}
@@ -24,18 +24,19 @@ returns-in_err-frame-clause-refused g c =
     rw (p.1, p.2) (sym c.base_frame.ensures.told ∙ ap (λ o. is_ok o) c.in_err-frame.was, c.in_err-frame.ensures.refused)
 
 -- it is that of a tile
-told : (g : Over) (c : In_ok-frame g) → is_tile (tiling_of c.args.checked) c.args.addr.now ≡ true
+told : (g : Over) (c : In_ok-frame g) → is_tile (tiling_of c.args.machine.now) c.args.addr.now ≡ true
 told g c = sym c.base_frame.ensures.told ∙ ap (λ o. is_ok o) c.in_ok-frame.was
 
 -- the window is the one that is asked for, in the order of the rule
-window : (g : Over) (c : After-window_in-window g) → c.window_in-window.result ≡ window_in c.args.checked.order (window_of c.args.asked.now)
+window : (g : Over) (c : After-window_in-window g) → c.window_in-window.result ≡ window_in c.args.machine.now.order (window_of c.args.asked.now)
 window g c =
-    c.window_in-window.ensures.window ∙ ap (λ o. window_in o (window_of c.args.asked.now)) c.order.ensures.order
+    c.window_in-window.ensures.window
+    ∙ ap (λ o. window_in o (window_of c.args.asked.now)) (c.order.ensures.order ∙ ap (λ (r : Rule). r.order) c.checked.ensures.rule)
 
 -- the listing can't be read
 pub returns-in_err-listing-clause-refused : goal.returns-in_err-listing-clause-refused
 returns-in_err-listing-clause-refused g c =
-    let t = tiling_of c.args.checked in
+    let t = tiling_of c.args.machine.now in
     let f = c.in_ok-frame.frame in
     let is = told g ((goal.at.returns-in_err-listing-clause-refused g c).In_ok-frame) in
     let left = g.R.Source.left c.args.source.now in
@@ -46,22 +47,19 @@ returns-in_err-listing-clause-refused g c =
     search (rules, h)
 
 pub verified-requires-clause-frame : goal.verified-requires-clause-frame
-verified-requires-clause-frame g c = subst (λ m. IsFrameOf (tiling_of m) c.in_ok-frame.frame)
-    (sym c.in_ok-machine.ensures.its_rule) c.in_ok-frame.ensures.base.is_frame
+verified-requires-clause-frame g c = c.in_ok-frame.ensures.base.is_frame
 
 pub verified-requires-clause-begun : goal.verified-requires-clause-begun
-verified-requires-clause-begun g c = begun (tiling_of c.args.checked) c.args.addr.now c.args.seed c.in_ok-frame.frame c.in_ok-frame.ensures.base
+verified-requires-clause-begun g c = begun (tiling_of c.args.machine.now) c.args.addr.now c.args.seed c.in_ok-frame.frame c.in_ok-frame.ensures.base
 
--- the machine's rule is the checked rule, and the slice is the listing
+-- the slice is the list
 pub returns-in_err-verified-clause-refused : goal.returns-in_err-verified-clause-refused
 returns-in_err-verified-clause-refused g c =
-    let t = tiling_of c.args.checked in
+    let t = tiling_of c.args.machine.now in
     let f = c.in_ok-frame.frame in
     let w = c.window_in-window.result in
-    let of_rule = subst (λ m. IfErr c.verified.result
-    (OrNoMemory (VerifyRefuses (tiling_of m) f w c.as_slice.result.now))) c.in_ok-machine.ensures.its_rule
-    c.verified.ensures.refused in
-    let of_file = subst (λ file. IfErr c.verified.result (OrNoMemory (VerifyRefuses t f w file))) c.as_slice.ensures.value of_rule in
+    let of_file = subst (λ file. IfErr c.verified.result (OrNoMemory (VerifyRefuses t f w file)))
+    c.as_slice.ensures.value c.verified.ensures.refused in
     let h = listing_wrong t c.args.addr.now c.args.seed (window_of c.args.asked.now) f c.in_ok-frame.ensures.base
     (told g ((goal.at.returns-in_err-verified-clause-refused g c).In_ok-frame)) w
     (window g ((goal.at.returns-in_err-verified-clause-refused g c).After-window_in-window))
@@ -73,14 +71,14 @@ returns-in_err-verified-clause-refused g c =
 
 pub returns-in_err-verified-clause-read_fault : goal.returns-in_err-verified-clause-read_fault
 returns-in_err-verified-clause-read_fault g c =
-    let h = listing_unfailed (tiling_of c.in_ok-machine.machine) c.in_ok-frame.frame c.window_in-window.result
+    let h = listing_unfailed (tiling_of c.args.machine.now) c.in_ok-frame.frame c.window_in-window.result
     c.as_slice.result.now c.verified.result c.verified.ensures.refused in
     search (rules, h)
 
 pub returns-clause-printed : goal.returns-clause-printed
 returns-clause-printed g c =
     let s = goal.at.returns-clause-printed g c in
-    let t = tiling_of c.args.checked in
+    let t = tiling_of c.args.machine.now in
     let f = c.in_ok-frame.frame in
     let w = c.window_in-window.result in
     let left = g.R.Source.left c.args.source.now in
@@ -88,9 +86,7 @@ returns-clause-printed g c =
     let asked = window_of c.args.asked.now in
     let text = string_bytes c.in_ok-verified.field-0 in
     let same : c.into_bytes.result.items ≡ text = search rules in
-    let of_rule = subst (λ m. PrintsVerify (tiling_of m) f w c.as_slice.result.now text)
-    c.in_ok-machine.ensures.its_rule c.in_ok-verified.ensures.printed in
-    let of_file = subst (λ file. PrintsVerify t f w file text) c.as_slice.ensures.value of_rule in
+    let of_file = subst (λ file. PrintsVerify t f w file text) c.as_slice.ensures.value c.in_ok-verified.ensures.printed in
     subst (IsListingPrinted t c.args.addr.now c.args.seed asked left rest) (sym same)
     (listing_done t c.args.addr.now c.args.seed asked f c.in_ok-frame.ensures.base (told g s.In_ok-frame) w
     (window g s.After-window_in-window) left rest c.in_ok-listing.listing.items

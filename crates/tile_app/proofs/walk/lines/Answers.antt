@@ -3,8 +3,8 @@ use Rattle.std.proofs.lemmas.List.{take_more}
 use Rattle.theory_addresses.specs.Address.{Address}
 use Rattle.cyclo_points.specs.Motion.{motion_in}
 use Rattle.cyclo_points.proofs.Within.{point_wider}
-use Rattle.lazy_walk.specs.Frames.{whole}
-use Rattle.lazy_walk.specs.Paths.{CanBeWalked, Leads}
+use Rattle.theory_walks.specs.Frames.{whole}
+use Rattle.theory_walks.specs.Paths.{CanBeWalked, Leads}
 use Rattle.rule_model.specs.Tiling.{tiling_of}
 use Rattle.tile_place.specs.Crossed.{IsOnlyAcross}
 use Rattle.tile_place.proofs.OneAcross.{one_across}

@@ -1,7 +1,7 @@
 use Rattle.std.proofs.Common.{◌≡◌, ℕ, ◌*◌, ◌++◌, List, take, drop, None}
 use Rattle.cyclo_points.specs.Point.{IsWithin}
-use Rattle.lazy_walk.specs.Frames.{whole}
-use Rattle.lazy_walk.specs.Paths.{CanBeWalked}
+use Rattle.theory_walks.specs.Frames.{whole}
+use Rattle.theory_walks.specs.Paths.{CanBeWalked}
 use Rattle.lazy_walk.specs.Standing.{Stands}
 use Rattle.rule_model.specs.Tiling.{tiling_of}
 use Rattle.tile_shape.specs.Views.{address_of}

@@ -2,7 +2,7 @@ use Rattle.std.proofs.Common.{◌≡◌, ◌≤◌, max, length, sym, ap, ◌∙
 use Rattle.std.proofs.lemmas.Result.{err_from_is_err_and}
 use Rattle.theory_addresses.specs.Address.{Address, depth}
 use Rattle.lazy_walk.specs.Faults.{IsPathFault}
-use Rattle.lazy_walk.specs.Paths.{CanBeWalked, IsStopped}
+use Rattle.theory_walks.specs.Paths.{CanBeWalked, IsStopped}
 use Rattle.rule_model.specs.Tiling.{tiling_of}
 use Rattle.tile_app.specs.Walk.{IsWalkText}
 use Rattle.tile_app.proofs.Frames.{frame-is, last-is, walking_ends}

@@ -1,5 +1,5 @@
 use Rattle.theory_frames.specs.Frame.{IsTileOf}
-use Rattle.lazy_walk.specs.Frames.{whole, IsFrameOf}
+use Rattle.theory_walks.specs.Frames.{whole, IsFrameOf}
 use Rattle.rule_model.specs.Tiling.{tiling_of, children}
 use Rattle.tile_shape.specs.Views.{address_of}
 use Rattle.trial_plain_tiles.proofs.walks.drawn_path.Given as goal

@@ -1,0 +1,2 @@
+mod AddressBytes
+mod Fields

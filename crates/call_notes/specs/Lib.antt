@@ -1,0 +1,9 @@
+pub mod TextFaultText
+pub mod CheckFaultText
+pub mod RuleFaultText
+pub mod CalcFaultText
+pub mod ScriptFaultText
+pub mod ListFaultText
+pub mod Status
+pub mod FaultStatus
+pub mod Notes
