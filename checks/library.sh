@@ -57,7 +57,7 @@ else
     say 'skipped the symbols: there is no nm'
 fi
 
-try each_call_plain ''
+try each_call_plain "$top/rules"
 try threads_plain ''
 try no_memory_plain '' -Wl,--wrap=malloc,--wrap=realloc,--wrap=free
 if compile hostile_sane -fsanitize=address,undefined 2> /dev/null; then

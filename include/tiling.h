@@ -10,11 +10,12 @@
  * a caller must ensure it:
  *   - each pointer leads to the stated number of values; if the number is 0, any valid pointer will do;
  *   - what a call fills overlaps nothing else that it is passed;
- *   - a tiling_machine comes from tiling_open or tiling_share of this library.
+ *   - a tiling_machine comes from tiling_open, tiling_open_file or tiling_share of this library.
  * All else is tested and refused: no number, address or array of numbers makes a call do harm.
  *
  * A machine is only read, so any number of threads may use it at the same time. It stays until the process
- * ends. */
+ * ends, and takes 1 to 20 KB. A program that opens very many rule files, such as 100,000, should do so in
+ * child processes, with some thousands of files for each. */
 #ifndef TILING_H
 #define TILING_H
 
@@ -32,13 +33,16 @@ typedef uint8_t tiling_status;
 enum {
     TILING_OK = 0,
     TILING_BAD_WORDS = 2,      /* a number out of its range, arrays of different lengths, an unknown name */
+    TILING_RULE_REFUSED = 3,   /* the rule file stands for no accepted rule */
     TILING_BAD_ADDRESS = 4,    /* not the address of a tile of this rule */
     TILING_DEPTH_LIMIT = 5,    /* at depth 64, an edge that must be crossed is still on the boundary */
     TILING_COORD_LIMIT = 6,    /* a coefficient above 2^24 in absolute value */
     TILING_TOO_MANY_TILES = 7, /* more than 200,000 tiles meet the window */
     TILING_OUTSIDE = 8,        /* the edge, or the point, isn't inside the supertile */
     TILING_NO_MEMORY = 11,
-    TILING_NO_EDGE = 12        /* the tile has no such edge */
+    TILING_NO_EDGE = 12,       /* the tile has no such edge */
+    TILING_NO_VERTEX = 15,     /* the tile has no such vertex */
+    TILING_STAR_TOO_BIG = 16   /* more than 64 tiles have the vertex */
 };
 
 /* A machine; nothing may read or write what it points to. */
@@ -62,7 +66,7 @@ typedef struct {
 
 /* A tile at its place: z -> zeta^turn z + shift brings the prototile of its kind there. `number` is an edge
  * or a vertex where a call says so, and 0 elsewhere. `status` is 0, except in an array that says otherwise:
- * there it tells why this entry is no tile. `rest` is 0. */
+ * there it shows why this entry is no tile. `rest` is 0. */
 typedef struct {
     int64_t shift[4];
     uint8_t status, kind, turn, number, rest[4];
@@ -75,13 +79,26 @@ typedef struct {
     uint8_t count;
 } tiling_outline;
 
+/* How one tile lies to another: `relation` is one of the four numbers below. For each edge of the first tile,
+ * `backs` has the edge of the second that lies on it, or TILING_NO_BACK. */
+typedef struct {
+    uint8_t relation, backs[12];
+} tiling_relation;
+enum {
+    TILING_STRANGERS = 0, /* they have no common supertile */
+    TILING_SAME = 1,      /* they are one tile */
+    TILING_APART = 2,     /* they have a common supertile, and share no edge */
+    TILING_BESIDE = 3,    /* they share an edge, or several */
+    TILING_NO_BACK = 255
+};
+
 /* How an edge was crossed, in an array: a status, and `back` and `part` as tiling_neighbour fills them. They
  * are 0 where it leaves them as they were. */
 typedef struct {
     uint8_t status, back, part;
 } tiling_crossing;
 
-/* A frame: the supertiles round the base tile, which grow at the coarse end as the seed chooses. The same
+/* A frame: the supertiles around the base tile, which grow at the coarse end as the seed chooses. The same
  * two values give the same tiling in every call. */
 typedef struct {
     uint64_t seed;
@@ -96,6 +113,24 @@ typedef struct {
     uint16_t w, h;
 } tiling_window;
 
+/* The tiles around a vertex, `count` of them, in turning order from the base of a frame. `number` of each is
+ * its own number for the vertex. Its address in the frame has the same index in `addrs`. Entries after them
+ * are unchanged. */
+typedef struct {
+    tiling_tile tiles[64];
+    tiling_address addrs[64];
+    uint8_t count;
+} tiling_vertex_star;
+
+/* A whole tile. `parts` is 2 for two glued halves, and 1 for a tile that is no half. Each part has its
+ * address in the frame at the same index in `addrs`. If there is one part, all numbers of the second entry
+ * are 0. */
+typedef struct {
+    tiling_tile tiles[2];
+    tiling_address addrs[2];
+    uint8_t parts;
+} tiling_whole_tile;
+
 /* The number of the library's interface, which is TILING_ABI where header and library belong together. */
 uint32_t tiling_abi(void);
 
@@ -105,6 +140,14 @@ uint32_t tiling_abi(void);
  * bytes.
  * BAD_WORDS: no rule has this name. NO_MEMORY. */
 tiling_status tiling_open(const char *name, size_t name_bytes, tiling_machine *out);
+
+/* Opens the machine of the rule file with these bytes; docs/FORMATS.md says what it may hold. If the file is
+ * refused, `line` takes the line that the command writes for its first fault, such as "3 RuleRefused Missing
+ * order" and a newline, as far as there is room, and `line_bytes` its whole length. 128 bytes are always
+ * enough.
+ * RULE_REFUSED. NO_MEMORY. */
+tiling_status tiling_open_file(const uint8_t *file, size_t file_bytes, tiling_machine *out, char *line,
+                               size_t line_room, size_t *line_bytes);
 
 /* Two handles of one machine, both equal to the given one: to copy a tiling_machine is this call. It never
  * fails. */
@@ -162,6 +205,12 @@ tiling_status tiling_place(tiling_machine t, const tiling_address *addr, tiling_
 tiling_status tiling_neighbour(tiling_machine t, tiling_address *addr, uint8_t edge, uint8_t *back,
                                uint8_t *part);
 
+/* Finds how the tile `a` lies to the tile `b`, both in their common supertile, and every edge that they
+ * share.
+ * BAD_ADDRESS: one of them names no tile. */
+tiling_status tiling_pair(tiling_machine t, const tiling_address *a, const tiling_address *b,
+                          tiling_relation *out);
+
 /* The only tile that holds a point, of the supertile of `depth` levels whose kind, turn and shift `top` has;
  * `addr` becomes its address in that supertile. A point on an edge belongs to just one of the tiles there.
  * BAD_WORDS: `top`, as for tiling_corners; a depth above 64; the point. OUTSIDE: the supertile doesn't hold
@@ -184,9 +233,9 @@ tiling_status tiling_neighbour_all(tiling_machine t, tiling_address *addrs, size
 
 /* ---- frames -------------------------------------------------------------------------------------------- */
 
-/* Exactly the tiles of the frame that meet a window, each once, in the order of their shifts, turns and
- * kinds. `count` is their total, even if there is room for fewer: then the first ones are filled. Room for
- * 200,000 is always enough.
+/* Finds exactly the tiles of the frame that meet a window. Each comes exactly once, in the order of their
+ * shifts, turns and kinds. `count` is their total, even if there is room for fewer: then the first ones are
+ * filled. Room for 200,000 is always enough.
  * `addrs` takes their addresses in the frame; its room is 0 for none, or else the same as that of `tiles`.
  * BAD_WORDS: the window's numbers, or the rooms. BAD_ADDRESS: the base. DEPTH_LIMIT. COORD_LIMIT.
  * TOO_MANY_TILES. NO_MEMORY. */
@@ -194,11 +243,36 @@ tiling_status tiling_cover(tiling_machine t, const tiling_frame *frame, const ti
                            tiling_tile *tiles, size_t tiles_room, tiling_address *addrs, size_t addrs_room,
                            size_t *count);
 
+/* Finds exactly the whole tiles of the tiles of the frame that meet a window. Each comes exactly once, in the
+ * order of the shifts, turns and kinds of their first parts. The frame grows until it has the other half of
+ * each. `count` is their total, even if there is room for fewer: then the first ones are filled. Room for
+ * 200,000 is always enough.
+ * BAD_WORDS: the window's numbers. BAD_ADDRESS: the base. DEPTH_LIMIT. COORD_LIMIT. TOO_MANY_TILES: of tiles
+ * that meet the window. NO_MEMORY. */
+tiling_status tiling_glue(tiling_machine t, const tiling_frame *frame, const tiling_window *window,
+                          tiling_whole_tile *wholes, size_t wholes_room, size_t *count);
+
 /* The only tile of the frame that holds a point, with its address in the frame, at the least depth at which
  * the frame holds the point. A point on an edge belongs to exactly one of the tiles there.
  * BAD_WORDS: the point. BAD_ADDRESS: the base. COORD_LIMIT. */
 tiling_status tiling_at(tiling_machine t, const tiling_frame *frame, const tiling_point *point,
                         tiling_tile *tile, tiling_address *addr);
+
+/* Finds the tiles of a path across edges, the base first: each edge of the path is one of the tile reached.
+ * `number` of each tile after the base is its edge that leads back. `addrs` takes the addresses in the frame.
+ * The frame first grows to `grow` levels, if it has fewer, and then as far as the path needs. Several walks
+ * with the same `grow`, if it is large enough for all of them, have addresses of the same depth.
+ * BAD_WORDS: `grow` above 64, a path of more than 30,000 edges, or arrays that don't have exactly one entry
+ * more than the path has edges. BAD_ADDRESS: the base. NO_EDGE: a tile reached has no such edge.
+ * DEPTH_LIMIT. */
+tiling_status tiling_walk(tiling_machine t, const tiling_frame *frame, uint8_t grow, const uint8_t *path,
+                          size_t path_edges, tiling_tile *tiles, size_t tiles_count, tiling_address *addrs,
+                          size_t addrs_count);
+
+/* Finds exactly the tiles of the frame that have a vertex of its base.
+ * BAD_ADDRESS: the base. NO_VERTEX. DEPTH_LIMIT. STAR_TOO_BIG. */
+tiling_status tiling_star(tiling_machine t, const tiling_frame *frame, uint8_t vertex,
+                          tiling_vertex_star *out);
 
 #ifdef __cplusplus
 }

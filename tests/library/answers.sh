@@ -1,7 +1,8 @@
 #!/bin/sh
 # answers.sh ANSWERS: compares what the library answers, in the texts of the program ANSWERS, with what the
-# command that TILING names prints, byte for byte: windows of each built-in rule, the place of each of their
-# tiles, and each of their edges, also those on the boundary of the supertile.
+# command that TILING names prints, byte for byte. They are windows of each built-in rule, their whole tiles,
+# the place of each of their tiles, each of their edges, also those on the boundary of the supertile, and how
+# the first tile lies to each. Then a walk from the base, and the tiles around each of its vertices.
 answers=$1
 work=$(mktemp -d) || exit 1
 trap 'rm -rf "$work"' EXIT
@@ -16,13 +17,24 @@ same() {
 
 while read -r rule seed base at half; do
     numbers=$(echo "$at $half" | tr ',' ' ')
+    rm -f "$work"/star_*
     # shellcheck disable=SC2086
     "$answers" "$rule" "$seed" "$base" $numbers "$work" || { fault=1; continue; }
     "$TILING" draw "rule=$rule" "seed=$seed" "addr=$base" "at=$at" "half=$half" layers=list \
         > "$work/list_told"
     same "$work/list" "$work/list_told" "the tiles of $rule $seed $base $at $half"
+    "$TILING" draw "rule=$rule" "seed=$seed" "addr=$base" "at=$at" "half=$half" layers=list glue=yes \
+        > "$work/wholes_told"
+    same "$work/wholes" "$work/wholes_told" "the whole tiles of $rule $seed $base $at $half"
     "$TILING" calc "rule=$rule" < "$work/script" > "$work/told"
     same "$work/script_answers" "$work/told" "the tiles' places and neighbours of $rule $seed $base $at $half"
+    set -- "rule=$rule" "seed=$seed" "addr=$base"
+    "$TILING" walk "$@" path=0,1,2,0,1,2,1,0 > "$work/walk_told" 2> "$work/note"
+    same "$work/walk" "$work/walk_told" "the walks of $rule $seed $base"
+    for star in "$work"/star_*; do
+        "$TILING" star "$@" "vertex=${star##*_}" > "$work/told" 2> "$work/note"
+        same "$star" "$work/told" "the stars of $rule $seed $base ${star##*_}"
+    done
     head -n 20 "$work/outside" | while read -r addr edge own part; do
         told=$("$TILING" neighbour "rule=$rule" "addr=$addr" "edge=$edge" 2>&1)
         [ "$told" = "8 Outside $own $part" ] && continue

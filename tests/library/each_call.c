@@ -1,6 +1,8 @@
 /* Goes through each function of the library and each status that it can answer. The expected values are
  * rows of the literature's rules, worked by hand; the tests of the crates have them too, as answers of the
- * command. */
+ * command.
+ *
+ * each_call FOLDER: the folder of the rule files. */
 #include <stdio.h>
 #include <string.h>
 #include "tiling.h"
@@ -55,6 +57,51 @@ static void try_machines(void) {
     slot = opened("chair");
     tiling_share(slot, &first, &second);
     EXPECT(first == slot && second == slot);
+}
+
+/* the bytes of a rule file in a folder, with their number; at most 64 KB of them */
+static const uint8_t *file_of(const char *folder, const char *name, size_t *bytes) {
+    static uint8_t held[65536];
+    char path[1024];
+    snprintf(path, sizeof path, "%s/%s", folder, name);
+    FILE *file = fopen(path, "rb");
+    *bytes = file ? fread(held, 1, sizeof held, file) : 0;
+    EXPECT(file && *bytes > 0 && fclose(file) == 0);
+    return held;
+}
+
+static void try_files(const char *folder) {
+    static const struct {
+        const char *file, *line;
+    } refused[] = {
+        {"", "3 RuleRefused Missing format\n"},
+        {"format =", "3 RuleRefused NotToml\n"},
+        {"format = 9", "3 RuleRefused OutOfRange format\n"},
+        {"format = 2", "3 RuleRefused Missing order\n"},
+    };
+    tiling_machine slot = NULL;
+    char line[128];
+    size_t bytes, count = 77;
+    const uint8_t *file = file_of(folder, "sphinx.toml", &bytes);
+    EXPECT(tiling_open_file(file, bytes, &slot, line, sizeof line, &count) == TILING_OK && count == 77);
+    EXPECT(tiling_order(slot) == 6 && tiling_kinds(slot) == 2);
+    tiling_address addr = address(slot, "0:");
+    tiling_tile tile;
+    EXPECT(tiling_place(slot, &addr, &tile) == TILING_OK && lies(&tile, 0, 0, 0, 0, 0, 0));
+    for (size_t i = 0; i < sizeof refused / sizeof *refused; i++) {
+        tiling_machine none = NULL;
+        const char *told = refused[i].line;
+        file = (const uint8_t *)refused[i].file, bytes = strlen(refused[i].file);
+        memset(line, 7, sizeof line);
+        EXPECT(tiling_open_file(file, bytes, &none, line, sizeof line, &count) == TILING_RULE_REFUSED);
+        EXPECT(none == NULL && count == strlen(told) && memcmp(line, told, count) == 0 && line[count] == 7);
+        memset(line, 7, sizeof line);
+        EXPECT(tiling_open_file(file, bytes, &none, line, 4, &count) == TILING_RULE_REFUSED);
+        EXPECT(count == strlen(told) && memcmp(line, told, 4) == 0 && line[4] == 7);
+    }
+    static uint8_t long_file[1048577];
+    EXPECT(tiling_open_file(long_file, sizeof long_file, &slot, line, 128, &count) == TILING_RULE_REFUSED);
+    EXPECT(count == 14 && memcmp(line, "3 RuleTooLong\n", 14) == 0);
 }
 
 static void try_rule(void) {
@@ -255,6 +302,38 @@ static void try_shapes(void) {
     EXPECT(tiling_corners(chair, &tile, &out) == TILING_OK && corner_is(&out, 4, 16777216, 0));
 }
 
+static void try_pair(void) {
+    static const struct {
+        const char *a, *b;
+        int relation, edge, back, other, other_back;
+    } rows[] = {
+        {"0:0/0,1/0", "0:1/0,0/0", TILING_BESIDE, 3, 0, 4, 7},
+        {"0:1/0,0/0", "0:0/0,1/0", TILING_BESIDE, 0, 3, 7, 4},
+        {"0:0/0", "0:2/0", TILING_BESIDE, 6, 1, 6, 1},
+        {"0:0/0", "0:0/0", TILING_SAME, -1, 0, -1, 0},
+        {"0:0/0", "0:", TILING_STRANGERS, -1, 0, -1, 0},
+        {"0:2/0", "0:3/0", TILING_APART, -1, 0, -1, 0},
+    };
+    tiling_machine chair = opened("chair");
+    tiling_relation told, before;
+    for (size_t i = 0; i < sizeof rows / sizeof *rows; i++) {
+        tiling_address a = address(chair, rows[i].a), b = address(chair, rows[i].b);
+        EXPECT(tiling_pair(chair, &a, &b, &told) == TILING_OK && told.relation == rows[i].relation);
+        for (int edge = 0; edge < 12; edge++) {
+            int back = edge == rows[i].edge    ? rows[i].back
+                       : edge == rows[i].other ? rows[i].other_back
+                                               : TILING_NO_BACK;
+            EXPECT(told.backs[edge] == back);
+        }
+    }
+    tiling_address a = address(chair, "0:0/0"), wrong = a;
+    wrong.kind = 1;
+    before = told;
+    EXPECT(tiling_pair(chair, &wrong, &a, &told) == TILING_BAD_ADDRESS);
+    EXPECT(tiling_pair(chair, &a, &wrong, &told) == TILING_BAD_ADDRESS);
+    EXPECT(memcmp(&told, &before, sizeof told) == 0);
+}
+
 static void try_locate(void) {
     tiling_machine chair = opened("chair");
     tiling_tile top, tile, before;
@@ -312,6 +391,108 @@ static void try_at(void) {
     EXPECT(memcmp(&tile, &before, sizeof tile) == 0);
 }
 
+/* a part of a whole tile: its address, kind, turn and shift */
+static int is_part(const tiling_whole_tile *whole, int part, const char *text, int kind, int turn, int64_t a,
+                   int64_t b, int64_t c, int64_t d) {
+    return has_text(&whole->addrs[part], text) && lies(&whole->tiles[part], kind, turn, a, b, c, d);
+}
+
+static void try_glue(void) {
+    tiling_machine chair = opened("chair"), ab = opened("ab");
+    static tiling_whole_tile wholes[8], before[8];
+    tiling_frame frame;
+    tiling_window window = {{0, 0, 0, 0}, 1, 1};
+    size_t count = 0;
+    memset(&frame, 0, sizeof frame);
+    memset(wholes, 7, sizeof wholes);
+    frame.seed = 42;
+    EXPECT(tiling_glue(chair, &frame, &window, wholes, 8, &count) == TILING_OK && count == 2);
+    EXPECT(wholes[0].parts == 1 && is_part(&wholes[0], 0, "0:1/0,3/0", 0, 0, -1, -1, 0, 0));
+    EXPECT(wholes[1].parts == 1 && is_part(&wholes[1], 0, "0:3/0,1/0", 0, 0, 0, 0, 0, 0));
+    EXPECT(wholes[1].tiles[1].kind == 0 && wholes[1].addrs[1].depth == 0 && wholes[2].parts == 7);
+    EXPECT(tiling_glue(ab, &frame, &window, wholes, 1, &count) == TILING_OK && count == 5);
+    EXPECT(wholes[0].parts == 2 && is_part(&wholes[0], 0, "1:4/0,0/0,4/2", 1, 2, 0, -1, 0, 0));
+    EXPECT(is_part(&wholes[0], 1, "2:1/2,5/0,4/2", 2, 2, 0, -1, 0, 0) && wholes[2].parts == 7);
+    memcpy(before, wholes, sizeof wholes);
+    window.w = 0;
+    EXPECT(tiling_glue(chair, &frame, &window, wholes, 8, &count) == TILING_BAD_WORDS);
+    window.w = 1;
+    frame.base.kind = 1;
+    EXPECT(tiling_glue(chair, &frame, &window, wholes, 8, &count) == TILING_BAD_ADDRESS);
+    frame.base.kind = 0;
+    window.w = window.h = 4096;
+    EXPECT(tiling_glue(chair, &frame, &window, wholes, 8, &count) == TILING_TOO_MANY_TILES);
+    frame.base.depth = 64;
+    window.w = window.h = 1;
+    EXPECT(tiling_glue(chair, &frame, &window, wholes, 8, &count) == TILING_DEPTH_LIMIT);
+    EXPECT(memcmp(wholes, before, sizeof wholes) == 0 && count == 5);
+}
+
+static void try_walk(void) {
+    tiling_machine chair = opened("chair");
+    tiling_frame frame;
+    tiling_tile tiles[3], before[3];
+    tiling_address addrs[3];
+    uint8_t path[3] = {0, 3, 0};
+    memset(&frame, 0, sizeof frame);
+    frame.seed = 42;
+    EXPECT(tiling_walk(chair, &frame, 0, path, 2, tiles, 3, addrs, 3) == TILING_OK);
+    EXPECT(lies(&tiles[0], 0, 0, 0, 0, 0, 0) && has_text(&addrs[0], "0:3/0"));
+    EXPECT(tiles[1].number == 1 && (tiles[1].number = 0, lies(&tiles[1], 0, 1, 3, 1, 0, 0)));
+    EXPECT(has_text(&addrs[1], "0:1/0"));
+    EXPECT(tiles[2].number == 0 && lies(&tiles[2], 0, 1, 4, 0, 0, 0) && has_text(&addrs[2], "0:0/0"));
+    EXPECT(tiling_walk(chair, &frame, 6, path, 0, tiles, 1, addrs, 1) == TILING_OK);
+    EXPECT(has_text(&addrs[0], "0:3/0,1/0,0/0,3/0,3/0,2/0"));
+    memcpy(before, tiles, sizeof tiles);
+    EXPECT(tiling_walk(chair, &frame, 65, path, 2, tiles, 3, addrs, 3) == TILING_BAD_WORDS);
+    EXPECT(tiling_walk(chair, &frame, 0, path, 2, tiles, 2, addrs, 3) == TILING_BAD_WORDS);
+    EXPECT(tiling_walk(chair, &frame, 0, path, 2, tiles, 3, addrs, 2) == TILING_BAD_WORDS);
+    path[0] = 8;
+    EXPECT(tiling_walk(chair, &frame, 0, path, 2, tiles, 3, addrs, 3) == TILING_NO_EDGE);
+    frame.base.kind = 1;
+    EXPECT(tiling_walk(chair, &frame, 0, path, 2, tiles, 3, addrs, 3) == TILING_BAD_ADDRESS);
+    frame.base.kind = 0, frame.base.depth = 64;
+    path[0] = 4;
+    EXPECT(tiling_walk(chair, &frame, 0, path, 1, tiles, 2, addrs, 2) == TILING_DEPTH_LIMIT);
+    EXPECT(memcmp(tiles, before, sizeof tiles) == 0);
+}
+
+/* number i of a star: its address, turn, shift and vertex */
+static int turns(const tiling_vertex_star *star, int i, const char *text, int turn, int64_t a, int64_t b,
+                 int vertex) {
+    const tiling_tile *tile = &star->tiles[i];
+    return has_text(&star->addrs[i], text) && tile->turn == turn && tile->shift[0] == a && tile->shift[1] == b
+           && tile->shift[2] == 0 && tile->shift[3] == 0 && tile->number == vertex && tile->status == 0;
+}
+
+static void try_star(void) {
+    tiling_machine chair = opened("chair"), hex = opened("halfhex");
+    static tiling_vertex_star star, before;
+    tiling_frame frame;
+    memset(&frame, 0, sizeof frame);
+    memset(&star, 7, sizeof star);
+    frame.seed = 42;
+    EXPECT(tiling_star(chair, &frame, 0, &star) == TILING_OK && star.count == 2);
+    EXPECT(turns(&star, 0, "0:3/0", 0, 0, 0, 0) && turns(&star, 1, "0:1/0", 1, 3, 1, 2));
+    EXPECT(star.tiles[2].kind == 7 && star.addrs[2].kind == 7);
+    frame.base = address(hex, "0:0/0");
+    EXPECT(tiling_star(hex, &frame, 2, &star) == TILING_OK && star.count == 3);
+    EXPECT(turns(&star, 0, "0:0/0", 0, 0, 0, 2) && turns(&star, 1, "0:1/0", 2, 3, 0, 2));
+    EXPECT(turns(&star, 2, "0:2/0", 3, 1, 2, 3));
+    frame.base = address(chair, "0:1/0");
+    EXPECT(tiling_star(chair, &frame, 5, &star) == TILING_OK && star.count == 3);
+    EXPECT(turns(&star, 0, "0:1/0", 0, 0, 0, 5) && turns(&star, 1, "0:0/0", 0, -1, -1, 7));
+    EXPECT(turns(&star, 2, "0:2/0", 1, 3, -1, 1));
+    before = star;
+    EXPECT(tiling_star(chair, &frame, 8, &star) == TILING_NO_VERTEX);
+    frame.base.kind = 1;
+    EXPECT(tiling_star(chair, &frame, 0, &star) == TILING_BAD_ADDRESS);
+    memset(&frame.base, 0, sizeof frame.base);
+    frame.base.depth = 64;
+    EXPECT(tiling_star(chair, &frame, 4, &star) == TILING_DEPTH_LIMIT);
+    EXPECT(memcmp(&star, &before, sizeof star) == 0);
+}
+
 static void try_arrays(void) {
     tiling_machine chair = opened("chair");
     tiling_address addrs[4], before[4];
@@ -343,16 +524,21 @@ static void try_arrays(void) {
     EXPECT(memcmp(&addrs[1], &before[1], 3 * sizeof *addrs) == 0);
 }
 
-int main(void) {
+int main(int many, char **words) {
     try_machines();
+    if (many > 1) try_files(words[1]);
     try_rule();
     try_addresses();
     try_place();
     try_neighbour();
     try_cover();
+    try_glue();
     try_shapes();
+    try_pair();
     try_locate();
     try_at();
+    try_walk();
+    try_star();
     try_arrays();
     return faults != 0;
 }

@@ -21,7 +21,7 @@ static unsigned long seen[256];
 
 /* counts a status; only those of the header come */
 static void count(int status) {
-    static const uint8_t known[] = {0, 2, 4, 5, 6, 7, 8, 11, 12};
+    static const uint8_t known[] = {0, 2, 3, 4, 5, 6, 7, 8, 11, 12, 15, 16};
     seen[status]++;
     if (!memchr(known, status, sizeof known)) {
         fprintf(stderr, "hostile: status %d\n", status);
@@ -88,6 +88,9 @@ static void try_text(tiling_machine machine) {
     if (status == TILING_OK && *bytes > room) exit(1);
     tiling_machine *slot = block(sizeof *slot);
     count(tiling_open(text, length, slot));
+    memset(written, 7, room);
+    count(status = tiling_open_file((const uint8_t *)text, length, slot, written, room, bytes));
+    if (status != TILING_RULE_REFUSED || (*bytes < room && written[*bytes] != 7)) exit(1);
     free(slot);
     free(text);
     free(written);
@@ -116,6 +119,13 @@ static void try_window(tiling_machine machine) {
     memcpy(kept, tiles, room * sizeof *tiles);
     count(status = tiling_cover(machine, frame, window, tiles, room, addrs, others, number));
     if (status) same(tiles, kept, room * sizeof *tiles, "tiling_cover");
+    tiling_whole_tile *wholes = block(room * sizeof *wholes), *before = block(room * sizeof *before);
+    fill(wholes, room * sizeof *wholes);
+    memcpy(before, wholes, room * sizeof *wholes);
+    count(status = tiling_glue(machine, frame, window, wholes, room, number));
+    if (status) same(wholes, before, room * sizeof *wholes, "tiling_glue");
+    free(wholes);
+    free(before);
     free(frame);
     free(window);
     free(tiles);
@@ -183,12 +193,45 @@ static void try_point(tiling_machine machine) {
     free(frame);
 }
 
+static void try_path(tiling_machine machine) {
+    size_t edges = any() % 30, room = any() % 8 ? edges + 1 : any() % 30;
+    size_t rooms = any() % 8 ? edges + 1 : any() % 30;
+    uint8_t *path = block(edges), grow = any() % 8 ? any() % 65 : any();
+    tiling_tile *tiles = block(room * sizeof *tiles), *kept = block(room * sizeof *kept);
+    tiling_address *addrs = block(rooms * sizeof *addrs);
+    tiling_frame *frame = block(sizeof *frame);
+    tiling_vertex_star *star = block(sizeof *star), *before = block(sizeof *before);
+    int status;
+    for (size_t i = 0; i < edges; i++) path[i] = any() % 16 ? any() % 3 : any();
+    fill(frame, sizeof *frame);
+    fill_address(&frame->base);
+    if (any() % 2) frame->base.kind = any() % 3, frame->base.depth = 0;
+    fill(tiles, room * sizeof *tiles);
+    memcpy(kept, tiles, room * sizeof *tiles);
+    count(status = tiling_walk(machine, frame, grow, path, edges, tiles, room, addrs, rooms));
+    if (status) same(tiles, kept, room * sizeof *tiles, "tiling_walk");
+    fill(star, sizeof *star);
+    *before = *star;
+    count(status = tiling_star(machine, frame, any() % 8 ? any() % 5 : any(), star));
+    if (status) same(star, before, sizeof *star, "tiling_star");
+    if (status == TILING_OK && (star->count < 1 || star->count > 64)) exit(1);
+    free(path);
+    free(tiles);
+    free(kept);
+    free(addrs);
+    free(frame);
+    free(star);
+    free(before);
+}
+
 static void try_many(tiling_machine machine) {
     size_t many = any() % 12, others = any() % 8 ? many : any() % 12;
     tiling_address *addrs = block(many * sizeof *addrs), *kept = block(many * sizeof *kept);
+    tiling_address *one = block(sizeof *one);
     tiling_tile *tiles = block(others * sizeof *tiles);
     uint8_t *edges = block(many);
     tiling_crossing *crossings = block(others * sizeof *crossings);
+    tiling_relation *told = block(sizeof *told), before;
     int status;
     for (size_t i = 0; i < many; i++) fill_address(&addrs[i]), edges[i] = any() % 5 ? any() % 4 : any();
     memcpy(kept, addrs, many * sizeof *addrs);
@@ -200,11 +243,21 @@ static void try_many(tiling_machine machine) {
         count(crossings[i].status);
         if (crossings[i].status) same(&addrs[i], &kept[i], sizeof *addrs, "tiling_neighbour_all");
     }
+    fill_address(one);
+    fill(told, sizeof *told);
+    before = *told;
+    if (many > 1) {
+        count(status = tiling_pair(machine, &addrs[0], any() % 2 ? &addrs[1] : one, told));
+        if (status) same(told, &before, sizeof before, "tiling_pair");
+        if (!status && told->relation > TILING_BESIDE) exit(1);
+    }
     free(addrs);
     free(kept);
+    free(one);
     free(tiles);
     free(edges);
     free(crossings);
+    free(told);
 }
 
 int main(int many, char **words) {
@@ -219,6 +272,7 @@ int main(int many, char **words) {
         if (round % 10 == 0) try_text(machine);
         if (round % 10 == 1) try_shape(machine);
         if (round % 20 == 2) try_point(machine);
+        if (round % 20 == 3) try_path(machine);
         if (round % 10 == 4) try_many(machine);
         if (round % 50 == 0) try_window(machine);
     }

@@ -40,7 +40,21 @@ SIZE(tiling_outline, 392);
 PLACE(tiling_outline, corners, 0);
 PLACE(tiling_outline, count, 384);
 
+SIZE(tiling_relation, 13);
+PLACE(tiling_relation, relation, 0);
+PLACE(tiling_relation, backs, 1);
+
 SIZE(tiling_crossing, 3);
 PLACE(tiling_crossing, status, 0);
 PLACE(tiling_crossing, back, 1);
 PLACE(tiling_crossing, part, 2);
+
+SIZE(tiling_vertex_star, 10888);
+PLACE(tiling_vertex_star, tiles, 0);
+PLACE(tiling_vertex_star, addrs, 2560);
+PLACE(tiling_vertex_star, count, 10880);
+
+SIZE(tiling_whole_tile, 344);
+PLACE(tiling_whole_tile, tiles, 0);
+PLACE(tiling_whole_tile, addrs, 80);
+PLACE(tiling_whole_tile, parts, 340);

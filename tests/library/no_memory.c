@@ -77,13 +77,54 @@ static long cover_each(tiling_machine machine) {
     return refused - 2;
 }
 
+static long glue_each(tiling_machine machine) {
+    static tiling_whole_tile wholes[200], kept[200];
+    tiling_frame frame;
+    tiling_window window = {{0, 0, 0, 0}, 8, 8};
+    tiling_status status = TILING_NO_MEMORY;
+    memset(&frame, 0, sizeof frame);
+    memset(wholes, 7, sizeof wholes);
+    memcpy(kept, wholes, sizeof wholes);
+    for (refused = 1; status == TILING_NO_MEMORY; refused++) {
+        long before = blocks;
+        size_t count = 77;
+        asked = 0;
+        status = tiling_glue(machine, &frame, &window, wholes, 200, &count);
+        expect(blocks == before, "a block was kept");
+        expect(status == TILING_OK || (count == 77
+               && memcmp(wholes, kept, sizeof wholes) == 0), "tiling_glue");
+    }
+    expect(status == TILING_OK, "the last status");
+    return refused - 2;
+}
+
+/* a refused rule file: its line takes memory, too */
+static long refuse_each(void) {
+    tiling_status status = TILING_NO_MEMORY;
+    for (refused = 1; status == TILING_NO_MEMORY; refused++) {
+        long before = blocks;
+        tiling_machine machine = NULL;
+        char line[128] = "";
+        size_t count = 77;
+        asked = 0;
+        status = tiling_open_file((const uint8_t *)"format = 2", 10, &machine, line, 128, &count);
+        expect(blocks == before && machine == NULL, "a block was kept");
+        expect(status == TILING_RULE_REFUSED || (count == 77 && line[0] == 0), "tiling_open_file");
+    }
+    expect(status == TILING_RULE_REFUSED, "the last status");
+    return refused - 2;
+}
+
 int main(void) {
     static const char *const names[] = {"chair", "p2", "p3", "ab", "halfhex"};
     for (int i = 0; i < 5; i++) {
         tiling_machine machine;
         long opening = open_each(names[i], &machine), covering = cover_each(machine);
-        expect(opening > 0 && covering > 0, "no call of malloc");
-        printf("%s: %ld calls of malloc at opening, %ld at covering\n", names[i], opening, covering);
+        long gluing = glue_each(machine);
+        expect(opening > 0 && covering > 0 && gluing > 0, "no call of malloc");
+        printf("%s: %ld calls of malloc at opening, %ld at covering, %ld at gluing\n", names[i], opening,
+               covering, gluing);
     }
+    printf("a refused file: %ld calls of malloc\n", refuse_each());
     return faults != 0;
 }

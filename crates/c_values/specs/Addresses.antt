@@ -9,11 +9,11 @@ use Rattle.c_values.specs.declared.plain_address.PlainAddress.{PlainAddress}
 abbrev pub digit_in : PlainDigit → theory.Step
 digit_in d = record { child = d.child; parent = d.parent }
 
--- the kind, and the first `depth` digits
+-- an address: the kind, and the first `depth` digits
 abbrev pub address_in : PlainAddress → theory.Address
 address_in p = record { kind = p.kind; digits = map digit_in (take p.depth p.digits) }
 
--- it has at most 64 digits, and is the address of a tile of this tiling
+-- the numbers are the address of a tile of this tiling, with at most 64 digits
 pub record NamesTile (t : Tiling) (p : PlainAddress) : Type 0 where
   pub no_deeper : p.depth ≤ 64
   pub fits : theory.Fits (children t) (address_in p)

@@ -1,5 +1,5 @@
 -- What the plain frames of C stand for.
-use Rattle.lazy_walk.specs.Frames.{FrameValue}
+use Rattle.theory_walks.specs.Frames.{FrameValue}
 use Rattle.c_values.specs.declared.plain_frame.PlainFrame.{PlainFrame}
 use Rattle.c_values.specs.Addresses.{address_in}
 

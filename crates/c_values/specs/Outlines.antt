@@ -8,6 +8,6 @@ use Rattle.c_values.specs.declared.plain_point.PlainPoint.{PlainPoint}
 abbrev pub point_of : PlainPoint → Point
 point_of p = record { c = p.c }
 
--- the first `count` points
+-- the corners: the first `count` points
 abbrev pub corners_in : PlainOutline → List Point
 corners_in p = map point_of (take p.count p.corners)

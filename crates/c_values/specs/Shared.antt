@@ -1,4 +1,4 @@
--- What a handle holds: what a `&'static` to its value holds, at the place that it points to.
+-- What a handle owns: what a `&'static` to its value owns, at the place that it points to.
 use base.Fml.{Fml, ffalse, ftrue}
 use denote.RattleType.{RattleType}
 use denote.Memory.{hidden_shr}
@@ -7,12 +7,12 @@ use mathlib.Core.List.{[]}
 use Rattle.std.specs.Prelude.{None, Some}
 use Rattle.std.specs.declared.option.Option.{Option}
 
--- at this place lies the value x of type R, lent for good; nothing lies at null
+-- the value x of type R is at this place, and is lent forever; no value is at null
 abbrev pub shared_at : (R : RattleType) → Ptr → R.Denot → Fml
 shared_at R (block_ptr b o) x = hidden_shr R [] x b o
 shared_at R null_ptr x = ffalse
 
--- where there is such a value, it lies at this place; else the place may be any
+-- if there is a value, it is at this place; otherwise the place is arbitrary
 abbrev pub slot_at : (R : RattleType) → Ptr → Option R.Denot → Fml
 slot_at R p None = ftrue
 slot_at R p (Some x) = shared_at R p x

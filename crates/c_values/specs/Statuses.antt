@@ -1,4 +1,4 @@
--- The statuses that calls answer: the exit codes of the command.
+-- The statuses that calls return: the exit codes of the command.
 use Rattle.std.specs.Prelude.{ℕ}
 
 abbrev pub ok : ℕ
@@ -6,6 +6,9 @@ ok = 0
 
 abbrev pub bad_words : ℕ
 bad_words = 2
+
+abbrev pub rule_refused : ℕ
+rule_refused = 3
 
 abbrev pub bad_address : ℕ
 bad_address = 4
@@ -27,3 +30,9 @@ no_memory = 11
 
 abbrev pub no_edge : ℕ
 no_edge = 12
+
+abbrev pub no_vertex : ℕ
+no_vertex = 15
+
+abbrev pub star_too_big : ℕ
+star_too_big = 16

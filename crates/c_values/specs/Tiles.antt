@@ -10,7 +10,7 @@ use Rattle.c_values.specs.declared.plain_tile.PlainTile.{PlainTile}
 abbrev pub motion_of : PlainTile → Motion
 motion_of p = record { turn = p.turn; shift = record { c = p.shift } }
 
--- a tile of this kind at its place, with this number: its status is 0, and so is what is kept for later
+-- a tile of this kind at its place, with this number; its status and `rest` are 0
 abbrev pub tile_as : ℕ → Motion → ℕ → PlainTile
 tile_as kind m number = record {
   shift = m.shift.c;
@@ -21,7 +21,7 @@ tile_as kind m number = record {
   rest = 0 ∷ 0 ∷ 0 ∷ 0 ∷ [];
 }
 
--- no tile, for this reason: all its other numbers are 0
+-- no tile, for the reason in `status`; all other numbers are 0
 abbrev pub refused_as : ℕ → PlainTile
 refused_as status = record {
   shift = pos 0 ∷ pos 0 ∷ pos 0 ∷ pos 0 ∷ [];
@@ -32,7 +32,7 @@ refused_as status = record {
   rest = 0 ∷ 0 ∷ 0 ∷ 0 ∷ [];
 }
 
--- the numbers give a motion of the order: its turn is below n, and its shift is a point of the order with coefficients up to 2^24
+-- The numbers give a motion of the order. Its turn is below n, and its shift is a point of the order with coefficients up to 2^24 in absolute value.
 pub record GivesMotion (o : Order) (p : PlainTile) : Type 0 where
   pub turn_below : p.turn < (points_of o).order
   pub within : IsWithin (2 ^ 24) (motion_of p).shift

@@ -27,6 +27,18 @@ pub struct PlainAddress {
 }
 
 impl PlainAddress {
+    /// Makes an address with all numbers 0.
+    pub fn blank() -> PlainAddress {
+        PlainAddress {
+            kind: 0,
+            depth: 0,
+            digits: [PlainDigit {
+                child: 0,
+                parent: 0,
+            }; 64],
+        }
+    }
+
     /// Returns the address of these numbers, or None exactly if the depth is above 64.
     pub fn read(&self) -> Option<Address>
         ensures seen { IfSome result (λ a. address_of a ≡ address_in self.now) }

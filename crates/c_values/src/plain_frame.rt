@@ -1,6 +1,6 @@
 //! Frames as plain numbers.
 ghost use Rattle.std.specs.Prelude.{◌≡◌, ◌↔◌, IsSome, IfSome};
-ghost use Rattle.lazy_walk.specs.Frames.{IsFrameOf};
+ghost use Rattle.theory_walks.specs.Frames.{IsFrameOf};
 ghost use Rattle.rule_model.specs.Tiling.{tiling_of};
 ghost use Rattle.c_values.specs.Addresses.{NamesTile};
 ghost use Rattle.c_values.specs.Frames.{frame_in};

@@ -6,6 +6,9 @@ pub const OK: u8 = 0;
 /// A number is out of range, the lengths of two arrays differ, or a name is unknown.
 pub const BAD_WORDS: u8 = 2;
 
+/// The rule file stands for no accepted rule.
+pub const RULE_REFUSED: u8 = 3;
+
 /// The address is not that of a tile of the rule.
 pub const BAD_ADDRESS: u8 = 4;
 
@@ -26,3 +29,9 @@ pub const NO_MEMORY: u8 = 11;
 
 /// The tile does not have this edge.
 pub const NO_EDGE: u8 = 12;
+
+/// The tile does not have this vertex.
+pub const NO_VERTEX: u8 = 15;
+
+/// More than 64 tiles have the vertex.
+pub const STAR_TOO_BIG: u8 = 16;

@@ -1,7 +1,13 @@
 mod Arrays
+mod Backs
 mod Covers
 mod EdgeGiven
 mod Fronts
+mod Glued
 mod Holder
 mod Moved
+mod Opened
+mod PathFaults
 mod TextGiven
+mod Turns
+mod Walked

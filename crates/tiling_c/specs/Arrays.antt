@@ -1,4 +1,4 @@
--- Calls on arrays: what is answered of each item.
+-- Calls on arrays: what they return for each item.
 use Rattle.std.specs.Prelude.{◌≡◌, ◌↔◌, ◌⊎◌, ◌≤◌, ℕ, List, [], get_or, IsSome}
 use Rattle.cyclo_points.specs.Motion.{motion_in}
 use Rattle.rule_model.specs.Tiling.{Tiling, IsPlaced}
@@ -15,14 +15,14 @@ use Rattle.c_values.specs.Tiles.{motion_of, tile_as, refused_as}
 abbrev pub no_address : PlainAddress
 no_address = record { kind = 0; depth = 0; digits = [] }
 
--- number i of an array of tiles, and of one of addresses
+-- the tile at index i of an array, and the address
 abbrev pub tile_at : List PlainTile → ℕ → PlainTile
 tile_at tiles i = get_or tiles i (refused_as 0)
 
 abbrev pub address_at : List PlainAddress → ℕ → PlainAddress
 address_at addrs i = get_or addrs i no_address
 
--- the numbers tell where the tile of an address lies in its supertile, or by their status why it isn't told
+-- the numbers show where the tile of an address lies in its supertile, or their status shows why not
 pub record ShowsPlace (t : Tiling) (addr : PlainAddress) (tile : PlainTile) : Type 0 where
   pub placed : tile.status ≡ ok → IsPlaced t (address_in addr) (motion_in t.order (motion_of tile))
   pub plain : tile.status ≡ ok → tile ≡ tile_as addr.kind (motion_of tile) 0
@@ -31,12 +31,11 @@ pub record ShowsPlace (t : Tiling) (addr : PlainAddress) (tile : PlainTile) : Ty
   pub refused : ¬ tile.status ≡ ok → tile ≡ refused_as tile.status
   pub statuses : (tile.status ≡ ok) ⊎ (tile.status ≡ bad_address) ⊎ (tile.status ≡ coord_limit)
 
--- number i of an array of crossings
+-- the crossing at index i of an array
 abbrev pub crossing_at : List PlainCrossing → ℕ → PlainCrossing
 crossing_at crossings i = get_or crossings i (record { status = 0; back = 0; part = 0 })
 
--- The address has become that of the only tile across the edge, and the numbers tell its edge that leads back; or the address is as it was, and the numbers tell
--- why.
+-- The address has become that of the only tile across the edge, and `back` is its edge that leads back; or the address is unchanged, and the status shows why.
 pub record ShowsCrossing (t : Tiling) (old : PlainAddress) (edge : ℕ) (new : PlainAddress) (crossing : PlainCrossing) : Type 0 where
   pub across : crossing.status ≡ ok → IsOnlyAcross t (address_in old) edge (address_in new) crossing.back
   pub leads_back : crossing.status ≡ ok → IsOnlyAcross t (address_in new) crossing.back (address_in old) edge

@@ -1,6 +1,6 @@
 -- The tiles of a window in a caller's arrays.
 use Rattle.std.specs.Prelude.{◌≡◌, ◌⊎◌, ℕ, List, length, map, min, take, drop}
-use Rattle.lazy_walk.specs.Frames.{FrameValue, GrowsTo}
+use Rattle.theory_walks.specs.Frames.{FrameValue, GrowsTo}
 use Rattle.plane_geom.specs.declared.window.Window.{Window}
 use Rattle.rule_model.specs.Tiling.{Tiling}
 use Rattle.tile_place.specs.declared.placed_tile.PlacedTile.{PlacedTile}
@@ -16,22 +16,22 @@ use Rattle.c_values.specs.Statuses.{depth_limit, coord_limit, too_many_tiles, no
 use Rattle.c_values.specs.Windows.{GivesWindow}
 use Rattle.tiling_c.specs.Shown.{tile_shown, address_shown}
 
--- of so many tiles as many stand in an array as it has room for
+-- how many of these tiles an array holds: all of them, or as many as it has room for
 abbrev pub held : List PlacedTile → ℕ → ℕ
 held all room = min (length all) room
 
--- the tiles stand in front in an array, as many as it has room for; behind them it is as it was
+-- the tiles are at the front of an array, as many as it has room for, and the entries after them are unchanged
 pub record HoldsTiles (all : List PlacedTile) (old new : List PlainTile) : Type 0 where
   pub front : take (held all (length old)) new ≡ map tile_shown (take (held all (length old)) all)
   pub behind : drop (held all (length old)) new ≡ drop (held all (length old)) old
 
--- and so do their addresses in another
+-- the same holds for their addresses in another array
 pub record HoldsAddresses (all : List PlacedTile) (old new : List PlainAddress) : Type 0 where
   pub front : map address_in (take (held all (length old)) new) ≡ map address_shown (take (held all (length old)) all)
   pub behind : drop (held all (length old)) new ≡ drop (held all (length old)) old
 
--- These tiles are exactly those of a frame, grown from `start`, that meet the window, each once and in order, and they cover it. Their number is told, and they
--- and their addresses stand in the arrays, as far as there is room.
+-- These are exactly the tiles of a frame, grown from `start`, that meet the window. Each comes exactly once, in order, and they cover the window. `count` is their
+-- number. They and their addresses are in the arrays, as far as there is room.
 pub record IsCover (t : Tiling) (start : FrameValue) (window : Window) (tiles new_tiles : List PlainTile) (addrs new_addrs : List PlainAddress) (count : ℕ) : Type 0 where
   pub frame : FrameValue
   pub all : List PlacedTile
@@ -47,7 +47,7 @@ status_of (CoordLimit value) = coord_limit
 status_of TooManyTiles = too_many_tiles
 status_of NoMemory = no_memory
 
--- the search for the window's tiles, in the frame as it had grown then, has a cause to end, and this is its status
+-- the search for the tiles of the window ended for a cause, in the frame as it had grown then, and this is its status
 pub record EndsCover (t : Tiling) (start : FrameValue) (window : Window) (status : ℕ) : Type 0 where
   pub frame : FrameValue
   pub grown : GrowsTo t start frame
@@ -55,7 +55,7 @@ pub record EndsCover (t : Tiling) (start : FrameValue) (window : Window) (status
   pub cause : HasCause t start frame window fault
   pub is_status : status ≡ status_of fault
 
--- the numbers give a window, and there is room for no addresses, or for as many as tiles
+-- the numbers give a window, and there is room for no addresses, or for as many addresses as tiles
 pub record AsksForWindow (window : PlainWindow) (tiles : List PlainTile) (addrs : List PlainAddress) : Type 0 where
   pub window_given : GivesWindow window
   pub lengths : (length addrs ≡ 0) ⊎ (length addrs ≡ length tiles)

@@ -1,8 +1,8 @@
 -- The tile of a frame that holds a point, as plain numbers.
 use Rattle.std.specs.Prelude.{◌≡◌, ℕ, ◌<◌, ◌≤◌, length}
 use Rattle.cyclo_points.specs.Order.{NumberOf}
-use Rattle.lazy_walk.specs.Containing.{FrameHolds, IsOnlyHolder}
-use Rattle.lazy_walk.specs.Frames.{FrameValue, GrowsTo, at_depth}
+use Rattle.theory_walks.specs.Containing.{FrameHolds, IsOnlyHolder}
+use Rattle.theory_walks.specs.Frames.{FrameValue, GrowsTo, at_depth}
 use Rattle.lazy_walk.specs.Standing.{Stands}
 use Rattle.rule_model.specs.Tiling.{Tiling}
 use Rattle.tile_place.specs.declared.placed_tile.PlacedTile.{PlacedTile}
@@ -13,8 +13,8 @@ use Rattle.c_values.specs.declared.plain_tile.PlainTile.{PlainTile}
 use Rattle.c_values.specs.Addresses.{address_in}
 use Rattle.tiling_c.specs.Shown.{tile_shown}
 
--- The frame has grown from `start` to the least depth at which it holds the point. Of its tiles there this one holds the point and no other does, and these
--- are its numbers and its address.
+-- The frame has grown from `start` to the least depth at which it holds the point. Exactly one of its tiles there holds the point. These are its numbers and its
+-- address.
 pub record ShowsHolder (t : Tiling) (start : FrameValue) (p : NumberOf t.order) (numbers : PlainTile) (addr : PlainAddress) : Type 0 where
   pub frame : FrameValue
   pub grown : GrowsTo t start frame

@@ -3,5 +3,10 @@ pub mod Covering
 pub mod Holding
 pub mod Locating
 pub mod Machines
+pub mod Opening
+pub mod Pairing
 pub mod Shapes
 pub mod Shown
+pub mod Stars
+pub mod Walks
+pub mod Wholes

@@ -1,6 +1,6 @@
 //! The tiles of a window.
 ghost use Rattle.std.specs.Prelude.{◌≡◌, ◌↔◌, ◌⊎◌, length, IsTrue};
-ghost use Rattle.lazy_walk.specs.Frames.{IsFrameOf};
+ghost use Rattle.theory_walks.specs.Frames.{IsFrameOf};
 ghost use Rattle.rule_model.specs.Tiling.{tiling_of};
 ghost use Rattle.window_cover.specs.Limits.{IsWithinLimits};
 ghost use Rattle.window_cover.specs.Windows.{IsWindow};
@@ -65,7 +65,7 @@ fn put_covered(covered: &CoveredTiles, tiles: &mut [PlainTile], addrs: &mut [Pla
 }
 
 /// Returns the status of a fault.
-fn status_of(fault: &CoverFault) -> u8
+pub(crate) fn status_of(fault: &CoverFault) -> u8
     ensures { result ≡ status_of fault.now }
 {
     match fault {

@@ -1,8 +1,8 @@
 //! The tile of a frame that holds a point.
 ghost use Rattle.std.specs.Prelude.{◌≡◌, ◌↔◌, ◌⊎◌, ◌^◌, None};
 ghost use Rattle.cyclo_points.specs.Point.{point_in, IsWithin};
-ghost use Rattle.lazy_walk.specs.Containing.{first_refused_outward};
-ghost use Rattle.lazy_walk.specs.Frames.{IsFrameOf};
+ghost use Rattle.theory_walks.specs.Containing.{first_refused_outward};
+ghost use Rattle.theory_walks.specs.Frames.{IsFrameOf};
 ghost use Rattle.rule_model.specs.Tiling.{tiling_of};
 ghost use Rattle.c_values.specs.Addresses.{NamesTile};
 ghost use Rattle.c_values.specs.Frames.{frame_in};

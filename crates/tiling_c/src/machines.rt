@@ -14,12 +14,15 @@ use rule_model::checked::Checked;
 use std::alloc::Global;
 use tile_place::machine::Machine;
 
+/// The version of the header that this library was made for.
+const ABI: u32 = 1;
+
 /// Returns the version of the header that this library was made for.
 #[unsafe(no_mangle)]
 pub extern "C" fn tiling_abi() -> u32
     ensures { result ≡ 1 }
 {
-    1
+    ABI
 }
 
 /// Puts the handle of a checked rule's machine into a slot. The machine is never freed.

@@ -1,6 +1,6 @@
 use Rattle.std.proofs.Common.{◌≡◌, ◌↔◌, None, refl, ap, ◌∙◌}
 use Rattle.cyclo_points.specs.Point.{point_in}
-use Rattle.lazy_walk.specs.Containing.{first_refused_outward}
+use Rattle.theory_walks.specs.Containing.{first_refused_outward}
 use Rattle.rule_model.specs.Tiling.{tiling_of}
 use Rattle.c_values.specs.Statuses.{ok}
 use Rattle.c_values.specs.Windows.{point_given}

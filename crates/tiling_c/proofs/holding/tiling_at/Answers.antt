@@ -1,6 +1,6 @@
 use Rattle.std.proofs.Common.{◌≡◌, ◌↔◌, None, subst}
 use Rattle.cyclo_points.specs.Point.{point_in}
-use Rattle.lazy_walk.specs.Containing.{first_refused_outward}
+use Rattle.theory_walks.specs.Containing.{first_refused_outward}
 use Rattle.rule_model.specs.Tiling.{tiling_of}
 use Rattle.c_values.specs.Addresses.{NamesTile}
 use Rattle.c_values.specs.Frames.{frame_in}

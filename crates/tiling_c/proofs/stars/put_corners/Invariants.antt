@@ -1,0 +1,12 @@
+use Rattle.std.proofs.Common.{◌≡◌, length, map, take}
+use Rattle.c_values.specs.Addresses.{address_in}
+use Rattle.tiling_c.specs.Stars.{corner_shown, corner_address}
+use Rattle.tiling_c.proofs.stars.put_corners.Given as goal
+
+-- the corners so far
+abbrev pub invariant-loop-i : goal.invariant-loop-i
+invariant-loop-i l = record {
+  count : l.out.count ≡ length l.corners;
+  tiles : take l.i l.out.tiles ≡ map corner_shown (take l.i l.corners);
+  addresses : map address_in (take l.i l.out.addrs) ≡ map corner_address (take l.i l.corners);
+}
