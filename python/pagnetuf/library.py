@@ -1,10 +1,9 @@
 """The engine as the C library, called in the process by ctypes: tens of times faster a call than the program,
 and the tiles of a window come as arrays.
 
-What the library's header, include/tiling.h, has no call for is asked of the program: rule files, whole tiles
-whose halves reach out of the supertile, stars, walks, pairs and listings. The library is that which
-TILING_LIBRARY names, or one beside the package's files, or .tiling/libtiling.so.0 of a checkout, or the
-installed one."""
+What the library's header, include/tiling.h, has no call for is asked of the program: listings, and the line
+of a refusal. The library is the one that TILING_LIBRARY names, or one next to the package's files, or
+.tiling/libtiling.so.0 of a checkout, or the installed one."""
 import ctypes
 import os
 from typing import Optional, Sequence, Tuple
@@ -15,9 +14,9 @@ from . import places
 from .built_in import BUILT_IN
 from .engine import ADDRESS, MOST_TILES, TILE, Addresses, Box, Engine, Found, Frame, Machine
 from .glue import glued
-from .program import ProgramEngine, ProgramMachine, address_texts
-from .refusals import BadWords, NoEngine, NoMemory, Refusal
-from .rule import Rule
+from .program import ProgramEngine, address_texts
+from .refusals import BadWords, NoEngine, NoMemory, Refusal, refusal_of
+from .rule import Rule, document_of
 
 ABI = 1
 FRAME = np.dtype([("seed", "<u8"), ("base", ADDRESS), ("rest", "u1", 6)])
@@ -36,13 +35,24 @@ CALLS = {
     "neighbour": (STATUS, POINTER, POINTER, ctypes.c_uint8, POINTER, POINTER),
     "cover": (STATUS, POINTER, POINTER, POINTER, POINTER, SIZE, POINTER, SIZE, POINTER),
 }
-# functions that a library may lack; without them the calls on arrays ask for each item by itself
+# functions that a library may lack: then the calls on arrays ask for each item by itself, and the rest is
+# asked of the program
 MORE_CALLS = {
     "place_all": (STATUS, POINTER, POINTER, SIZE, POINTER, SIZE),
     "neighbour_all": (STATUS, POINTER, POINTER, SIZE, POINTER, SIZE, POINTER, SIZE),
+    "pair": (STATUS, POINTER, POINTER, POINTER, POINTER),
+    "star": (STATUS, POINTER, POINTER, ctypes.c_uint8, POINTER),
+    "open_file": (STATUS, ctypes.c_char_p, SIZE, POINTER, POINTER, SIZE, POINTER),
+    "glue": (STATUS, POINTER, POINTER, POINTER, POINTER, SIZE, POINTER),
+    "walk": (STATUS, POINTER, POINTER, ctypes.c_uint8, POINTER, SIZE, POINTER, SIZE, POINTER, SIZE),
 }
 CROSSING = np.dtype([("status", "u1"), ("back", "u1"), ("part", "u1")])
-LONGEST_TEXT = 515
+RELATION = np.dtype([("relation", "u1"), ("backs", "u1", 12)])
+STAR = np.dtype([("tiles", TILE, 64), ("addresses", ADDRESS, 64), ("count", "u1"), ("rest", "u1", 7)])
+WHOLE = np.dtype([("tiles", TILE, 2), ("addresses", ADDRESS, 2), ("parts", "u1"), ("rest", "u1", 3)])
+BESIDE, NO_BACK = 3, 255
+RELATIONS = ("none", "same", "apart")  # 0, 1 and 2
+LONGEST_TEXT, LONGEST_PATH, LONGEST_LINE = 515, 1000, 128
 
 
 class OneAddress(ctypes.Structure):
@@ -90,30 +100,44 @@ class LibraryEngine(Engine):
     def machine(self, name: str) -> "LibraryMachine":
         if name not in BUILT_IN:
             raise BadWords(1)
-        return LibraryMachine(self, name)
-
-    def machine_of(self, data: bytes) -> ProgramMachine:
-        return self.asking().machine_of(data)
-
-
-class LibraryMachine(Machine):
-    """A machine of a built-in rule. It is only read, so threads may share it."""
-
-    def __init__(self, engine: LibraryEngine, name: str):
-        self.engine, self.name, self.rule, self.library = engine, name, Rule.built_in(name), engine.library
         handle, text = ctypes.c_void_p(), name.encode()
         status = self.library.open(text, len(text), ctypes.byref(handle))
         if status != OK:
             raise NoMemory() if status == NoMemory.status else NoEngine(f"tiling_open answered {status}")
-        self.handle = handle
+        return LibraryMachine(self, name, Rule.built_in(name), handle)
+
+    def machine_of(self, data: bytes) -> Machine:
+        if not self.library.open_file:
+            return self.asking().machine_of(data)
+        handle, size = ctypes.c_void_p(), ctypes.c_size_t()
+        line = ctypes.create_string_buffer(LONGEST_LINE)
+        status = self.library.open_file(
+            *(data, len(data), ctypes.byref(handle)),
+            *(line, LONGEST_LINE, ctypes.byref(size)),
+        )
+        if status == OK:
+            return LibraryMachine(self, "-", Rule(document_of(data)), handle, data)
+        raise NoMemory() if status == NoMemory.status else refusal_of(line.raw[: size.value].decode())
+
+
+class LibraryMachine(Machine):
+    """A machine of a built-in rule, or of a rule file with its bytes. It is only read, so threads may share
+    it."""
+
+    def __init__(self, engine: LibraryEngine, name: str, rule: Rule, handle, file: Optional[bytes] = None):
+        self.engine, self.name, self.rule, self.library = engine, name, rule, engine.library
+        self.handle, self.file = handle, file
 
     def __reduce__(self):
+        if self.file is not None:
+            return self.engine.machine_of, (self.file,)
         return self.engine.machine, (self.name,)
 
     def asking(self) -> Machine:
         """The same rule over the program, for what the library has no call for, and for the line of a
         refusal."""
-        return self.engine.asking().machine(self.name)
+        asked = self.engine.asking()
+        return asked.machine(self.name) if self.file is None else asked.machine_of(self.file)
 
     def address(self, text: str) -> Optional[OneAddress]:
         """The address of a text, or None where it is none of this rule."""
@@ -200,23 +224,39 @@ class LibraryMachine(Machine):
         return read, statuses != OK
 
     def cover(self, frame: Frame, box: Box, glue: bool = False) -> Found:
-        found, status = self._covered(frame, box)
+        is_glued = glue and bool(self.rule.glue)
+        find = self._glued if is_glued and self.library.glue else self._covered
+        found, status = find(frame, box)
         if status != OK:
             return self._refused(status, lambda: self.asking().cover(frame, box, glue))
-        if not glue or not self.rule.glue:
+        if not is_glued or self.library.glue:
             return found
         return glued(self.rule, found, self._mate) or self.asking().cover(frame, box, True)
 
-    def _covered(self, frame: Frame, box: Box) -> Tuple[Found, int]:
-        base, window, plane = self.address(frame.base), np.zeros((), WINDOW), np.zeros((), FRAME)
+    def _frame(self, frame: Frame) -> Tuple[np.ndarray, int]:
+        """A frame as FRAME, and a status, with which it is refused if that isn't OK."""
+        base, plane = self.address(frame.base), np.zeros((), FRAME)
         if base is None:
-            return NOTHING, BAD_ADDRESS
-        if not fits(frame.seed, "<u8") or not all(fits(half, "<u2") for half in box.half):
-            return NOTHING, BadWords.status
-        if not all(fits(a, "<i8") for a in box.at):
-            return NOTHING, BadWords.status
-        plane["seed"], plane["base"], window["at"] = frame.seed, np.frombuffer(base, ADDRESS)[0], box.at
-        window["w"], window["h"] = box.half
+            return plane, BAD_ADDRESS
+        if not fits(frame.seed, "<u8"):
+            return plane, BadWords.status
+        plane["seed"], plane["base"] = frame.seed, np.frombuffer(base, ADDRESS)[0]
+        return plane, OK
+
+    def _window(self, frame: Frame, box: Box) -> Tuple[np.ndarray, np.ndarray, int]:
+        """A frame as FRAME, a window as WINDOW, and a status: that of their refusal, or OK."""
+        (plane, status), window = self._frame(frame), np.zeros((), WINDOW)
+        if status != OK:
+            return plane, window, status
+        if not all(fits(half, "<u2") for half in box.half) or not all(fits(a, "<i8") for a in box.at):
+            return plane, window, BadWords.status
+        window["at"], (window["w"], window["h"]) = box.at, box.half
+        return plane, window, OK
+
+    def _covered(self, frame: Frame, box: Box) -> Tuple[Found, int]:
+        plane, window, status = self._window(frame, box)
+        if status != OK:
+            return NOTHING, status
         # (zeros of this size are pages that nobody has touched yet)
         tiles, addresses, count = np.zeros(MOST_TILES, TILE), np.zeros(MOST_TILES, ADDRESS), ctypes.c_size_t()
         status = self.library.cover(
@@ -225,6 +265,21 @@ class LibraryMachine(Machine):
         )
         found = [it[: count.value].copy() for it in (tiles, addresses)]
         return Found(*found, np.arange(count.value)), status
+
+    def _glued(self, frame: Frame, box: Box) -> Tuple[Found, int]:
+        """The halves of the whole tiles of a window."""
+        plane, window, status = self._window(frame, box)
+        if status != OK:
+            return NOTHING, status
+        wholes, count = np.zeros(MOST_TILES, WHOLE), ctypes.c_size_t()
+        status = self.library.glue(
+            *(self.handle, plane.ctypes.data, window.ctypes.data),
+            *(wholes.ctypes.data, MOST_TILES, ctypes.byref(count)),
+        )
+        found = wholes[: count.value]
+        is_part = np.arange(2) < found["parts"][:, None]
+        numbers = np.repeat(np.arange(count.value), found["parts"])
+        return Found(found["tiles"][is_part], found["addresses"][is_part], numbers), status
 
     def _mate(self, address: np.ndarray, edge: int) -> Optional[Tuple[np.ndarray, int]]:
         """The ADDRESS across an edge of a tile, and its edge that leads back; None on the supertile's rim."""
@@ -245,13 +300,36 @@ class LibraryMachine(Machine):
         return self.asking().listing(frame, box, glue)
 
     def star(self, frame: Frame, vertex: int) -> Found:
-        return self.asking().star(frame, vertex)
+        (plane, status), star = self._frame(frame), np.zeros((), STAR)
+        if self.library.star and status == OK and fits(vertex, "u1"):
+            status = self.library.star(self.handle, plane.ctypes.data, vertex, star.ctypes.data)
+            if status == OK:
+                count = int(star["count"])
+                return Found(star["tiles"][:count], star["addresses"][:count], np.arange(count))
+        return self._refused(status, lambda: self.asking().star(frame, vertex))
 
     def walk(self, frame: Frame, path: Sequence[int], grow: int = 0) -> Found:
-        return self.asking().walk(frame, path, grow)
+        (plane, status), edges, count = self._frame(frame), np.asarray(path), len(path) + 1
+        is_path = ((0 <= edges) & (edges <= 255)).all() and len(path) <= LONGEST_PATH
+        if self.library.walk and status == OK and is_path and fits(grow, "u1"):
+            small, tiles, addresses = edges.astype(np.uint8), np.zeros(count, TILE), np.zeros(count, ADDRESS)
+            status = self.library.walk(
+                *(self.handle, plane.ctypes.data, grow, small.ctypes.data, len(path)),
+                *(tiles.ctypes.data, count, addresses.ctypes.data, count),
+            )
+            if status == OK:
+                tiles["number"][0] = NO_BACK
+                return Found(tiles, addresses, np.arange(count))
+        return self._refused(status, lambda: self.asking().walk(frame, path, grow))
 
     def pair(self, a: str, b: str) -> str:
-        return self.asking().pair(a, b)
+        one, other, told = self.address(a), self.address(b), np.zeros((), RELATION)
+        if not self.library.pair or one is None or other is None:
+            return self._refused(BAD_ADDRESS, lambda: self.asking().pair(a, b))
+        self.library.pair(self.handle, ctypes.byref(one), ctypes.byref(other), told.ctypes.data)
+        if told["relation"] != BESIDE:
+            return RELATIONS[told["relation"]]
+        return " ".join(f"{edge}/{back}" for edge, back in enumerate(told["backs"]) if back != NO_BACK)
 
     def common(self, a: str, b: str) -> Optional[int]:
         return self.asking().common(a, b)

@@ -3,7 +3,7 @@
 If a turn by 1/m of a full turn keeps a vertex star, tile by tile, it also keeps the inflated star: cutting
 into children goes with each tile. So around the k times inflated vertex the tiling is kept in a circle
 |factor|^k times as large as the star's."""
-from typing import NamedTuple, Tuple
+from typing import List, NamedTuple, Tuple
 
 import numpy as np
 
@@ -35,6 +35,13 @@ def kept_stars(patch: Patch, fold: int):
             yield number
 
 
+def folds(patch: Patch) -> List[int]:
+    """The folds of symmetry that vertex stars of a patch have, the greatest first."""
+    order = patch.rule.order
+    found = (fold for fold in range(order, 1, -1) if order % fold == 0)
+    return [fold for fold in found if list(kept_stars(patch, fold))]
+
+
 def symmetric_place(
     tiling: Tiling, fold: int, which: int, radius: float, frame: Frame, at, half=(40, 34)
 ) -> Place:
@@ -45,9 +52,11 @@ def symmetric_place(
     window = tiling.window(at, half, frame.seed, frame.base)
     stars = list(kept_stars(window, fold))
     if which >= len(stars):
+        others = ", ".join(f"1/{other}" for other in folds(window) if other != fold)
+        kinds = "kind of vertex star is" if len(stars) == 1 else "kinds of vertex stars are"
         raise NoPlace(
-            f"within half={half[0]},{half[1]} of the point, {len(stars) or 'no'} kinds of vertex stars "
-            f"are kept by a turn by 1/{fold}"
+            f"within half={half[0]},{half[1]} of the point, {len(stars) or 'no'} {kinds} kept by a turn by "
+            f"1/{fold}" + (f"; some are by {others}" if others else "")
         )
     vertices = np.flatnonzero(window.star_labels()[1] == stars[which])
     far = (tiling.ring.xy(window.vertices()[vertices] - np.array(at)) ** 2).sum(1)

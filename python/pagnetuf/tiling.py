@@ -149,8 +149,8 @@ class Tiling:
 
     def pair(self, a: str, b: str) -> Union[str, List[Tuple[int, int]]]:
         """The edges that two tiles share: pairs of an edge of `a` and one of `b`, and no pair if the tiles
-        lie apart. "same" for one and the same tile, "none" if they have no common supertile. For built-in
-        rules; BadWords for rule files."""
+        lie apart. "same" for one and the same tile, "none" if they have no common supertile. For rule files
+        this needs the C library; without it, BadWords."""
         told = self.machine.pair(a, b)
         if told in ("same", "none"):
             return told

@@ -1,6 +1,7 @@
 """The commands as they are typed."""
 import json
 import os
+import re
 import subprocess
 import sys
 import xml.etree.ElementTree as ElementTree
@@ -45,6 +46,34 @@ def test_no_words_print_the_usage(pagnetuf):
     assert status == 2 and not out and all(name in err for name in COMMANDS)
 
 
+def test_the_version(pagnetuf):
+    with open(os.path.join(TOP, "python", "pyproject.toml"), encoding="utf-8") as file:
+        version = re.search(r'^version = "(.*)"$', file.read(), re.M)[1]
+    assert pagnetuf("--version") == (0, f"pagnetuf {version}\n", "")
+
+
+@pytest.mark.parametrize("name", ["board", "poster", "atlas"])
+def test_a_file_that_cannot_be_written(pagnetuf, tmp_path, name):
+    for path, cause in (
+        (tmp_path, "Is a directory"),
+        (tmp_path / "none" / "it", "No such file or directory"),
+        ("/dev/full", "No space left on device"),
+    ):
+        status, out, err = pagnetuf(name, "p3", "--out", path)
+        assert status == 1 and not out and cause in err.splitlines()[-1]
+
+
+@pytest.mark.parametrize("name", ["board", "poster", "atlas"])
+@pytest.mark.parametrize(
+    "end, cause", [("> /dev/full", "standard output can't be written"), (">&-", "standard output is closed")]
+)
+def test_an_output_that_takes_nothing(program, name, end, cause):
+    environment = {**os.environ, "TILING_PROGRAM": program, "PYTHONPATH": os.path.join(TOP, "python")}
+    line = f'exec "{sys.executable}" -m pagnetuf {name} p3 {end}'
+    ran = subprocess.run(["sh", "-c", line], stderr=subprocess.PIPE, text=True, check=False, env=environment)
+    assert ran.returncode == 1 and cause in ran.stderr.splitlines()[-1] and "Traceback" not in ran.stderr
+
+
 def test_a_closed_pipe_ends_without_a_word(program):
     for words in (
         ["board", "p3", "--half", "100,80"],
@@ -63,7 +92,8 @@ def test_a_closed_pipe_ends_without_a_word(program):
             env=environment,
         )
         os.close(writer)
-        told = [line for line in ran.stderr.decode().splitlines() if " tiles; the same window: ./tiling draw " not in line]
+        told = ran.stderr.decode().splitlines()
+        told = [line for line in told if " tiles; the same window: ./tiling draw " not in line]
         assert not told and ran.returncode > 0
 
 

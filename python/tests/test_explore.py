@@ -212,8 +212,8 @@ def test_polygons_side_by_side(page, port):
 
 
 def test_moving_draws_no_block_twice(page, port):
-    """Of a view that is moved only what comes into view is drawn, and again one column at the rim of each view
-    that is fetched on the way, where the tiles had ended."""
+    """Of a view that is moved only what comes into view is drawn, and again one column at the rim of each
+    view that is fetched on the way, where the tiles had ended."""
     page = Page(page.driver, port, "#rule=p3&at=0,0,0,0&s=20")
     time.sleep(0.5)
     x, y = page.middle()
@@ -225,6 +225,38 @@ def test_moving_draws_no_block_twice(page, port):
     tall = page.js("return Math.ceil(document.getElementById('canvas').height / 256) + 1")
     wide = page.js("return Math.ceil(8 * 160 * devicePixelRatio / 256) + 2")
     assert views > before[1] and blocks - before[0] <= tall * (wide + views - before[1])
+
+
+ANEW = """const done = arguments[0];
+const settled = () => !busy && !older && !frame && layer.s === here.s && enough();
+const pixels = sheet => sheet.getContext("2d").getImageData(0, 0, BLOCK, BLOCK).data;
+(async () => {
+  while (!settled()) await new Promise(requestAnimationFrame);
+  const blocks = [...layer.blocks.values()], sheets = [...blocks.map(it => it.sheet), ...unused];
+  let count = 0, most = 0;
+  for (const { i, j, sheet, inner } of blocks) {
+    const box = [i * BLOCK, (i + 1) * BLOCK, j * BLOCK, (j + 1) * BLOCK], before = pixels(sheet);
+    const drawn = holds(inner, box) && drawBlock(layer, i, j);
+    if (!drawn || !holds(layer.blocks.get(i + "," + j).inner, box)) continue;
+    count++;
+    pixels(sheet).forEach((it, k) => { most = Math.max(most, Math.abs(it - before[k])) });
+  }
+  done([new Set(sheets).size === sheets.length, count, most]);
+})()"""
+
+
+def test_blocks_are_used_again(page, port):
+    """In a view that was zoomed and moved each block has its own canvas, and on it what is there if it is
+    drawn anew."""
+    page = Page(page.driver, port, "#rule=ab&at=0,0,0,0&s=30")
+    page.drawn()
+    x, y = page.middle()
+    for turn in (-200, 300, -150, 250):
+        page.mouse("mouseWheel", x + 20, y - 10, deltaX=0, deltaY=turn)
+        time.sleep(0.3)
+        page.drag(x, y, -120, 40)
+    apart, count, difference = page.driver.execute_async_script(ANEW)
+    assert apart and count > 3 and difference < 16
 
 
 def test_stars_and_the_picture(port):
@@ -396,6 +428,18 @@ def test_a_click_shows_the_star(page, port):
     assert f"Star of {len(found)} tiles" in text and page.js("return explorer.chosen") >= 0
 
 
+def test_the_command_of_a_star_of_a_rule_file(page, port, program):
+    page = Page(page.driver, port, "#rule=sphinx.toml&at=30,-7,0,0&s=50")
+    page.click(*page.middle())
+    time.sleep(0.3)
+    tiles, words = re.search(r"^Star of (\d+) tiles.*\. \./tiling (star .*)$", page.text("star")).groups()
+    words, _, file = words.partition(" < ")
+    with open(os.path.join(TOP, file), "rb") as rule:
+        call = [program, *words.split()]
+        told = subprocess.run(call, stdin=rule, stdout=subprocess.PIPE, check=True).stdout
+    assert len(told.splitlines()) == int(tiles) > 1
+
+
 def test_keys_jumps_and_the_pages_address(page, port):
     page = Page(page.driver, port)
     page.js("document.getElementById('canvas').focus()")
@@ -536,8 +580,8 @@ def test_the_colours_are_those_of_the_package(page, port, tmp_path, rule, by):
 def test_the_words_that_are_copied(page, port, program):
     """They are those of a call that prints what is in view."""
     page = Page(page.driver, port, "#rule=p3&seed=5&at=1000,-700,3,9&s=50")
-    rights = {"permissions": ["clipboardReadWrite", "clipboardSanitizedWrite"], "origin": page.url.rstrip("/")}
-    page.driver.execute_cdp_cmd("Browser.grantPermissions", rights)
+    kinds, origin = ["clipboardReadWrite", "clipboardSanitizedWrite"], page.url.rstrip("/")
+    page.driver.execute_cdp_cmd("Browser.grantPermissions", {"permissions": kinds, "origin": origin})
     page.js("document.getElementById('copy').click()")
     time.sleep(0.3)
     read = "const done = arguments[0]; navigator.clipboard.readText().then(done, it => done(String(it)))"

@@ -171,6 +171,24 @@ def test_arrays_of_addresses(both):
     assert theirs_texts(again[back]) == theirs_texts(addresses[back])  # across the edge that leads back
 
 
+def test_stars_walks_and_pairs(both):
+    ours, theirs = (t.machine for t in both)
+    tiles = both[1].window(half=(12, 9), seed=5)
+    chance = random.Random(both[0].name)
+    bases = [tiles.address(chance.randrange(len(tiles))) for _ in range(12)]
+    for base in (*bases, "0:", "9:", "0:1/9", "0:" + ",".join(["0/0"] * 64)):
+        frame = Frame(base, chance.getrandbits(64))
+        for vertex in (0, 1, 2, 7, 8, 255, 256):
+            assert same(answer(ours.star, frame, vertex), answer(theirs.star, frame, vertex))
+        for length in (0, 1, 9, 40):
+            path, grow = [chance.randrange(3) for _ in range(length)], chance.choice((0, 5, 64))
+            assert same(answer(ours.walk, frame, path, grow), answer(theirs.walk, frame, path, grow))
+        for other in (*bases, base, "0:", "9:"):
+            assert answer(ours.pair, base, other) == answer(theirs.pair, base, other)
+    for path, grow in (([0, 9], 0), ([0, 256], 0), ([0, -1], 0), ([0], 65), ([0] * 1001, 0)):
+        assert answer(ours.walk, Frame(), path, grow) == answer(theirs.walk, Frame(), path, grow)
+
+
 def test_the_rest_is_the_programs(both):
     ours, theirs = both
     base = theirs.window(half=(6, 6)).address(3)
@@ -187,9 +205,37 @@ def test_the_rest_is_the_programs(both):
         assert answer(call, ours) == answer(call, theirs)
 
 
-def test_rule_files_are_the_programs(library):
-    tiling = Tiling.from_file(os.path.join(RULES, "sphinx.toml"), library)
-    assert len(tiling.window(half=(20, 8))) == 124
+@pytest.mark.parametrize("name", ["sphinx", "equithirds", "tuebingen_triangles"])
+def test_rule_files(library, program, name):
+    path = os.path.join(RULES, name + ".toml")
+    ours, theirs = (Tiling.from_file(path, engine) for engine in (library, ProgramEngine(program)))
+    for glue in (False, True):
+        window = Frame("0:", 7), Box((3, 1, 0, 0), (20, 8)), glue
+        assert same(answer(ours.machine.cover, *window), answer(theirs.machine.cover, *window))
+    base = theirs.window(half=(6, 6), seed=7).address(3)
+    for call in (
+        lambda t: t.place(base),
+        lambda t: t.neighbour(base, 0),
+        lambda t: t.neighbour(base, 99),
+        lambda t: t.star(base, 0, 7),
+        lambda t: t.walk(base, [0, 1, 0, 2], 7),
+        lambda t: pickle.loads(pickle.dumps(t)).place("0:"),
+    ):
+        assert answer(call, ours) == answer(call, theirs)
+    assert ours.pair(base, base) == "same"  # (the program pairs tiles of built-in rules alone)
+
+
+@pytest.mark.parametrize(
+    "data",
+    [b"", b"format =", b"format = 2\n", b"format = 2\0", b"\xff", bytes(1 << 20), bytes((1 << 20) + 1)],
+    ids=["empty", "no_value", "no_order", "zero_byte", "no_text", "longest", "too_long"],
+)
+def test_refused_rule_files(library, program, data):
+    ours, theirs = (
+        answer(lambda engine: Tiling.from_bytes(data, engine=engine), engine)
+        for engine in (library, ProgramEngine(program))
+    )
+    assert ours == theirs and isinstance(ours, str)
 
 
 def test_it_can_be_pickled_and_used_by_many(library):
@@ -214,8 +260,9 @@ def test_without_a_program(library, tmp_path):
     engine = LibraryEngine(library.library.path, str(tmp_path / "none"))
     tiling = Tiling("p3", engine)
     assert len(tiling.window(half=(20, 12))) == 760 and tiling.place("2:1/0,0/0").turn == 9
+    assert len(tiling.star("0:", 0)) > 1
     with pytest.raises(NoEngine):
-        tiling.star("0:", 0)
+        tiling.common("0:", "0:")
     with pytest.raises(BadAddress) as refused:
         tiling.place("9:")
     assert refused.value.line == "4 BadAddress"

@@ -188,7 +188,7 @@ def test_the_star_in_the_centre(pagnetuf):  # noqa: F811
 
 
 def test_long_paths_come_in_parts(tiling, monkeypatch):
-    """Some readers of XML take no attribute of more than ten million characters."""
+    """Some readers of XML keep no more than ten million characters between two elements."""
     from pagnetuf.commands import poster
 
     t = tiling("p3")
@@ -196,15 +196,19 @@ def test_long_paths_come_in_parts(tiling, monkeypatch):
     patch = t.window(half=page.half(t)).whole()
     words = ("poster", "p3", "--size", "200,140", "--tile", "5", "--joined")
     options = poster_options(words)
-    whole = paths_by_layer(poster.poster_svg(patch, page, options))
-    monkeypatch.setattr(poster, "MOST_TEXT", 2000)
-    monkeypatch.setattr(poster, "MOST_CORNERS", 5)
-    parts = paths_by_layer(poster.poster_svg(patch, page, options))
-    assert {name: len(texts) for name, texts in whole.items()} == {"kind0": 1, "kind2": 1, "lines": 1}
-    for name, texts in parts.items():
-        assert len(texts) > 1 and max(map(len, texts)) <= (2100 if name == "lines" else 8000)
+    texts = [poster.poster_svg(patch, page, options)]
+    for name, most in (("MOST_TEXT", 2000), ("MOST_CORNERS", 5), ("MOST_WHOLE", 100), ("MOST_PART", 90)):
+        monkeypatch.setattr(poster, name, most)
+    texts.append(poster.poster_svg(patch, page, options))
+    whole, parts = map(paths_by_layer, texts)
+    assert {name: len(found) for name, found in whole.items()} == {"kind0": 1, "kind2": 1, "lines": 1}
+    for name, found in parts.items():
+        assert len(found) > 1 and max(map(len, found)) <= (2100 if name == "lines" else 8000)
     both = [steps_of(lines["lines"]) for lines in (whole, parts)]
     assert both[0] == both[1]
+    for name in ("kind0", "kind2"):  # the blocks of a colour fill the same area
+        one, several = (sum(map(area, paths_of(layers(text)[1][name]))) for text in texts)
+        assert one > 1000 and several == pytest.approx(one, rel=1e-9)
 
 
 def poster_options(words):
@@ -230,6 +234,8 @@ def steps_of(texts):
     [
         (("p3", "--star", "7"), "1/10"),
         (("p3", "--star", "5,9"), "kinds of vertex stars"),
+        (("p3", "--star", "10"), "no kinds of vertex stars are kept by a turn by 1/10; some are by 1/5\n"),
+        (("ab", "--star", "8,9"), "1 kind of vertex star is kept by a turn by 1/8; some are by 1/4, 1/2\n"),
         (("p3", "--to", "dxf"), "--cut"),
         (("p3", "--size", "10"), "10"),
         (("p3", "--colours", "red"), "red"),

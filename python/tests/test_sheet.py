@@ -55,6 +55,24 @@ def test_executors(tiling):
             ] == alone
 
 
+def test_few_windows_are_under_way(tiling):
+    """Of a large sheet no more than `ahead` windows are asked for before their tiles are taken."""
+    asked = []
+
+    class Counting(ThreadPoolExecutor):
+        def submit(self, *words):
+            asked.append(words)
+            return super().submit(*words)
+
+    t, taken = tiling("chair"), []
+    alone = [it.shifts.tolist() for it in t.sheet((70, 70), piece=(10, 10))]
+    with Counting(2) as executor:
+        for piece in t.sheet((70, 70), piece=(10, 10), executor=executor):
+            assert len(asked) - len(taken) <= 16
+            taken.append(piece.shifts.tolist())
+    assert len(asked) == len(taken) == 49 and taken == alone
+
+
 def test_pieces_smaller_than_tiles(tiling):
     with pytest.raises(ValueError):
         list(tiling("sphinx.toml").sheet((30, 30), piece=(2, 2)))

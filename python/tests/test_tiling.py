@@ -4,27 +4,36 @@ import math
 import os
 import pickle
 import random
+import re
 import subprocess
+import sys
 
 import numpy as np
 import pytest
-from conftest import BUILT_IN, RULES, rule_files
+from conftest import BUILT_IN, RULES, TOP, rule_files
 from pagnetuf import (
     BadAddress,
     BadListing,
+    BadScript,
     BadWords,
+    CoordLimit,
+    DepthLimit,
     NoEdge,
     NoEngine,
     NoVertex,
     Outside,
+    ProgramEngine,
     Refusal,
+    Ring,
     RuleRefused,
     RuleTooLong,
+    StarTooBig,
     Tiling,
     TooManyTiles,
+    find_program,
 )
 from pagnetuf.built_in import BUILT_IN as NUMBERS
-from pagnetuf.refusals import refusal_of
+from pagnetuf.refusals import BY_NAME, refusal_of
 from pagnetuf.rule import document_of
 from pagnetuf.tiling import listing_of
 
@@ -261,6 +270,86 @@ def test_refusals_by_name_and_number(tiling, program):
     assert isinstance(refusal_of("killed"), NoEngine)
 
 
+def test_each_refusal_has_the_number_of_the_document():
+    """The names and numbers of docs/FORMATS.md, "Notes and exit codes". The program lacks no layer."""
+    with open(os.path.join(TOP, "docs", "FORMATS.md"), encoding="utf-8") as file:
+        rows = re.findall(r"^\| (\d+) \| `(\d+) (\w+)", file.read(), re.M)
+    assert len(rows) > 15 and all(code == number for code, number, _ in rows)
+    assert {name: int(code) for code, _, name in rows} == {
+        **{name: kind.status for name, kind in BY_NAME.items()},
+        "NoLayer": 14,
+    }
+    for name, kind in BY_NAME.items():
+        line = f"{kind.status} {name} 4 a,b"
+        assert type(refusal_of(line)) is kind and refusal_of(line).line == line
+        assert pickle.loads(pickle.dumps(refusal_of(line))).line == line
+        assert isinstance(refusal_of(f"{kind.status + 30} {name}"), NoEngine)
+
+
+def test_refusals_at_the_limits(tiling, program):
+    """The examples of docs/FORMATS.md, "Each refusal by example"."""
+    t, deep = tiling("chair"), ",".join(["0/0"] * 64)
+    far, script = (1000000, 1000000, 0, 0), ["calc", "rule=chair"]
+    for error, fields, ask in [
+        (CoordLimit, ("26843544,13421772,0,0",), lambda: t.place("0:" + ",".join(["2/0"] * 40))),
+        (CoordLimit, ("-16468338,-26972202,0,0",), lambda: t.window(far, (20, 10), 10)),
+        (DepthLimit, (f"0:{deep}", "3"), lambda: t.window(half=(2, 1), addr=f"0:{deep}")),
+        (DepthLimit, (f"0:{deep}", "3"), lambda: t.star(f"0:{deep}", 4)),
+        (BadAddress, ("TooDeep",), lambda: t.place(f"0:{deep},0/0")),
+        (BadAddress, ("WrongChild", "0"), lambda: t.walk("0:4/0", [0])),
+        (NoEdge, ("9", "8"), lambda: t.walk("0:", [9])),
+        (BadScript, ("UnknownName", "1"), lambda: ProgramEngine(program).call(script, b"show a\n")),
+    ]:
+        with pytest.raises(error) as caught:
+            ask()
+        assert caught.value.fields == fields
+
+
+def test_what_the_package_itself_refuses(tiling, program):
+    t = tiling("p3")
+    window = t.window(half=(4, 3))
+    apart = window.chosen(np.flatnonzero((window.middles() ** 2).sum(1) > 3))
+    far = apart.chosen([0, len(apart) - 1])
+    for error, told, ask in [
+        (ValueError, "4, 6, 8 or 10", lambda: Ring(5)),
+        (ValueError, "different lengths", lambda: t.neighbour_all(["0:0/0"], [])),
+        (ValueError, "only 1 tiles are connected", lambda: far.connected(2)),
+        (ValueError, "there are no tiles", lambda: window.chosen([]).connected(1)),
+        (ValueError, "at least 1", lambda: t.sheet((0, 5))),
+        (BadWords, "four and two numbers", lambda: t.window((1, 2, 3))),
+        (BadWords, "four and two numbers", lambda: t.window(half=(1, 2, 3))),
+        (BadWords, "2 BadWords 1", lambda: ProgramEngine(program).machine("penrose")),
+        (NoEngine, "can't be run", lambda: Tiling("p3", ProgramEngine(RULES)).place("0:")),
+        (NoEngine, "can't be run", lambda: Tiling("p3", ProgramEngine(program + ".none")).place("0:")),
+        (OSError, "No such file", lambda: Tiling.from_file("none.toml")),
+    ]:
+        with pytest.raises(error, match=told):
+            ask()
+    assert repr(t) == "Tiling('p3')"
+
+
+def test_no_program(monkeypatch, tmp_path):
+    monkeypatch.setenv("TILING_PROGRAM", str(tmp_path / "none"))
+    with pytest.raises(NoEngine, match="TILING_PROGRAM.*--build"):
+        find_program()
+    (tmp_path / "none").write_text("")  # (a file that can't be executed)
+    with pytest.raises(NoEngine):
+        find_program()
+
+
+@pytest.mark.parametrize("count", [64, 65])
+def test_a_star_of_very_many_tiles(program, count):
+    """tools/fan_rule.py makes a rule that puts so many tiles around a vertex; a star has at most 64."""
+    script = os.path.join(TOP, "tools", "fan_rule.py")
+    rule = subprocess.run([sys.executable, script, str(count)], capture_output=True, check=True).stdout
+    t = Tiling.from_bytes(rule)
+    if count > 64:
+        with pytest.raises(StarTooBig):
+            t.star("3:0/1,6/0,0/0", 1)
+    else:
+        assert len(t.star("3:0/1,6/0,0/0", 1)) == 64
+
+
 def test_questions_in_bulk_are_those_asked_alone(tiling):
     for name in ("p3", "sphinx.toml"):
         t = tiling(name)
@@ -299,6 +388,46 @@ def test_locate_finds_the_tiles_that_hold_a_point(tiling):
             found = t.locate(window.vertices()[vertex])
             assert len(found) == degrees[vertex]
             assert all((corners == window.vertices()[vertex]).all(1).any() for corners in found.outlines())
+
+
+def motions(patch):
+    return sorted(zip(patch.kinds.tolist(), patch.turns.tolist(), map(tuple, patch.shifts.tolist())))
+
+
+def turns_around(loop, z):
+    """How often a polygon goes around a point, in floats, or None if the point is on it."""
+    steps = np.angle((np.roll(loop, -1) - z) / (loop - z)) if abs(loop - z).min() > 1e-6 else [math.pi]
+    return round(sum(steps) / (2 * math.pi)) if max(map(abs, steps)) < math.pi - 1e-6 else None
+
+
+@pytest.mark.parametrize("name", ["p3", "p2", "ab", "silver_mean_squares.toml", "penrose_p1.toml"])
+def test_locate_finds_the_tile_around_a_point(tiling, name):
+    """Points of the ring lie densely, so some are inside tiles, where floats say the same."""
+    t, chance, tried = tiling(name), random.Random(name), 0
+    window = t.window(half=(16, 14))
+    corners = [row[:count] @ (1, 1j) for row, count in zip(window.xy(), window.counts)]
+    while tried < 15:
+        point = np.array([chance.randint(-3, 3) for _ in range(4)])
+        z = complex(*t.ring.xy(point))
+        around = [turns_around(loop, z) for loop in corners]
+        if abs(z) < 6 and None not in around:
+            tried += 1
+            wanted = window.chosen(np.flatnonzero(around))
+            assert len(wanted) == 1 and motions(t.locate(point)) == motions(wanted)
+
+
+def test_locate_finds_the_two_tiles_of_an_edge(tiling):
+    """An edge of length phi of kites and darts, a step from its start."""
+    t = tiling("p2")
+    window, tried = t.window(half=(9, 8)), 0
+    for a, b, edge, _ in window.adjacency().tolist():
+        start, end = window.outlines()[a][[edge, (edge + 1) % 3]]
+        along = complex(*t.ring.xy(end - start))
+        if abs(along) > 1.5:
+            step = t.ring.powers[round(np.angle(along) / (math.pi / 5)) % 10, 0]
+            assert motions(t.locate(start + step)) == motions(window.chosen([a, b]))
+            tried += 1
+    assert tried > 50
 
 
 def test_a_tiling_goes_through_a_pickle(tiling):

@@ -23,7 +23,7 @@ margin:2em auto;max-width:1000px;padding:0 16px}
 h1{font-weight:600}h2{margin-top:2em;font-weight:600}
 .row{display:grid;gap:8px 24px;margin:1em 0}
 .row figure{margin:0 0 12px;display:grid;grid-row:span 2;grid-template-rows:subgrid;align-items:end}
-.prototiles{grid-template-columns:repeat(auto-fill,minmax(180px,1fr))}
+.prototiles{grid-template-columns:repeat(auto-fill,minmax(150px,1fr))}
 .inflations{grid-template-columns:repeat(auto-fill,minmax(210px,1fr))}
 .stars{grid-template-columns:repeat(auto-fill,minmax(120px,1fr))}
 figcaption{font-size:14px;line-height:1.35;align-self:start}
@@ -59,7 +59,8 @@ def page(tiling: Tiling, counted: Patch, shown) -> str:
         "Prototiles": [prototiles(rule, colours)],
         "Inflation": [
             f"<p>Each prototile, inflated by {factor_text(rule, ' and turned by ')}, is cut into its "
-            f"children. They have the numbers that addresses call them by. Colours are by {colours.usual}.</p>",
+            "children. They have the numbers that addresses call them by. "
+            f"Colours are by {colours.usual}.</p>",
             inflations(rule, colours),
         ],
         "A patch": [
@@ -159,21 +160,42 @@ def children_text(entry) -> str:
 
 
 def stars(patch: Patch, colours: Colours) -> str:
-    """Each vertex star, the most frequent first, with its share."""
+    """Each vertex star, the most frequent first, with its share. Where two look alike, their tiles' first
+    vertices are marked."""
     names, numbers = patch.star_labels()
     total, found, spots, captions = int((numbers >= 0).sum()), [], [], []
     for star in range(min(len(names), 60)):
         mine = np.flatnonzero(numbers == star)
         tiles = np.flatnonzero((patch.corners() == mine[0]).any(1))
         found.append(patch.chosen(tiles))
-        spots.append(patch.rule.ring.xy(patch.vertices()[mine[0]]))
+        spots.append(patch.vertices()[mine[0]])
         captions.append(f"{100 * len(mine) / total:.2f} %, {len(tiles)} tiles")
     scale = fitting(found, 115, 34)
+    twins = len({look_of(star, spot, colours) for star, spot in zip(found, spots)}) < len(found)
+    pictures = [
+        drawn(star, colours, scale, spot=patch.rule.ring.xy(spot), firsts=twins)
+        for star, spot in zip(found, spots)
+    ]
     more = f" The {len(names) - 60} rarest are left out." if len(names) > 60 else ""
+    more += " Some look alike: a white dot marks the first vertex of each tile." if twins else ""
     stars_ = "1 star" if len(names) == 1 else f"{len(names)} stars"
     said = f"<p>Up to turns, {stars_} around {total} vertices of a window.{more}</p>"
-    pictures = [drawn(star, colours, scale, spot=spot) for star, spot in zip(found, spots)]
     return said + row("stars", pictures, captions)
+
+
+def look_of(star: Patch, spot: np.ndarray, colours: Colours) -> tuple:
+    """What a star looks like, however it is turned: the colours of its tiles, and exactly where they lie."""
+    ring, fills = star.rule.ring, fills_of(star, colours)
+    looks = []
+    for turn in range(ring.order):
+        tiles = ring.turn(star.outlines() - spot, turn).tolist()
+        looks.append(sorted((fill, *sorted(map(tuple, tile))) for fill, tile in zip(fills, tiles)))
+    return tuple(min(looks))
+
+
+def fills_of(patch: Patch, colours: Colours) -> List[str]:
+    """The colour of each tile."""
+    return [colours.by[colours.usual][it] for it in numbers_by(patch, colours.usual).tolist()]
 
 
 def frame_box(window) -> np.ndarray:
@@ -195,9 +217,9 @@ def fitting(patches: List[Patch], most: float, scale: float) -> float:
     return min([scale, *(most / float((box_of(it)[1] - box_of(it)[0])[0]) for it in patches)])
 
 
-def drawn(patch: Patch, colours: Colours, scale: float, marks: bool = False, frame=None, spot=None) -> str:
+def drawn(patch: Patch, colours: Colours, scale: float, marks=False, frame=None, spot=None, firsts=False):
     """A picture with `scale` pixels a length, of the whole patch or cut off at a frame. `marks` numbers tiles
-    of several; a dot is at `spot`."""
+    of several; a dot is at `spot`; `firsts` marks the first vertex of each tile."""
     xy = patch.xy() * (1, -1)
     low, high = box_of(patch) + np.array([[-1], [1]]) * LINE / scale if frame is None else frame
     wide, tall = (high - low).tolist()
@@ -207,16 +229,28 @@ def drawn(patch: Patch, colours: Colours, scale: float, marks: bool = False, fra
         f'viewBox="{number(low[0])} {number(low[1])} {number(wide)} {number(tall)}" '
         f'stroke="#22303a" stroke-width="{number(LINE / scale)}" stroke-linejoin="round">'
     ]
-    fills = [colours.by[colours.usual][it] for it in numbers_by(patch, colours.usual).tolist()]
-    for fill, corners, count in zip(fills, xy.tolist(), patch.counts.tolist()):
+    for fill, corners, count in zip(fills_of(patch, colours), xy.tolist(), patch.counts.tolist()):
         points = " ".join(f"{number(x)},{number(y)}" for x, y in corners[:count])
         out.append(f'<polygon fill="{fill}" points="{points}"/>')
     out += labels(xy, patch.counts.tolist(), scale) if marks and len(patch) > 1 else []
+    if firsts:
+        out += [dot(place, 1.8 / scale, "#fff", "#22303a") for place in first_places(xy, 8 / scale).tolist()]
     if spot is not None:
-        x, y = spot.tolist()
-        look = f'r="{number(2.6 / scale)}" fill="#22303a" stroke="#fff"'
-        out.append(f'<circle cx="{number(x)}" cy="{number(-y)}" {look}/>')
+        out.append(dot(spot * (1, -1), 2.6 / scale, "#22303a", "#fff"))
     return "".join([*out, "</svg>"])
+
+
+def dot(place, radius: float, fill: str, stroke: str) -> str:
+    x, y = map(number, place)
+    return f'<circle cx="{x}" cy="{y}" r="{number(radius)}" fill="{fill}" stroke="{stroke}"/>'
+
+
+def first_places(xy: np.ndarray, far: float) -> np.ndarray:
+    """A place in each tile that is so far from its first vertex, or half as far as its middle is."""
+    first = xy[:, 0]
+    to = np.nanmean(xy, 1) - first
+    long = np.hypot(*to.T)[:, None]
+    return first + to * np.minimum(0.5, far / long)
 
 
 def labels(xy: np.ndarray, counts: List[int], scale: float) -> List[str]:

@@ -6,7 +6,7 @@ import re
 import sys
 from typing import List, Optional
 
-from .. import places
+from .. import __version__, places
 from ..engine import Frame
 from ..refusals import NoEngine, Refusal
 from ..built_in import BUILT_IN
@@ -121,8 +121,10 @@ def write_text(text: str, path: Optional[str]):
     if path:
         with open(path, "w", encoding="utf-8") as file:
             file.write(text)
-    else:
+    elif sys.stdout:
         sys.stdout.write(text)
+    else:
+        raise Trouble("standard output is closed")
 
 
 def tell(text: str):
@@ -150,6 +152,7 @@ def parser() -> argparse.ArgumentParser:
     top = argparse.ArgumentParser(
         prog=called(), description=__import__("pagnetuf").__doc__, allow_abbrev=False
     )
+    top.add_argument("--version", action="version", version=f"pagnetuf {__version__}")
     commands = top.add_subparsers(dest="command", metavar="COMMAND", required=True)
     for name, line in COMMANDS.items():
         module = importlib.import_module(f".{name}", __package__)
@@ -173,7 +176,7 @@ def status_of(words: List[str]) -> int:
     options = parser().parse_args(joined(words))
     try:
         options.run(options)
-        sys.stdout.flush()
+        flush()
         return 0
     except Refusal as refused:
         tell(refused.line)
@@ -185,14 +188,23 @@ def status_of(words: List[str]) -> int:
         return 1
 
 
+def flush():
+    """Writes what standard output still holds, if it is open."""
+    if sys.stdout:
+        sys.stdout.flush()
+
+
 def run(words: Optional[List[str]] = None):
     """Ends with the status, and silently if standard output is a closed pipe."""
     try:
         status = status_of(sys.argv[1:] if words is None else words)
-        sys.stdout.flush()
-    except BrokenPipeError:
-        os.dup2(os.open(os.devnull, os.O_WRONLY), sys.stdout.fileno())
+        flush()
+    except OSError as trouble:
         status = 1
+        if not isinstance(trouble, BrokenPipeError):
+            tell(f"{called()}: {trouble.filename or 'standard output'} can't be written: {trouble.strerror}")
+        if sys.stdout:  # (what it still holds is let go)
+            os.dup2(os.open(os.devnull, os.O_WRONLY), sys.stdout.fileno())
     except KeyboardInterrupt:
         status = 130
     sys.exit(status)

@@ -26,8 +26,10 @@ from .command_line import Trouble, add_frame, add_rule, colours, frame_of, tell,
 
 MOST_TILES = 4_000_000
 INK = "#222222"
-# (some readers of XML, such as librsvg's, take no attribute of more than ten million characters)
-MOST_TEXT, MOST_CORNERS = 2_000_000, 100_000
+# Some readers of XML, such as librsvg's, hold at most ten million characters, and let go of them only now and
+# then between elements. So in a large page no element is long.
+MOST_TEXT, MOST_CORNERS = 50_000, 2_000
+MOST_WHOLE, MOST_PART = 50_000, 2_000  # tiles
 ROUND = 'stroke-linejoin="round" stroke-linecap="round"'
 CLIP = 'clip-path="url(#page)"'
 
@@ -80,8 +82,8 @@ def add_look(parser):
     """The options of the page, its colours and its lines."""
     size, tile = millimetres(2, 1, 20000), millimetres(1, 0.1, 10000)
     by = (
-        "what decides the colour (--colour of paint.py): kind (default), turn, or the rarest vertex star at a "
-        "tile's corners"
+        "what decides the colour (--colour of paint.py): kind (default), turn, or the rarest vertex star at "
+        "a tile's corners"
     )
     inks = "the colours, in the order of the layers (--palette of paint.py)"
     lines = "the width and colour of the lines, 0 for none; default 0.3,#222222"
@@ -225,7 +227,7 @@ def shorter(trails: List[List[int]]) -> Iterator[List[int]]:
 
 
 def paths(pieces: Iterable[str]) -> Iterator[str]:
-    """Pieces of paths put together to few elements, none with too long an attribute."""
+    """Pieces of paths put together to few elements, none with a long attribute: see `joined`."""
     some, size = [], 0
     for piece in pieces:
         if some and size + len(piece) > MOST_TEXT:
@@ -275,12 +277,31 @@ def apart(patch: Patch, tiles: np.ndarray, texts: List[str]) -> List[str]:
 
 
 def joined(patch: Patch, tiles: np.ndarray, texts: List[str]) -> List[str]:
-    """One path around all of these tiles: the edges across which none of them lies. If its text is too long for
-    some readers of XML, one path goes around the tiles on the left, and one around the others."""
-    inside = np.zeros(len(patch) + 1, bool)
+    """One path around all of these tiles. If it is long, on a page of very many tiles, one path around each
+    block of them."""
+    near, inside = patch.neighbours(), np.zeros(len(patch) + 1, bool)
+    found = [around(patch, near, inside, tiles, texts)]
+    if len(found[0]) > MOST_TEXT and len(patch) > MOST_WHOLE:
+        found = [around(patch, near, inside, part, texts) for part in blocks(patch.middles(), tiles)]
+    return [f'<path d="{text}"/>' for text in found]
+
+
+def blocks(middles: np.ndarray, tiles: np.ndarray) -> List[np.ndarray]:
+    """The tiles in blocks of at most MOST_PART, halved across their longer side again and again."""
+    if len(tiles) <= MOST_PART:
+        return [tiles]
+    spots = middles[tiles]
+    order = tiles[np.argsort(spots[:, np.argmax(np.ptp(spots, 0))], kind="stable")]
+    return [part for half in np.array_split(order, 2) for part in blocks(middles, half)]
+
+
+def around(patch: Patch, near: np.ndarray, inside: np.ndarray, tiles: np.ndarray, texts: List[str]) -> str:
+    """The edges of these tiles across which none of them lies, as closed lines. `near` are the neighbours of
+    all tiles, and `inside` has room for a mark of each."""
     inside[tiles] = True
     corners, after = patch.corners()[tiles], patch._next[tiles]
-    rim = (corners >= 0) & ~inside[patch.neighbours()[tiles]]
+    rim = (corners >= 0) & ~inside[near[tiles]]
+    inside[tiles] = False
     onward: Dict[int, List[int]] = {}
     for a, b in zip(corners[rim].tolist(), after[rim].tolist()):
         onward.setdefault(a, []).append(b)
@@ -292,12 +313,7 @@ def joined(patch: Patch, tiles: np.ndarray, texts: List[str]) -> List[str]:
                 loop.append(now)
                 now = onward[now].pop()
             out.append("M" + "L".join([texts[v] for v in loop]) + "Z")
-    text = "".join(out)
-    if len(text) <= 4 * MOST_TEXT:
-        return [f'<path d="{text}"/>']
-    left = patch.middles()[tiles, 0]
-    is_left = left < np.median(left)
-    return joined(patch, tiles[is_left], texts) + joined(patch, tiles[~is_left], texts)
+    return "".join(out)
 
 
 def clipped_edges(patch: Patch, page: Page):

@@ -115,11 +115,15 @@ class Raster {
     for (let row = top; row < bottom; row++) {
       let sum = 0, spot = row * (size + 2) + left;
       const shift = row * size - row * (size + 2), end = spot + right - left;
+      let parts = 0;
       for (; spot < end; spot++) {
-        sum += areas[spot];
-        areas[spot] = 0;
-        // (not quite 255, so that all parts of a pixel are 255 at most)
-        const parts = Math.abs(sum) * 255.01 | 0;
+        const area = areas[spot];
+        if (area !== 0) {
+          sum += area;
+          areas[spot] = 0;
+          // (not quite 255, so that all parts of a pixel are 255 at most)
+          parts = Math.abs(sum) * 255.01 | 0;
+        }
         if (parts) words[spot + shift] += ink[parts];
       }
       areas[spot] = areas[spot + 1] = 0;
