@@ -12,7 +12,7 @@ top, words = sys.argv[1], sys.argv[2:]
 page = f"{top}/crates/README.md"
 PARTS = (
     ("The program", "From the top down. A crate uses the contracts of crates below it, and the theorems of the theory."),
-    ("The theory", "Definitions, proofs and laws, and no other code. They name no type of the program."),
+    ("The theory", "Definitions, proofs and laws, and no other code. Only `theory_walks` names types of the program."),
     ("Tests", "In crates of their own, since a crate with tests is proved twice."),
 )
 
@@ -37,9 +37,10 @@ def part_of(crate):
 
 crates = [line.split("#")[0].split(":")[0].split()[0] for line in read(f"{top}/crates.txt").split("\n") if line.split("#")[0].strip()]
 lines = ["# The crates", ""]
-lines += textwrap.wrap("Each crate with the first sentence of its root file, which has more. This page is made by `checks/crates.sh --write` "
-                       "from `crates.txt` and these files. See also: [what each promises to those above](../docs/ARCHITECTURE.md), "
-                       "[how to change something](../CONTRIBUTING.md).", 110)
+lines += textwrap.wrap("Each crate with the first sentence of its root file, which has more. [ARCHITECTURE](../docs/ARCHITECTURE.md#where-to-read-first) "
+                       "says where to read first, by question, and what each crate promises to those above. "
+                       "[CONTRIBUTING](../CONTRIBUTING.md#to-add-something) says what to change to add a command, a tiling, a layer, an order or a clause. "
+                       "This page is made by `checks/crates.sh --write` from `crates.txt` and these files.", 110)
 for number, (title, text) in enumerate(PARTS):
     lines += ["", f"## {title}", "", text, "", "| Crate | What it is |", "|---|---|"]
     chosen = [crate for crate in crates if part_of(crate) == number]

@@ -118,9 +118,14 @@ def sentences(text):
     return re.split(r"(?<=[.?!])[*\"')]*\s+(?=[\"'*(\[]*(?:[A-Z0-9]|code\b|quotation\b))", text)
 
 
-def count(sentence):
-    """How many words a sentence has."""
-    return sum(1 for word in sentence.split() if re.search(r"\w", word))
+def count(text, signs=""):
+    """How many words a text has, and how many of these signs."""
+    return sum(1 for word in text.split() if re.search(rf"[\w{signs}]", word))
+
+
+def length(sentence):
+    """How many words a sentence has. A sign between the terms of a formula is read as a word."""
+    return count(sentence, signs=r"=<>≤≥+→-")
 
 
 def wide_lines(name, text, prose):
@@ -142,8 +147,8 @@ def faults(top, name):
     long, avoided = [], []
     for line, piece in blocks(name, prose):
         for sentence in sentences(plain(piece)):
-            if count(sentence) > LONGEST:
-                long.append((count(sentence), line, f"{count(sentence)} words: {sentence}"))
+            if length(sentence) > LONGEST:
+                long.append((length(sentence), line, f"{length(sentence)} words: {sentence}"))
         # (the page on style quotes them)
         avoided += [(line, found[0].strip()) for found in WORD.finditer(plain(piece)) if name != "docs/STYLE.md"]
     return [(line, what) for _, line, what in sorted(long, reverse=True)], list(wide_lines(name, text, prose)), avoided

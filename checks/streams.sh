@@ -91,5 +91,60 @@ if [ -c /dev/full ]; then
     count 'standard error is full' "$(holds $? 2 '' '')"
 fi
 
+# a pipe that nobody reads, and streams that do not block: nothing is tried again
+if command -v python3 > /dev/null; then
+    python3 - "$program" "$chair" > "$work/told" << 'END'
+import os, subprocess, sys
+
+program, chair = sys.argv[1:]
+large = ["draw", "rule=p3", "addr=0:", "at=0,0,0,0", "half=60,60", "layers=list"]
+whole = subprocess.run([program, *large], stdout=subprocess.PIPE).stdout
+
+
+def told(what, is_right):
+    print("yes" if is_right else "no", what, flush=True)
+
+
+def ends(words, status, note, **streams):
+    ran = subprocess.run([program, *words], stderr=subprocess.PIPE, **streams)
+    return (ran.returncode, ran.stderr) == (status, note)
+
+
+for is_default in (True, False):
+    reader, writer = os.pipe()
+    os.close(reader)
+    is_right = ends(large, 10, b"10 WriteFault\n", stdout=writer, restore_signals=is_default)
+    told(f"a closed pipe, its signal {'as usual' if is_default else 'ignored'}", is_right)
+    os.close(writer)
+ran = subprocess.Popen([program, *large], stdout=subprocess.PIPE, stderr=subprocess.PIPE)
+ran.stdout.read(10)
+ran.stdout.close()
+told("a reader that leaves", (ran.wait(), ran.stderr.read()) == (10, b"10 WriteFault\n"))
+
+reader, writer = os.pipe()
+os.set_blocking(writer, False)
+told("a full pipe that does not block", ends(large, 10, b"10 WriteFault\n", stdout=writer))
+os.close(writer)
+with open(reader, "rb") as pipe:
+    taken = pipe.read()
+told("what the full pipe took", 0 < len(taken) < len(whole) and whole.startswith(taken))
+reader, writer = os.pipe()
+os.set_blocking(reader, False)
+told("an empty input that does not block", ends(["check", "rule=-"], 9, b"9 ReadFault\n", stdin=reader))
+
+with open(chair, "rb") as file:
+    data = file.read()
+pipe = subprocess.PIPE
+ran = subprocess.Popen([program, "check", "rule=-"], stdin=pipe, stdout=pipe, stderr=pipe)
+for start in range(0, len(data), 100):
+    ran.stdin.write(data[start : start + 100])
+    ran.stdin.flush()
+out, err = ran.communicate()
+told("an input in pieces", (ran.returncode, out, err) == (0, b"accepted order 4 kinds 1 types 1\n", b""))
+END
+    while read -r holds what; do count "$what" "$holds"; done < "$work/told"
+    [ "$(wc -l < "$work/told")" = 7 ] || count 'the streams of a pipe' no
+fi
+
 echo "$passed passed, $failed failed"
 [ $failed -eq 0 ]
