@@ -254,19 +254,19 @@ pub window-asked : (name : Name) (addr : List ℕ) (seed : ℕ) (window : Window
 window-asked name addr seed window words e = subst IsFitAnswer e (request-fits words)
 
 -- ---- what the program answers
-within_question : (q : Question) → IsFit (question_of q) → AreWithinForms q
-within_question (question.Walk rule addr seed grow path) h = h
-within_question (question.Draw rule addr seed window layers glue) h = record { centre = h.centre; half = h.half }
-within_question (question.Drill rule count seed) h = h
-within_question (question.Verify name addr seed window) h = record { centre = h.centre; half = h.half }
-within_question (question.Neighbour rule addr edge) h = tt
-within_question (question.Calc name) h = tt
-within_question (question.Star rule addr seed vertex) h = tt
+within_question : (addr : List ℕ) (seed : ℕ) (q : Question) → IsFit (question_of addr seed q) → AreWithinForms q
+within_question addr seed (question.Walk rule grow path) h = h
+within_question addr seed (question.Draw rule window layers glue) h = record { centre = h.centre; half = h.half }
+within_question addr seed (question.Star rule vertex) h = tt
+within_question addr seed (question.Verify name window) h = record { centre = h.centre; half = h.half }
 
 within_forms : (request : Asked) → IsFit (request_of request) → IsWithinForms request
 within_forms (asked.Place rule addr) h = tt
+within_forms (asked.Neighbour rule addr edge) h = tt
 within_forms (asked.Check rule) h = tt
-within_forms (asked.Ask q) h = within_question q h
+within_forms (asked.Calc name) h = tt
+within_forms (asked.Drill rule count seed) h = h
+within_forms (asked.InFrame addr seed q) h = within_question addr.now seed q h
 
 pub answer-within : (words : List (List ℕ)) (answer : Result Asked ℕ) → AnswersAs request_of answer (request_in words) → IfOk answer IsWithinForms
 answer-within words (Ok request) e = within_forms request (subst IsFitAnswer e (request-fits words))

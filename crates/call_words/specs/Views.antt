@@ -14,19 +14,20 @@ use Rattle.call_words.specs.WindowWords.{FitWindow}
 abbrev pub window_of : WindowWords → WindowAsked
 window_of w = record { at = w.at; half = w.half }
 
-abbrev pub question_of : Question → Request
-question_of (question.Neighbour rule addr edge) = Neighbour rule addr.now edge
-question_of (question.Walk rule addr seed grow path) = Walk rule addr.now seed grow path.now
-question_of (question.Draw rule addr seed window layers glue) = Draw rule addr.now seed (window_of window) layers.items glue
-question_of (question.Calc name) = Calc name
-question_of (question.Drill rule count seed) = Drill rule count seed
-question_of (question.Star rule addr seed vertex) = Star rule addr.now seed vertex
-question_of (question.Verify name addr seed window) = Verify name addr.now seed (window_of window)
+-- a question in the frame of the tile with an address, which grows by a seed
+abbrev pub question_of : List ℕ → ℕ → Question → Request
+question_of addr seed (question.Walk rule grow path) = Walk rule addr seed grow path.now
+question_of addr seed (question.Draw rule window layers glue) = Draw rule addr seed (window_of window) layers.items glue
+question_of addr seed (question.Star rule vertex) = Star rule addr seed vertex
+question_of addr seed (question.Verify name window) = Verify name addr seed (window_of window)
 
 abbrev pub request_of : Asked → Request
 request_of (asked.Place rule addr) = Place rule addr.now
+request_of (asked.Neighbour rule addr edge) = Neighbour rule addr.now edge
 request_of (asked.Check rule) = Check rule
-request_of (asked.Ask q) = question_of q
+request_of (asked.Calc name) = Calc name
+request_of (asked.Drill rule count seed) = Drill rule count seed
+request_of (asked.InFrame addr seed q) = question_of addr.now seed q
 
 -- a reader of arguments returns what the definition reads
 abbrev pub AnswersAs : {X Y : Type 0} → (X → Y) → Result X ℕ → Result Y ℕ → Type 0
@@ -46,13 +47,13 @@ pub record IsWalkAsked (grow : ℕ) (path : List ℕ) : Type 0 where
 
 -- the values of a question are within the bounds of their forms
 abbrev pub AreWithinForms : Question → Type 0
-AreWithinForms (question.Walk rule addr seed grow path) = IsWalkAsked grow path.now
-AreWithinForms (question.Draw rule addr seed window layers glue) = IsWindowAsked window
-AreWithinForms (question.Drill rule count seed) = count ≤ 200
-AreWithinForms (question.Verify name addr seed window) = IsWindowAsked window
-AreWithinForms _ = Unit {0}
+AreWithinForms (question.Walk rule grow path) = IsWalkAsked grow path.now
+AreWithinForms (question.Draw rule window layers glue) = IsWindowAsked window
+AreWithinForms (question.Star rule vertex) = Unit {0}
+AreWithinForms (question.Verify name window) = IsWindowAsked window
 
 -- the values of a request are within the bounds of their forms
 abbrev pub IsWithinForms : Asked → Type 0
-IsWithinForms (asked.Ask q) = AreWithinForms q
+IsWithinForms (asked.Drill rule count seed) = count ≤ 200
+IsWithinForms (asked.InFrame addr seed q) = AreWithinForms q
 IsWithinForms _ = Unit {0}

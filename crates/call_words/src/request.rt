@@ -1,5 +1,5 @@
 //! The request that the arguments of a call make.
-ghost use Rattle.std.specs.Prelude.{◌≡◌, IfOk};
+ghost use Rattle.std.specs.Prelude.{◌≡◌, ℕ, List, IfOk};
 ghost use Rattle.call_words.specs.Request.{request_in, rule_of, formats_of};
 ghost use Rattle.call_words.specs.Views.{AnswersAs, IsWithinForms, question_of, request_of};
 ghost use Rattle.call_words.specs.Words.{texts};
@@ -19,39 +19,19 @@ use layer_api::format::Format;
 #[derive(Drop)]
 pub enum Request<'a> {
     /// Where a tile lies in its supertile.
-    Place { rule: RuleChoice, addr: &'a str },
-    /// That a rule is accepted.
-    Check { rule: RuleChoice },
-    /// What the machine of a rule answers.
-    Ask(Question<'a>),
-}
-
-/// A request that needs the machine of its rule: the tables by which edges are crossed and tiles are placed.
-/// A path is lent, so that a request is small.
-#[derive(Drop)]
-pub enum Question<'a> {
+    Place {
+        rule: RuleChoice,
+        addr: &'a str,
+    },
     /// The tile across an edge.
     Neighbour {
         rule: RuleChoice,
         addr: &'a str,
         edge: u8,
     },
-    /// The tiles along a path, in a frame that first grows to a depth.
-    Walk {
+    /// That a rule is accepted.
+    Check {
         rule: RuleChoice,
-        addr: &'a str,
-        seed: u64,
-        grow: u8,
-        path: &'a [u8],
-    },
-    /// The tiles of a window, or their whole tiles, through layers of these formats.
-    Draw {
-        rule: RuleChoice,
-        addr: &'a str,
-        seed: u64,
-        window: WindowWords,
-        layers: ArrayVec<Format, MOST_FORMATS>,
-        glue: bool,
     },
     /// The output of a script.
     Calc {
@@ -63,18 +43,38 @@ pub enum Question<'a> {
         count: u8,
         seed: u64,
     },
+    /// What the frame of a tile shows. The seed chooses how it grows.
+    InFrame {
+        addr: &'a str,
+        seed: u64,
+        question: Question<'a>,
+    },
+}
+
+/// A question about the frame of a tile. A path is lent, so that a request is small.
+#[derive(Drop)]
+pub enum Question<'a> {
+    /// The tiles along a path. The frame first grows to a depth.
+    Walk {
+        rule: RuleChoice,
+        grow: u8,
+        path: &'a [u8],
+    },
+    /// The tiles of a window, or their whole tiles, through layers of these formats.
+    Draw {
+        rule: RuleChoice,
+        window: WindowWords,
+        layers: ArrayVec<Format, MOST_FORMATS>,
+        glue: bool,
+    },
     /// The tiles around a vertex.
     Star {
         rule: RuleChoice,
-        addr: &'a str,
-        seed: u64,
         vertex: u8,
     },
     /// If a list of tiles is that of a window.
     Verify {
         name: Name,
-        addr: &'a str,
-        seed: u64,
         window: WindowWords,
     },
 }
@@ -82,14 +82,11 @@ pub enum Question<'a> {
 impl<'a> Question<'a> {
     /// Returns the choice of the rule.
     fn rule(&self) -> RuleChoice
-        ensures { result ≡ rule_of (question_of self.now) }
+        ensures { (addr : List ℕ) (seed : ℕ) → result ≡ rule_of (question_of addr seed self.now) }
     {
         match self {
-            Question::Neighbour { rule, .. } => *rule,
             Question::Walk { rule, .. } => *rule,
             Question::Draw { rule, .. } => *rule,
-            Question::Calc { name } => RuleChoice::Builtin { name: *name },
-            Question::Drill { rule, .. } => *rule,
             Question::Star { rule, .. } => *rule,
             Question::Verify { name, .. } => RuleChoice::Builtin { name: *name },
         }
@@ -103,8 +100,11 @@ impl<'a> Request<'a> {
     {
         match self {
             Request::Place { rule, .. } => *rule,
+            Request::Neighbour { rule, .. } => *rule,
             Request::Check { rule } => *rule,
-            Request::Ask(question) => question.rule(),
+            Request::Calc { name } => RuleChoice::Builtin { name: *name },
+            Request::Drill { rule, .. } => *rule,
+            Request::InFrame { question, .. } => question.rule(),
         }
     }
 
@@ -113,7 +113,10 @@ impl<'a> Request<'a> {
         ensures { result.now ≡ formats_of (request_of self.now) }
     {
         match self {
-            Request::Ask(Question::Draw { layers, .. }) => layers.as_slice(),
+            Request::InFrame {
+                question: Question::Draw { layers, .. },
+                ..
+            } => layers.as_slice(),
             _ => &[],
         }
     }

@@ -27,44 +27,48 @@ impl<'a> Values<'a> {
     fn neighbour(&self) -> Option<Request<'a>>
         ensures { option_map request_of result ≡ asked_by command.Neighbour (values_of self.now None) }
     {
-        Some(Request::Ask(Question::Neighbour {
+        Some(Request::Neighbour {
             rule: self.rule?,
             addr: self.addr?,
             edge: self.edge?,
-        }))
+        })
     }
 
     #[tactic(auto, unfolding(crate::specs::Request::asked_by))]
     fn walk(&self, path: &'a Option<Path>) -> Option<Request<'a>>
         ensures { option_map request_of result ≡ asked_by command.Walk (values_of self.now path.now) }
     {
-        Some(Request::Ask(Question::Walk {
-            rule: self.rule?,
+        Some(Request::InFrame {
             addr: self.addr?,
             seed: self.seed.unwrap_or(0),
-            grow: self.grow.unwrap_or(0),
-            path: match path {
-                Some(path) => path.as_slice(),
-                None => &[],
+            question: Question::Walk {
+                rule: self.rule?,
+                grow: self.grow.unwrap_or(0),
+                path: match path {
+                    Some(path) => path.as_slice(),
+                    None => &[],
+                },
             },
-        }))
+        })
     }
 
     #[tactic(auto, unfolding(crate::specs::Request::asked_by))]
     fn draw(self) -> Option<Request<'a>>
         ensures { option_map request_of result ≡ asked_by command.Draw (values_of self.entry None) }
     {
-        Some(Request::Ask(Question::Draw {
-            rule: self.rule?,
+        Some(Request::InFrame {
             addr: self.addr?,
             seed: self.seed.unwrap_or(0),
-            window: WindowWords {
-                at: self.at?,
-                half: self.half?,
+            question: Question::Draw {
+                rule: self.rule?,
+                window: WindowWords {
+                    at: self.at?,
+                    half: self.half?,
+                },
+                layers: self.layers?,
+                glue: self.glue.unwrap_or(false),
             },
-            layers: self.layers?,
-            glue: self.glue.unwrap_or(false),
-        }))
+        })
     }
 
     #[tactic(auto, unfolding(crate::specs::Request::asked_by))]
@@ -78,47 +82,51 @@ impl<'a> Values<'a> {
     fn calc(&self) -> Option<Request<'a>>
         ensures { option_map request_of result ≡ asked_by command.Calc (values_of self.now None) }
     {
-        Some(Request::Ask(Question::Calc {
+        Some(Request::Calc {
             name: self.rule?.name()?,
-        }))
+        })
     }
 
     #[tactic(auto, unfolding(crate::specs::Request::asked_by))]
     fn drill(&self) -> Option<Request<'a>>
         ensures { option_map request_of result ≡ asked_by command.Drill (values_of self.now None) }
     {
-        Some(Request::Ask(Question::Drill {
+        Some(Request::Drill {
             rule: self.rule?,
             count: self.count?,
             seed: self.seed.unwrap_or(0),
-        }))
+        })
     }
 
     #[tactic(auto, unfolding(crate::specs::Request::asked_by))]
     fn star(&self) -> Option<Request<'a>>
         ensures { option_map request_of result ≡ asked_by command.Star (values_of self.now None) }
     {
-        Some(Request::Ask(Question::Star {
-            rule: self.rule?,
+        Some(Request::InFrame {
             addr: self.addr?,
             seed: self.seed.unwrap_or(0),
-            vertex: self.vertex?,
-        }))
+            question: Question::Star {
+                rule: self.rule?,
+                vertex: self.vertex?,
+            },
+        })
     }
 
     #[tactic(auto, unfolding(crate::specs::Request::asked_by))]
     fn verify(&self) -> Option<Request<'a>>
         ensures { option_map request_of result ≡ asked_by command.Verify (values_of self.now None) }
     {
-        Some(Request::Ask(Question::Verify {
-            name: self.rule?.name()?,
+        Some(Request::InFrame {
             addr: self.addr?,
             seed: self.seed.unwrap_or(0),
-            window: WindowWords {
-                at: self.at?,
-                half: self.half?,
+            question: Question::Verify {
+                name: self.rule?.name()?,
+                window: WindowWords {
+                    at: self.at?,
+                    half: self.half?,
+                },
             },
-        }))
+        })
     }
 
     /// Returns the request of a command, or None if a required key is not given.

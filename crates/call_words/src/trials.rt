@@ -100,15 +100,11 @@ fn places_of_wrong_words(rt: HostRuntime) -> Result<(), Fail> {
 /// Returns true if a request is for the chair's tile `0:` with this seed, depth and path.
 fn is_walk(request: &Request<'_>, start: u64, depth: u8, edges: &[u8]) -> bool {
     match request {
-        Request::Ask(
-            Question::Walk {
-                rule,
-                addr,
-                seed,
-                grow,
-                path,
-            },
-        ) => {
+        Request::InFrame {
+            addr,
+            seed,
+            question: Question::Walk { rule, grow, path },
+        } => {
             *rule == RuleChoice::Builtin { name: Name::Chair }
                 && *addr == "0:"
                 && *seed == start
@@ -147,15 +143,15 @@ fn walks_with_and_without_their_optional_words(rt: HostRuntime) -> Result<(), Fa
 /// layers and with glue.
 fn is_draw(request: &Request<'_>, formats: &[Format]) -> bool {
     match request {
-        Request::Ask(
-            Question::Draw {
+        Request::InFrame {
+            question: Question::Draw {
                 rule,
                 window,
                 layers,
                 glue,
-                ..
             },
-        ) => {
+            ..
+        } => {
             *rule == RuleChoice::File
                 && window.at.c == [-1, 2, 3, 4]
                 && window.half.w == 1

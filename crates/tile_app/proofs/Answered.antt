@@ -41,17 +41,16 @@ pub same_asked : {D : Type 0} (form : D → Format) (words other : List (List �
 same_asked form words other layers had left c h e f =
     subst (λ ds. IsAsked words (map form ds) left c) (sym f) (subst (λ ws. IsAsked ws (map form had) left c) (sym e) h)
 
+-- Done has no cause
+pub never_at_done : (c : Call) → Causes c Done → ⊥
+never_at_done c cause = refused_at_done c Done cause refl
+
 -- Done is no limit
 done_is_none : (q : Request) → IsLimitOf q Done → ⊥
-done_is_none (Place rule addr) h = h
-done_is_none (Neighbour rule addr edge) h = h
-done_is_none (Walk rule addr seed grow path) h = h
 done_is_none (Draw rule addr seed window layers glue) h = h
-done_is_none (Check rule) h = h
-done_is_none (Calc name) h = h
-done_is_none (Drill rule count seed) h = h
 done_is_none (Star rule addr seed vertex) h = h
 done_is_none (Verify name addr seed window) h = h
+done_is_none q h = h
 
 module _ (words : List (List ℕ)) (handed : List Format) (left rest : Option (List ℕ)) where
   -- ---- from a call that was made to the one that is made
@@ -64,7 +63,7 @@ module _ (words : List (List ℕ)) (handed : List Format) (left rest : Option (L
         asks.names.not_too_long)
 
     -- of a request
-    of_asked : (P : Request → List ℕ → Tiling → Type 0) → OfCall words handed left rest (OfRequest P) → OfRequest P c
+    pub of_asked : (P : Request → List ℕ → Tiling → Type 0) → OfCall words handed left rest (OfRequest P) → OfRequest P c
     of_asked P k = subst (OfRequest P) (same_short k.0 k.2.request k.2.tiling k.1 k.2.asks) k.2
 
     -- a listing that is too long, in bytes or in lines
@@ -74,7 +73,7 @@ module _ (words : List (List ℕ)) (handed : List Format) (left rest : Option (L
       | inr asked ↦ inr (of_asked (λ q file t. Refuses q file t (BadListing listing.TooLong)) (k.0, k.1, asked))
     ]
 
-    caused : (s : Status) → IsRefusal s → IsRefused words handed left rest s → IsCutShort s ⊎ Causes c s
+    pub caused : (s : Status) → IsRefusal s → IsRefused words handed left rest s → IsCutShort s ⊎ Causes c s
     caused Done i k = absurd i
     caused (BadWords place) i k = inr (subst (λ ws. wrong_place ws ≡ Some place) (k.1.by_words ∙ sym h.by_words) k.2)
     caused (NoLayer format) i k =

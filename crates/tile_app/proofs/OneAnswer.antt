@@ -327,15 +327,10 @@ module _ (c : Call) where
   no_cause h = none h.request c.file h.tiling h.holds
     where
       none : (q : Request) (file : List ℕ) (t : Tiling) → Refuses q file t Done → ⊥
-      none (Place rule addr) file t k = k.holds
-      none (Neighbour rule addr edge) file t k = k.holds
-      none (Walk rule addr seed grow path) file t k = k.holds
-      none (Draw rule addr seed window layers glue) file t k = k.holds
       none (Check rule) file t k = k
       none (Calc name) file t k = k
       none (Drill rule count seed) file t k = k
-      none (Star rule addr seed vertex) file t k = k.holds
-      none (Verify name addr seed window) file t k = k.holds
+      none q file t k = k.holds
 
   pub outcome_of : (s : Status) → Causes c s → Outcome s
   outcome_of Done h = absurd (no_cause h)

@@ -2,9 +2,11 @@
 use Rattle.std.proofs.Common.{◌≡◌, ◌⊎◌, inl, inr, ℕ, true, false, List, [], length, ◌≤◌, Result, Err, IfErr, sym, ap, ◌∙◌, subst, refl, arith}
 use Rattle.std.proofs.lemmas.Result.{IfErr-weaker}
 use Rattle.std.specs.declared.option.Option.{Option}
-use Rattle.theory_addresses.specs.Address.{Address}
 use Rattle.builtin_rules.specs.declared.name.Name.{Name}
+use Rattle.call_words.specs.declared.request.Question.{Question}
+use Rattle.call_words.specs.declared.request.Question.TheVariants as question
 use Rattle.call_words.specs.Request.{WindowAsked}
+use Rattle.call_words.specs.Views.{question_of}
 use Rattle.call_words.specs.Request.{Request}
 use Rattle.call_words.specs.Request.Request.{Calc, Verify}
 use Rattle.addr_calc.specs.declared.calc_fault.CalcFault.{CalcFault}
@@ -18,17 +20,20 @@ use Rattle.call_notes.specs.declared.status.Status.{Status}
 use Rattle.call_notes.specs.declared.status.Status.TheVariants.{ReadFault, BadAddress, NoMemory}
 use Rattle.tile_app.specs.Answer.{IsPrinted, Refuses}
 use Rattle.tile_app.specs.Asked.{WasRead, WasFileIn}
+use Rattle.tile_shape.specs.declared.address_fault.AddressFault.{AddressFault}
+use Rattle.tile_shape.specs.Text.{address_text}
 use Rattle.tile_app.specs.BaseFrame.{frame_of, IsBaseFrame}
 use Rattle.tile_app.specs.Calc.{PrintsCalc, CalcRefuses}
 use Rattle.tile_app.specs.FileKinds.{longest_of}
 use Rattle.tile_app.specs.Files.{has_own_file, longest_for}
-use Rattle.tile_app.specs.Reading.{OfFile, IsTooLong, IsFileUnread, OfOwnFile, IsOwnTooLong, IsRequestRefused, IsScriptPrinted, IsScriptRefused, IsListingPrinted, IsListingRefused}
+use Rattle.tile_app.specs.Reading.{OfFile, IsTooLong, IsFileUnread, OfOwnFile, IsOwnTooLong, IsRequestRefused, IsScriptPrinted, IsScriptRefused, IsListingPrinted, IsListingRefused, IsItsTiling}
 use Rattle.call_notes.specs.Status.{OrNoMemory}
-use Rattle.tile_app.specs.Tile.{IsTile, OfTile, is_tile}
+use Rattle.tile_app.specs.Tile.{IsNoTile, OfTile, is_tile}
 use Rattle.tile_app.specs.Tilings.{builtin_tiling}
 use Rattle.call_notes.specs.FaultStatus.{status_of_calc}
 use Rattle.tile_app.specs.Verify.{PrintsVerify, VerifyRefuses}
 use Rattle.tile_app.specs.Windows.{window_in}
+use Rattle.tile_app.proofs.Tiles.{frame_holds}
 use Rattle.tile_app.proofs.Unrefused.{no_read_fault}
 
 -- ---- a request without a file of its own
@@ -89,53 +94,67 @@ script_refused name t left rest ReadFault h = refl
 script_refused name t left rest s h = script_either name t left rest s h
 
 -- ---- `verify`
-module _ (name : Name) (addr : List ℕ) (seed : ℕ) (window : WindowAsked) (t : Tiling)
-    (its : t ≡ builtin_tiling name) (left rest : Option (List ℕ)) where
-  abbrev asked : Request
-  asked = Verify name addr seed window
+module _ (name : Name) (asked : WindowAsked) (t : Tiling) (f : FrameValue) (base : IsBaseFrame t f) (its : t ≡ builtin_tiling name)
+    (left rest : Option (List ℕ)) where
+  abbrev q : Request
+  q = Verify name (address_text f.base) f.start asked
 
-  pub listing_printed : (text : List ℕ) → IsListingPrinted t addr seed window left rest text
-      → OfOwnFile asked left rest (λ file. IsPrinted asked file t text)
-  listing_printed text h =
-      let own : has_own_file asked ≡ true = sym (ap (λ s. is_tile s addr) its) ∙ h.0 in
-      let of = h.1.holds in
-      record {
-        file = of.file;
-        read = subst (λ b. WasFileIn (longest_for asked) b left rest of.file) (sym own) of.read;
-        not_too_long = of.not_too_long;
-        holds = record { address = h.1.address; tile = h.1.tile; holds = of.holds };
-      }
+  -- it reads its file, since the base is a tile
+  own : has_own_file q ≡ true
+  own = sym (ap (λ s. is_tile s (address_text f.base)) its) ∙ base.told
 
-  reads : is_tile t addr ≡ true → has_own_file asked ≡ true
-  reads e = sym (ap (λ s. is_tile s addr) its) ∙ e
+  pub listing_printed : (text : List ℕ) → IsListingPrinted t f (window_in t.order asked) left rest text
+      → OfOwnFile q left rest (λ file. IsPrinted q file t text)
+  listing_printed text h = record {
+    file = h.file;
+    read = subst (λ b. WasFileIn (longest_for q) b left rest h.file) (sym own) h.read;
+    not_too_long = h.not_too_long;
+    holds = frame_holds t f base (λ g. PrintsVerify t g (window_in t.order asked) h.file text) h.holds;
+  }
 
-  listing_either : (s : Status) → is_tile t addr ≡ true
-      → OfTile t addr (λ a. IsTooLong Listing left rest s
-      ⊎ OfFile Listing left rest (λ file. VerifyRefuses t (frame_of a seed) (window_in t.order window)
-      file s))
-      → ((a : Address) (file : List ℕ) → IsTile t addr a
-      → VerifyRefuses t (frame_of a seed) (window_in t.order window) file s → Refuses asked file t s)
-      → IsOwnTooLong asked left rest s ⊎ OfOwnFile asked left rest (λ file. Refuses asked file t s)
-  listing_either s e h same = elim h.holds [
-    | inl long ↦ inl (record { reads = reads e; file = long.file; read = long.read; too_long = long.too_long; told = long.told })
+  listing_either : (s : Status)
+      → IsTooLong Listing left rest s ⊎ OfFile Listing left rest (λ file. VerifyRefuses t f (window_in t.order asked) file s)
+      → ((file : List ℕ) → OfTile t (address_text f.base) (λ a. VerifyRefuses t (frame_of a f.start) (window_in t.order asked) file s)
+      → Refuses q file t s)
+      → IsOwnTooLong q left rest s ⊎ OfOwnFile q left rest (λ file. Refuses q file t s)
+  listing_either s h same = elim h [
+    | inl long ↦ inl (record { reads = own; file = long.file; read = long.read; too_long = long.too_long; told = long.told })
     | inr of ↦ inr (record {
       file = of.file;
-      read = subst (λ b. WasFileIn (longest_for asked) b left rest of.file) (sym (reads e)) of.read;
+      read = subst (λ b. WasFileIn (longest_for q) b left rest of.file) (sym own) of.read;
       not_too_long = of.not_too_long;
-      holds = same h.address of.file h.tile of.holds;
+      holds = same of.file (frame_holds t f base (λ g. VerifyRefuses t g (window_in t.order asked) of.file s) of.holds);
     })
   ]
 
-  -- where the address is that of no tile nothing is read
-  pub listing_refused : (is_tile t addr ≡ false → rest ≡ left) → (s : Status)
-      → IsListingRefused t addr seed window left rest s → IsRequestRefused asked t left rest s
-  listing_refused unread NoMemory h = tt
-  listing_refused unread ReadFault h = reads h
-  listing_refused unread (BadAddress fault) h =
-      let none : has_own_file asked ≡ false = sym (ap (λ s. is_tile s addr) its) ∙ h.0 in
-      inr (subst (λ r. OfOwnFile asked left r (λ file. Refuses asked file t (BadAddress fault)))
-      (sym (unread h.0)) (own_none asked left (λ file. Refuses asked file t (BadAddress fault)) none h.1))
-  listing_refused unread s h = listing_either s h.0 h.1 (λ a file tile k. record { address = a; tile = tile; holds = k })
+  pub listing_refused : (s : Status) → IsListingRefused t f (window_in t.order asked) left rest s → IsRequestRefused q t left rest s
+  listing_refused NoMemory h = tt
+  listing_refused ReadFault h = own
+  listing_refused (BadAddress fault) h = elim h [
+    | inl long ↦ absurd (cc long.told)
+    | inr of ↦ absurd of.holds
+  ]
+  listing_refused s h = listing_either s h (λ file k. k)
+
+-- ---- where the address of the base is that of no tile, nothing is read
+module _ (t : Tiling) (addr : List ℕ) (seed : ℕ) (fault : AddressFault) (no_tile : IsNoTile t addr fault) (told : is_tile t addr ≡ false)
+    (left : Option (List ℕ)) where
+  no_base : (q : Question) (file : List ℕ) → Refuses (question_of addr seed q) file t (BadAddress fault)
+  no_base (question.Walk rule grow path) file = no_tile
+  no_base (question.Draw rule window layers glue) file = no_tile
+  no_base (question.Star rule vertex) file = no_tile
+  no_base (question.Verify name window) file = no_tile
+
+  no_file : (q : Question) → IsItsTiling (question_of addr seed q) t → has_own_file (question_of addr seed q) ≡ false
+  no_file (question.Walk rule grow path) its = refl
+  no_file (question.Draw rule window layers glue) its = refl
+  no_file (question.Star rule vertex) its = refl
+  no_file (question.Verify name window) its = sym (ap (λ s. is_tile s addr) its) ∙ told
+
+  pub base_refused : (q : Question) → IsItsTiling (question_of addr seed q) t
+      → IsRequestRefused (question_of addr seed q) t left left (BadAddress fault)
+  base_refused q its = inr (own_none (question_of addr seed q) left (λ file. Refuses (question_of addr seed q) file t (BadAddress fault))
+      (no_file q its) (no_base q []))
 
 -- ---- from a file that is read to what is said of the script or the listing
 pub script_unread : (t : Tiling) (left rest : Option (List ℕ)) (s : Status) → IsFileUnread Script left rest s → IsScriptRefused t left rest s
@@ -155,57 +174,26 @@ module _ (t : Tiling) (left rest : Option (List ℕ)) (file : List ℕ)
   script_faulty calculating.NoMemory h = tt
   script_faulty fault h = inr (record { file = file; read = read; not_too_long = short; holds = h })
 
-module _ (t : Tiling) (addr : List ℕ) (seed : ℕ) (window : WindowAsked) (a : Address) (tile : IsTile t addr a)
-    (told : is_tile t addr ≡ true) (left rest : Option (List ℕ)) where
-  pub listing_unread : (s : Status) → IsFileUnread Listing left rest s → IsListingRefused t addr seed window left rest s
+-- of a window in a frame
+module _ (t : Tiling) (f : FrameValue) (w : Window) (left rest : Option (List ℕ)) where
+  pub listing_unread : (s : Status) → IsFileUnread Listing left rest s → IsListingRefused t f w left rest s
   listing_unread NoMemory h = tt
-  listing_unread ReadFault h = told
-  listing_unread (BadAddress fault) h = absurd (cc h.told)
-  listing_unread s h = (told, record { address = a; tile = tile; holds = inl h })
+  listing_unread ReadFault h = tt
+  listing_unread s h = inl h
 
-  listing_faulty : (file : List ℕ) → WasRead (longest_of Listing) left rest file → length file ≤ longest_of Listing
-      → (s : Status) → OrNoMemory (VerifyRefuses t (frame_of a seed) (window_in t.order window) file) s
-      → IsListingRefused t addr seed window left rest s
-  listing_faulty file read short NoMemory h = tt
-  listing_faulty file read short ReadFault h = absurd h
-  listing_faulty file read short (BadAddress fault) h = absurd h
-  listing_faulty file read short s h = (
-    told,
-    record {
-      address = a;
-      tile = tile;
-      holds = inr (record
-          { file = file; read = read; not_too_long = short; holds = h });
-    },
-  )
+  -- a listing that was read
+  module _ (file : List ℕ) (read : WasRead (longest_of Listing) left rest file) (short : length file ≤ longest_of Listing) where
+    pub listing_done : (text : List ℕ) → PrintsVerify t f w file text → IsListingPrinted t f w left rest text
+    listing_done text h = record { file = file; read = read; not_too_long = short; holds = h }
 
--- a listing that was read, of a window in the frame of a tile
-module _ (t : Tiling) (addr : List ℕ) (seed : ℕ) (given : WindowAsked) (f : FrameValue)
-    (base : IsBaseFrame t addr seed f) (told : is_tile t addr ≡ true) (w : Window)
-    (window : w ≡ window_in t.order given) (left rest : Option (List ℕ)) (file : List ℕ)
-    (read : WasRead (longest_of Listing) left rest file) (short : length file ≤ longest_of Listing) where
-  -- the frame and the window are those of the words
-  as_asked : (P : FrameValue → Window → Type 0) → P f w → P (frame_of f.base seed) (window_in t.order given)
-  as_asked P h = subst (λ g. P g (window_in t.order given)) base.begun (subst (P f) window h)
+    listing_faulty : (s : Status) → OrNoMemory (VerifyRefuses t f w file) s → IsListingRefused t f w left rest s
+    listing_faulty NoMemory h = tt
+    listing_faulty ReadFault h = absurd h
+    listing_faulty s h = inr (record { file = file; read = read; not_too_long = short; holds = h })
 
-  pub listing_done : (text : List ℕ) → PrintsVerify t f w file text → IsListingPrinted t addr seed given left rest text
-  listing_done text h = (
-    told,
-    record {
-      address = f.base;
-      tile = base.tile;
-      holds = record { file = file; read = read; not_too_long = short; holds = as_asked (λ g v. PrintsVerify t g v file text) h };
-    },
-  )
-
-  pub listing_wrong : {T : Type 0} (answer : Result T Status)
-      → IfErr answer (OrNoMemory (VerifyRefuses t f w file))
-      → IfErr answer (IsListingRefused t addr seed given left rest)
-  listing_wrong answer h =
-      IfErr-weaker answer (OrNoMemory (VerifyRefuses t (frame_of f.base seed) (window_in t.order given) file))
-      (IsListingRefused t addr seed given left rest)
-      (listing_faulty t addr seed given f.base base.tile told left rest file read short)
-      (as_asked (λ g v. IfErr answer (OrNoMemory (VerifyRefuses t g v file))) h)
+    pub listing_wrong : {T : Type 0} (answer : Result T Status) → IfErr answer (OrNoMemory (VerifyRefuses t f w file))
+        → IfErr answer (IsListingRefused t f w left rest)
+    listing_wrong answer h = IfErr-weaker answer (OrNoMemory (VerifyRefuses t f w file)) (IsListingRefused t f w left rest) listing_faulty h
 
 -- its fault isn't one of the source
 pub listing_unfailed : {T : Type 0} (t : Tiling) (f : FrameValue) (w : Window) (file : List ℕ)

@@ -67,24 +67,12 @@ pub prints_without : (t : Tiling) (text : List ℕ) (q : Request) → rule_of q 
     → IsPrinted q file t text → IsPrinted q other t text
 prints_without t text (Calc name) e file other h = absurd (cc e)
 prints_without t text (Verify name addr seed window) e file other h = absurd (cc e)
-prints_without t text (Place rule addr) e file other h = h
-prints_without t text (Neighbour rule addr edge) e file other h = h
-prints_without t text (Walk rule addr seed grow path) e file other h = h
-prints_without t text (Draw rule addr seed window layers glue) e file other h = h
-prints_without t text (Check rule) e file other h = h
-prints_without t text (Drill rule count seed) e file other h = h
-prints_without t text (Star rule addr seed vertex) e file other h = h
+prints_without t text q e file other h = h
 
 pub refuses_without : (t : Tiling) (s : Status) (q : Request) → rule_of q ≡ File → (file other : List ℕ) → Refuses q file t s → Refuses q other t s
 refuses_without t s (Calc name) e file other h = absurd (cc e)
 refuses_without t s (Verify name addr seed window) e file other h = absurd (cc e)
-refuses_without t s (Place rule addr) e file other h = h
-refuses_without t s (Neighbour rule addr edge) e file other h = h
-refuses_without t s (Walk rule addr seed grow path) e file other h = h
-refuses_without t s (Draw rule addr seed window layers glue) e file other h = h
-refuses_without t s (Check rule) e file other h = h
-refuses_without t s (Drill rule count seed) e file other h = h
-refuses_without t s (Star rule addr seed vertex) e file other h = h
+refuses_without t s q e file other h = h
 
 -- ---- the file of a call, by the two readings
 record OfItsFile (q : Request) (left rest : Option (List ℕ)) (t : Tiling) (P : List ℕ → Type 0) : Type 0 where

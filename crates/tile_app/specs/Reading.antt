@@ -1,29 +1,27 @@
 -- What is read from a source: a rule file, a script, or a list of tiles. Why it is refused.
-use Rattle.std.specs.Prelude.{◌≡◌, ◌⊎◌, ℕ, ◌<◌, ◌≤◌, true, false, List, length, Ok, Err}
+use Rattle.std.specs.Prelude.{◌≡◌, ◌⊎◌, ℕ, ◌<◌, ◌≤◌, true, List, length, Ok, Err}
 use Rattle.std.specs.declared.option.Option.{Option}
 use Rattle.call_words.specs.declared.rule_choice.RuleChoice.{RuleChoice}
-use Rattle.call_words.specs.Request.{WindowAsked}
 use Rattle.call_words.specs.Request.{Request}
 use Rattle.call_words.specs.Request.Request.{Calc, Verify}
+use Rattle.theory_walks.specs.Frames.{FrameValue}
+use Rattle.plane_geom.specs.declared.window.Window.{Window}
 use Rattle.rule_model.specs.Tiling.{Tiling}
 use Rattle.rule_text.specs.Limits.{longest_file}
 use Rattle.tile_app.specs.declared.file_kind.FileKind.{FileKind}
 use Rattle.tile_app.specs.declared.file_kind.FileKind.TheVariants.{Script, Listing}
 use Rattle.call_notes.specs.declared.status.Status.{Status}
-use Rattle.call_notes.specs.declared.status.Status.TheVariants.{ReadFault, RuleTooLong, RuleRefused, BadAddress, NoMemory}
+use Rattle.call_notes.specs.declared.status.Status.TheVariants.{ReadFault, RuleTooLong, RuleRefused, NoMemory}
 use Rattle.tile_app.specs.Answer.{Refuses}
 use Rattle.tile_app.specs.Asked.{WasRead, WasFileIn}
-use Rattle.tile_app.specs.BaseFrame.{frame_of}
 use Rattle.tile_app.specs.Calc.{PrintsCalc, CalcRefuses}
 use Rattle.tile_app.specs.Choices.{is_file, tiling_chosen}
 use Rattle.tile_app.specs.FileKinds.{longest_of, too_long_of}
 use Rattle.tile_app.specs.Files.{has_own_file, longest_for, too_long_for}
 use Rattle.tile_app.specs.RuleFiles.{tiling_in_file}
 use Rattle.call_notes.specs.Status.{IsTrueFault}
-use Rattle.tile_app.specs.Tile.{OfTile, IsNoTile, is_tile}
 use Rattle.tile_app.specs.Tilings.{builtin_tiling}
 use Rattle.tile_app.specs.Verify.{PrintsVerify, VerifyRefuses}
-use Rattle.tile_app.specs.Windows.{window_in}
 
 -- a file of this kind was read to its end, from a source that had some bytes left and now has the rest, and this holds
 -- of it
@@ -78,17 +76,14 @@ IsScriptRefused t left rest NoMemory = Unit {0}
 IsScriptRefused t left rest ReadFault = Unit {0}
 IsScriptRefused t left rest status = IsTooLong Script left rest status ⊎ OfFile Script left rest (λ file. CalcRefuses file t status)
 
--- ---- `verify`, which reads its list of tiles after its address
-abbrev pub IsListingPrinted : Tiling → List ℕ → ℕ → WindowAsked → Option (List ℕ) → Option (List ℕ) → List ℕ → Type 0
-IsListingPrinted t addr seed asked left rest text =
-    (is_tile t addr ≡ true) × OfTile t addr (λ a. OfFile Listing left rest (λ file. PrintsVerify t (frame_of a seed) (window_in t.order asked) file text))
+-- ---- `verify`, of a window in a frame
+abbrev pub IsListingPrinted : Tiling → FrameValue → Window → Option (List ℕ) → Option (List ℕ) → List ℕ → Type 0
+IsListingPrinted t f w left rest text = OfFile Listing left rest (λ file. PrintsVerify t f w file text)
 
-abbrev pub IsListingRefused : Tiling → List ℕ → ℕ → WindowAsked → Option (List ℕ) → Option (List ℕ) → Status → Type 0
-IsListingRefused t addr seed asked left rest NoMemory = Unit {0}
-IsListingRefused t addr seed asked left rest ReadFault = is_tile t addr ≡ true
-IsListingRefused t addr seed asked left rest (BadAddress fault) = (is_tile t addr ≡ false) × IsNoTile t addr fault
-IsListingRefused t addr seed asked left rest status =
-    (is_tile t addr ≡ true) × OfTile t addr (λ a. IsTooLong Listing left rest status ⊎ OfFile Listing left rest (λ file. VerifyRefuses t (frame_of a seed) (window_in t.order asked) file status))
+abbrev pub IsListingRefused : Tiling → FrameValue → Window → Option (List ℕ) → Option (List ℕ) → Status → Type 0
+IsListingRefused t f w left rest NoMemory = Unit {0}
+IsListingRefused t f w left rest ReadFault = Unit {0}
+IsListingRefused t f w left rest status = IsTooLong Listing left rest status ⊎ OfFile Listing left rest (λ file. VerifyRefuses t f w file status)
 
 -- ---- a request, of the tiling of its rule
 abbrev pub IsItsTiling : Request → Tiling → Type 0

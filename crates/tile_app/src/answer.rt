@@ -8,6 +8,7 @@ ghost use Rattle.rule_model.specs.Tiling.{tiling_of};
 ghost use Rattle.tile_io.specs.Causes.{Rose};
 ghost use Rattle.tile_app.specs.Answer.{IsPrinted, Prints};
 ghost use Rattle.tile_app.specs.Asked.{OfCall};
+ghost use Rattle.tile_app.specs.BaseFrame.{IsBaseFrame, question_in};
 ghost use Rattle.tile_app.specs.Call.{reads_file};
 ghost use Rattle.tile_app.specs.Causes.{IsRefused};
 ghost use Rattle.tile_app.specs.Files.{has_own_file};
@@ -23,6 +24,7 @@ use crate::neighbour::neighbour_text;
 use crate::place::{named_place_text, place_text};
 use crate::rule_chosen::rule_chosen;
 use crate::star::star_text;
+use crate::tile::tile_at;
 use crate::verify::verify_text;
 use crate::walk::walk_text;
 use crate::whole_answer::WholeAnswer;
@@ -31,74 +33,90 @@ use call_words::request::{Question, Request, request_in};
 use call_words::rule_choice::RuleChoice;
 use edge_tables::steps::Steps;
 use layer_api::layer::Layer;
+use lazy_walk::frame::Frame;
 use rule_model::checked::Checked;
 use std::alloc::Global;
 use std::sync::ledger::Ledger;
 use tile_io::source::Source;
 use tile_place::machine::Machine;
 
-/// Returns the answer to a question with the machine of its rule, or its refusal. `calc` and `verify` read
-/// the source, `verify` only if it names a tile.
+/// Returns the answer to a question about the frame of a tile, or its refusal. Only `verify` reads the source.
 fn question_text<R: Source, D: Layer, L: Ledger>(
     alloc: Global,
     question: &Question<'_>,
     machine: &Machine,
+    frame: &mut Frame,
     source: &mut R,
     layers: &mut [D],
     steps: &mut Steps<L>,
 ) -> Result<WholeAnswer, Status>
     requires within { AreWithinForms question.now }
-    requires have_layers { first_lacking (map D.form layers.old) (formats_of (question_of question.now))
-        ≡ None }
-    requires its_tiling { IsItsTiling (question_of question.now) (tiling_of machine.now) }
+    requires base { IsBaseFrame (tiling_of machine.now) frame.old }
+    requires have_layers { first_lacking (map D.form layers.old)
+        (formats_of (question_in frame.old question.now)) ≡ None }
+    requires its_tiling { IsItsTiling (question_in frame.old question.now) (tiling_of machine.now) }
     ensures printed { IfOk result (λ answer. (text : List ℕ)
-        × OfOwnFile (question_of question.now) (R.left source.old) (R.left source.new)
-        (λ file. IsPrinted (question_of question.now) file (tiling_of machine.now) text)
+        × OfOwnFile (question_in frame.old question.now) (R.left source.old) (R.left source.new)
+        (λ file. IsPrinted (question_in frame.old question.now) file (tiling_of machine.now) text)
         × IsTextOf D.form D.seen D.ended D.draws layers.new answer text) }
-    ensures refused { IfErr result (IsRequestRefused (question_of question.now) (tiling_of machine.now)
-        (R.left source.old) (R.left source.new)) }
+    ensures refused { IfErr result (IsRequestRefused (question_in frame.old question.now)
+        (tiling_of machine.now) (R.left source.old) (R.left source.new)) }
     ensures read_fault { IsErrOf result Status.ReadFault → Rose (R.faults source.old) (R.faults source.new) }
-    ensures untouched { has_own_file (question_of question.now) ≡ false → source.new ≡ source.old }
+    ensures untouched { has_own_file (question_in frame.old question.now) ≡ false
+        → source.new ≡ source.old }
 {
     match question {
-        Question::Neighbour { addr, edge, .. } => {
-            neighbour_text(alloc, machine, addr, *edge, steps).map(WholeAnswer::Text)
+        Question::Walk { grow, path, .. } => {
+            walk_text(alloc, machine, frame, *grow, path, steps).map(WholeAnswer::Text)
         }
-        Question::Walk {
-            addr,
-            seed,
-            grow,
-            path,
-            ..
-        } => walk_text(alloc, machine, addr, *seed, *grow, path, steps).map(WholeAnswer::Text),
         Question::Draw {
-            addr,
-            seed,
             window,
             layers: formats,
             glue,
             ..
-        } => draw_text(alloc, machine, addr, *seed, window, formats, *glue, layers),
-        Question::Calc { .. } => calc_text(alloc, machine, source).map(WholeAnswer::Text),
-        Question::Drill { count, seed, .. } => {
-            drill_text(alloc, machine, *count, *seed).map(WholeAnswer::Text)
+        } => draw_text(alloc, machine, frame, window, formats, *glue, layers),
+        Question::Star { vertex, .. } => {
+            star_text(alloc, machine, frame, *vertex, steps).map(WholeAnswer::Text)
         }
-        Question::Star {
-            addr,
-            seed,
-            vertex,
-            ..
-        } => star_text(alloc, machine, addr, *seed, *vertex, steps).map(WholeAnswer::Text),
-        Question::Verify {
-            addr,
-            seed,
-            window,
-            ..
-        } => verify_text(alloc, machine, addr, *seed, window, source).map(WholeAnswer::Text),
+        Question::Verify { window, .. } => {
+            verify_text(alloc, machine, frame, window, source).map(WholeAnswer::Text)
+        }
     }
 }
 
-/// Returns the answer to a request with an accepted rule, or its refusal. Only a question needs a machine.
+/// Returns the answer to a question about the frame of the tile with this address, or its refusal. The address
+/// is read before the machine of the rule is made.
+fn frame_text<R: Source, D: Layer, L: Ledger>(
+    alloc: Global,
+    checked: Checked,
+    addr: &str,
+    seed: u64,
+    question: &Question<'_>,
+    source: &mut R,
+    layers: &mut [D],
+    steps: &mut Steps<L>,
+) -> Result<WholeAnswer, Status>
+    requires within { AreWithinForms question.now }
+    requires have_layers { first_lacking (map D.form layers.old)
+        (formats_of (question_of addr.now seed question.now)) ≡ None }
+    requires its_tiling { IsItsTiling (question_of addr.now seed question.now) (tiling_of checked) }
+    ensures printed { IfOk result (λ answer. (text : List ℕ)
+        × OfOwnFile (question_of addr.now seed question.now) (R.left source.old) (R.left source.new)
+        (λ file. IsPrinted (question_of addr.now seed question.now) file (tiling_of checked) text)
+        × IsTextOf D.form D.seen D.ended D.draws layers.new answer text) }
+    ensures refused { IfErr result (IsRequestRefused (question_of addr.now seed question.now)
+        (tiling_of checked) (R.left source.old) (R.left source.new)) }
+    ensures read_fault { IsErrOf result Status.ReadFault → Rose (R.faults source.old) (R.faults source.new) }
+    ensures untouched { has_own_file (question_of addr.now seed question.now) ≡ false
+        → source.new ≡ source.old }
+{
+    let tile = tile_at(&checked, addr)?;
+    let machine = Machine::new(alloc, checked)?;
+    let mut frame = Frame::new(tile, seed);
+    question_text(alloc, question, &machine, &mut frame, source, layers, steps)
+}
+
+/// Returns the answer to a request with an accepted rule, or its refusal.
 fn request_text<R: Source, D: Layer, L: Ledger>(
     alloc: Global,
     request: &Request<'_>,
@@ -122,11 +140,19 @@ fn request_text<R: Source, D: Layer, L: Ledger>(
 {
     match request {
         Request::Place { addr, .. } => place_text(alloc, &checked, addr).map(WholeAnswer::Text),
-        Request::Check { .. } => Ok(WholeAnswer::Text(check_text(alloc, &checked)?.into_bytes())),
-        Request::Ask(question) => {
-            let machine = Machine::new(alloc, checked)?;
-            question_text(alloc, question, &machine, source, layers, steps)
+        Request::Neighbour { addr, edge, .. } => {
+            neighbour_text(alloc, checked, addr, *edge, steps).map(WholeAnswer::Text)
         }
+        Request::Check { .. } => Ok(WholeAnswer::Text(check_text(alloc, &checked)?.into_bytes())),
+        Request::Calc { .. } => calc_text(alloc, checked, source).map(WholeAnswer::Text),
+        Request::Drill { count, seed, .. } => {
+            drill_text(alloc, checked, *count, *seed).map(WholeAnswer::Text)
+        }
+        Request::InFrame {
+            addr,
+            seed,
+            question,
+        } => frame_text(alloc, checked, addr, *seed, question, source, layers, steps),
     }
 }
 

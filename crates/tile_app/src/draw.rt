@@ -7,16 +7,13 @@ ghost use Rattle.layer_api.specs.declared.format.Format.{Format};
 ghost use Rattle.theory_walks.specs.Frames.{IsFrameOf};
 ghost use Rattle.rule_model.specs.Tiling.{tiling_of};
 ghost use Rattle.window_cover.specs.Windows.{IsWindow};
-ghost use Rattle.tile_app.specs.Answer.{TileRefuses};
-ghost use Rattle.tile_app.specs.BaseFrame.{frame_of, IsBegun};
+ghost use Rattle.tile_app.specs.BaseFrame.{IsBegun};
 ghost use Rattle.tile_app.specs.Draw.{view_of, Pictures, PrintsDraw, DrawRefuses};
 ghost use Rattle.tile_app.specs.LayerTexts.{FirstHasDrawn, IsTextOf};
 ghost use Rattle.tile_app.specs.Pictured.{picture_of, CanBePictured};
 ghost use Rattle.call_notes.specs.Status.{OrNoMemory};
-ghost use Rattle.tile_app.specs.Tile.{OfTile};
 ghost use Rattle.tile_app.specs.Windows.{window_in};
 
-use crate::base_frame::base_frame;
 use crate::drawn_tile::blank;
 use crate::glue_edges::GlueEdges;
 use crate::layers::place_of;
@@ -157,7 +154,9 @@ fn draw_formats<D: Layer>(
 }
 
 /// Draws a window in the frame of a base. Returns the answer, whose texts stay in the layers, or the refusal.
-fn drawn<D: Layer>(
+/// Each format must have a layer, and the first layer with the format draws it. If a layer refuses, the
+/// refusal is out of memory.
+pub fn draw_text<D: Layer>(
     alloc: Global,
     machine: &Machine,
     frame: &mut Frame,
@@ -182,31 +181,4 @@ fn drawn<D: Layer>(
     let view = view_of(machine, &window);
     draw_formats(layers, formats.as_slice(), machine, view, &picture)?;
     Ok(WholeAnswer::of_layers(formats))
-}
-
-/// Draws a window in the frame of the tile with this address. Returns the answer, whose texts stay in the
-/// layers, or the refusal. Each format must have a layer, and the first layer with the format draws it. If a
-/// layer refuses, the refusal is out of memory.
-pub fn draw_text<D: Layer>(
-    alloc: Global,
-    machine: &Machine,
-    addr: &str,
-    seed: u64,
-    asked: &WindowWords,
-    formats: &ArrayVec<Format, MOST_FORMATS>,
-    whole: bool,
-    layers: &mut [D],
-) -> Result<WholeAnswer, Status>
-    requires asked { IsWindowAsked asked.now }
-    requires have_layers { first_lacking (map D.form layers.old) formats.now.items ≡ None }
-    ensures printed { IfOk result (λ answer. (text : List ℕ) × OfTile (tiling_of machine.now) addr.now
-        (λ a. PrintsDraw whole formats.now.items (tiling_of machine.now) (frame_of a seed)
-        (window_in machine.now.order (window_of asked.now)) text)
-        × IsTextOf D.form D.seen D.ended D.draws layers.new answer text) }
-    ensures refused { IfErr result (OrNoMemory (TileRefuses (tiling_of machine.now) addr.now
-        (λ a. DrawRefuses whole (tiling_of machine.now) (frame_of a seed)
-        (window_in machine.now.order (window_of asked.now))))) }
-{
-    let mut frame = base_frame(machine, addr, seed)?;
-    drawn(alloc, machine, &mut frame, asked, formats, whole, layers)
 }

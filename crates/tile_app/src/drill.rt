@@ -15,6 +15,7 @@ use cyclo_points::order::Order;
 use cyclo_points::point::Point;
 use lazy_walk::frame::Frame;
 use plane_geom::window::Window;
+use rule_model::checked::Checked;
 use seeded_growth::growth::Growth;
 use std::alloc::{AllocError, Global};
 use tile_place::machine::Machine;
@@ -152,11 +153,12 @@ fn summary_text(alloc: Global, count: u8, summary: &Summary) -> Result<String, A
 }
 
 /// Returns what `drill` prints for this number of windows of a seed. Fails only if memory runs out.
-pub fn drill_text(alloc: Global, machine: &Machine, count: u8, seed: u64) -> Result<Vec<u8>, Status>
+pub fn drill_text(alloc: Global, checked: Checked, count: u8, seed: u64) -> Result<Vec<u8>, Status>
     requires at_most_200 { count ≤ 200 }
-    ensures printed { IfOk result (λ text. PrintsDrill (tiling_of machine.now) seed count text.items) }
+    ensures printed { IfOk result (λ text. PrintsDrill (tiling_of checked) seed count text.items) }
     ensures refused { IfErr result (λ status. status ≡ Status.NoMemory) }
 {
-    let summary = summed(alloc, machine, seed, count)?;
+    let machine = Machine::new(alloc, checked)?;
+    let summary = summed(alloc, &machine, seed, count)?;
     Ok(summary_text(alloc, count, &summary)?.into_bytes())
 }

@@ -6,7 +6,6 @@
 #![tactic(auto)]
 
 mod answer;
-mod base_frame;
 mod calc;
 mod check;
 mod draw;

@@ -11,6 +11,7 @@ ghost use Rattle.tile_app.specs.Tile.{OfTile};
 use crate::tile::tile_at;
 use call_notes::status::Status;
 use edge_tables::steps::Steps;
+use rule_model::checked::Checked;
 use std::alloc::{AllocError, Global};
 use std::sync::ledger::Ledger;
 use tile_place::machine::Machine;
@@ -31,10 +32,10 @@ fn across<L: Ledger>(
     address: &Address,
     edge: u8,
     steps: &mut Steps<L>,
-) -> Result<String, Status>
+) -> Result<Vec<u8>, Status>
     requires accepted { IsAcceptedAddress (children (tiling_of machine.now)) (address_of address.now) }
     ensures printed { IfOk result (λ text. PrintsNeighbour (tiling_of machine.now)
-        (address_of address.now) edge (string_bytes text)) }
+        (address_of address.now) edge text.items) }
     ensures refused { IfErr result (OrNoMemory (NeighbourRefuses (tiling_of machine.now)
         (address_of address.now) edge)) }
     ensures steps_within_bound { steps.new ≤ steps.old + 130 }
@@ -44,23 +45,25 @@ fn across<L: Ledger>(
         return Err(Status::NoEdge { edge, edges });
     }
     let crossing = machine.cross(address, edge, steps)?;
-    Ok(neighbour_line(alloc, &crossing.addr, crossing.edge)?)
+    Ok(neighbour_line(alloc, &crossing.addr, crossing.edge)?.into_bytes())
 }
 
-/// Returns what `neighbour` prints for an edge of the tile with this address, or its refusal.
+/// Returns what `neighbour` prints for an edge of the tile with this address, or its refusal. The address is
+/// read before the machine of the rule is made.
 pub fn neighbour_text<L: Ledger>(
     alloc: Global,
-    machine: &Machine,
+    checked: Checked,
     addr: &str,
     edge: u8,
     steps: &mut Steps<L>,
 ) -> Result<Vec<u8>, Status>
-    ensures printed { IfOk result (λ text. OfTile (tiling_of machine.now) addr.now
-        (λ a. PrintsNeighbour (tiling_of machine.now) a edge text.items)) }
-    ensures refused { IfErr result (OrNoMemory (TileRefuses (tiling_of machine.now) addr.now
-        (λ a. NeighbourRefuses (tiling_of machine.now) a edge))) }
+    ensures printed { IfOk result (λ text. OfTile (tiling_of checked) addr.now
+        (λ a. PrintsNeighbour (tiling_of checked) a edge text.items)) }
+    ensures refused { IfErr result (OrNoMemory (TileRefuses (tiling_of checked) addr.now
+        (λ a. NeighbourRefuses (tiling_of checked) a edge))) }
     ensures steps_within_bound { steps.new ≤ steps.old + 130 }
 {
-    let address = tile_at(machine.checked(), addr)?;
-    Ok(across(alloc, machine, &address, edge, steps)?.into_bytes())
+    let address = tile_at(&checked, addr)?;
+    let machine = Machine::new(alloc, checked)?;
+    across(alloc, &machine, &address, edge, steps)
 }

@@ -5,13 +5,10 @@ ghost use Rattle.theory_walks.specs.Frames.{FrameValue, IsFrameOf};
 ghost use Rattle.lazy_walk.specs.Standing.{Stands};
 ghost use Rattle.rule_model.specs.Tiling.{Tiling, tiling_of};
 ghost use Rattle.star_walk.specs.Corners.{corner_in};
-ghost use Rattle.tile_app.specs.Answer.{TileRefuses};
-ghost use Rattle.tile_app.specs.BaseFrame.{frame_of, IsBegun};
+ghost use Rattle.tile_app.specs.BaseFrame.{IsBegun};
 ghost use Rattle.tile_app.specs.Star.{corner_line, PrintsStar, StarRefuses};
 ghost use Rattle.call_notes.specs.Status.{OrNoMemory};
-ghost use Rattle.tile_app.specs.Tile.{OfTile};
 
-use crate::base_frame::base_frame;
 use crate::tile_line::write_line;
 use call_notes::status::Status;
 use edge_tables::steps::Steps;
@@ -39,7 +36,7 @@ fn star_lines(alloc: Global, corners: &[Corner]) -> Result<Vec<u8>, AllocError>
 
 /// Returns the text that `star` prints for a vertex of the base of a frame, or its refusal. Adds the look-ups
 /// of all crossings to `steps`.
-fn turned<L: Ledger>(
+pub fn star_text<L: Ledger>(
     alloc: Global,
     machine: &Machine,
     frame: &mut Frame,
@@ -57,22 +54,4 @@ fn turned<L: Ledger>(
     }
     let found = star(machine, frame, vertex, steps)?;
     Ok(star_lines(alloc, found.corners.as_slice())?)
-}
-
-/// Returns what `star` prints for a vertex of the tile with this address, or its refusal.
-pub fn star_text<L: Ledger>(
-    alloc: Global,
-    machine: &Machine,
-    addr: &str,
-    seed: u64,
-    vertex: u8,
-    steps: &mut Steps<L>,
-) -> Result<Vec<u8>, Status>
-    ensures printed { IfOk result (λ text. OfTile (tiling_of machine.now) addr.now
-        (λ a. PrintsStar (tiling_of machine.now) (frame_of a seed) vertex text.items)) }
-    ensures refused { IfErr result (OrNoMemory (TileRefuses (tiling_of machine.now) addr.now
-        (λ a. StarRefuses (tiling_of machine.now) (frame_of a seed) vertex))) }
-{
-    let mut frame = base_frame(machine, addr, seed)?;
-    turned(alloc, machine, &mut frame, vertex, steps)
 }

@@ -1,17 +1,16 @@
 //! The command `verify`: checks a list of tiles from another program.
-ghost use Rattle.std.specs.Prelude.{◌≡◌, ◌≤◌, false, length, IfOk, IfErr, IsErrOf, string_bytes};
+ghost use Rattle.std.specs.Prelude.{◌≡◌, ◌≤◌, length, IfOk, IfErr, IsErrOf, string_bytes};
 ghost use Rattle.call_words.specs.Views.{IsWindowAsked, window_of};
 ghost use Rattle.theory_walks.specs.Frames.{IsFrameOf};
 ghost use Rattle.rule_model.specs.Tiling.{tiling_of};
 ghost use Rattle.tile_io.specs.Causes.{Rose};
 ghost use Rattle.tile_app.specs.BaseFrame.{IsBegun};
 ghost use Rattle.call_notes.specs.Status.{OrNoMemory};
-ghost use Rattle.tile_app.specs.Tile.{is_tile};
+ghost use Rattle.tile_app.specs.Windows.{window_in};
 ghost use Rattle.tile_app.specs.Verify.{right_line, PrintsVerify, VerifyRefuses, BuiltinVerdictLaw};
 ghost use Rattle.tile_app.specs.Reading.{IsListingPrinted, IsListingRefused};
 ghost use Rattle.window_cover.specs.Windows.{IsWindow};
 
-use crate::base_frame::base_frame;
 use crate::file::file_read;
 use crate::file_kind::FileKind;
 use crate::window::window_in;
@@ -54,29 +53,28 @@ fn verified(
     Ok(right_line(alloc, lines)?)
 }
 
-/// Returns what `verify` prints for the list that is read, of a window in the frame of the tile with this
-/// address, or its refusal. The address is read before the source.
+/// Returns what `verify` prints for the list that is read, of a window in the frame of a base, or its
+/// refusal.
 pub fn verify_text<R: Source>(
     alloc: Global,
     machine: &Machine,
-    addr: &str,
-    seed: u64,
+    frame: &mut Frame,
     asked: &WindowWords,
     source: &mut R,
 ) -> Result<Vec<u8>, Status>
+    requires frame { IsFrameOf (tiling_of machine.now) frame.old }
+    requires begun { IsBegun frame.old }
     requires asked { IsWindowAsked asked.now }
-    ensures printed { IfOk result (λ text. IsListingPrinted (tiling_of machine.now) addr.now seed
-        (window_of asked.now) (R.left source.old) (R.left source.new) text.items) }
-    ensures refused { IfErr result (IsListingRefused (tiling_of machine.now) addr.now seed
-        (window_of asked.now)
-        (R.left source.old) (R.left source.new)) }
+    ensures printed { IfOk result (λ text. IsListingPrinted (tiling_of machine.now) frame.old
+        (window_in machine.now.order (window_of asked.now)) (R.left source.old) (R.left source.new)
+        text.items) }
+    ensures refused { IfErr result (IsListingRefused (tiling_of machine.now) frame.old
+        (window_in machine.now.order (window_of asked.now)) (R.left source.old) (R.left source.new)) }
     ensures read_fault { IsErrOf result Status.ReadFault → Rose (R.faults source.old) (R.faults source.new) }
-    ensures untouched { is_tile (tiling_of machine.now) addr.now ≡ false → source.new ≡ source.old }
 {
-    let mut frame = base_frame(machine, addr, seed)?;
     let window = window_in(machine.checked().order(), asked);
     let listing = file_read(alloc, FileKind::Listing, source)?;
-    Ok(verified(alloc, machine, &mut frame, &window, listing.as_slice())?.into_bytes())
+    Ok(verified(alloc, machine, frame, &window, listing.as_slice())?.into_bytes())
 }
 
 /// The law that a list has only one verdict, for a window in a frame of a built-in rule's tiling.

@@ -7,15 +7,12 @@ ghost use Rattle.cyclo_points.specs.Point.{IsOf};
 ghost use Rattle.rule_model.specs.Tiling.{tiling_of};
 ghost use Rattle.theory_walks.specs.Frames.{whole, IsFrameOf};
 ghost use Rattle.theory_walks.specs.Paths.{CanBeWalked};
-ghost use Rattle.tile_app.specs.Answer.{TileRefuses};
-ghost use Rattle.tile_app.specs.BaseFrame.{frame_of, IsBegun};
+ghost use Rattle.tile_app.specs.BaseFrame.{IsBegun};
 ghost use Rattle.call_notes.specs.Status.{OrNoMemory};
-ghost use Rattle.tile_app.specs.Tile.{OfTile};
 ghost use Rattle.tile_app.specs.TileLine.{tile_line};
 ghost use Rattle.tile_app.specs.Walk.{IsWalkText, PrintsWalk, WalkRefuses};
 ghost use Rattle.tile_shape.specs.Views.{address_of};
 
-use crate::base_frame::base_frame;
 use crate::tile_line::write_line;
 use call_notes::status::Status;
 use edge_tables::steps::Steps;
@@ -61,7 +58,7 @@ fn lines<L: Ledger>(
 }
 
 /// Returns what `walk` prints for a path in the frame of a base, or its refusal.
-fn walked<L: Ledger>(
+pub fn walk_text<L: Ledger>(
     alloc: Global,
     machine: &Machine,
     frame: &mut Frame,
@@ -80,25 +77,4 @@ fn walked<L: Ledger>(
     frame.grow_to(machine, grow);
     frame.grow_along(machine, path, steps)?;
     Ok(lines(alloc, machine, frame, path, steps)?)
-}
-
-/// Returns what `walk` prints for the tile with this address, or its refusal.
-pub fn walk_text<L: Ledger>(
-    alloc: Global,
-    machine: &Machine,
-    addr: &str,
-    seed: u64,
-    grow: u8,
-    path: &[u8],
-    steps: &mut Steps<L>,
-) -> Result<Vec<u8>, Status>
-    requires at_most_64 { grow ≤ 64 }
-    requires at_most_1000 { length path.now ≤ longest_path }
-    ensures printed { IfOk result (λ text. OfTile (tiling_of machine.now) addr.now
-        (λ a. PrintsWalk (tiling_of machine.now) (frame_of a seed) grow path.now text.items)) }
-    ensures refused { IfErr result (OrNoMemory (TileRefuses (tiling_of machine.now) addr.now
-        (λ a. WalkRefuses (tiling_of machine.now) (frame_of a seed) path.now))) }
-{
-    let mut frame = base_frame(machine, addr, seed)?;
-    walked(alloc, machine, &mut frame, grow, path, steps)
 }

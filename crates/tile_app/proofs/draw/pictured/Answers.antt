@@ -24,20 +24,20 @@ returns-in_err-covered_tiles-clause-refused c =
     c.in_err-covered_tiles.was c.in_err-covered_tiles.ensures.cause c.covered_tiles-else-whole.ensures.answered)
 
 -- ---- what is given to be glued
-pub glue_covered-requires-clause-few : goal.glue_covered-requires-clause-few
-glue_covered-requires-clause-few c =
-    let x = c.in_ok-tiles.ensures in
-    at_most_limit (tiling_of c.args.machine.now) c.args.frame.now c.covered_tiles.new.frame c.args.window.now
-    c.requires.frame x.frame x.within x.least c.in_ok-tiles.tiles x.drawn
-
-pub glue_covered-requires-clause-given : goal.glue_covered-requires-clause-given
-glue_covered-requires-clause-given c =
+pub glue_covered-requires-clause-to_glue : goal.glue_covered-requires-clause-to_glue
+glue_covered-requires-clause-to_glue c =
     let t = tiling_of c.args.machine.now in
+    let f = c.args.frame.now in
     let g = c.covered_tiles.new.frame in
+    let w = c.args.window.now in
     let tiles = c.in_ok-tiles.tiles in
     let x = c.in_ok-tiles.ensures in
-    may-be-given t g tiles (c.given_law.ensures t g) x.stand
-    (can_be_drawn t c.args.frame.now g c.args.window.now c.requires.frame x.frame x.within x.least tiles x.drawn x.stand)
+    record {
+      frame = x.frame.is_frame;
+      few = at_most_limit t f g w c.requires.frame x.frame x.within x.least tiles x.drawn;
+      given = may-be-given t g tiles (c.given_law.ensures t g) x.stand
+          (can_be_drawn t f g w c.requires.frame x.frame x.within x.least tiles x.drawn x.stand);
+    }
 
 pub returns-in_err-wholes-clause-refused : goal.returns-in_err-wholes-clause-refused
 returns-in_err-wholes-clause-refused c =

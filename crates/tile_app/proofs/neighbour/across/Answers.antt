@@ -1,4 +1,4 @@
-use Rattle.std.proofs.Common.{◌<◌, refl, ap, ◌∙◌, subst, arith}
+use Rattle.std.proofs.Common.{rules, ◌≡◌, ◌<◌, string_bytes, refl, ap, ◌∙◌, subst, arith}
 use Rattle.std.proofs.lemmas.Result.{err_from_is_err_and}
 use Rattle.theory_addresses.specs.Tables.{child_kinds}
 use Rattle.theory_addresses.proofs.EdgesOf.{kind_in_tables}
@@ -48,20 +48,22 @@ returns-in_err-crossing-clause-refused g c =
     })
 
 pub returns-clause-printed : goal.returns-clause-printed
-returns-clause-printed g c = record {
-  inside = record {
-    exists = subst (λ n. c.args.edge < n)
-        (edges_counted c.tables.result.now c.checked.result.now c.args.machine.now c.args.address.now.kind
-        c.edges-edges.result c.tables.ensures.contacts c.checked.ensures.rule c.edges-edges.ensures.count)
-        c.if-edge-edges.false;
-    on_none = c.in_ok-crossing.ensures.inside;
-  };
-  across = address_of c.in_ok-crossing.crossing.addr;
-  back = c.in_ok-crossing.crossing.edge;
-  only_across = c.in_ok-crossing.ensures.only_tile_across;
-  leads_back = c.in_ok-crossing.ensures.leads_back;
-  line = c.in_ok-neighbour_line.ensures;
-}
+returns-clause-printed g c =
+    let same : c.into_bytes.result.items ≡ string_bytes c.in_ok-neighbour_line.field-0 = search rules in
+    record {
+      inside = record {
+        exists = subst (λ n. c.args.edge < n)
+            (edges_counted c.tables.result.now c.checked.result.now c.args.machine.now c.args.address.now.kind
+            c.edges-edges.result c.tables.ensures.contacts c.checked.ensures.rule c.edges-edges.ensures.count)
+            c.if-edge-edges.false;
+        on_none = c.in_ok-crossing.ensures.inside;
+      };
+      across = address_of c.in_ok-crossing.crossing.addr;
+      back = c.in_ok-crossing.crossing.edge;
+      only_across = c.in_ok-crossing.ensures.only_tile_across;
+      leads_back = c.in_ok-crossing.ensures.leads_back;
+      line = same ∙ c.in_ok-neighbour_line.ensures;
+    }
 
 -- an address has at most 64 digits
 pub returns-in_err-crossing-clause-steps_within_bound : goal.returns-in_err-crossing-clause-steps_within_bound
