@@ -9,7 +9,6 @@ use Rattle.rule_model.specs.Glue.{IsGlueEdge, IsOnlyGlueEdge}
 use Rattle.rule_model.specs.Tiling.{Tiling, tiling_of}
 use Rattle.tile_place.specs.Keys.{order_numbers}
 use Rattle.tile_place.specs.declared.placed_tile.PlacedTile.{PlacedTile}
-use Rattle.theory_walks.specs.Ancestors.{full}
 use Rattle.theory_walks.specs.Frames.{FrameValue, IsFrameOf}
 use Rattle.theory_walks.proofs.Walks.{GrowsTo-self}
 use Rattle.window_cover.specs.InOrder.{numbers_placed}
@@ -20,10 +19,8 @@ use Rattle.half_glue.specs.declared.pairs.Pair.{Pair}
 use Rattle.half_glue.specs.declared.glue_side.GlueSide.{GlueSide}
 use Rattle.half_glue.specs.declared.glue_side.OtherSide.{OtherSide}
 use Rattle.half_glue.specs.Checked.{HasGlueLaws}
-use Rattle.half_glue.specs.Depth.{IsGluedInside}
-use Rattle.half_glue.specs.Found.{no_tile, tile_of, IsBeside, StandsAmong, AreGlued}
+use Rattle.half_glue.specs.Found.{no_tile, tile_of, IsBeside, StandsAmong, AreGlued, IsJoined}
 use Rattle.half_glue.specs.Given.{IsGiven}
-use Rattle.half_glue.specs.Limits.{CanBeJoined}
 use Rattle.half_glue.specs.Pairs.{pair_of, added_pairs}
 use Rattle.half_glue.specs.Sides.{IsOtherSide, IsSide, IsSideOf, AreSides}
 use Rattle.half_glue.proofs.Chosen.{get_or-front}
@@ -131,8 +128,12 @@ module _ (m : Rule) (L : HasGlueLaws m) (f : FrameValue) (is : IsFrameOf (tiling
       pub half-found : (n < length tiles) × AreGlued t f own (tile_of tiles n)
       half-found = among-known own own-given side.edge n its.only.glue_edge side.other its.other there
 
-      pub half-inside : IsGluedInside t f (length f.digits) own
-      half-inside = settled-inside m L f is own own-given f (GrowsTo-self t f is) (tile_of tiles n) (given n no_tile half-found.0) half-found.1
-
-      pub half-joined : CanBeJoined t (full t f) own
-      half-joined = settled-joined m L f is own own-given f (GrowsTo-self t f is) (tile_of tiles n) (given n no_tile half-found.0) half-found.1
+      pub half-joined : IsJoined t f f tiles own (Given n)
+      half-joined =
+          let other = given n no_tile half-found.0 in
+          let grows = GrowsTo-self t f is in
+          record {
+            found = half-found;
+            inside = settled-inside m L f is own own-given f grows (tile_of tiles n) other half-found.1;
+            can_be_joined = settled-joined m L f is own own-given f grows (tile_of tiles n) other half-found.1;
+          }

@@ -6,16 +6,14 @@ use Rattle.rule_model.specs.Glue.{IsOnlyGlueEdge}
 use Rattle.rule_model.specs.Tiling.{Tiling, tiling_of}
 use Rattle.tile_place.specs.declared.order_key.OrderKey.{OrderKey}
 use Rattle.tile_place.specs.declared.placed_tile.PlacedTile.{PlacedTile}
-use Rattle.theory_walks.specs.Ancestors.{full}
 use Rattle.theory_walks.specs.Frames.{FrameValue, IsFrameOf}
 use Rattle.theory_walks.proofs.Walks.{GrowsTo-self}
 use Rattle.half_glue.specs.declared.glue_side.GlueSide.{GlueSide}
+use Rattle.half_glue.specs.declared.half.Found.TheVariants.{Alone, Given}
 use Rattle.half_glue.specs.Checked.{HasGlueLaws}
-use Rattle.half_glue.specs.Depth.{IsGluedInside}
-use Rattle.half_glue.specs.Found.{no_tile, tile_of, StandsBeside, AreGlued}
+use Rattle.half_glue.specs.Found.{no_tile, tile_of, StandsBeside, AreGlued, IsJoined}
 use Rattle.half_glue.specs.Given.{IsGiven}
 use Rattle.half_glue.specs.Keys.{AreKeysOf}
-use Rattle.half_glue.specs.Limits.{CanBeJoined}
 use Rattle.half_glue.specs.Sides.{IsSide, IsSideOf, AreSides}
 use Rattle.half_glue.specs.WholeTiles.{HasNoGlueEdge}
 use Rattle.half_glue.proofs.Halves.{its-kind-there}
@@ -58,21 +56,28 @@ module _ (m : Rule) (L : HasGlueLaws m) (f : FrameValue) (is : IsFrameOf (tiling
     only-of k same s its = subst (λ (z : PlacedTile). IsOnlyGlueEdge t.rule z.kind s.edge) (sym (same-tile x read)) (side-of k same (Some s) its).only
 
   -- one that has no glue edge
-  module _ (none : HasNoGlueEdge t y.kind) where
-    pub none-inside : (n : ℕ) → IsGluedInside t f n y
-    none-inside n e glue on = absurd (none e glue)
-
-    pub none-joined : CanBeJoined t (full t f) y
-    none-joined = record { inside = λ e glue on. absurd (none e glue); unrefused = λ e back b n glue over stands. absurd (none e glue) }
+  pub none-joined : HasNoGlueEdge t y.kind → IsJoined t f f tiles y Alone
+  none-joined none = record {
+    found = none;
+    inside = λ e glue on. absurd (none e glue);
+    can_be_joined = record {
+      inside = λ e glue on. absurd (none e glue);
+      unrefused = λ e back b n glue over stands. absurd (none e glue);
+    };
+  }
 
   -- one whose other half is given
   module _ (keys : List OrderKey) (keyed : AreKeysOf tiles keys) (side : GlueSide)
       (its : IsSide t y.kind side) (n : ℕ) (there : StandsBeside m.order side.other y.motion keys n) where
-    pub given-found : (n < length tiles) × AreGlued t f y (tile_of tiles n)
+    given-found : (n < length tiles) × AreGlued t f y (tile_of tiles n)
     given-found = given-glued m L f is tiles given keys keyed y own side n its there
 
-    pub given-inside : IsGluedInside t f (length f.digits) y
-    given-inside = settled-inside m L f is y own f (GrowsTo-self t f is) (tile_of tiles n) (given n no_tile given-found.0) given-found.1
-
-    pub given-joined : CanBeJoined t (full t f) y
-    given-joined = settled-joined m L f is y own f (GrowsTo-self t f is) (tile_of tiles n) (given n no_tile given-found.0) given-found.1
+    pub given-joined : IsJoined t f f tiles y (Given n)
+    given-joined =
+        let other = given n no_tile given-found.0 in
+        let grows = GrowsTo-self t f is in
+        record {
+          found = given-found;
+          inside = settled-inside m L f is y own f grows (tile_of tiles n) other given-found.1;
+          can_be_joined = settled-joined m L f is y own f grows (tile_of tiles n) other given-found.1;
+        }

@@ -1,6 +1,7 @@
 -- Tiles given, in a frame that grows until their glue edges are inside.
 use Rattle.std.proofs.Common.{◌≡◌, ℕ, [], ◌∷◌, length, true, false, refl, sym, ◌∙◌, subst, arith}
 use Rattle.std.specs.List.{Contains}
+use Rattle.theory_addresses.specs.Address.{Address}
 use Rattle.theory_substitution.specs.Points.{Points}
 use Rattle.cyclo_points.specs.Order.{points_of, is_refused}
 use Rattle.cyclo_points.specs.Point.{point_in}
@@ -23,7 +24,7 @@ use Rattle.theory_walks.proofs.Ancestors.{full-later}
 use Rattle.theory_walks.proofs.Lifting.{IsTileOf-later, lifted-later}
 use Rattle.half_glue.specs.Causes.{IsRefusedShift}
 use Rattle.half_glue.specs.Checked.{HasGlueLaws}
-use Rattle.half_glue.specs.Depth.{IsGluedInside}
+use Rattle.half_glue.specs.Depth.{IsGluedInside, IsTooShallow}
 use Rattle.half_glue.specs.Given.{IsGiven}
 use Rattle.half_glue.specs.Found.{AreGlued, IsCrossed}
 use Rattle.half_glue.specs.Limits.{CanBeJoined}
@@ -34,6 +35,17 @@ use Rattle.half_glue.proofs.Halves.{given-whole, glue-edge-of, glued-of, glued-j
 -- a list of one contains it
 pub the-one : {A : Type 0} (x : A) → Contains (x ∷ []) x
 the-one x = (0, omega arith, refl)
+
+-- a tile of which the glue edge is on the boundary
+pub alone-shallow : (t : Tiling) (f : FrameValue) (x : PlacedTile) (edge n : ℕ) → IsGlueEdge t.rule x.kind edge
+    → (a : Address) → a ≡ address_of x.addr → IsBoundaryEdge t (lifted_at t f a n) edge → IsTooShallow t f (x ∷ []) n
+alone-shallow t f x edge n glue_edge a same on = record {
+  tile = x;
+  edge = edge;
+  is_given = the-one x;
+  glue_edge = glue_edge;
+  on_boundary = subst (λ b. IsBoundaryEdge t (lifted_at t f b n) edge) same on;
+}
 
 module _ (m : Rule) (L : HasGlueLaws m) (f : FrameValue) (is : IsFrameOf (tiling_of m) f) (x : PlacedTile) (given : IsGiven (tiling_of m) f x) where
   abbrev t : Tiling

@@ -15,12 +15,15 @@ use Rattle.tile_place.specs.declared.order_key.OrderKey.{OrderKey}
 use Rattle.tile_place.specs.declared.placed_tile.PlacedTile.{PlacedTile}
 use Rattle.tile_shape.specs.Views.{address_of}
 use Rattle.window_cover.specs.Numbered.{IsPlacedAt}
+use Rattle.theory_walks.specs.Ancestors.{full}
 use Rattle.theory_walks.specs.Frames.{FrameValue, whole}
 use Rattle.theory_walks.specs.Paths.{Crosses}
 use Rattle.half_glue.specs.declared.glue_side.OtherSide.{OtherSide}
 use Rattle.half_glue.specs.declared.half.Found.{Found}
 use Rattle.half_glue.specs.declared.half.Found.TheVariants.{Alone, Given, Crossed}
+use Rattle.half_glue.specs.Depth.{IsGluedInside}
 use Rattle.half_glue.specs.Given.{IsGiven}
+use Rattle.half_glue.specs.Limits.{CanBeJoined}
 use Rattle.half_glue.specs.WholeTiles.{HasNoGlueEdge}
 
 -- a value for a number that no tile has
@@ -67,6 +70,13 @@ abbrev pub IsFound : Tiling → FrameValue → List PlacedTile → PlacedTile �
 IsFound t f tiles x Alone = HasNoGlueEdge t x.kind
 IsFound t f tiles x (Given n) = (n < length tiles) × AreGlued t f x (tile_of tiles n)
 IsFound t f tiles x (Crossed y) = IsCrossed t f x y
+
+-- what is found of the tile x is right for the frame, which was f and is g; its glue edge is inside there, and it can
+-- be joined
+pub record IsJoined (t : Tiling) (f g : FrameValue) (tiles : List PlacedTile) (x : PlacedTile) (half : Found) : Type 0 where
+  pub found : IsFound t g tiles x half
+  pub inside : IsGluedInside t f (length g.digits) x
+  pub can_be_joined : CanBeJoined t (full t f) x
 
 -- a number that is found is that of a tile
 abbrev pub IsNumbered : List PlacedTile → Found → Type 0

@@ -1,5 +1,5 @@
 -- Tiles that are given to be glued.
-use Rattle.std.specs.Prelude.{◌≡◌, ◌<◌, ◌^◌, List, All}
+use Rattle.std.specs.Prelude.{◌≡◌, ◌<◌, ◌≤◌, ◌^◌, List, All, length}
 use Rattle.theory_substitution.specs.Supertile.{Placed}
 use Rattle.cyclo_points.specs.Order.{NumberOf, points_of}
 use Rattle.cyclo_points.specs.Point.{IsOf, IsWithin}
@@ -8,7 +8,8 @@ use Rattle.theory_frames.specs.Frame.{IsTileOf, StandsInFrame, lifted_in}
 use Rattle.rule_model.specs.Tiling.{Tiling, children}
 use Rattle.tile_place.specs.declared.placed_tile.PlacedTile.{PlacedTile}
 use Rattle.tile_shape.specs.Views.{address_of}
-use Rattle.theory_walks.specs.Frames.{FrameValue, whole}
+use Rattle.theory_walks.specs.Frames.{FrameValue, whole, IsFrameOf}
+use Rattle.theory_windows.specs.Limits.{most_tiles}
 
 -- the tile, lifted to the depth of the frame, with its own motion
 abbrev pub lifted_tile : (t : Tiling) → FrameValue → PlacedTile → Placed (NumberOf t.order)
@@ -26,3 +27,9 @@ pub record IsGiven (t : Tiling) (f : FrameValue) (x : PlacedTile) : Type 0 where
 -- this holds for each of these tiles
 abbrev pub AreGiven : Tiling → FrameValue → List PlacedTile → Type 0
 AreGiven t f tiles = All (IsGiven t f) tiles
+
+-- the frame is one of the tiling, the tiles are of it, and they are not too many
+pub record AreToGlue (t : Tiling) (f : FrameValue) (tiles : List PlacedTile) : Type 0 where
+  pub frame : IsFrameOf t f
+  pub few : length tiles ≤ most_tiles
+  pub given : AreGiven t f tiles

@@ -12,6 +12,7 @@ pub mod Pairs
 pub mod Inner
 pub mod Merged
 pub mod Lifted
+pub mod Glued
 pub mod Arranged
 pub mod Outline
 pub mod Covering

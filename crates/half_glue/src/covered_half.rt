@@ -1,16 +1,16 @@
 //! Finds the other half of a tile of a window.
-ghost use Rattle.std.specs.Prelude.{◌≡◌, ◌<◌, ◌≤◌, ◌^◌, ℕ, [], ◌∷◌, length, IsOk, IfOk, IfErr, IfSome, OnOk};
+ghost use Rattle.std.specs.Prelude.{◌≡◌, ◌<◌, ◌≤◌, ◌^◌, ℕ, [], ◌∷◌, length, IsOk, IfOk, IfErr, IfSome};
 ghost use Rattle.cyclo_points.specs.Order.{points_of};
 ghost use Rattle.cyclo_points.specs.Point.{IsWithin};
 ghost use Rattle.rule_model.specs.Tiling.{tiling_of};
 ghost use Rattle.theory_walks.specs.Ancestors.{full};
-ghost use Rattle.theory_walks.specs.Frames.{IsFrameOf, GrowsTo};
+ghost use Rattle.theory_walks.specs.Frames.{GrowsTo};
 ghost use Rattle.theory_windows.specs.Limits.{most_tiles};
 ghost use Rattle.window_cover.specs.InOrder as covered;
 ghost use Rattle.half_glue.specs.Causes.{HasGlueCause};
-ghost use Rattle.half_glue.specs.Depth.{IsGluedInside, IsTooShallow};
-ghost use Rattle.half_glue.specs.Found.{StandsAmong, IsFound, tile_of};
-ghost use Rattle.half_glue.specs.Given.{AreGiven};
+ghost use Rattle.half_glue.specs.Depth.{IsTooShallow};
+ghost use Rattle.half_glue.specs.Found.{StandsAmong, IsJoined, tile_of};
+ghost use Rattle.half_glue.specs.Given.{AreToGlue};
 ghost use Rattle.half_glue.specs.Limits.{CanBeJoined};
 ghost use Rattle.half_glue.specs.Sides.{AreSides, IsOtherSide};
 
@@ -39,19 +39,13 @@ pub(crate) fn other_half<L: Ledger>(
     number: usize,
     steps: &mut Steps<L>,
 ) -> Result<Found, GlueFault>
-    requires frame { IsFrameOf (tiling_of machine.now) frame.old }
-    requires few { length tiles.now ≤ most_tiles }
-    requires given { AreGiven (tiling_of machine.now) frame.old tiles.now }
+    requires to_glue { AreToGlue (tiling_of machine.now) frame.old tiles.now }
     requires in_order { covered.AreInOrder tiles.now }
     requires sides { AreSides (tiling_of machine.now) sides.now }
     requires below { number < length tiles.now }
     ensures frame { GrowsTo (tiling_of machine.now) frame.old frame.new }
-    ensures found { IfOk result (IsFound (tiling_of machine.now) frame.new tiles.now
+    ensures joined { IfOk result (IsJoined (tiling_of machine.now) frame.old frame.new tiles.now
         (tile_of tiles.now number)) }
-    ensures inside { OnOk result (IsGluedInside (tiling_of machine.now) frame.old (length frame.new.digits)
-        (tile_of tiles.now number)) }
-    ensures can_be_joined { OnOk result (CanBeJoined (tiling_of machine.now)
-        (full (tiling_of machine.now) frame.old) (tile_of tiles.now number)) }
     ensures least { (n : ℕ) → length frame.old.digits ≤ n → n < length frame.new.digits
         → IsTooShallow (tiling_of machine.now) frame.old (tile_of tiles.now number ∷ []) n }
     ensures answered { CanBeJoined (tiling_of machine.now) (full (tiling_of machine.now) frame.old)

@@ -1,13 +1,12 @@
 //! Finds the whole tiles of the tiles of a window, by numbers.
 ghost use Rattle.std.specs.Prelude.{◌≡◌, ◌⊎◌, ◌<◌, ◌≤◌, ◌++◌, ℕ, length, Err, IsOk, IfOk, IfErr, OnOk};
 ghost use Rattle.rule_model.specs.Tiling.{tiling_of};
-ghost use Rattle.theory_walks.specs.Frames.{IsFrameOf, GrowsTo};
-ghost use Rattle.theory_windows.specs.Limits.{most_tiles};
+ghost use Rattle.theory_walks.specs.Frames.{GrowsTo};
 ghost use Rattle.window_cover.specs.InOrder as covered;
 ghost use Rattle.half_glue.specs.declared.glue_fault.GlueFault.TheVariants.{NoMemory};
 ghost use Rattle.half_glue.specs.Causes.{HasGlueCause};
 ghost use Rattle.half_glue.specs.Depth.{IsLeastForGlue, IsTooShallow};
-ghost use Rattle.half_glue.specs.Given.{AreGiven};
+ghost use Rattle.half_glue.specs.Given.{AreToGlue};
 ghost use Rattle.half_glue.specs.Inner.{AreRising};
 ghost use Rattle.half_glue.specs.Limits.{CanBeGlued};
 ghost use Rattle.half_glue.specs.Pairs.{ArePairsOf};
@@ -45,9 +44,7 @@ pub(crate) fn paired<L: Ledger>(
     tiles: &CoveredTiles,
     steps: &mut Steps<L>,
 ) -> Result<CoveredPairs, GlueFault>
-    requires frame { IsFrameOf (tiling_of machine.now) frame.old }
-    requires few { length tiles.now ≤ most_tiles }
-    requires given { AreGiven (tiling_of machine.now) frame.old tiles.now }
+    requires to_glue { AreToGlue (tiling_of machine.now) frame.old tiles.now }
     requires in_order { covered.AreInOrder tiles.now }
     ensures frame { GrowsTo (tiling_of machine.now) frame.old frame.new }
     ensures paired { IfOk result (λ made. ArePairsOf (tiling_of machine.now) frame.new tiles.now

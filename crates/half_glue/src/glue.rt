@@ -1,13 +1,13 @@
 //! Whole tiles.
 ghost use Rattle.std.specs.Prelude.{◌≡◌, ◌⊎◌, ◌<◌, ◌≤◌, ℕ, length, IsOk, Err, IfOk, IfErr, OnOk};
 ghost use Rattle.rule_model.specs.Tiling.{tiling_of};
-ghost use Rattle.theory_walks.specs.Frames.{IsFrameOf, GrowsTo};
-ghost use Rattle.theory_windows.specs.Limits.{most_tiles};
+ghost use Rattle.theory_walks.specs.Frames.{GrowsTo};
 ghost use Rattle.half_glue.specs.declared.glue_fault.GlueFault.TheVariants.{NoMemory};
-ghost use Rattle.half_glue.specs.Given.{AreGiven};
+ghost use Rattle.half_glue.specs.Given.{AreToGlue};
 ghost use Rattle.half_glue.specs.WholeTiles.{AreWholeTilesOf};
 ghost use Rattle.half_glue.specs.InOrder.{AreInOrder};
 ghost use Rattle.half_glue.specs.Depth.{IsLeastForGlue, IsTooShallow};
+ghost use Rattle.half_glue.specs.Glued.{AreGluedAs};
 ghost use Rattle.half_glue.specs.Limits.{CanBeGlued};
 ghost use Rattle.half_glue.specs.Causes.{HasGlueCause};
 
@@ -45,9 +45,7 @@ pub fn glue(
     frame: &mut Frame,
     tiles: &Vec<PlacedTile>,
 ) -> Result<Vec<WholeTile>, GlueFault>
-    requires frame { IsFrameOf (tiling_of machine.now) frame.old }
-    requires few { length tiles.now.items ≤ most_tiles }
-    requires given { AreGiven (tiling_of machine.now) frame.old tiles.now.items }
+    requires to_glue { AreToGlue (tiling_of machine.now) frame.old tiles.now.items }
 
     ensures frame { GrowsTo (tiling_of machine.now) frame.old frame.new }
 
@@ -85,18 +83,12 @@ fn glued<L: Ledger>(
     requires name { blank.name ≡ L.name }
     requires parts { blank.parts ≡ L.parts }
     requires some { 0 < blank.parts }
-    requires frame { IsFrameOf (tiling_of machine.now) frame.old }
-    requires few { length tiles.now ≤ most_tiles }
-    requires given { AreGiven (tiling_of machine.now) frame.old tiles.now }
+    requires to_glue { AreToGlue (tiling_of machine.now) frame.old tiles.now }
     ensures frame { GrowsTo (tiling_of machine.now) frame.old frame.new }
-    ensures whole_tiles { IfOk result (λ wholes. AreWholeTilesOf (tiling_of machine.now) frame.new tiles.now
+    ensures glued { IfOk result (λ wholes. AreGluedAs (tiling_of machine.now) frame.old frame.new tiles.now
         wholes.items) }
-    ensures in_order { IfOk result (λ wholes. AreInOrder wholes.items) }
-    ensures least { OnOk result (IsLeastForGlue (tiling_of machine.now) frame.old tiles.now
-        (length frame.new.digits)) }
     ensures not_beyond { (n : ℕ) → length frame.old.digits ≤ n → n < length frame.new.digits
         → IsTooShallow (tiling_of machine.now) frame.old tiles.now n }
-    ensures within { OnOk result (CanBeGlued (tiling_of machine.now) frame.old tiles.now) }
     ensures answered { CanBeGlued (tiling_of machine.now) frame.old tiles.now → (result ≡ Err NoMemory)
         ⊎ IsOk result }
     ensures cause { IfErr result (λ fault. HasGlueCause (tiling_of machine.now) frame.old frame.new

@@ -1,15 +1,14 @@
 //! The whole tiles of a window.
-ghost use Rattle.std.specs.Prelude.{◌≡◌, ◌⊎◌, ◌<◌, ◌≤◌, ◌++◌, ℕ, length, IsOk, Err, IfOk, IfErr, OnOk};
+ghost use Rattle.std.specs.Prelude.{◌≡◌, ◌⊎◌, ◌<◌, ◌≤◌, ℕ, length, IsOk, Err, IfOk, IfErr, OnOk};
 ghost use Rattle.rule_model.specs.Tiling.{tiling_of};
-ghost use Rattle.theory_walks.specs.Frames.{IsFrameOf, GrowsTo};
-ghost use Rattle.theory_windows.specs.Limits.{most_tiles};
+ghost use Rattle.theory_walks.specs.Frames.{GrowsTo};
 ghost use Rattle.window_cover.specs.InOrder as covered;
 ghost use Rattle.half_glue.specs.declared.glue_fault.GlueFault.TheVariants.{NoMemory};
-ghost use Rattle.half_glue.specs.Given.{AreGiven};
+ghost use Rattle.half_glue.specs.Given.{AreToGlue};
 ghost use Rattle.half_glue.specs.WholeTiles.{AreWholeTilesOf};
 ghost use Rattle.half_glue.specs.InOrder.{AreInOrder};
 ghost use Rattle.half_glue.specs.Depth.{IsLeastForGlue, IsTooShallow};
-ghost use Rattle.half_glue.specs.Lifted.{CanBeWholes, wholes_of};
+ghost use Rattle.half_glue.specs.Glued.{AreGluedBy};
 ghost use Rattle.half_glue.specs.Limits.{CanBeGlued};
 ghost use Rattle.half_glue.specs.Causes.{HasGlueCause};
 
@@ -36,9 +35,7 @@ pub fn glue_covered(
     frame: &mut Frame,
     tiles: CoveredTiles,
 ) -> Result<GluedTiles, GlueFault>
-    requires frame { IsFrameOf (tiling_of machine.now) frame.old }
-    requires few { length tiles ≤ most_tiles }
-    requires given { AreGiven (tiling_of machine.now) frame.old tiles }
+    requires to_glue { AreToGlue (tiling_of machine.now) frame.old tiles }
     requires in_order { covered.AreInOrder tiles }
 
     ensures frame { GrowsTo (tiling_of machine.now) frame.old frame.new }
@@ -84,22 +81,13 @@ fn glued<L: Ledger>(
     requires name { blank.name ≡ L.name }
     requires parts { blank.parts ≡ L.parts }
     requires some { 0 < blank.parts }
-    requires frame { IsFrameOf (tiling_of machine.now) frame.old }
-    requires few { length tiles.now ≤ most_tiles }
-    requires given { AreGiven (tiling_of machine.now) frame.old tiles.now }
+    requires to_glue { AreToGlue (tiling_of machine.now) frame.old tiles.now }
     requires in_order { covered.AreInOrder tiles.now }
     ensures frame { GrowsTo (tiling_of machine.now) frame.old frame.new }
-    ensures can_be { IfOk result (λ made. CanBeWholes frame.new (tiles.now ++ made.crossed.items)
-        made.pairs.items) }
-    ensures whole_tiles { IfOk result (λ made. AreWholeTilesOf (tiling_of machine.now) frame.new tiles.now
-        (wholes_of frame.new (tiles.now ++ made.crossed.items) made.pairs.items)) }
-    ensures in_order { IfOk result (λ made. AreInOrder
-        (wholes_of frame.new (tiles.now ++ made.crossed.items) made.pairs.items)) }
-    ensures least { OnOk result (IsLeastForGlue (tiling_of machine.now) frame.old tiles.now
-        (length frame.new.digits)) }
+    ensures glued { IfOk result (λ made. AreGluedBy (tiling_of machine.now) frame.old frame.new tiles.now
+        made.crossed.items made.pairs.items) }
     ensures not_beyond { (n : ℕ) → length frame.old.digits ≤ n → n < length frame.new.digits
         → IsTooShallow (tiling_of machine.now) frame.old tiles.now n }
-    ensures within { OnOk result (CanBeGlued (tiling_of machine.now) frame.old tiles.now) }
     ensures answered { CanBeGlued (tiling_of machine.now) frame.old tiles.now → (result ≡ Err NoMemory)
         ⊎ IsOk result }
     ensures cause { IfErr result (λ fault. HasGlueCause (tiling_of machine.now) frame.old frame.new

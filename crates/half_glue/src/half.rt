@@ -15,7 +15,7 @@ ghost use Rattle.theory_walks.specs.Frames.{whole, IsFrameOf, GrowsTo};
 ghost use Rattle.lazy_walk.specs.Standing.{Stands};
 ghost use Rattle.half_glue.specs.Causes.{HasGlueCause};
 ghost use Rattle.half_glue.specs.Depth.{IsGluedInside, IsTooShallow};
-ghost use Rattle.half_glue.specs.Found.{StandsBeside, IsFound, IsCrossed, tile_of};
+ghost use Rattle.half_glue.specs.Found.{StandsBeside, IsJoined, IsCrossed, tile_of};
 ghost use Rattle.half_glue.specs.Given.{IsGiven, AreGiven};
 ghost use Rattle.half_glue.specs.Keys.{key_order, AreKeysOf};
 ghost use Rattle.half_glue.specs.Limits.{CanBeJoined};
@@ -64,12 +64,8 @@ pub(crate) fn other_half<L: Ledger>(
     requires keys { AreKeysOf tiles.now keys.now }
     requires below { number < length tiles.now }
     ensures frame { GrowsTo (tiling_of machine.now) frame.old frame.new }
-    ensures found { IfOk result (IsFound (tiling_of machine.now) frame.new tiles.now
+    ensures joined { IfOk result (IsJoined (tiling_of machine.now) frame.old frame.new tiles.now
         (tile_of tiles.now number)) }
-    ensures inside { OnOk result (IsGluedInside (tiling_of machine.now) frame.old (length frame.new.digits)
-        (tile_of tiles.now number)) }
-    ensures can_be_joined { OnOk result (CanBeJoined (tiling_of machine.now)
-        (full (tiling_of machine.now) frame.old) (tile_of tiles.now number)) }
     ensures least { (n : ℕ) → length frame.old.digits ≤ n → n < length frame.new.digits
         → IsTooShallow (tiling_of machine.now) frame.old (tile_of tiles.now number ∷ []) n }
     ensures answered { CanBeJoined (tiling_of machine.now) (full (tiling_of machine.now) frame.old)

@@ -1,12 +1,11 @@
 //! Finds the whole tiles of given tiles, by numbers.
 ghost use Rattle.std.specs.Prelude.{◌≡◌, ◌⊎◌, ◌<◌, ◌≤◌, ℕ, length, Err, IsOk, IfOk, IfErr, OnOk};
 ghost use Rattle.rule_model.specs.Tiling.{tiling_of};
-ghost use Rattle.theory_walks.specs.Frames.{IsFrameOf, GrowsTo};
-ghost use Rattle.theory_windows.specs.Limits.{most_tiles};
+ghost use Rattle.theory_walks.specs.Frames.{GrowsTo};
 ghost use Rattle.half_glue.specs.declared.glue_fault.GlueFault.TheVariants.{NoMemory};
 ghost use Rattle.half_glue.specs.Causes.{HasGlueCause};
 ghost use Rattle.half_glue.specs.Depth.{IsLeastForGlue, IsTooShallow};
-ghost use Rattle.half_glue.specs.Given.{AreGiven};
+ghost use Rattle.half_glue.specs.Given.{AreToGlue};
 ghost use Rattle.half_glue.specs.Limits.{CanBeGlued};
 ghost use Rattle.half_glue.specs.Pairs.{ArePairsOf};
 
@@ -32,9 +31,7 @@ pub(crate) fn paired<L: Ledger>(
     tiles: &[PlacedTile],
     steps: &mut Steps<L>,
 ) -> Result<Pairs, GlueFault>
-    requires frame { IsFrameOf (tiling_of machine.now) frame.old }
-    requires few { length tiles.now ≤ most_tiles }
-    requires given { AreGiven (tiling_of machine.now) frame.old tiles.now }
+    requires to_glue { AreToGlue (tiling_of machine.now) frame.old tiles.now }
     ensures frame { GrowsTo (tiling_of machine.now) frame.old frame.new }
     ensures paired { IfOk result (λ made. ArePairsOf (tiling_of machine.now) frame.new tiles.now
         made.crossed.items made.pairs.items) }

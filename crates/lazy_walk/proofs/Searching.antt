@@ -1,12 +1,12 @@
 -- The search outward from the base of a frame: what was looked at up to a level, and what each way on answers.
-use Rattle.std.proofs.Common.{◌≡◌, ◌↔◌, ℕ, suc, ◌+◌, ◌-◌, ◌<◌, ◌≤◌, max, Bool, true, false, inl, inr, length, ◌∷◌, find, None, Some, Result, IsOk, IfOk, IfErr, sym, ap, ◌∙◌, subst, arith}
+use Rattle.std.proofs.Common.{◌≡◌, ◌↔◌, ℕ, suc, ◌+◌, ◌-◌, ◌<◌, ◌≤◌, max, Bool, true, false, inl, inr, length, ◌∷◌, find, None, Some, Result, Ok, Err, IsOk, IfOk, IfErr, sym, ap, ◌∙◌, subst, arith}
 use Rattle.std.proofs.lemmas.Bool.{cases_lt}
 use Rattle.std.proofs.lemmas.Result.{IfErr-weaker, IfOk-weaker}
 use Rattle.theory_addresses.specs.Address.{Address}
 use Rattle.theory_substitution.specs.Points.{Points}
 use Rattle.theory_substitution.specs.Rule.{Rule as TheRule}
 use Rattle.cyclo_points.specs.declared.order.Order.{Order}
-use Rattle.cyclo_points.specs.Point.{point_in}
+use Rattle.cyclo_points.specs.Point.{point_in, IsOf}
 use Rattle.cyclo_points.specs.Order.{NumberOf, points_of, is_refused}
 use Rattle.theory_frames.specs.Contain.{ancestor_motion, ancestor_holds}
 use Rattle.theory_frames.specs.Laws.{AncestorLaw}
@@ -29,8 +29,16 @@ use Rattle.theory_walks.proofs.Ancestors.{full-later}
 use Rattle.theory_walks.proofs.Walks.{GrowsTo-self, GrowsTo-then}
 use Rattle.lazy_walk.specs.declared.ancestor.Ancestor.{Ancestor}
 use Rattle.lazy_walk.specs.Ancestors.{IsAncestor, IsNextOut}
+use Rattle.lazy_walk.specs.Contained.{IsRefusedOutward}
 use Rattle.lazy_walk.proofs.Aheads.{ahead, vertex_refused, held, onward, next_refused, next_passed, some_power_refused, zero-unrefused, exactly}
 use Rattle.lazy_walk.proofs.Leasts.{not_before}
+
+-- a limit that is the first refused value is so as a point of its order
+refused_outward : (t : Tiling) (f : FrameValue) (p : NumberOf t.order) (r : Result PlacedTile CoordLimit)
+    → IfErr r (λ (limit : CoordLimit). first_refused_outward t f p ≡ Some (point_in t.order limit.value))
+    → IfErr r (λ (limit : CoordLimit). IsOf t.order limit.value) → IfErr r (IsRefusedOutward t f p)
+refused_outward t f p (Ok tile) first in_order = tt
+refused_outward t f p (Err limit) first in_order = record { first = first; in_order = in_order }
 
 -- the levels below this ancestor's were looked at: none of them holds the point, and nothing looked at is refused
 pub record IsOutward (m : Rule) (old : FrameValue) (p : NumberOf m.order) (now : FrameValue) (a : Ancestor) : Type 0 where
@@ -138,11 +146,14 @@ module _ {m : Rule} {old : FrameValue} {p : NumberOf m.order} {now : FrameValue}
 
     module _ (holds : ancestor_holds P r (full t now) a.level p ≡ true) (answer : Result PlacedTile CoordLimit)
         (refused : IfErr answer (λ (limit : CoordLimit). find test (values_in t (full t now) p a.level) ≡ Some (point_in m.order limit.value))) where
-      pub inside_limit : IfErr answer (λ (limit : CoordLimit). first_refused_outward t old p ≡ Some (point_in m.order limit.value))
+      inside_limit : IfErr answer (λ (limit : CoordLimit). first_refused_outward t old p ≡ Some (point_in m.order limit.value))
       inside_limit = IfErr-weaker answer
           (λ (limit : CoordLimit). find test (values_in t (full t now) p a.level) ≡ Some (point_in m.order limit.value))
           (λ (limit : CoordLimit). first_refused_outward t old p ≡ Some (point_in m.order limit.value))
           (λ limit h. sym (inside_is holds) ∙ h) refused
+
+      pub inside_refused : IfErr answer (λ (limit : CoordLimit). IsOf m.order limit.value) → IfErr answer (IsRefusedOutward t old p)
+      inside_refused in_order = refused_outward t old p answer inside_limit in_order
 
       pub inside_exactly : IfOk answer (λ (tile : PlacedTile). find test (values_in t (full t now) p a.level) ≡ None)
           → IsOk answer ↔ (first_refused_outward t old p ≡ None)

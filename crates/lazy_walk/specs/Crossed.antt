@@ -12,6 +12,7 @@ use Rattle.theory_substitution.specs.Motion.{followed}
 use Rattle.tile_place.specs.declared.placed_tile.PlacedTile.{PlacedTile}
 use Rattle.tile_place.specs.Crossed.{IsOnlyAcross}
 use Rattle.tile_place.specs.Glued.{Glues}
+use Rattle.tile_place.specs.Motions.{IsMotionOf}
 use Rattle.tile_shape.specs.Views.{address_of}
 use Rattle.theory_walks.specs.Boundary.{IsBoundaryEdge}
 use Rattle.theory_walks.specs.Frames.{FrameValue, whole, lifted_at}
@@ -38,6 +39,12 @@ pub record IsLiftedTo64 (t : Tiling) (f : FrameValue) (before after : PlacedTile
   pub lifted : address_of after.addr ≡ lifted_at t f (address_of before.addr) 64
   pub same_place : after.motion ≡ before.motion
   pub same_kind : after.kind ≡ before.kind
+
+-- the tile is of the frame, with the digits of any depth that the frame has had, and its motion is within the limits
+pub record IsToCross (t : Tiling) (f : FrameValue) (x : PlacedTile) : Type 0 where
+  pub its_kind : x.kind ≡ x.addr.kind
+  pub of_frame : IsTileOf (children t) (whole f) (address_of x.addr)
+  pub motion : IsMotionOf t.order (2 ^ 24) x.motion
 
 -- From edge e of the tile a, with this motion, in the frame f one comes to the tile x in the frame g. It is
 -- the only one across, at the least depth at which the edge is not on the boundary, with the edge `back` that

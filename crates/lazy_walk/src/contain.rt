@@ -10,7 +10,7 @@ ghost use Rattle.theory_walks.specs.Ancestors.{full, vertices_of_ancestor, value
 ghost use Rattle.lazy_walk.specs.Ancestors.{IsAncestor};
 ghost use Rattle.theory_walks.specs.Containing.{FrameHolds, IsOnlyHolder, first_refused_outward};
 ghost use Rattle.theory_walks.specs.Frames.{at_depth, IsFrameOf, GrowsTo};
-ghost use Rattle.lazy_walk.specs.Contained.{IsContained};
+ghost use Rattle.lazy_walk.specs.Contained.{IsContained, IsRefusedOutward};
 ghost use Rattle.lazy_walk.specs.Standing.{Stands};
 
 use crate::ancestor::Ancestor;
@@ -62,10 +62,8 @@ impl Frame {
         // It is refused if and only if a value on the way is, with the first such value.
         ensures found_exactly { IsOk result ↔ (first_refused_outward (tiling_of machine.now) self.old
             (point_in machine.now.order point.now) ≡ None) }
-        ensures limit { IfErr result (λ limit. first_refused_outward (tiling_of machine.now) self.old
-            (point_in machine.now.order point.now)
-            ≡ Some (point_in machine.now.order limit.value)) }
-        ensures limit_in_order { IfErr result (λ limit. IsOf machine.now.order limit.value) }
+        ensures limit { IfErr result (IsRefusedOutward (tiling_of machine.now) self.old
+            (point_in machine.now.order point.now)) }
     {
         ancestor_law(machine.checked().order());
         let mut ancestor = Ancestor::base();

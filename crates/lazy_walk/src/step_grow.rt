@@ -1,14 +1,11 @@
 //! From tile to tile of a frame that grows, each in its place.
-ghost use Rattle.std.specs.Prelude.{◌≡◌, ◌↔◌, ◌<◌, ◌≤◌, ◌^◌, ℕ, length, IsErr, IfOk, IfErr, OnErr};
-ghost use Rattle.cyclo_points.specs.Order.{points_of};
-ghost use Rattle.cyclo_points.specs.Point.{IsOf, IsWithin};
-ghost use Rattle.theory_frames.specs.Frame.{IsTileOf};
-ghost use Rattle.rule_model.specs.Tiling.{tiling_of, children};
+ghost use Rattle.std.specs.Prelude.{◌↔◌, ◌<◌, ◌≤◌, ℕ, length, IsErr, IfOk, IfErr, OnErr};
+ghost use Rattle.rule_model.specs.Tiling.{tiling_of};
 ghost use Rattle.tile_place.specs.Crossed.{edges_of};
 ghost use Rattle.tile_shape.specs.Views.{address_of};
 ghost use Rattle.theory_walks.specs.Boundary.{IsBoundaryEdge};
-ghost use Rattle.lazy_walk.specs.Crossed.{IsCrossedTo, IsLiftedTo64};
-ghost use Rattle.theory_walks.specs.Frames.{whole, IsFrameOf, GrowsTo, lifted_at};
+ghost use Rattle.lazy_walk.specs.Crossed.{IsToCross, IsCrossedTo, IsLimitAt, IsLiftedTo64};
+ghost use Rattle.theory_walks.specs.Frames.{IsFrameOf, GrowsTo, lifted_at};
 
 use crate::depth_limit::DepthLimit;
 use crate::frame::Frame;
@@ -35,13 +32,8 @@ impl Frame {
         steps: &mut Steps<L>,
     ) -> Result<u8, DepthLimit>
         requires frame { IsFrameOf (tiling_of machine.now) self.old }
-        requires its_kind { tile.old.kind ≡ tile.old.addr.kind }
-        requires of_frame { IsTileOf (children (tiling_of machine.now)) (whole self.old)
-            (address_of tile.old.addr) }
+        requires tile { IsToCross (tiling_of machine.now) self.old tile.old }
         requires edge_exists { edge < edges_of (tiling_of machine.now) tile.old.addr.kind }
-        requires turn_below { tile.old.motion.turn < (points_of machine.now.order).order }
-        requires within { IsWithin (2 ^ 24) tile.old.motion.shift }
-        requires in_order { IsOf machine.now.order tile.old.motion.shift }
         ensures frame { GrowsTo (tiling_of machine.now) self.old self.new }
         ensures crossed { IfOk result (λ back. IsCrossedTo (tiling_of machine.now) self.old self.new
             (address_of tile.old.addr) tile.old.motion edge tile.new back) }
@@ -50,12 +42,10 @@ impl Frame {
             (lifted_at (tiling_of machine.now) self.old (address_of tile.old.addr) n) edge }
         ensures limit_exactly { IsErr result ↔ IsBoundaryEdge (tiling_of machine.now)
             (lifted_at (tiling_of machine.now) self.old (address_of tile.old.addr) 64) edge }
-        ensures limit_tile { IfErr result (λ limit. address_of limit.addr ≡ lifted_at
-            (tiling_of machine.now) self.old (address_of tile.old.addr) 64) }
-        ensures limit_edge { IfErr result (λ limit. limit.edge ≡ edge) }
+        ensures limit { IfErr result (IsLimitAt (tiling_of machine.now) self.old self.new
+            (address_of tile.old.addr) edge) }
         ensures kept_at_limit { OnErr result (IsLiftedTo64 (tiling_of machine.now) self.old tile.old
             tile.new) }
-        ensures deepest_at_limit { OnErr result (length self.new.digits ≡ 64) }
     {
         let checked = machine.checked();
         grown_fits_law();

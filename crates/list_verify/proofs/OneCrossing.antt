@@ -7,9 +7,8 @@ use Rattle.theory_frames.specs.Frame.{IsTileOf}
 use Rattle.theory_windows.specs.Outlines.{MeetsBox}
 use Rattle.cyclo_points.specs.declared.motion.Motion.{Motion}
 use Rattle.cyclo_points.specs.Order.{points_of}
-use Rattle.cyclo_points.specs.Point.{IsOf, IsWithin}
 use Rattle.theory_walks.specs.Boundary.{IsBoundaryEdge}
-use Rattle.lazy_walk.specs.Crossed.{IsCrossedTo}
+use Rattle.lazy_walk.specs.Crossed.{IsToCross, IsCrossedTo}
 use Rattle.theory_walks.specs.Frames.{FrameValue, whole, GrowsTo, lifted_at}
 use Rattle.theory_walks.proofs.Brought.{Brings}
 use Rattle.listing_text.specs.declared.entry.Entry.{Entry}
@@ -17,6 +16,7 @@ use Rattle.rule_model.specs.declared.rule.Rule.{Rule}
 use Rattle.rule_model.specs.Tiling.{Tiling, tiling_of, children}
 use Rattle.tile_place.specs.declared.placed_tile.PlacedTile.{PlacedTile}
 use Rattle.tile_place.specs.Crossed.{edges_of}
+use Rattle.tile_place.specs.Motions.{IsMotionOf}
 use Rattle.tile_shape.specs.declared.address.Address as programmed
 use Rattle.tile_shape.specs.Views.{address_of}
 use Rattle.window_cover.specs.Windows.{IsLeastEnough, box_of}
@@ -76,19 +76,18 @@ module _ (walk : Walk) (W : HasWalkLaws walk.machine.now) (f : FrameValue) (old 
     its-address : address_of own.address ≡ address_of tile.addr
     its-address = sym (ap address_of (address ∙ ap (λ (x : Entry). x.address) (is-own e d same)))
 
-    pub tile-there : IsTileOf (children t) (whole f) (address_of tile.addr)
+    tile-there : IsTileOf (children t) (whole f) (address_of tile.addr)
     tile-there = subst (IsTileOf (children t) (whole f)) its-address
         (of-frame m B.settled B.fits B.laws f walk.window.now way.on_frame.window_fits lines way.on_frame.lines
         old.lines.items old.marks.items way.lines_found line among)
 
-    pub turn-below : tile.motion.turn < (points_of m.order).order
-    turn-below = subst (λ (h : Motion). h.turn < (points_of m.order).order) its-motion its-place.turn_below
-
-    pub shift-within : IsWithin (2 ^ 24) tile.motion.shift
-    shift-within = subst (λ (h : Motion). IsWithin (2 ^ 24) h.shift) its-motion its-place.shift_within
-
-    pub in-order : IsOf m.order tile.motion.shift
-    in-order = subst (λ (h : Motion). IsOf m.order h.shift) its-motion its-place.in_order
+    pub to-cross : tile.kind ≡ e.address.kind → IsToCross t f tile
+    to-cross its = record {
+      its_kind = its ∙ sym (ap (λ (a : programmed.Address). a.kind) address);
+      of_frame = tile-there;
+      motion = subst (IsMotionOf m.order (2 ^ 24)) its-motion
+          (record { turn_below = its-place.turn_below; within = its-place.shift_within; in_order = its-place.in_order });
+    }
 
     module _ (edge : ℕ) (exists : edge < edges_of_line t lines line)
         (meets : MeetsBox (points_of m.order).real (box_of t walk.window.now) (edge_of_line t f lines line edge)) where

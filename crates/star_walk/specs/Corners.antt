@@ -1,5 +1,5 @@
 -- Corners of the program in the terms of the theory, and the vertex of the base around which they lie.
-use Rattle.std.specs.Prelude.{ℕ}
+use Rattle.std.specs.Prelude.{ℕ, ◌<◌}
 use Rattle.theory_plane.specs.Plane.{PlanePoint}
 use Rattle.cyclo_points.specs.declared.order.Order.{Order}
 use Rattle.cyclo_points.specs.Order.{NumberOf, points_of}
@@ -8,8 +8,9 @@ use Rattle.theory_substitution.specs.RuleParts.{vertex}
 use Rattle.theory_substitution.specs.Supertile.{Placed}
 use Rattle.theory_windows.specs.FramePatch.{frame_patch}
 use Rattle.rule_model.specs.Tiling.{Tiling}
+use Rattle.tile_place.specs.Crossed.{edges_of}
 use Rattle.tile_place.specs.Searched.{placed_in}
-use Rattle.theory_walks.specs.Frames.{FrameValue, whole}
+use Rattle.theory_walks.specs.Frames.{FrameValue, whole, IsFrameOf}
 use Rattle.theory_stars.specs.Corners.{Corner as TheCorner, IsCornerAt}
 use Rattle.star_walk.specs.declared.corner.Corner.{Corner}
 
@@ -20,6 +21,11 @@ CornerOf t = TheCorner (Placed (NumberOf t.order))
 -- a corner of the program, in that form
 abbrev pub corner_in : (o : Order) → Corner → TheCorner (Placed (NumberOf o))
 corner_in o c = record { tile = placed_in o c.tile; vertex = c.vertex }
+
+-- the frame is one of the tiling, and its base has vertex number i
+pub record HasVertex (t : Tiling) (f : FrameValue) (i : ℕ) : Type 0 where
+  pub frame : IsFrameOf t f
+  pub exists : i < edges_of t f.base.kind
 
 -- the position of vertex number i of the base
 abbrev pub vertex_of_base : (t : Tiling) → FrameValue → ℕ → PlanePoint (points_of t.order).real.ops.carrier

@@ -1,7 +1,8 @@
 -- The tiles around a vertex of the base, their turning order, and the least depth that is enough for the
 -- vertex.
-use Rattle.std.specs.Prelude.{◌≡◌, ℕ, List, ◌∷◌, length}
+use Rattle.std.specs.Prelude.{◌≡◌, ℕ, ◌^◌, List, ◌∷◌, All, length}
 use Rattle.cyclo_points.specs.Order.{NumberOf, points_of}
+use Rattle.cyclo_points.specs.Point.{IsWithin}
 use Rattle.theory_substitution.specs.Supertile.{Placed}
 use Rattle.theory_windows.specs.FramePatch.{frame_patch}
 use Rattle.rule_model.specs.Tiling.{Tiling}
@@ -10,6 +11,8 @@ use Rattle.theory_walks.specs.Frames.{FrameValue, whole}
 use Rattle.theory_stars.specs.Corners.{IsTurn}
 use Rattle.theory_stars.specs.OnPolygon.{IsOffFrame, IsLeastOff}
 use Rattle.theory_stars.specs.Round.{IsRound}
+use Rattle.lazy_walk.specs.Standing.{Stands}
+use Rattle.star_walk.specs.declared.corner.Corner.{Corner}
 use Rattle.star_walk.specs.Corners.{CornerOf, vertex_of_base}
 
 -- these are exactly the tiles of the frame, at its own depth, that have vertex i of the base as a vertex,
@@ -27,6 +30,11 @@ pub record AreInTurn (t : Tiling) (f : FrameValue) (i : ℕ) (corners : List (Co
   pub base_named : base.tile.address ≡ whole f
   pub base_vertex : base.vertex ≡ i
   pub turn : IsTurn (points_of t.order).real (Placed (NumberOf t.order)) (frame_patch (points_of t.order) t.rule (whole f)) base others
+
+-- each corner is of a tile in its place in the frame, and no coefficient of its shift is above 2^24
+pub record AreInPlace (t : Tiling) (f : FrameValue) (corners : List Corner) : Type 0 where
+  pub stand : All (λ (c : Corner). Stands t f c.tile) corners
+  pub shifts_within : All (λ (c : Corner). IsWithin (2 ^ 24) c.tile.motion.shift) corners
 
 -- vertex i of the base is on no edge of the frame's polygon at depth n, which is at most 64
 abbrev pub IsEnough : Tiling → FrameValue → ℕ → ℕ → Type 0

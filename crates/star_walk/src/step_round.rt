@@ -1,12 +1,9 @@
 //! From a corner to the one after it in turning order, while the frame grows.
-ghost use Rattle.std.specs.Prelude.{◌≡◌, ◌↔◌, ◌<◌, ◌≤◌, ◌^◌, length, IsErr, IfErr, OnErr, OnOk};
-ghost use Rattle.cyclo_points.specs.Order.{points_of};
-ghost use Rattle.cyclo_points.specs.Point.{IsOf, IsWithin};
-ghost use Rattle.theory_frames.specs.Frame.{IsTileOf};
+ghost use Rattle.std.specs.Prelude.{◌≡◌, ◌↔◌, ◌<◌, IsErr, IfErr, OnOk};
 ghost use Rattle.theory_walks.specs.Boundary.{IsBoundaryEdge};
-ghost use Rattle.lazy_walk.specs.Crossed.{IsCrossedTo};
-ghost use Rattle.theory_walks.specs.Frames.{whole, IsFrameOf, GrowsTo, lifted_at};
-ghost use Rattle.rule_model.specs.Tiling.{tiling_of, children};
+ghost use Rattle.lazy_walk.specs.Crossed.{IsToCross, IsCrossedTo, IsLimitAt};
+ghost use Rattle.theory_walks.specs.Frames.{IsFrameOf, GrowsTo, lifted_at};
+ghost use Rattle.rule_model.specs.Tiling.{tiling_of};
 ghost use Rattle.tile_place.specs.Crossed.{edges_of};
 ghost use Rattle.tile_shape.specs.Views.{address_of};
 ghost use Rattle.theory_stars.specs.Corners.{edge_into};
@@ -38,13 +35,8 @@ pub(crate) fn step_round<L: Ledger>(
     steps: &mut Steps<L>,
 ) -> Result<(), DepthLimit>
     requires frame { IsFrameOf (tiling_of machine.now) frame.old }
-    requires its_kind { corner.old.tile.kind ≡ corner.old.tile.addr.kind }
-    requires of_frame { IsTileOf (children (tiling_of machine.now)) (whole frame.old)
-        (address_of corner.old.tile.addr) }
+    requires tile { IsToCross (tiling_of machine.now) frame.old corner.old.tile }
     requires vertex_exists { corner.old.vertex < edges_of (tiling_of machine.now) corner.old.tile.addr.kind }
-    requires turn_below { corner.old.tile.motion.turn < (points_of machine.now.order).order }
-    requires within { IsWithin (2 ^ 24) corner.old.tile.motion.shift }
-    requires in_order { IsOf machine.now.order corner.old.tile.motion.shift }
     ensures frame { GrowsTo (tiling_of machine.now) frame.old frame.new }
     ensures crossed { OnOk result
         (IsCrossedTo (tiling_of machine.now) frame.old frame.new (address_of corner.old.tile.addr)
@@ -54,10 +46,8 @@ pub(crate) fn step_round<L: Ledger>(
         ↔ IsBoundaryEdge (tiling_of machine.now)
         (lifted_at (tiling_of machine.now) frame.old (address_of corner.old.tile.addr) 64)
         (its_edge (tiling_of machine.now) corner.old) }
-    ensures limit_tile { IfErr result (λ limit. address_of limit.addr ≡ lifted_at (tiling_of machine.now)
-        frame.old (address_of corner.old.tile.addr) 64) }
-    ensures limit_edge { IfErr result (λ limit. limit.edge ≡ its_edge (tiling_of machine.now) corner.old) }
-    ensures deepest_at_limit { OnErr result (length frame.new.digits ≡ 64) }
+    ensures limit { IfErr result (IsLimitAt (tiling_of machine.now) frame.old frame.new
+        (address_of corner.old.tile.addr) (its_edge (tiling_of machine.now) corner.old)) }
 {
     let edges = machine.checked().tables().edges(corner.tile.addr.kind);
     let edge = edge_before(edges, corner.vertex);

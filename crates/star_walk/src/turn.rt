@@ -1,15 +1,12 @@
 //! The tiles around a vertex.
-ghost use Rattle.std.specs.Prelude.{◌≡◌, ◌<◌, ◌≤◌, ◌^◌, ℕ, ◌↔◌, All, [], length, map, IsTrue, IsOk, IfOk, IfErr, OnOk, OnErr};
+ghost use Rattle.std.specs.Prelude.{◌≡◌, ◌≤◌, ℕ, ◌↔◌, All, [], length, map, IsTrue, IsOk, IfOk, IfErr, OnOk, OnErr};
 ghost use Rattle.std.specs.List.{AllZip};
 ghost use Rattle.theory_addresses.specs.Address.{depth};
-ghost use Rattle.cyclo_points.specs.Point.{IsWithin};
 ghost use Rattle.tile_shape.specs.Views.{address_of};
 ghost use Rattle.rule_model.specs.Tiling.{tiling_of};
-ghost use Rattle.tile_place.specs.Crossed.{edges_of};
-ghost use Rattle.theory_walks.specs.Frames.{whole, IsFrameOf, GrowsTo};
-ghost use Rattle.lazy_walk.specs.Standing.{Stands};
-ghost use Rattle.star_walk.specs.Corners.{corner_in};
-ghost use Rattle.star_walk.specs.Round.{AreRound, AreInTurn, IsLeastEnough};
+ghost use Rattle.theory_walks.specs.Frames.{whole, GrowsTo};
+ghost use Rattle.star_walk.specs.Corners.{corner_in, HasVertex};
+ghost use Rattle.star_walk.specs.Round.{AreRound, AreInTurn, AreInPlace, IsLeastEnough};
 ghost use Rattle.star_walk.specs.Causes.{HasCause, IsWithinLimits};
 ghost use Rattle.star_walk.specs.Found.{HasTurned, IsRaised};
 
@@ -48,8 +45,7 @@ impl Star {
         vertex: u8,
         steps: &mut Steps<L>,
     ) -> Result<(), StarFault>
-        requires frame { IsFrameOf (tiling_of machine.now) frame.old }
-        requires vertex_exists { vertex < edges_of (tiling_of machine.now) frame.old.base.kind }
+        requires vertex { HasVertex (tiling_of machine.now) frame.old vertex }
 
         ensures frame { GrowsTo (tiling_of machine.now) frame.old frame.new }
 
@@ -63,10 +59,7 @@ impl Star {
             (map (corner_in machine.now.order) self.new.corners.items)) }
         ensures turning { OnOk result (AreInTurn (tiling_of machine.now) frame.new vertex
             (map (corner_in machine.now.order) self.new.corners.items)) }
-        ensures stand { OnOk result (All (λ (c : Corner). Stands (tiling_of machine.now) frame.new c.tile)
-            self.new.corners.items) }
-        ensures shifts_within { OnOk result (All (λ (c : Corner). IsWithin (2 ^ 24) c.tile.motion.shift)
-            self.new.corners.items) }
+        ensures stand { OnOk result (AreInPlace (tiling_of machine.now) frame.new self.new.corners.items) }
         ensures least { OnOk result (IsLeastEnough (tiling_of machine.now) frame.old vertex
             (length frame.new.digits)) }
 
@@ -102,8 +95,7 @@ pub fn star<L: Ledger>(
     vertex: u8,
     steps: &mut Steps<L>,
 ) -> Result<Star, StarFault>
-    requires frame { IsFrameOf (tiling_of machine.now) frame.old }
-    requires vertex_exists { vertex < edges_of (tiling_of machine.now) frame.old.base.kind }
+    requires vertex { HasVertex (tiling_of machine.now) frame.old vertex }
 
     ensures frame { GrowsTo (tiling_of machine.now) frame.old frame.new }
 
@@ -117,10 +109,7 @@ pub fn star<L: Ledger>(
         (map (corner_in machine.now.order) star.corners.items)) }
     ensures turning { IfOk result (λ star. AreInTurn (tiling_of machine.now) frame.new vertex
         (map (corner_in machine.now.order) star.corners.items)) }
-    ensures stand { IfOk result (λ star. All (λ (c : Corner). Stands (tiling_of machine.now) frame.new
-        c.tile) star.corners.items) }
-    ensures shifts_within { IfOk result (λ star. All (λ (c : Corner). IsWithin (2 ^ 24) c.tile.motion.shift)
-        star.corners.items) }
+    ensures stand { IfOk result (λ star. AreInPlace (tiling_of machine.now) frame.new star.corners.items) }
     ensures least { OnOk result (IsLeastEnough (tiling_of machine.now) frame.old vertex
         (length frame.new.digits)) }
 
@@ -145,8 +134,7 @@ fn turn<L: Ledger>(
     steps: &mut Steps<L>,
 ) -> Result<(), StarFault>
     requires none_yet { corners.old.items ≡ [] }
-    requires frame { IsFrameOf (tiling_of machine.now) frame.old }
-    requires vertex_exists { vertex < edges_of (tiling_of machine.now) frame.old.base.kind }
+    requires vertex { HasVertex (tiling_of machine.now) frame.old vertex }
     ensures frame { GrowsTo (tiling_of machine.now) frame.old frame.new }
     ensures not_beyond { (n : ℕ) → IsLeastEnough (tiling_of machine.now) frame.old vertex n
         → length frame.new.digits ≤ n }

@@ -1,5 +1,5 @@
 -- A step of the search over the first open edge: what it answers, of the tile from which it goes and of the tile across.
-use Rattle.std.proofs.Common.{◌≡◌, ◌⊎◌, ℕ, suc, ◌<◌, ◌≤◌, List, Some, Result, Err, IsOk, IfErr, OnOk, length, map, slice_get, refl, sym, ap, ◌∙◌, subst, add-one}
+use Rattle.std.proofs.Common.{◌≡◌, ◌⊎◌, ℕ, ◌<◌, ◌≤◌, List, Some, Result, Err, IsOk, IfErr, OnOk, length, map, slice_get, sym, ap, ◌∙◌, subst, add-one}
 use Rattle.std.proofs.lemmas.Result.{on_ok_weaker}
 use Rattle.theory_frames.specs.Frame.{IsTileOf, lifted_in}
 use Rattle.cyclo_points.specs.declared.point.Point.{Point}
@@ -28,7 +28,7 @@ use Rattle.window_cover.specs.NewEdges.{AreNew}
 use Rattle.window_cover.specs.Packed.{packed, unpacked}
 use Rattle.window_cover.specs.Right.{IsFound, IsRight}
 use Rattle.window_cover.specs.SearchLaws.{HasSearchLaws}
-use Rattle.window_cover.specs.Stepping.{StepsTo, IsFirstOnBoundary}
+use Rattle.window_cover.specs.Stepping.{HasStepped, IsFirstOnBoundary}
 use Rattle.window_cover.specs.Windows.{IsLeastEnough}
 use Rattle.window_cover.specs.Working.{working, IsWorking}
 use Rattle.window_cover.proofs.FirstEdge.{edge-there}
@@ -140,15 +140,13 @@ module _ {m : Rule} {f : FrameValue} {c : CoverValue} {first : OpenEdge} {from :
           own : OnOk r (IsAdmitted t (working c) (working d) tile)
           own = subst (λ y. OnOk r (IsAdmitted t (working y) (working d) tile)) same admitted
 
-          pub steps_to : OnOk r (StepsTo t f c d)
-          steps_to = on_ok_weaker r (λ n. stepped.steps_to m s.brings.settled s.brings.fits s.brings.laws f g h c
-              s.right first s.is_first (found_as from) s.at tile back over d n) own
-
-          pub one_more : OnOk r (length d.found ≡ suc (length c.found))
-          one_more = on_ok_weaker r (λ n. next.one_more m s.brings.settled s.brings.fits s.brings.laws f g h
-              (working c) work first waits (found_as from) s.at tile back over (working d) n ∙ add-one (length c.found)) own
-
-          pub right_next : OnOk r (d.border ≡ map unpacked (map packed d.border)) → OnOk r (IsRight t g d)
-          right_next ends = on_ok_weaker r (λ n. right-of t s.brings.laws.open_test g d n.1
-              (next.right-next m s.brings.settled s.brings.fits s.brings.laws f g h (working c) work first waits
-              (found_as from) s.at tile back over (working d) n.0)) (on_ok-both _ _ r own ends)
+          pub is_next : OnOk r (d.border ≡ map unpacked (map packed d.border)) → OnOk r (HasStepped t f g c d)
+          is_next ends = on_ok_weaker r (λ n. record {
+            steps_to = stepped.steps_to m s.brings.settled s.brings.fits s.brings.laws f g h c s.right first s.is_first
+                (found_as from) s.at tile back over d n.0;
+            right = right-of t s.brings.laws.open_test g d n.1
+                (next.right-next m s.brings.settled s.brings.fits s.brings.laws f g h (working c) work first waits
+                (found_as from) s.at tile back over (working d) n.0);
+            one_more = next.one_more m s.brings.settled s.brings.fits s.brings.laws f g h (working c) work first waits
+                (found_as from) s.at tile back over (working d) n.0 ∙ add-one (length c.found);
+          }) (on_ok-both _ _ r own ends)

@@ -12,6 +12,7 @@ pub mod Causes
 pub mod InOrder
 pub mod Kept
 pub mod Stepping
+pub mod Searched
 pub mod Keys
 pub mod Words
 pub mod Lifted

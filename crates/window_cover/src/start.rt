@@ -1,14 +1,15 @@
 //! Finds the tile at the centre of a window.
-ghost use Rattle.std.specs.Prelude.{◌≡◌, ◌⊎◌, ◌<◌, ◌≤◌, ℕ, None, length, IsOk, Err, IfOk, IfErr, OnOk};
+ghost use Rattle.std.specs.Prelude.{◌≡◌, ◌⊎◌, ◌<◌, ◌≤◌, ℕ, length, IsOk, Err, IfOk, IfErr};
 ghost use Rattle.rule_model.specs.Tiling.{tiling_of};
 ghost use Rattle.cyclo_points.specs.Point.{point_in};
-ghost use Rattle.theory_walks.specs.Containing.{first_refused_outward, FrameHolds};
+ghost use Rattle.theory_walks.specs.Containing.{FrameHolds};
 ghost use Rattle.theory_walks.specs.Frames.{at_depth, IsFrameOf, GrowsTo};
 ghost use Rattle.window_cover.specs.declared.cover_fault.CoverFault.TheVariants.{NoMemory};
 ghost use Rattle.window_cover.specs.Windows.{IsWindow, IsLeastEnough};
 ghost use Rattle.window_cover.specs.Limits.{IsWithinLimits};
 ghost use Rattle.window_cover.specs.Causes.{HasCause};
 ghost use Rattle.window_cover.specs.Right.{IsRight};
+ghost use Rattle.window_cover.specs.Searched.{HasBegun};
 
 use crate::border::Border;
 use crate::cover::Cover;
@@ -35,10 +36,8 @@ impl Cover {
         requires window_fits { IsWindow window.now }
         ensures frame { GrowsTo (tiling_of machine.now) frame.old frame.new }
         ensures right { IfOk result (λ cover. IsRight (tiling_of machine.now) frame.new cover) }
-        ensures its_window { IfOk result (λ cover. cover.window ≡ window.now) }
         ensures one_tile { IfOk result (λ cover. length cover.found ≡ 1) }
-        ensures centre_found { OnOk result (first_refused_outward (tiling_of machine.now) frame.old
-            (point_in machine.now.order window.now.centre) ≡ None) }
+        ensures begun { IfOk result (HasBegun (tiling_of machine.now) frame.old window.now) }
         // The new depth is the least, not below the old one, at which the frame holds the centre.
         ensures least { (n : ℕ) → length frame.old.digits ≤ n → n < length frame.new.digits
             → ¬ FrameHolds (tiling_of machine.now) (at_depth (tiling_of machine.now) n frame.old)

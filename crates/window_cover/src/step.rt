@@ -1,5 +1,5 @@
 //! Goes from tile to tile, across the first open edge.
-ghost use Rattle.std.specs.Prelude.{◌≡◌, ◌⊎◌, ◌<◌, ◌≤◌, ℕ, suc, length, IsOk, Err, Some, IfOk, IfErr, OnOk};
+ghost use Rattle.std.specs.Prelude.{◌≡◌, ◌⊎◌, ◌<◌, ◌≤◌, ℕ, length, IsOk, Err, Some, IfOk, IfErr, OnOk};
 ghost use Rattle.rule_model.specs.Tiling.{tiling_of};
 ghost use Rattle.theory_walks.specs.Frames.{FrameValue, IsFrameOf, GrowsTo};
 ghost use Rattle.window_cover.specs.declared.cover_fault.CoverFault.TheVariants.{NoMemory};
@@ -8,7 +8,7 @@ ghost use Rattle.window_cover.specs.Windows.{IsLeastEnough};
 ghost use Rattle.window_cover.specs.Limits.{IsWithinLimits};
 ghost use Rattle.window_cover.specs.Causes.{HasCause};
 ghost use Rattle.window_cover.specs.Right.{IsRight};
-ghost use Rattle.window_cover.specs.Stepping.{StepsTo, IsFirstOnBoundary};
+ghost use Rattle.window_cover.specs.Stepping.{StepsTo, HasStepped, IsFirstOnBoundary};
 
 use crate::cover::{Cover, no_tile};
 use crate::cover_fault::CoverFault;
@@ -40,8 +40,7 @@ fn counted_step<L: Ledger>(
         (length frame.new.digits)) }
     ensures least { (n : ℕ) → length frame.old.digits ≤ n → n < length frame.new.digits
         → IsFirstOnBoundary (tiling_of machine.now) frame.old cover.old n }
-    ensures steps_to { OnOk result (StepsTo (tiling_of machine.now) frame.old cover.old cover.new) }
-    ensures right { OnOk result (IsRight (tiling_of machine.now) frame.new cover.new) }
+    ensures next { OnOk result (HasStepped (tiling_of machine.now) frame.old frame.new cover.old cover.new) }
     ensures cause { IfErr result (λ fault. HasCause (tiling_of machine.now) frame.old frame.new
         cover.old.window fault) }
 {
@@ -99,9 +98,8 @@ impl Cover {
             (length frame.new.digits)) }
         ensures least { (n : ℕ) → length frame.old.digits ≤ n → n < length frame.new.digits
             → IsFirstOnBoundary (tiling_of machine.now) frame.old self.old n }
-        ensures steps_to { OnOk result (StepsTo (tiling_of machine.now) frame.old self.old self.new) }
-        ensures right { OnOk result (IsRight (tiling_of machine.now) frame.new self.new) }
-        ensures one_more { OnOk result (length self.new.found ≡ suc (length self.old.found)) }
+        ensures next { OnOk result (HasStepped (tiling_of machine.now) frame.old frame.new self.old
+            self.new) }
         // This holds for each frame of the same base and seed from which the search may have begun.
         ensures not_beyond { (f : FrameValue) (n : ℕ) → GrowsTo (tiling_of machine.now) f frame.old
             → IsLeastEnough (tiling_of machine.now) f self.old.window n

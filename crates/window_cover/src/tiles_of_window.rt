@@ -1,9 +1,7 @@
 //! Finds the tiles of a window.
-ghost use Rattle.std.specs.Prelude.{◌≡◌, ◌⊎◌, ◌<◌, ◌≤◌, ℕ, All, [], length, map, None, IsOk, Err, IfOk, IfErr, OnOk};
-ghost use Rattle.cyclo_points.specs.Point.{point_in};
+ghost use Rattle.std.specs.Prelude.{◌≡◌, ◌⊎◌, ◌<◌, ◌≤◌, ℕ, All, length, map, IsOk, Err, IfOk, IfErr, OnOk};
 ghost use Rattle.rule_model.specs.Tiling.{tiling_of};
 ghost use Rattle.tile_place.specs.Searched.{placed_in};
-ghost use Rattle.theory_walks.specs.Containing.{first_refused_outward};
 ghost use Rattle.theory_walks.specs.Frames.{IsFrameOf, GrowsTo};
 ghost use Rattle.lazy_walk.specs.Standing.{Stands};
 ghost use Rattle.window_cover.specs.declared.cover_fault.CoverFault.TheVariants.{NoMemory};
@@ -11,7 +9,8 @@ ghost use Rattle.window_cover.specs.Windows.{IsWindow, AreDrawn, CoverWindow, Is
 ghost use Rattle.window_cover.specs.Limits.{IsWithinLimits};
 ghost use Rattle.window_cover.specs.Causes.{HasCause};
 ghost use Rattle.window_cover.specs.InOrder.{AreInOrder};
-ghost use Rattle.window_cover.specs.Right.{IsRight};
+ghost use Rattle.window_cover.specs.Answered.{IsAnswered};
+ghost use Rattle.window_cover.specs.Searched.{HasClosed};
 
 use crate::by_descent::by_descent;
 use crate::cover::{Cover, no_tile};
@@ -147,14 +146,7 @@ fn by_search(
 
     // Exactly the tiles of the frame that meet the window, each exactly once and in its place. The depth is
     // the least that is enough, and the tiles cover the window.
-    ensures drawn { IfOk result (λ tiles. AreDrawn (tiling_of machine.now) frame.new window.now
-        (map (placed_in machine.now.order) tiles)) }
-    ensures stand { IfOk result (λ tiles. All (Stands (tiling_of machine.now) frame.new) tiles) }
-    ensures in_order { IfOk result (λ tiles. AreInOrder tiles) }
-    ensures least { OnOk result (IsLeastEnough (tiling_of machine.now) frame.old window.now
-        (length frame.new.digits)) }
-    ensures covered { IfOk result (λ tiles. CoverWindow (tiling_of machine.now) frame.new window.now
-        (map (placed_in machine.now.order) tiles)) }
+    ensures found { IfOk result (IsAnswered (tiling_of machine.now) frame.old frame.new window.now) }
 
     // Even on an error the frame is no deeper than is enough for the window.
     ensures not_beyond { (n : ℕ) → IsLeastEnough (tiling_of machine.now) frame.old window.now n
@@ -162,7 +154,6 @@ fn by_search(
 
     // The call succeeds if and only if the window is within the limits, unless memory runs out. Each error
     // comes only for its cause.
-    ensures within { OnOk result (IsWithinLimits (tiling_of machine.now) frame.old window.now) }
     ensures answered { IsWithinLimits (tiling_of machine.now) frame.old window.now → (result ≡ Err NoMemory)
         ⊎ IsOk result }
     ensures cause { IfErr result (λ fault. HasCause (tiling_of machine.now) frame.old frame.new window.now
@@ -193,11 +184,7 @@ fn searched<L: Ledger>(
     requires frame { IsFrameOf (tiling_of machine.now) frame.old }
     requires window_fits { IsWindow window.now }
     ensures frame { GrowsTo (tiling_of machine.now) frame.old frame.new }
-    ensures right { IfOk result (λ cover. IsRight (tiling_of machine.now) frame.new cover) }
-    ensures none_open { IfOk result (λ cover. cover.border ≡ []) }
-    ensures its_window { IfOk result (λ cover. cover.window ≡ window.now) }
-    ensures centre_found { OnOk result (first_refused_outward (tiling_of machine.now) frame.old
-        (point_in machine.now.order window.now.centre) ≡ None) }
+    ensures ended { IfOk result (HasClosed (tiling_of machine.now) frame.old frame.new window.now) }
     ensures not_beyond { (n : ℕ) → IsLeastEnough (tiling_of machine.now) frame.old window.now n
         → length frame.new.digits ≤ n }
     ensures answered { IsWithinLimits (tiling_of machine.now) frame.old window.now → (result ≡ Err NoMemory)

@@ -48,19 +48,15 @@ returns-else-mate-from c =
     ∙ lies r c.args.edges.now c.args.wholes.now s (One t) _ (c.in-One.ensures r c.requires.edges_fit c.requires.s_fit) refl
 
 pub returns-in-Many : goal.returns-in-Many
-returns-in-Many c =
-    let r = c.args.rule.now in
-    lies r c.args.edges.now c.args.wholes.now c.args.s.now Many _ (c.in-Many.ensures r c.requires.edges_fit c.requires.s_fit) refl
+returns-in-Many c = lies c.args.rule.now c.args.edges.now c.args.wholes.now c.args.s.now Many _
+    (c.in-Many.ensures c.args.rule.now c.requires.edges_fit c.requires.s_fit) refl
 
 pub returns-in-One-wholes_along : goal.returns-in-One-wholes_along
-returns-in-One-wholes_along c =
-    let r = c.args.rule.now in
-    lies r c.args.edges.now c.args.wholes.now c.args.s.now None (One c.in-One-wholes_along.edge)
-    (c.in-None.ensures r c.requires.edges_fit c.requires.s_fit) c.in-One-wholes_along.ensures
+returns-in-One-wholes_along c = lies c.args.rule.now c.args.edges.now c.args.wholes.now c.args.s.now None (One c.in-One-wholes_along.edge)
+    (c.in-None.ensures c.args.rule.now c.requires.edges_fit c.requires.s_fit) c.in-One-wholes_along.ensures
 
 pub returns-in_default : goal.returns-in_default
 returns-in_default c =
-    let r = c.args.rule.now in
     not_alone c.wholes_along.result c.in_default.not-One
-    ∙ lies r c.args.edges.now c.args.wholes.now c.args.s.now None c.wholes_along.result
-    (c.in-None.ensures r c.requires.edges_fit c.requires.s_fit) c.wholes_along.ensures
+    ∙ lies c.args.rule.now c.args.edges.now c.args.wholes.now c.args.s.now None c.wholes_along.result
+    (c.in-None.ensures c.args.rule.now c.requires.edges_fit c.requires.s_fit) c.wholes_along.ensures

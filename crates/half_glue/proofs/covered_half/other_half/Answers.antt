@@ -1,20 +1,21 @@
-use Rattle.std.proofs.Common.{◌≡◌, ◌<◌, ◌^◌, [], ◌∷◌, length, None, Some, IfSome, sym, ◌∙◌, subst}
+use Rattle.std.proofs.Common.{◌<◌, ◌^◌, [], ◌∷◌, length, None, Some, IfSome, sym, ◌∙◌, subst}
 use Rattle.rule_model.specs.Glue.{IsOnlyGlueEdge}
 use Rattle.rule_model.specs.Tiling.{tiling_of}
 use Rattle.tile_place.specs.declared.placed_tile.PlacedTile.{PlacedTile}
+use Rattle.half_glue.specs.declared.half.Found.TheVariants.{Crossed}
 use Rattle.half_glue.specs.Causes.{HasGlueCause}
-use Rattle.half_glue.specs.Depth.{IsGluedInside, IsTooShallow}
+use Rattle.half_glue.specs.Depth.{IsTooShallow}
 use Rattle.cyclo_points.specs.declared.motion.Motion.{Motion}
 use Rattle.cyclo_points.specs.Order.{points_of}
 use Rattle.cyclo_points.specs.Point.{IsWithin}
-use Rattle.half_glue.specs.Found.{StandsAmong, IsCrossed}
+use Rattle.half_glue.specs.Found.{StandsAmong, IsJoined}
 use Rattle.half_glue.specs.Sides.{IsOtherSide}
 use Rattle.half_glue.specs.Given.{IsGiven}
 use Rattle.half_glue.specs.Limits.{CanBeJoined}
 use Rattle.theory_walks.specs.Ancestors.{full}
 use Rattle.theory_walks.proofs.Outcomes.{if_err-is}
-use Rattle.half_glue.proofs.OtherHalves.{none-inside, none-joined}
-use Rattle.half_glue.proofs.AmongTiles.{kind-is, motion-is, tile-is, own-given, own-kind, own-side, own-only, half-found, half-inside, half-joined}
+use Rattle.half_glue.proofs.OtherHalves.{none-joined}
+use Rattle.half_glue.proofs.AmongTiles.{kind-is, motion-is, tile-is, own-given, own-kind, own-side, own-only, half-joined}
 use Rattle.half_glue.proofs.covered_half.other_half.Goals as goal
 
 pub bounds : goal.bounds
@@ -22,40 +23,24 @@ bounds g c =
     subst (λ k. k < length c.args.sides.now) (sym
     (c.from.ensures ∙ kind-is c.args.tiles.now c.args.number c.requires.below c.kind-kind.result
     c.kind-kind.ensures))
-    (own-kind c.args.machine.now c.glue_laws.ensures c.args.frame.now c.requires.frame c.args.tiles.now
-    c.requires.given c.args.sides.now c.requires.sides c.args.number c.requires.below)
+    (own-kind c.args.machine.now c.glue_laws.ensures c.args.frame.now c.requires.to_glue.frame c.args.tiles.now
+    c.requires.to_glue.given c.args.sides.now c.requires.sides c.args.number c.requires.below)
 
-pub returns-in-None-clause-found : goal.returns-in-None-clause-found
-returns-in-None-clause-found g c = (own-side c.args.machine.now c.glue_laws.ensures c.args.frame.now
-    c.requires.frame c.args.tiles.now c.requires.given c.args.sides.now c.requires.sides c.args.number
-    c.requires.below c.from.result (c.from.ensures
-    ∙ kind-is c.args.tiles.now c.args.number c.requires.below c.kind-kind.result c.kind-kind.ensures) (None)
-    c.in-None.is)
-
-pub returns-in-None-clause-inside : goal.returns-in-None-clause-inside
-returns-in-None-clause-inside g c =
-    none-inside c.args.machine.now c.glue_laws.ensures c.args.frame.now c.requires.frame c.args.tiles.now
-    c.requires.given c.args.sides.now c.requires.sides c.args.number c.requires.below
-    (own-side c.args.machine.now c.glue_laws.ensures c.args.frame.now c.requires.frame c.args.tiles.now
-    c.requires.given c.args.sides.now c.requires.sides c.args.number c.requires.below c.from.result
+pub returns-in-None-clause-joined : goal.returns-in-None-clause-joined
+returns-in-None-clause-joined g c =
+    none-joined c.args.machine.now c.glue_laws.ensures c.args.frame.now c.requires.to_glue.frame c.args.tiles.now
+    c.requires.to_glue.given c.args.sides.now c.requires.sides c.args.number c.requires.below
+    (own-side c.args.machine.now c.glue_laws.ensures c.args.frame.now c.requires.to_glue.frame c.args.tiles.now
+    c.requires.to_glue.given c.args.sides.now c.requires.sides c.args.number c.requires.below c.from.result
     (c.from.ensures ∙ kind-is c.args.tiles.now c.args.number c.requires.below c.kind-kind.result
-    c.kind-kind.ensures) (None) c.in-None.is) (length c.args.frame.now.digits)
-
-pub returns-in-None-clause-can_be_joined : goal.returns-in-None-clause-can_be_joined
-returns-in-None-clause-can_be_joined g c =
-    none-joined c.args.machine.now c.glue_laws.ensures c.args.frame.now c.requires.frame c.args.tiles.now
-    c.requires.given c.args.sides.now c.requires.sides c.args.number c.requires.below
-    (own-side c.args.machine.now c.glue_laws.ensures c.args.frame.now c.requires.frame c.args.tiles.now
-    c.requires.given c.args.sides.now c.requires.sides c.args.number c.requires.below c.from.result
-    (c.from.ensures ∙ kind-is c.args.tiles.now c.args.number c.requires.below c.kind-kind.result
-    c.kind-kind.ensures) (None) c.in-None.is)
+    c.kind-kind.ensures) None c.in-None.is)
 
 pub half_among-requires-clause-other : goal.half_among-requires-clause-other
 half_among-requires-clause-other g c =
     let k = kind-is c.args.tiles.now c.args.number c.requires.below c.kind-kind.result c.kind-kind.ensures in
     subst (λ k. IfSome c.in-Some.side.other (IsOtherSide (tiling_of c.args.machine.now) k c.in-Some.side.edge)) (sym k)
-    (own-side c.args.machine.now c.glue_laws.ensures c.args.frame.now c.requires.frame c.args.tiles.now
-    c.requires.given c.args.sides.now c.requires.sides c.args.number c.requires.below c.from.result
+    (own-side c.args.machine.now c.glue_laws.ensures c.args.frame.now c.requires.to_glue.frame c.args.tiles.now
+    c.requires.to_glue.given c.args.sides.now c.requires.sides c.args.number c.requires.below c.from.result
     (c.from.ensures ∙ kind-is c.args.tiles.now c.args.number c.requires.below c.kind-kind.result
     c.kind-kind.ensures) (Some c.in-Some.side) c.in-Some.is).other
 
@@ -64,49 +49,23 @@ half_among-requires-clause-turn_below g c =
     subst (λ (v : Motion). v.turn < (points_of c.args.machine.now.order).order)
     (sym (motion-is c.args.tiles.now c.args.number c.requires.below c.motion-motion.result
     c.motion-motion.ensures))
-    (own-given c.args.machine.now c.glue_laws.ensures c.args.frame.now c.requires.frame c.args.tiles.now
-    c.requires.given c.args.sides.now c.requires.sides c.args.number c.requires.below).turn_below
+    (own-given c.args.machine.now c.glue_laws.ensures c.args.frame.now c.requires.to_glue.frame c.args.tiles.now
+    c.requires.to_glue.given c.args.sides.now c.requires.sides c.args.number c.requires.below).turn_below
 
 pub half_among-requires-clause-within : goal.half_among-requires-clause-within
 half_among-requires-clause-within g c =
     subst (λ (v : Motion). IsWithin (2 ^ 24) v.shift)
     (sym (motion-is c.args.tiles.now c.args.number c.requires.below c.motion-motion.result
     c.motion-motion.ensures))
-    (own-given c.args.machine.now c.glue_laws.ensures c.args.frame.now c.requires.frame c.args.tiles.now
-    c.requires.given c.args.sides.now c.requires.sides c.args.number c.requires.below).within
+    (own-given c.args.machine.now c.glue_laws.ensures c.args.frame.now c.requires.to_glue.frame c.args.tiles.now
+    c.requires.to_glue.given c.args.sides.now c.requires.sides c.args.number c.requires.below).within
 
-pub returns-in-Some-half_among-clause-found : goal.returns-in-Some-half_among-clause-found
-returns-in-Some-half_among-clause-found g c =
-    half-found c.args.machine.now c.glue_laws.ensures c.args.frame.now c.requires.frame c.args.tiles.now
-    c.requires.given c.args.sides.now c.requires.sides c.args.number c.requires.below c.in-Some.side
-    (own-side c.args.machine.now c.glue_laws.ensures c.args.frame.now c.requires.frame c.args.tiles.now
-    c.requires.given c.args.sides.now c.requires.sides c.args.number c.requires.below c.from.result
-    (c.from.ensures ∙ kind-is c.args.tiles.now c.args.number c.requires.below c.kind-kind.result
-    c.kind-kind.ensures) (Some c.in-Some.side) c.in-Some.is)
-    c.in-Some-half_among.other
-    (subst (λ v. StandsAmong c.args.machine.now.order c.in-Some.side.other v c.args.tiles.now
-    c.in-Some-half_among.other) (motion-is c.args.tiles.now c.args.number c.requires.below
-    c.motion-motion.result c.motion-motion.ensures) c.in-Some-half_among.ensures)
-
-pub returns-in-Some-half_among-clause-inside : goal.returns-in-Some-half_among-clause-inside
-returns-in-Some-half_among-clause-inside g c =
-    half-inside c.args.machine.now c.glue_laws.ensures c.args.frame.now c.requires.frame c.args.tiles.now
-    c.requires.given c.args.sides.now c.requires.sides c.args.number c.requires.below c.in-Some.side
-    (own-side c.args.machine.now c.glue_laws.ensures c.args.frame.now c.requires.frame c.args.tiles.now
-    c.requires.given c.args.sides.now c.requires.sides c.args.number c.requires.below c.from.result
-    (c.from.ensures ∙ kind-is c.args.tiles.now c.args.number c.requires.below c.kind-kind.result
-    c.kind-kind.ensures) (Some c.in-Some.side) c.in-Some.is)
-    c.in-Some-half_among.other
-    (subst (λ v. StandsAmong c.args.machine.now.order c.in-Some.side.other v c.args.tiles.now
-    c.in-Some-half_among.other) (motion-is c.args.tiles.now c.args.number c.requires.below
-    c.motion-motion.result c.motion-motion.ensures) c.in-Some-half_among.ensures)
-
-pub returns-in-Some-half_among-clause-can_be_joined : goal.returns-in-Some-half_among-clause-can_be_joined
-returns-in-Some-half_among-clause-can_be_joined g c =
-    half-joined c.args.machine.now c.glue_laws.ensures c.args.frame.now c.requires.frame c.args.tiles.now
-    c.requires.given c.args.sides.now c.requires.sides c.args.number c.requires.below c.in-Some.side
-    (own-side c.args.machine.now c.glue_laws.ensures c.args.frame.now c.requires.frame c.args.tiles.now
-    c.requires.given c.args.sides.now c.requires.sides c.args.number c.requires.below c.from.result
+pub returns-in-Some-half_among-clause-joined : goal.returns-in-Some-half_among-clause-joined
+returns-in-Some-half_among-clause-joined g c =
+    half-joined c.args.machine.now c.glue_laws.ensures c.args.frame.now c.requires.to_glue.frame c.args.tiles.now
+    c.requires.to_glue.given c.args.sides.now c.requires.sides c.args.number c.requires.below c.in-Some.side
+    (own-side c.args.machine.now c.glue_laws.ensures c.args.frame.now c.requires.to_glue.frame c.args.tiles.now
+    c.requires.to_glue.given c.args.sides.now c.requires.sides c.args.number c.requires.below c.from.result
     (c.from.ensures ∙ kind-is c.args.tiles.now c.args.number c.requires.below c.kind-kind.result
     c.kind-kind.ensures) (Some c.in-Some.side) c.in-Some.is)
     c.in-Some-half_among.other
@@ -117,15 +76,15 @@ returns-in-Some-half_among-clause-can_be_joined g c =
 pub crossed_half-requires-clause-given : goal.crossed_half-requires-clause-given
 crossed_half-requires-clause-given g c = subst (IsGiven (tiling_of c.args.machine.now) c.args.frame.now)
     (tile-is c.args.tiles.now c.args.number c.requires.below c.tile-tile.result c.tile-tile.ensures)
-    (own-given c.args.machine.now c.glue_laws.ensures c.args.frame.now c.requires.frame c.args.tiles.now
-    c.requires.given c.args.sides.now c.requires.sides c.args.number c.requires.below)
+    (own-given c.args.machine.now c.glue_laws.ensures c.args.frame.now c.requires.to_glue.frame c.args.tiles.now
+    c.requires.to_glue.given c.args.sides.now c.requires.sides c.args.number c.requires.below)
 
 pub crossed_half-requires-clause-glue_edge : goal.crossed_half-requires-clause-glue_edge
 crossed_half-requires-clause-glue_edge g c =
     subst (λ (x : PlacedTile). IsOnlyGlueEdge (tiling_of c.args.machine.now).rule x.kind c.in-Some.side.edge)
     (tile-is c.args.tiles.now c.args.number c.requires.below c.tile-tile.result c.tile-tile.ensures)
-    (own-only c.args.machine.now c.glue_laws.ensures c.args.frame.now c.requires.frame c.args.tiles.now
-    c.requires.given c.args.sides.now c.requires.sides c.args.number c.requires.below c.from.result
+    (own-only c.args.machine.now c.glue_laws.ensures c.args.frame.now c.requires.to_glue.frame c.args.tiles.now
+    c.requires.to_glue.given c.args.sides.now c.requires.sides c.args.number c.requires.below c.from.result
     (c.from.ensures ∙ kind-is c.args.tiles.now c.args.number c.requires.below c.kind-kind.result
     c.kind-kind.ensures) c.in-Some.side c.in-Some.is)
 
@@ -151,24 +110,16 @@ returns-in_err-other-clause-cause g c =
     (sym (tile-is c.args.tiles.now c.args.number c.requires.below c.tile-tile.result c.tile-tile.ensures))
     c.in_err-other.ensures.cause)
 
-pub returns-clause-found : goal.returns-clause-found
-returns-clause-found g c =
-    subst (λ (x : PlacedTile). IsCrossed (tiling_of c.args.machine.now) c.crossed_half.new.frame x
-    c.in_ok-other.other) (sym (tile-is c.args.tiles.now c.args.number c.requires.below c.tile-tile.result
-    c.tile-tile.ensures)) c.in_ok-other.ensures.crossed
-
-pub returns-clause-inside : goal.returns-clause-inside
-returns-clause-inside g c =
-    subst (IsGluedInside (tiling_of c.args.machine.now) c.args.frame.now
-    (length c.crossed_half.new.frame.digits))
+pub returns-clause-joined : goal.returns-clause-joined
+returns-clause-joined g c =
+    subst (λ (x : PlacedTile). IsJoined (tiling_of c.args.machine.now) c.args.frame.now c.crossed_half.new.frame c.args.tiles.now
+    x (Crossed c.in_ok-other.other))
     (sym (tile-is c.args.tiles.now c.args.number c.requires.below c.tile-tile.result c.tile-tile.ensures))
-    c.in_ok-other.ensures.inside
-
-pub returns-clause-can_be_joined : goal.returns-clause-can_be_joined
-returns-clause-can_be_joined g c =
-    subst (CanBeJoined (tiling_of c.args.machine.now) (full (tiling_of c.args.machine.now) c.args.frame.now))
-    (sym (tile-is c.args.tiles.now c.args.number c.requires.below c.tile-tile.result c.tile-tile.ensures))
-    c.in_ok-other.ensures.can_be_joined
+    (record {
+      found = c.in_ok-other.ensures.crossed;
+      inside = c.in_ok-other.ensures.inside;
+      can_be_joined = c.in_ok-other.ensures.can_be_joined;
+    })
 
 pub returns-clause-least : goal.returns-clause-least
 returns-clause-least g c = λ n l h.

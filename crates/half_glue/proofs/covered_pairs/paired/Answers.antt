@@ -1,4 +1,5 @@
 use Rattle.std.proofs.Common.{◌+◌, ◌<◌, ◌≤◌, ◌∙◌, [], All, List, ◌++◌, length, sym, ap, subst, arith, take_all, append_assoc}
+use Rattle.std.specs.List.{Contains}
 use Rattle.std.proofs.lemmas.List.{get_or_default}
 use Rattle.std.proofs.lemmas.List.Elements.{All-nil}
 use Rattle.rule_model.specs.Tiling.{tiling_of}
@@ -15,26 +16,32 @@ use Rattle.theory_walks.proofs.Outcomes.{if_err-is}
 use Rattle.theory_walks.proofs.Walks.{GrowsTo-self}
 use Rattle.half_glue.proofs.SettledTiles.{left-behind, cause-of, one-more}
 use Rattle.half_glue.proofs.Taking.{ArePaired, all-on, paired-on, taken-too, taken-before, all-paired}
+use Rattle.half_glue.proofs.covered_pairs.paired.Given.{Over}
+use Rattle.half_glue.proofs.covered_pairs.paired.Goals.{After-index}
 use Rattle.half_glue.proofs.covered_pairs.paired.Goals as goal
 
-pub other_half-requires-clause-given : goal.other_half-requires-clause-given
-other_half-requires-clause-given g c =
-    all-on c.args.machine.now c.glue_laws.ensures c.args.frame.now c.loop-number.frame c.requires.frame
-    c.loop-number.invariant.0.grows c.args.tiles.now c.requires.given
+-- the number is that of a tile
+below-count : (g : Over) (c : After-index g) → c.loop-number.number < length c.args.tiles.now
+below-count g c = subst (λ n. c.loop-number.number < n) c.len-count.ensures c.loop-number-test.true
+
+its-tile : (g : Over) (c : After-index g) → Contains c.args.tiles.now (tile_of c.args.tiles.now c.loop-number.number)
+its-tile g c =
+    let i = c.loop-number.number in
+    (i, below-count g c, get_or_default c.args.tiles.now i (tile_of c.args.tiles.now i) no_tile (below-count g c))
+
+pub other_half-requires-clause-to_glue : goal.other_half-requires-clause-to_glue
+other_half-requires-clause-to_glue g c = record {
+  frame = c.loop-number.invariant.0.grows.is_frame;
+  few = c.requires.to_glue.few;
+  given = all-on c.args.machine.now c.glue_laws.ensures c.args.frame.now c.loop-number.frame c.requires.to_glue.frame
+      c.loop-number.invariant.0.grows c.args.tiles.now c.requires.to_glue.given;
+}
 
 pub returns-in_err-found-clause-cause : goal.returns-in_err-found-clause-cause
 returns-in_err-found-clause-cause g c =
-    let tiles : List PlacedTile = c.args.tiles.now in
-    let i = c.loop-number.number in
-    let x = tile_of tiles i in
     if_err-is _ c.from_residual-in_err-found.result c.in_err-found.field-0.0 c.from_residual-in_err-found.ensures.1
     (cause-of (tiling_of c.args.machine.now) c.args.frame.now c.loop-number.frame
-    c.loop-number.invariant.0.grows tiles x (
-      i,
-      (subst (λ n. c.loop-number.number < n) c.len-count.ensures c.loop-number-test.true),
-      get_or_default
-          tiles i x no_tile (subst (λ n. c.loop-number.number < n) c.len-count.ensures c.loop-number-test.true),
-    )
+    c.loop-number.invariant.0.grows c.args.tiles.now _ (its-tile g ((goal.at.returns-in_err-found-clause-cause g c).After-index))
     c.other_half.new.frame c.in_err-found.field-0.0 c.in_err-found.ensures.cause)
 
 pub loop-number-preserved : goal.loop-number-preserved
@@ -47,19 +54,19 @@ loop-number-preserved g c =
     let tiles : List PlacedTile = c.args.tiles.now in
     let inner : List Pair = c.in_ok-inner.inner.items in
     let i = c.loop-number.number in
-    let below = (subst (λ n. c.loop-number.number < n) c.len-count.ensures c.loop-number-test.true) in
+    let below = below-count g ((goal.at.loop-number-preserved g c).After-index) in
     let x = tile_of tiles i in
     let settled = c.loop-number.invariant.0 in
     let up = c.in_ok-found.ensures.frame in
-    let all_now = all-on c.args.machine.now L old now c.requires.frame settled.grows tiles c.requires.given in
+    let all_now = all-on c.args.machine.now L old now c.requires.to_glue.frame settled.grows tiles c.requires.to_glue.given in
     let all_after = all-on c.args.machine.now L now after settled.grows.is_frame up tiles all_now in
     let paired = paired-on c.args.machine.now L now after settled.grows.is_frame up tiles (length inner) i
     c.loop-number.outer.crossed.items (inner ++ c.loop-number.outer.pairs.items) (omega (arith, below))
     all_now c.loop-number.invariant.1 in
     let more : List Pair = added_pairs tiles i (length c.loop-number.outer.crossed.items) c.in_ok-found.found in (
-      one-more c.args.machine.now L old now c.requires.frame tiles c.requires.given i below x
-          (get_or_default tiles i x no_tile below) settled after up c.in_ok-found.ensures.inside
-          c.in_ok-found.ensures.can_be_joined c.in_ok-found.ensures.least,
+      one-more c.args.machine.now L old now c.requires.to_glue.frame tiles c.requires.to_glue.given i below x
+          (get_or_default tiles i x no_tile below) settled after up c.in_ok-found.ensures.joined.inside
+          c.in_ok-found.ensures.joined.can_be_joined c.in_ok-found.ensures.least,
       subst (λ (ps : List Pair). ArePaired t after tiles (length inner) (i + 1)
           c.put_covered.new.made.crossed.items ps)
           (sym (ap (λ (ps : List Pair). inner ++ ps) c.in_ok-put_covered.ensures.pairs
@@ -68,7 +75,7 @@ loop-number-preserved g c =
           ((inner ++ c.loop-number.outer.pairs.items) ++ more)) (sym c.in_ok-put_covered.ensures.crossed)
           (taken-too t after tiles (length inner) i below c.loop-number.outer.crossed.items
           (inner ++ c.loop-number.outer.pairs.items) all_after paired c.in_ok-found.found
-          c.in_ok-found.ensures.found)),
+          c.in_ok-found.ensures.joined.found)),
     )
 
 pub returns-clause-paired : goal.returns-clause-paired
@@ -98,38 +105,22 @@ returns-clause-within g c =
 
 pub returns-in_err-found-clause-not_beyond : goal.returns-in_err-found-clause-not_beyond
 returns-in_err-found-clause-not_beyond g c =
-    let tiles : List PlacedTile = c.args.tiles.now in
-    let i = c.loop-number.number in
-    let x = tile_of tiles i in
-    let settled = c.loop-number.invariant.0 in
-    left-behind (tiling_of c.args.machine.now) c.args.frame.now c.loop-number.frame settled.grows tiles x (
-      i,
-      (subst (λ n. c.loop-number.number < n) c.len-count.ensures c.loop-number-test.true),
-      get_or_default tiles i x no_tile (subst (λ n. c.loop-number.number < n) c.len-count.ensures
-          c.loop-number-test.true),
-    )
-    settled.least c.other_half.new.frame c.in_err-found.ensures.least
+    left-behind (tiling_of c.args.machine.now) c.args.frame.now c.loop-number.frame c.loop-number.invariant.0.grows
+    c.args.tiles.now _ (its-tile g ((goal.at.returns-in_err-found-clause-not_beyond g c).After-index))
+    c.loop-number.invariant.0.least c.other_half.new.frame c.in_err-found.ensures.least
 
 pub returns-in_err-put_covered-clause-not_beyond : goal.returns-in_err-put_covered-clause-not_beyond
 returns-in_err-put_covered-clause-not_beyond g c =
-    let tiles : List PlacedTile = c.args.tiles.now in
-    let i = c.loop-number.number in
-    let x = tile_of tiles i in
-    let settled = c.loop-number.invariant.0 in
-    left-behind (tiling_of c.args.machine.now) c.args.frame.now c.loop-number.frame settled.grows tiles x (
-      i,
-      (subst (λ n. c.loop-number.number < n) c.len-count.ensures c.loop-number-test.true),
-      get_or_default tiles i x no_tile (subst (λ n. c.loop-number.number < n) c.len-count.ensures
-          c.loop-number-test.true),
-    )
-    settled.least c.other_half.new.frame c.in_ok-found.ensures.least
+    left-behind (tiling_of c.args.machine.now) c.args.frame.now c.loop-number.frame c.loop-number.invariant.0.grows
+    c.args.tiles.now _ (its-tile g ((goal.at.returns-in_err-put_covered-clause-not_beyond g c).After-index))
+    c.loop-number.invariant.0.least c.other_half.new.frame c.in_ok-found.ensures.least
 
 pub returns-clause-not_beyond : goal.returns-clause-not_beyond
 returns-clause-not_beyond g c = c.loop-number.invariant.0.least
 
 pub inner_pairs-requires-clause-placed : goal.inner_pairs-requires-clause-placed
 inner_pairs-requires-clause-placed g c = are-placed c.args.machine.now c.glue_laws.ensures c.args.frame.now
-    c.requires.frame c.args.tiles.now c.requires.given
+    c.requires.to_glue.frame c.args.tiles.now c.requires.to_glue.given
 
 pub loop-number-init : goal.loop-number-init
 loop-number-init g c =
@@ -138,16 +129,16 @@ loop-number-init g c =
     let tiles : List PlacedTile = c.args.tiles.now in
     let inner : List Pair = c.in_ok-inner.inner.items in (
       record {
-        grows = GrowsTo-self t f c.requires.frame;
+        grows = GrowsTo-self t f c.requires.to_glue.frame;
         inside = All-nil (IsGluedInside t f (length f.digits));
         joined = All-nil (CanBeJoined t (full t f));
         least = λ k l h. absurd (omega (arith, l, h));
       },
       subst (λ (xs : List PlacedTile). ArePaired t f tiles (length inner) 0 xs (inner ++ c.new-2.result.items)) (sym c.new-3.ensures.items)
           (subst (λ (ps : List Pair). ArePaired t f tiles (length inner) 0 [] (inner ++ ps)) (sym c.new-2.ensures.items)
-          (none-crossed c.args.machine.now c.glue_laws.ensures f c.requires.frame tiles inner
-          c.inner_pairs.new.taken (c.in_ok-inner.ensures.inner f c.requires.frame c.requires.given)
-          c.requires.given)),
+          (none-crossed c.args.machine.now c.glue_laws.ensures f c.requires.to_glue.frame tiles inner
+          c.inner_pairs.new.taken (c.in_ok-inner.ensures.inner f c.requires.to_glue.frame c.requires.to_glue.given)
+          c.requires.to_glue.given)),
     )
 
 pub loop-number-preserved-then-index : goal.loop-number-preserved-then-index
@@ -161,7 +152,7 @@ loop-number-preserved-then-index g c =
     let outer : List Pair = c.loop-number.outer.pairs.items in
     let crossed : List PlacedTile = c.loop-number.outer.crossed.items in
     let i = c.loop-number.number in
-    let below : i < length tiles = subst (λ n. c.loop-number.number < n) c.len-count.ensures c.loop-number-test.true in
+    let below = below-count g ((goal.at.loop-number-preserved-then-index g c).After-index) in
     let x = tile_of tiles i in
     let settled = c.loop-number.invariant.0 in
     let is = settled.grows.is_frame in
@@ -171,9 +162,10 @@ loop-number-preserved-then-index g c =
     let room : i < c.in_ok-taken.taken.len = omega (arith, long, c.loop-number-test.true) in
     let inside : i < length marks = omega (arith, many, below) in
     let set = read-mark c.in_ok-taken.taken.len marks _ i _ c.index.result.now c.index.ensures room inside c.if-index.true in
-    let h = c.in_ok-inner.ensures.inner now is (all-on c.args.machine.now L old now c.requires.frame settled.grows tiles c.requires.given) in
+    let h = c.in_ok-inner.ensures.inner now is (all-on c.args.machine.now L old now c.requires.to_glue.frame settled.grows
+    tiles c.requires.to_glue.given) in
     let own = taken-settled c.args.machine.now L now is tiles inner marks h i set in (
-      one-more c.args.machine.now L old now c.requires.frame tiles c.requires.given i below x
+      one-more c.args.machine.now L old now c.requires.to_glue.frame tiles c.requires.to_glue.given i below x
           (get_or_default tiles i x no_tile below) settled now (GrowsTo-self t now is) own.0 own.1
           (λ n l k. absurd (omega (arith, l, k))),
       taken-before t now tiles (length inner) i crossed (inner ++ outer) c.loop-number.invariant.1
@@ -183,10 +175,7 @@ loop-number-preserved-then-index g c =
 pub returns-in_err-found-clause-answered : goal.returns-in_err-found-clause-answered
 returns-in_err-found-clause-answered g c = λ can.
     let t = tiling_of c.args.machine.now in
-    let tiles : List PlacedTile = c.args.tiles.now in
-    let i = c.loop-number.number in
-    let below : i < length tiles = subst (λ n. i < n) c.len-count.ensures c.loop-number-test.true in
     absurd (cc (c.in_err-found.ensures.answered
-    (subst (λ y. CanBeJoined t y (tile_of tiles i))
+    (subst (λ y. CanBeJoined t y (tile_of c.args.tiles.now c.loop-number.number))
     (sym (full-later t c.args.frame.now c.loop-number.frame c.loop-number.invariant.0.grows))
-    (can i no_tile below))))
+    (can c.loop-number.number no_tile (below-count g ((goal.at.returns-in_err-found-clause-answered g c).After-index))))))

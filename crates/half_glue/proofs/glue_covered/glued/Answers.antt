@@ -7,12 +7,14 @@ use Rattle.half_glue.specs.Merged.{ArePairsInOrder, AreMerged}
 use Rattle.half_glue.specs.Pairs.{ArePresent}
 use Rattle.half_glue.proofs.MergedWholes.{all-left, all-right, wholes-order, order-wholes, merged-arranged, merged-all}
 use Rattle.half_glue.proofs.Wholes.{all-keyed, all-no_deeper, are-wholes}
+use Rattle.half_glue.proofs.glue_covered.glued.Given.{Over}
+use Rattle.half_glue.proofs.glue_covered.glued.Goals.{In_ok-pairs}
 use Rattle.half_glue.proofs.glue_covered.glued.Goals as goal
 
 pub ordered-requires-clause-few : goal.ordered-requires-clause-few
 ordered-requires-clause-few g c =
     let l = c.in_ok-made.ensures.paired.few in
-    let k = c.requires.few in
+    let k = c.requires.to_glue.few in
     let both = length-append c.in_ok-made.made.inner.items c.in_ok-made.made.outer.pairs.items in
     omega (arith, l, k, both)
 
@@ -48,53 +50,45 @@ merged-requires-clause-outer_in_order g c =
     (subst (λ (xs : List PlacedTile). ArePairsInOrder (c.args.tiles.now ++ xs) sorted) (sym c.as_slice.ensures.value)
     (wholes-order f (c.args.tiles.now ++ crossed) sorted (c.in_ok-sorted.ensures.in_order f)))
 
-pub returns-clause-can_be : goal.returns-clause-can_be
-returns-clause-can_be g c =
+-- the pairs found without a crossing, and the others in order, were merged
+merged-are : (g : Over) (c : In_ok-pairs g) → AreMerged (c.args.tiles.now ++ c.in_ok-made.made.outer.crossed.items) c.in_ok-made.made.inner.items
+    c.in_ok-sorted.sorted.items c.in_ok-pairs.pairs.items
+merged-are g c =
     let tiles : List PlacedTile = c.args.tiles.now in
-    let crossed : List PlacedTile = c.in_ok-made.made.outer.crossed.items in
     let inner : List Pair = c.in_ok-made.made.inner.items in
-    let outer : List Pair = c.in_ok-made.made.outer.pairs.items in
     let sorted : List Pair = c.in_ok-sorted.sorted.items in
     let pairs : List Pair = c.in_ok-pairs.pairs.items in
-    let are : AreMerged (tiles ++ crossed) inner sorted pairs =
     subst (λ (xs : List PlacedTile). AreMerged (tiles ++ xs) inner sorted pairs) c.as_slice.ensures.value
     (subst (λ (ps : List Pair). AreMerged (tiles ++ c.as_slice.result.now) ps sorted pairs) c.as_slice-2.ensures.value
     (subst (λ (ps : List Pair). AreMerged (tiles ++ c.as_slice.result.now) c.as_slice-2.result.now ps pairs)
-    c.as_slice-3.ensures.value c.in_ok-pairs.ensures)) in
-    record {
-      present = merged-all (ArePresent (length (tiles ++ crossed))) (tiles ++ crossed) inner sorted pairs
-          (all-left (ArePresent (length (tiles ++ crossed))) inner outer c.in_ok-made.ensures.paired.present) c.in_ok-sorted.ensures.numbered are;
-      no_deeper = all-no_deeper c.args.machine.now c.glue_laws.ensures c.paired.new.frame
-          c.in_ok-made.ensures.frame.is_frame tiles crossed (inner ++ outer) c.in_ok-made.ensures.paired;
-    }
+    c.as_slice-3.ensures.value c.in_ok-pairs.ensures))
 
-pub returns-clause-whole_tiles : goal.returns-clause-whole_tiles
-returns-clause-whole_tiles g c =
-    let tiles : List PlacedTile = c.args.tiles.now in
-    let crossed : List PlacedTile = c.in_ok-made.made.outer.crossed.items in
-    let inner : List Pair = c.in_ok-made.made.inner.items in
-    let outer : List Pair = c.in_ok-made.made.outer.pairs.items in
-    let sorted : List Pair = c.in_ok-sorted.sorted.items in
-    let pairs : List Pair = c.in_ok-pairs.pairs.items in
+pub returns-clause-glued : goal.returns-clause-glued
+returns-clause-glued g c =
+    let m = c.args.machine.now in
+    let L = c.glue_laws.ensures in
     let f = c.paired.new.frame in
-    let are : AreMerged (tiles ++ crossed) inner sorted pairs =
-    subst (λ (xs : List PlacedTile). AreMerged (tiles ++ xs) inner sorted pairs) c.as_slice.ensures.value
-    (subst (λ (ps : List Pair). AreMerged (tiles ++ c.as_slice.result.now) ps sorted pairs) c.as_slice-2.ensures.value
-    (subst (λ (ps : List Pair). AreMerged (tiles ++ c.as_slice.result.now) c.as_slice-2.result.now ps pairs)
-    c.as_slice-3.ensures.value c.in_ok-pairs.ensures)) in
-    are-wholes c.args.machine.now c.glue_laws.ensures f c.in_ok-made.ensures.frame.is_frame tiles crossed (inner ++ outer) c.in_ok-made.ensures.paired
-    (wholes_of f (tiles ++ crossed) pairs) (merged-arranged f (tiles ++ crossed) inner outer sorted pairs (c.in_ok-sorted.ensures.same f) are)
-
-pub returns-clause-in_order : goal.returns-clause-in_order
-returns-clause-in_order g c =
+    let is = c.in_ok-made.ensures.frame.is_frame in
+    let made = c.in_ok-made.ensures.paired in
     let tiles : List PlacedTile = c.args.tiles.now in
     let crossed : List PlacedTile = c.in_ok-made.made.outer.crossed.items in
     let inner : List Pair = c.in_ok-made.made.inner.items in
+    let outer : List Pair = c.in_ok-made.made.outer.pairs.items in
     let sorted : List Pair = c.in_ok-sorted.sorted.items in
     let pairs : List Pair = c.in_ok-pairs.pairs.items in
-    let are : AreMerged (tiles ++ crossed) inner sorted pairs =
-    subst (λ (xs : List PlacedTile). AreMerged (tiles ++ xs) inner sorted pairs) c.as_slice.ensures.value
-    (subst (λ (ps : List Pair). AreMerged (tiles ++ c.as_slice.result.now) ps sorted pairs) c.as_slice-2.ensures.value
-    (subst (λ (ps : List Pair). AreMerged (tiles ++ c.as_slice.result.now) c.as_slice-2.result.now ps pairs)
-    c.as_slice-3.ensures.value c.in_ok-pairs.ensures)) in
-    order-wholes c.paired.new.frame (tiles ++ crossed) pairs are.in_order
+    let are : AreMerged (tiles ++ crossed) inner sorted pairs = merged-are g ((goal.at.returns-clause-glued g c).In_ok-pairs) in
+    let IsThere : Pair → Type 0 = ArePresent (length (tiles ++ crossed)) in
+    record {
+      can_be = record {
+        present = merged-all IsThere (tiles ++ crossed) inner sorted pairs (all-left IsThere inner outer made.present)
+            c.in_ok-sorted.ensures.numbered are;
+        no_deeper = all-no_deeper m L f is tiles crossed (inner ++ outer) made;
+      };
+      glued = record {
+        whole_tiles = are-wholes m L f is tiles crossed (inner ++ outer) made (wholes_of f (tiles ++ crossed) pairs)
+            (merged-arranged f (tiles ++ crossed) inner outer sorted pairs (c.in_ok-sorted.ensures.same f) are);
+        in_order = order-wholes f (tiles ++ crossed) pairs are.in_order;
+        least = c.in_ok-made.ensures.least;
+        within = c.in_ok-made.ensures.within;
+      };
+    }

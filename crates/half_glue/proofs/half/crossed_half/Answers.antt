@@ -9,7 +9,7 @@ use Rattle.theory_walks.specs.Frames.{whole, lifted_at}
 use Rattle.half_glue.specs.declared.glue_fault.GlueFault.TheVariants.{DepthLimit}
 use Rattle.half_glue.proofs.Across.{glue-edge-there}
 use Rattle.theory_walks.proofs.Outcomes.{if_err-is}
-use Rattle.half_glue.proofs.Settling.{the-one, given-on, settled-inside, settled-joined, crossed-glued, not-refused, refused-shift}
+use Rattle.half_glue.proofs.Settling.{the-one, alone-shallow, given-on, settled-inside, settled-joined, crossed-glued, not-refused, refused-shift}
 use Rattle.half_glue.proofs.half.crossed_half.Goals as goal
 
 pub cross_grow_in_place-requires-clause-edge_exists : goal.cross_grow_in_place-requires-clause-edge_exists
@@ -20,16 +20,8 @@ cross_grow_in_place-requires-clause-edge_exists g c =
     c.requires.glue_edge.glue_edge)
 
 pub returns-in_err-back-clause-least : goal.returns-in_err-back-clause-least
-returns-in_err-back-clause-least g c = λ n l h.
-    let t = tiling_of c.args.machine.now in
-    record {
-      tile = c.args.tile.now;
-      edge = c.args.edge;
-      is_given = the-one c.args.tile.now;
-      glue_edge = c.requires.glue_edge.glue_edge;
-      on_boundary = subst (λ a. IsBoundaryEdge t (lifted_at t c.args.frame.now a n) c.args.edge)
-          c.copy-across.ensures.seen (c.in_err-back.ensures.least n l h);
-    }
+returns-in_err-back-clause-least g c = λ n l h. alone-shallow (tiling_of c.args.machine.now) c.args.frame.now c.args.tile.now c.args.edge n
+    c.requires.glue_edge.glue_edge _ c.copy-across.ensures.seen (c.in_err-back.ensures.least n l h)
 
 pub returns-in_err-back-clause-cause : goal.returns-in_err-back-clause-cause
 returns-in_err-back-clause-cause g c =
@@ -60,16 +52,8 @@ placed_beside-other-requires-clause-only_tile_across g c =
     c.in_ok-back.ensures.crossed.only_tile_across
 
 pub returns-then-refused-clause-least : goal.returns-then-refused-clause-least
-returns-then-refused-clause-least g c = λ n l h.
-    let t = tiling_of c.args.machine.now in
-    record {
-      tile = c.args.tile.now;
-      edge = c.args.edge;
-      is_given = the-one c.args.tile.now;
-      glue_edge = c.requires.glue_edge.glue_edge;
-      on_boundary = subst (λ a. IsBoundaryEdge t (lifted_at t c.args.frame.now a n) c.args.edge)
-          c.copy-across.ensures.seen (c.in_ok-back.ensures.least n l h);
-    }
+returns-then-refused-clause-least g c = λ n l h. alone-shallow (tiling_of c.args.machine.now) c.args.frame.now c.args.tile.now c.args.edge n
+    c.requires.glue_edge.glue_edge _ c.copy-across.ensures.seen (c.in_ok-back.ensures.least n l h)
 
 pub returns-then-refused-clause-answered : goal.returns-then-refused-clause-answered
 returns-then-refused-clause-answered g c = λ can.
@@ -118,13 +102,5 @@ returns-clause-can_be_joined g c =
     c.requires.given now c.in_ok-back.ensures.frame c.placed_beside-other.result h.0 h.1
 
 pub returns-clause-least : goal.returns-clause-least
-returns-clause-least g c = λ n l h.
-    let t = tiling_of c.args.machine.now in
-    record {
-      tile = c.args.tile.now;
-      edge = c.args.edge;
-      is_given = the-one c.args.tile.now;
-      glue_edge = c.requires.glue_edge.glue_edge;
-      on_boundary = subst (λ a. IsBoundaryEdge t (lifted_at t c.args.frame.now a n) c.args.edge)
-          c.copy-across.ensures.seen (c.in_ok-back.ensures.least n l h);
-    }
+returns-clause-least g c = λ n l h. alone-shallow (tiling_of c.args.machine.now) c.args.frame.now c.args.tile.now c.args.edge n
+    c.requires.glue_edge.glue_edge _ c.copy-across.ensures.seen (c.in_ok-back.ensures.least n l h)

@@ -1,11 +1,12 @@
 use Rattle.std.proofs.Common.{◌<◌, [], ◌∷◌, length, None, Some, sym, subst}
 use Rattle.rule_model.specs.Tiling.{tiling_of}
 use Rattle.tile_place.specs.declared.placed_tile.PlacedTile.{PlacedTile}
+use Rattle.half_glue.specs.declared.half.Found.TheVariants.{Crossed}
 use Rattle.half_glue.specs.Causes.{HasGlueCause}
-use Rattle.half_glue.specs.Depth.{IsGluedInside, IsTooShallow}
-use Rattle.half_glue.specs.Found.{StandsBeside}
+use Rattle.half_glue.specs.Depth.{IsTooShallow}
+use Rattle.half_glue.specs.Found.{StandsBeside, IsJoined}
 use Rattle.theory_walks.proofs.Outcomes.{if_err-is}
-use Rattle.half_glue.proofs.OtherHalves.{same-tile, kind-there, read-given, side-of, only-of, none-inside, none-joined, given-found, given-inside, given-joined}
+use Rattle.half_glue.proofs.OtherHalves.{same-tile, kind-there, read-given, side-of, only-of, none-joined, given-joined}
 use Rattle.half_glue.proofs.half.other_half.Goals as goal
 
 pub bounds : goal.bounds
@@ -15,24 +16,8 @@ bounds g c =
     c.requires.given c.args.sides.now c.requires.sides c.args.number c.requires.below
     c.index-tiles-number.result c.index-tiles-number.is)
 
-pub returns-in-None-clause-found : goal.returns-in-None-clause-found
-returns-in-None-clause-found g c =
-    side-of c.args.machine.now c.glue_laws.ensures c.args.frame.now c.requires.frame c.args.tiles.now
-    c.requires.given c.args.sides.now c.requires.sides c.args.number c.requires.below
-    c.index-tiles-number.result c.index-tiles-number.is
-    c.from.result c.from.ensures None c.in-None.is
-
-pub returns-in-None-clause-inside : goal.returns-in-None-clause-inside
-returns-in-None-clause-inside g c =
-    none-inside c.args.machine.now c.glue_laws.ensures c.args.frame.now c.requires.frame c.args.tiles.now
-    c.requires.given c.args.sides.now c.requires.sides c.args.number c.requires.below
-    (side-of c.args.machine.now c.glue_laws.ensures c.args.frame.now c.requires.frame c.args.tiles.now
-    c.requires.given c.args.sides.now c.requires.sides c.args.number c.requires.below
-    c.index-tiles-number.result c.index-tiles-number.is
-    c.from.result c.from.ensures None c.in-None.is) (length c.args.frame.now.digits)
-
-pub returns-in-None-clause-can_be_joined : goal.returns-in-None-clause-can_be_joined
-returns-in-None-clause-can_be_joined g c =
+pub returns-in-None-clause-joined : goal.returns-in-None-clause-joined
+returns-in-None-clause-joined g c =
     none-joined c.args.machine.now c.glue_laws.ensures c.args.frame.now c.requires.frame c.args.tiles.now
     c.requires.given c.args.sides.now c.requires.sides c.args.number c.requires.below
     (side-of c.args.machine.now c.glue_laws.ensures c.args.frame.now c.requires.frame c.args.tiles.now
@@ -40,41 +25,11 @@ returns-in-None-clause-can_be_joined g c =
     c.index-tiles-number.result c.index-tiles-number.is
     c.from.result c.from.ensures None c.in-None.is)
 
-pub returns-in-Some-given_half-clause-found : goal.returns-in-Some-given_half-clause-found
-returns-in-Some-given_half-clause-found g c =
-    given-found c.args.machine.now c.glue_laws.ensures c.args.frame.now c.requires.frame c.args.tiles.now
-    c.requires.given c.args.sides.now c.requires.sides c.args.number c.requires.below c.args.keys.now
-    c.requires.keys c.in-Some.side
-    (side-of c.args.machine.now c.glue_laws.ensures c.args.frame.now c.requires.frame c.args.tiles.now
-    c.requires.given c.args.sides.now c.requires.sides c.args.number c.requires.below
-    c.index-tiles-number.result c.index-tiles-number.is
-    c.from.result c.from.ensures (Some c.in-Some.side) c.in-Some.is)
-    c.in-Some-given_half.other
-    (subst (λ (x : PlacedTile). StandsBeside c.args.machine.now.order c.in-Some.side.other x.motion c.args.keys.now c.in-Some-given_half.other)
-    (same-tile c.args.machine.now c.glue_laws.ensures c.args.frame.now c.requires.frame c.args.tiles.now
-    c.requires.given c.args.sides.now c.requires.sides c.args.number c.requires.below
-    c.index-tiles-number.result c.index-tiles-number.is) c.in-Some-given_half.ensures)
-
-pub returns-in-Some-given_half-clause-inside : goal.returns-in-Some-given_half-clause-inside
-returns-in-Some-given_half-clause-inside g c =
-    given-inside c.args.machine.now c.glue_laws.ensures c.args.frame.now c.requires.frame c.args.tiles.now
-    c.requires.given c.args.sides.now c.requires.sides c.args.number c.requires.below c.args.keys.now
-    c.requires.keys c.in-Some.side
-    (side-of c.args.machine.now c.glue_laws.ensures c.args.frame.now c.requires.frame c.args.tiles.now
-    c.requires.given c.args.sides.now c.requires.sides c.args.number c.requires.below
-    c.index-tiles-number.result c.index-tiles-number.is
-    c.from.result c.from.ensures (Some c.in-Some.side) c.in-Some.is)
-    c.in-Some-given_half.other
-    (subst (λ (x : PlacedTile). StandsBeside c.args.machine.now.order c.in-Some.side.other x.motion c.args.keys.now c.in-Some-given_half.other)
-    (same-tile c.args.machine.now c.glue_laws.ensures c.args.frame.now c.requires.frame c.args.tiles.now
-    c.requires.given c.args.sides.now c.requires.sides c.args.number c.requires.below
-    c.index-tiles-number.result c.index-tiles-number.is) c.in-Some-given_half.ensures)
-
-pub returns-in-Some-given_half-clause-can_be_joined : goal.returns-in-Some-given_half-clause-can_be_joined
-returns-in-Some-given_half-clause-can_be_joined g c =
+pub returns-in-Some-given_half-clause-joined : goal.returns-in-Some-given_half-clause-joined
+returns-in-Some-given_half-clause-joined g c =
     given-joined c.args.machine.now c.glue_laws.ensures c.args.frame.now c.requires.frame c.args.tiles.now
-    c.requires.given c.args.sides.now c.requires.sides c.args.number c.requires.below c.args.keys.now
-    c.requires.keys c.in-Some.side
+    c.requires.given c.args.sides.now c.requires.sides c.args.number c.requires.below
+    c.args.keys.now c.requires.keys c.in-Some.side
     (side-of c.args.machine.now c.glue_laws.ensures c.args.frame.now c.requires.frame c.args.tiles.now
     c.requires.given c.args.sides.now c.requires.sides c.args.number c.requires.below
     c.index-tiles-number.result c.index-tiles-number.is
@@ -116,14 +71,18 @@ returns-in_err-other-clause-cause g c =
     c.index-tiles-number.result c.index-tiles-number.is)
     c.in_err-other.ensures.cause)
 
-pub returns-clause-inside : goal.returns-clause-inside
-returns-clause-inside g c =
-    subst (IsGluedInside (tiling_of c.args.machine.now) c.args.frame.now
-    (length c.crossed_half.new.frame.digits))
+pub returns-clause-joined : goal.returns-clause-joined
+returns-clause-joined g c =
+    subst (λ (x : PlacedTile). IsJoined (tiling_of c.args.machine.now) c.args.frame.now c.crossed_half.new.frame c.args.tiles.now
+    x (Crossed c.in_ok-other.other))
     (same-tile c.args.machine.now c.glue_laws.ensures c.args.frame.now c.requires.frame c.args.tiles.now
     c.requires.given c.args.sides.now c.requires.sides c.args.number c.requires.below
     c.index-tiles-number.result c.index-tiles-number.is)
-    c.in_ok-other.ensures.inside
+    (record {
+      found = c.in_ok-other.ensures.crossed;
+      inside = c.in_ok-other.ensures.inside;
+      can_be_joined = c.in_ok-other.ensures.can_be_joined;
+    })
 
 pub returns-clause-least : goal.returns-clause-least
 returns-clause-least g c = λ n l h.

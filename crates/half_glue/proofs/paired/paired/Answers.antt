@@ -1,4 +1,5 @@
 use Rattle.std.proofs.Common.{◌+◌, All, List, ◌++◌, length, sym, subst, arith, take_all}
+use Rattle.std.specs.List.{Contains}
 use Rattle.std.proofs.lemmas.List.{get_or_default}
 use Rattle.rule_model.specs.Tiling.{tiling_of}
 use Rattle.tile_place.specs.declared.placed_tile.PlacedTile.{PlacedTile}
@@ -12,30 +13,31 @@ use Rattle.half_glue.proofs.Halves.{given-key}
 use Rattle.theory_walks.proofs.Outcomes.{if_err-is}
 use Rattle.half_glue.proofs.SettledTiles.{left-behind, cause-of, one-more}
 use Rattle.half_glue.proofs.Taking.{ArePaired, all-on, paired-on, taken-too, all-paired}
+use Rattle.half_glue.proofs.paired.paired.Given.{Over}
+use Rattle.half_glue.proofs.paired.paired.Goals.{After-other_half}
 use Rattle.half_glue.proofs.paired.paired.Goals as goal
+
+-- the number is that of a tile
+its-tile : (g : Over) (c : After-other_half g) → Contains c.args.tiles.now (tile_of c.args.tiles.now c.loop-number.number)
+its-tile g c =
+    let i = c.loop-number.number in
+    let below = c.loop-number-test.true in
+    (i, below, get_or_default c.args.tiles.now i (tile_of c.args.tiles.now i) no_tile below)
 
 pub sorted_keys-requires-clause-fit : goal.sorted_keys-requires-clause-fit
 sorted_keys-requires-clause-fit g c = λ k d l. given-key c.args.machine.now c.glue_laws.ensures
-    c.args.frame.now c.requires.frame _ (c.requires.given k d l)
+    c.args.frame.now c.requires.to_glue.frame _ (c.requires.to_glue.given k d l)
 
 pub other_half-requires-clause-given : goal.other_half-requires-clause-given
 other_half-requires-clause-given g c =
-    all-on c.args.machine.now c.glue_laws.ensures c.args.frame.now c.loop-number.frame c.requires.frame
-    c.loop-number.invariant.0.grows c.args.tiles.now c.requires.given
+    all-on c.args.machine.now c.glue_laws.ensures c.args.frame.now c.loop-number.frame c.requires.to_glue.frame
+    c.loop-number.invariant.0.grows c.args.tiles.now c.requires.to_glue.given
 
 pub returns-in_err-found-clause-cause : goal.returns-in_err-found-clause-cause
 returns-in_err-found-clause-cause g c =
-    let tiles : List PlacedTile = c.args.tiles.now in
-    let i = c.loop-number.number in
-    let x = tile_of tiles i in
     if_err-is _ c.from_residual-in_err-found.result c.in_err-found.field-0.0 c.from_residual-in_err-found.ensures.1
     (cause-of (tiling_of c.args.machine.now) c.args.frame.now c.loop-number.frame
-    c.loop-number.invariant.0.grows tiles x (
-      i,
-      c.loop-number-test.true,
-      get_or_default tiles i x no_tile
-          c.loop-number-test.true,
-    )
+    c.loop-number.invariant.0.grows c.args.tiles.now _ (its-tile g ((goal.at.returns-in_err-found-clause-cause g c).After-other_half))
     c.other_half.new.frame c.in_err-found.field-0.0 c.in_err-found.ensures.cause)
 
 pub loop-number-preserved : goal.loop-number-preserved
@@ -52,18 +54,18 @@ loop-number-preserved g c =
     let x = tile_of tiles i in
     let settled = c.loop-number.invariant.0 in
     let up = c.in_ok-found.ensures.frame in
-    let all_now = all-on m L old now c.requires.frame settled.grows tiles c.requires.given in
+    let all_now = all-on m L old now c.requires.to_glue.frame settled.grows tiles c.requires.to_glue.given in
     let all_after = all-on m L now after settled.grows.is_frame up tiles all_now in
     let paired = paired-on m L now after settled.grows.is_frame up tiles 0 i c.loop-number.made.crossed.items
     c.loop-number.made.pairs.items (omega (arith, below)) all_now c.loop-number.invariant.1 in
     let ps : List Pair = c.loop-number.made.pairs.items ++ added_pairs tiles i (length c.loop-number.made.crossed.items) c.in_ok-found.found in (
-      one-more m L old now c.requires.frame tiles c.requires.given i below x
-          (get_or_default tiles i x no_tile below) settled after up c.in_ok-found.ensures.inside
-          c.in_ok-found.ensures.can_be_joined c.in_ok-found.ensures.least,
+      one-more m L old now c.requires.to_glue.frame tiles c.requires.to_glue.given i below x
+          (get_or_default tiles i x no_tile below) settled after up c.in_ok-found.ensures.joined.inside
+          c.in_ok-found.ensures.joined.can_be_joined c.in_ok-found.ensures.least,
       subst (λ (ps : List Pair). ArePaired t after tiles 0 (i + 1) c.put.new.made.crossed.items ps) (sym c.in_ok-put.ensures.pairs)
           (subst (λ (xs : List PlacedTile). ArePaired t after tiles 0 (i + 1) xs ps) (sym c.in_ok-put.ensures.crossed)
           (taken-too t after tiles 0 i below c.loop-number.made.crossed.items c.loop-number.made.pairs.items
-          all_after paired c.in_ok-found.found c.in_ok-found.ensures.found)),
+          all_after paired c.in_ok-found.found c.in_ok-found.ensures.joined.found)),
     )
 
 pub returns-clause-paired : goal.returns-clause-paired
@@ -89,23 +91,15 @@ returns-clause-within g c =
 
 pub returns-in_err-found-clause-not_beyond : goal.returns-in_err-found-clause-not_beyond
 returns-in_err-found-clause-not_beyond g c =
-    let tiles : List PlacedTile = c.args.tiles.now in
-    let i = c.loop-number.number in
-    let x = tile_of tiles i in
-    let settled = c.loop-number.invariant.0 in
-    left-behind (tiling_of c.args.machine.now) c.args.frame.now c.loop-number.frame settled.grows tiles x
-    (i, c.loop-number-test.true, get_or_default tiles i x no_tile c.loop-number-test.true)
-    settled.least c.other_half.new.frame c.in_err-found.ensures.least
+    left-behind (tiling_of c.args.machine.now) c.args.frame.now c.loop-number.frame c.loop-number.invariant.0.grows
+    c.args.tiles.now _ (its-tile g ((goal.at.returns-in_err-found-clause-not_beyond g c).After-other_half))
+    c.loop-number.invariant.0.least c.other_half.new.frame c.in_err-found.ensures.least
 
 pub returns-in_err-put-clause-not_beyond : goal.returns-in_err-put-clause-not_beyond
 returns-in_err-put-clause-not_beyond g c =
-    let tiles : List PlacedTile = c.args.tiles.now in
-    let i = c.loop-number.number in
-    let x = tile_of tiles i in
-    let settled = c.loop-number.invariant.0 in
-    left-behind (tiling_of c.args.machine.now) c.args.frame.now c.loop-number.frame settled.grows tiles x
-    (i, c.loop-number-test.true, get_or_default tiles i x no_tile c.loop-number-test.true)
-    settled.least c.other_half.new.frame c.in_ok-found.ensures.least
+    left-behind (tiling_of c.args.machine.now) c.args.frame.now c.loop-number.frame c.loop-number.invariant.0.grows
+    c.args.tiles.now _ (its-tile g ((goal.at.returns-in_err-put-clause-not_beyond g c).After-other_half))
+    c.loop-number.invariant.0.least c.other_half.new.frame c.in_ok-found.ensures.least
 
 pub returns-clause-not_beyond : goal.returns-clause-not_beyond
 returns-clause-not_beyond g c = c.loop-number.invariant.0.least

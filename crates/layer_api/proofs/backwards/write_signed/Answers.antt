@@ -5,16 +5,16 @@ use Rattle.layer_api.proofs.Figures.{sized, behind_sign}
 use Rattle.layer_api.proofs.backwards.write_signed.Goals as goal
 
 pub write_digits-start-requires : goal.write_digits-start-requires
-write_digits-start-requires c = let s = sized c.unsigned_abs.result (omega arith) in (omega arith, c.requires.inside)
+write_digits-start-requires c = (omega (arith, sized c.unsigned_abs.result (omega arith)), c.requires.inside)
 
 pub returns-then-number-ge0-clause-at_most : goal.returns-then-number-ge0-clause-at_most
-returns-then-number-ge0-clause-at_most c = let s = sized c.unsigned_abs.result (omega arith) in omega arith
+returns-then-number-ge0-clause-at_most c = omega (arith, sized c.unsigned_abs.result (omega arith))
 
 pub overflow_sub-buf : goal.overflow_sub-buf
-overflow_sub-buf c = let s = sized c.unsigned_abs.result (omega arith) in omega arith
+overflow_sub-buf c = omega (arith, sized c.unsigned_abs.result (omega arith))
 
 pub overflow_sub-result : goal.overflow_sub-result
-overflow_sub-result c = let s = sized c.unsigned_abs.result (omega arith) in omega arith
+overflow_sub-result c = omega (arith, sized c.unsigned_abs.result (omega arith))
 
 pub returns-clause-written : goal.returns-clause-written
 returns-clause-written c =
@@ -26,4 +26,4 @@ returns-clause-written c =
     (c.unsigned_abs.ensures.value ∙ ap unsigned_abs own))
 
 pub returns-clause-at_most : goal.returns-clause-at_most
-returns-clause-at_most c = let s = sized c.unsigned_abs.result (omega arith) in omega arith
+returns-clause-at_most c = omega (arith, sized c.unsigned_abs.result (omega arith))

@@ -1,11 +1,11 @@
-use Rattle.std.proofs.Common.{rules, ◌≡◌, ◌<◌, IfErr, refl, sym, ap, ◌∙◌, subst}
-use Rattle.std.proofs.lemmas.Result.{IfErr-weaker}
+use Rattle.std.proofs.Common.{◌≡◌, ◌<◌, refl, sym, ap, ◌∙◌, subst}
 use Rattle.rule_model.specs.Tiling.{tiling_of}
 use Rattle.tile_place.proofs.KindEdges.{edges_counted}
 use Rattle.tile_shape.specs.Views.{address_of}
 use Rattle.theory_walks.specs.Boundary.{IsBoundaryEdge}
 use Rattle.theory_walks.specs.Frames.{lifted_at}
-use Rattle.lazy_walk.specs.Crossed.{IsCrossedTo}
+use Rattle.theory_walks.proofs.Outcomes.{if_err-is}
+use Rattle.lazy_walk.specs.Crossed.{IsCrossedTo, IsLimitAt}
 use Rattle.theory_stars.specs.Corners.{edge_into}
 use Rattle.star_walk.specs.Found.{its_edge}
 use Rattle.star_walk.proofs.step_round.step_round.Given.{Over}
@@ -48,12 +48,12 @@ returns-in_err-corner-clause-limit_exactly g c =
       λ k. c.from_residual.ensures.0,
     )
 
-pub returns-in_err-corner-clause-limit_edge : goal.returns-in_err-corner-clause-limit_edge
-returns-in_err-corner-clause-limit_edge g c =
-    let h : IfErr c.from_residual.result (λ limit. limit.edge ≡ c.edge_before-edge.result) = search rules in
-    IfErr-weaker c.from_residual.result (λ limit. limit.edge ≡ c.edge_before-edge.result) _
-    (λ limit e. e ∙ number g ((goal.at.returns-in_err-corner-clause-limit_edge g
-    c).After-edge_before-edge)) h
+pub returns-in_err-corner-clause-limit : goal.returns-in_err-corner-clause-limit
+returns-in_err-corner-clause-limit g c =
+    if_err-is _ c.from_residual.result c.in_err-corner.field-0.0 c.from_residual.ensures.1
+    (subst (λ e. IsLimitAt (tiling_of c.args.machine.now) c.args.frame.now c.step_grow.new.self
+    (address_of c.args.corner.now.tile.addr) e c.in_err-corner.field-0.0)
+    (number g ((goal.at.returns-in_err-corner-clause-limit g c).After-edge_before-edge)) c.in_err-corner.ensures.limit)
 
 pub returns-clause-crossed : goal.returns-clause-crossed
 returns-clause-crossed g c =

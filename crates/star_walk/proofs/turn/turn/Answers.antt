@@ -40,8 +40,8 @@ loop-frame-init g c =
     let none = c.requires.none_yet in
     let corner : Corner = record { tile = c.base_tile.result; vertex = c.args.vertex } in (
       subst (λ cs. IsOnTheWay (tiling_of c.args.machine.now) c.args.frame.now c.args.frame.now c.args.vertex (cs ++ corner ∷ []) corner) (sym none)
-          (started c.args.machine.now B.settled B.fits B.laws c.args.frame.now c.requires.frame c.args.vertex
-          c.requires.vertex_exists c.base_tile.result c.base_tile.ensures.base c.base_tile.ensures.stands
+          (started c.args.machine.now B.settled B.fits B.laws c.args.frame.now c.requires.vertex.frame c.args.vertex
+          c.requires.vertex.exists c.base_tile.result c.base_tile.ensures.base c.base_tile.ensures.stands
           c.base_tile.ensures.at_origin),
       subst (λ (cs : List Corner). length cs < 64) (sym none) (omega arith),
     )
@@ -50,15 +50,24 @@ pub step_round-requires-clause-vertex_exists : goal.step_round-requires-clause-v
 step_round-requires-clause-vertex_exists g c =
     let p = (goal.at.step_round-requires-clause-vertex_exists g c).After-push in
     let B = brings g ((goal.at.step_round-requires-clause-vertex_exists g c).After-base_tile) in
-    last-exists c.args.machine.now B.settled B.fits B.laws c.args.frame.now c.requires.frame c.args.vertex
-    c.requires.vertex_exists c.loop-frame.frame c.push.new.self.items c.loop-frame.corner (way g p)
+    last-exists c.args.machine.now B.settled B.fits B.laws c.args.frame.now c.requires.vertex.frame c.args.vertex
+    c.requires.vertex.exists c.loop-frame.frame c.push.new.self.items c.loop-frame.corner (way g p)
 
-pub step_round-requires-clause-within : goal.step_round-requires-clause-within
-step_round-requires-clause-within g c =
-    let p = (goal.at.step_round-requires-clause-within g c).After-push in
+pub step_round-requires-clause-tile : goal.step_round-requires-clause-tile
+step_round-requires-clause-tile g c =
+    let p = (goal.at.step_round-requires-clause-tile g c).After-push in
     let w = way g p in
     let few = count g p in
-    point_wider (2 ^ 8 * length c.push.new.self.items) (2 ^ 24) _ (omega arith) w.last_found.shift_within
+    let last = w.last_found in
+    record {
+      its_kind = last.its_kind;
+      of_frame = last.of_frame;
+      motion = record {
+        turn_below = last.turn_below;
+        within = point_wider (2 ^ 8 * length c.push.new.self.items) (2 ^ 24) _ (omega arith) last.shift_within;
+        in_order = last.in_order;
+      };
+    }
 
 pub returns-in_err-step_round-clause-cause : goal.returns-in_err-step_round-clause-cause
 returns-in_err-step_round-clause-cause g c =
@@ -67,29 +76,29 @@ returns-in_err-step_round-clause-cause g c =
     let limit = c.in_err-step_round.field-0.0 in
     if_err-is (HasCause (tiling_of c.args.machine.now) c.step_round.new.frame c.args.vertex)
     c.from_residual.result (DepthLimit limit.addr limit.edge) c.from_residual.ensures.1
-    (limited c.args.machine.now B.settled B.fits B.laws c.args.frame.now c.requires.frame c.args.vertex
-    c.requires.vertex_exists c.loop-frame.frame c.push.new.self.items c.loop-frame.corner (way g p)
-    c.step_round.new.frame c.in_err-step_round.ensures.frame c.in_err-step_round.ensures.deepest_at_limit
+    (limited c.args.machine.now B.settled B.fits B.laws c.args.frame.now c.requires.vertex.frame c.args.vertex
+    c.requires.vertex.exists c.loop-frame.frame c.push.new.self.items c.loop-frame.corner (way g p)
+    c.step_round.new.frame c.in_err-step_round.ensures.frame c.in_err-step_round.ensures.limit.deepest
     (c.in_err-step_round.ensures.limit_exactly.0 refl) limit.addr limit.edge
-    c.in_err-step_round.ensures.limit_tile c.in_err-step_round.ensures.limit_edge)
+    c.in_err-step_round.ensures.limit.tile c.in_err-step_round.ensures.limit.edge)
 
 pub returns-in_err-step_round-clause-not_beyond : goal.returns-in_err-step_round-clause-not_beyond
 returns-in_err-step_round-clause-not_beyond g c =
     let p = (goal.at.returns-in_err-step_round-clause-not_beyond g c).After-push in
     let B = brings g ((goal.at.returns-in_err-step_round-clause-not_beyond g c).After-base_tile) in
     λ n enough. absurd (never-enough c.args.machine.now B.settled B.fits B.laws c.args.frame.now
-    c.requires.frame c.args.vertex c.requires.vertex_exists c.loop-frame.frame c.push.new.self.items c.loop-frame.corner (way g p)
-    c.step_round.new.frame c.in_err-step_round.ensures.frame c.in_err-step_round.ensures.deepest_at_limit
+    c.requires.vertex.frame c.args.vertex c.requires.vertex.exists c.loop-frame.frame c.push.new.self.items c.loop-frame.corner (way g p)
+    c.step_round.new.frame c.in_err-step_round.ensures.frame c.in_err-step_round.ensures.limit.deepest
     (c.in_err-step_round.ensures.limit_exactly.0 refl) n enough)
 
 pub returns-in_err-step_round-clause-answered : goal.returns-in_err-step_round-clause-answered
 returns-in_err-step_round-clause-answered g c =
     let p = (goal.at.returns-in_err-step_round-clause-answered g c).After-push in
     let B = brings g ((goal.at.returns-in_err-step_round-clause-answered g c).After-base_tile) in
-    λ limits. absurd (not_limited c.args.machine.now B.settled B.fits B.laws c.args.frame.now c.requires.frame
-    c.args.vertex c.requires.vertex_exists c.loop-frame.frame c.push.new.self.items c.loop-frame.corner
+    λ limits. absurd (not_limited c.args.machine.now B.settled B.fits B.laws c.args.frame.now c.requires.vertex.frame
+    c.args.vertex c.requires.vertex.exists c.loop-frame.frame c.push.new.self.items c.loop-frame.corner
     (way g p)
-    c.step_round.new.frame c.in_err-step_round.ensures.frame c.in_err-step_round.ensures.deepest_at_limit
+    c.step_round.new.frame c.in_err-step_round.ensures.frame c.in_err-step_round.ensures.limit.deepest
     (c.in_err-step_round.ensures.limit_exactly.0 refl) limits)
 
 pub returns-then-is_base-clause-not_beyond : goal.returns-then-is_base-clause-not_beyond
@@ -97,9 +106,9 @@ returns-then-is_base-clause-not_beyond g c =
     let p = (goal.at.returns-then-is_base-clause-not_beyond g c).After-push in
     let B = brings g ((goal.at.returns-then-is_base-clause-not_beyond g c).After-base_tile) in
     not_beyond-turned c.args.machine.now B.settled B.fits B.laws c.args.frame.now
-    c.requires.frame c.args.vertex c.requires.vertex_exists c.step_round.new.frame c.push.new.self.items
+    c.requires.vertex.frame c.args.vertex c.requires.vertex.exists c.step_round.new.frame c.push.new.self.items
     (ended c.args.machine.now B.settled B.fits B.laws c.args.frame.now
-    c.requires.frame c.args.vertex c.requires.vertex_exists c.loop-frame.frame c.push.new.self.items c.loop-frame.corner (way g p)
+    c.requires.vertex.frame c.args.vertex c.requires.vertex.exists c.loop-frame.frame c.push.new.self.items c.loop-frame.corner (way g p)
     c.step_round.new.frame c.in_ok-step_round.ensures.frame c.step_round.new.corner c.in_ok-step_round.ensures.crossed
     (c.is_base.ensures.0 c.if-is_base.true) (count g p))
 
@@ -107,8 +116,8 @@ pub returns-then-is_base-clause-turned : goal.returns-then-is_base-clause-turned
 returns-then-is_base-clause-turned g c =
     let p = (goal.at.returns-then-is_base-clause-turned g c).After-push in
     let B = brings g ((goal.at.returns-then-is_base-clause-turned g c).After-base_tile) in
-    ended c.args.machine.now B.settled B.fits B.laws c.args.frame.now c.requires.frame c.args.vertex
-    c.requires.vertex_exists c.loop-frame.frame c.push.new.self.items c.loop-frame.corner (way g p)
+    ended c.args.machine.now B.settled B.fits B.laws c.args.frame.now c.requires.vertex.frame c.args.vertex
+    c.requires.vertex.exists c.loop-frame.frame c.push.new.self.items c.loop-frame.corner (way g p)
     c.step_round.new.frame c.in_ok-step_round.ensures.frame c.step_round.new.corner
     c.in_ok-step_round.ensures.crossed (c.is_base.ensures.0 c.if-is_base.true) (count g p)
 
@@ -116,8 +125,8 @@ pub returns-then-len-eq64-clause-cause : goal.returns-then-len-eq64-clause-cause
 returns-then-len-eq64-clause-cause g c =
     let p = (goal.at.returns-then-len-eq64-clause-cause g c).After-push in
     let B = brings g ((goal.at.returns-then-len-eq64-clause-cause g c).After-base_tile) in
-    too_big c.args.machine.now B.settled B.fits B.laws c.args.frame.now c.requires.frame c.args.vertex
-    c.requires.vertex_exists c.loop-frame.frame c.push.new.self.items c.loop-frame.corner (way g p)
+    too_big c.args.machine.now B.settled B.fits B.laws c.args.frame.now c.requires.vertex.frame c.args.vertex
+    c.requires.vertex.exists c.loop-frame.frame c.push.new.self.items c.loop-frame.corner (way g p)
     c.step_round.new.frame c.in_ok-step_round.ensures.frame c.step_round.new.corner
     c.in_ok-step_round.ensures.crossed (λ e. absurd (cc (sym c.if-is_base.false ∙ c.is_base.ensures.1 e)))
     (sym c.len.ensures.value ∙ c.if-len-eq64.true)
@@ -127,10 +136,10 @@ returns-then-len-eq64-clause-not_beyond g c =
     let p = (goal.at.returns-then-len-eq64-clause-not_beyond g c).After-push in
     let B = brings g ((goal.at.returns-then-len-eq64-clause-not_beyond g c).After-base_tile) in
     not_beyond-way c.args.machine.now B.settled B.fits B.laws c.args.frame.now
-    c.requires.frame c.args.vertex c.requires.vertex_exists c.step_round.new.frame
+    c.requires.vertex.frame c.args.vertex c.requires.vertex.exists c.step_round.new.frame
     (c.push.new.self.items ++ c.step_round.new.corner ∷ []) c.step_round.new.corner
     (stepped c.args.machine.now B.settled B.fits B.laws c.args.frame.now
-    c.requires.frame c.args.vertex c.requires.vertex_exists c.loop-frame.frame c.push.new.self.items c.loop-frame.corner (way g p)
+    c.requires.vertex.frame c.args.vertex c.requires.vertex.exists c.loop-frame.frame c.push.new.self.items c.loop-frame.corner (way g p)
     c.step_round.new.frame c.in_ok-step_round.ensures.frame c.step_round.new.corner c.in_ok-step_round.ensures.crossed
     (λ e. absurd (cc (sym c.if-is_base.false ∙ c.is_base.ensures.1 e))))
 
@@ -138,8 +147,8 @@ pub returns-then-len-eq64-clause-answered : goal.returns-then-len-eq64-clause-an
 returns-then-len-eq64-clause-answered g c =
     let p = (goal.at.returns-then-len-eq64-clause-answered g c).After-push in
     let B = brings g ((goal.at.returns-then-len-eq64-clause-answered g c).After-base_tile) in
-    λ limits. absurd (not_too_big c.args.machine.now B.settled B.fits B.laws c.args.frame.now c.requires.frame
-    c.args.vertex c.requires.vertex_exists c.loop-frame.frame c.push.new.self.items c.loop-frame.corner
+    λ limits. absurd (not_too_big c.args.machine.now B.settled B.fits B.laws c.args.frame.now c.requires.vertex.frame
+    c.args.vertex c.requires.vertex.exists c.loop-frame.frame c.push.new.self.items c.loop-frame.corner
     (way g p)
     c.step_round.new.frame c.in_ok-step_round.ensures.frame c.step_round.new.corner
     c.in_ok-step_round.ensures.crossed (λ e. absurd (cc (sym c.if-is_base.false ∙ c.is_base.ensures.1 e)))
@@ -152,8 +161,8 @@ loop-frame-preserved g c =
     let few = count g p in
     let same = c.len.ensures.value in
     let full = c.if-len-eq64.false in (
-      stepped c.args.machine.now B.settled B.fits B.laws c.args.frame.now c.requires.frame c.args.vertex
-          c.requires.vertex_exists c.loop-frame.frame c.push.new.self.items c.loop-frame.corner (way g p)
+      stepped c.args.machine.now B.settled B.fits B.laws c.args.frame.now c.requires.vertex.frame c.args.vertex
+          c.requires.vertex.exists c.loop-frame.frame c.push.new.self.items c.loop-frame.corner (way g p)
           c.step_round.new.frame c.in_ok-step_round.ensures.frame c.step_round.new.corner
           c.in_ok-step_round.ensures.crossed (λ e. absurd
           (cc (sym c.if-is_base.false ∙ c.is_base.ensures.1 e))),

@@ -1,4 +1,5 @@
 use Rattle.std.proofs.Common.{◌≡◌, map, ap, ◌∙◌, subst}
+use Rattle.std.proofs.lemmas.Result.{IfOk-from_err}
 use Rattle.cyclo_points.specs.Order.{points_of}
 use Rattle.rule_model.specs.declared.rule.Rule.{Rule}
 use Rattle.rule_model.specs.Tiling.{tiling_of}
@@ -19,7 +20,7 @@ use Rattle.window_cover.proofs.tiles_of_window.by_search.Goals as goal
 
 pub arranged-requires-clause-no_deeper : goal.arranged-requires-clause-no_deeper
 arranged-requires-clause-no_deeper c = right-lifted (tiling_of c.args.machine.now) c.searched.new.frame
-    c.in_ok-cover.cover c.in_ok-cover.ensures.right
+    c.in_ok-cover.cover c.in_ok-cover.ensures.ended.right
 
 pub returns-in_err-cover-clause-answered : goal.returns-in_err-cover-clause-answered
 returns-in_err-cover-clause-answered c = λ h. no_memory-on c.searched.result c.from_residual.result
@@ -32,82 +33,49 @@ returns-in_err-cover-clause-cause c = if_err-is _ c.from_residual.result c.in_er
 pub returns-in_err-arranged-clause-answered : goal.returns-in_err-arranged-clause-answered
 returns-in_err-arranged-clause-answered c = λ h. only_memory c.from_residual-in_err-arranged.result c.from_residual-in_err-arranged.ensures.1
 
-pub returns-clause-drawn : goal.returns-clause-drawn
-returns-clause-drawn c =
-    let m = c.args.machine.now in
-    let checked = checked_of m _ _ c.checked-checked.ensures.rule c.checked-checked.ensures.accepted
-    c.checked-checked.ensures.usable c.checked-checked.ensures.same_child_kinds c.uses.ensures
-    c.kinds-usable.ensures.limits in
-    subst (λ w. AreDrawn (tiling_of m) c.searched.new.frame w (map (placed_in m.order) c.in_ok-arranged.field-0)) c.in_ok-cover.ensures.its_window
-    (c.in_ok-arranged.ensures.drawn m checked c.in_ok-cover.ensures.right)
+pub returns-in_err-cover-clause-found : goal.returns-in_err-cover-clause-found
+returns-in_err-cover-clause-found c = IfOk-from_err c.from_residual.result _ c.from_residual.ensures.0
 
-pub returns-clause-stand : goal.returns-clause-stand
-returns-clause-stand c =
-    let m = c.args.machine.now in
-    let checked = checked_of m _ _ c.checked-checked.ensures.rule c.checked-checked.ensures.accepted
-    c.checked-checked.ensures.usable c.checked-checked.ensures.same_child_kinds c.uses.ensures
-    c.kinds-usable.ensures.limits in
-    c.in_ok-arranged.ensures.stand m checked c.in_ok-cover.ensures.right
+pub returns-in_err-arranged-clause-found : goal.returns-in_err-arranged-clause-found
+returns-in_err-arranged-clause-found c = IfOk-from_err c.from_residual-in_err-arranged.result _ c.from_residual-in_err-arranged.ensures.0
 
-pub returns-clause-in_order : goal.returns-clause-in_order
-returns-clause-in_order c =
+pub returns-clause-found : goal.returns-clause-found
+returns-clause-found c =
     let m = c.args.machine.now in
-    let checked = checked_of m _ _ c.checked-checked.ensures.rule c.checked-checked.ensures.accepted
-    c.checked-checked.ensures.usable c.checked-checked.ensures.same_child_kinds c.uses.ensures
-    c.kinds-usable.ensures.limits in
-    c.in_ok-arranged.ensures.in_order m checked c.in_ok-cover.ensures.right
-
-pub returns-clause-covered : goal.returns-clause-covered
-returns-clause-covered c =
-    let m = c.args.machine.now in
-    let checked = checked_of m _ _ c.checked-checked.ensures.rule c.checked-checked.ensures.accepted
-    c.checked-checked.ensures.usable c.checked-checked.ensures.same_child_kinds c.uses.ensures
-    c.kinds-usable.ensures.limits in
-    subst (λ w. CoverWindow (tiling_of m) c.searched.new.frame w (map (placed_in m.order) c.in_ok-arranged.field-0)) c.in_ok-cover.ensures.its_window
-    (c.in_ok-arranged.ensures.covered m checked c.in_ok-cover.ensures.right)
-
-pub returns-clause-least : goal.returns-clause-least
-returns-clause-least c =
-    let m = c.args.machine.now in
+    let f = c.args.frame.now in
+    let g = c.searched.new.frame in
+    let w = c.args.window.now in
+    let ended = c.in_ok-cover.ensures.ended in
     let checked = checked_of m _ _ c.checked-checked.ensures.rule c.checked-checked.ensures.accepted
     c.checked-checked.ensures.usable c.checked-checked.ensures.same_child_kinds c.uses.ensures
     c.kinds-usable.ensures.limits in
     let laws = laws_of m checked c.end_laws.ensures.points c.end_laws.ensures.patch c.end_laws.ensures.known
     c.end_laws.ensures.open_test c.end_laws.ensures.finish c.grown_fits_law.ensures in
-    let least : LeastLaw (points_of m.order) = subst (λ o. LeastLaw (points_of o))
-    (c.order-order.ensures.order ∙ ap (λ (r : Rule). r.order) c.checked-checked.ensures.rule)
-    c.frame_window_law.ensures.least in
-    let beyond = not-beyond m laws least c.args.frame.now c.searched.new.frame c.searched.ensures.frame
-    c.args.window.now (working c.in_ok-cover.cover)
-    (works (tiling_of m) laws.open_test c.searched.new.frame c.in_ok-cover.cover
-    c.in_ok-cover.ensures.right) c.in_ok-cover.ensures.not_beyond c.requires.frame.at_most_64 in
-    ended-least m laws c.args.frame.now c.searched.new.frame c.searched.ensures.frame c.args.window.now
-    (working c.in_ok-cover.cover) (works (tiling_of m) laws.open_test c.searched.new.frame
-    c.in_ok-cover.cover c.in_ok-cover.ensures.right) c.in_ok-cover.ensures.its_window
-    (ap (map packed) c.in_ok-cover.ensures.none_open) beyond c.requires.frame.at_most_64
-
-pub returns-clause-within : goal.returns-clause-within
-returns-clause-within c =
-    let m = c.args.machine.now in
-    let checked = checked_of m _ _ c.checked-checked.ensures.rule c.checked-checked.ensures.accepted
-    c.checked-checked.ensures.usable c.checked-checked.ensures.same_child_kinds c.uses.ensures
-    c.kinds-usable.ensures.limits in
-    let laws = laws_of m checked c.end_laws.ensures.points c.end_laws.ensures.patch c.end_laws.ensures.known
-    c.end_laws.ensures.open_test c.end_laws.ensures.finish c.grown_fits_law.ensures in
-    let least : LeastLaw (points_of m.order) = subst (λ o. LeastLaw (points_of o))
-    (c.order-order.ensures.order ∙ ap (λ (r : Rule). r.order) c.checked-checked.ensures.rule)
-    c.frame_window_law.ensures.least in
-    let beyond = not-beyond m laws least c.args.frame.now c.searched.new.frame c.searched.ensures.frame
-    c.args.window.now (working c.in_ok-cover.cover)
-    (works (tiling_of m) laws.open_test c.searched.new.frame c.in_ok-cover.cover
-    c.in_ok-cover.ensures.right) c.in_ok-cover.ensures.not_beyond c.requires.frame.at_most_64 in
     let same : c.order-order.result ≡ m.order = c.order-order.ensures.order ∙ ap (λ (r : Rule). r.order) c.checked-checked.ensures.rule in
+    let least : LeastLaw (points_of m.order) = subst (λ o. LeastLaw (points_of o)) same c.frame_window_law.ensures.least in
     let ends : FrameEndsLaw (points_of m.order) = subst (λ o. FrameEndsLaw (points_of o)) same c.frame_limits_law.ensures.end in
+    let state = working c.in_ok-cover.cover in
+    let work = works (tiling_of m) laws.open_test g c.in_ok-cover.cover ended.right in
+    let none_open = ap (map packed) ended.none_open in
+    let beyond = not-beyond m laws least f g c.searched.ensures.frame w state work c.in_ok-cover.ensures.not_beyond c.requires.frame.at_most_64 in
     record {
-      centre_found = c.in_ok-cover.ensures.centre_found;
-      drawn_within = ended-within m laws c.args.frame.now c.searched.new.frame c.searched.ensures.frame
-          c.args.window.now (working c.in_ok-cover.cover)
-          (works (tiling_of m) laws.open_test c.searched.new.frame c.in_ok-cover.cover
-          c.in_ok-cover.ensures.right) c.in_ok-cover.ensures.its_window
-          (ap (map packed) c.in_ok-cover.ensures.none_open) beyond c.requires.frame.at_most_64 ends;
+      drawn = subst (λ w. AreDrawn (tiling_of m) g w (map (placed_in m.order) c.in_ok-arranged.field-0)) ended.begun.its_window
+          (c.in_ok-arranged.ensures.drawn m checked ended.right);
+      stand = c.in_ok-arranged.ensures.stand m checked ended.right;
+      in_order = c.in_ok-arranged.ensures.in_order m checked ended.right;
+      covered = subst (λ w. CoverWindow (tiling_of m) g w (map (placed_in m.order) c.in_ok-arranged.field-0)) ended.begun.its_window
+          (c.in_ok-arranged.ensures.covered m checked ended.right);
+      least = ended-least m laws f g c.searched.ensures.frame w state work ended.begun.its_window none_open beyond c.requires.frame.at_most_64;
+      within = record {
+        centre_found = ended.begun.centre_found;
+        drawn_within = ended-within m laws f g c.searched.ensures.frame w state work ended.begun.its_window none_open beyond
+            c.requires.frame.at_most_64 ends;
+      };
     }
+
+-- ---- the rest is plain, and stands here since the records are large
+pub returns-in_err-cover-clause-frame : goal.returns-in_err-cover-clause-frame
+returns-in_err-cover-clause-frame c = c.in_err-cover.ensures.frame
+
+pub returns-in_err-cover-clause-not_beyond : goal.returns-in_err-cover-clause-not_beyond
+returns-in_err-cover-clause-not_beyond c = c.in_err-cover.ensures.not_beyond

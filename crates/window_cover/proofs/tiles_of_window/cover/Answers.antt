@@ -31,14 +31,14 @@ pub returns-clause-drawn : goal.returns-clause-drawn
 returns-clause-drawn c =
     let m = c.args.machine.now in
     subst (λ ts. AreDrawn (tiling_of m) c.by_search.new.frame c.args.window.now (map (placed_in m.order) ts))
-    (sym c.in_ok-listed.ensures) c.in_ok-tiles.ensures.drawn
+    (sym c.in_ok-listed.ensures) c.in_ok-tiles.ensures.found.drawn
 
 pub returns-clause-stand : goal.returns-clause-stand
 returns-clause-stand c = subst (All (Stands (tiling_of c.args.machine.now) c.by_search.new.frame))
-    (sym c.in_ok-listed.ensures) c.in_ok-tiles.ensures.stand
+    (sym c.in_ok-listed.ensures) c.in_ok-tiles.ensures.found.stand
 
 pub returns-clause-covered : goal.returns-clause-covered
 returns-clause-covered c =
     let m = c.args.machine.now in
     subst (λ ts. CoverWindow (tiling_of m) c.by_search.new.frame c.args.window.now
-    (map (placed_in m.order) ts)) (sym c.in_ok-listed.ensures) c.in_ok-tiles.ensures.covered
+    (map (placed_in m.order) ts)) (sym c.in_ok-listed.ensures) c.in_ok-tiles.ensures.found.covered

@@ -6,7 +6,7 @@ use Rattle.tile_place.proofs.Ahead.{handed_on}
 use Rattle.theory_walks.specs.Ancestors.{full}
 use Rattle.theory_walks.proofs.Walks.{GrowsTo-then}
 use Rattle.lazy_walk.proofs.Aheads.{refused_exactly}
-use Rattle.lazy_walk.proofs.Searching.{ancestors_of, at_start, ancestor-now, few, vertex_is, not_yet, not_next, inside_limit, inside_exactly, next_is, one_out}
+use Rattle.lazy_walk.proofs.Searching.{ancestors_of, at_start, ancestor-now, few, vertex_is, not_yet, not_next, inside_refused, inside_exactly, next_is, one_out}
 use Rattle.lazy_walk.proofs.frame.Frame.contain.Goals as goal
 
 pub is_inside-requires-clause-ancestor : goal.is_inside-requires-clause-ancestor
@@ -25,7 +25,10 @@ next_out-requires-clause-more c = few c.loop-self.invariant c.checked.ensures.ac
 pub returns-in_err-is_inside-clause-limit : goal.returns-in_err-is_inside-clause-limit
 returns-in_err-is_inside-clause-limit c =
     handed_on c.from_residual.result c.in_err-is_inside.field-0.0 _ c.from_residual.ensures.1
-    (vertex_is c.loop-self.invariant _ c.in_err-is_inside.ensures.limit)
+    (record {
+      first = vertex_is c.loop-self.invariant _ c.in_err-is_inside.ensures.limit;
+      in_order = c.in_err-is_inside.ensures.limit_in_order;
+    })
 
 pub returns-in_err-is_inside-clause-found_exactly : goal.returns-in_err-is_inside-clause-found_exactly
 returns-in_err-is_inside-clause-found_exactly c =
@@ -50,8 +53,9 @@ returns-then-branch-clause-found_exactly c =
 
 pub returns-then-branch-clause-limit : goal.returns-then-branch-clause-limit
 returns-then-branch-clause-limit c =
-    inside_limit c.loop-self.invariant c.in_ok-is_inside.ensures.none_refused
+    inside_refused c.loop-self.invariant c.in_ok-is_inside.ensures.none_refused
     (c.in_ok-is_inside.ensures.holds ∙ c.if-branch.true) c.tile_in.result c.tile_in.ensures.limit
+    c.tile_in.ensures.limit_in_order
 
 pub returns-then-branch-clause-only_tile : goal.returns-then-branch-clause-only_tile
 returns-then-branch-clause-only_tile c = IfOk-weaker c.tile_in.result _ _ (λ tile h. h.only_tile) c.tile_in.ensures.contained
@@ -73,8 +77,11 @@ returns-in_err-ancestor-clause-frame c =
 pub returns-in_err-ancestor-clause-limit : goal.returns-in_err-ancestor-clause-limit
 returns-in_err-ancestor-clause-limit c =
     handed_on c.from_residual-in_err-ancestor.result c.in_err-ancestor.field-0.0 _ c.from_residual-in_err-ancestor.ensures.1
-    (next_is c.loop-self.invariant c.in_ok-is_inside.ensures.none_refused
-    (c.in_ok-is_inside.ensures.holds ∙ c.if-branch.false) c.checked.ensures.accepted _ c.in_err-ancestor.ensures.limit)
+    (record {
+      first = next_is c.loop-self.invariant c.in_ok-is_inside.ensures.none_refused
+          (c.in_ok-is_inside.ensures.holds ∙ c.if-branch.false) c.checked.ensures.accepted _ c.in_err-ancestor.ensures.limit;
+      in_order = c.in_err-ancestor.ensures.limit_in_order;
+    })
 
 pub returns-in_err-ancestor-clause-found_exactly : goal.returns-in_err-ancestor-clause-found_exactly
 returns-in_err-ancestor-clause-found_exactly c =

@@ -52,15 +52,15 @@ returns-in-Ok-clause-contained c =
       only_tile = subst (λ a. IsOnlyHolder (tiling_of m) f p (record { address = a; motion = motion })) lifted
           (only_holder m settled points dissected f fits level c.requires.deep p tile found found_tile holds);
       stands = record {
-        its_kind = c.in-Ok.ensures.its_kind ∙ sym (ap (λ (a : Address). a.kind) c.raise.ensures);
+        its_kind = c.in-Ok.ensures.of_supertile.its_kind ∙ sym (ap (λ (a : Address). a.kind) c.raise.ensures);
         of_frame = subst (IsTileOf (children (tiling_of m)) (whole f)) lifted (whole-tile_of (children (tiling_of m)) (whole f) _ own);
         at_depth = ap depth c.raise.ensures ∙ own.same_depth;
         in_frame = subst (λ a. StandsInFrame (points_of m.order) (rule_of m) (whole f) a motion) lifted
             (found-stands m settled points dissected f fits level c.requires.deep p tile found found_tile);
-        turn_below = c.in-Ok.ensures.moves.turn_below;
-        in_order = c.in-Ok.ensures.moves.in_order;
+        turn_below = c.in-Ok.ensures.of_supertile.moves.turn_below;
+        in_order = c.in-Ok.ensures.of_supertile.moves.in_order;
       };
-      shift_within = c.in-Ok.ensures.moves.within;
+      shift_within = c.in-Ok.ensures.of_supertile.moves.within;
       held = frame_too m settled points dissected f fits level c.requires.deep p tile found found_tile holds;
     }
 

@@ -1,5 +1,4 @@
-use Rattle.std.proofs.Common.{◌∙◌, sym, ap, arith, refl, subst}
-use Rattle.tile_shape.specs.declared.address.Address.{Address}
+use Rattle.std.proofs.Common.{sym, arith, refl, subst}
 use Rattle.list_verify.specs.Walk.{tiling_in, Stops}
 use Rattle.list_verify.proofs.OneCrossing as crossing
 use Rattle.list_verify.proofs.walk.Walk.cross_edge.Goals as goal
@@ -11,33 +10,15 @@ bounds-self-side g c = (crossing.its-place c.args.self.now c.walk_laws.ensures c
 pub step_grow-requires-clause-frame : goal.step_grow-requires-clause-frame
 step_grow-requires-clause-frame g c = c.requires.under_way.on_frame.lines.frame
 
-pub step_grow-requires-clause-its_kind : goal.step_grow-requires-clause-its_kind
-step_grow-requires-clause-its_kind g c = c.put_line.ensures.kind ∙ sym (ap (λ (a : Address). a.kind) c.put_line.ensures.address)
-
-pub step_grow-requires-clause-of_frame : goal.step_grow-requires-clause-of_frame
-step_grow-requires-clause-of_frame g c = crossing.tile-there c.args.self.now c.walk_laws.ensures c.args.frame.now c.args.found.now
+pub step_grow-requires-clause-tile : goal.step_grow-requires-clause-tile
+step_grow-requires-clause-tile g c = crossing.to-cross c.args.self.now c.walk_laws.ensures c.args.frame.now c.args.found.now
     c.requires.under_way c.args.side.line c.requires.line_found _ c.index-self-side.result refl c.put_line.new.tile
-    c.put_line.ensures.motion c.put_line.ensures.address
+    c.put_line.ensures.motion c.put_line.ensures.address c.put_line.ensures.kind
 
 pub step_grow-requires-clause-edge_exists : goal.step_grow-requires-clause-edge_exists
 step_grow-requires-clause-edge_exists g c = crossing.edge-exists c.args.self.now c.walk_laws.ensures c.args.frame.now c.args.found.now
     c.requires.under_way c.args.side.line c.requires.line_found _ c.index-self-side.result refl c.put_line.new.tile
     c.put_line.ensures.motion c.put_line.ensures.address c.args.side.edge c.requires.edge_exists c.requires.edge_meets
-
-pub step_grow-requires-clause-turn_below : goal.step_grow-requires-clause-turn_below
-step_grow-requires-clause-turn_below g c = crossing.turn-below c.args.self.now c.walk_laws.ensures c.args.frame.now c.args.found.now
-    c.requires.under_way c.args.side.line c.requires.line_found _ c.index-self-side.result refl c.put_line.new.tile
-    c.put_line.ensures.motion c.put_line.ensures.address
-
-pub step_grow-requires-clause-within : goal.step_grow-requires-clause-within
-step_grow-requires-clause-within g c = crossing.shift-within c.args.self.now c.walk_laws.ensures c.args.frame.now c.args.found.now
-    c.requires.under_way c.args.side.line c.requires.line_found _ c.index-self-side.result refl c.put_line.new.tile
-    c.put_line.ensures.motion c.put_line.ensures.address
-
-pub step_grow-requires-clause-in_order : goal.step_grow-requires-clause-in_order
-step_grow-requires-clause-in_order g c = crossing.in-order c.args.self.now c.walk_laws.ensures c.args.frame.now c.args.found.now
-    c.requires.under_way c.args.side.line c.requires.line_found _ c.index-self-side.result refl c.put_line.new.tile
-    c.put_line.ensures.motion c.put_line.ensures.address
 
 pub look_up-requires-clause-index : goal.look_up-requires-clause-index
 look_up-requires-clause-index g c = c.requires.under_way.on_frame.index
@@ -64,9 +45,9 @@ returns-in-Err-clause-fault g c =
     (crossing.stops-there c.args.self.now c.walk_laws.ensures c.args.frame.now c.args.found.now
     c.requires.under_way c.args.side.line c.requires.line_found _ c.index-self-side.result refl c.put_line.new.tile
     c.put_line.ensures.motion c.put_line.ensures.address c.args.side.edge c.requires.edge_exists c.requires.edge_meets
-    c.step_grow.new.self c.in-Err.ensures.frame c.in-Err.ensures.least c.in-Err.ensures.deepest_at_limit
-    (c.in-Err.ensures.limit_exactly.0 refl) c.in-Err.limit.addr c.in-Err.limit.edge c.in-Err.ensures.limit_tile
-    c.in-Err.ensures.limit_edge)
+    c.step_grow.new.self c.in-Err.ensures.frame c.in-Err.ensures.least c.in-Err.ensures.limit.deepest
+    (c.in-Err.ensures.limit_exactly.0 refl) c.in-Err.limit.addr c.in-Err.limit.edge c.in-Err.ensures.limit.tile
+    c.in-Err.ensures.limit.edge)
 
 pub returns-in-Err-look_up-clause-fault : goal.returns-in-Err-look_up-clause-fault
 returns-in-Err-look_up-clause-fault g c =

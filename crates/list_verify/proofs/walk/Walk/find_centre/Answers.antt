@@ -22,7 +22,7 @@ look_up-requires-clause-count c = c.requires.none.count
 pub returns-in-Err-clause-fault : goal.returns-in-Err-clause-fault
 returns-in-Err-clause-fault c = stops-before c.args.self.now c.walk_laws.ensures c.args.frame.now c.requires.on_frame c.args.found.now c.requires.none
     c.contain.new.self c.in-Err.ensures.frame c.in-Err.ensures.least
-    c.in-Err.limit.value c.in-Err.ensures.limit c.in-Err.ensures.limit_in_order
+    c.in-Err.limit.value c.in-Err.ensures.limit.first c.in-Err.ensures.limit.in_order
 
 pub returns-in-Ok-clause-fault : goal.returns-in-Ok-clause-fault
 returns-in-Ok-clause-fault c = IfErr-weaker c.look_up.result _ _

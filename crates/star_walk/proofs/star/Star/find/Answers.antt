@@ -1,12 +1,10 @@
-use Rattle.std.proofs.Common.{◌^◌, ◌++◌, List, All, map, length, take, drop, sym, subst}
+use Rattle.std.proofs.Common.{◌++◌, List, map, length, take, drop, sym, subst}
 use Rattle.std.specs.List.{AllZip}
-use Rattle.cyclo_points.specs.Point.{IsWithin}
-use Rattle.lazy_walk.specs.Standing.{Stands}
 use Rattle.rule_model.specs.Tiling.{tiling_of}
 use Rattle.star_walk.specs.declared.corner.Corner.{Corner}
 use Rattle.star_walk.specs.Corners.{corner_in}
 use Rattle.star_walk.specs.Found.{IsRaised}
-use Rattle.star_walk.specs.Round.{AreRound, AreInTurn}
+use Rattle.star_walk.specs.Round.{AreRound, AreInTurn, AreInPlace}
 use Rattle.theory_walks.proofs.Brought.{Brings, brought}
 use Rattle.star_walk.specs.StarLaws.{HasStarLaws}
 use Rattle.star_walk.proofs.Ended.{least, within-limits, star-round, star-turns, star-stands, star-within}
@@ -39,41 +37,37 @@ returns-clause-round g c =
     let B = brings g ((goal.at.returns-clause-round g c).After-kinds-usable) in
     given-back g ((goal.at.returns-clause-round g c).After-raise_all)
     (λ cs. AreRound (tiling_of c.args.machine.now) c.turn.new.frame c.args.vertex (map (corner_in c.args.machine.now.order) cs))
-    (star-round c.args.machine.now B.settled B.fits B.laws c.args.frame.now c.requires.frame c.args.vertex
-    c.requires.vertex_exists c.turn.new.frame c.turn.new.corners.items c.in_default.ensures.turned)
+    (star-round c.args.machine.now B.settled B.fits B.laws c.args.frame.now c.requires.vertex.frame c.args.vertex
+    c.requires.vertex.exists c.turn.new.frame c.turn.new.corners.items c.in_default.ensures.turned)
 
 pub returns-clause-turning : goal.returns-clause-turning
 returns-clause-turning g c =
     let B = brings g ((goal.at.returns-clause-turning g c).After-kinds-usable) in
     given-back g ((goal.at.returns-clause-turning g c).After-raise_all)
     (λ cs. AreInTurn (tiling_of c.args.machine.now) c.turn.new.frame c.args.vertex (map (corner_in c.args.machine.now.order) cs))
-    (star-turns c.args.machine.now B.settled B.fits B.laws c.args.frame.now c.requires.frame c.args.vertex
-    c.requires.vertex_exists c.turn.new.frame c.turn.new.corners.items c.in_default.ensures.turned)
+    (star-turns c.args.machine.now B.settled B.fits B.laws c.args.frame.now c.requires.vertex.frame c.args.vertex
+    c.requires.vertex.exists c.turn.new.frame c.turn.new.corners.items c.in_default.ensures.turned)
 
 pub returns-clause-stand : goal.returns-clause-stand
 returns-clause-stand g c =
     let B = brings g ((goal.at.returns-clause-stand g c).After-kinds-usable) in
     given-back g ((goal.at.returns-clause-stand g c).After-raise_all)
-    (All (λ (k : Corner). Stands (tiling_of c.args.machine.now) c.turn.new.frame k.tile))
-    (star-stands c.args.machine.now B.settled B.fits B.laws c.args.frame.now c.requires.frame c.args.vertex
-    c.requires.vertex_exists c.turn.new.frame c.turn.new.corners.items c.in_default.ensures.turned)
-
-pub returns-clause-shifts_within : goal.returns-clause-shifts_within
-returns-clause-shifts_within g c =
-    let B = brings g ((goal.at.returns-clause-shifts_within g c).After-kinds-usable) in
-    given-back g ((goal.at.returns-clause-shifts_within g c).After-raise_all)
-    (All (λ (k : Corner). IsWithin (2 ^ 24) k.tile.motion.shift))
-    (star-within c.args.machine.now B.settled B.fits B.laws c.args.frame.now c.requires.frame c.args.vertex
-    c.requires.vertex_exists c.turn.new.frame c.turn.new.corners.items c.in_default.ensures.turned)
+    (AreInPlace (tiling_of c.args.machine.now) c.turn.new.frame)
+    (λ ds raised. record {
+      stand = star-stands c.args.machine.now B.settled B.fits B.laws c.args.frame.now c.requires.vertex.frame c.args.vertex
+          c.requires.vertex.exists c.turn.new.frame c.turn.new.corners.items c.in_default.ensures.turned ds raised;
+      shifts_within = star-within c.args.machine.now B.settled B.fits B.laws c.args.frame.now c.requires.vertex.frame
+          c.args.vertex c.requires.vertex.exists c.turn.new.frame c.turn.new.corners.items c.in_default.ensures.turned ds raised;
+    })
 
 pub returns-clause-least : goal.returns-clause-least
 returns-clause-least g c =
     let B = brings g ((goal.at.returns-clause-least g c).After-kinds-usable) in
-    least c.args.machine.now B.settled B.fits B.laws c.args.frame.now c.requires.frame c.args.vertex
-    c.requires.vertex_exists c.turn.new.frame c.turn.new.corners.items c.in_default.ensures.turned
+    least c.args.machine.now B.settled B.fits B.laws c.args.frame.now c.requires.vertex.frame c.args.vertex
+    c.requires.vertex.exists c.turn.new.frame c.turn.new.corners.items c.in_default.ensures.turned
 
 pub returns-clause-within : goal.returns-clause-within
 returns-clause-within g c =
     let B = brings g ((goal.at.returns-clause-within g c).After-kinds-usable) in
-    within-limits c.args.machine.now B.settled B.fits B.laws c.args.frame.now c.requires.frame c.args.vertex
-    c.requires.vertex_exists c.turn.new.frame c.turn.new.corners.items c.in_default.ensures.turned
+    within-limits c.args.machine.now B.settled B.fits B.laws c.args.frame.now c.requires.vertex.frame c.args.vertex
+    c.requires.vertex.exists c.turn.new.frame c.turn.new.corners.items c.in_default.ensures.turned

@@ -1,4 +1,4 @@
-use Rattle.std.proofs.Common.{rules, ◌≡◌, ◌<◌, Some, IfErr, OnOk, List, length, map, slice_get, refl, sym, ap, ◌∙◌, subst}
+use Rattle.std.proofs.Common.{rules, ◌≡◌, ◌<◌, Some, List, length, map, slice_get, refl, sym, ap, ◌∙◌, subst}
 use Rattle.std.proofs.lemmas.Result.{on_ok_weaker}
 use Rattle.rule_model.specs.Tiling.{tiling_of}
 use Rattle.theory_walks.proofs.Brought.{Brings, brought}
@@ -90,23 +90,18 @@ put_tile-requires g c =
 pub step_grow-requires-clause-frame : goal.step_grow-requires-clause-frame
 step_grow-requires-clause-frame g c = c.requires.right.frame
 
-pub step_grow-requires-clause-its_kind : goal.step_grow-requires-clause-its_kind
-step_grow-requires-clause-its_kind g c = sym c.put_tile.ensures.its_kind
-
-pub step_grow-requires-clause-of_frame : goal.step_grow-requires-clause-of_frame
-step_grow-requires-clause-of_frame g c = step.of_frame (from g ((goal.at.step_grow-requires-clause-of_frame g c).After-put_tile))
+pub step_grow-requires-clause-tile : goal.step_grow-requires-clause-tile
+step_grow-requires-clause-tile g c =
+    let s = from g ((goal.at.step_grow-requires-clause-tile g c).After-put_tile) in
+    let found = step.was_found s in
+    record {
+      its_kind = sym c.put_tile.ensures.its_kind;
+      of_frame = step.of_frame s;
+      motion = record { turn_below = found.turn_below; within = found.shift_within; in_order = found.in_order };
+    }
 
 pub step_grow-requires-clause-edge_exists : goal.step_grow-requires-clause-edge_exists
 step_grow-requires-clause-edge_exists g c = step.has_edge (from g ((goal.at.step_grow-requires-clause-edge_exists g c).After-put_tile))
-
-pub step_grow-requires-clause-turn_below : goal.step_grow-requires-clause-turn_below
-step_grow-requires-clause-turn_below g c = (step.was_found (from g ((goal.at.step_grow-requires-clause-turn_below g c).After-put_tile))).turn_below
-
-pub step_grow-requires-clause-within : goal.step_grow-requires-clause-within
-step_grow-requires-clause-within g c = (step.was_found (from g ((goal.at.step_grow-requires-clause-within g c).After-put_tile))).shift_within
-
-pub step_grow-requires-clause-in_order : goal.step_grow-requires-clause-in_order
-step_grow-requires-clause-in_order g c = (step.was_found (from g ((goal.at.step_grow-requires-clause-in_order g c).After-put_tile))).in_order
 
 -- ---- the edge is crossed
 pub admit-requires-clause-exists : goal.admit-requires-clause-exists
@@ -132,23 +127,11 @@ admit-requires-clause-new g c =
 pub returns-in-Ok-clause-frame : goal.returns-in-Ok-clause-frame
 returns-in-Ok-clause-frame g c = c.in-Ok.ensures.frame
 
-pub returns-in-Ok-clause-steps_to : goal.returns-in-Ok-clause-steps_to
-returns-in-Ok-clause-steps_to g c =
-    let p = (goal.at.returns-in-Ok-clause-steps_to g c).After-put_tile in
-    step.steps_to (from g p) c.step_grow.new.self c.in-Ok.ensures.frame c.step_grow.new.tile c.in-Ok.field-0 c.in-Ok.ensures.crossed
-    _ (passed g p) c.admit.result c.admit.new.self c.admit.ensures.admitted
-
-pub returns-in-Ok-clause-right : goal.returns-in-Ok-clause-right
-returns-in-Ok-clause-right g c =
-    let p = (goal.at.returns-in-Ok-clause-right g c).After-put_tile in
-    step.right_next (from g p) c.step_grow.new.self c.in-Ok.ensures.frame c.step_grow.new.tile c.in-Ok.field-0 c.in-Ok.ensures.crossed
+pub returns-in-Ok-clause-next : goal.returns-in-Ok-clause-next
+returns-in-Ok-clause-next g c =
+    let p = (goal.at.returns-in-Ok-clause-next g c).After-put_tile in
+    step.is_next (from g p) c.step_grow.new.self c.in-Ok.ensures.frame c.step_grow.new.tile c.in-Ok.field-0 c.in-Ok.ensures.crossed
     _ (passed g p) c.admit.result c.admit.new.self c.admit.ensures.admitted c.admit.ensures.same_ends
-
-pub returns-in-Ok-clause-one_more : goal.returns-in-Ok-clause-one_more
-returns-in-Ok-clause-one_more g c =
-    let p = (goal.at.returns-in-Ok-clause-one_more g c).After-put_tile in
-    step.one_more (from g p) c.step_grow.new.self c.in-Ok.ensures.frame c.step_grow.new.tile c.in-Ok.field-0 c.in-Ok.ensures.crossed
-    _ (passed g p) c.admit.result c.admit.new.self c.admit.ensures.admitted
 
 pub returns-in-Ok-clause-not_beyond : goal.returns-in-Ok-clause-not_beyond
 returns-in-Ok-clause-not_beyond g c =
@@ -202,4 +185,4 @@ pub returns-in-Err-clause-cause : goal.returns-in-Err-clause-cause
 returns-in-Err-clause-cause g c =
     let p = (goal.at.returns-in-Err-clause-cause g c).After-put_tile in
     step.at_limit (from g p) (c.in-Err.ensures.limit_exactly.0 refl) c.step_grow.new.self c.in-Err.ensures.frame
-    c.in-Err.ensures.deepest_at_limit c.in-Err.limit.addr c.in-Err.ensures.limit_tile c.in-Err.limit.edge c.in-Err.ensures.limit_edge
+    c.in-Err.ensures.limit.deepest c.in-Err.limit.addr c.in-Err.ensures.limit.tile c.in-Err.limit.edge c.in-Err.ensures.limit.edge

@@ -50,8 +50,8 @@ returns-in_err-tile-clause-frame c = c.contain.ensures.frame
 pub returns-in_err-tile-clause-right : goal.returns-in_err-tile-clause-right
 returns-in_err-tile-clause-right c = IfOk-from_err c.from_residual.result _ c.from_residual.ensures.0
 
-pub returns-in_err-tile-clause-its_window : goal.returns-in_err-tile-clause-its_window
-returns-in_err-tile-clause-its_window c = IfOk-from_err c.from_residual.result _ c.from_residual.ensures.0
+pub returns-in_err-tile-clause-begun : goal.returns-in_err-tile-clause-begun
+returns-in_err-tile-clause-begun c = IfOk-from_err c.from_residual.result _ c.from_residual.ensures.0
 
 pub returns-in_err-tile-clause-one_tile : goal.returns-in_err-tile-clause-one_tile
 returns-in_err-tile-clause-one_tile c = IfOk-from_err c.from_residual.result _ c.from_residual.ensures.0
@@ -65,8 +65,8 @@ returns-in_err-admit-clause-frame c = c.contain.ensures.frame
 pub returns-in_err-admit-clause-right : goal.returns-in_err-admit-clause-right
 returns-in_err-admit-clause-right c = IfOk-from_err c.from_residual-in_err-admit.result _ c.from_residual-in_err-admit.ensures.0
 
-pub returns-in_err-admit-clause-its_window : goal.returns-in_err-admit-clause-its_window
-returns-in_err-admit-clause-its_window c = IfOk-from_err c.from_residual-in_err-admit.result _ c.from_residual-in_err-admit.ensures.0
+pub returns-in_err-admit-clause-begun : goal.returns-in_err-admit-clause-begun
+returns-in_err-admit-clause-begun c = IfOk-from_err c.from_residual-in_err-admit.result _ c.from_residual-in_err-admit.ensures.0
 
 pub returns-in_err-admit-clause-one_tile : goal.returns-in_err-admit-clause-one_tile
 returns-in_err-admit-clause-one_tile c = IfOk-from_err c.from_residual-in_err-admit.result _ c.from_residual-in_err-admit.ensures.0
@@ -82,8 +82,8 @@ returns-in_err-tile-clause-cause c = if_err-is
     (HasCause (tiling_of c.args.machine.now) c.args.frame.now c.contain.new.self c.args.window.now)
     c.from_residual.result (CoordLimit c.in_err-tile.field-0.0.value) c.from_residual.ensures.1
     (inl (record {
-      is_first = c.in_err-tile.ensures.limit;
-      value_in_order = c.in_err-tile.ensures.limit_in_order;
+      is_first = c.in_err-tile.ensures.limit.first;
+      value_in_order = c.in_err-tile.ensures.limit.in_order;
     }))
 
 pub returns-in_err-admit-clause-answered : goal.returns-in_err-admit-clause-answered
@@ -203,13 +203,13 @@ returns-clause-right c =
     c.requires.window_fits tile c.in_ok-tile.ensures.stands c.in_ok-tile.ensures.only_tile
     c.contain.ensures.least c0 (working c.admit.new.self) empty c.in_ok-admit.ensures.admitted)
 
-pub returns-clause-its_window : goal.returns-clause-its_window
-returns-clause-its_window c =
+pub returns-clause-begun : goal.returns-clause-begun
+returns-clause-begun c =
     let m = c.args.machine.now in
     let f = c.args.frame.now in
     let k = c.contain.new.self in
     let w = c.args.window.now in
-    let B = brings (goal.at.returns-clause-its_window c).After-contain in
+    let B = brings (goal.at.returns-clause-begun c).After-contain in
     let tile = c.in_ok-tile.tile in
     let c0 : Working = record {
       window = w;
@@ -222,9 +222,12 @@ returns-clause-its_window c =
       found = found_in c.new-2.result.items xs;
       border = map packed (map unpacked b);
     }) c.new.ensures.items c.new-3.ensures in
-    its_window m B.settled B.fits B.laws f c.requires.frame k c.contain.ensures.frame w c.requires.window_fits
-    tile c.in_ok-tile.ensures.stands c.in_ok-tile.ensures.only_tile c.contain.ensures.least c0
-    (working c.admit.new.self) empty c.in_ok-admit.ensures.admitted
+    record {
+      its_window = its_window m B.settled B.fits B.laws f c.requires.frame k c.contain.ensures.frame w c.requires.window_fits
+          tile c.in_ok-tile.ensures.stands c.in_ok-tile.ensures.only_tile c.contain.ensures.least c0
+          (working c.admit.new.self) empty c.in_ok-admit.ensures.admitted;
+      centre_found = c.in_ok-tile.ensures.found_exactly.0 refl;
+    }
 
 pub returns-clause-one_tile : goal.returns-clause-one_tile
 returns-clause-one_tile c =
@@ -254,13 +257,3 @@ returns-clause-not_beyond c = not_beyond (goal.at.returns-clause-not_beyond c).A
 
 pub returns-clause-answered : goal.returns-clause-answered
 returns-clause-answered c = λ within. inr refl
-
--- ---- the values looked at for the centre
-pub returns-in_err-tile-clause-centre_found : goal.returns-in_err-tile-clause-centre_found
-returns-in_err-tile-clause-centre_found c = IfOk-from_err c.from_residual.result _ c.from_residual.ensures.0
-
-pub returns-in_err-admit-clause-centre_found : goal.returns-in_err-admit-clause-centre_found
-returns-in_err-admit-clause-centre_found c = IfOk-from_err c.from_residual-in_err-admit.result _ c.from_residual-in_err-admit.ensures.0
-
-pub returns-clause-centre_found : goal.returns-clause-centre_found
-returns-clause-centre_found c = c.in_ok-tile.ensures.found_exactly.0 refl

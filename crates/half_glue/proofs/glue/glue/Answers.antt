@@ -1,0 +1,27 @@
+use Rattle.std.proofs.Common.{List, IfOk, OnOk, length, subst}
+use Rattle.std.proofs.lemmas.Result.{IfOk-weaker}
+use Rattle.rule_model.specs.Tiling.{tiling_of}
+use Rattle.tile_place.specs.declared.placed_tile.PlacedTile.{PlacedTile}
+use Rattle.half_glue.specs.Depth.{IsLeastForGlue}
+use Rattle.half_glue.specs.Limits.{CanBeGlued}
+use Rattle.half_glue.specs.WholeTiles.{AreWholeTilesOf}
+use Rattle.half_glue.proofs.glue.glue.Goals as goal
+
+pub returns-clause-whole_tiles : goal.returns-clause-whole_tiles
+returns-clause-whole_tiles c =
+    subst (λ (ts : List PlacedTile). IfOk c.glued.result (λ wholes. AreWholeTilesOf (tiling_of c.args.machine.now) c.glued.new.frame ts wholes.items))
+    c.as_slice.ensures.value (IfOk-weaker c.glued.result _ _ (λ wholes h. h.whole_tiles) c.glued.ensures.glued)
+
+pub returns-clause-in_order : goal.returns-clause-in_order
+returns-clause-in_order c = IfOk-weaker c.glued.result _ _ (λ wholes h. h.in_order) c.glued.ensures.glued
+
+pub returns-clause-least : goal.returns-clause-least
+returns-clause-least c =
+    subst (λ (ts : List PlacedTile). OnOk c.glued.result (IsLeastForGlue (tiling_of c.args.machine.now) c.args.frame.now ts
+    (length c.glued.new.frame.digits)))
+    c.as_slice.ensures.value (IfOk-weaker c.glued.result _ _ (λ wholes h. h.least) c.glued.ensures.glued)
+
+pub returns-clause-within : goal.returns-clause-within
+returns-clause-within c =
+    subst (λ (ts : List PlacedTile). OnOk c.glued.result (CanBeGlued (tiling_of c.args.machine.now) c.args.frame.now ts))
+    c.as_slice.ensures.value (IfOk-weaker c.glued.result _ _ (λ wholes h. h.within) c.glued.ensures.glued)
