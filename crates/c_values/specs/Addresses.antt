@@ -2,16 +2,12 @@
 use Rattle.std.specs.Prelude.{◌≤◌, map, take}
 use Rattle.theory_addresses.specs.Address as theory
 use Rattle.rule_model.specs.Tiling.{Tiling, children}
-use Rattle.c_values.specs.declared.plain_address.PlainDigit.{PlainDigit}
+use Rattle.tile_shape.specs.Views.{step_of}
 use Rattle.c_values.specs.declared.plain_address.PlainAddress.{PlainAddress}
-
--- a digit, with its numbers as they are
-abbrev pub digit_in : PlainDigit → theory.Step
-digit_in d = record { child = d.child; parent = d.parent }
 
 -- an address: the kind, and the first `depth` digits
 abbrev pub address_in : PlainAddress → theory.Address
-address_in p = record { kind = p.kind; digits = map digit_in (take p.depth p.digits) }
+address_in p = record { kind = p.kind; digits = map step_of (take p.depth p.digits) }
 
 -- the numbers are the address of a tile of this tiling, with at most 64 digits
 pub record NamesTile (t : Tiling) (p : PlainAddress) : Type 0 where

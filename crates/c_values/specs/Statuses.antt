@@ -4,6 +4,9 @@ use Rattle.std.specs.Prelude.{ℕ}
 abbrev pub ok : ℕ
 ok = 0
 
+abbrev pub not_text : ℕ
+not_text = 1
+
 abbrev pub bad_words : ℕ
 bad_words = 2
 
@@ -36,3 +39,6 @@ no_vertex = 15
 
 abbrev pub star_too_big : ℕ
 star_too_big = 16
+
+abbrev pub bad_listing : ℕ
+bad_listing = 17

@@ -1,5 +1,5 @@
 //! Addresses as plain numbers.
-ghost use Rattle.std.specs.Prelude.{◌≡◌, ◌↔◌, ◌<◌, ◌≤◌, None, Some, IsSome, IfSome};
+ghost use Rattle.std.specs.Prelude.{◌≡◌, ◌↔◌, ◌<◌, ◌≤◌, take, None, Some, IsSome, IsTrue, IfSome};
 ghost use Rattle.theory_addresses.specs.Address.{Fits};
 ghost use Rattle.rule_model.specs.Tiling.{tiling_of, children};
 ghost use Rattle.tile_shape.specs.Views.{address_of};
@@ -9,21 +9,13 @@ use tile_place::machine::Machine;
 use tile_shape::address::Address;
 use tile_shape::step::Step;
 
-/// A digit: the tile below is child number `child` of a supertile of kind `parent`.
-#[repr(C)]
-#[derive(Clone, Copy)]
-pub struct PlainDigit {
-    pub child: u8,
-    pub parent: u8,
-}
-
 /// An address: the kind of the tile, and `depth` digits, finest first. The digits after them are not read.
 #[repr(C)]
 #[derive(Clone, Copy)]
 pub struct PlainAddress {
     pub kind: u8,
     pub depth: u8,
-    pub digits: [PlainDigit; 64],
+    pub digits: [Step; 64],
 }
 
 impl PlainAddress {
@@ -32,7 +24,7 @@ impl PlainAddress {
         PlainAddress {
             kind: 0,
             depth: 0,
-            digits: [PlainDigit {
+            digits: [Step {
                 child: 0,
                 parent: 0,
             }; 64],
@@ -48,15 +40,23 @@ impl PlainAddress {
             return None;
         }
         let mut addr = Address::new(self.kind);
-        let digits = &self.digits[..usize::from(self.depth)];
-        for i in 0..digits.len() {
-            let digit = digits[i];
-            let _ = addr.push_coarse(Step {
-                child: digit.child,
-                parent: digit.parent,
-            });
-        }
+        let _ = addr.digits.try_extend_from_slice(self.digits());
         Some(addr)
+    }
+
+    /// Returns the digits, finest first. The depth is at most 64.
+    pub fn digits(&self) -> &[Step]
+        requires no_deeper { self.now.depth ≤ 64 }
+        ensures { result.now ≡ take self.now.depth self.now.digits }
+    {
+        &self.digits[..usize::from(self.depth)]
+    }
+
+    /// Returns true if these numbers name a tile of the machine's rule.
+    pub fn names_tile(&self, machine: &Machine) -> bool
+        ensures { IsTrue result ↔ NamesTile (tiling_of machine.now) self.now }
+    {
+        self.depth <= 64 && machine.fits(self.kind, self.digits())
     }
 
     /// Returns the tile of the machine's rule that these numbers name, or None exactly if they name none.
@@ -65,9 +65,8 @@ impl PlainAddress {
         ensures fits { IfSome result (λ a. Fits (children (tiling_of machine.now)) (address_of a)) }
         ensures named { IsSome result ↔ NamesTile (tiling_of machine.now) self.now }
     {
-        let addr = self.read()?;
-        if machine.checked().uses().fits(&addr) {
-            Some(addr)
+        if self.names_tile(machine) {
+            self.read()
         } else {
             None
         }
@@ -81,12 +80,6 @@ impl PlainAddress {
         self.kind = addr.kind;
         self.depth = addr.depth();
         let digits = addr.digits.as_slice();
-        for i in 0..digits.len() {
-            let step = digits[i];
-            self.digits[i] = PlainDigit {
-                child: step.child,
-                parent: step.parent,
-            };
-        }
+        self.digits[..digits.len()].copy_from_slice(digits);
     }
 }

@@ -3,6 +3,9 @@
 /// The call succeeded.
 pub const OK: u8 = 0;
 
+/// An argument of the command is not UTF-8.
+pub const NOT_TEXT: u8 = 1;
+
 /// A number is out of range, the lengths of two arrays differ, or a name is unknown.
 pub const BAD_WORDS: u8 = 2;
 
@@ -30,8 +33,14 @@ pub const NO_MEMORY: u8 = 11;
 /// The tile does not have this edge.
 pub const NO_EDGE: u8 = 12;
 
+/// A line of a script has a fault.
+pub const BAD_SCRIPT: u8 = 13;
+
 /// The tile does not have this vertex.
 pub const NO_VERTEX: u8 = 15;
 
 /// More than 64 tiles have the vertex.
 pub const STAR_TOO_BIG: u8 = 16;
+
+/// The arrays, or the list, are not those of the window.
+pub const BAD_LISTING: u8 = 17;

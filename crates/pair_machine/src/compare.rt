@@ -7,7 +7,7 @@ use tile_shape::address::Address;
 use tile_shape::step::Step;
 
 /// Returns true if two addresses have a common supertile.
-pub(crate) fn have_common(a: &Address, b: &Address) -> bool
+pub fn have_common(a: &Address, b: &Address) -> bool
     ensures { IsTrue result ↔ HaveCommon (address_of a.now) (address_of b.now) }
 {
     let depth = a.depth();
@@ -18,7 +18,7 @@ pub(crate) fn have_common(a: &Address, b: &Address) -> bool
 }
 
 /// Returns true if two addresses are the same.
-pub(crate) fn are_same(addr: &Address, other: &Address) -> bool
+pub fn are_same(addr: &Address, other: &Address) -> bool
     ensures { IsTrue result ↔ (address_of addr.now ≡ address_of other.now) }
 {
     addr == other

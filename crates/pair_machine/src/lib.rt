@@ -9,7 +9,7 @@
 #![tactic(auto)]
 
 mod alike;
-mod compare;
+pub mod compare;
 pub mod edge_pair;
 mod itself;
 pub mod laws;

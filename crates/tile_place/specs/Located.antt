@@ -1,6 +1,7 @@
 -- What is answered of a point in a supertile that is moved.
-use Rattle.std.specs.Prelude.{◌≡◌, ℕ, true, List, map, find, None, Some}
+use Rattle.std.specs.Prelude.{◌≡◌, ℕ, ◌<◌, ◌≤◌, ◌^◌, true, List, length, map, find, None, Some}
 use Rattle.std.specs.declared.option.Option.{Option}
+use Rattle.theory_addresses.specs.Address.{depth, Fits}
 use Rattle.theory_addresses.specs.Search.{IsAmong}
 use Rattle.theory_substitution.specs.Motion.{followed}
 use Rattle.theory_substitution.specs.Plane.{plane_point}
@@ -12,9 +13,24 @@ use Rattle.theory_frames.specs.Outline.{supertile_holds}
 use Rattle.theory_frames.specs.Looked.{values_looked_at}
 use Rattle.cyclo_points.specs.Order.{NumberOf, points_of, is_refused}
 use Rattle.cyclo_points.specs.Point.{point_in, IsOf}
-use Rattle.rule_model.specs.Tiling.{Tiling, MotionOf}
+use Rattle.rule_model.specs.Tiling.{Tiling, MotionOf, children}
+use Rattle.tile_shape.specs.Views.{address_of}
 use Rattle.tile_place.specs.declared.locate_fault.LocateFault.{LocateFault}
 use Rattle.tile_place.specs.declared.locate_fault.LocateFault.TheVariants.{NotInside, CoordLimit}
+use Rattle.tile_place.specs.declared.placed_tile.PlacedTile.{PlacedTile}
+use Rattle.tile_place.specs.Motions.{IsMotionOf}
+
+-- there is a supertile of kind k and depth n: the kind exists, and the depth is at most 64
+pub record HasSupertile (t : Tiling) (k n : ℕ) : Type 0 where
+  pub exists : k < length t.rule.kinds
+  pub at_most_64 : n ≤ 64
+
+-- the tile has an address of n digits that fits, and its own kind is the address's; its motion is within the limits
+pub record IsOfSupertile (t : Tiling) (n : ℕ) (x : PlacedTile) : Type 0 where
+  pub its_kind : x.kind ≡ x.addr.kind
+  pub its_depth : depth (address_of x.addr) ≡ n
+  pub its_address : Fits (children t) (address_of x.addr)
+  pub moves : IsMotionOf t.order (2 ^ 24) x.motion
 
 -- the tiles of the supertile of kind k and depth n, moved by m: the motion of each in the supertile, followed
 -- by m

@@ -15,6 +15,7 @@
 
 mod compared;
 pub mod coord_limit;
+mod digits;
 mod edge_turns;
 mod glue;
 mod hold;

@@ -1,17 +1,16 @@
 //! The tile of a supertile that holds a point.
-ghost use Rattle.std.specs.Prelude.{◌≡◌, ◌↔◌, ◌<◌, ◌≤◌, ◌^◌, length, None, Some, Err, IsOk, IfOk, IfErr};
-ghost use Rattle.theory_addresses.specs.Address.{depth as depth_of, Fits};
+ghost use Rattle.std.specs.Prelude.{◌≡◌, ◌↔◌, ◌^◌, None, Some, Err, IsOk, IfOk, IfErr};
 ghost use Rattle.theory_substitution.specs.Motion.{followed};
 ghost use Rattle.theory_substitution.specs.Placement.{placement};
 ghost use Rattle.theory_frames.specs.Descent.{tile_holding};
 ghost use Rattle.cyclo_points.specs.Order.{points_of};
-ghost use Rattle.cyclo_points.specs.Point.{point_in, IsOf, IsWithin};
+ghost use Rattle.cyclo_points.specs.Point.{point_in, IsWithin};
 ghost use Rattle.cyclo_points.specs.Motion.{motion_in};
-ghost use Rattle.rule_model.specs.Tiling.{tiling_of, children};
+ghost use Rattle.rule_model.specs.Tiling.{tiling_of};
 ghost use Rattle.rule_model.specs.Views.{rule_of};
 ghost use Rattle.tile_shape.specs.Views.{address_of};
 ghost use Rattle.tile_place.specs.declared.locate_fault.LocateFault.TheVariants.{NotInside};
-ghost use Rattle.tile_place.specs.Located.{IsOnlyTileHolding, HasInside, first_refused_looked_at, IsCauseOf};
+ghost use Rattle.tile_place.specs.Located.{HasSupertile, IsOfSupertile, IsOnlyTileHolding, HasInside, first_refused_looked_at, IsCauseOf};
 ghost use Rattle.tile_place.specs.Motions.{IsMotionOf};
 ghost use Rattle.tile_place.specs.Searched.{placed_in};
 
@@ -46,21 +45,15 @@ impl Machine {
         at: &Motion,
         point: &Point,
     ) -> Result<PlacedTile, LocateFault>
-        requires exists { kind < length (rule_of self.now).kinds }
-        requires at_most_64 { depth ≤ 64 }
-        requires turn_below { at.now.turn < (points_of self.now.order).order }
-        requires at_within { IsWithin (2 ^ 24) at.now.shift }
-        requires at_in_order { IsOf self.now.order at.now.shift }
+        requires supertile { HasSupertile (tiling_of self.now) kind depth }
+        requires moves { IsMotionOf self.now.order (2 ^ 24) at.now }
         requires point_within { IsWithin (2 ^ 24) point.now }
 
         // In the plane: this is the only tile that holds the point.
         ensures only_tile { IfOk result (λ tile. IsOnlyTileHolding (tiling_of self.now) kind depth
             (motion_in self.now.order at.now)
             (point_in self.now.order point.now) (placed_in self.now.order tile)) }
-        ensures its_kind { IfOk result (λ tile. tile.kind ≡ tile.addr.kind) }
-        ensures its_depth { IfOk result (λ tile. depth_of (address_of tile.addr) ≡ depth) }
-        ensures its_address { IfOk result (λ tile. Fits (children (tiling_of self.now))
-            (address_of tile.addr)) }
+        ensures of_supertile { IfOk result (IsOfSupertile (tiling_of self.now) depth) }
         ensures its_motion { IfOk result (λ tile. motion_in self.now.order tile.motion ≡ followed
             (points_of self.now.order)
             (placement (points_of self.now.order) (rule_of self.now) (address_of tile.addr).digits)
@@ -77,7 +70,6 @@ impl Machine {
             (point_in self.now.order point.now)) }
         ensures fault { IfErr result (IsCauseOf (tiling_of self.now) kind depth
             (motion_in self.now.order at.now) (point_in self.now.order point.now)) }
-        ensures moves { IfOk result (λ tile. IsMotionOf self.now.order (2 ^ 24) tile.motion) }
 
         // As the definition of the descent computes it.
         ensures by_descent { IfOk result (λ tile. tile_holding (points_of self.now.order) (rule_of self.now)

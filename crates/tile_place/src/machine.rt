@@ -30,7 +30,6 @@ use rule_model::checked::Checked;
 use std::alloc::Global;
 use std::marker::Model;
 use std::sync::ledger::Ledger;
-use theory_dissection::laws::{across_law, boundary_law};
 use tile_shape::address::Address;
 use tile_shape::no_memory::NoMemory;
 use transducer_core::crossing::{Crossing, put_digits};
@@ -86,6 +85,13 @@ impl Machine {
         let _accepted = self.checked.rule();
         let _same_child_kinds = self.checked.tables();
         &self.checked
+    }
+
+    /// Returns the transducer of its contact tables.
+    pub(crate) fn transducer(&self) -> &Transducer
+        ensures { result.now ≡ contacts (tiling_of self.now) }
+    {
+        &self.transducer
     }
 
     /// Returns a vertex of a kind, turned by ζ^steps.
@@ -198,9 +204,7 @@ impl Machine {
         ensures inside { OnOk result (LiesAlongNone (tiling_of self.now) (address_of addr.old) edge) }
         ensures steps_within_bound { steps.new ≤ steps.old + (2 * depth (address_of addr.old) + 2) }
     {
-        let order = self.checked().order();
-        across_law(order);
-        boundary_law(order);
-        self.transducer.step_across_in_place(addr, edge, steps)
+        let digits = addr.digits.as_mut_slice();
+        self.cross_digits(&mut addr.kind, digits, edge, steps)
     }
 }

@@ -5,6 +5,7 @@ ghost use Rattle.cyclo_points.specs.Order.{points_of, is_refused};
 ghost use Rattle.cyclo_points.specs.Point.{point_in, IsOf, IsWithin};
 ghost use Rattle.cyclo_points.specs.Motion.{motion_in};
 ghost use Rattle.rule_model.specs.Views.{rule_of};
+ghost use Rattle.tile_place.specs.Motions.{IsMotionOf};
 
 use crate::coord_limit::CoordLimit;
 use crate::machine::Machine;
@@ -27,9 +28,7 @@ impl Machine {
     ) -> Result<ArrayVec<Point, 12>, CoordLimit>
         requires exists { kind < length (rule_of self.now).kinds }
         requires scale_within { IsWithin (2 ^ 24) scale.now }
-        requires turn_below { at.now.turn < (points_of self.now.order).order }
-        requires at_within { IsWithin (2 ^ 24) at.now.shift }
-        requires at_in_order { IsOf self.now.order at.now.shift }
+        requires moves { IsMotionOf self.now.order (2 ^ 24) at.now }
         ensures vertices { IfOk result (λ corners. map (point_in self.now.order) corners.items
             ≡ outline (points_of self.now.order) (rule_of self.now) kind (point_in self.now.order scale.now)
             (motion_in self.now.order at.now)) }

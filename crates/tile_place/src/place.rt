@@ -1,12 +1,14 @@
 //! Where a tile lies in its supertile, by Horner's scheme on the digits of its address.
-ghost use Rattle.std.specs.Prelude.{◌≡◌, ◌<◌, ◌^◌, ℕ, length, map, None, Some, IfOk, IfErr};
+ghost use Rattle.std.specs.Prelude.{◌≡◌, ◌<◌, ◌+◌, ◌%◌, ◌^◌, ℕ, length, map, None, Some, IfOk, IfErr};
 ghost use Rattle.theory_addresses.specs.Address.{Climbs, Fits};
 ghost use Rattle.theory_substitution.specs.Rule.{children_of};
+ghost use Rattle.theory_substitution.specs.Motion.{still};
 ghost use Rattle.theory_substitution.specs.Placement.{finer, placement};
 ghost use Rattle.cyclo_points.specs.Order.{points_of};
 ghost use Rattle.cyclo_points.specs.Point.{point_in, IsOf, IsWithin};
 ghost use Rattle.cyclo_points.specs.Motion.{motion_in};
 ghost use Rattle.rule_model.specs.Tiling.{tiling_of, children, its_child, IsPlaced};
+ghost use Rattle.rule_model.specs.Usable.{IsSmall};
 ghost use Rattle.tile_shape.specs.Views.{address_of, step_of};
 ghost use Rattle.tile_place.specs.Placing.{first_refused};
 
@@ -14,6 +16,7 @@ use crate::coord_limit::CoordLimit;
 use cyclo_points::arithmetic::{add, refused};
 use cyclo_points::motion::Motion;
 use cyclo_points::order::Order;
+use cyclo_points::point::Point;
 use cyclo_points::product::mul;
 use cyclo_points::rotation::turn;
 use cyclo_points::{placement_law, points_law};
@@ -86,11 +89,16 @@ fn horner<P: Placing>(rule: &P, order: Order, digits: &[Step]) -> Result<Motion,
         ≡ Some (point_in (P.tiling rule.now).order limit.value)) }
     ensures limit_in_order { IfErr result (λ limit. IsOf (P.tiling rule.now).order limit.value) }
 {
-    let mut motion = Motion::default();
     let mut level = digits.len();
+    if level == 0 {
+        return Ok(Motion::default());
+    }
+    level -= 1;
+    let factor = rule.factor();
+    let mut motion = coarsest(rule, order, digits[level]);
     while level > 0 {
         level -= 1;
-        motion = finer(rule, order, &motion, digits[level]);
+        motion = finer(rule, order, &factor, &motion, digits[level]);
         if refused(&motion.shift) {
             return Err(CoordLimit {
                 value: motion.shift,
@@ -100,10 +108,35 @@ fn horner<P: Placing>(rule: &P, order: Order, digits: &[Step]) -> Result<Motion,
     Ok(motion)
 }
 
+/// Returns the motion of a child of the supertile itself. It is one level finer than the motion that moves
+/// nothing.
+#[inline(always)]
+fn coarsest<P: Placing>(rule: &P, order: Order, step: Step) -> Motion
+    requires order { order ≡ (P.tiling rule.now).order }
+    requires parent { step.parent < length (P.tiling rule.now).rule.kinds }
+    requires child { step.child < length (children_of (P.tiling rule.now).rule step.parent) }
+    ensures moved { motion_in (P.tiling rule.now).order result
+        ≡ finer (points_of (P.tiling rule.now).order) (P.tiling rule.now).rule
+        (still (points_of (P.tiling rule.now).order))
+        (its_child (P.tiling rule.now) step.parent step.child).motion }
+    ensures turn_below { result.turn < (points_of (P.tiling rule.now).order).order }
+    ensures within { IsWithin (2 ^ 24) result.shift }
+    ensures in_order { IsOf (P.tiling rule.now).order result.shift }
+{
+    points_law(order);
+    let child = rule.child(step.parent, step.child);
+    Motion {
+        turn: child.turn,
+        shift: child.shift,
+    }
+}
+
 /// Goes one level finer: from the motion of a tile's ancestor to the motion of that ancestor's child.
 #[inline(always)]
-fn finer<P: Placing>(rule: &P, order: Order, motion: &Motion, step: Step) -> Motion
+fn finer<P: Placing>(rule: &P, order: Order, factor: &Point, motion: &Motion, step: Step) -> Motion
     requires order { order ≡ (P.tiling rule.now).order }
+    requires factor { point_in (P.tiling rule.now).order factor.now ≡ (P.tiling rule.now).rule.factor }
+    requires small_factor { IsSmall (P.tiling rule.now).order factor.now }
     requires parent { step.parent < length (P.tiling rule.now).rule.kinds }
     requires child { step.child < length (children_of (P.tiling rule.now).rule step.parent) }
     requires turn_below { motion.now.turn < (points_of (P.tiling rule.now).order).order }
@@ -117,10 +150,23 @@ fn finer<P: Placing>(rule: &P, order: Order, motion: &Motion, step: Step) -> Mot
 {
     points_law(order);
     let child = rule.child(step.parent, step.child);
-    let inflated = mul(order, &motion.shift, &rule.factor());
+    let inflated = mul(order, &motion.shift, factor);
     let turned = turn(order, motion.turn, &child.shift);
     Motion {
-        turn: (motion.turn + child.turn) % order.n(),
+        turn: turn_after(order, motion.turn, child.turn),
         shift: add(&inflated, &turned),
     }
+}
+
+/// Returns the turn that two turns make, one after the other.
+#[inline(always)]
+fn turn_after(order: Order, first: u8, second: u8) -> u8
+    requires first_below { first < (points_of order).order }
+    requires second_below { second < (points_of order).order }
+    ensures sum { result ≡ (first + second) % (points_of order).order }
+    ensures below { result < (points_of order).order }
+{
+    let sum = first + second;
+    let n = order.n();
+    if sum < n { sum } else { sum - n }
 }

@@ -13,3 +13,5 @@ mod Standing
 mod Strides
 pub mod OneOutside
 pub mod HandedOn
+mod KindCells
+pub mod Refilled

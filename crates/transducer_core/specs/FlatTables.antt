@@ -6,7 +6,7 @@ use Rattle.theory_addresses.specs.Tables.{Tables, KindTables, child_kinds}
 use Rattle.transducer_core.specs.declared.joined.Joined.{Joined}
 use Rattle.transducer_core.specs.declared.merging.Merged.{Merged}
 use Rattle.transducer_core.specs.Flat.{Lists, lists_of, mates_in, subs_in, types_in, children_in, pieces}
-use Rattle.transducer_core.specs.Merged.{AreSpread, IsMerged}
+use Rattle.transducer_core.specs.Merged.{AreSpread, AreFilled, IsMerged}
 use Rattle.transducer_core.specs.Merging.{AreKept}
 use Rattle.transducer_core.specs.Words.{contact_words, part_words}
 
@@ -42,5 +42,6 @@ pub record IsFlat (t : Tables) (joined : Joined) (kinds : Vec ℕ Global) (conta
   pub coherent : IsCoherent t
   pub lists_at : AreKept (lists_of t) joined.items.items joined.ends.items
   pub kinds_at : AreSpread (kind_rows t) kinds.items
+  pub kinds_filled : AreFilled (kind_rows t) kinds.items
   pub contacts_at : IsMerged (contact_rows t) contacts.starts.items contacts.words.items contacts.count
   pub parts_at : IsMerged (part_rows t) parts.starts.items parts.words.items parts.count

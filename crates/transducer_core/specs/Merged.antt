@@ -1,5 +1,5 @@
 -- Blocks of numbers, one after another in one list, equal ones only once.
-use Rattle.std.specs.Prelude.{◌≡◌, ℕ, ◌+◌, ◌*◌, List, ◌++◌, Some, length, slice_get}
+use Rattle.std.specs.Prelude.{◌≡◌, ℕ, ◌+◌, ◌*◌, ◌<◌, List, ◌++◌, Some, length, slice_get}
 use Rattle.std.specs.List.{flat_map, concat}
 use Rattle.transducer_core.specs.Once.{AreOnce}
 
@@ -35,6 +35,16 @@ pub record IsMerged (rows : List (List (List ℕ))) (starts words : List ℕ) (c
 -- number c of row k is at 256 k + c in the list
 abbrev pub AreSpread : {A : Type 0} → List (List A) → List A → Type 0
 AreSpread {A} rows flat = (k c : ℕ) (row : List A) (x : A) → slice_get rows k ≡ Some row → slice_get row c ≡ Some x → slice_get flat (256 * k + c) ≡ Some x
+
+-- what fills up a row of 256 times each kind: it is 256 times no kind
+abbrev pub no_row : ℕ
+no_row = 65535
+
+-- the list has 256 numbers for each row, and fills up each row with what is no row's
+pub record AreFilled (rows : List (List ℕ)) (flat : List ℕ) : Type 0 where
+  pub size : length flat ≡ 256 * length rows
+  pub no_other : (k c x : ℕ) → c < 256 → slice_get flat (256 * k + c) ≡ Some x → (x ≡ no_row → ⊥)
+      → (row : List ℕ) × (slice_get rows k ≡ Some row) × (slice_get row c ≡ Some x)
 
 -- the word at a place of a block, found by the start of the block, which is written at a cell
 pub record HasEntry (starts words : List ℕ) (cell place word : ℕ) : Type 0 where

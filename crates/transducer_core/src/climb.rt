@@ -1,9 +1,9 @@
 //! The way up from an edge, to where it is another child's edge or to the top.
-ghost use Rattle.std.specs.Prelude.{◌≡◌, ◌+◌, ◌*◌, ◌^◌, ◌<◌, ◌≤◌, ℕ, length, IsSome, IfOk, IfErr, OnOk};
+ghost use Rattle.std.specs.Prelude.{◌≡◌, ◌+◌, ◌*◌, ◌^◌, ◌<◌, ◌≤◌, ℕ, length, map, IsSome, IfOk, IfErr, OnOk};
 ghost use Rattle.theory_addresses.specs.Address.{Fits};
 ghost use Rattle.theory_addresses.specs.Coherent.{IsCoherent};
 ghost use Rattle.theory_addresses.specs.Tables.{child_kinds, type_of};
-ghost use Rattle.tile_shape.specs.Views.{address_of};
+ghost use Rattle.tile_shape.specs.Views.{step_of};
 ghost use Rattle.transducer_core.specs.Climbing.{EndsClimb, GoesUp};
 ghost use Rattle.transducer_core.specs.Merged.{HasEntry};
 
@@ -12,7 +12,6 @@ use crate::flat_table::FlatTable;
 use crate::spread::cell;
 use edge_tables::steps::Steps;
 use std::sync::ledger::Ledger;
-use tile_shape::address::Address;
 use tile_shape::step::Step;
 
 /// The level at which an edge is also another child's edge: the cell of the digit there, and the word of the
@@ -63,21 +62,24 @@ fn rise<L: Ledger>(
 /// child's edge.
 pub(crate) fn climb<L: Ledger>(
     tables: &FlatTable,
-    addr: &Address,
+    kind: u8,
+    digits: &[Step],
     edge: u8,
     parts: &mut [u8; 64],
     steps: &mut Steps<L>,
 ) -> Result<u8, Meeting>
     requires coherent { IsCoherent tables.now }
-    requires fits { Fits (child_kinds tables.now) (address_of addr.now) }
-    requires edge_exists { IsSome (type_of tables.now addr.now.kind edge) }
-    ensures ends { EndsClimb tables.now (address_of addr.now) edge parts.new result }
-    ensures within { IfErr result (λ m. m.level < length addr.now.digits.items) }
-    ensures a_step_a_level { OnOk result (steps.new ≤ steps.old + length addr.now.digits.items) }
+    requires fits { Fits (child_kinds tables.now) (record { kind = kind; digits = map step_of digits.now }) }
+    requires no_deeper { length digits.now ≤ 64 }
+    requires edge_exists { IsSome (type_of tables.now kind edge) }
+    ensures ends { EndsClimb tables.now (record { kind = kind; digits = map step_of digits.now }) edge
+        parts.new result }
+    ensures within { IfErr result (λ m. m.level < length digits.now) }
+    ensures a_step_a_level { OnOk result (steps.new ≤ steps.old + length digits.now) }
     ensures a_step_more_where_it_meets { IfErr result (λ m. steps.new ≤ steps.old + m.level + 1) }
 {
     let contacts = tables.contacts();
-    let digits = addr.digits.as_slice();
+    let _kind = kind;
     let depth = digits.len();
     let mut own = usize::from(edge);
     let mut level = 0usize;

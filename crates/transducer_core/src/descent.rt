@@ -4,7 +4,7 @@ ghost use Rattle.theory_addresses.specs.Address.{Fits};
 ghost use Rattle.theory_addresses.specs.Coherent.{IsCoherent};
 ghost use Rattle.theory_addresses.specs.Tables.{child_kinds, type_of};
 ghost use Rattle.theory_addresses.specs.Touch.{Touches};
-ghost use Rattle.tile_shape.specs.Views.{address_of, step_of};
+ghost use Rattle.tile_shape.specs.Views.{step_of};
 ghost use Rattle.transducer_core.specs.Climbing.{MeetsAt};
 ghost use Rattle.transducer_core.specs.Descending.{GoesDown, StartsDown};
 ghost use Rattle.transducer_core.specs.Merged.{HasEntry};
@@ -16,7 +16,6 @@ use crate::spread::{cell, digit_at};
 use crate::words::part_in;
 use edge_tables::steps::Steps;
 use std::sync::ledger::Ledger;
-use tile_shape::address::Address;
 use tile_shape::step::Step;
 
 /// An edge of a child on the way down: 256 times the child's kind, and the number of the edge.
@@ -110,24 +109,29 @@ fn write_down<L: Ledger>(
     side
 }
 
-/// Descends from a meeting along the mirrored parts. Replaces the address by that of the tile across, and
-/// returns the edge of that tile.
+/// Descends from a meeting along the mirrored parts. Replaces the kind and the digits by those of the tile
+/// across, and returns the edge of that tile.
 pub(crate) fn descend<L: Ledger>(
     tables: &FlatTable,
-    addr: &mut Address,
+    kind: &mut u8,
+    digits: &mut [Step],
     meeting: Meeting,
     parts: &[u8],
     steps: &mut Steps<L>,
 ) -> u8
     requires coherent { IsCoherent tables.now }
-    requires met { (e : ℕ) × StartsDown tables.now (address_of addr.old) e meeting parts.now }
-    ensures touches { (e : ℕ) → StartsDown tables.now (address_of addr.old) e meeting parts.now
-        → Touches tables.now (address_of addr.old) e (address_of addr.new) result }
-    ensures fits { Fits (child_kinds tables.now) (address_of addr.new) }
-    ensures edge_exists { IsSome (type_of tables.now addr.new.kind result) }
+    requires met { (e : ℕ) × StartsDown tables.now
+        (record { kind = kind.old; digits = map step_of digits.old }) e meeting parts.now }
+    ensures touches { (e : ℕ) → StartsDown tables.now
+        (record { kind = kind.old; digits = map step_of digits.old }) e meeting parts.now
+        → Touches tables.now (record { kind = kind.old; digits = map step_of digits.old }) e
+        (record { kind = kind.new; digits = map step_of digits.new }) result }
+    ensures fits { Fits (child_kinds tables.now)
+        (record { kind = kind.new; digits = map step_of digits.new }) }
+    ensures edge_exists { IsSome (type_of tables.now kind.new result) }
     ensures a_step_a_level { steps.new ≡ steps.old + meeting.level }
 {
-    let side = write_down(tables, addr.digits.as_mut_slice(), meeting, parts, steps);
-    addr.kind = (side.row / 256) as u8;
+    let side = write_down(tables, digits, meeting, parts, steps);
+    *kind = (side.row / 256) as u8;
     side.edge as u8
 }

@@ -1,11 +1,13 @@
 //! Contact tables in flat lists, and the look-ups in them.
-ghost use Rattle.std.specs.Prelude.{◌≡◌, ◌+◌, Some, IsSome, IfOk};
+ghost use Rattle.std.specs.Prelude.{◌≡◌, ◌↔◌, ◌<◌, ◌+◌, ◌*◌, ◌/◌, map, slice_get, Some, IsSome, IsTrue, IfOk, IfSome};
 ghost use Rattle.theory_addresses.specs.Coherent.{IsCoherent};
-ghost use Rattle.theory_addresses.specs.Tables.{type_of, contact_of, part_of, part_count};
+ghost use Rattle.theory_addresses.specs.Address.{Climbs, Fits};
+ghost use Rattle.theory_addresses.specs.Tables.{child_kinds, type_of, contact_of, part_of, part_count};
 ghost use Rattle.edge_tables.specs.Views.{as_contact, as_child_edge};
+ghost use Rattle.tile_shape.specs.Views.{step_of};
 ghost use Rattle.transducer_core.specs.Blocks.{contact_blocks, part_blocks};
 ghost use Rattle.transducer_core.specs.FlatTables.{contact_rows, part_rows, kind_rows};
-ghost use Rattle.transducer_core.specs.Merged.{AllBegin, AreSpread};
+ghost use Rattle.transducer_core.specs.Merged.{AllBegin, AreSpread, AreFilled};
 ghost use Rattle.transducer_core.specs.Once.{HasDifferent};
 
 use crate::blocks::Blocks;
@@ -22,6 +24,7 @@ use std::alloc::Global;
 use std::marker::Model;
 use std::sync::ledger::Ledger;
 use tile_shape::no_memory::NoMemory;
+use tile_shape::step::Step;
 
 /// Contact tables in flat lists. Contracts see them as those tables.
 ///
@@ -92,6 +95,49 @@ impl FlatTable {
         part_in(parts.look_up(cell(kind, edge), usize::from(across), steps))
     }
 
+    /// Returns true if the kind exists and each digit's child has the kind below it.
+    pub fn fits(&self, kind: u8, digits: &[Step]) -> bool
+        ensures { IsTrue result ↔ Fits (child_kinds self.now)
+            (record { kind = kind; digits = map step_of digits.now }) }
+    {
+        let row = u16::from(kind) * 256;
+        if usize::from(row) >= self.child_kinds().len() {
+            return false;
+        }
+        self.top_row(row, digits).is_some()
+    }
+
+    /// Returns 256 times the kind to which digits climb from a kind, of which 256 times is given. None if they
+    /// do not climb.
+    #[inline]
+    fn top_row(&self, from: u16, digits: &[Step]) -> Option<u16>
+        requires row { from ≡ 256 * (from / 256) }
+        ensures { IsSome result ↔ Climbs (child_kinds self.now) (from / 256) (map step_of digits.now) }
+    {
+        let kinds = self.child_kinds();
+        let depth = digits.len();
+        let mut row = from;
+        let mut level = 0usize;
+        if depth % 2 == 1 {
+            let Some(next) = row_above(kinds, digits[0], row) else {
+                return None;
+            };
+            row = next;
+            level = 1;
+        }
+        while level < depth {
+            let Some(next) = row_above(kinds, digits[level], row) else {
+                return None;
+            };
+            let Some(top) = row_above(kinds, digits[level + 1], next) else {
+                return None;
+            };
+            row = top;
+            level += 2;
+        }
+        Some(row)
+    }
+
     /// Returns the contact blocks.
     pub(crate) fn contacts(&self) -> Blocks<'_>
         ensures { AllBegin (contact_rows self.now) result.starts.now result.words.now }
@@ -109,7 +155,8 @@ impl FlatTable {
 
     /// Returns 256 times the kind of each child, at its cell.
     pub(crate) fn child_kinds(&self) -> &[u16]
-        ensures { AreSpread (kind_rows self.now) result.now }
+        ensures spread { AreSpread (kind_rows self.now) result.now }
+        ensures filled { AreFilled (kind_rows self.now) result.now }
     {
         self.child_kinds.as_slice()
     }
@@ -148,5 +195,19 @@ impl FlatTable {
         ensures { IsCoherent self.now }
     {
         let _fields = self.contacts.count;
+    }
+}
+
+/// Returns 256 times the parent's kind of a digit if this is 256 times its child's kind.
+#[inline]
+fn row_above(kinds: &[u16], digit: Step, row: u16) -> Option<u16>
+    ensures there { IsSome result ↔ (slice_get kinds.now (256 * digit.parent + digit.child) ≡ Some row) }
+    ensures above { IfSome result (λ next. next ≡ 256 * digit.parent) }
+    ensures small { digit.child < 256 }
+{
+    let at = cell(digit.parent, digit.child);
+    match kinds.get(at) {
+        Some(found) if *found == row => Some((at / 256 * 256) as u16),
+        _ => None,
     }
 }

@@ -1,9 +1,9 @@
 //! The machine that finds the tile across an edge.
-ghost use Rattle.std.specs.Prelude.{◌≡◌, ◌+◌, ◌*◌, ◌≤◌, ◌-◌, length, slice_index, IsSome, IfOk};
+ghost use Rattle.std.specs.Prelude.{◌≡◌, ◌+◌, ◌*◌, ◌≤◌, ◌-◌, ◌↔◌, length, map, slice_index, IsSome, IsTrue, IfOk, OnErr};
 ghost use Rattle.theory_addresses.specs.Address.{depth, Fits};
 ghost use Rattle.theory_addresses.specs.Coherent.{IsCoherent};
 ghost use Rattle.theory_addresses.specs.Tables.{child_kinds, type_of};
-ghost use Rattle.tile_shape.specs.Views.{address_of};
+ghost use Rattle.tile_shape.specs.Views.{address_of, step_of};
 ghost use Rattle.transducer_core.specs.Crossed.{IsCrossing, IsCrossingInPlace};
 
 use crate::climb::climb;
@@ -18,6 +18,7 @@ use std::marker::Model;
 use std::sync::ledger::Ledger;
 use tile_shape::address::Address;
 use tile_shape::no_memory::NoMemory;
+use tile_shape::step::Step;
 
 /// Finds the tile across an edge by contact tables. Contracts see it as those tables.
 #[derive(Drop)]
@@ -104,18 +105,49 @@ impl Transducer {
         ensures crossing { IsCrossingInPlace self.now addr.old edge result addr.new }
         ensures steps_within_bound { steps.new ≤ steps.old + (2 * depth (address_of addr.old) + 2) }
     {
-        let depth = addr.digits.len();
+        let digits = addr.digits.as_mut_slice();
+        self.step_across_digits(&mut addr.kind, digits, edge, steps)
+    }
+
+    /// Like [`step_across_in_place`](Self::step_across_in_place), for a kind and at most 64 digits, finest
+    /// first.
+    pub fn step_across_digits<L: Ledger>(
+        &self,
+        kind: &mut u8,
+        digits: &mut [Step],
+        edge: u8,
+        steps: &mut Steps<L>,
+    ) -> Result<u8, Outside>
+        requires fits { Fits (child_kinds self.now)
+            (record { kind = kind.old; digits = map step_of digits.old }) }
+        requires no_deeper { length digits.old ≤ 64 }
+        requires edge_exists { IsSome (type_of self.now kind.old edge) }
+        ensures crossing { IsCrossing self.now (record { kind = kind.old; digits = map step_of digits.old })
+            edge result (λ _. record { kind = kind.new; digits = map step_of digits.new }) (λ back. back) }
+        ensures kind_unchanged { OnErr result (kind.new ≡ kind.old) }
+        ensures digits_unchanged { OnErr result (digits.new ≡ digits.old) }
+        ensures steps_within_bound { steps.new ≤ steps.old + (2 * length digits.old + 2) }
+    {
+        let depth = digits.len();
         let mut parts = [0u8; 64];
-        match climb(&self.flat, addr, edge, &mut parts, steps) {
+        match climb(&self.flat, *kind, digits, edge, &mut parts, steps) {
             Ok(edge) => {
                 let part = top_part(&parts[..depth]);
                 Err(Outside { edge, part })
             }
             Err(meeting) => {
                 let parts = &parts[..meeting.level];
-                Ok(descend(&self.flat, addr, meeting, parts, steps))
+                Ok(descend(&self.flat, kind, digits, meeting, parts, steps))
             }
         }
+    }
+
+    /// Returns true if the kind exists and each digit's child has the kind below it.
+    pub fn fits(&self, kind: u8, digits: &[Step]) -> bool
+        ensures { IsTrue result ↔ Fits (child_kinds self.now)
+            (record { kind = kind; digits = map step_of digits.now }) }
+    {
+        self.flat.fits(kind, digits)
     }
 }
 

@@ -9,7 +9,7 @@ invariant-loop-level g l = record {
   inside : l.level ≤ l.depth;
   long : length l.parts ≡ 64;
   cost : l.steps ≤ l.fn.steps + l.level;
-  rising : Rising l.tables l.addr.kind (map step_of l.addr.digits.items) l.fn.edge l.level l.own (take l.level l.parts);
+  rising : Rising l.tables l.kind (map step_of l.digits) l.fn.edge l.level l.own (take l.level l.parts);
 }
 
 abbrev pub decreases-loop-level : goal.decreases-loop-level

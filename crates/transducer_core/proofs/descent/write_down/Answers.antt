@@ -13,20 +13,20 @@ overflow_cast-parent g c = omega (
   arith,
   Falls.parent_small c.args.tables.now c.args.digits.now c.args.meeting
       c.args.parts.now c.parts-blocks.result.starts.now c.parts-blocks.result.words.now
-      c.child_kinds-kinds.result.now c.requires.coherent c.parts-blocks.ensures c.child_kinds-kinds.ensures
+      c.child_kinds-kinds.result.now c.requires.coherent c.parts-blocks.ensures c.child_kinds-kinds.ensures.spread
       c.requires.met,
 )
 
 pub bounds-digits-meeting : goal.bounds-digits-meeting
 bounds-digits-meeting g c = Falls.inside c.args.tables.now c.args.digits.now c.args.meeting c.args.parts.now
     c.parts-blocks.result.starts.now c.parts-blocks.result.words.now c.child_kinds-kinds.result.now
-    c.requires.coherent c.parts-blocks.ensures c.child_kinds-kinds.ensures c.requires.met
+    c.requires.coherent c.parts-blocks.ensures c.child_kinds-kinds.ensures.spread c.requires.met
 
 pub offset_bounds-kinds-cell : goal.offset_bounds-kinds-cell
 offset_bounds-kinds-cell g c =
     let there = Falls.cell_there c.args.tables.now c.args.digits.now c.args.meeting c.args.parts.now
     c.parts-blocks.result.starts.now c.parts-blocks.result.words.now c.child_kinds-kinds.result.now
-    c.requires.coherent c.parts-blocks.ensures c.child_kinds-kinds.ensures c.requires.met
+    c.requires.coherent c.parts-blocks.ensures c.child_kinds-kinds.ensures.spread c.requires.met
     c.part_in-met.result.child c.cell.result (ap (λ (x : ChildEdge). x.child) c.part_in-met.ensures)
     c.cell.ensures in
     omega (arith, slice_get_within c.child_kinds-kinds.result.now c.cell.result there.0 there.1, c.child_kinds-kinds.type_inv)
@@ -35,7 +35,7 @@ pub bounds-kinds-cell : goal.bounds-kinds-cell
 bounds-kinds-cell g c =
     let there = Falls.cell_there c.args.tables.now c.args.digits.now c.args.meeting c.args.parts.now
     c.parts-blocks.result.starts.now c.parts-blocks.result.words.now c.child_kinds-kinds.result.now
-    c.requires.coherent c.parts-blocks.ensures c.child_kinds-kinds.ensures c.requires.met
+    c.requires.coherent c.parts-blocks.ensures c.child_kinds-kinds.ensures.spread c.requires.met
     c.part_in-met.result.child c.cell.result (ap (λ (x : ChildEdge). x.child) c.part_in-met.ensures)
     c.cell.ensures in
     slice_get_within c.child_kinds-kinds.result.now c.cell.result there.0 there.1
@@ -45,7 +45,7 @@ bounds-digits-level g c = omega (
   arith,
   Falls.inside c.args.tables.now c.args.digits.now c.args.meeting
       c.args.parts.now c.parts-blocks.result.starts.now c.parts-blocks.result.words.now
-      c.child_kinds-kinds.result.now c.requires.coherent c.parts-blocks.ensures c.child_kinds-kinds.ensures
+      c.child_kinds-kinds.result.now c.requires.coherent c.parts-blocks.ensures c.child_kinds-kinds.ensures.spread
       c.requires.met,
   length-set c.args.digits.now c.args.meeting.level
       (record { child = c.part_in-met.result.child; parent = c.args.meeting.at / 256 }),
@@ -59,14 +59,14 @@ fall-side-requires g c =
     (record { row = c.from.result; edge = c.from-2.result }) =
     Falls.begun c.args.tables.now c.args.digits.now c.args.meeting c.args.parts.now
     c.parts-blocks.result.starts.now c.parts-blocks.result.words.now c.child_kinds-kinds.result.now
-    c.requires.coherent c.parts-blocks.ensures c.child_kinds-kinds.ensures c.requires.met
+    c.requires.coherent c.parts-blocks.ensures c.child_kinds-kinds.ensures.spread c.requires.met
     c.part_in-met.result.child c.from-2.result c.cell.result c.from.result 0
     (ap (λ (x : ChildEdge). x.child) c.part_in-met.ensures)
     (c.from-2.ensures ∙ (ap (λ (x : ChildEdge). x.edge) c.part_in-met.ensures)) c.cell.ensures
     c.from.ensures in
     Falls.there c.args.tables.now (map step_of c.args.digits.now) c.args.meeting c.args.parts.now
     c.parts-blocks.result.starts.now c.parts-blocks.result.words.now c.child_kinds-kinds.result.now
-    c.requires.coherent c.parts-blocks.ensures c.child_kinds-kinds.ensures c.requires.met
+    c.requires.coherent c.parts-blocks.ensures c.child_kinds-kinds.ensures.spread c.requires.met
     (c.args.meeting.level - 1) c.args.meeting.level
     (map step_of (set c.args.digits.now c.args.meeting.level
     (record { child = c.part_in-met.result.child; parent = c.args.meeting.at / 256 })))
@@ -80,7 +80,7 @@ loop-level-init g c =
     (record { row = c.from.result; edge = c.from-2.result }) =
     Falls.begun c.args.tables.now c.args.digits.now c.args.meeting c.args.parts.now
     c.parts-blocks.result.starts.now c.parts-blocks.result.words.now c.child_kinds-kinds.result.now
-    c.requires.coherent c.parts-blocks.ensures c.child_kinds-kinds.ensures c.requires.met
+    c.requires.coherent c.parts-blocks.ensures c.child_kinds-kinds.ensures.spread c.requires.met
     c.part_in-met.result.child c.from-2.result c.cell.result c.from.result 0
     (ap (λ (x : ChildEdge). x.child) c.part_in-met.ensures)
     (c.from-2.ensures ∙ (ap (λ (x : ChildEdge). x.edge) c.part_in-met.ensures)) c.cell.ensures
@@ -102,7 +102,7 @@ loop-level-init g c =
             down = Falls.written_down c.args.tables.now c.args.digits.now c.args.meeting c.args.parts.now
                 c.parts-blocks.result.starts.now c.parts-blocks.result.words.now
                 c.child_kinds-kinds.result.now c.requires.coherent c.parts-blocks.ensures
-                c.child_kinds-kinds.ensures c.requires.met
+                c.child_kinds-kinds.ensures.spread c.requires.met
                 (c.args.meeting.level - 1) c.args.meeting.level
                 (set c.args.digits.now c.args.meeting.level
                 (record { child = c.part_in-met.result.child; parent = c.args.meeting.at / 256 }))
@@ -126,7 +126,7 @@ bounds-digits-level-in-loop-level g c = omega (
   arith,
   Falls.inside c.args.tables.now c.args.digits.now c.args.meeting c.args.parts.now
       c.parts-blocks.result.starts.now c.parts-blocks.result.words.now c.child_kinds-kinds.result.now
-      c.requires.coherent c.parts-blocks.ensures c.child_kinds-kinds.ensures c.requires.met,
+      c.requires.coherent c.parts-blocks.ensures c.child_kinds-kinds.ensures.spread c.requires.met,
   c.loop-level.invariant.inside,
   c.loop-level.invariant.count,
 )
@@ -135,7 +135,7 @@ pub fall-side-requires-in-loop-level : goal.fall-side-requires-in-loop-level
 fall-side-requires-in-loop-level g c =
     Falls.there c.args.tables.now (map step_of c.args.digits.now) c.args.meeting c.args.parts.now
     c.parts-blocks.result.starts.now c.parts-blocks.result.words.now c.child_kinds-kinds.result.now
-    c.requires.coherent c.parts-blocks.ensures c.child_kinds-kinds.ensures c.requires.met
+    c.requires.coherent c.parts-blocks.ensures c.child_kinds-kinds.ensures.spread c.requires.met
     (c.loop-level.level - 1) c.loop-level.level (map step_of c.loop-level.digits) c.loop-level.side
     (omega (arith, c.loop-level.invariant.inside)) (omega arith) c.loop-level.invariant.down
 
@@ -144,7 +144,7 @@ bounds-digits-level-in-loop-level-2 g c = omega (
   arith,
   Falls.inside c.args.tables.now c.args.digits.now c.args.meeting c.args.parts.now
       c.parts-blocks.result.starts.now c.parts-blocks.result.words.now c.child_kinds-kinds.result.now
-      c.requires.coherent c.parts-blocks.ensures c.child_kinds-kinds.ensures c.requires.met,
+      c.requires.coherent c.parts-blocks.ensures c.child_kinds-kinds.ensures.spread c.requires.met,
   c.loop-level.invariant.inside,
   c.loop-level.invariant.count,
   length-set c.loop-level.digits
@@ -155,7 +155,7 @@ pub fall-side-requires-in-loop-level-2 : goal.fall-side-requires-in-loop-level-2
 fall-side-requires-in-loop-level-2 g c =
     let lower = Falls.written_down c.args.tables.now c.args.digits.now c.args.meeting c.args.parts.now
     c.parts-blocks.result.starts.now c.parts-blocks.result.words.now c.child_kinds-kinds.result.now
-    c.requires.coherent c.parts-blocks.ensures c.child_kinds-kinds.ensures c.requires.met
+    c.requires.coherent c.parts-blocks.ensures c.child_kinds-kinds.ensures.spread c.requires.met
     (c.loop-level.level - 1) c.loop-level.level c.loop-level.digits c.loop-level.side
     c.fall-side-in-loop-level.new.digit c.fall-side-in-loop-level.result
     (omega (arith, c.loop-level.invariant.inside)) (omega arith) c.loop-level.invariant.count
@@ -165,7 +165,7 @@ fall-side-requires-in-loop-level-2 g c =
     c.fall-side-in-loop-level.new.digit ∙ c.loop-level.invariant.count in
     Falls.there c.args.tables.now (map step_of c.args.digits.now) c.args.meeting c.args.parts.now
     c.parts-blocks.result.starts.now c.parts-blocks.result.words.now c.child_kinds-kinds.result.now
-    c.requires.coherent c.parts-blocks.ensures c.child_kinds-kinds.ensures c.requires.met
+    c.requires.coherent c.parts-blocks.ensures c.child_kinds-kinds.ensures.spread c.requires.met
     (c.loop-level.level - 2) (c.loop-level.level - 1)
     (map step_of (set c.loop-level.digits (c.loop-level.level - 1) c.fall-side-in-loop-level.new.digit))
     c.fall-side-in-loop-level.result (omega (arith, c.loop-level.invariant.inside))
@@ -175,7 +175,7 @@ pub loop-level-preserved : goal.loop-level-preserved
 loop-level-preserved g c =
     let lower = Falls.written_down c.args.tables.now c.args.digits.now c.args.meeting c.args.parts.now
     c.parts-blocks.result.starts.now c.parts-blocks.result.words.now c.child_kinds-kinds.result.now
-    c.requires.coherent c.parts-blocks.ensures c.child_kinds-kinds.ensures c.requires.met
+    c.requires.coherent c.parts-blocks.ensures c.child_kinds-kinds.ensures.spread c.requires.met
     (c.loop-level.level - 1) c.loop-level.level c.loop-level.digits c.loop-level.side
     c.fall-side-in-loop-level.new.digit c.fall-side-in-loop-level.result
     (omega (arith, c.loop-level.invariant.inside)) (omega arith) c.loop-level.invariant.count
@@ -198,7 +198,7 @@ loop-level-preserved g c =
       );
       down = Falls.written_down c.args.tables.now c.args.digits.now c.args.meeting c.args.parts.now
           c.parts-blocks.result.starts.now c.parts-blocks.result.words.now c.child_kinds-kinds.result.now
-          c.requires.coherent c.parts-blocks.ensures c.child_kinds-kinds.ensures c.requires.met
+          c.requires.coherent c.parts-blocks.ensures c.child_kinds-kinds.ensures.spread c.requires.met
           (c.loop-level.level - 2) (c.loop-level.level - 1)
           (set c.loop-level.digits (c.loop-level.level - 1) c.fall-side-in-loop-level.new.digit)
           c.fall-side-in-loop-level.result c.fall-side-in-loop-level-2.new.digit
@@ -210,20 +210,20 @@ loop-level-preserved g c =
 pub returns-clause-touches : goal.returns-clause-touches
 returns-clause-touches g c = Falls.touches c.args.tables.now (map step_of c.args.digits.now) c.args.meeting
     c.args.parts.now c.parts-blocks.result.starts.now c.parts-blocks.result.words.now
-    c.child_kinds-kinds.result.now c.requires.coherent c.parts-blocks.ensures c.child_kinds-kinds.ensures
+    c.child_kinds-kinds.result.now c.requires.coherent c.parts-blocks.ensures c.child_kinds-kinds.ensures.spread
     c.requires.met c.loop-level.level (map step_of c.loop-level.digits) c.loop-level.side (omega arith)
     c.loop-level.invariant.down
 
 pub returns-clause-fits : goal.returns-clause-fits
 returns-clause-fits g c = Falls.fits c.args.tables.now (map step_of c.args.digits.now) c.args.meeting
     c.args.parts.now c.parts-blocks.result.starts.now c.parts-blocks.result.words.now
-    c.child_kinds-kinds.result.now c.requires.coherent c.parts-blocks.ensures c.child_kinds-kinds.ensures
+    c.child_kinds-kinds.result.now c.requires.coherent c.parts-blocks.ensures c.child_kinds-kinds.ensures.spread
     c.requires.met c.loop-level.level (map step_of c.loop-level.digits) c.loop-level.side (omega arith)
     c.loop-level.invariant.down
 
 pub returns-clause-edge_exists : goal.returns-clause-edge_exists
 returns-clause-edge_exists g c = Falls.edge c.args.tables.now (map step_of c.args.digits.now) c.args.meeting
     c.args.parts.now c.parts-blocks.result.starts.now c.parts-blocks.result.words.now
-    c.child_kinds-kinds.result.now c.requires.coherent c.parts-blocks.ensures c.child_kinds-kinds.ensures
+    c.child_kinds-kinds.result.now c.requires.coherent c.parts-blocks.ensures c.child_kinds-kinds.ensures.spread
     c.requires.met c.loop-level.level (map step_of c.loop-level.digits) c.loop-level.side
     c.loop-level.invariant.down

@@ -20,9 +20,9 @@ loop-row-preserved c =
           (λ r. map (λ n. 256 * n) r.children.items),
       inside,
     ) in
-    let pad = c.in_ok-fill_row.ensures in
+    let pad = c.in_ok-fill_kinds.ensures in
     let more = Strides.spread_grown (take c.loop-row.row-index rows) line c.loop-row.flat.items
-    c.push_kinds.new.list.items c.fill_row.new.list.items pad.0 c.in_ok-push_kinds.ensures pad.1
+    c.push_kinds.new.list.items c.fill_kinds.new.list.items pad.0 c.in_ok-push_kinds.ensures pad.1
     (omega (arith, done, c.loop-row.invariant.size)) c.loop-row.invariant.spread in
     record {
       size = omega (
@@ -37,4 +37,13 @@ loop-row-preserved c =
         c.loop-row.invariant.size,
       );
       spread = rw next more;
+      filled = rw next
+          (Strides.filled_grown (take c.loop-row.row-index rows) line c.loop-row.flat.items
+          c.push_kinds.new.list.items c.fill_kinds.new.list.items pad.0 c.in_ok-push_kinds.ensures pad.1
+          (omega (
+            arith,
+            pad.2,
+            length-map c.row-item.result.children.items (λ n. 256 * n),
+            c.len-in-loop-row.ensures,
+          )) pad.3 c.loop-row.invariant.filled);
     }

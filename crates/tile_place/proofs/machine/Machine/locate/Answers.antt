@@ -1,4 +1,4 @@
-use Rattle.std.proofs.Common.{◌≡◌, Result, Ok, Err, IfOk, Some, Option, ap, ◌∙◌, subst}
+use Rattle.std.proofs.Common.{◌≡◌, ℕ, ◌^◌, Result, Ok, Err, IfOk, Some, Option, ap, ◌∙◌, subst}
 use Rattle.theory_addresses.specs.Address.{depth as depth_of, Fits}
 use Rattle.theory_substitution.specs.Motion.{followed}
 use Rattle.theory_substitution.specs.Placement.{placement}
@@ -10,11 +10,13 @@ use Rattle.cyclo_points.specs.Point.{point_in}
 use Rattle.cyclo_points.specs.Motion.{motion_in}
 use Rattle.theory_dissection.specs.Laws.{DissectionLaw}
 use Rattle.rule_model.specs.declared.rule.Rule.{Rule}
-use Rattle.rule_model.specs.Tiling.{tiling_of, children}
+use Rattle.rule_model.specs.Tiling.{Tiling, tiling_of, children}
 use Rattle.rule_model.specs.Views.{rule_of}
+use Rattle.tile_shape.specs.Views.{address_of}
 use Rattle.tile_place.specs.declared.placed_tile.PlacedTile.{PlacedTile}
 use Rattle.tile_place.specs.declared.locate_fault.LocateFault.{LocateFault}
-use Rattle.tile_place.specs.Located.{IsOnlyTileHolding}
+use Rattle.tile_place.specs.Located.{IsOfSupertile, IsOnlyTileHolding}
+use Rattle.tile_place.specs.Motions.{IsMotionOf}
 use Rattle.tile_place.specs.Searched.{placed_in}
 use Rattle.tile_place.proofs.Plane.{IsSettled}
 use Rattle.tile_place.proofs.Located.{located-only, located-depth, located-fits, located-motion, causes, found_exactly, not_inside}
@@ -56,32 +58,44 @@ pub returns-clause-only_tile : goal.returns-clause-only_tile
 returns-clause-only_tile c =
     found c (IsOnlyTileHolding (tiling_of c.args.self.now) c.args.kind c.args.depth (motion_in c.args.self.now.order c.args.at.now)
     (point_in c.args.self.now.order c.args.point.now))
-    (located-only c.args.self.now (its c) (laws c).0 (laws c).1 c.args.kind c.args.depth c.requires.exists _ c.requires.turn_below _)
+    (located-only c.args.self.now (its c) (laws c).0 (laws c).1 c.args.kind c.args.depth c.requires.supertile.exists _ c.requires.moves.turn_below _)
 
-pub returns-clause-its_depth : goal.returns-clause-its_depth
-returns-clause-its_depth c = found c (λ t. depth_of t.address ≡ c.args.depth)
-    (located-depth c.args.self.now (its c) (laws c).0 (laws c).1 c.args.kind c.args.depth c.requires.exists _ c.requires.turn_below _)
+-- three facts of an answer
+all_of : (t : Tiling) (n : ℕ) (x : Result PlacedTile LocateFault) → IfOk x (λ y. y.kind ≡ y.addr.kind)
+    → IfOk x (λ y. (depth_of (address_of y.addr) ≡ n) × Fits (children t) (address_of y.addr))
+    → IfOk x (λ y. IsMotionOf t.order (2 ^ 24) y.motion) → IfOk x (IsOfSupertile t n)
+all_of t n (Ok y) its_kind at moves = record { its_kind = its_kind; its_depth = at.0; its_address = at.1; moves = moves }
+all_of t n (Err f) its_kind at moves = tt
 
-pub returns-clause-its_address : goal.returns-clause-its_address
-returns-clause-its_address c = found c (λ t. Fits (children (tiling_of c.args.self.now)) t.address)
-    (located-fits c.args.self.now (its c) (laws c).0 (laws c).1 c.args.kind c.args.depth c.requires.exists _ c.requires.turn_below _)
+pub returns-clause-of_supertile : goal.returns-clause-of_supertile
+returns-clause-of_supertile c =
+    let m = c.args.self.now in
+    let below = c.requires.moves.turn_below in
+    let exists = c.requires.supertile.exists in
+    all_of (tiling_of m) c.args.depth c.search.result c.search.ensures.its_kind
+    (found c (λ t. (depth_of t.address ≡ c.args.depth) × Fits (children (tiling_of m)) t.address) (λ t e. (
+      located-depth m (its c) (laws c).0 (laws c).1 c.args.kind c.args.depth exists _ below _ t e,
+      located-fits m (its c) (laws c).0 (laws c).1 c.args.kind c.args.depth exists _ below _ t e,
+    )))
+    c.search.ensures.moves
 
 pub returns-clause-its_motion : goal.returns-clause-its_motion
 returns-clause-its_motion c = found c (λ t. t.motion ≡ followed (points_of c.args.self.now.order)
     (placement (points_of c.args.self.now.order) (rule_of c.args.self.now) t.address.digits) (motion_in c.args.self.now.order c.args.at.now))
-    (located-motion c.args.self.now (its c) (laws c).0 (laws c).1 c.args.kind c.args.depth c.requires.exists _ c.requires.turn_below _)
+    (located-motion c.args.self.now (its c) (laws c).0 (laws c).1 c.args.kind c.args.depth
+    c.requires.supertile.exists _ c.requires.moves.turn_below _)
 
 pub returns-clause-not_inside : goal.returns-clause-not_inside
 returns-clause-not_inside c =
-    not_inside c.args.self.now (its c) (laws c).0 (laws c).1 c.args.kind c.args.depth c.requires.exists _ c.requires.turn_below _
+    not_inside c.args.self.now (its c) (laws c).0 (laws c).1 c.args.kind c.args.depth c.requires.supertile.exists _ c.requires.moves.turn_below _
     c.search.result c.search.ensures.holder c.search.ensures.none_refused c.search.ensures.fault
 
 pub returns-clause-found_exactly : goal.returns-clause-found_exactly
 returns-clause-found_exactly c =
-    found_exactly c.args.self.now (its c) (laws c).0 (laws c).1 c.args.kind c.args.depth c.requires.exists _ c.requires.turn_below _
+    found_exactly c.args.self.now (its c) (laws c).0 (laws c).1 c.args.kind c.args.depth c.requires.supertile.exists _ c.requires.moves.turn_below _
     c.search.result c.search.ensures.holder c.search.ensures.none_refused c.search.ensures.fault
 
 pub returns-clause-fault : goal.returns-clause-fault
 returns-clause-fault c =
-    causes c.args.self.now (its c) (laws c).0 (laws c).1 c.args.kind c.args.depth c.requires.exists _ c.requires.turn_below _
+    causes c.args.self.now (its c) (laws c).0 (laws c).1 c.args.kind c.args.depth c.requires.supertile.exists _ c.requires.moves.turn_below _
     c.search.result c.search.ensures.holder c.search.ensures.none_refused c.search.ensures.fault

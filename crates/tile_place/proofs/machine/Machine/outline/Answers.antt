@@ -23,7 +23,7 @@ add-corner-requires-clause-p_within c =
     (c.vertices-vertices.ensures.small c.loop-vertex.vertex-index (record { c = [] }) c.loop-vertex-test.true).within)
 
 pub add-corner-requires-clause-q_within : goal.add-corner-requires-clause-q_within
-add-corner-requires-clause-q_within c = point_wider (2 ^ 24) (2 ^ 40) _ (lit≤ tt) c.requires.at_within
+add-corner-requires-clause-q_within c = point_wider (2 ^ 24) (2 ^ 40) _ (lit≤ tt) c.requires.moves.within
 
 pub turn-turned-requires-clause-p_within : goal.turn-turned-requires-clause-p_within
 turn-turned-requires-clause-p_within c = point_wider (2 ^ 24) (2 ^ 40) _ (lit≤ tt) c.requires.scale_within
@@ -46,7 +46,7 @@ returns-then-refused-clause-limit c =
     (there vs i _ c.loop-vertex-test.true)
     (ap (is_refused o) (sym corner) ∙ sym (c.refused.ensures.in_order o
     (c.add-corner.ensures.in_order o c.mul.ensures.in_order
-    (subst (λ q. IsOf q c.args.at.now.shift) (sym same) c.requires.at_in_order))) ∙ c.if-refused.true)
+    (subst (λ q. IsOf q c.args.at.now.shift) (sym same) c.requires.moves.in_order))) ∙ c.if-refused.true)
     ∙ ap (λ z. Some z) (sym corner))
 
 pub loop-vertex-preserved : goal.loop-vertex-preserved
@@ -71,7 +71,7 @@ loop-vertex-preserved c =
           c.loop-vertex-test.true (there vs i _ c.loop-vertex-test.true)
           (ap (is_refused o) (sym corner) ∙ sym (c.refused.ensures.in_order o
           (c.add-corner.ensures.in_order o c.mul.ensures.in_order
-          (subst (λ q. IsOf q c.args.at.now.shift) (sym same) c.requires.at_in_order)))
+          (subst (λ q. IsOf q c.args.at.now.shift) (sym same) c.requires.moves.in_order)))
           ∙ c.if-refused.false))
           ∙ c.loop-vertex.invariant.first;
       within = subst (λ xs. All (IsWithin (2 ^ 24)) xs) (sym c.push.ensures.items)
@@ -80,7 +80,7 @@ loop-vertex-preserved c =
       in_order = subst (λ xs. All (IsOf o) xs) (sym c.push.ensures.items)
           (All-one_more (IsOf o) c.loop-vertex.corners.items c.add-corner.result
           c.loop-vertex.invariant.in_order
-          (c.add-corner.ensures.in_order o c.mul.ensures.in_order (subst (λ q. IsOf q c.args.at.now.shift) (sym same) c.requires.at_in_order)));
+          (c.add-corner.ensures.in_order o c.mul.ensures.in_order (subst (λ q. IsOf q c.args.at.now.shift) (sym same) c.requires.moves.in_order)));
       count = c.push.ensures.len ∙ ap (λ n. n + 1) c.loop-vertex.invariant.count;
     }
 
@@ -110,7 +110,7 @@ returns-then-refused-clause-limit_in_order c =
     ∙ ap (λ (r : Rule). r.order) c.checked-checked.ensures.rule in
     subst (λ q. IsOf q c.add-corner.result) same
     (c.add-corner.ensures.in_order c.order-order.result c.mul.ensures.in_order
-    (subst (λ q. IsOf q c.args.at.now.shift) (sym same) c.requires.at_in_order))
+    (subst (λ q. IsOf q c.args.at.now.shift) (sym same) c.requires.moves.in_order))
 
 pub returns-clause-in_order : goal.returns-clause-in_order
 returns-clause-in_order c =
