@@ -16,11 +16,13 @@ NUMBERS = {
 
 
 def c_name(rust_name: str) -> str:
-    """The C name of a plain type: PlainAddress is tiling_address."""
+    """The C name of a plain type: PlainAddress is tiling_address, and Step, the engine's own, tiling_digit."""
     if rust_name in NUMBERS:
         return NUMBERS[rust_name]
     if rust_name in ("SharedMachine", "MachineSlot"):
         return "tiling_machine"
+    if rust_name == "Step":
+        return "tiling_digit"
     words = re.findall("[A-Z][a-z]*", rust_name.removeprefix("Plain"))
     return "tiling_" + "_".join(words).lower()
 
@@ -72,7 +74,7 @@ def statuses(text: str, form: str) -> dict[str, int]:
 def structs_of_source(source: str) -> dict[str, list[tuple[str, str, str]]]:
     """Each plain struct with its fields, in order: name, type and length of an array."""
     found = {}
-    form = r"#\[repr\(C\)\]\s*(?:#\[[^\]]*\]\s*)*pub struct (Plain\w+) \{([^}]*)\}"
+    form = r"#\[repr\(C\)\]\s*(?:#\[[^\]]*\]\s*)*pub struct (Plain\w+|Step) \{([^}]*)\}"
     for name, body in re.findall(form, source):
         fields = re.findall(r"pub (\w+): (?:(\w+)|\[(\w+); (\d+)\])", body)
         found[c_name(name)] = [(field, c_name(one or each), length) for field, one, each, length in fields]
@@ -98,7 +100,8 @@ def main(top: Path) -> int:
     header = re.sub(r"/\*.*?\*/", "", (top / "include/tiling.h").read_text(), flags=re.S)
     header = re.sub(r"\n {4,}(?=[\w*].*\);)", " ", header)
     calls, values = read(top / "crates/tiling_c/src"), read(top / "crates/c_values/src")
-    of_source = statuses(values, r"pub const ([A-Z_]+): u8 = (\d+);")
+    values += (top / "crates/tile_shape/src/step.rt").read_text()
+    of_source = statuses(values + calls, r"pub const ([A-Z_]+): u8 = (\d+);")
     pairs = [
         ("functions", exports(calls), declared(header)),
         ("statuses", of_source, statuses(header, r"TILING_([A-Z_]+) = (\d+)")),

@@ -32,6 +32,7 @@ extern "C" {
 typedef uint8_t tiling_status;
 enum {
     TILING_OK = 0,
+    TILING_NOT_TEXT = 1,       /* the words of tiling_call are not UTF-8 */
     TILING_BAD_WORDS = 2,      /* a number out of its range, arrays of different lengths, an unknown name */
     TILING_RULE_REFUSED = 3,   /* the rule file stands for no accepted rule */
     TILING_BAD_ADDRESS = 4,    /* not the address of a tile of this rule */
@@ -41,8 +42,10 @@ enum {
     TILING_OUTSIDE = 8,        /* the edge, or the point, isn't inside the supertile */
     TILING_NO_MEMORY = 11,
     TILING_NO_EDGE = 12,       /* the tile has no such edge */
+    TILING_BAD_SCRIPT = 13,    /* a line of a script has a fault */
     TILING_NO_VERTEX = 15,     /* the tile has no such vertex */
-    TILING_STAR_TOO_BIG = 16   /* more than 64 tiles have the vertex */
+    TILING_STAR_TOO_BIG = 16,  /* more than 64 tiles have the vertex */
+    TILING_BAD_LISTING = 17    /* the arrays, or the list, are not those of the window */
 };
 
 /* A machine; nothing may read or write what it points to. */
@@ -273,6 +276,38 @@ tiling_status tiling_walk(tiling_machine t, const tiling_frame *frame, uint8_t g
  * BAD_ADDRESS: the base. NO_VERTEX. DEPTH_LIMIT. STAR_TOO_BIG. */
 tiling_status tiling_star(tiling_machine t, const tiling_frame *frame, uint8_t vertex,
                           tiling_vertex_star *out);
+
+/* Whether two arrays of one length have exactly the tiles of the frame that meet a window, in any order: each
+ * tile exactly once, with its kind, turn and shift, and with its address in the frame. An address may have
+ * any depth. Of a tile, `status`, `number` and `rest` are not read. At BAD_LISTING `fault` is one of the
+ * numbers below, and `index` that of the entry; at TILING_MISSING it is 0. The faults come in this order, but
+ * a missing tile, one out of its place, and the two limits are found on one walk, and the first comes.
+ * BAD_WORDS: the window's numbers, arrays of different lengths, or of more than 200,000 entries. BAD_ADDRESS:
+ * the base. DEPTH_LIMIT. COORD_LIMIT. NO_MEMORY. */
+tiling_status tiling_verify(tiling_machine t, const tiling_frame *frame, const tiling_window *window,
+                            const tiling_tile *tiles, size_t tiles_count, const tiling_address *addrs,
+                            size_t addrs_count, uint8_t *fault, size_t *index);
+enum {
+    TILING_NO_TILE = 1,      /* no tile of the rule, its kind not that of its address, or no turn or shift */
+    TILING_NOT_OF_FRAME = 2, /* not of the frame */
+    TILING_DOUBLE = 3,       /* the tile of an earlier entry */
+    TILING_MISSING = 4,      /* a tile that meets the window has no entry */
+    TILING_WRONG_PLACE = 5,  /* another turn or shift than the tile has */
+    TILING_STRAY = 6         /* the tile does not meet the window */
+};
+
+/* ---- the command --------------------------------------------------------------------------------------- */
+
+/* All that the command `tiling` does, over bytes in memory. `words` are its arguments, with newlines between
+ * them, such as "place\nrule=p3\naddr=2:1/0". An empty text is one empty argument, and is refused as none is.
+ * `input` is what standard input gives. `out` takes what the command prints, and `note` its line of a
+ * refusal, each as far as there is room. `out_bytes` and `note_bytes` take their whole lengths. Room for
+ * 1,024 bytes is enough for every line.
+ * The statuses are those of the command. At OK the note is unchanged, and after a refusal the text. At
+ * NOT_TEXT and NO_MEMORY both are. */
+tiling_status tiling_call(const char *words, size_t words_bytes, const uint8_t *input, size_t input_bytes,
+                          uint8_t *out, size_t out_room, size_t *out_bytes, char *note, size_t note_room,
+                          size_t *note_bytes);
 
 #ifdef __cplusplus
 }

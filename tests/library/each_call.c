@@ -524,6 +524,103 @@ static void try_arrays(void) {
     EXPECT(memcmp(&addrs[1], &before[1], 3 * sizeof *addrs) == 0);
 }
 
+/* the two chairs of a window, as in try_cover, and each fault of a list of them */
+static void try_verify(void) {
+    tiling_machine chair = opened("chair");
+    tiling_frame frame;
+    tiling_window window = {{1, 1, 0, 0}, 2, 1};
+    tiling_tile tiles[3];
+    tiling_address addrs[3];
+    uint8_t fault = 99;
+    size_t index = 77;
+    memset(&frame, 0, sizeof frame);
+    memset(tiles, 0, sizeof tiles);
+    frame.seed = 42;
+    tiles[1].turn = 1, tiles[1].shift[0] = 3, tiles[1].shift[1] = 1;
+    addrs[0] = address(chair, "0:3/0"), addrs[1] = address(chair, "0:1/0");
+#define VERIFY(many) tiling_verify(chair, &frame, &window, tiles, many, addrs, many, &fault, &index)
+    EXPECT(VERIFY(2) == TILING_OK && fault == 99 && index == 77);
+    tiling_tile tile = tiles[0];
+    tiling_address addr = addrs[0];
+    tiles[0] = tiles[1], tiles[1] = tile, addrs[0] = addrs[1], addrs[1] = addr;
+    EXPECT(VERIFY(2) == TILING_OK && fault == 99 && index == 77);
+    addrs[1] = address(chair, "0:");
+    EXPECT(VERIFY(2) == TILING_OK);
+    addrs[1] = addr;
+    EXPECT(VERIFY(1) == TILING_BAD_LISTING && fault == TILING_MISSING && index == 0);
+    EXPECT(VERIFY(0) == TILING_BAD_LISTING && fault == TILING_MISSING && index == 0);
+    tiles[1].turn = 2;
+    EXPECT(VERIFY(2) == TILING_BAD_LISTING && fault == TILING_WRONG_PLACE && index == 1);
+    tiles[1].turn = 4;
+    EXPECT(VERIFY(2) == TILING_BAD_LISTING && fault == TILING_NO_TILE && index == 1);
+    tiles[1].turn = 0, tiles[1].kind = 1;
+    EXPECT(VERIFY(2) == TILING_BAD_LISTING && fault == TILING_NO_TILE && index == 1);
+    tiles[1].kind = 0, tiles[2] = tiles[1];
+    addrs[2] = addrs[1];
+    EXPECT(VERIFY(3) == TILING_BAD_LISTING && fault == TILING_DOUBLE && index == 2);
+    addrs[2] = address(chair, "0:0/0");
+    EXPECT(VERIFY(3) == TILING_BAD_LISTING && fault == TILING_STRAY && index == 2);
+    fault = 99, index = 77;
+    EXPECT(tiling_verify(chair, &frame, &window, tiles, 2, addrs, 1, &fault, &index) == TILING_BAD_WORDS);
+    window.w = 0;
+    EXPECT(VERIFY(2) == TILING_BAD_WORDS);
+    window.w = 2, frame.base.kind = 1;
+    EXPECT(VERIFY(2) == TILING_BAD_ADDRESS && fault == 99 && index == 77);
+#undef VERIFY
+    /* the whole frame is the base, of kind 2, and no other kind of tile is it */
+    tiling_machine p3 = opened("p3");
+    window = (tiling_window){{0, 0, 0, 0}, 1, 1};
+    frame.base = address(p3, "2:"), addrs[0] = address(p3, "0:");
+    memset(tiles, 0, sizeof tiles);
+    EXPECT(tiling_verify(p3, &frame, &window, tiles, 1, addrs, 1, &fault, &index) == TILING_BAD_LISTING);
+    EXPECT(fault == TILING_NOT_OF_FRAME && index == 0);
+}
+
+/* calls of FORMATS.md, with rooms of different sizes */
+static void try_call(void) {
+    static const struct {
+        const char *words, *input;
+        int status;
+        const char *told;
+    } rows[] = {
+        {"place\nrule=chair\naddr=0:1/0,2/0", "", TILING_OK, "0 1 7,1,0,0\n"},
+        {"neighbour\nrule=p3\naddr=2:1/0,0/0\nedge=2", "", TILING_OK, "3:1/2,1/0 0\n"},
+        {"draw\nrule=chair\naddr=0:\nseed=42\nat=1,1,0,0\nhalf=2,1\nlayers=list", "", TILING_OK,
+         "0 0 0,0,0,0 0:3/0\n0 1 3,1,0,0 0:1/0\n"},
+        {"check\nrule=-", "format = 2", TILING_RULE_REFUSED, "3 RuleRefused Missing order\n"},
+        {"", "", TILING_BAD_WORDS, "2 BadWords 0\n"},
+        {"place\n\nrule=chair\naddr=0:", "", TILING_BAD_WORDS, "2 BadWords 1\n"},
+        {"place\nrule=chair\naddr=0:\xc3\xa9", "", TILING_BAD_ADDRESS, "4 BadAddress BadText 2\n"},
+        {"neighbour\nrule=chair\naddr=0:0/0\nedge=8", "", TILING_NO_EDGE, "12 NoEdge 8 8\n"},
+        {"neighbour\nrule=chair\naddr=0:0/0\nedge=4", "", TILING_OUTSIDE, "8 Outside 4 0\n"},
+        {"calc\nrule=chair", "let a", TILING_BAD_SCRIPT, "13 BadScript BadLine 1 2\n"},
+        {"verify\nrule=chair\naddr=0:\nseed=42\nat=1,1,0,0\nhalf=2,1", "0 0 0,0,0,0 0:3/0\n",
+         TILING_BAD_LISTING, "17 BadListing Missing 0:1/0\n"},
+        {"place\nrule=chair\naddr=\xff", "", TILING_NOT_TEXT, ""},
+    };
+    for (size_t i = 0; i < sizeof rows / sizeof *rows; i++) {
+        const uint8_t *input = (const uint8_t *)rows[i].input;
+        size_t words = strlen(rows[i].words), given = strlen(rows[i].input), length = strlen(rows[i].told);
+        int is_ok = rows[i].status == TILING_OK, is_told = rows[i].status != TILING_NOT_TEXT;
+        for (size_t room = 0; room <= 64; room += 8) {
+            uint8_t out[64];
+            char note[64];
+            size_t count = 7777, note_count = 7777, held = length < room ? length : room;
+            memset(out, 7, sizeof out);
+            memset(note, 7, sizeof note);
+            EXPECT(tiling_call(rows[i].words, words, input, given, out, room, &count, note, room, &note_count)
+                   == rows[i].status);
+            EXPECT(count == (is_ok ? length : 7777) && note_count == (is_ok || !is_told ? 7777 : length));
+            EXPECT(!is_ok || memcmp(out, rows[i].told, held) == 0);
+            EXPECT(is_ok || !is_told || memcmp(note, rows[i].told, held) == 0);
+            for (size_t at = 0; at < 64; at++) {
+                EXPECT((is_ok && at < held) || out[at] == 7);
+                EXPECT((!is_ok && is_told && at < held) || note[at] == 7);
+            }
+        }
+    }
+}
+
 int main(int many, char **words) {
     try_machines();
     if (many > 1) try_files(words[1]);
@@ -540,5 +637,7 @@ int main(int many, char **words) {
     try_walk();
     try_star();
     try_arrays();
+    try_verify();
+    try_call();
     return faults != 0;
 }

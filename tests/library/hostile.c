@@ -21,7 +21,7 @@ static unsigned long seen[256];
 
 /* counts a status; only those of the header come */
 static void count(int status) {
-    static const uint8_t known[] = {0, 2, 3, 4, 5, 6, 7, 8, 11, 12, 15, 16};
+    static const uint8_t known[] = {0, 1, 2, 3, 4, 5, 6, 7, 8, 11, 12, 13, 15, 16, 17};
     seen[status]++;
     if (!memchr(known, status, sizeof known)) {
         fprintf(stderr, "hostile: status %d\n", status);
@@ -116,9 +116,18 @@ static void try_window(tiling_machine machine) {
     if (any() % 8) window->w = any() % 20;
     if (any() % 8) window->h = any() % 20;
     fill(tiles, room * sizeof *tiles);
+    fill(addrs, others * sizeof *addrs);
     memcpy(kept, tiles, room * sizeof *tiles);
     count(status = tiling_cover(machine, frame, window, tiles, room, addrs, others, number));
     if (status) same(tiles, kept, room * sizeof *tiles, "tiling_cover");
+    size_t held = status || !others ? any() % (others + 1) : *number < room ? *number : room, index = 7777;
+    uint8_t fault = 99;
+    held = held < room ? held : room;
+    if (held && any() % 3 == 0) ((uint8_t *)tiles)[any() % (held * sizeof *tiles)] = any();
+    if (held && any() % 3 == 0) ((uint8_t *)addrs)[any() % (held * sizeof *addrs)] = any();
+    count(status = tiling_verify(machine, frame, window, tiles, held, addrs, held, &fault, &index));
+    if (status == TILING_BAD_LISTING ? fault < 1 || fault > 6 || (index && index >= held)
+                                     : fault != 99 || index != 7777) exit(1);
     tiling_whole_tile *wholes = block(room * sizeof *wholes), *before = block(room * sizeof *before);
     fill(wholes, room * sizeof *wholes);
     memcpy(before, wholes, room * sizeof *wholes);
@@ -260,6 +269,40 @@ static void try_many(tiling_machine machine) {
     free(told);
 }
 
+/* the command, with words that now and then are right */
+static void try_command(void) {
+    static const char *const words[] = {
+        "place", "neighbour", "check", "calc", "verify", "rule=chair", "rule=-",
+        "addr=0:", "addr=0:1/0", "edge=3", "seed=7", "at=1,0,0,0", "half=2,2",
+    };
+    char text[256];
+    size_t length = 0, many = any() % 7, given = any() % 60, room = any() % 90, notes = any() % 40;
+    for (size_t i = 0; i < many; i++)
+        length += sprintf(text + length, "%s\n", words[any() % (sizeof words / sizeof *words)]);
+    if (length && any() % 8) length--;
+    char *asked = block(length), *note = block(notes);
+    uint8_t *input = block(given), *out = block(room);
+    size_t *bytes = block(sizeof *bytes), *noted = block(sizeof *noted);
+    memcpy(asked, text, length);
+    if (length && any() % 8 == 0) asked[any() % length] = any();
+    for (size_t i = 0; i < given; i++) input[i] = any() % 20 ? (uint8_t)"let a0:1/,\n"[any() % 11] : any();
+    memset(out, 7, room);
+    memset(note, 7, notes);
+    *bytes = *noted = 7777;
+    int status = tiling_call(asked, length, input, given, out, room, bytes, note, notes, noted);
+    count(status);
+    int is_noted = status > TILING_NOT_TEXT && status != TILING_NO_MEMORY;
+    if ((status != TILING_OK && *bytes != 7777) || (!is_noted && *noted != 7777)) exit(1);
+    for (size_t i = status ? 0 : *bytes; i < room; i++) if (out[i] != 7) exit(1);
+    for (size_t i = is_noted ? *noted : 0; i < notes; i++) if (note[i] != 7) exit(1);
+    free(asked);
+    free(note);
+    free(input);
+    free(out);
+    free(bytes);
+    free(noted);
+}
+
 int main(int many, char **words) {
     static const char *const names[] = {"chair", "p2", "p3", "ab", "halfhex"};
     long rounds = many > 1 ? atol(words[1]) : 10000;
@@ -275,6 +318,7 @@ int main(int many, char **words) {
         if (round % 20 == 3) try_path(machine);
         if (round % 10 == 4) try_many(machine);
         if (round % 50 == 0) try_window(machine);
+        if (round % 50 == 1) try_command();
     }
     for (int i = 0; i < 256; i++)
         if (seen[i]) printf("status %d: %lu\n", i, seen[i]);

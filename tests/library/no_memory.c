@@ -98,6 +98,35 @@ static long glue_each(tiling_machine machine) {
     return refused - 2;
 }
 
+/* the tiles of a window, the last one first */
+static long verify_each(tiling_machine machine) {
+    static tiling_tile tiles[400];
+    static tiling_address addrs[400];
+    tiling_frame frame;
+    tiling_window window = {{0, 0, 0, 0}, 8, 8};
+    tiling_status status = TILING_NO_MEMORY;
+    size_t count = 0;
+    memset(&frame, 0, sizeof frame);
+    refused = 0;
+    expect(tiling_cover(machine, &frame, &window, tiles, 400, addrs, 400, &count) == TILING_OK, "no tiles");
+    tiling_tile tile = tiles[0];
+    tiling_address addr = addrs[0];
+    tiles[0] = tiles[count - 1], tiles[count - 1] = tile;
+    addrs[0] = addrs[count - 1], addrs[count - 1] = addr;
+    for (refused = 1; status == TILING_NO_MEMORY; refused++) {
+        long before = blocks;
+        size_t index = 77;
+        uint8_t fault = 99;
+        asked = 0;
+        status = tiling_verify(machine, &frame, &window, tiles, count, addrs, count, &fault, &index);
+        expect(blocks == before, "a block was kept");
+        expect((status == TILING_OK || status == TILING_NO_MEMORY) && fault == 99 && index == 77,
+               "tiling_verify");
+    }
+    expect(status == TILING_OK, "the last status");
+    return refused - 2;
+}
+
 /* a refused rule file: its line takes memory, too */
 static long refuse_each(void) {
     tiling_status status = TILING_NO_MEMORY;
@@ -115,16 +144,38 @@ static long refuse_each(void) {
     return refused - 2;
 }
 
+/* the command, with an answer and with a refusal */
+static long call_each(const char *words, int last) {
+    tiling_status status = TILING_NO_MEMORY;
+    for (refused = 1; status == TILING_NO_MEMORY; refused++) {
+        long before = blocks;
+        uint8_t out[512] = {0}, none = 0;
+        char note[128] = "";
+        size_t count = 77, noted = 77;
+        asked = 0;
+        status = tiling_call(words, strlen(words), &none, 0, out, sizeof out, &count, note, sizeof note,
+                             &noted);
+        expect(blocks == before, "a block was kept");
+        expect(status == last || (count == 77 && noted == 77 && !out[0] && !note[0]), "tiling_call");
+    }
+    expect(status == last, "the last status");
+    return refused - 2;
+}
+
 int main(void) {
     static const char *const names[] = {"chair", "p2", "p3", "ab", "halfhex"};
     for (int i = 0; i < 5; i++) {
         tiling_machine machine;
         long opening = open_each(names[i], &machine), covering = cover_each(machine);
-        long gluing = glue_each(machine);
-        expect(opening > 0 && covering > 0 && gluing > 0, "no call of malloc");
-        printf("%s: %ld calls of malloc at opening, %ld at covering, %ld at gluing\n", names[i], opening,
-               covering, gluing);
+        long gluing = glue_each(machine), verifying = verify_each(machine);
+        expect(opening > 0 && covering > 0 && gluing > 0 && verifying > 0, "no call of malloc");
+        printf("%s: %ld calls of malloc at opening, %ld at covering, %ld at gluing, %ld at verifying\n",
+               names[i], opening, covering, gluing, verifying);
     }
     printf("a refused file: %ld calls of malloc\n", refuse_each());
+    printf("a command: %ld calls of malloc\n",
+           call_each("draw\nrule=p3\naddr=0:\nat=0,0,0,0\nhalf=2,2\nlayers=svg", TILING_OK));
+    printf("a refused command: %ld calls of malloc\n",
+           call_each("neighbour\nrule=chair\naddr=0:0/0\nedge=8", TILING_NO_EDGE));
     return faults != 0;
 }

@@ -1,15 +1,11 @@
 -- What a crossing in place says of the address that was given.
-use Rattle.std.proofs.Common.{◌≡◌, ◌<◌, ◌≤◌, ℕ, Err, sym, ap, ◌∙◌, subst, arith}
+use Rattle.std.proofs.Common.{◌≡◌, ◌<◌, ◌≤◌, ℕ, Err, sym, subst, arith}
 use Rattle.std.specs.Prelude.{Result}
 use Rattle.theory_addresses.specs.Address.{Address}
 use Rattle.rule_model.specs.Tiling.{Tiling}
 use Rattle.tile_place.specs.Crossed.{edges_of, LiesOnBoundary, IsOutside}
 use Rattle.transducer_core.specs.declared.outside.Outside.{Outside}
 use Rattle.transducer_core.proofs.OneOutside.{outside_is}
-
--- the number of edges of the tile that was read is that of the kind given
-pub edges_given : (t : Tiling) (a b : Address) (edges : ℕ) → a ≡ b → edges ≡ edges_of t a.kind → edges ≡ edges_of t b.kind
-edges_given t a b edges same e = e ∙ ap (λ (x : Address). edges_of t x.kind) same
 
 -- an edge that exists isn't one that doesn't
 pub not_both : {A : Type 0} (edge edges : ℕ) → edge < edges → edges ≤ edge → A

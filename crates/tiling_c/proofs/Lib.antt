@@ -1,5 +1,6 @@
 mod Arrays
 mod Backs
+mod Called
 mod Covers
 mod EdgeGiven
 mod Fronts
@@ -10,4 +11,5 @@ mod Opened
 mod PathFaults
 mod TextGiven
 mod Turns
+mod Verified
 mod Walked

@@ -1,4 +1,5 @@
 pub mod Arrays
+pub mod Calling
 pub mod Covering
 pub mod Holding
 pub mod Locating
@@ -8,5 +9,6 @@ pub mod Pairing
 pub mod Shapes
 pub mod Shown
 pub mod Stars
+pub mod Verifying
 pub mod Walks
 pub mod Wholes

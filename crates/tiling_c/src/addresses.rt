@@ -79,7 +79,7 @@ pub fn fits(machine: &Machine, addr: &PlainAddress) -> u8
     ensures named { (result ≡ ok) ↔ NamesTile (tiling_of machine.now) addr.now }
     ensures statuses { (result ≡ ok) ⊎ (result ≡ bad_address) }
 {
-    if addr.tile(machine).is_some() {
+    if addr.names_tile(machine) {
         OK
     } else {
         BAD_ADDRESS

@@ -42,15 +42,17 @@ pub fn cross<L: Ledger>(
     ensures statuses { (result ≡ ok) ⊎ (result ≡ bad_address) ⊎ (result ≡ outside) ⊎ (result ≡ no_edge) }
 {
     let mut steps = Steps::<L>::new(blank);
-    let Some(mut tile) = addr.tile(machine) else {
+    if !addr.names_tile(machine) {
         return BAD_ADDRESS;
-    };
-    if edge >= machine.checked().tables().edges(tile.kind) {
+    }
+    if edge >= machine.checked().tables().edges(addr.kind) {
         return NO_EDGE;
     }
-    match machine.cross_in_place(&mut tile, edge, &mut steps) {
+    let mut kind = addr.kind;
+    let digits = &mut addr.digits[..usize::from(addr.depth)];
+    match machine.cross_digits(&mut kind, digits, edge, &mut steps) {
         Ok(number) => {
-            addr.write(&tile);
+            addr.kind = kind;
             *back = number;
             OK
         }

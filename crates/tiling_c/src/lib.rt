@@ -9,6 +9,7 @@
 #![tactic(auto)]
 
 pub mod addresses;
+pub mod calling;
 pub mod covering;
 pub mod cross_arrays;
 pub mod crossing;
@@ -23,5 +24,6 @@ pub mod placing;
 pub mod rule_numbers;
 pub mod shapes;
 pub mod stars;
+pub mod verifying;
 pub mod walks;
 pub mod wholes;

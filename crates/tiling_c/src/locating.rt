@@ -1,12 +1,12 @@
 //! The tile of a supertile that holds a point.
-ghost use Rattle.std.specs.Prelude.{◌≡◌, ◌↔◌, ◌⊎◌, ◌<◌, ◌≤◌, ◌^◌};
+ghost use Rattle.std.specs.Prelude.{◌≡◌, ◌↔◌, ◌⊎◌, ◌^◌};
 ghost use Rattle.cyclo_points.specs.Motion.{motion_in};
-ghost use Rattle.cyclo_points.specs.Order.{points_of};
-ghost use Rattle.cyclo_points.specs.Point.{point_in, IsOf, IsWithin};
+ghost use Rattle.cyclo_points.specs.Point.{point_in, IsWithin};
 ghost use Rattle.rule_model.specs.Tiling.{tiling_of};
 ghost use Rattle.c_values.specs.Statuses.{ok, bad_words, coord_limit, outside};
 ghost use Rattle.tiling_c.specs.Locating.{AsksToLocate, ShowsLocated, IsLocatedBy, motion_given, number_given};
-ghost use Rattle.tiling_c.specs.Shapes.{HasKind};
+ghost use Rattle.tile_place.specs.Located.{HasSupertile};
+ghost use Rattle.tile_place.specs.Motions.{IsMotionOf};
 
 use crate::rule_numbers::kinds_of;
 use c_values::plain_address::PlainAddress;
@@ -29,11 +29,8 @@ fn put_located(
     tile: &mut PlainTile,
     addr: &mut PlainAddress,
 ) -> u8
-    requires exists { HasKind (tiling_of machine.now) kind }
-    requires at_most_64 { depth ≤ 64 }
-    requires turn_below { at.now.turn < (points_of machine.now.order).order }
-    requires at_within { IsWithin (2 ^ 24) at.now.shift }
-    requires at_in_order { IsOf machine.now.order at.now.shift }
+    requires supertile { HasSupertile (tiling_of machine.now) kind depth }
+    requires moves { IsMotionOf machine.now.order (2 ^ 24) at.now }
     requires point_within { IsWithin (2 ^ 24) point.now }
     ensures located { result ≡ ok → ShowsLocated (tiling_of machine.now) kind depth
         (motion_in machine.now.order at.now)

@@ -45,7 +45,7 @@ fn check_words(alloc: Global) -> Result<Vec<String>, AllocError>
 }
 
 /// Makes a source that gives the bytes of a file.
-fn source_of(alloc: Global, file: &[u8]) -> Result<SteadySource, AllocError>
+pub(crate) fn source_of(alloc: Global, file: &[u8]) -> Result<SteadySource, AllocError>
     ensures { IfOk result (λ source. source ≡ file.now) }
 {
     let mut bytes = Vec::new(alloc);
@@ -54,7 +54,7 @@ fn source_of(alloc: Global, file: &[u8]) -> Result<SteadySource, AllocError>
 }
 
 /// Returns true if a call was cut short: memory ran out, or the source failed.
-fn is_cut_short(status: &Status) -> bool
+pub(crate) fn is_cut_short(status: &Status) -> bool
     ensures { result ≡ false → ¬ IsCutShort status.now }
 {
     match status {

@@ -1,7 +1,6 @@
 //! How one tile lies to another.
-ghost use Rattle.std.specs.Prelude.{◌≡◌, ◌↔◌, ◌⊎◌, ◌<◌, ◌≤◌, length, IsTrue};
+ghost use Rattle.std.specs.Prelude.{◌≡◌, ◌↔◌, ◌⊎◌, ◌<◌, ◌≤◌, IsTrue};
 ghost use Rattle.theory_addresses.specs.Address.{Fits};
-ghost use Rattle.pair_machine.specs.Between.{HaveCommon};
 ghost use Rattle.rule_model.specs.Tiling.{tiling_of, children};
 ghost use Rattle.tile_place.specs.Crossed.{edges_of};
 ghost use Rattle.tile_shape.specs.Views.{address_of};
@@ -14,30 +13,13 @@ use c_values::plain_relation::{APART, BESIDE, NO_BACK, PlainRelation, SAME, STRA
 use c_values::shared_machine::SharedMachine;
 use c_values::status::{BAD_ADDRESS, OK};
 use edge_tables::steps::Steps;
+use pair_machine::compare::{are_same, have_common};
 use std::marker::Brand;
 use std::sync::ledger::{Blank, Ledger};
 use theory_dissection::laws::across_law;
 use tile_place::machine::Machine;
 use tile_shape::address::Address;
 use transducer_core::crossing::Crossing;
-
-/// Returns true if two addresses are the same.
-fn are_same(a: &Address, b: &Address) -> bool
-    ensures { IsTrue result ↔ (address_of a.now ≡ address_of b.now) }
-{
-    a == b
-}
-
-/// Returns true if two addresses have a common supertile.
-fn have_common(a: &Address, b: &Address) -> bool
-    ensures { IsTrue result ↔ HaveCommon (address_of a.now) (address_of b.now) }
-{
-    let depth = a.depth();
-    if b.depth() != depth {
-        return false;
-    }
-    a.kind_at(depth) == b.kind_at(depth)
-}
 
 /// Returns the edge of a crossing that leads back if the tile across is `other`, and otherwise 255.
 fn back_if(across: &Crossing, other: &Address) -> u8

@@ -8,19 +8,16 @@ use crate::placing::put_place;
 use c_values::plain_address::PlainAddress;
 use c_values::plain_tile::PlainTile;
 use c_values::shared_machine::SharedMachine;
-use c_values::status::{BAD_ADDRESS, BAD_WORDS, OK};
+use c_values::status::{BAD_WORDS, OK};
 use tile_place::machine::Machine;
 
-/// Returns where a tile lies, or why it has no place.
-fn place_of(machine: &Machine, addr: &PlainAddress) -> PlainTile
-    ensures { ShowsPlace (tiling_of machine.now) addr.now result }
+/// Puts where a tile lies, or why it has no place.
+fn show_place(machine: &Machine, addr: &PlainAddress, tile: &mut PlainTile)
+    ensures { ShowsPlace (tiling_of machine.now) addr.now tile.new }
 {
-    let mut tile = PlainTile::refused(BAD_ADDRESS);
-    let status = put_place(machine, addr, &mut tile);
-    if status == OK {
-        tile
-    } else {
-        PlainTile::refused(status)
+    let status = put_place(machine, addr, tile);
+    if status != OK {
+        *tile = PlainTile::refused(status);
     }
 }
 
@@ -36,7 +33,7 @@ pub fn put_places(machine: &Machine, addrs: &[PlainAddress], tiles: &mut [PlainT
         return BAD_WORDS;
     }
     for i in 0..addrs.len() {
-        tiles[i] = place_of(machine, &addrs[i]);
+        show_place(machine, &addrs[i], &mut tiles[i]);
     }
     OK
 }

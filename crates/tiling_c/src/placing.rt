@@ -29,12 +29,12 @@ pub fn put_place(machine: &Machine, addr: &PlainAddress, out: &mut PlainTile) ->
     ensures unchanged { ¬ result ≡ ok → out.new ≡ out.old }
     ensures statuses { (result ≡ ok) ⊎ (result ≡ bad_address) ⊎ (result ≡ coord_limit) }
 {
-    let Some(tile) = addr.tile(machine) else {
+    if !addr.names_tile(machine) {
         return BAD_ADDRESS;
-    };
-    match machine.place(&tile) {
+    }
+    match machine.place_digits(addr.kind, addr.digits()) {
         Ok(motion) => {
-            *out = PlainTile::placed(tile.kind, &motion, 0);
+            *out = PlainTile::placed(addr.kind, &motion, 0);
             OK
         }
         Err(_) => COORD_LIMIT,

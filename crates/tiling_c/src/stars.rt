@@ -1,8 +1,8 @@
 //! The tiles around a vertex.
 ghost use Rattle.std.specs.Prelude.{◌≡◌, ◌↔◌, ◌⊎◌, ◌<◌, ◌≤◌, length};
-ghost use Rattle.theory_walks.specs.Frames.{IsFrameOf};
 ghost use Rattle.rule_model.specs.Tiling.{tiling_of};
 ghost use Rattle.star_walk.specs.Causes.{IsWithinLimits};
+ghost use Rattle.star_walk.specs.Corners.{HasVertex};
 ghost use Rattle.tile_place.specs.Crossed.{edges_of};
 ghost use Rattle.c_values.specs.Addresses.{NamesTile};
 ghost use Rattle.c_values.specs.Frames.{frame_in};
@@ -54,8 +54,7 @@ fn put_star<L: Ledger>(
     out: &mut PlainVertexStar,
     steps: &mut Steps<L>,
 ) -> u8
-    requires frame { IsFrameOf (tiling_of machine.now) frame.old }
-    requires vertex_exists { vertex < edges_of (tiling_of machine.now) frame.old.base.kind }
+    requires vertex { HasVertex (tiling_of machine.now) frame.old vertex }
     ensures star { result ≡ ok → ShowsStar (tiling_of machine.now) frame.old vertex out.new }
     ensures within { result ≡ ok → IsWithinLimits (tiling_of machine.now) frame.old vertex }
     ensures answered { IsWithinLimits (tiling_of machine.now) frame.old vertex → result ≡ ok }

@@ -1,7 +1,7 @@
 //! The whole tiles of a window.
-ghost use Rattle.std.specs.Prelude.{◌≡◌, ◌↔◌, ◌⊎◌, ◌<◌, ◌≤◌, length, slice_get, IfSome, IsTrue};
+ghost use Rattle.std.specs.Prelude.{◌≡◌, ◌↔◌, ◌⊎◌, ◌<◌, length, slice_get, IfSome, IsTrue};
 ghost use Rattle.std.specs.Option.{is_some};
-ghost use Rattle.half_glue.specs.Given.{AreGiven};
+ghost use Rattle.half_glue.specs.Given.{AreToGlue};
 ghost use Rattle.half_glue.specs.Limits.{CanBeGlued};
 ghost use Rattle.theory_walks.specs.Frames.{IsFrameOf};
 ghost use Rattle.rule_model.specs.Tiling.{tiling_of};
@@ -9,7 +9,6 @@ ghost use Rattle.tile_app.specs.Glue.{CanBeGluedInWindow};
 ghost use Rattle.window_cover.specs.InOrder as covered;
 ghost use Rattle.window_cover.specs.Limits.{IsWithinLimits};
 ghost use Rattle.window_cover.specs.Windows.{IsWindow};
-ghost use Rattle.theory_windows.specs.Limits.{most_tiles};
 ghost use Rattle.c_values.specs.Addresses.{NamesTile};
 ghost use Rattle.c_values.specs.Frames.{frame_in};
 ghost use Rattle.c_values.specs.Statuses.{ok, bad_words, bad_address, no_memory};
@@ -136,9 +135,7 @@ fn put_glued(
     wholes: &mut [PlainWholeTile],
     count: &mut usize,
 ) -> u8
-    requires frame { IsFrameOf (tiling_of machine.now) frame.old }
-    requires few { length tiles ≤ most_tiles }
-    requires given { AreGiven (tiling_of machine.now) frame.old tiles }
+    requires to_glue { AreToGlue (tiling_of machine.now) frame.old tiles }
     requires in_order { covered.AreInOrder tiles }
     ensures glued { result ≡ ok → ShowsGlued (tiling_of machine.now) frame.old tiles wholes.old wholes.new
         count.new }

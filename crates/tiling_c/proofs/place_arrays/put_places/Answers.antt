@@ -13,7 +13,7 @@ loop-i-preserved c =
     let i = c.loop-i.i in
     let in_tiles : i < length tiles = search rules in
     record {
-      room = length-set tiles i c.place_of.result ∙ c.loop-i.invariant.room;
+      room = length-set tiles i c.show_place.new.tile ∙ c.loop-i.invariant.room;
       each = item_more (refused_as 0) (λ j tile. ShowsPlace t (address_at c.args.addrs.now j) tile) tiles i
-          c.place_of.result in_tiles c.loop-i.invariant.each c.place_of.ensures;
+          c.show_place.new.tile in_tiles c.loop-i.invariant.each c.show_place.ensures;
     }

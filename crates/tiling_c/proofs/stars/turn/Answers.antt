@@ -21,13 +21,18 @@ returns-then-vertex-edges-clause-no_vertex g c =
     c.edges.ensures.count in
     (λ _. (c.in-Some.ensures.named.0 refl, subst (λ n. n ≤ c.args.vertex) counted c.if-vertex-edges.true), λ _. refl)
 
-pub put_star-requires-clause-vertex_exists : goal.put_star-requires-clause-vertex_exists
-put_star-requires-clause-vertex_exists g c =
+pub put_star-requires : goal.put_star-requires
+put_star-requires g c =
     let counted = edges_counted c.tables.result.now c.checked.result.now c.args.machine.now
     c.args.frame.now.base.kind c.edges.result c.tables.ensures.contacts c.checked.ensures.rule
     c.edges.ensures.count in
-    subst (λ f. c.args.vertex < edges_of (tiling_of c.args.machine.now) f.base.kind)
-    (sym c.in-Some.ensures.seen) (subst (λ n. c.args.vertex < n) counted c.if-vertex-edges.false)
+    record {
+      vertex = record {
+        frame = c.in-Some.ensures.is_frame;
+        exists = subst (λ f. c.args.vertex < edges_of (tiling_of c.args.machine.now) f.base.kind)
+            (sym c.in-Some.ensures.seen) (subst (λ n. c.args.vertex < n) counted c.if-vertex-edges.false);
+      };
+    }
 
 pub returns-clause-no_vertex : goal.returns-clause-no_vertex
 returns-clause-no_vertex g c =

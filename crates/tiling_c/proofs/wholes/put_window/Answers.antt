@@ -7,21 +7,21 @@ use Rattle.tiling_c.proofs.Covers.{answered_or_none, never_ok, never_words, neve
 use Rattle.tiling_c.proofs.wholes.put_window.Goals as goal
 
 -- ---- what is given to be glued
-pub put_glued-requires-clause-few : goal.put_glued-requires-clause-few
-put_glued-requires-clause-few c =
-    let x = c.in-Ok.ensures in
-    at_most_limit (tiling_of c.args.machine.now) c.args.frame.now c.covered_tiles.new.frame c.args.window.now
-    c.requires.frame c.covered_tiles.ensures.frame x.within x.least c.in-Ok.tiles x.drawn
-
-pub put_glued-requires-clause-given : goal.put_glued-requires-clause-given
-put_glued-requires-clause-given c =
+pub put_glued-requires-clause-to_glue : goal.put_glued-requires-clause-to_glue
+put_glued-requires-clause-to_glue c =
     let t = tiling_of c.args.machine.now in
+    let f = c.args.frame.now in
     let g = c.covered_tiles.new.frame in
+    let w = c.args.window.now in
+    let grown = c.covered_tiles.ensures.frame in
     let tiles = c.in-Ok.tiles in
     let x = c.in-Ok.ensures in
-    may-be-given t g tiles (c.given_law.ensures t g) x.stand
-    (can_be_drawn t c.args.frame.now g c.args.window.now c.requires.frame c.covered_tiles.ensures.frame x.within
-    x.least tiles x.drawn x.stand)
+    record {
+      frame = grown.is_frame;
+      few = at_most_limit t f g w c.requires.frame grown x.within x.least tiles x.drawn;
+      given = may-be-given t g tiles (c.given_law.ensures t g) x.stand
+          (can_be_drawn t f g w c.requires.frame grown x.within x.least tiles x.drawn x.stand);
+    }
 
 -- ---- the whole tiles
 pub returns-in-Ok-clause-wholes : goal.returns-in-Ok-clause-wholes
