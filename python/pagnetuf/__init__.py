@@ -36,7 +36,7 @@ from .refusals import (
     WriteFault,
 )
 from .rule import Rule
-from .tiling import Across, Placed, StarTile, Tiling, Window
+from .tiling import Across, Placed, StarTile, Tiling, Window, call
 
 __version__ = "0.1.0"
 __all__ = [name for name in dir() if not name.startswith("_") and name not in ("numpy", "sys")]

@@ -28,6 +28,37 @@ MOST_TILES = 200_000
 Addresses = Union[Sequence[str], np.ndarray]
 
 
+def taken(records: np.ndarray, which: np.ndarray) -> np.ndarray:
+    """`records[which]` of a structured array, for a mask or numbers. The bytes of each record are copied as
+    one, which is faster than field by field."""
+    return raw(records)[which].view(records.dtype)
+
+
+def copied(records: np.ndarray) -> np.ndarray:
+    """`records.copy()` of a structured array, as fast as its bytes can be copied."""
+    return raw(records).copy().view(records.dtype)
+
+
+def raw(records: np.ndarray) -> np.ndarray:
+    """A view of a structured array without its fields."""
+    return records.view(np.dtype((np.void, records.dtype.itemsize)))
+
+
+def is_records(addresses: Addresses) -> bool:
+    """True for an ADDRESS array, and False for texts. ValueError for an array of another kind."""
+    if not isinstance(addresses, np.ndarray) or addresses.dtype.kind in "UO":
+        return False
+    if addresses.dtype != ADDRESS or addresses.ndim != 1:
+        raise ValueError(f"addresses are texts or an ADDRESS array (n,), and not {addresses.dtype}")
+    return True
+
+
+def is_room(out: np.ndarray, count: int) -> bool:
+    """True if an array can take the ADDRESS of each of `count` tiles."""
+    flags = out.flags
+    return out.dtype == ADDRESS and out.shape == (count,) and flags.c_contiguous and flags.writeable
+
+
 class Frame(NamedTuple):
     """A plane of tiles: that in which the tile `base` stands on its prototile, and which grows by `seed`."""
 
@@ -44,10 +75,10 @@ class Box(NamedTuple):
 
 class Found(NamedTuple):
     """Tiles with their addresses: TILE and ADDRESS arrays (n,); `whole` is the number of the whole tile of
-    each, or None."""
+    each, or None. `addresses` is None where they weren't wanted."""
 
     tiles: np.ndarray
-    addresses: np.ndarray
+    addresses: Optional[np.ndarray]
     whole: Optional[np.ndarray] = None
 
 
@@ -71,14 +102,17 @@ class Machine(ABC):
         """`place` of each: TILE (n,), each with its own status."""
 
     @abstractmethod
-    def neighbour_all(self, addresses: Addresses, edges: Sequence[int]) -> Tuple[Addresses, np.ndarray]:
+    def neighbour_all(
+        self, addresses: Addresses, edges: Sequence[int], out: Optional[np.ndarray] = None
+    ) -> Tuple[Addresses, np.ndarray]:
         """`neighbour` of each: the addresses, of the form in which they were given, and uint8 (n, 2) of the
-        edges that lead back and the statuses."""
+        edges that lead back and the statuses. With `out`, an ADDRESS array (n,), the addresses are put there;
+        it may be `addresses` itself."""
 
     @abstractmethod
-    def cover(self, frame: Frame, box: Box, glue: bool = False) -> Found:
+    def cover(self, frame: Frame, box: Box, glue: bool = False, addresses: bool = True) -> Found:
         """Exactly the tiles that meet a window, by shift, turn and kind, or with `glue` the halves of its
-        whole tiles."""
+        whole tiles; with their addresses or without."""
 
     @abstractmethod
     def listing(self, frame: Frame, box: Box, glue: bool = False) -> bytes:
@@ -106,9 +140,17 @@ class Machine(ABC):
     def verify(self, frame: Frame, box: Box, listing: bytes) -> int:
         """How many lines a right listing has. BadListing."""
 
+    @abstractmethod
+    def verify_tiles(self, frame: Frame, box: Box, found: Found) -> int:
+        """`verify` of tiles and their addresses, in any order."""
+
 
 class Engine(ABC):
     """Makes machines. It can be pickled."""
+
+    @abstractmethod
+    def call(self, words: Sequence[str], given: bytes = b"") -> bytes:
+        """What the command prints for these words and this standard input. A refusal is raised."""
 
     @abstractmethod
     def machine(self, name: str) -> Machine:

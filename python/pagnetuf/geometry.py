@@ -45,6 +45,8 @@ class Ring:
         self.sine = math.sin(2 * math.pi / order)
         self.powers = self._powers()
         self._x, self._y = np.array(_X[order]), np.array(_Y[order])
+        # X and Y of the four steps 1, zeta, zeta^2 and zeta^3, as floats: (2, 4)
+        self.steps = np.stack([self.value(self._x), self.value(self._y)])
 
     def _powers(self) -> np.ndarray:
         """The matrices of multiplication by zeta^k, for rows of coefficients: (order, 4, 4)."""

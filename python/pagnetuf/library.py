@@ -6,22 +6,38 @@ of a refusal. The library is the one that TILING_LIBRARY names, or one next to t
 .tiling/libtiling.so.0 of a checkout, or the installed one."""
 import ctypes
 import os
-from typing import Optional, Sequence, Tuple
+from functools import lru_cache
+from typing import Callable, Optional, Sequence, Tuple
 
 import numpy as np
 
 from . import places
 from .built_in import BUILT_IN
-from .engine import ADDRESS, MOST_TILES, TILE, Addresses, Box, Engine, Found, Frame, Machine
+from .engine import (
+    ADDRESS,
+    MOST_TILES,
+    TILE,
+    Addresses,
+    Box,
+    Engine,
+    Found,
+    Frame,
+    Machine,
+    copied,
+    is_records,
+    raw,
+    taken,
+)
 from .glue import glued
-from .program import ProgramEngine, address_texts
-from .refusals import BadWords, NoEngine, NoMemory, Refusal, refusal_of
+from .program import ProgramEngine, address_texts, read_alike
+from .refusals import BadListing, BadWords, NoEngine, NoMemory, Refusal, refusal_of
 from .rule import Rule, document_of
 
 ABI = 1
 FRAME = np.dtype([("seed", "<u8"), ("base", ADDRESS), ("rest", "u1", 6)])
 WINDOW = np.dtype([("at", "<i8", 4), ("w", "<u2"), ("h", "<u2"), ("rest", "u1", 4)])
 OK, BAD_ADDRESS = 0, 4
+NO_NUMBERS = np.zeros(0, np.int64)
 NOTHING = Found(np.zeros(0, TILE), np.zeros(0, ADDRESS), np.zeros(0, np.int64))
 BY_STATUS = {kind.status: kind for kind in reversed(Refusal.__subclasses__())}
 STATUS, SIZE, POINTER = ctypes.c_uint8, ctypes.c_size_t, ctypes.c_void_p
@@ -45,14 +61,19 @@ MORE_CALLS = {
     "open_file": (STATUS, ctypes.c_char_p, SIZE, POINTER, POINTER, SIZE, POINTER),
     "glue": (STATUS, POINTER, POINTER, POINTER, POINTER, SIZE, POINTER),
     "walk": (STATUS, POINTER, POINTER, ctypes.c_uint8, POINTER, SIZE, POINTER, SIZE, POINTER, SIZE),
+    "verify": (STATUS, *(POINTER,) * 3, *(POINTER, SIZE) * 2, POINTER, POINTER),
+    "call": (STATUS, *(ctypes.c_char_p, SIZE) * 2, *(POINTER, SIZE, POINTER) * 2),
 }
 CROSSING = np.dtype([("status", "u1"), ("back", "u1"), ("part", "u1")])
 RELATION = np.dtype([("relation", "u1"), ("backs", "u1", 12)])
 STAR = np.dtype([("tiles", TILE, 64), ("addresses", ADDRESS, 64), ("count", "u1"), ("rest", "u1", 7)])
 WHOLE = np.dtype([("tiles", TILE, 2), ("addresses", ADDRESS, 2), ("parts", "u1"), ("rest", "u1", 3)])
 BESIDE, NO_BACK = 3, 255
+# the faults of arrays, by their numbers
+FAULTS, MISSING = ("", "NoTile", "NotOfFrame", "Double", "Missing", "WrongPlace", "Stray"), 4
 RELATIONS = ("none", "same", "apart")  # 0, 1 and 2
 LONGEST_TEXT, LONGEST_PATH, LONGEST_LINE = 515, 1000, 128
+TEXT_ROOM, NOTE_ROOM = 1 << 16, 1 << 10
 
 
 class OneAddress(ctypes.Structure):
@@ -97,6 +118,25 @@ class LibraryEngine(Engine):
         """The engine over the program. NoEngine where there is none."""
         return ProgramEngine(self.program)
 
+    def call(self, words: Sequence[str], given: bytes = b"") -> bytes:
+        if not self.library.call:
+            return self.asking().call(words, given)
+        # (no argument of a call has a newline; a question mark is refused at the same place)
+        text = "\n".join(word.replace("\n", "?") for word in words).encode()
+        size = ctypes.c_size_t(TEXT_ROOM)
+        while True:
+            room, length = size.value, ctypes.c_size_t()
+            out, note = ctypes.create_string_buffer(room), ctypes.create_string_buffer(NOTE_ROOM)
+            status = self.library.call(
+                *(text, len(text), given, len(given), out, room, ctypes.byref(size)),
+                *(note, NOTE_ROOM, ctypes.byref(length)),
+            )
+            if status != OK:
+                line = note.raw[: length.value].decode()
+                raise NoMemory() if status == NoMemory.status else refusal_of(line)
+            if size.value <= room:
+                return out.raw[: size.value]
+
     def machine(self, name: str) -> "LibraryMachine":
         if name not in BUILT_IN:
             raise BadWords(1)
@@ -129,9 +169,7 @@ class LibraryMachine(Machine):
         self.handle, self.file = handle, file
 
     def __reduce__(self):
-        if self.file is not None:
-            return self.engine.machine_of, (self.file,)
-        return self.engine.machine, (self.name,)
+        return opened, (self.library.path, self.engine.program, self.name, self.file)
 
     def asking(self) -> Machine:
         """The same rule over the program, for what the library has no call for, and for the line of a
@@ -168,7 +206,7 @@ class LibraryMachine(Machine):
         return text.raw[: size.value].decode()
 
     def place_all(self, addresses: Addresses) -> np.ndarray:
-        read, wrong = self._read_all(addresses)
+        read, wrong = self._read_all(addresses, True)
         tiles, count = np.zeros(len(read), TILE), len(read)
         from_, to = read.ctypes.data, tiles.ctypes.data
         if self.library.place_all:
@@ -176,25 +214,26 @@ class LibraryMachine(Machine):
         else:
             place, handle, step, out = self.library.place, self.handle, ADDRESS.itemsize, TILE.itemsize
             tiles["status"] = [place(handle, from_ + i * step, to + i * out) for i in range(count)]
-        tiles[wrong] = np.zeros((), TILE)
-        tiles["status"][wrong] = BAD_ADDRESS
+        if len(wrong):
+            tiles[wrong] = np.zeros((), TILE)
+            tiles["status"][wrong] = BAD_ADDRESS
         return tiles
 
-    def neighbour_all(self, addresses: Addresses, edges: Sequence[int]) -> Tuple[Addresses, np.ndarray]:
-        read, wrong = self._read_all(addresses)
-        asked = np.asarray(edges)
-        far = (asked < 0) | (asked > 255)
-        crossings = self._crossings(read, np.where(far, 0, asked).astype(np.uint8))
-        numbers = np.stack([crossings["back"], crossings["status"]], 1)
-        numbers[numbers[:, 1] != OK, 0] = 0
+    def neighbour_all(
+        self, addresses: Addresses, edges: Sequence[int], out: Optional[np.ndarray] = None
+    ) -> Tuple[Addresses, np.ndarray]:
+        there, wrong = self._read_all(addresses, False, out)
+        small, far = small_edges(edges)
+        crossings = self._crossings(there, small)
+        numbers = np.empty((len(there), 2), np.uint8)
+        numbers[:, 1] = crossings["status"]
+        np.multiply(crossings["back"], numbers[:, 1] == OK, out=numbers[:, 0])
         numbers[wrong] = 0, BAD_ADDRESS
         numbers[far] = 0, BadWords.status
-        refused = numbers[:, 1] != OK
-        if isinstance(addresses, np.ndarray):
-            read[refused] = addresses[refused]
-            return read, numbers
-        there = zip(address_texts(read), addresses, refused)
-        return [old if is_refused else text for text, old, is_refused in there], numbers
+        if out is not None or is_records(addresses):
+            return there, numbers
+        both = zip(address_texts(there), addresses, (numbers[:, 1] != OK).tolist())
+        return [old if is_refused else text for text, old, is_refused in both], numbers
 
     def _crossings(self, read: np.ndarray, edges: np.ndarray) -> np.ndarray:
         """What `neighbour` answers for each, as CROSSING (n,); the addresses become those across."""
@@ -212,26 +251,51 @@ class LibraryMachine(Machine):
         crossings[:] = told
         return crossings
 
-    def _read_all(self, addresses: Addresses) -> Tuple[np.ndarray, np.ndarray]:
-        """The addresses as a new ADDRESS array, and which of the texts are none of this rule: bool (n,)."""
-        if isinstance(addresses, np.ndarray):
-            return np.array(addresses, ADDRESS), np.zeros(len(addresses), bool)
-        read, statuses = np.zeros(len(addresses), ADDRESS), np.zeros(len(addresses), np.uint8)
-        at = read.ctypes.data
-        for i, text in enumerate(addresses):
-            line = str(text).encode("utf-8", "surrogateescape")
-            statuses[i] = self.library.read_address(self.handle, line, len(line), at + i * ADDRESS.itemsize)
-        return read, statuses != OK
+    def _read_all(
+        self, addresses: Addresses, is_only_read: bool, out: Optional[np.ndarray] = None
+    ) -> Tuple[np.ndarray, np.ndarray]:
+        """The addresses as an ADDRESS array without gaps, and the numbers of the texts that are none. The
+        array is `out`, or else a new one; if `is_only_read` it can be that of the addresses."""
+        wrong = NO_NUMBERS
+        if not is_records(addresses):
+            read, wrong = self._read_texts(addresses)
+        elif out is not None or (is_only_read and addresses.flags.c_contiguous):
+            read = addresses
+        else:
+            read = copied(addresses)
+        if out is None or out is addresses:
+            return read, wrong
+        raw(out)[:] = raw(read)
+        return out, wrong
 
-    def cover(self, frame: Frame, box: Box, glue: bool = False) -> Found:
-        is_glued = glue and bool(self.rule.glue)
-        find = self._glued if is_glued and self.library.glue else self._covered
-        found, status = find(frame, box)
+    def _read_texts(self, texts: Sequence[str]) -> Tuple[np.ndarray, np.ndarray]:
+        """The addresses of texts, as ADDRESS (n,), and the numbers of those that are none of this rule.
+        (Some of another rule are left to the call.)"""
+        read, is_read = read_alike(texts)
+        wrong, at = [], read.ctypes.data
+        for i in np.flatnonzero(~is_read).tolist():
+            line = str(texts[i]).encode("utf-8", "surrogateescape")
+            if self.library.read_address(self.handle, line, len(line), at + i * ADDRESS.itemsize) != OK:
+                wrong.append(i)
+        return read, np.array(wrong, np.int64)
+
+    def cover(self, frame: Frame, box: Box, glue: bool = False, addresses: bool = True) -> Found:
+        if not glue or not self.rule.glue:
+            found, status = self._covered(frame, box, addresses)
+        elif self.library.glue:
+            found, status = self._glued(frame, box, addresses)
+        else:
+            found, status = self._joined(frame, box)
         if status != OK:
-            return self._refused(status, lambda: self.asking().cover(frame, box, glue))
-        if not is_glued or self.library.glue:
-            return found
-        return glued(self.rule, found, self._mate) or self.asking().cover(frame, box, True)
+            return self._refused(status, lambda: self.asking().cover(frame, box, glue, addresses))
+        return found if addresses else found._replace(addresses=None)
+
+    def _joined(self, frame: Frame, box: Box) -> Tuple[Found, int]:
+        """As `_glued`, over a library without that call."""
+        found, status = self._covered(frame, box, True)
+        if status != OK:
+            return found, status
+        return glued(self.rule, found, self._mate) or self.asking().cover(frame, box, True), OK
 
     def _frame(self, frame: Frame) -> Tuple[np.ndarray, int]:
         """A frame as FRAME, and a status, with which it is refused if that isn't OK."""
@@ -253,33 +317,53 @@ class LibraryMachine(Machine):
         window["at"], (window["w"], window["h"]) = box.at, box.half
         return plane, window, OK
 
-    def _covered(self, frame: Frame, box: Box) -> Tuple[Found, int]:
+    def _covered(self, frame: Frame, box: Box, addresses: bool) -> Tuple[Found, int]:
         plane, window, status = self._window(frame, box)
         if status != OK:
             return NOTHING, status
-        # (zeros of this size are pages that nobody has touched yet)
-        tiles, addresses, count = np.zeros(MOST_TILES, TILE), np.zeros(MOST_TILES, ADDRESS), ctypes.c_size_t()
-        status = self.library.cover(
-            *(self.handle, plane.ctypes.data, window.ctypes.data, tiles.ctypes.data, MOST_TILES),
-            *(addresses.ctypes.data, MOST_TILES, ctypes.byref(count)),
-        )
-        found = [it[: count.value].copy() for it in (tiles, addresses)]
-        return Found(*found, np.arange(count.value)), status
+        count = ctypes.c_size_t()
 
-    def _glued(self, frame: Frame, box: Box) -> Tuple[Found, int]:
+        def fill(room: int) -> Tuple[int, np.ndarray, np.ndarray]:
+            tiles, named = np.zeros(room, TILE), np.zeros(room if addresses else 0, ADDRESS)
+            status = self.library.cover(
+                *(self.handle, plane.ctypes.data, window.ctypes.data, tiles.ctypes.data, room),
+                *(named.ctypes.data, len(named), ctypes.byref(count)),
+            )
+            return status, tiles, named
+
+        status, tiles, named = self._filled(fill, box, count)
+        tiles.resize(count.value, refcheck=False)
+        if addresses:
+            named.resize(count.value, refcheck=False)
+        return Found(tiles, named if addresses else None, np.arange(count.value)), status
+
+    def _filled(self, fill: Callable[[int], tuple], box: Box, count: ctypes.c_size_t) -> tuple:
+        """What `fill` answers, with room for all tiles of a window, as far as `count` says."""
+        room = min(MOST_TILES, self.rule.most_tiles(box.half))
+        status, *filled = fill(room)
+        return fill(MOST_TILES) if status == OK and count.value > room else (status, *filled)
+
+    def _glued(self, frame: Frame, box: Box, addresses: bool) -> Tuple[Found, int]:
         """The halves of the whole tiles of a window."""
         plane, window, status = self._window(frame, box)
         if status != OK:
             return NOTHING, status
-        wholes, count = np.zeros(MOST_TILES, WHOLE), ctypes.c_size_t()
-        status = self.library.glue(
-            *(self.handle, plane.ctypes.data, window.ctypes.data),
-            *(wholes.ctypes.data, MOST_TILES, ctypes.byref(count)),
-        )
+        count = ctypes.c_size_t()
+
+        def fill(room: int) -> Tuple[int, np.ndarray]:
+            wholes = np.zeros(room, WHOLE)
+            status = self.library.glue(
+                *(self.handle, plane.ctypes.data, window.ctypes.data),
+                *(wholes.ctypes.data, room, ctypes.byref(count)),
+            )
+            return status, wholes
+
+        status, wholes = self._filled(fill, box, count)
         found = wholes[: count.value]
         is_part = np.arange(2) < found["parts"][:, None]
         numbers = np.repeat(np.arange(count.value), found["parts"])
-        return Found(found["tiles"][is_part], found["addresses"][is_part], numbers), status
+        named = taken(found["addresses"], is_part) if addresses else None
+        return Found(taken(found["tiles"], is_part), named, numbers), status
 
     def _mate(self, address: np.ndarray, edge: int) -> Optional[Tuple[np.ndarray, int]]:
         """The ADDRESS across an edge of a tile, and its edge that leads back; None on the supertile's rim."""
@@ -337,6 +421,31 @@ class LibraryMachine(Machine):
     def verify(self, frame: Frame, box: Box, listing: bytes) -> int:
         return self.asking().verify(frame, box, listing)
 
+    def verify_tiles(self, frame: Frame, box: Box, found: Found) -> int:
+        plane, window, status = self._window(frame, box)
+        if not self.library.verify or status != OK:
+            return self._refused(status, lambda: self.asking().verify_tiles(frame, box, found))
+        tiles, addresses = np.ascontiguousarray(found.tiles), np.ascontiguousarray(found.addresses)
+        fault, index = ctypes.c_uint8(), ctypes.c_size_t()
+        status = self.library.verify(
+            *(self.handle, plane.ctypes.data, window.ctypes.data, tiles.ctypes.data, len(tiles)),
+            *(addresses.ctypes.data, len(addresses), ctypes.byref(fault), ctypes.byref(index)),
+        )
+        if status == OK:
+            return len(tiles)
+        if status != BadListing.status:
+            raise BY_STATUS.get(status, NoEngine)()
+        fields = (FAULTS[fault.value],) if fault.value == MISSING else (FAULTS[fault.value], index.value + 1)
+        raise BadListing(*fields)
+
+
+@lru_cache(256)
+def opened(path: str, program: Optional[str], name: str, file: Optional[bytes]) -> Machine:
+    """The machine of a pickle. A process that is sent the same one again and again opens it only once, as it
+    never goes away."""
+    engine = LibraryEngine(path, program)
+    return engine.machine(name) if file is None else engine.machine_of(file)
+
 
 def usual_engine() -> Engine:
     """The engine over the library if there is one that can be loaded, else over the program. NoEngine."""
@@ -353,3 +462,17 @@ def fits(number: int, kind: str) -> bool:
     """True if a number is one of a dtype."""
     limits = np.iinfo(kind)
     return limits.min <= number <= limits.max
+
+
+def small_edges(edges: Sequence[int]) -> Tuple[np.ndarray, np.ndarray]:
+    """The numbers of edges as uint8 (n,), without gaps, and where they are none of a uint8. There they become
+    255, which is the edge of no tile."""
+    asked = np.asarray(edges)
+    if asked.ndim != 1:
+        raise ValueError("edges are integers (n,)")
+    if asked.dtype == np.uint8:
+        return np.ascontiguousarray(asked), NO_NUMBERS
+    far = np.asarray((asked < 0) | (asked > 255), bool)
+    if not far.any():
+        return asked.astype(np.uint8), NO_NUMBERS
+    return np.where(far, 255, asked).astype(np.uint8), np.flatnonzero(far)

@@ -1,10 +1,11 @@
 """Tiles of a window as exact arrays: corners, vertices, edges, neighbours, stars, pictures."""
 from collections import Counter
 from functools import cached_property
-from typing import Dict, List, Tuple
+from typing import Dict, List, Optional, Tuple
 
 import numpy as np
 
+from .engine import taken
 from .geometry import unique_points
 from .program import address_text, address_texts
 from .rule import Rule
@@ -19,11 +20,20 @@ class Patch:
     kinds, turns   uint8 (n,)       the motion is z -> zeta^turn z + shift; a whole tile has its first half's
     shifts         int64 (n, 4)
     addresses      ADDRESS (n,)     see `pagnetuf.engine`; `address(i)` is the text
+
+    A patch that was asked for without addresses has none: they and their texts are a ValueError.
     """
 
-    def __init__(self, rule: Rule, tiles: np.ndarray, addresses: np.ndarray):
-        self.rule, self.tiles, self.addresses = rule, tiles, addresses
+    def __init__(self, rule: Rule, tiles: np.ndarray, addresses: Optional[np.ndarray]):
+        self.rule, self.tiles, self._addresses = rule, tiles, addresses
         self.kinds, self.turns, self.shifts = tiles["kind"], tiles["turn"], tiles["shift"]
+
+    @property
+    def addresses(self) -> np.ndarray:
+        """The address of each tile: ADDRESS (n,)."""
+        if self._addresses is None:
+            raise ValueError("these tiles were asked for without addresses")
+        return self._addresses
 
     def __len__(self):
         return len(self.tiles)
@@ -149,7 +159,7 @@ class Patch:
 
     def chosen(self, tiles: np.ndarray) -> "Patch":
         """The patch of some of its tiles, given by their numbers or by a mask."""
-        return Patch(self.rule, self.tiles[tiles], self.addresses[tiles])
+        return Patch(self.rule, taken(self.tiles, tiles), named(self._addresses, tiles))
 
     def connected(self, count: int, centre=(0.0, 0.0)) -> "Patch":
         """The patch of `count` tiles, connected by edges, that grows from the tile nearest to a point. The
@@ -188,9 +198,14 @@ class WholePatch(Patch):
     the second -1 where a tile is whole alone. kinds, turns, shifts and addresses are those of the first
     half."""
 
-    def __init__(self, rule: Rule, tiles: np.ndarray, addresses: np.ndarray, halves: np.ndarray):
-        super().__init__(rule, tiles[halves[:, 0]], addresses[halves[:, 0]])
-        self.half_tiles, self.half_addresses, self.halves = tiles, addresses, halves
+    def __init__(self, rule: Rule, tiles: np.ndarray, addresses: Optional[np.ndarray], halves: np.ndarray):
+        super().__init__(rule, taken(tiles, halves[:, 0]), named(addresses, halves[:, 0]))
+        self.half_tiles, self._half_addresses, self.halves = tiles, addresses, halves
+
+    @property
+    def half_addresses(self) -> np.ndarray:
+        """The address of each half: ADDRESS (h,)."""
+        return self.addresses if self._half_addresses is None else self._half_addresses
 
     def address(self, tile: int) -> str:
         return " + ".join(
@@ -202,7 +217,7 @@ class WholePatch(Patch):
         return [halves[a] if b < 0 else f"{halves[a]} + {halves[b]}" for a, b in self.halves.tolist()]
 
     def chosen(self, tiles: np.ndarray) -> "WholePatch":
-        return WholePatch(self.rule, self.half_tiles, self.half_addresses, self.halves[tiles])
+        return WholePatch(self.rule, self.half_tiles, self._half_addresses, self.halves[tiles])
 
     @cached_property
     def _outlines(self) -> Tuple[np.ndarray, np.ndarray]:
@@ -229,12 +244,18 @@ class WholePatch(Patch):
         return out, sizes
 
 
-def whole_patch(rule: Rule, tiles: np.ndarray, addresses: np.ndarray, whole: np.ndarray) -> WholePatch:
+def named(addresses: Optional[np.ndarray], tiles: np.ndarray) -> Optional[np.ndarray]:
+    """The addresses of some tiles, where there are any."""
+    return None if addresses is None else taken(addresses, tiles)
+
+
+def whole_patch(
+    rule: Rule, tiles: np.ndarray, addresses: Optional[np.ndarray], whole: np.ndarray
+) -> WholePatch:
     """The whole tiles of the halves that `cover` lists with glue."""
     halves = np.full((int(whole[-1]) + 1 if len(whole) else 0, 2), -1, np.int64)
-    starts = np.flatnonzero(np.diff(whole, prepend=-1))
-    halves[:, 0] = starts
-    seconds = np.setdiff1d(np.arange(len(whole)), starts)
+    is_first = np.diff(whole, prepend=-1) != 0
+    halves[:, 0], seconds = np.flatnonzero(is_first), np.flatnonzero(~is_first)
     halves[whole[seconds], 1] = seconds
     return WholePatch(rule, tiles, addresses, halves)
 

@@ -11,7 +11,7 @@ import numpy as np
 
 from . import places
 from .built_in import BUILT_IN
-from .engine import ADDRESS, TILE, Addresses, Box, Engine, Found, Frame, Machine
+from .engine import ADDRESS, TILE, Addresses, Box, Engine, Found, Frame, Machine, is_records
 from .refusals import BY_NAME, BadScript, BadWords, NoEngine, Refusal, refusal_of
 from .rule import Rule, document_of
 
@@ -80,7 +80,7 @@ class ProgramMachine(Machine):
         return there, int(back)
 
     def place_all(self, addresses: Addresses) -> np.ndarray:
-        if isinstance(addresses, np.ndarray):
+        if is_records(addresses):
             addresses = address_texts(addresses)
         answers = self._answers(
             [f"let a {plain(address)}\nplace a\n" for address in addresses],
@@ -96,8 +96,11 @@ class ProgramMachine(Machine):
             tiles["status"][i] = answer.status if isinstance(answer, Refusal) else 0
         return tiles
 
-    def neighbour_all(self, addresses: Addresses, edges: Sequence[int]) -> Tuple[Addresses, np.ndarray]:
-        given = address_texts(addresses) if isinstance(addresses, np.ndarray) else addresses
+    def neighbour_all(
+        self, addresses: Addresses, edges: Sequence[int], out: Optional[np.ndarray] = None
+    ) -> Tuple[Addresses, np.ndarray]:
+        are_records = is_records(addresses)
+        given = address_texts(addresses) if are_records else addresses
         scripts = [f"let a {plain(address)}\nacross a {int(edge)} a\n" for address, edge in zip(given, edges)]
         answers = self._answers(scripts, lambda i: ("neighbour", {"addr": given[i], "edge": edges[i]}))
         there, numbers = list(given), np.zeros((len(answers), 2), np.uint8)
@@ -107,7 +110,10 @@ class ProgramMachine(Machine):
             else:
                 there[i], back = answer.decode().split()[-2:]
                 numbers[i] = int(back), 0
-        return (read_texts(there) if isinstance(addresses, np.ndarray) else there), numbers
+        if out is None:
+            return (read_texts(there) if are_records else there), numbers
+        out[:] = read_texts(there)
+        return out, numbers
 
     def _answers(self, scripts: Sequence[str], alone) -> list:
         """A line, or a refusal, for each script of two lines that prints one. Rules of files are asked one by
@@ -147,8 +153,9 @@ class ProgramMachine(Machine):
             "draw", **frame_words(frame), **box_words(box), layers="list", **({"glue": "yes"} if glue else {})
         )
 
-    def cover(self, frame: Frame, box: Box, glue: bool = False) -> Found:
-        return parsed_listing(self._window(frame, box, glue))
+    def cover(self, frame: Frame, box: Box, glue: bool = False, addresses: bool = True) -> Found:
+        found = parsed_listing(self._window(frame, box, glue))
+        return found if addresses else found._replace(addresses=None)
 
     def listing(self, frame: Frame, box: Box, glue: bool = False) -> bytes:
         return self._window(frame, box, glue)
@@ -180,6 +187,9 @@ class ProgramMachine(Machine):
 
     def verify(self, frame: Frame, box: Box, listing: bytes) -> int:
         return int(self.ask("verify", listing, **frame_words(frame), **box_words(box)).split()[1])
+
+    def verify_tiles(self, frame: Frame, box: Box, found: Found) -> int:
+        return self.verify(frame, box, listing_text(found).encode())
 
 
 def frame_words(frame: Frame) -> dict:
@@ -264,11 +274,32 @@ def addresses_of(line: np.ndarray, begins: np.ndarray, ends: np.ndarray) -> np.n
     return addresses
 
 
+def read_alike(texts: Sequence[str]) -> Tuple[np.ndarray, np.ndarray]:
+    """Addresses in bulk, as ADDRESS (n,), and which are read: bool (n,). Those are read that are as long as
+    the first and have the form of an address with numbers of one digit."""
+    addresses, is_read = np.zeros(len(texts), ADDRESS), np.zeros(len(texts), bool)
+    size = len(texts[0]) if len(texts) else 0
+    depth = size // 4
+    if size not in (2, 4 * depth + 1) or not 2 <= size <= 4 * 64 + 1:
+        return addresses, is_read
+    is_alike = [isinstance(text, str) and len(text) == size and text.isascii() for text in texts]
+    alike = texts if all(is_alike) else [text for text, is_one in zip(texts, is_alike) if is_one]
+    form = form_of(depth)[:-1]
+    # (a character below that of the form wraps round to a large number)
+    above = np.frombuffer("".join(alike).encode(), np.uint8).reshape(-1, size) - form
+    has_form = (above <= np.where(form == ord("0"), np.uint8(9), np.uint8(0))).all(1)
+    is_read[is_alike] = has_form
+    rows, read = addresses.view(np.uint8).reshape(len(texts), -1), above[has_form]
+    rows[is_read, 0], rows[is_read, 1] = read[:, 0], depth
+    rows[is_read, 2 : 2 + 2 * depth] = read[:, 2::2]
+    return addresses, is_read
+
+
 def read_texts(texts: Sequence[str]) -> np.ndarray:
     """The addresses of the program's own texts as ADDRESS (n,)."""
-    addresses = np.zeros(len(texts), ADDRESS)
-    for i, text in enumerate(texts):
-        kind, _, digits = text.partition(":")
+    addresses, is_read = read_alike(texts)
+    for i in np.flatnonzero(~is_read).tolist():
+        kind, _, digits = texts[i].partition(":")
         numbers = [number.split("/") for number in digits.split(",")] if digits else []
         addresses["kind"][i], addresses["depth"][i] = int(kind), len(numbers)
         addresses["digits"][i, : len(numbers)] = np.array(numbers, np.uint8).reshape(-1, 2)
@@ -283,6 +314,14 @@ def address_text(address: np.ndarray) -> str:
     )
 
 
+def listing_text(found: Found) -> str:
+    """The lines `kind turn shift address` of tiles."""
+    tiles = found.tiles
+    shifts = (",".join(map(str, shift)) for shift in tiles["shift"].tolist())
+    rows = zip(tiles["kind"].tolist(), tiles["turn"].tolist(), shifts, address_texts(found.addresses))
+    return "".join(f"{kind} {turn} {shift} {address}\n" for kind, turn, shift, address in rows)
+
+
 def address_texts(addresses: np.ndarray) -> List[str]:
     """The text of each ADDRESS of an array."""
     if not len(addresses):
@@ -291,12 +330,13 @@ def address_texts(addresses: np.ndarray) -> List[str]:
     digits = addresses["digits"][:, :depth]
     if (addresses["depth"] != depth).any() or max(digits.max(initial=0), addresses["kind"].max()) > 9:
         return [address_text(address) for address in addresses]
-    text = np.full((len(addresses), 3 + 4 * depth), ord(","), np.uint8)
-    text[:, 0], text[:, 1], text[:, 2 + 4 * depth - (depth > 0)] = (
-        addresses["kind"] + ord("0"),
-        ord(":"),
-        ord("\n"),
-    )
-    text[:, 2 : 2 + 4 * depth : 4], text[:, 3 : 3 + 4 * depth : 4] = digits[:, :, 0] + ord("0"), ord("/")
-    text[:, 4 : 4 + 4 * depth : 4] = digits[:, :, 1] + ord("0")
-    return text[:, : 3 + 4 * depth - (depth > 0)].tobytes().decode().splitlines()
+    text = np.repeat(form_of(depth)[None], len(addresses), 0)
+    text[:, 0] += addresses["kind"]
+    text[:, 2:-1:2] += digits.reshape(len(addresses), 2 * depth)
+    return text.tobytes().decode().splitlines()
+
+
+def form_of(depth: int) -> np.ndarray:
+    """The line of an address of this depth whose numbers are all 0, as uint8. Their places are 0, 2, 4 and so
+    on."""
+    return np.frombuffer(("0:" + ",".join(["0/0"] * depth) + "\n").encode(), np.uint8)

@@ -1,6 +1,8 @@
 """The numbers of a rule, as a rule file has them: see docs/FORMATS.md, "The rule file"."""
+import math
 import os
 import runpy
+from functools import cached_property
 from typing import List, Tuple
 
 import numpy as np
@@ -69,9 +71,30 @@ class Rule:
         """The corners of placed tiles, exactly: int64 (n, M, 4)."""
         return self.corner_table[kinds, turns] + np.asarray(shifts)[:, None, :]
 
+    @cached_property
+    def extent(self) -> Tuple[float, float]:
+        """How far a tile reaches in X and Y at most, from one end to the other."""
+        x, y = (self.ring.value(it) for it in self.ring.scaled(self.corner_table))
+        return tuple(float((it.max(-1) - it.min(-1)).max()) for it in (x, y))
+
+    @cached_property
+    def reach(self) -> Tuple[float, float]:
+        """How far the corners of a tile lie in X and Y at most from the place to which its shift leads."""
+        return tuple(float(abs(self.ring.value(it)).max()) for it in self.ring.scaled(self.corner_table))
+
+    @cached_property
+    def _least_area(self) -> float:
+        return min(abs(self.area(kind)) for kind in self.kinds)
+
     def least_area(self) -> float:
         """The area of the smallest prototile in X and Y."""
-        return min(abs(self.area(kind)) for kind in self.kinds)
+        return self._least_area
+
+    def most_tiles(self, half: Tuple[int, int]) -> int:
+        """No window of this half-width and half-height has more tiles."""
+        # (they lie in the window and within their extent around it)
+        wide, tall = (2 * side + 2 * more for side, more in zip(half, self.extent))
+        return math.ceil(wide * tall / self.least_area()) + 1
 
     def area(self, kind: Kind) -> float:
         """The area of a prototile in X and Y: that in lengths, times 2 / sin(360°/order)."""

@@ -1,16 +1,16 @@
 """`Tiling`, from which all of the package is reached, and `Window`."""
 import os
 import re
-from typing import Iterable, Iterator, List, NamedTuple, Optional, Sequence, Tuple, Union
+from typing import Any, Callable, Iterable, Iterator, List, NamedTuple, Optional, Sequence, Tuple, Union
 
 import numpy as np
 
 from . import places
 from .built_in import BUILT_IN
-from .engine import Addresses, Box, Engine, Found, Frame, Machine
+from .engine import Addresses, Box, Engine, Found, Frame, Machine, is_room
 from .library import usual_engine
 from .patch import Patch, WholePatch, whole_patch
-from .program import NO_EDGE, address_text, address_texts
+from .program import NO_EDGE, address_text, listing_text
 from .refusals import BadWords
 
 Point = Tuple[int, int, int, int]
@@ -113,12 +113,21 @@ class Tiling:
         `pagnetuf.TILE` (n,), each entry with its `status`: 0, or the number of a refusal."""
         return self.machine.place_all(addresses)
 
-    def neighbour_all(self, addresses: Addresses, edges: Sequence[int]) -> Tuple[Addresses, np.ndarray]:
+    def neighbour_all(
+        self, addresses: Addresses, edges: Sequence[int], out: Optional[np.ndarray] = None
+    ) -> Tuple[Addresses, np.ndarray]:
         """`neighbour` for many addresses. Returns the addresses across, in the form that was given: texts, or
-        an ADDRESS array. Returns with them uint8 (n, 2), edge and status. A refused address is unchanged."""
+        an ADDRESS array. Returns with them uint8 (n, 2), edge and status. A refused address is unchanged.
+
+        With `out`, an ADDRESS array (n,), the addresses across are put there, and it is returned. It may be
+        `addresses` itself, so that many steps of many walks need no copy. Fastest with an ADDRESS array and
+        edges as uint8 (n,). ValueError for arrays of different lengths, and for an `out` that can't take the
+        addresses."""
         if len(addresses) != len(edges):
             raise ValueError("addresses and edges have different lengths")
-        return self.machine.neighbour_all(addresses, edges)
+        if out is not None and not is_room(out, len(addresses)):
+            raise ValueError(f"out is an ADDRESS array ({len(addresses)},) that can be written, without gaps")
+        return self.machine.neighbour_all(addresses, edges, out)
 
     def window(
         self,
@@ -126,16 +135,17 @@ class Tiling:
         half: Tuple[int, int] = (20, 12),
         seed: int = 0,
         addr: str = "0:",
+        addresses: bool = True,
     ) -> "Window":
         """Exactly the tiles that meet a window, each exactly once, by shift, turn and kind.
 
         The window is the points whose X = 2 x and Y = y / sin(360°/order) differ from those of the point
         `at` by less than `half`: it is half[0] lengths wide, and 2 half[1] sin(360°/order) high. `at` has
-        coefficients up to 2^20 in absolute value, `half` two integers from 1 to 4096. TooManyTiles above
-        200,000; CoordLimit far out, where another seed usually helps; DepthLimit; BadAddress; BadWords."""
-        return Window(
-            self.machine, Frame(addr, int(seed)), Box(tuple(int(a) for a in at), tuple(int(h) for h in half))
-        )
+        coefficients up to 2^20 in absolute value, `half` two integers from 1 to 4096. Without `addresses` it
+        takes less time, and a quarter of the memory. TooManyTiles above 200,000; CoordLimit far out, where
+        another seed usually helps; DepthLimit; BadAddress; BadWords."""
+        box = Box(tuple(int(a) for a in at), tuple(int(h) for h in half))
+        return Window(self.machine, Frame(addr, int(seed)), box, addresses)
 
     def star(self, addr: str, vertex: int, seed: int = 0) -> List[StarTile]:
         """The tiles around a vertex of a tile, counterclockwise, the tile first, each with its own number
@@ -180,11 +190,13 @@ class Tiling:
         addr="0:",
     ) -> int:
         """The number of tiles of a right listing of a window: a text in the form of `Window.listing`, or a
-        patch of tiles. BadListing with its fault. For built-in rules; BadWords for rule files."""
+        patch of tiles, in any order. BadListing: its fields are the fault, and the line of a text or the
+        tile of a patch, counted from 1. A text of a rule file is BadWords; a patch needs the library."""
+        frame, box = Frame(addr, seed), Box(tuple(at), tuple(half))
         if isinstance(listing, Patch):
-            listing = listing_of(listing)
+            return self.machine.verify_tiles(frame, box, Found(listing.tiles, listing.addresses))
         data = listing.encode() if isinstance(listing, str) else listing
-        return self.machine.verify(Frame(addr, seed), Box(tuple(at), tuple(half)), data)
+        return self.machine.verify(frame, box, data)
 
     def sheet(
         self,
@@ -195,28 +207,41 @@ class Tiling:
         executor=None,
         piece: Optional[Tuple[int, int]] = None,
         whole: bool = False,
-    ) -> Iterator[Patch]:
+        addresses: bool = True,
+        each: Optional[Callable[[Patch], Any]] = None,
+        ahead: int = 16,
+        part: Tuple[int, int] = (0, 1),
+    ) -> Iterator[Any]:
         """The tiles that meet a region of any size, in pieces, each tile in exactly one: see
-        `pagnetuf.sheet`."""
+        `pagnetuf.sheet`. Yields a Patch for each piece.
+
+        With `each`, a function of a patch, yields what it returns for each piece instead. An executor calls
+        it where it computes the piece, so that the tiles themselves need not be sent. `addresses` is as for
+        `window`. With an executor, at most `ahead` pieces are under way: at least twice its processors.
+
+        With part=(i, n), only the pieces of the rows i, i + n, i + 2 n, .. from below, so that n machines can
+        share a region: together they have each tile exactly once. ValueError unless 0 <= i < n."""
         from .sheet import Sheet
 
-        return Sheet(self, tuple(half), tuple(at), Frame(addr, seed), piece, whole).pieces(executor)
+        sheet = Sheet(self, tuple(half), tuple(at), Frame(addr, seed), piece, whole, addresses, part)
+        return sheet.pieces(executor, ahead, each)
 
 
 class Window(Patch):
     """Exactly the tiles that meet a window: see `Tiling.window` and, for its arrays, `Patch`."""
 
-    def __init__(self, machine: Machine, frame: Frame, box: Box):
+    def __init__(self, machine: Machine, frame: Frame, box: Box, addresses: bool = True):
         if len(box.at) != 4 or len(box.half) != 2:
             raise BadWords("at and half have four and two numbers")
         self.machine, self.frame, self.box = machine, frame, box
-        found = machine.cover(frame, box)
+        found = machine.cover(frame, box, addresses=addresses)
         super().__init__(machine.rule, found.tiles, found.addresses)
 
     def whole(self) -> WholePatch:
         """The whole tiles of the window's tiles, by the program's `glue=yes`. Halves are joined, also with
         halves outside the window. If the rule glues none, these are the tiles themselves."""
-        return whole_patch(self.rule, *self.machine.cover(self.frame, self.box, True))
+        found = self.machine.cover(self.frame, self.box, True, self._addresses is not None)
+        return whole_patch(self.rule, *found)
 
     def listing(self, whole: bool = False) -> str:
         """The text of `draw layers=list`, byte for byte; with `whole`, the text with glue=yes."""
@@ -225,6 +250,17 @@ class Window(Patch):
     def words(self, whole: bool = False) -> str:
         """The arguments of `draw` for this window."""
         return words_of(self.machine, self.frame, self.box, whole)
+
+
+def call(words: Sequence[str], input: bytes = b"", engine: Optional[Engine] = None) -> bytes:
+    """What the command prints for these words and this standard input, byte for byte:
+
+        >>> call(["place", "rule=p3", "addr=2:1/0,0/0"])
+        b'2 9 1,1,0,0\\n'
+
+    docs/FORMATS.md has the words. A refusal of the command is raised by its name, with its fields. The
+    library answers in the process if it has this call, else the program is run. NoEngine."""
+    return (engine or usual_engine()).call(words, input)
 
 
 def not_built_in(name) -> str:
@@ -245,12 +281,7 @@ def words_of(machine: Machine, frame: Frame, box: Box, whole: bool = False) -> s
 
 def listing_of(patch: Patch) -> str:
     """The lines `kind turn shift address` of a patch."""
-    rows = zip(
-        patch.kinds.tolist(), patch.turns.tolist(), patch.shifts.tolist(), address_texts(patch.addresses)
-    )
-    return "".join(
-        f"{kind} {turn} {','.join(map(str, shift))} {address}\n" for kind, turn, shift, address in rows
-    )
+    return listing_text(Found(patch.tiles, patch.addresses))
 
 
 def _told(found: Found) -> List[StarTile]:

@@ -11,13 +11,16 @@ import pytest
 from conftest import BUILT_IN, RULES, TOP
 from pagnetuf import (
     BadAddress,
+    BadListing,
     BadWords,
+    call,
     LibraryEngine,
     NoEngine,
+    Patch,
+    places,
     ProgramEngine,
     Refusal,
     Tiling,
-    places,
     usual_engine,
 )
 from pagnetuf.engine import ADDRESS, TILE, Box, Frame
@@ -171,6 +174,102 @@ def test_arrays_of_addresses(both):
     assert theirs_texts(again[back]) == theirs_texts(addresses[back])  # across the edge that leads back
 
 
+def test_the_addresses_of_a_window_are_asked_as_they_are(both):
+    """As an array and as texts, with edges of each kind, in another array and in place."""
+    ours, theirs = both
+    window, wanted = ours.window(half=(30, 22), seed=11), theirs.window(half=(30, 22), seed=11)
+    texts = window.address_texts()
+    edges = np.arange(len(window)) % 10
+    there, numbers = theirs.neighbour_all(texts, edges.tolist())
+    assert 0 < (numbers[:, 1] == 0).sum() < len(edges)
+    for given in (edges, edges.tolist(), edges.astype(np.uint8), np.repeat(edges.astype(np.uint8), 2)[::2]):
+        across, mine = ours.neighbour_all(window.addresses, given)
+        assert theirs_texts(across) == there and (mine == numbers).all() and mine.dtype == np.uint8
+    assert window.addresses.tobytes() == wanted.addresses.tobytes()  # (nothing was written there)
+    assert ours.place_all(window.addresses).tobytes() == theirs.place_all(texts).tobytes()
+    for form in (texts, tuple(texts), np.array(texts), np.array(texts, object)):
+        across, mine = ours.neighbour_all(form, edges)
+        assert across == there and (mine == numbers).all()
+        assert ours.place_all(form).tobytes() == ours.place_all(window.addresses).tobytes()
+    out, some = np.zeros(len(window), ADDRESS), slice(None, None, 3)
+    for t in both:
+        assert t.neighbour_all(texts, edges, out=out)[0] is out and theirs_texts(out) == there
+        out[:] = window.addresses
+        across, mine = t.neighbour_all(out, edges, out=out)
+        assert across is out and theirs_texts(out) == there and (mine == numbers).all()
+    across, mine = ours.neighbour_all(window.addresses[some], edges[some])
+    assert theirs_texts(across) == there[some] and (mine == numbers[some]).all()
+    assert ours.place_all(window.addresses[some]).tobytes() == ours.place_all(texts[some]).tobytes()
+
+
+def test_edges_out_of_range_change_nothing(both):
+    ours, theirs = both
+    window = ours.window(half=(9, 8), seed=2)
+    edges = [(0, 256, -1, 255, 1, 1 << 40)[i % 6] for i in range(len(window))]
+    across, numbers = ours.neighbour_all(window.addresses, edges)
+    there, wanted = theirs.neighbour_all(window.address_texts(), edges)
+    assert theirs_texts(across) == there and (numbers == wanted).all()
+    refused = numbers[:, 1] != 0
+    assert across[refused].tobytes() == window.addresses[refused].tobytes()
+
+
+def test_texts_of_many_forms_at_once(both):
+    """One that isn't read in bulk is read by itself, and the answers keep their order."""
+    ours, theirs = both
+    window = theirs.window(half=(6, 5), seed=8)
+    texts = [*ADDRESSES, *window.address_texts(), "0:/1/0", "0:1/0,2-0", "0:1/0:2/0"]
+    for given in (texts, texts[::-1], [""] * 3, ["0:"] * 3, ["0:1/0", "0:1x0", "0:1/0"], []):
+        edges = [i % 3 for i in range(len(given))]
+        assert ours.place_all(given).tobytes() == theirs.place_all(given).tobytes()
+        mine, yours = ours.neighbour_all(given, edges), theirs.neighbour_all(given, edges)
+        assert mine[0] == yours[0] and (mine[1] == yours[1]).all()
+
+
+@pytest.mark.parametrize("number", [0, 1])
+def test_arrays_that_cannot_be_addresses(both, number):
+    t = both[number]
+    addresses = t.window(half=(3, 3)).addresses
+    edges, count = np.zeros(len(addresses), np.uint8), len(addresses)
+    locked = addresses.copy()
+    locked.flags.writeable = False
+    shorter, gaps = np.zeros(count - 1, ADDRESS), np.zeros(2 * count, ADDRESS)[::2]
+    for out in (shorter, gaps, np.zeros(count, TILE), locked):
+        with pytest.raises(ValueError):
+            t.neighbour_all(addresses, edges, out=out)
+    for wrong in (np.zeros(count), np.zeros(count, TILE), np.zeros((count, 1), ADDRESS)):
+        with pytest.raises(ValueError):
+            t.neighbour_all(wrong, edges)
+        with pytest.raises(ValueError):
+            t.place_all(wrong)
+
+
+def test_windows_without_addresses(both):
+    for t in both:
+        for seed in (0, 5):
+            window, named = (t.window(half=(14, 11), seed=seed, addresses=it) for it in (False, True))
+            assert window.tiles.tobytes() == named.tiles.tobytes()
+            assert window.listing() == named.listing()
+            whole = window.whole()
+            assert whole.outlines().tobytes() == named.whole().outlines().tobytes()
+            assert window.connected(5).tiles.tobytes() == named.connected(5).tiles.tobytes()
+            for patch in (window, whole, whole.chosen([0, 1]), window.chosen([0])):
+                with pytest.raises(ValueError, match="without addresses"):
+                    print(patch.addresses)
+                with pytest.raises(ValueError, match="without addresses"):
+                    patch.address(0)
+                with pytest.raises(ValueError, match="without addresses"):
+                    patch.address_texts()
+
+
+def test_sheets_are_those_over_the_program(both):
+    for whole in (False, True):
+        mine, yours = (list(t.sheet((31, 30), seed=6, piece=(9, 11), whole=whole)) for t in both)
+        assert len(mine) == len(yours) > 6
+        for one, other in zip(mine, yours):
+            assert one.tiles.tobytes() == other.tiles.tobytes()
+            assert one.address_texts() == other.address_texts()
+
+
 def test_stars_walks_and_pairs(both):
     ours, theirs = (t.machine for t in both)
     tiles = both[1].window(half=(12, 9), seed=5)
@@ -203,6 +302,40 @@ def test_the_rest_is_the_programs(both):
         lambda t: [piece.address_texts() for piece in t.sheet((30, 30), piece=(9, 11), whole=True)],
     ):
         assert answer(call, ours) == answer(call, theirs)
+
+
+def test_lists_of_tiles_of_any_rule_in_any_order():
+    t = Tiling.from_file(os.path.join(RULES, "sphinx.toml"))
+    if not t.machine.library.verify:
+        pytest.skip("a library without tiling_verify")
+    window = t.window((3, 1, 0, 0), (6, 5), 42)
+    asked = dict(at=(3, 1, 0, 0), half=(6, 5), seed=42)
+    shuffled = np.random.default_rng(7).permutation(len(window))
+
+    def patch(tiles, addresses):
+        return Patch(t.rule, tiles, addresses)
+
+    assert t.verify(window, **asked) == len(window)
+    assert t.verify(patch(window.tiles[shuffled], window.addresses[shuffled]), **asked) == len(window)
+    turned, doubled = window.tiles.copy(), window.addresses.copy()
+    turned["turn"][2] = (turned["turn"][2] + 1) % t.rule.order
+    doubled[4] = doubled[3]
+    alike = window.tiles.copy()
+    alike[4] = alike[3]
+    none = window.tiles.copy()
+    none["turn"][5] = t.rule.order
+    for tiles, addresses, fields in (
+        (turned, window.addresses, ("WrongPlace", "3")),
+        (alike, doubled, ("Double", "5")),
+        (none, window.addresses, ("NoTile", "6")),
+        (window.tiles[:-1], window.addresses[:-1], ("Missing",)),
+    ):
+        with pytest.raises(BadListing) as refused:
+            t.verify(patch(tiles, addresses), **asked)
+        assert refused.value.fields == fields
+    with pytest.raises(BadListing) as refused:
+        t.verify(window, (3, 1, 0, 0), (3, 2), 42)
+    assert refused.value.fields[0] == "Stray"
 
 
 @pytest.mark.parametrize("name", ["sphinx", "equithirds", "tuebingen_triangles"])
@@ -246,6 +379,12 @@ def test_it_can_be_pickled_and_used_by_many(library):
     for kind in (ThreadPoolExecutor, ProcessPoolExecutor):
         with kind(3) as executor:
             assert sum(map(len, tiling.sheet((90, 70), piece=(31, 29), executor=executor))) == wanted
+
+
+def test_a_pickle_is_opened_once(library):
+    for tiling in (Tiling("p3", library), Tiling.from_file(os.path.join(RULES, "sphinx.toml"), library)):
+        one, other = (pickle.loads(pickle.dumps(tiling.machine)) for _ in range(2))
+        assert one is other and one.handle.value
 
 
 def test_one_machine_for_many_threads(library):
@@ -292,3 +431,32 @@ def test_the_program_with_no_library(program):
     both = [{**environment, "TILING_LIBRARY": library} for library in (places.library(), "")]
     ours, theirs = (subprocess.run(words, env=it, capture_output=True, check=True).stdout for it in both)
     assert ours == theirs
+
+
+CALLS = (
+    (["place", "rule=p3", "addr=2:1/0,0/0"], b""),
+    (["neighbour", "rule=p3", "addr=2:1/0,0/0", "edge=2"], b""),
+    (["draw", "rule=ab", "addr=0:", "at=0,0,0,0", "half=9,9", "layers=svg,list,census", "glue=yes"], b""),
+    (["calc", "rule=chair"], b"let a 0:0/0\nacross a 0 b\npair a b\n"),
+    (["check", "rule=-"], open(os.path.join(RULES, "sphinx.toml"), "rb").read()),
+    (["check", "rule=-"], b"format = 2"),
+    (["verify", "rule=chair", "addr=0:", "seed=42", "at=1,1,0,0", "half=2,1"], b"0 0 0,0,0,0 0:3/0\n"),
+    (["calc", "rule=chair"], b"let a"),
+    (["neighbour", "rule=chair", "addr=0:0/0", "edge=8"], b""),
+    (["place", "rule=chair", "addr=0:\n"], b""),
+    (["place", "rule=chair", "addr=0:é"], b""),
+    (["place rule=chair"], b""),
+    ([""], b""),
+    ([], b""),
+)
+
+
+@pytest.mark.parametrize("words, given", CALLS)
+def test_the_command_is_called_in_the_process(library, program, words, given):
+    if not library.library.call:
+        pytest.skip("the library has no tiling_call")
+    assert answer(library.call, words, given) == answer(ProgramEngine(program).call, words, given)
+
+
+def test_a_call_prints_what_the_command_prints(library):
+    assert call(["place", "rule=p3", "addr=2:1/0,0/0"], engine=library) == b"2 9 1,1,0,0\n"
