@@ -51,6 +51,7 @@ impl Machine {
 
     /// Like [`cross_in_place`](Self::cross_in_place), for a kind and at most 64 digits. Only the digits that
     /// change are written. On `Outside` the kind and the digits are unchanged.
+    #[inline(always)]
     pub fn cross_digits<L: Ledger>(
         &self,
         kind: &mut u8,

@@ -113,7 +113,8 @@ fn listing(
         → IsEntry (tiling_of machine.now) (tile_at tiles.now i) (address_at addrs.now i)
         × CanBeListed (children (tiling_of machine.now))
         (entry_given (tile_at tiles.now i) (address_at addrs.now i))) }
-    ensures no_tile { IfErr result (λ fault. (fault ≡ unlisted.NoMemory) ⊎ (i : ℕ) × (fault ≡ unlisted.NoTile i)
+    ensures no_tile { IfErr result (λ fault. (fault ≡ unlisted.NoMemory)
+        ⊎ (i : ℕ) × (fault ≡ unlisted.NoTile i)
         × IsFirstNoEntry (tiling_of machine.now) tiles.now addrs.now i) }
 {
     let mut text = Vec::new(alloc);

@@ -53,6 +53,7 @@ fn fall<L: Ledger>(
 }
 
 /// Writes the digits from a meeting down along the mirrored parts, and returns the side at the end.
+#[inline(always)]
 fn write_down<L: Ledger>(
     tables: &FlatTable,
     digits: &mut [Step],
@@ -111,6 +112,7 @@ fn write_down<L: Ledger>(
 
 /// Descends from a meeting along the mirrored parts. Replaces the kind and the digits by those of the tile
 /// across, and returns the edge of that tile.
+#[inline(always)]
 pub(crate) fn descend<L: Ledger>(
     tables: &FlatTable,
     kind: &mut u8,

@@ -111,6 +111,7 @@ impl Transducer {
 
     /// Like [`step_across_in_place`](Self::step_across_in_place), for a kind and at most 64 digits, finest
     /// first.
+    #[inline(always)]
     pub fn step_across_digits<L: Ledger>(
         &self,
         kind: &mut u8,
