@@ -304,8 +304,8 @@ def test_the_rest_is_the_programs(both):
         assert answer(call, ours) == answer(call, theirs)
 
 
-def test_lists_of_tiles_of_any_rule_in_any_order():
-    t = Tiling.from_file(os.path.join(RULES, "sphinx.toml"))
+def test_lists_of_tiles_of_any_rule_in_any_order(library):
+    t = Tiling.from_file(os.path.join(RULES, "sphinx.toml"), library)
     if not t.machine.library.verify:
         pytest.skip("a library without tiling_verify")
     window = t.window((3, 1, 0, 0), (6, 5), 42)
