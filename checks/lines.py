@@ -11,7 +11,7 @@ SHOWN = 3
 CEILINGS = {
     "clause lines above 110 columns": 0,
     "proof lines above 150 columns": 0,
-    "calls with more than 10 clauses": 11,
+    "calls with more than 10 clauses": 5,
     "copies in answers": 317,
 }
 CLAUSE_WIDTH, PROOF_WIDTH, MOST_CLAUSES, LEAST_COPIES, LEAST_LENGTH = 110, 150, 10, 3, 12

@@ -1,4 +1,4 @@
-"""docs/PYTHON.md: its examples give what is written there, and its commands run."""
+"""docs/PYTHON.md and docs/EMBEDDING.md: their examples give what is written there, and commands run."""
 import doctest
 import os
 import re
@@ -9,6 +9,7 @@ import pytest
 from conftest import TOP
 
 NAME = os.path.join(TOP, "docs", "PYTHON.md")
+EMBEDDING = os.path.join(TOP, "docs", "EMBEDDING.md")
 SERVES = "explore"  # (runs until it is ended)
 
 
@@ -17,18 +18,27 @@ def text(name=NAME):
         return file.read()
 
 
-def test_the_examples(program, monkeypatch):
-    for module in ("scipy.sparse.linalg",):
-        pytest.importorskip(module)
+def tried(name, monkeypatch):
+    """How many examples of a document's Python blocks were run; each gave what is written there."""
     monkeypatch.chdir(TOP)
     names, runner, told = {}, doctest.DocTestRunner(verbose=False), []
-    for found in re.finditer(r"```python\n(.*?)```", text(), re.S):
-        line = text()[: found.start(1)].count("\n")
-        example = doctest.DocTestParser().get_doctest(found[1], names, f"line {line}", NAME, line)
+    for found in re.finditer(r"```python\n(.*?)```", text(name), re.S):
+        line = text(name)[: found.start(1)].count("\n")
+        example = doctest.DocTestParser().get_doctest(found[1], names, f"line {line}", name, line)
         example.globs = names
         runner.run(example, out=told.append, clear_globs=False)
     assert not runner.failures, "".join(told)
-    assert runner.tries > 40
+    return runner.tries
+
+
+def test_the_examples(program, monkeypatch):
+    for module in ("scipy.sparse.linalg",):
+        pytest.importorskip(module)
+    assert tried(NAME, monkeypatch) > 40
+
+
+def test_the_first_minute_of_embedding(program, monkeypatch):
+    assert tried(EMBEDDING, monkeypatch) > 5
 
 
 def test_the_commands(program, tmp_path):

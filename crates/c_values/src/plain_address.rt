@@ -53,6 +53,7 @@ impl PlainAddress {
     }
 
     /// Returns true if these numbers name a tile of the machine's rule.
+    #[inline(always)]
     pub fn names_tile(&self, machine: &Machine) -> bool
         ensures { IsTrue result ↔ NamesTile (tiling_of machine.now) self.now }
     {

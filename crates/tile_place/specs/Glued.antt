@@ -1,6 +1,6 @@
 -- Which edges of prototiles meet, and the motions that glue them.
-use Rattle.std.specs.Prelude.{◌≡◌, ℕ, ◌<◌}
-use Rattle.theory_addresses.specs.Address.{Address, Fits}
+use Rattle.std.specs.Prelude.{◌≡◌, ℕ, ◌<◌, ◌≤◌}
+use Rattle.theory_addresses.specs.Address.{Address, Fits, depth}
 use Rattle.cyclo_points.specs.Order.{points_of}
 use Rattle.theory_dissection.specs.Glue.{IsMet, IsGlueMotion}
 use Rattle.rule_model.specs.Tiling.{Tiling, MotionOf, children}
@@ -10,6 +10,12 @@ use Rattle.tile_place.specs.Crossed.{edges_of, placed_tile, IsOnlyAcross}
 -- a kind of the tiling has an edge of this number
 abbrev pub HasKindEdge : Tiling → ℕ → ℕ → Type 0
 HasKindEdge t kind edge = edge < edges_of t kind
+
+-- the address names a tile at most 64 levels deep, which has the edge
+pub record CanBeCrossed (t : Tiling) (a : Address) (edge : ℕ) : Type 0 where
+  pub fits : Fits (children t) a
+  pub no_deeper : depth a ≤ 64
+  pub exists : HasKindEdge t a.kind edge
 
 -- some turn below the order takes the vector of edge f of kind l to that of edge e of kind k, reversed
 abbrev pub Meets : Tiling → ℕ → ℕ → ℕ → ℕ → Type 0

@@ -8,7 +8,7 @@ ghost use Rattle.rule_model.specs.Tiling.{tiling_of, contacts, children, IsPlace
 ghost use Rattle.tile_shape.specs.Views.{step_of};
 ghost use Rattle.transducer_core.specs.Crossed.{IsCrossing};
 ghost use Rattle.tile_place.specs.Crossed.{IsOnlyAcross, LiesAlongNone, LiesOnBoundary};
-ghost use Rattle.tile_place.specs.Glued.{HasKindEdge};
+ghost use Rattle.tile_place.specs.Glued.{CanBeCrossed};
 ghost use Rattle.tile_place.specs.Placing.{first_refused};
 
 use crate::coord_limit::CoordLimit;
@@ -59,10 +59,8 @@ impl Machine {
         edge: u8,
         steps: &mut Steps<L>,
     ) -> Result<u8, Outside>
-        requires fits { Fits (children (tiling_of self.now))
-            (record { kind = kind.old; digits = map step_of digits.old }) }
-        requires no_deeper { length digits.old ≤ 64 }
-        requires edge_exists { HasKindEdge (tiling_of self.now) kind.old edge }
+        requires edge { CanBeCrossed (tiling_of self.now)
+            (record { kind = kind.old; digits = map step_of digits.old }) edge }
 
         ensures crossing { IsCrossing (contacts (tiling_of self.now))
             (record { kind = kind.old; digits = map step_of digits.old }) edge result
@@ -82,8 +80,7 @@ impl Machine {
             → result ≡ Err (record { edge = own; part = part }) }
         ensures inside { OnOk result (LiesAlongNone (tiling_of self.now)
             (record { kind = kind.old; digits = map step_of digits.old }) edge) }
-        ensures kind_unchanged { OnErr result (kind.new ≡ kind.old) }
-        ensures digits_unchanged { OnErr result (digits.new ≡ digits.old) }
+        ensures unchanged { OnErr result ((kind.new ≡ kind.old) × (digits.new ≡ digits.old)) }
         ensures steps_within_bound { steps.new ≤ steps.old + (2 * length digits.old + 2) }
     {
         let order = self.checked().order();

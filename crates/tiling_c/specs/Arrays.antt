@@ -2,7 +2,7 @@
 use Rattle.std.specs.Prelude.{◌≡◌, ◌↔◌, ◌⊎◌, ◌≤◌, ℕ, List, [], get_or, IsSome}
 use Rattle.cyclo_points.specs.Motion.{motion_in}
 use Rattle.rule_model.specs.Tiling.{Tiling, IsPlaced}
-use Rattle.tile_place.specs.Crossed.{IsOnlyAcross, IsOutside, edges_of}
+use Rattle.tile_place.specs.Crossed.{IsOnlyAcross, IsOutside, LiesAlongNone, edges_of}
 use Rattle.tile_place.specs.Placing.{first_refused}
 use Rattle.c_values.specs.declared.plain_address.PlainAddress.{PlainAddress}
 use Rattle.c_values.specs.declared.plain_crossing.PlainCrossing.{PlainCrossing}
@@ -40,6 +40,7 @@ pub record ShowsCrossing (t : Tiling) (old : PlainAddress) (edge : ℕ) (new : P
   pub across : crossing.status ≡ ok → IsOnlyAcross t (address_in old) edge (address_in new) crossing.back
   pub leads_back : crossing.status ≡ ok → IsOnlyAcross t (address_in new) crossing.back (address_in old) edge
   pub names : crossing.status ≡ ok → NamesTile t new
+  pub inside : crossing.status ≡ ok → LiesAlongNone t (address_in old) edge
   pub on_boundary : crossing.status ≡ outside → IsOutside t (address_in old) edge crossing.back crossing.part
   pub names_none : (crossing.status ≡ bad_address) ↔ (¬ NamesTile t old)
   pub lacks_edge : (crossing.status ≡ no_edge) ↔ (NamesTile t old × (edges_of t old.kind ≤ edge))

@@ -95,9 +95,8 @@ fn put_window(
     ensures answered { IsWithinLimits (tiling_of machine.now) frame.old window.now → (result ≡ ok)
         ⊎ (result ≡ no_memory) }
     ensures ended { ¬ result ≡ ok → EndsCover (tiling_of machine.now) frame.old window.now result }
-    ensures tiles_unchanged { ¬ result ≡ ok → tiles.new ≡ tiles.old }
-    ensures addresses_unchanged { ¬ result ≡ ok → addrs.new ≡ addrs.old }
-    ensures count_unchanged { ¬ result ≡ ok → count.new ≡ count.old }
+    ensures unchanged { ¬ result ≡ ok → (tiles.new ≡ tiles.old) × (addrs.new ≡ addrs.old)
+        × (count.new ≡ count.old) }
     ensures no_words { ¬ result ≡ bad_words }
     ensures no_address { ¬ result ≡ bad_address }
 {

@@ -4,24 +4,12 @@ ghost use Rattle.rule_model.specs.Tiling.{tiling_of};
 ghost use Rattle.c_values.specs.Statuses.{ok, bad_words};
 ghost use Rattle.tiling_c.specs.Arrays.{ShowsCrossing, crossing_at, address_at};
 
-use crate::crossing::cross;
+use crate::crossing::cross_edge;
 use c_values::plain_address::PlainAddress;
 use c_values::plain_crossing::PlainCrossing;
 use c_values::shared_machine::SharedMachine;
 use c_values::status::{BAD_WORDS, OK};
-use std::marker::Brand;
-use std::sync::ledger::Blank;
 use tile_place::machine::Machine;
-
-/// Crosses an edge in place, and returns how.
-fn crossing_of(machine: &Machine, addr: &mut PlainAddress, edge: u8) -> PlainCrossing
-    ensures { ShowsCrossing (tiling_of machine.now) addr.old edge addr.new result }
-{
-    let mut back = 0;
-    let mut part = 0;
-    let status = cross::<Brand>(machine, addr, edge, &mut back, &mut part, Blank::new(1));
-    PlainCrossing { status, back, part }
-}
 
 /// Crosses an edge of each tile, in place.
 pub fn cross_all(
@@ -46,7 +34,7 @@ pub fn cross_all(
         return BAD_WORDS;
     }
     for i in 0..edges.len() {
-        crossings[i] = crossing_of(machine, &mut addrs[i], edges[i]);
+        crossings[i] = cross_edge(machine, &mut addrs[i], edges[i]);
     }
     OK
 }

@@ -79,9 +79,7 @@ pub fn turn<L: Ledger>(
     out: &mut PlainVertexStar,
     blank: Blank,
 ) -> u8
-    requires name { blank.name ≡ L.name }
-    requires parts { blank.parts ≡ L.parts }
-    requires some { 0 < blank.parts }
+    requires blank { (blank.name ≡ L.name) × (blank.parts ≡ L.parts) × (0 < blank.parts) }
     ensures star { result ≡ ok → ShowsStar (tiling_of machine.now) (frame_in frame.now) vertex out.new }
     ensures within { result ≡ ok → IsWithinLimits (tiling_of machine.now) (frame_in frame.now) vertex }
     ensures answered { NamesTile (tiling_of machine.now) frame.now.base

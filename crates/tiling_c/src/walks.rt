@@ -113,9 +113,7 @@ pub fn walk<L: Ledger>(
     addrs: &mut [PlainAddress],
     blank: Blank,
 ) -> u8
-    requires name { blank.name ≡ L.name }
-    requires parts { blank.parts ≡ L.parts }
-    requires some { 0 < blank.parts }
+    requires blank { (blank.name ≡ L.name) × (blank.parts ≡ L.parts) × (0 < blank.parts) }
     ensures walk { result ≡ ok → ShowsWalk (tiling_of machine.now) (frame_in frame.now) grow path.now
         tiles.new addrs.new }
     ensures walked { result ≡ ok → CanBeWalked (tiling_of machine.now)

@@ -1,7 +1,7 @@
 -- One level down by the words of a flat table.
 use Rattle.std.proofs.Common.{◌≡◌, ℕ, ◌+◌, ◌*◌, ◌-◌, ◌<◌, ◌/◌, ◌%◌, ◌^◌, List, length, map, drop, get_or, set, Some, IsSome, refl, sym, ap, ◌∙◌, arith, subst}
 use Rattle.std.specs.List.{slice_get}
-use Rattle.std.proofs.lemmas.Option.{slice_get_within, get_or_from_slice_get}
+use Rattle.std.proofs.lemmas.Option.{slice_get_within}
 use Rattle.std.proofs.lemmas.List.{length-map, map-set}
 use Rattle.tile_shape.specs.declared.step.Step as program
 use Rattle.tile_shape.specs.Views.{step_of}
@@ -50,11 +50,11 @@ module _ (t : Tables) (xs : List Step) (m : Meeting) (parts starts words kinds :
       (chain_at t some.0 xs some.1 m parts some.2) some.2.edge_exists
       (met_at t some.0 xs some.1 m parts some.2) is
 
-  pub first_there : (s : Step) → slice_get xs m.level ≡ Some s → (row : ℕ) × (slice_get kinds (256 * s.parent + m.word % 256) ≡ Some row)
+  pub first_there : (s : Step) → slice_get xs m.level ≡ Some s → (row : ℕ) × (slice_get kinds (256 * s.parent + m.word % 256) ≡ Some (row + 255))
   first_there s is = FlatLooks.kind_there t kinds coherent spread s.parent (m.word % 256) (first_child s is)
 
   pub first : (s : Step) (ys : List Step) (side : Side) → slice_get xs m.level ≡ Some s
-      → slice_get kinds (256 * s.parent + m.word % 256) ≡ Some side.row → side.edge ≡ m.word / 256 % 256
+      → slice_get kinds (256 * s.parent + m.word % 256) ≡ Some (side.row + 255) → side.edge ≡ m.word / 256 % 256
       → ys ≡ set xs m.level (record { child = m.word % 256; parent = s.parent }) → m.level < length xs → Down t xs m parts m.level ys side
   first s ys side is kind edge written inside =
       let read = FlatLooks.kind_read t kinds coherent spread s.parent (m.word % 256) side.row (first_child s is) kind in
@@ -91,7 +91,7 @@ module _ (t : Tables) (xs : List Step) (m : Meeting) (parts starts words kinds :
 
   pub there : (i n : ℕ) (ys : List Step) (side : Side) → i < m.level → n ≡ i + 1 → Down t xs m parts n ys side
       → (word : ℕ) × (row : ℕ) × HasEntry starts words (side.row + side.edge) (get_or parts i 0) word
-      × (slice_get kinds (side.row + word % 256) ≡ Some row) × (side.row + word % 256 < 2 ^ 16)
+      × (slice_get kinds (side.row + word % 256) ≡ Some (row + 255)) × (side.row + word % 256 < 2 ^ 16)
   there i n ys side below more d =
       let o = onward some.0 some.1 i n ys side below more some.2 d in
       let w = FlatLooks.part_across_there t starts words coherent begin (side.row / 256) side.edge (get_or parts i 0) o.inside in
@@ -111,7 +111,7 @@ module _ (t : Tables) (xs : List Step) (m : Meeting) (parts starts words kinds :
       let entry : HasEntry starts words (256 * (side.row / 256) + side.edge) (get_or parts i 0) g.word = subst
       (λ r. HasEntry starts words (r + side.edge) (get_or parts i 0) g.word) d.row g.entry in
       let child = child_there i n ys side g.word lower more d entry in
-      let kind : slice_get kinds (256 * (side.row / 256) + g.word % 256) ≡ Some below.row = ap
+      let kind : slice_get kinds (256 * (side.row / 256) + g.word % 256) ≡ Some (below.row + 255) = ap
       (λ r. slice_get kinds (r + g.word % 256)) (sym d.row) ∙ g.kind_is in
       let read = FlatLooks.kind_read t kinds coherent spread (side.row / 256) (g.word % 256) below.row child kind in
       let its_child : (side.row + g.word % 256) % 256 ≡ g.word % 256 = omega (arith, d.row) in
@@ -178,23 +178,21 @@ module _ (t : Tables) (digits : List program.Step) (m : Meeting) (parts starts w
       let b = child_bounds t some.2.meets.step.parent some.2.meets.step.child (rw child.0 refl) in
       omega (arith, some.2.meets.at_is, b.0, coherent.at_most_16_kinds, b.1, coherent.at_most_16_children some.2.meets.step.parent b.0)
 
-  pub cell_there : (child cell : ℕ) → child ≡ m.word % 256 → cell ≡ 256 * (m.at / 256) + child → (row : ℕ) × (slice_get kinds cell ≡ Some row)
+  pub cell_there : (child cell : ℕ) → child ≡ m.word % 256 → cell ≡ 256 * (m.at / 256) + child → (row : ℕ) × (slice_get kinds cell ≡ Some (row + 255))
   cell_there child cell is at =
       let there = first_there t (map step_of digits) m parts starts words kinds coherent begin spread some (step_of met_digit) met_digit_is in
       let same : cell ≡ 256 * met_digit.parent + m.word % 256 = omega (arith, is, at, met_parent) in
       (there.0, ap (slice_get kinds) same ∙ there.1)
 
-  pub begun : (child own cell row d : ℕ) → child ≡ m.word % 256 → own ≡ m.word / 256 % 256
-      → cell ≡ 256 * (m.at / 256) + child → row ≡ get_or kinds cell d
+  pub begun : (child own cell row : ℕ) → child ≡ m.word % 256 → own ≡ m.word / 256 % 256
+      → cell ≡ 256 * (m.at / 256) + child → slice_get kinds cell ≡ Some (row + 255)
       → Down t (map step_of digits) m parts m.level
       (map step_of (set digits m.level (record { child = child; parent = m.at / 256 })))
       (record { row = row; edge = own })
-  begun child own cell row d child_is edge_is at row_is =
-      let there = cell_there child cell child_is at in
+  begun child own cell row child_is edge_is at row_is =
       let same : cell ≡ 256 * met_digit.parent + m.word % 256 = omega (arith, child_is, at, met_parent) in
-      let read : row ≡ there.0 = row_is ∙ get_or_from_slice_get kinds cell there.0 d there.1 in
-      let kind : slice_get kinds (256 * met_digit.parent + m.word % 256) ≡ Some row = ap (slice_get kinds)
-      (sym same) ∙ there.1 ∙ ap Some (sym read) in
+      let kind : slice_get kinds (256 * met_digit.parent + m.word % 256) ≡ Some (row + 255) = ap (slice_get kinds)
+      (sym same) ∙ row_is in
       let written : map step_of (set digits m.level (record { child = child; parent = m.at / 256 })) ≡ set
       (map step_of digits) m.level (record { child = m.word % 256; parent = met_digit.parent }) =
       map-set step_of digits m.level (record { child = child; parent = m.at / 256 })

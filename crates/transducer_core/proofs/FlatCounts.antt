@@ -1,5 +1,5 @@
 -- The blocks of tables, as they are written and counted.
-use Rattle.std.proofs.Common.{◌≡◌, ℕ, ◌*◌, ◌≤◌, ◌<◌, List, [], ◌∷◌, length, map, reverse, Some, refl, sym, ap, ◌∙◌, arith, Vec, Global}
+use Rattle.std.proofs.Common.{◌≡◌, ℕ, ◌≤◌, ◌<◌, List, [], ◌∷◌, length, map, reverse, Some, refl, sym, ap, ◌∙◌, arith, Vec, Global}
 use Rattle.std.specs.List.{slice_get, AllByRecursion}
 use Rattle.std.proofs.lemmas.List.{length-map, length-reverse}
 use Rattle.std.proofs.lemmas.Option.{slice_get_within}
@@ -15,7 +15,7 @@ use Rattle.theory_addresses.proofs.Lists.{AllByRecursion-from}
 use Rattle.theory_addresses.proofs.Ranges.{among-place, image-at, among-flat_map, slice_get-image}
 use Rattle.theory_addresses.proofs.TableBounds.{some_within, part_count-within}
 use Rattle.transducer_core.specs.Blocks.{contact_blocks, part_blocks}
-use Rattle.transducer_core.specs.Merged.{IsMerged}
+use Rattle.transducer_core.specs.Merged.{IsMerged, last_cell}
 use Rattle.transducer_core.specs.Merging.{AreShort, AreSmall}
 use Rattle.transducer_core.specs.Once.{AreOnce, HasDifferent}
 use Rattle.transducer_core.specs.Words.{word_of_contact, contact_of_word, word_of_part, part_of_word, contact_words, part_words}
@@ -48,15 +48,15 @@ written_parts (r ∷ rows) = λ i. inner r.parts.items i ∷ written_parts rows 
     inner (v ∷ vs) = ap (λ l. part_words (map as_child_edge v.items) ∷ l) (inner vs)
 
 -- ---- they are few and short
-pub scaled : (ks : List KindTables) → map (map (λ n. 256 * n)) (map (λ (k : KindTables). k.children) ks) ≡ map
-    (λ (k : KindTables). map (λ n. 256 * n) k.children) ks
+pub scaled : (ks : List KindTables) → map (map last_cell) (map (λ (k : KindTables). k.children) ks) ≡ map
+    (λ (k : KindTables). map last_cell k.children) ks
 scaled [] = refl
-scaled (k ∷ ks) = ap (λ l. map (λ n. 256 * n) k.children ∷ l) (scaled ks)
+scaled (k ∷ ks) = ap (λ l. map last_cell k.children ∷ l) (scaled ks)
 
-pub written_kinds : (rows : List KindRows) → map (λ r. map (λ n. 256 * n) r.children.items) rows ≡ map
-    (λ (k : KindTables). map (λ n. 256 * n) k.children) (map as_kind_tables rows)
+pub written_kinds : (rows : List KindRows) → map (λ r. map last_cell r.children.items) rows ≡ map
+    (λ (k : KindTables). map last_cell k.children) (map as_kind_tables rows)
 written_kinds [] = refl
-written_kinds (r ∷ rows) = ap (λ l. map (λ n. 256 * n) r.children.items ∷ l) (written_kinds rows)
+written_kinds (r ∷ rows) = ap (λ l. map last_cell r.children.items ∷ l) (written_kinds rows)
 
 pub short_children : (t : Tables) (rows : List KindRows) → IsCoherent t → map as_kind_tables rows ≡ t.kinds
     → AllByRecursion (λ r. length r.children.items ≤ 256) rows

@@ -10,7 +10,7 @@ use Rattle.theory_addresses.specs.Tables.{Tables, KindTables, kind_tables, child
 use Rattle.theory_addresses.proofs.Ranges.{slice_get-append_left, slice_get-image}
 use Rattle.theory_addresses.proofs.TableBounds.{some_within, contact_bounds, part_bounds, child_bounds, type_bounds, part_count-within, some_of, part_there}
 use Rattle.transducer_core.specs.FlatTables.{contact_rows, part_rows, kind_rows}
-use Rattle.transducer_core.specs.Merged.{Stands, AllBegin, HasEntry, AreSpread}
+use Rattle.transducer_core.specs.Merged.{Stands, AllBegin, HasEntry, AreSpread, last_cell}
 use Rattle.transducer_core.specs.Words.{word_of_contact, contact_of_word, word_of_part, part_of_word, contact_words, part_words}
 use Rattle.transducer_core.proofs.Strides.{slice_get-append_right}
 
@@ -81,16 +81,16 @@ has_part t k e own p x starts words h is mirrored =
       word_at = stands_entry words b.start (part_words (parts_of t k e)) p (word_of_part x) b.stands entry;
     }
 
--- 256 times the kind of a child
+-- the last cell of the row of a child's kind
 pub has_kind : (t : Tables) (k c kind : ℕ) (kinds : List ℕ) → AreSpread (kind_rows t) kinds
-    → child_kind_of t k c ≡ Some kind → slice_get kinds (256 * k + c) ≡ Some (256 * kind)
+    → child_kind_of t k c ≡ Some kind → slice_get kinds (256 * k + c) ≡ Some (last_cell kind)
 unfolding child_kind_of
 has_kind t k c kind kinds h is =
     let bounds = child_bounds t k c (rw is refl) in
     let row = slice_get-image (λ (r : KindTables). r.children) (kind_tables t k) t.kinds k (kind_at t k bounds.0) in
-    h k c (map (λ n. 256 * n) (kind_tables t k).children) (256 * kind)
-    (slice_get-image (map (λ n. 256 * n)) (kind_tables t k).children (child_kinds t) k row)
-    (slice_get-image (λ n. 256 * n) kind (kind_tables t k).children c is)
+    h k c (map last_cell (kind_tables t k).children) (last_cell kind)
+    (slice_get-image (map last_cell) (kind_tables t k).children (child_kinds t) k row)
+    (slice_get-image last_cell kind (kind_tables t k).children c is)
 
 -- ---- words stand for one entry
 low : (e c : ℕ) → c < 256 → (e * 256 + c) % 256 ≡ c
@@ -233,17 +233,18 @@ module _ (t : Tables) (starts words : List ℕ) (coherent : IsCoherent t) (begin
 
 module _ (t : Tables) (kinds : List ℕ) (coherent : IsCoherent t) (spread : AreSpread (kind_rows t) kinds) where
   -- 256 times a child's kind is read at its cell
-  pub kind_there : (k c : ℕ) → IsSome (child_kind_of t k c) → (row : ℕ) × (slice_get kinds (256 * k + c) ≡ Some row)
+  pub kind_there : (k c : ℕ) → IsSome (child_kind_of t k c) → (row : ℕ) × (slice_get kinds (256 * k + c) ≡ Some (row + 255))
   kind_there k c h =
       let x = some_of (child_kind_of t k c) h in
       (256 * x.0, has_kind t k c x.0 kinds spread x.1)
 
-  pub kind_read : (k c row : ℕ) → IsSome (child_kind_of t k c) → slice_get kinds (256 * k + c) ≡ Some row
+  pub kind_read : (k c row : ℕ) → IsSome (child_kind_of t k c) → slice_get kinds (256 * k + c) ≡ Some (row + 255)
       → (child_kind_of t k c ≡ Some (row / 256)) × (row ≡ 256 * (row / 256)) × (row / 256 < 16)
   kind_read k c row h is =
       let x = some_of (child_kind_of t k c) h in
-      let two : Some row ≡ Some (256 * x.0) = sym is ∙ has_kind t k c x.0 kinds spread x.1 in
-      let same : row ≡ 256 * x.0 = cc in
+      let two : Some (row + 255) ≡ Some (last_cell x.0) = sym is ∙ has_kind t k c x.0 kinds spread x.1 in
+      let last : row + 255 ≡ last_cell x.0 = cc in
+      let same : row ≡ 256 * x.0 = omega (arith, last) in
       let kind : x.0 ≡ row / 256 = omega arith in
       (x.1 ∙ ap Some kind, omega arith, omega (arith, kind, coherent.child_exists k c x.0 x.1, coherent.at_most_16_kinds))
 

@@ -18,23 +18,23 @@ filled_up n xs ws is =
 
 -- a kind and digits that are unchanged are an unchanged address
 unchanged : (before : Address) (x : Result ℕ Outside) (kind : ℕ) (ws : List Step)
-    → OnErr x (kind ≡ before.kind) → OnErr x (ws ≡ before.digits.items)
+    → OnErr x ((kind ≡ before.kind) × (ws ≡ before.digits.items))
     → OnErr x (◌≡◌ {A = Address} (record { kind = kind; digits = record { items = ws } }) before)
-unchanged before (Ok back) kind ws a b = tt
-unchanged before (Err o) kind ws a b = λ i. record { kind = a i; digits = record { items = b i } }
+unchanged before (Ok back) kind ws same = tt
+unchanged before (Err o) kind ws same = λ i. record { kind = same.0 i; digits = record { items = same.1 i } }
 
 -- a crossing of the digits is one of the address that has them
 pub in_place : (t : Tables) (before : Address) (xs : List Step) (e : ℕ) (x : Result ℕ Outside) (kind : ℕ) (ws : List Step)
     → xs ≡ before.digits.items → length ws ≡ length xs
     → IsCrossing t (record { kind = before.kind; digits = map step_of xs }) e x (λ _. record { kind = kind; digits = map step_of ws }) (λ back. back)
-    → OnErr x (kind ≡ before.kind) → OnErr x (ws ≡ xs)
+    → OnErr x ((kind ≡ before.kind) × (ws ≡ xs))
     → IsCrossingInPlace t before e x (record { kind = kind; digits = record { items = refill (length before.digits.items) before.digits.items ws } })
-in_place t before xs e x kind ws is long crossing kind_same digits_same =
+in_place t before xs e x kind ws is long crossing same =
     let whole : refill (length before.digits.items) before.digits.items ws ≡ ws =
     filled_up (length before.digits.items) before.digits.items ws (long ∙ ap length is) in
     rw whole
     (record {
       crossing = subst (λ (ys : List Step). IsCrossing t (record { kind = before.kind; digits = map step_of ys }) e x
           (λ _. record { kind = kind; digits = map step_of ws }) (λ back. back)) is crossing;
-      unchanged = unchanged before x kind ws kind_same (subst (λ (ys : List Step). OnErr x (ws ≡ ys)) is digits_same);
+      unchanged = unchanged before x kind ws (subst (λ (ys : List Step). OnErr x ((kind ≡ before.kind) × (ws ≡ ys))) is same);
     })

@@ -19,5 +19,5 @@ pub record GoesDown (starts words kinds : List ℕ) (side : Side) (part : ℕ) (
   pub word : ℕ
   pub entry : HasEntry starts words (side.row + side.edge) part word
   pub digit_is : digit ≡ record { child = (side.row + word % 256) % 256; parent = (side.row + word % 256) / 256 }
-  pub kind_is : slice_get kinds (side.row + word % 256) ≡ Some below.row
+  pub kind_is : slice_get kinds (side.row + word % 256) ≡ Some (below.row + 255)
   pub edge_is : below.edge ≡ word / 256

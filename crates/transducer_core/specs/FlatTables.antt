@@ -1,12 +1,12 @@
 -- When flat lists are laid out right.
-use Rattle.std.specs.Prelude.{ℕ, ◌*◌, List, map, Vec}
+use Rattle.std.specs.Prelude.{ℕ, List, map, Vec}
 use Rattle.std.specs.Global.{Global}
 use Rattle.theory_addresses.specs.Coherent.{IsCoherent}
 use Rattle.theory_addresses.specs.Tables.{Tables, KindTables, child_kinds}
 use Rattle.transducer_core.specs.declared.joined.Joined.{Joined}
 use Rattle.transducer_core.specs.declared.merging.Merged.{Merged}
 use Rattle.transducer_core.specs.Flat.{Lists, lists_of, mates_in, subs_in, types_in, children_in, pieces}
-use Rattle.transducer_core.specs.Merged.{AreSpread, AreFilled, IsMerged}
+use Rattle.transducer_core.specs.Merged.{AreSpread, AreFilled, IsMerged, last_cell}
 use Rattle.transducer_core.specs.Merging.{AreKept}
 use Rattle.transducer_core.specs.Words.{contact_words, part_words}
 
@@ -25,9 +25,9 @@ lists_in joined contacts parts =
       part_words = parts.words.items;
     }
 
--- 256 times the kind of each child of each kind
+-- the last cell of the row of each child's kind, for each kind
 abbrev pub kind_rows : Tables → List (List ℕ)
-kind_rows t = map (map (λ n. 256 * n)) (child_kinds t)
+kind_rows t = map (map last_cell) (child_kinds t)
 
 -- the contact blocks of each kind as words, and the part blocks
 abbrev pub contact_rows : Tables → List (List (List ℕ))
@@ -36,8 +36,8 @@ contact_rows t = map (λ (k : KindTables). map contact_words k.contacts) t.kinds
 abbrev pub part_rows : Tables → List (List (List ℕ))
 part_rows t = map (λ (k : KindTables). map part_words k.parts) t.kinds
 
--- The tables fit together. Their lists follow one another. 256 times each child kind is at the place at which
--- it is looked up. So is each block, and equal blocks are kept once.
+-- The tables fit together. Their lists follow one another. The last cell of each child kind's row is at the place
+-- at which it is looked up. So is each block, and equal blocks are kept once.
 pub record IsFlat (t : Tables) (joined : Joined) (kinds : Vec ℕ Global) (contacts parts : Merged) : Type 0 where
   pub coherent : IsCoherent t
   pub lists_at : AreKept (lists_of t) joined.items.items joined.ends.items

@@ -36,9 +36,13 @@ pub record IsMerged (rows : List (List (List ℕ))) (starts words : List ℕ) (c
 abbrev pub AreSpread : {A : Type 0} → List (List A) → List A → Type 0
 AreSpread {A} rows flat = (k c : ℕ) (row : List A) (x : A) → slice_get rows k ≡ Some row → slice_get row c ≡ Some x → slice_get flat (256 * k + c) ≡ Some x
 
--- what fills up a row of 256 times each kind: it is 256 times no kind
+-- the last cell of a row
+abbrev pub last_cell : ℕ → ℕ
+last_cell k = 256 * k + 255
+
+-- what fills up a row of last cells: no row of a kind ends there
 abbrev pub no_row : ℕ
-no_row = 65535
+no_row = 131072
 
 -- the list has 256 numbers for each row, and fills up each row with what is no row's
 pub record AreFilled (rows : List (List ℕ)) (flat : List ℕ) : Type 0 where

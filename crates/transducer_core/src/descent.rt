@@ -25,12 +25,21 @@ pub(crate) struct Side {
     pub(crate) edge: usize,
 }
 
+/// Returns 256 times the kind of the child that has this cell.
+#[inline]
+fn row_below(kinds: &[u32], at: usize) -> usize
+    requires { (row : ℕ) × (slice_get kinds.now at ≡ Some (row + 255)) }
+    ensures { slice_get kinds.now at ≡ Some (result + 255) }
+{
+    kinds[at] as usize - 255
+}
+
 /// Goes one level down, to the child's edge that is this part of an edge, counted from across. It writes the
 /// digit.
 #[inline]
 fn fall<L: Ledger>(
     blocks: Blocks<'_>,
-    kinds: &[u16],
+    kinds: &[u32],
     side: Side,
     part: u8,
     digit: &mut Step,
@@ -38,7 +47,8 @@ fn fall<L: Ledger>(
 ) -> Side
     requires { (word : ℕ) × (row : ℕ) × HasEntry blocks.starts.now blocks.words.now (side.row + side.edge)
         part word
-        × (slice_get kinds.now (side.row + word % 256) ≡ Some row) × (side.row + word % 256 < 2 ^ 16) }
+        × (slice_get kinds.now (side.row + word % 256) ≡ Some (row + 255))
+        × (side.row + word % 256 < 2 ^ 16) }
     ensures down { GoesDown blocks.entry.starts.now blocks.entry.words.now kinds.now side part digit.new
         result }
     ensures one_step { steps.new ≡ steps.old + 1 }
@@ -47,7 +57,7 @@ fn fall<L: Ledger>(
     let at = side.row + (word % 256) as usize;
     *digit = digit_at(at);
     Side {
-        row: usize::from(kinds[at]),
+        row: row_below(kinds, at),
         edge: (word / 256) as usize,
     }
 }
@@ -80,7 +90,7 @@ fn write_down<L: Ledger>(
     let parent = (meeting.at / 256) as u8;
     digits[meeting.level] = Step { child, parent };
     let mut side = Side {
-        row: usize::from(kinds[cell(parent, child)]),
+        row: row_below(kinds, cell(parent, child)),
         edge: usize::from(met.edge),
     };
     let mut level = meeting.level;

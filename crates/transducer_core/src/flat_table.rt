@@ -1,5 +1,5 @@
 //! Contact tables in flat lists, and the look-ups in them.
-ghost use Rattle.std.specs.Prelude.{◌≡◌, ◌↔◌, ◌<◌, ◌+◌, ◌*◌, ◌/◌, map, slice_get, Some, IsSome, IsTrue, IfOk, IfSome};
+ghost use Rattle.std.specs.Prelude.{◌≡◌, ◌↔◌, ◌<◌, ◌≤◌, ◌+◌, ◌*◌, ◌%◌, ◌⊎◌, ℕ, length, map, slice_get, Some, None, IsSome, IsTrue, IfOk, IfSome};
 ghost use Rattle.theory_addresses.specs.Coherent.{IsCoherent};
 ghost use Rattle.theory_addresses.specs.Address.{Climbs, Fits};
 ghost use Rattle.theory_addresses.specs.Tables.{child_kinds, type_of, contact_of, part_of, part_count};
@@ -7,7 +7,7 @@ ghost use Rattle.edge_tables.specs.Views.{as_contact, as_child_edge};
 ghost use Rattle.tile_shape.specs.Views.{step_of};
 ghost use Rattle.transducer_core.specs.Blocks.{contact_blocks, part_blocks};
 ghost use Rattle.transducer_core.specs.FlatTables.{contact_rows, part_rows, kind_rows};
-ghost use Rattle.transducer_core.specs.Merged.{AllBegin, AreSpread, AreFilled};
+ghost use Rattle.transducer_core.specs.Merged.{AllBegin, AreSpread, AreFilled, last_cell, no_row};
 ghost use Rattle.transducer_core.specs.Once.{HasDifferent};
 
 use crate::blocks::Blocks;
@@ -34,7 +34,7 @@ use tile_shape::step::Step;
 #[derive(Drop)]
 pub struct FlatTable {
     lists: Joined,
-    child_kinds: Vec<u16>,
+    child_kinds: Vec<u32>,
     contacts: Merged,
     parts: Merged,
 }
@@ -100,42 +100,40 @@ impl FlatTable {
         ensures { IsTrue result ↔ Fits (child_kinds self.now)
             (record { kind = kind; digits = map step_of digits.now }) }
     {
-        let row = u16::from(kind) * 256;
-        if usize::from(row) >= self.child_kinds().len() {
-            return false;
+        self.coherent();
+        let last = u32::from(kind) * 256 + 255;
+        let depth = digits.len();
+        if depth == 0 {
+            return (last as usize) < self.child_kinds().len();
         }
-        self.top_row(row, digits).is_some()
+        match self.last_below(digits) {
+            Some(found) => found == last,
+            None => false,
+        }
     }
 
-    /// Returns 256 times the kind to which digits climb from a kind, of which 256 times is given. None if they
-    /// do not climb.
+    /// Returns the last cell of the row of the kind from which these digits climb. None if they climb from no
+    /// kind. It goes down from the coarsest digit, so that each digit's cell also tests the parent below it.
     #[inline]
-    fn top_row(&self, from: u16, digits: &[Step]) -> Option<u16>
-        requires row { from ≡ 256 * (from / 256) }
-        ensures { IsSome result ↔ Climbs (child_kinds self.now) (from / 256) (map step_of digits.now) }
+    fn last_below(&self, digits: &[Step]) -> Option<u32>
+        requires some { 0 < length digits.now }
+        ensures { (kind : ℕ) → (result ≡ Some (last_cell kind))
+            ↔ Climbs (child_kinds self.now) kind (map step_of digits.now) }
     {
+        self.coherent();
         let kinds = self.child_kinds();
-        let depth = digits.len();
-        let mut row = from;
-        let mut level = 0usize;
-        if depth % 2 == 1 {
-            let Some(next) = row_above(kinds, digits[0], row) else {
-                return None;
-            };
-            row = next;
-            level = 1;
+        let mut level = digits.len() - 1;
+        let mut last = last_at(kinds, digits[level])?;
+        if level % 2 == 1 {
+            level -= 1;
+            last = last_of_child(kinds, digits[level], last)?;
         }
-        while level < depth {
-            let Some(next) = row_above(kinds, digits[level], row) else {
-                return None;
-            };
-            let Some(top) = row_above(kinds, digits[level + 1], next) else {
-                return None;
-            };
-            row = top;
-            level += 2;
+        while level > 0 {
+            let next = last_of_child(kinds, digits[level - 1], last)?;
+            last = last_of_child(kinds, digits[level - 2], next)?;
+            level -= 2;
         }
-        Some(row)
+        Some(last)
     }
 
     /// Returns the contact blocks.
@@ -153,8 +151,8 @@ impl FlatTable {
         self.parts.blocks()
     }
 
-    /// Returns 256 times the kind of each child, at its cell.
-    pub(crate) fn child_kinds(&self) -> &[u16]
+    /// Returns the last cell of the row of each child's kind, at the child's cell.
+    pub(crate) fn child_kinds(&self) -> &[u32]
         ensures spread { AreSpread (kind_rows self.now) result.now }
         ensures filled { AreFilled (kind_rows self.now) result.now }
     {
@@ -198,16 +196,30 @@ impl FlatTable {
     }
 }
 
-/// Returns 256 times the parent's kind of a digit if this is 256 times its child's kind.
+/// Returns what is at the cell of a digit.
 #[inline]
-fn row_above(kinds: &[u16], digit: Step, row: u16) -> Option<u16>
-    ensures there { IsSome result ↔ (slice_get kinds.now (256 * digit.parent + digit.child) ≡ Some row) }
-    ensures above { IfSome result (λ next. next ≡ 256 * digit.parent) }
+fn last_at(kinds: &[u32], digit: Step) -> Option<u32>
+    ensures there { IfSome result (λ last. slice_get kinds.now (256 * digit.parent + digit.child)
+        ≡ Some last) }
+    ensures none { (result ≡ None) → length kinds.now ≤ 256 * digit.parent + digit.child }
+    ensures small { digit.child < 256 }
+{
+    kinds.get(cell(digit.parent, digit.child)).copied()
+}
+
+/// Returns what is at the cell of a digit if the row of the digit's parent has this last cell.
+#[inline]
+fn last_of_child(kinds: &[u32], digit: Step, last: u32) -> Option<u32>
+    requires row { (last < length kinds.now × (last % 256 ≡ 255)) ⊎ (last ≡ no_row) }
+    ensures there { IfSome result (λ next. (last ≡ last_cell digit.parent)
+        × (slice_get kinds.now (256 * digit.parent + digit.child) ≡ Some next)) }
+    ensures none { (result ≡ None) → ¬ last ≡ last_cell digit.parent }
     ensures small { digit.child < 256 }
 {
     let at = cell(digit.parent, digit.child);
-    match kinds.get(at) {
-        Some(found) if *found == row => Some((at / 256 * 256) as u16),
-        _ => None,
+    if last.wrapping_sub(at as u32) < 256 {
+        Some(kinds[at])
+    } else {
+        None
     }
 }

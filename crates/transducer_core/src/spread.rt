@@ -1,7 +1,7 @@
 //! Rows in one list with a fixed stride.
 ghost use Rattle.std.specs.Prelude.{◌≡◌, ◌+◌, ◌*◌, ◌^◌, ◌<◌, ◌≤◌, ◌++◌, ℕ, List, length, map, slice_get, Some, OnOk, IfOk};
 ghost use Rattle.std.specs.List.{AllByRecursion};
-ghost use Rattle.transducer_core.specs.Merged.{AreSpread, AreFilled, no_row};
+ghost use Rattle.transducer_core.specs.Merged.{AreSpread, AreFilled, last_cell, no_row};
 
 use edge_tables::kind_rows::KindRows;
 use std::alloc::Global;
@@ -11,8 +11,8 @@ use tile_shape::step::Step;
 /// The filling after a row.
 const BLANKS: &[u16; 256] = &[0; 256];
 
-/// The filling after the kinds of a row, which is 256 times no kind.
-const NO_ROWS: &[u16; 256] = &[65535; 256];
+/// The filling after the kinds of a row, which is the last cell of no kind.
+const NO_ROWS: &[u32; 256] = &[131072; 256];
 
 /// Returns the position of a number of a row.
 #[inline]
@@ -46,7 +46,7 @@ pub(crate) fn fill_row(list: &mut Vec<u16>, count: usize) -> Result<(), NoMemory
 }
 
 /// Fills up the last row of a list of kinds, which has this many entries, to 256.
-fn fill_kinds(list: &mut Vec<u16>, count: usize) -> Result<(), NoMemory>
+fn fill_kinds(list: &mut Vec<u32>, count: usize) -> Result<(), NoMemory>
     requires short { count ≤ 256 }
     ensures { OnOk result ((blanks : List ℕ) × (list.new.items ≡ list.old.items ++ blanks)
         × (count + length blanks ≡ 256)
@@ -57,25 +57,25 @@ fn fill_kinds(list: &mut Vec<u16>, count: usize) -> Result<(), NoMemory>
     Ok(())
 }
 
-/// Appends 256 times each kind.
-fn push_kinds(list: &mut Vec<u16>, kinds: &Vec<u8>) -> Result<(), NoMemory>
-    ensures { OnOk result (list.new.items ≡ list.old.items ++ map (λ n. 256 * n) kinds.now.items) }
+/// Appends the last cell of each kind's row.
+fn push_kinds(list: &mut Vec<u32>, kinds: &Vec<u8>) -> Result<(), NoMemory>
+    ensures { OnOk result (list.new.items ≡ list.old.items ++ map last_cell kinds.now.items) }
 {
     for kind in kinds {
-        list.push(u16::from(*kind) * 256)?;
+        list.push(u32::from(*kind) * 256 + 255)?;
     }
     Ok(())
 }
 
-/// Returns 256 times the kind of each child of each kind, with a row of 256 for each kind. After the children
-/// of a kind its row has 65535, which is 256 times no kind.
-pub(crate) fn kind_cells(alloc: Global, rows: &Vec<KindRows>) -> Result<Vec<u16>, NoMemory>
+/// Returns the last cell of the row of each child's kind, with a row of 256 for each kind. After the children
+/// of a kind its row has 131072, which is the last cell of no kind.
+pub(crate) fn kind_cells(alloc: Global, rows: &Vec<KindRows>) -> Result<Vec<u32>, NoMemory>
     requires few { length rows.now.items ≤ 16 }
     requires short { AllByRecursion (λ r. length r.children.items ≤ 256) rows.now.items }
     ensures spread { IfOk result (λ flat. AreSpread
-        (map (λ r. map (λ n. 256 * n) r.children.items) rows.now.items) flat.items) }
+        (map (λ r. map last_cell r.children.items) rows.now.items) flat.items) }
     ensures filled { IfOk result (λ flat. AreFilled
-        (map (λ r. map (λ n. 256 * n) r.children.items) rows.now.items) flat.items) }
+        (map (λ r. map last_cell r.children.items) rows.now.items) flat.items) }
 {
     let mut flat = Vec::with_capacity(alloc, 256 * rows.len())?;
     for row in rows {

@@ -125,8 +125,7 @@ impl Transducer {
         requires edge_exists { IsSome (type_of self.now kind.old edge) }
         ensures crossing { IsCrossing self.now (record { kind = kind.old; digits = map step_of digits.old })
             edge result (λ _. record { kind = kind.new; digits = map step_of digits.new }) (λ back. back) }
-        ensures kind_unchanged { OnErr result (kind.new ≡ kind.old) }
-        ensures digits_unchanged { OnErr result (digits.new ≡ digits.old) }
+        ensures unchanged { OnErr result ((kind.new ≡ kind.old) × (digits.new ≡ digits.old)) }
         ensures steps_within_bound { steps.new ≤ steps.old + (2 * length digits.old + 2) }
     {
         let depth = digits.len();

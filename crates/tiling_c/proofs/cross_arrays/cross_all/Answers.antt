@@ -13,12 +13,12 @@ loop-i-preserved c =
     let addrs = c.loop-i.addrs in
     let crossings = c.loop-i.crossings in
     let i = c.loop-i.i in
-    let addr = c.crossing_of.new.addr in
-    let crossing = c.crossing_of.result in
+    let addr = c.cross_edge.new.addr in
+    let crossing = c.cross_edge.result in
     let in_addrs : i < length addrs = search rules in
     let in_crossings : i < length crossings = search rules in
     let first : ShowsCrossing t (address_at old i) (get_or edges i 0) addr crossing =
-    subst (λ a. ShowsCrossing t a (get_or edges i 0) addr crossing) (c.loop-i.invariant.rest i (omega arith)) c.crossing_of.ensures in
+    subst (λ a. ShowsCrossing t a (get_or edges i 0) addr crossing) (c.loop-i.invariant.rest i (omega arith)) c.cross_edge.ensures in
     record {
       room = length-set addrs i addr ∙ c.loop-i.invariant.room;
       crossings_room = length-set crossings i crossing ∙ c.loop-i.invariant.crossings_room;

@@ -1,5 +1,4 @@
 use Rattle.std.proofs.Common.{◌≡◌, ◌-◌, ◌/◌, length, map, set, arith, ap, ◌∙◌}
-use Rattle.std.proofs.lemmas.Option.{slice_get_within}
 use Rattle.std.proofs.Math.ListN.{length-set}
 use Rattle.theory_addresses.specs.Contact.{ChildEdge}
 use Rattle.tile_shape.specs.Views.{step_of}
@@ -22,23 +21,12 @@ bounds-digits-meeting g c = Falls.inside c.args.tables.now c.args.digits.now c.a
     c.parts-blocks.result.starts.now c.parts-blocks.result.words.now c.child_kinds-kinds.result.now
     c.requires.coherent c.parts-blocks.ensures c.child_kinds-kinds.ensures.spread c.requires.met
 
-pub offset_bounds-kinds-cell : goal.offset_bounds-kinds-cell
-offset_bounds-kinds-cell g c =
-    let there = Falls.cell_there c.args.tables.now c.args.digits.now c.args.meeting c.args.parts.now
+pub row_below-requires : goal.row_below-requires
+row_below-requires g c = Falls.cell_there c.args.tables.now c.args.digits.now c.args.meeting c.args.parts.now
     c.parts-blocks.result.starts.now c.parts-blocks.result.words.now c.child_kinds-kinds.result.now
     c.requires.coherent c.parts-blocks.ensures c.child_kinds-kinds.ensures.spread c.requires.met
     c.part_in-met.result.child c.cell.result (ap (λ (x : ChildEdge). x.child) c.part_in-met.ensures)
-    c.cell.ensures in
-    omega (arith, slice_get_within c.child_kinds-kinds.result.now c.cell.result there.0 there.1, c.child_kinds-kinds.type_inv)
-
-pub bounds-kinds-cell : goal.bounds-kinds-cell
-bounds-kinds-cell g c =
-    let there = Falls.cell_there c.args.tables.now c.args.digits.now c.args.meeting c.args.parts.now
-    c.parts-blocks.result.starts.now c.parts-blocks.result.words.now c.child_kinds-kinds.result.now
-    c.requires.coherent c.parts-blocks.ensures c.child_kinds-kinds.ensures.spread c.requires.met
-    c.part_in-met.result.child c.cell.result (ap (λ (x : ChildEdge). x.child) c.part_in-met.ensures)
-    c.cell.ensures in
-    slice_get_within c.child_kinds-kinds.result.now c.cell.result there.0 there.1
+    c.cell.ensures
 
 pub bounds-digits-level : goal.bounds-digits-level
 bounds-digits-level g c = omega (
@@ -56,35 +44,35 @@ fall-side-requires g c =
     let begun : Down c.args.tables.now (map step_of c.args.digits.now) c.args.meeting c.args.parts.now
     c.args.meeting.level (map step_of (set c.args.digits.now c.args.meeting.level
     (record { child = c.part_in-met.result.child; parent = c.args.meeting.at / 256 })))
-    (record { row = c.from.result; edge = c.from-2.result }) =
+    (record { row = c.row_below.result; edge = c.from.result }) =
     Falls.begun c.args.tables.now c.args.digits.now c.args.meeting c.args.parts.now
     c.parts-blocks.result.starts.now c.parts-blocks.result.words.now c.child_kinds-kinds.result.now
     c.requires.coherent c.parts-blocks.ensures c.child_kinds-kinds.ensures.spread c.requires.met
-    c.part_in-met.result.child c.from-2.result c.cell.result c.from.result 0
+    c.part_in-met.result.child c.from.result c.cell.result c.row_below.result
     (ap (λ (x : ChildEdge). x.child) c.part_in-met.ensures)
-    (c.from-2.ensures ∙ (ap (λ (x : ChildEdge). x.edge) c.part_in-met.ensures)) c.cell.ensures
-    c.from.ensures in
+    (c.from.ensures ∙ (ap (λ (x : ChildEdge). x.edge) c.part_in-met.ensures)) c.cell.ensures
+    c.row_below.ensures in
     Falls.there c.args.tables.now (map step_of c.args.digits.now) c.args.meeting c.args.parts.now
     c.parts-blocks.result.starts.now c.parts-blocks.result.words.now c.child_kinds-kinds.result.now
     c.requires.coherent c.parts-blocks.ensures c.child_kinds-kinds.ensures.spread c.requires.met
     (c.args.meeting.level - 1) c.args.meeting.level
     (map step_of (set c.args.digits.now c.args.meeting.level
     (record { child = c.part_in-met.result.child; parent = c.args.meeting.at / 256 })))
-    (record { row = c.from.result; edge = c.from-2.result }) (omega arith) (omega arith) begun
+    (record { row = c.row_below.result; edge = c.from.result }) (omega arith) (omega arith) begun
 
 pub loop-level-init : goal.loop-level-init
 loop-level-init g c =
     let begun : Down c.args.tables.now (map step_of c.args.digits.now) c.args.meeting c.args.parts.now
     c.args.meeting.level (map step_of (set c.args.digits.now c.args.meeting.level
     (record { child = c.part_in-met.result.child; parent = c.args.meeting.at / 256 })))
-    (record { row = c.from.result; edge = c.from-2.result }) =
+    (record { row = c.row_below.result; edge = c.from.result }) =
     Falls.begun c.args.tables.now c.args.digits.now c.args.meeting c.args.parts.now
     c.parts-blocks.result.starts.now c.parts-blocks.result.words.now c.child_kinds-kinds.result.now
     c.requires.coherent c.parts-blocks.ensures c.child_kinds-kinds.ensures.spread c.requires.met
-    c.part_in-met.result.child c.from-2.result c.cell.result c.from.result 0
+    c.part_in-met.result.child c.from.result c.cell.result c.row_below.result
     (ap (λ (x : ChildEdge). x.child) c.part_in-met.ensures)
-    (c.from-2.ensures ∙ (ap (λ (x : ChildEdge). x.edge) c.part_in-met.ensures)) c.cell.ensures
-    c.from.ensures in
+    (c.from.ensures ∙ (ap (λ (x : ChildEdge). x.edge) c.part_in-met.ensures)) c.cell.ensures
+    c.row_below.ensures in
     let count : length (set c.args.digits.now c.args.meeting.level
     (record { child = c.part_in-met.result.child; parent = c.args.meeting.at / 256 })) ≡ length
     c.args.digits.now = length-set c.args.digits.now c.args.meeting.level
@@ -106,7 +94,7 @@ loop-level-init g c =
                 (c.args.meeting.level - 1) c.args.meeting.level
                 (set c.args.digits.now c.args.meeting.level
                 (record { child = c.part_in-met.result.child; parent = c.args.meeting.at / 256 }))
-                (record { row = c.from.result; edge = c.from-2.result }) w.fall-side.new.digit
+                (record { row = c.row_below.result; edge = c.from.result }) w.fall-side.new.digit
                 w.fall-side.result (omega (arith, w.if-level-eq1.true))
                 (omega (arith, w.if-level-eq1.true)) count begun w.fall-side.ensures.down;
           })

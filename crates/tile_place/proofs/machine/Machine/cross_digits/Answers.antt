@@ -29,10 +29,10 @@ fits_of t kinds before after e (Ok f) same old h unchanged = subst (λ v. Fits v
 fits_of t kinds before after e (Err o) same old h unchanged = subst (Fits kinds) (sym unchanged) old
 
 -- what is unchanged in both parts is unchanged
-both : (x : Result ℕ Outside) (kind kind' : ℕ) (xs ys : List Step) → OnErr x (kind' ≡ kind) → OnErr x (ys ≡ xs)
+both : (x : Result ℕ Outside) (kind kind' : ℕ) (xs ys : List Step) → OnErr x ((kind' ≡ kind) × (ys ≡ xs))
     → OnErr x (◌≡◌ {A = Address} (record { kind = kind'; digits = map step_of ys }) (record { kind = kind; digits = map step_of xs }))
-both (Ok f) kind kind' xs ys a b = tt
-both (Err o) kind kind' xs ys a b = λ i. record { kind = a i; digits = map step_of (b i) }
+both (Ok f) kind kind' xs ys same = tt
+both (Err o) kind kind' xs ys same = λ i. record { kind = same.0 i; digits = map step_of (same.1 i) }
 
 -- a law over the order that the machine answers is one over its rule's
 of_order : (L : Order → Type 0) (order : Order) (inside now : Rule) → order ≡ inside.order → inside ≡ now → L order → L now.order
@@ -42,12 +42,12 @@ pub step_across_digits-requires-clause-fits : goal.step_across_digits-requires-c
 step_across_digits-requires-clause-fits g c =
     subst (λ u. Fits u (record { kind = c.args.kind.now; digits = map step_of c.args.digits.now }))
     (sym (same_kinds c.transducer.result.now c.args.self.now c.transducer.ensures c.checked.ensures.same_child_kinds))
-    c.requires.fits
+    c.requires.edge.fits
 
 pub step_across_digits-requires-clause-edge_exists : goal.step_across_digits-requires-clause-edge_exists
 step_across_digits-requires-clause-edge_exists g c =
     subst (λ (t : Tables). IsSome (type_of t c.args.kind.now c.args.edge)) (sym c.transducer.ensures)
-    ((edge_typed (tiling_of c.args.self.now) c.args.kind.now c.args.edge).1 c.requires.edge_exists)
+    ((edge_typed (tiling_of c.args.self.now) c.args.kind.now c.args.edge).1 c.requires.edge.exists)
 
 -- what the transducer answers, of the tables of the tiling
 crossed : (g : Over) (c : After-digits-1 g)
@@ -84,15 +84,15 @@ returns-clause-answer_fits g c =
     fits_of (contacts (tiling_of c.args.self.now)) (children (tiling_of c.args.self.now))
     (record { kind = c.args.kind.now; digits = map step_of c.args.digits.now })
     (record { kind = c.step_across_digits.new.kind; digits = map step_of c.step_across_digits.new.digits }) c.args.edge c.step_across_digits.result
-    c.checked.ensures.same_child_kinds c.requires.fits (crossed g c).across
+    c.checked.ensures.same_child_kinds c.requires.edge.fits (crossed g c).across
     (both c.step_across_digits.result c.args.kind.now c.step_across_digits.new.kind c.args.digits.now c.step_across_digits.new.digits
-    c.step_across_digits.ensures.kind_unchanged c.step_across_digits.ensures.digits_unchanged)
+    c.step_across_digits.ensures.unchanged)
 
 pub returns-clause-only_tile_across : goal.returns-clause-only_tile_across
 returns-clause-only_tile_across g c =
     only_across c.args.self.now (settled g c) (record
-    { kind = c.args.kind.now; digits = map step_of c.args.digits.now }) c.args.edge c.requires.fits
-    c.requires.edge_exists
+    { kind = c.args.kind.now; digits = map step_of c.args.digits.now }) c.args.edge c.requires.edge.fits
+    c.requires.edge.exists
     (tiles g c) (record {
       kind = c.step_across_digits.new.kind;
       digits = map step_of c.step_across_digits.new.digits;
@@ -102,8 +102,8 @@ returns-clause-only_tile_across g c =
 pub returns-clause-leads_back : goal.returns-clause-leads_back
 returns-clause-leads_back g c =
     way_back c.args.self.now (settled g c) (record
-    { kind = c.args.kind.now; digits = map step_of c.args.digits.now }) c.args.edge c.requires.fits
-    c.requires.edge_exists
+    { kind = c.args.kind.now; digits = map step_of c.args.digits.now }) c.args.edge c.requires.edge.fits
+    c.requires.edge.exists
     (tiles g c) (record {
       kind = c.step_across_digits.new.kind;
       digits = map step_of c.step_across_digits.new.digits;
@@ -114,19 +114,19 @@ pub returns-clause-outside_on_boundary : goal.returns-clause-outside_on_boundary
 returns-clause-outside_on_boundary g c =
     lies_on_boundary c.args.self.now (settled g c)
     (record { kind = c.args.kind.now; digits = map step_of c.args.digits.now }) c.args.edge
-    c.requires.fits c.requires.edge_exists
+    c.requires.edge.fits c.requires.edge.exists
     (boundaries g c) c.step_across_digits.result (crossed g c).on_boundary
 
 pub returns-clause-boundary_is_outside : goal.returns-clause-boundary_is_outside
 returns-clause-boundary_is_outside g c =
     outside_on c.args.self.now (settled g c) (record
-    { kind = c.args.kind.now; digits = map step_of c.args.digits.now }) c.args.edge c.requires.fits
-    c.requires.edge_exists
+    { kind = c.args.kind.now; digits = map step_of c.args.digits.now }) c.args.edge c.requires.edge.fits
+    c.requires.edge.exists
     (boundaries g c) (contacts (tiling_of c.args.self.now)) refl c.step_across_digits.result (crossed g c).boundary_when
 
 pub returns-clause-inside : goal.returns-clause-inside
 returns-clause-inside g c =
     along_none c.args.self.now (settled g c) (record
-    { kind = c.args.kind.now; digits = map step_of c.args.digits.now }) c.args.edge c.requires.fits
-    c.requires.edge_exists
+    { kind = c.args.kind.now; digits = map step_of c.args.digits.now }) c.args.edge c.requires.edge.fits
+    c.requires.edge.exists
     (boundaries g c) (contacts (tiling_of c.args.self.now)) refl c.step_across_digits.result (crossed g c).boundary_when

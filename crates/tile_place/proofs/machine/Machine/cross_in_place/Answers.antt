@@ -6,4 +6,4 @@ pub returns-clause-crossing : goal.returns-clause-crossing
 returns-clause-crossing g c =
     in_place (contacts (tiling_of c.args.self.now)) c.args.addr.now c.as_mut_slice-digits.result.now c.args.edge c.cross_digits.result
     c.cross_digits.new.kind c.cross_digits.new.digits c.as_mut_slice-digits.ensures.value c.cross_digits.auto.digits
-    c.cross_digits.ensures.crossing c.cross_digits.ensures.kind_unchanged c.cross_digits.ensures.digits_unchanged
+    c.cross_digits.ensures.crossing c.cross_digits.ensures.unchanged

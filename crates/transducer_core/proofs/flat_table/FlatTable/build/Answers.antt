@@ -1,9 +1,9 @@
-use Rattle.std.proofs.Common.{List, ◌*◌, length, map, subst, sym, ap, ◌∙◌, arith}
+use Rattle.std.proofs.Common.{List, length, map, subst, sym, ap, ◌∙◌, arith}
 use Rattle.std.proofs.lemmas.List.{length-map}
 use Rattle.theory_addresses.specs.Tables.{Tables, KindTables}
 use Rattle.edge_tables.specs.Views.{as_kind_tables}
 use Rattle.transducer_core.specs.FlatTables.{kind_rows, IsFlat}
-use Rattle.transducer_core.specs.Merged.{IsMerged, AreSpread, AreFilled}
+use Rattle.transducer_core.specs.Merged.{IsMerged, AreSpread, AreFilled, last_cell}
 use Rattle.transducer_core.specs.Merging.{AreSmall}
 use Rattle.transducer_core.specs.Words.{contact_words, part_words}
 use Rattle.transducer_core.proofs.FlatCounts.{written_contacts, written_parts, written_kinds, scaled, short_children, small_contacts, small_parts}
@@ -49,12 +49,12 @@ invariant_of-result c =
     let kinds : AreSpread (kind_rows t) c.in_ok-child_kinds.child_kinds.items =
     subst (λ rows. AreSpread rows c.in_ok-child_kinds.child_kinds.items)
     (written_kinds c.rows-rows.result.now.items
-    ∙ ap (λ (ks : List KindTables). map (λ (k : KindTables). map (λ n. 256 * n) k.children) ks)
+    ∙ ap (λ (ks : List KindTables). map (λ (k : KindTables). map last_cell k.children) ks)
     c.rows-rows.ensures.lists ∙ sym (scaled t.kinds)) c.in_ok-child_kinds.ensures.spread in
     let filled : AreFilled (kind_rows t) c.in_ok-child_kinds.child_kinds.items =
     subst (λ rows. AreFilled rows c.in_ok-child_kinds.child_kinds.items)
     (written_kinds c.rows-rows.result.now.items
-    ∙ ap (λ (ks : List KindTables). map (λ (k : KindTables). map (λ n. 256 * n) k.children) ks)
+    ∙ ap (λ (ks : List KindTables). map (λ (k : KindTables). map last_cell k.children) ks)
     c.rows-rows.ensures.lists ∙ sym (scaled t.kinds)) c.in_ok-child_kinds.ensures.filled in
     let view = made t c.in_ok-lists.lists c.in_ok-contacts.contacts c.in_ok-parts.parts coherent c.in_ok-lists.ensures contacts parts in
     subst (λ (u : Tables). IsFlat u c.in_ok-lists.lists c.in_ok-child_kinds.child_kinds c.in_ok-contacts.contacts c.in_ok-parts.parts) (sym view)

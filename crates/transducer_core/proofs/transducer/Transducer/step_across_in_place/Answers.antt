@@ -5,4 +5,4 @@ pub returns-clause-crossing : goal.returns-clause-crossing
 returns-clause-crossing g c =
     in_place c.args.self.now c.args.addr.now c.as_mut_slice-digits.result.now c.args.edge c.step_across_digits.result
     c.step_across_digits.new.kind c.step_across_digits.new.digits c.as_mut_slice-digits.ensures.value c.step_across_digits.auto.digits
-    c.step_across_digits.ensures.crossing c.step_across_digits.ensures.kind_unchanged c.step_across_digits.ensures.digits_unchanged
+    c.step_across_digits.ensures.crossing c.step_across_digits.ensures.unchanged

@@ -1,4 +1,0 @@
-use Rattle.tiling_c.proofs.cross_arrays.crossing_of.Given as goal
-
-abbrev pub ghosts-cross : goal.ghosts-cross
-ghosts-cross a = record { name = a.blank.name; parts = a.blank.parts }
