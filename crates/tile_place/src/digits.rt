@@ -23,6 +23,7 @@ use transducer_core::outside::Outside;
 
 impl Machine {
     /// Returns true if the kind exists and each digit's child has the kind below it.
+    #[inline(always)]
     pub fn fits(&self, kind: u8, digits: &[Step]) -> bool
         ensures { IsTrue result ↔ Fits (children (tiling_of self.now))
             (record { kind = kind; digits = map step_of digits.now }) }

@@ -96,6 +96,7 @@ impl FlatTable {
     }
 
     /// Returns true if the kind exists and each digit's child has the kind below it.
+    #[inline(always)]
     pub fn fits(&self, kind: u8, digits: &[Step]) -> bool
         ensures { IsTrue result ↔ Fits (child_kinds self.now)
             (record { kind = kind; digits = map step_of digits.now }) }
