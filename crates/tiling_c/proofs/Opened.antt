@@ -1,5 +1,5 @@
 -- The command that checks a rule file, and what it is refused for.
-use Rattle.std.proofs.Common.{◌≡◌, ◌⊎◌, ℕ, ◌<◌, List, [], ◌∷◌, ◌++◌, Result, Ok, Some, inl, inr, refl, sym, ap, ◌∙◌, subst, arith}
+use Rattle.std.proofs.Common.{◌≡◌, ◌⊎◌, ℕ, List, [], ◌++◌, Result, Ok, Some, inl, inr, refl, sym, ap, ◌∙◌, subst, arith}
 use Rattle.std.specs.declared.option.Option.{Option}
 use Rattle.call_words.specs.declared.rule_choice.RuleChoice.TheVariants.{File}
 use Rattle.call_words.specs.Request.{Request, asked_by, request_in}

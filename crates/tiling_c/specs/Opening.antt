@@ -2,7 +2,6 @@
 use Rattle.std.specs.Prelude.{◌≡◌, ◌<◌, ◌≤◌, ◌++◌, ℕ, List, [], ◌∷◌, codes, length, take, drop, min, Some, Ok, Err}
 use Rattle.rule_model.specs.Tiling.{Tiling}
 use Rattle.rule_text.specs.Limits.{longest_file}
-use Rattle.call_notes.specs.declared.rule_fault.RuleFault.{RuleFault}
 use Rattle.call_notes.specs.declared.status.Status.{Status}
 use Rattle.call_notes.specs.declared.status.Status.TheVariants.{RuleTooLong, RuleRefused}
 use Rattle.call_notes.specs.Notes.{note_of}

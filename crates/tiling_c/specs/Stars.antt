@@ -1,5 +1,5 @@
 -- The tiles around a vertex, as plain numbers.
-use Rattle.std.specs.Prelude.{◌≡◌, ◌⊎◌, ℕ, ◌≤◌, List, length, map, take, All}
+use Rattle.std.specs.Prelude.{◌≡◌, ℕ, List, length, map, take, All}
 use Rattle.theory_addresses.specs.Address as theory
 use Rattle.theory_walks.specs.Frames.{FrameValue, GrowsTo}
 use Rattle.lazy_walk.specs.Standing.{Stands}

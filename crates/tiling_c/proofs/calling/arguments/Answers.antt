@@ -1,4 +1,4 @@
-use Rattle.std.proofs.Common.{◌≡◌, lit<, ap, ◌∙◌, map, take}
+use Rattle.std.proofs.Common.{lit<, ap, ◌∙◌, map}
 use Rattle.std.proofs.lemmas.Iterator.Consumers.{map_from_collect}
 use Rattle.std.proofs.lemmas.Iterator.Splits.{YieldsList-from_str_split}
 use Rattle.std.proofs.lemmas.List.{take_all}

@@ -1,4 +1,4 @@
-use Rattle.std.proofs.Common.{◌≡◌, ◌⊎◌, List, ℕ, MatchResult, inl, inr, refl, sym, ◌∙◌, subst, IsUtf8}
+use Rattle.std.proofs.Common.{◌≡◌, ◌⊎◌, List, ℕ, inl, inr, refl, subst, IsUtf8}
 use Rattle.c_values.specs.Statuses.{no_memory}
 use Rattle.tiling_c.specs.Calling.{EndsTold, call_in}
 use Rattle.tiling_c.proofs.Called.{some_is, told_of_ok, told_of_err, prints, refuses, completes, refuses_when, limits}

@@ -1,4 +1,3 @@
-use Rattle.std.proofs.Common.{refl}
 use Rattle.tiling_c.proofs.locating.put_located.Goals as goal
 
 pub returns-in-Ok-clause-located : goal.returns-in-Ok-clause-located

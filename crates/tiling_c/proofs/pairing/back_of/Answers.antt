@@ -1,6 +1,5 @@
 use Rattle.std.proofs.Common.{◌∙◌, ap, sym, subst}
 use Rattle.theory_addresses.specs.Address.{Fits}
-use Rattle.rule_model.specs.Tiling.{tiling_of}
 use Rattle.tile_place.proofs.Plane.{OnlyTilesLaw}
 use Rattle.tile_shape.specs.Views.{address_of}
 use Rattle.tiling_c.proofs.Backs.{none_across, not_ok, told}

@@ -1,10 +1,9 @@
-use Rattle.std.proofs.Common.{◌≡◌, ℕ, ◌<◌, List, ◌-◌, length, Ok, inl, inr, refl, sym, ap, ◌∙◌, subst, arith}
+use Rattle.std.proofs.Common.{◌≡◌, ℕ, List, ◌-◌, Ok, inl, inr, sym, ap, ◌∙◌, subst, arith}
 use Rattle.rule_model.specs.declared.rule.Rule.{Rule}
 use Rattle.rule_model.specs.Tiling.{tiling_of, children}
 use Rattle.listing_text.specs.Listing.{listing_in}
 use Rattle.list_verify.specs.Verdict.{HasCause}
 use Rattle.tile_shape.specs.Usable.{AreUsable}
-use Rattle.tiling_c.specs.Arrays.{tile_at, address_at}
 use Rattle.tiling_c.specs.Verifying.{entries_given, listing_given, AreEntries}
 use Rattle.tiling_c.proofs.Verified.{all_listed, entries_length, are_tiles, are_verified, fault_not_ok, no_room}
 use Rattle.tiling_c.proofs.verifying.judge.Goals.{In-Ok, then-status-eq-BAD_LISTING, else-status-eq-BAD_LISTING}

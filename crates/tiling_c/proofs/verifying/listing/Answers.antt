@@ -1,4 +1,4 @@
-use Rattle.std.proofs.Common.{rules, ◌≡◌, ◌++◌, ◌∷◌, [], ◌<◌, length, inr, refl, sym, ap, ◌∙◌, subst, arith}
+use Rattle.std.proofs.Common.{◌≡◌, ◌++◌, ◌∷◌, [], ◌<◌, length, inr, refl, ap, ◌∙◌, subst, arith}
 use Rattle.cyclo_points.specs.Text.{newline}
 use Rattle.rule_model.specs.Tiling.{tiling_of, children}
 use Rattle.listing_text.specs.Listing.{Entry}

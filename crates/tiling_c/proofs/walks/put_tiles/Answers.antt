@@ -1,8 +1,7 @@
-use Rattle.std.proofs.Common.{rules, ◌≡◌, ◌+◌, ◌*◌, ◌^◌, ◌<◌, length, get_or, drop, slice_set, refl, sym, ap, ◌∙◌, subst, arith}
+use Rattle.std.proofs.Common.{◌≡◌, ◌+◌, ◌*◌, ◌^◌, ◌<◌, length, get_or, drop, slice_set, sym, ap, ◌∙◌, subst, arith}
 use Rattle.std.proofs.lemmas.List.{length-set}
 use Rattle.theory_addresses.specs.Address.{Address}
 use Rattle.cyclo_points.proofs.Within.{point_wider}
-use Rattle.theory_walks.specs.Frames.{whole}
 use Rattle.theory_walks.specs.Paths.{CanBeWalked, Leads}
 use Rattle.rule_model.specs.Tiling.{tiling_of}
 use Rattle.tile_place.specs.Crossed.{IsOnlyAcross}

@@ -1,4 +1,4 @@
-use Rattle.std.proofs.Common.{rules, ◌≡◌, ◌<◌, length, slice_get, slice_set, IfSome, ◌∙◌}
+use Rattle.std.proofs.Common.{rules, ◌<◌, length, slice_get, IfSome, ◌∙◌}
 use Rattle.std.proofs.lemmas.List.{length-set}
 use Rattle.tiling_c.specs.Wholes.{ShowsWhole, no_whole}
 use Rattle.tiling_c.proofs.Arrays.{item_more}
