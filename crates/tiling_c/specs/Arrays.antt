@@ -35,7 +35,8 @@ pub record ShowsPlace (t : Tiling) (addr : PlainAddress) (tile : PlainTile) : Ty
 abbrev pub crossing_at : List PlainCrossing → ℕ → PlainCrossing
 crossing_at crossings i = get_or crossings i (record { status = 0; back = 0; part = 0 })
 
--- The address has become that of the only tile across the edge, and `back` is its edge that leads back; or the address is unchanged, and the status shows why.
+-- The address has become that of the only tile across the edge, and `back` is its edge that leads back; or
+-- the address is unchanged, and the status shows why.
 pub record ShowsCrossing (t : Tiling) (old : PlainAddress) (edge : ℕ) (new : PlainAddress) (crossing : PlainCrossing) : Type 0 where
   pub across : crossing.status ≡ ok → IsOnlyAcross t (address_in old) edge (address_in new) crossing.back
   pub leads_back : crossing.status ≡ ok → IsOnlyAcross t (address_in new) crossing.back (address_in old) edge

@@ -30,8 +30,9 @@ pub record HoldsCorners (corners : List Corner) (star : PlainVertexStar) : Type 
   pub tiles : take star.count star.tiles ≡ map corner_shown corners
   pub addresses : map address_in (take star.count star.addrs) ≡ map corner_address corners
 
--- The frame has grown from `start` to the least depth at which the vertex of its base lies on no edge of its polygon. These are exactly its tiles that have the
--- vertex. Each comes once, with its motion in the base's frame and with its own number for the vertex. They are in turning order from the base.
+-- The frame has grown from `start` to the least depth at which the vertex of its base lies on no edge of its
+-- polygon. These are exactly its tiles that have the vertex. Each comes once, with its motion in the base's
+-- frame and with its own number for the vertex. They are in turning order from the base.
 pub record ShowsStar (t : Tiling) (start : FrameValue) (vertex : ℕ) (star : PlainVertexStar) : Type 0 where
   pub frame : FrameValue
   pub grown : GrowsTo t start frame
