@@ -3,9 +3,11 @@
 # include/tiling.h and of the built archive. The sizes and places of the plain values are the header's. A C program goes
 # through each function and each status. Hostile numbers do no harm, under sanitizers and under valgrind. Eight threads
 # on one machine get the answers of one. Running out of memory at any one call is answered by its status. The answers
-# are the command's, byte for byte. Ends with 1 if one of these fails, and says which tools are missing. The library is
-# the one that TILING_ARCHIVE names, or .tiling/libtiling.a; the program is the one that TILING names, or
-# crates/tiling/out/tiling. ROUNDS and WATCHED_ROUNDS say how many rounds of hostile numbers are tried.
+# are the command's, byte for byte. The archive that Rattle's own compiler makes passes the same trials and answers
+# alike. Ends with 1 if one of these fails, and says which tools are missing. The library is the one that TILING_ARCHIVE
+# names, or .tiling/libtiling.a; the program is the one that TILING names, or crates/tiling/out/tiling. The archive of
+# the other compiler is the one that OTHER_ARCHIVE names, or one that is built here, in a minute, if the library is
+# built from the present sources. ROUNDS and WATCHED_ROUNDS say how many rounds of hostile numbers are tried.
 case ${1:-} in -h | --help) sed -n '2,/^[^#]/s/^# \{0,1\}//p' "$0"; exit 0 ;; esac
 top=$(cd "$(dirname "$0")/.." && pwd) || exit 1
 tests=$top/tests/library
@@ -57,9 +59,14 @@ else
     say 'skipped the symbols: there is no nm'
 fi
 
-try each_call_plain "$top/rules"
-try threads_plain ''
-try no_memory_plain '' -Wl,--wrap=malloc,--wrap=realloc,--wrap=free
+# Tries what needs no other tool.
+try_calls() {
+    try each_call_plain "$top/rules"
+    try threads_plain ''
+    try no_memory_plain '' -Wl,--wrap=malloc,--wrap=realloc,--wrap=free
+}
+
+try_calls
 if compile hostile_sane -fsanitize=address,undefined 2> /dev/null; then
     "$work/hostile_sane" "$rounds" > /dev/null || failed 'hostile numbers do harm'
 else
@@ -77,5 +84,64 @@ if [ -x "$program" ]; then
         || failed "the answers aren't the command's"
 else
     say "skipped the comparison with the command: there is no program $program"
+fi
+
+# Builds the archive by Rattle's own compiler, over what is proved, and puts the kit's other one back.
+build_other() {
+    out=$top/crates/tiling_c/out
+    mkdir "$work/other" && mv "$out/libtiling_c.a" "$work/kept.a" || return 1
+    (cd "$top/crates/tiling_c" && rt lib --backend rattle) > "$work/log" 2>&1 \
+        && "$top/tools/make_library.sh" "$out/libtiling_c.a" "$work/other" >> "$work/log" 2>&1
+    built=$?
+    mv "$work/kept.a" "$out/libtiling_c.a"
+    [ $built = 0 ] || tail -n 5 "$work/log" >&2
+    return $built
+}
+
+# Draws 200 windows: a rule, a seed, a base, the four coefficients of a centre, half a width and half a height.
+draw_windows() {
+    awk 'BEGIN {
+        srand(1)
+        count = split("chair halfhex p2 p3 ab", rules, " ")
+        for (i = 0; i < 200; i++) {
+            rule = i % count + 1
+            printf "%s %d 0:", rules[rule], 1000000 * rand()
+            for (j = 0; j < 4; j++) printf " %d", (j > 1 && rule < 3 ? 0 : 400 * rand() - 200)
+            print "", 1 + int(9 * rand()), 1 + int(9 * rand())
+        }
+    }'
+}
+
+# Writes what the archive answers: how often hostile numbers get each status, and all about the drawn windows.
+tell() {
+    compile hostile_plain && "$work/hostile_plain" "$rounds" > "$1/statuses" && compile answers_plain || return 1
+    while read -r window; do
+        folder=$1/$(echo "$window" | tr ' :' '__') && mkdir "$folder" || return 1
+        # shellcheck disable=SC2086
+        "$work/answers_plain" $window "$folder" || return 1
+    done < "$work/windows"
+}
+
+compare_compilers() {
+    draw_windows > "$work/windows"
+    mkdir "$work/first" "$work/second"
+    tell "$work/first" || { failed 'the library does not answer'; return; }
+    archive=$other
+    try_calls
+    tell "$work/second" || { failed "the other compiler's library does not answer"; return; }
+    diff -r "$work/first" "$work/second" > "$work/differences" && return
+    head -n 5 "$work/differences" >&2
+    failed "two compilers' libraries answer differently"
+}
+
+other=${OTHER_ARCHIVE:-$work/other/libtiling.a}
+if [ -n "${OTHER_ARCHIVE-}" ]; then
+    compare_compilers
+elif [ -n "${TILING_ARCHIVE-}" ] || ! has rt || ! "$top/tiling" --version | grep -q '^proved and built'; then
+    say 'skipped the other compiler: OTHER_ARCHIVE names no archive of it, and none can be built here'
+elif build_other; then
+    compare_compilers
+else
+    failed "Rattle's own compiler builds no library"
 fi
 exit $fault
