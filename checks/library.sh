@@ -86,10 +86,16 @@ else
     say "skipped the comparison with the command: there is no program $program"
 fi
 
+# Whether the kit is here, and has proved and built the library of the present sources.
+can_build() {
+    [ -z "${TILING_ARCHIVE-}" ] && has rt && [ -f "$top/crates/tiling_c/out/libtiling_c.a" ] \
+        && "$top/tiling" --version | grep -q '^proved and built'
+}
+
 # Builds the archive by Rattle's own compiler, over what is proved, and puts the kit's other one back.
 build_other() {
     out=$top/crates/tiling_c/out
-    mkdir "$work/other" && mv "$out/libtiling_c.a" "$work/kept.a" || return 1
+    mkdir "$work/other" && cp "$out/libtiling_c.a" "$work/kept.a" || return 1
     (cd "$top/crates/tiling_c" && rt lib --backend rattle) > "$work/log" 2>&1 \
         && "$top/tools/make_library.sh" "$out/libtiling_c.a" "$work/other" >> "$work/log" 2>&1
     built=$?
@@ -137,7 +143,7 @@ compare_compilers() {
 other=${OTHER_ARCHIVE:-$work/other/libtiling.a}
 if [ -n "${OTHER_ARCHIVE-}" ]; then
     compare_compilers
-elif [ -n "${TILING_ARCHIVE-}" ] || ! has rt || ! "$top/tiling" --version | grep -q '^proved and built'; then
+elif ! can_build; then
     say 'skipped the other compiler: OTHER_ARCHIVE names no archive of it, and none can be built here'
 elif build_other; then
     compare_compilers
