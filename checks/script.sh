@@ -3,11 +3,8 @@
 # time: its answers before and after the program is built, on which stream, and with which status. Ends with 1 if one is
 # wrong. What the script says of wrong arguments is compared with the program, if there is one. The program is the one
 # that TILING names, or crates/tiling/out/tiling.
-case ${1:-} in -h | --help) sed -n '2,/^[^#]/s/^# \{0,1\}//p' "$0"; exit 0 ;; esac
-top=$(cd "$(dirname "$0")/.." && pwd) || exit 1
-for need in flock sha256sum awk nproc; do
-    command -v $need > /dev/null || { echo "script: skipped, since there is no $need"; exit 0; }
-done
+. "$(dirname "$0")/needs"
+need flock sha256sum awk nproc
 home=$PWD
 work=$(mktemp -d) || exit 1
 trap 'rm -rf "$work"' EXIT
@@ -188,7 +185,6 @@ if command -v script > /dev/null && script -qec true /dev/null > /dev/null 2>&1;
 fi
 
 # The words that the program refuses, and no others, are refused where nothing is built, with the same line.
-program=${TILING:-$top/crates/tiling/out/tiling}
 case $program in /*) ;; *) program=$home/$program ;; esac
 cat > "$work/words.awk" << 'END'
 function one(text,    parts, n) { n = split(text, parts, " "); return parts[int(rand() * n) + 1] }
