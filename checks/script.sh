@@ -149,6 +149,13 @@ try 'from another folder' 0 'answer five' ''
 rm -rf "$here/crates/tiling/out"
 run "$here/tiling" place rule=chair addr=six
 try 'while crates/tiling/out is away' 0 'answer six' '' && is_quiet 'while crates/tiling/out is away'
+mkdir -p "$here/crates/tiling/out" && cp "$work/program" "$here/crates/tiling/out/tiling"
+rm -r "$here/.tiling" && run "$here/tiling" --keep 0
+run "$here/tiling" --version
+try 'a program of the gate, of other sources' 0 'not proved and built from these sources' ''
+run "$here/tiling" --keep "$("$here/tiling" --seal)"
+run "$here/tiling" --version
+case $(cat "$work/out") in *' by the gate with a kit'*) ;; *) echo 'script: a program of the gate' >&2; fault=1 ;; esac
 touch "$here/crates/low/src/lib.rt"
 run "$here/tiling" place rule=chair addr=seven
 try 'a source that was only touched' 0 'answer seven' '' && is_quiet 'a source that was only touched'
