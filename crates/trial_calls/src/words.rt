@@ -1,21 +1,11 @@
 //! Trials of the words of a call: requests, and the places of wrong words.
-use crate::request::{Question, Request, request_in};
-use crate::rule_choice::RuleChoice;
+use crate::told::words_of;
+use crate::wrong::Wrong;
 use builtin_rules::name::Name;
+use call_words::request::{Question, Request, request_in};
+use call_words::rule_choice::RuleChoice;
 use layer_api::format::Format;
 use std::alloc::{AllocError, Global};
-use std::test::Fail;
-
-/// The words of a line, which stand between single spaces.
-fn words_of(alloc: Global, line: &str) -> Result<Vec<String>, AllocError> {
-    let mut words = Vec::new(alloc);
-    if !line.is_empty() {
-        for word in line.split(' ') {
-            words.push(word.to_string(alloc)?)?;
-        }
-    }
-    Ok(words)
-}
 
 /// Lines that are refused, each with the place of its first wrong word.
 static REFUSED: [(&str, usize); 44] = [
@@ -89,14 +79,6 @@ fn place_refused(alloc: Global, line: &str) -> Result<Option<usize>, AllocError>
     Ok(request_in(words.as_slice(), &mut None).err())
 }
 
-#[test]
-fn places_of_wrong_words(rt: HostRuntime) -> Result<(), Fail> {
-    for (line, place) in &REFUSED {
-        assert_eq!(rt; place_refused(rt.alloc(), line)?, Some(*place));
-    }
-    Ok(())
-}
-
 /// Returns true if a request is for the chair's tile `0:` with this seed, depth and path.
 fn is_walk(request: &Request<'_>, start: u64, depth: u8, edges: &[u8]) -> bool {
     match request {
@@ -115,28 +97,28 @@ fn is_walk(request: &Request<'_>, start: u64, depth: u8, edges: &[u8]) -> bool {
     }
 }
 
-/// Returns true if a line asks for the chair's tile `0:` with this seed, depth and path.
-fn asks_for_walk(
-    alloc: Global,
-    line: &str,
-    start: u64,
-    depth: u8,
-    edges: &[u8],
-) -> Result<bool, AllocError> {
+/// A line, and the seed, the depth and the path of the walk from the chair's tile `0:` for which it asks.
+type Walk = (&'static str, u64, u8, &'static [u8]);
+
+/// Walks with and without their optional words.
+static WALKS: [Walk; 2] = [
+    ("walk rule=chair addr=0:", 0, 0, &[]),
+    (
+        "walk path=255,0 grow=64 addr=0: seed=18446744073709551615 rule=chair",
+        u64::MAX,
+        64,
+        &[255, 0],
+    ),
+];
+
+/// Returns true if a line asks for this walk.
+fn asks_for_walk(alloc: Global, walk: &Walk) -> Result<bool, AllocError> {
+    let (line, seed, depth, edges) = walk;
     let words = words_of(alloc, line)?;
     Ok(match request_in(words.as_slice(), &mut None) {
-        Ok(request) => is_walk(&request, start, depth, edges),
+        Ok(request) => is_walk(&request, *seed, *depth, edges),
         Err(_) => false,
     })
-}
-
-#[test]
-fn walks_with_and_without_their_optional_words(rt: HostRuntime) -> Result<(), Fail> {
-    let line = "walk rule=chair addr=0:";
-    assert!(rt; asks_for_walk(rt.alloc(), line, 0, 0, &[])?);
-    let line = "walk path=255,0 grow=64 addr=0: seed=18446744073709551615 rule=chair";
-    assert!(rt; asks_for_walk(rt.alloc(), line, u64::MAX, 64, &[255, 0])?);
-    Ok(())
 }
 
 /// Returns true if a request draws the window around -1,2,3,4 with the half extents 1 and 4096, through these
@@ -172,10 +154,17 @@ fn asks_for_draw(alloc: Global, line: &str, formats: &[Format]) -> Result<bool, 
     })
 }
 
-#[test]
-fn a_window_and_its_layers(rt: HostRuntime) -> Result<(), Fail> {
+/// Notes the first line that is read otherwise.
+pub fn note_words(alloc: Global, wrong: &mut Wrong) {
+    for (line, place) in &REFUSED {
+        let refused = place_refused(alloc, line).unwrap_or(None);
+        wrong.note(line, *place, refused == Some(*place));
+    }
+    for (row, walk) in WALKS.iter().enumerate() {
+        wrong.note("walks", row, asks_for_walk(alloc, walk).unwrap_or(false));
+    }
     let line = "draw rule=- addr= at=-1,2,3,4 half=1,4096 layers=census,svg glue=yes";
     let formats = [Format::Census, Format::Svg];
-    assert!(rt; asks_for_draw(rt.alloc(), line, &formats)?);
-    Ok(())
+    let asks = asks_for_draw(alloc, line, &formats).unwrap_or(false);
+    wrong.note(line, 0, asks);
 }
