@@ -32,10 +32,10 @@ fn cross<L: Ledger>(
     blank: Blank,
 ) -> PlainCrossing
     requires blank { (blank.name ≡ L.name) × (blank.parts ≡ L.parts) × (0 < blank.parts) }
-    ensures across { result.status ≡ ok → IsOnlyAcross (tiling_of machine.now) (address_in addr.old) edge
-        (address_in addr.new) result.back }
-    ensures leads_back { result.status ≡ ok → IsOnlyAcross (tiling_of machine.now) (address_in addr.new)
-        result.back (address_in addr.old) edge }
+    ensures across { result.status ≡ ok
+        → (IsOnlyAcross (tiling_of machine.now) (address_in addr.old) edge (address_in addr.new)
+        result.back) × (IsOnlyAcross (tiling_of machine.now) (address_in addr.new) result.back
+        (address_in addr.old) edge) }
     ensures names { result.status ≡ ok → NamesTile (tiling_of machine.now) addr.new }
     ensures inside { result.status ≡ ok → LiesAlongNone (tiling_of machine.now) (address_in addr.old) edge }
     ensures outside { result.status ≡ outside → IsOutside (tiling_of machine.now) (address_in addr.old) edge
@@ -43,8 +43,8 @@ fn cross<L: Ledger>(
     ensures bad_address { (result.status ≡ bad_address) ↔ (¬ NamesTile (tiling_of machine.now) addr.old) }
     ensures no_edge { (result.status ≡ no_edge) ↔ (NamesTile (tiling_of machine.now) addr.old
         × (edges_of (tiling_of machine.now) addr.old.kind ≤ edge)) }
-    ensures no_back { ¬ result.status ≡ ok → ¬ result.status ≡ outside → result.back ≡ 0 }
-    ensures no_part { ¬ result.status ≡ outside → result.part ≡ 0 }
+    ensures zeros { (¬ result.status ≡ ok → ¬ result.status ≡ outside → result.back ≡ 0)
+        × (¬ result.status ≡ outside → result.part ≡ 0) }
     ensures unchanged { ¬ result.status ≡ ok → addr.new ≡ addr.old }
     ensures statuses { (result.status ≡ ok) ⊎ (result.status ≡ bad_address) ⊎ (result.status ≡ outside)
         ⊎ (result.status ≡ no_edge) }

@@ -121,7 +121,8 @@ pub extern "C" fn tiling_glue_edge(t: SharedMachine, kind: u8, edge: &mut u8) ->
 pub fn put_corners(machine: &Machine, tile: &PlainTile, out: &mut PlainOutline) -> u8
     ensures corners { result ≡ ok → AreCorners (tiling_of machine.now) tile.now.kind (motion_of tile.now)
         (corners_in out.new) }
-    ensures behind { result ≡ ok → drop out.new.count out.new.corners ≡ drop out.new.count out.old.corners }
+    ensures behind { result ≡ ok
+        → drop out.new.count out.new.corners ≡ drop out.new.count out.old.corners }
     ensures bad_words { (result ≡ bad_words) ↔ (¬ IsTile (tiling_of machine.now) tile.now) }
     ensures unchanged { ¬ result ≡ ok → out.new ≡ out.old }
     ensures statuses { (result ≡ ok) ⊎ (result ≡ bad_words) }
@@ -144,7 +145,8 @@ pub extern "C" fn tiling_corners(t: SharedMachine, tile: &PlainTile, out: &mut P
     // Each corner is the vertex with the same number of the prototile, moved by the tile's motion.
     ensures corners { result ≡ ok → AreCorners (tiling_of t.rule) tile.now.kind (motion_of tile.now)
         (corners_in out.new) }
-    ensures behind { result ≡ ok → drop out.new.count out.new.corners ≡ drop out.new.count out.old.corners }
+    ensures behind { result ≡ ok
+        → drop out.new.count out.new.corners ≡ drop out.new.count out.old.corners }
     ensures bad_words { (result ≡ bad_words) ↔ (¬ IsTile (tiling_of t.rule) tile.now) }
     ensures unchanged { ¬ result ≡ ok → out.new ≡ out.old }
     ensures statuses { (result ≡ ok) ⊎ (result ≡ bad_words) }

@@ -80,7 +80,8 @@ pub fn turn<L: Ledger>(
     blank: Blank,
 ) -> u8
     requires blank { (blank.name ≡ L.name) × (blank.parts ≡ L.parts) × (0 < blank.parts) }
-    ensures star { result ≡ ok → ShowsStar (tiling_of machine.now) (frame_in frame.now) vertex out.old out.new }
+    ensures star { result ≡ ok
+        → ShowsStar (tiling_of machine.now) (frame_in frame.now) vertex out.old out.new }
     ensures within { result ≡ ok → IsWithinLimits (tiling_of machine.now) (frame_in frame.now) vertex }
     ensures answered { NamesTile (tiling_of machine.now) frame.now.base
         → vertex < edges_of (tiling_of machine.now) frame.now.base.kind

@@ -3,8 +3,8 @@ use Rattle.tiling_c.proofs.crossing.cross_edge.Goals as goal
 pub returns : goal.returns
 returns c = record {
   crossed = record {
-    across = c.cross.ensures.across;
-    leads_back = c.cross.ensures.leads_back;
+    across = λ e. (c.cross.ensures.across e).0;
+    leads_back = λ e. (c.cross.ensures.across e).1;
     names = c.cross.ensures.names;
     inside = c.cross.ensures.inside;
     on_boundary = c.cross.ensures.outside;
@@ -13,6 +13,6 @@ returns c = record {
     unchanged = c.cross.ensures.unchanged;
     statuses = c.cross.ensures.statuses;
   };
-  no_back = c.cross.ensures.no_back;
-  no_part = c.cross.ensures.no_part;
+  no_back = c.cross.ensures.zeros.0;
+  no_part = c.cross.ensures.zeros.1;
 }
