@@ -12,7 +12,7 @@ NAMED_TEXT = re.compile(r'\bconst ([A-Z][A-Z0-9_]*): &str =\s*(?="\\\n)')
 NOTE = re.compile(r"\.note\(")
 IN_A_TEST = re.compile(r"\bassert\w*!\(|\bcheck(?:_\w+)?\(")
 # What the numbers of a rule or of a polygon are made of: no cases, unless a loop walks them.
-PARTS = re.compile(r"(?:Quad|Placed|EdgeType|Kind|Point|Child|u8|i64|\[i(?:8|64); 4\])\b")
+PARTS = re.compile(r"(?:Quad|Placed|EdgeType|Kind|Point|Child|Format|u8|i64|\[i(?:8|64); 4\])(?!\w)")
 
 
 def blanked(text):
