@@ -1,4 +1,4 @@
-"""What docs/explore.html shows and does in a browser, held against the program: see page.sh. Called with the top and the
+"""What docs/explore.html shows and does in a browser, held against the program: see explore.sh. Called with the top and the
 program."""
 import cmath
 import json
@@ -531,10 +531,10 @@ def times(page):
         page.ready()
         spent.append(page.js("[explorer.screen.report.spent, explorer.screen.report.waited, explorer.screen.report.tiles]"))
     middle = sorted(it[0] for it in spent)[4], sorted(it[1] for it in spent)[4]
-    print(f"page: {page.browser.name}: first view after {first:.0f} ms; {spent[0][2]} half tiles of p3 in 1600 x 1000: painted in {middle[0]:.0f} ms of a worker, shown after {middle[1]:.0f} ms")
+    print(f"explore: {page.browser.name}: first view after {first:.0f} ms; {spent[0][2]} half tiles of p3 in 1600 x 1000: painted in {middle[0]:.0f} ms of a worker, shown after {middle[1]:.0f} ms")
     for name, step in (("panning", "explorer.move(-7, 3)"), ("zooming", "explorer.zoom(1.006, 30, 20)")):
         told = page.js(FRAMES % step)
-        print(f"page: {page.browser.name}: {name}: {told[0]:.1f} frames a second, the longest after {told[1]:.0f} ms")
+        print(f"explore: {page.browser.name}: {name}: {told[0]:.1f} frames a second, the longest after {told[1]:.0f} ms")
 
 
 FRAMES = """new Promise(done => { const gaps = []; let last = performance.now(), count = 0;
@@ -580,7 +580,7 @@ def tried(browser, asked):
 def main():
     browsers = [kind for kind in (Chromium, Firefox) if kind.program()]
     if not browsers:
-        print("page: skipped, since there is no browser")
+        print("explore: skipped, since there is no browser")
         return 77
     total, wrong = 0, []
     for kind in browsers:
@@ -591,8 +591,8 @@ def main():
             browser.end()
         total, wrong = total + count, wrong + faults
     for line in wrong[:30]:
-        print(f"page: {line}", file=sys.stderr)
-    print(f"page: {total} compared in {' and '.join(kind.name for kind in browsers)}, {len(wrong)} differ")
+        print(f"explore: {line}", file=sys.stderr)
+    print(f"explore: {total} compared in {' and '.join(kind.name for kind in browsers)}, {len(wrong)} differ")
     return 1 if wrong else 0
 
 
